@@ -1,0 +1,17 @@
+pub mod Alignment
+pub mod Allowed
+pub mod AllowedConfig
+pub mod Bits
+pub mod Chain
+pub mod Datum
+pub mod ElementFalls
+pub mod FieldTypes
+pub mod Fitting
+pub mod Layout
+pub mod Members
+pub mod MetadataOf
+pub mod Names
+pub mod Packets
+pub mod Shown
+pub mod Values
+pub mod ValuesFall

@@ -1,0 +1,143 @@
+//! The values of fields.
+
+ghost use Rattle.std.specs.Prelude.{◌≡◌, ◌<◌, ◌↔◌, ◌++◌, ◌∷◌, [], ℕ, length, map, slice_get, slice_set, option_map, IfOk, IfErr, OnOk, OnErr, IsTrue};
+ghost use Rattle.ctf_types.specs.Values.{datum_of, data_of};
+
+use crate::Bytes;
+use std::alloc::{AllocError, AllocFailed, Global};
+use std::marker::Model;
+use std::mem;
+
+/// The value of a field.
+#[cycle(value)]
+#[derive(Debug, Drop)]
+pub enum Value {
+    /// Of an unsigned integer or enumeration.
+    Unsigned(u64),
+    /// Of a signed integer or enumeration.
+    Signed(i64),
+    /// Of a string.
+    Text(Bytes),
+    /// Of a static or dynamic array.
+    List(Values),
+}
+
+/// Values one after the other, seen as a list: of an array's elements, of a structure's members in their order,
+/// or of the arguments of a tracing call.
+#[cycle(value)]
+#[derive(Debug, Drop)]
+pub struct Values {
+    items: Vec<Value>,
+}
+
+impl Model for Values {
+    ghost use Rattle.std.specs.Prelude.{List};
+    ghost use Rattle.std.specs.Coded.{coded_list};
+    ghost use Rattle.ctf_types.specs.Datum.{Datum, datum_code};
+
+    ghost Value = { List Datum };
+
+    ghost coded = { coded_list datum_code };
+
+    ghost use Rattle.ctf_types.specs.Datum.{depth_of};
+    ghost use Rattle.ctf_types.specs.Values.{data_of};
+
+    ghost view = { λ a. data_of a.items.items };
+
+    ghost size = { depth_of };
+
+    ghost use Rattle.ctf_types.specs.ValuesFall.{values_fall};
+    ghost use Rattle.std.proofs.Common.{arith};
+
+    ghost size_decreases = { λ a h. omega (arith, values_fall a.items.items) };
+}
+
+impl Value {
+    /// An equal value in memory of its own.
+    #[cycle(copy)]
+    pub fn copy(&self, alloc: Global) -> Result<Value, AllocError>
+        ensures { IfOk result (λ v. v ≡ self.now) }
+    {
+        match self {
+            Value::Unsigned(number) => Ok(Value::Unsigned(*number)),
+            Value::Signed(number) => Ok(Value::Signed(*number)),
+            Value::Text(bytes) => Ok(Value::Text(bytes.copy(alloc)?)),
+            Value::List(values) => Ok(Value::List(values.copy(alloc)?)),
+        }
+    }
+}
+
+impl Values {
+    pub fn new(alloc: Global) -> Values
+        ensures { result ≡ [] }
+    {
+        Values {
+            items: Vec::new(alloc),
+        }
+    }
+
+    pub fn from_vec(items: Vec<Value>) -> Values
+        ensures { result ≡ data_of items.items }
+    {
+        Values { items }
+    }
+
+    pub fn into_vec(self) -> Vec<Value>
+        ensures { data_of result.items ≡ self }
+    {
+        self.items
+    }
+
+    pub fn as_slice(&self) -> &[Value]
+        ensures { data_of result.now ≡ self.now }
+    {
+        self.items.as_slice()
+    }
+
+    pub fn len(&self) -> usize
+        ensures { result ≡ length self.now }
+    {
+        self.items.len()
+    }
+
+    pub fn is_empty(&self) -> bool
+        ensures { IsTrue result ↔ (self.now ≡ []) }
+    {
+        self.items.is_empty()
+    }
+
+    pub fn get(&self, index: usize) -> Option<&Value>
+        ensures { option_map (λ v. datum_of v.now) result ≡ slice_get self.now index }
+    {
+        self.items.get(index)
+    }
+
+    /// Adds a value at the end. A refusal of memory hands it back.
+    pub fn push(&mut self, value: Value) -> Result<(), AllocFailed<Value>>
+        ensures ok { OnOk result (self.new ≡ self.old ++ datum_of value ∷ []) }
+        ensures err { OnErr result (self.new ≡ self.old) }
+        ensures handed_back { IfErr result (λ e. e.value ≡ value) }
+    {
+        self.items.push(value)
+    }
+
+    /// Puts a value in the place of another, which it answers. It takes no memory.
+    pub fn replace(&mut self, index: usize, value: Value) -> Value
+        requires { index < length self.old }
+        ensures replaced { self.new ≡ slice_set self.old index (datum_of value) }
+    {
+        mem::replace(&mut self.items[index], value)
+    }
+
+    /// An equal list in memory of its own.
+    #[cycle(copy)]
+    pub fn copy(&self, alloc: Global) -> Result<Values, AllocError>
+        ensures { IfOk result (λ vs. vs ≡ self.now) }
+    {
+        let mut copied = Vec::with_capacity(alloc, self.items.len())?;
+        for value in &self.items {
+            copied.push(value.copy(alloc)?)?;
+        }
+        Ok(Values { items: copied })
+    }
+}
