@@ -133,9 +133,10 @@ pub record IsStreamType (clocks : List (List ℕ)) (s : StreamType) : Type 0 whe
   pub timestamp_end : OnlyIf s.context.timestamp_end (IsTimestamp s.default_clock)
   pub events_discarded : OnlyIf s.context.events_discarded IsPlainUnsigned
   pub packet_seq_num : OnlyIf s.context.packet_seq_num IsPlainUnsigned
-  pub extras : AreConfigMembers s.extras
+  pub extras : AreConfigMembers s.extras.members
+  pub extras_align : s.extras.min_align ≡ 1
   -- a reader would take an extra member of such a name for the tracer's own, also where that is off
-  pub no_own_name : All (λ name. list_any (bytes_eq name) own_names ≡ false) (names_in (shown_members 0 s.extras))
+  pub no_own_name : All (λ name. list_any (bytes_eq name) own_names ≡ false) (names_in (shown_members 0 s.extras.members))
   pub id : OnlyIf s.event_header.id IsPlainUnsigned
   pub id_holds : HoldsUpTo (length s.events - 1) s.event_header.id
   pub timestamp : OnlyIf s.event_header.timestamp (IsTimestamp s.default_clock)

@@ -25,8 +25,8 @@ pub struct StreamType {
     /// The name of the clock type whose values its timestamps are.
     pub default_clock: Option<Text>,
     pub context: ContextFeatures,
-    /// The members of the packet context that stand after the tracer's own.
-    pub extras: Members,
+    /// The members of the packet context that stand after the tracer's own: a structure whose minimum alignment is 1.
+    pub extras: StructType,
     pub event_header: EventFeatures,
     pub common: StructType,
     pub events: ListOf<EventType>,
