@@ -1,0 +1,3 @@
+mod Flaws
+mod Rows
+pub mod Readings

@@ -1,0 +1,3 @@
+pub mod Flaw
+pub mod Reading
+pub mod Walk

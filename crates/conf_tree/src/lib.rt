@@ -1,0 +1,23 @@
+//! Reads the JSON of a configuration into a tree, and looks values up in it with faults that say where they stand.
+#![tactic(auto)]
+
+mod at;
+mod fault;
+mod fault_kind;
+mod lookup;
+mod read;
+mod step;
+#[cfg(test)]
+mod tests;
+mod tree;
+mod walk;
+
+pub use at::At;
+pub use fault::{ConfFault, MAX_STEPS};
+pub use fault_kind::FaultKind;
+pub use lookup::{
+    flag, list, needed, object, optional, optional_flag, optional_text, optional_whole, text, whole,
+};
+pub use read::read_tree;
+pub use step::Step;
+pub use tree::Tree;

@@ -1,0 +1,170 @@
+//! Typed look-ups in a tree, whose faults say where the value stands.
+ghost use Rattle.std.specs.Prelude.{◌≡◌, ◌≤◌, IfErr, option_map};
+ghost use Rattle.arrayvec.specs.ArrayVec.{array_vec_len};
+ghost use Rattle.serde_json.specs.Find.{get_member};
+ghost use Rattle.serde_json.specs.View.{view, items_view, members_view};
+ghost use Rattle.conf_tree.specs.Reading.{Gives, reading_at, object_of, list_of, text_of, whole_of, flag_of, needed as needed_of, optional as optional_of, optional_as};
+
+use crate::{At, ConfFault, FaultKind};
+use serde_json::{Map, Value};
+use std::alloc::Global;
+
+/// The object that `value` is, which stands at `at`.
+pub fn object<'v>(
+    alloc: Global,
+    at: At<'_>,
+    value: &'v Value,
+) -> Result<&'v Map<String, Value>, ConfFault>
+    ensures reading { Gives (λ m. members_view m.now.entries) result
+        (reading_at at.entry (object_of (view value.now))) }
+    ensures steps { IfErr result (λ fault. array_vec_len fault.path ≤ 1) }
+{
+    match value.as_object() {
+        Some(members) => Ok(members),
+        None => Err(at.fault(alloc, FaultKind::WrongKind)),
+    }
+}
+
+/// The items of the list that `value` is, which stands at `at`.
+pub fn list<'v>(alloc: Global, at: At<'_>, value: &'v Value) -> Result<&'v Vec<Value>, ConfFault>
+    ensures reading { Gives (λ v. items_view v.now.items) result
+        (reading_at at.entry (list_of (view value.now))) }
+    ensures steps { IfErr result (λ fault. array_vec_len fault.path ≤ 1) }
+{
+    match value.as_array() {
+        Some(items) => Ok(items),
+        None => Err(at.fault(alloc, FaultKind::WrongKind)),
+    }
+}
+
+/// The text that `value` is, which stands at `at`.
+pub fn text<'v>(alloc: Global, at: At<'_>, value: &'v Value) -> Result<&'v str, ConfFault>
+    ensures reading { Gives (λ s. s.now) result (reading_at at.entry (text_of (view value.now))) }
+    ensures steps { IfErr result (λ fault. array_vec_len fault.path ≤ 1) }
+{
+    match value.as_str() {
+        Some(text) => Ok(text),
+        None => Err(at.fault(alloc, FaultKind::WrongKind)),
+    }
+}
+
+/// The flag that `value` is, which stands at `at`.
+pub fn flag(alloc: Global, at: At<'_>, value: &Value) -> Result<bool, ConfFault>
+    ensures reading { Gives (λ b. b) result (reading_at at.entry (flag_of (view value.now))) }
+    ensures steps { IfErr result (λ fault. array_vec_len fault.path ≤ 1) }
+{
+    match value.as_bool() {
+        Some(flag) => Ok(flag),
+        None => Err(at.fault(alloc, FaultKind::WrongKind)),
+    }
+}
+
+/// The whole number that `value` is, which stands at `at` and may be `low`, `high` or any number between.
+#[tactic(auto, unfolding(crate::specs::Reading::whole_of))]
+pub fn whole(
+    alloc: Global,
+    at: At<'_>,
+    value: &Value,
+    low: i128,
+    high: i128,
+) -> Result<i128, ConfFault>
+    ensures reading { Gives (λ z. z) result (reading_at at.entry (whole_of low high (view value.now))) }
+    ensures steps { IfErr result (λ fault. array_vec_len fault.path ≤ 1) }
+{
+    let Some(number) = value.as_number() else {
+        return Err(at.fault(alloc, FaultKind::WrongKind));
+    };
+    let Some(whole) = number.as_i128() else {
+        return Err(at.fault(alloc, FaultKind::NotWhole));
+    };
+    if low <= whole && whole <= high {
+        Ok(whole)
+    } else {
+        Err(at.fault(alloc, FaultKind::OutOfRange))
+    }
+}
+
+/// The value of the property `name`, which has to be there. It may be null.
+pub fn needed<'v>(
+    alloc: Global,
+    members: &'v Map<String, Value>,
+    name: &str,
+) -> Result<&'v Value, ConfFault>
+    ensures reading { Gives (λ v. view v.now) result
+        (needed_of name.now (members_view members.now.entries)) }
+    ensures steps { IfErr result (λ fault. array_vec_len fault.path ≤ 1) }
+{
+    match member(members, name) {
+        Some(value) => Ok(value),
+        None => Err(At::Property(name).fault(alloc, FaultKind::Missing)),
+    }
+}
+
+/// The value of the property `name`, if it is there. A null is as if it were not.
+pub fn optional<'v>(members: &'v Map<String, Value>, name: &str) -> Option<&'v Value>
+    ensures { option_map (λ v. view v.now) result
+        ≡ optional_of name.now (members_view members.now.entries) }
+{
+    let value = member(members, name)?;
+    if value.is_null() { None } else { Some(value) }
+}
+
+/// The whole number that the property `name` is, if it is there.
+#[tactic(auto, unfolding(crate::specs::Reading::optional_as))]
+pub fn optional_whole(
+    alloc: Global,
+    members: &Map<String, Value>,
+    name: &str,
+    low: i128,
+    high: i128,
+) -> Result<Option<i128>, ConfFault>
+    ensures reading { Gives (λ z. z) result
+        (optional_as name.now (whole_of low high) (members_view members.now.entries)) }
+    ensures steps { IfErr result (λ fault. array_vec_len fault.path ≤ 1) }
+{
+    match optional(members, name) {
+        Some(value) => Ok(Some(whole(alloc, At::Property(name), value, low, high)?)),
+        None => Ok(None),
+    }
+}
+
+/// The flag that the property `name` is, if it is there.
+#[tactic(auto, unfolding(crate::specs::Reading::optional_as))]
+pub fn optional_flag(
+    alloc: Global,
+    members: &Map<String, Value>,
+    name: &str,
+) -> Result<Option<bool>, ConfFault>
+    ensures reading { Gives (λ b. b) result
+        (optional_as name.now flag_of (members_view members.now.entries)) }
+    ensures steps { IfErr result (λ fault. array_vec_len fault.path ≤ 1) }
+{
+    match optional(members, name) {
+        Some(value) => Ok(Some(flag(alloc, At::Property(name), value)?)),
+        None => Ok(None),
+    }
+}
+
+/// The text that the property `name` is, if it is there.
+#[tactic(auto, unfolding(crate::specs::Reading::optional_as))]
+pub fn optional_text<'v>(
+    alloc: Global,
+    members: &'v Map<String, Value>,
+    name: &str,
+) -> Result<Option<&'v str>, ConfFault>
+    ensures reading { Gives (option_map (λ s. s.now)) result
+        (optional_as name.now text_of (members_view members.now.entries)) }
+    ensures steps { IfErr result (λ fault. array_vec_len fault.path ≤ 1) }
+{
+    match optional(members, name) {
+        Some(value) => Ok(Some(text(alloc, At::Property(name), value)?)),
+        None => Ok(None),
+    }
+}
+
+fn member<'v>(members: &'v Map<String, Value>, name: &str) -> Option<&'v Value>
+    ensures { option_map (λ v. view v.now) result
+        ≡ get_member name.now (members_view members.now.entries) }
+{
+    members.get(name)
+}

@@ -1,0 +1,76 @@
+//! The walk over a value that finds the first place which is nested too deep or holds no whole number.
+ghost use Rattle.std.specs.Prelude.{◌≡◌, ◌≤◌, ◌<◌, ◌+◌, IfErr};
+ghost use Rattle.serde_json.specs.View.{view, items_view, members_view};
+ghost use Rattle.arrayvec.specs.ArrayVec.{array_vec_len};
+ghost use Rattle.conf_tree.specs.Reading.{Gives};
+ghost use Rattle.conf_tree.specs.Walk.{flaws, item_flaws, member_flaws, refusal};
+
+use crate::fault::MAX_STEPS;
+use crate::{ConfFault, FaultKind};
+use serde_json::{Map, Value};
+use std::alloc::Global;
+
+/// Refuses a value that nests deeper than `levels`, or that holds a number which is no whole one of 64 bits.
+#[cycle(walk)]
+pub(crate) fn check_value(alloc: Global, value: &Value, levels: usize) -> Result<(), ConfFault>
+    requires { levels ≤ MAX_STEPS }
+    ensures first { Gives (λ _. tt) result (refusal (flaws (view value.now) levels)) }
+    ensures short { IfErr result (λ fault. array_vec_len fault.path ≤ levels) }
+{
+    match value {
+        Value::Null | Value::Bool(_) | Value::String(_) => Ok(()),
+        Value::Number(number) => {
+            if number.is_f64() {
+                Err(ConfFault::here(FaultKind::NotWhole))
+            } else {
+                Ok(())
+            }
+        }
+        Value::Array(items) => {
+            if levels == 0 {
+                return Err(ConfFault::here(FaultKind::TooDeep));
+            }
+            check_items(alloc, items, levels - 1)
+        }
+        Value::Object(members) => {
+            if levels == 0 {
+                return Err(ConfFault::here(FaultKind::TooDeep));
+            }
+            check_members(alloc, members, levels - 1)
+        }
+    }
+}
+
+#[cycle(walk)]
+fn check_items(alloc: Global, items: &Vec<Value>, levels: usize) -> Result<(), ConfFault>
+    requires { levels < MAX_STEPS }
+    ensures first { Gives (λ _. tt) result
+        (refusal (item_flaws (items_view items.now.items) 0 levels)) }
+    ensures short { IfErr result (λ fault. array_vec_len fault.path ≤ levels + 1) }
+{
+    for (index, item) in items.iter().enumerate() {
+        if let Err(fault) = check_value(alloc, item, levels) {
+            return Err(fault.inside(index));
+        }
+    }
+    Ok(())
+}
+
+#[cycle(walk)]
+fn check_members(
+    alloc: Global,
+    members: &Map<String, Value>,
+    levels: usize,
+) -> Result<(), ConfFault>
+    requires { levels < MAX_STEPS }
+    ensures first { Gives (λ _. tt) result
+        (refusal (member_flaws (members_view members.now.entries) levels)) }
+    ensures short { IfErr result (λ fault. array_vec_len fault.path ≤ levels + 1) }
+{
+    for (name, member) in members.iter() {
+        if let Err(fault) = check_value(alloc, member, levels) {
+            return Err(fault.in_property(alloc, name.as_str()));
+        }
+    }
+    Ok(())
+}
