@@ -1,0 +1,36 @@
+-- The digits of a literal, one by one, and that its value only grows with them.
+use Rattle.std.proofs.Common.{◌≡◌, ℕ, ◌+◌, ◌*◌, ◌<◌, ◌≤◌, List, [], ◌∷◌, length, get_or, drop, arith, refl, sym, ◌∙◌, inl, inr}
+use Rattle.std.proofs.lemmas.Bool.{cases_lt, le-ltb, lt-ltb}
+use Rattle.std.proofs.Math.Nat.{mul-le-mul_left}
+use Rattle.std.specs.Char.{digit_value}
+use Rattle.tsdl_grammar.specs.Literals.{digits_from}
+
+pub digits_stop : (base n b : ℕ) (bytes : List ℕ) → base ≤ digit_value b → digits_from base n (b ∷ bytes) ≡ n
+digits_stop base n b bytes h = rw (le-ltb (digit_value b) base h) refl
+
+pub digits_step : (base n b : ℕ) (bytes : List ℕ) → digit_value b < base → digits_from base n (b ∷ bytes) ≡ digits_from base (n * base + digit_value b) bytes
+digits_step base n b bytes h = rw (lt-ltb (digit_value b) base h) refl
+
+grows : (n base d : ℕ) → 0 < base → n ≤ n * base + d
+grows n base d h = omega (arith, mul-le-mul_left n h)
+
+pub le-digits_from : (base n : ℕ) (bytes : List ℕ) → 0 < base → n ≤ digits_from base n bytes
+le-digits_from base n [] h = omega arith
+le-digits_from base n (b ∷ bytes) h =
+    elim (cases_lt (digit_value b) base) [
+      | inl lt ↦ rw (digits_step base n b bytes lt) (let rest = le-digits_from base (n * base + digit_value b) bytes h in omega (arith, rest, grows n base (digit_value b) h))
+      | inr le ↦ rw (digits_stop base n b bytes le) (omega arith)
+    ]
+
+-- a loop's exit at a byte that is no digit
+pub ends_at : (base n total : ℕ) (bytes : List ℕ) → 1 ≤ length bytes → (digit_value (get_or bytes 0 0) < base → ⊥) → digits_from base n bytes ≡ total → n ≡ total
+ends_at base n total [] l h e = absurd (omega arith)
+ends_at base n total (b ∷ bytes) l h e = sym (digits_stop base n b bytes (omega arith)) ∙ e
+
+-- a loop's step over a digit, and the least that the total is then
+pub goes_on : (base n total : ℕ) (bytes : List ℕ) → 1 ≤ length bytes → digit_value (get_or bytes 0 0) < base → digits_from base n bytes ≡ total → digits_from base (n * base + digit_value (get_or bytes 0 0)) (drop 1 bytes) ≡ total
+goes_on base n total [] l h e = absurd (omega arith)
+goes_on base n total (b ∷ bytes) l h e = sym (digits_step base n b bytes h) ∙ e
+
+pub at_least : (base n total : ℕ) (bytes : List ℕ) → 0 < base → 1 ≤ length bytes → digit_value (get_or bytes 0 0) < base → digits_from base n bytes ≡ total → n * base + digit_value (get_or bytes 0 0) ≤ total
+at_least base n total bytes z l h e = rw (sym (goes_on base n total bytes l h e)) (le-digits_from base (n * base + digit_value (get_or bytes 0 0)) (drop 1 bytes) z)

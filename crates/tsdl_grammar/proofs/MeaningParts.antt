@@ -1,0 +1,167 @@
+-- What integers, structures and texts mean, taken apart: each step that follows has a name.
+use Rattle.std.proofs.Common.{◌≡◌, ℕ, Bool, true, false, List, [], length, Option, Some, None, refl, sym, ap, subst, ◌∙◌}
+use Rattle.std.specs.Prelude.{nat_le, codes}
+use Rattle.std.specs.List.{flat_map}
+use Rattle.std.specs.Str.{bytes_eq}
+use Rattle.ctf_types.specs.declared.base.Base.{Base}
+use Rattle.ctf_types.specs.declared.base.Base.TheVariants.{Dec}
+use Rattle.ctf_types.specs.declared.byte_order.ByteOrder.{ByteOrder}
+use Rattle.ctf_types.specs.declared.int_type.IntType.{IntType}
+use Rattle.ctf_types.specs.declared.struct_type.StructType.{StructType}
+use Rattle.ctf_types.specs.declared.member_type.MemberType.{MemberType}
+use Rattle.ctf_types.specs.declared.clock_type.ClockType.{ClockType}
+use Rattle.ctf_types.specs.declared.environment.EnvironmentEntry.{EnvironmentEntry}
+use Rattle.ctf_types.specs.declared.metadata.Metadata.{Metadata}
+use Rattle.tsdl_grammar.specs.declared.tree.Value.{Value}
+use Rattle.tsdl_grammar.specs.declared.tree.Attribute.{Attribute}
+use Rattle.tsdl_grammar.specs.declared.tree.Structure.{Structure}
+use Rattle.tsdl_grammar.specs.declared.tree.Item.{Item}
+use Rattle.tsdl_grammar.specs.declared.tree.NamedFact.{NamedFact}
+use Rattle.tsdl_grammar.specs.declared.tree.Block.{Block}
+use Rattle.tsdl_grammar.specs.Steps.{◌>>=◌, provided, only, at_most_one, each}
+use Rattle.tsdl_grammar.specs.Lookups.{attr, no_two}
+use Rattle.tsdl_grammar.specs.AttributeValues.{natural_value, flag_value, with_default, optional}
+use Rattle.tsdl_grammar.specs.IntegerMeaning.{Known, int_meaning, int_type, int_attrs, has_only, default_align, order_value, base_value, clock_value}
+use Rattle.tsdl_grammar.specs.StructureMeaning.{struct_meaning, struct_type, members_meaning, align_of, align_with}
+use Rattle.tsdl_grammar.specs.BlockMeaning.{is_trace, trace_order, trace_uuid, header_meaning, clock_meaning, environment_meaning}
+use Rattle.tsdl_grammar.specs.Denotes.{text_meta, trace_in, clock_in, environment_in, known_of, streams_meaning}
+use Rattle.tsdl_grammar.specs.Laws.{SaysInteger, SaysStructure, SaysMetadata, SameBlocks}
+use Rattle.tsdl_grammar.proofs.Inversion.{bind_some, bind_is, provided_some, some_same}
+use Rattle.tsdl_grammar.proofs.TypeParts.{int_type-parts, struct_type-parts}
+
+-- ---- integers
+
+abbrev after_base : Known → List Attribute → ℕ → ℕ → Bool → Base → Option IntType
+after_base known attrs size align signed base = optional (clock_value known.clocks) (attr (codes "map") attrs) >>= λ clock. int_type size align signed base clock
+
+abbrev after_order : Known → List Attribute → ℕ → ℕ → Bool → ByteOrder → Option IntType
+after_order known attrs size align signed order = with_default Dec base_value (attr (codes "base") attrs) >>= after_base known attrs size align signed
+
+abbrev after_signed : Known → List Attribute → ℕ → ℕ → Bool → Option IntType
+after_signed known attrs size align signed = with_default known.order (order_value known.order) (attr (codes "byte_order") attrs) >>= after_order known attrs size align signed
+
+abbrev after_align : Known → List Attribute → ℕ → ℕ → Option IntType
+after_align known attrs size align = with_default false flag_value (attr (codes "signed") attrs) >>= after_signed known attrs size align
+
+abbrev after_size : Known → List Attribute → ℕ → Option IntType
+after_size known attrs size = with_default (default_align size) natural_value (attr (codes "align") attrs) >>= after_align known attrs size
+
+pub says_integer : (known : Known) (attrs : List Attribute) (t : IntType) → int_meaning known attrs ≡ Some t → SaysInteger known attrs t
+unfolding int_meaning
+says_integer known attrs t e =
+    let g = provided_some (has_only int_attrs attrs) ((attr (codes "size") attrs >>= natural_value) >>= after_size known attrs) t e in
+    let a = bind_some (attr (codes "size") attrs >>= natural_value) (after_size known attrs) t g.1 in
+    let b = bind_some (with_default (default_align a.0) natural_value (attr (codes "align") attrs)) (after_align known attrs a.0) t a.2 in
+    let c = bind_some (with_default false flag_value (attr (codes "signed") attrs)) (after_signed known attrs a.0 b.0) t b.2 in
+    let d = bind_some (with_default known.order (order_value known.order) (attr (codes "byte_order") attrs)) (after_order known attrs a.0 b.0 c.0) t c.2 in
+    let f = bind_some (with_default Dec base_value (attr (codes "base") attrs)) (after_base known attrs a.0 b.0 c.0) t d.2 in
+    let h = bind_some (optional (clock_value known.clocks) (attr (codes "map") attrs)) (λ clock. int_type a.0 b.0 c.0 f.0 clock) t f.2 in
+    let p = int_type-parts a.0 b.0 c.0 f.0 h.0 t h.2 in
+    record {
+      once = g.0;
+      size = a.1 ∙ ap Some (sym p.size_is);
+      align = ap (λ (n : ℕ). with_default (default_align n) natural_value (attr (codes "align") attrs)) p.size_is ∙ b.1 ∙ ap Some (sym p.align_is);
+      signed = c.1 ∙ ap Some (sym p.signed_is);
+      base = f.1 ∙ ap Some (sym p.base_is);
+      clock = h.1 ∙ ap Some (sym p.clock_is);
+    }
+
+same_some : {A : Type 0} (x y : A) → Some x ≡ Some y → y ≡ x
+same_some x y e = cc
+
+pub align_default : (known : Known) (attrs : List Attribute) (t : IntType) → int_meaning known attrs ≡ Some t → attr (codes "align") attrs ≡ None → t.align ≡ default_align t.size
+align_default known attrs t e h = same_some (default_align t.size) t.align (sym (ap (with_default (default_align t.size) natural_value) h) ∙ (says_integer known attrs t e).align)
+
+pub signed_default : (known : Known) (attrs : List Attribute) (t : IntType) → int_meaning known attrs ≡ Some t → attr (codes "signed") attrs ≡ None → t.signed ≡ false
+signed_default known attrs t e h = same_some false t.signed (sym (ap (with_default false flag_value) h) ∙ (says_integer known attrs t e).signed)
+
+pub base_default : (known : Known) (attrs : List Attribute) (t : IntType) → int_meaning known attrs ≡ Some t → attr (codes "base") attrs ≡ None → t.base ≡ Dec
+base_default known attrs t e h = same_some Dec t.base (sym (ap (with_default Dec base_value) h) ∙ (says_integer known attrs t e).base)
+
+pub clock_default : (known : Known) (attrs : List Attribute) (t : IntType) → int_meaning known attrs ≡ Some t → attr (codes "map") attrs ≡ None → t.clock ≡ None
+clock_default known attrs t e h = same_some None t.clock (sym (ap (optional (clock_value known.clocks)) h) ∙ (says_integer known attrs t e).clock)
+
+none_provided : {A : Type 0} (b : Bool) (o : Option A) → o ≡ None → provided b o ≡ None
+none_provided true o h = h
+none_provided false o h = refl
+
+pub size_needed : (known : Known) (attrs : List Attribute) → attr (codes "size") attrs ≡ None → int_meaning known attrs ≡ None
+unfolding int_meaning
+size_needed known attrs h =
+    none_provided (has_only int_attrs attrs) ((attr (codes "size") attrs >>= natural_value) >>= after_size known attrs) (ap (λ (v : Option Value). (v >>= natural_value) >>= after_size known attrs) h)
+
+-- ---- structures
+
+abbrev Members : Type 0
+Members = List (List ℕ × MemberType)
+
+pub says_structure : (known : Known) (s : Structure) (t : StructType) → struct_meaning known s ≡ Some t → SaysStructure known s t
+unfolding struct_meaning
+says_structure known s t e =
+    let a = bind_some (provided (nat_le (length s.members) 1024) (members_meaning known [] s.members)) (λ members. align_of s.align >>= λ align. struct_type members (align_with members align)) t e in
+    let g = provided_some (nat_le (length s.members) 1024) (members_meaning known [] s.members) a.0 a.1 in
+    let b = bind_some (align_of s.align) (λ align. struct_type a.0 (align_with a.0 align)) t a.2 in
+    let p = struct_type-parts a.0 (align_with a.0 b.0) t b.2 in
+    record {
+      few = g.0;
+      members = g.1 ∙ ap Some (sym p.0);
+      align = rw b.1 (ap (λ (ms : Members). Some (align_with ms b.0)) p.0 ∙ ap Some (sym p.1));
+    }
+
+-- ---- texts
+
+abbrev after_header : List Block → ByteOrder → Option (List ℕ) → List EnvironmentEntry → List ClockType → StructType → Option Metadata
+after_header bs order uuid environment clocks header =
+    streams_meaning (known_of order clocks) bs >>= λ streams. Some (record { order = order; uuid = uuid; environment = environment; clocks = clocks; header = header; streams = streams })
+
+abbrev after_clocks : List Block → List Item → ByteOrder → Option (List ℕ) → List EnvironmentEntry → List ClockType → Option Metadata
+after_clocks bs trace order uuid environment clocks =
+    provided (no_two bytes_eq (known_of order clocks).clocks) (header_meaning (known_of order clocks) trace) >>= after_header bs order uuid environment clocks
+
+abbrev after_environment : List Block → List Item → ByteOrder → Option (List ℕ) → List EnvironmentEntry → Option Metadata
+after_environment bs trace order uuid environment = each clock_meaning (flat_map clock_in bs) >>= after_clocks bs trace order uuid environment
+
+abbrev after_facts : List Block → List Item → ByteOrder → Option (List ℕ) → List NamedFact → Option Metadata
+after_facts bs trace order uuid facts = environment_meaning facts >>= after_environment bs trace order uuid
+
+abbrev after_uuid : List Block → List Item → ByteOrder → Option (List ℕ) → Option Metadata
+after_uuid bs trace order uuid = at_most_one (flat_map environment_in bs) >>= after_facts bs trace order uuid
+
+abbrev after_trace_order : List Block → List Item → ByteOrder → Option Metadata
+after_trace_order bs trace order = trace_uuid trace >>= after_uuid bs trace order
+
+abbrev after_trace : List Block → List Item → Option Metadata
+after_trace bs trace = provided (is_trace trace) (trace_order trace) >>= after_trace_order bs trace
+
+pub says_metadata : (bs : List Block) (m : Metadata) → text_meta bs ≡ Some m → SaysMetadata bs m
+unfolding text_meta
+says_metadata bs m e =
+    let a = bind_some (only (flat_map trace_in bs)) (after_trace bs) m e in
+    let b = bind_some (provided (is_trace a.0) (trace_order a.0)) (after_trace_order bs a.0) m a.2 in
+    let v = provided_some (is_trace a.0) (trace_order a.0) b.0 b.1 in
+    let c = bind_some (trace_uuid a.0) (after_uuid bs a.0 b.0) m b.2 in
+    let d = bind_some (at_most_one (flat_map environment_in bs)) (after_facts bs a.0 b.0 c.0) m c.2 in
+    let f = bind_some (environment_meaning d.0) (after_environment bs a.0 b.0 c.0) m d.2 in
+    let g = bind_some (each clock_meaning (flat_map clock_in bs)) (after_clocks bs a.0 b.0 c.0 f.0) m f.2 in
+    let h = bind_some (provided (no_two bytes_eq (known_of b.0 g.0).clocks) (header_meaning (known_of b.0 g.0) a.0)) (after_header bs b.0 c.0 f.0 g.0) m g.2 in
+    let w = provided_some (no_two bytes_eq (known_of b.0 g.0).clocks) (header_meaning (known_of b.0 g.0) a.0) h.0 h.1 in
+    let k = bind_some (streams_meaning (known_of b.0 g.0) bs) (λ streams. Some (record { order = b.0; uuid = c.0; environment = f.0; clocks = g.0; header = h.0; streams = streams })) m h.2 in
+    let made : Metadata = record { order = b.0; uuid = c.0; environment = f.0; clocks = g.0; header = h.0; streams = k.0 } in
+    let says : SaysMetadata bs made = record {
+      trace = a.0;
+      one_trace = a.1;
+      version = v.0;
+      order = v.1;
+      uuid = c.1;
+      environment = bind_is (at_most_one (flat_map environment_in bs)) environment_meaning d.0 f.0 d.1 f.1;
+      clocks = g.1;
+      clocks_once = w.0;
+      header = w.1;
+      streams = k.1;
+    } in
+    subst (SaysMetadata bs) (some_same made m (Some made) refl k.2) says
+
+-- a text means what its blocks of each kind mean, however the kinds are mixed
+pub same_meaning : (bs cs : List Block) → SameBlocks bs cs → text_meta bs ≡ text_meta cs
+unfolding text_meta streams_meaning
+same_meaning bs cs same = rw (same.traces, same.environments, same.clocks, same.streams, same.events) refl

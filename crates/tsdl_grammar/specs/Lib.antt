@@ -1,0 +1,17 @@
+pub mod Bytes
+pub mod Escapes
+pub mod Literals
+pub mod Pieces
+pub mod Tokens
+pub mod Atoms
+pub mod Spelling
+pub mod Steps
+pub mod Lookups
+pub mod AttributeValues
+pub mod IntegerMeaning
+pub mod MemberMeaning
+pub mod StructureMeaning
+pub mod BlockMeaning
+pub mod Denotes
+pub mod Laws
+pub mod Positions

@@ -1,0 +1,120 @@
+//! Laws of the grammar: what its definitions come to. Each function is a statement, and does nothing when it runs.
+
+ghost use Rattle.std.specs.Prelude.{◌≡◌, ℕ, ◌<◌, ◌^◌, false, List, Some, None, codes};
+ghost use Rattle.std.specs.List.{AllByRecursion};
+ghost use Rattle.std.specs.Str.{IsUtf8};
+ghost use Rattle.std.specs.Fmt.{decimal};
+ghost use Rattle.ctf_types.specs.declared.base.Base.TheVariants.{Dec};
+ghost use Rattle.ctf_types.specs.declared.int_type.IntType.{IntType};
+ghost use Rattle.ctf_types.specs.declared.clock_type.ClockType.{ClockType};
+ghost use Rattle.ctf_types.specs.declared.metadata.Stream.{Stream};
+ghost use Rattle.ctf_types.specs.declared.metadata.Event.{Event};
+ghost use Rattle.tsdl_grammar.specs.declared.tree.Item.{Item};
+ghost use Rattle.ctf_types.specs.declared.field_type.FieldType.{FieldType};
+ghost use Rattle.ctf_types.specs.declared.member_type.MemberType.{MemberType};
+ghost use Rattle.ctf_types.specs.declared.member_type.MemberType.TheVariants.{Dyn};
+ghost use Rattle.ctf_types.specs.declared.member_type.Length.TheVariants.{At};
+ghost use Rattle.ctf_types.specs.declared.struct_type.StructType.{StructType};
+ghost use Rattle.ctf_types.specs.declared.metadata.Metadata.{Metadata};
+ghost use Rattle.tsdl_grammar.specs.declared.token.Token.{Token};
+ghost use Rattle.tsdl_grammar.specs.declared.tree.Attribute.{Attribute};
+ghost use Rattle.tsdl_grammar.specs.declared.tree.MemberTree.{MemberTree};
+ghost use Rattle.tsdl_grammar.specs.declared.tree.Structure.{Structure};
+ghost use Rattle.tsdl_grammar.specs.declared.tree.Block.{Block};
+ghost use Rattle.tsdl_grammar.specs.Escapes.{escaped, unescaped};
+ghost use Rattle.tsdl_grammar.specs.Literals.{literal_of};
+ghost use Rattle.tsdl_grammar.specs.Tokens.{Tokenizes, StopsAt};
+ghost use Rattle.tsdl_grammar.specs.Denotes.{text_meta};
+ghost use Rattle.tsdl_grammar.specs.IntegerMeaning.{Known, default_align, int_meaning};
+ghost use Rattle.tsdl_grammar.specs.Lookups.{attr};
+ghost use Rattle.tsdl_grammar.specs.BlockMeaning.{clock_meaning, stream_meaning, event_meaning};
+ghost use Rattle.tsdl_grammar.specs.MemberMeaning.{member_meaning};
+ghost use Rattle.tsdl_grammar.specs.StructureMeaning.{struct_meaning};
+ghost use Rattle.tsdl_grammar.specs.Laws.{SaysInteger, SaysStructure, SaysClock, SaysStream, SaysEvent, SaysMetadata, SameBlocks, NamesLength, NumbersRise};
+
+/// A text has one list of tokens.
+pub fn tokens_are_unique()
+    ensures { (text : List ℕ) (ts us : List Token) → Tokenizes text ts → Tokenizes text us → ts ≡ us }
+{}
+
+/// A text that has tokens has no place at which none starts.
+pub fn tokens_or_a_stop()
+    ensures { (text : List ℕ) (ts : List Token) (at : ℕ) → Tokenizes text ts → StopsAt text at → ⊥ }
+{}
+
+/// A text that is written with escapes stands for itself again.
+pub fn escapes_come_back()
+    ensures { (text : List ℕ) → unescaped (escaped text) ≡ text }
+{}
+
+/// What is written with escapes is UTF-8 where the text is, and a string in UTF-8 stands for a text in UTF-8.
+pub fn escapes_keep_utf8()
+    ensures written { (text : List ℕ) → IsUtf8 text → IsUtf8 (escaped text) }
+    ensures read { (bytes : List ℕ) → IsUtf8 bytes → IsUtf8 (unescaped bytes) }
+{}
+
+/// A number's decimal digits are a literal of that value.
+pub fn decimals_come_back()
+    ensures { (n : ℕ) → n < 2 ^ 64 → literal_of (decimal n) ≡ n }
+{}
+
+/// Where the parts of an integer come from: its size is needed, its alignment is 8 where the size is a multiple
+/// of 8 and else 1, it is unsigned and decimal, each unless an attribute says else, and no attribute stands twice.
+pub fn integers_say_their_parts()
+    ensures { (known : Known) (attrs : List Attribute) (t : IntType) → int_meaning known attrs ≡ Some t → SaysInteger known attrs t }
+{}
+
+/// What an integer has where an attribute is left out: an alignment of 8 where its size is a multiple of 8, else of
+/// 1, no sign, the decimal base and no clock.
+pub fn integers_have_defaults()
+    ensures align { (known : Known) (attrs : List Attribute) (t : IntType) → int_meaning known attrs ≡ Some t → attr (codes "align") attrs ≡ None → t.align ≡ default_align t.size }
+    ensures signed { (known : Known) (attrs : List Attribute) (t : IntType) → int_meaning known attrs ≡ Some t → attr (codes "signed") attrs ≡ None → t.signed ≡ false }
+    ensures base { (known : Known) (attrs : List Attribute) (t : IntType) → int_meaning known attrs ≡ Some t → attr (codes "base") attrs ≡ None → t.base ≡ Dec }
+    ensures clock { (known : Known) (attrs : List Attribute) (t : IntType) → int_meaning known attrs ≡ Some t → attr (codes "map") attrs ≡ None → t.clock ≡ None }
+{}
+
+/// An integer without a size means nothing.
+pub fn integers_need_a_size()
+    ensures { (known : Known) (attrs : List Attribute) → attr (codes "size") attrs ≡ None → int_meaning known attrs ≡ None }
+{}
+
+/// The length of a sequence is an unsigned integer member that stands before it.
+pub fn sequences_name_their_length()
+    ensures { (known : Known) (before : List (List ℕ × MemberType)) (m : MemberTree) (t : FieldType) (i : ℕ) → member_meaning known before m ≡ Some (Dyn t (At i)) → NamesLength before i }
+{}
+
+/// Where the parts of a structure come from: its members in order, and its minimum alignment.
+pub fn structures_say_their_parts()
+    ensures { (known : Known) (s : Structure) (t : StructType) → struct_meaning known s ≡ Some t → SaysStructure known s t }
+{}
+
+/// Where the parts of a clock come from: its name is needed, and the others have their defaults.
+pub fn clocks_say_their_parts()
+    ensures { (is : List Item) (c : ClockType) → clock_meaning is ≡ Some c → SaysClock is c }
+{}
+
+/// Where the parts of a stream come from. Its packet context has a member `packet_size` and a member `content_size`.
+pub fn streams_say_their_parts()
+    ensures { (known : Known) (is : List Item) (s : Stream) → stream_meaning known is ≡ Some s → SaysStream known is s }
+{}
+
+/// Where the parts of an event come from, and the number of its stream. Its name is needed.
+pub fn events_say_their_parts()
+    ensures { (known : Known) (is : List Item) (stream : ℕ) (e : Event) → event_meaning known is ≡ Some (stream, e) → SaysEvent known is stream e }
+{}
+
+/// Where the parts of the metadata come from: one trace block, at most one environment, and clocks of different names.
+pub fn texts_say_their_parts()
+    ensures { (bs : List Block) (m : Metadata) → text_meta bs ≡ Some m → SaysMetadata bs m }
+{}
+
+/// Blocks of different kinds stand in any order.
+pub fn kinds_of_blocks_mix()
+    ensures { (bs cs : List Block) → SameBlocks bs cs → text_meta bs ≡ text_meta cs }
+{}
+
+/// The streams of the metadata stand by number, no two of one number, and so do the events of each stream.
+pub fn streams_stand_by_number()
+    ensures streams { (bs : List Block) (m : Metadata) → text_meta bs ≡ Some m → NumbersRise (λ s. s.id) m.streams }
+    ensures events { (bs : List Block) (m : Metadata) → text_meta bs ≡ Some m → AllByRecursion (λ s. NumbersRise (λ e. e.id) s.events) m.streams }
+{}

@@ -1,0 +1,52 @@
+//! The values of number literals.
+
+ghost use Rattle.std.specs.Prelude.{◌<◌, ◌≤◌, ◌+◌, ◌*◌, ◌^◌, SomeIff};
+ghost use Rattle.std.specs.Char.{digit_value};
+ghost use Rattle.tsdl_grammar.specs.Literals.{literal_of, digits_from};
+
+/// The value of a number literal, None where it is above 2^64 - 1. A suffix counts for nothing.
+#[tactic(auto, unfolding(crate::specs::Literals::literal_of))]
+pub fn literal_value(literal: &[u8]) -> Option<u64>
+    ensures { SomeIff result (literal_of literal.now < 2 ^ 64) (literal_of literal.now) }
+{
+    match literal {
+        [] | [b'0'] => Some(0),
+        [b'0', b'x', digits @ ..] => digits_value(16, digits),
+        [b'0', digits @ ..] => digits_value(8, digits),
+        digits => digits_value(10, digits),
+    }
+}
+
+/// The value of the digits at the front of the bytes, in a base.
+fn digits_value(radix: u32, bytes: &[u8]) -> Option<u64>
+    requires { (2 ≤ radix) × (radix ≤ 36) }
+    ensures { SomeIff result (digits_from radix 0 bytes.now < 2 ^ 64) (digits_from radix 0 bytes.now) }
+{
+    let mut value = 0;
+    let mut rest = bytes;
+    while let [b, after @ ..] = rest {
+        let Some(digit) = digit_of(radix, *b) else {
+            return Some(value);
+        };
+        value = with_digit(value, radix, digit)?;
+        rest = after;
+    }
+    Some(value)
+}
+
+/// The value of a digit, if the byte is one in this base.
+fn digit_of(radix: u32, b: u8) -> Option<u32>
+    requires { (2 ≤ radix) × (radix ≤ 36) }
+    ensures { SomeIff result (digit_value b < radix) (digit_value b) }
+{
+    char::from(b).to_digit(radix)
+}
+
+/// A number with one more digit, None where it is above 2^64 - 1.
+fn with_digit(value: u64, radix: u32, digit: u32) -> Option<u64>
+    ensures { SomeIff result (value * radix + digit < 2 ^ 64) (value * radix + digit) }
+{
+    value
+        .checked_mul(u64::from(radix))?
+        .checked_add(u64::from(digit))
+}

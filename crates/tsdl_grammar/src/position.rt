@@ -1,0 +1,64 @@
+//! Faults of a metadata text as people read them: with line, column and what stands there.
+
+ghost use Rattle.std.specs.Prelude.{◌≡◌, ◌≤◌, length, take};
+ghost use Rattle.tsdl_grammar.specs.Positions.{line_after, column_after};
+
+use crate::fault::MetaFault;
+use crate::piece::piece_at;
+use std::alloc::{AllocError, Global};
+
+/// How many bytes of a text a message shows.
+const LONGEST_SHOWN: usize = 40;
+
+/// A place in a text as editors count it, both from 1. A column counts bytes.
+#[derive(Clone, Copy, Debug, PartialEq, Eq)]
+pub struct Position {
+    pub line: usize,
+    pub column: usize,
+}
+
+/// The line and the column of a byte of a text, or of the text's end.
+pub fn position_of(text: &[u8], place: usize) -> Position
+    requires { place ≤ length text.now }
+    ensures line { result.line ≡ line_after (take place text.now) }
+    ensures column { result.column ≡ column_after (take place text.now) }
+{
+    let before = &text[..place];
+    Position {
+        line: 1 + before.iter().filter(|b| **b == b'\n').count(),
+        column: column_behind(before),
+    }
+}
+
+fn column_behind(before: &[u8]) -> usize
+    ensures { result ≡ column_after before.now }
+{
+    let mut column = 1;
+    for b in before {
+        if *b == b'\n' {
+            column = 1;
+        } else {
+            column += 1;
+        }
+    }
+    column
+}
+
+/// A fault in words: its byte, line and column, what stands there, and what is wrong.
+pub fn explain(alloc: Global, text: &[u8], fault: &MetaFault) -> Result<String, AllocError> {
+    let place = fault.place.min(text.len());
+    let Position { line, column } = position_of(text, place);
+    let rest = &text[place..];
+    if rest.is_empty() {
+        return format!(in alloc;
+            "byte {place}, line {line}, column {column}: found the end of the text: {}",
+            fault.kind
+        );
+    }
+    let len = piece_at(rest).map_or(1, |cut| cut.len);
+    let found = String::from_utf8_lossy(alloc, &rest[..len.min(LONGEST_SHOWN)])?;
+    format!(in alloc;
+        "byte {place}, line {line}, column {column}: found {found:?}: {}",
+        fault.kind
+    )
+}
