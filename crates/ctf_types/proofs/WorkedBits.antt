@@ -1,5 +1,5 @@
 -- Worked rows of the bits of numbers, in both byte orders.
-use Rattle.std.specs.Prelude.{◌≡◌, ℤ, pos, negsuc, List, [], ◌∷◌, refl}
+use Rattle.std.specs.Prelude.{◌≡◌, negsuc, [], ◌∷◌, refl}
 use Rattle.ctf_types.specs.declared.byte_order.ByteOrder.TheVariants.{Little, Big}
 use Rattle.ctf_types.specs.Bits.{bit_of, number_of, number_at, signed_of}
 

@@ -1,5 +1,5 @@
 -- Alignment: where in a packet a field may begin (CTF 1.8.3, section 4.1.2, "align"). Positions count bits from the packet's start.
-use Rattle.std.specs.Prelude.{◌≡◌, ℕ, ◌+◌, ◌-◌, ◌*◌, ◌/◌, ◌%◌, ◌^◌, ◌<◌, ◌≤◌}
+use Rattle.std.specs.Prelude.{◌≡◌, ℕ, ◌+◌, ◌-◌, ◌*◌, ◌/◌, ◌%◌, ◌<◌}
 
 -- an alignment: a power of two up to 4,096, in bits. These are the divisors of 4,096
 abbrev pub IsAlignment : ℕ → Type 0

@@ -1,5 +1,5 @@
 -- Metadata that the rules allow: what every reader of a trace may rely on (CTF 1.8.3, section 7, narrowed by the limits of this tracer).
-use Rattle.std.specs.Prelude.{◌≡◌, ℕ, ◌+◌, ◌*◌, ◌<◌, ◌≤◌, ◌^◌, ◌⊎◌, ℤ, pos, negsuc, ◌≤ℤ◌, List, [], ◌∷◌, ◌++◌, All, Contains, IsTrue, Option, None, Some, length, map, max, slice_get, codes, true, false, Bool, ◌-◌}
+use Rattle.std.specs.Prelude.{◌≡◌, ℕ, ◌*◌, ◌<◌, ◌≤◌, ◌^◌, pos, negsuc, ◌≤ℤ◌, List, [], ◌∷◌, ◌++◌, All, Contains, IsTrue, Option, None, Some, length, map, max, slice_get, codes, true, false, ◌-◌}
 use Rattle.std.specs.Ordering.{nat_cmp}
 use Rattle.std.specs.List.{IsDistinct}
 use Rattle.std.specs.List.Sorted.{IsStrictlySortedBy}
@@ -15,7 +15,7 @@ use Rattle.ctf_types.specs.declared.struct_type.StructType.{StructType}
 use Rattle.ctf_types.specs.declared.metadata.Metadata.{Metadata}
 use Rattle.ctf_types.specs.declared.metadata.Stream.{Stream}
 use Rattle.ctf_types.specs.declared.metadata.Event.{Event}
-use Rattle.ctf_types.specs.Chain.{Leaf, Number, Labelled, ByteString, Chain}
+use Rattle.ctf_types.specs.Chain.{Leaf, Number, Labelled, ByteString}
 use Rattle.ctf_types.specs.FieldTypes.{chain_of}
 use Rattle.ctf_types.specs.Members.{names_in}
 use Rattle.ctf_types.specs.Names.{IsMetadataName}

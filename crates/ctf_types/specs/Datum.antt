@@ -1,8 +1,8 @@
 -- A value of a field as the definitions see it: a number, a signed number, a text, or many such values.
 -- `Items` is the list of an array's elements: the two are defined together, so it is a type of its own, and `data_in` and `items_of` go between it and std's lists.
-use Rattle.std.specs.Prelude.{◌≡◌, ℕ, ◌+◌, ◌≤◌, ℤ, List, [], ◌∷◌, map, max, refl}
-use Rattle.std.proofs.Common.{ap, sym, subst, suc, zero, arith}
-use Rattle.std.specs.Coded.{Coded, coded_ℕ, coded_ℤ, coded_list, code_by}
+use Rattle.std.specs.Prelude.{◌≡◌, ℕ, ℤ, List, [], ◌∷◌, max, refl}
+use Rattle.std.proofs.Common.{ap, sym, subst, suc, arith}
+use Rattle.std.specs.Coded.{Coded, coded_ℕ, coded_ℤ, coded_list}
 use base.Stored.{Gv, gnil, gnum, gcons, num}
 
 mutual

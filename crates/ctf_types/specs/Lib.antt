@@ -5,8 +5,10 @@ pub mod Bits
 pub mod Chain
 pub mod Datum
 pub mod ElementFalls
+pub mod Faults
 pub mod FieldTypes
 pub mod Fitting
+pub mod Laws
 pub mod Layout
 pub mod Members
 pub mod MetadataOf

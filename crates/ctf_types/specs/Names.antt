@@ -1,6 +1,6 @@
 -- Names and texts: which of them a configuration and metadata allow (CTF 1.8.3, section 7.3.2, "Identifiers" and "Keywords"; barectf 3.1, "Configuration object").
 -- A text is its bytes in UTF-8.
-use Rattle.std.specs.Prelude.{◌≡◌, ℕ, ◌≤◌, ◌<◌, List, [], ◌∷◌, All, Bool, true, false, IsTrue, ◌&&◌, ◌||◌, nat_le, nat_eq, length, codes}
+use Rattle.std.specs.Prelude.{◌≡◌, ℕ, ◌≤◌, List, [], ◌∷◌, Bool, false, IsTrue, ◌&&◌, ◌||◌, nat_le, nat_eq, length, codes}
 use Rattle.std.specs.List.{list_all, list_any}
 use Rattle.std.specs.Str.{bytes_eq}
 

@@ -1,10 +1,8 @@
 -- Values of the program as the definitions see them.
-use Rattle.std.specs.Prelude.{◌≡◌, ℕ, ◌+◌, ◌≤◌, List, [], ◌∷◌, map, max}
-use Rattle.std.proofs.Common.{arith}
+use Rattle.std.specs.Prelude.{List, map}
 use Rattle.ctf_types.specs.declared.value.Value.{Value}
 use Rattle.ctf_types.specs.declared.value.Value.TheVariants as value
-use Rattle.ctf_types.specs.Datum.{Datum, Unsigned, Signed, Text, Many, items_of, depth_of, depth}
-use denote.Param.Weighed.{most}
+use Rattle.ctf_types.specs.Datum.{Datum, Unsigned, Signed, Text, Many, items_of}
 
 abbrev pub datum_of : Value → Datum
 datum_of (value.Unsigned n) = Unsigned n

@@ -1,5 +1,5 @@
 -- Each value of a list nests less deep than the list: what lets a function go down a value.
-use Rattle.std.specs.Prelude.{◌≡◌, ℕ, ◌+◌, ◌≤◌, List, [], ◌∷◌, map, max}
+use Rattle.std.specs.Prelude.{◌≤◌, List, [], ◌∷◌}
 use Rattle.std.proofs.Common.{arith}
 use Rattle.ctf_types.specs.declared.value.Value.{Value}
 use Rattle.ctf_types.specs.declared.value.Value.TheVariants as value

@@ -1,9 +1,12 @@
 //! The configuration of a tracer.
 
+ghost use Rattle.std.specs.Prelude.{◌≡◌, IfOk};
+
 use crate::{
-    ByteOrder, ClockType, ContextFeatures, EnvironmentEntry, EventFeatures, HeaderFeatures, ListOf,
-    Members, StructType, Text,
+    ByteOrder, ClockType, ContextFeatures, Duplicate, EnvironmentEntry, EventFeatures,
+    HeaderFeatures, ListOf, StructType, Text,
 };
+use std::alloc::{AllocError, Global};
 use uuid::Uuid;
 
 /// What a tracer is made from (barectf 3.1, "Configuration object"). Dynamic arrays have automatic lengths.
@@ -39,4 +42,45 @@ pub struct EventType {
     pub log_level: Option<u64>,
     pub specific: StructType,
     pub payload: StructType,
+}
+
+impl Duplicate for Config {
+    fn copy(&self, alloc: Global) -> Result<Config, AllocError> {
+        Ok(Config {
+            order: self.order,
+            uuid: self.uuid,
+            environment: self.environment.copy(alloc)?,
+            clocks: self.clocks.copy(alloc)?,
+            header: self.header.copy(alloc)?,
+            streams: self.streams.copy(alloc)?,
+        })
+    }
+}
+
+impl Duplicate for StreamType {
+    fn copy(&self, alloc: Global) -> Result<StreamType, AllocError> {
+        Ok(StreamType {
+            name: self.name.copy(alloc)?,
+            default_clock: match &self.default_clock {
+                None => None,
+                Some(name) => Some(name.copy(alloc)?),
+            },
+            context: self.context.copy(alloc)?,
+            extras: self.extras.copy(alloc)?,
+            event_header: self.event_header.copy(alloc)?,
+            common: self.common.copy(alloc)?,
+            events: self.events.copy(alloc)?,
+        })
+    }
+}
+
+impl Duplicate for EventType {
+    fn copy(&self, alloc: Global) -> Result<EventType, AllocError> {
+        Ok(EventType {
+            name: self.name.copy(alloc)?,
+            log_level: self.log_level,
+            specific: self.specific.copy(alloc)?,
+            payload: self.payload.copy(alloc)?,
+        })
+    }
 }

@@ -1,11 +1,13 @@
 //! The members of a structure, in their order.
 
-ghost use Rattle.std.specs.Prelude.{◌≡◌, ◌≢◌, ◌↔◌, ◌++◌, ◌∷◌, [], ℕ, List, length, map, slice_get, option_map, IfOk, IfSome, IsSome, OnOk, OnErr, IsTrue};
+ghost use Rattle.std.specs.Prelude.{◌≡◌, ◌<◌, ◌≢◌, ◌↔◌, ◌++◌, ◌∷◌, [], ℕ, List, length, map, position, slice_get, option_map, IfOk, IfErr, Some, IsSome, OnOk, OnErr, IsTrue};
+ghost use Rattle.std.specs.List.{Contains, IsDistinct};
+ghost use Rattle.std.specs.Str.{bytes_eq};
 ghost use Rattle.ctf_types.specs.Members.{named_members, names_in};
 
-use crate::{Duplicate, MemberType};
+use crate::{Duplicate, MemberType, Text};
 use indexmap::IndexMap;
-use std::alloc::{AllocError, Global};
+use std::alloc::{AllocError, AllocFailed, Global};
 use std::marker::Model;
 
 /// The members of a structure by name, in the order in which their fields lie. No two have one name.
@@ -34,6 +36,15 @@ impl Members {
         }
     }
 
+    /// No members, with room for this many.
+    pub fn with_capacity(alloc: Global, members: usize) -> Result<Members, AllocError>
+        ensures { IfOk result (λ m. m ≡ []) }
+    {
+        Ok(Members {
+            members: IndexMap::with_capacity(alloc, members)?,
+        })
+    }
+
     pub fn from_map(members: IndexMap<String, MemberType>) -> Members
         ensures { result ≡ named_members members.entries }
     {
@@ -47,7 +58,8 @@ impl Members {
     }
 
     pub fn len(&self) -> usize
-        ensures { result ≡ length self.now }
+        ensures len { result ≡ length self.now }
+        ensures distinct { IsDistinct bytes_eq (names_in self.now) }
     {
         self.members.len()
     }
@@ -64,5 +76,77 @@ impl Members {
     {
         let (name, member) = self.members.get_index(index)?;
         Some((name.as_str(), member))
+    }
+
+    /// Whether a member has this name.
+    pub fn contains(&self, name: &str) -> bool
+        ensures { IsTrue result ↔ Contains (names_in self.now) name.now }
+    {
+        self.members.contains_key(name)
+    }
+
+    /// The index of the member of this name.
+    pub fn index_of(&self, name: &str) -> Option<usize>
+        ensures { result ≡ position (bytes_eq name.now) (names_in self.now) }
+    {
+        self.members.get_index_of(name)
+    }
+
+    /// Adds a member of a new name after the others. A refusal of memory hands it back.
+    pub fn push(
+        &mut self,
+        name: Text,
+        member: MemberType,
+    ) -> Result<(), AllocFailed<(Text, MemberType)>>
+        requires { Contains (names_in self.old) name → ⊥ }
+        ensures ok { OnOk result (self.new ≡ self.old ++ (name, member) ∷ []) }
+        ensures err { OnErr result (self.new ≡ self.old) }
+        ensures handed_back { IfErr result (λ e. e.value ≡ (name, member)) }
+    {
+        match self.members.insert(name.into_string(), member) {
+            Ok(none) => {
+                drop(none);
+                Ok(())
+            }
+            Err(refused) => {
+                let (name, member) = refused.value;
+                Err(AllocFailed {
+                    value: (Text::from_string(name), member),
+                })
+            }
+        }
+    }
+
+    /// The name of the member at this index.
+    pub fn name_at(&self, index: usize) -> &str
+        requires { index < length self.now }
+        ensures { option_map (λ m. m.0) (slice_get self.now index) ≡ Some result.now }
+    {
+        match self.members.get_index(index) {
+            Some((name, _)) => name.as_str(),
+            None => unreachable!(),
+        }
+    }
+
+    /// The type of the member at this index.
+    pub fn member_at(&self, index: usize) -> &MemberType
+        requires { index < length self.now }
+        ensures { option_map (λ m. m.1) (slice_get self.now index) ≡ Some result.now }
+    {
+        match self.members.get_index(index) {
+            Some((_, member)) => member,
+            None => unreachable!(),
+        }
+    }
+}
+
+impl Duplicate for Members {
+    fn copy(&self, alloc: Global) -> Result<Members, AllocError> {
+        let mut copied = Members::with_capacity(alloc, self.len())?;
+        for index in 0..self.len() {
+            let name = Text::from_str(alloc, self.name_at(index))?;
+            copied.push(name, self.member_at(index).copy(alloc)?)?;
+        }
+        Ok(copied)
     }
 }

@@ -1,6 +1,9 @@
 //! The metadata of a trace: what a reader knows of it.
 
-use crate::{ByteOrder, ClockType, EnvironmentEntry, ListOf, StructType, Text};
+ghost use Rattle.std.specs.Prelude.{◌≡◌, IfOk};
+
+use crate::{ByteOrder, ClockType, Duplicate, EnvironmentEntry, ListOf, StructType, Text};
+use std::alloc::{AllocError, Global};
 use uuid::Uuid;
 
 /// The metadata of a trace (CTF 1.8.3, section 7). Dynamic arrays name the members that hold their lengths.
@@ -37,4 +40,41 @@ pub struct Event {
     /// The structure of the context that only these event records have.
     pub specific: StructType,
     pub fields: StructType,
+}
+
+impl Duplicate for Metadata {
+    fn copy(&self, alloc: Global) -> Result<Metadata, AllocError> {
+        Ok(Metadata {
+            order: self.order,
+            uuid: self.uuid,
+            environment: self.environment.copy(alloc)?,
+            clocks: self.clocks.copy(alloc)?,
+            header: self.header.copy(alloc)?,
+            streams: self.streams.copy(alloc)?,
+        })
+    }
+}
+
+impl Duplicate for Stream {
+    fn copy(&self, alloc: Global) -> Result<Stream, AllocError> {
+        Ok(Stream {
+            id: self.id,
+            context: self.context.copy(alloc)?,
+            event_header: self.event_header.copy(alloc)?,
+            common: self.common.copy(alloc)?,
+            events: self.events.copy(alloc)?,
+        })
+    }
+}
+
+impl Duplicate for Event {
+    fn copy(&self, alloc: Global) -> Result<Event, AllocError> {
+        Ok(Event {
+            id: self.id,
+            name: self.name.copy(alloc)?,
+            log_level: self.log_level,
+            specific: self.specific.copy(alloc)?,
+            fields: self.fields.copy(alloc)?,
+        })
+    }
 }

@@ -1,6 +1,9 @@
 //! The values of fields.
 
-ghost use Rattle.std.specs.Prelude.{◌≡◌, ◌<◌, ◌↔◌, ◌++◌, ◌∷◌, [], ℕ, length, map, slice_get, slice_set, option_map, IfOk, IfErr, OnOk, OnErr, IsTrue};
+ghost use Rattle.std.specs.Prelude.{◌≡◌, ◌<◌, ◌↔◌, ◌++◌, ◌∷◌, [], ℕ, Some, length, map, slice_get, slice_set, option_map, IfOk, IfErr, OnOk, OnErr, IsTrue};
+ghost use Rattle.std.specs.Bool.{OnTrue, OnFalse};
+ghost use Rattle.ctf_types.specs.Datum as datum;
+ghost use Rattle.ctf_types.specs.Faults.{list_in};
 ghost use Rattle.ctf_types.specs.Values.{datum_of, data_of};
 
 use crate::Bytes;
@@ -53,6 +56,16 @@ impl Model for Values {
 }
 
 impl Value {
+    /// The values of a list. None of any other value.
+    pub fn as_list(&self) -> Option<&Values>
+        ensures { option_map (λ vs. vs.now) result ≡ list_in (datum_of self.now) }
+    {
+        match self {
+            Value::List(values) => Some(values),
+            Value::Unsigned(_) | Value::Signed(_) | Value::Text(_) => None,
+        }
+    }
+
     /// An equal value in memory of its own.
     #[cycle(copy)]
     pub fn copy(&self, alloc: Global) -> Result<Value, AllocError>
@@ -125,8 +138,45 @@ impl Values {
     pub fn replace(&mut self, index: usize, value: Value) -> Value
         requires { index < length self.old }
         ensures replaced { self.new ≡ slice_set self.old index (datum_of value) }
+        ensures answered { slice_get self.old index ≡ Some (datum_of result) }
     {
         mem::replace(&mut self.items[index], value)
+    }
+
+    /// Puts an unsigned number in the place of a value. It takes no memory.
+    pub fn set_unsigned(&mut self, index: usize, number: u64)
+        requires { index < length self.old }
+        ensures { self.new ≡ slice_set self.old index (datum.Unsigned number) }
+    {
+        self.items[index] = Value::Unsigned(number);
+    }
+
+    /// Puts a signed number in the place of a value. It takes no memory.
+    pub fn set_signed(&mut self, index: usize, number: i64)
+        requires { index < length self.old }
+        ensures { self.new ≡ slice_set self.old index (datum.Signed number) }
+    {
+        self.items[index] = Value::Signed(number);
+    }
+
+    /// Puts these bytes in the place of a text's, within its capacity: it never takes memory.
+    /// The answer is false where the value is no text or has no room.
+    pub fn refill_text(&mut self, index: usize, bytes: &[u8]) -> bool
+        requires { index < length self.old }
+        ensures filled { OnTrue result (self.new ≡ slice_set self.old index (datum.Text bytes.now)) }
+        ensures no_room { OnFalse result (self.new ≡ self.old) }
+    {
+        match &mut self.items[index] {
+            Value::Text(text) => text.refill(bytes),
+            Value::Unsigned(_) | Value::Signed(_) | Value::List(_) => false,
+        }
+    }
+
+    /// Removes every value and keeps the capacity.
+    pub fn clear(&mut self)
+        ensures { self.new ≡ [] }
+    {
+        self.items.clear();
     }
 
     /// An equal list in memory of its own.

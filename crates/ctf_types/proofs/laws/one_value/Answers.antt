@@ -1,0 +1,9 @@
+use Rattle.ctf_types.specs.Layout.{AnyBits}
+use Rattle.ctf_types.proofs.Unique.{struct_one, packet_one}
+use Rattle.ctf_types.proofs.laws.one_value.Goals as goal
+
+pub returns : goal.returns
+returns c = record {
+  of_a_structure = λ o b s p vs ws x y. struct_one o b AnyBits AnyBits s p vs ws x y;
+  of_a_packet = λ m b size size' k k' x y. packet_one m.order b AnyBits AnyBits m size size' k k' x y;
+}

@@ -1,0 +1,24 @@
+//! Values of structures at any bit position of a byte slice.
+#![tactic(auto)]
+
+mod read_fault;
+mod read_field;
+mod read_number;
+mod read_start;
+mod read_structure;
+#[cfg(test)]
+mod read_tests;
+mod read_text;
+mod write_fields;
+mod write_numbers;
+mod write_padding;
+mod write_strings;
+mod write_structs;
+mod write_types;
+mod write_values;
+
+pub use read_fault::ReadFault;
+pub use read_start::members_start;
+pub use read_structure::{read_member, read_struct};
+pub use write_numbers::write_number;
+pub use write_structs::{write_members, write_struct};
