@@ -1,0 +1,202 @@
+-- What the rounds leave of the aliases that are not resolved: those with no outcome start long walks, and those
+-- refused for a limit pass it.
+use Rattle.std.proofs.Common.{◌≡◌, ◌&&◌, ◌||◌, ◌⊎◌, inl, inr, ℕ, zero, suc, List, [], ◌∷◌, Option, Some, None, Result, Ok, Err, is_some, Bool, true, false, not, true≢false, bytes_eq, refl, sym, ap, ◌∙◌, subst}
+use Rattle.std.specs.Map.{update}
+use Rattle.serde_json.specs.Data.{Data, null, boolean, number, string, array, object, Items, no_items, item, Members, no_members, member, put}
+use Rattle.serde_json.specs.Find.{get_member}
+use Rattle.serde_json.proofs.Views.{get_member-put, get_member-put_other}
+use Rattle.conf_tree.specs.declared.fault_kind.FaultKind.{FaultKind}
+use Rattle.conf_inherit.specs.declared.spot.Spot.{Spot}
+use Rattle.conf_inherit.specs.declared.spot.Spot.TheVariants.{FieldType}
+use Rattle.conf_inherit.specs.Spot.{spot_under, spot_of_items, names_alias, names_member_type}
+use Rattle.conf_inherit.specs.Circle.{Mentions, MentionsInItems, MentionsInMembers, Walks}
+use Rattle.conf_inherit.specs.Faults.{Passes}
+use Rattle.conf_inherit.specs.Flaws.{flaws}
+use Rattle.conf_inherit.specs.Looks.{AreResolved}
+use Rattle.conf_inherit.specs.Ready.{Names}
+use Rattle.conf_inherit.specs.Size.{settled}
+use Rattle.conf_inherit.specs.Rounds.{Why, Outcomes, all_named, all_named_in_items, all_named_in_members, has, is_over, is_empty, or_why, outcome, concluded, step, round, all_over, next_round, rounds, no_outcomes}
+use Rattle.conf_inherit.proofs.LayingLemmas.{Meets, same, other, meets}
+use Rattle.conf_inherit.proofs.ListLemmas.{AllEntries, all_along}
+use Rattle.conf_inherit.proofs.RoundLemmas.{updated_same, updated_other, by_round, or_left_false, or_right_false, some_of, entry_found, step_resolved, round_resolved, rounds_resolved}
+use Rattle.conf_inherit.proofs.NamedLemmas.{either_false, and_first, and_second}
+
+-- ---- a name that keeps a value from its turn
+
+abbrev Blocks : (List ℕ → Bool) → Spot → Data → Type 0
+Blocks p s v = (m : List ℕ) × Mentions m s v × (p m ≡ false)
+
+names_of : (s : Spot) (t : Bool) → (names_alias s || names_member_type s) ≡ t → t ≡ true → Names s
+names_of s t e f = go (names_alias s) refl
+  where
+    go : (u : Bool) → names_alias s ≡ u → Names s
+    go true a = inl a
+    go false a = inr (rw a at (e ∙ f))
+
+blocks_text : (p : List ℕ → Bool) (s : Spot) (n : List ℕ) → (t : Bool) → (names_alias s || names_member_type s) ≡ t → (not t || p n) ≡ false → Blocks p s (string n)
+blocks_text p s n true e h = (n, (names_of s true e refl, refl), h)
+blocks_text p s n false e h = absurd (true≢false h)
+
+blocked_item : (p : List ℕ → Bool) (d : Data) (ds : Items) (s : Spot) → (all_named p s d ≡ false) ⊎ (all_named_in_items p s ds ≡ false)
+    → (all_named p s d ≡ false → Blocks p s d) → (all_named_in_items p s ds ≡ false → (m : List ℕ) × MentionsInItems m s ds × (p m ≡ false)) → (m : List ℕ) × MentionsInItems m s (item d ds) × (p m ≡ false)
+blocked_item p d ds s (inl e) f g = let (m, x, h) = f e in (m, inl x, h)
+blocked_item p d ds s (inr e) f g = let (m, x, h) = g e in (m, inr x, h)
+
+blocked_member : (p : List ℕ → Bool) (k : List ℕ) (d : Data) (ms : Members) (s : Spot) → (all_named p (spot_under s k) d ≡ false) ⊎ (all_named_in_members p s ms ≡ false)
+    → (all_named p (spot_under s k) d ≡ false → Blocks p (spot_under s k) d) → (all_named_in_members p s ms ≡ false → (m : List ℕ) × MentionsInMembers m s ms × (p m ≡ false)) → (m : List ℕ) × MentionsInMembers m s (member k d ms) × (p m ≡ false)
+blocked_member p k d ms s (inl e) f g = let (m, x, h) = f e in (m, inl x, h)
+blocked_member p k d ms s (inr e) f g = let (m, x, h) = g e in (m, inr x, h)
+
+mutual
+  blocked : (p : List ℕ → Bool) (v : Data) (s : Spot) → all_named p s v ≡ false → Blocks p s v
+  blocked p null s h = absurd (true≢false h)
+  blocked p (boolean b) s h = absurd (true≢false h)
+  blocked p (number n) s h = absurd (true≢false h)
+  blocked p (string n) s h = blocks_text p s n (names_alias s || names_member_type s) refl h
+  blocked p (array ds) s h = blocked_items p ds (spot_of_items s) h
+  blocked p (object ms) s h = blocked_members p ms s h
+
+  blocked_items : (p : List ℕ → Bool) (ds : Items) (s : Spot) → all_named_in_items p s ds ≡ false → (m : List ℕ) × MentionsInItems m s ds × (p m ≡ false)
+  blocked_items p no_items s h = absurd (true≢false h)
+  blocked_items p (item d ds) s h = blocked_item p d ds s (either_false (all_named p s d) (all_named_in_items p s ds) h) (blocked p d s) (blocked_items p ds s)
+
+  blocked_members : (p : List ℕ → Bool) (ms : Members) (s : Spot) → all_named_in_members p s ms ≡ false → (m : List ℕ) × MentionsInMembers m s ms × (p m ≡ false)
+  blocked_members p no_members s h = absurd (true≢false h)
+  blocked_members p (member k d ms) s h = blocked_member p k d ms s (either_false (all_named p (spot_under s k) d) (all_named_in_members p s ms) h) (blocked p d (spot_under s k)) (blocked_members p ms s)
+
+-- ---- an alias with no outcome
+
+-- the alias has no outcome yet
+abbrev pub IsOpen : Outcomes → List ℕ → Type 0
+IsOpen st k = (has st.done k ≡ false) × (is_some (st.refused k) ≡ false)
+
+over_false : (a b c : Bool) → (a || b || not c) ≡ false → (a ≡ false) × (b ≡ false) × (c ≡ true)
+over_false true b c h = absurd (true≢false h)
+over_false false true c h = absurd (true≢false h)
+over_false false false true h = (refl, refl, refl)
+over_false false false false h = absurd (true≢false h)
+
+either_or : (a b : Bool) → a ≡ false → b ≡ false → (a || b) ≡ false
+either_or true b h i = absurd (true≢false h)
+either_or false b h i = i
+
+no_limit : (kind : FaultKind) → (let o : Result Data Why = Err None in o ≡ Err (Some kind)) → ⊥
+no_limit kind h = cc
+
+module _ (al : Members) where
+  -- what is open after a conclusion was open before it
+  open_concluded : (k : List ℕ) (st : Outcomes) (o : Result Data Why) (q : List ℕ) → IsOpen (concluded k st o) q → IsOpen st q
+  open_concluded k st (Ok r) q (d, f) = (at (meets q k), f)
+    where
+      at : Meets q k → has st.done q ≡ false
+      at (same e) = absurd (let g : has (put k r st.done) q ≡ true = ap (has (put k r st.done)) e ∙ ap is_some (get_member-put k r st.done) in true≢false (sym g ∙ d))
+      at (other apart) = ap is_some (sym (get_member-put_other q k r st.done apart)) ∙ d
+  open_concluded k st (Err why) q (d, f) = (d, at (meets q k))
+    where
+      at : Meets q k → is_some (st.refused q) ≡ false
+      at (same e) = absurd (true≢false (sym (ap is_some (updated_same st.refused k q (Some why) e)) ∙ f))
+      at (other apart) = ap is_some (sym (updated_other st.refused k q (Some why) apart)) ∙ f
+
+  open_step : (k : List ℕ) (w : Data) (st : Outcomes) (q : List ℕ) → IsOpen (step al k w st) q → IsOpen st q
+  open_step k w st q h = go (has st.done k || is_some (st.refused k)) refl (all_named (is_over al st) FieldType w) refl
+    where
+      go : (t : Bool) → (has st.done k || is_some (st.refused k)) ≡ t → (u : Bool) → all_named (is_over al st) FieldType w ≡ u → IsOpen st q
+      go true a u b = rw a at h
+      go false a false b = rw (a, b) at h
+      go false a true b = open_concluded k st (outcome al st.done w) q (rw (a, b) at h)
+
+  open_round : (ms : Members) (st : Outcomes) (q : List ℕ) → IsOpen (round al ms st) q → IsOpen st q
+  open_round no_members st q h = h
+  open_round (member k w ms) st q h = open_step k w st q (open_round ms (step al k w st) q h)
+
+  -- what has an outcome after its step
+  closed : (k : List ℕ) (st : Outcomes) (o : Result Data Why) → IsOpen (concluded k st o) k → ⊥
+  closed k st (Ok r) (d, f) = true≢false (sym (ap is_some (get_member-put k r st.done)) ∙ d)
+  closed k st (Err why) (d, f) = true≢false (sym (ap is_some (updated_same st.refused k k (Some why) refl)) ∙ f)
+
+  -- an alias that stays open names an open one
+  waits_step : (k : List ℕ) (w : Data) (st : Outcomes) → IsOpen (step al k w st) k → (m : List ℕ) × Mentions m FieldType w × (has al m ≡ true) × IsOpen st m
+  waits_step k w st h = go (has st.done k || is_some (st.refused k)) refl (all_named (is_over al st) FieldType w) refl
+    where
+      go : (t : Bool) → (has st.done k || is_some (st.refused k)) ≡ t → (u : Bool) → all_named (is_over al st) FieldType w ≡ u → (m : List ℕ) × Mentions m FieldType w × (has al m ≡ true) × IsOpen st m
+      go true a u b = let o = open_step k w st k h in absurd (true≢false (sym a ∙ either_or (has st.done k) (is_some (st.refused k)) o.0 o.1))
+      go false a true b = absurd (closed k st (outcome al st.done w) (rw (a, b) at h))
+      go false a false b =
+          let (m, x, f) = blocked (is_over al st) w FieldType b in
+          let parts = over_false (has st.done m) (is_some (st.refused m)) (has al m) f in
+          (m, x, parts.2, (parts.0, parts.1))
+
+  abbrev pub Waits : Outcomes → List ℕ → Data → Outcomes → Type 0
+  Waits after k w before = IsOpen after k → (m : List ℕ) × Mentions m FieldType w × (has al m ≡ true) × IsOpen before m
+
+  waits_earlier : (k : List ℕ) (w : Data) (st after : Outcomes) (q : List ℕ) (v : Data) → Waits after q v (step al k w st) → Waits after q v st
+  waits_earlier k w st after q v f h = let (m, x, known, o) = f h in (m, x, known, open_step k w st m o)
+
+  pub waits_round : (ms : Members) (st : Outcomes) → AllEntries (λ k w. Waits (round al ms st) k w st) ms
+  waits_round no_members st = tt
+  waits_round (member k w ms) st = (
+    λ h. waits_step k w st (open_round ms (step al k w st) k h),
+    all_along (λ q v. Waits (round al ms (step al k w st)) q v (step al k w st)) (λ q v. Waits (round al ms (step al k w st)) q v st) (waits_earlier k w st (round al ms (step al k w st))) ms (waits_round ms (step al k w st)),
+  )
+
+  all_closed : (ms : Members) (st : Outcomes) → all_over ms st ≡ true → AllEntries (λ k w. IsOpen st k → ⊥) ms
+  all_closed no_members st h = tt
+  all_closed (member k w ms) st h = (
+    λ o. true≢false (sym (and_first (has st.done k || is_some (st.refused k)) (all_over ms st) h) ∙ either_or (has st.done k) (is_some (st.refused k)) o.0 o.1),
+    all_closed ms st (and_second (has st.done k || is_some (st.refused k)) (all_over ms st) h),
+  )
+
+  waits_next : (k : List ℕ) (w : Data) (st : Outcomes) → get_member k al ≡ Some w → IsOpen (next_round al st) k → (m : List ℕ) × Mentions m FieldType w × (has al m ≡ true) × IsOpen st m
+  waits_next k w st is h = go (all_over al st) refl
+    where
+      go : (t : Bool) → all_over al st ≡ t → (m : List ℕ) × Mentions m FieldType w × (has al m ≡ true) × IsOpen st m
+      go true e = absurd (entry_found (λ k w. IsOpen st k → ⊥) al (all_closed al st e) k w is (rw e at h))
+      go false e = entry_found (λ k w. Waits (round al al st) k w st) al (waits_round al st) k w is (rw e at h)
+
+  -- an alias that is open after so many rounds starts a walk as long
+  pub open_walks : (n : ℕ) → (k : List ℕ) → has al k ≡ true → IsOpen (rounds al n no_outcomes) k → Walks al n k
+  open_walks zero k known h = some_of (get_member k al) known
+  open_walks (suc n) k known h =
+      let (w, is) = some_of (get_member k al) known in
+      let (m, x, there, o) = waits_next k w (rounds al n no_outcomes) is h in
+      (w, m, is, x, open_walks n m there o)
+
+  -- ---- an alias that is refused for a limit
+
+  abbrev pub LimitsHold : Outcomes → Type 0
+  LimitsHold st = (q : List ℕ) (kind : FaultKind) → st.refused q ≡ Some (Some kind) → (w : Data) × (get_member q al ≡ Some w) × Passes al kind FieldType w
+
+  limit_of : (o : Result Data FaultKind) (kind : FaultKind) → or_why o ≡ Err (Some kind) → o ≡ Err kind
+  limit_of (Ok r) kind h = cc
+  limit_of (Err x) kind h = cc
+
+  limit_outcome : (done : Members) (w : Data) (kind : FaultKind) → outcome al done w ≡ Err (Some kind) → settled done FieldType w ≡ Err kind
+  limit_outcome done w kind h = go (is_empty (flaws al FieldType false no_members w) && all_named (has done) FieldType w) refl
+    where
+      go : (t : Bool) → (is_empty (flaws al FieldType false no_members w) && all_named (has done) FieldType w) ≡ t → settled done FieldType w ≡ Err kind
+      go true a = limit_of (settled done FieldType w) kind (rw a at h)
+      go false a = absurd (no_limit kind (rw a at h))
+
+  limits_step : (k : List ℕ) (w : Data) (st : Outcomes) → get_member k al ≡ Some w → AreResolved al st.done → LimitsHold st → LimitsHold (step al k w st)
+  limits_step k w st is known limits = go (has st.done k || is_some (st.refused k)) refl (all_named (is_over al st) FieldType w) refl (outcome al st.done w) refl
+    where
+      refused : (why : Why) → outcome al st.done w ≡ Err why → (q : List ℕ) (kind : FaultKind) → update bytes_eq st.refused k (Some why) q ≡ Some (Some kind) → Meets q k → (v : Data) × (get_member q al ≡ Some v) × Passes al kind FieldType v
+      refused why e q kind h (other apart) = limits q kind (sym (updated_other st.refused k q (Some why) apart) ∙ h)
+      refused why e q kind h (same f) =
+          let g : Some why ≡ Some (Some kind) = sym (updated_same st.refused k q (Some why) f) ∙ h in
+          let one : why ≡ Some kind = cc in
+          (w, ap (λ x. get_member x al) f ∙ is, (st.done, known, limit_outcome st.done w kind (e ∙ ap (λ x. Err x) one)))
+
+      go : (t : Bool) → (has st.done k || is_some (st.refused k)) ≡ t → (u : Bool) → all_named (is_over al st) FieldType w ≡ u → (o : Result Data Why) → outcome al st.done w ≡ o → LimitsHold (step al k w st)
+      go true a u b o e = rw a limits
+      go false a false b o e = rw (a, b) limits
+      go false a true b (Ok r) e = rw (a, b, e) limits
+      go false a true b (Err why) e = rw (a, b, e) (λ q kind h. refused why e q kind h (meets q k))
+
+  limits_round : (ms : Members) (st : Outcomes) → AllEntries (λ k w. get_member k al ≡ Some w) ms → AreResolved al st.done → LimitsHold st → LimitsHold (round al ms st)
+  limits_round no_members st each known limits = limits
+  limits_round (member k w ms) st each known limits = limits_round ms (step al k w st) each.1 (step_resolved al k w st each.0 known) (limits_step k w st each.0 known limits)
+
+  pub limits_hold : (n : ℕ) → AllEntries (λ k w. get_member k al ≡ Some w) al → LimitsHold (rounds al n no_outcomes)
+  limits_hold zero each = λ q kind h. cc
+  limits_hold (suc n) each = by_round al LimitsHold (rounds al n no_outcomes) (limits_hold n each) (limits_round al (rounds al n no_outcomes) each (rounds_resolved al n each) (limits_hold n each))

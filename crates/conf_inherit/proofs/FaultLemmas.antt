@@ -1,0 +1,204 @@
+-- Each flaw that is listed holds at its path.
+use Rattle.std.proofs.Common.{◌≡◌, ◌&&◌, ◌<◌, ◌≤◌, ◌+◌, ◌++◌, ◌⊎◌, inl, inr, ℕ, zero, suc, List, [], ◌∷◌, map, Option, Some, None, is_some, Bool, true, false, true≢false, refl, sym, ap, ◌∙◌, subst, arith}
+use Rattle.serde_json.specs.Data.{Data, null, boolean, number, string, array, object, Items, no_items, item, Members, no_members, member, put}
+use Rattle.serde_json.specs.Find.{get_member, get_item}
+use Rattle.serde_json.proofs.Views.{get_member-put, get_member-put_other}
+use Rattle.conf_tree.specs.Flaw.{Flaw, Place, key, index, here, within}
+use Rattle.conf_tree.specs.Walk.{HasMember}
+use Rattle.conf_tree.specs.declared.fault_kind.FaultKind.TheVariants.{WrongKind, NoSuchAlias, NameClash}
+use Rattle.conf_inherit.specs.declared.spot.Spot.{Spot}
+use Rattle.conf_inherit.specs.Spot.{spot_under, spot_of_items, is_entry}
+use Rattle.conf_inherit.specs.Flaws.{is_wrong, is_unknown, own_flaws, inner_flaws, item_flaws, member_flaws, mark, mark_names}
+use Rattle.conf_inherit.specs.Rounds.{has}
+use Rattle.conf_inherit.specs.Faults.{Leads, HasEntry, Clashes, SaysOf, FlawHolds}
+use Rattle.conf_inherit.proofs.LayingLemmas.{Meets, same, other, meets}
+
+-- a flaw is among those of a list
+abbrev pub Among : Flaw → List Flaw → Type 0
+Among f [] = ⊥
+Among f (g ∷ fs) = (f ≡ g) ⊎ Among f fs
+
+pub among_joined : (f : Flaw) (xs ys : List Flaw) → Among f (xs ++ ys) → Among f xs ⊎ Among f ys
+among_joined f [] ys h = inr h
+among_joined f (x ∷ xs) ys (inl e) = inl (inl e)
+among_joined f (x ∷ xs) ys (inr h) = elim (among_joined f xs ys h) [ inl a ↦ inl (inr a) | inr b ↦ inr b ]
+
+pub among_within : (p : Place) (f : Flaw) (xs : List Flaw) → Among f (map (within p) xs) → (g : Flaw) × (f ≡ within p g) × Among g xs
+among_within p f (x ∷ xs) (inl e) = (x, e, inl refl)
+among_within p f (x ∷ xs) (inr h) = let (g, e, a) = among_within p f xs h in (g, e, inr a)
+among_within p f [] h = absurd h
+
+module _ (al : Members) where
+  -- one step further out
+  pub holds_in_object : (s : Spot) (k : List ℕ) (d : Data) (ms : Members) (f : Flaw) → HasMember k d ms → FlawHolds al (spot_under s k) d f → FlawHolds al s (object ms) (within (key k) f)
+  holds_in_object s k d ms f m (inl (t, w, leads, says)) = inl (t, w, (ms, d, refl, m, leads), says)
+  holds_in_object s k d ms f m (inr (e, (front, t, es, i, j, n, path, leads, below, a, b))) =
+      inr (e, (key k ∷ front, t, es, i, j, n, ap (λ p. key k ∷ p) path, (ms, d, refl, m, leads), below, a, b))
+
+  pub holds_in_list : (s : Spot) (i : ℕ) (d : Data) (es : Items) (f : Flaw) → get_item i es ≡ Some d → FlawHolds al (spot_of_items s) d f → FlawHolds al s (array es) (within (index i) f)
+  holds_in_list s i d es f m (inl (t, w, leads, says)) = inl (t, w, (es, d, refl, m, leads), says)
+  holds_in_list s i d es f m (inr (e, (front, t, ds, x, j, n, path, leads, below, a, b))) =
+      inr (e, (index i ∷ front, t, ds, x, j, n, ap (λ p. index i ∷ p) path, (es, d, refl, m, leads), below, a, b))
+
+  -- a flaw of a value itself holds, or its name is taken
+  own_holds : (s : Spot) (taken : Bool) (v : Data) (f : Flaw) → Among f (own_flaws al s taken v) → FlawHolds al s v f ⊎ ((f ≡ here NameClash) × (taken ≡ true))
+  own_holds s taken v f h = go (is_wrong s v) refl (is_unknown al s v) refl taken refl
+    where
+      only : (g : Flaw) → Among f (g ∷ []) → f ≡ g
+      only g (inl e) = e
+      only g (inr h) = absurd h
+
+      at_it : (kind_says : (g : Flaw) × (f ≡ g) × (g.path ≡ []) × SaysOf al g.kind s v) → FlawHolds al s v f
+      at_it (g, e, p, says) = inl (s, v, subst (λ x. Leads s v x s v) (sym (ap (λ y. y.path) e ∙ p)) (refl, refl), subst (λ x. SaysOf al x s v) (sym (ap (λ y. y.kind) e)) says)
+
+      go : (t : Bool) → is_wrong s v ≡ t → (u : Bool) → is_unknown al s v ≡ u → (b : Bool) → taken ≡ b → FlawHolds al s v f ⊎ ((f ≡ here NameClash) × (taken ≡ true))
+      go true a u b t e = inl (at_it (here WrongKind, only (here WrongKind) (rw a at h), refl, inl a))
+      go false a true b t e = inl (at_it (here NoSuchAlias, only (here NoSuchAlias) (rw (a, b) at h), refl, inl b))
+      go false a false b true e = inr (only (here NameClash) (rw (a, b, e) at h), e)
+      go false a false b false e = absurd (rw (a, b, e) at h)
+
+-- the name of an entry that one before it has
+abbrev Taken : Spot → Members → Data → Flaw → Type 0
+Taken s seen v f = (n : List ℕ) × (d : Data) × (ms : Members) × (v ≡ object ms) × HasMember n d ms × (is_entry s ≡ true) × (has seen n ≡ true) × (f ≡ within (key n) (here NameClash))
+
+below_next : (j i : ℕ) → j < i → j < suc i
+below_next j i lt = omega arith
+
+-- the names that are seen are those of entries before the place i
+abbrev Seen : Items → ℕ → Members → Type 0
+Seen es i seen = (n : List ℕ) → has seen n ≡ true → (j : ℕ) × (j < i) × HasEntry j n es
+
+-- what is left of a list stands from the place i on
+abbrev pub Aligned : Items → ℕ → Items → Type 0
+Aligned es i rest = (j : ℕ) (d : Data) → get_item j rest ≡ Some d → get_item (i + j) es ≡ Some d
+
+pub aligned_next : (es : Items) (i : ℕ) (e : Data) (rest : Items) → Aligned es i (item e rest) → Aligned es (suc i) rest
+aligned_next es i e rest h j d f = let same : i + suc j ≡ suc i + j = omega arith in subst (λ x. get_item x es ≡ Some d) same (h (suc j) d f)
+
+pub aligned_here : (es : Items) (i : ℕ) (e : Data) (rest : Items) → Aligned es i (item e rest) → get_item i es ≡ Some e
+aligned_here es i e rest h = let same : i + 0 ≡ i = omega arith in subst (λ x. get_item x es ≡ Some e) same (h 0 e refl)
+
+has_marked : (ms seen : Members) (n : List ℕ) → has (mark_names ms seen) n ≡ true → (has seen n ≡ true) ⊎ ((d : Data) × HasMember n d ms)
+has_marked no_members seen n h = inl h
+has_marked (member k d ms) seen n h = go (has_marked ms (put k null seen) n h) (meets n k)
+  where
+    go : (has (put k null seen) n ≡ true) ⊎ ((d : Data) × HasMember n d ms) → Meets n k → (has seen n ≡ true) ⊎ ((e : Data) × HasMember n e (member k d ms))
+    go (inr (e, m)) x = inr (e, inr m)
+    go (inl f) (same e) = inr (d, inl (e, refl))
+    go (inl f) (other apart) = inl (ap is_some (sym (get_member-put_other n k null seen apart)) ∙ f)
+
+seen_next_at : (es : Items) (i : ℕ) (e : Data) (seen : Members) → get_item i es ≡ Some e → Seen es i seen → (n : List ℕ) → has (mark e seen) n ≡ true → (j : ℕ) × (j < suc i) × HasEntry j n es
+seen_next_at es i (object ms) seen is before n h = go (has_marked ms seen n h)
+  where
+    go : (has seen n ≡ true) ⊎ ((d : Data) × HasMember n d ms) → (j : ℕ) × (j < suc i) × HasEntry j n es
+    go (inl f) = let (j, lt, m) = before n f in (j, below_next j i lt, m)
+    go (inr (d, m)) = (i, omega arith, (ms, d, is, m))
+seen_next_at es i null seen is before n h = let (j, lt, m) = before n h in (j, below_next j i lt, m)
+seen_next_at es i (boolean b) seen is before n h = let (j, lt, m) = before n h in (j, below_next j i lt, m)
+seen_next_at es i (number x) seen is before n h = let (j, lt, m) = before n h in (j, below_next j i lt, m)
+seen_next_at es i (string x) seen is before n h = let (j, lt, m) = before n h in (j, below_next j i lt, m)
+seen_next_at es i (array x) seen is before n h = let (j, lt, m) = before n h in (j, below_next j i lt, m)
+
+none_seen : (n : List ℕ) → has no_members n ≡ true → ⊥
+none_seen n h = true≢false (sym h)
+
+and_one : (a b : Bool) → (a && b) ≡ true → a ≡ true
+and_one true b h = refl
+and_one false b h = h
+
+and_two : (a b : Bool) → (a && b) ≡ true → b ≡ true
+and_two true b h = h
+and_two false b h = absurd (true≢false (sym h))
+
+module _ (al : Members) where
+  -- a flaw of an item, or in it
+  item_at : (s : Spot) (es : Items) (i : ℕ) (seen : Members) (e : Data) (f : Flaw) → get_item i es ≡ Some e → Seen es i seen
+      → Among f (map (within (index i)) (own_flaws al (spot_of_items s) false e ++ inner_flaws al (spot_of_items s) seen e))
+      → ((g : Flaw) → Among g (inner_flaws al (spot_of_items s) seen e) → FlawHolds al (spot_of_items s) e g ⊎ Taken (spot_of_items s) seen e g)
+      → FlawHolds al s (array es) f
+  item_at s es i seen e f is before h deeper = go (among_within (index i) f (own_flaws al (spot_of_items s) false e ++ inner_flaws al (spot_of_items s) seen e) h)
+    where
+      here_holds : (g : Flaw) → f ≡ within (index i) g → FlawHolds al (spot_of_items s) e g → FlawHolds al s (array es) f
+      here_holds g e' holds = subst (FlawHolds al s (array es)) (sym e') (holds_in_list al s i e es g is holds)
+
+      clash : (g : Flaw) → f ≡ within (index i) g → Taken (spot_of_items s) seen e g → FlawHolds al s (array es) f
+      clash g e' (n, d, ms, v, m, entry, b, flaw) =
+          let (j, lt, first) = before n b in
+          let all : f ≡ within (index i) (within (key n) (here NameClash)) = e' ∙ ap (within (index i)) flaw in
+          inr (ap (λ x. x.kind) all, ([], s, es, j, i, n, ap (λ x. x.path) all, (refl, refl), lt, first, (ms, d, is ∙ ap Some v, m)))
+
+      own : (g : Flaw) → f ≡ within (index i) g → FlawHolds al (spot_of_items s) e g ⊎ ((g ≡ here NameClash) × (false ≡ true)) → FlawHolds al s (array es) f
+      own g e' (inl holds) = here_holds g e' holds
+      own g e' (inr (x, bad)) = absurd (true≢false (sym bad))
+
+      inner : (g : Flaw) → f ≡ within (index i) g → FlawHolds al (spot_of_items s) e g ⊎ Taken (spot_of_items s) seen e g → FlawHolds al s (array es) f
+      inner g e' (inl holds) = here_holds g e' holds
+      inner g e' (inr taken) = clash g e' taken
+
+      either : (g : Flaw) → f ≡ within (index i) g → Among g (own_flaws al (spot_of_items s) false e) ⊎ Among g (inner_flaws al (spot_of_items s) seen e) → FlawHolds al s (array es) f
+      either g e' (inl a) = own g e' (own_holds al (spot_of_items s) false e g a)
+      either g e' (inr a) = inner g e' (deeper g a)
+
+      go : (g : Flaw) × (f ≡ within (index i) g) × Among g (own_flaws al (spot_of_items s) false e ++ inner_flaws al (spot_of_items s) seen e) → FlawHolds al s (array es) f
+      go (g, e', a) = either g e' (among_joined g (own_flaws al (spot_of_items s) false e) (inner_flaws al (spot_of_items s) seen e) a)
+
+  -- a flaw of a property, or in it
+  member_at : (s : Spot) (ms : Members) (seen : Members) (k : List ℕ) (d : Data) (f : Flaw) → HasMember k d ms
+      → Among f (map (within (key k)) (own_flaws al (spot_under s k) (is_entry s && has seen k) d ++ inner_flaws al (spot_under s k) no_members d))
+      → ((g : Flaw) → Among g (inner_flaws al (spot_under s k) no_members d) → FlawHolds al (spot_under s k) d g ⊎ Taken (spot_under s k) no_members d g)
+      → FlawHolds al s (object ms) f ⊎ Taken s seen (object ms) f
+  member_at s ms seen k d f m h deeper = go (among_within (key k) f (own_flaws al (spot_under s k) (is_entry s && has seen k) d ++ inner_flaws al (spot_under s k) no_members d) h)
+    where
+      here_holds : (g : Flaw) → f ≡ within (key k) g → FlawHolds al (spot_under s k) d g → FlawHolds al s (object ms) f
+      here_holds g e' holds = subst (FlawHolds al s (object ms)) (sym e') (holds_in_object al s k d ms g m holds)
+
+      own : (g : Flaw) → f ≡ within (key k) g → FlawHolds al (spot_under s k) d g ⊎ ((g ≡ here NameClash) × ((is_entry s && has seen k) ≡ true)) → FlawHolds al s (object ms) f ⊎ Taken s seen (object ms) f
+      own g e' (inl holds) = inl (here_holds g e' holds)
+      own g e' (inr (x, both)) = inr (k, d, ms, refl, m, and_one (is_entry s) (has seen k) both, and_two (is_entry s) (has seen k) both, e' ∙ ap (within (key k)) x)
+
+      inner : (g : Flaw) → f ≡ within (key k) g → FlawHolds al (spot_under s k) d g ⊎ Taken (spot_under s k) no_members d g → FlawHolds al s (object ms) f ⊎ Taken s seen (object ms) f
+      inner g e' (inl holds) = inl (here_holds g e' holds)
+      inner g e' (inr (n, d', ns, v, m', entry, b, flaw)) = absurd (none_seen n b)
+
+      either : (g : Flaw) → f ≡ within (key k) g → Among g (own_flaws al (spot_under s k) (is_entry s && has seen k) d) ⊎ Among g (inner_flaws al (spot_under s k) no_members d) → FlawHolds al s (object ms) f ⊎ Taken s seen (object ms) f
+      either g e' (inl a) = own g e' (own_holds al (spot_under s k) (is_entry s && has seen k) d g a)
+      either g e' (inr a) = inner g e' (deeper g a)
+
+      go : (g : Flaw) × (f ≡ within (key k) g) × Among g (own_flaws al (spot_under s k) (is_entry s && has seen k) d ++ inner_flaws al (spot_under s k) no_members d) → FlawHolds al s (object ms) f ⊎ Taken s seen (object ms) f
+      go (g, e', a) = either g e' (among_joined g (own_flaws al (spot_under s k) (is_entry s && has seen k) d) (inner_flaws al (spot_under s k) no_members d) a)
+
+  pub first_or_rest : {A : Type 0} (f : Flaw) (xs ys : List Flaw) → Among f (xs ++ ys) → (Among f xs → A) → (Among f ys → A) → A
+  first_or_rest f xs ys h g k = elim (among_joined f xs ys h) [ inl a ↦ g a | inr a ↦ k a ]
+
+  mutual
+    inner_holds : (v : Data) (s : Spot) (seen : Members) (f : Flaw) → Among f (inner_flaws al s seen v) → FlawHolds al s v f ⊎ Taken s seen v f
+    inner_holds null s seen f h = absurd h
+    inner_holds (boolean b) s seen f h = absurd h
+    inner_holds (number n) s seen f h = absurd h
+    inner_holds (string n) s seen f h = absurd h
+    inner_holds (array es) s seen f h = inl (items_hold es s es 0 no_members f (λ j d g. let same : j ≡ 0 + j = omega arith in subst (λ x. get_item x es ≡ Some d) same g) (λ n b. absurd (none_seen n b)) h)
+    inner_holds (object ms) s seen f h = members_hold ms s ms seen f (λ k d m. m) h
+
+    items_hold : (rest : Items) (s : Spot) (es : Items) (i : ℕ) (seen : Members) (f : Flaw) → Aligned es i rest → Seen es i seen → Among f (item_flaws al s i seen rest) → FlawHolds al s (array es) f
+    items_hold no_items s es i seen f al' before h = absurd h
+    items_hold (item e rest) s es i seen f al' before h =
+        first_or_rest f (map (within (index i)) (own_flaws al (spot_of_items s) false e ++ inner_flaws al (spot_of_items s) seen e)) (item_flaws al s (suc i) (mark e seen) rest) h
+        (λ a. item_at s es i seen e f (aligned_here es i e rest al') before a (λ g b. inner_holds e (spot_of_items s) seen g b))
+        (λ a. items_hold rest s es (suc i) (mark e seen) f (aligned_next es i e rest al') (seen_next_at es i e seen (aligned_here es i e rest al') before) a)
+
+    members_hold : (rest : Members) (s : Spot) (ms : Members) (seen : Members) (f : Flaw) → ((k : List ℕ) (d : Data) → HasMember k d rest → HasMember k d ms) → Among f (member_flaws al s seen rest) → FlawHolds al s (object ms) f ⊎ Taken s seen (object ms) f
+    members_hold no_members s ms seen f within_all h = absurd h
+    members_hold (member k d rest) s ms seen f within_all h =
+        first_or_rest f (map (within (key k)) (own_flaws al (spot_under s k) (is_entry s && has seen k) d ++ inner_flaws al (spot_under s k) no_members d)) (member_flaws al s seen rest) h
+        (λ a. member_at s ms seen k d f (within_all k d (inl (refl, refl))) a (λ g b. inner_holds d (spot_under s k) no_members g b))
+        (λ a. members_hold rest s ms seen f (λ q e m. within_all q e (inr m)) a)
+
+  -- each flaw of a value, with no entry before it, holds
+  pub flaw_holds : (s : Spot) (v : Data) (f : Flaw) → Among f (own_flaws al s false v ++ inner_flaws al s no_members v) → FlawHolds al s v f
+  flaw_holds s v f h = first_or_rest f (own_flaws al s false v) (inner_flaws al s no_members v) h own inner
+    where
+      own : Among f (own_flaws al s false v) → FlawHolds al s v f
+      own a = elim (own_holds al s false v f a) [ inl holds ↦ holds | inr bad ↦ absurd (true≢false (sym bad.1)) ]
+
+      inner : Among f (inner_flaws al s no_members v) → FlawHolds al s v f
+      inner a = elim (inner_holds v s no_members f a) [ inl holds ↦ holds | inr taken ↦ absurd (none_seen taken.0 taken.6) ]

@@ -1,0 +1,269 @@
+-- The kind of a refusal holds at its path.
+use Rattle.std.proofs.Common.{◌≡◌, ◌&&◌, ◌||◌, ◌<◌, ◌+◌, ◌++◌, ◌⊎◌, inl, inr, ℕ, zero, suc, List, [], ◌∷◌, map, Option, Some, None, option_and_then, Result, Ok, Err, is_some, nat_lt, Bool, true, false, true≢false, refl, sym, ap, ◌∙◌, subst, arith}
+use Rattle.std.specs.Prelude.{⊤}
+use borrow.Author.Tests.{ltb-true}
+use Rattle.serde_json.specs.Data.{Data, null, boolean, number, string, array, object, Items, no_items, item, Members, no_members, member}
+use Rattle.serde_json.specs.Events.{items_len, members_len}
+use Rattle.serde_json.specs.Find.{get, get_member, get_item}
+use Rattle.conf_tree.specs.Flaw.{Flaw, Place, key, index, here, within}
+use Rattle.conf_tree.specs.Reading.{◌>>=◌}
+use Rattle.conf_tree.specs.Walk.{HasMember, refusal}
+use Rattle.conf_tree.specs.declared.fault_kind.FaultKind.{FaultKind}
+use Rattle.conf_tree.specs.declared.fault_kind.FaultKind.TheVariants.{InheritCycle, Limit, TooDeep}
+use Rattle.conf_inherit.specs.declared.spot.Spot.{Spot}
+use Rattle.conf_inherit.specs.declared.spot.Spot.TheVariants.{Root, Trace, TraceType, Aliases, FieldType}
+use Rattle.conf_inherit.specs.Spot.{spot_under, spot_in_trace_type, spot_of_items, names_alias, names_member_type, lists_members, leads_on}
+use Rattle.conf_inherit.specs.AliasFlaws.{why_flaws, alias_flaws, all_alias_flaws}
+use Rattle.conf_inherit.specs.Circle.{Walks}
+use Rattle.conf_inherit.specs.Faults.{Leads, SaysOf, Passes, FlawHolds, RefusalHolds}
+use Rattle.conf_inherit.specs.Flaws.{flaws, own_flaws, inner_flaws}
+use Rattle.conf_inherit.specs.Looks.{AreResolved}
+use Rattle.conf_inherit.specs.Places.{too_many, limit_flaws, place_flaws, inner_places, item_places, member_places, max_extra_members}
+use Rattle.conf_inherit.specs.Laying.{lay}
+use Rattle.conf_inherit.specs.Names.{NoClash}
+use Rattle.conf_inherit.specs.Resolution.{members_or_none, trace_name, type_name, aliases_name, aliases_of, nests, in_aliases, from_aliases, if_shallow, resolution}
+use Rattle.conf_inherit.proofs.PlaceLemmas.{place_of_type, place_of_member, place_of_list, place_of_other}
+use Rattle.conf_inherit.proofs.ResolveLemmas.{laid_resolves}
+use Rattle.conf_inherit.proofs.RoundLemmas.{rounds_resolved}
+use Rattle.conf_inherit.specs.Rounds.{Why, Outcomes, rounds, no_outcomes, has}
+use Rattle.conf_inherit.specs.Size.{settled}
+use Rattle.conf_inherit.proofs.CircleLemmas.{IsOpen, open_walks, LimitsHold, limits_hold}
+use Rattle.conf_inherit.proofs.FaultLemmas.{Among, among_joined, among_within, holds_in_object, holds_in_list, flaw_holds, first_or_rest, Aligned, aligned_here, aligned_next}
+use Rattle.conf_inherit.proofs.ListLemmas.{AllEntries, found_each}
+use Rattle.conf_inherit.proofs.LayingLemmas.{Meets, same, other, meets, get_same, get_other}
+
+pub refused_among : (fs : List Flaw) (f : Flaw) → refusal fs ≡ Err f → Among f fs
+refused_among [] f h = cc
+refused_among (g ∷ fs) f h = inl (let e : f ≡ g = cc in e)
+
+limit_kind : (o : Result Data FaultKind) (f : Flaw) → Among f (limit_flaws o) → (kind : FaultKind) × (o ≡ Err kind) × (f ≡ here kind)
+limit_kind (Ok r) f h = absurd h
+limit_kind (Err kind) f (inl e) = (kind, refl, e)
+limit_kind (Err kind) f (inr h) = absurd h
+
+alias_spot_under : (k : List ℕ) → spot_under Aliases k ≡ FieldType
+unfolding spot_under
+alias_spot_under k = refl
+
+module _ (al : Members) where
+  -- a limit that a value passes holds at it
+  passes_here : (s : Spot) (v : Data) (kind : FaultKind) → Passes al kind s v → FlawHolds al s v (here kind)
+  passes_here s v kind p = inl (s, v, (refl, refl), inr p)
+
+  along : (s : Spot) (v : Data) (f g : Flaw) → f ≡ g → FlawHolds al s v g → FlawHolds al s v f
+  along s v f g e h = subst (FlawHolds al s v) (sym e) h
+
+  -- ---- the aliases
+
+  module _ (st : Outcomes) (limits : LimitsHold al st) (walks : (k : List ℕ) → has al k ≡ true → IsOpen st k → Walks al (members_len al) k) where
+    alias_at : (k : List ℕ) (w : Data) (f : Flaw) → get_member k al ≡ Some w → Among f (alias_flaws al st k w) → FlawHolds al FieldType w f
+    alias_at k w f is h = go (has st.done k) refl (st.refused k) refl
+      where
+        only : (g : Flaw) → Among f (g ∷ []) → f ≡ g
+        only g (inl e) = e
+        only g (inr x) = absurd x
+
+        passed : (kind : FaultKind) → f ≡ here kind → (v : Data) × (get_member k al ≡ Some v) × Passes al kind FieldType v → FlawHolds al FieldType w f
+        passed kind e (v, is', p) = let g : Some v ≡ Some w = sym is' ∙ is in let one : v ≡ w = cc in along FieldType w f (here kind) e (passes_here FieldType w kind (subst (Passes al kind FieldType) one p))
+
+        go : (t : Bool) → has st.done k ≡ t → (o : Option Why) → st.refused k ≡ o → FlawHolds al FieldType w f
+        go true a o b = absurd (rw a at h)
+        go false a None b = along FieldType w f (here InheritCycle) (only (here InheritCycle) (rw (a, b) at h)) (inl (FieldType, w, (refl, refl), inl (k, is, walks k (ap is_some is) (a, ap is_some b))))
+        go false a (Some (Some kind)) b = passed kind (only (here kind) (rw (a, b) at h)) (limits k kind b)
+        go false a (Some None) b = flaw_holds al FieldType w f (rw (a, b) at h)
+
+    aliases_hold : (ms : Members) (f : Flaw) → AllEntries (λ k w. get_member k al ≡ Some w) ms → ((k : List ℕ) (d : Data) → HasMember k d ms → HasMember k d al) → Among f (all_alias_flaws al st ms) → FlawHolds al Aliases (object al) f
+    aliases_hold no_members f each sub h = absurd h
+    aliases_hold (member k w ms) f each sub h =
+        first_or_rest al f (map (within (key k)) (alias_flaws al st k w)) (all_alias_flaws al st ms) h
+        (λ a. one (among_within (key k) f (alias_flaws al st k w) a))
+        (λ a. aliases_hold ms f each.1 (λ q d m. sub q d (inr m)) a)
+      where
+        one : (g : Flaw) × (f ≡ within (key k) g) × Among g (alias_flaws al st k w) → FlawHolds al Aliases (object al) f
+        one (g, e, a) = along Aliases (object al) f (within (key k) g) e (holds_in_object al Aliases k w al g (sub k w (inl (refl, refl))) (subst (λ x. FlawHolds al x w g) (sym (alias_spot_under k)) (alias_at k w g each.0 a)))
+
+  -- ---- the places
+
+  module _ (done : Members) (known : AreResolved al done) where
+    limit_here : (s : Spot) (v : Data) (f : Flaw) → Among f (limit_flaws (settled done s v)) → FlawHolds al s v f
+    limit_here s v f h = let (kind, e, is) = limit_kind (settled done s v) f h in along s v f (here kind) is (passes_here s v kind (done, known, e))
+
+    many_here : (s : Spot) (v : Data) (f : Flaw) → lists_members s ≡ true → Among f (too_many v) → FlawHolds al s v f
+    unfolding too_many
+    many_here s (array es) f is h = go (nat_lt max_extra_members (items_len es)) refl
+      where
+        past : nat_lt max_extra_members (items_len es) ≡ true → max_extra_members < items_len es
+        past e = ltb-true max_extra_members (items_len es) e
+
+        only : (g : Flaw) → Among f (g ∷ []) → f ≡ g
+        only g (inl e) = e
+        only g (inr x) = absurd x
+
+        go : (t : Bool) → nat_lt max_extra_members (items_len es) ≡ t → FlawHolds al s (array es) f
+        go true e = along s (array es) f (here Limit) (only (here Limit) (rw e at h)) (inl (s, array es, (refl, refl), inl (es, refl, is, past e)))
+        go false e = absurd (rw e at h)
+    many_here s (object ms) f is h = absurd h
+    many_here s null f is h = absurd h
+    many_here s (boolean b) f is h = absurd h
+    many_here s (number n) f is h = absurd h
+    many_here s (string n) f is h = absurd h
+
+    place_holds : (s : Spot) (v : Data) (f : Flaw) → Among f (place_flaws al done s v) → FlawHolds al s v f
+    place_holds s v f h = go (names_alias s) refl (names_member_type s) refl (lists_members s) refl
+      where
+        go : (a : Bool) → names_alias s ≡ a → (b : Bool) → names_member_type s ≡ b → (c : Bool) → lists_members s ≡ c → FlawHolds al s v f
+        go true a b b' c c' = first_or_rest al f (flaws al s false no_members v) (limit_flaws (settled done s v)) (subst (Among f) (place_of_type al done s v a) h) (flaw_holds al s v f) (limit_here s v f)
+        go false a true b c c' = limit_here s v f (subst (Among f) (place_of_member al done s v a b) h)
+        go false a false b true c = first_or_rest al f (too_many v) (flaws al s false no_members v) (subst (Among f) (place_of_list al done s v a b c) h) (many_here s v f c) (flaw_holds al s v f)
+        go false a false b false c = absurd (subst (Among f) (place_of_other al done s v a b c) h)
+
+    items_at : (s : Spot) (es : Items) (f : Flaw) → (t : Bool) → lists_members s ≡ t → Among f (inner_places al done s (array es)) → (Among f (item_places al done s 0 es) → FlawHolds al s (array es) f) → FlawHolds al s (array es) f
+    items_at s es f true is h k = k (rw is at h)
+    items_at s es f false is h k = absurd (rw is at h)
+
+    members_at : (s : Spot) (ms : Members) (f : Flaw) → (t : Bool) → leads_on s ≡ t → Among f (inner_places al done s (object ms)) → (Among f (member_places al done s ms) → FlawHolds al s (object ms) f) → FlawHolds al s (object ms) f
+    members_at s ms f true is h k = k (rw is at h)
+    members_at s ms f false is h k = absurd (rw is at h)
+
+    item_here : (s : Spot) (es : Items) (i : ℕ) (e : Data) (f : Flaw) → get_item i es ≡ Some e → (g : Flaw) × (f ≡ within (index i) g) × Among g (place_flaws al done (spot_of_items s) e ++ inner_places al done (spot_of_items s) e)
+        → ((g : Flaw) → Among g (inner_places al done (spot_of_items s) e) → FlawHolds al (spot_of_items s) e g) → FlawHolds al s (array es) f
+    item_here s es i e f is (g, same_f, a) deeper = along s (array es) f (within (index i) g) same_f (holds_in_list al s i e es g is
+        (first_or_rest al g (place_flaws al done (spot_of_items s) e) (inner_places al done (spot_of_items s) e) a (place_holds (spot_of_items s) e g) (deeper g)))
+
+    member_here : (s : Spot) (ms : Members) (k : List ℕ) (d : Data) (f : Flaw) → HasMember k d ms → (g : Flaw) × (f ≡ within (key k) g) × Among g (place_flaws al done (spot_under s k) d ++ inner_places al done (spot_under s k) d)
+        → ((g : Flaw) → Among g (inner_places al done (spot_under s k) d) → FlawHolds al (spot_under s k) d g) → FlawHolds al s (object ms) f
+    member_here s ms k d f m (g, same_f, a) deeper = along s (object ms) f (within (key k) g) same_f (holds_in_object al s k d ms g m
+        (first_or_rest al g (place_flaws al done (spot_under s k) d) (inner_places al done (spot_under s k) d) a (place_holds (spot_under s k) d g) (deeper g)))
+
+    mutual
+      places_hold : (v : Data) (s : Spot) (f : Flaw) → Among f (inner_places al done s v) → FlawHolds al s v f
+      places_hold null s f h = absurd h
+      places_hold (boolean b) s f h = absurd h
+      places_hold (number n) s f h = absurd h
+      places_hold (string n) s f h = absurd h
+      places_hold (array es) s f h = items_at s es f (lists_members s) refl h (items_hold es s es 0 f (λ j d g. let same : j ≡ 0 + j = omega arith in subst (λ x. get_item x es ≡ Some d) same g))
+      places_hold (object ms) s f h = members_at s ms f (leads_on s) refl h (members_hold ms s ms f (λ k d m. m))
+
+      items_hold : (rest : Items) (s : Spot) (es : Items) (i : ℕ) (f : Flaw) → Aligned es i rest → Among f (item_places al done s i rest) → FlawHolds al s (array es) f
+      items_hold no_items s es i f al' h = absurd h
+      items_hold (item e rest) s es i f al' h =
+          first_or_rest al f (map (within (index i)) (place_flaws al done (spot_of_items s) e ++ inner_places al done (spot_of_items s) e)) (item_places al done s (suc i) rest) h
+          (λ a. item_here s es i e f (aligned_here es i e rest al') (among_within (index i) f (place_flaws al done (spot_of_items s) e ++ inner_places al done (spot_of_items s) e) a) (λ g b. places_hold e (spot_of_items s) g b))
+          (λ a. items_hold rest s es (suc i) f (aligned_next es i e rest al') a)
+
+      members_hold : (rest : Members) (s : Spot) (ms : Members) (f : Flaw) → ((k : List ℕ) (d : Data) → HasMember k d rest → HasMember k d ms) → Among f (member_places al done s rest) → FlawHolds al s (object ms) f
+      members_hold no_members s ms f sub h = absurd h
+      members_hold (member k d rest) s ms f sub h =
+          first_or_rest al f (map (within (key k)) (place_flaws al done (spot_under s k) d ++ inner_places al done (spot_under s k) d)) (member_places al done s rest) h
+          (λ a. member_here s ms k d f (sub k d (inl (refl, refl))) (among_within (key k) f (place_flaws al done (spot_under s k) d ++ inner_places al done (spot_under s k) d) a) (λ g b. places_hold d (spot_under s k) g b))
+          (λ a. members_hold rest s ms f (λ q e m. sub q e (inr m)) a)
+
+-- ---- seen from the configuration
+
+has_found : (k : List ℕ) (d : Data) (ms : Members) → get_member k ms ≡ Some d → HasMember k d ms
+has_found k d no_members h = cc
+has_found k d (member l e ms) h = go (meets k l) (has_found k d ms)
+  where
+    go : Meets k l → (get_member k ms ≡ Some d → HasMember k d ms) → HasMember k d (member l e ms)
+    go (same f) rest = let g : Some e ≡ Some d = sym (get_same k l e ms f) ∙ h in let one : d ≡ e = cc in inl (f, one)
+    go (other apart) rest = inr (rest (sym (get_other k l e ms apart) ∙ h))
+
+trace_spot : spot_under Root trace_name ≡ Trace
+unfolding spot_under trace_name
+trace_spot = refl
+
+type_spot_under : spot_under Trace type_name ≡ TraceType
+unfolding spot_under type_name
+type_spot_under = refl
+
+aliases_spot : spot_under TraceType aliases_name ≡ Aliases
+unfolding spot_under spot_in_trace_type aliases_name
+aliases_spot = refl
+
+lift : (al : Members) (s t : Spot) (k : List ℕ) (v d : Data) (f : Flaw) → spot_under s k ≡ t → get k v ≡ Some d → FlawHolds al t d f → FlawHolds al s v (within (key k) f)
+lift al s t k (object ms) d f spot is h = holds_in_object al s k d ms f (has_found k d ms is) (subst (λ x. FlawHolds al x d f) (sym spot) h)
+lift al s t k null d f spot is h = cc
+lift al s t k (boolean b) d f spot is h = cc
+lift al s t k (number n) d f spot is h = cc
+lift al s t k (string n) d f spot is h = cc
+lift al s t k (array es) d f spot is h = cc
+
+-- the flaws of the aliases, seen from the configuration
+lift_aliases : (al : Members) (t : Data) (f : Flaw) → (a b c : Option Data) → get trace_name t ≡ a → option_and_then (get type_name) a ≡ b → option_and_then (get aliases_name) b ≡ c → (ms : Members) → members_or_none c ≡ ms
+    → (FlawHolds al Aliases (object ms) f ⊎ (ms ≡ no_members)) → (ms ≡ no_members → ⊥) → FlawHolds al Root t (in_aliases f)
+lift_aliases al t f (Some a) (Some b) (Some (object ns)) e1 e2 e3 ms is (inl h) some =
+    lift al Root Trace trace_name t a (within (key type_name) (within (key aliases_name) f)) trace_spot e1
+    (lift al Trace TraceType type_name a b (within (key aliases_name) f) type_spot_under e2
+    (lift al TraceType Aliases aliases_name b (object ns) f aliases_spot e3 (subst (λ x. FlawHolds al Aliases (object x) f) (sym is) h)))
+lift_aliases al t f a b c e1 e2 e3 ms is (inr none) some = absurd (some none)
+lift_aliases al t f None b c e1 e2 e3 ms is h some = absurd (some (lost b c e2 e3 ms is))
+  where
+    lost : (b c : Option Data) → None ≡ b → option_and_then (get aliases_name) b ≡ c → (ms : Members) → members_or_none c ≡ ms → ms ≡ no_members
+    lost b c e2 e3 ms is = sym is ∙ ap members_or_none (sym e3) ∙ ap (λ x. members_or_none (option_and_then (get aliases_name) x)) (sym e2)
+lift_aliases al t f (Some a) None c e1 e2 e3 ms is h some = absurd (some (sym is ∙ ap members_or_none (sym e3)))
+lift_aliases al t f (Some a) (Some b) None e1 e2 e3 ms is h some = absurd (some (sym is))
+lift_aliases al t f (Some a) (Some b) (Some null) e1 e2 e3 ms is h some = absurd (some (sym is))
+lift_aliases al t f (Some a) (Some b) (Some (boolean x)) e1 e2 e3 ms is h some = absurd (some (sym is))
+lift_aliases al t f (Some a) (Some b) (Some (number x)) e1 e2 e3 ms is h some = absurd (some (sym is))
+lift_aliases al t f (Some a) (Some b) (Some (string x)) e1 e2 e3 ms is h some = absurd (some (sym is))
+lift_aliases al t f (Some a) (Some b) (Some (array x)) e1 e2 e3 ms is h some = absurd (some (sym is))
+
+-- ---- a refusal
+
+err_aliases : (a : Result ⊤ Flaw) (k : ⊤ → Result Data Flaw) (f : Flaw) → (from_aliases a >>= k) ≡ Err f → ((g : Flaw) × (a ≡ Err g) × (f ≡ in_aliases g)) ⊎ ((a ≡ Ok tt) × (k tt ≡ Err f))
+err_aliases (Ok x) k f h = inr (refl, h)
+err_aliases (Err g) k f h = inl (g, refl, let e : f ≡ in_aliases g = cc in e)
+
+err_then : (a : Result ⊤ Flaw) (k : ⊤ → Result Data Flaw) (f : Flaw) → (a >>= k) ≡ Err f → (a ≡ Err f) ⊎ ((a ≡ Ok tt) × (k tt ≡ Err f))
+err_then (Ok x) k f h = inr (refl, h)
+err_then (Err g) k f h = inl (let e : g ≡ f = cc in ap (λ x. Err x) e)
+
+no_err : (x : Data) (f : Flaw) → (let o : Result Data Flaw = Ok x in o ≡ Err f) → ⊥
+no_err x f h = cc
+
+one_err : (f : Flaw) → (let o : Result Data Flaw = Err (here TooDeep) in o ≡ Err f) → f ≡ here TooDeep
+one_err f h = cc
+
+err_shallow : (x : Data) (f : Flaw) → if_shallow x ≡ Err f → (f ≡ here TooDeep) × (nests x 32 ≡ false)
+err_shallow x f h = go (nests x 32) refl
+  where
+    go : (t : Bool) → nests x 32 ≡ t → (f ≡ here TooDeep) × (nests x 32 ≡ false)
+    go true is = absurd (no_err x f (rw is at h))
+    go false is = (one_err f (rw is at h), is)
+
+module _ (t : Data) (f : Flaw) (apart : NoClash (aliases_of t)) where
+  abbrev al_of : Members
+  al_of = aliases_of t
+
+  abbrev st_of : Outcomes
+  st_of = rounds al_of (members_len al_of) no_outcomes
+
+  alias_refused : (g : Flaw) → refusal (all_alias_flaws al_of st_of al_of) ≡ Err g → FlawHolds al_of Root t (in_aliases g)
+  alias_refused g h =
+      let each = found_each al_of apart in
+      let among = refused_among (all_alias_flaws al_of st_of al_of) g h in
+      let limits = limits_hold al_of (members_len al_of) each in
+      let walks : (k : List ℕ) → has al_of k ≡ true → IsOpen st_of k → Walks al_of (members_len al_of) k = λ k known o. open_walks al_of (members_len al_of) k known o in
+      lift_aliases al_of t g (get trace_name t) (option_and_then (get type_name) (get trace_name t)) (option_and_then (get aliases_name) (option_and_then (get type_name) (get trace_name t))) refl refl refl al_of refl
+      (inl (aliases_hold al_of st_of limits walks al_of g each (λ k d m. m) among)) (λ none. subst (λ x. Among g (all_alias_flaws al_of st_of x)) none among)
+
+  laid_deep : refusal (all_alias_flaws al_of st_of al_of) ≡ Ok tt → refusal (flaws al_of Root false no_members t) ≡ Ok tt → if_shallow (lay st_of.done Root t None) ≡ Err f → RefusalHolds t f
+  laid_deep a b h =
+      let deep = err_shallow (lay st_of.done Root t None) f h in
+      inr (deep.0, (lay st_of.done Root t None, laid_resolves t al_of (members_len al_of) st_of refl apart refl a b, deep.1))
+
+  after_places : refusal (all_alias_flaws al_of st_of al_of) ≡ Ok tt → (refusal (flaws al_of Root false no_members t) ≡ Err f) ⊎ ((refusal (flaws al_of Root false no_members t) ≡ Ok tt) × (if_shallow (lay st_of.done Root t None) ≡ Err f)) → RefusalHolds t f
+  after_places a (inl h) = inl (flaw_holds al_of Root t f (refused_among (flaws al_of Root false no_members t) f h))
+  after_places a (inr (b, h)) = laid_deep a b h
+
+  after_aliases : refusal (all_alias_flaws al_of st_of al_of) ≡ Ok tt → (refusal (inner_places al_of st_of.done Root t) ≡ Err f) ⊎ ((refusal (inner_places al_of st_of.done Root t) ≡ Ok tt) × ((refusal (flaws al_of Root false no_members t) >>= (λ c. if_shallow (lay st_of.done Root t None))) ≡ Err f)) → RefusalHolds t f
+  after_aliases a (inl h) = inl (places_hold al_of st_of.done (rounds_resolved al_of (members_len al_of) (found_each al_of apart)) t Root f (refused_among (inner_places al_of st_of.done Root t) f h))
+  after_aliases a (inr (b, h)) = after_places a (err_then (refusal (flaws al_of Root false no_members t)) (λ c. if_shallow (lay st_of.done Root t None)) f h)
+
+  from_first : ((g : Flaw) × (refusal (all_alias_flaws al_of st_of al_of) ≡ Err g) × (f ≡ in_aliases g)) ⊎ ((refusal (all_alias_flaws al_of st_of al_of) ≡ Ok tt) × ((refusal (inner_places al_of st_of.done Root t) >>= (λ b. refusal (flaws al_of Root false no_members t) >>= (λ c. if_shallow (lay st_of.done Root t None)))) ≡ Err f)) → RefusalHolds t f
+  from_first (inl (g, h, e)) = inl (subst (FlawHolds al_of Root t) (sym e) (alias_refused g h))
+  from_first (inr (a, h)) = after_aliases a (err_then (refusal (inner_places al_of st_of.done Root t)) (λ b. refusal (flaws al_of Root false no_members t) >>= (λ c. if_shallow (lay st_of.done Root t None))) f h)
+
+  -- the kind of a refusal holds at its path
+  pub refusal_holds : resolution t ≡ Err f → RefusalHolds t f
+  refusal_holds h = from_first (err_aliases (refusal (all_alias_flaws al_of st_of al_of)) (λ a. refusal (inner_places al_of st_of.done Root t) >>= (λ b. refusal (flaws al_of Root false no_members t) >>= (λ c. if_shallow (lay st_of.done Root t None)))) f h)

@@ -1,0 +1,206 @@
+-- The parts of a resolution together.
+use Rattle.std.proofs.Common.{◌≡◌, ◌&&◌, ◌<◌, ◌≤◌, ℕ, zero, suc, max, List, [], ◌∷◌, Option, Some, None, option_and_then, Result, Ok, Err, String, Global, Bool, true, false, true≢false, Less, refl, sym, ap, ◌∙◌, subst, string_cmp, string_bytes, arith}
+use Rattle.std.specs.List.{AllByRecursion}
+use Rattle.std.specs.List.Sorted.{IsStrictlySortedBy}
+use Rattle.std.specs.Map.{keys_of}
+use Rattle.serde_json.specs.Data.{Data, null, boolean, number, string, array, object, Items, no_items, item, Members, no_members, member, depth, items_depth, members_depth}
+use Rattle.serde_json.specs.Find.{get, get_member, as_object}
+use Rattle.serde_json.specs.View.{members_view}
+use Rattle.serde_json.specs.Written.{has_float, members_have_float}
+use Rattle.serde_json.proofs.Views.{Entry}
+use Rattle.conf_tree.specs.Flaw.{Flaw}
+use Rattle.conf_tree.specs.Walk.{refusal}
+use Rattle.conf_inherit.specs.declared.spot.Spot.TheVariants.{Root}
+use Rattle.conf_inherit.specs.AliasFlaws.{all_alias_flaws}
+use Rattle.conf_inherit.specs.Flaws.{flaws, own_flaws, inner_flaws}
+use Rattle.conf_inherit.specs.Laying.{lay}
+use Rattle.conf_inherit.specs.Looks.{Looks, AreResolved}
+use Rattle.conf_inherit.specs.Names.{AllAbove, IsInOrder, NoClash}
+use Rattle.conf_inherit.specs.Resolution.{members_or_none, trace_name, type_name, aliases_name, aliases_of, Resolves, nests, items_nest, members_nest, from_aliases, if_shallow, resolution_after, resolution_under, resolution}
+use Rattle.std.specs.Prelude.{⊤}
+use Rattle.conf_tree.specs.Reading.{◌>>=◌}
+use Rattle.serde_json.specs.Events.{members_len}
+use Rattle.conf_inherit.specs.Places.{inner_places}
+use Rattle.conf_inherit.specs.Rounds.{Outcomes, rounds, no_outcomes, has}
+use Rattle.conf_inherit.proofs.InOrder.{get_none}
+use Rattle.conf_inherit.proofs.LayingLemmas.{Meets, same, other, meets, get_other, get_same}
+use Rattle.conf_inherit.proofs.LaysOver.{lays}
+use Rattle.conf_inherit.proofs.ListLemmas.{found_each}
+use Rattle.conf_inherit.proofs.NamedLemmas.{named}
+use Rattle.conf_inherit.proofs.ReadyLemmas.{ready, front_empty, back_empty, and_left, and_right}
+use Rattle.conf_inherit.proofs.RoundLemmas.{HasRoot, rounds_resolved, rounds_root, all_done}
+use Rattle.conf_inherit.proofs.WholeNumbers.{IsWhole, looks_whole, member_whole}
+
+pub no_flaws : (fs : List Flaw) → refusal fs ≡ Ok tt → fs ≡ []
+no_flaws [] h = refl
+no_flaws (f ∷ fs) h = cc
+
+-- ---- a configuration without a flaw is resolved
+
+pub laid_resolves : (t : Data) (al : Members) (n : ℕ) (st : Outcomes) → al ≡ aliases_of t → NoClash al → st ≡ rounds al n no_outcomes
+    → refusal (all_alias_flaws al st al) ≡ Ok tt → refusal (flaws al Root false no_members t) ≡ Ok tt → Resolves t (lay st.done Root t None)
+laid_resolves t al n st is apart turned sound whole =
+    let each = found_each al apart in
+    let known : AreResolved al st.done = subst (λ x. AreResolved al x.done) (sym turned) (rounds_resolved al n each) in
+    let root : HasRoot al st = subst (HasRoot al) (sym turned) (rounds_root al n each) in
+    let none = no_flaws (flaws al Root false no_members t) whole in
+    let own = front_empty (own_flaws al Root false t) (inner_flaws al Root no_members t) none in
+    let inner = back_empty (own_flaws al Root false t) (inner_flaws al Root no_members t) none in
+    let all = all_done al st (no_flaws (all_alias_flaws al st al) sound) root in
+    subst (λ x. Looks x Root (t ∷ []) (lay st.done Root t None)) is
+    (lays al st.done known t Root (ready al st.done t Root no_members inner (named al (has st.done) all t Root false no_members own inner)) [] None refl)
+
+-- ---- nesting
+
+mutual
+  pub depth-nests : (d : Data) (levels : ℕ) → nests d levels ≡ true → depth d ≤ levels
+  depth-nests null levels h = omega arith
+  depth-nests (boolean b) levels h = omega arith
+  depth-nests (number n) levels h = omega arith
+  depth-nests (string s) levels h = omega arith
+  depth-nests (array ds) zero h = absurd (true≢false (sym h))
+  depth-nests (array ds) (suc levels) h = let below : items_depth ds ≤ levels = depth-items_nest ds levels h in omega arith
+  depth-nests (object ms) zero h = absurd (true≢false (sym h))
+  depth-nests (object ms) (suc levels) h = let below : members_depth ms ≤ levels = depth-members_nest ms levels h in omega arith
+
+  depth-items_nest : (ds : Items) (levels : ℕ) → items_nest ds levels ≡ true → items_depth ds ≤ levels
+  depth-items_nest no_items levels h = omega arith
+  depth-items_nest (item d ds) levels h =
+      let one : depth d ≤ levels = depth-nests d levels (and_left (nests d levels) (items_nest ds levels) h) in
+      let rest : items_depth ds ≤ levels = depth-items_nest ds levels (and_right (nests d levels) (items_nest ds levels) h) in
+      omega arith
+
+  depth-members_nest : (ms : Members) (levels : ℕ) → members_nest ms levels ≡ true → members_depth ms ≤ levels
+  depth-members_nest no_members levels h = omega arith
+  depth-members_nest (member k d ms) levels h =
+      let one : depth d ≤ levels = depth-nests d levels (and_left (nests d levels) (members_nest ms levels) h) in
+      let rest : members_depth ms ≤ levels = depth-members_nest ms levels (and_right (nests d levels) (members_nest ms levels) h) in
+      omega arith
+
+-- ---- the aliases are part of the configuration
+
+member_below_at : (k l : List ℕ) (d e : Data) (ms : Members) → Meets k l → get_member k (member l d ms) ≡ Some e → (get_member k ms ≡ Some e → depth e ≤ members_depth ms) → depth e ≤ members_depth (member l d ms)
+member_below_at k l d e ms (same f) h later =
+    let g : Some d ≡ Some e = sym (get_same k l d ms f) ∙ h in
+    let one : d ≡ e = cc in
+    subst (λ x. depth x ≤ members_depth (member l d ms)) one (let small : depth d ≤ max (depth d) (members_depth ms) = omega arith in small)
+member_below_at k l d e ms (other apart) h later = let rest : depth e ≤ members_depth ms = later (sym (get_other k l d ms apart) ∙ h) in omega arith
+
+member_below : (k : List ℕ) (e : Data) (ms : Members) → get_member k ms ≡ Some e → depth e ≤ members_depth ms
+member_below k e no_members h = cc
+member_below k e (member l d ms) h = member_below_at k l d e ms (meets k l) h (member_below k e ms)
+
+below : (k : List ℕ) (d e : Data) → get k d ≡ Some e → depth e < depth d
+below k (object ms) e h = let b : depth e ≤ members_depth ms = member_below k e ms h in omega arith
+below k null e h = cc
+below k (boolean b) e h = cc
+below k (number n) e h = cc
+below k (string n) e h = cc
+below k (array es) e h = cc
+
+part_whole : (k : List ℕ) (d e : Data) → IsWhole d → get k d ≡ Some e → IsWhole e
+part_whole k (object ms) e w h = member_whole k e ms w h
+part_whole k null e w h = cc
+part_whole k (boolean b) e w h = cc
+part_whole k (number n) e w h = cc
+part_whole k (string n) e w h = cc
+part_whole k (array es) e w h = cc
+
+-- a value that an option has is so deep, and whole
+record IsPart (room : ℕ) (o : Option Data) : Type 0 where
+  pub shallow : (d : Data) → o ≡ Some d → depth d ≤ room
+  pub whole : (d : Data) → o ≡ Some d → IsWhole d
+
+part_of : (k : List ℕ) (room : ℕ) (o : Option Data) → IsPart (suc room) o → IsPart room (option_and_then (get k) o)
+part_of k room None p = record { shallow = λ d h. cc; whole = λ d h. cc }
+part_of k room (Some c) p = record {
+  shallow = λ d h. let b : depth d < depth c = below k c d h in let s : depth c ≤ suc room = p.shallow c refl in omega arith;
+  whole = λ d h. part_whole k c d (p.whole c refl) h;
+}
+
+members_part : (room : ℕ) (o : Option Data) → IsPart (suc room) o → (members_depth (members_or_none o) ≤ room) × (members_have_float (members_or_none o) ≡ false)
+members_part room None p = (omega arith, refl)
+members_part room (Some (object ms)) p = (let s : suc (members_depth ms) ≤ suc room = p.shallow (object ms) refl in omega arith, p.whole (object ms) refl)
+members_part room (Some null) p = (omega arith, refl)
+members_part room (Some (boolean b)) p = (omega arith, refl)
+members_part room (Some (number n)) p = (omega arith, refl)
+members_part room (Some (string n)) p = (omega arith, refl)
+members_part room (Some (array es)) p = (omega arith, refl)
+
+pub aliases_part : (t : Data) → depth t ≤ 32 → IsWhole t → (members_depth (aliases_of t) ≤ 28) × (members_have_float (aliases_of t) ≡ false)
+aliases_part t d w =
+    let here : IsPart 32 (Some t) = record { shallow = λ e h. let same : t ≡ e = cc in subst (λ x. depth x ≤ 32) same d; whole = λ e h. let same : t ≡ e = cc in subst IsWhole same w } in
+    members_part 28 (option_and_then (get aliases_name) (option_and_then (get type_name) (get trace_name t)))
+    (part_of aliases_name 29 (option_and_then (get type_name) (get trace_name t)) (part_of type_name 30 (get trace_name t) (part_of trace_name 31 (Some t) here)))
+
+pub resolved_whole : (t r : Data) → depth t ≤ 32 → has_float t ≡ false → Resolves t r → has_float r ≡ false
+resolved_whole t r d w l = looks_whole (aliases_of t) (aliases_part t d w).1 l (w, tt)
+
+-- ---- the names of a map are in order
+
+above_of : (k : String Global) (es : List Entry) → AllByRecursion (λ y. string_cmp k y ≡ Less) (keys_of es) → AllAbove (string_bytes k) (members_view es)
+above_of k [] h = tt
+above_of k (e ∷ es) h = (h.0, above_of k es h.1)
+
+pub apart_of : (es : List Entry) → IsStrictlySortedBy string_cmp (keys_of es) → NoClash (members_view es)
+unfolding IsStrictlySortedBy
+apart_of [] h = tt
+apart_of (e ∷ es) h = (get_none (string_bytes e.0) (members_view es) (above_of e.0 es h.0), apart_of es h.1)
+
+-- ---- where the aliases are found
+
+pub members_found : (o : Option Data) (ms : Members) → Some ms ≡ option_and_then as_object o → ms ≡ members_or_none o
+members_found None ms h = cc
+members_found (Some (object ns)) ms h = cc
+members_found (Some null) ms h = cc
+members_found (Some (boolean b)) ms h = cc
+members_found (Some (number n)) ms h = cc
+members_found (Some (string n)) ms h = cc
+members_found (Some (array es)) ms h = cc
+
+pub members_missing : (o : Option Data) → None ≡ option_and_then as_object o → no_members ≡ members_or_none o
+members_missing None h = refl
+members_missing (Some (object ns)) h = let bad : None ≡ Some ns = h in cc
+members_missing (Some null) h = refl
+members_missing (Some (boolean b)) h = refl
+members_missing (Some (number n)) h = refl
+members_missing (Some (string n)) h = refl
+members_missing (Some (array es)) h = refl
+
+-- ---- the answer
+
+ok_aliases : (a : Result ⊤ Flaw) (k : ⊤ → Result Data Flaw) (r : Data) → (from_aliases a >>= k) ≡ Ok r → (a ≡ Ok tt) × (k tt ≡ Ok r)
+ok_aliases (Ok x) k r h = (refl, h)
+ok_aliases (Err f) k r h = cc
+
+ok_then : (a : Result ⊤ Flaw) (k : ⊤ → Result Data Flaw) (r : Data) → (a >>= k) ≡ Ok r → (a ≡ Ok tt) × (k tt ≡ Ok r)
+ok_then (Ok x) k r h = (refl, h)
+ok_then (Err f) k r h = cc
+
+same_ok : (x r : Data) → (let o : Result Data Flaw = Ok x in o ≡ Ok r) → x ≡ r
+same_ok x r h = cc
+
+ok_shallow : (x r : Data) → if_shallow x ≡ Ok r → (x ≡ r) × (nests r 32 ≡ true)
+ok_shallow x r h = go (nests x 32) refl
+  where
+    value : nests x 32 ≡ true → x ≡ r
+    value is = same_ok x r (rw is at h)
+
+    go : (t : Bool) → nests x 32 ≡ t → (x ≡ r) × (nests r 32 ≡ true)
+    go true is = (value is, ap (λ y. nests y 32) (sym (value is)) ∙ is)
+    go false is = let e = rw is at h in cc
+
+-- what is answered is the resolution, and nests at most 32 deep
+pub resolution_sound : (t r : Data) → NoClash (aliases_of t) → resolution t ≡ Ok r → Resolves t r × (nests r 32 ≡ true)
+resolution_sound t r apart h =
+    let al = aliases_of t in
+    let st = rounds al (members_len al) no_outcomes in
+    let first = ok_aliases (refusal (all_alias_flaws al st al)) (λ a. refusal (inner_places al st.done Root t) >>= (λ b. refusal (flaws al Root false no_members t) >>= (λ c. if_shallow (lay st.done Root t None)))) r h in
+    let second = ok_then (refusal (inner_places al st.done Root t)) (λ b. refusal (flaws al Root false no_members t) >>= (λ c. if_shallow (lay st.done Root t None))) r first.1 in
+    let third = ok_then (refusal (flaws al Root false no_members t)) (λ c. if_shallow (lay st.done Root t None)) r second.1 in
+    let last = ok_shallow (lay st.done Root t None) r third.1 in
+    (subst (Resolves t) last.0 (laid_resolves t al (members_len al) st refl apart refl first.0 third.0), last.1)
+
+pub resolution_is : (t : Data) (al : Members) (n : ℕ) (st : Outcomes) → al ≡ aliases_of t → members_len al ≡ n → st ≡ rounds al n no_outcomes → resolution t ≡ resolution_after al st t
+resolution_is t al n st own count turned =
+    ap (λ x. resolution_under x t) (sym own) ∙ ap (λ x. resolution_after al x t) (ap (λ m. rounds al m no_outcomes) count ∙ sym turned)

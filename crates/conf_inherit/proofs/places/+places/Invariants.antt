@@ -1,0 +1,29 @@
+use Rattle.std.proofs.Common.{◌≡◌, ◌≤◌, ◌+◌, ◌*◌, drop}
+use Rattle.serde_json.specs.Data.{items_depth, members_depth}
+use Rattle.serde_json.specs.View.{items_view, members_view}
+use Rattle.conf_inherit.specs.Places.{item_places, member_places}
+use Rattle.conf_inherit.proofs.places.+places.Given as goal
+
+abbrev pub decreases-check_places : goal.decreases-check_places
+decreases-check_places l = 3 * goal.size-check_places l
+
+abbrev pub decreases-check_place_and_inner : goal.decreases-check_place_and_inner
+decreases-check_place_and_inner l = 3 * goal.size-check_place_and_inner l + 1
+
+abbrev pub decreases-check_item_places : goal.decreases-check_item_places
+decreases-check_item_places l = 3 * goal.size-check_item_places l + 2
+
+abbrev pub decreases-check_member_places : goal.decreases-check_member_places
+decreases-check_member_places l = 3 * goal.size-check_member_places l + 2
+
+-- what is left of the list has all the flaws
+abbrev pub invariant-check_item_places-loop-index : goal.invariant-check_item_places-loop-index
+invariant-check_item_places-loop-index l =
+    (items_depth (items_view (drop l.index l.items.items)) ≤ l.levels)
+    × (item_places (members_view l.aliases.entries) (members_view l.resolved.entries) l.spot 0 (items_view l.items.items) ≡ item_places (members_view l.aliases.entries) (members_view l.resolved.entries) l.spot l.index (items_view (drop l.index l.items.items)))
+
+-- what is left of the object has all the flaws
+abbrev pub invariant-check_member_places-loop-name : goal.invariant-check_member_places-loop-name
+invariant-check_member_places-loop-name l =
+    (members_depth (members_view l.name-iterator) ≤ l.levels)
+    × (member_places (members_view l.aliases.entries) (members_view l.resolved.entries) l.spot (members_view l.members.entries) ≡ member_places (members_view l.aliases.entries) (members_view l.resolved.entries) l.spot (members_view l.name-iterator))

@@ -1,0 +1,11 @@
+-- What is asked of the name of an alias.
+use Rattle.std.specs.Prelude.{ℕ, List, Bool}
+use Rattle.serde_json.specs.View.{members_view}
+use Rattle.conf_inherit.specs.declared.asked.Asked.{Asked}
+use Rattle.conf_inherit.specs.declared.asked.Asked.TheVariants.{IsResolved, IsOver}
+use Rattle.conf_inherit.specs.AliasOutcomes.{outcomes_of}
+use Rattle.conf_inherit.specs.Rounds.{has, is_over}
+
+abbrev pub passes : Asked → List ℕ → Bool
+passes (IsResolved resolved) n = has (members_view resolved.now.entries) n
+passes (IsOver aliases outcomes) n = is_over (members_view aliases.now.entries) (outcomes_of outcomes.now) n

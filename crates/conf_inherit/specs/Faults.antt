@@ -1,0 +1,58 @@
+-- What a refusal says: its kind holds at its path, over the configuration as it was given.
+use Rattle.std.specs.Prelude.{◌≡◌, ◌<◌, ◌++◌, ◌⊎◌, ℕ, List, [], ◌∷◌, Some, Ok, Err, true, false}
+use Rattle.serde_json.specs.Data.{Data, null, boolean, number, string, array, object, Items, no_items, item, Members, no_members, member}
+use Rattle.serde_json.specs.Events.{items_len, members_len}
+use Rattle.serde_json.specs.Find.{get_member, get_item}
+use Rattle.conf_tree.specs.Flaw.{Flaw, Place, key, index, here}
+use Rattle.conf_tree.specs.Walk.{HasMember}
+use Rattle.conf_tree.specs.declared.fault_kind.FaultKind.{FaultKind}
+use Rattle.conf_tree.specs.declared.fault_kind.FaultKind.TheVariants.{TooDeep, WrongKind, NoSuchAlias, InheritCycle, NameClash, Limit}
+use Rattle.conf_inherit.specs.declared.spot.Spot.{Spot}
+use Rattle.conf_inherit.specs.Spot.{spot_under, spot_of_items, lists_members}
+use Rattle.conf_inherit.specs.Circle.{Walks}
+use Rattle.conf_inherit.specs.Flaws.{is_wrong, is_unknown}
+use Rattle.conf_inherit.specs.Looks.{AreResolved}
+use Rattle.conf_inherit.specs.Places.{max_extra_members}
+use Rattle.conf_inherit.specs.Resolution.{aliases_of, Resolves, nests}
+use Rattle.conf_inherit.specs.Size.{settled}
+use Rattle.conf_inherit.specs.declared.spot.Spot.TheVariants.{Root}
+
+-- the path leads from the value v at the spot s to the value w at the spot t
+abbrev pub Leads : Spot → Data → List Place → Spot → Data → Type 0
+Leads s v [] t w = (s ≡ t) × (v ≡ w)
+Leads s v (key k ∷ path) t w = (ms : Members) × (d : Data) × (v ≡ object ms) × HasMember k d ms × Leads (spot_under s k) d path t w
+Leads s v (index i ∷ path) t w = (es : Items) × (d : Data) × (v ≡ array es) × (get_item i es ≡ Some d) × Leads (spot_of_items s) d path t w
+
+-- a list has an entry with a member of this name at the place i
+abbrev pub HasEntry : ℕ → List ℕ → Items → Type 0
+HasEntry i n es = (ms : Members) × (d : Data) × (get_item i es ≡ Some (object ms)) × HasMember n d ms
+
+-- the path ends at an entry of a list whose name an entry before it has
+abbrev pub Clashes : Spot → Data → List Place → Type 0
+Clashes s v path = (front : List Place) × (t : Spot) × (es : Items) × (i : ℕ) × (j : ℕ) × (n : List ℕ)
+    × (path ≡ front ++ index j ∷ key n ∷ []) × Leads s v front t (array es) × (i < j) × HasEntry i n es × HasEntry j n es
+
+-- with the aliases resolved, the value w at the spot t passes the limit
+abbrev pub Passes : Members → FaultKind → Spot → Data → Type 0
+Passes al kind t w = (done : Members) × AreResolved al done × (settled done t w ≡ Err kind)
+
+-- what a kind tells of the value w that a path leads to
+abbrev pub Tells : Members → FaultKind → Spot → Data → Type 0
+Tells al WrongKind t w = is_wrong t w ≡ true
+Tells al NoSuchAlias t w = is_unknown al t w ≡ true
+Tells al InheritCycle t w = (k : List ℕ) × (get_member k al ≡ Some w) × Walks al (members_len al) k
+Tells al Limit t w = (es : Items) × (w ≡ array es) × (lists_members t ≡ true) × (max_extra_members < items_len es)
+Tells al _ t w = ⊥
+
+abbrev pub SaysOf : Members → FaultKind → Spot → Data → Type 0
+SaysOf al kind t w = Tells al kind t w ⊎ Passes al kind t w
+
+-- the kind of a flaw holds at its path
+abbrev pub FlawHolds : Members → Spot → Data → Flaw → Type 0
+FlawHolds al s v flaw =
+    ((t : Spot) × (w : Data) × Leads s v flaw.path t w × SaysOf al flaw.kind t w)
+    ⊎ ((flaw.kind ≡ NameClash) × Clashes s v flaw.path)
+
+-- the kind of a refusal holds at its path, or the whole resolved configuration nests too deep
+abbrev pub RefusalHolds : Data → Flaw → Type 0
+RefusalHolds t flaw = FlawHolds (aliases_of t) Root t flaw ⊎ ((flaw ≡ here TooDeep) × ((r : Data) × Resolves t r × (nests r 32 ≡ false)))

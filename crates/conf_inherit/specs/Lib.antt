@@ -1,0 +1,15 @@
+pub mod Spot
+pub mod Names
+pub mod Looks
+pub mod Laying
+pub mod Ready
+pub mod Flaws
+pub mod Size
+pub mod Rounds
+pub mod Circle
+pub mod AliasFlaws
+pub mod Places
+pub mod AliasOutcomes
+pub mod Asked
+pub mod Resolution
+pub mod Faults

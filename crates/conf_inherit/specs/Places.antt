@@ -1,0 +1,52 @@
+-- What is wrong at the places of a configuration where field types stand, in walk order: the flaws of the type
+-- there, or else the limit that it passes once it is resolved.
+use Rattle.std.specs.Prelude.{ℕ, suc, List, [], ◌∷◌, ◌++◌, map, Result, Ok, Err, Bool, false, true, nat_lt, if◌then◌else◌}
+use Rattle.serde_json.specs.Data.{Data, null, boolean, number, string, array, object, Items, no_items, item, Members, no_members, member}
+use Rattle.serde_json.specs.Events.{items_len}
+use Rattle.conf_tree.specs.Flaw.{Flaw, key, index, here, within}
+use Rattle.conf_tree.specs.declared.fault_kind.FaultKind.{FaultKind}
+use Rattle.conf_tree.specs.declared.fault_kind.FaultKind.TheVariants.{Limit}
+use Rattle.conf_inherit.specs.declared.spot.Spot.{Spot}
+use Rattle.conf_inherit.specs.Spot.{spot_under, spot_of_items, names_alias, names_member_type, lists_members, leads_on}
+use Rattle.conf_inherit.specs.Flaws.{flaws}
+use Rattle.conf_inherit.specs.Size.{settled}
+
+-- the most extra members of a packet context
+abbrev pub max_extra_members : ℕ
+max_extra_members = 256
+
+unfoldable pub too_many : Data → List Flaw
+too_many (array es) = if nat_lt max_extra_members (items_len es) then here Limit ∷ [] else []
+too_many _ = []
+
+abbrev pub limit_flaws : Result Data FaultKind → List Flaw
+limit_flaws (Ok r) = []
+limit_flaws (Err kind) = here kind ∷ []
+
+-- what is wrong with a value as a whole that stands at a place of field types
+unfoldable pub place_flaws : Members → Members → Spot → Data → List Flaw
+place_flaws al done s v =
+    if names_alias s then flaws al s false no_members v ++ limit_flaws (settled done s v)
+    else if names_member_type s then limit_flaws (settled done s v)
+    else if lists_members s then too_many v ++ flaws al s false no_members v
+    else []
+
+abbrev mutual
+  -- the flaws at the places in a value
+  pub inner_places : Members → Members → Spot → Data → List Flaw
+  inner_places al done s null = []
+  inner_places al done s (boolean b) = []
+  inner_places al done s (number n) = []
+  inner_places al done s (string n) = []
+  inner_places al done s (array es) = if lists_members s then item_places al done s 0 es else []
+  inner_places al done s (object ms) = if leads_on s then member_places al done s ms else []
+
+  pub item_places : Members → Members → Spot → ℕ → Items → List Flaw
+  item_places al done s i no_items = []
+  item_places al done s i (item e es) =
+      map (within (index i)) (place_flaws al done (spot_of_items s) e ++ inner_places al done (spot_of_items s) e) ++ item_places al done s (suc i) es
+
+  pub member_places : Members → Members → Spot → Members → List Flaw
+  member_places al done s no_members = []
+  member_places al done s (member k d ms) =
+      map (within (key k)) (place_flaws al done (spot_under s k) d ++ inner_places al done (spot_under s k) d) ++ member_places al done s ms

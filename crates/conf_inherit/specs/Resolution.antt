@@ -1,0 +1,81 @@
+-- The resolution of a configuration: its aliases, and the tree in which each property has the value that is
+-- looked up for it.
+use Rattle.std.specs.Prelude.{ℕ, zero, suc, ◌&&◌, List, [], ◌∷◌, Option, None, Some, option_and_then, Bool, true, false, codes, Result, Ok, Err, ⊤, if◌then◌else◌}
+use Rattle.serde_json.specs.Data.{Data, null, boolean, number, string, array, object, Items, no_items, item, Members, no_members, member}
+use Rattle.serde_json.specs.Find.{get, get_member}
+use Rattle.serde_json.specs.Events.{members_len}
+use Rattle.conf_tree.specs.Flaw.{Flaw, key, here, within}
+use Rattle.conf_tree.specs.Reading.{◌>>=◌}
+use Rattle.conf_tree.specs.Walk.{refusal}
+use Rattle.conf_tree.specs.declared.fault_kind.FaultKind.TheVariants.{TooDeep}
+use Rattle.conf_inherit.specs.AliasFlaws.{all_alias_flaws}
+use Rattle.conf_inherit.specs.Flaws.{flaws}
+use Rattle.conf_inherit.specs.Laying.{lay}
+use Rattle.conf_inherit.specs.Places.{inner_places}
+use Rattle.conf_inherit.specs.Rounds.{Outcomes, rounds, no_outcomes}
+use Rattle.conf_inherit.specs.declared.spot.Spot.TheVariants.{Root}
+use Rattle.conf_inherit.specs.Looks.{Looks}
+
+abbrev pub members_or_none : Option Data → Members
+members_or_none (Some (object ms)) = ms
+members_or_none _ = no_members
+
+unfoldable pub trace_name : List ℕ
+trace_name = codes "trace"
+
+unfoldable pub type_name : List ℕ
+type_name = codes "type"
+
+unfoldable pub aliases_name : List ℕ
+aliases_name = codes "$field-type-aliases"
+
+-- the field type aliases of a configuration
+abbrev pub aliases_of : Data → Members
+aliases_of t = members_or_none (option_and_then (get aliases_name) (option_and_then (get type_name) (get trace_name t)))
+
+-- r is t with every inheritance resolved
+abbrev pub Resolves : Data → Data → Type 0
+Resolves t r = Looks (aliases_of t) Root (t ∷ []) r
+
+-- objects and lists nest at most so deep
+abbrev mutual
+  pub nests : Data → ℕ → Bool
+  nests null levels = true
+  nests (boolean b) levels = true
+  nests (number n) levels = true
+  nests (string s) levels = true
+  nests (array ds) zero = false
+  nests (array ds) (suc levels) = items_nest ds levels
+  nests (object ms) zero = false
+  nests (object ms) (suc levels) = members_nest ms levels
+
+  pub items_nest : Items → ℕ → Bool
+  items_nest no_items levels = true
+  items_nest (item d ds) levels = nests d levels && items_nest ds levels
+
+  pub members_nest : Members → ℕ → Bool
+  members_nest no_members levels = true
+  members_nest (member k d ms) levels = nests d levels && members_nest ms levels
+
+-- ---- what `resolve` answers: the first fault in walk order, the aliases before all else, or the resolved tree
+
+-- a fault of the aliases, seen from the configuration
+abbrev pub in_aliases : Flaw → Flaw
+in_aliases flaw = within (key trace_name) (within (key type_name) (within (key aliases_name) flaw))
+
+abbrev pub from_aliases : Result ⊤ Flaw → Result ⊤ Flaw
+from_aliases (Ok x) = Ok x
+from_aliases (Err flaw) = Err (in_aliases flaw)
+
+abbrev pub if_shallow : Data → Result Data Flaw
+if_shallow r = if nests r 32 then Ok r else Err (here TooDeep)
+
+abbrev pub resolution_after : Members → Outcomes → Data → Result Data Flaw
+resolution_after al st t =
+    from_aliases (refusal (all_alias_flaws al st al)) >>= (λ a. refusal (inner_places al st.done Root t) >>= (λ b. refusal (flaws al Root false no_members t) >>= (λ c. if_shallow (lay st.done Root t None))))
+
+abbrev pub resolution_under : Members → Data → Result Data Flaw
+resolution_under al t = resolution_after al (rounds al (members_len al) no_outcomes) t
+
+abbrev pub resolution : Data → Result Data Flaw
+resolution t = resolution_under (aliases_of t) t

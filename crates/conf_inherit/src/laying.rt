@@ -1,0 +1,286 @@
+//! Lays a value over the resolved value of what it inherits from.
+ghost use Rattle.std.specs.Prelude.{◌≡◌, string_bytes, IfOk, OnOk, MatchOption, Option, None, Some, option_map};
+ghost use Rattle.serde_json.specs.Data.{Data, object, array, Items};
+ghost use Rattle.serde_json.specs.Find.{get, get_member};
+ghost use Rattle.serde_json.specs.View.{view, items_view, members_view};
+ghost use Rattle.conf_inherit.specs.Laying.{lay, lay_base, lay_members, lay_over, lay_over_entry, lay_over_member, lay_new, lay_new_entry, lay_new_member, lay_text, resolved, members_below, items_below};
+ghost use Rattle.conf_inherit.specs.Names.{properties_of, items_in, names_of, entries_of, join_items, map_items};
+
+use crate::Spot;
+use crate::base::{has_entry_named, items_under, join, properties_below};
+use crate::property::{property, single};
+use serde_json::{Map, Value};
+use std::alloc::{AllocError, Global};
+
+/// The resolved alias of a name, or null.
+fn copy_alias(aliases: &Map<String, Value>, name: &str) -> Result<Value, AllocError>
+    ensures { IfOk result (λ copy. view copy ≡ resolved (members_view aliases.now.entries) name.now) }
+{
+    match property(aliases, name) {
+        Some(alias) => alias.clone(),
+        None => Ok(Value::Null),
+    }
+}
+
+/// A text laid over anything.
+#[tactic(auto, unfolding(crate::specs::Spot::field_type_name))]
+fn lay_name(
+    alloc: Global,
+    aliases: &Map<String, Value>,
+    spot: Spot,
+    name: &String,
+) -> Result<Value, AllocError>
+    ensures { IfOk result (λ laid. view laid
+        ≡ lay_text (members_view aliases.now.entries) spot (string_bytes name.now)) }
+{
+    if spot.names_alias() {
+        return copy_alias(aliases, name.as_str());
+    }
+    if spot.names_member_type() {
+        let alias = copy_alias(aliases, name.as_str())?;
+        return single(alloc, String::from_str(alloc, "field-type")?, alias);
+    }
+    Ok(Value::String(name.clone()?))
+}
+
+/// The value laid over `base`, the resolved value of what stands at its place there. The names of field types are
+/// those of `aliases`, which are resolved; one that is not there counts as null.
+#[cycle(laying)]
+pub(crate) fn lay(
+    alloc: Global,
+    spot: Spot,
+    value: &Value,
+    base: Option<&Value>,
+    aliases: &Map<String, Value>,
+) -> Result<Value, AllocError>
+    ensures { IfOk result (λ laid. view laid
+        ≡ lay (members_view aliases.now.entries) spot (view value.now) (option_map (λ b. view b.now) base.entry)) }
+{
+    match value {
+        Value::Null => Ok(Value::Null),
+        Value::Bool(flag) => Ok(Value::Bool(*flag)),
+        Value::Number(number) => Ok(Value::Number(*number)),
+        Value::String(name) => lay_name(alloc, aliases, spot, name),
+        Value::Array(items) => lay_list(alloc, spot, items, base, aliases),
+        Value::Object(members) => lay_object(alloc, spot, members, base, aliases),
+    }
+}
+
+/// An object, laid over what it inherits from, or else over the base.
+#[cycle(laying)]
+fn lay_object(
+    alloc: Global,
+    spot: Spot,
+    members: &Map<String, Value>,
+    base: Option<&Value>,
+    aliases: &Map<String, Value>,
+) -> Result<Value, AllocError>
+    ensures { IfOk result (λ laid. view laid
+        ≡ lay (members_view aliases.now.entries) spot (object (members_view members.now.entries)) (option_map (λ b. view b.now) base.entry)) }
+{
+    let inherited = lay_inherited(alloc, spot, members, aliases)?;
+    let below = match &inherited {
+        Some(value) => Some(value),
+        None => base,
+    };
+    let laid = lay_properties(alloc, spot, members, below, aliases)?;
+    Ok(Value::Object(laid))
+}
+
+/// What an object inherits from, resolved.
+#[cycle(laying)]
+fn lay_inherited(
+    alloc: Global,
+    spot: Spot,
+    members: &Map<String, Value>,
+    aliases: &Map<String, Value>,
+) -> Result<Option<Value>, AllocError>
+    ensures { IfOk result (λ found. MatchOption found
+        ((base : Option Data) → lay_base (members_view aliases.now.entries) spot (members_view members.now.entries) base ≡ base)
+        (λ b. (base : Option Data) → lay_base (members_view aliases.now.entries) spot (members_view members.now.entries) base ≡ Some (view b))) }
+{
+    for (name, value) in members.iter() {
+        if spot.is_base_name(name.as_str()) {
+            return Ok(Some(lay(alloc, Spot::FieldType, value, None, aliases)?));
+        }
+    }
+    Ok(None)
+}
+
+/// The properties of an object, each laid over the base's property of its name.
+#[cycle(laying)]
+fn lay_properties(
+    alloc: Global,
+    spot: Spot,
+    members: &Map<String, Value>,
+    base: Option<&Value>,
+    aliases: &Map<String, Value>,
+) -> Result<Map<String, Value>, AllocError>
+    ensures { IfOk result (λ laid. members_view laid.entries
+        ≡ lay_members (members_view aliases.now.entries) spot (members_view members.now.entries) (members_below (option_map (λ b. view b.now) base.entry))) }
+{
+    let below = properties_below(alloc, base)?;
+    let mut laid = properties_below(alloc, base)?;
+    for (name, value) in members.iter().rev() {
+        if !spot.is_base_name(name.as_str()) {
+            let base = property(&below, name.as_str());
+            let over = lay(alloc, spot.under(name.as_str()), value, base, aliases)?;
+            drop(laid.insert(name.clone()?, over)?);
+        }
+    }
+    Ok(laid)
+}
+
+/// A list, laid over the base: a members list entry by entry, another list at its end.
+#[cycle(laying)]
+fn lay_list(
+    alloc: Global,
+    spot: Spot,
+    items: &Vec<Value>,
+    base: Option<&Value>,
+    aliases: &Map<String, Value>,
+) -> Result<Value, AllocError>
+    ensures { IfOk result (λ laid. view laid
+        ≡ lay (members_view aliases.now.entries) spot (array (items_view items.now.items)) (option_map (λ b. view b.now) base.entry)) }
+{
+    let below = items_under(alloc, base)?;
+    if spot.lists_members() {
+        let mut entries = lay_over_entries(alloc, items, &below, aliases)?;
+        push_new_entries(alloc, items, &below, &mut entries, aliases)?;
+        return Ok(Value::Array(entries));
+    }
+    Ok(Value::Array(join(below, items)?))
+}
+
+/// The base's entries, each with the entry of its name over it.
+#[cycle(laying)]
+fn lay_over_entries(
+    alloc: Global,
+    own: &Vec<Value>,
+    base: &Vec<Value>,
+    aliases: &Map<String, Value>,
+) -> Result<Vec<Value>, AllocError>
+    ensures { IfOk result (λ v. items_view v.items
+        ≡ map_items (λ b. lay_over (members_view aliases.now.entries) (items_view own.now.items) b) (items_view base.now.items)) }
+{
+    let mut entries = Vec::new(alloc);
+    for entry in base {
+        entries.push(lay_over(alloc, own, entry, aliases)?)?;
+    }
+    Ok(entries)
+}
+
+/// An entry of the base, with the entry of its name over it.
+#[cycle(laying)]
+fn lay_over(
+    alloc: Global,
+    own: &Vec<Value>,
+    entry: &Value,
+    aliases: &Map<String, Value>,
+) -> Result<Value, AllocError>
+    ensures { IfOk result (λ laid. view laid
+        ≡ lay_over (members_view aliases.now.entries) (items_view own.now.items) (view entry.now)) }
+{
+    for item in own {
+        if let Some(laid) = lay_over_item(alloc, item, entry, aliases)? {
+            return Ok(laid);
+        }
+    }
+    entry.clone()
+}
+
+/// The entry of the base, with what an item of the list has for its name over it.
+#[cycle(laying)]
+fn lay_over_item(
+    alloc: Global,
+    item: &Value,
+    entry: &Value,
+    aliases: &Map<String, Value>,
+) -> Result<Option<Value>, AllocError>
+    ensures { IfOk result (λ found. MatchOption found
+        ((rest : Data) → lay_over_entry (members_view aliases.now.entries) (view item.now) (view entry.now) rest ≡ rest)
+        (λ laid. (rest : Data) → lay_over_entry (members_view aliases.now.entries) (view item.now) (view entry.now) rest ≡ view laid)) }
+{
+    match item {
+        Value::Object(members) => lay_over_entry(alloc, members, entry, aliases),
+        _ => Ok(None),
+    }
+}
+
+/// The entry of the base, with what these properties have for its name over it.
+#[cycle(laying)]
+fn lay_over_entry(
+    alloc: Global,
+    members: &Map<String, Value>,
+    entry: &Value,
+    aliases: &Map<String, Value>,
+) -> Result<Option<Value>, AllocError>
+    ensures { IfOk result (λ found. MatchOption found
+        ((rest : Data) → lay_over_member (members_view aliases.now.entries) (members_view members.now.entries) (view entry.now) rest ≡ rest)
+        (λ laid. (rest : Data) → lay_over_member (members_view aliases.now.entries) (members_view members.now.entries) (view entry.now) rest ≡ view laid)) }
+{
+    for (name, value) in members.iter() {
+        if let Some(base) = entry.get(name.as_str()) {
+            let laid = lay(alloc, Spot::MemberValue, value, Some(base), aliases)?;
+            return Ok(Some(single(alloc, name.clone()?, laid)?));
+        }
+    }
+    Ok(None)
+}
+
+/// Adds the entries whose names the base has not.
+#[cycle(laying)]
+fn push_new_entries(
+    alloc: Global,
+    own: &Vec<Value>,
+    base: &Vec<Value>,
+    entries: &mut Vec<Value>,
+    aliases: &Map<String, Value>,
+) -> Result<(), AllocError>
+    ensures { OnOk result (items_view entries.new.items
+        ≡ join_items (items_view entries.old.items) (lay_new (members_view aliases.now.entries) (items_view own.now.items) (items_view base.now.items))) }
+{
+    for item in own {
+        push_new_item(alloc, item, base, entries, aliases)?;
+    }
+    Ok(())
+}
+
+/// Adds the entry that an item of the list is, if the base has none of its name.
+#[cycle(laying)]
+fn push_new_item(
+    alloc: Global,
+    item: &Value,
+    base: &Vec<Value>,
+    entries: &mut Vec<Value>,
+    aliases: &Map<String, Value>,
+) -> Result<(), AllocError>
+    ensures { OnOk result ((rest : Items) → join_items (items_view entries.new.items) rest
+        ≡ join_items (items_view entries.old.items) (lay_new_entry (members_view aliases.now.entries) (view item.now) (items_view base.now.items) rest)) }
+{
+    match item {
+        Value::Object(members) => push_new_entry(alloc, members, base, entries, aliases),
+        _ => Ok(()),
+    }
+}
+
+/// Adds the entry, if the base has none of its name.
+#[cycle(laying)]
+fn push_new_entry(
+    alloc: Global,
+    members: &Map<String, Value>,
+    base: &Vec<Value>,
+    entries: &mut Vec<Value>,
+    aliases: &Map<String, Value>,
+) -> Result<(), AllocError>
+    ensures { OnOk result ((rest : Items) → join_items (items_view entries.new.items) rest
+        ≡ join_items (items_view entries.old.items) (lay_new_member (members_view aliases.now.entries) (members_view members.now.entries) (items_view base.now.items) rest)) }
+{
+    for (name, value) in members.iter() {
+        if !has_entry_named(base, name.as_str()) {
+            let laid = lay(alloc, Spot::MemberValue, value, None, aliases)?;
+            entries.push(single(alloc, name.clone()?, laid)?)?;
+        }
+    }
+    Ok(())
+}

@@ -1,0 +1,22 @@
+//! Lays the field types of a configuration over the types that they inherit from.
+#![tactic(auto)]
+
+mod alias_check;
+mod asked;
+mod base;
+mod flaws;
+mod law;
+mod laying;
+mod named;
+mod nesting;
+mod outcomes;
+mod places;
+mod property;
+mod resolution;
+mod rounds;
+mod size;
+mod spot;
+
+pub use law::{one_resolution, refusal_holds, resolution_exists};
+pub use resolution::resolve;
+pub(crate) use spot::Spot;

@@ -1,0 +1,257 @@
+//! The first fault at the places of a configuration where field types stand, in walk order.
+ghost use Rattle.std.specs.Prelude.{◌≡◌, ◌+◌, ◌≤◌, ◌<◌, ◌++◌, IfErr, false};
+ghost use Rattle.arrayvec.specs.ArrayVec.{array_vec_len};
+ghost use Rattle.serde_json.specs.Data.{depth, items_depth, members_depth, array, no_members};
+ghost use Rattle.serde_json.specs.View.{view, items_view, members_view};
+ghost use Rattle.conf_tree.specs.Reading.{Gives};
+ghost use Rattle.conf_tree.specs.Walk.{refusal};
+ghost use Rattle.conf_inherit.specs.Flaws.{flaws};
+ghost use Rattle.conf_inherit.specs.Size.{settled};
+ghost use Rattle.conf_inherit.specs.Places.{too_many, limit_flaws, place_flaws, inner_places, item_places, member_places};
+
+use crate::Spot;
+use crate::flaws::check_flaws;
+use crate::size::settle;
+use conf_tree::{ConfFault, FaultKind};
+use serde_json::{Map, Value};
+use std::alloc::Global;
+
+/// The most extra members of a packet context.
+const MAX_EXTRA_MEMBERS: usize = 256;
+
+/// Refuses a members list with more entries than a packet context may have extra members.
+#[tactic(auto, using(crate::proofs::PlaceLemmas::count_past, crate::proofs::PlaceLemmas::count_within), unfolding(crate::specs::Places::too_many))]
+fn check_count(value: &Value) -> Result<(), ConfFault>
+    ensures first { Gives (λ _. tt) result (refusal (too_many (view value.now))) }
+    ensures short { IfErr result (λ fault. array_vec_len fault.path ≡ 0) }
+{
+    match value {
+        Value::Array(items) => check_length(items),
+        _ => Ok(()),
+    }
+}
+
+#[tactic(auto, using(crate::proofs::PlaceLemmas::count_past, crate::proofs::PlaceLemmas::count_within))]
+fn check_length(items: &Vec<Value>) -> Result<(), ConfFault>
+    ensures first { Gives (λ _. tt) result (refusal (too_many (array (items_view items.now.items)))) }
+    ensures short { IfErr result (λ fault. array_vec_len fault.path ≡ 0) }
+{
+    if items.len() > MAX_EXTRA_MEMBERS {
+        return Err(ConfFault::here(FaultKind::Limit));
+    }
+    Ok(())
+}
+
+/// Refuses a field type that passes a limit once it is resolved.
+fn check_limits(
+    alloc: Global,
+    value: &Value,
+    spot: Spot,
+    resolved: &Map<String, Value>,
+) -> Result<(), ConfFault>
+    ensures first { Gives (λ _. tt) result (refusal (limit_flaws (settled (members_view resolved.now.entries) spot (view value.now)))) }
+    ensures short { IfErr result (λ fault. array_vec_len fault.path ≡ 0) }
+{
+    match settle(alloc, value, spot, resolved) {
+        Ok(Ok(_)) => Ok(()),
+        Ok(Err(kind)) => Err(ConfFault::here(kind)),
+        Err(_) => Err(ConfFault::here(FaultKind::OutOfMemory)),
+    }
+}
+
+/// Refuses the first flaw of a value as a whole.
+pub(crate) fn check_value(
+    alloc: Global,
+    value: &Value,
+    spot: Spot,
+    levels: usize,
+    aliases: &Map<String, Value>,
+) -> Result<(), ConfFault>
+    requires nested { depth (view value.now) ≤ levels }
+    requires shallow { levels ≤ 32 }
+    ensures first { Gives (λ _. tt) result (refusal (flaws (members_view aliases.now.entries) spot false no_members (view value.now))) }
+    ensures short { IfErr result (λ fault. array_vec_len fault.path ≤ levels) }
+{
+    let nothing = Map::new(alloc);
+    check_flaws(alloc, value, spot, false, &nothing, levels, aliases)
+}
+
+/// Refuses the first flaw of a field type, or else the limit that it passes.
+#[tactic(auto, using(crate::proofs::FlawLemmas::refused_later))]
+fn check_type(
+    alloc: Global,
+    value: &Value,
+    spot: Spot,
+    levels: usize,
+    aliases: &Map<String, Value>,
+    resolved: &Map<String, Value>,
+) -> Result<(), ConfFault>
+    requires nested { depth (view value.now) ≤ levels }
+    requires shallow { levels ≤ 32 }
+    ensures first { Gives (λ _. tt) result (refusal (flaws (members_view aliases.now.entries) spot false no_members (view value.now) ++ limit_flaws (settled (members_view resolved.now.entries) spot (view value.now)))) }
+    ensures short { IfErr result (λ fault. array_vec_len fault.path ≤ levels) }
+{
+    if let Err(fault) = check_value(alloc, value, spot, levels, aliases) {
+        return Err(fault);
+    }
+    check_limits(alloc, value, spot, resolved)
+}
+
+/// Refuses a list of extra members that is too long, or else its first flaw.
+#[tactic(auto, using(crate::proofs::FlawLemmas::refused_later))]
+fn check_extra(
+    alloc: Global,
+    value: &Value,
+    spot: Spot,
+    levels: usize,
+    aliases: &Map<String, Value>,
+) -> Result<(), ConfFault>
+    requires nested { depth (view value.now) ≤ levels }
+    requires shallow { levels ≤ 32 }
+    ensures first { Gives (λ _. tt) result (refusal (too_many (view value.now) ++ flaws (members_view aliases.now.entries) spot false no_members (view value.now))) }
+    ensures short { IfErr result (λ fault. array_vec_len fault.path ≤ levels) }
+{
+    if let Err(fault) = check_count(value) {
+        return Err(fault);
+    }
+    check_value(alloc, value, spot, levels, aliases)
+}
+
+/// Refuses what is wrong with a value as a whole that stands at a place of field types.
+#[tactic(auto, unfolding(crate::specs::Places::place_flaws))]
+fn check_place(
+    alloc: Global,
+    value: &Value,
+    spot: Spot,
+    levels: usize,
+    aliases: &Map<String, Value>,
+    resolved: &Map<String, Value>,
+) -> Result<(), ConfFault>
+    requires nested { depth (view value.now) ≤ levels }
+    requires shallow { levels ≤ 32 }
+    ensures first { Gives (λ _. tt) result (refusal (place_flaws (members_view aliases.now.entries) (members_view resolved.now.entries) spot (view value.now))) }
+    ensures short { IfErr result (λ fault. array_vec_len fault.path ≤ levels) }
+{
+    if spot.names_alias() {
+        return check_type(alloc, value, spot, levels, aliases, resolved);
+    }
+    if spot.names_member_type() {
+        return check_limits(alloc, value, spot, resolved);
+    }
+    if spot.lists_members() {
+        return check_extra(alloc, value, spot, levels, aliases);
+    }
+    Ok(())
+}
+
+/// Refuses the first fault at the places in a value, which nests at most `levels` deep.
+#[cycle(places)]
+pub(crate) fn check_places(
+    alloc: Global,
+    value: &Value,
+    spot: Spot,
+    levels: usize,
+    aliases: &Map<String, Value>,
+    resolved: &Map<String, Value>,
+) -> Result<(), ConfFault>
+    requires nested { depth (view value.now) ≤ levels }
+    requires shallow { levels ≤ 32 }
+    ensures first { Gives (λ _. tt) result (refusal (inner_places (members_view aliases.now.entries) (members_view resolved.now.entries) spot (view value.now))) }
+    ensures short { IfErr result (λ fault. array_vec_len fault.path ≤ levels) }
+{
+    match value {
+        Value::Null | Value::Bool(_) | Value::Number(_) | Value::String(_) => Ok(()),
+        Value::Array(items) => {
+            if spot.lists_members() {
+                return check_item_places(alloc, items, spot, levels - 1, aliases, resolved);
+            }
+            Ok(())
+        }
+        Value::Object(members) => {
+            if spot.leads_on() {
+                return check_member_places(alloc, members, spot, levels - 1, aliases, resolved);
+            }
+            Ok(())
+        }
+    }
+}
+
+#[cycle(places)]
+fn check_item_places(
+    alloc: Global,
+    items: &Vec<Value>,
+    spot: Spot,
+    levels: usize,
+    aliases: &Map<String, Value>,
+    resolved: &Map<String, Value>,
+) -> Result<(), ConfFault>
+    requires nested { items_depth (items_view items.now.items) ≤ levels }
+    requires shallow { levels < 32 }
+    ensures first { Gives (λ _. tt) result (refusal (item_places (members_view aliases.now.entries) (members_view resolved.now.entries) spot 0 (items_view items.now.items))) }
+    ensures short { IfErr result (λ fault. array_vec_len fault.path ≤ levels + 1) }
+{
+    for (index, item) in items.iter().enumerate() {
+        if let Err(fault) = check_place_and_inner(
+            alloc,
+            item,
+            spot.of_items(),
+            levels,
+            aliases,
+            resolved,
+        ) {
+            return Err(fault.inside(index));
+        }
+    }
+    Ok(())
+}
+
+#[cycle(places)]
+fn check_member_places(
+    alloc: Global,
+    members: &Map<String, Value>,
+    spot: Spot,
+    levels: usize,
+    aliases: &Map<String, Value>,
+    resolved: &Map<String, Value>,
+) -> Result<(), ConfFault>
+    requires nested { members_depth (members_view members.now.entries) ≤ levels }
+    requires shallow { levels < 32 }
+    ensures first { Gives (λ _. tt) result (refusal (member_places (members_view aliases.now.entries) (members_view resolved.now.entries) spot (members_view members.now.entries))) }
+    ensures short { IfErr result (λ fault. array_vec_len fault.path ≤ levels + 1) }
+{
+    for (name, member) in members.iter() {
+        if let Err(fault) = check_place_and_inner(
+            alloc,
+            member,
+            spot.under(name.as_str()),
+            levels,
+            aliases,
+            resolved,
+        ) {
+            return Err(fault.in_property(alloc, name.as_str()));
+        }
+    }
+    Ok(())
+}
+
+/// Refuses what is wrong with a value as a whole, or else at the places in it.
+#[cycle(places)]
+#[tactic(auto, using(crate::proofs::FlawLemmas::refused_first, crate::proofs::FlawLemmas::refused_later))]
+fn check_place_and_inner(
+    alloc: Global,
+    value: &Value,
+    spot: Spot,
+    levels: usize,
+    aliases: &Map<String, Value>,
+    resolved: &Map<String, Value>,
+) -> Result<(), ConfFault>
+    requires nested { depth (view value.now) ≤ levels }
+    requires shallow { levels ≤ 32 }
+    ensures first { Gives (λ _. tt) result (refusal (place_flaws (members_view aliases.now.entries) (members_view resolved.now.entries) spot (view value.now) ++ inner_places (members_view aliases.now.entries) (members_view resolved.now.entries) spot (view value.now))) }
+    ensures short { IfErr result (λ fault. array_vec_len fault.path ≤ levels) }
+{
+    if let Err(fault) = check_place(alloc, value, spot, levels, aliases, resolved) {
+        return Err(fault);
+    }
+    check_places(alloc, value, spot, levels, aliases, resolved)
+}

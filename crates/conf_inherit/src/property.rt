@@ -1,0 +1,34 @@
+//! The properties of JSON objects, by name.
+ghost use Rattle.std.specs.Prelude.{◌≡◌, string_bytes, IfOk, option_map, option_and_then};
+ghost use Rattle.serde_json.specs.Data.{object, member, no_members};
+ghost use Rattle.serde_json.specs.Find.{get, get_member};
+ghost use Rattle.serde_json.specs.View.{view, members_view};
+ghost use Rattle.conf_inherit.specs.Rounds.{has};
+
+use serde_json::{Map, Value};
+use std::alloc::{AllocError, Global};
+
+/// The value of a property.
+pub(crate) fn property<'v>(members: &'v Map<String, Value>, name: &str) -> Option<&'v Value>
+    ensures { option_map (λ v. view v.now) result
+        ≡ get_member name.now (members_view members.now.entries) }
+{
+    members.get(name)
+}
+
+/// An object of one property.
+pub(crate) fn single(alloc: Global, name: String, value: Value) -> Result<Value, AllocError>
+    ensures { IfOk result (λ made. view made
+        ≡ object (member (string_bytes name) (view value) no_members)) }
+{
+    let mut members = Map::new(alloc);
+    members.insert(name, value)?;
+    Ok(Value::Object(members))
+}
+
+/// Whether there is a property of the name.
+pub(crate) fn has(members: &Map<String, Value>, name: &str) -> bool
+    ensures { result ≡ has (members_view members.now.entries) name.now }
+{
+    property(members, name).is_some()
+}

@@ -1,0 +1,156 @@
+//! Resolves the aliases in rounds.
+ghost use Rattle.std.specs.Prelude.{◌≡◌, ◌≤◌, false, Ok, Err, OnOk, IfOk, IfErr, MatchResult, string_bytes};
+ghost use Rattle.serde_json.specs.Data.{depth, members_depth, no_members};
+ghost use Rattle.serde_json.specs.View.{view, members_view};
+ghost use Rattle.std.specs.BTreeMap.{btree_map_len};
+ghost use Rattle.conf_tree.specs.Flaw.{IsMemory};
+ghost use Rattle.conf_inherit.specs.AliasOutcomes.{outcomes_of};
+ghost use Rattle.conf_inherit.specs.Flaws.{flaws};
+ghost use Rattle.conf_inherit.specs.Names.{NoClash};
+ghost use Rattle.conf_inherit.specs.Rounds.{is_over, all_named, is_empty, outcome, step, round, all_over, rounds, no_outcomes};
+
+use crate::Spot;
+use crate::asked::Asked;
+use crate::flaws::check_flaws;
+use crate::named::all_named;
+use crate::outcomes::AliasOutcomes;
+use crate::size::settle;
+use conf_tree::{ConfFault, FaultKind};
+use serde_json::{Map, Value};
+use std::alloc::Global;
+use std::collections::BTreeMap;
+
+/// Whether an alias has no flaw of its own.
+fn is_sound(alloc: Global, value: &Value, aliases: &Map<String, Value>) -> Result<bool, ConfFault>
+    requires { depth (view value.now) ≤ 32 }
+    ensures sound { IfOk result (λ sound. sound
+        ≡ is_empty (flaws (members_view aliases.now.entries) Spot.FieldType false no_members (view value.now))) }
+    ensures memory { IfErr result IsMemory }
+{
+    let nothing = Map::new(alloc);
+    if let Err(fault) = check_flaws(alloc, value, Spot::FieldType, false, &nothing, 32, aliases) {
+        if fault.is_memory() {
+            return Err(fault);
+        }
+        return Ok(false);
+    }
+    Ok(true)
+}
+
+/// The resolved alias, or why there is none.
+fn outcome(
+    alloc: Global,
+    value: &Value,
+    aliases: &Map<String, Value>,
+    resolved: &Map<String, Value>,
+) -> Result<Result<Value, Option<FaultKind>>, ConfFault>
+    requires { depth (view value.now) ≤ 32 }
+    ensures answer { IfOk result (λ answer. MatchResult answer
+        (λ alias. outcome (members_view aliases.now.entries) (members_view resolved.now.entries) (view value.now) ≡ Ok (view alias))
+        (λ why. outcome (members_view aliases.now.entries) (members_view resolved.now.entries) (view value.now) ≡ Err why)) }
+    ensures memory { IfErr result IsMemory }
+{
+    let sound = is_sound(alloc, value, aliases)?;
+    if !(sound && all_named(value, Spot::FieldType, Asked::IsResolved(resolved))) {
+        return Ok(Err(None));
+    }
+    match settle(alloc, value, Spot::FieldType, resolved) {
+        Ok(Ok(alias)) => Ok(Ok(alias)),
+        Ok(Err(kind)) => Ok(Err(Some(kind))),
+        Err(_) => Err(ConfFault::here(FaultKind::OutOfMemory)),
+    }
+}
+
+/// Gives an alias its outcome, if all that it names have theirs.
+fn step(
+    alloc: Global,
+    name: &String,
+    value: &Value,
+    aliases: &Map<String, Value>,
+    outcomes: &mut AliasOutcomes,
+) -> Result<(), ConfFault>
+    requires { depth (view value.now) ≤ 32 }
+    ensures stepped { OnOk result (outcomes_of outcomes.new
+        ≡ step (members_view aliases.now.entries) (string_bytes name.now) (view value.now) (outcomes_of outcomes.old)) }
+    ensures memory { IfErr result IsMemory }
+{
+    if outcomes.has_outcome(name.as_str()) {
+        return Ok(());
+    }
+    if !is_due(value, aliases, outcomes) {
+        return Ok(());
+    }
+    let noted = match outcome(alloc, value, aliases, &outcomes.resolved)? {
+        Ok(alias) => outcomes.resolve(name, alias),
+        Err(why) => outcomes.refuse(name, why),
+    };
+    if noted.is_err() {
+        return Err(ConfFault::here(FaultKind::OutOfMemory));
+    }
+    Ok(())
+}
+
+/// Whether all aliases that a value names have an outcome.
+fn is_due(value: &Value, aliases: &Map<String, Value>, outcomes: &AliasOutcomes) -> bool
+    ensures { result ≡ all_named (is_over (members_view aliases.now.entries) (outcomes_of outcomes.now)) Spot.FieldType (view value.now) }
+{
+    all_named(value, Spot::FieldType, Asked::IsOver { aliases, outcomes })
+}
+
+/// One round over the aliases.
+fn round(
+    alloc: Global,
+    aliases: &Map<String, Value>,
+    outcomes: &mut AliasOutcomes,
+) -> Result<(), ConfFault>
+    requires { members_depth (members_view aliases.now.entries) ≤ 32 }
+    ensures turned { OnOk result (outcomes_of outcomes.new
+        ≡ round (members_view aliases.now.entries) (members_view aliases.now.entries) (outcomes_of outcomes.old)) }
+    ensures memory { IfErr result IsMemory }
+{
+    for (name, value) in aliases.iter() {
+        step(alloc, name, value, aliases, outcomes)?;
+    }
+    Ok(())
+}
+
+/// Whether every alias has an outcome.
+fn all_over(aliases: &Map<String, Value>, outcomes: &AliasOutcomes) -> bool
+    ensures { result ≡ all_over (members_view aliases.now.entries) (outcomes_of outcomes.now) }
+{
+    for (name, _value) in aliases.iter() {
+        if !outcomes.has_outcome(name.as_str()) {
+            return false;
+        }
+    }
+    true
+}
+
+/// What becomes of the aliases in as many rounds as there are aliases.
+#[tactic(auto, using(crate::proofs::ResolveLemmas::apart_of))]
+pub(crate) fn settle_aliases(
+    alloc: Global,
+    aliases: &Map<String, Value>,
+) -> Result<AliasOutcomes, ConfFault>
+    requires { members_depth (members_view aliases.now.entries) ≤ 32 }
+    ensures apart { NoClash (members_view aliases.now.entries) }
+    ensures settled { IfOk result (λ outcomes. outcomes_of outcomes
+        ≡ rounds (members_view aliases.now.entries) (btree_map_len aliases.now) no_outcomes) }
+    ensures memory { IfErr result IsMemory }
+{
+    let mut outcomes = AliasOutcomes {
+        resolved: Map::new(alloc),
+        refused: BTreeMap::new(alloc),
+    };
+    let count = aliases.len();
+    let mut over = false;
+    for _turn in 0..count {
+        if !over {
+            over = all_over(aliases, &outcomes);
+        }
+        if !over {
+            round(alloc, aliases, &mut outcomes)?;
+        }
+    }
+    Ok(outcomes)
+}

@@ -1,0 +1,5 @@
+pub mod FirstPathLaws
+pub mod KnownFronts
+pub mod LineLemmas
+pub mod SmallConfigurationLaws
+pub mod SmallPacketLaws
