@@ -7,6 +7,8 @@ mod packets;
 mod printed;
 mod read_all;
 mod small_configuration;
+#[cfg(test)]
+mod tests;
 mod write_text;
 
 use first_path::first_path;
