@@ -16,6 +16,8 @@ mod resolution;
 mod rounds;
 mod size;
 mod spot;
+#[cfg(test)]
+mod tests;
 
 pub use law::{one_resolution, refusal_holds, resolution_exists};
 pub use resolution::resolve;

@@ -1,0 +1,129 @@
+use crate::resolve;
+use conf_tree::read_tree;
+use std::alloc::{AllocError, Global};
+use std::test::Fail;
+
+/// A configuration with these aliases, and a payload of this type.
+fn configuration(alloc: Global, aliases: &str, payload: &str) -> Result<String, AllocError> {
+    let mut text = String::from_str(alloc, "{\"trace\":{\"type\":{\"$field-type-aliases\":{")?;
+    text.push_str(aliases)?;
+    text.push_str(
+        "},\"data-stream-types\":{\"s\":{\"event-record-types\":{\"e\":{\"payload-field-type\":",
+    )?;
+    text.push_str(payload)?;
+    text.push_str("}}}}}}}")?;
+    Ok(text)
+}
+
+/// The resolved payload as JSON, or the place that is refused and why.
+fn resolved_payload(alloc: Global, aliases: &str, payload: &str) -> Result<String, AllocError> {
+    let text = configuration(alloc, aliases, payload)?;
+    match read_tree(alloc, text.as_str().as_bytes()) {
+        Ok(tree) => match resolve(alloc, tree) {
+            Ok(resolved) => {
+                let path =
+                    "/trace/type/data-stream-types/s/event-record-types/e/payload-field-type";
+                match resolved.value.pointer(path) {
+                    Some(payload) => payload.to_string(alloc),
+                    None => String::from_str(alloc, "no payload"),
+                }
+            }
+            Err(fault) => format!(in alloc; "{fault}"),
+        },
+        Err(fault) => format!(in alloc; "{fault}"),
+    }
+}
+
+#[test]
+fn lays_heirs_over_their_bases(rt: HostRuntime) -> Result<(), Fail> {
+    let alloc = rt.alloc();
+    let chain =
+        "\"A\":{\"class\":\"struct\",\"members\":[{\"x\":{\"field-type\":{\"class\":\"uint\",\"size\":8}}},{\"y\":{\"field-type\":{\"class\":\"uint\",\"size\":8}}}]},\"B\":{\"$inherit\":\"A\",\"members\":[{\"x\":{\"field-type\":{\"size\":4}}}]},\"C\":{\"$inherit\":\"B\",\"members\":[{\"z\":{\"field-type\":{\"class\":\"uint\",\"size\":4}}}]}";
+    let base =
+        "\"S\":{\"class\":\"struct\",\"members\":[{\"x\":{\"field-type\":{\"size\":8},\"note\":1}}]},\"u\":{\"size\":4}";
+    let rows = [
+        (
+            chain,
+            "\"C\"",
+            "{\"class\":\"struct\",\"members\":[{\"x\":{\"field-type\":{\"class\":\"uint\",\"size\":4}}},{\"y\":{\"field-type\":{\"class\":\"uint\",\"size\":8}}},{\"z\":{\"field-type\":{\"class\":\"uint\",\"size\":4}}}]}",
+        ),
+        (
+            base,
+            "{\"$inherit\":\"S\",\"members\":[{\"x\":\"u\"}]}",
+            "{\"class\":\"struct\",\"members\":[{\"x\":{\"field-type\":{\"size\":4}}}]}",
+        ),
+        (
+            base,
+            "{\"$inherit\":\"S\",\"members\":null}",
+            "{\"class\":\"struct\",\"members\":null}",
+        ),
+        (
+            "\"e\":{\"mappings\":{\"members\":[1],\"$inherit\":[2]}}",
+            "{\"$inherit\":\"e\",\"mappings\":{\"members\":[3]}}",
+            "{\"mappings\":{\"$inherit\":[2],\"members\":[1,3]}}",
+        ),
+        ("", "{\"$inherit\":null,\"size\":1}", "{\"size\":1}"),
+    ];
+    for (aliases, payload, expected) in rows {
+        let answer = resolved_payload(alloc, aliases, payload)?;
+        assert_eq!(rt; answer.as_str(), expected, "{payload}");
+    }
+    Ok(())
+}
+
+#[test]
+fn refuses_at_the_first_place(rt: HostRuntime) -> Result<(), Fail> {
+    let alloc = rt.alloc();
+    let heavy =
+        "\"A0\":{\"class\":\"uint\",\"size\":8},\"A1\":{\"class\":\"struct\",\"members\":[{\"a\":\"A0\"},{\"b\":\"A0\"},{\"c\":\"A0\"},{\"d\":\"A0\"}]},\"A2\":{\"class\":\"struct\",\"members\":[{\"a\":\"A1\"},{\"b\":\"A1\"},{\"c\":\"A1\"},{\"d\":\"A1\"}]},\"A3\":{\"class\":\"struct\",\"members\":[{\"a\":\"A2\"},{\"b\":\"A2\"},{\"c\":\"A2\"},{\"d\":\"A2\"}]},\"A4\":{\"class\":\"struct\",\"members\":[{\"a\":\"A3\"},{\"b\":\"A3\"},{\"c\":\"A3\"},{\"d\":\"A3\"}]},\"A5\":{\"class\":\"struct\",\"members\":[{\"a\":\"A4\"},{\"b\":\"A4\"},{\"c\":\"A4\"},{\"d\":\"A4\"}]},\"B\":\"nope\"";
+    let rows = [
+        (
+            "\"P\":{\"$inherit\":\"Q\"},\"Q\":{\"$inherit\":\"P\"}",
+            "trace/type/$field-type-aliases/P: alias inherits from itself: expected a chain of aliases that ends",
+        ),
+        (
+            "\"X\":{\"$inherit\":\"nope\"}",
+            "trace/type/$field-type-aliases/X/$inherit: no such alias: expected the name of an alias of this configuration",
+        ),
+        (
+            heavy,
+            "trace/type/$field-type-aliases/A5: past a limit of size: expected fewer or smaller parts",
+        ),
+        (
+            "\"A\":{\"element-field-type\":\"nope\"},\"B\":{\"members\":[{\"x\":{}},{\"x\":{}}]}",
+            "trace/type/$field-type-aliases/A/element-field-type: no such alias: expected the name of an alias of this configuration",
+        ),
+        (
+            "\"B\":{\"members\":[{\"x\":{}},{\"x\":{}}]}",
+            "trace/type/$field-type-aliases/B/members/1/x: name is taken: expected one that nothing else in this structure has",
+        ),
+        (
+            "\"B\":{\"members\":[{\"x\":null}]}",
+            "trace/type/$field-type-aliases/B/members/0/x: wrong kind of value: expected the kind that this place asks for",
+        ),
+    ];
+    for (aliases, expected) in rows {
+        let answer = resolved_payload(alloc, aliases, "{}")?;
+        assert_eq!(rt; answer.as_str(), expected, "{aliases}");
+    }
+    Ok(())
+}
+
+#[test]
+fn ends_soon_on_heavy_aliases(rt: HostRuntime) -> Result<(), Fail> {
+    let alloc = rt.alloc();
+    let mut aliases = String::from_str(alloc, "\"a0\":{\"class\":\"uint\",\"size\":8}")?;
+    for i in 1..900u32 {
+        let before = i - 1;
+        let entry = format!(in alloc;
+            ",\"a{i}\":{{\"class\":\"struct\",\"members\":[{{\"a\":\"a{before}\"}},{{\"b\":\"a{before}\"}},{{\"c\":\"a{before}\"}},{{\"d\":\"a{before}\"}}]}}"
+        )?;
+        aliases.push_str(entry.as_str())?;
+    }
+    let answer = resolved_payload(alloc, aliases.as_str(), "{}")?;
+    assert_eq!(rt;
+        answer.as_str(),
+        "trace/type/$field-type-aliases/a5: past a limit of size: expected fewer or smaller parts"
+    );
+    Ok(())
+}
