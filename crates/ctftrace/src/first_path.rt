@@ -95,15 +95,17 @@ fn traced_text(alloc: Global, values: &[u8]) -> Result<String, AllocError>
 fn read_back(alloc: Global, packets: &[Packet]) -> Result<ReadStream, AllocError>
     ensures { IfOk result (λ s. Reads small.small_metadata (concat (pieces_of packets.now)) s.packets s.end) }
 {
-    let metadata = small_metadata(alloc)?;
     let bytes = joined_bytes(alloc, packets)?;
+    read_bytes(alloc, bytes.as_slice())
+}
+
+/// What a reader finds in the bytes of a stream file of the small configuration.
+pub(crate) fn read_bytes(alloc: Global, bytes: &[u8]) -> Result<ReadStream, AllocError>
+    ensures { IfOk result (λ s. Reads small.small_metadata bytes.now s.packets s.end) }
+{
+    let metadata = small_metadata(alloc)?;
     if bytes.len() >= LONGEST_STREAM {
         return Err(AllocError);
     }
-    read_stream(
-        alloc,
-        &metadata,
-        Text::from_str(alloc, "s")?,
-        bytes.as_slice(),
-    )
+    read_stream(alloc, &metadata, Text::from_str(alloc, "s")?, bytes)
 }

@@ -1,0 +1,49 @@
+/* Preloaded before a program: refuses its request for memory number REFUSE, counted from 1, and grants all others. */
+#define _GNU_SOURCE
+#include <dlfcn.h>
+#include <errno.h>
+#include <stddef.h>
+#include <stdlib.h>
+
+static long requests;
+static long refused_request;
+
+__attribute__((constructor)) static void read_number(void)
+{
+    const char *number = getenv("REFUSE");
+    refused_request = number ? atol(number) : 0;
+    requests = 0;
+}
+
+static int is_refused(void)
+{
+    requests += 1;
+    if (refused_request == 0 || requests != refused_request)
+        return 0;
+    errno = ENOMEM;
+    return 1;
+}
+
+void *malloc(size_t size)
+{
+    static void *(*real)(size_t);
+    if (!real)
+        real = (void *(*)(size_t))dlsym(RTLD_NEXT, "malloc");
+    return is_refused() ? NULL : real(size);
+}
+
+void *realloc(void *old, size_t size)
+{
+    static void *(*real)(void *, size_t);
+    if (!real)
+        real = (void *(*)(void *, size_t))dlsym(RTLD_NEXT, "realloc");
+    return is_refused() ? NULL : real(old, size);
+}
+
+void *aligned_alloc(size_t alignment, size_t size)
+{
+    static void *(*real)(size_t, size_t);
+    if (!real)
+        real = (void *(*)(size_t, size_t))dlsym(RTLD_NEXT, "aligned_alloc");
+    return is_refused() ? NULL : real(alignment, size);
+}
