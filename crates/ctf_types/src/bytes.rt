@@ -46,7 +46,8 @@ impl Bytes {
     pub fn into_vec(self) -> Vec<u8>
         ensures { result.items ≡ self }
     {
-        self.bytes
+        let Self { bytes } = self;
+        bytes
     }
 
     pub fn as_slice(&self) -> &[u8]
@@ -71,7 +72,7 @@ impl Bytes {
     pub fn copy(&self, alloc: Global) -> Result<Bytes, AllocError>
         ensures { IfOk result (λ b. b ≡ self.now) }
     {
-        Bytes::from_slice(alloc, self.bytes.as_slice())
+        Bytes::from_slice(alloc, self.as_slice())
     }
 
     /// Removes every byte and keeps the capacity.
@@ -98,8 +99,9 @@ impl Bytes {
         if self.bytes.capacity() < bytes.len() {
             return false;
         }
-        self.bytes.clear();
-        match self.bytes.extend_from_slice(bytes) {
+        let held = &mut self.bytes;
+        held.clear();
+        match held.extend_from_slice(bytes) {
             Ok(()) => true,
             Err(_) => unreachable!(),
         }

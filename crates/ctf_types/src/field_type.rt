@@ -82,7 +82,8 @@ impl Element {
     pub fn into_box(self) -> Box<FieldType>
         ensures { chain_of result.value ≡ self }
     {
-        self.inner
+        let Self { inner } = self;
+        inner
     }
 
     pub fn field_type(&self) -> &FieldType

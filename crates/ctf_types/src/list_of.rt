@@ -47,7 +47,8 @@ impl<T> ListOf<T> {
     pub fn into_vec(self) -> Vec<T>
         ensures { result.items ≡ self }
     {
-        self.items
+        let Self { items } = self;
+        items
     }
 
     pub fn as_slice(&self) -> &[T]
@@ -86,7 +87,7 @@ impl<T> ListOf<T> {
 
 impl<T: Duplicate + Drop> Duplicate for ListOf<T> {
     fn copy(&self, alloc: Global) -> Result<ListOf<T>, AllocError> {
-        let mut copied = Vec::with_capacity(alloc, self.items.len())?;
+        let mut copied = Vec::with_capacity(alloc, self.len())?;
         for item in &self.items {
             copied.push(item.copy(alloc)?)?;
         }

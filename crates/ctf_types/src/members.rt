@@ -54,7 +54,8 @@ impl Members {
     pub fn into_map(self) -> IndexMap<String, MemberType>
         ensures { named_members result.entries ≡ self }
     {
-        self.members
+        let Self { members } = self;
+        members
     }
 
     pub fn len(&self) -> usize

@@ -35,7 +35,8 @@ impl Text {
     pub fn into_string(self) -> String
         ensures { string_bytes result ≡ self }
     {
-        self.text
+        let Self { text } = self;
+        text
     }
 
     pub fn as_str(&self) -> &str
@@ -66,6 +67,6 @@ impl Text {
     pub fn copy(&self, alloc: Global) -> Result<Text, AllocError>
         ensures { IfOk result (λ t. t ≡ self.now) }
     {
-        Text::from_str(alloc, self.text.as_str())
+        Text::from_str(alloc, self.as_str())
     }
 }

@@ -98,7 +98,8 @@ impl Values {
     pub fn into_vec(self) -> Vec<Value>
         ensures { data_of result.items ≡ self }
     {
-        self.items
+        let Self { items } = self;
+        items
     }
 
     pub fn as_slice(&self) -> &[Value]
@@ -184,7 +185,7 @@ impl Values {
     pub fn copy(&self, alloc: Global) -> Result<Values, AllocError>
         ensures { IfOk result (λ vs. vs ≡ self.now) }
     {
-        let mut copied = Vec::with_capacity(alloc, self.items.len())?;
+        let mut copied = Vec::with_capacity(alloc, self.len())?;
         for value in &self.items {
             copied.push(value.copy(alloc)?)?;
         }
