@@ -16,3 +16,4 @@ pub mod ResolveLemmas
 pub mod FaultLemmas
 pub mod CircleLemmas
 pub mod RefusalLemmas
+pub mod WorkedRows

@@ -6,9 +6,9 @@ mod read_field;
 mod read_number;
 mod read_start;
 mod read_structure;
-#[cfg(test)]
-mod read_tests;
 mod read_text;
+#[cfg(test)]
+mod tests;
 mod write_fields;
 mod write_numbers;
 mod write_padding;

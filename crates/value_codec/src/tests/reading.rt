@@ -1,4 +1,4 @@
-//! What a proof does not see: that the definitions are the standard's, and that each call can be made.
+//! Structures read from bytes.
 
 use crate::{read_member, read_struct};
 use ctf_types::{

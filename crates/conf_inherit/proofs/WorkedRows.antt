@@ -1,0 +1,80 @@
+-- Worked rows of inheritance, by computing: three aliases that inherit one from another, and two that inherit from each other.
+use Rattle.std.specs.Prelude.{◌≡◌, ℕ, List, codes, Ok, Err, [], ◌∷◌, refl}
+use Rattle.serde_json.specs.Data.{Data, number, string, array, object, unsigned, Items, no_items, item, Members, no_members, member}
+use Rattle.conf_tree.specs.declared.fault_kind.FaultKind.TheVariants.{InheritCycle}
+use Rattle.conf_tree.specs.Flaw.{key}
+use Rattle.conf_inherit.specs.Resolution.{Resolves, aliases_of, resolution, trace_name, type_name, aliases_name}
+use Rattle.conf_inherit.specs.Names.{NoClash}
+use Rattle.conf_inherit.proofs.ResolveLemmas.{resolution_sound}
+use Rattle.conf_inherit.specs.Spot.{field_type_name, names_alias, spot_under, spot_in_type, inherit_name, names_member_type, spot_of_items, lists_members, is_entry, is_base_name, leads_on, spot_in_trace_type}
+use Rattle.conf_inherit.specs.Places.{place_flaws}
+
+-- `{"class": "uint", "size": size}`
+abbrev integer : ℕ → Data
+integer size = object (member (codes "class") (string (codes "uint")) (member (codes "size") (number (unsigned size)) no_members))
+
+-- `{name: {"field-type": type}}`
+abbrev entry : List ℕ → Data → Data
+entry name type = object (member name (object (member (codes "field-type") type no_members)) no_members)
+
+-- x of 8 bits and y of 8 bits
+abbrev alias_a : Data
+alias_a =
+    object (member (codes "class") (string (codes "struct"))
+    (member (codes "members") (array (item (entry (codes "x") (integer 8)) (item (entry (codes "y") (integer 8)) no_items))) no_members))
+
+-- inherits from A, with an x of 4 bits
+abbrev alias_b : Data
+alias_b =
+    object (member (codes "$inherit") (string (codes "A"))
+    (member (codes "members") (array (item (entry (codes "x") (object (member (codes "size") (number (unsigned 4)) no_members))) no_items)) no_members))
+
+-- inherits from B, with a z of 4 bits behind
+abbrev alias_c : Data
+alias_c =
+    object (member (codes "$inherit") (string (codes "B"))
+    (member (codes "members") (array (item (entry (codes "z") (integer 4)) no_items)) no_members))
+
+-- a configuration with these aliases
+abbrev with_aliases : Members → Data
+with_aliases aliases =
+    object (member (codes "trace") (object (member (codes "type") (object (member (codes "$field-type-aliases") (object aliases) no_members)) no_members)) no_members)
+
+abbrev three : Data
+three = with_aliases (member (codes "A") alias_a (member (codes "B") alias_b (member (codes "C") alias_c no_members)))
+
+abbrev resolved_b : Data
+resolved_b =
+    object (member (codes "class") (string (codes "struct"))
+    (member (codes "members") (array (item (entry (codes "x") (integer 4)) (item (entry (codes "y") (integer 8)) no_items))) no_members))
+
+-- x of 4 bits, y and z, in this order
+abbrev resolved_c : Data
+resolved_c =
+    object (member (codes "class") (string (codes "struct"))
+    (member (codes "members") (array (item (entry (codes "x") (integer 4)) (item (entry (codes "y") (integer 8)) (item (entry (codes "z") (integer 4)) no_items)))) no_members))
+
+abbrev resolved_three : Data
+resolved_three = with_aliases (member (codes "A") alias_a (member (codes "B") resolved_b (member (codes "C") resolved_c no_members)))
+
+three_resolved : resolution three ≡ Ok resolved_three
+unfolding trace_name type_name aliases_name field_type_name names_alias spot_under spot_in_type inherit_name names_member_type spot_of_items lists_members is_entry is_base_name leads_on place_flaws spot_in_trace_type
+three_resolved = refl
+
+three_apart : NoClash (aliases_of three)
+unfolding trace_name type_name aliases_name
+three_apart = (refl, (refl, (refl, tt)))
+
+-- each property has the value that look-up finds
+three_resolves : Resolves three resolved_three
+three_resolves = (resolution_sound three resolved_three three_apart three_resolved).0
+
+-- P inherits from Q, and Q from P
+abbrev circle : Data
+circle =
+    with_aliases (member (codes "P") (object (member (codes "$inherit") (string (codes "Q")) no_members))
+    (member (codes "Q") (object (member (codes "$inherit") (string (codes "P")) no_members)) no_members))
+
+circle_refused : resolution circle ≡ Err (record { path = key (codes "trace") ∷ key (codes "type") ∷ key (codes "$field-type-aliases") ∷ key (codes "P") ∷ []; kind = InheritCycle })
+unfolding trace_name type_name aliases_name field_type_name names_alias spot_under spot_in_type inherit_name
+circle_refused = refl
