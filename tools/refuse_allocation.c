@@ -1,17 +1,22 @@
-/* Preloaded before a program: refuses its request for memory number REFUSE, counted from 1, and grants all others. */
+/* Preloaded before a program: refuses its request for memory number REFUSE, counted from 1, and grants all others.
+   Where it refused one, it makes the file that REFUSED names. */
 #define _GNU_SOURCE
 #include <dlfcn.h>
 #include <errno.h>
+#include <fcntl.h>
 #include <stddef.h>
 #include <stdlib.h>
+#include <unistd.h>
 
 static long requests;
 static long refused_request;
+static const char *refused_file;
 
 __attribute__((constructor)) static void read_number(void)
 {
     const char *number = getenv("REFUSE");
     refused_request = number ? atol(number) : 0;
+    refused_file = getenv("REFUSED");
     requests = 0;
 }
 
@@ -20,6 +25,8 @@ static int is_refused(void)
     requests += 1;
     if (refused_request == 0 || requests != refused_request)
         return 0;
+    if (refused_file)
+        close(open(refused_file, O_CREAT | O_WRONLY, 0600));
     errno = ENOMEM;
     return 1;
 }
