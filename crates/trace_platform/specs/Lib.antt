@@ -1,0 +1,9 @@
+pub mod Appending
+pub mod AppendingLaws
+pub mod Count
+pub mod Queue
+pub mod QueueLaws
+pub mod Readings
+pub mod Scripted
+pub mod ScriptedLaws
+pub mod Turns

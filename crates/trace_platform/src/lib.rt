@@ -1,0 +1,34 @@
+//! What a tracer needs of its platform, as traits with laws, and a platform of lists.
+#![tactic(auto)]
+
+mod back_end;
+mod clock;
+mod list_back_end;
+mod list_clock;
+mod memory_sink;
+mod own_back_end;
+mod packet_source;
+mod script;
+mod scripted_back_end;
+mod scripted_clock;
+mod scripted_sink;
+mod sink;
+mod stopping_writer;
+#[cfg(test)]
+mod tests;
+mod writer_sink;
+
+pub use back_end::BackEnd;
+pub use clock::{Clock, ClockSpent};
+pub use list_back_end::ListBackEnd;
+pub use list_clock::ListClock;
+pub use memory_sink::MemorySink;
+pub use own_back_end::OwnBackEnd;
+pub use packet_source::PacketSource;
+pub use script::{Script, Turn};
+pub use scripted_back_end::ScriptedBackEnd;
+pub use scripted_clock::ScriptedClock;
+pub use scripted_sink::ScriptedSink;
+pub use sink::{Sink, SinkFault};
+pub use stopping_writer::StoppingWriter;
+pub use writer_sink::WriterSink;

@@ -1,0 +1,103 @@
+//! What no clause says: with ample memory the platform works, and each refusal comes where it should.
+
+use crate::{
+    BackEnd, Clock, ClockSpent, ListBackEnd, ListClock, MemorySink, PacketSource, Script,
+    ScriptedBackEnd, ScriptedClock, ScriptedSink, Sink, SinkFault, StoppingWriter, Turn,
+    WriterSink,
+};
+use packet_writer::PacketBuf;
+use std::alloc::Global;
+use std::test::Fail;
+
+fn script(alloc: Global, turns: &[Turn]) -> Result<Script, Fail> {
+    Ok(Script::new(Vec::from_slice(alloc, turns)?))
+}
+
+fn list_clock(alloc: Global, readings: &[u64]) -> Result<Option<ListClock>, Fail> {
+    Ok(ListClock::new(Vec::from_slice(alloc, readings)?))
+}
+
+#[test]
+fn clock_gives_its_readings_and_then_refuses(rt: HostRuntime) -> Result<(), Fail> {
+    assert!(rt; list_clock(rt.alloc(), &[3, 9, 8])?.is_none());
+    let mut clock = list_clock(rt.alloc(), &[3, 3, 9])?.ok_or("these never fall")?;
+    assert_eq!(rt; clock.read(), Ok(3));
+    assert_eq!(rt; clock.read(), Ok(3));
+    assert_eq!(rt; clock.read(), Ok(9));
+    assert_eq!(rt; clock.read(), Err(ClockSpent));
+    assert_eq!(rt; clock.spent_count(), 1);
+    Ok(())
+}
+
+#[test]
+fn scripted_clock_refuses_at_its_turns(rt: HostRuntime) -> Result<(), Fail> {
+    let clock = list_clock(rt.alloc(), &[3, 9])?.ok_or("these never fall")?;
+    let turns = script(rt.alloc(), &[Turn::Works, Turn::Fails])?;
+    let mut clock = ScriptedClock::new(clock, turns);
+    assert_eq!(rt; clock.read(), Ok(3));
+    assert_eq!(rt; clock.read(), Err(ClockSpent));
+    assert_eq!(rt; clock.read(), Ok(9));
+    assert_eq!(rt; clock.read(), Err(ClockSpent));
+    assert_eq!(rt; clock.spent_count(), 2);
+    Ok(())
+}
+
+#[test]
+fn back_end_of_one_buffer(rt: HostRuntime) -> Result<(), Fail> {
+    let mut back_end = ListBackEnd::new(rt.alloc(), 1, 16)?;
+    assert_eq!(rt; back_end.packet_bytes(), 16);
+    assert!(rt; !back_end.is_full());
+    let buffer = back_end.take_buffer().ok_or("a buffer is spare")?;
+    assert_eq!(rt; buffer.len(), 16);
+    assert!(rt; back_end.is_full());
+    assert!(rt; back_end.take_buffer().is_none());
+    back_end.give_back(PacketBuf::new(rt.alloc(), 15)?);
+    assert!(rt; back_end.is_full(), "a buffer of another length is dropped");
+    assert_eq!(rt; back_end.full_count(), 2);
+    back_end.give_back(buffer);
+    back_end.give_back(PacketBuf::new(rt.alloc(), 16)?);
+    assert!(rt; back_end.take_buffer().is_some());
+    assert!(rt;
+        back_end.take_buffer().is_none(),
+        "one buffer is spare at most"
+    );
+    assert!(rt; back_end.take().is_none());
+    assert!(rt; back_end.settle(()));
+    Ok(())
+}
+
+#[test]
+fn scripted_back_end_is_full_at_its_turns(rt: HostRuntime) -> Result<(), Fail> {
+    let list = ListBackEnd::new(rt.alloc(), 1, 16)?;
+    let looking = script(rt.alloc(), &[Turn::Fails])?;
+    let handing = script(rt.alloc(), &[])?;
+    let mut back_end = ScriptedBackEnd::new(list, looking, handing);
+    assert!(rt; back_end.is_full());
+    assert!(rt; !back_end.is_full());
+    assert_eq!(rt; back_end.full_count(), 1);
+    Ok(())
+}
+
+#[test]
+fn sinks_append_all_or_a_prefix(rt: HostRuntime) -> Result<(), Fail> {
+    let mut sink = MemorySink::new(rt.alloc());
+    assert_eq!(rt; sink.append(b"ab"), Ok(()));
+    let mut sink = ScriptedSink::new(sink, script(rt.alloc(), &[Turn::Works, Turn::Fails])?, 1);
+    assert_eq!(rt; sink.append(b"cd"), Ok(()));
+    assert_eq!(rt; sink.append(b"ef"), Err(SinkFault));
+    assert_eq!(rt; sink.append(b"gh"), Ok(()));
+    assert_eq!(rt; sink.fault_count(), 1);
+    assert_eq!(rt; sink.sink.bytes(), b"abcdegh".as_slice());
+    Ok(())
+}
+
+#[test]
+fn writer_takes_pieces_until_it_stops(rt: HostRuntime) -> Result<(), Fail> {
+    let mut sink = WriterSink::new(StoppingWriter::new(rt.alloc(), 20, 5));
+    assert_eq!(rt; sink.append(b"0123456789abcdef"), Ok(()));
+    assert_eq!(rt; sink.append(b"ghijkl"), Err(SinkFault));
+    assert_eq!(rt; sink.fault_count(), 1);
+    let writer = sink.into_writer();
+    assert_eq!(rt; writer.bytes.as_slice(), b"0123456789abcdefghij".as_slice());
+    Ok(())
+}
