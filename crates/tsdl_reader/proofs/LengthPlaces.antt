@@ -1,0 +1,28 @@
+-- The first member that may hold a length.
+use Rattle.std.proofs.Common.{◌≡◌, ℕ, ◌<◌, ltb, Bool, true, false, List, Some, None, length, get_or, slice_get, refl, sym, ap, ◌∙◌, arith}
+use Rattle.std.specs.Option.{option_map}
+use Rattle.std.specs.List.{position, position_or_len}
+use Rattle.std.proofs.lemmas.Bool.Decides.{nat_tests}
+use Rattle.std.proofs.lemmas.List.Sums.{position_or_len_is}
+use Rattle.std.proofs.lemmas.Option.{slice_get-get_or, same_Some}
+
+-- a part of the item at an index
+pub part_at : {A B : Type 0} (part : A → B) (xs : List A) (i : ℕ) (d : A) (y : B) → i < length xs → option_map part (slice_get xs i) ≡ Some y → part (get_or xs i d) ≡ y
+part_at part xs i d y h e = same_Some (part (get_or xs i d)) y (sym (ap (option_map part) (slice_get-get_or xs i d h)) ∙ e)
+
+within : (i n : ℕ) → i < n → ltb i n ≡ true
+within i n h = grind (arith, nat_tests)
+
+not_within : (n : ℕ) → ltb n n ≡ false
+not_within n = grind (arith, nat_tests)
+
+-- the first index at which the test passes
+pub first_place : {A : Type 0} (p : A → Bool) (xs : List A) (i : ℕ) (d : A) → i < length xs → ((k : ℕ) → k < i → p (get_or xs k d) ≡ false) → p (get_or xs i d) ≡ true → Some i ≡ position p xs
+first_place p xs i d h before here =
+    let e : position_or_len p xs ≡ i = position_or_len_is p xs i d (omega arith) before (λ _. here) in
+    rw e (rw (within i (length xs) h) refl)
+
+pub no_place : {A : Type 0} (p : A → Bool) (xs : List A) (d : A) → ((k : ℕ) → k < length xs → p (get_or xs k d) ≡ false) → None ≡ position p xs
+no_place p xs d before =
+    let e : position_or_len p xs ≡ length xs = position_or_len_is p xs (length xs) d (omega arith) before (λ h. absurd (omega arith)) in
+    rw e (rw (not_within (length xs)) refl)

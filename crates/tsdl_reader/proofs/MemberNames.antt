@@ -1,0 +1,36 @@
+-- Whether a name is a member's.
+use Rattle.std.proofs.Common.{◌≡◌, ℕ, zero, suc, ◌<◌, List, [], ◌∷◌, length, slice_index_or, Contains, Bool, true, false, ◌||◌, Decides, refl, sym, subst, ◌⊎◌, inl, inr, arith, bytes_eq}
+use Rattle.std.proofs.lemmas.Bool.{false≢true}
+use Rattle.std.proofs.lemmas.Bool.Decides.{same_from_decides}
+use Rattle.std.proofs.lemmas.Slice.Eq.{bytes_eq-Decides}
+use Rattle.ctf_types.specs.declared.member_type.MemberType.{MemberType}
+use Rattle.ctf_types.specs.Members.{names_in}
+use Rattle.tsdl_grammar.specs.StructureMeaning.{has_member}
+
+contains_first : {X : Type 0} (x : X) (xs : List X) → Contains (x ∷ xs) x
+contains_first x xs = (0, omega arith, refl)
+
+contains_later : {X : Type 0} (x y : X) (xs : List X) → Contains xs y → Contains (x ∷ xs) y
+contains_later x y xs w = (suc w.0, omega (arith, w.1), w.2)
+
+pub contains_cases : {X : Type 0} (x y : X) (xs : List X) → Contains (x ∷ xs) y → (x ≡ y) ⊎ Contains xs y
+contains_cases {X} x y xs w = by w.0 w.1 w.2
+  where
+    by : (k : ℕ) → k < length (x ∷ xs) → slice_index_or (x ∷ xs) k y ≡ y → (x ≡ y) ⊎ Contains xs y
+    by zero h e = inl e
+    by (suc k) h e = inr (k, omega arith, e)
+
+-- a member of this name is found where the name is there
+pub member_says : (w : List ℕ) (ms : List (List ℕ × MemberType)) → Decides (has_member w ms) (Contains (names_in ms) w)
+member_says w [] = (λ h. absurd (false≢true h), λ c. absurd (omega (arith, c.1)))
+member_says w (m ∷ ms) = by (bytes_eq w m.0) (bytes_eq-Decides w m.0) (member_says w ms)
+  where
+    by : (b : Bool) → Decides b (w ≡ m.0) → Decides (has_member w ms) (Contains (names_in ms) w) → Decides (b || has_member w ms) (Contains (names_in (m ∷ ms)) w)
+    by true d rest = (λ _. subst (λ (x : List ℕ). Contains (x ∷ names_in ms) w) (d.0 refl) (contains_first w (names_in ms)), λ _. refl)
+    by false d rest = (
+      λ h. contains_later m.0 w (names_in ms) (rest.0 h),
+      λ c. elim (contains_cases m.0 w (names_in ms) c) [ inl q ↦ absurd (false≢true (d.1 (sym q))) | inr v ↦ rest.1 v ],
+    )
+
+pub same_answer : (w : List ℕ) (ms : List (List ℕ × MemberType)) (r : Bool) → Decides r (Contains (names_in ms) w) → r ≡ has_member w ms
+same_answer w ms r d = same_from_decides r (has_member w ms) d (member_says w ms)

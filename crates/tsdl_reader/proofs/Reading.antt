@@ -1,0 +1,58 @@
+-- A text has one list of tokens, of atoms and of blocks, so it denotes at most one metadata.
+use Rattle.std.proofs.Common.{◌≡◌, ℕ, List, length, slice_get, sym, ap, ◌∙◌}
+use Rattle.std.specs.List.{list_all}
+use Rattle.ctf_types.specs.declared.metadata.Metadata.{Metadata}
+use Rattle.tsdl_grammar.specs.declared.token.Token.{Token}
+use Rattle.tsdl_grammar.specs.declared.atom.Atom.{Atom}
+use Rattle.tsdl_grammar.specs.declared.fault.MetaFaultKind.{MetaFaultKind}
+use Rattle.tsdl_grammar.specs.declared.fault.MetaFaultKind.TheVariants as faults
+use Rattle.tsdl_grammar.specs.Tokens.{Tokenizes}
+use Rattle.tsdl_grammar.specs.Atoms.{atoms_of}
+use Rattle.tsdl_grammar.specs.Denotes.{is_read, text_meta, Denotes}
+use Rattle.tsdl_reader.specs.Faults.{IsOfAtoms}
+use Rattle.tsdl_reader.specs.Reading.{Means, HasAtoms, start_of, IsRefused, FaultHolds}
+use Rattle.tsdl_reader.proofs.Steps.{some_is}
+use Rattle.tsdl_reader.proofs.Blocks.{one_reading}
+
+abbrev pub OneListOfTokens : Type 0
+OneListOfTokens = (text : List ℕ) (ts us : List Token) → Tokenizes text ts → Tokenizes text us → ts ≡ us
+
+pub denotes : (text : List ℕ) (ts : List Token) (meant : List Atom) (m : Metadata) → HasAtoms text ts meant → Means meant m → Denotes text m
+denotes text ts meant m has means = (has.magic, meant, (ts, has.split, has.atoms), means.0, means.1)
+
+-- what a text denotes is what its atoms mean
+pub means : OneListOfTokens → (text : List ℕ) (ts : List Token) (meant : List Atom) (m : Metadata) → HasAtoms text ts meant → Denotes text m → Means meant m
+means one text ts meant m has d =
+    let same : meant ≡ d.1 = has.atoms ∙ ap (atoms_of text) (one text ts d.2.0 has.split d.2.1) ∙ sym d.2.2 in
+    (ap (list_all is_read) same ∙ d.3, (d.4.0, same ∙ d.4.1, d.4.2))
+
+one_meaning : (meant : List Atom) (m n : Metadata) → Means meant m → Means meant n → m ≡ n
+one_meaning meant m n a b =
+    some_is m n (sym a.1.2 ∙ ap text_meta (one_reading a.1.0 b.1.0 (sym a.1.1 ∙ b.1.1)) ∙ b.1.2)
+
+pub one_metadata : OneListOfTokens → (text : List ℕ) (ts : List Token) (meant : List Atom) (m n : Metadata) → HasAtoms text ts meant → Means meant m → Denotes text n → m ≡ n
+one_metadata one text ts meant m n has a d = one_meaning meant m n a (means one text ts meant n has d)
+
+-- what a fault of the grammar or of the meaning says, by its kind
+pub holds : (text : List ℕ) (at : ℕ) (kind : MetaFaultKind) → IsOfAtoms kind → IsRefused text at → FaultHolds text kind at
+holds text at faults.NoMagicLine k r = absurd k
+holds text at faults.Token k r = absurd k
+holds text at faults.OutOfMemory k r = absurd k
+holds text at faults.Syntax k r = r
+holds text at (faults.Unsupported name) k r = r
+holds text at faults.Duplicate k r = r
+holds text at faults.NoPacketSize k r = r
+holds text at faults.BadLength k r = r
+holds text at faults.Limit k r = r
+
+-- a text whose atoms mean nothing denotes nothing
+pub refused : OneListOfTokens → (text : List ℕ) (ts : List Token) (meant : List Atom) (at : ℕ) → HasAtoms text ts meant → ((m : Metadata) → Means meant m → ⊥)
+    → (index : ℕ) × (at ≡ start_of (slice_get ts index) (length text)) → IsRefused text at
+refused one text ts meant at has none place = record {
+  magic = has.magic;
+  tokens = ts;
+  split = has.split;
+  index = place.0;
+  place = place.1;
+  nothing = λ m d. none m (means one text ts meant m has d);
+}

@@ -1,0 +1,17 @@
+-- A word that is none of a table's stands for nothing.
+use Rattle.std.proofs.Common.{◌≡◌, ℕ, false, List, [], ◌∷◌, None, refl, sym, inl, inr, bytes_eq}
+use Rattle.std.proofs.lemmas.Bool.{cases_Bool}
+use Rattle.std.proofs.lemmas.Slice.Eq.{bytes_eq-Decides}
+use Rattle.tsdl_grammar.specs.AttributeValues.{meant_by}
+
+pub other_word : (a b : List ℕ) → (b ≡ a → ⊥) → bytes_eq a b ≡ false
+other_word a b h = elim (cases_Bool (bytes_eq a b)) [ inr e ↦ e | inl e ↦ absurd (h (sym ((bytes_eq-Decides a b).0 e))) ]
+
+-- the word is none of the rows'
+abbrev pub IsAbsent : {A : Type 0} → List (List ℕ × A) → List ℕ → Type 0
+IsAbsent [] w = Unit {0}
+IsAbsent (row ∷ rows) w = (w ≡ row.0 → ⊥) × IsAbsent rows w
+
+pub absent : {A : Type 0} (rows : List (List ℕ × A)) (w : List ℕ) → IsAbsent rows w → meant_by rows w ≡ None
+absent [] w h = refl
+absent (row ∷ rows) w h = rw (other_word row.0 w h.0) (absent rows w h.1)

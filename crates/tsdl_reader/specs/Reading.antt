@@ -1,0 +1,60 @@
+-- What a reader of metadata answers: the metadata that the text denotes, or a fault that says why it denotes none.
+use Rattle.std.specs.Prelude.{◌≡◌, ℕ, true, ◌⊎◌, List, length, Option, Some, None, slice_get, Result, Ok, Err}
+use Rattle.std.specs.List.{list_all}
+use Rattle.ctf_types.specs.declared.metadata.Metadata.{Metadata}
+use Rattle.tsdl_grammar.specs.declared.token.Token.{Token}
+use Rattle.tsdl_grammar.specs.declared.atom.Atom.{Atom}
+use Rattle.tsdl_grammar.specs.declared.tree.Block.{Block}
+use Rattle.tsdl_grammar.specs.declared.fault.MetaFault.{MetaFault}
+use Rattle.tsdl_grammar.specs.declared.fault.MetaFaultKind.{MetaFaultKind}
+use Rattle.tsdl_grammar.specs.declared.fault.MetaFaultKind.TheVariants as faults
+use Rattle.tsdl_grammar.specs.Tokens.{HasMagicLine, Tokenizes, StopsAt}
+use Rattle.tsdl_grammar.specs.Atoms.{atoms_of}
+use Rattle.tsdl_grammar.specs.Spelling.{text_toks}
+use Rattle.tsdl_grammar.specs.Denotes.{is_read, text_meta, Denotes}
+
+-- the atoms of a text mean the metadata: the part of `Denotes` behind the tokens
+abbrev pub Means : List Atom → Metadata → Type 0
+Means meant m = (list_all is_read meant ≡ true) × ((bs : List Block) × (meant ≡ text_toks bs) × (text_meta bs ≡ Some m))
+
+-- the text begins with its magic line and has these tokens, which mean these atoms
+pub record HasAtoms (text : List ℕ) (tokens : List Token) (meant : List Atom) : Type 0 where
+  pub magic : HasMagicLine text
+  pub split : Tokenizes text tokens
+  pub atoms : meant ≡ atoms_of text tokens
+
+-- this metadata, unless memory ran out
+abbrev pub GivesMetadata : Result Metadata MetaFault → Metadata → Type 0
+GivesMetadata (Ok found) m = found ≡ m
+GivesMetadata (Err fault) m = fault.kind ≡ faults.OutOfMemory
+
+-- a fault of this kind, unless memory ran out
+abbrev pub GivesKind : Result Metadata MetaFault → MetaFaultKind → Type 0
+GivesKind (Ok found) kind = ⊥
+GivesKind (Err fault) kind = (fault.kind ≡ kind) ⊎ (fault.kind ≡ faults.OutOfMemory)
+
+-- where a token begins, or the end of the text
+abbrev pub start_of : Option Token → ℕ → ℕ
+start_of (Some token) end = token.span.start
+start_of None end = end
+
+-- the text has tokens, and the place is where one of them begins or the end of the text; the text denotes nothing
+pub record IsRefused (text : List ℕ) (at : ℕ) : Type 0 where
+  pub magic : HasMagicLine text
+  pub tokens : List Token
+  pub split : Tokenizes text tokens
+  pub index : ℕ
+  pub place : at ≡ start_of (slice_get tokens index) (length text)
+  pub nothing : (m : Metadata) → Denotes text m → ⊥
+
+-- what a fault says of the text, by its kind and place
+abbrev pub FaultHolds : List ℕ → MetaFaultKind → ℕ → Type 0
+FaultHolds text faults.NoMagicLine at = (at ≡ 0) × (HasMagicLine text → ⊥)
+FaultHolds text faults.Token at = HasMagicLine text × StopsAt text at
+FaultHolds text faults.Syntax at = IsRefused text at
+FaultHolds text (faults.Unsupported name) at = IsRefused text at
+FaultHolds text faults.Duplicate at = IsRefused text at
+FaultHolds text faults.NoPacketSize at = IsRefused text at
+FaultHolds text faults.BadLength at = IsRefused text at
+FaultHolds text faults.Limit at = IsRefused text at
+FaultHolds text faults.OutOfMemory at = Unit {0}

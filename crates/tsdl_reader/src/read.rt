@@ -1,0 +1,100 @@
+//! Reads a metadata text.
+
+ghost use Rattle.std.specs.Prelude.{◌≡◌, ℕ, ◌≤◌, length, slice_get, IfOk, IfErr, IfSome, IfNone};
+ghost use Rattle.ctf_types.specs.declared.metadata.Metadata.{Metadata};
+ghost use Rattle.ctf_types.specs.Allowed.{IsMetadata};
+ghost use Rattle.tsdl_grammar.specs.Tokens.{HasMagicLine, StopsAt};
+ghost use Rattle.tsdl_grammar.specs.Denotes.{Denotes};
+ghost use Rattle.tsdl_reader.specs.Faults.{IsOfAtoms};
+ghost use Rattle.tsdl_reader.specs.Reading.{Means, GivesMetadata, GivesKind, HasAtoms, FaultHolds, start_of};
+
+use crate::fault_text::first_fault;
+use crate::keyword::are_read;
+use crate::laws::{blocks_are_unique, denoted_is_allowed};
+use crate::meaning_text::metadata_of;
+use crate::parse_block::parse;
+use ctf_types::Metadata;
+use std::alloc::{AllocError, Global};
+use tsdl_grammar::{
+    Atom, MetaFault, MetaFaultKind, Token, atoms, tokens, tokens_are_unique, tokens_or_a_stop,
+};
+
+/// The metadata that a text denotes (CTF 1.8.3, section 7 and appendix C, narrowed to what this project reads).
+///
+/// Where the text denotes none, the fault is the first one, at its byte: `NoMagicLine` at 0 where the text doesn't
+/// begin with its magic line, `Token` at the first byte at which no token starts, and else the first fault of its
+/// grammar or its meaning, at the token where it stands or at the end of the text.
+pub fn read_metadata(alloc: Global, text: &[u8]) -> Result<Metadata, MetaFault>
+    ensures found { IfOk result (λ m. Denotes text.now m × IsMetadata m) }
+    ensures only { (m : Metadata) → Denotes text.now m → GivesMetadata result m }
+    ensures magic { (HasMagicLine text.now → ⊥) → GivesKind result MetaFaultKind.NoMagicLine }
+    ensures token { (at : ℕ) → HasMagicLine text.now → StopsAt text.now at → GivesKind result MetaFaultKind.Token }
+    ensures fault { IfErr result (λ f. FaultHolds text.now f.kind f.place) }
+{
+    tokens_or_a_stop();
+    let tokens = tokens(alloc, text)?;
+    let atoms = atoms(alloc, text, &tokens)?;
+    judge(alloc, text, &tokens, &atoms)
+}
+
+/// The metadata that a text of these tokens denotes.
+fn judge(
+    alloc: Global,
+    text: &[u8],
+    tokens: &[Token],
+    atoms: &[Atom],
+) -> Result<Metadata, MetaFault>
+    requires { HasAtoms text.now tokens.now atoms.now }
+    ensures found { IfOk result (λ m. Denotes text.now m × IsMetadata m) }
+    ensures only { (m : Metadata) → Denotes text.now m → GivesMetadata result m }
+    ensures fault { IfErr result (λ f. FaultHolds text.now f.kind f.place) }
+{
+    tokens_are_unique();
+    denoted_is_allowed();
+    match meaning(alloc, atoms)? {
+        Some(metadata) => Ok(metadata),
+        None => Err(refusal(alloc, text.len(), tokens, atoms)?),
+    }
+}
+
+/// The metadata that the atoms of a text mean, None where they mean none.
+fn meaning(alloc: Global, atoms: &[Atom]) -> Result<Option<Metadata>, AllocError>
+    ensures found { IfOk result (λ o. IfSome o (Means atoms.now)) }
+    ensures none { IfOk result (λ o. IfNone o ((m : Metadata) → Means atoms.now m → ⊥)) }
+{
+    blocks_are_unique();
+    if !are_read(atoms) {
+        return Ok(None);
+    }
+    match parse(alloc, atoms)? {
+        Some(blocks) => metadata_of(alloc, &blocks),
+        None => Ok(None),
+    }
+}
+
+/// The first fault of a text that has tokens and denotes nothing.
+fn refusal(
+    alloc: Global,
+    end: usize,
+    tokens: &[Token],
+    atoms: &[Atom],
+) -> Result<MetaFault, AllocError>
+    ensures place { IfOk result (λ f. (index : ℕ) × (f.place ≡ start_of (slice_get tokens.now index) end)) }
+    ensures kind { IfOk result (λ f. IsOfAtoms f.kind) }
+{
+    let (index, kind) = first_fault(alloc, atoms)?;
+    Ok(MetaFault {
+        place: place_of(tokens, index, end),
+        kind,
+    })
+}
+
+/// Where a token begins, the end of the text behind the last one.
+fn place_of(tokens: &[Token], index: usize, end: usize) -> usize
+    ensures { result ≡ start_of (slice_get tokens.now index) end }
+{
+    match tokens.get(index) {
+        Some(token) => token.span.start,
+        None => end,
+    }
+}

@@ -1,0 +1,117 @@
+//! Texts that are metadata, in pairs of two that denote the same.
+
+use super::described::described;
+use super::unmarked;
+use crate::fault_text::first_fault;
+use crate::read_metadata;
+use std::alloc::Global;
+use std::process::Abort;
+use std::test::Fail;
+use tsdl_grammar::{MetaFaultKind, atoms, tokens};
+
+/// Two texts behind the magic line that denote the same metadata.
+static PAIRS: &[(&str, &str)] = &[
+    // the smallest text in one line
+    (
+        "\n\ntrace {\n\tmajor = 1;\n\tminor = 8;\n\tbyte_order = le;\n\tpacket.header := struct {\n\t\tinteger { size = 32; align = 8; signed = false; base = 16; } magic;\n\t} align(8);\n};\n\nstream {\n\tid = 0;\n\tpacket.context := struct {\n\t\tinteger { size = 32; align = 8; signed = false; base = 10; } packet_size;\n\t\tinteger { size = 32; align = 8; signed = false; base = 10; } content_size;\n\t} align(8);\n};\n\nevent {\n\tname = \"e\";\n\tid = 0;\n\tstream_id = 0;\n\tfields := struct {\n\t\tinteger { size = 8; align = 8; signed = false; base = 10; } v;\n\t} align(1);\n};\n",
+        " trace{byte_order=le;minor=8;major=1;/*x*/packet.header:=struct{integer{base=hex;signed=0;align=0x8;size=0x20;}magic;}align(8);};stream{packet.context:=struct{integer{size=32;align=8;}packet_size;integer{size=32;align=8;}content_size;}align(8);};event{name=e;fields:=struct{integer{size=8;}v;};};",
+    ),
+    // blocks in any order
+    (
+        " trace{major=1;minor=8;byte_order=le;};env{a=1;b=\"x\";};clock{name=c;};stream{packet.context:=struct{integer{size=8;}packet_size;integer{size=8;map=clock.c.value;}content_size;};};event{name=e;};",
+        " event{name=e;};stream{packet.context:=struct{integer{size=8;}packet_size;integer{size=8;map=clock.c.value;}content_size;};};clock{name=c;};env{a=1;b=\"x\";};trace{major=1;minor=8;byte_order=le;};",
+    ),
+    // a byte order before and after the trace's
+    (
+        " trace{packet.header:=struct{integer{size=8;byte_order=be;}a;integer{byte_order=network;size=16;}b;integer{size=16;byte_order=native;}c;};byte_order=be;minor=8;major=1;};",
+        " trace{byte_order=be;minor=8;major=1;packet.header:=struct{integer{size=8;}a;integer{size=16;byte_order=be;}b;integer{size=16;byte_order=network;}c;};};",
+    ),
+    // the defaults of clocks, and a clock's two forms of names
+    (
+        " trace{major=1;minor=8;byte_order=le;};clock{name=c;};",
+        " clock{absolute=false;offset=0;offset_s=0;precision=0;freq=1000000000;name=\"c\";};trace{major=1;minor=8;byte_order=le;};",
+    ),
+    // the defaults of integers
+    (
+        " trace{major=1;minor=8;byte_order=le;packet.header:=struct{integer{size=8;}a;integer{size=7;}b;integer{size=64;}c;};};",
+        " trace{major=1;minor=8;byte_order=le;packet.header:=struct{integer{size=8;align=8;signed=false;base=10;}a;integer{size=7;align=1;}b;integer{base=decimal;size=64;align=8;}c;};};",
+    ),
+    // numbers
+    (
+        " trace{major=1;minor=8;byte_order=le;packet.header:=struct{integer{size=32;align=8;}magic;}align(8);};",
+        " trace{major=0x1;minor=010;byte_order=le;packet.header:=struct{integer{size=0x20u;align=+8;}magic;}align(0010ULL);};",
+    ),
+    // flags
+    (
+        " trace{major=1;minor=8;byte_order=le;packet.header:=struct{integer{size=8;signed=true;}a;integer{size=8;signed=true;}b;integer{size=8;signed=false;}c;};};clock{name=c;absolute=true;};",
+        " trace{major=1;minor=8;byte_order=le;packet.header:=struct{integer{size=8;signed=1;}a;integer{size=8;signed=TRUE;}b;integer{size=8;signed=FALSE;}c;};};clock{name=c;absolute=0x1;};",
+    ),
+    // bases
+    (
+        " trace{major=1;minor=8;byte_order=le;packet.header:=struct{integer{size=8;base=2;}a;integer{size=8;base=2;}b;integer{size=8;base=8;}c;integer{size=8;base=8;}d;integer{size=8;base=8;}e;};};",
+        " trace{major=1;minor=8;byte_order=le;packet.header:=struct{integer{size=8;base=binary;}a;integer{size=8;base=b;}b;integer{size=8;base=octal;}c;integer{size=8;base=oct;}d;integer{size=8;base=o;}e;};};",
+    ),
+    (
+        " trace{major=1;minor=8;byte_order=le;packet.header:=struct{integer{size=8;base=10;}a;integer{size=8;base=10;}b;integer{size=8;base=10;}c;integer{size=8;}d;integer{size=8;base=0xa;}e;};};",
+        " trace{major=1;minor=8;byte_order=le;packet.header:=struct{integer{size=8;base=decimal;}a;integer{size=8;base=dec;}b;integer{size=8;base=d;}c;integer{size=8;base=i;}d;integer{size=8;base=u;}e;};};",
+    ),
+    (
+        " trace{major=1;minor=8;byte_order=le;packet.header:=struct{integer{size=8;base=16;}a;integer{size=8;base=16;}b;integer{size=8;base=16;}c;integer{size=8;base=16;}d;integer{size=8;base=16;}e;};};",
+        " trace{major=1;minor=8;byte_order=le;packet.header:=struct{integer{size=8;base=hexadecimal;}a;integer{size=8;base=hex;}b;integer{size=8;base=x;}c;integer{size=8;base=X;}d;integer{size=8;base=p;}e;};};",
+    ),
+    // enumerations
+    (
+        " trace{major=1;minor=8;byte_order=le;packet.header:=struct{enum:integer{size=8;}{\"OFF\"=0,\"ON\"=1...3,\"ON\"=9}x;};};",
+        " trace{major=1;minor=8;byte_order=le;packet.header:=struct{enum:integer{size=8;}{OFF=0...0,ON=1...3,ON=+9,}x;};};",
+    ),
+    // strings
+    (
+        " trace{major=1;minor=8;byte_order=le;packet.header:=struct{string x;string y[2];string z;};};",
+        " trace{major=1;minor=8;byte_order=le;packet.header:=struct{string{}x;string{encoding=UTF8;}y[2];string{encoding=none;}z;};};",
+    ),
+    // structures without members, and the alignment that is left out
+    (
+        " trace{major=1;minor=8;byte_order=le;};stream{packet.context:=struct{integer{size=8;}packet_size;integer{size=8;}content_size;};};event{name=e;};",
+        " trace{major=1;minor=8;byte_order=le;packet.header:=struct{};};stream{id=0;packet.context:=struct{integer{size=8;}packet_size;integer{size=8;}content_size;}align(1);event.header:=struct{}align(64);event.context:=struct{};};event{name=\"e\";id=0;stream_id=0;context:=struct{};fields:=struct{}align(8);};",
+    ),
+    // attributes that are passed over
+    (
+        " trace{major=1;minor=8;byte_order=le;packet.header:=struct{integer{size=8;}a;};};stream{packet.context:=struct{integer{size=8;}packet_size;integer{size=8;}content_size;};};event{name=e;};clock{name=c;};",
+        " trace{major=1;minor=8;byte_order=le;domain=\"kernel\";a.b=c.d;n=-5;packet.header:=struct{integer{size=8;encoding=UTF8;}a;};};stream{name=\"s\";packet.context:=struct{integer{size=8;encoding=-1;}packet_size;integer{encoding=\"x\";size=8;}content_size;};};event{name=e;model.emf.uri=\"u\";};clock{name=c;id=x;};",
+    ),
+    // streams and events by number
+    (
+        " trace{major=1;minor=8;byte_order=le;};stream{packet.context:=struct{integer{size=8;}packet_size;integer{size=8;}content_size;};};stream{id=1;packet.context:=struct{integer{size=8;}packet_size;integer{size=8;}content_size;};};event{name=a;};event{name=b;id=1;};event{name=c;stream_id=1;};",
+        " trace{major=1;minor=8;byte_order=le;};event{name=c;stream_id=1;};event{name=b;id=1;};stream{id=1;packet.context:=struct{integer{size=8;}packet_size;integer{size=8;}content_size;};};event{name=a;};stream{packet.context:=struct{integer{size=8;}packet_size;integer{size=8;}content_size;};};",
+    ),
+    // comments, blanks and escapes
+    (
+        " trace{major=1;minor=8;byte_order=le;uuid=\"2a6422d0-6cee-11e0-8c08-cb07d7b3a564\";};env{a=\"b?'\";};",
+        "/*CTF*/trace\n{\t//}\nmajor/**/=/* 2 */1\r;minor\x0b=\x0c8;byte_order=le;uuid=\"2A6422D0-6CEE-11E0-8C08-CB07D7B3A564\";};env{a=\"b\\?\\'\";};//",
+    ),
+    // words of the grammar as names, a sequence and arrays
+    (
+        " trace{major=1;minor=8;byte_order=le;packet.header:=struct{integer{size=8;}event;string struct;integer{size=8;}align[event][2][3];string integer[0][4];};};",
+        " trace { byte_order = le ; major = 1 ; minor = 8 ; packet . header := struct { integer { size = 8 ; } event ; string struct ; integer { size = 8 ; } align [ event ] [ 2 ] [ 3 ] ; string integer [ 0 ] [ 4 ] ; } ; } ;",
+    ),
+];
+
+/// The metadata that a row denotes, as it prints. The search for a first fault passes over all of it.
+fn read(rt: &impl Abort, alloc: Global, row: &str) -> Result<String, Fail> {
+    let (text, _place) = unmarked(alloc, row.as_bytes())?;
+    let metadata = read_metadata(alloc, &text)?;
+    let tokens = tokens(alloc, &text)?;
+    let (at, kind) = first_fault(alloc, &atoms(alloc, &text, &tokens)?)?;
+    assert_eq!(rt; at, tokens.len(), "{row}");
+    assert_eq!(rt; kind, MetaFaultKind::Syntax, "{row}");
+    Ok(described(alloc, &metadata)?)
+}
+
+#[test]
+fn reads_what_denotes_the_same_alike(rt: HostRuntime) -> Result<(), Fail> {
+    for (text, same) in PAIRS {
+        let metadata = read(&rt, rt.alloc(), *text)?;
+        assert_eq!(rt; metadata, read(&rt, rt.alloc(), *same)?, "{same}");
+    }
+    Ok(())
+}

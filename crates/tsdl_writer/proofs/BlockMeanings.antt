@@ -1,0 +1,266 @@
+-- What the trees of blocks mean: the trace, the clock, the stream or the event that they were made of.
+use Rattle.std.proofs.Common.{◌≡◌, ℕ, suc, ◌≤◌, ◌^◌, ℤ, pos, negsuc, Bool, true, false, List, [], ◌∷◌, ◌++◌, map, length, Option, Some, None, refl, sym, ap, arith, SFits, w64}
+use Rattle.std.specs.Prelude.{nat_le, nat_lt, codes}
+use Rattle.std.specs.Option.{IfSome}
+use Rattle.std.specs.List.{list_any, list_all, AllByRecursion, IsDistinct}
+use Rattle.std.specs.Str.{bytes_eq}
+use Rattle.std.proofs.lemmas.Int.{ints}
+use Rattle.std.proofs.lemmas.List.{length-map}
+use Rattle.std.proofs.lemmas.Map.Keys.{IsDistinct-head, IsDistinct-tail}
+use Rattle.uuid.specs.Text.{hyphenated_text, lower}
+use Rattle.ctf_types.specs.declared.byte_order.ByteOrder.{ByteOrder}
+use Rattle.ctf_types.specs.declared.byte_order.ByteOrder.TheVariants.{Little, Big}
+use Rattle.ctf_types.specs.declared.member_type.MemberType.{MemberType}
+use Rattle.ctf_types.specs.declared.struct_type.StructType.{StructType}
+use Rattle.ctf_types.specs.declared.clock_type.ClockType.{ClockType}
+use Rattle.ctf_types.specs.declared.environment.EnvironmentEntry.{EnvironmentEntry}
+use Rattle.ctf_types.specs.declared.environment.EnvironmentValue.{EnvironmentValue}
+use Rattle.ctf_types.specs.declared.environment.EnvironmentValue.TheVariants as environment
+use Rattle.ctf_types.specs.declared.metadata.Stream.{Stream}
+use Rattle.ctf_types.specs.declared.metadata.Event.{Event}
+use Rattle.tsdl_grammar.specs.declared.tree.Value.TheVariants as values
+use Rattle.tsdl_grammar.specs.declared.tree.Item.{Item}
+use Rattle.tsdl_grammar.specs.declared.tree.Scope.{Scope}
+use Rattle.tsdl_grammar.specs.Steps.{each}
+use Rattle.tsdl_grammar.specs.Lookups.{attr, scope, attrs_in, scopes_in, has_parts, no_two}
+use Rattle.tsdl_grammar.specs.AttributeValues.{natural_value, whole, flag_value, uuid_value, optional}
+use Rattle.tsdl_grammar.specs.IntegerMeaning.{Known}
+use Rattle.tsdl_grammar.specs.StructureMeaning.{has_member, structure_of, scope_meaning}
+use Rattle.tsdl_grammar.specs.BlockMeaning.{packet_header, is_trace, trace_order, trace_uuid, suits_header, header_meaning, clock_meaning, packet_context, event_header, event_context, context_names, suits, stream_meaning, specific_context, fields_scope, event_meaning, named_fact_meaning, environment_meaning}
+use Rattle.tsdl_writer.specs.Held.{IsHeldUuid, IsHeldValue}
+use Rattle.tsdl_writer.specs.FieldTrees.{whole_number, one_word, flag_word}
+use Rattle.tsdl_writer.specs.BlockTrees.{natural_item, word_item, text_item, optional_items, uuid_item, scope_items, two_words, order_word, named_fact_tree, clock_items}
+use Rattle.tsdl_writer.proofs.FieldMeanings.{Members, le-leb}
+use Rattle.tsdl_writer.proofs.StructureMeanings.{found}
+
+-- ---- values
+
+uuid_read : (u : List ℕ) → IsHeldUuid u → uuid_value (values.Text (hyphenated_text lower u)) ≡ Some u
+unfolding uuid_value
+uuid_read u h = h.comes_back
+
+flag_read : (b : Bool) → flag_value (values.Name (one_word (flag_word b))) ≡ Some b
+unfolding flag_value
+flag_read true = refl
+flag_read false = refl
+
+whole_read : (z : ℤ) → SFits w64 z → whole (whole_number z) ≡ Some z
+whole_read (pos n) h = let below : nat_lt n (2 ^ 63) ≡ true = grind (arith, ints) in rw below refl
+whole_read (negsuc n) h = let within : nat_le (suc n) (2 ^ 63) ≡ true = grind (arith, ints) in rw within refl
+
+scope_read : (known : Known) (name : List (List ℕ)) (test : List ℕ × MemberType → Bool) (scopes : List Scope) (there : Option _) (t : StructType) → scope name scopes ≡ there → structure_of known there ≡ Some t → list_all test t.members ≡ true
+    → scope_meaning known name test scopes ≡ Some t
+scope_read known name test scopes there t a b c = rw (a, b, c) refl
+
+-- ---- the trace block
+
+abbrev pub trace_parts : Option (List ℕ) → ByteOrder → Members → List Item
+trace_parts uuid order ms =
+    natural_item (codes "major") 1 ∷ natural_item (codes "minor") 8 ∷ optional_items uuid_item uuid
+    ++ word_item (codes "byte_order") (order_word order) ∷ scope_items (two_words (codes "packet") (codes "header")) ms 8
+
+pub trace_is : (uuid : Option (List ℕ)) (order : ByteOrder) (ms : Members) → is_trace (trace_parts uuid order ms) ≡ true
+trace_is None order [] = refl
+trace_is None order (m ∷ ms) = refl
+trace_is (Some u) order [] = refl
+trace_is (Some u) order (m ∷ ms) = refl
+
+pub trace_order_is : (uuid : Option (List ℕ)) (order : ByteOrder) (ms : Members) → trace_order (trace_parts uuid order ms) ≡ Some order
+trace_order_is None Little [] = refl
+trace_order_is None Little (m ∷ ms) = refl
+trace_order_is (Some u) Little [] = refl
+trace_order_is (Some u) Little (m ∷ ms) = refl
+trace_order_is None Big [] = refl
+trace_order_is None Big (m ∷ ms) = refl
+trace_order_is (Some u) Big [] = refl
+trace_order_is (Some u) Big (m ∷ ms) = refl
+
+pub trace_uuid_is : (uuid : Option (List ℕ)) (order : ByteOrder) (ms : Members) → IfSome uuid IsHeldUuid → trace_uuid (trace_parts uuid order ms) ≡ Some uuid
+unfolding trace_uuid
+trace_uuid_is None order [] h = refl
+trace_uuid_is None order (m ∷ ms) h = refl
+trace_uuid_is (Some u) order [] h = rw (uuid_read u h) refl
+trace_uuid_is (Some u) order (m ∷ ms) h = rw (uuid_read u h) refl
+
+header_found : (uuid : Option (List ℕ)) (order : ByteOrder) (ms : Members) → scope packet_header (scopes_in (trace_parts uuid order ms)) ≡ found ms 8
+header_found None order [] = refl
+header_found None order (m ∷ ms) = refl
+header_found (Some u) order [] = refl
+header_found (Some u) order (m ∷ ms) = refl
+
+pub header_is : (known : Known) (uuid : Option (List ℕ)) (order : ByteOrder) (ms : Members) (t : StructType) → structure_of known (found ms 8) ≡ Some t → list_all suits_header t.members ≡ true
+    → header_meaning known (trace_parts uuid order ms) ≡ Some t
+unfolding header_meaning
+header_is known uuid order ms t e h = scope_read known packet_header suits_header (scopes_in (trace_parts uuid order ms)) (found ms 8) t (header_found uuid order ms) e h
+
+-- ---- clock blocks
+
+abbrev clock_of : List ℕ → Option (List ℕ) → Option (List ℕ) → ℕ → ℕ → ℤ → ℕ → Bool → ClockType
+clock_of name uuid description frequency precision seconds cycles absolute =
+    record { name = name; uuid = uuid; description = description; frequency = frequency; precision = precision; offset_seconds = seconds; offset_cycles = cycles; absolute = absolute }
+
+clock_parts_read : (name : List ℕ) (uuid description : Option (List ℕ)) (frequency precision : ℕ) (seconds : ℤ) (cycles : ℕ) (absolute : Bool) → IfSome uuid IsHeldUuid → SFits w64 seconds
+    → clock_meaning (clock_items (clock_of name uuid description frequency precision seconds cycles absolute)) ≡ Some (clock_of name uuid description frequency precision seconds cycles absolute)
+unfolding clock_meaning
+clock_parts_read name None None frequency precision seconds cycles absolute u h = rw (whole_read seconds h, flag_read absolute) refl
+clock_parts_read name None (Some d) frequency precision seconds cycles absolute u h = rw (whole_read seconds h, flag_read absolute) refl
+clock_parts_read name (Some i) None frequency precision seconds cycles absolute u h = rw (uuid_read i u, whole_read seconds h, flag_read absolute) refl
+clock_parts_read name (Some i) (Some d) frequency precision seconds cycles absolute u h = rw (uuid_read i u, whole_read seconds h, flag_read absolute) refl
+
+pub clock_is : (c : ClockType) → IfSome c.uuid IsHeldUuid → SFits w64 c.offset_seconds → clock_meaning (clock_items c) ≡ Some c
+clock_is c u h = clock_parts_read c.name c.uuid c.description c.frequency c.precision c.offset_seconds c.offset_cycles c.absolute u h
+
+-- ---- stream blocks
+
+abbrev pub stream_parts : ℕ → Members → Members → Members → ℕ → List Item
+stream_parts id context header common align =
+    natural_item (codes "id") id
+    ∷ scope_items (two_words (codes "packet") (codes "context")) context 8
+    ++ scope_items (two_words (codes "event") (codes "header")) header 8
+    ++ scope_items (two_words (codes "event") (codes "context")) common align
+
+stream_has_parts : (id : ℕ) (context header common : Members) (align : ℕ) → has_parts (packet_context ∷ event_header ∷ event_context ∷ []) (stream_parts id context header common align) ≡ true
+stream_has_parts id [] [] [] align = refl
+stream_has_parts id [] [] (k ∷ ks) align = refl
+stream_has_parts id [] (h ∷ hs) [] align = refl
+stream_has_parts id [] (h ∷ hs) (k ∷ ks) align = refl
+stream_has_parts id (c ∷ cs) [] [] align = refl
+stream_has_parts id (c ∷ cs) [] (k ∷ ks) align = refl
+stream_has_parts id (c ∷ cs) (h ∷ hs) [] align = refl
+stream_has_parts id (c ∷ cs) (h ∷ hs) (k ∷ ks) align = refl
+
+context_found : (id : ℕ) (context header common : Members) (align : ℕ) → scope packet_context (scopes_in (stream_parts id context header common align)) ≡ found context 8
+context_found id [] [] [] align = refl
+context_found id [] [] (k ∷ ks) align = refl
+context_found id [] (h ∷ hs) [] align = refl
+context_found id [] (h ∷ hs) (k ∷ ks) align = refl
+context_found id (c ∷ cs) header common align = refl
+
+event_header_found : (id : ℕ) (context header common : Members) (align : ℕ) → scope event_header (scopes_in (stream_parts id context header common align)) ≡ found header 8
+event_header_found id [] [] [] align = refl
+event_header_found id [] [] (k ∷ ks) align = refl
+event_header_found id [] (h ∷ hs) common align = refl
+event_header_found id (c ∷ cs) [] [] align = refl
+event_header_found id (c ∷ cs) [] (k ∷ ks) align = refl
+event_header_found id (c ∷ cs) (h ∷ hs) common align = refl
+
+common_found : (id : ℕ) (context header common : Members) (align : ℕ) → scope event_context (scopes_in (stream_parts id context header common align)) ≡ found common align
+common_found id [] [] [] align = refl
+common_found id [] [] (k ∷ ks) align = refl
+common_found id [] (h ∷ hs) [] align = refl
+common_found id [] (h ∷ hs) (k ∷ ks) align = refl
+common_found id (c ∷ cs) [] [] align = refl
+common_found id (c ∷ cs) [] (k ∷ ks) align = refl
+common_found id (c ∷ cs) (h ∷ hs) [] align = refl
+common_found id (c ∷ cs) (h ∷ hs) (k ∷ ks) align = refl
+
+all_pass : (ms : Members) → list_all (λ (m : List ℕ × MemberType). true) ms ≡ true
+all_pass [] = refl
+all_pass (m ∷ ms) = all_pass ms
+
+-- the structures of a stream, and that they are what its blocks mean
+pub record StreamIsRead (known : Known) (context header common : Members) (align : ℕ) (s : Stream) : Type 0 where
+  pub context_read : structure_of known (found context 8) ≡ Some s.context
+  pub header_read : structure_of known (found header 8) ≡ Some s.event_header
+  pub common_read : structure_of known (found common align) ≡ Some s.common
+  pub context_suits : list_all (suits context_names) s.context.members ≡ true
+  pub header_suits : list_all (suits (codes "id" ∷ [])) s.event_header.members ≡ true
+  pub packet_size : has_member (codes "packet_size") s.context.members ≡ true
+  pub content_size : has_member (codes "content_size") s.context.members ≡ true
+  pub no_events : s.events ≡ []
+
+pub stream_is : (known : Known) (context header common : Members) (align : ℕ) (s : Stream) → StreamIsRead known context header common align s → stream_meaning known (stream_parts s.id context header common align) ≡ Some s
+unfolding stream_meaning
+stream_is known context header common align s h =
+    let is = stream_parts s.id context header common align in
+    let a = scope_read known packet_context (suits context_names) (scopes_in is) (found context 8) s.context (context_found s.id context header common align) h.context_read h.context_suits in
+    let b = scope_read known event_header (suits (codes "id" ∷ [])) (scopes_in is) (found header 8) s.event_header (event_header_found s.id context header common align) h.header_read h.header_suits in
+    let c = scope_read known event_context (λ m. true) (scopes_in is) (found common align) s.common (common_found s.id context header common align) h.common_read (all_pass s.common.members) in
+    rw (stream_has_parts s.id context header common align, a, b, c, h.packet_size, h.content_size) (ap (λ (es : List Event). Some (record s { events = es })) (sym h.no_events))
+
+-- ---- event blocks
+
+abbrev pub event_parts : ℕ → ℕ → List ℕ → Option ℕ → Members → ℕ → Members → ℕ → List Item
+event_parts stream id name level specific align fields fields_align =
+    text_item (codes "name") name ∷ natural_item (codes "id") id ∷ natural_item (codes "stream_id") stream
+    ∷ optional_items (natural_item (codes "loglevel")) level
+    ++ scope_items (one_word (codes "context")) specific align
+    ++ scope_items (one_word (codes "fields")) fields fields_align
+
+event_has_parts : (stream id : ℕ) (name : List ℕ) (level : Option ℕ) (specific : Members) (align : ℕ) (fields : Members) (fields_align : ℕ)
+    → has_parts (specific_context ∷ fields_scope ∷ []) (event_parts stream id name level specific align fields fields_align) ≡ true
+event_has_parts stream id name None [] align [] fields_align = refl
+event_has_parts stream id name None [] align (f ∷ fs) fields_align = refl
+event_has_parts stream id name None (s ∷ ss) align [] fields_align = refl
+event_has_parts stream id name None (s ∷ ss) align (f ∷ fs) fields_align = refl
+event_has_parts stream id name (Some l) [] align [] fields_align = refl
+event_has_parts stream id name (Some l) [] align (f ∷ fs) fields_align = refl
+event_has_parts stream id name (Some l) (s ∷ ss) align [] fields_align = refl
+event_has_parts stream id name (Some l) (s ∷ ss) align (f ∷ fs) fields_align = refl
+
+level_read : (stream id : ℕ) (name : List ℕ) (level : Option ℕ) (specific : Members) (align : ℕ) (fields : Members) (fields_align : ℕ)
+    → optional natural_value (attr (codes "loglevel") (attrs_in (event_parts stream id name level specific align fields fields_align))) ≡ Some level
+level_read stream id name None [] align [] fields_align = refl
+level_read stream id name None [] align (f ∷ fs) fields_align = refl
+level_read stream id name None (s ∷ ss) align [] fields_align = refl
+level_read stream id name None (s ∷ ss) align (f ∷ fs) fields_align = refl
+level_read stream id name (Some l) specific align fields fields_align = refl
+
+specific_found : (stream id : ℕ) (name : List ℕ) (level : Option ℕ) (specific : Members) (align : ℕ) (fields : Members) (fields_align : ℕ)
+    → scope specific_context (scopes_in (event_parts stream id name level specific align fields fields_align)) ≡ found specific align
+specific_found stream id name None [] align [] fields_align = refl
+specific_found stream id name None [] align (f ∷ fs) fields_align = refl
+specific_found stream id name None (s ∷ ss) align fields fields_align = refl
+specific_found stream id name (Some l) [] align [] fields_align = refl
+specific_found stream id name (Some l) [] align (f ∷ fs) fields_align = refl
+specific_found stream id name (Some l) (s ∷ ss) align fields fields_align = refl
+
+fields_found : (stream id : ℕ) (name : List ℕ) (level : Option ℕ) (specific : Members) (align : ℕ) (fields : Members) (fields_align : ℕ)
+    → scope fields_scope (scopes_in (event_parts stream id name level specific align fields fields_align)) ≡ found fields fields_align
+fields_found stream id name None [] align [] fields_align = refl
+fields_found stream id name None [] align (f ∷ fs) fields_align = refl
+fields_found stream id name None (s ∷ ss) align [] fields_align = refl
+fields_found stream id name None (s ∷ ss) align (f ∷ fs) fields_align = refl
+fields_found stream id name (Some l) [] align [] fields_align = refl
+fields_found stream id name (Some l) [] align (f ∷ fs) fields_align = refl
+fields_found stream id name (Some l) (s ∷ ss) align [] fields_align = refl
+fields_found stream id name (Some l) (s ∷ ss) align (f ∷ fs) fields_align = refl
+
+pub event_is : (known : Known) (stream : ℕ) (e : Event) (specific : Members) (align : ℕ) (fields : Members) (fields_align : ℕ)
+    → structure_of known (found specific align) ≡ Some e.specific → structure_of known (found fields fields_align) ≡ Some e.fields
+    → event_meaning known (event_parts stream e.id e.name e.log_level specific align fields fields_align) ≡ Some (stream, e)
+unfolding event_meaning
+event_is known stream e specific align fields fields_align p q =
+    let is = event_parts stream e.id e.name e.log_level specific align fields fields_align in
+    let a = scope_read known specific_context (λ m. true) (scopes_in is) (found specific align) e.specific (specific_found stream e.id e.name e.log_level specific align fields fields_align) p (all_pass e.specific.members) in
+    let b = scope_read known fields_scope (λ m. true) (scopes_in is) (found fields fields_align) e.fields (fields_found stream e.id e.name e.log_level specific align fields fields_align) q (all_pass e.fields.members) in
+    rw (event_has_parts stream e.id e.name e.log_level specific align fields fields_align, level_read stream e.id e.name e.log_level specific align fields fields_align, a, b) refl
+
+-- ---- the environment
+
+entry_read : (name : List ℕ) (v : EnvironmentValue) → IsHeldValue v → named_fact_meaning (named_fact_tree (record { name = name; value = v })) ≡ Some (record { name = name; value = v })
+entry_read name (environment.Whole z) h = rw (whole_read z h) refl
+entry_read name (environment.Text s) h = refl
+
+each_entry_read : (es : List EnvironmentEntry) → AllByRecursion (λ e. IsHeldValue e.value) es → each named_fact_meaning (map named_fact_tree es) ≡ Some es
+each_entry_read [] h = refl
+each_entry_read (e ∷ es) h = rw (entry_read e.name e.value h.0, each_entry_read es h.1) refl
+
+none_same : (x : List ℕ) (xs : List (List ℕ)) → AllByRecursion (λ y. bytes_eq x y ≡ false) xs → list_any (bytes_eq x) xs ≡ false
+none_same x [] h = refl
+none_same x (y ∷ ys) h = rw (h.0, none_same x ys h.1) refl
+
+pub no_two-distinct : (xs : List (List ℕ)) → IsDistinct bytes_eq xs → no_two bytes_eq xs ≡ true
+no_two-distinct [] h = refl
+no_two-distinct (x ∷ xs) h = rw (none_same x xs (IsDistinct-head bytes_eq x xs h), no_two-distinct xs (IsDistinct-tail bytes_eq x xs h)) refl
+
+names_same : (es : List EnvironmentEntry) → map (λ f. f.name) (map named_fact_tree es) ≡ map (λ e. e.name) es
+names_same [] = refl
+names_same (e ∷ es) = ap (λ (w : List (List ℕ)). e.name ∷ w) (names_same es)
+
+pub environment_is : (es : List EnvironmentEntry) → AllByRecursion (λ e. IsHeldValue e.value) es → IsDistinct bytes_eq (map (λ e. e.name) es) → length es ≤ 256
+    → environment_meaning (map named_fact_tree es) ≡ Some es
+unfolding environment_meaning
+environment_is es h apart few =
+    let short : nat_le (length (map named_fact_tree es)) 256 ≡ true = le-leb (length (map named_fact_tree es)) 256 (rw (length-map es named_fact_tree) few) in
+    rw (short, names_same es, no_two-distinct (map (λ e. e.name) es) apart, each_entry_read es h) refl

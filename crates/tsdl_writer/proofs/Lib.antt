@@ -1,0 +1,16 @@
+pub mod Standing
+pub mod Writable
+pub mod LayoutStands
+pub mod Appending
+pub mod Pieces
+pub mod FieldMeanings
+pub mod StructureMeanings
+pub mod BlockMeanings
+pub mod StructuresRead
+pub mod NumberedBlocks
+pub mod StreamMeanings
+pub mod TextMeaning
+pub mod TreesWritable
+pub mod BlocksWritable
+pub mod TextDenotes
+pub mod Walks

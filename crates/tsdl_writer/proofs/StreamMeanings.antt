@@ -1,0 +1,117 @@
+-- What the stream and event blocks of a configuration mean: its streams by number, each with its events.
+use Rattle.std.proofs.Common.{◌≡◌, ℕ, ◌+◌, true, List, [], ◌∷◌, ◌++◌, Some, refl, sym, ap, subst, ◌∙◌, inl, inr, All}
+use Rattle.std.specs.Prelude.{codes}
+use Rattle.std.specs.List.{flat_map, list_any}
+use Rattle.std.specs.Str.{bytes_eq}
+use Rattle.std.proofs.lemmas.Bool.{cases_Bool, false≢true}
+use Rattle.std.proofs.lemmas.List.Elements.{All-head, All-tail, All-weaker}
+use Rattle.std.proofs.lemmas.List.Concat.{flat_map-append}
+use Rattle.ctf_types.specs.declared.member_type.MemberType.{MemberType}
+use Rattle.ctf_types.specs.declared.struct_type.StructType.{StructType}
+use Rattle.ctf_types.specs.declared.config.StreamType.{StreamType}
+use Rattle.ctf_types.specs.declared.config.EventType.{EventType}
+use Rattle.ctf_types.specs.Allowed.{IsStruct, IsStream, IsUnsigned, Where}
+use Rattle.ctf_types.specs.AllowedConfig.{IsConfigStruct, IsEventType, IsStreamType}
+use Rattle.ctf_types.specs.MetadataOf as meta
+use Rattle.ctf_types.specs.MetadataOf.{context_numbers, event_header_members, struct_with, context_of, event_header_of, event_of, stream_of, streams_of}
+use Rattle.ctf_types.specs.Shown.{shown_members, shown_struct}
+use Rattle.ctf_types.proofs.AllowedMembers.{no_members_shown, struct_is_allowed}
+use Rattle.ctf_types.proofs.AllowedMetadata.{struct_with-members}
+use Rattle.tsdl_grammar.specs.Steps.{each}
+use Rattle.tsdl_grammar.specs.IntegerMeaning.{Known}
+use Rattle.tsdl_grammar.specs.StructureMeaning.{has_member, structure_of}
+use Rattle.tsdl_grammar.specs.BlockMeaning.{context_names, stream_meaning, event_meaning}
+use Rattle.tsdl_grammar.specs.Denotes.{stream_in, event_in}
+use Rattle.tsdl_writer.specs.BlockTrees.{stream_items, stream_blocks, event_items, event_blocks, all_event_blocks}
+use Rattle.tsdl_writer.proofs.FieldMeanings.{Members}
+use Rattle.tsdl_writer.proofs.StructureMeanings.{found}
+use Rattle.tsdl_writer.proofs.StructuresRead.{structure_read, config_are_automatic, automatic-append, context_automatic, event_header_automatic, event_header_shown, all_suit}
+use Rattle.tsdl_writer.proofs.BlockMeanings.{StreamIsRead, stream_is, event_is}
+use Rattle.tsdl_writer.proofs.NumberedBlocks.{each-append, bare-id, bare, bares, tagged, all_tagged}
+
+config_struct_read : (known : Known) (s : StructType) → IsConfigStruct s → structure_of known (found s.members s.min_align) ≡ Some (shown_struct s)
+config_struct_read known s h = structure_read known s.members s.min_align (shown_struct s) refl (λ e. refl) (config_are_automatic s.members h.members) (struct_is_allowed known.clocks s h)
+
+pub struct_with-align : (ms : Members) → (ms ≡ [] → ⊥) → (struct_with ms).min_align ≡ 8
+struct_with-align [] h = absurd (h refl)
+struct_with-align (m ∷ ms) h = refl
+
+-- ---- one stream
+
+context_read : (known : Known) (s : StreamType) → IsStreamType known.clocks s → IsStruct known.clocks (context_of s)
+    → structure_of known (found (context_numbers s.context ++ s.extras.members) 8) ≡ Some (context_of s)
+unfolding context_of
+context_read known s t h =
+    let ms = context_numbers s.context ++ s.extras.members in
+    structure_read known ms 8 (struct_with (shown_members 0 ms)) (struct_with-members (shown_members 0 ms)) (λ some. struct_with-align (shown_members 0 ms) (λ e. some (no_members_shown 0 ms e)))
+    (automatic-append (context_numbers s.context) s.extras.members (context_automatic s.context) (config_are_automatic s.extras.members t.extras)) h
+
+event_header_read : (known : Known) (s : StreamType) → IsStruct known.clocks (event_header_of s) → structure_of known (found (event_header_members s.event_header) 8) ≡ Some (event_header_of s)
+unfolding event_header_of
+event_header_read known s h =
+    let ms = event_header_members s.event_header in
+    structure_read known ms 8 (struct_with ms) (struct_with-members ms ∙ event_header_shown s.event_header) (struct_with-align ms) (event_header_automatic s.event_header) h
+
+one_id : (m : List ℕ × MemberType) → (bytes_eq m.0 (codes "id") ≡ true → IsUnsigned m.1) → list_any (bytes_eq m.0) (codes "id" ∷ []) ≡ true → IsUnsigned m.1
+one_id m h k = elim (cases_Bool (bytes_eq m.0 (codes "id"))) [ inl e ↦ h e | inr e ↦ absurd (false≢true (sym (rw e refl) ∙ k)) ]
+
+id_alone : (ms : Members) → Where (codes "id") IsUnsigned ms → All (λ m. list_any (bytes_eq m.0) (codes "id" ∷ []) ≡ true → IsUnsigned m.1) ms
+id_alone ms h =
+    All-weaker (λ (m : List ℕ × MemberType). bytes_eq m.0 (codes "id") ≡ true → IsUnsigned m.1) (λ (m : List ℕ × MemberType). list_any (bytes_eq m.0) (codes "id" ∷ []) ≡ true → IsUnsigned m.1) one_id ms h
+
+has_packet_size : (s : StreamType) → has_member (codes "packet_size") (context_of s).members ≡ true
+unfolding context_of shown_members
+has_packet_size s = refl
+
+has_content_size : (s : StreamType) → has_member (codes "content_size") (context_of s).members ≡ true
+unfolding context_of shown_members
+has_content_size s = refl
+
+stream_read : (known : Known) (n : ℕ) (s : StreamType) → IsStreamType known.clocks s → IsStream known.clocks (stream_of n s)
+    → StreamIsRead known (context_numbers s.context ++ s.extras.members) (event_header_members s.event_header) s.common.members s.common.min_align (bare n s)
+unfolding bare stream_of
+stream_read known n s t h = record {
+  context_read = context_read known s t h.context;
+  header_read = event_header_read known s h.event_header;
+  common_read = config_struct_read known s.common t.common;
+  context_suits = all_suit context_names (context_of s).members h.own_are_unsigned;
+  header_suits = all_suit (codes "id" ∷ []) (event_header_of s).members (id_alone (event_header_of s).members h.id);
+  packet_size = has_packet_size s;
+  content_size = has_content_size s;
+  no_events = refl;
+}
+
+stream_block_read : (known : Known) (n : ℕ) (s : StreamType) → IsStreamType known.clocks s → IsStream known.clocks (stream_of n s) → stream_meaning known (stream_items n s) ≡ Some (bare n s)
+stream_block_read known n s t h =
+    subst (λ (k : ℕ). stream_meaning known (stream_items k s) ≡ Some (bare n s)) (bare-id n s)
+    (stream_is known (context_numbers s.context ++ s.extras.members) (event_header_members s.event_header) s.common.members s.common.min_align (bare n s) (stream_read known n s t h))
+
+pub streams_read : (known : Known) (n : ℕ) (ss : List StreamType) → All (IsStreamType known.clocks) ss → All (IsStream known.clocks) (streams_of n ss)
+    → each (stream_meaning known) (flat_map stream_in (stream_blocks n ss)) ≡ Some (bares n ss)
+unfolding streams_of
+streams_read known n [] t h = refl
+streams_read known n (s ∷ ss) t h =
+    rw (
+      stream_block_read known n s (All-head (IsStreamType known.clocks) s ss t) (All-head (IsStream known.clocks) (stream_of n s) (streams_of (n + 1) ss) h),
+      streams_read known (n + 1) ss (All-tail (IsStreamType known.clocks) s ss t) (All-tail (IsStream known.clocks) (stream_of n s) (streams_of (n + 1) ss) h),
+    ) refl
+
+-- ---- the events
+
+event_block_read : (known : Known) (stream n : ℕ) (s : StreamType) (e : EventType) → IsEventType s e → event_meaning known (event_items stream n e) ≡ Some (stream, event_of n e)
+unfolding event_of
+event_block_read known stream n s e h =
+    event_is known stream (event_of n e) e.specific.members e.specific.min_align e.payload.members e.payload.min_align (config_struct_read known e.specific h.specific) (config_struct_read known e.payload h.payload)
+
+events_read : (known : Known) (stream n : ℕ) (s : StreamType) (es : List EventType) → All (IsEventType s) es → each (event_meaning known) (flat_map event_in (event_blocks stream n es)) ≡ Some (tagged stream (meta.events_of n es))
+unfolding meta.events_of
+events_read known stream n s [] h = refl
+events_read known stream n s (e ∷ es) h =
+    rw (event_block_read known stream n s e (All-head (IsEventType s) e es h), events_read known stream (n + 1) s es (All-tail (IsEventType s) e es h)) refl
+
+pub all_events_read : (known : Known) (n : ℕ) (ss : List StreamType) → All (IsStreamType known.clocks) ss → each (event_meaning known) (flat_map event_in (all_event_blocks n ss)) ≡ Some (all_tagged n ss)
+all_events_read known n [] t = refl
+all_events_read known n (s ∷ ss) t =
+    ap (each (event_meaning known)) (flat_map-append event_in (event_blocks n 0 s.events) (all_event_blocks (n + 1) ss))
+    ∙ each-append (event_meaning known) (flat_map event_in (event_blocks n 0 s.events)) (flat_map event_in (all_event_blocks (n + 1) ss)) (tagged n (meta.events_of 0 s.events)) (all_tagged (n + 1) ss)
+    (events_read known n 0 s s.events (All-head (IsStreamType known.clocks) s ss t).events) (all_events_read known (n + 1) ss (All-tail (IsStreamType known.clocks) s ss t))

@@ -1,0 +1,218 @@
+-- The structures of an allowed configuration's metadata are what their trees mean, and their members have the types that their names ask for.
+use Rattle.std.proofs.Common.{◌≡◌, ℕ, zero, suc, ◌+◌, ◌<◌, ◌≤◌, true, false, List, [], ◌∷◌, ◌++◌, length, Option, Some, None, refl, sym, ap, subst, ◌∙◌, inl, inr, Contains, arith}
+use Rattle.std.specs.Prelude.{codes}
+use Rattle.std.specs.List.{list_any, list_all, All, AllByRecursion, IsDistinct}
+use Rattle.std.specs.Str.{bytes_eq}
+use Rattle.std.proofs.lemmas.Bool.{cases_Bool, false≢true}
+use Rattle.std.proofs.lemmas.List.Elements.{All-head, All-tail}
+use Rattle.std.proofs.lemmas.Slice.Eq.{bytes_eq-Decides}
+use Rattle.ctf_types.specs.declared.int_type.IntType.{IntType}
+use Rattle.ctf_types.specs.declared.field_type.FieldType.TheVariants.{Int, Enum, Str, Static}
+use Rattle.ctf_types.specs.declared.member_type.MemberType.{MemberType}
+use Rattle.ctf_types.specs.declared.member_type.MemberType.TheVariants.{Plain, Dyn}
+use Rattle.ctf_types.specs.declared.member_type.Length.TheVariants.{Auto, At}
+use Rattle.ctf_types.specs.declared.struct_type.StructType.{StructType}
+use Rattle.ctf_types.specs.declared.features.HeaderFeatures.{HeaderFeatures}
+use Rattle.ctf_types.specs.declared.features.ContextFeatures.{ContextFeatures}
+use Rattle.ctf_types.specs.declared.features.EventFeatures.{EventFeatures}
+use Rattle.ctf_types.specs.Chain.{Leaf, Number, Labelled, ByteString}
+use Rattle.ctf_types.specs.FieldTypes.{chain_of}
+use Rattle.ctf_types.specs.Members.{names_in}
+use Rattle.ctf_types.specs.Allowed.{IsLeaf, AreMembers, IsStruct, IsUnsigned, IsMagic, IsByteType, IsIdentity, Where}
+use Rattle.ctf_types.specs.AllowedConfig.{IsConfigMember, AreConfigMembers}
+use Rattle.ctf_types.specs.Laws.{IsAutomatic}
+use Rattle.ctf_types.specs.MetadataOf.{number_member, uuid_member, header_members, context_numbers, event_header_members}
+use Rattle.ctf_types.specs.Shown.{length_name, length_type, shown_members}
+use Rattle.tsdl_grammar.specs.IntegerMeaning.{Known}
+use Rattle.tsdl_grammar.specs.MemberMeaning.{is_unsigned}
+use Rattle.tsdl_grammar.specs.StructureMeaning.{structure_of}
+use Rattle.tsdl_grammar.specs.BlockMeaning.{is_unsigned_of, is_byte, is_uuid, suits_header, suits}
+use Rattle.tsdl_writer.proofs.FieldMeanings.{Members, IsKnown, IsKnownLeaf}
+use Rattle.tsdl_writer.proofs.StructureMeanings.{AreMeant, AreRead, found, structure_meant}
+
+-- ---- structures
+
+-- what a list contains is its first item or stands behind it
+later : (k : List ℕ) (ks : List (List ℕ)) (name : List ℕ) → bytes_eq name k ≡ false → Contains (k ∷ ks) name → Contains ks name
+later k ks name e (zero, below, same) = absurd (false≢true (sym e ∙ (bytes_eq-Decides name k).1 (sym same)))
+later k ks name e (suc i, below, same) = (i, (let l : i < length ks = omega arith in l), same)
+
+clock_there : (clocks : List (List ℕ)) (name : List ℕ) → Contains clocks name → list_any (bytes_eq name) clocks ≡ true
+clock_there [] name h = absurd (omega (arith, h.1))
+clock_there (k ∷ clocks) name h =
+    elim (cases_Bool (bytes_eq name k)) [
+      | inl e ↦ rw e refl
+      | inr e ↦ rw e (clock_there clocks name (later k clocks name e h))
+    ]
+
+known_clock : (clocks : List (List ℕ)) (o : Option (List ℕ)) → ((name : List ℕ) → o ≡ Some name → Contains clocks name) → IsKnown clocks o
+known_clock clocks None h = tt
+known_clock clocks (Some name) h = clock_there clocks name (h name refl)
+
+known_leaf : (clocks : List (List ℕ)) (t : Leaf) → IsLeaf clocks t → IsKnownLeaf clocks t
+known_leaf clocks (Number t) h = known_clock clocks t.clock h
+known_leaf clocks (Labelled t) h = (known_clock clocks t.int.clock h.0, h.1, h.2)
+known_leaf clocks ByteString h = tt
+
+-- members without a listed length
+abbrev pub AreAutomatic : Members → Type 0
+AreAutomatic ms = AllByRecursion (λ m. IsAutomatic m.1) ms
+
+members_meant : (clocks : List (List ℕ)) (n : ℕ) (before ms : Members) → AreAutomatic ms → AreMembers clocks before (shown_members n ms) → AreMeant clocks ms
+unfolding AreMembers shown_members
+members_meant clocks n before [] a h = tt
+members_meant clocks n before ((name, Plain t) ∷ ms) a h = ((known_leaf clocks (chain_of t).leaf h.0.0, h.0.1), members_meant clocks (n + 1) (before ++ (name, Plain t) ∷ []) ms a.1 h.1)
+members_meant clocks n before ((name, Dyn t Auto) ∷ ms) a h =
+    ((known_leaf clocks (chain_of t).leaf h.1.0.0.0, h.1.0.0.1, h.1.0.1), members_meant clocks (n + 2) (before ++ (length_name name, Plain (Int length_type)) ∷ [] ++ (name, Dyn t (At n)) ∷ []) ms a.1 h.1.1)
+members_meant clocks n before ((name, Dyn t (At i)) ∷ ms) a h = absurd a.0
+
+are_read : (known : Known) (ms : Members) (t : StructType) → t.members ≡ shown_members 0 ms → AreAutomatic ms → IsStruct known.clocks t → AreRead known ms
+are_read known ms t same a h = record {
+  meant = members_meant known.clocks 0 [] ms a (subst (AreMembers known.clocks []) same h.members);
+  apart = subst (λ (l : Members). IsDistinct bytes_eq (names_in l)) same h.distinct;
+  few = subst (λ (l : Members). length l ≤ 1024) same h.few;
+}
+
+nothing_shown : (ms : Members) → ms ≡ [] → shown_members 0 ms ≡ []
+unfolding shown_members
+nothing_shown ms e = ap (shown_members 0) e
+
+-- a structure that metadata's rules allow is what its tree means
+pub structure_read : (known : Known) (ms : Members) (align : ℕ) (t : StructType) → t.members ≡ shown_members 0 ms → ((ms ≡ [] → ⊥) → t.min_align ≡ align) → AreAutomatic ms → IsStruct known.clocks t
+    → structure_of known (found ms align) ≡ Some t
+structure_read known ms align t same aligned a h = structure_meant known ms align t (are_read known ms t same a h) same aligned (λ e. h.empty (same ∙ nothing_shown ms e))
+
+-- ---- what is automatic
+
+config_automatic : (t : MemberType) → IsConfigMember t → IsAutomatic t
+config_automatic (Plain t) h = tt
+config_automatic (Dyn t Auto) h = tt
+config_automatic (Dyn t (At i)) h = h
+
+all_automatic : (ms : Members) → All (λ m. IsConfigMember m.1) ms → AreAutomatic ms
+all_automatic [] h = tt
+all_automatic (m ∷ ms) h = (config_automatic m.1 (All-head (λ (k : List ℕ × MemberType). IsConfigMember k.1) m ms h), all_automatic ms (All-tail (λ (k : List ℕ × MemberType). IsConfigMember k.1) m ms h))
+
+pub config_are_automatic : (ms : Members) → AreConfigMembers ms → AreAutomatic ms
+config_are_automatic ms h = all_automatic ms h.types
+
+pub automatic-append : (ms ns : Members) → AreAutomatic ms → AreAutomatic ns → AreAutomatic (ms ++ ns)
+automatic-append [] ns a b = b
+automatic-append (m ∷ ms) ns a b = (a.0, automatic-append ms ns a.1 b)
+
+number_automatic : (name : List ℕ) (o : Option IntType) → AreAutomatic (number_member name o)
+number_automatic name None = tt
+number_automatic name (Some t) = (tt, tt)
+
+uuid_automatic : (o : Option IntType) → AreAutomatic (uuid_member o)
+uuid_automatic None = tt
+uuid_automatic (Some t) = (tt, tt)
+
+pub header_automatic : (f : HeaderFeatures) → AreAutomatic (header_members f)
+header_automatic f =
+    let a = number_member (codes "magic") f.magic in let b = uuid_member f.uuid in let c = number_member (codes "stream_id") f.stream_id in
+    automatic-append (a ++ b) c (automatic-append a b (number_automatic (codes "magic") f.magic) (uuid_automatic f.uuid)) (number_automatic (codes "stream_id") f.stream_id)
+
+pub event_header_automatic : (f : EventFeatures) → AreAutomatic (event_header_members f)
+event_header_automatic f = automatic-append (number_member (codes "id") f.id) (number_member (codes "timestamp") f.timestamp) (number_automatic (codes "id") f.id) (number_automatic (codes "timestamp") f.timestamp)
+
+pub context_automatic : (f : ContextFeatures) → AreAutomatic (context_numbers f)
+context_automatic f =
+    let a = number_member (codes "packet_size") (Some f.packet_size) in
+    let b = number_member (codes "content_size") (Some f.content_size) in
+    let c = number_member (codes "timestamp_begin") f.timestamp_begin in
+    let d = number_member (codes "timestamp_end") f.timestamp_end in
+    let e = number_member (codes "events_discarded") f.events_discarded in
+    let g = number_member (codes "packet_seq_num") f.packet_seq_num in
+    automatic-append (a ++ b ++ c ++ d ++ e) g (automatic-append (a ++ b ++ c ++ d) e (automatic-append (a ++ b ++ c) d (automatic-append (a ++ b) c (tt, (tt, tt))
+    (number_automatic (codes "timestamp_begin") f.timestamp_begin)) (number_automatic (codes "timestamp_end") f.timestamp_end)) (number_automatic (codes "events_discarded") f.events_discarded))
+    (number_automatic (codes "packet_seq_num") f.packet_seq_num)
+
+-- members of features are shown as they are
+three_shown : (a b c : Option IntType) → number_member (codes "magic") a ++ uuid_member b ++ number_member (codes "stream_id") c ≡ shown_members 0 (number_member (codes "magic") a ++ uuid_member b ++ number_member (codes "stream_id") c)
+unfolding shown_members
+three_shown None None None = refl
+three_shown None None (Some c) = refl
+three_shown None (Some b) None = refl
+three_shown None (Some b) (Some c) = refl
+three_shown (Some a) None None = refl
+three_shown (Some a) None (Some c) = refl
+three_shown (Some a) (Some b) None = refl
+three_shown (Some a) (Some b) (Some c) = refl
+
+pub header_shown : (f : HeaderFeatures) → header_members f ≡ shown_members 0 (header_members f)
+header_shown f = three_shown f.magic f.uuid f.stream_id
+
+two_shown : (a b : Option IntType) → number_member (codes "id") a ++ number_member (codes "timestamp") b ≡ shown_members 0 (number_member (codes "id") a ++ number_member (codes "timestamp") b)
+unfolding shown_members
+two_shown None None = refl
+two_shown None (Some b) = refl
+two_shown (Some a) None = refl
+two_shown (Some a) (Some b) = refl
+
+pub event_header_shown : (f : EventFeatures) → event_header_members f ≡ shown_members 0 (event_header_members f)
+event_header_shown f = two_shown f.id f.timestamp
+
+-- ---- members whose names ask for a type
+
+unsigned_tested : (t : MemberType) → IsUnsigned t → is_unsigned t ≡ true
+unsigned_tested (Plain (Int t)) h = rw h refl
+unsigned_tested (Plain (Enum t)) h = absurd h
+unsigned_tested (Plain Str) h = absurd h
+unsigned_tested (Plain (Static e n)) h = absurd h
+unsigned_tested (Dyn t l) h = absurd h
+
+magic_tested : (t : MemberType) → IsMagic t → is_unsigned_of 32 t ≡ true
+magic_tested (Plain (Int t)) h = rw (h.0, h.1) refl
+magic_tested (Plain (Enum t)) h = absurd h
+magic_tested (Plain Str) h = absurd h
+magic_tested (Plain (Static e n)) h = absurd h
+magic_tested (Dyn t l) h = absurd h
+
+byte_tested : (t : Leaf) → IsByteType t → is_byte t ≡ true
+byte_tested (Number t) h = rw (h.0, h.1, h.2) refl
+byte_tested (Labelled t) h = absurd h
+byte_tested ByteString h = absurd h
+
+uuid_tested : (t : MemberType) → IsIdentity t → is_uuid t ≡ true
+uuid_tested (Plain (Static e n)) h = rw (h.0, h.1, byte_tested e.leaf h.2) refl
+uuid_tested (Plain (Int t)) h = absurd h
+uuid_tested (Plain (Enum t)) h = absurd h
+uuid_tested (Plain Str) h = absurd h
+uuid_tested (Dyn t l) h = absurd h
+
+header_member_suits : (m : List ℕ × MemberType) → (bytes_eq m.0 (codes "magic") ≡ true → IsMagic m.1) → (bytes_eq m.0 (codes "uuid") ≡ true → IsIdentity m.1)
+    → (bytes_eq m.0 (codes "stream_id") ≡ true → IsUnsigned m.1) → suits_header m ≡ true
+header_member_suits m a b c =
+    elim (cases_Bool (bytes_eq m.0 (codes "magic"))) [
+      | inl e ↦ rw e (magic_tested m.1 (a e))
+      | inr e ↦ elim (cases_Bool (bytes_eq m.0 (codes "uuid"))) [
+        | inl f ↦ rw (e, f) (uuid_tested m.1 (b f))
+        | inr f ↦ elim (cases_Bool (bytes_eq m.0 (codes "stream_id"))) [
+          | inl g ↦ rw (e, f, g) (unsigned_tested m.1 (c g))
+          | inr g ↦ rw (e, f, g) refl
+        ]
+      ]
+    ]
+
+pub header_suits : (ms : Members) → Where (codes "magic") IsMagic ms → Where (codes "uuid") IsIdentity ms → Where (codes "stream_id") IsUnsigned ms → list_all suits_header ms ≡ true
+header_suits [] a b c = refl
+header_suits (m ∷ ms) a b c =
+    let one = header_member_suits m (All-head (λ (k : List ℕ × MemberType). bytes_eq k.0 (codes "magic") ≡ true → IsMagic k.1) m ms a)
+    (All-head (λ (k : List ℕ × MemberType). bytes_eq k.0 (codes "uuid") ≡ true → IsIdentity k.1) m ms b) (All-head (λ (k : List ℕ × MemberType). bytes_eq k.0 (codes "stream_id") ≡ true → IsUnsigned k.1) m ms c) in
+    rw (
+      one,
+      header_suits ms (All-tail (λ (k : List ℕ × MemberType). bytes_eq k.0 (codes "magic") ≡ true → IsMagic k.1) m ms a)
+          (All-tail (λ (k : List ℕ × MemberType). bytes_eq k.0 (codes "uuid") ≡ true → IsIdentity k.1) m ms b) (All-tail (λ (k : List ℕ × MemberType). bytes_eq k.0 (codes "stream_id") ≡ true → IsUnsigned k.1) m ms c),
+    ) refl
+
+member_suits : (names : List (List ℕ)) (m : List ℕ × MemberType) → (list_any (bytes_eq m.0) names ≡ true → IsUnsigned m.1) → suits names m ≡ true
+member_suits names m h = elim (cases_Bool (list_any (bytes_eq m.0) names)) [ inl e ↦ rw (e, unsigned_tested m.1 (h e)) refl | inr e ↦ rw e refl ]
+
+pub all_suit : (names : List (List ℕ)) (ms : Members) → All (λ m. list_any (bytes_eq m.0) names ≡ true → IsUnsigned m.1) ms → list_all (suits names) ms ≡ true
+all_suit names [] h = refl
+all_suit names (m ∷ ms) h =
+    rw (
+      member_suits names m (All-head (λ (k : List ℕ × MemberType). list_any (bytes_eq k.0) names ≡ true → IsUnsigned k.1) m ms h),
+      all_suit names ms (All-tail (λ (k : List ℕ × MemberType). list_any (bytes_eq k.0) names ≡ true → IsUnsigned k.1) m ms h),
+    ) refl

@@ -1,0 +1,123 @@
+-- The blocks of an allowed configuration mean its metadata.
+use Rattle.std.proofs.Common.{◌≡◌, ℕ, ◌+◌, List, [], ◌∷◌, ◌++◌, map, Some, refl, ap, ◌∙◌}
+use Rattle.std.specs.List.{flat_map, AllByRecursion}
+use Rattle.std.proofs.lemmas.List.{append-nil}
+use Rattle.std.proofs.lemmas.List.Elements.{recursion_from_All}
+use Rattle.std.proofs.lemmas.List.Concat.{flat_map-append}
+use Rattle.ctf_types.specs.declared.config.Config.{Config}
+use Rattle.ctf_types.specs.declared.config.StreamType.{StreamType}
+use Rattle.ctf_types.specs.declared.clock_type.ClockType.{ClockType}
+use Rattle.ctf_types.specs.declared.environment.EnvironmentEntry.{EnvironmentEntry}
+use Rattle.ctf_types.specs.Allowed.{IsMetadata, IsStruct}
+use Rattle.ctf_types.specs.AllowedConfig.{IsConfig}
+use Rattle.ctf_types.specs.MetadataOf.{header_members, struct_with, header_of, streams_of, metadata_of}
+use Rattle.ctf_types.proofs.AllowedMetadata.{struct_with-members, metadata_is_allowed}
+use Rattle.tsdl_grammar.specs.declared.tree.Item.{Item}
+use Rattle.tsdl_grammar.specs.declared.tree.NamedFact.{NamedFact}
+use Rattle.tsdl_grammar.specs.declared.tree.Block.{Block}
+use Rattle.tsdl_grammar.specs.declared.tree.Block.TheVariants as blocks
+use Rattle.tsdl_grammar.specs.Steps.{at_most_one, each}
+use Rattle.tsdl_grammar.specs.StructureMeaning.{structure_of}
+use Rattle.tsdl_grammar.specs.BlockMeaning.{clock_meaning}
+use Rattle.tsdl_grammar.specs.Denotes.{trace_in, stream_in, event_in, clock_in, environment_in, known_of, streams_meaning, text_meta}
+use Rattle.tsdl_writer.specs.Held.{IsHeldClock, IsHeldValue, IsHeld}
+use Rattle.tsdl_writer.specs.BlockTrees.{numbered, trace_items, trace_block, environment_blocks, clock_block, stream_block, event_items, event_block, stream_blocks, event_blocks, all_event_blocks, named_fact_tree, blocks_of}
+use Rattle.tsdl_writer.proofs.StructureMeanings.{found}
+use Rattle.tsdl_writer.proofs.StructuresRead.{structure_read, header_automatic, header_shown, header_suits}
+use Rattle.tsdl_writer.proofs.BlockMeanings.{trace_is, trace_order_is, trace_uuid_is, header_is, clock_is, environment_is, no_two-distinct}
+use Rattle.tsdl_writer.proofs.NumberedBlocks.{none_taken, bares_by_number, have_all_streams, each_has_its_events}
+use Rattle.tsdl_writer.proofs.StreamMeanings.{struct_with-align, streams_read, all_events_read}
+
+-- ---- the blocks of each kind
+
+numbered_none : {A B C : Type 0} (f : B → List C) (g : ℕ → A → List B) (n : ℕ) (xs : List A) → ((k : ℕ) (x : A) → flat_map f (g k x) ≡ []) → flat_map f (numbered g n xs) ≡ []
+numbered_none f g n [] h = refl
+numbered_none f g n (x ∷ xs) h = flat_map-append f (g n x) (numbered g (n + 1) xs) ∙ rw (h n x, numbered_none f g (n + 1) xs h) refl
+
+no_streams : {C : Type 0} (f : Block → List C) (ss : List StreamType) → ((k : ℕ) (s : StreamType) → f (stream_block k s) ++ [] ≡ []) → flat_map f (stream_blocks 0 ss) ≡ []
+no_streams f ss h = numbered_none f (λ id s. stream_block id s ∷ []) 0 ss h
+
+taken : {C : Type 0} (f : Block → List C) (c : Config) → flat_map f (blocks_of c) ≡ f (trace_block c) ++ (flat_map f (environment_blocks c.environment) ++ flat_map f (map clock_block c.clocks)
+    ++ flat_map f (stream_blocks 0 c.streams) ++ flat_map f (all_event_blocks 0 c.streams))
+taken {C} f c =
+    let env = environment_blocks c.environment in let clocks = map clock_block c.clocks in let streams = stream_blocks 0 c.streams in let events = all_event_blocks 0 c.streams in
+    ap (λ (w : List C). f (trace_block c) ++ w) (flat_map-append f (env ++ clocks ++ streams) events ∙ ap (λ (w : List C). w ++ flat_map f events) (flat_map-append f (env ++ clocks) streams
+    ∙ ap (λ (w : List C). w ++ flat_map f streams) (flat_map-append f env clocks)))
+
+no_environment : {C : Type 0} (f : Block → List C) (es : List EnvironmentEntry) → ((fs : List NamedFact) → f (blocks.Environment fs) ++ [] ≡ []) → flat_map f (environment_blocks es) ≡ []
+no_environment f [] h = refl
+no_environment f (e ∷ es) h = h (map named_fact_tree (e ∷ es))
+
+no_events : {C : Type 0} (f : Block → List C) (ss : List StreamType) → ((is : List Item) → f (blocks.Event is) ++ [] ≡ []) → flat_map f (all_event_blocks 0 ss) ≡ []
+no_events f ss h = numbered_none f (λ stream s. event_blocks stream 0 s.events) 0 ss (λ k s. numbered_none f (λ id e. event_block k id e ∷ []) 0 s.events (λ id e. h (event_items k id e)))
+
+trace_alone : (c : Config) → flat_map trace_in (blocks_of c) ≡ trace_items c ∷ []
+trace_alone c =
+    taken trace_in c ∙ rw (no_environment trace_in c.environment (λ fs. refl), none_taken trace_in clock_block c.clocks (λ k. refl), no_streams trace_in c.streams (λ k s. refl), no_events trace_in c.streams (λ is. refl)) refl
+
+clocks_alone : (c : Config) → flat_map clock_in (blocks_of c) ≡ flat_map clock_in (map clock_block c.clocks)
+clocks_alone c =
+    taken clock_in c ∙ rw (no_environment clock_in c.environment (λ fs. refl), no_streams clock_in c.streams (λ k s. refl), no_events clock_in c.streams (λ is. refl))
+    (append-nil (flat_map clock_in (map clock_block c.clocks) ++ []) ∙ append-nil (flat_map clock_in (map clock_block c.clocks)))
+
+environment_alone : (c : Config) → flat_map environment_in (blocks_of c) ≡ flat_map environment_in (environment_blocks c.environment)
+environment_alone c =
+    taken environment_in c ∙ rw (none_taken environment_in clock_block c.clocks (λ k. refl), no_streams environment_in c.streams (λ k s. refl), no_events environment_in c.streams (λ is. refl))
+    (append-nil (flat_map environment_in (environment_blocks c.environment) ++ [] ++ []) ∙ append-nil (flat_map environment_in (environment_blocks c.environment) ++ []) ∙ append-nil (flat_map environment_in (environment_blocks c.environment)))
+
+streams_alone : (c : Config) → flat_map stream_in (blocks_of c) ≡ flat_map stream_in (stream_blocks 0 c.streams)
+streams_alone c =
+    taken stream_in c ∙ rw (no_environment stream_in c.environment (λ fs. refl), none_taken stream_in clock_block c.clocks (λ k. refl), no_events stream_in c.streams (λ is. refl))
+    (append-nil (flat_map stream_in (stream_blocks 0 c.streams)))
+
+events_alone : (c : Config) → flat_map event_in (blocks_of c) ≡ flat_map event_in (all_event_blocks 0 c.streams)
+events_alone c =
+    taken event_in c ∙ rw (no_environment event_in c.environment (λ fs. refl), none_taken event_in clock_block c.clocks (λ k. refl), no_streams event_in c.streams (λ k s. refl)) refl
+
+-- ---- clocks and the environment
+
+clocks_read : (cs : List ClockType) → AllByRecursion IsHeldClock cs → each clock_meaning (flat_map clock_in (map clock_block cs)) ≡ Some cs
+clocks_read [] h = refl
+clocks_read (c ∷ cs) h = rw (clock_is c h.0.uuid h.0.offset_seconds, clocks_read cs h.1) refl
+
+facts_read : (es : List EnvironmentEntry) → at_most_one (flat_map environment_in (environment_blocks es)) ≡ Some (map named_fact_tree es)
+facts_read [] = refl
+facts_read (e ∷ es) = refl
+
+-- ---- the whole
+
+header_read : (c : Config) → IsStruct (map (λ k. k.name) c.clocks) (header_of c) → structure_of (known_of c.order c.clocks) (found (header_members c.header) 8) ≡ Some (header_of c)
+unfolding header_of
+header_read c h =
+    let ms = header_members c.header in
+    structure_read (known_of c.order c.clocks) ms 8 (struct_with ms) (struct_with-members ms ∙ header_shown c.header) (struct_with-align ms) (header_automatic c.header) h
+
+streams_meant : (c : Config) → IsConfig c → IsMetadata (metadata_of c) → streams_meaning (known_of c.order c.clocks) (blocks_of c) ≡ Some (streams_of 0 c.streams)
+unfolding streams_meaning metadata_of
+streams_meant c h m =
+    let known = known_of c.order c.clocks in
+    rw (streams_alone c, streams_read known 0 c.streams h.streams m.streams, bares_by_number 0 c.streams, events_alone c, all_events_read known 0 c.streams h.streams, have_all_streams c.streams)
+    (each_has_its_events c.streams)
+
+-- the blocks mean the metadata
+pub text_meant : (c : Config) → IsConfig c → IsHeld c → text_meta (blocks_of c) ≡ Some (metadata_of c)
+unfolding text_meta metadata_of
+text_meant c h held =
+    let m = metadata_is_allowed c h in
+    let header = header_is (known_of c.order c.clocks) c.uuid c.order (header_members c.header) (header_of c) (header_read c m.header) (header_suits (header_of c).members m.magic m.uuid m.stream_id) in
+    let entries = recursion_from_All (λ (e : EnvironmentEntry). IsHeldValue e.value) c.environment held.environment in
+    let clocks = recursion_from_All IsHeldClock c.clocks held.clocks in
+    rw (
+      trace_alone c,
+      trace_is c.uuid c.order (header_members c.header),
+      trace_order_is c.uuid c.order (header_members c.header),
+      trace_uuid_is c.uuid c.order (header_members c.header) held.uuid,
+      environment_alone c,
+      facts_read c.environment,
+      environment_is c.environment entries m.environment_distinct m.environment_few,
+      clocks_alone c,
+      clocks_read c.clocks clocks,
+      no_two-distinct (map (λ k. k.name) c.clocks) m.clocks_distinct,
+      header,
+      streams_meant c h m,
+    ) refl
