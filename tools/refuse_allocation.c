@@ -1,10 +1,11 @@
 /* Preloaded before a program: refuses its request for memory number REFUSE, counted from 1, and grants all others.
-   Where it refused one, it makes the file that REFUSED names. */
+   Where it refused one, it makes the file that REFUSED names. At the end it writes the number of requests into the file that COUNTED names. */
 #define _GNU_SOURCE
 #include <dlfcn.h>
 #include <errno.h>
 #include <fcntl.h>
 #include <stddef.h>
+#include <stdio.h>
 #include <stdlib.h>
 #include <unistd.h>
 
@@ -18,6 +19,16 @@ __attribute__((constructor)) static void read_number(void)
     refused_request = number ? atol(number) : 0;
     refused_file = getenv("REFUSED");
     requests = 0;
+}
+
+__attribute__((destructor)) static void write_count(void)
+{
+    const char *counted_file = getenv("COUNTED");
+    if (counted_file) {
+        int file = open(counted_file, O_CREAT | O_WRONLY | O_TRUNC, 0600);
+        dprintf(file, "%ld\n", requests);
+        close(file);
+    }
 }
 
 static int is_refused(void)
