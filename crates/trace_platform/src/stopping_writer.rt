@@ -1,6 +1,8 @@
 //! A writer that stops.
 
-ghost use Rattle.std.specs.Prelude.{◌≡◌, [], Some};
+ghost use Rattle.std.specs.Prelude.{◌≡◌, ◌+◌, [], Some, length, min, IfOk};
+ghost use Rattle.std.specs.Io.{WritesAtMost};
+ghost use Rattle.std.specs.Io.KnownBytes.{WriteAppends};
 
 use std::alloc::Global;
 use std::io::{Result, Write};
@@ -31,7 +33,13 @@ impl StoppingWriter {
 impl Write for StoppingWriter {
     ghost contents = { λ w. Some w.bytes.items };
 
-    fn write(&mut self, bytes: &[u8]) -> Result<usize> {
+    fn write(&mut self, bytes: &[u8]) -> Result<usize>
+        ensures bound { WritesAtMost result bytes.now }
+        ensures bytes { WriteAppends (Some self.old.bytes.items) (Some self.new.bytes.items) result bytes.now }
+        ensures taken { IfOk result (λ n. n ≡ min (min (length bytes.now) self.old.piece) self.old.room) }
+        ensures room { IfOk result (λ n. self.new.room + n ≡ self.old.room) }
+        ensures piece { self.new.piece ≡ self.old.piece }
+    {
         let taken = bytes.len().min(self.piece).min(self.room);
         self.bytes.extend_from_slice(&bytes[..taken])?;
         self.room -= taken;

@@ -1,0 +1,241 @@
+-- What the rules over the whole of a configuration say of its data stream types.
+use Rattle.std.proofs.Common.{◌≡◌, ℕ, zero, suc, ◌-◌, ◌<◌, ◌≤◌, ◌^◌, ◌==◌, ◌&&◌, ◌||◌, ◌⊎◌, inl, inr, Bool, true, false, cond, List, [], ◌∷◌, length, map, All, Contains, IsSome, slice_index_or, Option, Some, None, is_some, is_none, Result, Ok, Err, refl, sym, ap, subst, ◌∙◌, arith, bytes_eq}
+use Rattle.std.specs.Prelude.{codes, nat_lt}
+use Rattle.std.specs.List.{AllByRecursion, list_all, list_any}
+use Rattle.std.proofs.lemmas.Bool.{eqb-true, ltb-true}
+use Rattle.std.proofs.lemmas.List.Elements.{All-from_recursion, recursion_from_All}
+use Rattle.std.proofs.lemmas.Slice.Eq.{bytes_eq-Decides}
+use Rattle.ctf_types.specs.Allowed.{HasBits}
+use Rattle.ctf_types.specs.AllowedConfig.{HoldsUpTo, OnlyIf, IsTimestamp, MemberHasBits, StructHasBits, IsEventType, IsStreamType}
+use Rattle.ctf_types.specs.FieldTypes.{chain_of}
+use Rattle.ctf_types.specs.declared.clock_type.ClockType.{ClockType}
+use Rattle.ctf_types.specs.declared.config.EventType.{EventType}
+use Rattle.ctf_types.specs.declared.config.StreamType.{StreamType}
+use Rattle.ctf_types.specs.declared.int_type.IntType.{IntType}
+use Rattle.ctf_types.specs.declared.member_type.MemberType.{MemberType}
+use Rattle.ctf_types.specs.declared.member_type.MemberType.TheVariants.{Plain, Dyn}
+use Rattle.ctf_types.specs.declared.struct_type.StructType.{StructType}
+use Rattle.conf_tree.specs.Flaw.{Flaw, key, here}
+use Rattle.conf_tree.specs.declared.fault_kind.FaultKind.TheVariants.{ZeroSizeRecord}
+use Rattle.conf_tree.specs.Reading.{at}
+use Rattle.conf_check.specs.declared.stream_rule.StreamRule.{StreamRule}
+use Rattle.conf_check.specs.declared.stream_rule.StreamRule.TheVariants.{NumbersFit, RecordsHaveBits, ClocksAreThere, TimestampsAreWide}
+use Rattle.conf_check.specs.StreamRules.{feature_flaw, unless, holds, numbers_fit, member_has_bits, struct_has_bits, header_has_bits, event_has_bits, event_bits, events_bits, records_have_bits, has_clock, clock_is_there, is_clocked, timestamp_clocked, record_clocked, begin_clocked, end_clocked, timestamps_clocked, clocks_are_there, is_wide, timestamp_wide, record_is_wide, begin_is_wide, end_is_wide, timestamps_are_wide, judged, judged_by_name, all_judged}
+use Rattle.conf_check.proofs.AllowedEvents.{IsGoodEvent, AreGoodEvents}
+use Rattle.conf_check.proofs.AllowedFeatures.{IsOfClock}
+use Rattle.conf_check.proofs.AllowedStreams.{IsGoodStream}
+use Rattle.conf_check.proofs.Steps.{both_read, read_there}
+
+pub unless_passed : (b : Bool) (flaw : Flaw) → unless b flaw ≡ Ok tt → b ≡ true
+unless_passed true flaw e = refl
+unless_passed false flaw e = absurd cc
+
+-- ---- numbers fit
+
+pub holds_up_to : (n : ℕ) (f : Option IntType) → holds n f ≡ true → HoldsUpTo n f
+unfolding holds
+holds_up_to n None e = eqb-true n 0 e
+holds_up_to n (Some t) e = ltb-true n (2 ^ t.size) e
+
+fits : (s : StreamType) → numbers_fit s ≡ Ok tt → HoldsUpTo (length s.events - 1) s.event_header.id
+unfolding numbers_fit
+fits s e = holds_up_to (length s.events - 1) s.event_header.id (unless_passed _ _ e)
+
+-- ---- records have bits
+
+all_positive : (ns : List ℕ) → list_all (λ n. nat_lt 0 n) ns ≡ true → AllByRecursion (λ n. 0 < n) ns
+all_positive [] e = tt
+all_positive (n ∷ ns) e = go (nat_lt 0 n) refl (all_positive ns) e
+  where
+    go : (b : Bool) → nat_lt 0 n ≡ b → (list_all (λ m. nat_lt 0 m) ns ≡ true → AllByRecursion (λ m. 0 < m) ns) → (b && list_all (λ m. nat_lt 0 m) ns) ≡ true → AllByRecursion (λ m. 0 < m) (n ∷ ns)
+    go true is others rest = (ltb-true 0 n is, others rest)
+    go false is others rest = absurd cc
+
+member_bits : (m : MemberType) → member_has_bits m ≡ true → MemberHasBits m
+unfolding member_has_bits
+member_bits (Plain t) e = All-from_recursion (λ n. 0 < n) (chain_of t).lengths (all_positive (chain_of t).lengths e)
+member_bits (Dyn t l) e = tt
+
+abbrev HasOne : List (List ℕ × MemberType) → Type 0
+HasOne ms = (m : List ℕ × MemberType) × Contains ms m × MemberHasBits m.1
+
+later : (x : List ℕ × MemberType) (ms : List (List ℕ × MemberType)) → HasOne ms → HasOne (x ∷ ms)
+later x ms (m, (k, below, is), bits) = (m, (suc k, omega (arith, below), is), bits)
+
+one_has_bits : (ms : List (List ℕ × MemberType)) → list_any (λ m. member_has_bits m.1) ms ≡ true → HasOne ms
+one_has_bits [] e = absurd cc
+one_has_bits (x ∷ ms) e = go (member_has_bits x.1) refl (one_has_bits ms) e
+  where
+    go : (b : Bool) → member_has_bits x.1 ≡ b → (list_any (λ m. member_has_bits m.1) ms ≡ true → HasOne ms) → (b || list_any (λ m. member_has_bits m.1) ms) ≡ true → HasOne (x ∷ ms)
+    go true is others rest = (x, (0, omega arith, refl), member_bits x.1 is)
+    go false is others rest = later x ms (others rest)
+
+struct_bits : (s : StructType) → struct_has_bits s ≡ true → StructHasBits s
+unfolding struct_has_bits
+struct_bits s e = one_has_bits s.members e
+
+either : (a b : Bool) → (a || b) ≡ true → (a ≡ true) ⊎ (b ≡ true)
+either true b e = inl refl
+either false b e = inr e
+
+abbrev HasBitsIn : StreamType → EventType → Type 0
+HasBitsIn s e = IsSome s.event_header.id ⊎ (IsSome s.event_header.timestamp ⊎ (StructHasBits s.common ⊎ (StructHasBits e.specific ⊎ StructHasBits e.payload)))
+
+record_bits : (s : StreamType) (e : EventType) → (header_has_bits s || event_has_bits e) ≡ true → HasBitsIn s e
+unfolding header_has_bits event_has_bits
+record_bits s e is =
+    elim (either (header_has_bits s) (event_has_bits e) is) [
+      | inl header ↦ elim (either (is_some s.event_header.id || is_some s.event_header.timestamp) (struct_has_bits s.common) header) [
+        | inl features ↦ elim (either (is_some s.event_header.id) (is_some s.event_header.timestamp) features) [ inl id ↦ inl id | inr timestamp ↦ inr (inl timestamp) ]
+        | inr common ↦ inr (inr (inl (struct_bits s.common common)))
+      ]
+      | inr event ↦ elim (either (struct_has_bits e.specific) (struct_has_bits e.payload) event) [
+        | inl specific ↦ inr (inr (inr (inl (struct_bits e.specific specific))))
+        | inr payload ↦ inr (inr (inr (inr (struct_bits e.payload payload))))
+      ]
+    ]
+
+event_is : (s : StreamType) (e : EventType) → IsGoodEvent e → event_bits (header_has_bits s) e ≡ Ok tt → IsEventType s e
+unfolding event_bits
+event_is s e good bits =
+    record {
+      name = good.name;
+      log_level = good.log_level;
+      specific = good.specific;
+      payload = good.payload;
+      has_bits = record_bits s e (unless_passed (header_has_bits s || event_has_bits e) (here ZeroSizeRecord) (read_there (key e.name) (unless (header_has_bits s || event_has_bits e) (here ZeroSizeRecord)) tt bits));
+    }
+
+events_are : (s : StreamType) (es : List EventType) → AllByRecursion IsGoodEvent es → events_bits (header_has_bits s) es ≡ Ok tt → AllByRecursion (IsEventType s) es
+events_are s [] good bits = tt
+events_are s (e ∷ es) good bits =
+    let first = both_read (event_bits (header_has_bits s) e) _ tt bits in
+    (event_is s e good.0 first.1, events_are s es good.1 first.2)
+
+records_are : (s : StreamType) → AreGoodEvents s.events → records_have_bits s ≡ Ok tt → All (IsEventType s) s.events
+unfolding records_have_bits
+records_are s good bits =
+    All-from_recursion (IsEventType s) s.events (events_are s s.events (recursion_from_All IsGoodEvent s.events good.each) (read_there (key (codes "event-record-types")) (events_bits (header_has_bits s) s.events) tt bits))
+
+-- ---- clocks
+
+later_name : (x : List ℕ) (names : List (List ℕ)) (name : List ℕ) → Contains names name → Contains (x ∷ names) name
+later_name x names name (k, below, is) = (suc k, omega (arith, below), is)
+
+clock_named : (clocks : List ClockType) (name : List ℕ) → has_clock clocks name ≡ true → Contains (map (λ c. c.name) clocks) name
+clock_named [] name e = absurd cc
+clock_named (c ∷ cs) name e = go (bytes_eq c.name name) refl (clock_named cs name) e
+  where
+    go : (b : Bool) → bytes_eq c.name name ≡ b → (has_clock cs name ≡ true → Contains (map (λ x. x.name) cs) name) → (b || has_clock cs name) ≡ true → Contains (map (λ x. x.name) (c ∷ cs)) name
+    go true is others rest = (0, omega arith, (bytes_eq-Decides c.name name).0 is)
+    go false is others rest = later_name c.name (map (λ x. x.name) cs) name (others rest)
+
+default_named : (clocks : List ClockType) (clock : Option (List ℕ)) → clock_is_there clocks clock ≡ true → (c : List ℕ) → clock ≡ Some c → Contains (map (λ x. x.name) clocks) c
+unfolding clock_is_there
+default_named clocks None e c is = absurd cc
+default_named clocks (Some name) e c is = let same : name ≡ c = cc in subst (Contains (map (λ x. x.name) clocks)) same (clock_named clocks name e)
+
+-- ---- timestamps
+
+wide_is : (o : Option IntType) (t : IntType) → is_wide o ≡ true → o ≡ Some t → t.size ≡ 64
+unfolding is_wide
+wide_is None t e is = absurd cc
+wide_is (Some x) t e is = let same : x ≡ t = cc in subst (λ (y : IntType). y.size ≡ 64) same (eqb-true x.size 64 e)
+
+clocked_is : (clock : Option (List ℕ)) (o : Option IntType) (t : IntType) → is_clocked clock o ≡ true → o ≡ Some t → IsSome clock
+clocked_is (Some c) o t e is = refl
+clocked_is None (Some x) t e is = absurd cc
+clocked_is None None t e is = absurd cc
+
+timestamp_is : (clock : Option (List ℕ)) (o : Option IntType) (group name : List ℕ) → OnlyIf o (IsOfClock clock) → timestamp_clocked clock o group name ≡ Ok tt → timestamp_wide o group name ≡ Ok tt → OnlyIf o (IsTimestamp clock)
+unfolding timestamp_clocked timestamp_wide
+timestamp_is clock o group name of_clock clocked wide = λ t is.
+    let good = of_clock t is in
+    (good.0, wide_is o t (unless_passed (is_wide o) _ wide) is, clocked_is clock o t (unless_passed (is_clocked clock o) _ clocked) is, good.1)
+
+-- ---- one data stream type
+
+pub record KeepsRules (clocks : List ClockType) (s : StreamType) : Type 0 where
+  pub numbers : numbers_fit s ≡ Ok tt
+  pub bits : records_have_bits s ≡ Ok tt
+  pub clocks_there : clocks_are_there clocks s ≡ Ok tt
+  pub wide : timestamps_are_wide s ≡ Ok tt
+
+record Clocked (clocks : List ClockType) (s : StreamType) : Type 0 where
+  default_there : clock_is_there clocks s.default_clock ≡ true
+  of_record : record_clocked s ≡ Ok tt
+  of_begin : begin_clocked s ≡ Ok tt
+  of_end : end_clocked s ≡ Ok tt
+
+clocked : (clocks : List ClockType) (s : StreamType) → clocks_are_there clocks s ≡ Ok tt → Clocked clocks s
+unfolding clocks_are_there timestamps_clocked
+clocked clocks s e =
+    let first = both_read (unless (clock_is_there clocks s.default_clock) _) _ tt e in
+    let rec = both_read (record_clocked s) _ tt first.2 in
+    let begin = both_read (begin_clocked s) _ tt rec.2 in
+    record { default_there = unless_passed (clock_is_there clocks s.default_clock) _ first.1; of_record = rec.1; of_begin = begin.1; of_end = begin.2 }
+
+record Wide (s : StreamType) : Type 0 where
+  of_record : record_is_wide s ≡ Ok tt
+  of_begin : begin_is_wide s ≡ Ok tt
+  of_end : end_is_wide s ≡ Ok tt
+
+wide : (s : StreamType) → timestamps_are_wide s ≡ Ok tt → Wide s
+unfolding timestamps_are_wide
+wide s e =
+    let rec = both_read (record_is_wide s) _ tt e in
+    let begin = both_read (begin_is_wide s) _ tt rec.2 in
+    record { of_record = rec.1; of_begin = begin.1; of_end = begin.2 }
+
+pub stream_is : (clocks : List ClockType) (s : StreamType) → IsGoodStream s → KeepsRules clocks s → IsStreamType (map (λ c. c.name) clocks) s
+unfolding record_clocked begin_clocked end_clocked record_is_wide begin_is_wide end_is_wide
+stream_is clocks s good rules =
+    let c = clocked clocks s rules.clocks_there in
+    let w = wide s rules.wide in
+    record {
+      name = good.name;
+      default_clock = default_named clocks s.default_clock c.default_there;
+      packet_size = good.context.packet_size;
+      content_size = good.context.content_size;
+      timestamp_begin = timestamp_is s.default_clock s.context.timestamp_begin _ _ good.context.timestamp_begin c.of_begin w.of_begin;
+      timestamp_end = timestamp_is s.default_clock s.context.timestamp_end _ _ good.context.timestamp_end c.of_end w.of_end;
+      events_discarded = good.context.events_discarded;
+      packet_seq_num = good.context.packet_seq_num;
+      extras = good.extras.members;
+      extras_align = good.extras.align;
+      no_own_name = good.extras.no_own_name;
+      id = good.event_header.id;
+      id_holds = fits s rules.numbers;
+      timestamp = timestamp_is s.default_clock s.event_header.timestamp _ _ good.event_header.timestamp c.of_record w.of_record;
+      common = good.common;
+      events = records_are s good.events rules.bits;
+      events_in_order = good.events.in_order;
+      events_few = good.events.few;
+    }
+
+-- ---- all of them
+
+abbrev judged_at_names : StreamRule → List ClockType → StreamType → Result (Unit {0}) Flaw
+judged_at_names rule clocks s = at (key s.name) (judged rule clocks s)
+
+judged_each : (rule : StreamRule) (clocks : List ClockType) (ss : List StreamType) → all_judged rule clocks ss ≡ Ok tt → AllByRecursion (λ s. judged rule clocks s ≡ Ok tt) ss
+unfolding judged_by_name
+judged_each rule clocks [] e = tt
+judged_each rule clocks (s ∷ ss) e =
+    let first = both_read (judged_at_names rule clocks s) _ tt e in
+    (read_there (key s.name) (judged rule clocks s) tt first.1, judged_each rule clocks ss first.2)
+
+keep_rules : (clocks : List ClockType) (s : StreamType) → judged NumbersFit clocks s ≡ Ok tt → judged RecordsHaveBits clocks s ≡ Ok tt → judged ClocksAreThere clocks s ≡ Ok tt → judged TimestampsAreWide clocks s ≡ Ok tt → KeepsRules clocks s
+unfolding judged
+keep_rules clocks s a b c d = record { numbers = a; bits = b; clocks_there = c; wide = d }
+
+streams_from : (clocks : List ClockType) (ss : List StreamType) → AllByRecursion IsGoodStream ss → AllByRecursion (λ s. judged NumbersFit clocks s ≡ Ok tt) ss → AllByRecursion (λ s. judged RecordsHaveBits clocks s ≡ Ok tt) ss
+    → AllByRecursion (λ s. judged ClocksAreThere clocks s ≡ Ok tt) ss → AllByRecursion (λ s. judged TimestampsAreWide clocks s ≡ Ok tt) ss → AllByRecursion (IsStreamType (map (λ c. c.name) clocks)) ss
+streams_from clocks [] good a b c d = tt
+streams_from clocks (s ∷ ss) good a b c d = (stream_is clocks s good.0 (keep_rules clocks s a.0 b.0 c.0 d.0), streams_from clocks ss good.1 a.1 b.1 c.1 d.1)
+
+pub streams_are : (clocks : List ClockType) (ss : List StreamType) → AllByRecursion IsGoodStream ss → all_judged NumbersFit clocks ss ≡ Ok tt → all_judged RecordsHaveBits clocks ss ≡ Ok tt → all_judged ClocksAreThere clocks ss ≡ Ok tt
+    → all_judged TimestampsAreWide clocks ss ≡ Ok tt → All (IsStreamType (map (λ c. c.name) clocks)) ss
+streams_are clocks ss good a b c d =
+    All-from_recursion (IsStreamType (map (λ x. x.name) clocks)) ss
+    (streams_from clocks ss good (judged_each NumbersFit clocks ss a) (judged_each RecordsHaveBits clocks ss b) (judged_each ClocksAreThere clocks ss c) (judged_each TimestampsAreWide clocks ss d))

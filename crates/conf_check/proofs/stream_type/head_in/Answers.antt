@@ -1,0 +1,17 @@
+use Rattle.std.proofs.Common.{◌≡◌, refl, inl, inr}
+use Rattle.std.proofs.lemmas.Result.{err_from_is_err_and}
+use Rattle.conf_tree.specs.Flaw.{flaw_of, place_of}
+use Rattle.conf_tree.specs.declared.step.Step.{Step}
+use Rattle.conf_tree.specs.declared.step.Step.TheVariants.{Key, Index}
+use Rattle.conf_check.specs.StreamType.{head_in}
+use Rattle.conf_check.proofs.stream_type.head_in.Goals as goal
+
+pub returns-in_err-is_default-clause-reading : goal.returns-in_err-is_default-clause-reading
+unfolding head_in
+returns-in_err-is_default-clause-reading c =
+    let p = err_from_is_err_and c.from_residual-in_err-is_default.result c.from_residual-in_err-is_default.ensures.1 in
+    rw (p.1, p.2, c.in_ok-clocked.ensures.reading) (elim c.in_err-is_default.ensures.reading [ inl memory ↦ inl memory | inr flawed ↦ inr (rw flawed refl) ])
+
+pub returns-clause-reading : goal.returns-clause-reading
+unfolding head_in
+returns-clause-reading c = rw (c.in_ok-clocked.ensures.reading, c.in_ok-is_default.ensures.reading) refl

@@ -1,0 +1,13 @@
+use Rattle.std.proofs.Common.{◌≡◌, refl, inl, inr}
+use Rattle.std.proofs.lemmas.Result.{err_from_is_err_and}
+use Rattle.conf_tree.specs.Flaw.{flaw_of, place_of}
+use Rattle.conf_tree.specs.declared.step.Step.{Step}
+use Rattle.conf_tree.specs.declared.step.Step.TheVariants.{Key, Index}
+use Rattle.conf_check.specs.StreamType.{stream_in}
+use Rattle.conf_check.proofs.stream_type.stream_in.Goals as goal
+
+pub returns-in_err-no_more-clause-reading : goal.returns-in_err-no_more-clause-reading
+unfolding stream_in
+returns-in_err-no_more-clause-reading c =
+    let p = err_from_is_err_and c.from_residual-in_err-no_more.result c.from_residual-in_err-no_more.ensures.1 in
+    rw (p.1, p.2, c.in_ok-listed.ensures.reading) (elim c.in_err-no_more.ensures.known [ inl memory ↦ inl memory | inr flawed ↦ inr (rw flawed refl) ])

@@ -1,0 +1,70 @@
+-- How a resolved configuration is judged, and what configuration it is. First each object by itself, in one walk; then what
+-- the objects have to be together, one rule after the other, each at its first place (barectf 3.1, "Configuration object").
+use Rattle.std.specs.Prelude.{ℕ, ◌-◌, ◌&&◌, List, Bool, Option, None, Some, is_some, is_none, length, Result, Ok, Err, codes, if◌then◌else◌, ⊤}
+use Rattle.serde_json.specs.Data.{Data}
+use Rattle.ctf_types.specs.declared.config.Config.{Config}
+use Rattle.conf_tree.specs.declared.fault_kind.FaultKind.{FaultKind}
+use Rattle.conf_tree.specs.declared.fault_kind.FaultKind.TheVariants.{FieldTooSmall, NoUuid, TwoOrders}
+use Rattle.conf_tree.specs.Flaw.{Flaw, key, here, within}
+use Rattle.conf_tree.specs.Reading.{◌>>=◌}
+use Rattle.conf_check.specs.declared.draft.Draft.{Draft}
+use Rattle.conf_check.specs.declared.limits.Part.TheVariants.{Root}
+use Rattle.conf_check.specs.declared.stream_rule.StreamRule.TheVariants.{NumbersFit, RecordsHaveBits, ClocksAreThere, TimestampsAreWide}
+use Rattle.conf_check.specs.Limits.{limits}
+use Rattle.conf_check.specs.StreamRules.{holds, streams_judged, unless}
+use Rattle.conf_check.specs.Trace.{draft_reading}
+
+-- a flaw of the trace type, seen from the configuration
+abbrev pub in_type : Flaw → Flaw
+in_type flaw = within (key (codes "trace")) (within (key (codes "type")) flaw)
+
+-- a flaw of a feature of the packet header
+unfoldable pub header_flaw : List ℕ → FaultKind → Flaw
+header_flaw name kind = in_type (within (key (codes "$features")) (within (key name) (here kind)))
+
+-- the field of a data stream type's number holds the largest of them
+unfoldable pub stream_number_fits : Config → Result ⊤ Flaw
+stream_number_fits c = unless (holds (length c.streams - 1) c.header.stream_id) (header_flaw (codes "data-stream-type-id-field-type") FieldTooSmall)
+
+-- the identifier is there where it is asked for
+unfoldable pub number_given : Draft → Result ⊤ Flaw
+number_given draft = if draft.lacks_number then Err (in_type (within (key (codes "uuid")) (here NoUuid))) else Ok tt
+
+unfoldable pub identifier_given : Config → Result ⊤ Flaw
+identifier_given c = if is_some c.header.uuid && is_none c.uuid then Err (header_flaw (codes "uuid-field-type") NoUuid) else Ok tt
+
+unfoldable pub one_order : Draft → Result ⊤ Flaw
+one_order draft = if draft.two_orders then Err (in_type (here TwoOrders)) else Ok tt
+
+-- ---- one rule after the other
+
+unfoldable pub sizes_and_bits : Config → Result ⊤ Flaw
+sizes_and_bits c = do
+  _ ← stream_number_fits c
+  _ ← streams_judged NumbersFit c
+  streams_judged RecordsHaveBits c
+
+unfoldable pub clocks_and_identifier : Draft → Result ⊤ Flaw
+clocks_and_identifier draft = do
+  _ ← streams_judged ClocksAreThere draft.config
+  _ ← number_given draft
+  identifier_given draft.config
+
+unfoldable pub limits_and_orders : Data → Draft → Result ⊤ Flaw
+limits_and_orders d draft = do
+  _ ← limits Root d
+  _ ← one_order draft
+  streams_judged TimestampsAreWide draft.config
+
+unfoldable pub whole : Data → Draft → Result ⊤ Flaw
+whole d draft = do
+  _ ← sizes_and_bits draft.config
+  _ ← clocks_and_identifier draft
+  limits_and_orders d draft
+
+-- the configuration that a resolved tree is, where `number` is the identifier that is handed in
+unfoldable pub check_reading : Data → Option (List ℕ) → Result Config Flaw
+check_reading d number = do
+  draft ← draft_reading number d
+  _ ← whole d draft
+  Ok draft.config

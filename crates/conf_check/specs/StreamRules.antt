@@ -1,0 +1,143 @@
+-- What the parts of a configuration have to be together, stream type by stream type: numbers fit their fields, records have
+-- bits, clocks are there, and timestamps tell all times (barectf 3.1, "Data stream type object").
+use Rattle.std.specs.Prelude.{ℕ, ◌-◌, ◌^◌, ◌&&◌, ◌||◌, ◌==◌, nat_lt, List, [], ◌∷◌, Bool, true, false, not, Option, None, Some, is_some, is_none, length, map, Result, Ok, Err, codes, if◌then◌else◌, ⊤}
+use Rattle.std.specs.List.{list_all, list_any}
+use Rattle.std.specs.Str.{bytes_eq}
+use Rattle.ctf_types.specs.declared.clock_type.ClockType.{ClockType}
+use Rattle.ctf_types.specs.declared.config.Config.{Config}
+use Rattle.ctf_types.specs.declared.config.EventType.{EventType}
+use Rattle.ctf_types.specs.declared.config.StreamType.{StreamType}
+use Rattle.ctf_types.specs.declared.int_type.IntType.{IntType}
+use Rattle.ctf_types.specs.declared.field_type.FieldType.{FieldType}
+use Rattle.ctf_types.specs.declared.member_type.MemberType.{MemberType}
+use Rattle.ctf_types.specs.declared.member_type.MemberType.TheVariants.{Plain, Dyn}
+use Rattle.ctf_types.specs.declared.struct_type.StructType.{StructType}
+use Rattle.ctf_types.specs.FieldTypes.{chain_of}
+use Rattle.conf_tree.specs.declared.fault_kind.FaultKind.{FaultKind}
+use Rattle.conf_tree.specs.declared.fault_kind.FaultKind.TheVariants.{FieldTooSmall, ZeroSizeRecord, NoClock, TimestampSize}
+use Rattle.conf_tree.specs.Flaw.{Flaw, key, here, within}
+use Rattle.conf_tree.specs.Reading.{at, ◌>>=◌}
+use Rattle.conf_check.specs.declared.stream_rule.StreamRule.{StreamRule}
+use Rattle.conf_check.specs.declared.stream_rule.StreamRule.TheVariants.{NumbersFit, RecordsHaveBits, ClocksAreThere, TimestampsAreWide}
+
+-- a flaw of a feature, seen from its data stream type
+unfoldable pub feature_flaw : List ℕ → List ℕ → FaultKind → Flaw
+feature_flaw group name kind = within (key (codes "$features")) (within (key group) (within (key name) (here kind)))
+
+abbrev pub unless : Bool → Flaw → Result ⊤ Flaw
+unless good flaw = if good then Ok tt else Err flaw
+
+-- ---- numbers fit their fields
+
+-- a field that is off holds nothing but 0
+unfoldable pub holds : ℕ → Option IntType → Bool
+holds n None = n == 0
+holds n (Some t) = nat_lt n (2 ^ t.size)
+
+unfoldable pub numbers_fit : StreamType → Result ⊤ Flaw
+numbers_fit s = unless (holds (length s.events - 1) s.event_header.id) (feature_flaw (codes "event-record") (codes "type-id-field-type") FieldTooSmall)
+
+-- ---- records have bits
+
+-- an integer, an enumeration or a string that is in no empty array. A dynamic array has its length
+unfoldable pub member_has_bits : MemberType → Bool
+member_has_bits (Plain t) = list_all (λ n. nat_lt 0 n) (chain_of t).lengths
+member_has_bits (Dyn t l) = true
+
+unfoldable pub struct_has_bits : StructType → Bool
+struct_has_bits s = list_any (λ m. member_has_bits m.1) s.members
+
+unfoldable pub header_has_bits : StreamType → Bool
+header_has_bits s = is_some s.event_header.id || is_some s.event_header.timestamp || struct_has_bits s.common
+
+unfoldable pub event_has_bits : EventType → Bool
+event_has_bits e = struct_has_bits e.specific || struct_has_bits e.payload
+
+unfoldable pub event_bits : Bool → EventType → Result ⊤ Flaw
+event_bits header e = at (key e.name) (unless (header || event_has_bits e) (here ZeroSizeRecord))
+
+abbrev pub events_bits : Bool → List EventType → Result ⊤ Flaw
+events_bits header [] = Ok tt
+events_bits header (e ∷ es) = event_bits header e >>= (λ _. events_bits header es)
+
+unfoldable pub records_have_bits : StreamType → Result ⊤ Flaw
+records_have_bits s = at (key (codes "event-record-types")) (events_bits (header_has_bits s) s.events)
+
+-- ---- clocks are there
+
+abbrev pub has_clock : List ClockType → List ℕ → Bool
+has_clock clocks name = list_any (λ c. bytes_eq c.name name) clocks
+
+unfoldable pub clock_is_there : List ClockType → Option (List ℕ) → Bool
+clock_is_there clocks None = true
+clock_is_there clocks (Some name) = has_clock clocks name
+
+-- a timestamp that is on has a clock
+abbrev pub is_clocked : Option (List ℕ) → Option IntType → Bool
+is_clocked clock feature = is_some clock || is_none feature
+
+unfoldable pub timestamp_clocked : Option (List ℕ) → Option IntType → List ℕ → List ℕ → Result ⊤ Flaw
+timestamp_clocked clock feature group name = unless (is_clocked clock feature) (feature_flaw group name NoClock)
+
+unfoldable pub begin_clocked : StreamType → Result ⊤ Flaw
+begin_clocked s = timestamp_clocked s.default_clock s.context.timestamp_begin (codes "packet") (codes "beginning-timestamp-field-type")
+
+unfoldable pub end_clocked : StreamType → Result ⊤ Flaw
+end_clocked s = timestamp_clocked s.default_clock s.context.timestamp_end (codes "packet") (codes "end-timestamp-field-type")
+
+unfoldable pub record_clocked : StreamType → Result ⊤ Flaw
+record_clocked s = timestamp_clocked s.default_clock s.event_header.timestamp (codes "event-record") (codes "timestamp-field-type")
+
+unfoldable pub timestamps_clocked : StreamType → Result ⊤ Flaw
+timestamps_clocked s = do
+  _ ← record_clocked s
+  _ ← begin_clocked s
+  end_clocked s
+
+unfoldable pub clocks_are_there : List ClockType → StreamType → Result ⊤ Flaw
+clocks_are_there clocks s = do
+  _ ← unless (clock_is_there clocks s.default_clock) (within (key (codes "$default-clock-type-name")) (here NoClock))
+  timestamps_clocked s
+
+-- ---- timestamps tell all times of 64 bits
+
+unfoldable pub is_wide : Option IntType → Bool
+is_wide None = true
+is_wide (Some t) = t.size == 64
+
+unfoldable pub timestamp_wide : Option IntType → List ℕ → List ℕ → Result ⊤ Flaw
+timestamp_wide feature group name = unless (is_wide feature) (feature_flaw group name TimestampSize)
+
+unfoldable pub begin_is_wide : StreamType → Result ⊤ Flaw
+begin_is_wide s = timestamp_wide s.context.timestamp_begin (codes "packet") (codes "beginning-timestamp-field-type")
+
+unfoldable pub end_is_wide : StreamType → Result ⊤ Flaw
+end_is_wide s = timestamp_wide s.context.timestamp_end (codes "packet") (codes "end-timestamp-field-type")
+
+unfoldable pub record_is_wide : StreamType → Result ⊤ Flaw
+record_is_wide s = timestamp_wide s.event_header.timestamp (codes "event-record") (codes "timestamp-field-type")
+
+unfoldable pub timestamps_are_wide : StreamType → Result ⊤ Flaw
+timestamps_are_wide s = do
+  _ ← record_is_wide s
+  _ ← begin_is_wide s
+  end_is_wide s
+
+-- ---- all stream types under one rule
+
+unfoldable pub judged : StreamRule → List ClockType → StreamType → Result ⊤ Flaw
+judged NumbersFit clocks s = numbers_fit s
+judged RecordsHaveBits clocks s = records_have_bits s
+judged ClocksAreThere clocks s = clocks_are_there clocks s
+judged TimestampsAreWide clocks s = timestamps_are_wide s
+
+unfoldable pub judged_by_name : StreamRule → List ClockType → StreamType → Result ⊤ Flaw
+judged_by_name rule clocks s = at (key s.name) (judged rule clocks s)
+
+abbrev pub all_judged : StreamRule → List ClockType → List StreamType → Result ⊤ Flaw
+all_judged rule clocks [] = Ok tt
+all_judged rule clocks (s ∷ ss) = judged_by_name rule clocks s >>= (λ _. all_judged rule clocks ss)
+
+unfoldable pub streams_judged : StreamRule → Config → Result ⊤ Flaw
+streams_judged rule c =
+    at (key (codes "trace")) (at (key (codes "type")) (at (key (codes "data-stream-types")) (all_judged rule c.clocks c.streams)))

@@ -1,0 +1,40 @@
+//! From the text of a configuration to the configuration.
+ghost use Rattle.std.specs.Prelude.{◌⊎◌, IfOk, IfErr};
+ghost use Rattle.ctf_types.specs.AllowedConfig.{IsConfig};
+ghost use Rattle.conf_tree.specs.Flaw.{flaw_of, IsMemory};
+ghost use Rattle.conf_check.specs.Configuration.{Configures, ConfiguresResolved, IsRefusal, RefusalIsTrue, RefusedForMemory};
+
+use crate::judgement::check;
+use conf_inherit::resolve;
+use conf_tree::{ConfFault, read_tree};
+use ctf_types::Config;
+use std::alloc::Global;
+use uuid::Uuid;
+
+/// The configuration that a text is. `number` is the trace's identifier where the configuration asks for one to be handed
+/// in. A refusal names the first fault: of the text as JSON, of its inheritance, and of the resolved configuration.
+pub fn configure(alloc: Global, text: &[u8], number: Option<Uuid>) -> Result<Config, ConfFault>
+    ensures configures { IfOk result (λ c. Configures text.now number c) }
+    ensures resolved { IfOk result (λ c. ConfiguresResolved text.now number c) }
+    ensures allowed { IfOk result (λ c. IsConfig c) }
+    ensures refused { IfErr result (λ fault. IsMemory fault ⊎ IsRefusal text.now number (flaw_of fault)) }
+
+    // The fault's kind holds at its path.
+    ensures holds { IfErr result (λ fault. IsMemory fault ⊎ RefusalIsTrue text.now number (flaw_of fault)) }
+
+    // A text that is a configuration is refused for want of memory alone.
+    ensures only { IfErr result (λ fault. RefusedForMemory text.now number fault) }
+{
+    let tree = match read_tree(alloc, text) {
+        Ok(tree) => tree,
+        Err(fault) => return Err(fault),
+    };
+    let resolved = match resolve(alloc, tree) {
+        Ok(resolved) => resolved,
+        Err(fault) => return Err(fault),
+    };
+    match check(alloc, resolved, number) {
+        Ok(config) => Ok(config),
+        Err(fault) => Err(fault),
+    }
+}

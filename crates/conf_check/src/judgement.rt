@@ -1,0 +1,179 @@
+//! The judgement of a resolved configuration.
+ghost use Rattle.std.specs.Prelude.{◌≡◌, ◌≤◌, ◌⊎◌, IfOk, IfErr, codes};
+ghost use Rattle.serde_json.specs.Data.{depth};
+ghost use Rattle.serde_json.specs.View.{view};
+ghost use Rattle.ctf_types.specs.AllowedConfig.{IsConfig};
+ghost use Rattle.conf_tree.specs.Flaw.{flaw_of, key, here, within, IsMemory};
+ghost use Rattle.conf_tree.specs.declared.fault_kind.FaultKind.TheVariants.{NoUuid, TwoOrders};
+ghost use Rattle.conf_tree.specs.Reading.{Gives};
+ghost use Rattle.conf_check.specs.Configuration.{IsInnocent};
+ghost use Rattle.conf_check.specs.ConfigurationRows.{IsConfigurationOf};
+ghost use Rattle.conf_check.specs.Judgement.{in_type as in_type_is, header_flaw, stream_number_fits as stream_number_fits_is, number_given as number_given_is, identifier_given as identifier_given_is, one_order as one_order_is, sizes_and_bits as sizes_and_bits_is, clocks_and_identifier as clocks_and_identifier_is, limits_and_orders as limits_and_orders_is, whole as whole_is, check_reading};
+
+use crate::draft::Draft;
+use crate::limits::{Part, check_limits};
+use crate::order::walk_in_order;
+use crate::stream_rule::{StreamRule, check_streams, holds};
+use crate::trace::read_draft;
+use conf_tree::{ConfFault, FaultKind, Tree};
+use ctf_types::Config;
+use serde_json::Value;
+use std::alloc::Global;
+use uuid::Uuid;
+
+/// The fault of a feature of the packet header.
+#[tactic(auto, unfolding(crate::specs::Judgement::header_flaw))]
+fn header_fault(alloc: Global, name: &str, kind: FaultKind) -> ConfFault
+    ensures { IsMemory result ⊎ (flaw_of result ≡ header_flaw name.now kind) }
+{
+    ConfFault::here(kind)
+        .in_property(alloc, name)
+        .in_property(alloc, "$features")
+        .in_property(alloc, "type")
+        .in_property(alloc, "trace")
+}
+
+/// The fault of the identifier that is to be handed in.
+fn number_fault(alloc: Global) -> ConfFault
+    ensures { IsMemory result ⊎ (flaw_of result ≡ in_type_is (within (key (codes "uuid")) (here NoUuid))) }
+{
+    ConfFault::here(FaultKind::NoUuid)
+        .in_property(alloc, "uuid")
+        .in_property(alloc, "type")
+        .in_property(alloc, "trace")
+}
+
+/// The fault of two byte orders.
+fn order_fault(alloc: Global) -> ConfFault
+    ensures { IsMemory result ⊎ (flaw_of result ≡ in_type_is (here TwoOrders)) }
+{
+    ConfFault::here(FaultKind::TwoOrders)
+        .in_property(alloc, "type")
+        .in_property(alloc, "trace")
+}
+
+/// Refuses a number field that does not hold the largest number of a data stream type.
+#[tactic(auto, unfolding(crate::specs::Judgement::stream_number_fits))]
+fn stream_number_fits(alloc: Global, config: &Config) -> Result<(), ConfFault>
+    ensures reading { Gives (λ _. tt) result (stream_number_fits_is config.now) }
+{
+    let largest = config.streams.len().saturating_sub(1);
+    if holds(largest, &config.header.stream_id) {
+        Ok(())
+    } else {
+        Err(header_fault(
+            alloc,
+            "data-stream-type-id-field-type",
+            FaultKind::FieldTooSmall,
+        ))
+    }
+}
+
+/// Refuses an identifier that is to be handed in and is not.
+#[tactic(auto, unfolding(crate::specs::Judgement::number_given))]
+fn number_given(alloc: Global, draft: &Draft) -> Result<(), ConfFault>
+    ensures reading { Gives (λ _. tt) result (number_given_is draft.now) }
+{
+    if draft.lacks_number {
+        Err(number_fault(alloc))
+    } else {
+        Ok(())
+    }
+}
+
+/// Refuses the field of an identifier that is not there.
+#[tactic(auto, unfolding(crate::specs::Judgement::identifier_given))]
+fn identifier_given(alloc: Global, config: &Config) -> Result<(), ConfFault>
+    ensures reading { Gives (λ _. tt) result (identifier_given_is config.now) }
+{
+    if config.header.uuid.is_some() && config.uuid.is_none() {
+        Err(header_fault(alloc, "uuid-field-type", FaultKind::NoUuid))
+    } else {
+        Ok(())
+    }
+}
+
+/// Refuses two byte orders.
+#[tactic(auto, unfolding(crate::specs::Judgement::one_order))]
+fn one_order(alloc: Global, draft: &Draft) -> Result<(), ConfFault>
+    ensures reading { Gives (λ _. tt) result (one_order_is draft.now) }
+{
+    if draft.two_orders {
+        Err(order_fault(alloc))
+    } else {
+        Ok(())
+    }
+}
+
+#[tactic(auto, unfolding(crate::specs::Judgement::sizes_and_bits))]
+fn sizes_and_bits(alloc: Global, config: &Config) -> Result<(), ConfFault>
+    ensures reading { Gives (λ _. tt) result (sizes_and_bits_is config.now) }
+{
+    stream_number_fits(alloc, config)?;
+    check_streams(alloc, StreamRule::NumbersFit, config)?;
+    check_streams(alloc, StreamRule::RecordsHaveBits, config)?;
+    Ok(())
+}
+
+#[tactic(auto, unfolding(crate::specs::Judgement::clocks_and_identifier))]
+fn clocks_and_identifier(alloc: Global, draft: &Draft) -> Result<(), ConfFault>
+    ensures reading { Gives (λ _. tt) result (clocks_and_identifier_is draft.now) }
+{
+    check_streams(alloc, StreamRule::ClocksAreThere, &draft.config)?;
+    number_given(alloc, draft)?;
+    identifier_given(alloc, &draft.config)?;
+    Ok(())
+}
+
+#[tactic(auto, unfolding(crate::specs::Judgement::limits_and_orders))]
+fn limits_and_orders(alloc: Global, value: &Value, draft: &Draft) -> Result<(), ConfFault>
+    requires { depth (view value.now) ≤ 32 }
+    ensures reading { Gives (λ _. tt) result (limits_and_orders_is (view value.now) draft.now) }
+{
+    check_limits(alloc, value, Part::Root)?;
+    one_order(alloc, draft)?;
+    check_streams(alloc, StreamRule::TimestampsAreWide, &draft.config)?;
+    Ok(())
+}
+
+#[tactic(auto, unfolding(crate::specs::Judgement::whole))]
+fn whole(alloc: Global, value: &Value, draft: &Draft) -> Result<(), ConfFault>
+    requires { depth (view value.now) ≤ 32 }
+    ensures reading { Gives (λ _. tt) result (whole_is (view value.now) draft.now) }
+{
+    sizes_and_bits(alloc, &draft.config)?;
+    clocks_and_identifier(alloc, draft)?;
+    limits_and_orders(alloc, value, draft)?;
+    Ok(())
+}
+
+/// The configuration that the tree is.
+#[tactic(auto, unfolding(crate::specs::Judgement::check_reading))]
+fn judge(alloc: Global, tree: Tree, number: Option<Uuid>) -> Result<Config, ConfFault>
+    ensures reading { Gives (λ c. c) result (check_reading (view tree.value) number) }
+    ensures allowed { IfOk result (λ c. IsConfig c) }
+{
+    let Tree { value } = tree;
+    walk_in_order(&value);
+    let draft = read_draft(alloc, number, &value)?;
+    whole(alloc, &value, &draft)?;
+    Ok(draft.config)
+}
+
+/// The configuration that the tree is. `number` is the trace's identifier where the configuration asks for one to be
+/// handed in. The tree is spent on a refusal, which names the first fault: those of single objects in the order of a walk,
+/// an object before its content and properties in byte order of their names, and then those of the whole, kind by kind in
+/// the order of `FaultKind`.
+pub fn check(alloc: Global, tree: Tree, number: Option<Uuid>) -> Result<Config, ConfFault>
+    ensures reading { Gives (λ c. c) result (check_reading (view tree.value) number) }
+    ensures rows { IfOk result (λ c. IsConfigurationOf (view tree.value) number c) }
+    ensures allowed { IfOk result (λ c. IsConfig c) }
+
+    // A tree of which all rows hold is refused for want of memory alone.
+    ensures only { IfErr result (λ fault. IsInnocent (view tree.value) number fault) }
+{
+    match judge(alloc, tree, number) {
+        Ok(config) => Ok(config),
+        Err(fault) => Err(fault),
+    }
+}

@@ -1,0 +1,50 @@
+//! Judges a resolved configuration tree by the tables of the configuration's objects, and makes the configuration of it.
+#![tactic(auto)]
+
+mod alias;
+mod clock_type;
+mod configuration;
+mod draft;
+mod enum_type;
+mod environment;
+mod event_type;
+mod feature;
+mod features;
+mod field_laws;
+mod field_type;
+mod growth;
+mod int_type;
+mod judgement;
+mod kind;
+mod limits;
+mod log_level;
+mod lookup;
+mod member;
+mod member_type;
+mod members;
+mod name;
+mod object_laws;
+mod optional_struct;
+mod order;
+mod part;
+mod property;
+mod scalar;
+mod stream_rule;
+mod stream_type;
+mod struct_type;
+mod trace;
+mod trace_type;
+mod turn;
+mod words;
+
+pub use configuration::configure;
+pub use field_laws::{
+    allowed_members_lists, allowed_structures, dynamic_arrays_by_rows, enumerations_by_rows,
+    free_names, integers_by_rows, members_by_rows, static_arrays_by_rows, structures_by_rows,
+    unsigned_fields,
+};
+pub use judgement::check;
+pub use object_laws::{
+    clock_types_by_rows, configurations_by_rows, event_types_by_rows, features_by_rows,
+    stream_types_by_rows, traces_by_rows,
+};

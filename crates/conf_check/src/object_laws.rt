@@ -1,0 +1,69 @@
+//! Laws of a configuration's objects: they are read exactly where the rows of their tables hold.
+ghost use Rattle.std.specs.Prelude.{◌≡◌, ◌↔◌, ℕ, Bool, List, Option, Ok};
+ghost use Rattle.serde_json.specs.Data.{Data, Members};
+ghost use Rattle.ctf_types.specs.declared.clock_type.ClockType.{ClockType as Clock};
+ghost use Rattle.ctf_types.specs.declared.config.Config.{Config as Configuration};
+ghost use Rattle.ctf_types.specs.declared.config.EventType.{EventType as Event};
+ghost use Rattle.ctf_types.specs.declared.environment.EnvironmentEntry.{EnvironmentEntry as Entry};
+ghost use Rattle.ctf_types.specs.declared.features.HeaderFeatures.{HeaderFeatures as Header};
+ghost use Rattle.ctf_types.specs.declared.features.ContextFeatures.{ContextFeatures as Context};
+ghost use Rattle.ctf_types.specs.declared.features.EventFeatures.{EventFeatures as EventHeader};
+ghost use Rattle.conf_tree.specs.Reading.{object_of};
+ghost use Rattle.conf_check.specs.declared.draft.Draft.{Draft};
+ghost use Rattle.conf_check.specs.declared.features.StreamFields.{StreamFields};
+ghost use Rattle.conf_check.specs.declared.stream_type.Listed.{Listed};
+ghost use Rattle.conf_check.specs.ClockType.{Offset, offset_of, clock_type_of};
+ghost use Rattle.conf_check.specs.ConfigurationRows.{IsTraceTypeObject, IsTraceObject, IsConfigurationOf};
+ghost use Rattle.conf_check.specs.EventType.{event_type_of};
+ghost use Rattle.conf_check.specs.Features.{header_of, event_header_of, context_of, stream_fields_of};
+ghost use Rattle.conf_check.specs.Judgement.{check_reading};
+ghost use Rattle.conf_check.specs.ObjectRows.{IsOffsetObject, IsClockObject, IsHeaderObject, IsEventHeaderObject, IsContextObject, IsStreamFieldsObject, IsEventObject, IsStreamObject};
+ghost use Rattle.conf_check.specs.StreamType.{stream_type_of};
+ghost use Rattle.conf_check.specs.Trace.{trace_of};
+ghost use Rattle.conf_check.specs.TraceType.{trace_type_of};
+
+/// A clock type, and its offset, are read exactly where their rows hold.
+pub fn clock_types_by_rows()
+    ensures offsets { (d : Data) (o : Offset)
+        → (offset_of d ≡ Ok o) ↔ ((ms : Members) × (object_of d ≡ Ok ms) × IsOffsetObject ms o) }
+    ensures clocks { (name : List ℕ) (d : Data) (c : Clock)
+        → (clock_type_of name d ≡ Ok c) ↔ ((ms : Members) × (object_of d ≡ Ok ms) × IsClockObject name ms c) }
+{}
+
+/// Features are read exactly where their rows hold.
+pub fn features_by_rows()
+    ensures of_header { (has_uuid : Bool) (d : Data) (f : Header)
+        → (header_of has_uuid d ≡ Ok f) ↔ ((ms : Members) × (object_of d ≡ Ok ms) × IsHeaderObject has_uuid ms f) }
+    ensures of_event_header { (clock : Option (List ℕ)) (d : Data) (f : EventHeader)
+        → (event_header_of clock d ≡ Ok f) ↔ ((ms : Members) × (object_of d ≡ Ok ms) × IsEventHeaderObject clock ms f) }
+    ensures of_context { (clock : Option (List ℕ)) (d : Data) (f : Context)
+        → (context_of clock d ≡ Ok f) ↔ ((ms : Members) × (object_of d ≡ Ok ms) × IsContextObject clock ms f) }
+    ensures of_stream { (clock : Option (List ℕ)) (d : Data) (f : StreamFields)
+        → (stream_fields_of clock d ≡ Ok f) ↔ ((ms : Members) × (object_of d ≡ Ok ms) × IsStreamFieldsObject clock ms f) }
+{}
+
+/// An event record type is read exactly where its rows hold.
+pub fn event_types_by_rows()
+    ensures { (aliases : Members) (name : List ℕ) (d : Data) (e : Event)
+        → (event_type_of aliases name d ≡ Ok e) ↔ ((ms : Members) × (object_of d ≡ Ok ms) × IsEventObject aliases name ms e) }
+{}
+
+/// A data stream type is read exactly where its rows hold.
+pub fn stream_types_by_rows()
+    ensures { (aliases : Members) (taken : Bool) (name : List ℕ) (d : Data) (l : Listed)
+        → (stream_type_of aliases taken name d ≡ Ok l) ↔ ((ms : Members) × (object_of d ≡ Ok ms) × IsStreamObject aliases taken name ms l) }
+{}
+
+/// A trace type, and a trace, are read exactly where their rows hold.
+pub fn traces_by_rows()
+    ensures trace_types { (number : Option (List ℕ)) (environment : List Entry) (d : Data) (draft : Draft)
+        → (trace_type_of number environment d ≡ Ok draft) ↔ ((ms : Members) × (object_of d ≡ Ok ms) × IsTraceTypeObject number environment ms draft) }
+    ensures traces { (number : Option (List ℕ)) (d : Data) (draft : Draft)
+        → (trace_of number d ≡ Ok draft) ↔ ((ms : Members) × (object_of d ≡ Ok ms) × IsTraceObject number ms draft) }
+{}
+
+/// A resolved tree is judged to be a configuration exactly where all rows and all rules say so.
+pub fn configurations_by_rows()
+    ensures { (d : Data) (number : Option (List ℕ)) (c : Configuration)
+        → (check_reading d number ≡ Ok c) ↔ IsConfigurationOf d number c }
+{}
