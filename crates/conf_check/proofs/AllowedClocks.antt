@@ -1,5 +1,5 @@
 -- Clock types that are read, and pass no limit, are ones that the rules allow.
-use Rattle.std.proofs.Common.{◌≡◌, ℕ, ◌<◌, ◌≤◌, List, [], ◌∷◌, length, map, All, Option, Some, None, Result, Ok, refl, sym, ap, subst, ◌∙◌, arith}
+use Rattle.std.proofs.Common.{◌≡◌, ℕ, ◌<◌, ◌≤◌, List, [], ◌∷◌, length, map, All, Option, Some, None, Ok, refl, sym, ap, subst, ◌∙◌, arith}
 use Rattle.std.specs.Prelude.{codes, unwrap_or}
 use Rattle.std.specs.List.{AllByRecursion}
 use Rattle.std.specs.List.Sorted.{IsStrictlySortedBy}
@@ -7,12 +7,11 @@ use Rattle.std.proofs.lemmas.List.{length-map}
 use Rattle.std.proofs.lemmas.List.Elements.{All-nil, All-from_recursion}
 use Rattle.serde_json.specs.Data.{Data, null, boolean, number, string, array, object, Members, no_members, member}
 use Rattle.ctf_types.specs.AllowedConfig.{InByteOrder, IsClockType}
-use Rattle.ctf_types.specs.Names.{IsPlainName, IsConfigText}
+use Rattle.ctf_types.specs.Names.{IsConfigText}
 use Rattle.ctf_types.specs.declared.clock_type.ClockType.{ClockType}
-use Rattle.conf_tree.specs.Flaw.{Flaw, key}
-use Rattle.conf_tree.specs.Reading.{at, object_of, text_of, optional, optional_as}
-use Rattle.conf_inherit.specs.Names.{IsInOrder, names_of}
-use Rattle.conf_check.specs.declared.limits.Part.{Part}
+use Rattle.conf_tree.specs.Flaw.{key}
+use Rattle.conf_tree.specs.Reading.{at, object_of, optional_as}
+use Rattle.conf_inherit.specs.Names.{names_of}
 use Rattle.conf_check.specs.declared.limits.Part.TheVariants as part
 use Rattle.conf_check.specs.declared.property.ObjectKind.TheVariants as objects
 use Rattle.conf_check.specs.ClockType.{max_u64, clock_types_of, clocks_in, clock_member_of, clock_type_of, clock_in, before_origin, origin_in, after_origin}

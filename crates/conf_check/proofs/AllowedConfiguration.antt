@@ -1,17 +1,15 @@
 -- A configuration that is read, passes no limit and breaks no rule, is one that the rules allow.
-use Rattle.std.proofs.Common.{◌≡◌, ℕ, ◌-◌, ◌≤◌, ◌&&◌, Bool, true, false, cond, List, [], ◌∷◌, length, map, All, IsSome, Option, Some, None, is_some, is_none, Result, Ok, Err, refl, sym, ap, subst, ◌∙◌, arith}
+use Rattle.std.proofs.Common.{◌≡◌, ℕ, ◌-◌, ◌&&◌, Bool, true, cond, List, length, IsSome, Option, Some, None, is_some, is_none, Ok, Err, refl, subst}
 use Rattle.std.specs.Prelude.{codes}
-use Rattle.std.specs.List.{AllByRecursion}
-use Rattle.serde_json.specs.Data.{Data, object, Members, no_members, member}
+use Rattle.serde_json.specs.Data.{Data, Members, no_members}
 use Rattle.ctf_types.specs.AllowedConfig.{OnlyIf, HoldsUpTo, IsPlainUnsigned, IsConfig}
 use Rattle.ctf_types.specs.declared.config.Config.{Config}
 use Rattle.ctf_types.specs.declared.environment.EnvironmentEntry.{EnvironmentEntry}
 use Rattle.ctf_types.specs.declared.features.HeaderFeatures.{HeaderFeatures}
 use Rattle.ctf_types.specs.declared.int_type.IntType.{IntType}
 use Rattle.conf_tree.specs.Flaw.{Flaw, key}
-use Rattle.conf_tree.specs.Reading.{at, object_of, needed, needed_as, optional, ◌>>=◌}
+use Rattle.conf_tree.specs.Reading.{object_of, needed, optional}
 use Rattle.conf_check.specs.declared.draft.Draft.{Draft}
-use Rattle.conf_check.specs.declared.limits.Part.{Part}
 use Rattle.conf_check.specs.declared.limits.Part.TheVariants as part
 use Rattle.conf_check.specs.declared.property.ObjectKind.TheVariants as objects
 use Rattle.conf_check.specs.declared.stream_rule.StreamRule.{StreamRule}
@@ -21,12 +19,12 @@ use Rattle.conf_check.specs.declared.trace_type.Ends.{Ends}
 use Rattle.conf_check.specs.Alias.{aliases_of}
 use Rattle.conf_check.specs.Feature.{next_feature, next_magic, next_identifier}
 use Rattle.conf_check.specs.Features.{header_fields_in, header_in, header_of, next_header}
-use Rattle.conf_check.specs.Judgement.{header_flaw, stream_number_fits, number_given, identifier_given, one_order, sizes_and_bits, clocks_and_identifier, limits_and_orders, whole, check_reading}
+use Rattle.conf_check.specs.Judgement.{stream_number_fits, number_given, identifier_given, one_order, sizes_and_bits, clocks_and_identifier, limits_and_orders, whole, check_reading}
 use Rattle.conf_check.specs.Limits.{part_under, part_in_root, part_in_trace, part_in_trace_type, limits, member_limits}
 use Rattle.conf_check.specs.LogLevel.{level_aliases_of}
 use Rattle.conf_check.specs.Order.{Ascends, MembersAscend}
 use Rattle.conf_check.specs.Property.{first_unknown, next, next_needed, no_more}
-use Rattle.conf_check.specs.StreamRules.{holds, all_judged, streams_judged}
+use Rattle.conf_check.specs.StreamRules.{all_judged, streams_judged}
 use Rattle.conf_check.specs.StreamType.{next_streams}
 use Rattle.conf_check.specs.Trace.{next_environment, trace_in, trace_of, root_in, draft_reading}
 use Rattle.conf_check.specs.TraceType.{next_clocks, levels_in, has_uuid, front_in, lists_in, ends_in, draft_of, trace_parts_in, trace_type_in, order_there, trace_type_of}

@@ -1,6 +1,6 @@
 -- An environment that is read, and passes no limit, is one that the rules allow.
-use Rattle.std.proofs.Common.{◌≡◌, ℕ, ◌≤◌, true, List, [], ◌∷◌, length, map, All, Option, Some, None, Result, Ok, refl, sym, ap, subst, ◌∙◌, arith}
-use Rattle.std.specs.Prelude.{codes, nat_le, IsTrue}
+use Rattle.std.proofs.Common.{◌≡◌, ℕ, ◌≤◌, true, List, [], ◌∷◌, length, map, All, Option, Some, None, Ok, refl, sym, ap, subst, ◌∙◌, arith}
+use Rattle.std.specs.Prelude.{codes, nat_le}
 use Rattle.std.specs.List.{AllByRecursion}
 use Rattle.std.specs.List.Sorted.{IsStrictlySortedBy}
 use Rattle.std.proofs.lemmas.Bool.Decides.{nat_tests}
@@ -12,14 +12,13 @@ use Rattle.ctf_types.specs.Names.{IsPlainName, IsConfigText}
 use Rattle.ctf_types.specs.declared.environment.EnvironmentEntry.{EnvironmentEntry}
 use Rattle.ctf_types.specs.declared.environment.EnvironmentValue.{EnvironmentValue}
 use Rattle.ctf_types.specs.declared.environment.EnvironmentValue.TheVariants.{Whole, Text}
-use Rattle.conf_tree.specs.Flaw.{Flaw, key}
-use Rattle.conf_tree.specs.Reading.{at, object_of, text_of, optional, optional_as}
-use Rattle.conf_inherit.specs.Names.{IsInOrder, names_of}
-use Rattle.conf_check.specs.declared.limits.Part.{Part}
+use Rattle.conf_tree.specs.Flaw.{key}
+use Rattle.conf_tree.specs.Reading.{at, object_of, optional_as}
+use Rattle.conf_inherit.specs.Names.{names_of}
 use Rattle.conf_check.specs.declared.limits.Part.TheVariants as part
 use Rattle.conf_check.specs.Environment.{environment_value_of, entry_of, entry_member_of, entries_in, environment_of}
 use Rattle.conf_check.specs.EventType.{listed}
-use Rattle.conf_check.specs.Limits.{part_under, part_in_trace, most_entries, text_limit, at_most, limits, member_limits}
+use Rattle.conf_check.specs.Limits.{part_under, part_in_trace, most_entries, text_limit, limits, member_limits}
 use Rattle.conf_check.specs.Name.{plain_name_of}
 use Rattle.conf_check.specs.Order.{Ascends, MembersAscend}
 use Rattle.conf_check.specs.Property.{next}

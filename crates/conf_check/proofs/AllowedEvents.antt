@@ -1,20 +1,19 @@
 -- Event record types that are read, and pass no limit, are ones that the rules allow, but for their bits.
-use Rattle.std.proofs.Common.{◌≡◌, ℕ, ◌<◌, ◌≤◌, ◌^◌, List, [], ◌∷◌, length, map, All, Option, Some, None, Result, Ok, refl, sym, ap, subst, ◌∙◌, arith}
+use Rattle.std.proofs.Common.{◌≡◌, ℕ, ◌<◌, ◌≤◌, ◌^◌, List, [], ◌∷◌, length, map, All, Option, Some, None, Ok, refl, sym, ap, subst, ◌∙◌, arith}
 use Rattle.std.specs.Prelude.{codes}
-use Rattle.std.specs.List.{AllByRecursion, IsDistinct}
+use Rattle.std.specs.List.{AllByRecursion}
 use Rattle.std.specs.List.Sorted.{IsStrictlySortedBy}
 use Rattle.std.proofs.lemmas.List.{length-map}
 use Rattle.std.proofs.lemmas.List.Elements.{All-nil, All-from_recursion}
 use Rattle.serde_json.specs.Data.{Data, null, boolean, number, string, array, object, Members, no_members, member}
 use Rattle.serde_json.specs.Find.{get_member}
-use Rattle.ctf_types.specs.AllowedConfig.{InByteOrder, IsConfigStruct, AreConfigMembers}
+use Rattle.ctf_types.specs.AllowedConfig.{InByteOrder, IsConfigStruct}
 use Rattle.ctf_types.specs.Names.{IsConfigName}
 use Rattle.ctf_types.specs.declared.config.EventType.{EventType}
 use Rattle.ctf_types.specs.declared.struct_type.StructType.{StructType}
-use Rattle.conf_tree.specs.Flaw.{Flaw, key}
+use Rattle.conf_tree.specs.Flaw.{key}
 use Rattle.conf_tree.specs.Reading.{at, object_of, optional, optional_as}
-use Rattle.conf_inherit.specs.Names.{IsInOrder, names_of}
-use Rattle.conf_check.specs.declared.limits.Part.{Part}
+use Rattle.conf_inherit.specs.Names.{names_of}
 use Rattle.conf_check.specs.declared.limits.Part.TheVariants as part
 use Rattle.conf_check.specs.declared.property.ObjectKind.TheVariants as objects
 use Rattle.conf_check.specs.EventType.{event_parts_in, event_in, event_type_of, event_member_of, events_in, event_types_of, listed, next_events}

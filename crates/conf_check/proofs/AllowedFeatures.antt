@@ -1,15 +1,15 @@
 -- Features that are read, and pass no limit, have types that the rules allow.
-use Rattle.std.proofs.Common.{◌≡◌, ℕ, ◌==◌, ◌&&◌, not, List, [], ◌∷◌, Bool, true, false, cond, Option, Some, None, is_some, Result, Ok, Err, refl, sym, ap, subst, ◌∙◌}
+use Rattle.std.proofs.Common.{◌≡◌, ℕ, ◌==◌, ◌&&◌, not, List, [], ◌∷◌, Bool, true, false, cond, Option, Some, None, is_some, Result, Ok, Err, refl, ap, subst, ◌∙◌}
 use Rattle.std.proofs.lemmas.Bool.{eqb-true}
 use Rattle.serde_json.specs.Data.{Data, null, boolean, number, string, array, object, Members}
-use Rattle.ctf_types.specs.AllowedConfig.{OnlyIf, IsPlainUnsigned, IsConfigField, IsConfigLeaf}
+use Rattle.ctf_types.specs.AllowedConfig.{OnlyIf, IsPlainUnsigned, IsConfigLeaf}
 use Rattle.ctf_types.specs.Chain.{Leaf, Number, Labelled, ByteString}
 use Rattle.ctf_types.specs.FieldTypes.{chain_of}
 use Rattle.ctf_types.specs.declared.int_type.IntType.{IntType}
 use Rattle.ctf_types.specs.declared.field_type.FieldType.{FieldType}
 use Rattle.ctf_types.specs.declared.field_type.FieldType.TheVariants.{Int, Enum, Str, Static}
 use Rattle.conf_tree.specs.Flaw.{Flaw}
-use Rattle.conf_tree.specs.Reading.{optional, object_of, ◌>>=◌}
+use Rattle.conf_tree.specs.Reading.{optional, ◌>>=◌}
 use Rattle.conf_check.specs.declared.feature.Choice.{Choice}
 use Rattle.conf_check.specs.declared.feature.Choice.TheVariants.{On, Off, Own}
 use Rattle.conf_check.specs.declared.feature.FeatureRule.{FeatureRule}
@@ -17,14 +17,13 @@ use Rattle.conf_check.specs.declared.feature.FeatureRule.TheVariants.{Plain, Siz
 use Rattle.conf_check.specs.declared.limits.Part.TheVariants as part
 use Rattle.conf_check.specs.Feature.{number_type, magic_type, byte_type, own_of, array_of, plain_of, not_off, magic_or_not, is_byte, byte_or_not, identifier_or_not, identifier_of, choice_of, chosen, chosen_size, mapped, mapped_if_on, next_feature, next_size, next_timestamp, next_magic, next_identifier}
 use Rattle.conf_check.specs.FieldType.{unsigned_field_of, field_of, field_in, field_limits}
-use Rattle.conf_check.specs.Limits.{part_under, limits, member_limits, type_limits}
+use Rattle.conf_check.specs.Limits.{limits, type_limits}
 use Rattle.conf_check.specs.Order.{Ascends, MembersAscend}
 use Rattle.conf_check.specs.Property.{next}
 use Rattle.conf_check.proofs.AllowedFields.{allowed_field}
 use Rattle.conf_check.proofs.AllowedInts.{allowed_unsigned}
 use Rattle.conf_check.proofs.AllowedStructs.{given_read, next_read_there}
 use Rattle.conf_check.proofs.Ascending.{ascends_given}
-use Rattle.conf_check.proofs.InTheMap.{limit_given}
 use Rattle.conf_check.proofs.Steps.{both_read, is_passed}
 
 -- ---- what a feature of its own type is

@@ -1,11 +1,10 @@
 -- What the rules over the whole of a configuration say of its data stream types.
-use Rattle.std.proofs.Common.{◌≡◌, ℕ, zero, suc, ◌-◌, ◌<◌, ◌≤◌, ◌^◌, ◌==◌, ◌&&◌, ◌||◌, ◌⊎◌, inl, inr, Bool, true, false, cond, List, [], ◌∷◌, length, map, All, Contains, IsSome, slice_index_or, Option, Some, None, is_some, is_none, Result, Ok, Err, refl, sym, ap, subst, ◌∙◌, arith, bytes_eq}
+use Rattle.std.proofs.Common.{◌≡◌, ℕ, suc, ◌-◌, ◌<◌, ◌^◌, ◌&&◌, ◌||◌, ◌⊎◌, inl, inr, Bool, true, false, List, [], ◌∷◌, length, map, All, Contains, IsSome, Option, Some, None, is_some, Result, Ok, refl, subst, arith, bytes_eq}
 use Rattle.std.specs.Prelude.{codes, nat_lt}
 use Rattle.std.specs.List.{AllByRecursion, list_all, list_any}
 use Rattle.std.proofs.lemmas.Bool.{eqb-true, ltb-true}
 use Rattle.std.proofs.lemmas.List.Elements.{All-from_recursion, recursion_from_All}
 use Rattle.std.proofs.lemmas.Slice.Eq.{bytes_eq-Decides}
-use Rattle.ctf_types.specs.Allowed.{HasBits}
 use Rattle.ctf_types.specs.AllowedConfig.{HoldsUpTo, OnlyIf, IsTimestamp, MemberHasBits, StructHasBits, IsEventType, IsStreamType}
 use Rattle.ctf_types.specs.FieldTypes.{chain_of}
 use Rattle.ctf_types.specs.declared.clock_type.ClockType.{ClockType}
@@ -20,7 +19,7 @@ use Rattle.conf_tree.specs.declared.fault_kind.FaultKind.TheVariants.{ZeroSizeRe
 use Rattle.conf_tree.specs.Reading.{at}
 use Rattle.conf_check.specs.declared.stream_rule.StreamRule.{StreamRule}
 use Rattle.conf_check.specs.declared.stream_rule.StreamRule.TheVariants.{NumbersFit, RecordsHaveBits, ClocksAreThere, TimestampsAreWide}
-use Rattle.conf_check.specs.StreamRules.{feature_flaw, unless, holds, numbers_fit, member_has_bits, struct_has_bits, header_has_bits, event_has_bits, event_bits, events_bits, records_have_bits, has_clock, clock_is_there, is_clocked, timestamp_clocked, record_clocked, begin_clocked, end_clocked, timestamps_clocked, clocks_are_there, is_wide, timestamp_wide, record_is_wide, begin_is_wide, end_is_wide, timestamps_are_wide, judged, judged_by_name, all_judged}
+use Rattle.conf_check.specs.StreamRules.{unless, holds, numbers_fit, member_has_bits, struct_has_bits, header_has_bits, event_has_bits, event_bits, events_bits, records_have_bits, has_clock, clock_is_there, is_clocked, timestamp_clocked, record_clocked, begin_clocked, end_clocked, timestamps_clocked, clocks_are_there, is_wide, timestamp_wide, record_is_wide, begin_is_wide, end_is_wide, timestamps_are_wide, judged, judged_by_name, all_judged}
 use Rattle.conf_check.proofs.AllowedEvents.{IsGoodEvent, AreGoodEvents}
 use Rattle.conf_check.proofs.AllowedFeatures.{IsOfClock}
 use Rattle.conf_check.proofs.AllowedStreams.{IsGoodStream}

@@ -1,30 +1,27 @@
 -- Data stream types that are read, pass no limit and break no rule, are ones that the rules allow.
 use Rattle.std.proofs.Common.{◌≡◌, ℕ, ◌≤◌, Bool, true, false, List, [], ◌∷◌, length, map, All, Option, Some, None, Result, Ok, refl, sym, ap, subst, ◌∙◌, arith, bytes_eq, ◌||◌}
 use Rattle.std.specs.Prelude.{codes}
-use Rattle.std.specs.List.{AllByRecursion, list_any, IsDistinct}
+use Rattle.std.specs.List.{AllByRecursion, list_any}
 use Rattle.std.specs.List.Sorted.{IsStrictlySortedBy}
 use Rattle.std.proofs.lemmas.List.{length-map}
-use Rattle.std.proofs.lemmas.List.Elements.{All-nil, All-from_recursion}
+use Rattle.std.proofs.lemmas.List.Elements.{All-nil}
 use Rattle.serde_json.specs.Data.{Data, null, boolean, number, string, array, object, Members, no_members, member}
 use Rattle.ctf_types.specs.AllowedConfig.{InByteOrder, OnlyIf, IsPlainUnsigned, IsConfigStruct, AreConfigMembers}
 use Rattle.ctf_types.specs.Members.{names_in}
 use Rattle.ctf_types.specs.Names.{IsConfigName}
 use Rattle.ctf_types.specs.Packets.{own_names}
 use Rattle.ctf_types.specs.Shown.{shown_members}
-use Rattle.ctf_types.specs.declared.config.EventType.{EventType}
 use Rattle.ctf_types.specs.declared.config.StreamType.{StreamType}
 use Rattle.ctf_types.specs.declared.features.ContextFeatures.{ContextFeatures}
 use Rattle.ctf_types.specs.declared.features.EventFeatures.{EventFeatures}
-use Rattle.ctf_types.specs.declared.int_type.IntType.{IntType}
 use Rattle.ctf_types.specs.declared.member_type.MemberType.{MemberType}
 use Rattle.ctf_types.specs.declared.struct_type.StructType.{StructType}
 use Rattle.conf_tree.specs.Flaw.{Flaw, key}
-use Rattle.conf_tree.specs.Reading.{at, object_of, list_of, text_of, optional, optional_as, ◌>>=◌}
+use Rattle.conf_tree.specs.Reading.{at, object_of, text_of, optional, optional_as, ◌>>=◌}
 use Rattle.conf_inherit.specs.Names.{names_of}
 use Rattle.conf_check.specs.declared.features.FrontFields.{FrontFields}
 use Rattle.conf_check.specs.declared.features.BackFields.{BackFields}
 use Rattle.conf_check.specs.declared.features.StreamFields.{StreamFields}
-use Rattle.conf_check.specs.declared.limits.Part.{Part}
 use Rattle.conf_check.specs.declared.limits.Part.TheVariants as part
 use Rattle.conf_check.specs.declared.property.ObjectKind.TheVariants as objects
 use Rattle.conf_check.specs.declared.stream_type.Clocked.{Clocked}
@@ -35,7 +32,7 @@ use Rattle.conf_check.specs.EventType.{next_events, listed}
 use Rattle.conf_check.specs.Feature.{next_feature, next_size, next_timestamp}
 use Rattle.conf_check.specs.Features.{or_empty, event_header_in, event_header_of, next_event_header, front_in, back_in, context_in, context_of, next_context, stream_fields_in, stream_fields_of, next_stream_fields}
 use Rattle.conf_check.specs.Limits.{part_under, part_in_stream_type, most_entries, list_limits, limits, member_limits}
-use Rattle.conf_check.specs.Members.{members_of, members_from, members_limits}
+use Rattle.conf_check.specs.Members.{members_of, members_limits}
 use Rattle.conf_check.specs.Name.{name_of}
 use Rattle.conf_check.specs.OptionalStruct.{plain_struct, extras_or_none, next_struct, next_extras}
 use Rattle.conf_check.specs.Order.{Ascends, MembersAscend}

@@ -1,5 +1,5 @@
 -- Members with bits, from the front of a structure on.
-use Rattle.std.proofs.Common.{◌≡◌, ℕ, zero, suc, Bool, true, false, ◌||◌, List, [], ◌∷◌, drop, slice_get, option_map, Option, Some, None, refl, ap, sym, ◌∙◌}
+use Rattle.std.proofs.Common.{◌≡◌, ℕ, zero, suc, Bool, ◌||◌, List, [], ◌∷◌, drop, slice_get, option_map, Some, ap}
 use Rattle.std.specs.List.{list_any}
 use Rattle.ctf_types.specs.declared.member_type.MemberType.{MemberType}
 use Rattle.conf_check.specs.StreamRules.{member_has_bits}

@@ -1,8 +1,7 @@
 -- The reading of a whole configuration and its rows say the same.
-use Rattle.std.proofs.Common.{◌≡◌, ℕ, ◌&&◌, Bool, true, false, cond, List, [], Option, None, Some, is_some, is_none, Result, Ok, Err, refl, sym, ap, ap₂, subst, ◌∙◌, ◌⊎◌, inl, inr}
+use Rattle.std.proofs.Common.{◌≡◌, ℕ, Bool, true, false, cond, List, Option, None, Result, Ok, Err, refl, sym, ap, subst, ◌∙◌, ◌⊎◌, inl, inr}
 use Rattle.std.specs.Prelude.{codes}
 use Rattle.serde_json.specs.Data.{Data, Members, no_members}
-use Rattle.ctf_types.specs.declared.byte_order.ByteOrder.{ByteOrder}
 use Rattle.ctf_types.specs.declared.clock_type.ClockType.{ClockType}
 use Rattle.ctf_types.specs.declared.config.Config.{Config}
 use Rattle.ctf_types.specs.declared.config.StreamType.{StreamType}
@@ -14,7 +13,7 @@ use Rattle.conf_tree.specs.Reading.{◌>>=◌, object_of, needed, needed_as, opt
 use Rattle.conf_check.specs.declared.draft.Draft.{Draft}
 use Rattle.conf_check.specs.declared.limits.Part.TheVariants.{Root}
 use Rattle.conf_check.specs.declared.property.ObjectKind.TheVariants as objects
-use Rattle.conf_check.specs.declared.stream_rule.StreamRule.TheVariants.{NumbersFit, RecordsHaveBits, ClocksAreThere, TimestampsAreWide}
+use Rattle.conf_check.specs.declared.stream_rule.StreamRule.TheVariants.{NumbersFit, ClocksAreThere}
 use Rattle.conf_check.specs.declared.trace_type.Lists.{Lists}
 use Rattle.conf_check.specs.declared.trace_type.Ends.{Ends}
 use Rattle.conf_check.specs.Alias.{aliases_of}
@@ -22,15 +21,15 @@ use Rattle.conf_check.specs.ClockType.{clock_types_of}
 use Rattle.conf_check.specs.Environment.{environment_of}
 use Rattle.conf_check.specs.EventType.{listed}
 use Rattle.conf_check.specs.Features.{or_empty, header_in, header_of, next_header}
-use Rattle.conf_check.specs.FieldRows.{HasOnly, MaySay, Says}
-use Rattle.conf_check.specs.Judgement.{stream_number_fits, number_given, identifier_given, one_order, sizes_and_bits, clocks_and_identifier, limits_and_orders, whole, check_reading}
+use Rattle.conf_check.specs.FieldRows.{HasOnly, MaySay}
+use Rattle.conf_check.specs.Judgement.{stream_number_fits, number_given, one_order, sizes_and_bits, clocks_and_identifier, limits_and_orders, whole, check_reading}
 use Rattle.conf_check.specs.Limits.{limits}
 use Rattle.conf_check.specs.LogLevel.{level_aliases_of}
 use Rattle.conf_check.specs.Property.{first_unknown, next, next_needed, no_more}
 use Rattle.conf_check.specs.StreamRules.{streams_judged}
 use Rattle.conf_check.specs.StreamType.{stream_types_of, next_streams}
 use Rattle.conf_check.specs.Trace.{next_environment, trace_in, trace_of, root_in, draft_reading}
-use Rattle.conf_check.specs.TraceType.{order_of, uuid_choice_of, next_clocks, levels_in, has_uuid, front_in, lists_in, ends_in, order_from, uuid_from, lacks, draft_of, trace_parts_in, trace_type_in, order_there, trace_type_of}
+use Rattle.conf_check.specs.TraceType.{order_of, uuid_choice_of, next_clocks, levels_in, has_uuid, front_in, lists_in, ends_in, draft_of, trace_parts_in, trace_type_in, order_there, trace_type_of}
 use Rattle.conf_check.specs.ConfigurationRows.{IsTraceTypeObject, IsTraceObject, IsRootObject, KeepsAllRules, IsConfigurationOf}
 use Rattle.conf_check.proofs.AllowedStructs.{next_read_there}
 use Rattle.conf_check.proofs.InTheMap.{ok_same}

@@ -1,10 +1,9 @@
 -- A text that is a configuration is refused for want of memory alone, where its tree and its resolution are those that were found.
-use Rattle.std.proofs.Common.{◌≡◌, ℕ, List, Option, Some, Result, Ok, Err, subst}
+use Rattle.std.proofs.Common.{◌≡◌, ℕ, List, Option, Some, Result, Ok, subst}
 use Rattle.serde_json.specs.Data.{Data}
 use Rattle.serde_json.specs.Read.{read}
-use Rattle.ctf_types.specs.declared.config.Config.{Config}
 use Rattle.conf_tree.specs.declared.fault.ConfFault.{ConfFault}
-use Rattle.conf_tree.specs.Flaw.{Flaw, IsMemory}
+use Rattle.conf_tree.specs.Flaw.{Flaw}
 use Rattle.conf_tree.specs.Walk.{IsTreeOf}
 use Rattle.conf_inherit.specs.Resolution.{resolution}
 use Rattle.conf_check.specs.Configuration.{IsInnocent, RefusedForMemory}

@@ -1,5 +1,5 @@
 -- What is found in an object nests less deep than the object.
-use Rattle.std.proofs.Common.{◌≡◌, ℕ, ◌≤◌, List, Option, Some, None, Result, Ok, sym, arith, refl, ◌∙◌, ap}
+use Rattle.std.proofs.Common.{◌≡◌, ℕ, ◌≤◌, List, Option, Some, None, Ok, refl, ◌∙◌, ap}
 use Rattle.serde_json.specs.Data.{Data, null, boolean, number, string, array, object, Members, depth, members_depth}
 use Rattle.serde_json.specs.Find.{get_member}
 use Rattle.conf_tree.specs.Reading.{given, optional, needed}

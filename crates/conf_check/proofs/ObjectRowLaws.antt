@@ -1,10 +1,9 @@
 -- The readings of the objects that are no field types and their rows say the same.
-use Rattle.std.proofs.Common.{◌≡◌, ℕ, ℤ, pos, Bool, true, false, List, [], Option, None, Some, is_some, Result, Ok, refl, sym, ap, ap₂, subst, ◌∙◌}
+use Rattle.std.proofs.Common.{◌≡◌, ℕ, pos, Bool, true, false, List, Option, None, Some, is_some, Result, Ok, refl, sym, ap, ap₂, subst, ◌∙◌}
 use Rattle.std.specs.Prelude.{codes, unwrap_or}
 use Rattle.serde_json.specs.Data.{Data, Members, no_members}
 use Rattle.ctf_types.specs.declared.clock_type.ClockType.{ClockType}
 use Rattle.ctf_types.specs.declared.config.EventType.{EventType}
-use Rattle.ctf_types.specs.declared.config.StreamType.{StreamType}
 use Rattle.ctf_types.specs.declared.features.HeaderFeatures.{HeaderFeatures}
 use Rattle.ctf_types.specs.declared.features.ContextFeatures.{ContextFeatures}
 use Rattle.ctf_types.specs.declared.features.EventFeatures.{EventFeatures}
@@ -14,13 +13,10 @@ use Rattle.ctf_types.specs.declared.member_type.MemberType.{MemberType}
 use Rattle.ctf_types.specs.Packets.{own_names}
 use Rattle.conf_tree.specs.Flaw.{Flaw}
 use Rattle.conf_tree.specs.Reading.{◌>>=◌, object_of, text_of, flag_of, optional_as}
-use Rattle.conf_check.specs.declared.feature.Choice.{Choice}
-use Rattle.conf_check.specs.declared.feature.FeatureRule.{FeatureRule}
 use Rattle.conf_check.specs.declared.feature.FeatureRule.TheVariants.{Plain, Size, Magic, Identifier}
 use Rattle.conf_check.specs.declared.features.FrontFields.{FrontFields}
 use Rattle.conf_check.specs.declared.features.BackFields.{BackFields}
 use Rattle.conf_check.specs.declared.features.StreamFields.{StreamFields}
-use Rattle.conf_check.specs.declared.property.ObjectKind.{ObjectKind}
 use Rattle.conf_check.specs.declared.property.ObjectKind.TheVariants as objects
 use Rattle.conf_check.specs.declared.stream_type.Clocked.{Clocked}
 use Rattle.conf_check.specs.declared.stream_type.Head.{Head}

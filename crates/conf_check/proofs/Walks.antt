@@ -1,5 +1,5 @@
 -- Lists that are read one member after the other.
-use Rattle.std.proofs.Common.{◌≡◌, List, [], ◌∷◌, ◌++◌, Result, Ok, Err, refl, ap, sym, ◌∙◌, append-nil, append_assoc}
+use Rattle.std.proofs.Common.{◌≡◌, List, [], ◌∷◌, ◌++◌, Result, Ok, Err, refl, ap, sym, append-nil, append_assoc}
 use Rattle.conf_tree.specs.Flaw.{Flaw}
 use Rattle.conf_tree.specs.Reading.{◌>>=◌}
 

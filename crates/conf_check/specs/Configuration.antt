@@ -1,6 +1,6 @@
 -- From the text of a configuration to the configuration: its tree, the tree with every inheritance resolved, and what that
 -- says, row by row.
-use Rattle.std.specs.Prelude.{◌≡◌, ◌⊎◌, ℕ, List, Option, Result, Ok, Err}
+use Rattle.std.specs.Prelude.{◌≡◌, ◌⊎◌, ℕ, List, Option, Ok, Err}
 use Rattle.serde_json.specs.Data.{Data}
 use Rattle.ctf_types.specs.declared.config.Config.{Config}
 use Rattle.conf_tree.specs.declared.fault.ConfFault.{ConfFault}

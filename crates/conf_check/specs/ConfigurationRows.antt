@@ -1,6 +1,6 @@
 -- What a whole configuration says, row by row: the trace type, the trace, the configuration around it, and the rules over
 -- all of them (barectf 3.1, "Configuration object", "Trace object", "Trace type object").
-use Rattle.std.specs.Prelude.{◌≡◌, ℕ, List, [], ◌&&◌, Bool, true, false, Option, None, Some, is_some, Result, Ok, codes, ⊤}
+use Rattle.std.specs.Prelude.{◌≡◌, ℕ, List, ◌&&◌, false, Option, None, is_some, Ok, codes, ⊤}
 use Rattle.serde_json.specs.Data.{Data, Members, no_members}
 use Rattle.ctf_types.specs.declared.byte_order.ByteOrder.{ByteOrder}
 use Rattle.ctf_types.specs.declared.clock_type.ClockType.{ClockType}

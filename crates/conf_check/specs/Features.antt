@@ -2,7 +2,6 @@
 -- object" and "Data stream type object", `$features`). What an object does not say is as if it were empty.
 use Rattle.std.specs.Prelude.{ℕ, List, Bool, true, false, Option, None, Some, Result, Ok, codes}
 use Rattle.serde_json.specs.Data.{Data, Members, no_members}
-use Rattle.ctf_types.specs.declared.int_type.IntType.{IntType}
 use Rattle.ctf_types.specs.declared.features.HeaderFeatures.{HeaderFeatures}
 use Rattle.ctf_types.specs.declared.features.ContextFeatures.{ContextFeatures}
 use Rattle.ctf_types.specs.declared.features.EventFeatures.{EventFeatures}

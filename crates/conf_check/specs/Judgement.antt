@@ -1,6 +1,6 @@
 -- How a resolved configuration is judged, and what configuration it is. First each object by itself, in one walk; then what
 -- the objects have to be together, one rule after the other, each at its first place (barectf 3.1, "Configuration object").
-use Rattle.std.specs.Prelude.{ℕ, ◌-◌, ◌&&◌, List, Bool, Option, None, Some, is_some, is_none, length, Result, Ok, Err, codes, if◌then◌else◌, ⊤}
+use Rattle.std.specs.Prelude.{ℕ, ◌-◌, ◌&&◌, List, Option, is_some, is_none, length, Result, Ok, Err, codes, if◌then◌else◌, ⊤}
 use Rattle.serde_json.specs.Data.{Data}
 use Rattle.ctf_types.specs.declared.config.Config.{Config}
 use Rattle.conf_tree.specs.declared.fault_kind.FaultKind.{FaultKind}

@@ -1,6 +1,6 @@
 -- The limits of a configuration's size, judged over its tree once each object is as it should be: how many entries its maps
 -- have, how long its texts are, and the limits of its field types. The first in the order of the walk is the flaw.
-use Rattle.std.specs.Prelude.{ℕ, ◌||◌, List, nat_le, length, Option, None, Some, Result, Ok, Err, codes, if◌then◌else◌, ⊤}
+use Rattle.std.specs.Prelude.{ℕ, List, nat_le, length, Option, None, Some, Result, Ok, Err, codes, if◌then◌else◌, ⊤}
 use Rattle.std.specs.Str.{bytes_eq}
 use Rattle.serde_json.specs.Data.{Data, null, boolean, number, string, array, object, Members, no_members, member}
 use Rattle.serde_json.specs.Events.{members_len}

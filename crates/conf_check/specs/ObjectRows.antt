@@ -1,13 +1,10 @@
 -- What the objects of a configuration that are no field types say, row by row (barectf 3.1, "Configuration object" and the
 -- pages below it). The readings of the modules beside this one say the same, and which flaw is the first where a row does
 -- not hold.
-use Rattle.std.specs.Prelude.{◌≡◌, ℕ, ℤ, pos, List, [], Bool, true, false, Option, None, Some, is_some, Result, Ok, codes, unwrap_or}
+use Rattle.std.specs.Prelude.{◌≡◌, ℕ, pos, List, Bool, true, false, Option, None, is_some, Result, Ok, codes, unwrap_or}
 use Rattle.serde_json.specs.Data.{Data, Members, no_members}
-use Rattle.ctf_types.specs.declared.byte_order.ByteOrder.{ByteOrder}
 use Rattle.ctf_types.specs.declared.clock_type.ClockType.{ClockType}
 use Rattle.ctf_types.specs.declared.config.EventType.{EventType}
-use Rattle.ctf_types.specs.declared.config.StreamType.{StreamType}
-use Rattle.ctf_types.specs.declared.environment.EnvironmentEntry.{EnvironmentEntry}
 use Rattle.ctf_types.specs.declared.features.HeaderFeatures.{HeaderFeatures}
 use Rattle.ctf_types.specs.declared.features.ContextFeatures.{ContextFeatures}
 use Rattle.ctf_types.specs.declared.features.EventFeatures.{EventFeatures}
@@ -16,10 +13,8 @@ use Rattle.ctf_types.specs.declared.struct_type.StructType.{StructType}
 use Rattle.ctf_types.specs.declared.member_type.MemberType.{MemberType}
 use Rattle.ctf_types.specs.Packets.{own_names}
 use Rattle.conf_tree.specs.Flaw.{Flaw}
-use Rattle.conf_tree.specs.Reading.{object_of, text_of, flag_of}
-use Rattle.conf_check.specs.declared.draft.Draft.{Draft}
+use Rattle.conf_tree.specs.Reading.{text_of, flag_of}
 use Rattle.conf_check.specs.declared.feature.Choice.{Choice}
-use Rattle.conf_check.specs.declared.feature.FeatureRule.{FeatureRule}
 use Rattle.conf_check.specs.declared.feature.FeatureRule.TheVariants.{Plain, Size, Magic, Identifier}
 use Rattle.conf_check.specs.declared.features.StreamFields.{StreamFields}
 use Rattle.conf_check.specs.declared.property.ObjectKind.TheVariants as objects
@@ -28,7 +23,7 @@ use Rattle.conf_check.specs.ClockType.{Offset, max_u64, offset_of, or_no_offset}
 use Rattle.conf_check.specs.EventType.{event_types_of, listed}
 use Rattle.conf_check.specs.Feature.{number_type, magic_type, byte_type, choice_of, chosen, chosen_size, mapped_if_on}
 use Rattle.conf_check.specs.Features.{or_empty, event_header_in, event_header_of, context_in, context_of, stream_fields_in, stream_fields_of}
-use Rattle.conf_check.specs.FieldRows.{HasOnly, MaySay, Says}
+use Rattle.conf_check.specs.FieldRows.{HasOnly, MaySay}
 use Rattle.conf_check.specs.LogLevel.{log_level_of}
 use Rattle.conf_check.specs.Members.{members_of}
 use Rattle.conf_check.specs.Name.{name_of, plain_name_of}

@@ -1,6 +1,6 @@
 -- What the parts of a configuration have to be together, stream type by stream type: numbers fit their fields, records have
 -- bits, clocks are there, and timestamps tell all times (barectf 3.1, "Data stream type object").
-use Rattle.std.specs.Prelude.{ℕ, ◌-◌, ◌^◌, ◌&&◌, ◌||◌, ◌==◌, nat_lt, List, [], ◌∷◌, Bool, true, false, not, Option, None, Some, is_some, is_none, length, map, Result, Ok, Err, codes, if◌then◌else◌, ⊤}
+use Rattle.std.specs.Prelude.{ℕ, ◌-◌, ◌^◌, ◌||◌, ◌==◌, nat_lt, List, [], ◌∷◌, Bool, true, Option, None, Some, is_some, is_none, length, Result, Ok, Err, codes, if◌then◌else◌, ⊤}
 use Rattle.std.specs.List.{list_all, list_any}
 use Rattle.std.specs.Str.{bytes_eq}
 use Rattle.ctf_types.specs.declared.clock_type.ClockType.{ClockType}
@@ -8,7 +8,6 @@ use Rattle.ctf_types.specs.declared.config.Config.{Config}
 use Rattle.ctf_types.specs.declared.config.EventType.{EventType}
 use Rattle.ctf_types.specs.declared.config.StreamType.{StreamType}
 use Rattle.ctf_types.specs.declared.int_type.IntType.{IntType}
-use Rattle.ctf_types.specs.declared.field_type.FieldType.{FieldType}
 use Rattle.ctf_types.specs.declared.member_type.MemberType.{MemberType}
 use Rattle.ctf_types.specs.declared.member_type.MemberType.TheVariants.{Plain, Dyn}
 use Rattle.ctf_types.specs.declared.struct_type.StructType.{StructType}

@@ -1,5 +1,5 @@
 -- The trace and the configuration around it (barectf 3.1, "Configuration object", "Trace object").
-use Rattle.std.specs.Prelude.{ℕ, List, [], Option, None, Some, Result, Ok, codes}
+use Rattle.std.specs.Prelude.{ℕ, List, Option, Result, Ok, codes}
 use Rattle.serde_json.specs.Data.{Data, Members}
 use Rattle.ctf_types.specs.declared.environment.EnvironmentEntry.{EnvironmentEntry}
 use Rattle.conf_tree.specs.Flaw.{Flaw}

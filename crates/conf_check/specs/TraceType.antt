@@ -1,5 +1,5 @@
 -- Trace types (barectf 3.1, "Trace type object"): a byte order, and what is counted, named and numbered in the whole trace.
-use Rattle.std.specs.Prelude.{ℕ, List, [], Bool, true, false, ◌&&◌, Option, None, Some, is_some, is_none, Result, Ok, Err, codes, if◌then◌else◌, ⊤}
+use Rattle.std.specs.Prelude.{ℕ, List, Bool, false, ◌&&◌, Option, None, Some, is_some, is_none, Result, Ok, Err, codes, if◌then◌else◌, ⊤}
 use Rattle.std.specs.Str.{bytes_eq}
 use Rattle.serde_json.specs.Data.{Data, object, Members, no_members}
 use Rattle.ctf_types.specs.declared.byte_order.ByteOrder.{ByteOrder}
@@ -7,8 +7,6 @@ use Rattle.ctf_types.specs.declared.byte_order.ByteOrder.TheVariants.{Little}
 use Rattle.ctf_types.specs.declared.clock_type.ClockType.{ClockType}
 use Rattle.ctf_types.specs.declared.environment.EnvironmentEntry.{EnvironmentEntry}
 use Rattle.ctf_types.specs.declared.features.HeaderFeatures.{HeaderFeatures}
-use Rattle.ctf_types.specs.declared.config.Config.{Config}
-use Rattle.ctf_types.specs.declared.config.StreamType.{StreamType}
 use Rattle.conf_tree.specs.declared.fault_kind.FaultKind.TheVariants.{OutOfRange, Missing}
 use Rattle.conf_tree.specs.Flaw.{Flaw, key, here, within}
 use Rattle.conf_tree.specs.Reading.{object_of, text_of, optional, ◌>>=◌}

@@ -1,4 +1,4 @@
-use Rattle.std.proofs.Common.{◌≡◌, sym, ◌∙◌}
+use Rattle.std.proofs.Common.{sym, ◌∙◌}
 use Rattle.serde_json.proofs.Views.{members_len-members_view}
 use Rattle.conf_check.proofs.limits.entries.Goals as goal
 

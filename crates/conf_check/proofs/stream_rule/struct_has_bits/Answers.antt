@@ -1,5 +1,5 @@
-use Rattle.std.proofs.Common.{◌≡◌, ◌||◌, true, false, drop, suc, add-one, ap, sym, ◌∙◌, refl}
-use Rattle.conf_check.specs.StreamRules.{struct_has_bits, member_has_bits}
+use Rattle.std.proofs.Common.{◌||◌, drop, suc, add-one, ap, sym, ◌∙◌}
+use Rattle.conf_check.specs.StreamRules.{struct_has_bits}
 use Rattle.conf_check.proofs.BitsLemmas.{any_bits, bits_turn}
 use Rattle.conf_check.proofs.stream_rule.struct_has_bits.Goals as goal
 

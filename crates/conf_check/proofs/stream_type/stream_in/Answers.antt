@@ -1,8 +1,5 @@
-use Rattle.std.proofs.Common.{◌≡◌, refl, inl, inr}
+use Rattle.std.proofs.Common.{refl, inl, inr}
 use Rattle.std.proofs.lemmas.Result.{err_from_is_err_and}
-use Rattle.conf_tree.specs.Flaw.{flaw_of, place_of}
-use Rattle.conf_tree.specs.declared.step.Step.{Step}
-use Rattle.conf_tree.specs.declared.step.Step.TheVariants.{Key, Index}
 use Rattle.conf_check.specs.StreamType.{stream_in}
 use Rattle.conf_check.proofs.stream_type.stream_in.Goals as goal
 

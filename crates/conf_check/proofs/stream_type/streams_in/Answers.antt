@@ -1,6 +1,5 @@
-use Rattle.std.proofs.Common.{◌≡◌, ◌+◌, ◌≤◌, ◌∷◌, [], ◌++◌, ◌||◌, ap, sym, ◌∙◌, arith, string_bytes}
+use Rattle.std.proofs.Common.{◌||◌, ap, sym, ◌∙◌, arith, string_bytes}
 use Rattle.serde_json.specs.View.{view, members_view}
-use Rattle.serde_json.specs.Data.{members_depth}
 use Rattle.conf_check.specs.StreamType.{streams_in, stream_member_of}
 use Rattle.conf_check.proofs.Walks.{after}
 use Rattle.conf_check.proofs.StreamLemmas.{one_stream}
