@@ -47,17 +47,26 @@ fn start_with(
     }
 }
 
-/// What a call answers. These say nothing of it, so that a test of many calls is proved at once.
-fn traced<C: Clock, B: BackEnd>(stream: &mut Stream<C, B>, event: usize, args: &Args) -> Verdict {
-    stream.trace(event, args)
+/// What a call answers. These say nothing of the stream, so that a test of many calls is proved at once.
+fn traces<C: Clock, B: BackEnd>(
+    rt: &impl Abort,
+    stream: &mut Stream<C, B>,
+    event: usize,
+    args: &Args,
+    want: Verdict,
+) {
+    let answer = stream.trace(event, args);
+    assert_eq!(rt; answer, want);
 }
 
-fn opened<C: Clock, B: BackEnd>(stream: &mut Stream<C, B>) -> PacketAnswer {
-    stream.open_packet()
+fn opens<C: Clock, B: BackEnd>(rt: &impl Abort, stream: &mut Stream<C, B>, want: PacketAnswer) {
+    let answer = stream.open_packet();
+    assert_eq!(rt; answer, want);
 }
 
-fn closed<C: Clock, B: BackEnd>(stream: &mut Stream<C, B>) -> PacketAnswer {
-    stream.close_packet()
+fn closes<C: Clock, B: BackEnd>(rt: &impl Abort, stream: &mut Stream<C, B>, want: PacketAnswer) {
+    let answer = stream.close_packet();
+    assert_eq!(rt; answer, want);
 }
 
 fn discarded<C: Clock, B: BackEnd>(stream: &Stream<C, B>) -> u64 {
@@ -82,9 +91,9 @@ fn collects(
 fn opens_and_closes_a_packet(rt: HostRuntime) -> Result<(), Fail> {
     let alloc = rt.alloc();
     let mut stream = start(alloc, &small(alloc, &[])?, 2, 16)?;
-    assert_eq!(rt; opened(&mut stream), PacketAnswer::Done);
+    opens(&rt, &mut stream, PacketAnswer::Done);
     assert!(rt; stream.packet_is_open() && stream.packet_is_empty() && !stream.packet_is_full());
-    assert_eq!(rt; closed(&mut stream), PacketAnswer::Done);
+    closes(&rt, &mut stream, PacketAnswer::Done);
     collects(
         &rt,
         alloc,
@@ -102,11 +111,14 @@ fn aligns_from_the_packets_start(rt: HostRuntime) -> Result<(), Fail> {
     let mut values = Vec::new(alloc);
     values.push(Value::Unsigned(1))?;
     values.push(Value::Unsigned(2))?;
-    assert_eq!(rt;
-        traced(&mut stream, 0, &payload(alloc, values)),
-        Verdict::Accepted(None)
+    traces(
+        &rt,
+        &mut stream,
+        0,
+        &payload(alloc, values),
+        Verdict::Accepted(None),
     );
-    assert_eq!(rt; closed(&mut stream), PacketAnswer::Done);
+    closes(&rt, &mut stream, PacketAnswer::Done);
     collects(
         &rt,
         alloc,
@@ -125,11 +137,14 @@ fn aligns_behind_an_empty_array(rt: HostRuntime) -> Result<(), Fail> {
     values.push(Value::Unsigned(1))?;
     values.push(Value::List(Values::new(alloc)))?;
     values.push(Value::Unsigned(2))?;
-    assert_eq!(rt;
-        traced(&mut stream, 0, &payload(alloc, values)),
-        Verdict::Accepted(None)
+    traces(
+        &rt,
+        &mut stream,
+        0,
+        &payload(alloc, values),
+        Verdict::Accepted(None),
     );
-    assert_eq!(rt; closed(&mut stream), PacketAnswer::Done);
+    closes(&rt, &mut stream, PacketAnswer::Done);
     collects(
         &rt,
         alloc,
@@ -144,21 +159,30 @@ const STRING: &str = r#"[{"s":{"field-type":{"class":"str"}}}]"#;
 fn refuses_a_zero_byte_in_a_text(rt: HostRuntime) -> Result<(), Fail> {
     let alloc = rt.alloc();
     let mut stream = start(alloc, &small(alloc, &[("PAYLOAD", STRING)])?, 2, 16)?;
-    assert_eq!(rt;
-        traced(&mut stream, 0, &text(alloc, b"")?),
-        Verdict::Accepted(None)
+    traces(
+        &rt,
+        &mut stream,
+        0,
+        &text(alloc, b"")?,
+        Verdict::Accepted(None),
     );
     let zero = text(alloc, b"a\0b")?;
-    assert_eq!(rt;
-        traced(&mut stream, 0, &zero),
-        Verdict::Misuse(ArgFault::ZeroByte)
+    traces(
+        &rt,
+        &mut stream,
+        0,
+        &zero,
+        Verdict::Misuse(ArgFault::ZeroByte),
     );
-    assert_eq!(rt;
-        traced(&mut stream, 0, &text(alloc, b"Hi")?),
-        Verdict::Accepted(None)
+    traces(
+        &rt,
+        &mut stream,
+        0,
+        &text(alloc, b"Hi")?,
+        Verdict::Accepted(None),
     );
     assert!(rt; stream.packet_is_full());
-    assert_eq!(rt; closed(&mut stream), PacketAnswer::Done);
+    closes(&rt, &mut stream, PacketAnswer::Done);
     collects(
         &rt,
         alloc,
@@ -171,20 +195,29 @@ fn refuses_a_zero_byte_in_a_text(rt: HostRuntime) -> Result<(), Fail> {
 fn discards_what_is_too_large(rt: HostRuntime) -> Result<(), Fail> {
     let alloc = rt.alloc();
     let mut stream = start(alloc, &small(alloc, &[("PAYLOAD", STRING)])?, 2, 16)?;
-    assert_eq!(rt;
-        traced(&mut stream, 0, &text(alloc, b"ab")?),
-        Verdict::Accepted(None)
+    traces(
+        &rt,
+        &mut stream,
+        0,
+        &text(alloc, b"ab")?,
+        Verdict::Accepted(None),
     );
-    assert_eq!(rt;
-        traced(&mut stream, 0, &text(alloc, b"abcd")?),
-        Verdict::Discarded(Why::TooLarge)
+    traces(
+        &rt,
+        &mut stream,
+        0,
+        &text(alloc, b"abcd")?,
+        Verdict::Discarded(Why::TooLarge),
     );
-    assert_eq!(rt;
-        traced(&mut stream, 0, &text(alloc, b"")?),
-        Verdict::Accepted(None)
+    traces(
+        &rt,
+        &mut stream,
+        0,
+        &text(alloc, b"")?,
+        Verdict::Accepted(None),
     );
     assert_eq!(rt; discarded(&stream), 1);
-    assert_eq!(rt; closed(&mut stream), PacketAnswer::Done);
+    closes(&rt, &mut stream, PacketAnswer::Done);
     collects(
         &rt,
         alloc,
@@ -200,14 +233,20 @@ fn counts_what_a_full_back_end_discards(rt: HostRuntime) -> Result<(), Fail> {
     let alloc = rt.alloc();
     let mut stream = start(alloc, &small(alloc, &[COUNTED])?, 1, 20)?;
     for n in 1..5u64 {
-        assert_eq!(rt;
-            traced(&mut stream, 0, &number(alloc, n)?),
-            Verdict::Accepted(None)
+        traces(
+            &rt,
+            &mut stream,
+            0,
+            &number(alloc, n)?,
+            Verdict::Accepted(None),
         );
     }
-    assert_eq!(rt;
-        traced(&mut stream, 0, &number(alloc, 5)?),
-        Verdict::Discarded(Why::BackEndFull)
+    traces(
+        &rt,
+        &mut stream,
+        0,
+        &number(alloc, 5)?,
+        Verdict::Discarded(Why::BackEndFull),
     );
     collects(
         &rt,
@@ -215,11 +254,14 @@ fn counts_what_a_full_back_end_discards(rt: HostRuntime) -> Result<(), Fail> {
         &mut stream,
         "c11ffcc1 a0000000 a0000000 00000000 01020304",
     )?;
-    assert_eq!(rt;
-        traced(&mut stream, 0, &number(alloc, 6)?),
-        Verdict::Accepted(None)
+    traces(
+        &rt,
+        &mut stream,
+        0,
+        &number(alloc, 6)?,
+        Verdict::Accepted(None),
     );
-    assert_eq!(rt; closed(&mut stream), PacketAnswer::Done);
+    closes(&rt, &mut stream, PacketAnswer::Done);
     collects(
         &rt,
         alloc,
@@ -234,26 +276,29 @@ fn counts_what_a_full_back_end_discards(rt: HostRuntime) -> Result<(), Fail> {
 fn answers_out_of_turn(rt: HostRuntime) -> Result<(), Fail> {
     let alloc = rt.alloc();
     let mut stream = start(alloc, &small(alloc, &[])?, 2, 16)?;
-    assert_eq!(rt; closed(&mut stream), PacketAnswer::NotOpen);
-    assert_eq!(rt; opened(&mut stream), PacketAnswer::Done);
-    assert_eq!(rt; opened(&mut stream), PacketAnswer::AlreadyOpen);
+    closes(&rt, &mut stream, PacketAnswer::NotOpen);
+    opens(&rt, &mut stream, PacketAnswer::Done);
+    opens(&rt, &mut stream, PacketAnswer::AlreadyOpen);
     stream.set_enabled(false);
-    assert_eq!(rt;
-        traced(&mut stream, 0, &number(alloc, 1)?),
-        Verdict::Disabled
-    );
-    assert_eq!(rt; opened(&mut stream), PacketAnswer::Disabled);
-    assert_eq!(rt; closed(&mut stream), PacketAnswer::Disabled);
-    assert_eq!(rt;
-        traced(&mut stream, 0, &number(alloc, 256)?),
-        Verdict::Misuse(ArgFault::Range)
+    traces(&rt, &mut stream, 0, &number(alloc, 1)?, Verdict::Disabled);
+    opens(&rt, &mut stream, PacketAnswer::Disabled);
+    closes(&rt, &mut stream, PacketAnswer::Disabled);
+    traces(
+        &rt,
+        &mut stream,
+        0,
+        &number(alloc, 256)?,
+        Verdict::Misuse(ArgFault::Range),
     );
     stream.set_enabled(true);
-    assert_eq!(rt;
-        traced(&mut stream, 0, &number(alloc, 7)?),
-        Verdict::Accepted(None)
+    traces(
+        &rt,
+        &mut stream,
+        0,
+        &number(alloc, 7)?,
+        Verdict::Accepted(None),
     );
-    assert_eq!(rt; closed(&mut stream), PacketAnswer::Done);
+    closes(&rt, &mut stream, PacketAnswer::Done);
     assert_eq!(rt; discarded(&stream), 0);
     collects(
         &rt,
@@ -270,12 +315,15 @@ fn reduces_counts_to_their_fields(rt: HostRuntime) -> Result<(), Fail> {
     let byte = r#"{"class":"uint","size":8}"#;
     let config = small(alloc, &[("DISCARDED", byte), ("SEQUENCE", byte)])?;
     let mut stream = start(alloc, &config, 1, 16)?;
-    assert_eq!(rt; opened(&mut stream), PacketAnswer::Done);
-    assert_eq!(rt; closed(&mut stream), PacketAnswer::Done);
+    opens(&rt, &mut stream, PacketAnswer::Done);
+    closes(&rt, &mut stream, PacketAnswer::Done);
     for _ in 0..257 {
-        assert_eq!(rt;
-            traced(&mut stream, 0, &number(alloc, 1)?),
-            Verdict::Discarded(Why::BackEndFull)
+        traces(
+            &rt,
+            &mut stream,
+            0,
+            &number(alloc, 1)?,
+            Verdict::Discarded(Why::BackEndFull),
         );
     }
     collects(
@@ -284,8 +332,8 @@ fn reduces_counts_to_their_fields(rt: HostRuntime) -> Result<(), Fail> {
         &mut stream,
         "c11ffcc1 80000000 70000000 00000000",
     )?;
-    assert_eq!(rt; opened(&mut stream), PacketAnswer::Done);
-    assert_eq!(rt; closed(&mut stream), PacketAnswer::Done);
+    opens(&rt, &mut stream, PacketAnswer::Done);
+    closes(&rt, &mut stream, PacketAnswer::Done);
     collects(
         &rt,
         alloc,
@@ -293,13 +341,13 @@ fn reduces_counts_to_their_fields(rt: HostRuntime) -> Result<(), Fail> {
         "c11ffcc1 80000000 70000000 01010000",
     )?;
     for _ in 0..297 {
-        assert_eq!(rt; opened(&mut stream), PacketAnswer::Done);
-        assert_eq!(rt; closed(&mut stream), PacketAnswer::Done);
+        opens(&rt, &mut stream, PacketAnswer::Done);
+        closes(&rt, &mut stream, PacketAnswer::Done);
         let packet = stream.take().ok_or("no packet")?;
         stream.give_back(packet.into_buf());
     }
-    assert_eq!(rt; opened(&mut stream), PacketAnswer::Done);
-    assert_eq!(rt; closed(&mut stream), PacketAnswer::Done);
+    opens(&rt, &mut stream, PacketAnswer::Done);
+    closes(&rt, &mut stream, PacketAnswer::Done);
     collects(
         &rt,
         alloc,
@@ -322,20 +370,29 @@ fn holds_a_packet_that_comes_back(rt: HostRuntime) -> Result<(), Fail> {
         return Err("no stream".into());
     };
     for n in 1..5u64 {
-        assert_eq!(rt;
-            traced(&mut stream, 0, &number(alloc, n)?),
-            Verdict::Accepted(None)
+        traces(
+            &rt,
+            &mut stream,
+            0,
+            &number(alloc, n)?,
+            Verdict::Accepted(None),
         );
     }
-    assert_eq!(rt;
-        traced(&mut stream, 0, &number(alloc, 5)?),
-        Verdict::Discarded(Why::BackEndFull)
+    traces(
+        &rt,
+        &mut stream,
+        0,
+        &number(alloc, 5)?,
+        Verdict::Discarded(Why::BackEndFull),
     );
-    assert_eq!(rt;
-        traced(&mut stream, 0, &number(alloc, 6)?),
-        Verdict::Accepted(None)
+    traces(
+        &rt,
+        &mut stream,
+        0,
+        &number(alloc, 6)?,
+        Verdict::Accepted(None),
     );
-    assert_eq!(rt; closed(&mut stream), PacketAnswer::Done);
+    closes(&rt, &mut stream, PacketAnswer::Done);
     let want = bytes_of(alloc, "c11ffcc1 a0000000 a0000000 00000000 01020304")?;
     assert_eq!(rt; stream.take().ok_or("no packet")?.bytes(), want.as_slice());
     let want = bytes_of(alloc, "c11ffcc1 a0000000 88000000 01000000 06000000")?;
@@ -355,11 +412,14 @@ fn writes_extra_members(rt: HostRuntime) -> Result<(), Fail> {
     let cpu = r#"[{"cpu":{"field-type":{"class":"uint","size":8}}}]"#;
     let three = values_of(alloc, Value::Unsigned(3))?;
     let mut stream = start_with(alloc, &small(alloc, &[("EXTRAS", cpu)])?, 2, 16, &[], three)?;
-    assert_eq!(rt;
-        traced(&mut stream, 0, &number(alloc, 1)?),
-        Verdict::Accepted(None)
+    traces(
+        &rt,
+        &mut stream,
+        0,
+        &number(alloc, 1)?,
+        Verdict::Accepted(None),
     );
-    assert_eq!(rt; closed(&mut stream), PacketAnswer::Done);
+    closes(&rt, &mut stream, PacketAnswer::Done);
     collects(
         &rt,
         alloc,
@@ -405,13 +465,19 @@ fn sets_extra_members_that_have_room(rt: HostRuntime) -> Result<(), Fail> {
 fn finishes_an_open_packet(rt: HostRuntime) -> Result<(), Fail> {
     let alloc = rt.alloc();
     let mut stream = start(alloc, &small(alloc, &[])?, 2, 16)?;
-    assert_eq!(rt;
-        traced(&mut stream, 0, &number(alloc, 1)?),
-        Verdict::Accepted(None)
+    traces(
+        &rt,
+        &mut stream,
+        0,
+        &number(alloc, 1)?,
+        Verdict::Accepted(None),
     );
-    assert_eq!(rt;
-        traced(&mut stream, 0, &number(alloc, 2)?),
-        Verdict::Accepted(None)
+    traces(
+        &rt,
+        &mut stream,
+        0,
+        &number(alloc, 2)?,
+        Verdict::Accepted(None),
     );
     let (end, _clock) = stream.finish();
     assert!(rt; end.left.is_none());
@@ -499,26 +565,35 @@ fn reads_its_clock(rt: HostRuntime) -> Result<(), Fail> {
     let mut stream = start_with(alloc, &config, 2, 64, &[10, 11, 12], Values::new(alloc))?;
     let mut values = Vec::new(alloc);
     values.push(Value::Signed(-2))?;
-    assert_eq!(rt;
-        traced(&mut stream, 0, &payload(alloc, values)),
-        Verdict::Accepted(Some(10))
+    traces(
+        &rt,
+        &mut stream,
+        0,
+        &payload(alloc, values),
+        Verdict::Accepted(Some(10)),
     );
-    assert_eq!(rt;
-        traced(&mut stream, 1, &text(alloc, b"ok")?),
-        Verdict::Accepted(Some(11))
+    traces(
+        &rt,
+        &mut stream,
+        1,
+        &text(alloc, b"ok")?,
+        Verdict::Accepted(Some(11)),
     );
-    assert_eq!(rt; closed(&mut stream), PacketAnswer::Done);
+    closes(&rt, &mut stream, PacketAnswer::Done);
     collects(
         &rt,
         alloc,
         &mut stream,
         "c1fc1fc1 0200 0188 000000000000000a 000000000000000c 00 00 00 000000000000000a fffe 01 000000000000000b 6f6b00 000000000000000000000000000000",
     )?;
-    assert_eq!(rt;
-        traced(&mut stream, 1, &text(alloc, b"")?),
-        Verdict::Discarded(Why::ClockSpent)
+    traces(
+        &rt,
+        &mut stream,
+        1,
+        &text(alloc, b"")?,
+        Verdict::Discarded(Why::ClockSpent),
     );
-    assert_eq!(rt; opened(&mut stream), PacketAnswer::ClockSpent);
+    opens(&rt, &mut stream, PacketAnswer::ClockSpent);
     assert_eq!(rt; discarded(&stream), 1);
     assert_eq!(rt; stream.sequence_number(), 1);
     Ok(())
@@ -536,10 +611,13 @@ fn reads_its_clock_without_a_timestamp_field(rt: HostRuntime) -> Result<(), Fail
     let config = configured(alloc, json.as_str())?;
     let mut stream = start_with(alloc, &config, 2, 64, &[10], Values::new(alloc))?;
     let ok = text(alloc, b"ok")?;
-    assert_eq!(rt; traced(&mut stream, 1, &ok), Verdict::Accepted(Some(10)));
-    assert_eq!(rt;
-        traced(&mut stream, 1, &ok),
-        Verdict::Discarded(Why::ClockSpent)
+    traces(&rt, &mut stream, 1, &ok, Verdict::Accepted(Some(10)));
+    traces(
+        &rt,
+        &mut stream,
+        1,
+        &ok,
+        Verdict::Discarded(Why::ClockSpent),
     );
     Ok(())
 }
