@@ -9,10 +9,10 @@ use Rattle.tsdl_grammar.specs.declared.fault.MetaFaultKind.TheVariants as faults
 use Rattle.tsdl_grammar.specs.Tokens.{Tokenizes}
 use Rattle.tsdl_grammar.specs.Atoms.{atoms_of}
 use Rattle.tsdl_grammar.specs.Denotes.{is_read, text_meta, Denotes}
-use Rattle.tsdl_reader.specs.Faults.{IsOfAtoms}
+use Rattle.tsdl_fault.specs.Faults.{IsOfAtoms}
 use Rattle.tsdl_reader.specs.Reading.{Means, HasAtoms, start_of, IsRefused, FaultHolds}
-use Rattle.tsdl_reader.proofs.Steps.{some_is}
-use Rattle.tsdl_reader.proofs.Blocks.{one_reading}
+use Rattle.tsdl_parser.proofs.Steps.{some_is}
+use Rattle.tsdl_parser.proofs.Blocks.{one_reading}
 
 abbrev pub OneListOfTokens : Type 0
 OneListOfTokens = (text : List ℕ) (ts us : List Token) → Tokenizes text ts → Tokenizes text us → ts ≡ us

@@ -1,16 +1,1 @@
-pub mod Parsing
-pub mod ParsingAttributes
-pub mod ParsingEntries
-pub mod ParsingMembers
-pub mod ParsingBlocks
-pub mod Names
-pub mod IntegerParts
-pub mod Fronts
-pub mod Members
-pub mod ScopeRules
-pub mod ClockParts
-pub mod EventParts
-pub mod Numbers
-pub mod TextParts
-pub mod Faults
 pub mod Reading

@@ -5,19 +5,17 @@ ghost use Rattle.ctf_types.specs.declared.metadata.Metadata.{Metadata};
 ghost use Rattle.ctf_types.specs.Allowed.{IsMetadata};
 ghost use Rattle.tsdl_grammar.specs.Tokens.{HasMagicLine, StopsAt};
 ghost use Rattle.tsdl_grammar.specs.Denotes.{Denotes};
-ghost use Rattle.tsdl_reader.specs.Faults.{IsOfAtoms};
+ghost use Rattle.tsdl_fault.specs.Faults.{IsOfAtoms};
 ghost use Rattle.tsdl_reader.specs.Reading.{Means, GivesMetadata, GivesKind, HasAtoms, FaultHolds, start_of};
 
-use crate::fault_text::first_fault;
-use crate::keyword::are_read;
-use crate::laws::{blocks_are_unique, denoted_is_allowed};
-use crate::meaning_text::metadata_of;
-use crate::parse_block::parse;
 use ctf_types::Metadata;
 use std::alloc::{AllocError, Global};
+use tsdl_fault::first_fault;
 use tsdl_grammar::{
     Atom, MetaFault, MetaFaultKind, Token, atoms, tokens, tokens_are_unique, tokens_or_a_stop,
 };
+use tsdl_meaning::{denoted_is_allowed, metadata_of};
+use tsdl_parser::{are_read, blocks_are_unique, parse};
 
 /// The metadata that a text denotes (CTF 1.8.3, section 7 and appendix C, narrowed to what this project reads).
 ///

@@ -2,10 +2,11 @@ mod described;
 mod reading;
 mod smallest;
 
-use crate::{explain_fault, read_metadata};
+use crate::read_metadata;
 use std::alloc::{AllocError, Global};
 use std::process::Abort;
 use std::test::Fail;
+use tsdl_fault::explain_fault;
 use tsdl_grammar::{MAGIC_LINE, MetaFault, MetaFaultKind};
 
 /// The fault that a text is refused with.

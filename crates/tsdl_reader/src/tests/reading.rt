@@ -2,11 +2,11 @@
 
 use super::described::described;
 use super::unmarked;
-use crate::fault_text::first_fault;
 use crate::read_metadata;
 use std::alloc::Global;
 use std::process::Abort;
 use std::test::Fail;
+use tsdl_fault::first_fault;
 use tsdl_grammar::{MetaFaultKind, atoms, tokens};
 
 /// Two texts behind the magic line that denote the same metadata.

@@ -1,0 +1,168 @@
+//! The first fault of a structure's member: its kind, its name, its brackets, and what its name asks of it.
+
+use crate::cursor::Cursor;
+use crate::flaw::{Flaw, Stop};
+use crate::integer::IntegerParts;
+use crate::kind::{Element, judge_kind};
+use crate::name::Names;
+use crate::number::natural;
+use crate::scope::ScopeKind;
+use crate::survey::Survey;
+use std::alloc::Global;
+use tsdl_grammar::Mark;
+
+/// How many members a structure may have.
+const MOST_MEMBERS: usize = 1024;
+/// How many static arrays may stand in one another.
+const MOST_LENGTHS: usize = 8;
+/// How many elements they may have, a length of 0 counted as 1.
+const MOST_ELEMENTS: u64 = 1 << 20;
+
+/// What a name may ask of its member.
+#[derive(Clone, Copy)]
+pub(crate) enum Shape {
+    /// An unsigned integer of so many bits.
+    Unsigned(u64),
+    /// 16 unsigned integers of 8 bits on any byte.
+    SixteenBytes,
+    Other,
+}
+
+/// The members of a structure so far.
+#[derive(Drop)]
+pub(crate) struct Members {
+    pub names: Names,
+    unsigned: Names,
+}
+
+impl Members {
+    pub(crate) fn new(alloc: Global) -> Members {
+        Members {
+            names: Names::new(alloc),
+            unsigned: Names::new(alloc),
+        }
+    }
+
+    /// Adds the name of a member, which stands at an atom.
+    fn add(&mut self, alloc: Global, at: usize, name: &str) -> Result<(), Stop> {
+        self.names.add(at, String::from_str(alloc, name)?)?;
+        if self.names.len() > MOST_MEMBERS {
+            Err(Stop::at(at, Flaw::Limit("at most 1024 members")))
+        } else {
+            Ok(())
+        }
+    }
+}
+
+/// `kind identifier { bracket } ";"`, behind other members.
+pub(crate) fn judge_member(
+    cursor: &mut Cursor,
+    survey: &Survey,
+    scope: ScopeKind,
+    members: &mut Members,
+) -> Result<(), Stop> {
+    let element = judge_kind(cursor, survey)?;
+    let at = cursor.at();
+    let name = cursor.identifier("the name of a member")?;
+    members.add(cursor.alloc, at, name)?;
+    let lengths = judge_brackets(cursor, members)?;
+    let shape = lengths.shape(element);
+    if !scope.suits(name, shape) {
+        return Err(Stop::unsupported(cursor.alloc, at, name));
+    }
+    if matches!(shape, Shape::Unsigned(_)) {
+        let name = String::from_str(cursor.alloc, name)?;
+        let _is_new = members.unsigned.insert(name)?;
+    }
+    cursor.expect(Mark::Semicolon)
+}
+
+/// The brackets of a member so far.
+#[derive(Clone, Copy)]
+struct Lengths {
+    is_sequence: bool,
+    /// How many numbers stand in brackets, and the last one.
+    count: usize,
+    last: u64,
+    elements: u64,
+}
+
+impl Lengths {
+    fn shape(self, element: Element) -> Shape {
+        match element {
+            Element::Integer(parts) if !parts.is_signed && !self.is_sequence => {
+                self.shape_of_unsigned(parts)
+            }
+            Element::Integer(_) | Element::Other => Shape::Other,
+        }
+    }
+
+    fn shape_of_unsigned(self, parts: IntegerParts) -> Shape {
+        let is_byte = parts.size == 8 && parts.align == 8;
+        match (self.count, self.last) {
+            (0, _) => Shape::Unsigned(parts.size),
+            (1, 16) if is_byte => Shape::SixteenBytes,
+            _ => Shape::Other,
+        }
+    }
+
+    /// Adds the length in a bracket, which stands at an atom.
+    fn add(&mut self, at: usize, length: u64) -> Result<(), Stop> {
+        self.count = self.count.saturating_add(1);
+        self.last = length;
+        self.elements = self.elements.saturating_mul(length.max(1));
+        match self.passed() {
+            Some(limit) => Err(Stop::at(at, Flaw::Limit(limit))),
+            None => Ok(()),
+        }
+    }
+
+    /// The limit that the last length passes.
+    fn passed(self) -> Option<&'static str> {
+        if self.is_sequence && self.last == 0 {
+            Some("a sequence of elements with bits")
+        } else if self.count > MOST_LENGTHS {
+            Some("at most 8 arrays in one another")
+        } else if self.elements > MOST_ELEMENTS {
+            Some("at most 1048576 elements")
+        } else {
+            None
+        }
+    }
+}
+
+/// `{ "[" (number | identifier) "]" }`.
+fn judge_brackets(cursor: &mut Cursor, members: &Members) -> Result<Lengths, Stop> {
+    let mut lengths = Lengths {
+        is_sequence: false,
+        count: 0,
+        last: 0,
+        elements: 1,
+    };
+    for _ in 0..cursor.left() {
+        if !cursor.take(Mark::OpenBracket) {
+            break;
+        }
+        judge_length(cursor, members, &mut lengths)?;
+        cursor.expect(Mark::CloseBracket)?;
+    }
+    Ok(lengths)
+}
+
+/// What stands in a bracket: a number, or in the first one the name of an unsigned integer member before.
+fn judge_length(cursor: &mut Cursor, members: &Members, lengths: &mut Lengths) -> Result<(), Stop> {
+    let at = cursor.at();
+    if !cursor.is_at_word() {
+        let number = cursor.number("a number or the name of a member")?;
+        return lengths.add(at, natural(at, &number)?);
+    }
+    let name = cursor.identifier("the name of a member")?;
+    if lengths.is_sequence || lengths.count > 0 {
+        return Err(Stop::unsupported(cursor.alloc, at, name));
+    }
+    if !members.unsigned.contains(name) {
+        return Err(Stop::at(at, Flaw::BadLength));
+    }
+    lengths.is_sequence = true;
+    Ok(())
+}

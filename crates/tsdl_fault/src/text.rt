@@ -1,0 +1,82 @@
+//! The first fault of a text that denotes no metadata, by one pass over its atoms.
+
+ghost use Rattle.std.specs.Prelude.{◌≤◌, length, IfOk};
+ghost use Rattle.tsdl_fault.specs.Faults.{IsOfAtoms};
+
+use crate::block::{BlockKind, judge_block};
+use crate::cursor::Cursor;
+use crate::environment::judge_environment;
+use crate::flaw::{Fault, Flaw, Stop};
+use crate::ledger::Ledger;
+use crate::survey::Survey;
+use std::alloc::{AllocError, Global};
+use tsdl_grammar::{Atom, Mark, MetaFaultKind};
+
+/// The first fault of a text that denotes no metadata: the index of the atom at which it stands, which is the number
+/// of atoms for the end of the text, and its kind.
+///
+/// Faults come in the order of the text. At one atom the syntax comes first, then what is not supported, what stands
+/// twice, a bad length and a limit. The end of the text lacks a trace block, the stream of an event or the sizes of
+/// a stream's packets, in this order.
+pub fn first_fault(alloc: Global, atoms: &[Atom]) -> Result<(usize, MetaFaultKind), AllocError>
+    ensures place { IfOk result (λ fault. fault.0 ≤ length atoms.now) }
+    ensures kind { IfOk result (λ fault. IsOfAtoms fault.1) }
+{
+    match judge_text(alloc, atoms) {
+        Err(Stop::Fault(Fault { at, flaw })) => Ok((at.min(atoms.len()), flaw.into_kind())),
+        Err(Stop::NoMemory) => Err(AllocError),
+        Ok(()) => Ok((atoms.len(), MetaFaultKind::Syntax)),
+    }
+}
+
+/// What was expected at the first fault of a text, in words.
+pub(crate) fn first_expected(
+    alloc: Global,
+    atoms: &[Atom],
+) -> Result<Option<&'static str>, AllocError> {
+    match judge_text(alloc, atoms) {
+        Err(Stop::Fault(fault)) => Ok(fault.flaw.expected()),
+        Err(Stop::NoMemory) => Err(AllocError),
+        Ok(()) => Ok(None),
+    }
+}
+
+/// Judges the blocks of a text in their order, and then its end.
+fn judge_text(alloc: Global, atoms: &[Atom]) -> Result<(), Stop> {
+    let survey = Survey::of(alloc, atoms)?;
+    let mut ledger = Ledger::new(alloc);
+    let mut cursor = Cursor::new(alloc, atoms);
+    for _ in 0..atoms.len() {
+        if cursor.left() == 0 {
+            break;
+        }
+        judge_any_block(&mut cursor, &survey, &mut ledger)?;
+        cursor.expect(Mark::Semicolon)?;
+    }
+    match ledger.flaw_at_end() {
+        Some(flaw) => Err(Stop::at(atoms.len(), flaw)),
+        None => Ok(()),
+    }
+}
+
+/// A block with its word. Any other word is not supported.
+fn judge_any_block(cursor: &mut Cursor, survey: &Survey, ledger: &mut Ledger) -> Result<(), Stop> {
+    let at = cursor.at();
+    let Some(word) = cursor.any_word() else {
+        return Err(cursor.unexpected("`trace`, `env`, `clock`, `stream` or `event`"));
+    };
+    match word {
+        "trace" => {
+            ledger.begin_trace(at)?;
+            judge_block(cursor, survey, ledger, BlockKind::Trace)
+        }
+        "stream" => judge_block(cursor, survey, ledger, BlockKind::Stream),
+        "event" => judge_block(cursor, survey, ledger, BlockKind::Event),
+        "clock" => judge_block(cursor, survey, ledger, BlockKind::Clock),
+        "env" => {
+            ledger.begin_environment(at)?;
+            judge_environment(cursor)
+        }
+        _ => Err(Stop::unsupported(cursor.alloc, at, word)),
+    }
+}

@@ -1,0 +1,256 @@
+-- Types that a metadata text means are types that the rules allow: integers, enumerations, fields and members.
+use Rattle.std.proofs.Common.{◌≡◌, ℕ, suc, ◌-◌, ◌*◌, ◌<◌, ◌≤◌, ◌^◌, ℤ, pos, negsuc, ◌≤ℤ◌, Bool, true, false, cond, not, ◌&&◌, List, [], ◌∷◌, ◌++◌, length, max, get_or, slice_get, All, Contains, Option, Some, None, refl, sym, ap, subst, ◌∙◌, arith, codes}
+use Rattle.std.specs.Prelude.{int_le, neg_ℤ, nat_le, nat_lt}
+use Rattle.std.specs.Option.{option_map}
+use Rattle.std.specs.List.{list_all, list_any, flat_map, AllByRecursion}
+use Rattle.std.specs.Str.{bytes_eq}
+use Rattle.std.proofs.lemmas.Bool.{ltb-true, leb-true}
+use Rattle.std.proofs.lemmas.Int.{ints}
+use Rattle.std.proofs.lemmas.Float.{T_from_true}
+use Rattle.std.specs.Int.Signed.{le_z_yes}
+use Rattle.std.proofs.lemmas.List.Elements.{All-from_recursion, All-weaker}
+use Rattle.std.proofs.lemmas.List.Sums.{AllPass-from_list_all}
+use Rattle.std.proofs.lemmas.List.Quantifiers.{position-Some}
+use Rattle.std.proofs.lemmas.Option.{slice_get-get_or}
+use Rattle.std.proofs.lemmas.Map.Views.{Contains-from_any}
+use Rattle.std.proofs.lemmas.Slice.Eq.{bytes_eq-Decides}
+use Rattle.ctf_types.specs.declared.int_type.IntType.{IntType}
+use Rattle.ctf_types.specs.declared.enum_type.EnumType.{EnumType}
+use Rattle.ctf_types.specs.declared.enum_type.Mapping.{Mapping}
+use Rattle.ctf_types.specs.declared.field_type.FieldType.TheVariants.{Int, Enum, Str, Static}
+use Rattle.ctf_types.specs.declared.member_type.MemberType.{MemberType}
+use Rattle.ctf_types.specs.declared.member_type.MemberType.TheVariants.{Plain, Dyn}
+use Rattle.ctf_types.specs.declared.member_type.Length.TheVariants.{At}
+use Rattle.ctf_types.specs.Chain.{Chain, Leaf, Number, Labelled, ByteString}
+use Rattle.ctf_types.specs.FieldTypes.{chain_of}
+use Rattle.ctf_types.specs.Allowed as allowed
+use Rattle.ctf_types.specs.Allowed.{IsMappedTo, IsRange, IsLeaf, IsNest, IsField, HasBits, IsCount, IsMember}
+use Rattle.tsdl_grammar.specs.declared.atom.Atom.{Atom}
+use Rattle.tsdl_grammar.specs.declared.atom.Atom.TheVariants as atoms
+use Rattle.tsdl_grammar.specs.declared.token.Mark.TheVariants as marks
+use Rattle.tsdl_grammar.specs.declared.tree.Number as numbers
+use Rattle.tsdl_grammar.specs.declared.tree.Value.{Value}
+use Rattle.tsdl_grammar.specs.declared.tree.Value.TheVariants as values
+use Rattle.tsdl_grammar.specs.declared.tree.Attribute.{Attribute}
+use Rattle.tsdl_grammar.specs.declared.tree.Entry.{Entry}
+use Rattle.tsdl_grammar.specs.declared.tree.Entries.{Entries}
+use Rattle.tsdl_grammar.specs.declared.tree.Entries.TheVariants as entries
+use Rattle.tsdl_grammar.specs.declared.tree.Kind.{Kind}
+use Rattle.tsdl_grammar.specs.declared.tree.Kind.TheVariants as kinds
+use Rattle.tsdl_grammar.specs.declared.tree.Bracket.{Bracket}
+use Rattle.tsdl_grammar.specs.declared.tree.Bracket.TheVariants as brackets
+use Rattle.tsdl_grammar.specs.declared.tree.MemberTree.{MemberTree}
+use Rattle.tsdl_grammar.specs.Spelling.{mark, word, number_toks, sign_toks, label_toks, high_toks, entry_toks, next_entry_toks, closing_toks, entries_toks, int_toks, braced, kind_toks, bracket_toks, member_toks}
+use Rattle.tsdl_grammar.specs.Steps.{◌>>=◌, provided, each}
+use Rattle.tsdl_grammar.specs.Lookups.{attr, words_of}
+use Rattle.tsdl_grammar.specs.AttributeValues.{signed_of, is_negative, optional, with_default}
+use Rattle.tsdl_grammar.specs.IntegerMeaning.{Known, int_meaning, clock_value, clock_in, has_only}
+use Rattle.tsdl_grammar.specs.MemberMeaning.{high_of, entry_meaning, entries_of, enum_meaning, encoding_value, text_meaning, kind_meaning, field_of, arrays_of, elements_of, are_lengths, count_of, is_unsigned, length_place, bracketed, member_meaning}
+use Rattle.tsdl_grammar.proofs.Inversion.{bind_some, provided_some, some_same, map_some}
+use Rattle.tsdl_grammar.proofs.Runs.{and_true}
+use Rattle.tsdl_grammar.proofs.MeaningParts.{says_integer}
+use Rattle.tsdl_meaning.proofs.GoodAtoms.{IsGood, AreGood, all_front, all_back}
+
+-- ---- lists
+
+-- what is made of each item, where each item has what it needs
+pub each_keeps : {A B : Type 0} (f : A → Option B) (P : A → Type 0) (Q : B → Type 0) → ((x : A) (y : B) → P x → f x ≡ Some y → Q y)
+    → (xs : List A) (ys : List B) → AllByRecursion P xs → each f xs ≡ Some ys → AllByRecursion Q ys × (length ys ≡ length xs)
+each_keeps {A} {B} f P Q h [] ys p e = subst (λ (zs : List B). AllByRecursion Q zs × (length zs ≡ 0)) (some_same [] ys (Some []) refl e) (tt, refl)
+each_keeps {A} {B} f P Q h (x ∷ xs) ys p e =
+    let a = bind_some (f x) (λ y. each f xs >>= λ zs. Some (y ∷ zs)) ys e in
+    let b = bind_some (each f xs) (λ zs. Some (a.0 ∷ zs)) ys a.2 in
+    let rest = each_keeps f P Q h xs b.0 p.1 b.1 in
+    subst (λ (zs : List B). AllByRecursion Q zs × (length zs ≡ suc (length xs))) (some_same (a.0 ∷ b.0) ys (Some (a.0 ∷ b.0)) refl b.2)
+    ((h x a.0 p.0 a.1, rest.0), ap suc rest.1)
+
+pub all_spelled : {A : Type 0} (toks : A → List Atom) (xs : List A) → AreGood (flat_map toks xs) → AllByRecursion (λ x. AreGood (toks x)) xs
+all_spelled toks [] g = tt
+all_spelled toks (x ∷ xs) g = (all_front IsGood (toks x) (flat_map toks xs) g, all_spelled toks xs (all_back IsGood (toks x) (flat_map toks xs) g))
+
+pub inside : (inner : List Atom) → AreGood (braced inner) → AreGood inner
+inside inner g = (all_front IsGood (mark marks.OpenBrace ∷ inner) (mark marks.CloseBrace ∷ []) g).1
+
+-- ---- integers
+
+in_clocks : (clocks ws : List (List ℕ)) (name : List ℕ) → clock_in clocks ws ≡ Some name → Contains clocks name
+in_clocks clocks [] name e = absurd cc
+in_clocks clocks (a ∷ []) name e = absurd cc
+in_clocks clocks (a ∷ b ∷ []) name e = absurd cc
+in_clocks clocks (a ∷ b ∷ c ∷ []) name e =
+    let p = provided_some (bytes_eq a (codes "clock") && bytes_eq c (codes "value") && list_any (bytes_eq b) clocks) (Some b) name e in
+    let q = and_true (bytes_eq a (codes "clock") && bytes_eq c (codes "value")) (list_any (bytes_eq b) clocks) p.0 in
+    subst (Contains clocks) (some_same b name (Some b) refl p.1) (Contains-from_any (λ x y h. (bytes_eq-Decides x y).0 h) b clocks q.1)
+in_clocks clocks (a ∷ b ∷ c ∷ d ∷ ws) name e = absurd cc
+
+names_clock : (clocks : List (List ℕ)) (v : Value) (name : List ℕ) → clock_value clocks v ≡ Some name → Contains clocks name
+unfolding clock_value
+names_clock clocks (values.Number n) name e = absurd cc
+names_clock clocks (values.Text s) name e = absurd cc
+names_clock clocks (values.Name n) name e = in_clocks clocks (words_of n) name e
+
+same_inner : {A : Type 0} (x y : A) → Some (Some x) ≡ Some (Some y) → x ≡ y
+same_inner x y e = cc
+
+pub mapped : (known : Known) (attrs : List Attribute) (t : IntType) → int_meaning known attrs ≡ Some t → IsMappedTo known.clocks t
+mapped known attrs t e name h = by (attr (codes "map") attrs) ((says_integer known attrs t e).clock ∙ ap (λ (o : Option (List ℕ)). Some o) h)
+  where
+    by : (v : Option Value) → optional (clock_value known.clocks) v ≡ Some (Some name) → Contains known.clocks name
+    by None e = absurd cc
+    by (Some v) e =
+        let m = map_some (λ (x : List ℕ). Some x) (clock_value known.clocks v) (Some name) e in
+        subst (Contains known.clocks) (some_same m.0 name (Some m.0) refl m.2) (names_clock known.clocks v m.0 m.1)
+
+-- ---- enumerations
+
+literal_good : (n : numbers.Number) → AreGood (number_toks n) → n.literal < 2 ^ 64
+literal_good n g = (all_back IsGood (sign_toks n.sign) (atoms.Number n.literal ∷ []) g).0
+
+bounds : (b : Bool) (k : ℕ) → k < 2 ^ 64 → (negsuc (2 ^ 64 - 2) ≤ℤ cond b (neg_ℤ (pos k)) (pos k)) × (cond b (neg_ℤ (pos k)) (pos k) ≤ℤ pos (2 ^ 64 - 1))
+bounds true k h = (omega (arith, ints), omega (arith, ints))
+bounds false k h = (omega (arith, ints), omega (arith, ints))
+
+signed_bounds : (n : numbers.Number) → AreGood (number_toks n) → (negsuc (2 ^ 64 - 2) ≤ℤ signed_of n) × (signed_of n ≤ℤ pos (2 ^ 64 - 1))
+signed_bounds n g = bounds (is_negative n.sign) n.literal (literal_good n g)
+
+high_bound : (low : ℤ) (high : Option numbers.Number) → low ≤ℤ pos (2 ^ 64 - 1) → AreGood (high_toks high) → high_of low high ≤ℤ pos (2 ^ 64 - 1)
+high_bound low None h g = h
+high_bound low (Some n) h g = (signed_bounds n g.1).1
+
+not_above : (low high : ℤ) → int_le low high ≡ true → low ≤ℤ high
+not_above low high h = le_z_yes (T_from_true (int_le low high) h)
+
+in_range : (e : Entry) (m : Mapping) → AreGood (entry_toks e) → entry_meaning e ≡ Some m → IsRange m
+unfolding entry_meaning
+in_range e m g h =
+    let low = signed_of e.low in let high = high_of low e.high in
+    let front = label_toks e.label ++ mark marks.Equals ∷ number_toks e.low in
+    let low_good = (all_back IsGood (label_toks e.label) (mark marks.Equals ∷ number_toks e.low) (all_front IsGood front (high_toks e.high) g)).1 in
+    let b = signed_bounds e.low low_good in
+    let p = provided_some (int_le low high) _ m h in
+    subst IsRange (some_same _ m _ refl p.1) (record { ordered = not_above low high p.0; above = b.0; below = high_bound low e.high b.1 (all_back IsGood front (high_toks e.high) g) })
+
+entry_list : (es : Entries) → AreGood (entries_toks es) → AllByRecursion (λ e. AreGood (entry_toks e)) (entries_of es)
+entry_list entries.Empty g = tt
+entry_list (entries.Listed e es closing) g =
+    let both = all_front IsGood (entry_toks e ++ flat_map next_entry_toks es) (closing_toks closing) g in
+    (all_front IsGood (entry_toks e) (flat_map next_entry_toks es) both, by es (all_back IsGood (entry_toks e) (flat_map next_entry_toks es) both))
+  where
+    by : (xs : List Entry) → AreGood (flat_map next_entry_toks xs) → AllByRecursion (λ x. AreGood (entry_toks x)) xs
+    by [] h = tt
+    by (x ∷ xs) h = (all_front IsGood (entry_toks x) (flat_map next_entry_toks xs) h.1, by xs (all_back IsGood (entry_toks x) (flat_map next_entry_toks xs) h.1))
+
+enum_allowed : (clocks : List (List ℕ)) (int : IntType) (es : Entries) (t : EnumType) → IsMappedTo clocks int → AreGood (entries_toks es) → enum_meaning int es ≡ Some t → IsLeaf clocks (Labelled t)
+unfolding enum_meaning
+enum_allowed clocks int es t m g e =
+    let a = bind_some (provided (nat_le (length (entries_of es)) 65536) (each entry_meaning (entries_of es))) _ t e in
+    let p = provided_some (nat_le (length (entries_of es)) 65536) (each entry_meaning (entries_of es)) a.0 a.1 in
+    let k = each_keeps entry_meaning (λ (x : Entry). AreGood (entry_toks x)) IsRange in_range (entries_of es) a.0 (entry_list es g) p.1 in
+    let few : length a.0 ≤ 65536 = omega (arith, leb-true (length (entries_of es)) 65536 p.0, k.1) in
+    let made : EnumType = record { int = int; mappings = a.0 } in
+    subst (λ (u : EnumType). IsLeaf clocks (Labelled u)) (some_same made t (Some made) refl a.2) (m, All-from_recursion IsRange a.0 k.0, few)
+
+-- ---- members before their brackets
+
+text_allowed : (clocks : List (List ℕ)) (attrs : Option (List Attribute)) (leaf : Leaf) → text_meaning attrs ≡ Some leaf → IsLeaf clocks leaf
+unfolding text_meaning
+text_allowed clocks None leaf e = subst (IsLeaf clocks) (some_same ByteString leaf (Some ByteString) refl e) tt
+text_allowed clocks (Some attrs) leaf e =
+    let a = bind_some (provided (has_only ((codes "encoding" ∷ []) ∷ []) attrs) (with_default true encoding_value (attr (codes "encoding") attrs))) (λ _. Some ByteString) leaf e in
+    subst (IsLeaf clocks) (some_same ByteString leaf (Some ByteString) refl a.2) tt
+
+kind_allowed : (known : Known) (k : Kind) (leaf : Leaf) → AreGood (kind_toks k) → kind_meaning known k ≡ Some leaf → IsLeaf known.clocks leaf
+unfolding kind_meaning
+kind_allowed known (kinds.Integer attrs) leaf g e =
+    let m = map_some Number (int_meaning known attrs) leaf e in subst (IsLeaf known.clocks) m.2 (mapped known attrs m.0 m.1)
+kind_allowed known (kinds.Enumeration attrs es) leaf g e =
+    let a = bind_some (int_meaning known attrs) (λ int. option_map Labelled (enum_meaning int es)) leaf e in
+    let m = map_some Labelled (enum_meaning a.0 es) leaf a.2 in
+    let front : List Atom = word (codes "enum") ∷ mark marks.Colon ∷ int_toks attrs in
+    let good = inside (entries_toks es) (all_back IsGood front (braced (entries_toks es)) g) in
+    subst (IsLeaf known.clocks) m.2 (enum_allowed known.clocks a.0 es m.0 (mapped known attrs a.0 a.1) good m.1)
+kind_allowed known (kinds.Text attrs) leaf g e = text_allowed known.clocks attrs leaf e
+
+-- ---- arrays
+
+same_elements : (ns : List ℕ) → allowed.elements_of ns ≡ elements_of ns
+unfolding allowed.elements_of
+same_elements [] = refl
+same_elements (n ∷ ns) = ap (λ (k : ℕ). max 1 n * k) (same_elements ns)
+
+chain_of_field : (leaf : Leaf) → chain_of (field_of leaf) ≡ record { lengths = []; leaf = leaf }
+chain_of_field (Number t) = refl
+chain_of_field (Labelled t) = refl
+chain_of_field ByteString = refl
+
+chain_of_arrays : (leaf : Leaf) (ns : List ℕ) → chain_of (arrays_of leaf ns) ≡ record { lengths = ns; leaf = leaf }
+chain_of_arrays leaf [] = chain_of_field leaf
+chain_of_arrays leaf (n ∷ ns) = refl
+
+nested : (ns : List ℕ) → are_lengths ns ≡ true → IsNest ns
+nested ns h =
+    let both = and_true (nat_le (length ns) 8) (nat_le (elements_of ns) (2 ^ 20)) h in
+    record { depth = leb-true (length ns) 8 both.0; size = omega (arith, leb-true (elements_of ns) (2 ^ 20) both.1, same_elements ns) }
+
+no_lengths : IsNest []
+no_lengths = nested [] refl
+
+array_allowed : (clocks : List (List ℕ)) (leaf : Leaf) (ns : List ℕ) → IsLeaf clocks leaf → IsNest ns → IsField clocks (arrays_of leaf ns)
+array_allowed clocks leaf ns l n = subst (λ (c : Chain). IsLeaf clocks c.leaf × IsNest c.lengths) (sym (chain_of_arrays leaf ns)) (l, n)
+
+has_bits : (leaf : Leaf) (ns : List ℕ) → list_all (nat_lt 0) ns ≡ true → HasBits (arrays_of leaf ns)
+has_bits leaf ns h =
+    subst (λ (c : Chain). All (λ (n : ℕ). 0 < n) c.lengths) (sym (chain_of_arrays leaf ns))
+    (All-weaker (λ (n : ℕ). nat_lt 0 n ≡ true) (λ (n : ℕ). 0 < n) (λ n t. ltb-true 0 n t) ns (AllPass-from_list_all (nat_lt 0) ns h))
+
+not_signed : (b : Bool) → not b ≡ true → b ≡ false
+not_signed true e = absurd cc
+not_signed false e = refl
+
+counts : (m : List ℕ × MemberType) → is_unsigned m.1 ≡ true → IsCount (Some m)
+counts (name, Plain (Int t)) h = not_signed t.signed h
+counts (name, Plain (Enum t)) h = absurd cc
+counts (name, Plain Str) h = absurd cc
+counts (name, Plain (Static e n)) h = absurd cc
+counts (name, Dyn t l) h = absurd cc
+
+place_counts : (before : List (List ℕ × MemberType)) (w : List ℕ) (i : ℕ) → length_place before w ≡ Some i → IsCount (slice_get before i)
+place_counts before w i e =
+    let d : List ℕ × MemberType = ([], Plain Str) in
+    let p = position-Some (λ m. bytes_eq w m.0 && is_unsigned m.1) before i d e in
+    let m = get_or before i d in
+    subst IsCount (sym (slice_get-get_or before i d p.0)) (counts m (and_true (bytes_eq w m.0) (is_unsigned m.1) p.1).1)
+
+bracketed_allowed : (clocks : List (List ℕ)) (before : List (List ℕ × MemberType)) (leaf : Leaf) (bs : List Bracket) (t : MemberType) → IsLeaf clocks leaf
+    → bracketed before leaf bs ≡ Some t → IsMember clocks before t
+unfolding bracketed
+bracketed_allowed clocks before leaf [] t l e =
+    subst (IsMember clocks before) (some_same (Plain (field_of leaf)) t (Some (Plain (field_of leaf))) refl e) (array_allowed clocks leaf [] l no_lengths)
+bracketed_allowed clocks before leaf (brackets.Count n ∷ bs) t l e =
+    let a = bind_some (each count_of (brackets.Count n ∷ bs)) (λ lengths. provided (are_lengths lengths) (Some (Plain (arrays_of leaf lengths)))) t e in
+    let b = provided_some (are_lengths a.0) (Some (Plain (arrays_of leaf a.0))) t a.2 in
+    subst (IsMember clocks before) (some_same (Plain (arrays_of leaf a.0)) t (Some (Plain (arrays_of leaf a.0))) refl b.1) (array_allowed clocks leaf a.0 l (nested a.0 b.0))
+bracketed_allowed clocks before leaf (brackets.Member w ∷ bs) t l e =
+    let a = bind_some (each count_of bs) (λ lengths. length_place before w >>= λ place. provided (are_lengths lengths && list_all (nat_lt 0) lengths) (Some (Dyn (arrays_of leaf lengths) (At place)))) t e in
+    let b = bind_some (length_place before w) (λ place. provided (are_lengths a.0 && list_all (nat_lt 0) a.0) (Some (Dyn (arrays_of leaf a.0) (At place)))) t a.2 in
+    let made : MemberType = Dyn (arrays_of leaf a.0) (At b.0) in
+    let c = provided_some (are_lengths a.0 && list_all (nat_lt 0) a.0) (Some made) t b.2 in
+    let both = and_true (are_lengths a.0) (list_all (nat_lt 0) a.0) c.0 in
+    subst (IsMember clocks before) (some_same made t (Some made) refl c.1)
+    (array_allowed clocks leaf a.0 l (nested a.0 both.0), has_bits leaf a.0 both.1, place_counts before w b.0 b.1)
+
+-- ---- members
+
+pub name_good : (m : MemberTree) → AreGood (member_toks m) → IsGood (word m.name)
+name_good m g =
+    let front : List Atom = kind_toks m.kind ++ word m.name ∷ flat_map bracket_toks m.brackets in
+    (all_back IsGood (kind_toks m.kind) (word m.name ∷ flat_map bracket_toks m.brackets) (all_front IsGood front (mark marks.Semicolon ∷ []) g)).0
+
+pub member_allowed : (known : Known) (before : List (List ℕ × MemberType)) (m : MemberTree) (t : MemberType) → AreGood (member_toks m) → member_meaning known before m ≡ Some t
+    → IsMember known.clocks before t
+unfolding member_meaning
+member_allowed known before m t g e =
+    let a = bind_some (kind_meaning known m.kind) (λ leaf. bracketed before leaf m.brackets) t e in
+    let front : List Atom = kind_toks m.kind ++ word m.name ∷ flat_map bracket_toks m.brackets in
+    let kind_good = all_front IsGood (kind_toks m.kind) (word m.name ∷ flat_map bracket_toks m.brackets) (all_front IsGood front (mark marks.Semicolon ∷ []) g) in
+    bracketed_allowed known.clocks before a.0 m.brackets t (kind_allowed known m.kind a.0 kind_good a.1) a.2

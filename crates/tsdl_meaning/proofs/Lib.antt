@@ -1,0 +1,14 @@
+pub mod Identity
+pub mod WordTables
+pub mod Fronts
+pub mod ElementCounts
+pub mod LengthPlaces
+pub mod MemberNames
+pub mod StructureTypes
+pub mod NumberOrder
+pub mod EventsOf
+pub mod GoodAtoms
+pub mod AllowedTypes
+pub mod AllowedStructures
+pub mod AllowedStreams
+pub mod AllowedText

@@ -1,0 +1,10 @@
+use Rattle.std.proofs.Common.{◌≡◌, length}
+use Rattle.std.specs.List.{list_any}
+use Rattle.tsdl_grammar.specs.Lookups.{words_of, same_words, attr_names}
+use Rattle.tsdl_meaning.proofs.lookup.has_attr.Given as goal
+
+abbrev pub invariant-loop-rest : goal.invariant-loop-rest
+invariant-loop-rest l = list_any (same_words (words_of l.name)) (attr_names l.rest) ≡ list_any (same_words (words_of l.name)) (attr_names l.attributes)
+
+abbrev pub decreases-loop-rest : goal.decreases-loop-rest
+decreases-loop-rest l = length l.rest

@@ -1,0 +1,7 @@
+use Rattle.std.proofs.Common.{◌≡◌, ℕ, ◌<◌, true, List, get_or}
+use Rattle.ctf_types.specs.declared.member_type.MemberType.{MemberType}
+use Rattle.tsdl_meaning.specs.ScopeRules.{suits_rule}
+use Rattle.tsdl_meaning.proofs.scope_rule.all_suit.Given as goal
+
+abbrev pub invariant-loop-index : goal.invariant-loop-index
+invariant-loop-index l = (d : List ℕ × MemberType) (k : ℕ) → k < l.index → suits_rule l.rule (get_or l.members k d) ≡ true

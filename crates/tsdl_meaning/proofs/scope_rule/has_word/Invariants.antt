@@ -1,0 +1,11 @@
+use Rattle.std.proofs.Common.{◌≡◌, length}
+use Rattle.std.specs.List.{list_any}
+use Rattle.std.specs.Str.{bytes_eq}
+use Rattle.tsdl_meaning.specs.Names.{texts_of}
+use Rattle.tsdl_meaning.proofs.scope_rule.has_word.Given as goal
+
+abbrev pub invariant-loop-rest : goal.invariant-loop-rest
+invariant-loop-rest l = list_any (bytes_eq l.word) (texts_of l.rest) ≡ list_any (bytes_eq l.word) (texts_of l.words)
+
+abbrev pub decreases-loop-rest : goal.decreases-loop-rest
+decreases-loop-rest l = length l.rest

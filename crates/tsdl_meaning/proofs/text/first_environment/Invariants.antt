@@ -1,0 +1,10 @@
+use Rattle.std.proofs.Common.{◌≡◌, length}
+use Rattle.std.specs.List.{flat_map}
+use Rattle.tsdl_grammar.specs.Denotes.{environment_in}
+use Rattle.tsdl_meaning.proofs.text.first_environment.Given as goal
+
+abbrev pub invariant-loop-rest : goal.invariant-loop-rest
+invariant-loop-rest l = flat_map environment_in l.rest ≡ flat_map environment_in l.blocks
+
+abbrev pub decreases-loop-rest : goal.decreases-loop-rest
+decreases-loop-rest l = length l.rest

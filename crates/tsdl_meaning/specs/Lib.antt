@@ -1,0 +1,9 @@
+pub mod Names
+pub mod IntegerParts
+pub mod Fronts
+pub mod Members
+pub mod ScopeRules
+pub mod ClockParts
+pub mod EventParts
+pub mod Numbers
+pub mod TextParts

@@ -1,0 +1,104 @@
+//! Arrays, by the lengths in their brackets (CTF 1.8.3, section 4.2.3). The first length is the outermost array's.
+
+ghost use Rattle.std.specs.Prelude.{◌≡◌, ◌≤◌, ◌^◌, IfOk, nat_lt, nat_le};
+ghost use Rattle.std.specs.List.{list_all};
+ghost use Rattle.ctf_types.specs.Chain.{Leaf};
+ghost use Rattle.tsdl_grammar.specs.Steps.{each};
+ghost use Rattle.tsdl_grammar.specs.MemberMeaning.{field_of, arrays_of, elements_of, are_lengths, count_of};
+
+use crate::value::natural;
+use ctf_types::{Element, FieldType, ListOf};
+use std::alloc::{AllocError, Global};
+use tsdl_grammar::Bracket;
+
+/// The most static arrays in one another.
+const MAX_DEPTH: usize = 8;
+
+/// The most elements of static arrays in one another.
+const MAX_ELEMENTS: u64 = 1 << 20;
+
+/// Arrays of these lengths.
+pub(crate) fn arrays_of(
+    alloc: Global,
+    field: FieldType,
+    lengths: &[u64],
+) -> Result<FieldType, AllocError>
+    requires { elements_of lengths.now ≤ 2 ^ 20 }
+    ensures { (leaf : Leaf) → field ≡ field_of leaf → IfOk result (λ t. t ≡ arrays_of leaf lengths.now) }
+{
+    match lengths {
+        [] => Ok(field),
+        [outer, inner @ ..] => {
+            let element = arrays_of(alloc, field, inner)?;
+            Ok(FieldType::Static(Element::new(alloc, element)?, *outer as u32))
+        }
+    }
+}
+
+/// Whether these are the lengths of at most 8 arrays in one another, of at most 2^20 elements.
+pub(crate) fn are_lengths(lengths: &[u64]) -> bool
+    ensures { result ≡ are_lengths lengths.now }
+{
+    lengths.len() <= MAX_DEPTH && are_few(lengths)
+}
+
+/// Whether arrays of these lengths have at most 2^20 elements, a length of 0 counted as 1.
+fn are_few(lengths: &[u64]) -> bool
+    ensures { result ≡ nat_le (elements_of lengths.now) (2 ^ 20) }
+{
+    let mut elements = 1;
+    let mut rest = lengths;
+    while let [length, others @ ..] = rest {
+        if *length > MAX_ELEMENTS {
+            return false;
+        }
+        elements *= (*length).max(1);
+        if elements > MAX_ELEMENTS {
+            return false;
+        }
+        rest = others;
+    }
+    true
+}
+
+/// Whether none of the lengths is 0.
+pub(crate) fn have_bits(lengths: &[u64]) -> bool
+    ensures { result ≡ list_all (nat_lt 0) lengths.now }
+{
+    let mut rest = lengths;
+    while let [length, others @ ..] = rest {
+        if *length == 0 {
+            return false;
+        }
+        rest = others;
+    }
+    true
+}
+
+/// The lengths in brackets, where each has a number.
+pub(crate) fn counts_of(
+    alloc: Global,
+    brackets: &[Bracket],
+) -> Result<Option<ListOf<u64>>, AllocError>
+    ensures { IfOk result (λ ns. ns ≡ each count_of brackets.now) }
+{
+    let mut counts = ListOf::new(alloc);
+    let mut rest = brackets;
+    while let [bracket, others @ ..] = rest {
+        let Some(count) = count_of(bracket) else {
+            return Ok(None);
+        };
+        counts.push(count)?;
+        rest = others;
+    }
+    Ok(Some(counts))
+}
+
+fn count_of(bracket: &Bracket) -> Option<u64>
+    ensures { result ≡ count_of bracket.now }
+{
+    match bracket {
+        Bracket::Count(number) => natural(*number),
+        Bracket::Member(_) => None,
+    }
+}

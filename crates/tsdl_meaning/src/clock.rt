@@ -1,0 +1,82 @@
+//! What a clock block means (CTF 1.8.3, section 8).
+
+ghost use Rattle.std.specs.Prelude.{◌≡◌, option_map, IfOk};
+ghost use Rattle.tsdl_grammar.specs.BlockMeaning.{clock_meaning};
+ghost use Rattle.tsdl_meaning.specs.ClockParts.{made_clock};
+
+use crate::lookup::{attr_in, has_parts};
+use crate::value::{
+    flag_or_false, name_value, natural_or, natural_or_zero, text_if_there, uuid_if_there,
+    whole_or_zero,
+};
+use ctf_types::{ClockType, Text};
+use std::alloc::{AllocError, Global};
+use tsdl_grammar::Item;
+use uuid::Uuid;
+
+/// The frequency of a clock that says none, in cycles a second.
+const DEFAULT_FREQUENCY: u64 = 1_000_000_000;
+
+/// What the attributes of a clock say.
+#[derive(Drop)]
+struct ClockParts<'a> {
+    name: &'a Text,
+    uuid: Option<Uuid>,
+    description: Option<&'a Text>,
+    frequency: u64,
+    precision: u64,
+    offset_seconds: i64,
+    offset_cycles: u64,
+    absolute: bool,
+}
+
+/// The clock type of a block.
+pub(crate) fn clock_meaning(alloc: Global, items: &[Item]) -> Result<Option<ClockType>, AllocError>
+    ensures { IfOk result (λ c. c ≡ clock_meaning items.now) }
+{
+    let Some(parts) = parts_of(items) else {
+        return Ok(None);
+    };
+    let name = parts.name.copy(alloc)?;
+    let description = match parts.description {
+        None => None,
+        Some(text) => Some(text.copy(alloc)?),
+    };
+    Ok(Some(ClockType {
+        name,
+        uuid: parts.uuid,
+        description,
+        frequency: parts.frequency,
+        precision: parts.precision,
+        offset_seconds: parts.offset_seconds,
+        offset_cycles: parts.offset_cycles,
+        absolute: parts.absolute,
+    }))
+}
+
+#[tactic(auto, unfolding(tsdl_grammar::specs::BlockMeaning::clock_meaning))]
+fn parts_of(items: &[Item]) -> Option<ClockParts<'_>>
+    ensures { option_map made_clock result ≡ clock_meaning items.now }
+{
+    if !has_parts(&[], items) {
+        return None;
+    }
+    let name = name_value(attr_in("name", items)?)?;
+    let uuid = uuid_if_there(attr_in("uuid", items))?;
+    let description = text_if_there(attr_in("description", items))?;
+    let frequency = natural_or(DEFAULT_FREQUENCY, attr_in("freq", items))?;
+    let precision = natural_or_zero(attr_in("precision", items))?;
+    let offset_seconds = whole_or_zero(attr_in("offset_s", items))?;
+    let offset_cycles = natural_or_zero(attr_in("offset", items))?;
+    let absolute = flag_or_false(attr_in("absolute", items))?;
+    Some(ClockParts {
+        name,
+        uuid,
+        description,
+        frequency,
+        precision,
+        offset_seconds,
+        offset_cycles,
+        absolute,
+    })
+}

@@ -1,0 +1,105 @@
+//! What the entries of an enumeration mean (CTF 1.8.3, section 4.1.8).
+
+ghost use Rattle.std.specs.Prelude.{◌≡◌, ◌∷◌, IfOk};
+ghost use Rattle.tsdl_grammar.specs.Steps.{each};
+ghost use Rattle.tsdl_grammar.specs.MemberMeaning.{label_of, high_of, entry_meaning, enum_meaning};
+ghost use Rattle.tsdl_meaning.specs.Fronts.{with_front};
+
+use crate::value::signed_of;
+use ctf_types::{EnumType, IntType, ListOf, Mapping, Text};
+use std::alloc::{AllocError, Global};
+use tsdl_grammar::{Entries, Entry, Label, Number};
+
+/// The most ranges that an enumeration has.
+const MAX_RANGES: usize = 65536;
+
+/// The enumeration over an integer type, of at most 65,536 ranges.
+#[tactic(auto, unfolding(tsdl_grammar::specs::MemberMeaning::enum_meaning))]
+pub(crate) fn enum_meaning(
+    alloc: Global,
+    int: IntType,
+    entries: &Entries,
+) -> Result<Option<EnumType>, AllocError>
+    ensures { IfOk result (λ t. t ≡ enum_meaning int entries.now) }
+{
+    let made = match entries {
+        Entries::Empty => Some(ListOf::new(alloc)),
+        Entries::Listed(first, rest, _) => {
+            if rest.len() >= MAX_RANGES {
+                return Ok(None);
+            }
+            mappings_of(alloc, first, rest.as_slice())?
+        }
+    };
+    match made {
+        None => Ok(None),
+        Some(mappings) => Ok(Some(EnumType { int, mappings })),
+    }
+}
+
+fn mappings_of(
+    alloc: Global,
+    first: &Entry,
+    others: &[Entry],
+) -> Result<Option<ListOf<Mapping>>, AllocError>
+    ensures { IfOk result (λ ms. ms ≡ each entry_meaning (first.now ∷ others.now)) }
+{
+    let Some(mapping) = entry_meaning(alloc, first)? else {
+        return Ok(None);
+    };
+    let mut mappings = ListOf::new(alloc);
+    mappings.push(mapping)?;
+    mappings_behind(alloc, mappings, others)
+}
+
+fn mappings_behind(
+    alloc: Global,
+    front: ListOf<Mapping>,
+    entries: &[Entry],
+) -> Result<Option<ListOf<Mapping>>, AllocError>
+    ensures { IfOk result (λ ms. ms ≡ with_front front (each entry_meaning entries.now)) }
+{
+    let mut mappings = front;
+    let mut rest = entries;
+    while let [entry, others @ ..] = rest {
+        let Some(mapping) = entry_meaning(alloc, entry)? else {
+            return Ok(None);
+        };
+        mappings.push(mapping)?;
+        rest = others;
+    }
+    Ok(Some(mappings))
+}
+
+/// A label and its range, where the range does not fall.
+#[tactic(auto, unfolding(tsdl_grammar::specs::MemberMeaning::entry_meaning))]
+fn entry_meaning(alloc: Global, entry: &Entry) -> Result<Option<Mapping>, AllocError>
+    ensures { IfOk result (λ m. m ≡ entry_meaning entry.now) }
+{
+    let low = signed_of(entry.low);
+    let high = high_of(low, entry.high);
+    if low > high {
+        return Ok(None);
+    }
+    let label = label_of(&entry.label).copy(alloc)?;
+    Ok(Some(Mapping { label, low, high }))
+}
+
+fn label_of(label: &Label) -> &Text
+    ensures { result.now ≡ label_of label.now }
+{
+    match label {
+        Label::Quoted(text) => text,
+        Label::Bare(word) => word,
+    }
+}
+
+/// The upper end of a range: one number is its own range.
+fn high_of(low: i128, high: Option<Number>) -> i128
+    ensures { result ≡ high_of low high }
+{
+    match high {
+        None => low,
+        Some(number) => signed_of(number),
+    }
+}

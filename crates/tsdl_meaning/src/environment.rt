@@ -1,0 +1,100 @@
+//! What an environment block means (CTF 1.8.3, section 7.1, "env").
+
+ghost use Rattle.std.specs.Prelude.{◌≡◌, map, IfOk};
+ghost use Rattle.std.specs.List.{list_any};
+ghost use Rattle.std.specs.Str.{bytes_eq};
+ghost use Rattle.tsdl_grammar.specs.Lookups.{no_two};
+ghost use Rattle.tsdl_grammar.specs.Steps.{each};
+ghost use Rattle.tsdl_grammar.specs.BlockMeaning.{fact_meaning, named_fact_meaning, environment_meaning};
+
+use crate::value::whole;
+use ctf_types::{EnvironmentEntry, EnvironmentValue, ListOf, Text};
+use std::alloc::{AllocError, Global};
+use tsdl_grammar::{Fact, NamedFact};
+
+/// The most names of an environment.
+const MAX_NAMES: usize = 256;
+
+/// The environment of at most 256 names, of which none stands twice.
+#[tactic(auto, unfolding(tsdl_grammar::specs::BlockMeaning::environment_meaning))]
+pub(crate) fn environment_meaning(
+    alloc: Global,
+    facts: &[NamedFact],
+) -> Result<Option<ListOf<EnvironmentEntry>>, AllocError>
+    ensures { IfOk result (λ es. es ≡ environment_meaning facts.now) }
+{
+    if facts.len() > MAX_NAMES || !are_distinct(facts) {
+        return Ok(None);
+    }
+    entries_of(alloc, facts)
+}
+
+/// Whether no name stands twice.
+fn are_distinct(facts: &[NamedFact]) -> bool
+    ensures { result ≡ no_two bytes_eq (map (λ f. f.name) facts.now) }
+{
+    let mut rest = facts;
+    while let [fact, others @ ..] = rest {
+        if has_fact(&fact.name, others) {
+            return false;
+        }
+        rest = others;
+    }
+    true
+}
+
+fn has_fact(name: &Text, facts: &[NamedFact]) -> bool
+    ensures { result ≡ list_any (bytes_eq name.now) (map (λ f. f.name) facts.now) }
+{
+    let mut rest = facts;
+    while let [fact, others @ ..] = rest {
+        if name.as_str() == fact.name.as_str() {
+            return true;
+        }
+        rest = others;
+    }
+    false
+}
+
+fn entries_of(
+    alloc: Global,
+    facts: &[NamedFact],
+) -> Result<Option<ListOf<EnvironmentEntry>>, AllocError>
+    ensures { IfOk result (λ es. es ≡ each named_fact_meaning facts.now) }
+{
+    let mut entries = ListOf::new(alloc);
+    let mut rest = facts;
+    while let [fact, others @ ..] = rest {
+        let Some(entry) = named_fact_meaning(alloc, fact)? else {
+            return Ok(None);
+        };
+        entries.push(entry)?;
+        rest = others;
+    }
+    Ok(Some(entries))
+}
+
+fn named_fact_meaning(
+    alloc: Global,
+    fact: &NamedFact,
+) -> Result<Option<EnvironmentEntry>, AllocError>
+    ensures { IfOk result (λ e. e ≡ named_fact_meaning fact.now) }
+{
+    let Some(value) = fact_meaning(alloc, &fact.fact)? else {
+        return Ok(None);
+    };
+    let name = fact.name.copy(alloc)?;
+    Ok(Some(EnvironmentEntry { name, value }))
+}
+
+fn fact_meaning(alloc: Global, fact: &Fact) -> Result<Option<EnvironmentValue>, AllocError>
+    ensures { IfOk result (λ v. v ≡ fact_meaning fact.now) }
+{
+    match fact {
+        Fact::Number(number) => match whole(*number) {
+            None => Ok(None),
+            Some(value) => Ok(Some(EnvironmentValue::Whole(value))),
+        },
+        Fact::Text(text) => Ok(Some(EnvironmentValue::Text(text.copy(alloc)?))),
+    }
+}

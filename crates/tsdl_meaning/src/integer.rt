@@ -1,0 +1,209 @@
+//! What `integer { .. }` means (CTF 1.8.3, section 4.1.2).
+
+ghost use Rattle.std.specs.Prelude.{◌≡◌, ◌↔◌, ◌<◌, ◌≤◌, false, option_map, IfOk, IfSome, IsSome};
+ghost use Rattle.ctf_types.specs.Alignment.{IsAlignment};
+ghost use Rattle.ctf_types.specs.declared.base.Base.TheVariants as bases;
+ghost use Rattle.tsdl_grammar.specs.AttributeValues.{natural_value, flag_value, meant_by, numbered, with_default, optional};
+ghost use Rattle.tsdl_grammar.specs.IntegerMeaning.{int_type, default_align, base_words, base_numbers, base_value, order_value, clock_value, int_meaning};
+ghost use Rattle.tsdl_meaning.specs.IntegerParts.{typed_parts, HasParts};
+
+use crate::known::Known;
+use crate::lookup::{attr, has_only, has_text};
+use crate::value::{flag_or_false, natural, natural_or, natural_value, one_word, word_value};
+use ctf_types::{Base, ByteOrder, IntType, Text};
+use std::alloc::{AllocError, Global};
+use tsdl_grammar::{Attribute, Value};
+
+/// The attributes that an integer may have.
+const INTEGER_ATTRIBUTES: [&[&str]; 7] = [
+    &["size"],
+    &["align"],
+    &["signed"],
+    &["byte_order"],
+    &["base"],
+    &["map"],
+    &["encoding"],
+];
+
+/// What the attributes of an integer say.
+#[derive(Drop)]
+struct IntegerParts<'a> {
+    size: u64,
+    align: u64,
+    signed: bool,
+    base: Base,
+    clock: Option<&'a Text>,
+}
+
+/// The integer type that a list of attributes means.
+pub(crate) fn int_meaning(
+    alloc: Global,
+    known: &Known,
+    attributes: &[Attribute],
+) -> Result<Option<IntType>, AllocError>
+    ensures { IfOk result (λ t. t ≡ int_meaning known.now attributes.now) }
+{
+    let Some(parts) = parts_of(known, attributes) else {
+        return Ok(None);
+    };
+    let clock = match parts.clock {
+        None => None,
+        Some(name) => Some(name.copy(alloc)?),
+    };
+    Ok(int_type(parts.size, parts.align, parts.signed, parts.base, clock))
+}
+
+/// The parts of an integer type, each from its attribute or its default.
+#[tactic(auto, unfolding(tsdl_grammar::specs::IntegerMeaning::int_meaning))]
+fn parts_of<'a>(known: &Known, attributes: &'a [Attribute]) -> Option<IntegerParts<'a>>
+    ensures { int_meaning known.now attributes.now ≡ typed_parts result }
+{
+    if !has_only(&INTEGER_ATTRIBUTES, attributes) {
+        return None;
+    }
+    let size = natural_value(attr("size", attributes)?)?;
+    let align = natural_or(default_align(size), attr("align", attributes))?;
+    let signed = flag_or_false(attr("signed", attributes))?;
+    order_or_own(known.order(), attr("byte_order", attributes))?;
+    let base = base_or_decimal(attr("base", attributes))?;
+    let clock = clock_if_mapped(known.clocks(), attr("map", attributes))?;
+    Some(IntegerParts {
+        size,
+        align,
+        signed,
+        base,
+        clock,
+    })
+}
+
+/// The integer type of these parts, where its size and alignment are in range.
+fn int_type(size: u64, align: u64, signed: bool, base: Base, clock: Option<Text>) -> Option<IntType>
+    ensures { result ≡ int_type size align signed base clock }
+{
+    match plain_type(size, align, signed, base) {
+        None => None,
+        Some(plain) => match clock {
+            None => Some(plain),
+            Some(name) => Some(plain.with_clock(name)),
+        },
+    }
+}
+
+/// An integer type without a clock, where its size and alignment are in range.
+fn plain_type(size: u64, align: u64, signed: bool, base: Base) -> Option<IntType>
+    ensures accepted { IsSome result ↔ ((0 < size) × (size ≤ 64) × IsAlignment align) }
+    ensures parts { IfSome result (λ t. HasParts t size align signed base None) }
+{
+    if size > 64 || align > 4096 {
+        return None;
+    }
+    IntType::new(size as u8, align as u32, signed, base)
+}
+
+/// 8 where the size is a multiple of 8, else 1.
+fn default_align(size: u64) -> u64
+    ensures { result ≡ default_align size }
+{
+    if size % 8 == 0 { 8 } else { 1 }
+}
+
+fn order_or_own(order: ByteOrder, value: Option<&Value>) -> Option<ByteOrder>
+    ensures { result ≡ with_default order (order_value order) (option_map (λ v. v.now) value.entry) }
+{
+    match value {
+        None => Some(order),
+        Some(value) => order_value(order, value),
+    }
+}
+
+/// `native`, or the trace's own order.
+#[tactic(auto, unfolding(tsdl_grammar::specs::IntegerMeaning::order_value))]
+fn order_value(order: ByteOrder, value: &Value) -> Option<ByteOrder>
+    ensures { result ≡ order_value order value.now }
+{
+    let word = word_value(value)?.as_str();
+    let is_own = match order {
+        ByteOrder::Little => word == "native" || word == "le",
+        ByteOrder::Big => word == "native" || word == "be" || word == "network",
+    };
+    if is_own { Some(order) } else { None }
+}
+
+fn base_or_decimal(value: Option<&Value>) -> Option<Base>
+    ensures { result ≡ with_default bases.Dec base_value (option_map (λ v. v.now) value.entry) }
+{
+    match value {
+        None => Some(Base::Dec),
+        Some(value) => base_value(value),
+    }
+}
+
+#[tactic(auto, unfolding(tsdl_grammar::specs::IntegerMeaning::base_value))]
+fn base_value(value: &Value) -> Option<Base>
+    ensures { result ≡ base_value value.now }
+{
+    match value {
+        Value::Number(number) => base_number(natural(*number)?),
+        Value::Name(name) => base_word(one_word(name)?.as_str()),
+        Value::Text(_) => None,
+    }
+}
+
+fn base_number(number: u64) -> Option<Base>
+    ensures { result ≡ numbered base_numbers number }
+{
+    match number {
+        2 => Some(Base::Bin),
+        8 => Some(Base::Oct),
+        10 => Some(Base::Dec),
+        16 => Some(Base::Hex),
+        _ => None,
+    }
+}
+
+fn base_word(word: &str) -> Option<Base>
+    ensures { result ≡ meant_by base_words word.now }
+{
+    match word {
+        "binary" | "b" => Some(Base::Bin),
+        "octal" | "oct" | "o" => Some(Base::Oct),
+        "decimal" | "dec" | "d" | "i" | "u" => Some(Base::Dec),
+        "hexadecimal" | "hex" | "x" | "X" | "p" => Some(Base::Hex),
+        _ => None,
+    }
+}
+
+fn clock_if_mapped<'a>(clocks: &[Text], value: Option<&'a Value>) -> Option<Option<&'a Text>>
+    ensures { option_map (option_map (λ t. t.now)) result ≡ optional (clock_value clocks.now) (option_map (λ v. v.now) value.entry) }
+{
+    match value {
+        None => Some(None),
+        Some(value) => match clock_value(clocks, value) {
+            None => None,
+            Some(name) => Some(Some(name)),
+        },
+    }
+}
+
+/// The middle word of `clock.NAME.value`, where it names a clock.
+#[tactic(auto, unfolding(tsdl_grammar::specs::IntegerMeaning::clock_value))]
+fn clock_value<'a>(clocks: &[Text], value: &'a Value) -> Option<&'a Text>
+    ensures { option_map (λ t. t.now) result ≡ clock_value clocks.now value.now }
+{
+    match value {
+        Value::Name(name) => match name.rest.as_slice() {
+            [clock, last] => {
+                if name.first.as_str() == "clock"
+                    && last.as_str() == "value"
+                    && has_text(clock, clocks)
+                {
+                    Some(clock)
+                } else {
+                    None
+                }
+            }
+            [] | [_] | [_, _, _, ..] => None,
+        },
+        Value::Number(_) | Value::Text(_) => None,
+    }
+}

@@ -1,0 +1,300 @@
+//! Names, and what stands under a name: attributes and scopes are looked up by their words, and no name stands twice.
+
+ghost use Rattle.std.specs.Prelude.{◌≡◌, ℕ, List, map, option_map};
+ghost use Rattle.std.specs.List.{list_any, list_all};
+ghost use Rattle.std.specs.Str.{bytes_eq};
+ghost use Rattle.tsdl_grammar.specs.Lookups.{no_two, words_of, same_words, is_word, is_among, attr, attr_names, attrs_in, scopes_in, scope, are_distinct, has_parts};
+ghost use Rattle.tsdl_grammar.specs.IntegerMeaning.{has_only};
+ghost use Rattle.tsdl_meaning.specs.Names.{names_of, texts_of, scope_names};
+
+use ctf_types::Text;
+use tsdl_grammar::{Attribute, Item, Name, Structure, Value};
+
+/// Whether a name is this one word.
+pub(crate) fn is_word(word: &str, name: &Name) -> bool
+    ensures { result ≡ is_word word.now name.now }
+{
+    name.first.as_str() == word && name.rest.is_empty()
+}
+
+/// Whether two lists of words are the same.
+fn same_texts(left: &[Text], right: &[Text]) -> bool
+    ensures { result ≡ same_words left.now right.now }
+{
+    let mut left_rest = left;
+    let mut right_rest = right;
+    while let [x, xs @ ..] = left_rest {
+        let [y, ys @ ..] = right_rest else {
+            return false;
+        };
+        if x.as_str() != y.as_str() {
+            return false;
+        }
+        left_rest = xs;
+        right_rest = ys;
+    }
+    right_rest.is_empty()
+}
+
+/// Whether two names are the same.
+fn is_same(left: &Name, right: &Name) -> bool
+    ensures { result ≡ same_words (words_of left.now) (words_of right.now) }
+{
+    left.first.as_str() == right.first.as_str()
+        && same_texts(left.rest.as_slice(), right.rest.as_slice())
+}
+
+/// Whether texts are these words.
+fn are_words(texts: &[Text], words: &[&str]) -> bool
+    ensures { result ≡ same_words texts.now (texts_of words.now) }
+{
+    let mut rest = words;
+    let mut text_rest = texts;
+    while let [x, xs @ ..] = text_rest {
+        let [y, ys @ ..] = rest else {
+            return false;
+        };
+        if x.as_str() != *y {
+            return false;
+        }
+        text_rest = xs;
+        rest = ys;
+    }
+    rest.is_empty()
+}
+
+/// Whether a name has these words.
+fn has_words(name: &Name, words: &[&str]) -> bool
+    ensures { result ≡ same_words (words_of name.now) (texts_of words.now) }
+{
+    match words {
+        [] => false,
+        [first, others @ ..] => {
+            name.first.as_str() == *first && are_words(name.rest.as_slice(), others)
+        }
+    }
+}
+
+/// Whether the words of a name are among these.
+fn is_among(names: &[&[&str]], name: &Name) -> bool
+    ensures { result ≡ is_among (names_of names.now) (words_of name.now) }
+{
+    let mut rest = names;
+    while let [words, others @ ..] = rest {
+        if has_words(name, words) {
+            return true;
+        }
+        rest = others;
+    }
+    false
+}
+
+/// The value of the attribute of this name.
+pub(crate) fn attr<'a>(word: &str, attributes: &'a [Attribute]) -> Option<&'a Value>
+    ensures { option_map (λ v. v.now) result ≡ attr word.now attributes.now }
+{
+    let mut rest = attributes;
+    while let [attribute, others @ ..] = rest {
+        if is_word(word, &attribute.name) {
+            return Some(&attribute.value);
+        }
+        rest = others;
+    }
+    None
+}
+
+/// Whether an attribute has this name.
+fn has_attr(name: &Name, attributes: &[Attribute]) -> bool
+    ensures { result ≡ list_any (same_words (words_of name.now)) (attr_names attributes.now) }
+{
+    let mut rest = attributes;
+    while let [attribute, others @ ..] = rest {
+        if is_same(name, &attribute.name) {
+            return true;
+        }
+        rest = others;
+    }
+    false
+}
+
+/// Whether each attribute is one of these, and none stands twice.
+pub(crate) fn has_only(allowed: &[&[&str]], attributes: &[Attribute]) -> bool
+    ensures { result ≡ has_only (names_of allowed.now) attributes.now }
+{
+    let mut rest = attributes;
+    while let [attribute, others @ ..] = rest {
+        if has_attr(&attribute.name, others) || !is_among(allowed, &attribute.name) {
+            return false;
+        }
+        rest = others;
+    }
+    true
+}
+
+/// The value of the attribute of this name in a block.
+pub(crate) fn attr_in<'a>(word: &str, items: &'a [Item]) -> Option<&'a Value>
+    ensures { option_map (λ v. v.now) result ≡ attr word.now (attrs_in items.now) }
+{
+    let mut rest = items;
+    while let [item, others @ ..] = rest {
+        match item {
+            Item::Attribute(attribute) => {
+                if is_word(word, &attribute.name) {
+                    return Some(&attribute.value);
+                }
+            }
+            Item::Scope(_) => {}
+        }
+        rest = others;
+    }
+    None
+}
+
+/// The structure of the scope of this name in a block.
+pub(crate) fn scope_in<'a>(words: &[&str], items: &'a [Item]) -> Option<&'a Structure>
+    ensures { option_map (λ s. s.now) result ≡ scope (texts_of words.now) (scopes_in items.now) }
+{
+    let mut rest = items;
+    while let [item, others @ ..] = rest {
+        match item {
+            Item::Scope(scope) => {
+                if has_words(&scope.name, words) {
+                    return Some(&scope.structure);
+                }
+            }
+            Item::Attribute(_) => {}
+        }
+        rest = others;
+    }
+    None
+}
+
+/// Whether an attribute of a block has this name.
+fn has_attr_in(name: &Name, items: &[Item]) -> bool
+    ensures { result ≡ list_any (same_words (words_of name.now)) (attr_names (attrs_in items.now)) }
+{
+    let mut rest = items;
+    while let [item, others @ ..] = rest {
+        match item {
+            Item::Attribute(attribute) => {
+                if is_same(name, &attribute.name) {
+                    return true;
+                }
+            }
+            Item::Scope(_) => {}
+        }
+        rest = others;
+    }
+    false
+}
+
+/// Whether a scope of a block has this name.
+fn has_scope_in(name: &Name, items: &[Item]) -> bool
+    ensures { result ≡ list_any (same_words (words_of name.now)) (scope_names (scopes_in items.now)) }
+{
+    let mut rest = items;
+    while let [item, others @ ..] = rest {
+        match item {
+            Item::Scope(scope) => {
+                if is_same(name, &scope.name) {
+                    return true;
+                }
+            }
+            Item::Attribute(_) => {}
+        }
+        rest = others;
+    }
+    false
+}
+
+/// Whether no attribute of a block stands twice.
+fn has_attrs_once(items: &[Item]) -> bool
+    ensures { result ≡ are_distinct (attr_names (attrs_in items.now)) }
+{
+    let mut rest = items;
+    while let [item, others @ ..] = rest {
+        match item {
+            Item::Attribute(attribute) => {
+                if has_attr_in(&attribute.name, others) {
+                    return false;
+                }
+            }
+            Item::Scope(_) => {}
+        }
+        rest = others;
+    }
+    true
+}
+
+/// Whether no scope of a block stands twice.
+fn has_scopes_once(items: &[Item]) -> bool
+    ensures { result ≡ are_distinct (scope_names (scopes_in items.now)) }
+{
+    let mut rest = items;
+    while let [item, others @ ..] = rest {
+        match item {
+            Item::Scope(scope) => {
+                if has_scope_in(&scope.name, others) {
+                    return false;
+                }
+            }
+            Item::Attribute(_) => {}
+        }
+        rest = others;
+    }
+    true
+}
+
+/// Whether each scope of a block is one of these.
+fn has_scopes_among(allowed: &[&[&str]], items: &[Item]) -> bool
+    ensures { result ≡ list_all (λ s. is_among (names_of allowed.now) (words_of s.name)) (scopes_in items.now) }
+{
+    let mut rest = items;
+    while let [item, others @ ..] = rest {
+        match item {
+            Item::Scope(scope) => {
+                if !is_among(allowed, &scope.name) {
+                    return false;
+                }
+            }
+            Item::Attribute(_) => {}
+        }
+        rest = others;
+    }
+    true
+}
+
+/// Whether no attribute of a block stands twice, nor a scope, and each scope is one of these.
+pub(crate) fn has_parts(allowed: &[&[&str]], items: &[Item]) -> bool
+    ensures { result ≡ has_parts (names_of allowed.now) items.now }
+{
+    has_attrs_once(items) && has_scopes_once(items) && has_scopes_among(allowed, items)
+}
+
+/// Whether a text is among these.
+pub(crate) fn has_text(text: &Text, texts: &[Text]) -> bool
+    ensures { result ≡ list_any (bytes_eq text.now) texts.now }
+{
+    let mut rest = texts;
+    while let [other, others @ ..] = rest {
+        if text.as_str() == other.as_str() {
+            return true;
+        }
+        rest = others;
+    }
+    false
+}
+
+/// Whether no text stands twice.
+pub(crate) fn are_distinct(texts: &[Text]) -> bool
+    ensures { result ≡ no_two bytes_eq texts.now }
+{
+    let mut rest = texts;
+    while let [text, others @ ..] = rest {
+        if has_text(text, others) {
+            return false;
+        }
+        rest = others;
+    }
+    true
+}

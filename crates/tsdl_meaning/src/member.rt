@@ -1,0 +1,170 @@
+//! What a member means: an integer, an enumeration or a string, in as many arrays as it has brackets
+//! (CTF 1.8.3, sections 4.1.8, 4.2.3 to 4.2.5).
+
+ghost use Rattle.std.specs.Prelude.{◌≡◌, ◌<◌, length, true, false, Some, None, option_map, IfOk};
+ghost use Rattle.ctf_types.specs.Chain.{Leaf, ByteString};
+ghost use Rattle.tsdl_grammar.specs.AttributeValues.{meant_by, with_default};
+ghost use Rattle.tsdl_grammar.specs.MemberMeaning.{field_of, encoding_words, encoding_value, text_meaning, kind_meaning, is_unsigned, length_place, bracketed, member_meaning};
+ghost use Rattle.tsdl_meaning.specs.Members.{text_leaf, IsLengthAt};
+
+use crate::array::{are_lengths, arrays_of, counts_of, have_bits};
+use crate::enumeration::enum_meaning;
+use crate::integer::int_meaning;
+use crate::known::Known;
+use crate::lookup::{attr, has_only};
+use crate::value::word_value;
+use ctf_types::{FieldType, Length, ListOf, MemberType, Members};
+use std::alloc::{AllocError, Global};
+use tsdl_grammar::{Attribute, Bracket, Kind, MemberTree, Value};
+
+/// The attributes that a string may have.
+const STRING_ATTRIBUTES: [&[&str]; 1] = [&["encoding"]];
+
+/// The type of a member behind those before it.
+#[tactic(auto, unfolding(tsdl_grammar::specs::MemberMeaning::member_meaning))]
+pub(crate) fn member_meaning(
+    alloc: Global,
+    known: &Known,
+    before: &Members,
+    member: &MemberTree,
+) -> Result<Option<MemberType>, AllocError>
+    ensures { IfOk result (λ t. t ≡ member_meaning known.now before.now member.now) }
+{
+    let Some(field) = kind_meaning(alloc, known, &member.kind)? else {
+        return Ok(None);
+    };
+    bracketed(alloc, before, field, member.brackets.as_slice())
+}
+
+/// The type of a member before its brackets.
+#[tactic(auto, unfolding(tsdl_grammar::specs::MemberMeaning::kind_meaning))]
+fn kind_meaning(alloc: Global, known: &Known, kind: &Kind) -> Result<Option<FieldType>, AllocError>
+    ensures { IfOk result (λ t. t ≡ option_map field_of (kind_meaning known.now kind.now)) }
+{
+    match kind {
+        Kind::Integer(attributes) => {
+            let Some(int) = int_meaning(alloc, known, attributes.as_slice())? else {
+                return Ok(None);
+            };
+            Ok(Some(FieldType::Int(int)))
+        }
+        Kind::Enumeration(attributes, entries) => {
+            let Some(int) = int_meaning(alloc, known, attributes.as_slice())? else {
+                return Ok(None);
+            };
+            let Some(enumeration) = enum_meaning(alloc, int, entries)? else {
+                return Ok(None);
+            };
+            Ok(Some(FieldType::Enum(enumeration)))
+        }
+        Kind::Text(attributes) => {
+            if is_text(attributes) {
+                Ok(Some(FieldType::Str))
+            } else {
+                Ok(None)
+            }
+        }
+    }
+}
+
+/// Whether a string has these attributes: an encoding and no other.
+#[tactic(auto, unfolding(tsdl_grammar::specs::MemberMeaning::text_meaning))]
+fn is_text(attributes: &Option<ListOf<Attribute>>) -> bool
+    ensures { text_leaf result ≡ text_meaning attributes.now }
+{
+    match attributes {
+        None => true,
+        Some(attributes) => {
+            let attributes = attributes.as_slice();
+            has_only(&STRING_ATTRIBUTES, attributes)
+                && encoding_or_any(attr("encoding", attributes)).is_some()
+        }
+    }
+}
+
+fn encoding_or_any(value: Option<&Value>) -> Option<bool>
+    ensures { result ≡ with_default true encoding_value (option_map (λ v. v.now) value.entry) }
+{
+    match value {
+        None => Some(true),
+        Some(value) => encoding_word(word_value(value)?.as_str()),
+    }
+}
+
+fn encoding_word(word: &str) -> Option<bool>
+    ensures { result ≡ meant_by encoding_words word.now }
+{
+    match word {
+        "UTF8" | "utf8" | "ASCII" | "ascii" | "none" => Some(true),
+        _ => None,
+    }
+}
+
+/// A field in its arrays. A name in the first bracket makes it a sequence.
+#[tactic(auto, unfolding(tsdl_grammar::specs::MemberMeaning::bracketed))]
+fn bracketed(
+    alloc: Global,
+    before: &Members,
+    field: FieldType,
+    brackets: &[Bracket],
+) -> Result<Option<MemberType>, AllocError>
+    ensures { (leaf : Leaf) → field ≡ field_of leaf → IfOk result (λ t. t ≡ bracketed before.now leaf brackets.now) }
+{
+    match brackets {
+        [] => Ok(Some(MemberType::Plain(field))),
+        [Bracket::Count(_), ..] => {
+            let Some(lengths) = counts_of(alloc, brackets)? else {
+                return Ok(None);
+            };
+            if !are_lengths(lengths.as_slice()) {
+                return Ok(None);
+            }
+            let array = arrays_of(alloc, field, lengths.as_slice())?;
+            Ok(Some(MemberType::Plain(array)))
+        }
+        [Bracket::Member(name), inner @ ..] => {
+            let Some(lengths) = counts_of(alloc, inner)? else {
+                return Ok(None);
+            };
+            let Some(place) = length_place(before, name.as_str()) else {
+                return Ok(None);
+            };
+            if !are_lengths(lengths.as_slice()) || !have_bits(lengths.as_slice()) {
+                return Ok(None);
+            }
+            let element = arrays_of(alloc, field, lengths.as_slice())?;
+            Ok(Some(MemberType::Dyn(element, Length::At(place))))
+        }
+    }
+}
+
+/// The place of the unsigned integer member of this name among those before.
+fn length_place(before: &Members, name: &str) -> Option<usize>
+    ensures { result ≡ length_place before.now name.now }
+{
+    for index in 0..before.len() {
+        if is_length(before, index, name) {
+            return Some(index);
+        }
+    }
+    None
+}
+
+/// Whether the member at this index has this name and is an unsigned integer.
+fn is_length(before: &Members, index: usize, name: &str) -> bool
+    requires { index < length before.now }
+    ensures { IsLengthAt before.now name.now index result }
+{
+    name == before.name_at(index) && is_unsigned(before.member_at(index))
+}
+
+/// Whether a member is an unsigned integer.
+pub(crate) fn is_unsigned(member: &MemberType) -> bool
+    ensures { result ≡ is_unsigned member.now }
+{
+    match member {
+        MemberType::Plain(FieldType::Int(int)) => !int.is_signed(),
+        MemberType::Plain(FieldType::Enum(_) | FieldType::Str | FieldType::Static(_, _))
+        | MemberType::Dyn(_, _) => false,
+    }
+}

@@ -1,0 +1,134 @@
+//! Which types the members of a scope have where their names have a meaning (CTF 1.8.3, sections 5.1 and 5.2).
+
+ghost use Rattle.std.specs.Prelude.{◌≡◌, ◌<◌, length};
+ghost use Rattle.std.specs.List.{list_all, list_any};
+ghost use Rattle.std.specs.Str.{bytes_eq};
+ghost use Rattle.tsdl_grammar.specs.BlockMeaning.{is_unsigned_of, is_uuid, suits_header, suits};
+ghost use Rattle.ctf_types.specs.FieldTypes.{chain_of};
+ghost use Rattle.tsdl_meaning.specs.Names.{texts_of};
+ghost use Rattle.tsdl_meaning.specs.ScopeRules.{suits_rule, is_byte_chain, SuitsAt};
+
+use crate::member::is_unsigned;
+use ctf_types::{FieldType, MemberType, Members};
+
+/// The names that a packet context gives a meaning.
+const CONTEXT_NAMES: [&str; 6] = [
+    "packet_size",
+    "content_size",
+    "timestamp_begin",
+    "timestamp_end",
+    "events_discarded",
+    "packet_seq_num",
+];
+
+/// The names that an event header gives a meaning.
+const EVENT_HEADER_NAMES: [&str; 1] = ["id"];
+
+/// What a scope asks of its members.
+#[derive(Clone, Copy)]
+pub(crate) enum ScopeRule {
+    /// Nothing.
+    AnyMembers,
+    PacketHeader,
+    PacketContext,
+    EventHeader,
+}
+
+/// Whether each member is as the rule asks.
+pub(crate) fn all_suit(rule: ScopeRule, members: &Members) -> bool
+    ensures { result ≡ list_all (suits_rule rule) members.now }
+{
+    for index in 0..members.len() {
+        if !suits_at(rule, members, index) {
+            return false;
+        }
+    }
+    true
+}
+
+fn suits_at(rule: ScopeRule, members: &Members, index: usize) -> bool
+    requires { index < length members.now }
+    ensures { SuitsAt rule members.now index result }
+{
+    suits_rule(rule, members.name_at(index), members.member_at(index))
+}
+
+fn suits_rule(rule: ScopeRule, name: &str, member: &MemberType) -> bool
+    ensures { result ≡ suits_rule rule (name.now, member.now) }
+{
+    match rule {
+        ScopeRule::AnyMembers => true,
+        ScopeRule::PacketHeader => suits_header(name, member),
+        ScopeRule::PacketContext => suits(&CONTEXT_NAMES, name, member),
+        ScopeRule::EventHeader => suits(&EVENT_HEADER_NAMES, name, member),
+    }
+}
+
+/// `magic`, `uuid` and `stream_id` have their types.
+fn suits_header(name: &str, member: &MemberType) -> bool
+    ensures { result ≡ suits_header (name.now, member.now) }
+{
+    if name == "magic" {
+        is_unsigned_of(32, member)
+    } else if name == "uuid" {
+        is_uuid(member)
+    } else if name == "stream_id" {
+        is_unsigned(member)
+    } else {
+        true
+    }
+}
+
+/// A member whose name has a meaning is an unsigned integer.
+fn suits(names: &[&str], name: &str, member: &MemberType) -> bool
+    ensures { result ≡ suits (texts_of names.now) (name.now, member.now) }
+{
+    !has_word(name, names) || is_unsigned(member)
+}
+
+/// Whether a word is among these.
+fn has_word(word: &str, words: &[&str]) -> bool
+    ensures { result ≡ list_any (bytes_eq word.now) (texts_of words.now) }
+{
+    let mut rest = words;
+    while let [other, others @ ..] = rest {
+        if word == *other {
+            return true;
+        }
+        rest = others;
+    }
+    false
+}
+
+/// Whether a member is an unsigned integer of this size.
+fn is_unsigned_of(size: u8, member: &MemberType) -> bool
+    ensures { result ≡ is_unsigned_of size member.now }
+{
+    match member {
+        MemberType::Plain(FieldType::Int(int)) => !int.is_signed() && int.size() == size,
+        MemberType::Plain(FieldType::Enum(_) | FieldType::Str | FieldType::Static(_, _))
+        | MemberType::Dyn(_, _) => false,
+    }
+}
+
+/// Whether a member is an array of 16 unsigned integers of 8 bits on any byte.
+fn is_uuid(member: &MemberType) -> bool
+    ensures { result ≡ is_uuid member.now }
+{
+    match member {
+        MemberType::Plain(FieldType::Static(element, length)) => {
+            *length == 16 && is_byte(element.field_type())
+        }
+        MemberType::Plain(FieldType::Int(_) | FieldType::Enum(_) | FieldType::Str)
+        | MemberType::Dyn(_, _) => false,
+    }
+}
+
+fn is_byte(field: &FieldType) -> bool
+    ensures { result ≡ is_byte_chain (chain_of field.now) }
+{
+    match field {
+        FieldType::Int(int) => !int.is_signed() && int.size() == 8 && int.align() == 8,
+        FieldType::Enum(_) | FieldType::Str | FieldType::Static(_, _) => false,
+    }
+}

@@ -1,0 +1,131 @@
+//! What stream blocks and event blocks mean (CTF 1.8.3, section 7).
+
+ghost use Rattle.std.specs.Prelude.{◌≡◌, ◌&&◌, IfOk, codes};
+ghost use Rattle.tsdl_grammar.specs.IntegerMeaning.{Known};
+ghost use Rattle.tsdl_grammar.specs.Lookups.{scopes_in};
+ghost use Rattle.tsdl_grammar.specs.StructureMeaning.{has_member};
+ghost use Rattle.tsdl_grammar.specs.BlockMeaning.{stream_meaning, event_meaning};
+ghost use Rattle.tsdl_meaning.specs.EventParts.{made_event};
+
+use crate::known::Known;
+use crate::lookup::{attr_in, has_parts};
+use crate::scope_rule::ScopeRule;
+use crate::structure::{has_member, scope_meaning};
+use crate::value::{name_value, natural_if_there, natural_or_zero};
+use ctf_types::{Event, ListOf, Stream, StructType, Text};
+use std::alloc::{AllocError, Global};
+use tsdl_grammar::Item;
+
+const PACKET_CONTEXT: [&str; 2] = ["packet", "context"];
+
+const EVENT_HEADER: [&str; 2] = ["event", "header"];
+
+const EVENT_CONTEXT: [&str; 2] = ["event", "context"];
+
+const SPECIFIC_CONTEXT: [&str; 1] = ["context"];
+
+const FIELDS: [&str; 1] = ["fields"];
+
+/// What the attributes of an event say.
+#[derive(Drop)]
+struct EventParts<'a> {
+    name: &'a Text,
+    id: u64,
+    stream: u64,
+    log_level: Option<u64>,
+}
+
+/// The stream of a block, without its events. Its packet context has both sizes.
+#[tactic(auto, unfolding(tsdl_grammar::specs::BlockMeaning::stream_meaning))]
+pub(crate) fn stream_meaning(
+    alloc: Global,
+    known: &Known,
+    items: &[Item],
+) -> Result<Option<Stream>, AllocError>
+    ensures { IfOk result (λ s. s ≡ stream_meaning known.now items.now) }
+{
+    if !has_parts(&[&PACKET_CONTEXT, &EVENT_HEADER, &EVENT_CONTEXT], items) {
+        return Ok(None);
+    }
+    let Some(id) = natural_or_zero(attr_in("id", items)) else {
+        return Ok(None);
+    };
+    let rule = ScopeRule::PacketContext;
+    let Some(context) = scope_meaning(alloc, known, &PACKET_CONTEXT, rule, items)? else {
+        return Ok(None);
+    };
+    let rule = ScopeRule::EventHeader;
+    let Some(event_header) = scope_meaning(alloc, known, &EVENT_HEADER, rule, items)? else {
+        return Ok(None);
+    };
+    let rule = ScopeRule::AnyMembers;
+    let Some(common) = scope_meaning(alloc, known, &EVENT_CONTEXT, rule, items)? else {
+        return Ok(None);
+    };
+    if !has_sizes(&context) {
+        return Ok(None);
+    }
+    Ok(Some(Stream {
+        id,
+        context,
+        event_header,
+        common,
+        events: ListOf::new(alloc),
+    }))
+}
+
+/// Whether a packet context has both sizes.
+fn has_sizes(context: &StructType) -> bool
+    ensures { result ≡ (has_member (codes "packet_size") context.now.members && has_member (codes "content_size") context.now.members) }
+{
+    has_member(&context.members, "packet_size") && has_member(&context.members, "content_size")
+}
+
+/// The event of a block, and the number of its stream.
+pub(crate) fn event_meaning(
+    alloc: Global,
+    known: &Known,
+    items: &[Item],
+) -> Result<Option<(u64, Event)>, AllocError>
+    ensures { IfOk result (λ e. e ≡ event_meaning known.now items.now) }
+{
+    let Some(parts) = event_parts(items) else {
+        return Ok(None);
+    };
+    let rule = ScopeRule::AnyMembers;
+    let Some(specific) = scope_meaning(alloc, known, &SPECIFIC_CONTEXT, rule, items)? else {
+        return Ok(None);
+    };
+    let Some(fields) = scope_meaning(alloc, known, &FIELDS, rule, items)? else {
+        return Ok(None);
+    };
+    let name = parts.name.copy(alloc)?;
+    let event = Event {
+        id: parts.id,
+        name,
+        log_level: parts.log_level,
+        specific,
+        fields,
+    };
+    Ok(Some((parts.stream, event)))
+}
+
+/// The parts that the attributes of an event block say.
+#[tactic(auto, unfolding(tsdl_grammar::specs::BlockMeaning::event_meaning))]
+fn event_parts(items: &[Item]) -> Option<EventParts<'_>>
+    ensures { (known : Known) → event_meaning known items.now ≡ made_event known (scopes_in items.now) result }
+{
+    if !has_parts(&[&SPECIFIC_CONTEXT, &FIELDS], items) {
+        return None;
+    }
+    let name = name_value(attr_in("name", items)?)?;
+    let id = natural_or_zero(attr_in("id", items))?;
+    let stream = natural_or_zero(attr_in("stream_id", items))?;
+    let log_level = natural_if_there(attr_in("loglevel", items))?;
+    Some(EventParts {
+        name,
+        id,
+        stream,
+        log_level,
+    })
+}

@@ -1,0 +1,147 @@
+//! What a structure means (CTF 1.8.3, section 4.2.1).
+
+ghost use Rattle.std.specs.Prelude.{◌≡◌, ◌↔◌, [], option_map, IfOk, IsTrue, nat_lt, ◌&&◌, ◌==◌, ◌%◌, Some};
+ghost use Rattle.std.specs.List.{Contains};
+ghost use Rattle.ctf_types.specs.Members.{names_in};
+ghost use Rattle.tsdl_grammar.specs.Steps.{provided};
+ghost use Rattle.tsdl_grammar.specs.StructureMeaning.{struct_type, has_member, members_meaning, align_of, align_with, struct_meaning, structure_of, scope_meaning};
+ghost use Rattle.tsdl_grammar.specs.Lookups.{scopes_in};
+ghost use Rattle.tsdl_meaning.specs.Names.{texts_of};
+ghost use Rattle.tsdl_meaning.specs.ScopeRules.{suits_rule};
+
+use crate::known::Known;
+use crate::lookup::scope_in;
+use crate::member::member_meaning;
+use crate::scope_rule::{ScopeRule, all_suit};
+use crate::value::natural;
+use ctf_types::{Members, StructType};
+use std::alloc::{AllocError, Global};
+use tsdl_grammar::{Item, MemberTree, Number, Structure};
+
+/// The most members of a structure.
+const MAX_MEMBERS: usize = 1024;
+
+/// The structure of the scope of this name in a block, without members where the scope is not there.
+pub(crate) fn scope_meaning(
+    alloc: Global,
+    known: &Known,
+    name: &[&str],
+    rule: ScopeRule,
+    items: &[Item],
+) -> Result<Option<StructType>, AllocError>
+    ensures { IfOk result (λ t. t ≡ scope_meaning known.now (texts_of name.now) (suits_rule rule) (scopes_in items.now)) }
+{
+    let Some(structure) = structure_of(alloc, known, scope_in(name, items))? else {
+        return Ok(None);
+    };
+    if all_suit(rule, &structure.members) {
+        Ok(Some(structure))
+    } else {
+        Ok(None)
+    }
+}
+
+fn structure_of(
+    alloc: Global,
+    known: &Known,
+    structure: Option<&Structure>,
+) -> Result<Option<StructType>, AllocError>
+    ensures { IfOk result (λ t. t ≡ structure_of known.now (option_map (λ s. s.now) structure.entry)) }
+{
+    match structure {
+        None => Ok(struct_type(Members::new(alloc), 1)),
+        Some(structure) => struct_meaning(alloc, known, structure),
+    }
+}
+
+/// The structure type of a tree: at most 1,024 members, no two of one name, and the minimum alignment.
+#[tactic(auto, unfolding(tsdl_grammar::specs::StructureMeaning::struct_meaning))]
+fn struct_meaning(
+    alloc: Global,
+    known: &Known,
+    structure: &Structure,
+) -> Result<Option<StructType>, AllocError>
+    ensures { IfOk result (λ t. t ≡ struct_meaning known.now structure.now) }
+{
+    if structure.members.len() > MAX_MEMBERS {
+        return Ok(None);
+    }
+    let Some(members) = members_meaning(alloc, known, structure.members.as_slice())? else {
+        return Ok(None);
+    };
+    let Some(align) = align_of(structure.align) else {
+        return Ok(None);
+    };
+    let align = align_with(&members, align);
+    Ok(struct_type(members, align))
+}
+
+/// The members, each with those before it.
+#[tactic(auto, unfolding(tsdl_grammar::specs::StructureMeaning::members_meaning))]
+fn members_meaning(
+    alloc: Global,
+    known: &Known,
+    members: &[MemberTree],
+) -> Result<Option<Members>, AllocError>
+    ensures { IfOk result (λ ms. ms ≡ members_meaning known.now [] members.now) }
+{
+    let mut before = Members::new(alloc);
+    let mut rest = members;
+    while let [member, others @ ..] = rest {
+        if has_member(&before, member.name.as_str()) {
+            return Ok(None);
+        }
+        let Some(member_type) = member_meaning(alloc, known, &before, member)? else {
+            return Ok(None);
+        };
+        let name = member.name.copy(alloc)?;
+        before.push(name, member_type)?;
+        rest = others;
+    }
+    Ok(Some(before))
+}
+
+/// Whether a member of this name is there.
+pub(crate) fn has_member(members: &Members, name: &str) -> bool
+    ensures is { result ≡ has_member name.now members.now }
+    ensures found { IsTrue result ↔ Contains (names_in members.now) name.now }
+{
+    members.contains(name)
+}
+
+/// The minimum alignment that stands behind a structure, 1 where none stands.
+fn align_of(align: Option<Number>) -> Option<u32>
+    ensures { result ≡ align_of align }
+{
+    match align {
+        None => Some(1),
+        Some(number) => alignment(natural(number)?),
+    }
+}
+
+/// The number as an alignment, if it is a power of two up to 4,096.
+fn alignment(align: u64) -> Option<u32>
+    ensures { result ≡ provided (nat_lt 0 align && (4096 % align == 0)) (Some align) }
+{
+    if align == 0 {
+        return None;
+    }
+    if 4096 % align != 0 {
+        return None;
+    }
+    Some(align as u32)
+}
+
+/// No members, no alignment.
+fn align_with(members: &Members, align: u32) -> u32
+    ensures { result ≡ align_with members.now align }
+{
+    if members.is_empty() { 1 } else { align }
+}
+
+/// The structure type of these parts, where its alignment is one.
+fn struct_type(members: Members, align: u32) -> Option<StructType>
+    ensures { result ≡ struct_type members align }
+{
+    StructType::new(members, align)
+}

@@ -1,0 +1,76 @@
+//! What a trace block means (CTF 1.8.3, section 7): version 1.8, its byte order, its identifier and the packet header.
+
+ghost use Rattle.std.specs.Prelude.{◌≡◌, IfOk};
+ghost use Rattle.tsdl_grammar.specs.AttributeValues.{meant_by};
+ghost use Rattle.tsdl_grammar.specs.BlockMeaning.{order_table, trace_order, has_number, is_trace, trace_uuid, header_meaning};
+
+use crate::known::Known;
+use crate::lookup::{attr_in, has_parts};
+use crate::scope_rule::ScopeRule;
+use crate::structure::scope_meaning;
+use crate::value::{natural_value, uuid_if_there, word_value};
+use ctf_types::{ByteOrder, StructType};
+use std::alloc::{AllocError, Global};
+use tsdl_grammar::Item;
+use uuid::Uuid;
+
+/// The scope of a trace block.
+const PACKET_HEADER: [&str; 2] = ["packet", "header"];
+
+/// `byte_order = le` or `be`.
+pub(crate) fn trace_order(items: &[Item]) -> Option<ByteOrder>
+    ensures { result ≡ trace_order items.now }
+{
+    order_word(word_value(attr_in("byte_order", items)?)?.as_str())
+}
+
+fn order_word(word: &str) -> Option<ByteOrder>
+    ensures { result ≡ meant_by order_table word.now }
+{
+    match word {
+        "le" => Some(ByteOrder::Little),
+        "be" => Some(ByteOrder::Big),
+        _ => None,
+    }
+}
+
+/// Version 1.8, and no scope but the packet header.
+pub(crate) fn is_trace(items: &[Item]) -> bool
+    ensures { result ≡ is_trace items.now }
+{
+    has_parts(&[&PACKET_HEADER], items)
+        && has_number("major", 1, items)
+        && has_number("minor", 8, items)
+}
+
+/// Whether an attribute is there and has this number.
+fn has_number(word: &str, number: u64, items: &[Item]) -> bool
+    ensures { result ≡ has_number word.now number items.now }
+{
+    match attr_in(word, items) {
+        None => false,
+        Some(value) => match natural_value(value) {
+            None => false,
+            Some(found) => found == number,
+        },
+    }
+}
+
+#[tactic(auto, unfolding(tsdl_grammar::specs::BlockMeaning::trace_uuid))]
+pub(crate) fn trace_uuid(items: &[Item]) -> Option<Option<Uuid>>
+    ensures { result ≡ trace_uuid items.now }
+{
+    uuid_if_there(attr_in("uuid", items))
+}
+
+/// The structure of packet headers.
+#[tactic(auto, unfolding(tsdl_grammar::specs::BlockMeaning::header_meaning))]
+pub(crate) fn header_meaning(
+    alloc: Global,
+    known: &Known,
+    items: &[Item],
+) -> Result<Option<StructType>, AllocError>
+    ensures { IfOk result (λ t. t ≡ header_meaning known.now items.now) }
+{
+    scope_meaning(alloc, known, &PACKET_HEADER, ScopeRule::PacketHeader, items)
+}

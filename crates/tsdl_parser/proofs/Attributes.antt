@@ -1,0 +1,160 @@
+-- Names, values and attributes are read as they are spelled. A name goes on for as long as dots follow.
+use Rattle.std.proofs.Common.{◌≡◌, ℕ, false, List, [], ◌∷◌, ◌++◌, length, Option, Some, None, refl, ap, ◌∙◌, append_assoc, arith}
+use Rattle.std.specs.List.{flat_map}
+use Rattle.tsdl_grammar.specs.declared.token.Mark.TheVariants as marks
+use Rattle.tsdl_grammar.specs.declared.atom.Atom.{Atom}
+use Rattle.tsdl_grammar.specs.declared.atom.Atom.TheVariants as atoms
+use Rattle.tsdl_grammar.specs.declared.tree.Sign.{Sign}
+use Rattle.tsdl_grammar.specs.declared.tree.Sign.TheVariants.{Plus, Minus}
+use Rattle.tsdl_grammar.specs.declared.tree.Name.{Name}
+use Rattle.tsdl_grammar.specs.declared.tree.Value.{Value}
+use Rattle.tsdl_grammar.specs.declared.tree.Value.TheVariants as values
+use Rattle.tsdl_grammar.specs.declared.tree.Attribute.{Attribute}
+use Rattle.tsdl_grammar.specs.Spelling.{mark, word, number_toks, dotted, name_toks, value_toks, attr_toks, attrs_toks}
+use Rattle.tsdl_parser.specs.Parsing.{begins, mark_at, word_at, number_at, is_open}
+use Rattle.tsdl_parser.specs.ParsingAttributes.{dotted_at, all_dotted_at, name_at, value_at, attr_behind, attr_at, all_attrs_at, attrs_at}
+use Rattle.tsdl_parser.proofs.Steps.{along, first_of_two}
+use Rattle.tsdl_parser.proofs.Words.{mark_takes, word_takes, number_takes}
+use Rattle.tsdl_parser.proofs.Repeated.{Spells, Shortens, shortens, many_take, many_again}
+
+-- no condition on what follows
+abbrev pub Anything : List Atom → Type 0
+Anything ts = Unit {0}
+
+-- ---- names
+
+dotted_takes : (ts : List Atom) (x : List ℕ × List Atom) → dotted_at ts ≡ Some x → ts ≡ dotted x.0 ++ x.1
+unfolding dotted_at
+dotted_takes ts x e =
+    let a = first_of_two (mark_at marks.Dot ts) word_at x e in
+    mark_takes marks.Dot ts a.0 a.1 ∙ ap (λ (us : List Atom). mark marks.Dot ∷ us) (word_takes a.0 x a.2)
+
+pub dotted_spells : Spells (List ℕ) (begins marks.Dot) dotted_at dotted Anything
+unfolding dotted_at mark_at word_at begins
+dotted_spells = record {
+  takes = dotted_takes;
+  some = λ w. omega arith;
+  again = λ w rest h. refl;
+  opens = λ w rest. refl;
+  ends = λ w rest. tt;
+}
+
+pub dotted_short : Shortens (List ℕ) dotted_at
+dotted_short = shortens (begins marks.Dot) dotted_at dotted Anything dotted_spells
+
+pub name_takes : (ts : List Atom) (x : Name × List Atom) → name_at ts ≡ Some x → ts ≡ name_toks x.0 ++ x.1
+unfolding name_at
+name_takes ts x e =
+    let a = first_of_two (word_at ts) _ x e in
+    let b = first_of_two (all_dotted_at a.0.1) _ x a.2 in
+    let one = word_takes ts a.0 a.1 in
+    let others = many_take (begins marks.Dot) dotted_at dotted Anything dotted_spells (length a.0.1) a.0.1 b.0 b.1 in
+    along (λ (y : Name × List Atom). ts ≡ name_toks y.0 ++ y.1) (record { first = a.0.0; rest = b.0.0 }, b.0.1) x b.2 (one ∙ ap (λ (us : List Atom). word a.0.0 ∷ us) others.0)
+
+pub name_again : (n : Name) (rest : List Atom) → begins marks.Dot rest ≡ false → name_at (name_toks n ++ rest) ≡ Some (n, rest)
+unfolding name_at word_at
+name_again n rest end = rw (many_again (begins marks.Dot) dotted_at dotted Anything dotted_spells n.rest rest end tt) refl
+
+-- ---- values
+
+pub value_takes : (ts : List Atom) (x : Value × List Atom) → value_at ts ≡ Some x → ts ≡ value_toks x.0 ++ x.1
+unfolding value_at
+value_takes [] x e = absurd cc
+value_takes (atoms.Text s ∷ ts) x e = along (λ (y : Value × List Atom). (atoms.Text s ∷ ts) ≡ value_toks y.0 ++ y.1) (values.Text s, ts) x e refl
+value_takes (atoms.Word w ∷ ts) x e =
+    let a = first_of_two (name_at (atoms.Word w ∷ ts)) _ x e in
+    along (λ (y : Value × List Atom). (atoms.Word w ∷ ts) ≡ value_toks y.0 ++ y.1) (values.Name a.0.0, a.0.1) x a.2 (name_takes (atoms.Word w ∷ ts) a.0 a.1)
+value_takes (atoms.Number n ∷ ts) x e =
+    let a = first_of_two (number_at (atoms.Number n ∷ ts)) _ x e in
+    along (λ (y : Value × List Atom). (atoms.Number n ∷ ts) ≡ value_toks y.0 ++ y.1) (values.Number a.0.0, a.0.1) x a.2 (number_takes (atoms.Number n ∷ ts) a.0 a.1)
+value_takes (atoms.Mark m ∷ ts) x e =
+    let a = first_of_two (number_at (atoms.Mark m ∷ ts)) _ x e in
+    along (λ (y : Value × List Atom). (atoms.Mark m ∷ ts) ≡ value_toks y.0 ++ y.1) (values.Number a.0.0, a.0.1) x a.2 (number_takes (atoms.Mark m ∷ ts) a.0 a.1)
+value_takes (atoms.TooLarge ∷ ts) x e = absurd cc
+
+number_value_again : (sign : Option Sign) (literal : ℕ) (rest : List Atom)
+    → value_at (number_toks (record { sign = sign; literal = literal }) ++ rest) ≡ Some (values.Number (record { sign = sign; literal = literal }), rest)
+unfolding value_at number_at
+number_value_again None literal rest = refl
+number_value_again (Some Plus) literal rest = refl
+number_value_again (Some Minus) literal rest = refl
+
+pub value_again : (v : Value) (rest : List Atom) → begins marks.Dot rest ≡ false → value_at (value_toks v ++ rest) ≡ Some (v, rest)
+unfolding value_at
+value_again (values.Number n) rest end = number_value_again n.sign n.literal rest
+value_again (values.Text s) rest end = refl
+value_again (values.Name n) rest end = rw (name_again n rest end) refl
+
+-- ---- attributes
+
+pub behind_takes : (name : Name) (ts : List Atom) (x : Attribute × List Atom) → attr_behind name ts ≡ Some x → name_toks name ++ ts ≡ attr_toks x.0 ++ x.1
+unfolding attr_behind
+behind_takes name ts x e =
+    let a = first_of_two (mark_at marks.Equals ts) _ x e in
+    let b = first_of_two (value_at a.0) _ x a.2 in
+    let c = first_of_two (mark_at marks.Semicolon b.0.1) _ x b.2 in
+    let e1 = mark_takes marks.Equals ts a.0 a.1 in
+    let e2 = value_takes a.0 b.0 b.1 in
+    let e3 = mark_takes marks.Semicolon b.0.1 c.0 c.1 in
+    along (λ (y : Attribute × List Atom). name_toks name ++ ts ≡ attr_toks y.0 ++ y.1) (record { name = name; value = b.0.0 }, c.0) x c.2
+    (ap (λ (us : List Atom). name_toks name ++ us) (e1 ∙ ap (λ (us : List Atom). mark marks.Equals ∷ us) (e2 ∙ ap (λ (us : List Atom). value_toks b.0.0 ++ us) e3)) ∙ simp append_assoc)
+
+attr_takes : (ts : List Atom) (x : Attribute × List Atom) → attr_at ts ≡ Some x → ts ≡ attr_toks x.0 ++ x.1
+unfolding attr_at
+attr_takes ts x e =
+    let a = first_of_two (name_at ts) _ x e in
+    name_takes ts a.0 a.1 ∙ behind_takes a.0.0 a.0.1 x a.2
+
+-- what stands behind the name of an attribute
+abbrev pub value_part : Attribute → List Atom
+value_part a = mark marks.Equals ∷ value_toks a.value ++ mark marks.Semicolon ∷ []
+
+pub attr_parts : (a : Attribute) (rest : List Atom) → attr_toks a ++ rest ≡ name_toks a.name ++ (value_part a ++ rest)
+attr_parts a rest = simp append_assoc
+
+no_dot : (rest : List Atom) → begins marks.Dot (mark marks.Semicolon ∷ rest) ≡ false
+unfolding begins
+no_dot rest = refl
+
+pub behind_again : (a : Attribute) (rest : List Atom) → attr_behind a.name (value_part a ++ rest) ≡ Some (a, rest)
+unfolding attr_behind mark_at
+behind_again a rest =
+    let regrouped : (value_toks a.value ++ mark marks.Semicolon ∷ []) ++ rest ≡ value_toks a.value ++ (mark marks.Semicolon ∷ rest) = append_assoc (value_toks a.value) (mark marks.Semicolon ∷ []) rest in
+    rw (regrouped, value_again a.value (mark marks.Semicolon ∷ rest) (no_dot rest)) refl
+
+attr_again : (a : Attribute) (rest : List Atom) → attr_at (attr_toks a ++ rest) ≡ Some (a, rest)
+unfolding attr_at begins
+attr_again a rest = ap attr_at (attr_parts a rest) ∙ rw (name_again a.name (value_part a ++ rest) refl) (behind_again a rest)
+
+pub attr_spells : Spells Attribute is_open attr_at attr_toks Anything
+unfolding begins
+attr_spells = record {
+  takes = attr_takes;
+  some = λ a. omega arith;
+  again = λ a rest h. attr_again a rest;
+  opens = λ a rest. refl;
+  ends = λ a rest. tt;
+}
+
+pub attr_short : Shortens Attribute attr_at
+attr_short = shortens is_open attr_at attr_toks Anything attr_spells
+
+-- ---- attributes in braces
+
+pub attrs_take : (ts : List Atom) (x : List Attribute × List Atom) → attrs_at ts ≡ Some x → ts ≡ attrs_toks x.0 ++ x.1
+unfolding attrs_at
+attrs_take ts x e =
+    let a = first_of_two (mark_at marks.OpenBrace ts) _ x e in
+    let b = first_of_two (all_attrs_at a.0) _ x a.2 in
+    let c = first_of_two (mark_at marks.CloseBrace b.0.1) _ x b.2 in
+    let e1 = mark_takes marks.OpenBrace ts a.0 a.1 in
+    let e2 = (many_take is_open attr_at attr_toks Anything attr_spells (length a.0) a.0 b.0 b.1).0 in
+    let e3 = mark_takes marks.CloseBrace b.0.1 c.0 c.1 in
+    along (λ (y : List Attribute × List Atom). ts ≡ attrs_toks y.0 ++ y.1) (b.0.0, c.0) x c.2
+    (e1 ∙ ap (λ (us : List Atom). mark marks.OpenBrace ∷ us) (e2 ∙ ap (λ (us : List Atom). flat_map attr_toks b.0.0 ++ us) e3) ∙ simp append_assoc)
+
+pub attrs_again : (attrs : List Attribute) (rest : List Atom) → attrs_at (attrs_toks attrs ++ rest) ≡ Some (attrs, rest)
+unfolding attrs_at mark_at begins
+attrs_again attrs rest =
+    let regrouped : (flat_map attr_toks attrs ++ mark marks.CloseBrace ∷ []) ++ rest ≡ flat_map attr_toks attrs ++ (mark marks.CloseBrace ∷ rest) = append_assoc (flat_map attr_toks attrs) (mark marks.CloseBrace ∷ []) rest in
+    rw (regrouped, many_again is_open attr_at attr_toks Anything attr_spells attrs (mark marks.CloseBrace ∷ rest) refl tt) refl

@@ -1,0 +1,292 @@
+-- Blocks, and what stands in them, are read as they are spelled, so a list of atoms spells at most one list of blocks.
+use Rattle.std.proofs.Common.{◌≡◌, ℕ, ◌<◌, true, false, List, [], ◌∷◌, ◌++◌, length, Option, Some, None, codes, refl, sym, ap, ◌∙◌, append_assoc, arith, inl, inr}
+use Rattle.std.specs.List.{flat_map}
+use Rattle.std.proofs.lemmas.List.{append-nil, length-append}
+use Rattle.tsdl_grammar.specs.declared.token.Mark.TheVariants as marks
+use Rattle.tsdl_grammar.specs.declared.atom.Atom.{Atom}
+use Rattle.tsdl_grammar.specs.declared.atom.Atom.TheVariants as atoms
+use Rattle.tsdl_grammar.specs.declared.tree.Sign.{Sign}
+use Rattle.tsdl_grammar.specs.declared.tree.Sign.TheVariants.{Plus, Minus}
+use Rattle.tsdl_grammar.specs.declared.tree.Name.{Name}
+use Rattle.tsdl_grammar.specs.declared.tree.Scope.{Scope}
+use Rattle.tsdl_grammar.specs.declared.tree.Item.{Item}
+use Rattle.tsdl_grammar.specs.declared.tree.Item.TheVariants as items
+use Rattle.tsdl_grammar.specs.declared.tree.Fact.{Fact}
+use Rattle.tsdl_grammar.specs.declared.tree.Fact.TheVariants as facts
+use Rattle.tsdl_grammar.specs.declared.tree.NamedFact.{NamedFact}
+use Rattle.tsdl_grammar.specs.declared.tree.Block.{Block}
+use Rattle.tsdl_grammar.specs.declared.tree.Block.TheVariants as blocks
+use Rattle.tsdl_grammar.specs.Spelling.{mark, word, number_toks, braced, name_toks, struct_toks, scope_toks, item_toks, items_toks, fact_toks, named_fact_toks, block_toks, block_and_semicolon, text_toks}
+use Rattle.tsdl_parser.specs.Parsing.{begins, mark_at, word_at, names, keyword_at, number_at, is_open}
+use Rattle.tsdl_parser.specs.ParsingAttributes.{name_at, attr_behind}
+use Rattle.tsdl_parser.specs.ParsingMembers.{struct_at}
+use Rattle.tsdl_parser.specs.ParsingBlocks.{scope_behind, item_at, all_items_at, items_at, fact_at, named_fact_at, all_facts_at, environment_at, block_at, ended_block_at, has_more, all_blocks_at, parse_all}
+use Rattle.tsdl_parser.proofs.Steps.{along, first_of_two, chosen, splice, some_is}
+use Rattle.tsdl_parser.proofs.Words.{mark_takes, word_takes, keyword_takes, number_takes}
+use Rattle.tsdl_parser.proofs.Repeated.{Spells, Shortens, shortens, many_take, many_again}
+use Rattle.tsdl_parser.proofs.Attributes.{Anything, name_takes, name_again, behind_takes, value_part, attr_parts, behind_again}
+use Rattle.tsdl_parser.proofs.Members.{struct_takes, struct_again}
+
+-- ---- scopes and items
+
+scope_parts : (s : Scope) (rest : List Atom) → name_toks s.name ++ (mark marks.Assign ∷ (struct_toks s.structure ++ (mark marks.Semicolon ∷ rest))) ≡ scope_toks s ++ rest
+scope_parts s rest = splice (name_toks s.name) (mark marks.Assign ∷ struct_toks s.structure) (mark marks.Semicolon ∷ []) rest
+
+scope_takes : (name : Name) (ts : List Atom) (x : Scope × List Atom) → scope_behind name ts ≡ Some x → name_toks name ++ ts ≡ scope_toks x.0 ++ x.1
+unfolding scope_behind
+scope_takes name ts x e =
+    let a = first_of_two (mark_at marks.Assign ts) _ x e in
+    let b = first_of_two (struct_at a.0) _ x a.2 in
+    let c = first_of_two (mark_at marks.Semicolon b.0.1) _ x b.2 in
+    let e1 = mark_takes marks.Assign ts a.0 a.1 in
+    let e2 = struct_takes a.0 b.0 b.1 in
+    let e3 = mark_takes marks.Semicolon b.0.1 c.0 c.1 in
+    along (λ (y : Scope × List Atom). name_toks name ++ ts ≡ scope_toks y.0 ++ y.1) (record { name = name; structure = b.0.0 }, c.0) x c.2
+    (ap (λ (us : List Atom). name_toks name ++ us) (e1 ∙ ap (λ (us : List Atom). mark marks.Assign ∷ us) (e2 ∙ ap (λ (us : List Atom). struct_toks b.0.0 ++ us) e3))
+    ∙ scope_parts (record { name = name; structure = b.0.0 }) c.0)
+
+scope_again : (s : Scope) (rest : List Atom) → scope_behind s.name (mark marks.Assign ∷ (struct_toks s.structure ++ (mark marks.Semicolon ∷ rest))) ≡ Some (s, rest)
+unfolding scope_behind mark_at names
+scope_again s rest = rw (struct_again s.structure (mark marks.Semicolon ∷ rest) refl) refl
+
+item_takes : (ts : List Atom) (x : Item × List Atom) → item_at ts ≡ Some x → ts ≡ item_toks x.0 ++ x.1
+unfolding item_at
+item_takes ts x e =
+    let a = first_of_two (name_at ts) _ x e in
+    let e1 = name_takes ts a.0 a.1 in
+    elim (chosen (begins marks.Equals a.0.1) _ _ (Some x) a.2) [
+      | inl h ↦
+          let b = first_of_two (attr_behind a.0.0 a.0.1) _ x h.1 in
+          along (λ (y : Item × List Atom). ts ≡ item_toks y.0 ++ y.1) (items.Attribute b.0.0, b.0.1) x b.2 (e1 ∙ behind_takes a.0.0 a.0.1 b.0 b.1)
+      | inr h ↦
+          let b = first_of_two (scope_behind a.0.0 a.0.1) _ x h.1 in
+          along (λ (y : Item × List Atom). ts ≡ item_toks y.0 ++ y.1) (items.Scope b.0.0, b.0.1) x b.2 (e1 ∙ scope_takes a.0.0 a.0.1 b.0 b.1)
+    ]
+
+item_again : (i : Item) (rest : List Atom) → item_at (item_toks i ++ rest) ≡ Some (i, rest)
+unfolding item_at begins
+item_again (items.Attribute a) rest = ap item_at (attr_parts a rest) ∙ rw (name_again a.name (value_part a ++ rest) refl, behind_again a rest) refl
+item_again (items.Scope s) rest =
+    ap item_at (sym (scope_parts s rest))
+    ∙ rw (name_again s.name (mark marks.Assign ∷ (struct_toks s.structure ++ (mark marks.Semicolon ∷ rest))) refl, scope_again s rest) refl
+
+item_opens : (i : Item) (rest : List Atom) → is_open (item_toks i ++ rest) ≡ true
+unfolding begins
+item_opens (items.Attribute a) rest = refl
+item_opens (items.Scope s) rest = refl
+
+item_some : (i : Item) → 0 < length (item_toks i)
+item_some (items.Attribute a) = omega arith
+item_some (items.Scope s) = omega arith
+
+pub item_spells : Spells Item is_open item_at item_toks Anything
+item_spells = record {
+  takes = item_takes;
+  some = item_some;
+  again = λ i rest h. item_again i rest;
+  opens = item_opens;
+  ends = λ i rest. tt;
+}
+
+pub item_short : Shortens Item item_at
+item_short = shortens is_open item_at item_toks Anything item_spells
+
+-- ---- environment entries
+
+fact_takes : (ts : List Atom) (x : Fact × List Atom) → fact_at ts ≡ Some x → ts ≡ fact_toks x.0 ++ x.1
+unfolding fact_at
+fact_takes [] x e = absurd cc
+fact_takes (atoms.Text s ∷ ts) x e = along (λ (y : Fact × List Atom). (atoms.Text s ∷ ts) ≡ fact_toks y.0 ++ y.1) (facts.Text s, ts) x e refl
+fact_takes (atoms.Number n ∷ ts) x e =
+    let a = first_of_two (number_at (atoms.Number n ∷ ts)) _ x e in
+    along (λ (y : Fact × List Atom). (atoms.Number n ∷ ts) ≡ fact_toks y.0 ++ y.1) (facts.Number a.0.0, a.0.1) x a.2 (number_takes (atoms.Number n ∷ ts) a.0 a.1)
+fact_takes (atoms.Mark m ∷ ts) x e =
+    let a = first_of_two (number_at (atoms.Mark m ∷ ts)) _ x e in
+    along (λ (y : Fact × List Atom). (atoms.Mark m ∷ ts) ≡ fact_toks y.0 ++ y.1) (facts.Number a.0.0, a.0.1) x a.2 (number_takes (atoms.Mark m ∷ ts) a.0 a.1)
+fact_takes (atoms.Word w ∷ ts) x e = absurd cc
+fact_takes (atoms.TooLarge ∷ ts) x e = absurd cc
+
+number_fact_again : (sign : Option Sign) (literal : ℕ) (rest : List Atom)
+    → fact_at (number_toks (record { sign = sign; literal = literal }) ++ rest) ≡ Some (facts.Number (record { sign = sign; literal = literal }), rest)
+unfolding fact_at number_at
+number_fact_again None literal rest = refl
+number_fact_again (Some Plus) literal rest = refl
+number_fact_again (Some Minus) literal rest = refl
+
+fact_again : (f : Fact) (rest : List Atom) → fact_at (fact_toks f ++ rest) ≡ Some (f, rest)
+unfolding fact_at
+fact_again (facts.Number n) rest = number_fact_again n.sign n.literal rest
+fact_again (facts.Text s) rest = refl
+
+named_parts : (f : NamedFact) (rest : List Atom) → word f.name ∷ (mark marks.Equals ∷ (fact_toks f.fact ++ (mark marks.Semicolon ∷ rest))) ≡ named_fact_toks f ++ rest
+named_parts f rest = sym (append_assoc (word f.name ∷ (mark marks.Equals ∷ fact_toks f.fact)) (mark marks.Semicolon ∷ []) rest)
+
+named_takes : (ts : List Atom) (x : NamedFact × List Atom) → named_fact_at ts ≡ Some x → ts ≡ named_fact_toks x.0 ++ x.1
+unfolding named_fact_at
+named_takes ts x e =
+    let a = first_of_two (word_at ts) _ x e in
+    let b = first_of_two (mark_at marks.Equals a.0.1) _ x a.2 in
+    let c = first_of_two (fact_at b.0) _ x b.2 in
+    let d = first_of_two (mark_at marks.Semicolon c.0.1) _ x c.2 in
+    let e1 = word_takes ts a.0 a.1 in
+    let e2 = mark_takes marks.Equals a.0.1 b.0 b.1 in
+    let e3 = fact_takes b.0 c.0 c.1 in
+    let e4 = mark_takes marks.Semicolon c.0.1 d.0 d.1 in
+    along (λ (y : NamedFact × List Atom). ts ≡ named_fact_toks y.0 ++ y.1) (record { name = a.0.0; fact = c.0.0 }, d.0) x d.2
+    (e1 ∙ ap (λ (us : List Atom). word a.0.0 ∷ us) (e2 ∙ ap (λ (us : List Atom). mark marks.Equals ∷ us) (e3 ∙ ap (λ (us : List Atom). fact_toks c.0.0 ++ us) e4))
+    ∙ named_parts (record { name = a.0.0; fact = c.0.0 }) d.0)
+
+named_again : (f : NamedFact) (rest : List Atom) → named_fact_at (named_fact_toks f ++ rest) ≡ Some (f, rest)
+unfolding named_fact_at word_at mark_at
+named_again f rest = ap named_fact_at (sym (named_parts f rest)) ∙ rw (fact_again f.fact (mark marks.Semicolon ∷ rest)) refl
+
+pub fact_spells : Spells NamedFact is_open named_fact_at named_fact_toks Anything
+unfolding begins
+fact_spells = record {
+  takes = named_takes;
+  some = λ f. omega arith;
+  again = λ f rest h. named_again f rest;
+  opens = λ f rest. refl;
+  ends = λ f rest. tt;
+}
+
+pub fact_short : Shortens NamedFact named_fact_at
+fact_short = shortens is_open named_fact_at named_fact_toks Anything fact_spells
+
+-- ---- blocks
+
+inner_parts : (inner rest : List Atom) → (inner ++ mark marks.CloseBrace ∷ []) ++ rest ≡ inner ++ (mark marks.CloseBrace ∷ rest)
+inner_parts inner rest = append_assoc inner (mark marks.CloseBrace ∷ []) rest
+
+braced_parts : (inner rest : List Atom) → mark marks.OpenBrace ∷ (inner ++ (mark marks.CloseBrace ∷ rest)) ≡ braced inner ++ rest
+braced_parts inner rest = ap (λ (us : List Atom). mark marks.OpenBrace ∷ us) (sym (inner_parts inner rest))
+
+items_take : (keyword : List ℕ) (ts : List Atom) (x : List Item × List Atom) → items_at keyword ts ≡ Some x → ts ≡ word keyword ∷ (items_toks x.0 ++ x.1)
+unfolding items_at
+items_take keyword ts x e =
+    let a = first_of_two (keyword_at keyword ts) _ x e in
+    let b = first_of_two (mark_at marks.OpenBrace a.0) _ x a.2 in
+    let c = first_of_two (all_items_at b.0) _ x b.2 in
+    let d = first_of_two (mark_at marks.CloseBrace c.0.1) _ x c.2 in
+    let e1 = keyword_takes keyword ts a.0 a.1 in
+    let e2 = mark_takes marks.OpenBrace a.0 b.0 b.1 in
+    let e3 = (many_take is_open item_at item_toks Anything item_spells (length b.0) b.0 c.0 c.1).0 in
+    let e4 = mark_takes marks.CloseBrace c.0.1 d.0 d.1 in
+    along (λ (y : List Item × List Atom). ts ≡ word keyword ∷ (items_toks y.0 ++ y.1)) (c.0.0, d.0) x d.2
+    (e1 ∙ ap (λ (us : List Atom). word keyword ∷ us) (e2 ∙ ap (λ (us : List Atom). mark marks.OpenBrace ∷ us) (e3 ∙ ap (λ (us : List Atom). flat_map item_toks c.0.0 ++ us) e4) ∙ braced_parts (flat_map item_toks c.0.0) d.0))
+
+items_again : (keyword : List ℕ) (is : List Item) (ts rest : List Atom) → keyword_at keyword ts ≡ Some (items_toks is ++ rest) → items_at keyword ts ≡ Some (is, rest)
+unfolding items_at mark_at begins
+items_again keyword is ts rest e =
+    rw (e, inner_parts (flat_map item_toks is) rest, many_again is_open item_at item_toks Anything item_spells is (mark marks.CloseBrace ∷ rest) refl tt) refl
+
+environment_takes : (ts : List Atom) (x : Block × List Atom) → environment_at ts ≡ Some x → ts ≡ block_toks x.0 ++ x.1
+unfolding environment_at
+environment_takes ts x e =
+    let a = first_of_two (keyword_at (codes "env") ts) _ x e in
+    let b = first_of_two (mark_at marks.OpenBrace a.0) _ x a.2 in
+    let c = first_of_two (all_facts_at b.0) _ x b.2 in
+    let d = first_of_two (mark_at marks.CloseBrace c.0.1) _ x c.2 in
+    let e1 = keyword_takes (codes "env") ts a.0 a.1 in
+    let e2 = mark_takes marks.OpenBrace a.0 b.0 b.1 in
+    let e3 = (many_take is_open named_fact_at named_fact_toks Anything fact_spells (length b.0) b.0 c.0 c.1).0 in
+    let e4 = mark_takes marks.CloseBrace c.0.1 d.0 d.1 in
+    along (λ (y : Block × List Atom). ts ≡ block_toks y.0 ++ y.1) (blocks.Environment c.0.0, d.0) x d.2
+    (e1 ∙ ap (λ (us : List Atom). word (codes "env") ∷ us) (e2 ∙ ap (λ (us : List Atom). mark marks.OpenBrace ∷ us) (e3 ∙ ap (λ (us : List Atom). flat_map named_fact_toks c.0.0 ++ us) e4) ∙ braced_parts (flat_map named_fact_toks c.0.0) d.0))
+
+block_takes : (ts : List Atom) (x : Block × List Atom) → block_at ts ≡ Some x → ts ≡ block_toks x.0 ++ x.1
+unfolding block_at
+block_takes ts x e =
+    elim (chosen (names (codes "trace") ts) _ _ (Some x) e) [
+      | inl h ↦
+          let a = first_of_two (items_at (codes "trace") ts) _ x h.1 in
+          along (λ (y : Block × List Atom). ts ≡ block_toks y.0 ++ y.1) (blocks.Trace a.0.0, a.0.1) x a.2 (items_take (codes "trace") ts a.0 a.1)
+      | inr h ↦ elim (chosen (names (codes "stream") ts) _ _ (Some x) h.1) [
+        | inl h ↦
+            let a = first_of_two (items_at (codes "stream") ts) _ x h.1 in
+            along (λ (y : Block × List Atom). ts ≡ block_toks y.0 ++ y.1) (blocks.Stream a.0.0, a.0.1) x a.2 (items_take (codes "stream") ts a.0 a.1)
+        | inr h ↦ elim (chosen (names (codes "event") ts) _ _ (Some x) h.1) [
+          | inl h ↦
+              let a = first_of_two (items_at (codes "event") ts) _ x h.1 in
+              along (λ (y : Block × List Atom). ts ≡ block_toks y.0 ++ y.1) (blocks.Event a.0.0, a.0.1) x a.2 (items_take (codes "event") ts a.0 a.1)
+          | inr h ↦ elim (chosen (names (codes "clock") ts) _ _ (Some x) h.1) [
+            | inl h ↦
+                let a = first_of_two (items_at (codes "clock") ts) _ x h.1 in
+                along (λ (y : Block × List Atom). ts ≡ block_toks y.0 ++ y.1) (blocks.Clock a.0.0, a.0.1) x a.2 (items_take (codes "clock") ts a.0 a.1)
+            | inr h ↦ environment_takes ts x h.1
+          ]
+        ]
+      ]
+    ]
+
+environment_again : (fs : List NamedFact) (rest : List Atom) → environment_at (block_toks (blocks.Environment fs) ++ rest) ≡ Some (blocks.Environment fs, rest)
+unfolding environment_at keyword_at mark_at begins
+environment_again fs rest =
+    rw (inner_parts (flat_map named_fact_toks fs) rest, many_again is_open named_fact_at named_fact_toks Anything fact_spells fs (mark marks.CloseBrace ∷ rest) refl tt) refl
+
+block_again : (b : Block) (rest : List Atom) → block_at (block_toks b ++ rest) ≡ Some (b, rest)
+unfolding block_at names keyword_at
+block_again (blocks.Trace is) rest = rw (items_again (codes "trace") is (block_toks (blocks.Trace is) ++ rest) rest refl) refl
+block_again (blocks.Stream is) rest = rw (items_again (codes "stream") is (block_toks (blocks.Stream is) ++ rest) rest refl) refl
+block_again (blocks.Event is) rest = rw (items_again (codes "event") is (block_toks (blocks.Event is) ++ rest) rest refl) refl
+block_again (blocks.Clock is) rest = rw (items_again (codes "clock") is (block_toks (blocks.Clock is) ++ rest) rest refl) refl
+block_again (blocks.Environment fs) rest = environment_again fs rest
+
+ended_takes : (ts : List Atom) (x : Block × List Atom) → ended_block_at ts ≡ Some x → ts ≡ block_and_semicolon x.0 ++ x.1
+unfolding ended_block_at
+ended_takes ts x e =
+    let a = first_of_two (block_at ts) _ x e in
+    let b = first_of_two (mark_at marks.Semicolon a.0.1) _ x a.2 in
+    along (λ (y : Block × List Atom). ts ≡ block_and_semicolon y.0 ++ y.1) (a.0.0, b.0) x b.2
+    (block_takes ts a.0 a.1 ∙ ap (λ (us : List Atom). block_toks a.0.0 ++ us) (mark_takes marks.Semicolon a.0.1 b.0 b.1) ∙ sym (append_assoc (block_toks a.0.0) (mark marks.Semicolon ∷ []) b.0))
+
+ended_again : (b : Block) (rest : List Atom) → ended_block_at (block_and_semicolon b ++ rest) ≡ Some (b, rest)
+unfolding ended_block_at mark_at
+ended_again b rest = ap ended_block_at (append_assoc (block_toks b) (mark marks.Semicolon ∷ []) rest) ∙ rw (block_again b (mark marks.Semicolon ∷ rest)) refl
+
+block_opens : (b : Block) (rest : List Atom) → has_more (block_and_semicolon b ++ rest) ≡ true
+block_opens (blocks.Trace is) rest = refl
+block_opens (blocks.Stream is) rest = refl
+block_opens (blocks.Event is) rest = refl
+block_opens (blocks.Clock is) rest = refl
+block_opens (blocks.Environment fs) rest = refl
+
+pub block_spells : Spells Block has_more ended_block_at block_and_semicolon Anything
+block_spells = record {
+  takes = ended_takes;
+  some = λ b. simp length-append (omega arith);
+  again = λ b rest h. ended_again b rest;
+  opens = block_opens;
+  ends = λ b rest. tt;
+}
+
+pub block_short : Shortens Block ended_block_at
+block_short = shortens has_more ended_block_at block_and_semicolon Anything block_spells
+
+-- ---- whole texts
+
+no_more : (ts : List Atom) → has_more ts ≡ false → ts ≡ []
+no_more [] e = refl
+no_more (a ∷ ts) e = absurd cc
+
+-- what is read was spelled so
+pub parse_takes : (ts : List Atom) (bs : List Block) → parse_all ts ≡ Some bs → ts ≡ text_toks bs
+unfolding parse_all
+parse_takes ts bs e =
+    let a = first_of_two (all_blocks_at ts) (λ x. Some x.0) bs e in
+    let all = many_take has_more ended_block_at block_and_semicolon Anything block_spells (length ts) ts a.0 a.1 in
+    along (λ (found : List Block). ts ≡ text_toks found) a.0.0 bs a.2
+    (all.0 ∙ ap (λ (us : List Atom). text_toks a.0.0 ++ us) (no_more a.0.1 all.1) ∙ append-nil (text_toks a.0.0))
+
+-- what is spelled so is read
+pub parse_again : (bs : List Block) → parse_all (text_toks bs) ≡ Some bs
+unfolding parse_all
+parse_again bs =
+    ap parse_all (sym (append-nil (text_toks bs))) ∙ rw (many_again has_more ended_block_at block_and_semicolon Anything block_spells bs [] refl tt) refl
+
+-- so no other blocks are spelled so
+pub one_reading : (bs cs : List Block) → text_toks bs ≡ text_toks cs → bs ≡ cs
+one_reading bs cs e = some_is bs cs (sym (parse_again bs) ∙ ap parse_all e ∙ parse_again cs)
+
+pub no_blocks : (ts : List Atom) → parse_all ts ≡ None → (bs : List Block) → ts ≡ text_toks bs → ⊥
+no_blocks ts e bs h = let read : parse_all ts ≡ Some bs = ap parse_all h ∙ parse_again bs in cc

@@ -1,0 +1,193 @@
+-- The entries of enumerations are read as they are spelled. A range goes on where `...` follows, and the entries where a
+-- comma and a label follow.
+use Rattle.std.proofs.Common.{◌≡◌, true, false, List, [], ◌∷◌, ◌++◌, length, Option, Some, None, refl, sym, ap, ◌∙◌, append_assoc, arith, inl, inr}
+use Rattle.std.specs.List.{flat_map}
+use Rattle.tsdl_grammar.specs.declared.token.Mark.TheVariants as marks
+use Rattle.tsdl_grammar.specs.declared.atom.Atom.{Atom}
+use Rattle.tsdl_grammar.specs.declared.atom.Atom.TheVariants as atoms
+use Rattle.tsdl_grammar.specs.declared.tree.Number.{Number}
+use Rattle.tsdl_grammar.specs.declared.tree.Label.{Label}
+use Rattle.tsdl_grammar.specs.declared.tree.Label.TheVariants.{Quoted, Bare}
+use Rattle.tsdl_grammar.specs.declared.tree.Entry.{Entry}
+use Rattle.tsdl_grammar.specs.declared.tree.Closing.{Closing}
+use Rattle.tsdl_grammar.specs.declared.tree.Closing.TheVariants as closings
+use Rattle.tsdl_grammar.specs.declared.tree.Entries.{Entries}
+use Rattle.tsdl_grammar.specs.declared.tree.Entries.TheVariants as entries
+use Rattle.tsdl_grammar.specs.Spelling.{mark, word, number_toks, label_toks, high_toks, entry_toks, next_entry_toks, closing_toks, entries_toks}
+use Rattle.tsdl_parser.specs.Parsing.{begins, mark_at, number_at}
+use Rattle.tsdl_parser.specs.ParsingEntries.{label_at, high_at, entry_at, is_labelled, is_next, next_entry_at, all_next_at, closing_at, listed_at, entries_at}
+use Rattle.tsdl_parser.proofs.Steps.{along, first_of_two, chosen, splice}
+use Rattle.tsdl_parser.proofs.Words.{mark_takes, number_takes, number_again}
+use Rattle.tsdl_parser.proofs.Repeated.{Spells, Shortens, shortens, all_end, many_take, many_again}
+
+-- ---- labels
+
+label_takes : (ts : List Atom) (x : Label × List Atom) → label_at ts ≡ Some x → ts ≡ label_toks x.0 ++ x.1
+unfolding label_at
+label_takes [] x e = absurd cc
+label_takes (atoms.Text s ∷ ts) x e = along (λ (y : Label × List Atom). (atoms.Text s ∷ ts) ≡ label_toks y.0 ++ y.1) (Quoted s, ts) x e refl
+label_takes (atoms.Word w ∷ ts) x e = along (λ (y : Label × List Atom). (word w ∷ ts) ≡ label_toks y.0 ++ y.1) (Bare w, ts) x e refl
+label_takes (atoms.Number n ∷ ts) x e = absurd cc
+label_takes (atoms.Mark m ∷ ts) x e = absurd cc
+label_takes (atoms.TooLarge ∷ ts) x e = absurd cc
+
+label_again : (l : Label) (rest : List Atom) → label_at (label_toks l ++ rest) ≡ Some (l, rest)
+unfolding label_at
+label_again (Quoted s) rest = refl
+label_again (Bare w) rest = refl
+
+label_first : (l : Label) (rest : List Atom) → is_labelled (label_toks l ++ rest) ≡ true
+unfolding is_labelled
+label_first (Quoted s) rest = refl
+label_first (Bare w) rest = refl
+
+-- ---- ranges
+
+-- no `...` follows
+abbrev pub NoEllipsis : List Atom → Type 0
+NoEllipsis ts = begins marks.Ellipsis ts ≡ false
+
+high_takes : (ts : List Atom) (x : Option Number × List Atom) → high_at ts ≡ Some x → ts ≡ high_toks x.0 ++ x.1
+unfolding high_at
+high_takes ts x e =
+    elim (chosen (begins marks.Ellipsis ts) _ _ (Some x) e) [
+      | inl h ↦
+          let a = first_of_two (mark_at marks.Ellipsis ts) _ x h.1 in
+          let b = first_of_two (number_at a.0) _ x a.2 in
+          along (λ (y : Option Number × List Atom). ts ≡ high_toks y.0 ++ y.1) (Some b.0.0, b.0.1) x b.2
+          (mark_takes marks.Ellipsis ts a.0 a.1 ∙ ap (λ (us : List Atom). mark marks.Ellipsis ∷ us) (number_takes a.0 b.0 b.1))
+      | inr h ↦ along (λ (y : Option Number × List Atom). ts ≡ high_toks y.0 ++ y.1) (None, ts) x h.1 refl
+    ]
+
+high_again : (high : Option Number) (rest : List Atom) → NoEllipsis rest → high_at (high_toks high ++ rest) ≡ Some (high, rest)
+unfolding high_at mark_at begins
+high_again None rest end = rw end refl
+high_again (Some n) rest end = rw (number_again n rest) refl
+
+-- ---- entries
+
+entry_takes : (ts : List Atom) (x : Entry × List Atom) → entry_at ts ≡ Some x → ts ≡ entry_toks x.0 ++ x.1
+unfolding entry_at
+entry_takes ts x e =
+    let a = first_of_two (label_at ts) _ x e in
+    let b = first_of_two (mark_at marks.Equals a.0.1) _ x a.2 in
+    let c = first_of_two (number_at b.0) _ x b.2 in
+    let d = first_of_two (high_at c.0.1) _ x c.2 in
+    let e1 = label_takes ts a.0 a.1 in
+    let e2 = mark_takes marks.Equals a.0.1 b.0 b.1 in
+    let e3 = number_takes b.0 c.0 c.1 in
+    let e4 = high_takes c.0.1 d.0 d.1 in
+    along (λ (y : Entry × List Atom). ts ≡ entry_toks y.0 ++ y.1) (record { label = a.0.0; low = c.0.0; high = d.0.0 }, d.0.1) x d.2
+    (e1 ∙ ap (λ (us : List Atom). label_toks a.0.0 ++ us) (e2 ∙ ap (λ (us : List Atom). mark marks.Equals ∷ us) (e3 ∙ ap (λ (us : List Atom). number_toks c.0.0 ++ us) e4)) ∙ simp append_assoc)
+
+entry_parts : (e : Entry) (rest : List Atom) → entry_toks e ++ rest ≡ label_toks e.label ++ (mark marks.Equals ∷ (number_toks e.low ++ (high_toks e.high ++ rest)))
+entry_parts e rest = simp append_assoc
+
+entry_again : (e : Entry) (rest : List Atom) → NoEllipsis rest → entry_at (entry_toks e ++ rest) ≡ Some (e, rest)
+unfolding entry_at mark_at
+entry_again e rest end =
+    ap entry_at (entry_parts e rest)
+    ∙ rw (label_again e.label (mark marks.Equals ∷ (number_toks e.low ++ (high_toks e.high ++ rest))), number_again e.low (high_toks e.high ++ rest), high_again e.high rest end) refl
+
+entry_first : (e : Entry) (rest : List Atom) → is_labelled (entry_toks e ++ rest) ≡ true
+entry_first e rest = ap is_labelled (entry_parts e rest) ∙ label_first e.label (mark marks.Equals ∷ (number_toks e.low ++ (high_toks e.high ++ rest)))
+
+next_takes : (ts : List Atom) (x : Entry × List Atom) → next_entry_at ts ≡ Some x → ts ≡ next_entry_toks x.0 ++ x.1
+unfolding next_entry_at
+next_takes ts x e =
+    let a = first_of_two (mark_at marks.Comma ts) entry_at x e in
+    mark_takes marks.Comma ts a.0 a.1 ∙ ap (λ (us : List Atom). mark marks.Comma ∷ us) (entry_takes a.0 x a.2)
+
+next_again : (e : Entry) (rest : List Atom) → NoEllipsis rest → next_entry_at (next_entry_toks e ++ rest) ≡ Some (e, rest)
+unfolding next_entry_at mark_at
+next_again e rest end = entry_again e rest end
+
+next_opens : (e : Entry) (rest : List Atom) → is_next (next_entry_toks e ++ rest) ≡ true
+unfolding is_next
+next_opens e rest = entry_first e rest
+
+next_ends : (e : Entry) (rest : List Atom) → NoEllipsis (next_entry_toks e ++ rest)
+unfolding begins
+next_ends e rest = refl
+
+pub next_spells : Spells Entry is_next next_entry_at next_entry_toks NoEllipsis
+next_spells = record {
+  takes = next_takes;
+  some = λ e. omega arith;
+  again = next_again;
+  opens = next_opens;
+  ends = next_ends;
+}
+
+pub next_short : Shortens Entry next_entry_at
+next_short = shortens is_next next_entry_at next_entry_toks NoEllipsis next_spells
+
+-- ---- the comma behind the last one
+
+closing_takes : (ts : List Atom) (x : Closing × List Atom) → closing_at ts ≡ Some x → ts ≡ closing_toks x.0 ++ x.1
+unfolding closing_at
+closing_takes ts x e =
+    elim (chosen (begins marks.Comma ts) _ _ (Some x) e) [
+      | inl h ↦
+          let a = first_of_two (mark_at marks.Comma ts) _ x h.1 in
+          along (λ (y : Closing × List Atom). ts ≡ closing_toks y.0 ++ y.1) (closings.Comma, a.0) x a.2 (mark_takes marks.Comma ts a.0 a.1)
+      | inr h ↦ along (λ (y : Closing × List Atom). ts ≡ closing_toks y.0 ++ y.1) (closings.Plain, ts) x h.1 refl
+    ]
+
+closing_again : (c : Closing) (rest : List Atom) → closing_at (closing_toks c ++ mark marks.CloseBrace ∷ rest) ≡ Some (c, mark marks.CloseBrace ∷ rest)
+unfolding closing_at mark_at begins
+closing_again closings.Plain rest = refl
+closing_again closings.Comma rest = refl
+
+no_more : (c : Closing) (rest : List Atom) → is_next (closing_toks c ++ mark marks.CloseBrace ∷ rest) ≡ false
+unfolding is_next is_labelled
+no_more closings.Plain rest = refl
+no_more closings.Comma rest = refl
+
+no_range : (c : Closing) (rest : List Atom) → NoEllipsis (closing_toks c ++ mark marks.CloseBrace ∷ rest)
+unfolding begins
+no_range closings.Plain rest = refl
+no_range closings.Comma rest = refl
+
+-- ---- all entries
+
+listed_takes : (ts : List Atom) (x : Entries × List Atom) → listed_at ts ≡ Some x → ts ≡ entries_toks x.0 ++ x.1
+unfolding listed_at
+listed_takes ts x e =
+    let a = first_of_two (entry_at ts) _ x e in
+    let b = first_of_two (all_next_at a.0.1) _ x a.2 in
+    let c = first_of_two (closing_at b.0.1) _ x b.2 in
+    let e1 = entry_takes ts a.0 a.1 in
+    let e2 = (many_take is_next next_entry_at next_entry_toks NoEllipsis next_spells (length a.0.1) a.0.1 b.0 b.1).0 in
+    let e3 = closing_takes b.0.1 c.0 c.1 in
+    along (λ (y : Entries × List Atom). ts ≡ entries_toks y.0 ++ y.1) (entries.Listed a.0.0 b.0.0 c.0.0, c.0.1) x c.2
+    (e1 ∙ ap (λ (us : List Atom). entry_toks a.0.0 ++ us) (e2 ∙ ap (λ (us : List Atom). flat_map next_entry_toks b.0.0 ++ us) e3)
+    ∙ splice (entry_toks a.0.0) (flat_map next_entry_toks b.0.0) (closing_toks c.0.0) c.0.1)
+
+listed_again : (e : Entry) (es : List Entry) (c : Closing) (rest : List Atom)
+    → listed_at (entries_toks (entries.Listed e es c) ++ mark marks.CloseBrace ∷ rest) ≡ Some (entries.Listed e es c, mark marks.CloseBrace ∷ rest)
+unfolding listed_at
+listed_again e es c rest =
+    let end = closing_toks c ++ mark marks.CloseBrace ∷ rest in
+    ap listed_at (sym (splice (entry_toks e) (flat_map next_entry_toks es) (closing_toks c) (mark marks.CloseBrace ∷ rest)))
+    ∙ rw (
+      entry_again e (flat_map next_entry_toks es ++ end) (all_end is_next next_entry_at next_entry_toks NoEllipsis next_spells es end (no_range c rest)),
+      many_again is_next next_entry_at next_entry_toks NoEllipsis next_spells es end (no_more c rest) (no_range c rest),
+      closing_again c rest,
+    ) refl
+
+pub entries_take : (ts : List Atom) (x : Entries × List Atom) → entries_at ts ≡ Some x → ts ≡ entries_toks x.0 ++ x.1
+unfolding entries_at
+entries_take ts x e =
+    elim (chosen (is_labelled ts) _ _ (Some x) e) [
+      | inl h ↦ listed_takes ts x h.1
+      | inr h ↦ along (λ (y : Entries × List Atom). ts ≡ entries_toks y.0 ++ y.1) (entries.Empty, ts) x h.1 refl
+    ]
+
+listed_first : (e : Entry) (es : List Entry) (c : Closing) (rest : List Atom) → is_labelled (entries_toks (entries.Listed e es c) ++ rest) ≡ true
+listed_first e es c rest = ap is_labelled (sym (splice (entry_toks e) (flat_map next_entry_toks es) (closing_toks c) rest)) ∙ entry_first e (flat_map next_entry_toks es ++ (closing_toks c ++ rest))
+
+pub entries_again : (es : Entries) (rest : List Atom) → entries_at (entries_toks es ++ mark marks.CloseBrace ∷ rest) ≡ Some (es, mark marks.CloseBrace ∷ rest)
+unfolding entries_at is_labelled
+entries_again entries.Empty rest = refl
+entries_again (entries.Listed e es c) rest = rw (listed_first e es c (mark marks.CloseBrace ∷ rest)) (listed_again e es c rest)

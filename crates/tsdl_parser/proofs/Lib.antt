@@ -1,0 +1,7 @@
+pub mod Steps
+pub mod Repeated
+pub mod Words
+pub mod Attributes
+pub mod Entries
+pub mod Members
+pub mod Blocks

@@ -1,0 +1,285 @@
+-- Types, members and structures are read as they are spelled. A `string` goes on where a brace follows, and a structure
+-- where `align` follows.
+use Rattle.std.proofs.Common.{◌≡◌, ℕ, ◌<◌, true, false, List, [], ◌∷◌, ◌++◌, length, Option, Some, None, codes, refl, sym, ap, ◌∙◌, append_assoc, arith, inl, inr}
+use Rattle.std.specs.List.{flat_map}
+use Rattle.std.proofs.lemmas.List.{length-append}
+use Rattle.tsdl_grammar.specs.declared.token.Mark.TheVariants as marks
+use Rattle.tsdl_grammar.specs.declared.atom.Atom.{Atom}
+use Rattle.tsdl_grammar.specs.declared.atom.Atom.TheVariants as atoms
+use Rattle.tsdl_grammar.specs.declared.tree.Sign.{Sign}
+use Rattle.tsdl_grammar.specs.declared.tree.Sign.TheVariants.{Plus, Minus}
+use Rattle.tsdl_grammar.specs.declared.tree.Number.{Number}
+use Rattle.tsdl_grammar.specs.declared.tree.Attribute.{Attribute}
+use Rattle.tsdl_grammar.specs.declared.tree.Entries.{Entries}
+use Rattle.tsdl_grammar.specs.declared.tree.Kind.{Kind}
+use Rattle.tsdl_grammar.specs.declared.tree.Kind.TheVariants as kinds
+use Rattle.tsdl_grammar.specs.declared.tree.Bracket.{Bracket}
+use Rattle.tsdl_grammar.specs.declared.tree.Bracket.TheVariants as brackets
+use Rattle.tsdl_grammar.specs.declared.tree.MemberTree.{MemberTree}
+use Rattle.tsdl_grammar.specs.declared.tree.Structure.{Structure}
+use Rattle.tsdl_grammar.specs.Spelling.{mark, word, number_toks, int_toks, entries_toks, kind_toks, bracket_toks, member_toks, align_toks, struct_toks}
+use Rattle.tsdl_parser.specs.Parsing.{begins, mark_at, word_at, names, keyword_at, number_at, is_open}
+use Rattle.tsdl_parser.specs.ParsingAttributes.{attrs_at}
+use Rattle.tsdl_parser.specs.ParsingEntries.{entries_at}
+use Rattle.tsdl_parser.specs.ParsingMembers.{int_at, enum_at, string_at, kind_at, count_at, bracket_at, all_brackets_at, member_at, all_members_at, align_at, struct_at}
+use Rattle.tsdl_parser.proofs.Steps.{along, first_of_two, chosen, splice, splice_last}
+use Rattle.tsdl_parser.proofs.Words.{mark_takes, word_takes, keyword_takes, number_takes, number_again}
+use Rattle.tsdl_parser.proofs.Repeated.{Spells, Shortens, shortens, many_take, many_again}
+use Rattle.tsdl_parser.proofs.Attributes.{Anything, attrs_take, attrs_again}
+use Rattle.tsdl_parser.proofs.Entries.{entries_take, entries_again}
+
+-- ---- types
+
+int_takes : (ts : List Atom) (x : List Attribute × List Atom) → int_at ts ≡ Some x → ts ≡ int_toks x.0 ++ x.1
+unfolding int_at
+int_takes ts x e =
+    let a = first_of_two (keyword_at (codes "integer") ts) attrs_at x e in
+    keyword_takes (codes "integer") ts a.0 a.1 ∙ ap (λ (us : List Atom). word (codes "integer") ∷ us) (attrs_take a.0 x a.2)
+
+int_again : (attrs : List Attribute) (rest : List Atom) → int_at (int_toks attrs ++ rest) ≡ Some (attrs, rest)
+unfolding int_at keyword_at
+int_again attrs rest = attrs_again attrs rest
+
+enum_parts : (attrs : List Attribute) (es : Entries) (rest : List Atom)
+    → word (codes "enum") ∷ (mark marks.Colon ∷ (int_toks attrs ++ (mark marks.OpenBrace ∷ (entries_toks es ++ (mark marks.CloseBrace ∷ rest))))) ≡ kind_toks (kinds.Enumeration attrs es) ++ rest
+enum_parts attrs es rest =
+    ap (λ (us : List Atom). word (codes "enum") ∷ (mark marks.Colon ∷ us)) (splice_last (int_toks attrs) (mark marks.OpenBrace ∷ entries_toks es) (mark marks.CloseBrace ∷ []) rest)
+
+enum_takes : (ts : List Atom) (x : Kind × List Atom) → enum_at ts ≡ Some x → ts ≡ kind_toks x.0 ++ x.1
+unfolding enum_at
+enum_takes ts x e =
+    let a = first_of_two (keyword_at (codes "enum") ts) _ x e in
+    let b = first_of_two (mark_at marks.Colon a.0) _ x a.2 in
+    let c = first_of_two (int_at b.0) _ x b.2 in
+    let d = first_of_two (mark_at marks.OpenBrace c.0.1) _ x c.2 in
+    let f = first_of_two (entries_at d.0) _ x d.2 in
+    let g = first_of_two (mark_at marks.CloseBrace f.0.1) _ x f.2 in
+    let e1 = keyword_takes (codes "enum") ts a.0 a.1 in
+    let e2 = mark_takes marks.Colon a.0 b.0 b.1 in
+    let e3 = int_takes b.0 c.0 c.1 in
+    let e4 = mark_takes marks.OpenBrace c.0.1 d.0 d.1 in
+    let e5 = entries_take d.0 f.0 f.1 in
+    let e6 = mark_takes marks.CloseBrace f.0.1 g.0 g.1 in
+    let inside = e4 ∙ ap (λ (us : List Atom). mark marks.OpenBrace ∷ us) (e5 ∙ ap (λ (us : List Atom). entries_toks f.0.0 ++ us) e6) in
+    along (λ (y : Kind × List Atom). ts ≡ kind_toks y.0 ++ y.1) (kinds.Enumeration c.0.0 f.0.0, g.0) x g.2
+    (e1 ∙ ap (λ (us : List Atom). word (codes "enum") ∷ us) (e2 ∙ ap (λ (us : List Atom). mark marks.Colon ∷ us) (e3 ∙ ap (λ (us : List Atom). int_toks c.0.0 ++ us) inside))
+    ∙ enum_parts c.0.0 f.0.0 g.0)
+
+string_takes : (ts : List Atom) (x : Kind × List Atom) → string_at ts ≡ Some x → ts ≡ kind_toks x.0 ++ x.1
+unfolding string_at
+string_takes ts x e =
+    let a = first_of_two (keyword_at (codes "string") ts) _ x e in
+    let e1 = keyword_takes (codes "string") ts a.0 a.1 in
+    elim (chosen (begins marks.OpenBrace a.0) _ _ (Some x) a.2) [
+      | inl h ↦
+          let b = first_of_two (attrs_at a.0) _ x h.1 in
+          along (λ (y : Kind × List Atom). ts ≡ kind_toks y.0 ++ y.1) (kinds.Text (Some b.0.0), b.0.1) x b.2 (e1 ∙ ap (λ (us : List Atom). word (codes "string") ∷ us) (attrs_take a.0 b.0 b.1))
+      | inr h ↦ along (λ (y : Kind × List Atom). ts ≡ kind_toks y.0 ++ y.1) (kinds.Text None, a.0) x h.1 e1
+    ]
+
+kind_takes : (ts : List Atom) (x : Kind × List Atom) → kind_at ts ≡ Some x → ts ≡ kind_toks x.0 ++ x.1
+unfolding kind_at
+kind_takes ts x e =
+    elim (chosen (names (codes "integer") ts) _ _ (Some x) e) [
+      | inl h ↦
+          let a = first_of_two (int_at ts) _ x h.1 in
+          along (λ (y : Kind × List Atom). ts ≡ kind_toks y.0 ++ y.1) (kinds.Integer a.0.0, a.0.1) x a.2 (int_takes ts a.0 a.1)
+      | inr h ↦
+          elim (chosen (names (codes "enum") ts) _ _ (Some x) h.1) [
+            | inl k ↦ enum_takes ts x k.1
+            | inr k ↦ string_takes ts x k.1
+          ]
+    ]
+
+kind_again : (k : Kind) (rest : List Atom) → begins marks.OpenBrace rest ≡ false → kind_at (kind_toks k ++ rest) ≡ Some (k, rest)
+unfolding kind_at names enum_at string_at keyword_at mark_at begins
+kind_again (kinds.Integer attrs) rest end = rw (int_again attrs rest) refl
+kind_again (kinds.Enumeration attrs es) rest end =
+    ap kind_at (sym (enum_parts attrs es rest)) ∙ rw (int_again attrs (mark marks.OpenBrace ∷ (entries_toks es ++ (mark marks.CloseBrace ∷ rest))), entries_again es rest) refl
+kind_again (kinds.Text None) rest end = rw end refl
+kind_again (kinds.Text (Some attrs)) rest end = rw (attrs_again attrs rest) refl
+
+kind_opens : (k : Kind) (rest : List Atom) → is_open (kind_toks k ++ rest) ≡ true
+unfolding begins
+kind_opens (kinds.Integer attrs) rest = refl
+kind_opens (kinds.Enumeration attrs es) rest = refl
+kind_opens (kinds.Text None) rest = refl
+kind_opens (kinds.Text (Some attrs)) rest = refl
+
+-- ---- brackets
+
+-- what stands between the brackets
+abbrev count_toks : Bracket → List Atom
+count_toks (brackets.Count n) = number_toks n
+count_toks (brackets.Member w) = word w ∷ []
+
+bracket_parts : (b : Bracket) (rest : List Atom) → mark marks.OpenBracket ∷ (count_toks b ++ (mark marks.CloseBracket ∷ rest)) ≡ bracket_toks b ++ rest
+bracket_parts (brackets.Count n) rest = simp append_assoc
+bracket_parts (brackets.Member w) rest = refl
+
+count_takes : (ts : List Atom) (x : Bracket × List Atom) → count_at ts ≡ Some x → ts ≡ count_toks x.0 ++ x.1
+unfolding count_at
+count_takes [] x e = absurd cc
+count_takes (atoms.Word w ∷ ts) x e = along (λ (y : Bracket × List Atom). (word w ∷ ts) ≡ count_toks y.0 ++ y.1) (brackets.Member w, ts) x e refl
+count_takes (atoms.Number n ∷ ts) x e =
+    let a = first_of_two (number_at (atoms.Number n ∷ ts)) _ x e in
+    along (λ (y : Bracket × List Atom). (atoms.Number n ∷ ts) ≡ count_toks y.0 ++ y.1) (brackets.Count a.0.0, a.0.1) x a.2 (number_takes (atoms.Number n ∷ ts) a.0 a.1)
+count_takes (atoms.Mark m ∷ ts) x e =
+    let a = first_of_two (number_at (atoms.Mark m ∷ ts)) _ x e in
+    along (λ (y : Bracket × List Atom). (atoms.Mark m ∷ ts) ≡ count_toks y.0 ++ y.1) (brackets.Count a.0.0, a.0.1) x a.2 (number_takes (atoms.Mark m ∷ ts) a.0 a.1)
+count_takes (atoms.Text s ∷ ts) x e = absurd cc
+count_takes (atoms.TooLarge ∷ ts) x e = absurd cc
+
+number_count_again : (sign : Option Sign) (literal : ℕ) (rest : List Atom)
+    → count_at (number_toks (record { sign = sign; literal = literal }) ++ rest) ≡ Some (brackets.Count (record { sign = sign; literal = literal }), rest)
+unfolding count_at number_at
+number_count_again None literal rest = refl
+number_count_again (Some Plus) literal rest = refl
+number_count_again (Some Minus) literal rest = refl
+
+count_again : (b : Bracket) (rest : List Atom) → count_at (count_toks b ++ rest) ≡ Some (b, rest)
+unfolding count_at
+count_again (brackets.Count n) rest = number_count_again n.sign n.literal rest
+count_again (brackets.Member w) rest = refl
+
+bracket_takes : (ts : List Atom) (x : Bracket × List Atom) → bracket_at ts ≡ Some x → ts ≡ bracket_toks x.0 ++ x.1
+unfolding bracket_at
+bracket_takes ts x e =
+    let a = first_of_two (mark_at marks.OpenBracket ts) _ x e in
+    let b = first_of_two (count_at a.0) _ x a.2 in
+    let c = first_of_two (mark_at marks.CloseBracket b.0.1) _ x b.2 in
+    let e1 = mark_takes marks.OpenBracket ts a.0 a.1 in
+    let e2 = count_takes a.0 b.0 b.1 in
+    let e3 = mark_takes marks.CloseBracket b.0.1 c.0 c.1 in
+    along (λ (y : Bracket × List Atom). ts ≡ bracket_toks y.0 ++ y.1) (b.0.0, c.0) x c.2
+    (e1 ∙ ap (λ (us : List Atom). mark marks.OpenBracket ∷ us) (e2 ∙ ap (λ (us : List Atom). count_toks b.0.0 ++ us) e3) ∙ bracket_parts b.0.0 c.0)
+
+bracket_again : (b : Bracket) (rest : List Atom) → bracket_at (bracket_toks b ++ rest) ≡ Some (b, rest)
+unfolding bracket_at mark_at
+bracket_again b rest = ap bracket_at (sym (bracket_parts b rest)) ∙ rw (count_again b (mark marks.CloseBracket ∷ rest)) refl
+
+bracket_opens : (b : Bracket) (rest : List Atom) → begins marks.OpenBracket (bracket_toks b ++ rest) ≡ true
+unfolding begins
+bracket_opens b rest = ap (begins marks.OpenBracket) (sym (bracket_parts b rest))
+
+bracket_some : (b : Bracket) → 0 < length (bracket_toks b)
+bracket_some (brackets.Count n) = omega arith
+bracket_some (brackets.Member w) = omega arith
+
+pub bracket_spells : Spells Bracket (begins marks.OpenBracket) bracket_at bracket_toks Anything
+bracket_spells = record {
+  takes = bracket_takes;
+  some = bracket_some;
+  again = λ b rest h. bracket_again b rest;
+  opens = bracket_opens;
+  ends = λ b rest. tt;
+}
+
+pub bracket_short : Shortens Bracket bracket_at
+bracket_short = shortens (begins marks.OpenBracket) bracket_at bracket_toks Anything bracket_spells
+
+-- ---- members
+
+member_takes : (ts : List Atom) (x : MemberTree × List Atom) → member_at ts ≡ Some x → ts ≡ member_toks x.0 ++ x.1
+unfolding member_at
+member_takes ts x e =
+    let a = first_of_two (kind_at ts) _ x e in
+    let b = first_of_two (word_at a.0.1) _ x a.2 in
+    let c = first_of_two (all_brackets_at b.0.1) _ x b.2 in
+    let d = first_of_two (mark_at marks.Semicolon c.0.1) _ x c.2 in
+    let e1 = kind_takes ts a.0 a.1 in
+    let e2 = word_takes a.0.1 b.0 b.1 in
+    let e3 = (many_take (begins marks.OpenBracket) bracket_at bracket_toks Anything bracket_spells (length b.0.1) b.0.1 c.0 c.1).0 in
+    let e4 = mark_takes marks.Semicolon c.0.1 d.0 d.1 in
+    along (λ (y : MemberTree × List Atom). ts ≡ member_toks y.0 ++ y.1) (record { kind = a.0.0; name = b.0.0; brackets = c.0.0 }, d.0) x d.2
+    (e1 ∙ ap (λ (us : List Atom). kind_toks a.0.0 ++ us) (e2 ∙ ap (λ (us : List Atom). word b.0.0 ∷ us) (e3 ∙ ap (λ (us : List Atom). flat_map bracket_toks c.0.0 ++ us) e4))
+    ∙ splice (kind_toks a.0.0) (word b.0.0 ∷ flat_map bracket_toks c.0.0) (mark marks.Semicolon ∷ []) d.0)
+
+member_again : (m : MemberTree) (rest : List Atom) → member_at (member_toks m ++ rest) ≡ Some (m, rest)
+unfolding member_at word_at mark_at begins
+member_again m rest =
+    ap member_at (sym (splice (kind_toks m.kind) (word m.name ∷ flat_map bracket_toks m.brackets) (mark marks.Semicolon ∷ []) rest))
+    ∙ rw (
+      kind_again m.kind (word m.name ∷ (flat_map bracket_toks m.brackets ++ (mark marks.Semicolon ∷ rest))) refl,
+      many_again (begins marks.OpenBracket) bracket_at bracket_toks Anything bracket_spells m.brackets (mark marks.Semicolon ∷ rest) refl tt,
+    ) refl
+
+member_opens : (m : MemberTree) (rest : List Atom) → is_open (member_toks m ++ rest) ≡ true
+member_opens m rest =
+    ap is_open (sym (splice (kind_toks m.kind) (word m.name ∷ flat_map bracket_toks m.brackets) (mark marks.Semicolon ∷ []) rest))
+    ∙ kind_opens m.kind (word m.name ∷ (flat_map bracket_toks m.brackets ++ (mark marks.Semicolon ∷ rest)))
+
+pub member_spells : Spells MemberTree is_open member_at member_toks Anything
+member_spells = record {
+  takes = member_takes;
+  some = λ m. simp length-append (omega arith);
+  again = λ m rest h. member_again m rest;
+  opens = member_opens;
+  ends = λ m rest. tt;
+}
+
+pub member_short : Shortens MemberTree member_at
+member_short = shortens is_open member_at member_toks Anything member_spells
+
+-- ---- structures
+
+align_parts : (n : Number) (rest : List Atom)
+    → word (codes "align") ∷ (mark marks.OpenParenthesis ∷ (number_toks n ++ (mark marks.CloseParenthesis ∷ rest))) ≡ align_toks (Some n) ++ rest
+align_parts n rest = simp append_assoc
+
+aligned : (ts named inside behind rest : List Atom) (n : Number) → ts ≡ word (codes "align") ∷ named → named ≡ mark marks.OpenParenthesis ∷ inside → inside ≡ number_toks n ++ behind
+    → behind ≡ mark marks.CloseParenthesis ∷ rest → ts ≡ align_toks (Some n) ++ rest
+aligned ts named inside behind rest n e1 e2 e3 e4 = rw (e1, e2, e3, e4) (align_parts n rest)
+
+align_takes : (ts : List Atom) (x : Option Number × List Atom) → align_at ts ≡ Some x → ts ≡ align_toks x.0 ++ x.1
+unfolding align_at
+align_takes ts x e =
+    elim (chosen (names (codes "align") ts) _ _ (Some x) e) [
+      | inl h ↦
+          let a = first_of_two (keyword_at (codes "align") ts) _ x h.1 in
+          let b = first_of_two (mark_at marks.OpenParenthesis a.0) _ x a.2 in
+          let c = first_of_two (number_at b.0) _ x b.2 in
+          let d = first_of_two (mark_at marks.CloseParenthesis c.0.1) _ x c.2 in
+          let e1 = keyword_takes (codes "align") ts a.0 a.1 in
+          let e2 = mark_takes marks.OpenParenthesis a.0 b.0 b.1 in
+          let e3 = number_takes b.0 c.0 c.1 in
+          let e4 = mark_takes marks.CloseParenthesis c.0.1 d.0 d.1 in
+          along (λ (y : Option Number × List Atom). ts ≡ align_toks y.0 ++ y.1) (Some c.0.0, d.0) x d.2 (aligned ts a.0 b.0 c.0.1 d.0 c.0.0 e1 e2 e3 e4)
+      | inr h ↦ along (λ (y : Option Number × List Atom). ts ≡ align_toks y.0 ++ y.1) (None, ts) x h.1 refl
+    ]
+
+align_again : (align : Option Number) (rest : List Atom) → names (codes "align") rest ≡ false → align_at (align_toks align ++ rest) ≡ Some (align, rest)
+unfolding align_at names keyword_at mark_at
+align_again None rest end = rw end refl
+align_again (Some n) rest end = ap align_at (sym (align_parts n rest)) ∙ rw (number_again n (mark marks.CloseParenthesis ∷ rest)) refl
+
+struct_parts : (s : Structure) (rest : List Atom)
+    → word (codes "struct") ∷ (mark marks.OpenBrace ∷ (flat_map member_toks s.members ++ (mark marks.CloseBrace ∷ (align_toks s.align ++ rest)))) ≡ struct_toks s ++ rest
+struct_parts s rest = simp append_assoc
+
+pub struct_takes : (ts : List Atom) (x : Structure × List Atom) → struct_at ts ≡ Some x → ts ≡ struct_toks x.0 ++ x.1
+unfolding struct_at
+struct_takes ts x e =
+    let a = first_of_two (keyword_at (codes "struct") ts) _ x e in
+    let b = first_of_two (mark_at marks.OpenBrace a.0) _ x a.2 in
+    let c = first_of_two (all_members_at b.0) _ x b.2 in
+    let d = first_of_two (mark_at marks.CloseBrace c.0.1) _ x c.2 in
+    let f = first_of_two (align_at d.0) _ x d.2 in
+    let e1 = keyword_takes (codes "struct") ts a.0 a.1 in
+    let e2 = mark_takes marks.OpenBrace a.0 b.0 b.1 in
+    let e3 = (many_take is_open member_at member_toks Anything member_spells (length b.0) b.0 c.0 c.1).0 in
+    let e4 = mark_takes marks.CloseBrace c.0.1 d.0 d.1 in
+    let e5 = align_takes d.0 f.0 f.1 in
+    let inside = e3 ∙ ap (λ (us : List Atom). flat_map member_toks c.0.0 ++ us) (e4 ∙ ap (λ (us : List Atom). mark marks.CloseBrace ∷ us) e5) in
+    along (λ (y : Structure × List Atom). ts ≡ struct_toks y.0 ++ y.1) (record { members = c.0.0; align = f.0.0 }, f.0.1) x f.2
+    (e1 ∙ ap (λ (us : List Atom). word (codes "struct") ∷ us) (e2 ∙ ap (λ (us : List Atom). mark marks.OpenBrace ∷ us) inside)
+    ∙ struct_parts (record { members = c.0.0; align = f.0.0 }) f.0.1)
+
+pub struct_again : (s : Structure) (rest : List Atom) → names (codes "align") rest ≡ false → struct_at (struct_toks s ++ rest) ≡ Some (s, rest)
+unfolding struct_at keyword_at mark_at begins
+struct_again s rest end =
+    ap struct_at (sym (struct_parts s rest))
+    ∙ rw (
+      many_again is_open member_at member_toks Anything member_spells s.members (mark marks.CloseBrace ∷ (align_toks s.align ++ rest)) refl tt,
+      align_again s.align rest end,
+    ) refl

@@ -1,0 +1,98 @@
+-- Marks, words and numbers are read as they are spelled.
+use Rattle.std.proofs.Common.{◌≡◌, ℕ, true, List, [], ◌∷◌, ◌++◌, get_or, Option, Some, None, refl, sym, ap, ◌∙◌}
+use Rattle.std.proofs.lemmas.Bool.{eqb-true}
+use Rattle.std.proofs.lemmas.Option.{cond_some}
+use Rattle.std.proofs.lemmas.Slice.Eq.{bytes_eq-Decides}
+use Rattle.tsdl_grammar.specs.declared.token.Mark.{Mark}
+use Rattle.tsdl_grammar.specs.declared.token.Mark.TheVariants as marks
+use Rattle.tsdl_grammar.specs.declared.atom.Atom.{Atom}
+use Rattle.tsdl_grammar.specs.declared.atom.Atom.TheVariants as atoms
+use Rattle.tsdl_grammar.specs.declared.tree.Sign.{Sign}
+use Rattle.tsdl_grammar.specs.declared.tree.Sign.TheVariants.{Plus, Minus}
+use Rattle.tsdl_grammar.specs.declared.tree.Number.{Number}
+use Rattle.tsdl_grammar.specs.Spelling.{mark, word, number_toks}
+use Rattle.tsdl_parser.specs.Parsing.{number_of, is_mark, mark_at, word_at, is_word, keyword_at, number_at}
+use Rattle.tsdl_parser.proofs.Steps.{along}
+
+-- ---- marks
+
+all_marks : List Mark
+all_marks =
+    marks.OpenBrace ∷ marks.CloseBrace ∷ marks.OpenBracket ∷ marks.CloseBracket ∷ marks.OpenParenthesis ∷ marks.CloseParenthesis ∷ marks.Semicolon
+    ∷ marks.Comma ∷ marks.Colon ∷ marks.Equals ∷ marks.Minus ∷ marks.Plus ∷ marks.Dot ∷ marks.Assign ∷ marks.Ellipsis ∷ []
+
+numbered : (m : Mark) → get_or all_marks (number_of m) marks.OpenBrace ≡ m
+unfolding all_marks
+numbered marks.OpenBrace = refl
+numbered marks.CloseBrace = refl
+numbered marks.OpenBracket = refl
+numbered marks.CloseBracket = refl
+numbered marks.OpenParenthesis = refl
+numbered marks.CloseParenthesis = refl
+numbered marks.Semicolon = refl
+numbered marks.Comma = refl
+numbered marks.Colon = refl
+numbered marks.Equals = refl
+numbered marks.Minus = refl
+numbered marks.Plus = refl
+numbered marks.Dot = refl
+numbered marks.Assign = refl
+numbered marks.Ellipsis = refl
+
+same_mark : (m n : Mark) → number_of m ≡ number_of n → m ≡ n
+same_mark m n e = sym (numbered m) ∙ ap (λ (k : ℕ). get_or all_marks k marks.OpenBrace) e ∙ numbered n
+
+mark_is : (m : Mark) (a : Atom) → is_mark m a ≡ true → a ≡ mark m
+mark_is m (atoms.Mark n) e = ap (λ (x : Mark). mark x) (same_mark n m (eqb-true _ _ e))
+mark_is m (atoms.Word w) e = absurd cc
+mark_is m (atoms.Number n) e = absurd cc
+mark_is m (atoms.Text s) e = absurd cc
+mark_is m atoms.TooLarge e = absurd cc
+
+pub mark_takes : (m : Mark) (ts rest : List Atom) → mark_at m ts ≡ Some rest → ts ≡ mark m ∷ rest
+unfolding mark_at
+mark_takes m [] rest e = absurd cc
+mark_takes m (a ∷ ts) rest e = let g = cond_some (is_mark m a) ts rest e in let h = mark_is m a g.0 in cc
+
+-- ---- words
+
+pub word_takes : (ts : List Atom) (x : List ℕ × List Atom) → word_at ts ≡ Some x → ts ≡ word x.0 ∷ x.1
+unfolding word_at
+word_takes [] x e = absurd cc
+word_takes (atoms.Word w ∷ ts) x e = along (λ (y : List ℕ × List Atom). (word w ∷ ts) ≡ word y.0 ∷ y.1) (w, ts) x e refl
+word_takes (atoms.Number n ∷ ts) x e = absurd cc
+word_takes (atoms.Text s ∷ ts) x e = absurd cc
+word_takes (atoms.Mark m ∷ ts) x e = absurd cc
+word_takes (atoms.TooLarge ∷ ts) x e = absurd cc
+
+word_is : (keyword : List ℕ) (a : Atom) → is_word keyword a ≡ true → a ≡ word keyword
+word_is keyword (atoms.Word w) e = ap (λ (x : List ℕ). word x) ((bytes_eq-Decides w keyword).0 e)
+word_is keyword (atoms.Mark m) e = absurd cc
+word_is keyword (atoms.Number n) e = absurd cc
+word_is keyword (atoms.Text s) e = absurd cc
+word_is keyword atoms.TooLarge e = absurd cc
+
+pub keyword_takes : (keyword : List ℕ) (ts rest : List Atom) → keyword_at keyword ts ≡ Some rest → ts ≡ word keyword ∷ rest
+unfolding keyword_at
+keyword_takes keyword [] rest e = absurd cc
+keyword_takes keyword (a ∷ ts) rest e = let g = cond_some (is_word keyword a) ts rest e in let h = word_is keyword a g.0 in cc
+
+-- ---- numbers
+
+pub number_takes : (ts : List Atom) (x : Number × List Atom) → number_at ts ≡ Some x → ts ≡ number_toks x.0 ++ x.1
+unfolding number_at
+number_takes (atoms.Number n ∷ ts) x e = along (λ (y : Number × List Atom). (atoms.Number n ∷ ts) ≡ number_toks y.0 ++ y.1) (record { sign = None; literal = n }, ts) x e refl
+number_takes (atoms.Mark marks.Plus ∷ atoms.Number n ∷ ts) x e =
+    along (λ (y : Number × List Atom). (mark marks.Plus ∷ atoms.Number n ∷ ts) ≡ number_toks y.0 ++ y.1) (record { sign = Some Plus; literal = n }, ts) x e refl
+number_takes (atoms.Mark marks.Minus ∷ atoms.Number n ∷ ts) x e =
+    along (λ (y : Number × List Atom). (mark marks.Minus ∷ atoms.Number n ∷ ts) ≡ number_toks y.0 ++ y.1) (record { sign = Some Minus; literal = n }, ts) x e refl
+number_takes _ x e = absurd cc
+
+again_of : (sign : Option Sign) (literal : ℕ) (rest : List Atom) → number_at (number_toks (record { sign = sign; literal = literal }) ++ rest) ≡ Some (record { sign = sign; literal = literal }, rest)
+unfolding number_at
+again_of None literal rest = refl
+again_of (Some Plus) literal rest = refl
+again_of (Some Minus) literal rest = refl
+
+pub number_again : (n : Number) (rest : List Atom) → number_at (number_toks n ++ rest) ≡ Some (n, rest)
+number_again n rest = again_of n.sign n.literal rest

@@ -1,0 +1,22 @@
+use Rattle.std.proofs.Common.{sym, ◌∙◌}
+use Rattle.std.proofs.lemmas.Result.{err_from_is_err_and}
+use Rattle.tsdl_parser.specs.Parsing.{is_open}
+use Rattle.tsdl_parser.specs.ParsingAttributes.{attr_at, all_attrs_at}
+use Rattle.tsdl_parser.proofs.Repeated.{goes_on, gives_up, is_done}
+use Rattle.tsdl_parser.proofs.Attributes.{attr_short}
+use Rattle.tsdl_parser.proofs.attribute.all_attrs_at.Goals as goal
+
+pub returns-in_err-attr : goal.returns-in_err-attr
+returns-in_err-attr c =
+    let p = err_from_is_err_and c.from_residual.result c.from_residual.ensures.1 in
+    rw (p.1, p.2) (gives_up is_open attr_at (all_attrs_at c.args.atoms.now) c.loop-alloc.attrs c.loop-alloc.rest.now c.in_err-attr.field-0.0 c.loop-alloc.invariant (sym c.is_open.ensures ∙ c.loop-alloc-test.true) c.in_err-attr.ensures)
+
+pub loop-alloc-smaller : goal.loop-alloc-smaller
+loop-alloc-smaller c = attr_short c.loop-alloc.rest.now (c.in_ok-attr.attr, c.in_ok-attr.behind.now) c.in_ok-attr.ensures
+
+pub loop-alloc-preserved : goal.loop-alloc-preserved
+loop-alloc-preserved c =
+    rw c.in_ok-push.ensures.ok (goes_on is_open attr_at attr_short (all_attrs_at c.args.atoms.now) c.loop-alloc.attrs c.loop-alloc.rest.now c.in_ok-attr.attr c.in_ok-attr.behind.now c.loop-alloc.invariant (sym c.is_open.ensures ∙ c.loop-alloc-test.true) c.in_ok-attr.ensures)
+
+pub returns : goal.returns
+returns c = is_done is_open attr_at (all_attrs_at c.args.atoms.now) c.loop-alloc.attrs c.loop-alloc.rest.now c.loop-alloc.invariant (sym c.is_open.ensures ∙ c.loop-alloc-test.false)

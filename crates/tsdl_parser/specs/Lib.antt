@@ -1,0 +1,5 @@
+pub mod Parsing
+pub mod ParsingAttributes
+pub mod ParsingEntries
+pub mod ParsingMembers
+pub mod ParsingBlocks

@@ -1,0 +1,103 @@
+-- What stands at the front of a list of atoms, with the atoms behind it: the marks, words, numbers and repetitions that
+-- the rules of the grammar are made of (CTF 1.8.3, appendix C). A rule that doesn't fit has no case.
+use Rattle.std.specs.Prelude.{◌≡◌, ℕ, zero, suc, Bool, false, not, ◌==◌, if◌then◌else◌, List, [], ◌∷◌, length, Option, Some, None, Result, Ok, Err, bytes_eq}
+use Rattle.tsdl_grammar.specs.declared.token.Mark.{Mark}
+use Rattle.tsdl_grammar.specs.declared.token.Mark.TheVariants as marks
+use Rattle.tsdl_grammar.specs.declared.atom.Atom.{Atom}
+use Rattle.tsdl_grammar.specs.declared.atom.Atom.TheVariants as atoms
+use Rattle.tsdl_grammar.specs.declared.tree.Sign.TheVariants.{Plus, Minus}
+use Rattle.tsdl_grammar.specs.declared.tree.Number.{Number}
+use Rattle.tsdl_grammar.specs.Steps.{◌>>=◌}
+use Rattle.tsdl_parser.specs.declared.parsing.Unread.{Unread}
+use Rattle.tsdl_parser.specs.declared.parsing.Unread.TheVariants as unread
+
+-- what a function returned, seen by view, is what a rule reads, unless memory ran out
+abbrev pub Fails : {Y : Type 0} → Unread → Option Y → Type 0
+Fails unread.NoTree read = read ≡ None
+Fails unread.Memory read = Unit {0}
+
+abbrev pub Gives : {X Y : Type 0} → (X → Y) → Result X Unread → Option Y → Type 0
+Gives view (Ok x) read = read ≡ Some (view x)
+Gives view (Err e) read = Fails e read
+
+-- the marks, numbered
+abbrev pub number_of : Mark → ℕ
+number_of marks.OpenBrace = 0
+number_of marks.CloseBrace = 1
+number_of marks.OpenBracket = 2
+number_of marks.CloseBracket = 3
+number_of marks.OpenParenthesis = 4
+number_of marks.CloseParenthesis = 5
+number_of marks.Semicolon = 6
+number_of marks.Comma = 7
+number_of marks.Colon = 8
+number_of marks.Equals = 9
+number_of marks.Minus = 10
+number_of marks.Plus = 11
+number_of marks.Dot = 12
+number_of marks.Assign = 13
+number_of marks.Ellipsis = 14
+
+abbrev pub is_mark : Mark → Atom → Bool
+is_mark m (atoms.Mark n) = number_of n == number_of m
+is_mark m (atoms.Word w) = false
+is_mark m (atoms.Number n) = false
+is_mark m (atoms.Text s) = false
+is_mark m atoms.TooLarge = false
+
+-- the first atom is this mark
+unfoldable pub begins : Mark → List Atom → Bool
+begins m [] = false
+begins m (a ∷ ts) = is_mark m a
+
+-- a mark
+unfoldable pub mark_at : Mark → List Atom → Option (List Atom)
+mark_at m [] = None
+mark_at m (a ∷ ts) = if is_mark m a then Some ts else None
+
+-- any word
+unfoldable pub word_at : List Atom → Option (List ℕ × List Atom)
+word_at [] = None
+word_at (atoms.Word w ∷ ts) = Some (w, ts)
+word_at (atoms.Number n ∷ ts) = None
+word_at (atoms.Text s ∷ ts) = None
+word_at (atoms.Mark m ∷ ts) = None
+word_at (atoms.TooLarge ∷ ts) = None
+
+abbrev pub is_word : List ℕ → Atom → Bool
+is_word keyword (atoms.Word w) = bytes_eq w keyword
+is_word keyword (atoms.Number n) = false
+is_word keyword (atoms.Text s) = false
+is_word keyword (atoms.Mark m) = false
+is_word keyword atoms.TooLarge = false
+
+-- the first atom is this word
+unfoldable pub names : List ℕ → List Atom → Bool
+names keyword [] = false
+names keyword (a ∷ ts) = is_word keyword a
+
+-- this word
+unfoldable pub keyword_at : List ℕ → List Atom → Option (List Atom)
+keyword_at keyword [] = None
+keyword_at keyword (a ∷ ts) = if is_word keyword a then Some ts else None
+
+-- [ "-" | "+" ] literal
+unfoldable pub number_at : List Atom → Option (Number × List Atom)
+number_at (atoms.Number n ∷ ts) = Some (record { sign = None; literal = n }, ts)
+number_at (atoms.Mark marks.Plus ∷ atoms.Number n ∷ ts) = Some (record { sign = Some Plus; literal = n }, ts)
+number_at (atoms.Mark marks.Minus ∷ atoms.Number n ∷ ts) = Some (record { sign = Some Minus; literal = n }, ts)
+number_at _ = None
+
+-- items one after the other, at most so many, for as long as another one starts
+unfoldable pub many_at : {A : Type 0} → (List Atom → Bool) → (List Atom → Option (A × List Atom)) → ℕ → List Atom → Option (List A × List Atom)
+many_at starts item zero ts = if starts ts then None else Some ([], ts)
+many_at starts item (suc n) ts =
+    if starts ts then (item ts >>= λ x. many_at starts item n x.1 >>= λ xs. Some (x.0 ∷ xs.0, xs.1)) else Some ([], ts)
+
+-- another item stands before the closing brace
+abbrev pub is_open : List Atom → Bool
+is_open ts = not (begins marks.CloseBrace ts)
+
+-- items one after the other, for as long as another one starts: no more of them than there are atoms
+abbrev pub many : {A : Type 0} → (List Atom → Bool) → (List Atom → Option (A × List Atom)) → List Atom → Option (List A × List Atom)
+many starts item ts = many_at starts item (length ts) ts

@@ -1,0 +1,190 @@
+//! Reads blocks, and what stands in them.
+
+ghost use Rattle.std.specs.Prelude.{◌≡◌, List, IfOk, IfSome, IfNone};
+ghost use Rattle.tsdl_grammar.specs.declared.tree.Block.{Block};
+ghost use Rattle.tsdl_grammar.specs.Spelling.{text_toks};
+ghost use Rattle.tsdl_parser.specs.Parsing.{Gives};
+ghost use Rattle.tsdl_parser.specs.ParsingBlocks.{scope_behind, item_at, all_items_at, items_at, fact_at, named_fact_at, all_facts_at, environment_at, block_at, ended_block_at, has_more, all_blocks_at, parse_all};
+
+use crate::attribute::{attr_behind, name_at};
+use crate::member::struct_at;
+use crate::parsing::{Unread, begins, is_open, keyword_at, mark_at, names, number_at, word_at};
+use ctf_types::ListOf;
+use std::alloc::{AllocError, Global};
+use tsdl_grammar::{Atom, Block, Fact, Item, Mark, Name, NamedFact, Scope};
+
+/// The rest of a scope behind its name.
+#[tactic(auto, unfolding(crate::specs::ParsingBlocks::scope_behind))]
+fn scope_behind(alloc: Global, name: Name, atoms: &[Atom]) -> Result<(Scope, &[Atom]), Unread>
+    ensures { Gives (λ x. (x.0, x.1.now)) result (scope_behind name atoms.now) }
+{
+    let rest = mark_at(Mark::Assign, atoms)?;
+    let (structure, rest) = struct_at(alloc, rest)?;
+    let rest = mark_at(Mark::Semicolon, rest)?;
+    Ok((Scope { name, structure }, rest))
+}
+
+#[tactic(auto, unfolding(crate::specs::ParsingBlocks::item_at))]
+fn item_at(alloc: Global, atoms: &[Atom]) -> Result<(Item, &[Atom]), Unread>
+    ensures { Gives (λ x. (x.0, x.1.now)) result (item_at atoms.now) }
+{
+    let (name, rest) = name_at(alloc, atoms)?;
+    if begins(Mark::Equals, rest) {
+        let (attr, rest) = attr_behind(alloc, name, rest)?;
+        Ok((Item::Attribute(attr), rest))
+    } else {
+        let (scope, rest) = scope_behind(alloc, name, rest)?;
+        Ok((Item::Scope(scope), rest))
+    }
+}
+
+fn all_items_at(alloc: Global, atoms: &[Atom]) -> Result<(ListOf<Item>, &[Atom]), Unread>
+    ensures { Gives (λ x. (x.0, x.1.now)) result (all_items_at atoms.now) }
+{
+    let mut items = ListOf::new(alloc);
+    let mut rest = atoms;
+    while is_open(rest) {
+        let (item, behind) = item_at(alloc, rest)?;
+        items.push(item)?;
+        rest = behind;
+    }
+    Ok((items, rest))
+}
+
+/// The items of a block of this word.
+#[tactic(auto, unfolding(crate::specs::ParsingBlocks::items_at))]
+fn items_at<'a>(
+    alloc: Global,
+    keyword: &str,
+    atoms: &'a [Atom],
+) -> Result<(ListOf<Item>, &'a [Atom]), Unread>
+    ensures { Gives (λ x. (x.0, x.1.now)) result (items_at keyword.now atoms.now) }
+{
+    let rest = keyword_at(keyword, atoms)?;
+    let inside = mark_at(Mark::OpenBrace, rest)?;
+    let (items, rest) = all_items_at(alloc, inside)?;
+    let rest = mark_at(Mark::CloseBrace, rest)?;
+    Ok((items, rest))
+}
+
+#[tactic(auto, unfolding(crate::specs::ParsingBlocks::fact_at))]
+fn fact_at(alloc: Global, atoms: &[Atom]) -> Result<(Fact, &[Atom]), Unread>
+    ensures { Gives (λ x. (x.0, x.1.now)) result (fact_at atoms.now) }
+{
+    match atoms {
+        [Atom::Text(text), rest @ ..] => Ok((Fact::Text(text.copy(alloc)?), rest)),
+        [Atom::Number(_) | Atom::Mark(_), ..] => {
+            let (number, rest) = number_at(atoms)?;
+            Ok((Fact::Number(number), rest))
+        }
+        [] | [Atom::Word(_) | Atom::TooLarge, ..] => Err(Unread::NoTree),
+    }
+}
+
+#[tactic(auto, unfolding(crate::specs::ParsingBlocks::named_fact_at))]
+fn named_fact_at(alloc: Global, atoms: &[Atom]) -> Result<(NamedFact, &[Atom]), Unread>
+    ensures { Gives (λ x. (x.0, x.1.now)) result (named_fact_at atoms.now) }
+{
+    let (name, rest) = word_at(alloc, atoms)?;
+    let rest = mark_at(Mark::Equals, rest)?;
+    let (fact, rest) = fact_at(alloc, rest)?;
+    let rest = mark_at(Mark::Semicolon, rest)?;
+    Ok((NamedFact { name, fact }, rest))
+}
+
+fn all_facts_at(alloc: Global, atoms: &[Atom]) -> Result<(ListOf<NamedFact>, &[Atom]), Unread>
+    ensures { Gives (λ x. (x.0, x.1.now)) result (all_facts_at atoms.now) }
+{
+    let mut facts = ListOf::new(alloc);
+    let mut rest = atoms;
+    while is_open(rest) {
+        let (fact, behind) = named_fact_at(alloc, rest)?;
+        facts.push(fact)?;
+        rest = behind;
+    }
+    Ok((facts, rest))
+}
+
+#[tactic(auto, unfolding(crate::specs::ParsingBlocks::environment_at))]
+fn environment_at(alloc: Global, atoms: &[Atom]) -> Result<(Block, &[Atom]), Unread>
+    ensures { Gives (λ x. (x.0, x.1.now)) result (environment_at atoms.now) }
+{
+    let rest = keyword_at("env", atoms)?;
+    let inside = mark_at(Mark::OpenBrace, rest)?;
+    let (facts, rest) = all_facts_at(alloc, inside)?;
+    let rest = mark_at(Mark::CloseBrace, rest)?;
+    Ok((Block::Environment(facts), rest))
+}
+
+#[tactic(auto, unfolding(crate::specs::ParsingBlocks::block_at))]
+fn block_at(alloc: Global, atoms: &[Atom]) -> Result<(Block, &[Atom]), Unread>
+    ensures { Gives (λ x. (x.0, x.1.now)) result (block_at atoms.now) }
+{
+    if names("trace", atoms) {
+        let (items, rest) = items_at(alloc, "trace", atoms)?;
+        Ok((Block::Trace(items), rest))
+    } else if names("stream", atoms) {
+        let (items, rest) = items_at(alloc, "stream", atoms)?;
+        Ok((Block::Stream(items), rest))
+    } else if names("event", atoms) {
+        let (items, rest) = items_at(alloc, "event", atoms)?;
+        Ok((Block::Event(items), rest))
+    } else if names("clock", atoms) {
+        let (items, rest) = items_at(alloc, "clock", atoms)?;
+        Ok((Block::Clock(items), rest))
+    } else {
+        environment_at(alloc, atoms)
+    }
+}
+
+#[tactic(auto, unfolding(crate::specs::ParsingBlocks::ended_block_at))]
+fn ended_block_at(alloc: Global, atoms: &[Atom]) -> Result<(Block, &[Atom]), Unread>
+    ensures { Gives (λ x. (x.0, x.1.now)) result (ended_block_at atoms.now) }
+{
+    let (block, rest) = block_at(alloc, atoms)?;
+    let rest = mark_at(Mark::Semicolon, rest)?;
+    Ok((block, rest))
+}
+
+fn has_more(atoms: &[Atom]) -> bool
+    ensures { result ≡ has_more atoms.now }
+{
+    match atoms {
+        [] => false,
+        [_, ..] => true,
+    }
+}
+
+fn all_blocks_at(alloc: Global, atoms: &[Atom]) -> Result<(ListOf<Block>, &[Atom]), Unread>
+    ensures { Gives (λ x. (x.0, x.1.now)) result (all_blocks_at atoms.now) }
+{
+    let mut found = ListOf::new(alloc);
+    let mut rest = atoms;
+    while has_more(rest) {
+        let (block, behind) = ended_block_at(alloc, rest)?;
+        found.push(block)?;
+        rest = behind;
+    }
+    Ok((found, rest))
+}
+
+/// The blocks of a whole text.
+#[tactic(auto, unfolding(crate::specs::ParsingBlocks::parse_all))]
+fn blocks_of(alloc: Global, atoms: &[Atom]) -> Result<Vec<Block>, Unread>
+    ensures { Gives (λ v. v.items) result (parse_all atoms.now) }
+{
+    let (found, _) = all_blocks_at(alloc, atoms)?;
+    Ok(found.into_vec())
+}
+
+/// The blocks that the atoms of a text spell, None where they spell none.
+pub fn parse(alloc: Global, atoms: &[Atom]) -> Result<Option<Vec<Block>>, AllocError>
+    ensures found { IfOk result (λ o. IfSome o (λ bs. atoms.now ≡ text_toks bs.items)) }
+    ensures none { IfOk result (λ o. IfNone o ((bs : List Block) → atoms.now ≡ text_toks bs → ⊥)) }
+{
+    match blocks_of(alloc, atoms) {
+        Ok(found) => Ok(Some(found)),
+        Err(Unread::NoTree) => Ok(None),
+        Err(Unread::Memory) => Err(AllocError),
+    }
+}

@@ -1,0 +1,155 @@
+//! Reads types, members and structures.
+
+ghost use Rattle.tsdl_parser.specs.Parsing.{Gives};
+ghost use Rattle.tsdl_parser.specs.ParsingMembers.{int_at, enum_at, string_at, kind_at, count_at, bracket_at, all_brackets_at, member_at, all_members_at, align_at, struct_at};
+
+use crate::attribute::attrs_at;
+use crate::enumeration::entries_at;
+use crate::parsing::{Unread, begins, is_open, keyword_at, mark_at, names, number_at, word_at};
+use ctf_types::ListOf;
+use std::alloc::Global;
+use tsdl_grammar::{Atom, Attribute, Bracket, Kind, Mark, MemberTree, Number, Structure};
+
+#[tactic(auto, unfolding(crate::specs::ParsingMembers::int_at))]
+fn int_at(alloc: Global, atoms: &[Atom]) -> Result<(ListOf<Attribute>, &[Atom]), Unread>
+    ensures { Gives (λ x. (x.0, x.1.now)) result (int_at atoms.now) }
+{
+    attrs_at(alloc, keyword_at("integer", atoms)?)
+}
+
+#[tactic(auto, unfolding(crate::specs::ParsingMembers::enum_at))]
+fn enum_at(alloc: Global, atoms: &[Atom]) -> Result<(Kind, &[Atom]), Unread>
+    ensures { Gives (λ x. (x.0, x.1.now)) result (enum_at atoms.now) }
+{
+    let rest = keyword_at("enum", atoms)?;
+    let rest = mark_at(Mark::Colon, rest)?;
+    let (attrs, rest) = int_at(alloc, rest)?;
+    let inside = mark_at(Mark::OpenBrace, rest)?;
+    let (entries, rest) = entries_at(alloc, inside)?;
+    let rest = mark_at(Mark::CloseBrace, rest)?;
+    Ok((Kind::Enumeration(attrs, entries), rest))
+}
+
+#[tactic(auto, unfolding(crate::specs::ParsingMembers::string_at))]
+fn string_at(alloc: Global, atoms: &[Atom]) -> Result<(Kind, &[Atom]), Unread>
+    ensures { Gives (λ x. (x.0, x.1.now)) result (string_at atoms.now) }
+{
+    let rest = keyword_at("string", atoms)?;
+    if begins(Mark::OpenBrace, rest) {
+        let (attrs, rest) = attrs_at(alloc, rest)?;
+        Ok((Kind::Text(Some(attrs)), rest))
+    } else {
+        Ok((Kind::Text(None), rest))
+    }
+}
+
+#[tactic(auto, unfolding(crate::specs::ParsingMembers::kind_at))]
+fn kind_at(alloc: Global, atoms: &[Atom]) -> Result<(Kind, &[Atom]), Unread>
+    ensures { Gives (λ x. (x.0, x.1.now)) result (kind_at atoms.now) }
+{
+    if names("integer", atoms) {
+        let (attrs, rest) = int_at(alloc, atoms)?;
+        Ok((Kind::Integer(attrs), rest))
+    } else if names("enum", atoms) {
+        enum_at(alloc, atoms)
+    } else {
+        string_at(alloc, atoms)
+    }
+}
+
+/// What stands between an array's brackets.
+#[tactic(auto, unfolding(crate::specs::ParsingMembers::count_at))]
+fn count_at(alloc: Global, atoms: &[Atom]) -> Result<(Bracket, &[Atom]), Unread>
+    ensures { Gives (λ x. (x.0, x.1.now)) result (count_at atoms.now) }
+{
+    match atoms {
+        [Atom::Word(name), rest @ ..] => Ok((Bracket::Member(name.copy(alloc)?), rest)),
+        [Atom::Number(_) | Atom::Mark(_), ..] => {
+            let (count, rest) = number_at(atoms)?;
+            Ok((Bracket::Count(count), rest))
+        }
+        [] | [Atom::Text(_) | Atom::TooLarge, ..] => Err(Unread::NoTree),
+    }
+}
+
+#[tactic(auto, unfolding(crate::specs::ParsingMembers::bracket_at))]
+fn bracket_at(alloc: Global, atoms: &[Atom]) -> Result<(Bracket, &[Atom]), Unread>
+    ensures { Gives (λ x. (x.0, x.1.now)) result (bracket_at atoms.now) }
+{
+    let inside = mark_at(Mark::OpenBracket, atoms)?;
+    let (count, rest) = count_at(alloc, inside)?;
+    let rest = mark_at(Mark::CloseBracket, rest)?;
+    Ok((count, rest))
+}
+
+fn all_brackets_at(alloc: Global, atoms: &[Atom]) -> Result<(ListOf<Bracket>, &[Atom]), Unread>
+    ensures { Gives (λ x. (x.0, x.1.now)) result (all_brackets_at atoms.now) }
+{
+    let mut brackets = ListOf::new(alloc);
+    let mut rest = atoms;
+    while begins(Mark::OpenBracket, rest) {
+        let (bracket, behind) = bracket_at(alloc, rest)?;
+        brackets.push(bracket)?;
+        rest = behind;
+    }
+    Ok((brackets, rest))
+}
+
+#[tactic(auto, unfolding(crate::specs::ParsingMembers::member_at))]
+fn member_at(alloc: Global, atoms: &[Atom]) -> Result<(MemberTree, &[Atom]), Unread>
+    ensures { Gives (λ x. (x.0, x.1.now)) result (member_at atoms.now) }
+{
+    let (kind, rest) = kind_at(alloc, atoms)?;
+    let (name, rest) = word_at(alloc, rest)?;
+    let (brackets, rest) = all_brackets_at(alloc, rest)?;
+    let rest = mark_at(Mark::Semicolon, rest)?;
+    Ok((
+        MemberTree {
+            kind,
+            name,
+            brackets,
+        },
+        rest,
+    ))
+}
+
+fn all_members_at(alloc: Global, atoms: &[Atom]) -> Result<(ListOf<MemberTree>, &[Atom]), Unread>
+    ensures { Gives (λ x. (x.0, x.1.now)) result (all_members_at atoms.now) }
+{
+    let mut members = ListOf::new(alloc);
+    let mut rest = atoms;
+    while is_open(rest) {
+        let (member, behind) = member_at(alloc, rest)?;
+        members.push(member)?;
+        rest = behind;
+    }
+    Ok((members, rest))
+}
+
+/// A structure's alignment, if it is given.
+#[tactic(auto, unfolding(crate::specs::ParsingMembers::align_at))]
+fn align_at(atoms: &[Atom]) -> Result<(Option<Number>, &[Atom]), Unread>
+    ensures { Gives (λ x. (x.0, x.1.now)) result (align_at atoms.now) }
+{
+    if names("align", atoms) {
+        let rest = keyword_at("align", atoms)?;
+        let inside = mark_at(Mark::OpenParenthesis, rest)?;
+        let (align, rest) = number_at(inside)?;
+        let rest = mark_at(Mark::CloseParenthesis, rest)?;
+        Ok((Some(align), rest))
+    } else {
+        Ok((None, atoms))
+    }
+}
+
+#[tactic(auto, unfolding(crate::specs::ParsingMembers::struct_at))]
+pub(crate) fn struct_at(alloc: Global, atoms: &[Atom]) -> Result<(Structure, &[Atom]), Unread>
+    ensures { Gives (λ x. (x.0, x.1.now)) result (struct_at atoms.now) }
+{
+    let rest = keyword_at("struct", atoms)?;
+    let inside = mark_at(Mark::OpenBrace, rest)?;
+    let (members, rest) = all_members_at(alloc, inside)?;
+    let rest = mark_at(Mark::CloseBrace, rest)?;
+    let (align, rest) = align_at(rest)?;
+    Ok((Structure { members, align }, rest))
+}

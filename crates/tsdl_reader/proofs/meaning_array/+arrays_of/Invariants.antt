@@ -1,5 +1,0 @@
-use Rattle.std.proofs.Common.{length}
-use Rattle.tsdl_reader.proofs.meaning_array.+arrays_of.Given as goal
-
-abbrev pub decreases-arrays_of : goal.decreases-arrays_of
-decreases-arrays_of l = length l.lengths.now

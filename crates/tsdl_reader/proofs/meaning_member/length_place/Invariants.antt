@@ -1,7 +1,0 @@
-use Rattle.std.proofs.Common.{◌≡◌, ℕ, ◌<◌, false, List, get_or}
-use Rattle.ctf_types.specs.declared.member_type.MemberType.{MemberType}
-use Rattle.tsdl_reader.specs.Members.{is_length}
-use Rattle.tsdl_reader.proofs.meaning_member.length_place.Given as goal
-
-abbrev pub invariant-loop-index : goal.invariant-loop-index
-invariant-loop-index l = (d : List ℕ × MemberType) (k : ℕ) → k < l.index → is_length l.name (get_or l.before k d) ≡ false
