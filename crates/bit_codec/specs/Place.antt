@@ -1,4 +1,4 @@
--- Where a number's bits lie among its own (CTF 1.8.3, section 4.1.2): in little-endian order the first bit
+-- Where a number's bits lie among its own (CTF 1.8.3, section 4.1.5): in little-endian order the first bit
 -- is the least significant one, in big-endian order the most significant one.
 use Rattle.std.specs.Prelude.{ℕ, ◌+◌, ◌-◌, ◌*◌, ◌^◌}
 use Rattle.ctf_types.specs.declared.byte_order.ByteOrder.{ByteOrder}

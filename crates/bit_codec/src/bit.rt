@@ -1,4 +1,4 @@
-//! One bit of a byte slice (CTF 1.8.3, section 4.1.2).
+//! One bit of a byte slice (CTF 1.8.3, section 4.1.5).
 
 ghost use Rattle.std.specs.Prelude.{◌≡◌, ◌≢◌, ℕ, ◌*◌, ◌<◌, length};
 ghost use Rattle.ctf_types.specs.Bits.{place_of, bit_of};

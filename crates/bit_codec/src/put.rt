@@ -1,4 +1,4 @@
-//! Writing a number at any bit position of a byte slice (CTF 1.8.3, section 4.1.2).
+//! Writing a number at any bit position of a byte slice (CTF 1.8.3, section 4.1.5).
 
 ghost use Rattle.std.specs.Prelude.{◌≡◌, ◌+◌, ◌*◌, ◌^◌, ◌<◌, ◌≤◌, length};
 ghost use Rattle.ctf_types.specs.Bits.{bit_of, number_at, SameOutside};

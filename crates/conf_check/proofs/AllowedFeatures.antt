@@ -8,15 +8,16 @@ use Rattle.ctf_types.specs.FieldTypes.{chain_of}
 use Rattle.ctf_types.specs.declared.int_type.IntType.{IntType}
 use Rattle.ctf_types.specs.declared.field_type.FieldType.{FieldType}
 use Rattle.ctf_types.specs.declared.field_type.FieldType.TheVariants.{Int, Enum, Str, Static}
-use Rattle.conf_tree.specs.Flaw.{Flaw}
-use Rattle.conf_tree.specs.Reading.{optional, ◌>>=◌}
+use Rattle.conf_tree.specs.declared.fault_kind.FaultKind.TheVariants.{OutOfRange}
+use Rattle.conf_tree.specs.Flaw.{Flaw, here}
+use Rattle.conf_tree.specs.Reading.{optional, object_of, ◌>>=◌}
 use Rattle.conf_check.specs.declared.feature.Choice.{Choice}
 use Rattle.conf_check.specs.declared.feature.Choice.TheVariants.{On, Off, Own}
 use Rattle.conf_check.specs.declared.feature.FeatureRule.{FeatureRule}
 use Rattle.conf_check.specs.declared.feature.FeatureRule.TheVariants.{Plain, Size, Magic, Identifier}
 use Rattle.conf_check.specs.declared.limits.Part.TheVariants as part
-use Rattle.conf_check.specs.Feature.{number_type, magic_type, byte_type, own_of, array_of, plain_of, not_off, magic_or_not, is_byte, byte_or_not, identifier_or_not, identifier_of, choice_of, chosen, chosen_size, mapped, mapped_if_on, next_feature, next_size, next_timestamp, next_magic, next_identifier}
-use Rattle.conf_check.specs.FieldType.{unsigned_field_of, field_of, field_in, field_limits}
+use Rattle.conf_check.specs.Feature.{number_type, magic_type, byte_type, own_of, stands_elsewhere, array_of, plain_of, not_off, magic_or_not, is_byte, byte_or_not, identifier_or_not, identifier_of, choice_of, chosen, chosen_size, mapped, mapped_if_on, next_feature, next_size, next_timestamp, next_magic, next_identifier}
+use Rattle.conf_check.specs.FieldType.{class_in, unsigned_field_of, field_of, field_in, field_limits}
 use Rattle.conf_check.specs.Limits.{limits, type_limits}
 use Rattle.conf_check.specs.Order.{Ascends, MembersAscend}
 use Rattle.conf_check.specs.Property.{next}
@@ -111,6 +112,17 @@ array_there (string s) t e = e
 array_there (array ds) t e = e
 array_there (object ms) t e = e
 
+-- an array that is read has a class of field types
+behind_the_class : (b : Bool) (r : Result Choice Flaw) (c : Choice) → cond b (Err (here OutOfRange)) r ≡ Ok c → r ≡ Ok c
+behind_the_class true r c e = absurd cc
+behind_the_class false r c e = e
+
+field_there : (d : Data) (t : IntType) → identifier_of d ≡ Ok (Own t) → (field_of d >>= identifier_or_not) ≡ Ok (Own t)
+field_there d t e =
+    let there = both_read (object_of d) _ (Own t) (array_there d t e) in
+    let class = both_read (class_in there.0) _ (Own t) there.2 in
+    behind_the_class (stands_elsewhere class.0) (field_of d >>= identifier_or_not) (Own t) class.2
+
 leaf_unclocked : (leaf : Leaf) (t : IntType) → leaf ≡ Number t → IsConfigLeaf leaf → t.clock ≡ None
 leaf_unclocked leaf t is good = subst IsConfigLeaf is good
 
@@ -129,7 +141,7 @@ IsIdentifier t = IsPlainUnsigned t × (t.size ≡ 8) × (t.align ≡ 8)
 
 identifier_there : (d : Data) (t : IntType) → Ascends d → limits part.Feature d ≡ Ok tt → identifier_of d ≡ Ok (Own t) → IsIdentifier t
 identifier_there d t ascends limit e =
-    let f = both_read (field_of d) identifier_or_not (Own t) (array_there d t e) in
+    let f = both_read (field_of d) identifier_or_not (Own t) (field_there d t e) in
     let is = identifier_own f.0 t f.2 in
     let good = allowed_field d f.0 ascends f.1 (feature_limits d f.0 f.1 limit) in
     ((is.1.unsigned, leaf_unclocked (chain_of f.0).leaf t is.0 good.0), is.1.size, is.1.align)

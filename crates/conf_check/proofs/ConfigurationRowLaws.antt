@@ -206,7 +206,7 @@ trace_read number d draft (ms, is, h) =
     let found = needed_read (codes "type") (trace_type_of number (listed h.entries)) ms draft h.trace_type in
     then_read (object_of d) _ ms draft is (then_read (needed (codes "type") ms) _ found.0 draft found.1 (subst (λ u. trace_in number u ms ≡ Ok draft) (sym h.known) (trace_in_read number ms draft h)))
 
-root_says : (number : Option (List ℕ)) (d : Data) (draft : Draft) → draft_reading number d ≡ Ok draft → (ms : Members) × (object_of d ≡ Ok ms) × IsRootObject number ms draft
+pub root_says : (number : Option (List ℕ)) (d : Data) (draft : Draft) → draft_reading number d ≡ Ok draft → (ms : Members) × (object_of d ≡ Ok ms) × IsRootObject number ms draft
 unfolding draft_reading root_in
 root_says number d draft e =
     let ms = both_read (object_of d) _ draft e in

@@ -1,13 +1,18 @@
 -- A text that is a configuration is refused for want of memory alone, where its tree and its resolution are those that were found.
-use Rattle.std.proofs.Common.{◌≡◌, ℕ, List, Option, Some, Result, Ok, subst}
+use Rattle.std.proofs.Common.{◌≡◌, ◌⊎◌, inl, inr, ℕ, List, Option, Some, Result, Ok, sym, subst}
 use Rattle.serde_json.specs.Data.{Data}
 use Rattle.serde_json.specs.Read.{read}
 use Rattle.conf_tree.specs.declared.fault.ConfFault.{ConfFault}
-use Rattle.conf_tree.specs.Flaw.{Flaw}
+use Rattle.ctf_types.specs.declared.config.Config.{Config}
+use Rattle.conf_tree.specs.Flaw.{Flaw, flaw_of, IsMemory}
 use Rattle.conf_tree.specs.Walk.{IsTreeOf}
-use Rattle.conf_inherit.specs.Resolution.{resolution}
-use Rattle.conf_check.specs.Configuration.{IsInnocent, RefusedForMemory}
+use Rattle.conf_inherit.specs.Faults.{RefusalHolds}
+use Rattle.conf_inherit.specs.Resolution.{aliases_of, resolution, Resolves}
+use Rattle.conf_inherit.proofs.OneReading.{one_look}
+use Rattle.conf_check.specs.Configuration.{IsInnocent, RefusedForMemory, ConfiguresByLookUp}
 use Rattle.conf_check.specs.ConfigurationRows.{IsConfigurationOf}
+use Rattle.conf_check.specs.Judgement.{check_reading}
+use Rattle.conf_check.proofs.ConfigurationRowLaws.{configuration_read}
 
 same_tree : (text : List ℕ) (s t : Data) → read text ≡ Some s → read text ≡ Some t → s ≡ t
 same_tree text s t p q = cc
@@ -23,3 +28,32 @@ memory_alone text number t r fault tree resolved only = λ c configures.
     let found : resolution t ≡ Ok q = subst (λ x. resolution x ≡ Ok q) same configures.3 in
     let equal : q ≡ r = same_resolution q r (resolution t) found resolved in
     only c (subst (λ x. IsConfigurationOf x number c) equal configures.4)
+
+-- ---- by look-up: the tree and its resolution are those that were found
+
+same_answer : (x y : Config) (r : Result Config Flaw) → r ≡ Ok x → r ≡ Ok y → x ≡ y
+same_answer x y r p q = cc
+
+-- the rows hold of the resolution that was found
+rows_found : (text : List ℕ) (number : Option (List ℕ)) (t r : Data) (c : Config) → IsTreeOf text t → Resolves t r → ConfiguresByLookUp text number c → IsConfigurationOf r number c
+rows_found text number t r c tree resolves configures =
+    let s = configures.0 in
+    let q = configures.1 in
+    let same : s ≡ t = same_tree text s t configures.2.0.1 tree.0.1 in
+    let looked : Resolves t q = subst (λ x. Resolves x q) same configures.4 in
+    let equal : q ≡ r = one_look (aliases_of t) looked resolves in
+    subst (λ x. IsConfigurationOf x number c) equal configures.5
+
+-- the tree that was found has no fault of inheritance
+pub refused_for_memory : (text : List ℕ) (number : Option (List ℕ)) (t : Data) (fault : ConfFault) (c : Config) → IsTreeOf text t → IsMemory fault ⊎ RefusalHolds t (flaw_of fault) → ConfiguresByLookUp text number c → IsMemory fault
+refused_for_memory text number t fault c tree (inl memory) configures = memory
+refused_for_memory text number t fault c tree (inr holds) configures =
+    let s = configures.0 in
+    let same : s ≡ t = same_tree text s t configures.2.0.1 tree.0.1 in
+    absurd (configures.3 (flaw_of fault) (subst (λ x. RefusalHolds x (flaw_of fault)) (sym same) holds))
+
+pub innocent_by_look_up : (text : List ℕ) (number : Option (List ℕ)) (t r : Data) (fault : ConfFault) (c : Config) → IsTreeOf text t → Resolves t r → IsInnocent r number fault → ConfiguresByLookUp text number c → IsMemory fault
+innocent_by_look_up text number t r fault c tree resolves innocent configures = innocent c (rows_found text number t r c tree resolves configures)
+
+pub answered_by_look_up : (text : List ℕ) (number : Option (List ℕ)) (t r : Data) (x c : Config) → IsTreeOf text t → Resolves t r → check_reading r number ≡ Ok x → ConfiguresByLookUp text number c → x ≡ c
+answered_by_look_up text number t r x c tree resolves read configures = same_answer x c (check_reading r number) read (configuration_read r number c (rows_found text number t r c tree resolves configures))

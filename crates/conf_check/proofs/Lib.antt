@@ -25,6 +25,18 @@ pub mod AllowedRules
 pub mod AllowedConfiguration
 pub mod FieldRowLaws
 mod WorkedFieldTypes
+pub mod LeafFlawLaws
+pub mod IntegerFlawLaws
+pub mod EnumerationFlawLaws
+pub mod FieldFlawLaws
+pub mod FieldLimitFlawLaws
+mod WorkedFieldFlaws
 pub mod ObjectRowLaws
 pub mod ConfigurationRowLaws
 pub mod ConfigurationSteps
+pub mod WholeFlawLaws
+pub mod EntryRowLaws
+pub mod ObjectFlawLaws
+pub mod StreamFlawLaws
+pub mod ConfigurationFlawLaws
+mod WorkedObjectFlaws

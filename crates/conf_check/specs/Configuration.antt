@@ -1,15 +1,20 @@
 -- From the text of a configuration to the configuration: its tree, the tree with every inheritance resolved, and what that
 -- says, row by row.
-use Rattle.std.specs.Prelude.{◌≡◌, ◌⊎◌, ℕ, List, Option, Ok, Err}
-use Rattle.serde_json.specs.Data.{Data}
+use Rattle.std.specs.Prelude.{◌≡◌, ◌⊎◌, ℕ, List, Option, Result, Ok, Err}
+use Rattle.serde_json.specs.Data.{Data, Members}
 use Rattle.ctf_types.specs.declared.config.Config.{Config}
 use Rattle.conf_tree.specs.declared.fault.ConfFault.{ConfFault}
 use Rattle.conf_tree.specs.Flaw.{Flaw, IsMemory}
+use Rattle.conf_tree.specs.Reading.{object_of}
 use Rattle.conf_tree.specs.Walk.{IsTreeOf, IsFirstFlaw, Reads, FlawHolds, max_levels}
 use Rattle.conf_inherit.specs.Faults.{RefusalHolds}
 use Rattle.conf_inherit.specs.Resolution.{resolution, Resolves}
-use Rattle.conf_check.specs.ConfigurationRows.{IsConfigurationOf}
+use Rattle.conf_check.specs.declared.draft.Draft.{Draft}
+use Rattle.conf_check.specs.declared.limits.Part.TheVariants.{Root}
+use Rattle.conf_check.specs.ConfigurationRows.{IsRootObject, IsConfigurationOf}
 use Rattle.conf_check.specs.Judgement.{check_reading}
+use Rattle.conf_check.specs.ObjectFlaws.{IsNoRoot}
+use Rattle.conf_check.specs.WholeFlaws.{BreaksRule, PassesLimit}
 
 -- c is the configuration of the text, where `number` is the identifier that is handed in
 abbrev pub Configures : List ℕ → Option (List ℕ) → Config → Type 0
@@ -21,6 +26,20 @@ abbrev pub ConfiguresResolved : List ℕ → Option (List ℕ) → Config → Ty
 ConfiguresResolved text number c =
     (t : Data) × (r : Data) × IsTreeOf text t × Resolves t r × IsConfigurationOf r number c
 
+-- no fault of inheritance holds of the tree
+abbrev pub IsFaultless : Data → Type 0
+IsFaultless t = (flaw : Flaw) → RefusalHolds t flaw → ⊥
+
+-- c is the configuration of a text without such a fault, by look-up alone
+abbrev pub ConfiguresByLookUp : List ℕ → Option (List ℕ) → Config → Type 0
+ConfiguresByLookUp text number c =
+    (t : Data) × (r : Data) × IsTreeOf text t × IsFaultless t × Resolves t r × IsConfigurationOf r number c
+
+-- that configuration is the answer, want of memory aside
+abbrev pub GivesThat : Result Config ConfFault → Config → Type 0
+GivesThat (Ok found) c = found ≡ c
+GivesThat (Err fault) c = IsMemory fault
+
 -- the flaw is the first of the text: of the tree, of its inheritance, or of the resolved tree
 abbrev pub IsRefusal : List ℕ → Option (List ℕ) → Flaw → Type 0
 IsRefusal text number flaw =
@@ -28,12 +47,19 @@ IsRefusal text number flaw =
     ⊎ ((t : Data) × IsTreeOf text t × (resolution t ≡ Err flaw))
     ⊎ ((t : Data) × (r : Data) × IsTreeOf text t × (resolution t ≡ Ok r) × (check_reading r number ≡ Err flaw))
 
--- the flaw's kind holds at its path: in the tree, in its inheritance, or by the reading of the resolved tree
+-- the resolved tree is no configuration: an object has a row that does not hold, or all rows hold, and the whole breaks a rule
+-- or passes a limit
+abbrev pub IsNoConfiguration : Data → Option (List ℕ) → Flaw → Type 0
+IsNoConfiguration d number flaw =
+    IsNoRoot d flaw
+    ⊎ ((ms : Members) × (draft : Draft) × (object_of d ≡ Ok ms) × IsRootObject number ms draft × (BreaksRule draft flaw ⊎ PassesLimit Root d flaw))
+
+-- the flaw's kind holds at its path: in the tree, in its inheritance, or in the resolved tree
 abbrev pub RefusalIsTrue : List ℕ → Option (List ℕ) → Flaw → Type 0
 RefusalIsTrue text number flaw =
     ((d : Data) → Reads text d → FlawHolds d max_levels flaw)
     ⊎ ((t : Data) × IsTreeOf text t × RefusalHolds t flaw)
-    ⊎ ((t : Data) × (r : Data) × IsTreeOf text t × Resolves t r × (check_reading r number ≡ Err flaw))
+    ⊎ ((t : Data) × (r : Data) × IsTreeOf text t × Resolves t r × IsNoConfiguration r number flaw)
 
 -- where all rows hold, the fault is want of memory
 abbrev pub IsInnocent : Data → Option (List ℕ) → ConfFault → Type 0

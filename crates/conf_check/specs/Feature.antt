@@ -10,12 +10,14 @@ use Rattle.ctf_types.specs.declared.field_type.FieldType.TheVariants.{Int, Enum,
 use Rattle.ctf_types.specs.Chain.{Leaf, Number, Labelled, ByteString}
 use Rattle.conf_tree.specs.declared.fault_kind.FaultKind.TheVariants.{OutOfRange}
 use Rattle.conf_tree.specs.Flaw.{Flaw, here}
-use Rattle.conf_tree.specs.Reading.{◌>>=◌}
+use Rattle.conf_tree.specs.Reading.{◌>>=◌, object_of}
 use Rattle.conf_check.specs.declared.feature.Choice.{Choice}
 use Rattle.conf_check.specs.declared.feature.Choice.TheVariants.{On, Off, Own}
 use Rattle.conf_check.specs.declared.feature.FeatureRule.{FeatureRule}
 use Rattle.conf_check.specs.declared.feature.FeatureRule.TheVariants.{Plain, Size, Magic, Identifier}
-use Rattle.conf_check.specs.FieldType.{unsigned_field_of, field_of}
+use Rattle.conf_check.specs.declared.words.FieldClass.{FieldClass}
+use Rattle.conf_check.specs.declared.words.FieldClass.TheVariants.{DynamicArray, Structure}
+use Rattle.conf_check.specs.FieldType.{class_in, unsigned_field_of, field_of}
 use Rattle.conf_check.specs.Property.{next}
 
 -- ---- the types of features that are on
@@ -74,8 +76,17 @@ identifier_or_not (Int t) = Err (here OutOfRange)
 identifier_or_not (Enum t) = Err (here OutOfRange)
 identifier_or_not Str = Err (here OutOfRange)
 
+-- a class that stands at other places alone is out of range too
+abbrev pub stands_elsewhere : FieldClass → Bool
+stands_elsewhere DynamicArray = true
+stands_elsewhere Structure = true
+stands_elsewhere _ = false
+
+abbrev pub array_of_class : FieldClass → Data → Result Choice Flaw
+array_of_class class d = if stands_elsewhere class then Err (here OutOfRange) else field_of d >>= identifier_or_not
+
 abbrev pub array_of : Data → Result Choice Flaw
-array_of d = field_of d >>= identifier_or_not
+array_of d = object_of d >>= (λ ms. class_in ms >>= (λ class. array_of_class class d))
 
 unfoldable pub identifier_of : Data → Result Choice Flaw
 identifier_of (boolean b) = if b then Ok On else Ok Off

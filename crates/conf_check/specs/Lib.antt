@@ -29,3 +29,9 @@ pub mod Configuration
 pub mod FieldRows
 pub mod ObjectRows
 pub mod ConfigurationRows
+pub mod Broken
+pub mod LeafFlaws
+pub mod FieldFlaws
+pub mod WholeFlaws
+pub mod EntryRows
+pub mod ObjectFlaws

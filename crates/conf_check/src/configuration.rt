@@ -1,8 +1,9 @@
 //! From the text of a configuration to the configuration.
 ghost use Rattle.std.specs.Prelude.{◌⊎◌, IfOk, IfErr};
+ghost use Rattle.ctf_types.specs.declared.config.Config.{Config as Configuration};
 ghost use Rattle.ctf_types.specs.AllowedConfig.{IsConfig};
 ghost use Rattle.conf_tree.specs.Flaw.{flaw_of, IsMemory};
-ghost use Rattle.conf_check.specs.Configuration.{Configures, ConfiguresResolved, IsRefusal, RefusalIsTrue, RefusedForMemory};
+ghost use Rattle.conf_check.specs.Configuration.{Configures, ConfiguresResolved, ConfiguresByLookUp, GivesThat, IsRefusal, RefusalIsTrue, RefusedForMemory};
 
 use crate::judgement::check;
 use conf_inherit::resolve;
@@ -24,6 +25,9 @@ pub fn configure(alloc: Global, text: &[u8], number: Option<Uuid>) -> Result<Con
 
     // A text that is a configuration is refused for want of memory alone.
     ensures only { IfErr result (λ fault. RefusedForMemory text.now number fault) }
+
+    // What a text configures by look-up, where no fault of inheritance holds, is the answer.
+    ensures exact { (c : Configuration) → ConfiguresByLookUp text.now number c → GivesThat result c }
 {
     let tree = match read_tree(alloc, text) {
         Ok(tree) => tree,

@@ -8,11 +8,13 @@ ghost use Rattle.ctf_types.specs.declared.field_type.FieldType.TheVariants.{Stat
 ghost use Rattle.conf_tree.specs.Flaw.{IsMemory};
 ghost use Rattle.conf_tree.specs.Reading.{Gives};
 ghost use Rattle.conf_check.specs.Property.{next};
-ghost use Rattle.conf_check.specs.Feature.{number_type as number_type_of, magic_type as magic_type_of, byte_type as byte_type_of, is_byte as is_byte_of, plain_of, not_off as not_off_of, magic_or_not as magic_or_not_of, byte_or_not, identifier_or_not as identifier_or_not_of, identifier_of, choice_of, chosen as chosen_of, chosen_size as chosen_size_of, mapped as mapped_of, mapped_if_on as mapped_if_on_of, next_feature as next_feature_of, next_size as next_size_of, next_timestamp as next_timestamp_of, next_magic as next_magic_of, next_identifier as next_identifier_of};
+ghost use Rattle.conf_check.specs.Feature.{number_type as number_type_of, magic_type as magic_type_of, byte_type as byte_type_of, is_byte as is_byte_of, plain_of, not_off as not_off_of, magic_or_not as magic_or_not_of, byte_or_not, identifier_or_not as identifier_or_not_of, stands_elsewhere as stands_elsewhere_of, array_of, identifier_of, choice_of, chosen as chosen_of, chosen_size as chosen_size_of, mapped as mapped_of, mapped_if_on as mapped_if_on_of, next_feature as next_feature_of, next_size as next_size_of, next_timestamp as next_timestamp_of, next_magic as next_magic_of, next_identifier as next_identifier_of};
 
-use crate::field_type::{read_field, read_unsigned};
+use crate::field_type::{read_class, read_field, read_unsigned};
+use crate::kind::object_here;
 use crate::lookup::property;
 use crate::property::turn;
+use crate::words::FieldClass;
 use conf_tree::{ConfFault, FaultKind};
 use ctf_types::{Base, Element, FieldType, IntType, Text};
 use serde_json::{Map, Value};
@@ -170,6 +172,27 @@ fn identifier_or_not(field: FieldType) -> Result<Choice, ConfFault>
     }
 }
 
+/// Whether an object of this class stands at other places alone.
+fn stands_elsewhere(class: FieldClass) -> bool
+    ensures { result ≡ stands_elsewhere_of class }
+{
+    matches!(class, FieldClass::DynamicArray | FieldClass::Structure)
+}
+
+/// An array of its own.
+fn identifier_array(alloc: Global, value: &Value) -> Result<Choice, ConfFault>
+    requires { depth (view value.now) ≤ 32 }
+    ensures reading { Gives (λ c. c) result (array_of (view value.now)) }
+    ensures steps { IfErr result (λ fault. array_vec_len fault.path ≤ depth (view value.now)) }
+{
+    let members = object_here(value)?;
+    let class = read_class(alloc, members)?;
+    if stands_elsewhere(class) {
+        return Err(ConfFault::here(FaultKind::OutOfRange));
+    }
+    identifier_or_not(read_field(alloc, value)?)
+}
+
 /// An identifier that is on or off, or an array of its own.
 #[tactic(auto, unfolding(crate::specs::Feature::identifier_of))]
 fn identifier(alloc: Global, value: &Value) -> Result<Choice, ConfFault>
@@ -180,7 +203,7 @@ fn identifier(alloc: Global, value: &Value) -> Result<Choice, ConfFault>
     match value {
         Value::Bool(on) => { if *on { Ok(Choice::On) } else { Ok(Choice::Off) } }
         Value::Null | Value::Number(_) | Value::String(_) | Value::Array(_) | Value::Object(_) =>
-            identifier_or_not(read_field(alloc, value)?),
+            identifier_array(alloc, value),
     }
 }
 

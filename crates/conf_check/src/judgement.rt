@@ -6,7 +6,7 @@ ghost use Rattle.ctf_types.specs.AllowedConfig.{IsConfig};
 ghost use Rattle.conf_tree.specs.Flaw.{flaw_of, key, here, within, IsMemory};
 ghost use Rattle.conf_tree.specs.declared.fault_kind.FaultKind.TheVariants.{NoUuid, TwoOrders};
 ghost use Rattle.conf_tree.specs.Reading.{Gives};
-ghost use Rattle.conf_check.specs.Configuration.{IsInnocent};
+ghost use Rattle.conf_check.specs.Configuration.{IsNoConfiguration, IsInnocent};
 ghost use Rattle.conf_check.specs.ConfigurationRows.{IsConfigurationOf};
 ghost use Rattle.conf_check.specs.Judgement.{in_type as in_type_is, header_flaw, stream_number_fits as stream_number_fits_is, number_given as number_given_is, identifier_given as identifier_given_is, one_order as one_order_is, sizes_and_bits as sizes_and_bits_is, clocks_and_identifier as clocks_and_identifier_is, limits_and_orders as limits_and_orders_is, whole as whole_is, check_reading};
 
@@ -168,6 +168,9 @@ pub fn check(alloc: Global, tree: Tree, number: Option<Uuid>) -> Result<Config, 
     ensures reading { Gives (λ c. c) result (check_reading (view tree.value) number) }
     ensures rows { IfOk result (λ c. IsConfigurationOf (view tree.value) number c) }
     ensures allowed { IfOk result (λ c. IsConfig c) }
+
+    // The fault's kind is that of a row which does not hold, or of a rule that is broken, and its path leads there.
+    ensures refused { IfErr result (λ fault. IsMemory fault ⊎ IsNoConfiguration (view tree.value) number (flaw_of fault)) }
 
     // A tree of which all rows hold is refused for want of memory alone.
     ensures only { IfErr result (λ fault. IsInnocent (view tree.value) number fault) }

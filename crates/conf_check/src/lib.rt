@@ -11,6 +11,7 @@ mod event_type;
 mod feature;
 mod features;
 mod field_laws;
+mod field_refusals;
 mod field_type;
 mod growth;
 mod int_type;
@@ -24,6 +25,7 @@ mod member_type;
 mod members;
 mod name;
 mod object_laws;
+mod object_refusals;
 mod optional_struct;
 mod order;
 mod part;
@@ -43,8 +45,19 @@ pub use field_laws::{
     free_names, integers_by_rows, members_by_rows, static_arrays_by_rows, structures_by_rows,
     unsigned_fields,
 };
+pub use field_refusals::{
+    enumerations_refused, field_types_refused, integers_refused, limits_of_field_types,
+    limits_of_members_lists, limits_of_structures, members_lists_refused, names_refused,
+    structures_refused, unsigned_fields_refused,
+};
 pub use judgement::check;
 pub use object_laws::{
-    clock_types_by_rows, configurations_by_rows, event_types_by_rows, features_by_rows,
-    stream_types_by_rows, traces_by_rows,
+    aliases_by_rows, clock_types_by_rows, configurations_by_rows, environment_entries_by_rows,
+    event_types_by_rows, features_by_rows, log_levels_by_rows, stream_types_by_rows,
+    traces_by_rows,
+};
+pub use object_refusals::{
+    aliases_refused, clock_types_refused, configurations_refused, environment_entries_refused,
+    event_types_refused, features_refused, log_levels_refused, rules_refused, stream_types_refused,
+    traces_refused,
 };

@@ -12,11 +12,15 @@ ghost use Rattle.conf_tree.specs.Reading.{object_of};
 ghost use Rattle.conf_check.specs.declared.draft.Draft.{Draft};
 ghost use Rattle.conf_check.specs.declared.features.StreamFields.{StreamFields};
 ghost use Rattle.conf_check.specs.declared.stream_type.Listed.{Listed};
+ghost use Rattle.conf_check.specs.Alias.{alias_of, aliases_of};
 ghost use Rattle.conf_check.specs.ClockType.{Offset, offset_of, clock_type_of};
 ghost use Rattle.conf_check.specs.ConfigurationRows.{IsTraceTypeObject, IsTraceObject, IsConfigurationOf};
+ghost use Rattle.conf_check.specs.EntryRows.{IsMapTo, IsMapOf, IsEnvironmentEntry, IsAliasObject, IsLogLevelAlias, IsLogLevel};
+ghost use Rattle.conf_check.specs.Environment.{entry_of, environment_of};
 ghost use Rattle.conf_check.specs.EventType.{event_type_of};
 ghost use Rattle.conf_check.specs.Features.{header_of, event_header_of, context_of, stream_fields_of};
 ghost use Rattle.conf_check.specs.Judgement.{check_reading};
+ghost use Rattle.conf_check.specs.LogLevel.{log_level_of, level_alias_of, level_aliases_of};
 ghost use Rattle.conf_check.specs.ObjectRows.{IsOffsetObject, IsClockObject, IsHeaderObject, IsEventHeaderObject, IsContextObject, IsStreamFieldsObject, IsEventObject, IsStreamObject};
 ghost use Rattle.conf_check.specs.StreamType.{stream_type_of};
 ghost use Rattle.conf_check.specs.Trace.{trace_of};
@@ -28,6 +32,25 @@ pub fn clock_types_by_rows()
         → (offset_of d ≡ Ok o) ↔ ((ms : Members) × (object_of d ≡ Ok ms) × IsOffsetObject ms o) }
     ensures clocks { (name : List ℕ) (d : Data) (c : Clock)
         → (clock_type_of name d ≡ Ok c) ↔ ((ms : Members) × (object_of d ≡ Ok ms) × IsClockObject name ms c) }
+{}
+
+/// An entry of the environment is read exactly where its rows hold, and the environment entry by entry.
+pub fn environment_entries_by_rows()
+    ensures entries { (name : List ℕ) (d : Data) (e : Entry) → (entry_of name d ≡ Ok e) ↔ IsEnvironmentEntry name d e }
+    ensures environments { (d : Data) (es : List Entry) → (environment_of d ≡ Ok es) ↔ IsMapTo IsEnvironmentEntry d es }
+{}
+
+/// A field type alias is read exactly where its rows hold, and the aliases one by one.
+pub fn aliases_by_rows()
+    ensures aliases { (name : List ℕ) (d : Data) → (alias_of name d ≡ Ok tt) ↔ IsAliasObject name d }
+    ensures lists { (d : Data) → (aliases_of d ≡ Ok tt) ↔ IsMapOf IsAliasObject d }
+{}
+
+/// A log level and an alias of one are read exactly where their rows hold, and the aliases one by one.
+pub fn log_levels_by_rows()
+    ensures levels { (aliases : Members) (d : Data) (n : ℕ) → (log_level_of aliases d ≡ Ok n) ↔ IsLogLevel aliases d n }
+    ensures aliases { (name : List ℕ) (d : Data) → (level_alias_of name d ≡ Ok tt) ↔ IsLogLevelAlias name d }
+    ensures lists { (d : Data) → (level_aliases_of d ≡ Ok tt) ↔ IsMapOf IsLogLevelAlias d }
 {}
 
 /// Features are read exactly where their rows hold.

@@ -1,6 +1,6 @@
 -- What the rounds leave of the aliases that are not resolved: those with no outcome start long walks, and those
 -- refused for a limit pass it.
-use Rattle.std.proofs.Common.{◌≡◌, ◌&&◌, ◌||◌, ◌⊎◌, inl, inr, ℕ, zero, suc, List, [], ◌∷◌, Option, Some, None, Result, Ok, Err, is_some, Bool, true, false, not, true≢false, bytes_eq, refl, sym, ap, ◌∙◌, subst}
+use Rattle.std.proofs.Common.{◌≡◌, ◌&&◌, ◌||◌, ◌⊎◌, inl, inr, ℕ, zero, suc, List, Some, None, Result, Ok, Err, is_some, Bool, true, false, not, true≢false, bytes_eq, refl, sym, ap, ◌∙◌}
 use Rattle.std.specs.Map.{update}
 use Rattle.serde_json.specs.Data.{Data, null, boolean, number, string, array, object, Items, no_items, item, Members, no_members, member, put}
 use Rattle.serde_json.specs.Find.{get_member}
@@ -14,11 +14,11 @@ use Rattle.conf_inherit.specs.Faults.{Passes}
 use Rattle.conf_inherit.specs.Flaws.{flaws}
 use Rattle.conf_inherit.specs.Looks.{AreResolved}
 use Rattle.conf_inherit.specs.Ready.{Names}
-use Rattle.conf_inherit.specs.Size.{settled}
+use Rattle.conf_inherit.specs.Settled.{settled}
 use Rattle.conf_inherit.specs.Rounds.{Why, Outcomes, all_named, all_named_in_items, all_named_in_members, has, is_over, is_empty, or_why, outcome, concluded, step, round, all_over, next_round, rounds, no_outcomes}
 use Rattle.conf_inherit.proofs.LayingLemmas.{Meets, same, other, meets}
 use Rattle.conf_inherit.proofs.ListLemmas.{AllEntries, all_along}
-use Rattle.conf_inherit.proofs.RoundLemmas.{updated_same, updated_other, by_round, or_left_false, or_right_false, some_of, entry_found, step_resolved, round_resolved, rounds_resolved}
+use Rattle.conf_inherit.proofs.RoundLemmas.{updated_same, updated_other, by_round, some_of, entry_found, step_resolved, rounds_resolved}
 use Rattle.conf_inherit.proofs.NamedLemmas.{either_false, and_first, and_second}
 
 -- ---- a name that keeps a value from its turn

@@ -4,11 +4,14 @@ pub mod SpotLemmas
 pub mod LayingLemmas
 pub mod ItemLemmas
 pub mod ListLemmas
+pub mod SizeLemmas
 pub mod LaysOver
 pub mod FlawLemmas
 pub mod FunctionLemmas
 pub mod ReadyLemmas
 pub mod NamedLemmas
+pub mod SettledLemmas
+pub mod LimitLemmas
 pub mod RoundLemmas
 pub mod PlaceLemmas
 pub mod WholeNumbers

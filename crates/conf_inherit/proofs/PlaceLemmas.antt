@@ -1,8 +1,7 @@
 -- What is wrong at a place of field types, part by part.
-use Rattle.std.proofs.Common.{◌≡◌, ◌++◌, ◌<◌, ◌≤◌, ℕ, List, [], ◌∷◌, length, nat_lt, Bool, true, false, Ok, Err, refl, sym, ap, ◌∙◌, arith}
+use Rattle.std.proofs.Common.{◌≡◌, ◌++◌, ◌<◌, ◌≤◌, ℕ, List, [], length, nat_lt, true, false, Ok, Err, refl, arith}
 use Rattle.std.proofs.lemmas.Bool.Decides.{nat_tests}
 use Rattle.serde_json.specs.Data.{Data, array, Members, no_members}
-use Rattle.serde_json.specs.Events.{items_len}
 use Rattle.serde_json.specs.View.{items_view}
 use Rattle.serde_json.specs.declared.value.Value.{Value}
 use Rattle.serde_json.proofs.Views.{items_len-items_view}
@@ -12,7 +11,7 @@ use Rattle.conf_tree.specs.declared.fault_kind.FaultKind.TheVariants.{Limit}
 use Rattle.conf_inherit.specs.declared.spot.Spot.{Spot}
 use Rattle.conf_inherit.specs.Spot.{names_alias, names_member_type, lists_members}
 use Rattle.conf_inherit.specs.Flaws.{flaws}
-use Rattle.conf_inherit.specs.Size.{settled}
+use Rattle.conf_inherit.specs.Settled.{settled}
 use Rattle.conf_inherit.specs.Places.{too_many, limit_flaws, place_flaws}
 
 many : (n : ℕ) → 256 < n → nat_lt 256 n ≡ true

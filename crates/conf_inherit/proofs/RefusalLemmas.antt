@@ -1,11 +1,11 @@
 -- The kind of a refusal holds at its path.
-use Rattle.std.proofs.Common.{◌≡◌, ◌&&◌, ◌||◌, ◌<◌, ◌+◌, ◌++◌, ◌⊎◌, inl, inr, ℕ, zero, suc, List, [], ◌∷◌, map, Option, Some, None, option_and_then, Result, Ok, Err, is_some, nat_lt, Bool, true, false, true≢false, refl, sym, ap, ◌∙◌, subst, arith}
+use Rattle.std.proofs.Common.{◌≡◌, ◌<◌, ◌+◌, ◌++◌, ◌⊎◌, inl, inr, ℕ, suc, List, [], ◌∷◌, map, Option, Some, None, option_and_then, Result, Ok, Err, is_some, nat_lt, Bool, true, false, refl, sym, ap, ◌∙◌, subst, arith}
 use Rattle.std.specs.Prelude.{⊤}
 use borrow.Author.Tests.{ltb-true}
 use Rattle.serde_json.specs.Data.{Data, null, boolean, number, string, array, object, Items, no_items, item, Members, no_members, member}
 use Rattle.serde_json.specs.Events.{items_len, members_len}
 use Rattle.serde_json.specs.Find.{get, get_member, get_item}
-use Rattle.conf_tree.specs.Flaw.{Flaw, Place, key, index, here, within}
+use Rattle.conf_tree.specs.Flaw.{Flaw, key, index, here, within}
 use Rattle.conf_tree.specs.Reading.{◌>>=◌}
 use Rattle.conf_tree.specs.Walk.{HasMember, refusal}
 use Rattle.conf_tree.specs.declared.fault_kind.FaultKind.{FaultKind}
@@ -13,22 +13,23 @@ use Rattle.conf_tree.specs.declared.fault_kind.FaultKind.TheVariants.{InheritCyc
 use Rattle.conf_inherit.specs.declared.spot.Spot.{Spot}
 use Rattle.conf_inherit.specs.declared.spot.Spot.TheVariants.{Root, Trace, TraceType, Aliases, FieldType}
 use Rattle.conf_inherit.specs.Spot.{spot_under, spot_in_trace_type, spot_of_items, names_alias, names_member_type, lists_members, leads_on}
-use Rattle.conf_inherit.specs.AliasFlaws.{why_flaws, alias_flaws, all_alias_flaws}
+use Rattle.conf_inherit.specs.AliasFlaws.{alias_flaws, all_alias_flaws}
 use Rattle.conf_inherit.specs.Circle.{Walks}
-use Rattle.conf_inherit.specs.Faults.{Leads, SaysOf, Passes, FlawHolds, RefusalHolds}
-use Rattle.conf_inherit.specs.Flaws.{flaws, own_flaws, inner_flaws}
+use Rattle.conf_inherit.specs.Faults.{Passes, FlawHolds, RefusalHolds}
+use Rattle.conf_inherit.specs.Flaws.{flaws}
 use Rattle.conf_inherit.specs.Looks.{AreResolved}
 use Rattle.conf_inherit.specs.Places.{too_many, limit_flaws, place_flaws, inner_places, item_places, member_places, max_extra_members}
 use Rattle.conf_inherit.specs.Laying.{lay}
 use Rattle.conf_inherit.specs.Names.{NoClash}
-use Rattle.conf_inherit.specs.Resolution.{members_or_none, trace_name, type_name, aliases_name, aliases_of, nests, in_aliases, from_aliases, if_shallow, resolution}
+use Rattle.conf_inherit.specs.Resolution.{members_or_none, trace_name, type_name, aliases_name, aliases_of, in_aliases, from_aliases, if_shallow, resolution}
+use Rattle.conf_inherit.specs.Nesting.{nests}
 use Rattle.conf_inherit.proofs.PlaceLemmas.{place_of_type, place_of_member, place_of_list, place_of_other}
 use Rattle.conf_inherit.proofs.ResolveLemmas.{laid_resolves}
 use Rattle.conf_inherit.proofs.RoundLemmas.{rounds_resolved}
 use Rattle.conf_inherit.specs.Rounds.{Why, Outcomes, rounds, no_outcomes, has}
-use Rattle.conf_inherit.specs.Size.{settled}
+use Rattle.conf_inherit.specs.Settled.{settled}
 use Rattle.conf_inherit.proofs.CircleLemmas.{IsOpen, open_walks, LimitsHold, limits_hold}
-use Rattle.conf_inherit.proofs.FaultLemmas.{Among, among_joined, among_within, holds_in_object, holds_in_list, flaw_holds, first_or_rest, Aligned, aligned_here, aligned_next}
+use Rattle.conf_inherit.proofs.FaultLemmas.{Among, among_within, holds_in_object, holds_in_list, flaw_holds, first_or_rest, Aligned, aligned_here, aligned_next}
 use Rattle.conf_inherit.proofs.ListLemmas.{AllEntries, found_each}
 use Rattle.conf_inherit.proofs.LayingLemmas.{Meets, same, other, meets, get_same, get_other}
 

@@ -1,5 +1,5 @@
 -- The parts of a resolution together.
-use Rattle.std.proofs.Common.{◌≡◌, ◌&&◌, ◌<◌, ◌≤◌, ℕ, zero, suc, max, List, [], ◌∷◌, Option, Some, None, option_and_then, Result, Ok, Err, String, Global, Bool, true, false, true≢false, Less, refl, sym, ap, ◌∙◌, subst, string_cmp, string_bytes, arith}
+use Rattle.std.proofs.Common.{◌≡◌, ◌<◌, ◌≤◌, ℕ, zero, suc, max, List, [], ◌∷◌, Option, Some, None, option_and_then, Result, Ok, Err, String, Global, Bool, true, false, true≢false, Less, refl, sym, ap, ◌∙◌, subst, string_cmp, string_bytes, arith}
 use Rattle.std.specs.List.{AllByRecursion}
 use Rattle.std.specs.List.Sorted.{IsStrictlySortedBy}
 use Rattle.std.specs.Map.{keys_of}
@@ -15,8 +15,9 @@ use Rattle.conf_inherit.specs.AliasFlaws.{all_alias_flaws}
 use Rattle.conf_inherit.specs.Flaws.{flaws, own_flaws, inner_flaws}
 use Rattle.conf_inherit.specs.Laying.{lay}
 use Rattle.conf_inherit.specs.Looks.{Looks, AreResolved}
-use Rattle.conf_inherit.specs.Names.{AllAbove, IsInOrder, NoClash}
-use Rattle.conf_inherit.specs.Resolution.{members_or_none, trace_name, type_name, aliases_name, aliases_of, Resolves, nests, items_nest, members_nest, from_aliases, if_shallow, resolution_after, resolution_under, resolution}
+use Rattle.conf_inherit.specs.Names.{AllAbove, NoClash}
+use Rattle.conf_inherit.specs.Nesting.{nests, items_nest, members_nest}
+use Rattle.conf_inherit.specs.Resolution.{members_or_none, trace_name, type_name, aliases_name, aliases_of, Resolves, from_aliases, if_shallow, resolution_after, resolution_under, resolution}
 use Rattle.std.specs.Prelude.{⊤}
 use Rattle.conf_tree.specs.Reading.{◌>>=◌}
 use Rattle.serde_json.specs.Events.{members_len}

@@ -1,28 +1,24 @@
 -- What the rounds over the aliases leave: resolved aliases are what they are looked up as, and an alias with no
 -- outcome starts a walk as long as there were rounds.
-use Rattle.std.proofs.Common.{◌≡◌, ◌&&◌, ◌||◌, ◌++◌, ◌⊎◌, inl, inr, ℕ, zero, suc, List, [], ◌∷◌, map, Option, Some, None, Result, Ok, Err, is_some, Bool, true, false, not, true≢false, bytes_eq, refl, sym, ap, ◌∙◌, subst, cond, if◌then◌else◌}
+use Rattle.std.proofs.Common.{◌≡◌, ◌&&◌, ◌||◌, ◌⊎◌, inl, inr, ℕ, zero, suc, List, [], ◌∷◌, Option, Some, None, Result, Ok, Err, is_some, Bool, true, false, not, true≢false, bytes_eq, refl, sym, ap, ◌∙◌, subst}
 use Rattle.std.proofs.lemmas.Slice.Eq.{bytes_eq-Decides}
 use Rattle.std.specs.Map.{update}
-use Rattle.serde_json.specs.Data.{Data, null, boolean, number, string, array, object, Items, no_items, item, Members, no_members, member, put}
+use Rattle.serde_json.specs.Data.{Data, Members, no_members, member, put}
 use Rattle.serde_json.specs.Find.{get_member}
-use Rattle.serde_json.proofs.Views.{get_member-put, get_member-put_other}
+use Rattle.serde_json.proofs.Views.{get_member-put_other}
 use Rattle.conf_tree.specs.Flaw.{Flaw, key, within}
 use Rattle.conf_tree.specs.declared.fault_kind.FaultKind.{FaultKind}
-use Rattle.conf_inherit.specs.declared.spot.Spot.{Spot}
 use Rattle.conf_inherit.specs.declared.spot.Spot.TheVariants.{FieldType}
-use Rattle.conf_inherit.specs.Spot.{spot_under, spot_of_items, names_alias, names_member_type}
 use Rattle.conf_inherit.specs.AliasFlaws.{alias_flaws, all_alias_flaws}
-use Rattle.conf_inherit.specs.Circle.{Mentions, MentionsInItems, MentionsInMembers, Walks}
 use Rattle.conf_inherit.specs.Flaws.{flaws, own_flaws, inner_flaws}
-use Rattle.conf_inherit.specs.Laying.{lay}
 use Rattle.conf_inherit.specs.Looks.{Looks, AreResolved}
-use Rattle.conf_inherit.specs.Ready.{Names}
-use Rattle.conf_inherit.specs.Size.{built, measured, settled, if_built, if_small, max_made, max_levels, max_values}
-use Rattle.conf_inherit.specs.Rounds.{Why, Outcomes, all_named, all_named_in_items, all_named_in_members, has, is_over, is_empty, or_why, outcome, concluded, step, round, all_over, next_round, rounds, no_outcomes}
+use Rattle.conf_inherit.specs.Settled.{settled}
+use Rattle.conf_inherit.specs.Rounds.{Why, Outcomes, all_named, has, is_over, is_empty, or_why, outcome, concluded, step, round, all_over, next_round, rounds, no_outcomes}
 use Rattle.conf_inherit.proofs.LayingLemmas.{Meets, same, other, meets, get_other, get_same, put_found}
 use Rattle.conf_inherit.proofs.LaysOver.{lays}
 use Rattle.conf_inherit.proofs.ListLemmas.{AllEntries}
 use Rattle.conf_inherit.proofs.ReadyLemmas.{ready, part_empty, rest_empty, front_empty, back_empty, and_left, and_right}
+use Rattle.conf_inherit.proofs.SettledLemmas.{settled_value}
 use Rattle.conf_inherit.proofs.NamedLemmas.{Between, between, named, both_named}
 
 empty_flaws : (fs : List Flaw) → is_empty fs ≡ true → fs ≡ []
@@ -38,18 +34,6 @@ by_round al P st before after = go (all_over al st) refl
     go false is = rw is after
 
 -- ---- a resolved alias
-
-small_value : (r t : Data) (o : Result ℕ FaultKind) → if_small r o ≡ Ok t → r ≡ t
-small_value r t (Ok left) h = cc
-small_value r t (Err kind) h = cc
-
-built_value : (o : Result ℕ FaultKind) (v : Result Data FaultKind) (t : Data) → if_built o v ≡ Ok t → v ≡ Ok t
-built_value (Ok left) v t h = h
-built_value (Err kind) v t h = cc
-
--- what is settled is the value laid over nothing
-pub settled_value : (done : Members) (s : Spot) (v t : Data) → settled done s v ≡ Ok t → lay done s v None ≡ t
-settled_value done s v t h = small_value (lay done s v None) t (measured (lay done s v None) max_levels max_values) (built_value (built done s v max_made) (if_small (lay done s v None) (measured (lay done s v None) max_levels max_values)) t h)
 
 -- a limit is no flaw
 limit_only : (o : Result Data FaultKind) → or_why o ≡ Err None → ⊥

@@ -1,6 +1,6 @@
 -- What a refusal says: its kind holds at its path, over the configuration as it was given.
-use Rattle.std.specs.Prelude.{◌≡◌, ◌<◌, ◌++◌, ◌⊎◌, ℕ, List, [], ◌∷◌, Some, Ok, Err, true, false}
-use Rattle.serde_json.specs.Data.{Data, null, boolean, number, string, array, object, Items, no_items, item, Members, no_members, member}
+use Rattle.std.specs.Prelude.{◌≡◌, ◌<◌, ◌++◌, ◌⊎◌, ℕ, List, [], ◌∷◌, Some, Err, true, false}
+use Rattle.serde_json.specs.Data.{Data, array, object, Items, Members}
 use Rattle.serde_json.specs.Events.{items_len, members_len}
 use Rattle.serde_json.specs.Find.{get_member, get_item}
 use Rattle.conf_tree.specs.Flaw.{Flaw, Place, key, index, here}
@@ -13,8 +13,9 @@ use Rattle.conf_inherit.specs.Circle.{Walks}
 use Rattle.conf_inherit.specs.Flaws.{is_wrong, is_unknown}
 use Rattle.conf_inherit.specs.Looks.{AreResolved}
 use Rattle.conf_inherit.specs.Places.{max_extra_members}
-use Rattle.conf_inherit.specs.Resolution.{aliases_of, Resolves, nests}
-use Rattle.conf_inherit.specs.Size.{settled}
+use Rattle.conf_inherit.specs.Nesting.{nests}
+use Rattle.conf_inherit.specs.Resolution.{aliases_of, Resolves}
+use Rattle.conf_inherit.specs.Settled.{settled}
 use Rattle.conf_inherit.specs.declared.spot.Spot.TheVariants.{Root}
 
 -- the path leads from the value v at the spot s to the value w at the spot t

@@ -5,6 +5,9 @@ pub mod Laying
 pub mod Ready
 pub mod Flaws
 pub mod Size
+pub mod Nesting
+pub mod Settled
+pub mod Limits
 pub mod Rounds
 pub mod Circle
 pub mod AliasFlaws

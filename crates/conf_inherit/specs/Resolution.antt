@@ -1,8 +1,8 @@
 -- The resolution of a configuration: its aliases, and the tree in which each property has the value that is
 -- looked up for it.
-use Rattle.std.specs.Prelude.{ℕ, zero, suc, ◌&&◌, List, [], ◌∷◌, Option, None, Some, option_and_then, Bool, true, false, codes, Result, Ok, Err, ⊤, if◌then◌else◌}
-use Rattle.serde_json.specs.Data.{Data, null, boolean, number, string, array, object, Items, no_items, item, Members, no_members, member}
-use Rattle.serde_json.specs.Find.{get, get_member}
+use Rattle.std.specs.Prelude.{ℕ, List, [], ◌∷◌, Option, None, Some, option_and_then, codes, false, Result, Ok, Err, ⊤, if◌then◌else◌}
+use Rattle.serde_json.specs.Data.{Data, object, Members, no_members}
+use Rattle.serde_json.specs.Find.{get}
 use Rattle.serde_json.specs.Events.{members_len}
 use Rattle.conf_tree.specs.Flaw.{Flaw, key, here, within}
 use Rattle.conf_tree.specs.Reading.{◌>>=◌}
@@ -11,6 +11,7 @@ use Rattle.conf_tree.specs.declared.fault_kind.FaultKind.TheVariants.{TooDeep}
 use Rattle.conf_inherit.specs.AliasFlaws.{all_alias_flaws}
 use Rattle.conf_inherit.specs.Flaws.{flaws}
 use Rattle.conf_inherit.specs.Laying.{lay}
+use Rattle.conf_inherit.specs.Nesting.{nests}
 use Rattle.conf_inherit.specs.Places.{inner_places}
 use Rattle.conf_inherit.specs.Rounds.{Outcomes, rounds, no_outcomes}
 use Rattle.conf_inherit.specs.declared.spot.Spot.TheVariants.{Root}
@@ -36,26 +37,6 @@ aliases_of t = members_or_none (option_and_then (get aliases_name) (option_and_t
 -- r is t with every inheritance resolved
 abbrev pub Resolves : Data → Data → Type 0
 Resolves t r = Looks (aliases_of t) Root (t ∷ []) r
-
--- objects and lists nest at most so deep
-abbrev mutual
-  pub nests : Data → ℕ → Bool
-  nests null levels = true
-  nests (boolean b) levels = true
-  nests (number n) levels = true
-  nests (string s) levels = true
-  nests (array ds) zero = false
-  nests (array ds) (suc levels) = items_nest ds levels
-  nests (object ms) zero = false
-  nests (object ms) (suc levels) = members_nest ms levels
-
-  pub items_nest : Items → ℕ → Bool
-  items_nest no_items levels = true
-  items_nest (item d ds) levels = nests d levels && items_nest ds levels
-
-  pub members_nest : Members → ℕ → Bool
-  members_nest no_members levels = true
-  members_nest (member k d ms) levels = nests d levels && members_nest ms levels
 
 -- ---- what `resolve` answers: the first fault in walk order, the aliases before all else, or the resolved tree
 

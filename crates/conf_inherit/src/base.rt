@@ -2,7 +2,7 @@
 ghost use Rattle.std.specs.Prelude.{◌≡◌, IfOk, option_map};
 ghost use Rattle.serde_json.specs.View.{view, items_view, members_view};
 ghost use Rattle.conf_inherit.specs.Laying.{members_below, items_below, has_entry};
-ghost use Rattle.conf_inherit.specs.Names.{join_items};
+ghost use Rattle.conf_inherit.specs.Names.{join_items, properties_of};
 
 use serde_json::{Map, Value};
 use std::alloc::{AllocError, Global};
@@ -20,6 +20,17 @@ pub(crate) fn properties_below(
         }
     }
     Ok(Map::new(alloc))
+}
+
+/// The properties of a value. A value that is no object has none.
+pub(crate) fn properties_in(alloc: Global, value: Value) -> Map<String, Value>
+    ensures { members_view result.entries ≡ properties_of (view value) }
+{
+    match value {
+        Value::Object(members) => members,
+        Value::Null | Value::Bool(_) | Value::Number(_) | Value::String(_) | Value::Array(_) =>
+            Map::new(alloc),
+    }
 }
 
 /// A copy of the items that are laid over. A value that is no list has none.

@@ -1,10 +1,16 @@
 //! Laws of look-up along inheritance.
-ghost use Rattle.std.specs.Prelude.{◌≡◌, Ok, Err};
+ghost use Rattle.std.specs.Prelude.{◌≡◌, ◌↔◌, ◌⊎◌, None, Ok, Err};
 ghost use Rattle.conf_tree.specs.Flaw.{Flaw};
 ghost use Rattle.conf_inherit.specs.Faults.{RefusalHolds};
 ghost use Rattle.serde_json.specs.Data.{Data};
 ghost use Rattle.conf_inherit.specs.Resolution.{Resolves, aliases_of, resolution};
 ghost use Rattle.conf_inherit.specs.Names.{NoClash};
+ghost use Rattle.serde_json.specs.Data.{Members};
+ghost use Rattle.conf_tree.specs.declared.fault_kind.FaultKind.{FaultKind};
+ghost use Rattle.conf_inherit.specs.declared.spot.Spot.{Spot};
+ghost use Rattle.conf_inherit.specs.Laying.{lay};
+ghost use Rattle.conf_inherit.specs.Limits.{Fits, Exceeds, Inherits};
+ghost use Rattle.conf_inherit.specs.Settled.{settled};
 
 /// A configuration has at most one resolution.
 pub fn one_resolution()
@@ -19,4 +25,16 @@ pub fn resolution_exists()
 /// Where the resolution is a refusal, its kind holds at its path.
 pub fn refusal_holds()
     ensures { (t : Data) (flaw : Flaw) → NoClash (aliases_of t) → resolution t ≡ Err flaw → RefusalHolds t flaw }
+{}
+
+/// A field type is resolved exactly where it, and each type that it inherits from, is within the limits by itself.
+pub fn type_fits()
+    ensures { (done : Members) (s : Spot) (v r : Data) → settled done s v ≡ Ok r
+        ↔ ((r ≡ lay done s v None) × Fits r × ((d : Data) → Inherits d s v → Fits (lay done Spot.FieldType d None))) }
+{}
+
+/// Where a field type passes a limit, it, or a type that it inherits from, is past the limit of that kind.
+pub fn limit_is_passed()
+    ensures { (done : Members) (s : Spot) (v : Data) (kind : FaultKind) → settled done s v ≡ Err kind
+        → Exceeds kind (lay done s v None) ⊎ ((d : Data) × Inherits d s v × Exceeds kind (lay done Spot.FieldType d None)) }
 {}

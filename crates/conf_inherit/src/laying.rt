@@ -1,14 +1,16 @@
 //! Lays a value over the resolved value of what it inherits from.
-ghost use Rattle.std.specs.Prelude.{◌≡◌, string_bytes, IfOk, OnOk, MatchOption, Option, None, Some, option_map};
-ghost use Rattle.serde_json.specs.Data.{Data, object, array, Items};
+ghost use Rattle.std.specs.Prelude.{◌≡◌, string_bytes, IfOk, IfErr, OnOk, MatchOption, Option, None, Some, option_map};
+ghost use Rattle.serde_json.specs.Data.{Data, object, array, Items, no_items};
 ghost use Rattle.serde_json.specs.Find.{get, get_member};
 ghost use Rattle.serde_json.specs.View.{view, items_view, members_view};
 ghost use Rattle.conf_inherit.specs.Laying.{lay, lay_base, lay_members, lay_over, lay_over_entry, lay_over_member, lay_new, lay_new_entry, lay_new_member, lay_text, resolved, members_below, items_below};
 ghost use Rattle.conf_inherit.specs.Names.{properties_of, items_in, names_of, entries_of, join_items, map_items};
+ghost use Rattle.conf_inherit.specs.Size.{size, items_size, members_size, Within, Leaves, IsDue};
 
 use crate::Spot;
-use crate::base::{has_entry_named, items_under, join, properties_below};
+use crate::base::{has_entry_named, items_under, join, properties_below, properties_in};
 use crate::property::{property, single};
+use crate::size::{Stop, take};
 use serde_json::{Map, Value};
 use std::alloc::{AllocError, Global};
 
@@ -44,7 +46,8 @@ fn lay_name(
 }
 
 /// The value laid over `base`, the resolved value of what stands at its place there. The names of field types are
-/// those of `aliases`, which are resolved; one that is not there counts as null.
+/// those of `aliases`, which are resolved; one that is not there counts as null. Where there is a limit, the laid
+/// value holds at most so many JSON values, and laying stops as soon as a part of it holds more.
 #[cycle(laying)]
 pub(crate) fn lay(
     alloc: Global,
@@ -52,17 +55,39 @@ pub(crate) fn lay(
     value: &Value,
     base: Option<&Value>,
     aliases: &Map<String, Value>,
-) -> Result<Value, AllocError>
-    ensures { IfOk result (λ laid. view laid
+    limit: Option<usize>,
+) -> Result<Value, Stop>
+    ensures laid { IfOk result (λ laid. view laid
         ≡ lay (members_view aliases.now.entries) spot (view value.now) (option_map (λ b. view b.now) base.entry)) }
+    ensures within { IfOk result (λ laid. Within limit (size (view laid))) }
+    ensures past { IfErr result (λ stop. IsDue stop limit (size (lay (members_view aliases.now.entries) spot (view value.now) (option_map (λ b. view b.now) base.entry)))) }
+{
+    let laid = lay_value(alloc, spot, value, base, aliases, limit)?;
+    let _left = take(&laid, limit)?;
+    Ok(laid)
+}
+
+/// The value laid over the base, of parts that are each within the limit.
+#[cycle(laying)]
+fn lay_value(
+    alloc: Global,
+    spot: Spot,
+    value: &Value,
+    base: Option<&Value>,
+    aliases: &Map<String, Value>,
+    limit: Option<usize>,
+) -> Result<Value, Stop>
+    ensures laid { IfOk result (λ laid. view laid
+        ≡ lay (members_view aliases.now.entries) spot (view value.now) (option_map (λ b. view b.now) base.entry)) }
+    ensures past { IfErr result (λ stop. IsDue stop limit (size (lay (members_view aliases.now.entries) spot (view value.now) (option_map (λ b. view b.now) base.entry)))) }
 {
     match value {
         Value::Null => Ok(Value::Null),
         Value::Bool(flag) => Ok(Value::Bool(*flag)),
         Value::Number(number) => Ok(Value::Number(*number)),
-        Value::String(name) => lay_name(alloc, aliases, spot, name),
-        Value::Array(items) => lay_list(alloc, spot, items, base, aliases),
-        Value::Object(members) => lay_object(alloc, spot, members, base, aliases),
+        Value::String(name) => Ok(lay_name(alloc, aliases, spot, name)?),
+        Value::Array(items) => lay_list(alloc, spot, items, base, aliases, limit),
+        Value::Object(members) => lay_object(alloc, spot, members, base, aliases, limit),
     }
 }
 
@@ -74,57 +99,67 @@ fn lay_object(
     members: &Map<String, Value>,
     base: Option<&Value>,
     aliases: &Map<String, Value>,
-) -> Result<Value, AllocError>
-    ensures { IfOk result (λ laid. view laid
+    limit: Option<usize>,
+) -> Result<Value, Stop>
+    ensures laid { IfOk result (λ laid. view laid
         ≡ lay (members_view aliases.now.entries) spot (object (members_view members.now.entries)) (option_map (λ b. view b.now) base.entry)) }
+    ensures past { IfErr result (λ stop. IsDue stop limit (size (lay (members_view aliases.now.entries) spot (object (members_view members.now.entries)) (option_map (λ b. view b.now) base.entry)))) }
 {
-    let inherited = lay_inherited(alloc, spot, members, aliases)?;
-    let below = match &inherited {
-        Some(value) => Some(value),
-        None => base,
+    let below = match lay_inherited(alloc, spot, members, aliases)? {
+        Some(inherited) => properties_in(alloc, inherited),
+        None => properties_below(alloc, base)?,
     };
-    let laid = lay_properties(alloc, spot, members, below, aliases)?;
+    let laid = lay_properties(alloc, spot, members, below, aliases, limit)?;
     Ok(Value::Object(laid))
 }
 
-/// What an object inherits from, resolved.
+/// What an object inherits from, resolved. It is no part of what the object becomes, so the limit is not its own.
 #[cycle(laying)]
 fn lay_inherited(
     alloc: Global,
     spot: Spot,
     members: &Map<String, Value>,
     aliases: &Map<String, Value>,
-) -> Result<Option<Value>, AllocError>
-    ensures { IfOk result (λ found. MatchOption found
+) -> Result<Option<Value>, Stop>
+    ensures found { IfOk result (λ found. MatchOption found
         ((base : Option Data) → lay_base (members_view aliases.now.entries) spot (members_view members.now.entries) base ≡ base)
         (λ b. (base : Option Data) → lay_base (members_view aliases.now.entries) spot (members_view members.now.entries) base ≡ Some (view b))) }
+    ensures memory { IfErr result (λ stop. stop ≡ Stop.Memory) }
 {
     for (name, value) in members.iter() {
         if spot.is_base_name(name.as_str()) {
-            return Ok(Some(lay(alloc, Spot::FieldType, value, None, aliases)?));
+            return Ok(Some(lay(alloc, Spot::FieldType, value, None, aliases, None)?));
         }
     }
     Ok(None)
 }
 
-/// The properties of an object, each laid over the base's property of its name.
+/// The properties of an object, each laid over that of its name below.
 #[cycle(laying)]
 fn lay_properties(
     alloc: Global,
     spot: Spot,
     members: &Map<String, Value>,
-    base: Option<&Value>,
+    below: Map<String, Value>,
     aliases: &Map<String, Value>,
-) -> Result<Map<String, Value>, AllocError>
-    ensures { IfOk result (λ laid. members_view laid.entries
-        ≡ lay_members (members_view aliases.now.entries) spot (members_view members.now.entries) (members_below (option_map (λ b. view b.now) base.entry))) }
+    limit: Option<usize>,
+) -> Result<Map<String, Value>, Stop>
+    ensures laid { IfOk result (λ laid. members_view laid.entries
+        ≡ lay_members (members_view aliases.now.entries) spot (members_view members.now.entries) (members_view below.entries)) }
+    ensures past { IfErr result (λ stop. IsDue stop limit (members_size (lay_members (members_view aliases.now.entries) spot (members_view members.now.entries) (members_view below.entries)))) }
 {
-    let below = properties_below(alloc, base)?;
-    let mut laid = properties_below(alloc, base)?;
+    let mut laid = below;
     for (name, value) in members.iter().rev() {
         if !spot.is_base_name(name.as_str()) {
-            let base = property(&below, name.as_str());
-            let over = lay(alloc, spot.under(name.as_str()), value, base, aliases)?;
+            let base = property(&laid, name.as_str());
+            let over = lay(
+                alloc,
+                spot.under(name.as_str()),
+                value,
+                base,
+                aliases,
+                limit,
+            )?;
             drop(laid.insert(name.clone()?, over)?);
         }
     }
@@ -139,14 +174,16 @@ fn lay_list(
     items: &Vec<Value>,
     base: Option<&Value>,
     aliases: &Map<String, Value>,
-) -> Result<Value, AllocError>
-    ensures { IfOk result (λ laid. view laid
+    limit: Option<usize>,
+) -> Result<Value, Stop>
+    ensures laid { IfOk result (λ laid. view laid
         ≡ lay (members_view aliases.now.entries) spot (array (items_view items.now.items)) (option_map (λ b. view b.now) base.entry)) }
+    ensures past { IfErr result (λ stop. IsDue stop limit (size (lay (members_view aliases.now.entries) spot (array (items_view items.now.items)) (option_map (λ b. view b.now) base.entry)))) }
 {
     let below = items_under(alloc, base)?;
     if spot.lists_members() {
-        let mut entries = lay_over_entries(alloc, items, &below, aliases)?;
-        push_new_entries(alloc, items, &below, &mut entries, aliases)?;
+        let mut entries = lay_over_entries(alloc, items, &below, aliases, limit)?;
+        push_new_entries(alloc, items, &below, &mut entries, aliases, limit)?;
         return Ok(Value::Array(entries));
     }
     Ok(Value::Array(join(below, items)?))
@@ -159,13 +196,19 @@ fn lay_over_entries(
     own: &Vec<Value>,
     base: &Vec<Value>,
     aliases: &Map<String, Value>,
-) -> Result<Vec<Value>, AllocError>
-    ensures { IfOk result (λ v. items_view v.items
+    limit: Option<usize>,
+) -> Result<Vec<Value>, Stop>
+    ensures laid { IfOk result (λ v. items_view v.items
         ≡ map_items (λ b. lay_over (members_view aliases.now.entries) (items_view own.now.items) b) (items_view base.now.items)) }
+    ensures within { IfOk result (λ v. Within limit (items_size (items_view v.items))) }
+    ensures past { IfErr result (λ stop. IsDue stop limit (items_size (map_items (λ b. lay_over (members_view aliases.now.entries) (items_view own.now.items) b) (items_view base.now.items)))) }
 {
     let mut entries = Vec::new(alloc);
+    let mut room = limit;
     for entry in base {
-        entries.push(lay_over(alloc, own, entry, aliases)?)?;
+        let laid = lay_over(alloc, own, entry, aliases, room)?;
+        room = take(&laid, room)?;
+        entries.push(laid)?;
     }
     Ok(entries)
 }
@@ -177,16 +220,18 @@ fn lay_over(
     own: &Vec<Value>,
     entry: &Value,
     aliases: &Map<String, Value>,
-) -> Result<Value, AllocError>
-    ensures { IfOk result (λ laid. view laid
+    limit: Option<usize>,
+) -> Result<Value, Stop>
+    ensures laid { IfOk result (λ laid. view laid
         ≡ lay_over (members_view aliases.now.entries) (items_view own.now.items) (view entry.now)) }
+    ensures past { IfErr result (λ stop. IsDue stop limit (size (lay_over (members_view aliases.now.entries) (items_view own.now.items) (view entry.now)))) }
 {
     for item in own {
-        if let Some(laid) = lay_over_item(alloc, item, entry, aliases)? {
+        if let Some(laid) = lay_over_item(alloc, item, entry, aliases, limit)? {
             return Ok(laid);
         }
     }
-    entry.clone()
+    Ok(entry.clone()?)
 }
 
 /// The entry of the base, with what an item of the list has for its name over it.
@@ -196,13 +241,15 @@ fn lay_over_item(
     item: &Value,
     entry: &Value,
     aliases: &Map<String, Value>,
-) -> Result<Option<Value>, AllocError>
-    ensures { IfOk result (λ found. MatchOption found
+    limit: Option<usize>,
+) -> Result<Option<Value>, Stop>
+    ensures found { IfOk result (λ found. MatchOption found
         ((rest : Data) → lay_over_entry (members_view aliases.now.entries) (view item.now) (view entry.now) rest ≡ rest)
         (λ laid. (rest : Data) → lay_over_entry (members_view aliases.now.entries) (view item.now) (view entry.now) rest ≡ view laid)) }
+    ensures past { IfErr result (λ stop. (rest : Data) → IsDue stop limit (size (lay_over_entry (members_view aliases.now.entries) (view item.now) (view entry.now) rest))) }
 {
     match item {
-        Value::Object(members) => lay_over_entry(alloc, members, entry, aliases),
+        Value::Object(members) => lay_over_entry(alloc, members, entry, aliases, limit),
         _ => Ok(None),
     }
 }
@@ -214,14 +261,16 @@ fn lay_over_entry(
     members: &Map<String, Value>,
     entry: &Value,
     aliases: &Map<String, Value>,
-) -> Result<Option<Value>, AllocError>
-    ensures { IfOk result (λ found. MatchOption found
+    limit: Option<usize>,
+) -> Result<Option<Value>, Stop>
+    ensures found { IfOk result (λ found. MatchOption found
         ((rest : Data) → lay_over_member (members_view aliases.now.entries) (members_view members.now.entries) (view entry.now) rest ≡ rest)
         (λ laid. (rest : Data) → lay_over_member (members_view aliases.now.entries) (members_view members.now.entries) (view entry.now) rest ≡ view laid)) }
+    ensures past { IfErr result (λ stop. (rest : Data) → IsDue stop limit (size (lay_over_member (members_view aliases.now.entries) (members_view members.now.entries) (view entry.now) rest))) }
 {
     for (name, value) in members.iter() {
         if let Some(base) = entry.get(name.as_str()) {
-            let laid = lay(alloc, Spot::MemberValue, value, Some(base), aliases)?;
+            let laid = lay(alloc, Spot::MemberValue, value, Some(base), aliases, limit)?;
             return Ok(Some(single(alloc, name.clone()?, laid)?));
         }
     }
@@ -236,12 +285,16 @@ fn push_new_entries(
     base: &Vec<Value>,
     entries: &mut Vec<Value>,
     aliases: &Map<String, Value>,
-) -> Result<(), AllocError>
-    ensures { OnOk result (items_view entries.new.items
+    limit: Option<usize>,
+) -> Result<(), Stop>
+    ensures laid { OnOk result (items_view entries.new.items
         ≡ join_items (items_view entries.old.items) (lay_new (members_view aliases.now.entries) (items_view own.now.items) (items_view base.now.items))) }
+    ensures within { OnOk result (Within limit (items_size (lay_new (members_view aliases.now.entries) (items_view own.now.items) (items_view base.now.items)))) }
+    ensures past { IfErr result (λ stop. IsDue stop limit (items_size (lay_new (members_view aliases.now.entries) (items_view own.now.items) (items_view base.now.items)))) }
 {
+    let mut room = limit;
     for item in own {
-        push_new_item(alloc, item, base, entries, aliases)?;
+        room = push_new_item(alloc, item, base, entries, aliases, room)?;
     }
     Ok(())
 }
@@ -254,13 +307,16 @@ fn push_new_item(
     base: &Vec<Value>,
     entries: &mut Vec<Value>,
     aliases: &Map<String, Value>,
-) -> Result<(), AllocError>
-    ensures { OnOk result ((rest : Items) → join_items (items_view entries.new.items) rest
+    limit: Option<usize>,
+) -> Result<Option<usize>, Stop>
+    ensures laid { OnOk result ((rest : Items) → join_items (items_view entries.new.items) rest
         ≡ join_items (items_view entries.old.items) (lay_new_entry (members_view aliases.now.entries) (view item.now) (items_view base.now.items) rest)) }
+    ensures left { IfOk result (λ left. Leaves limit (items_size (lay_new_entry (members_view aliases.now.entries) (view item.now) (items_view base.now.items) no_items)) left) }
+    ensures past { IfErr result (λ stop. IsDue stop limit (items_size (lay_new_entry (members_view aliases.now.entries) (view item.now) (items_view base.now.items) no_items))) }
 {
     match item {
-        Value::Object(members) => push_new_entry(alloc, members, base, entries, aliases),
-        _ => Ok(()),
+        Value::Object(members) => push_new_entry(alloc, members, base, entries, aliases, limit),
+        _ => Ok(limit),
     }
 }
 
@@ -272,15 +328,21 @@ fn push_new_entry(
     base: &Vec<Value>,
     entries: &mut Vec<Value>,
     aliases: &Map<String, Value>,
-) -> Result<(), AllocError>
-    ensures { OnOk result ((rest : Items) → join_items (items_view entries.new.items) rest
+    limit: Option<usize>,
+) -> Result<Option<usize>, Stop>
+    ensures laid { OnOk result ((rest : Items) → join_items (items_view entries.new.items) rest
         ≡ join_items (items_view entries.old.items) (lay_new_member (members_view aliases.now.entries) (members_view members.now.entries) (items_view base.now.items) rest)) }
+    ensures left { IfOk result (λ left. Leaves limit (items_size (lay_new_member (members_view aliases.now.entries) (members_view members.now.entries) (items_view base.now.items) no_items)) left) }
+    ensures past { IfErr result (λ stop. IsDue stop limit (items_size (lay_new_member (members_view aliases.now.entries) (members_view members.now.entries) (items_view base.now.items) no_items))) }
 {
+    let mut room = limit;
     for (name, value) in members.iter() {
         if !has_entry_named(base, name.as_str()) {
-            let laid = lay(alloc, Spot::MemberValue, value, None, aliases)?;
-            entries.push(single(alloc, name.clone()?, laid)?)?;
+            let laid = lay(alloc, Spot::MemberValue, value, None, aliases, room)?;
+            let entry = single(alloc, name.clone()?, laid)?;
+            room = take(&entry, room)?;
+            entries.push(entry)?;
         }
     }
-    Ok(())
+    Ok(room)
 }

@@ -14,11 +14,12 @@ mod places;
 mod property;
 mod resolution;
 mod rounds;
+mod settled;
 mod size;
 mod spot;
 #[cfg(test)]
 mod tests;
 
-pub use law::{one_resolution, refusal_holds, resolution_exists};
+pub use law::{limit_is_passed, one_resolution, refusal_holds, resolution_exists, type_fits};
 pub use resolution::resolve;
 pub(crate) use spot::Spot;

@@ -1,7 +1,7 @@
 //! How deep objects and lists nest.
 ghost use Rattle.std.specs.Prelude.{◌≡◌};
 ghost use Rattle.serde_json.specs.View.{view, items_view, members_view};
-ghost use Rattle.conf_inherit.specs.Resolution.{nests, items_nest, members_nest};
+ghost use Rattle.conf_inherit.specs.Nesting.{nests, items_nest, members_nest};
 
 use serde_json::{Map, Value};
 

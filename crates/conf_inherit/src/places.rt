@@ -6,12 +6,12 @@ ghost use Rattle.serde_json.specs.View.{view, items_view, members_view};
 ghost use Rattle.conf_tree.specs.Reading.{Gives};
 ghost use Rattle.conf_tree.specs.Walk.{refusal};
 ghost use Rattle.conf_inherit.specs.Flaws.{flaws};
-ghost use Rattle.conf_inherit.specs.Size.{settled};
+ghost use Rattle.conf_inherit.specs.Settled.{settled};
 ghost use Rattle.conf_inherit.specs.Places.{too_many, limit_flaws, place_flaws, inner_places, item_places, member_places};
 
 use crate::Spot;
 use crate::flaws::check_flaws;
-use crate::size::settle;
+use crate::settled::settle;
 use conf_tree::{ConfFault, FaultKind};
 use serde_json::{Map, Value};
 use std::alloc::Global;

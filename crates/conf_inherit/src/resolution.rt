@@ -21,6 +21,7 @@ use crate::nesting::nests;
 use crate::outcomes::AliasOutcomes;
 use crate::places::{check_places, check_value};
 use crate::rounds::settle_aliases;
+use crate::size::Stop;
 use conf_tree::{ConfFault, FaultKind, Tree};
 use serde_json::{Map, Value};
 use std::alloc::Global;
@@ -79,18 +80,20 @@ fn check_all_aliases(
     Ok(())
 }
 
-/// The resolved configuration, unless it nests too deep.
+/// The resolved configuration, unless it nests too deep. Each field type in it is within the limits, so none holds
+/// for the whole.
 fn lay_all(alloc: Global, value: &Value, outcomes: &AliasOutcomes) -> Result<Value, ConfFault>
     ensures first { Gives view result (if_shallow (lay (outcomes_of outcomes.now).done Spot.Root (view value.now) None)) }
 {
-    match lay(alloc, Spot::Root, value, None, &outcomes.resolved) {
+    match lay(alloc, Spot::Root, value, None, &outcomes.resolved, None) {
         Ok(resolved) => {
             if !nests(&resolved, 32) {
                 return Err(ConfFault::here(FaultKind::TooDeep));
             }
             Ok(resolved)
         }
-        Err(_) => Err(ConfFault::here(FaultKind::OutOfMemory)),
+        Err(Stop::Memory) => Err(ConfFault::here(FaultKind::OutOfMemory)),
+        Err(Stop::Limit) => unreachable!(),
     }
 }
 

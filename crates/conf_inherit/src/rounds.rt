@@ -14,7 +14,7 @@ use crate::asked::Asked;
 use crate::flaws::check_flaws;
 use crate::named::all_named;
 use crate::outcomes::AliasOutcomes;
-use crate::size::settle;
+use crate::settled::settle;
 use conf_tree::{ConfFault, FaultKind};
 use serde_json::{Map, Value};
 use std::alloc::Global;

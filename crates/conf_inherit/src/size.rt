@@ -1,172 +1,87 @@
-//! How much a resolved type may hold: values, and levels of objects and lists.
-ghost use Rattle.std.specs.Prelude.{◌≡◌, Ok, Err, IfOk, MatchResult};
+//! How many JSON values a value holds, counted as far as a limit.
+ghost use Rattle.std.specs.Prelude.{◌≡◌, ◌+◌, ◌<◌, IfOk, IfErr, MatchOption};
 ghost use Rattle.serde_json.specs.View.{view, items_view, members_view};
-ghost use Rattle.conf_inherit.specs.Size.{take_one, measured, measured_items, measured_members, built, built_name, built_items, built_members, settled};
+ghost use Rattle.conf_inherit.specs.Size.{size, items_size, members_size, Past, Leaves};
 
-use crate::Spot;
-use crate::laying::lay;
-use crate::property::property;
-use conf_tree::FaultKind;
 use serde_json::{Map, Value};
-use std::alloc::{AllocError, Global};
+use std::alloc::{AllocError, AllocFailed};
 
-/// The most JSON values of one resolved field type.
-const MAX_VALUES: usize = 4096;
-
-/// The most JSON values that one field type is built of, those counted that others replace.
-const MAX_BUILT: usize = 65536;
-
-/// The most levels of objects and lists.
-const MAX_LEVELS: usize = 32;
-
-/// One value is taken of the room.
-fn take_one(room: usize) -> Result<usize, FaultKind>
-    ensures { result ≡ take_one room }
-{
-    if room == 0 {
-        return Err(FaultKind::Limit);
-    }
-    Ok(room - 1)
+/// Why a value is not laid.
+#[derive(Clone, Copy, Debug)]
+pub(crate) enum Stop {
+    /// Memory ran out.
+    Memory,
+    /// It holds more JSON values than it may.
+    Limit,
 }
 
-/// The room that a value leaves where so many levels may nest, or the limit that it passes.
-#[cycle(measure)]
-pub(crate) fn measure(value: &Value, levels: usize, room: usize) -> Result<usize, FaultKind>
-    ensures { result ≡ measured (view value.now) levels room }
+impl From<AllocError> for Stop {
+    ghost use Rattle.std.specs.Prelude.{◌≡◌};
+    ghost use Rattle.conf_inherit.specs.declared.size.Stop.TheVariants.{Memory};
+
+    ghost from_gives = { λ _ e. e ≡ Memory };
+
+    fn from(_error: AllocError) -> Stop {
+        Stop::Memory
+    }
+}
+
+impl<T: Drop> From<AllocFailed<T>> for Stop {
+    ghost use Rattle.std.specs.Prelude.{◌≡◌};
+    ghost use Rattle.conf_inherit.specs.declared.size.Stop.TheVariants.{Memory};
+
+    ghost from_gives = { λ _ e. e ≡ Memory };
+
+    fn from(_error: AllocFailed<T>) -> Stop {
+        Stop::Memory
+    }
+}
+
+/// What a limit leaves once the values of a value are counted, where there is a limit.
+pub(crate) fn take(value: &Value, limit: Option<usize>) -> Result<Option<usize>, Stop>
+    ensures left { IfOk result (λ left. Leaves limit (size (view value.now)) left) }
+    ensures past { IfErr result (λ stop. (stop ≡ Stop.Limit) × Past limit (size (view value.now))) }
 {
+    let Some(limit) = limit else { return Ok(None) };
+    match count(value, limit) {
+        Some(left) => Ok(Some(left)),
+        None => Err(Stop::Limit),
+    }
+}
+
+/// What is left of so many values once those of a value are counted, or nothing where it has more.
+#[cycle(count)]
+pub(crate) fn count(value: &Value, limit: usize) -> Option<usize>
+    ensures { MatchOption result (limit < size (view value.now)) (λ left. limit ≡ left + size (view value.now)) }
+{
+    if limit == 0 {
+        return None;
+    }
     match value {
-        Value::Null | Value::Bool(_) | Value::Number(_) | Value::String(_) => take_one(room),
-        Value::Array(items) => {
-            if levels == 0 {
-                return Err(FaultKind::TooDeep);
-            }
-            if room == 0 {
-                return Err(FaultKind::Limit);
-            }
-            measure_items(items, levels - 1, room - 1)
-        }
-        Value::Object(members) => {
-            if levels == 0 {
-                return Err(FaultKind::TooDeep);
-            }
-            if room == 0 {
-                return Err(FaultKind::Limit);
-            }
-            measure_members(members, levels - 1, room - 1)
-        }
+        Value::Null | Value::Bool(_) | Value::Number(_) | Value::String(_) => Some(limit - 1),
+        Value::Array(items) => count_items(items, limit - 1),
+        Value::Object(members) => count_members(members, limit - 1),
     }
 }
 
-#[cycle(measure)]
-fn measure_items(items: &Vec<Value>, levels: usize, room: usize) -> Result<usize, FaultKind>
-    ensures { result ≡ measured_items (items_view items.now.items) levels room }
+#[cycle(count)]
+fn count_items(items: &Vec<Value>, limit: usize) -> Option<usize>
+    ensures { MatchOption result (limit < items_size (items_view items.now.items)) (λ left. limit ≡ left + items_size (items_view items.now.items)) }
 {
-    let mut left = room;
+    let mut left = limit;
     for item in items {
-        left = measure(item, levels, left)?;
+        left = count(item, left)?;
     }
-    Ok(left)
+    Some(left)
 }
 
-#[cycle(measure)]
-fn measure_members(
-    members: &Map<String, Value>,
-    levels: usize,
-    room: usize,
-) -> Result<usize, FaultKind>
-    ensures { result ≡ measured_members (members_view members.now.entries) levels room }
+#[cycle(count)]
+fn count_members(members: &Map<String, Value>, limit: usize) -> Option<usize>
+    ensures { MatchOption result (limit < members_size (members_view members.now.entries)) (λ left. limit ≡ left + members_size (members_view members.now.entries)) }
 {
-    let mut left = room;
+    let mut left = limit;
     for (_name, member) in members.iter() {
-        left = measure(member, levels, left)?;
+        left = count(member, left)?;
     }
-    Ok(left)
-}
-
-/// The room that is left once a value is built of itself and a copy of each alias that it names.
-#[cycle(build)]
-pub(crate) fn build(
-    value: &Value,
-    spot: Spot,
-    room: usize,
-    aliases: &Map<String, Value>,
-) -> Result<usize, FaultKind>
-    ensures { result ≡ built (members_view aliases.now.entries) spot (view value.now) room }
-{
-    match value {
-        Value::Null | Value::Bool(_) | Value::Number(_) => take_one(room),
-        Value::String(name) => build_name(name.as_str(), spot, room, aliases),
-        Value::Array(items) => build_items(items, spot.of_items(), take_one(room)?, aliases),
-        Value::Object(members) => build_members(members, spot, take_one(room)?, aliases),
-    }
-}
-
-/// The room that a text leaves, or the alias that it names.
-fn build_name(
-    name: &str,
-    spot: Spot,
-    room: usize,
-    aliases: &Map<String, Value>,
-) -> Result<usize, FaultKind>
-    ensures { result ≡ built_name (members_view aliases.now.entries) spot name.now room }
-{
-    if spot.names_alias() || spot.names_member_type() {
-        if let Some(alias) = property(aliases, name) {
-            return measure(alias, MAX_LEVELS, room);
-        }
-    }
-    take_one(room)
-}
-
-#[cycle(build)]
-fn build_items(
-    items: &Vec<Value>,
-    spot: Spot,
-    room: usize,
-    aliases: &Map<String, Value>,
-) -> Result<usize, FaultKind>
-    ensures { result ≡ built_items (members_view aliases.now.entries) spot (items_view items.now.items) room }
-{
-    let mut left = room;
-    for item in items {
-        left = build(item, spot, left, aliases)?;
-    }
-    Ok(left)
-}
-
-#[cycle(build)]
-fn build_members(
-    members: &Map<String, Value>,
-    spot: Spot,
-    room: usize,
-    aliases: &Map<String, Value>,
-) -> Result<usize, FaultKind>
-    ensures { result ≡ built_members (members_view aliases.now.entries) spot (members_view members.now.entries) room }
-{
-    let mut left = room;
-    for (name, member) in members.iter() {
-        left = build(member, spot.under(name.as_str()), left, aliases)?;
-    }
-    Ok(left)
-}
-
-/// The type resolved, or the limit that it passes.
-pub(crate) fn settle(
-    alloc: Global,
-    value: &Value,
-    spot: Spot,
-    aliases: &Map<String, Value>,
-) -> Result<Result<Value, FaultKind>, AllocError>
-    ensures { IfOk result (λ answer. MatchResult answer
-        (λ resolved. settled (members_view aliases.now.entries) spot (view value.now) ≡ Ok (view resolved))
-        (λ kind. settled (members_view aliases.now.entries) spot (view value.now) ≡ Err kind)) }
-{
-    if let Err(kind) = build(value, spot, MAX_BUILT, aliases) {
-        return Ok(Err(kind));
-    }
-    let resolved = lay(alloc, spot, value, None, aliases)?;
-    if let Err(kind) = measure(&resolved, MAX_LEVELS, MAX_VALUES) {
-        return Ok(Err(kind));
-    }
-    Ok(Ok(resolved))
+    Some(left)
 }

@@ -127,3 +127,135 @@ fn ends_soon_on_heavy_aliases(rt: HostRuntime) -> Result<(), Fail> {
     );
     Ok(())
 }
+
+/// An alias of a list of so many numbers: that many JSON values, and two more.
+fn heavy_alias(alloc: Global, name: &str, numbers: u32) -> Result<String, AllocError> {
+    let mut alias = format!(in alloc; "\"{name}\":{{\"list\":[0")?;
+    for _number in 1..numbers {
+        alias.push_str(",0")?;
+    }
+    alias.push_str("]}")?;
+    Ok(alias)
+}
+
+/// A structure of so many members of this type.
+fn structure(alloc: Global, count: u32, member: &str) -> Result<String, AllocError> {
+    let mut text = String::from_str(alloc, "{\"members\":[{\"m0\":")?;
+    text.push_str(member)?;
+    for i in 1..count {
+        let entry = format!(in alloc; "}},{{\"m{i}\":{member}")?;
+        text.push_str(entry.as_str())?;
+    }
+    text.push_str("}]}")?;
+    Ok(text)
+}
+
+/// What is said of the payload once the aliases are resolved: `ok`, or the place that is refused and why.
+fn judged(alloc: Global, aliases: &str, payload: &str) -> Result<String, AllocError> {
+    let text = configuration(alloc, aliases, payload)?;
+    match read_tree(alloc, text.as_str().as_bytes()) {
+        Ok(tree) => match resolve(alloc, tree) {
+            Ok(_) => String::from_str(alloc, "ok"),
+            Err(fault) => format!(in alloc; "{fault}"),
+        },
+        Err(fault) => format!(in alloc; "{fault}"),
+    }
+}
+
+/// Where the payload of a configuration stands.
+const PAYLOAD: &str = "trace/type/data-stream-types/s/event-record-types/e/payload-field-type";
+
+#[test]
+fn counts_what_is_left_of_a_type(rt: HostRuntime) -> Result<(), Fail> {
+    let alloc = rt.alloc();
+    let big = heavy_alias(alloc, "big", 3998)?;
+    let layers = structure(
+        alloc,
+        17,
+        "{\"field-type\":{\"$inherit\":\"big\",\"list\":null}}",
+    )?;
+    let opened = "[".repeat(alloc, 25)?;
+    let closed = "]".repeat(alloc, 25)?;
+    let deep = format!(in alloc; "\"deep\":{{\"list\":{opened}1{closed}}}")?;
+    let past = format!(in alloc;
+        "{PAYLOAD}: past a limit of size: expected fewer or smaller parts"
+    )?;
+    let too_deep = format!(in alloc;
+        "{PAYLOAD}: nested too deep: expected at most 32 levels of objects and lists"
+    )?;
+    let rows = [
+        (
+            "seventeen heavy layers, each replaced",
+            big.as_str(),
+            layers.as_str(),
+            "ok",
+        ),
+        (
+            "two heavy members, replaced together",
+            big.as_str(),
+            "{\"$inherit\":{\"members\":[{\"a\":\"big\"},{\"b\":\"big\"}]},\"members\":null}",
+            past.as_str(),
+        ),
+        (
+            "33 levels, replaced",
+            deep.as_str(),
+            "{\"$inherit\":{\"field-type\":{\"field-type\":{\"field-type\":{\"field-type\":{\"field-type\":{\"field-type\":{\"field-type\":\"deep\"}}}}}}},\"field-type\":null}",
+            too_deep.as_str(),
+        ),
+        (
+            "32 levels, replaced",
+            deep.as_str(),
+            "{\"$inherit\":{\"field-type\":{\"field-type\":{\"field-type\":{\"field-type\":{\"field-type\":{\"field-type\":\"deep\"}}}}}},\"field-type\":null}",
+            "ok",
+        ),
+    ];
+    for (row, aliases, payload, expected) in rows {
+        let answer = judged(alloc, aliases, payload)?;
+        assert_eq!(rt; answer.as_str(), expected, "{row}");
+    }
+    Ok(())
+}
+
+#[test]
+fn takes_as_many_values_as_a_type_may_hold(rt: HostRuntime) -> Result<(), Fail> {
+    let alloc = rt.alloc();
+    let full = heavy_alias(alloc, "a", 4094)?;
+    let over = heavy_alias(alloc, "a", 4095)?;
+    let rows = [
+        (full.as_str(), "ok"),
+        (
+            over.as_str(),
+            "trace/type/$field-type-aliases/a: past a limit of size: expected fewer or smaller parts",
+        ),
+    ];
+    for (aliases, expected) in rows {
+        let answer = judged(alloc, aliases, "{}")?;
+        assert_eq!(rt; answer.as_str(), expected, "{aliases}");
+    }
+    Ok(())
+}
+
+#[test]
+fn ends_soon_on_heavy_heirs(rt: HostRuntime) -> Result<(), Fail> {
+    let alloc = rt.alloc();
+    let big = heavy_alias(alloc, "big", 3998)?;
+    let many = structure(alloc, 4000, "{\"$inherit\":\"big\"}")?;
+    let opened = "{\"$inherit\":".repeat(alloc, 19)?;
+    let closed = "}".repeat(alloc, 19)?;
+    let heir = format!(in alloc;
+        "{{\"field-type\":{{\"$inherit\":{opened}\"big\"{closed},\"list\":null}}}}"
+    )?;
+    let chains = structure(alloc, 300, heir.as_str())?;
+    let past = format!(in alloc;
+        "{PAYLOAD}: past a limit of size: expected fewer or smaller parts"
+    )?;
+    let rows = [
+        ("many heirs", many.as_str(), past.as_str()),
+        ("long chains", chains.as_str(), "ok"),
+    ];
+    for (row, payload, expected) in rows {
+        let answer = judged(alloc, big.as_str(), payload)?;
+        assert_eq!(rt; answer.as_str(), expected, "{row}");
+    }
+    Ok(())
+}

@@ -1,4 +1,5 @@
 -- An element nests less deep than its array: what lets a function go down a field type.
+-- It is a lemma and stands here because the type itself cites it, which may cite `specs` alone.
 use Rattle.std.specs.Prelude.{◌≤◌, length}
 use Rattle.std.proofs.Common.{arith}
 use Rattle.ctf_types.specs.declared.field_type.FieldType.{FieldType}

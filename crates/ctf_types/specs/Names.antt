@@ -1,4 +1,4 @@
--- Names and texts: which of them a configuration and metadata allow (CTF 1.8.3, section 7.3.2, "Identifiers" and "Keywords"; barectf 3.1, "Configuration object").
+-- Names and texts: which of them a configuration and metadata allow (CTF 1.8.3, appendix C.1.2, "Keywords", and C.1.3, "Identifiers"; barectf 3.1, "Configuration object").
 -- A text is its bytes in UTF-8.
 use Rattle.std.specs.Prelude.{◌≡◌, ℕ, ◌≤◌, List, [], ◌∷◌, Bool, false, IsTrue, ◌&&◌, ◌||◌, nat_le, nat_eq, length, codes}
 use Rattle.std.specs.List.{list_all, list_any}

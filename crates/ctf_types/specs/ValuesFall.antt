@@ -1,4 +1,5 @@
 -- Each value of a list nests less deep than the list: what lets a function go down a value.
+-- It is a lemma and stands here because the type itself cites it, which may cite `specs` alone.
 use Rattle.std.specs.Prelude.{◌≤◌, List, [], ◌∷◌}
 use Rattle.std.proofs.Common.{arith}
 use Rattle.ctf_types.specs.declared.value.Value.{Value}

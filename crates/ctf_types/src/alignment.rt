@@ -8,7 +8,7 @@ ghost use Rattle.ctf_types.specs.Layout.{leaf_align, member_align, struct_align}
 use crate::{FieldType, Length, MemberType, StructType};
 
 /// The length of the longest packet, in bits: no position is past it.
-pub(crate) const LONGEST_PACKET: u64 = 8_388_608;
+pub const LONGEST_PACKET: u64 = 8_388_608;
 
 /// The alignment of a structure in bits: the largest of its minimum alignment and its members'.
 pub fn align_of(structure: &StructType) -> u32
@@ -35,7 +35,7 @@ fn align_of_member(member: &MemberType) -> u32
 }
 
 /// The alignment of a field in bits: an array has its element's, also when it is empty.
-pub(crate) fn align_of_field(field: &FieldType) -> u32
+pub fn align_of_field(field: &FieldType) -> u32
     ensures is { result ≡ leaf_align (chain_of field.now).leaf }
     ensures alignment { IsAlignment result }
 {

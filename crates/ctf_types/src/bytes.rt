@@ -1,6 +1,6 @@
 //! A byte string that a tracing call hands over or a reader shows.
 
-ghost use Rattle.std.specs.Prelude.{◌≡◌, ◌+◌, ◌↔◌, ◌++◌, ℕ, List, [], length, IfOk, OnOk, OnErr, IsTrue};
+ghost use Rattle.std.specs.Prelude.{◌≡◌, ◌+◌, ◌≤◌, ◌↔◌, ◌++◌, ℕ, List, [], length, IfOk, OnOk, OnErr, IsTrue};
 ghost use Rattle.std.specs.Bool.{OnTrue, OnFalse};
 
 use std::alloc::{AllocError, Global};
@@ -21,6 +21,7 @@ impl Model for Bytes {
 }
 
 impl Bytes {
+    /// No bytes. It takes no memory.
     pub fn new(alloc: Global) -> Bytes
         ensures { result ≡ [] }
     {
@@ -29,12 +30,14 @@ impl Bytes {
         }
     }
 
+    /// The bytes of this vector, with its capacity. It takes no memory.
     pub fn from_vec(bytes: Vec<u8>) -> Bytes
         ensures { result ≡ bytes.items }
     {
         Bytes { bytes }
     }
 
+    /// A copy of these bytes in memory of its own.
     pub fn from_slice(alloc: Global, bytes: &[u8]) -> Result<Bytes, AllocError>
         ensures { IfOk result (λ b. b ≡ bytes.now) }
     {
@@ -43,6 +46,7 @@ impl Bytes {
         })
     }
 
+    /// The bytes as a vector, with their capacity. It takes no memory.
     pub fn into_vec(self) -> Vec<u8>
         ensures { result.items ≡ self }
     {
@@ -50,18 +54,21 @@ impl Bytes {
         bytes
     }
 
+    /// The bytes, in their order.
     pub fn as_slice(&self) -> &[u8]
         ensures { result.now ≡ self.now }
     {
         self.bytes.as_slice()
     }
 
+    /// The number of bytes, without the zero byte that ends them in a packet.
     pub fn len(&self) -> usize
         ensures { result ≡ length self.now }
     {
         self.bytes.len()
     }
 
+    /// Whether there is no byte.
     pub fn is_empty(&self) -> bool
         ensures { IsTrue result ↔ (self.now ≡ []) }
     {
@@ -91,10 +98,11 @@ impl Bytes {
     }
 
     /// Puts these bytes in the place of all that is held, within the capacity: it never takes memory.
-    /// The answer is false where they have no room.
+    /// The answer is false where they have no room: bytes that are no more than those that are held always have it.
     pub fn refill(&mut self, bytes: &[u8]) -> bool
         ensures filled { OnTrue result (self.new ≡ bytes.now) }
         ensures no_room { OnFalse result (self.new ≡ self.old) }
+        ensures has_room { length bytes.now ≤ length self.old → IsTrue result }
     {
         if self.bytes.capacity() < bytes.len() {
             return false;

@@ -12,7 +12,7 @@ pub enum EnvironmentValue {
     Text(Text),
 }
 
-/// A fact about the traced system, by name (CTF 1.8.3, section 7.1, "env").
+/// A fact about the traced system, by name (CTF 1.8.3, section 7, the block `env`).
 #[derive(Debug, Drop)]
 pub struct EnvironmentEntry {
     pub name: Text,

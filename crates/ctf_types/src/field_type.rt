@@ -73,12 +73,14 @@ impl Element {
         })
     }
 
+    /// The element type in this box. It takes no memory.
     pub fn from_box(inner: Box<FieldType>) -> Element
         ensures { result ≡ chain_of inner.value }
     {
         Element { inner }
     }
 
+    /// The element type as a box, without a copy.
     pub fn into_box(self) -> Box<FieldType>
         ensures { chain_of result.value ≡ self }
     {
@@ -86,6 +88,7 @@ impl Element {
         inner
     }
 
+    /// The type of an element; of an array of arrays, that of the inner array.
     pub fn field_type(&self) -> &FieldType
         ensures { chain_of result.now ≡ self.now }
     {

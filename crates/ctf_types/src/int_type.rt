@@ -6,7 +6,7 @@ ghost use Rattle.ctf_types.specs.Alignment.{IsAlignment};
 use crate::{Base, Duplicate, Text};
 use std::alloc::{AllocError, Global};
 
-/// An integer of 1 to 64 bits (CTF 1.8.3, section 4.1.2).
+/// An integer of 1 to 64 bits (CTF 1.8.3, section 4.1.5).
 ///
 /// The size and the alignment are in bits. The alignment is a power of two up to 4,096: a divisor of 4,096.
 /// A mapped integer carries values of the clock type of that name.

@@ -1,11 +1,20 @@
 //! Laws of the layout: what holds of all values, structures and bits. The functions do nothing; their contracts are the laws.
 
-ghost use Rattle.ctf_types.specs.Laws.{OneValue, OnePacket, OnePacketList, FrontOfFile, LyingFits, OwnBits, OwnZeros, OwnPacketBits, CleanIsLying, ShownLies, ShownLieClean, ShownEnd, AllowedStaysAllowed};
+ghost use Rattle.ctf_types.specs.Laws.{OneFieldEnd, OneStructEnd, OneRecord, OneFieldValue, OneValue, OnePacket, OnePacketList, FrontOfFile, LyingFits, OwnBits, OwnZeros, OwnPacketBits, CleanIsLying, ShownLies, ShownLieClean, ShownEnd, AllowedStaysAllowed};
 
-/// In given bits a structure has at most one list of values at a place: what a reader finds there is what was written.
+/// In given bits a field has at most one value at a place, and a structure one list of values: what a reader finds there is what was written.
 pub fn one_value()
+    ensures of_a_field { OneFieldValue }
     ensures of_a_structure { OneValue }
     ensures of_a_packet { OnePacket }
+{}
+
+/// A value that lies from one position on, of a field or of a structure, ends at one position, in whatever bits it lies.
+/// Two records that lie from one position in the same bits are of one event, with the same values and one end.
+pub fn one_end()
+    ensures of_a_field { OneFieldEnd }
+    ensures of_a_structure { OneStructEnd }
+    ensures of_a_record { OneRecord }
 {}
 
 /// The bytes of a stream file are at most one list of packets. A file that is cut off holds the first of them.

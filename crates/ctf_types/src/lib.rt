@@ -28,7 +28,7 @@ mod tests;
 mod text;
 mod value;
 
-pub use alignment::align_of;
+pub use alignment::{LONGEST_PACKET, align_of, align_of_field};
 pub use arg_fault::ArgFault;
 pub use args::Args;
 pub use base::Base;
@@ -43,7 +43,7 @@ pub use field_type::{Element, FieldType};
 pub use fitting::{call_faults, fits};
 pub use int_type::IntType;
 pub use laws::{
-    allowed_metadata, lying_fits, one_packet_list, one_value, own_bits_alone, shown_lies,
+    allowed_metadata, lying_fits, one_end, one_packet_list, one_value, own_bits_alone, shown_lies,
 };
 pub use list_of::{Duplicate, ListOf};
 pub use member_type::{Length, MemberType};

@@ -30,6 +30,7 @@ impl<T> Model for ListOf<T> {
 }
 
 impl<T> ListOf<T> {
+    /// No parts. It takes no memory.
     pub fn new(alloc: Global) -> ListOf<T>
         ensures { result ≡ [] }
     {
@@ -38,12 +39,14 @@ impl<T> ListOf<T> {
         }
     }
 
+    /// The parts of this vector, in its order. It takes no memory.
     pub fn from_vec(items: Vec<T>) -> ListOf<T>
         ensures { result ≡ items.items }
     {
         ListOf { items }
     }
 
+    /// The parts as a vector, in their order. It takes no memory.
     pub fn into_vec(self) -> Vec<T>
         ensures { result.items ≡ self }
     {
@@ -51,24 +54,28 @@ impl<T> ListOf<T> {
         items
     }
 
+    /// The parts, in their order.
     pub fn as_slice(&self) -> &[T]
         ensures { result.now ≡ self.now }
     {
         self.items.as_slice()
     }
 
+    /// The number of parts.
     pub fn len(&self) -> usize
         ensures { result ≡ length self.now }
     {
         self.items.len()
     }
 
+    /// Whether there is no part.
     pub fn is_empty(&self) -> bool
         ensures { IsTrue result ↔ (self.now ≡ []) }
     {
         self.items.is_empty()
     }
 
+    /// The part at this index, from 0 on. None where the list ends before it.
     pub fn get(&self, index: usize) -> Option<&T>
         ensures { option_copied result ≡ slice_get self.now index }
     {

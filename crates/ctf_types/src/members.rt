@@ -28,6 +28,7 @@ impl Model for Members {
 }
 
 impl Members {
+    /// No members. It takes no memory.
     pub fn new(alloc: Global) -> Members
         ensures { result ≡ [] }
     {
@@ -45,12 +46,14 @@ impl Members {
         })
     }
 
+    /// The members of this map, in its order. It takes no memory.
     pub fn from_map(members: IndexMap<String, MemberType>) -> Members
         ensures { result ≡ named_members members.entries }
     {
         Members { members }
     }
 
+    /// The members as a map from names, in their order. It takes no memory.
     pub fn into_map(self) -> IndexMap<String, MemberType>
         ensures { named_members result.entries ≡ self }
     {
@@ -58,6 +61,7 @@ impl Members {
         members
     }
 
+    /// The number of members.
     pub fn len(&self) -> usize
         ensures len { result ≡ length self.now }
         ensures distinct { IsDistinct bytes_eq (names_in self.now) }
@@ -65,13 +69,14 @@ impl Members {
         self.members.len()
     }
 
+    /// Whether there is no member.
     pub fn is_empty(&self) -> bool
         ensures { IsTrue result ↔ (self.now ≡ []) }
     {
         self.members.is_empty()
     }
 
-    /// The name and the type of the member at this index.
+    /// The name and the type of the member at this index, from 0 on. None where there are no more members.
     pub fn get(&self, index: usize) -> Option<(&str, &MemberType)>
         ensures { option_map (λ m. (m.0.now, m.1.now)) result ≡ slice_get self.now index }
     {
@@ -86,7 +91,7 @@ impl Members {
         self.members.contains_key(name)
     }
 
-    /// The index of the member of this name.
+    /// The index of the member of this name, from 0 on. None where no member has it.
     pub fn index_of(&self, name: &str) -> Option<usize>
         ensures { result ≡ position (bytes_eq name.now) (names_in self.now) }
     {

@@ -1,5 +1,9 @@
 //! Worked rows, and each call once with ample memory.
 
+mod containers;
+mod copies;
+mod refills;
+
 use crate::{
     ArgFault, Args, Base, ByteOrder, Bytes, Config, ContextFeatures, Duplicate, Element,
     EventFeatures, EventType, FieldType, HeaderFeatures, IntType, ListOf, MemberType, Members,
@@ -160,17 +164,6 @@ fn configuration(alloc: Global) -> Result<Config, Fail> {
         },
         streams,
     })
-}
-
-#[test]
-fn copies_a_list(rt: HostRuntime) -> Result<(), Fail> {
-    let alloc = rt.alloc();
-    let mut values = Values::new(alloc);
-    values.push(Value::Unsigned(1))?;
-    values.push(text(alloc, b"a")?)?;
-    let copied = Value::List(values).copy(alloc)?;
-    assert_eq!(rt; copied.as_list().ok_or("no list")?.len(), 2);
-    Ok(())
 }
 
 #[test]

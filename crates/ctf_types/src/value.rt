@@ -1,6 +1,6 @@
 //! The values of fields.
 
-ghost use Rattle.std.specs.Prelude.{◌≡◌, ◌<◌, ◌↔◌, ◌++◌, ◌∷◌, [], ℕ, Some, length, map, slice_get, slice_set, option_map, IfOk, IfErr, OnOk, OnErr, IsTrue};
+ghost use Rattle.std.specs.Prelude.{◌≡◌, ◌<◌, ◌≤◌, ◌↔◌, ◌++◌, ◌∷◌, [], ℕ, List, Some, length, map, slice_get, slice_set, option_map, IfOk, IfErr, OnOk, OnErr, IsTrue};
 ghost use Rattle.std.specs.Bool.{OnTrue, OnFalse};
 ghost use Rattle.ctf_types.specs.Datum as datum;
 ghost use Rattle.ctf_types.specs.Faults.{list_in};
@@ -81,6 +81,7 @@ impl Value {
 }
 
 impl Values {
+    /// No values. It takes no memory.
     pub fn new(alloc: Global) -> Values
         ensures { result ≡ [] }
     {
@@ -89,12 +90,14 @@ impl Values {
         }
     }
 
+    /// The values of this vector, with its capacity. It takes no memory.
     pub fn from_vec(items: Vec<Value>) -> Values
         ensures { result ≡ data_of items.items }
     {
         Values { items }
     }
 
+    /// The values as a vector, with their capacity. It takes no memory.
     pub fn into_vec(self) -> Vec<Value>
         ensures { data_of result.items ≡ self }
     {
@@ -102,24 +105,28 @@ impl Values {
         items
     }
 
+    /// The values, in their order.
     pub fn as_slice(&self) -> &[Value]
         ensures { data_of result.now ≡ self.now }
     {
         self.items.as_slice()
     }
 
+    /// The number of values; a list counts as one.
     pub fn len(&self) -> usize
         ensures { result ≡ length self.now }
     {
         self.items.len()
     }
 
+    /// Whether there is no value.
     pub fn is_empty(&self) -> bool
         ensures { IsTrue result ↔ (self.now ≡ []) }
     {
         self.items.is_empty()
     }
 
+    /// The value at this index, from 0 on. None where there are no more values.
     pub fn get(&self, index: usize) -> Option<&Value>
         ensures { option_map (λ v. datum_of v.now) result ≡ slice_get self.now index }
     {
@@ -161,11 +168,13 @@ impl Values {
     }
 
     /// Puts these bytes in the place of a text's, within its capacity: it never takes memory.
-    /// The answer is false where the value is no text or has no room.
+    /// The answer is false where the value is no text, or has no room: bytes that are no more than the text's always have it.
     pub fn refill_text(&mut self, index: usize, bytes: &[u8]) -> bool
         requires { index < length self.old }
         ensures filled { OnTrue result (self.new ≡ slice_set self.old index (datum.Text bytes.now)) }
         ensures no_room { OnFalse result (self.new ≡ self.old) }
+        ensures has_room { (held : List ℕ) → slice_get self.old index ≡ Some (datum.Text held) → length bytes.now ≤ length held → IsTrue result }
+        ensures text { IsTrue result → (held : List ℕ) × (slice_get self.old index ≡ Some (datum.Text held)) }
     {
         match &mut self.items[index] {
             Value::Text(text) => text.refill(bytes),

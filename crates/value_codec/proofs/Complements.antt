@@ -1,4 +1,4 @@
--- Two's complement (CTF 1.8.3, section 4.1.2): the bits of a signed number as code computes them.
+-- Two's complement (CTF 1.8.3, section 4.1.5): the bits of a signed number as code computes them.
 use Rattle.std.proofs.Common.{◌≡◌, ℕ, zero, suc, ◌-◌, ◌*◌, ◌/◌, ◌^◌, ◌<◌, ◌≤◌, true, false, ℤ, pos, negsuc, ◌-ℤ◌, nat_abs, refl, ap, ◌∙◌, subst, arith}
 use Rattle.std.proofs.Math.Nat.{pow-suc}
 use Rattle.std.proofs.lemmas.Bool.{cond-true, cond-false, lt-ltb, le-ltb, leb-false, false≢true}

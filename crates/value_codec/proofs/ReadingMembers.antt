@@ -1,8 +1,7 @@
 -- What a reader answers of a structure from the answers of its members.
-use Rattle.std.proofs.Common.{◌≡◌, ℕ, suc, zero, ◌+◌, ◌<◌, max, List, [], ◌∷◌, ◌++◌, length, take, drop, slice_get, Some, None, refl, ap, ◌∙◌, add-one, arith}
+use Rattle.std.proofs.Common.{◌≡◌, ℕ, suc, zero, ◌+◌, ◌<◌, List, [], ◌∷◌, ◌++◌, length, drop, slice_get, Some, refl, ap, ◌∙◌, add-one, arith}
 use Rattle.std.specs.Prelude.{Result, Ok, Err}
 use Rattle.std.proofs.Math.Seq.{drop-cons}
-use Rattle.std.proofs.lemmas.List.{take_more}
 use Rattle.std.proofs.lemmas.Option.{slice_get_within, get_or_from_slice_get}
 use Rattle.ctf_types.specs.declared.byte_order.ByteOrder.{ByteOrder}
 use Rattle.ctf_types.specs.declared.member_type.Length.{Length}
@@ -13,8 +12,7 @@ use Rattle.ctf_types.specs.declared.field_type.FieldType.{FieldType}
 use Rattle.ctf_types.specs.declared.struct_type.StructType.{StructType}
 use Rattle.ctf_types.specs.Datum.{Datum}
 use Rattle.ctf_types.specs.FieldTypes.{chain_of}
-use Rattle.ctf_types.specs.Layout.{member_align, largest_align, count_at}
-use Rattle.ctf_types.proofs.Ends.{largest_align-push}
+use Rattle.ctf_types.specs.Layout.{count_at}
 use Rattle.value_codec.specs.declared.read_fault.ReadFault.{ReadFault}
 use Rattle.value_codec.specs.declared.read_fault.ReadFault.TheVariants.{PastEnd, NoTerminator, OutOfMemory}
 use Rattle.value_codec.specs.Reading.{bits_at, field_at, length_at, member_at, members_at, members_begin, struct_at, Gives}
@@ -28,28 +26,11 @@ drop_at xs i x h =
     let this = get_or_from_slice_get xs i x x h in
     rw (add-one, drop-cons xs i x within, this) refl
 
-pub take_at : {X : Type 0} (xs : List X) (i : ℕ) (x : X) → slice_get xs i ≡ Some x → take (i + 1) xs ≡ take i xs ++ x ∷ []
-take_at xs i x h =
-    let within = slice_get_within xs i x h in
-    let this = get_or_from_slice_get xs i x x h in
-    rw (take_more xs i x within, this) refl
-
 -- there is an element at each index
 pub element_at : {X : Type 0} (xs : List X) (i : ℕ) → i < length xs → (x : X) × (slice_get xs i ≡ Some x)
 element_at [] i h = absurd (omega arith)
 element_at (x ∷ xs) zero h = (x, refl)
 element_at (x ∷ xs) (suc i) h = element_at xs i (omega arith)
-
-pub element_missing : {X : Type 0} (xs : List X) (i : ℕ) → i < length xs → None ≡ slice_get xs i → ⊥
-element_missing xs i h e = let x = element_at xs i h in let both = e ∙ x.1 in cc
-
-pub align_at : (least : ℕ) (ms : List (List ℕ × MemberType)) (i : ℕ) (m : List ℕ × MemberType) → slice_get ms i ≡ Some m
-    → max (largest_align least (take i ms)) (member_align m.1) ≡ largest_align least (take (i + 1) ms)
-align_at least ms i m h = rw (take_at ms i m h, largest_align-push least (take i ms) m) (omega arith)
-
-pub align_of_none : (least : ℕ) → least ≡ largest_align least []
-unfolding largest_align
-align_of_none least = refl
 
 module _ (o : ByteOrder) (b : ℕ → ℕ) (limit : ℕ) where
   -- ---- a member

@@ -14,7 +14,6 @@ mod write_numbers;
 mod write_padding;
 mod write_strings;
 mod write_structs;
-mod write_types;
 mod write_values;
 
 pub use read_fault::ReadFault;

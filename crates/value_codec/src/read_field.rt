@@ -7,9 +7,9 @@ ghost use Rattle.value_codec.specs.Reading.{field_at, many_at, datum_read, Gives
 
 use crate::ReadFault;
 use crate::read_number::read_int;
-use crate::read_start::{aligned_start, field_align};
+use crate::read_start::aligned_start;
 use crate::read_text::read_text;
-use ctf_types::{ByteOrder, FieldType, Value, Values};
+use ctf_types::{ByteOrder, FieldType, Value, Values, align_of_field};
 use std::alloc::Global;
 
 /// The value of a field, and the position where it ends.
@@ -62,7 +62,7 @@ pub(crate) fn read_array(
     ensures value { Gives datum_read result (field_at order (bit_of order bytes.now) limit (chain_of element.now).leaf (count ∷ (chain_of element.now).lengths) at) }
     ensures within { IfOk result (λ read. read.1 ≤ limit) }
 {
-    let start = aligned_start(at, limit, field_align(element))?;
+    let start = aligned_start(at, limit, align_of_field(element))?;
     let (values, end) = read_elements(alloc, bytes, start, limit, order, element, count)?;
     Ok((Value::List(values), end))
 }

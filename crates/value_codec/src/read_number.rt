@@ -1,4 +1,4 @@
-//! Reading numbers: integers, enumerations and the lengths of arrays (CTF 1.8.3, sections 4.1.2 and 4.1.8).
+//! Reading numbers: integers, enumerations and the lengths of arrays (CTF 1.8.3, sections 4.1.5 and 4.1.8).
 
 ghost use Rattle.std.specs.Prelude.{◌≡◌, ◌*◌, ◌^◌, ◌<◌, ◌≤◌, length, IfOk};
 ghost use Rattle.ctf_types.specs.Bits.{bit_of, signed_of};

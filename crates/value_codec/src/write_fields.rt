@@ -11,9 +11,8 @@ ghost use Rattle.value_codec.specs.Writing.{Writes, HasRoom, element_align, elem
 use crate::write_numbers::write_aligned;
 use crate::write_padding::write_padding;
 use crate::write_strings::write_text;
-use crate::write_types::align_of_field;
 use crate::write_values::{elements_of, number_of, text_of};
-use ctf_types::{ByteOrder, FieldType, IntType, Value};
+use ctf_types::{ByteOrder, FieldType, IntType, Value, align_of_field};
 
 /// Writes a value of a field's type from its alignment on, and answers its end. Positions are in bits.
 #[cycle(write)]

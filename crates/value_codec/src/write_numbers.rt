@@ -1,4 +1,4 @@
-//! Unsigned numbers at their alignment (CTF 1.8.3, section 4.1.2).
+//! Unsigned numbers at their alignment (CTF 1.8.3, section 4.1.5).
 
 ghost use Rattle.std.specs.Prelude.{◌≡◌, ◌+◌, ◌*◌, ◌^◌, ◌<◌, ◌≤◌, length};
 ghost use Rattle.ctf_types.specs.Alignment.{up};

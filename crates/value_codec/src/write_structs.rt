@@ -12,9 +12,8 @@ ghost use Rattle.value_codec.specs.Writing.{Writes, HasRoom};
 use crate::write_fields::{write_array, write_field};
 use crate::write_numbers::write_aligned;
 use crate::write_padding::write_padding;
-use crate::write_types::{align_of_struct, member_at};
 use crate::write_values::elements_of;
-use ctf_types::{ByteOrder, MemberType, StructType, Value};
+use ctf_types::{ByteOrder, MemberType, StructType, Value, align_of};
 
 /// Writes a structure's values from its alignment on, with zero bits where no field is, and answers its end.
 /// Before each dynamic array stands its length. Positions are in bits; a structure without members is not there.
@@ -36,7 +35,7 @@ pub fn write_struct(
     if s.members.is_empty() {
         return at;
     }
-    let start = write_padding(bytes, at, order, align_of_struct(s));
+    let start = write_padding(bytes, at, order, align_of(s));
     write_members(bytes, start, order, s, 0, values)
 }
 
@@ -64,7 +63,7 @@ pub fn write_members(
             bytes,
             end,
             order,
-            member_at(s, index),
+            s.members.member_at(index),
             &values[index - from],
         );
     }

@@ -1,281 +1,270 @@
 //! Small configurations are accepted, or refused with the first fault and its place.
 
-use crate::tests::configuration_table::{
-    CLOCKED_TYPES, EVENTS, INTEGERS, OTHER_FIELD_TYPES, ROOTS, Row, STREAMS, STRUCTURES, Slot,
-    TRACE_TYPES,
+use crate::tests::judging::{is_judged, judges};
+use crate::tests::small::{CLOCKED, Changes, SMALL, changed};
+use crate::tests::tables::{
+    Slot, aliases, arrays, clock_types, clocked_streams, data_stream_features, data_stream_types,
+    enumerations, environment, events, inheritance, integers, structures, trace_features,
+    trace_types, whole_texts,
 };
-use conf_check::configure;
-use std::alloc::{AllocError, Global};
-use std::process::Abort;
 use std::test::Fail;
-
-/// What the words of the table stand for.
-const WORDS: [(&str, &str); 5] = [
-    ("FULL", r#"{"payload-field-type":BYTE}"#),
-    ("EMPTY", "{}"),
-    (
-        "BYTE",
-        r#"{"class":"struct","members":[{"m":{"field-type":U8}}]}"#,
-    ),
-    ("ONE_BIT", r#"{"class":"uint","size":1,"alignment":1}"#),
-    ("U8", r#"{"class":"uint","size":8}"#),
-];
-
-/// What stands before and behind a place's text, seen from the place around it, and that place.
-fn around(slot: Slot) -> Option<(&'static str, &'static str, &'static str, Slot)> {
-    match slot {
-        Slot::Root => None,
-        Slot::Environment => Some((
-            r#"{"trace":{"type":{"trace-byte-order":"le"},"environment":"#,
-            "}}",
-            "trace/environment",
-            Slot::Root,
-        )),
-        Slot::Type => Some((r#"{"trace":{"type":"#, "}}", "trace/type", Slot::Root)),
-        Slot::Stream => Some((
-            r#"{"trace-byte-order":"le","data-stream-types":{"s":"#,
-            "}}",
-            "data-stream-types/s",
-            Slot::Type,
-        )),
-        Slot::Event => Some((
-            r#"{"$features":{"event-record":{"type-id-field-type":false}},"event-record-types":{"e":"#,
-            "}}",
-            "event-record-types/e",
-            Slot::Stream,
-        )),
-        Slot::Payload => Some((
-            r#"{"payload-field-type":"#,
-            "}",
-            "payload-field-type",
-            Slot::Event,
-        )),
-        Slot::Field => Some((
-            r#"{"class":"struct","members":[{"v":{"field-type":"#,
-            "}}]}",
-            "members/0/v/field-type",
-            Slot::Payload,
-        )),
-    }
-}
-
-/// The place's text in a whole configuration, and the path to the place.
-fn whole(alloc: Global, slot: Slot, text: &str) -> Result<(String, String), AllocError> {
-    let mut text = String::from_str(alloc, text)?;
-    let mut path = String::new(alloc);
-    let mut slot = slot;
-    for _ in 0..6 {
-        if let Some((before, behind, step, outer)) = around(slot) {
-            text = format!(in alloc; "{before}{text}{behind}")?;
-            path = joined(alloc, step, path.as_str())?;
-            slot = outer;
-        }
-    }
-    Ok((text, path))
-}
-
-fn joined(alloc: Global, first: &str, second: &str) -> Result<String, AllocError> {
-    if first.is_empty() || second.is_empty() {
-        return format!(in alloc; "{first}{second}");
-    }
-    format!(in alloc; "{first}/{second}")
-}
-
-fn with_words(alloc: Global, text: &str) -> Result<String, AllocError> {
-    let mut text = String::from_str(alloc, text)?;
-    for (word, meaning) in WORDS {
-        text = text.replace(alloc, word, meaning)?;
-    }
-    Ok(text)
-}
-
-/// The kind of the fault, empty where there is none, and its path.
-fn judged(alloc: Global, text: &str) -> Result<(String, String), AllocError> {
-    match configure(alloc, text.as_bytes(), None) {
-        Ok(_) => Ok((String::new(alloc), String::new(alloc))),
-        Err(fault) => {
-            let kind = format!(in alloc; "{:?}", fault.kind)?;
-            let mut path = String::new(alloc);
-            for step in fault.path.as_slice() {
-                let step = format!(in alloc; "{step}")?;
-                path = joined(alloc, path.as_str(), step.as_str())?;
-            }
-            Ok((kind, path))
-        }
-    }
-}
-
-fn is_judged(rt: &impl Abort, alloc: Global, rows: &[Row]) -> Result<(), Fail> {
-    for (slot, text, kind, path) in rows {
-        let (configuration, place) = whole(alloc, *slot, with_words(alloc, text)?.as_str())?;
-        let want = if kind.is_empty() {
-            String::new(alloc)
-        } else if *path == "^" {
-            whole(alloc, Slot::Event, "")?.1
-        } else {
-            joined(alloc, place.as_str(), path)?
-        };
-        let (found, at) = judged(alloc, configuration.as_str())?;
-        assert_eq!(rt; found.as_str(), *kind, "{configuration}");
-        assert_eq!(rt; at.as_str(), want.as_str(), "{configuration}");
-    }
-    Ok(())
-}
 
 #[test]
 fn judges_integers(rt: HostRuntime) -> Result<(), Fail> {
-    is_judged(&rt, rt.alloc(), INTEGERS)
+    is_judged(&rt, rt.alloc(), Slot::Field, integers::FIELDS)
 }
 
 #[test]
-fn judges_other_field_types(rt: HostRuntime) -> Result<(), Fail> {
-    is_judged(&rt, rt.alloc(), OTHER_FIELD_TYPES)
+fn judges_enumerations(rt: HostRuntime) -> Result<(), Fail> {
+    is_judged(&rt, rt.alloc(), Slot::Field, enumerations::FIELDS)
+}
+
+#[test]
+fn judges_strings_and_arrays(rt: HostRuntime) -> Result<(), Fail> {
+    is_judged(&rt, rt.alloc(), Slot::Field, arrays::FIELDS)?;
+    is_judged(&rt, rt.alloc(), Slot::Payload, arrays::PAYLOADS)
 }
 
 #[test]
 fn judges_structures(rt: HostRuntime) -> Result<(), Fail> {
-    is_judged(&rt, rt.alloc(), STRUCTURES)
+    is_judged(&rt, rt.alloc(), Slot::Payload, structures::PAYLOADS)
 }
 
 #[test]
 fn judges_event_record_types(rt: HostRuntime) -> Result<(), Fail> {
-    is_judged(&rt, rt.alloc(), EVENTS)
+    is_judged(&rt, rt.alloc(), Slot::Event, events::EVENTS)
 }
 
 #[test]
 fn judges_data_stream_types(rt: HostRuntime) -> Result<(), Fail> {
-    is_judged(&rt, rt.alloc(), STREAMS)
+    is_judged(&rt, rt.alloc(), Slot::Stream, data_stream_types::STREAMS)
+}
+
+#[test]
+fn judges_data_stream_features(rt: HostRuntime) -> Result<(), Fail> {
+    is_judged(&rt, rt.alloc(), Slot::Packet, data_stream_features::PACKETS)?;
+    is_judged(&rt, rt.alloc(), Slot::Record, data_stream_features::RECORDS)
+}
+
+#[test]
+fn judges_timestamp_features(rt: HostRuntime) -> Result<(), Fail> {
+    is_judged(
+        &rt,
+        rt.alloc(),
+        Slot::ClockedStream,
+        clocked_streams::CLOCKED_STREAMS,
+    )
 }
 
 #[test]
 fn judges_trace_types(rt: HostRuntime) -> Result<(), Fail> {
-    is_judged(&rt, rt.alloc(), TRACE_TYPES)
+    is_judged(&rt, rt.alloc(), Slot::Type, trace_types::TRACE_TYPES)
 }
 
 #[test]
-fn judges_clocked_trace_types(rt: HostRuntime) -> Result<(), Fail> {
-    is_judged(&rt, rt.alloc(), CLOCKED_TYPES)
+fn judges_trace_features(rt: HostRuntime) -> Result<(), Fail> {
+    is_judged(&rt, rt.alloc(), Slot::Features, trace_features::FEATURES)?;
+    is_judged(&rt, rt.alloc(), Slot::Type, trace_features::TRACE_TYPES)
+}
+
+#[test]
+fn judges_clock_types(rt: HostRuntime) -> Result<(), Fail> {
+    is_judged(&rt, rt.alloc(), Slot::Clock, clock_types::CLOCKS)
+}
+
+#[test]
+fn judges_aliases(rt: HostRuntime) -> Result<(), Fail> {
+    is_judged(&rt, rt.alloc(), Slot::LogLevels, aliases::LOG_LEVELS)?;
+    is_judged(&rt, rt.alloc(), Slot::Aliases, aliases::FIELD_TYPES)
+}
+
+#[test]
+fn judges_inheritance(rt: HostRuntime) -> Result<(), Fail> {
+    is_judged(&rt, rt.alloc(), Slot::Field, inheritance::FIELDS)?;
+    is_judged(&rt, rt.alloc(), Slot::Payload, inheritance::PAYLOADS)?;
+    is_judged(&rt, rt.alloc(), Slot::Type, inheritance::TRACE_TYPES)
 }
 
 #[test]
 fn judges_whole_texts(rt: HostRuntime) -> Result<(), Fail> {
-    is_judged(&rt, rt.alloc(), ROOTS)
+    is_judged(&rt, rt.alloc(), Slot::Root, whole_texts::ROOTS)
 }
-
-/// A list of so many properties `n0`, `n1`, .. of one value, without its braces.
-fn properties(alloc: Global, count: usize, value: &str) -> Result<String, AllocError> {
-    let mut text = String::new(alloc);
-    for i in 0..count {
-        let comma = if i == 0 { "" } else { "," };
-        let property = format!(in alloc; "{comma}\"n{i}\":{value}")?;
-        text.push_str(property.as_str())?;
-    }
-    Ok(text)
-}
-
-/// Objects with many properties, at the limit and one past it: where they stand, what stands before and behind the properties, one value, the limit.
-const LIMITS: [(Slot, &str, &str, &str, usize); 6] = [
-    (Slot::Environment, "{", "}", "1", 256),
-    (
-        Slot::Type,
-        r#"{"trace-byte-order":"le","clock-types":{"#,
-        "}}",
-        "{}",
-        64,
-    ),
-    (
-        Slot::Type,
-        r#"{"trace-byte-order":"le","data-stream-types":{"#,
-        "}}",
-        "{}",
-        64,
-    ),
-    (
-        Slot::Type,
-        r#"{"trace-byte-order":"le","$log-level-aliases":{"#,
-        "}}",
-        "1",
-        1024,
-    ),
-    (
-        Slot::Type,
-        r#"{"trace-byte-order":"le","$field-type-aliases":{"#,
-        "}}",
-        "{}",
-        1024,
-    ),
-    (Slot::Stream, r#"{"event-record-types":{"#, "}}", "{}", 1024),
-];
 
 #[test]
-fn refuses_one_past_each_limit(rt: HostRuntime) -> Result<(), Fail> {
-    let alloc = rt.alloc();
-    for (slot, before, behind, value, limit) in LIMITS {
-        for (count, kind) in [(limit, ""), (limit + 1, "Limit")] {
-            let inner = properties(alloc, count, value)?;
-            let text = format!(in alloc; "{before}{inner}{behind}")?;
-            let (configuration, _) = whole(alloc, slot, text.as_str())?;
-            let (found, _) = judged(alloc, configuration.as_str())?;
-            assert_eq!(rt; found.as_str(), kind, "{count} of {before}");
-        }
-    }
-    Ok(())
+fn judges_environments(rt: HostRuntime) -> Result<(), Fail> {
+    is_judged(
+        &rt,
+        rt.alloc(),
+        Slot::Environment,
+        environment::ENVIRONMENTS,
+    )
 }
 
-/// So many letters.
-fn letters(alloc: Global, count: usize) -> Result<String, AllocError> {
-    let mut text = String::new(alloc);
-    for _ in 0..count {
-        text.push('a')?;
-    }
-    Ok(text)
-}
+const IDENTIFIER: u128 = 0x79e4_9040_21b5_42d4_a83b_646f_7866_6b62;
 
-/// Names and texts at the limit and one past it: where they stand, what stands before and behind the letters, the limit, the kind past it.
-const LENGTHS: [(Slot, &str, &str, usize, &str); 3] = [
-    (Slot::Environment, r#"{""#, r#"":1}"#, 255, "BadName"),
-    (Slot::Environment, r#"{"a":""#, r#""}"#, 4096, "Limit"),
+/// Whole texts, judged with an identifier that is handed in.
+const WITH_IDENTIFIER: &[(&str, &str, &str)] = &[
     (
-        Slot::Type,
-        r#"{"trace-byte-order":"le","clock-types":{"clk":{"description":""#,
-        r#""}}}"#,
-        4096,
-        "Limit",
+        r#"{"trace":{"type":{"trace-byte-order":"le","uuid":"auto"}}}"#,
+        "",
+        "",
+    ),
+    (
+        r#"{"trace":{"type":{"trace-byte-order":"le","uuid":"auto","$features":{"uuid-field-type":true}}}}"#,
+        "",
+        "",
+    ),
+    (
+        r#"{"trace":{"type":{"trace-byte-order":"le","uuid":"auto","$features":{"uuid-field-type":false}}}}"#,
+        "",
+        "",
+    ),
+    (
+        r#"{"trace":{"type":{"trace-byte-order":"le","uuid":"00000000-0000-0000-0000-000000000001"}}}"#,
+        "",
+        "",
+    ),
+    (
+        r#"{"trace":{"type":{"trace-byte-order":"le","uuid":"x"}}}"#,
+        "OutOfRange",
+        "trace/type/uuid",
+    ),
+    (
+        r#"{"trace":{"type":{"trace-byte-order":"le","$features":{"uuid-field-type":true}}}}"#,
+        "NoUuid",
+        "trace/type/$features/uuid-field-type",
+    ),
+    (
+        r#"{"trace":{"type":{"trace-byte-order":"le","uuid":null,"$features":{"uuid-field-type":true}}}}"#,
+        "NoUuid",
+        "trace/type/$features/uuid-field-type",
+    ),
+    (
+        r#"{"trace":{"type":{"trace-byte-order":"le","clock-types":{"clk":{"uuid":"auto"}}}}}"#,
+        "OutOfRange",
+        "trace/type/clock-types/clk/uuid",
     ),
 ];
 
 #[test]
-fn refuses_names_and_texts_past_their_lengths(rt: HostRuntime) -> Result<(), Fail> {
-    let alloc = rt.alloc();
-    for (slot, before, behind, limit, past) in LENGTHS {
-        for (count, kind) in [(limit, ""), (limit + 1, past)] {
-            let inner = letters(alloc, count)?;
-            let text = format!(in alloc; "{before}{inner}{behind}")?;
-            let (configuration, _) = whole(alloc, slot, text.as_str())?;
-            let (found, _) = judged(alloc, configuration.as_str())?;
-            assert_eq!(rt; found.as_str(), kind, "{count} letters behind {before}");
-        }
+fn judges_with_an_identifier(rt: HostRuntime) -> Result<(), Fail> {
+    for (text, kind, path) in WITH_IDENTIFIER {
+        judges(&rt, rt.alloc(), text, Some(IDENTIFIER), kind, path)?;
     }
     Ok(())
 }
 
-/// A structure of so many members.
+/// `SMALL` or `CLOCKED`, what is changed in it, and the kind and the path of the fault.
+const CHANGED: &[(&str, Changes, &str, &str)] = &[
+    (SMALL, &[], "", ""),
+    (CLOCKED, &[], "", ""),
+    (
+        CLOCKED,
+        &[
+            (
+                r#""type-id-field-type":"u8""#,
+                r#""type-id-field-type":{"class":"uint","size":1,"alignment":1}"#,
+            ),
+            (
+                r#""event-record-types":{"#,
+                r#""event-record-types":{"c":{"payload-field-type":{"class":"struct","members":[{"n":{"field-type":{"class":"sint","size":16}}}]}},"#,
+            ),
+        ],
+        "FieldTooSmall",
+        "trace/type/data-stream-types/s/$features/event-record/type-id-field-type",
+    ),
+    (
+        CLOCKED,
+        &[(r#""clock-types":{"clk":{}},"#, "")],
+        "NoClock",
+        "trace/type/data-stream-types/s/$default-clock-type-name",
+    ),
+    (
+        CLOCKED,
+        &[(
+            r#""event-record":{"#,
+            r#""event-record":{"timestamp-field-type":"u8","#,
+        )],
+        "TimestampSize",
+        "trace/type/data-stream-types/s/$features/event-record/timestamp-field-type",
+    ),
+    (
+        SMALL,
+        &[(
+            "PAYLOAD",
+            r#"[{"x":{"field-type":{"class":"dynamic-array","element-field-type":{"class":"uint","size":8}}}},{"__x_len":{"field-type":{"class":"uint","size":8}}}]"#,
+        )],
+        "NameClash",
+        "trace/type/data-stream-types/s/event-record-types/e/payload-field-type/members/1/__x_len",
+    ),
+    (
+        SMALL,
+        &[(
+            "EXTRAS",
+            r#"[{"events_discarded":{"field-type":{"class":"uint","size":8}}}]"#,
+        )],
+        "NameClash",
+        "trace/type/data-stream-types/s/packet-context-field-type-extra-members/0/events_discarded",
+    ),
+    (
+        SMALL,
+        &[(
+            "PAYLOAD",
+            r#"[{"event":{"field-type":{"class":"uint","size":8}}}]"#,
+        )],
+        "ReservedName",
+        "trace/type/data-stream-types/s/event-record-types/e/payload-field-type/members/0/event",
+    ),
+    (
+        SMALL,
+        &[(
+            "PAYLOAD",
+            r#"[{"9a":{"field-type":{"class":"uint","size":8}}}]"#,
+        )],
+        "BadName",
+        "trace/type/data-stream-types/s/event-record-types/e/payload-field-type/members/0/9a",
+    ),
+    (
+        SMALL,
+        &[(
+            "PAYLOAD",
+            r#"[{"z":{"field-type":{"class":"static-array","length":0,"element-field-type":{"class":"uint","size":8}}}}]"#,
+        )],
+        "ZeroSizeRecord",
+        "trace/type/data-stream-types/s/event-record-types/e",
+    ),
+    (
+        SMALL,
+        &[(
+            r#""data-stream-type-id-field-type":STREAM_ID"#,
+            r#""data-stream-type-id-field-type":false,"uuid-field-type":true"#,
+        )],
+        "NoUuid",
+        "trace/type/$features/uuid-field-type",
+    ),
+    (
+        SMALL,
+        &[(
+            r#""trace-byte-order":"le""#,
+            r#""trace-byte-order":"le","native-byte-order":"le""#,
+        )],
+        "TwoOrders",
+        "trace/type",
+    ),
+    (
+        SMALL,
+        &[("ALIASES", r#"{"P":{"$inherit":"Q"},"Q":{"$inherit":"P"}}"#)],
+        "InheritCycle",
+        "trace/type/$field-type-aliases/P",
+    ),
+];
+
 #[test]
-fn refuses_a_257th_member(rt: HostRuntime) -> Result<(), Fail> {
+fn judges_changed_configurations(rt: HostRuntime) -> Result<(), Fail> {
     let alloc = rt.alloc();
-    for (count, kind) in [(256usize, ""), (257, "Limit")] {
-        let mut members = String::new(alloc);
-        for i in 0..count {
-            let comma = if i == 0 { "" } else { "," };
-            let member = format!(in alloc;
-                "{comma}{{\"n{i}\":{{\"field-type\":{{\"class\":\"str\"}}}}}}"
-            )?;
-            members.push_str(member.as_str())?;
-        }
-        let text = format!(in alloc; "{{\"class\":\"struct\",\"members\":[{members}]}}")?;
-        let (configuration, _) = whole(alloc, Slot::Payload, text.as_str())?;
-        let (found, _) = judged(alloc, configuration.as_str())?;
-        assert_eq!(rt; found.as_str(), kind, "{count} members");
+    for (text, changes, kind, path) in CHANGED {
+        let text = changed(alloc, text, *changes)?;
+        judges(&rt, alloc, text.as_str(), None, kind, path)?;
     }
     Ok(())
 }

@@ -2,9 +2,8 @@
 
 ghost use Rattle.std.specs.Prelude.{IfOk};
 ghost use Rattle.ctf_types.specs.Allowed.{IsMetadata};
-ghost use Rattle.packet_reader.specs.StreamReading.{HasDistinctNames};
 
-use crate::tests::small::{CLOCKED, bytes_of, configured, identified, small};
+use crate::tests::small::{CLOCKED, SMALL, bytes_of, changed, configured, small};
 use ctf_types::{Config, Metadata, Text};
 use packet_reader::read_stream;
 use std::alloc::Global;
@@ -12,7 +11,6 @@ use std::process::Abort;
 use std::test::Fail;
 use tsdl_reader::read_metadata;
 use tsdl_writer::write_metadata;
-use uuid::Uuid;
 
 /// The metadata that is read from the configuration's text.
 fn read_back(alloc: Global, config: &Config) -> Result<Metadata, Fail>
@@ -28,12 +26,6 @@ fn read_back(alloc: Global, config: &Config) -> Result<Metadata, Fail>
     }
 }
 
-/// In allowed metadata the names of a structure's members are distinct.
-fn names_are_distinct(metadata: &Metadata)
-    requires { IsMetadata metadata.now }
-    ensures { HasDistinctNames metadata.now }
-{}
-
 /// A reader finds these packets in the bytes, in the form of `Debug`, and that they end so.
 fn reads(
     rt: &impl Abort,
@@ -45,7 +37,6 @@ fn reads(
 ) -> Result<(), Fail>
     requires { IsMetadata metadata.now }
 {
-    names_are_distinct(metadata);
     let bytes = bytes_of(alloc, digits)?;
     assert!(rt; bytes.len() < 1000);
     let read = read_stream(
@@ -85,12 +76,13 @@ fn reads_the_streams_number(rt: HostRuntime) -> Result<(), Fail> {
     )
 }
 
+const WITH_AN_ARRAY: &str =
+    r#"[{"x":{"field-type":{"class":"uint","size":8}}},{"a":{"field-type":{"class":"dynamic-array","element-field-type":{"class":"uint","size":32,"alignment":32}}}},{"b":{"field-type":{"class":"uint","size":8}}}]"#;
+
 #[test]
 fn reads_an_empty_array(rt: HostRuntime) -> Result<(), Fail> {
     let alloc = rt.alloc();
-    let members =
-        r#"[{"x":{"field-type":{"class":"uint","size":8}}},{"a":{"field-type":{"class":"dynamic-array","element-field-type":{"class":"uint","size":32,"alignment":32}}}},{"b":{"field-type":{"class":"uint","size":8}}}]"#;
-    let metadata = read_back(alloc, &small(alloc, &[("PAYLOAD", members)])?)?;
+    let metadata = read_back(alloc, &small(alloc, &[("PAYLOAD", WITH_AN_ARRAY)])?)?;
     reads(
         &rt,
         alloc,
@@ -105,7 +97,7 @@ fn reads_an_empty_array(rt: HostRuntime) -> Result<(), Fail> {
 #[test]
 fn reads_a_packet_with_a_clock(rt: HostRuntime) -> Result<(), Fail> {
     let alloc = rt.alloc();
-    let metadata = read_back(alloc, &configured(alloc, CLOCKED)?)?;
+    let metadata = read_back(alloc, &configured(alloc, CLOCKED, None)?)?;
     reads(
         &rt,
         alloc,
@@ -132,11 +124,12 @@ fn reads_a_packet_with_a_clock(rt: HostRuntime) -> Result<(), Fail> {
     )
 }
 
+const CPU: &str = r#"[{"cpu":{"field-type":{"class":"uint","size":8}}}]"#;
+
 #[test]
 fn reads_extra_members(rt: HostRuntime) -> Result<(), Fail> {
     let alloc = rt.alloc();
-    let cpu = r#"[{"cpu":{"field-type":{"class":"uint","size":8}}}]"#;
-    let metadata = read_back(alloc, &small(alloc, &[("EXTRAS", cpu)])?)?;
+    let metadata = read_back(alloc, &small(alloc, &[("EXTRAS", CPU)])?)?;
     reads(
         &rt,
         alloc,
@@ -151,10 +144,9 @@ fn reads_extra_members(rt: HostRuntime) -> Result<(), Fail> {
 #[test]
 fn reads_the_traces_identifier(rt: HostRuntime) -> Result<(), Fail> {
     let alloc = rt.alloc();
-    let config = identified(
-        alloc,
-        Uuid::from_u128(0x79e4_9040_21b5_42d4_a83b_646f_7866_6b62),
-    )?;
+    let text = changed(alloc, SMALL, &[("UUID", r#""auto""#)])?;
+    let number = 0x79e4_9040_21b5_42d4_a83b_646f_7866_6b62;
+    let config = configured(alloc, text.as_str(), Some(number))?;
     let metadata = read_back(alloc, &config)?;
     reads(
         &rt,

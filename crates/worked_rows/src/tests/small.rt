@@ -5,16 +5,16 @@ ghost use Rattle.ctf_types.specs.AllowedConfig.{IsConfig};
 
 use conf_check::configure;
 use ctf_types::{Args, Bytes, Config, Value, Values};
-use std::alloc::Global;
+use std::alloc::{AllocError, Global};
 use std::test::Fail;
 use uuid::Uuid;
 
 /// One stream type `s` with one event record type `e`; the words in capitals are put in by each row.
 pub const SMALL: &str =
-    r#"{"trace":{"type":{"trace-byte-order":"le","uuid":UUID,"$features":{"data-stream-type-id-field-type":STREAM_ID},"data-stream-types":{"s":{"$features":{"packet":{"total-size-field-type":SIZE,"content-size-field-type":SIZE,"discarded-event-records-counter-snapshot-field-type":DISCARDED,"sequence-number-field-type":SEQUENCE},"event-record":{"type-id-field-type":false}},"packet-context-field-type-extra-members":EXTRAS,"event-record-types":{"e":{"payload-field-type":{"class":"struct","members":PAYLOAD}}}}}}}}"#;
+    r#"{"trace":{"type":{"trace-byte-order":"le","uuid":UUID,"$features":{"data-stream-type-id-field-type":STREAM_ID},"data-stream-types":{"s":{"$features":{"packet":{"total-size-field-type":SIZE,"content-size-field-type":SIZE,"discarded-event-records-counter-snapshot-field-type":DISCARDED,"sequence-number-field-type":SEQUENCE},"event-record":{"type-id-field-type":false}},"packet-context-field-type-extra-members":EXTRAS,"event-record-types":{"e":{"payload-field-type":{"class":"struct","members":PAYLOAD}}}}},"$field-type-aliases":ALIASES}}}"#;
 
 /// What a word of `SMALL` is where a row says nothing of it.
-const PLAIN: [(&str, &str); 7] = [
+const PLAIN: [(&str, &str); 8] = [
     ("UUID", "null"),
     ("STREAM_ID", "false"),
     ("SIZE", r#"{"class":"uint","size":32}"#),
@@ -25,24 +25,38 @@ const PLAIN: [(&str, &str); 7] = [
         "PAYLOAD",
         r#"[{"v":{"field-type":{"class":"uint","size":8}}}]"#,
     ),
+    ("ALIASES", "{}"),
 ];
 
 /// Two event record types with a clock, in big-endian order.
 pub const CLOCKED: &str =
     r#"{"trace":{"type":{"native-byte-order":"be","clock-types":{"clk":{}},"$features":{"data-stream-type-id-field-type":false},"data-stream-types":{"s":{"$default-clock-type-name":"clk","$features":{"packet":{"total-size-field-type":"u16","content-size-field-type":"u16","discarded-event-records-counter-snapshot-field-type":"u8","sequence-number-field-type":"u8"},"event-record":{"type-id-field-type":"u8"}},"event-record-types":{"a":{"payload-field-type":{"class":"struct","members":[{"n":{"field-type":{"class":"sint","size":16}}}]}},"b":{"payload-field-type":{"class":"struct","members":[{"s":{"field-type":{"class":"str"}}}]}}}}},"$field-type-aliases":{"u8":{"class":"uint","size":8},"u16":{"class":"uint","size":16}}}}}"#;
 
-/// The configuration of this text.
-pub fn configured(alloc: Global, text: &str) -> Result<Config, Fail>
-    ensures { IfOk result (λ c. IsConfig c) }
-{
-    configured_with(alloc, text, None)
+/// Pieces of a text, each with what stands in its place.
+pub type Changes = &'static [(&'static str, &'static str)];
+
+/// `SMALL` or `CLOCKED` with these changes, and with the plain words where no change speaks of them.
+pub fn changed(alloc: Global, text: &str, changes: Changes) -> Result<String, AllocError> {
+    let mut text = String::from_str(alloc, text)?;
+    for (piece, other) in changes {
+        text = text.replace(alloc, *piece, other)?;
+    }
+    plain(alloc, text)
 }
 
-/// The configuration of this text, with this identifier.
-pub fn configured_with(alloc: Global, text: &str, number: Option<Uuid>) -> Result<Config, Fail>
+fn plain(alloc: Global, text: String) -> Result<String, AllocError> {
+    let mut text = text;
+    for (word, meaning) in PLAIN {
+        text = text.replace(alloc, word, meaning)?;
+    }
+    Ok(text)
+}
+
+/// The configuration of this text, with this identifier where one is handed in.
+pub fn configured(alloc: Global, text: &str, number: Option<u128>) -> Result<Config, Fail>
     ensures { IfOk result (λ c. IsConfig c) }
 {
-    match configure(alloc, text.as_bytes(), number) {
+    match configure(alloc, text.as_bytes(), number.map(Uuid::from_u128)) {
         Ok(config) => Ok(config),
         Err(fault) => {
             let why = format!(in alloc; "{fault}")?;
@@ -52,49 +66,54 @@ pub fn configured_with(alloc: Global, text: &str, number: Option<Uuid>) -> Resul
 }
 
 /// The small configuration with these words in the place of its own.
-pub fn small(alloc: Global, changes: &[(&str, &str)]) -> Result<Config, Fail>
+pub fn small(alloc: Global, changes: Changes) -> Result<Config, Fail>
     ensures { IfOk result (λ c. IsConfig c) }
 {
-    let mut text = String::from_str(alloc, SMALL)?;
-    for (word, meaning) in changes {
-        text = text.replace(alloc, *word, meaning)?;
-    }
-    for (word, meaning) in PLAIN {
-        text = text.replace(alloc, word, meaning)?;
-    }
-    configured(alloc, text.as_str())
+    configured(alloc, changed(alloc, SMALL, changes)?.as_str(), None)
 }
 
-/// The small configuration with an identifier that is handed in.
-pub fn identified(alloc: Global, number: Uuid) -> Result<Config, Fail>
-    ensures { IfOk result (λ c. IsConfig c) }
-{
-    let mut text = SMALL.replace(alloc, "UUID", r#""auto""#)?;
-    for (word, meaning) in PLAIN {
-        text = text.replace(alloc, word, meaning)?;
+/// A value of a call's arguments, in a table.
+#[derive(Clone, Copy)]
+pub enum Datum {
+    Unsigned(u64),
+    Signed(i64),
+    Text(&'static [u8]),
+    /// A list of unsigned numbers.
+    List(&'static [u64]),
+}
+
+pub fn values(alloc: Global, data: &[Datum]) -> Result<Values, AllocError> {
+    let mut values = Vec::new(alloc);
+    for datum in data {
+        values.push(value(alloc, *datum)?)?;
     }
-    configured_with(alloc, text.as_str(), Some(number))
+    Ok(Values::from_vec(values))
+}
+
+fn value(alloc: Global, datum: Datum) -> Result<Value, AllocError> {
+    match datum {
+        Datum::Unsigned(number) => Ok(Value::Unsigned(number)),
+        Datum::Signed(number) => Ok(Value::Signed(number)),
+        Datum::Text(bytes) => Ok(Value::Text(Bytes::from_slice(alloc, bytes)?)),
+        Datum::List(numbers) => Ok(Value::List(list(alloc, numbers)?)),
+    }
+}
+
+fn list(alloc: Global, numbers: &[u64]) -> Result<Values, AllocError> {
+    let mut values = Vec::new(alloc);
+    for number in numbers {
+        values.push(Value::Unsigned(*number))?;
+    }
+    Ok(Values::from_vec(values))
 }
 
 /// Arguments whose payload is these values.
-pub fn payload(alloc: Global, values: Vec<Value>) -> Args {
-    Args {
+pub fn payload(alloc: Global, data: &[Datum]) -> Result<Args, AllocError> {
+    Ok(Args {
         common: Values::new(alloc),
         specific: Values::new(alloc),
-        payload: Values::from_vec(values),
-    }
-}
-
-pub fn number(alloc: Global, number: u64) -> Result<Args, Fail> {
-    let mut values = Vec::new(alloc);
-    values.push(Value::Unsigned(number))?;
-    Ok(payload(alloc, values))
-}
-
-pub fn text(alloc: Global, bytes: &[u8]) -> Result<Args, Fail> {
-    let mut values = Vec::new(alloc);
-    values.push(Value::Text(Bytes::from_slice(alloc, bytes)?))?;
-    Ok(payload(alloc, values))
+        payload: values(alloc, data)?,
+    })
 }
 
 /// Bytes in hexadecimal, in groups with blanks between them.

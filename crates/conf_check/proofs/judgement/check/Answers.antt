@@ -1,4 +1,5 @@
 use Rattle.serde_json.specs.View.{view}
+use Rattle.conf_check.proofs.ConfigurationFlawLaws.{fault_told}
 use Rattle.conf_check.proofs.ConfigurationRowLaws.{configuration_says, only_memory}
 use Rattle.conf_check.proofs.judgement.check.Goals as goal
 
@@ -7,3 +8,6 @@ returns-in-Ok-clause-rows c = configuration_says (view c.args.tree.value) c.args
 
 pub returns-in-Err-clause-only : goal.returns-in-Err-clause-only
 returns-in-Err-clause-only c = only_memory (view c.args.tree.value) c.args.number c.in-Err.fault c.in-Err.ensures.reading
+
+pub returns-in-Err-clause-refused : goal.returns-in-Err-clause-refused
+returns-in-Err-clause-refused c = fault_told (view c.args.tree.value) c.args.number c.in-Err.fault c.in-Err.ensures.reading

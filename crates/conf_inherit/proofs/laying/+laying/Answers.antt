@@ -1,53 +1,67 @@
-use Rattle.std.proofs.Common.{◌≡◌, ◌+◌, None, false, string_bytes, ℕ, List, [], ◌∷◌, ◌++◌, take, drop, map, ap, sym, ◌∙◌, arith, refl, append-nil, append_assoc, option_map}
-use Rattle.std.proofs.lemmas.List.{take_all, at_drop_more, at_drop_all}
+use Rattle.std.proofs.Common.{◌≡◌, ◌+◌, None, true, false, string_bytes, [], ◌∷◌, ◌++◌, get_or, map, ap, sym, ◌∙◌, arith, append-nil, append_assoc, option_map, refl, drop, subst}
+use Rattle.std.proofs.lemmas.Grind.{common_steps}
+use Rattle.std.proofs.lemmas.List.{take_all, at_drop_all}
 use Rattle.serde_json.specs.Data.{Data, Items, no_items, item, object, member, no_members, put}
 use Rattle.serde_json.specs.View.{view, items_of, items_view, members_view}
 use Rattle.conf_inherit.specs.declared.spot.Spot.TheVariants.{MemberValue}
 use Rattle.conf_inherit.specs.Laying.{lay, has_entry, lay_members, lay_over, lay_new, lay_new_member}
-use Rattle.conf_inherit.specs.Names.{join_items, map_items}
+use Rattle.conf_inherit.specs.Names.{map_items, join_items}
 use Rattle.conf_inherit.proofs.ItemLemmas.{join_none, join_pushed, map_items_view, new_member_fresh, lay_members-first}
 use Rattle.serde_json.proofs.Views.{Entry, members_view-insert_entry}
 use Rattle.serde_json.specs.Find.{get_member}
-use Rattle.conf_inherit.specs.Spot.{spot_under, is_base_name}
+use Rattle.conf_inherit.specs.Spot.{spot_under, is_base_name, lists_members}
+use Rattle.std.proofs.lemmas.Result.{err_from_is_err_and}
+use Rattle.conf_inherit.specs.Names.{NoClash}
+use Rattle.conf_inherit.proofs.ResolveLemmas.{apart_of}
+use Rattle.conf_inherit.specs.Size.{size, items_size, Within}
+use Rattle.conf_inherit.proofs.SizeLemmas.{counted_all, leaves_within, counted_more, counted_past, due_more, past_due, over_size, over_next, new_size, new_next, property_size, found_among, absent_after}
+use Rattle.conf_inherit.proofs.LayingLemmas.{lay_members-absent}
 use Rattle.conf_inherit.proofs.laying.+laying.Goals as goal
 
-pub lay_over_entries-returns : goal.lay_over_entries-returns
-lay_over_entries-returns t c =
-    ap items_of (c.loop-entry.invariant ∙ ap (map (λ b. lay_over (members_view c.args.aliases.now.entries) (items_view c.args.own.now.items) (view b))) (take_all c.loop-entry.entry-index c.args.base.now.items (omega arith)))
+pub lay_over_entries-returns-clause-laid : goal.lay_over_entries-returns-clause-laid
+lay_over_entries-returns-clause-laid t c =
+    ap items_of (c.loop-entry.invariant.laid ∙ ap (map (λ b. lay_over (members_view c.args.aliases.now.entries) (items_view c.args.own.now.items) (view b))) (take_all c.loop-entry.entry-index c.args.base.now.items (omega arith)))
     ∙ sym (map_items_view (λ b. lay_over (members_view c.args.aliases.now.entries) (items_view c.args.own.now.items) b) c.args.base.now.items)
 
-pub push_new_entries-returns : goal.push_new_entries-returns
-push_new_entries-returns t c =
+pub push_new_entries-returns-clause-laid : goal.push_new_entries-returns-clause-laid
+push_new_entries-returns-clause-laid t c =
     sym (join_none (items_view c.loop-item.entries.items))
     ∙ sym (at_drop_all (λ v. join_items (items_view c.loop-item.entries.items) (lay_new (members_view c.args.aliases.now.entries) (items_view v) (items_view c.args.base.now.items))) c.args.own.now.items c.loop-item.item-index (omega arith))
-    ∙ c.loop-item.invariant
+    ∙ c.loop-item.invariant.laid
 
 pub push_new_entry-loop-name-preserved-in_ok-push : goal.push_new_entry-loop-name-preserved-in_ok-push
-push_new_entry-loop-name-preserved-in_ok-push t c = λ rest.
+push_new_entry-loop-name-preserved-in_ok-push t c =
     let done = members_view c.args.aliases.now.entries in
     let seen = items_view c.args.base.now.items in
     let n = string_bytes c.in-Some.name.now in
     let d = view c.in-Some.value.now in
     let fresh : has_entry n seen ≡ false = let e = c.has_entry_named.ensures in let f = c.if-not-has_entry_named.true in let g = c.as_str.ensures.value in ap (λ x. has_entry x seen) (sym g) ∙ sym e ∙ f in
-    let made : view c.in_ok-single.field-0 ≡ object (member n (lay done MemberValue d None) no_members) = c.in_ok-single.ensures ∙ ap (λ x. object (member x (view c.in_ok-laid.laid) no_members)) c.in_ok-clone.ensures.cases ∙ ap (λ x. object (member n x no_members)) c.in_ok-laid.ensures in
-    let left = lay_new_member done (members_view c.next.new.self) seen rest in
-    ap (λ v. join_items (items_view v) left) c.in_ok-push.ensures.items
-    ∙ join_pushed c.loop-name.entries.items c.in_ok-single.field-0 left
-    ∙ ap (λ x. join_items (items_view c.loop-name.entries.items) (item x left)) made
-    ∙ ap (join_items (items_view c.loop-name.entries.items)) (sym (new_member_fresh done n d (members_view c.next.new.self) seen rest fresh))
-    ∙ ap (λ es. join_items (items_view c.loop-name.entries.items) (lay_new_member done (members_view es) seen rest)) (sym c.in-Some.ensures.steps)
-    ∙ c.loop-name.invariant rest
+    let made : view c.in_ok-entry.entry ≡ object (member n (lay done MemberValue d None) no_members) = c.in_ok-entry.ensures ∙ ap (λ x. object (member x (view c.in_ok-laid.laid) no_members)) c.in_ok-clone.ensures.cases ∙ ap (λ x. object (member n x no_members)) c.in_ok-laid.ensures.laid in
+    let left = λ (rest : Items). lay_new_member done (members_view c.next.new.self) seen rest in
+    let split : items_size (lay_new_member done (members_view c.loop-name.name-iterator) seen no_items) ≡ size (view c.in_ok-entry.entry) + items_size (left no_items)
+    = ap (λ es. items_size (lay_new_member done (members_view es) seen no_items)) c.in-Some.ensures.steps
+    ∙ ap items_size (new_member_fresh done n d (members_view c.next.new.self) seen no_items fresh)
+    ∙ ap (λ x. size x + items_size (left no_items)) (sym made) in
+    record {
+      laid = λ rest.
+          ap (λ v. join_items (items_view v) (left rest)) c.in_ok-push.ensures.items
+          ∙ join_pushed c.loop-name.entries.items c.in_ok-entry.entry (left rest)
+          ∙ ap (λ x. join_items (items_view c.loop-name.entries.items) (item x (left rest))) made
+          ∙ ap (join_items (items_view c.loop-name.entries.items)) (sym (new_member_fresh done n d (members_view c.next.new.self) seen rest fresh))
+          ∙ ap (λ es. join_items (items_view c.loop-name.entries.items) (lay_new_member done (members_view es) seen rest)) (sym c.in-Some.ensures.steps)
+          ∙ c.loop-name.invariant.laid rest;
+      left = counted_more c.args.limit c.loop-name.room c.in_ok-room.room _ _ _ _ c.loop-name.invariant.left split c.in_ok-room.ensures.left;
+    }
 
 pub lay_properties-loop-name-init : goal.lay_properties-loop-name-init
 lay_properties-loop-name-init t c =
-    ([], sym c.iter.ensures.rest ∙ sym c.rev-name-items.ensures.source ∙ ap (λ r. r.iter) (sym c.into_iter-name-iterator.ensures.into_iter_gives) ∙ sym (append-nil c.into_iter-name-iterator.result.iter), c.in_ok-laid.ensures ∙ sym c.in_ok-below.ensures)
+    ([], sym c.iter.ensures.rest ∙ sym c.rev-name-items.ensures.source ∙ ap (λ r. r.iter) (sym c.into_iter-name-iterator.ensures.into_iter_gives) ∙ sym (append-nil c.into_iter-name-iterator.result.iter), refl)
 
-pub lay_properties-returns : goal.lay_properties-returns
-lay_properties-returns t c =
+pub lay_properties-returns-clause-laid : goal.lay_properties-returns-clause-laid
+lay_properties-returns-clause-laid t c =
     let aliases = members_view c.args.aliases.now.entries in
     let whole : c.loop-name.invariant.0 ≡ c.args.members.now.entries = sym (c.loop-name.invariant.1 ∙ ap (λ xs. xs ++ c.loop-name.invariant.0) c.in-None.ensures.steps.0) in
-    c.loop-name.invariant.2 ∙ ap (λ es. lay_members aliases c.args.spot (members_view es) (members_view c.in_ok-below.below.entries)) whole
-    ∙ ap (lay_members aliases c.args.spot (members_view c.args.members.now.entries)) c.in_ok-below.ensures
+    c.loop-name.invariant.2 ∙ ap (λ es. lay_members aliases c.args.spot (members_view es) (members_view c.args.below.entries)) whole
 
 pub lay_properties-loop-name-preserved-then-not-is_base_name : goal.lay_properties-loop-name-preserved-then-not-is_base_name
 lay_properties-loop-name-preserved-then-not-is_base_name t c =
@@ -56,13 +70,18 @@ lay_properties-loop-name-preserved-then-not-is_base_name t c =
     let e : Entry = (c.in-Some.name.now, c.in-Some.value.now) in
     let n = string_bytes c.in-Some.name.now in
     let d = view c.in-Some.value.now in
-    let below = members_view c.in_ok-below.below.entries in
+    let below = members_view c.args.below.entries in
+    let split : c.args.members.now.entries ≡ c.next.new.self.iter ++ e ∷ inv.0 = inv.1 ∙ ap (λ xs. xs ++ inv.0) c.in-Some.ensures.steps ∙ append_assoc c.next.new.self.iter (e ∷ []) inv.0 in
+    let apart : NoClash (members_view c.args.members.now.entries) = apart_of c.args.members.now.entries c.iter.ensures.ordered in
     let spot : c.under.result ≡ spot_under c.args.spot n = c.under.ensures ∙ ap (spot_under c.args.spot) c.as_str-then-not-is_base_name-2.ensures.value in
-    let found : option_map (λ b. view b.now) c.property-base.result ≡ get_member n below = c.property-base.ensures ∙ ap (λ x. get_member x below) c.as_str-then-not-is_base_name.ensures.value in
-    let over : view c.in_ok-over.over ≡ lay done (spot_under c.args.spot n) d (get_member n below) = c.in_ok-over.ensures ∙ ap (λ x. lay done x d (option_map (λ b. view b.now) c.property-base.result)) spot ∙ ap (lay done (spot_under c.args.spot n) d) found in
+    let absent : get_member n (members_view inv.0) ≡ None = absent_after c.next.new.self.iter e inv.0 c.args.members.now.entries split apart in
+    let found : option_map (λ b. view b.now) c.property-base.result ≡ get_member n below
+    = c.property-base.ensures ∙ ap (λ x. get_member x (members_view c.loop-name.laid.entries)) c.as_str-then-not-is_base_name.ensures.value
+    ∙ ap (get_member n) inv.2 ∙ lay_members-absent done c.args.spot n (members_view inv.0) below absent in
+    let over : view c.in_ok-over.over ≡ lay done (spot_under c.args.spot n) d (get_member n below) = c.in_ok-over.ensures.laid ∙ ap (λ x. lay done x d (option_map (λ b. view b.now) c.property-base.result)) spot ∙ ap (lay done (spot_under c.args.spot n) d) found in
     let no_base : is_base_name c.args.spot n ≡ false = ap (is_base_name c.args.spot) (sym c.as_str.ensures.value) ∙ sym c.is_base_name.ensures ∙ c.if-not-is_base_name.true in (
       e ∷ inv.0,
-      inv.1 ∙ ap (λ xs. xs ++ inv.0) c.in-Some.ensures.steps ∙ append_assoc c.next.new.self.iter (e ∷ []) inv.0,
+      split,
       ap members_view c.in_ok-insert.ensures.entries
           ∙ members_view-insert_entry c.loop-name.laid.entries c.in_ok-clone.field-0 c.in_ok-over.over
           ∙ ap (λ x. put x (view c.in_ok-over.over) (members_view c.loop-name.laid.entries)) c.in_ok-clone.ensures.cases
@@ -70,3 +89,95 @@ lay_properties-loop-name-preserved-then-not-is_base_name t c =
           ∙ ap (put n (lay done (spot_under c.args.spot n) d (get_member n below))) inv.2
           ∙ sym (lay_members-first done c.args.spot n d (members_view inv.0) below no_base),
     )
+
+pub lay_list-returns-in_err-entries-clause-past : goal.lay_list-returns-in_err-entries-clause-past
+lay_list-returns-in_err-entries-clause-past t c =
+    let p = err_from_is_err_and c.from_residual-in_err-entries.result c.from_residual-in_err-entries.ensures.1 in
+    let is : lists_members c.args.spot ≡ true = sym c.lists_members.ensures ∙ c.if-lists_members.true in
+    rw (p.1, p.2)
+    (due_more c.in_err-entries.field-0.0 c.args.limit _ _ (over_size (members_view c.args.aliases.now.entries) c.args.spot (items_view c.args.items.now.items) (option_map (λ b. view b.now) c.args.base) is)
+    (rw c.in_ok-below.ensures at c.in_err-entries.ensures.past))
+
+pub lay_list-returns-in_err-push_new_entries-clause-past : goal.lay_list-returns-in_err-push_new_entries-clause-past
+lay_list-returns-in_err-push_new_entries-clause-past t c =
+    let p = err_from_is_err_and c.from_residual-in_err-push_new_entries.result c.from_residual-in_err-push_new_entries.ensures.1 in
+    let is : lists_members c.args.spot ≡ true = sym c.lists_members.ensures ∙ c.if-lists_members.true in
+    rw (p.1, p.2)
+    (due_more c.in_err-push_new_entries.field-0.0 c.args.limit _ _ (new_size (members_view c.args.aliases.now.entries) c.args.spot (items_view c.args.items.now.items) (option_map (λ b. view b.now) c.args.base) is)
+    (rw c.in_ok-below.ensures at c.in_err-push_new_entries.ensures.past))
+
+pub lay_properties-returns-in_err-over-clause-past : goal.lay_properties-returns-in_err-over-clause-past
+lay_properties-returns-in_err-over-clause-past t c =
+    let p = err_from_is_err_and c.from_residual.result c.from_residual.ensures.1 in
+    let done = members_view c.args.aliases.now.entries in
+    let inv = c.loop-name.invariant in
+    let e : Entry = (c.in-Some.name.now, c.in-Some.value.now) in
+    let n = string_bytes c.in-Some.name.now in
+    let d = view c.in-Some.value.now in
+    let below = members_view c.args.below.entries in
+    let split : c.args.members.now.entries ≡ c.next.new.self.iter ++ e ∷ inv.0 = inv.1 ∙ ap (λ xs. xs ++ inv.0) c.in-Some.ensures.steps ∙ append_assoc c.next.new.self.iter (e ∷ []) inv.0 in
+    let apart : NoClash (members_view c.args.members.now.entries) = apart_of c.args.members.now.entries c.iter.ensures.ordered in
+    let spot : c.under.result ≡ spot_under c.args.spot n = c.under.ensures ∙ ap (spot_under c.args.spot) c.as_str-then-not-is_base_name-2.ensures.value in
+    let absent : get_member n (members_view inv.0) ≡ None = absent_after c.next.new.self.iter e inv.0 c.args.members.now.entries split apart in
+    let found : option_map (λ b. view b.now) c.property-base.result ≡ get_member n below
+    = c.property-base.ensures ∙ ap (λ x. get_member x (members_view c.loop-name.laid.entries)) c.as_str-then-not-is_base_name.ensures.value
+    ∙ ap (get_member n) inv.2 ∙ lay_members-absent done c.args.spot n (members_view inv.0) below absent in
+    let no_base : is_base_name c.args.spot n ≡ false = ap (is_base_name c.args.spot) (sym c.as_str.ensures.value) ∙ sym c.is_base_name.ensures ∙ c.if-not-is_base_name.true in
+    let part = property_size done c.args.spot n d (members_view c.args.members.now.entries) below no_base (found_among c.next.new.self.iter e inv.0 c.args.members.now.entries split apart) in
+    rw (p.1, p.2)
+    (due_more c.in_err-over.field-0.0 c.args.limit _ _ part (rw (spot, found) at c.in_err-over.ensures.past))
+
+pub lay_over_entries-returns-in_err-laid-clause-past : goal.lay_over_entries-returns-in_err-laid-clause-past
+lay_over_entries-returns-in_err-laid-clause-past t c =
+    let p = err_from_is_err_and c.from_residual.result c.from_residual.ensures.1 in
+    let l = c.loop-entry in
+    let over = λ (b : Data). lay_over (members_view c.args.aliases.now.entries) (items_view c.args.own.now.items) b in
+    let next = over_next over c.args.base.now.items l.entry-index c.entry-item.result (omega arith) (c.entry-item.is ∙ ap (λ xs. get_or xs l.entry-index c.entry-item.result) c.deref-entry-items.ensures.value) in
+    rw (p.1, p.2) (counted_past c.in_err-laid.field-0.0 c.args.limit l.room _ _ _ _ l.invariant.left next c.in_err-laid.ensures.past)
+
+pub lay_over_entries-returns-in_err-room-clause-past : goal.lay_over_entries-returns-in_err-room-clause-past
+lay_over_entries-returns-in_err-room-clause-past t c =
+    let p = err_from_is_err_and c.from_residual-in_err-room.result c.from_residual-in_err-room.ensures.1 in
+    let l = c.loop-entry in
+    let over = λ (b : Data). lay_over (members_view c.args.aliases.now.entries) (items_view c.args.own.now.items) b in
+    let next = over_next over c.args.base.now.items l.entry-index c.entry-item.result (omega arith) (c.entry-item.is ∙ ap (λ xs. get_or xs l.entry-index c.entry-item.result) c.deref-entry-items.ensures.value) in
+    let past = past_due c.in_err-room.field-0.0 l.room (size (view c.in_ok-laid.laid)) c.in_err-room.ensures.past.0 c.in_err-room.ensures.past.1 in
+    rw (p.1, p.2) (counted_past c.in_err-room.field-0.0 c.args.limit l.room _ _ _ _ l.invariant.left next (rw c.in_ok-laid.ensures.laid at past))
+
+pub lay_over_entries-loop-entry-preserved : goal.lay_over_entries-loop-entry-preserved
+lay_over_entries-loop-entry-preserved t c =
+    let l = c.loop-entry in
+    let over = λ (b : Data). lay_over (members_view c.args.aliases.now.entries) (items_view c.args.own.now.items) b in
+    let next = over_next over c.args.base.now.items l.entry-index c.entry-item.result (omega arith) (c.entry-item.is ∙ ap (λ xs. get_or xs l.entry-index c.entry-item.result) c.deref-entry-items.ensures.value) in
+    record { laid = grind (arith, common_steps); left = counted_more c.args.limit l.room c.in_ok-room.room _ _ _ _ l.invariant.left next (rw c.in_ok-laid.ensures.laid at c.in_ok-room.ensures.left) }
+
+pub push_new_entries-returns-in_err-room-clause-past : goal.push_new_entries-returns-in_err-room-clause-past
+push_new_entries-returns-in_err-room-clause-past t c =
+    let p = err_from_is_err_and c.from_residual.result c.from_residual.ensures.1 in
+    let l = c.loop-item in
+    let next = new_next (members_view c.args.aliases.now.entries) (items_view c.args.base.now.items) c.args.own.now.items l.item-index c.item-item.result (omega arith) (c.item-item.is ∙ ap (λ xs. get_or xs l.item-index c.item-item.result) c.deref-item-items.ensures.value) in
+    rw (p.1, p.2) (counted_past c.in_err-room.field-0.0 c.args.limit l.room _ _ _ _ l.invariant.left next c.in_err-room.ensures.past)
+
+pub push_new_entries-loop-item-preserved : goal.push_new_entries-loop-item-preserved
+push_new_entries-loop-item-preserved t c =
+    let l = c.loop-item in
+    let next = new_next (members_view c.args.aliases.now.entries) (items_view c.args.base.now.items) c.args.own.now.items l.item-index c.item-item.result (omega arith) (c.item-item.is ∙ ap (λ xs. get_or xs l.item-index c.item-item.result) c.deref-item-items.ensures.value) in
+    record { laid = grind (arith, common_steps); left = counted_more c.args.limit l.room c.in_ok-room.room _ _ _ _ l.invariant.left next c.in_ok-room.ensures.left }
+
+pub lay_over_entries-returns-clause-within : goal.lay_over_entries-returns-clause-within
+lay_over_entries-returns-clause-within t c =
+    let l = c.loop-entry in
+    let over = λ (b : Data). lay_over (members_view c.args.aliases.now.entries) (items_view c.args.own.now.items) b in
+    let none : items_size (map_items over (items_view (drop l.entry-index c.args.base.now.items))) ≡ 0
+    = at_drop_all (λ v. items_size (map_items over (items_view v))) c.args.base.now.items l.entry-index (omega arith) in
+    let whole = leaves_within c.args.limit l.room _ (counted_all c.args.limit l.room _ (rw none at l.invariant.left)) in
+    subst (λ x. Within c.args.limit (items_size x)) (sym (lay_over_entries-returns-clause-laid t c)) whole
+
+pub push_new_entries-returns-clause-within : goal.push_new_entries-returns-clause-within
+push_new_entries-returns-clause-within t c =
+    let l = c.loop-item in
+    let done = members_view c.args.aliases.now.entries in
+    let seen = items_view c.args.base.now.items in
+    let none : items_size (lay_new done (items_view (drop l.item-index c.args.own.now.items)) seen) ≡ 0
+    = at_drop_all (λ v. items_size (lay_new done (items_view v) seen)) c.args.own.now.items l.item-index (omega arith) in
+    leaves_within c.args.limit l.room _ (counted_all c.args.limit l.room _ (rw none at l.invariant.left))

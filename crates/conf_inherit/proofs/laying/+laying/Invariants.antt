@@ -1,46 +1,51 @@
-use Rattle.std.proofs.Common.{◌≡◌, ◌+◌, ◌*◌, ℕ, take, drop, Option, map, List, ◌++◌}
-use Rattle.serde_json.specs.Data.{Data, Items}
+use Rattle.std.proofs.Common.{◌≡◌, ◌+◌, ◌*◌, take, drop, Option, map, List, ◌++◌}
+use Rattle.serde_json.specs.Data.{Data, Items, no_items}
 use Rattle.serde_json.specs.View.{view, items_view, members_view}
 use Rattle.serde_json.proofs.Views.{Entry}
-use Rattle.conf_inherit.specs.Laying.{lay_base, lay_members, lay_over, lay_over_member, lay_new, lay_new_member, members_below}
+use Rattle.conf_inherit.specs.Laying.{lay_base, lay_members, lay_over, lay_over_member, lay_new, lay_new_member}
 use Rattle.conf_inherit.specs.Names.{join_items, map_items}
+use Rattle.conf_inherit.specs.Size.{items_size}
+use Rattle.conf_inherit.proofs.SizeLemmas.{IsCounted}
 use Rattle.conf_inherit.proofs.laying.+laying.Given as goal
 
 abbrev pub decreases-lay : goal.decreases-lay
-decreases-lay l = 4 * goal.size-lay l
+decreases-lay l = 5 * goal.size-lay l + 1
+
+abbrev pub decreases-lay_value : goal.decreases-lay_value
+decreases-lay_value l = 5 * goal.size-lay_value l
 
 abbrev pub decreases-lay_object : goal.decreases-lay_object
-decreases-lay_object l = 4 * goal.size-lay_object l + 2
+decreases-lay_object l = 5 * goal.size-lay_object l + 3
 
 abbrev pub decreases-lay_inherited : goal.decreases-lay_inherited
-decreases-lay_inherited l = 4 * goal.size-lay_inherited l + 1
+decreases-lay_inherited l = 5 * goal.size-lay_inherited l + 2
 
 abbrev pub decreases-lay_properties : goal.decreases-lay_properties
-decreases-lay_properties l = 4 * goal.size-lay_properties l + 1
+decreases-lay_properties l = 5 * goal.size-lay_properties l + 2
 
 abbrev pub decreases-lay_list : goal.decreases-lay_list
-decreases-lay_list l = 4 * goal.size-lay_list l + 3
+decreases-lay_list l = 5 * goal.size-lay_list l + 4
 
 abbrev pub decreases-lay_over_entries : goal.decreases-lay_over_entries
-decreases-lay_over_entries l = 4 * goal.size-lay_over_entries l + 2
+decreases-lay_over_entries l = 5 * goal.size-lay_over_entries l + 3
 
 abbrev pub decreases-lay_over : goal.decreases-lay_over
-decreases-lay_over l = 4 * goal.size-lay_over l + 1
+decreases-lay_over l = 5 * goal.size-lay_over l + 2
 
 abbrev pub decreases-lay_over_item : goal.decreases-lay_over_item
-decreases-lay_over_item l = 4 * goal.size-lay_over_item l
+decreases-lay_over_item l = 5 * goal.size-lay_over_item l
 
 abbrev pub decreases-lay_over_entry : goal.decreases-lay_over_entry
-decreases-lay_over_entry l = 4 * goal.size-lay_over_entry l + 1
+decreases-lay_over_entry l = 5 * goal.size-lay_over_entry l + 2
 
 abbrev pub decreases-push_new_entries : goal.decreases-push_new_entries
-decreases-push_new_entries l = 4 * goal.size-push_new_entries l + 1
+decreases-push_new_entries l = 5 * goal.size-push_new_entries l + 2
 
 abbrev pub decreases-push_new_item : goal.decreases-push_new_item
-decreases-push_new_item l = 4 * goal.size-push_new_item l
+decreases-push_new_item l = 5 * goal.size-push_new_item l
 
 abbrev pub decreases-push_new_entry : goal.decreases-push_new_entry
-decreases-push_new_entry l = 4 * goal.size-push_new_entry l + 1
+decreases-push_new_entry l = 5 * goal.size-push_new_entry l + 2
 
 -- the properties that are left inherit what all of them do
 abbrev pub invariant-lay_inherited-loop-name : goal.invariant-lay_inherited-loop-name
@@ -50,30 +55,39 @@ invariant-lay_inherited-loop-name l =
 -- the properties that came so far, which are the last ones, are laid over the base
 abbrev pub invariant-lay_properties-loop-name : goal.invariant-lay_properties-loop-name
 invariant-lay_properties-loop-name l =
-    (done : List Entry) × (l.members.entries ≡ l.name-iterator.iter ++ done) × (members_view l.laid.entries ≡ lay_members (members_view l.aliases.entries) l.spot (members_view done) (members_view l.below.entries))
+    (done : List Entry) × (l.members.entries ≡ l.name-iterator.iter ++ done) × (members_view l.laid.entries ≡ lay_members (members_view l.aliases.entries) l.spot (members_view done) (members_view l.fn.below.entries))
 
 -- the items that are left are laid over the entry as all of them are
 abbrev pub invariant-lay_over-loop-item : goal.invariant-lay_over-loop-item
 invariant-lay_over-loop-item l =
     lay_over (members_view l.aliases.entries) (items_view l.own.items) (view l.entry) ≡ lay_over (members_view l.aliases.entries) (items_view (drop l.item-index l.own.items)) (view l.entry)
 
--- the entries so far are those of the base so far
+-- the entries so far are those of the base so far, and the room is what they leave
 abbrev pub invariant-lay_over_entries-loop-entry : goal.invariant-lay_over_entries-loop-entry
-invariant-lay_over_entries-loop-entry l =
-    map view l.entries.items ≡ map (λ b. lay_over (members_view l.aliases.entries) (items_view l.own.items) (view b)) (take l.entry-index l.base.items)
+invariant-lay_over_entries-loop-entry l = record {
+  laid : map view l.entries.items ≡ map (λ b. lay_over (members_view l.aliases.entries) (items_view l.own.items) (view b)) (take l.entry-index l.base.items);
+  left : IsCounted l.fn.limit l.room (items_size (map_items (λ b. lay_over (members_view l.aliases.entries) (items_view l.own.items) b) (items_view l.base.items)))
+      (items_size (map_items (λ b. lay_over (members_view l.aliases.entries) (items_view l.own.items) b) (items_view (drop l.entry-index l.base.items))));
+}
 
 -- the properties that are left are laid over the entry as all of them are
 abbrev pub invariant-lay_over_entry-loop-name : goal.invariant-lay_over_entry-loop-name
 invariant-lay_over_entry-loop-name l =
     (rest : Data) → lay_over_member (members_view l.aliases.entries) (members_view l.members.entries) (view l.entry) rest ≡ lay_over_member (members_view l.aliases.entries) (members_view l.name-iterator) (view l.entry) rest
 
--- the entries so far, and the new ones of what is left
+-- the entries so far, and the new ones of what is left; the room is what the new ones so far leave
 abbrev pub invariant-push_new_entries-loop-item : goal.invariant-push_new_entries-loop-item
-invariant-push_new_entries-loop-item l =
-    join_items (items_view l.entries.items) (lay_new (members_view l.aliases.entries) (items_view (drop l.item-index l.own.items)) (items_view l.base.items))
-    ≡ join_items (items_view l.initial.entries.items) (lay_new (members_view l.aliases.entries) (items_view l.own.items) (items_view l.base.items))
+invariant-push_new_entries-loop-item l = record {
+  laid : join_items (items_view l.entries.items) (lay_new (members_view l.aliases.entries) (items_view (drop l.item-index l.own.items)) (items_view l.base.items))
+      ≡ join_items (items_view l.initial.entries.items) (lay_new (members_view l.aliases.entries) (items_view l.own.items) (items_view l.base.items));
+  left : IsCounted l.fn.limit l.room (items_size (lay_new (members_view l.aliases.entries) (items_view l.own.items) (items_view l.base.items)))
+      (items_size (lay_new (members_view l.aliases.entries) (items_view (drop l.item-index l.own.items)) (items_view l.base.items)));
+}
 
 abbrev pub invariant-push_new_entry-loop-name : goal.invariant-push_new_entry-loop-name
-invariant-push_new_entry-loop-name l =
-    (rest : Items) → join_items (items_view l.entries.items) (lay_new_member (members_view l.aliases.entries) (members_view l.name-iterator) (items_view l.base.items) rest)
-    ≡ join_items (items_view l.initial.entries.items) (lay_new_member (members_view l.aliases.entries) (members_view l.members.entries) (items_view l.base.items) rest)
+invariant-push_new_entry-loop-name l = record {
+  laid : (rest : Items) → join_items (items_view l.entries.items) (lay_new_member (members_view l.aliases.entries) (members_view l.name-iterator) (items_view l.base.items) rest)
+      ≡ join_items (items_view l.initial.entries.items) (lay_new_member (members_view l.aliases.entries) (members_view l.members.entries) (items_view l.base.items) rest);
+  left : IsCounted l.fn.limit l.room (items_size (lay_new_member (members_view l.aliases.entries) (members_view l.members.entries) (items_view l.base.items) no_items))
+      (items_size (lay_new_member (members_view l.aliases.entries) (members_view l.name-iterator) (items_view l.base.items) no_items));
+}

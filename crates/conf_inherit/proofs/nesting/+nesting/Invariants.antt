@@ -1,6 +1,6 @@
 use Rattle.std.proofs.Common.{◌≡◌, drop}
 use Rattle.serde_json.specs.View.{items_view, members_view}
-use Rattle.conf_inherit.specs.Resolution.{items_nest, members_nest}
+use Rattle.conf_inherit.specs.Nesting.{items_nest, members_nest}
 use Rattle.conf_inherit.proofs.nesting.+nesting.Given as goal
 
 abbrev pub invariant-items_nest-loop-item : goal.invariant-items_nest-loop-item

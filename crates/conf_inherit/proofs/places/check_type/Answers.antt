@@ -3,7 +3,7 @@ use Rattle.conf_tree.specs.Flaw.{flaw_of}
 use Rattle.serde_json.specs.Data.{no_members}
 use Rattle.serde_json.specs.View.{view, members_view}
 use Rattle.conf_inherit.specs.Flaws.{flaws}
-use Rattle.conf_inherit.specs.Size.{settled}
+use Rattle.conf_inherit.specs.Settled.{settled}
 use Rattle.conf_inherit.specs.Places.{limit_flaws}
 use Rattle.std.proofs.Common.{false}
 use Rattle.conf_inherit.proofs.FlawLemmas.{refused_first}

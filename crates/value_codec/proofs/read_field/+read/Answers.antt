@@ -17,7 +17,7 @@ pub read_array-returns-in_err-start-clause-value :
 read_array-returns-in_err-start-clause-value t c =
     let p = err_from_is_err_and c.from_residual.result c.from_residual.ensures.1 in
     let e = chain_of c.args.element.now in
-    let unstarted = rw c.field_align.ensures.align at c.in_err-start.ensures.start in
+    let unstarted = rw c.align_of_field.ensures.is at c.in_err-start.ensures.start in
     rw (p.1, p.2) (gives_fault datum_read _ _ (field_unstarted c.args.order (bit_of c.args.order c.args.bytes.now) c.args.limit e.leaf c.args.count e.lengths c.args.at _ (sym unstarted)))
 
 pub read_array-returns-in_err-values-clause-value :
@@ -25,14 +25,14 @@ pub read_array-returns-in_err-values-clause-value :
 read_array-returns-in_err-values-clause-value t c =
     let p = err_from_is_err_and c.from_residual-in_err-values.result c.from_residual-in_err-values.ensures.1 in
     let e = chain_of c.args.element.now in
-    let started = rw c.field_align.ensures.align at c.in_ok-start.ensures.start in
+    let started = rw c.align_of_field.ensures.is at c.in_ok-start.ensures.start in
     rw (p.1, p.2)
     (field_not_many c.args.order (bit_of c.args.order c.args.bytes.now) c.args.limit {A = List Datum × ℕ} (λ x. x) datum_read e.leaf c.args.count e.lengths c.args.at c.in_ok-start.start _ (sym started) c.in_err-values.ensures.values)
 
 pub read_array-returns-clause-value : goal.read_array-returns-clause-value
 read_array-returns-clause-value t c =
     let e = chain_of c.args.element.now in
-    let started = rw c.field_align.ensures.align at c.in_ok-start.ensures.start in
+    let started = rw c.align_of_field.ensures.is at c.in_ok-start.ensures.start in
     field_many c.args.order (bit_of c.args.order c.args.bytes.now) c.args.limit e.leaf c.args.count e.lengths c.args.at c.in_ok-start.start c.in_ok-values.values c.in_ok-values.end (sym started) c.in_ok-values.ensures.values
 
 pub read_elements-returns-in_err-value-clause-values :

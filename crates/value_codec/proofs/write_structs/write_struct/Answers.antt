@@ -32,7 +32,7 @@ write_padding-start-requires-clause-room c =
     let s = c.args.s.now in
     let vs = data_of c.args.values.now in
     let some = not_when_false c.is_empty.result (s.members ≡ []) c.if-is_empty.false c.is_empty.ensures.1 in
-    let start : up c.args.at c.align_of_struct.result ≡ up c.args.at (struct_align s) = ap (up c.args.at) c.align_of_struct.ensures.is in
+    let start : up c.args.at c.align_of.result ≡ up c.args.at (struct_align s) = ap (up c.args.at) c.align_of.ensures.is in
     let end = full_struct_end s c.args.at vs some in
     let onward = le-members_end s.members (up c.args.at (struct_align s)) vs in
     (omega (arith, start, end, onward, c.requires.within), omega (arith, start, end, onward, c.requires.position))
@@ -42,7 +42,7 @@ write_members-requires c =
     let s = c.args.s.now in
     let vs = data_of c.args.values.now in
     let some = not_when_false c.is_empty.result (s.members ≡ []) c.if-is_empty.false c.is_empty.ensures.1 in
-    let start : c.write_padding-start.result ≡ up c.args.at (struct_align s) = c.write_padding-start.ensures.ends ∙ ap (up c.args.at) c.align_of_struct.ensures.is in
+    let start : c.write_padding-start.result ≡ up c.args.at (struct_align s) = c.write_padding-start.ensures.ends ∙ ap (up c.args.at) c.align_of.ensures.is in
     let ends = ap (λ (p : ℕ). members_end s.members p vs) start in
     let end = full_struct_end s c.args.at vs some in
     record {
@@ -58,7 +58,7 @@ returns c =
     let s = c.args.s.now in
     let vs = data_of c.args.values.now in
     let some = not_when_false c.is_empty.result (s.members ≡ []) c.if-is_empty.false c.is_empty.ensures.1 in
-    let start : c.write_padding-start.result ≡ up c.args.at (struct_align s) = c.write_padding-start.ensures.ends ∙ ap (up c.args.at) c.align_of_struct.ensures.is in
+    let start : c.write_padding-start.result ≡ up c.args.at (struct_align s) = c.write_padding-start.ensures.ends ∙ ap (up c.args.at) c.align_of.ensures.is in
     let padding = c.write_padding-start.ensures.writes in
     let b = bit_of o c.write_members.new.bytes in
     let zeros = AreZero-outside (bit_of o c.write_padding-start.new.bytes) b c.args.at c.write_padding-start.result c.write_padding-start.result c.write_members.result

@@ -1,0 +1,76 @@
+-- How a configuration whose objects are each as they should be breaks a rule over the whole, or passes a limit, and the flaw
+-- that tells of it. A flaw of a field stands at its feature, one of a clock at the name of the default clock or at the
+-- feature, one of an event record type at that type, and one of two byte orders at the trace type.
+use Rattle.std.specs.Prelude.{◌≡◌, ◌≢◌, ◌⊎◌, ◌<◌, ◌-◌, ℕ, List, Contains, Option, None, Some, IsSome, length, true, codes}
+use Rattle.serde_json.specs.Data.{Data, string, object, Members}
+use Rattle.serde_json.specs.Events.{members_len}
+use Rattle.ctf_types.specs.AllowedConfig.{HoldsUpTo, StructHasBits}
+use Rattle.ctf_types.specs.declared.clock_type.ClockType.{ClockType}
+use Rattle.ctf_types.specs.declared.config.EventType.{EventType}
+use Rattle.ctf_types.specs.declared.config.StreamType.{StreamType}
+use Rattle.ctf_types.specs.declared.int_type.IntType.{IntType}
+use Rattle.conf_tree.specs.declared.fault_kind.FaultKind.TheVariants.{FieldTooSmall, ZeroSizeRecord, NoClock, NoUuid, Limit, TwoOrders, TimestampSize}
+use Rattle.conf_tree.specs.Flaw.{Flaw, key, here, within}
+use Rattle.conf_tree.specs.Walk.{HasMember}
+use Rattle.conf_check.specs.declared.draft.Draft.{Draft}
+use Rattle.conf_check.specs.declared.limits.Part.{Part}
+use Rattle.conf_check.specs.declared.limits.Part.TheVariants.{Feature, Structure, Extras, Words}
+use Rattle.conf_check.specs.FieldFlaws.{PassesFieldLimit, PassesStructLimit, PassesMembersLimit}
+use Rattle.conf_check.specs.Judgement.{in_type, header_flaw}
+use Rattle.conf_check.specs.Limits.{part_under, most_entries}
+use Rattle.conf_check.specs.StreamRules.{feature_flaw}
+
+-- ---- rules over the whole
+
+-- a flaw of a data stream type, seen from the configuration
+abbrev pub in_stream : StreamType → Flaw → Flaw
+in_stream s flaw = in_type (within (key (codes "data-stream-types")) (within (key s.name) flaw))
+
+-- the timestamp features of a data stream type: what each is of, its name, and the field that it is
+pub data IsTimestampOf (s : StreamType) : List ℕ → List ℕ → Option IntType → Type 0 where
+  of_record : IsTimestampOf s (codes "event-record") (codes "timestamp-field-type") s.event_header.timestamp
+  of_beginning : IsTimestampOf s (codes "packet") (codes "beginning-timestamp-field-type") s.context.timestamp_begin
+  of_end : IsTimestampOf s (codes "packet") (codes "end-timestamp-field-type") s.context.timestamp_end
+
+-- a record of the type has bits: a number, a timestamp, or a field that is in no empty array
+abbrev pub RecordHasBits : StreamType → EventType → Type 0
+RecordHasBits s e = IsSome s.event_header.id ⊎ (IsSome s.event_header.timestamp ⊎ (StructHasBits s.common ⊎ (StructHasBits e.specific ⊎ StructHasBits e.payload)))
+
+pub data BreaksRule (draft : Draft) : Flaw → Type 0 where
+  -- the field of a data stream type's number does not hold the largest of them
+  stream_number : ¬ HoldsUpTo (length draft.config.streams - 1) draft.config.header.stream_id → BreaksRule draft (header_flaw (codes "data-stream-type-id-field-type") FieldTooSmall)
+  -- nor does that of an event record type's number in its data stream type
+  event_number : (s : StreamType) → Contains draft.config.streams s → ¬ HoldsUpTo (length s.events - 1) s.event_header.id
+      → BreaksRule draft (in_stream s (feature_flaw (codes "event-record") (codes "type-id-field-type") FieldTooSmall))
+  -- an event record without bits
+  no_bits : (s : StreamType) (e : EventType) → Contains draft.config.streams s → Contains s.events e → ¬ RecordHasBits s e
+      → BreaksRule draft (in_stream s (within (key (codes "event-record-types")) (within (key e.name) (here ZeroSizeRecord))))
+  -- a default clock that is no clock type
+  no_such_clock : (s : StreamType) (name : List ℕ) → Contains draft.config.streams s → s.default_clock ≡ Some name → ((c : ClockType) → Contains draft.config.clocks c → c.name ≢ name)
+      → BreaksRule draft (in_stream s (within (key (codes "$default-clock-type-name")) (here NoClock)))
+  -- a timestamp that is on without a default clock
+  no_clock : (s : StreamType) (group name : List ℕ) (field : Option IntType) → Contains draft.config.streams s → IsTimestampOf s group name field → IsSome field → s.default_clock ≡ None
+      → BreaksRule draft (in_stream s (feature_flaw group name NoClock))
+  -- an identifier is asked for that is handed in, and none is
+  no_number : draft.lacks_number ≡ true → BreaksRule draft (in_type (within (key (codes "uuid")) (here NoUuid)))
+  -- the identifier's field is on without an identifier
+  no_identifier : IsSome draft.config.header.uuid → draft.config.uuid ≡ None → BreaksRule draft (header_flaw (codes "uuid-field-type") NoUuid)
+  -- both properties of a byte order are there
+  two_orders : draft.two_orders ≡ true → BreaksRule draft (in_type (here TwoOrders))
+  -- a timestamp that has not 64 bits
+  narrow : (s : StreamType) (group name : List ℕ) (field : Option IntType) (t : IntType) → Contains draft.config.streams s → IsTimestampOf s group name field → field ≡ Some t → t.size ≢ 64
+      → BreaksRule draft (in_stream s (feature_flaw group name TimestampSize))
+
+-- ---- limits
+
+pub data PassesLimit : Part → Data → Flaw → Type 0 where
+  -- a map with more entries than its part has at most
+  too_many : {part : Part} (most : ℕ) (ms : Members) → most_entries part ≡ Some most → most < members_len ms → PassesLimit part (object ms) (here Limit)
+  -- a text that people read, of more than 4,096 bytes
+  too_long : (s : List ℕ) → 4096 < length s → PassesLimit Words (string s) (here Limit)
+  -- a feature's own type, a structure, or the extra members of a packet context past a limit of field types
+  in_feature : {d : Data} {flaw : Flaw} → PassesFieldLimit d flaw → PassesLimit Feature d flaw
+  in_structure : {d : Data} {flaw : Flaw} → PassesStructLimit d flaw → PassesLimit Structure d flaw
+  in_extras : {d : Data} {flaw : Flaw} → PassesMembersLimit d flaw → PassesLimit Extras d flaw
+  -- a property past a limit of its own
+  inside : {part : Part} (ms : Members) (k : List ℕ) (d : Data) (flaw : Flaw) → HasMember k d ms → PassesLimit (part_under part k) d flaw → PassesLimit part (object ms) (within (key k) flaw)
