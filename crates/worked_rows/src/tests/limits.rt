@@ -185,7 +185,7 @@ fn refuses_one_piece_too_many(rt: HostRuntime) -> Result<(), Fail> {
     for (slot, text, piece, limit, at, past) in MANY {
         let last = pieces(alloc, piece, *limit)?;
         has_fault(&rt, alloc, *slot, text, last.as_str(), *at)?;
-        let one_more = pieces(alloc, piece, *limit + 1)?;
+        let one_more = pieces(alloc, piece, limit.saturating_add(1))?;
         has_fault(&rt, alloc, *slot, text, one_more.as_str(), *past)?;
     }
     Ok(())
@@ -282,7 +282,7 @@ fn refuses_one_letter_too_many(rt: HostRuntime) -> Result<(), Fail> {
     for (slot, text, limit, past) in LONG {
         let last = repeated(alloc, "a", *limit)?;
         has_fault(&rt, alloc, *slot, text, last.as_str(), NONE)?;
-        let one_more = repeated(alloc, "a", *limit + 1)?;
+        let one_more = repeated(alloc, "a", limit.saturating_add(1))?;
         has_fault(&rt, alloc, *slot, text, one_more.as_str(), *past)?;
     }
     Ok(())
@@ -367,7 +367,7 @@ fn refuses_one_level_too_many(rt: HostRuntime) -> Result<(), Fail> {
     for (slot, text, opens, inner, closes, limit, at, past) in DEEP {
         let last = nested(alloc, opens, inner, closes, *limit)?;
         has_fault(&rt, alloc, *slot, text, last.as_str(), *at)?;
-        let one_more = nested(alloc, opens, inner, closes, *limit + 1)?;
+        let one_more = nested(alloc, opens, inner, closes, limit.saturating_add(1))?;
         has_fault(&rt, alloc, *slot, text, one_more.as_str(), *past)?;
     }
     Ok(())
