@@ -1,4 +1,4 @@
--- The environment of a trace: names of whole numbers and texts (barectf 3.1, "Trace object"; CTF 1.8.3, section 7.1, "env").
+-- The environment of a trace: names of whole numbers and texts (barectf 3.1, "Trace object"; CTF 1.8.3, section 7, the block `env`).
 use Rattle.std.specs.Prelude.{ℕ, List, [], ◌∷◌, Result, Ok, Err}
 use Rattle.serde_json.specs.Data.{Data, null, boolean, number, string, array, object, Members, no_members, member}
 use Rattle.ctf_types.specs.declared.environment.EnvironmentEntry.{EnvironmentEntry}

@@ -1,4 +1,4 @@
--- The names of a configuration (barectf 3.1, "Configuration object"; CTF 1.8.3, section 7.3.2, "Identifiers" and "Keywords").
+-- The names of a configuration (barectf 3.1, "Configuration object"; CTF 1.8.3, appendix C.1.2, "Keywords", and C.1.3, "Identifiers").
 use Rattle.std.specs.Prelude.{ℕ, ◌&&◌, ◌||◌, List, Bool, Result, Ok, Err, length, nat_le, if◌then◌else◌, ⊤}
 use Rattle.std.specs.List.{list_any}
 use Rattle.std.specs.Str.{bytes_eq}

@@ -1,4 +1,4 @@
--- What `integer { .. }` means (CTF 1.8.3, section 4.1.2): its size is needed, from 1 to 64 bits; its alignment is a power of two
+-- What `integer { .. }` means (CTF 1.8.3, section 4.1.5): its size is needed, from 1 to 64 bits; its alignment is a power of two
 -- up to 4,096 bits, by default 8 where the size is a multiple of 8, else 1; it is unsigned and decimal by default; a mapped
 -- integer names a clock of the text. An integer has the trace's byte order. Its encoding is passed over, and it has no other attribute.
 use Rattle.std.specs.Prelude.{ℕ, ◌%◌, Bool, false, ◌&&◌, ◌==◌, nat_lt, nat_le, if◌then◌else◌, List, [], ◌∷◌, Option, Some, None, codes}

@@ -1,4 +1,4 @@
-//! What an environment block means (CTF 1.8.3, section 7.1, "env").
+//! What an environment block means (CTF 1.8.3, section 7, the block `env`).
 
 ghost use Rattle.std.specs.Prelude.{◌≡◌, map, IfOk};
 ghost use Rattle.std.specs.List.{list_any};

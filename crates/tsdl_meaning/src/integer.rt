@@ -1,4 +1,4 @@
-//! What `integer { .. }` means (CTF 1.8.3, section 4.1.2).
+//! What `integer { .. }` means (CTF 1.8.3, section 4.1.5).
 
 ghost use Rattle.std.specs.Prelude.{◌≡◌, ◌↔◌, ◌<◌, ◌≤◌, false, option_map, IfOk, IfSome, IsSome};
 ghost use Rattle.ctf_types.specs.Alignment.{IsAlignment};
