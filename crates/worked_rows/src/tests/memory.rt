@@ -7,7 +7,7 @@ ghost use Rattle.ctf_types.specs.AllowedConfig.{IsConfig};
 
 use crate::tests::small::{Datum, SMALL, changed, payload};
 use conf_check::configure;
-use ctf_types::{Config, Metadata, Text, Values};
+use ctf_types::{Args, Config, Metadata, Text, Values};
 use packet_reader::{ReadStream, StreamEnding, read_stream};
 use std::alloc::{AllocError, Global};
 use std::process::Abort;
@@ -107,20 +107,29 @@ fn traces_a_thousand_records(rt: HostRuntime) -> Result<(), Fail> {
 
 /// Traces so many records with one list of arguments, and takes each packet as it is closed.
 fn traces(rt: &impl Abort, alloc: Global, records: u32) -> Result<(), Fail> {
-    let text = granted(changed(alloc, SMALL, &[]))?;
-    let config = configuration(alloc, text.as_str())?;
     let args = granted(payload(alloc, &[Datum::Unsigned(7)]))?;
-    let clock = ListClock::new(Vec::new(alloc)).ok_or("readings that fall")?;
-    let back_end = granted(ListBackEnd::new(alloc, 2, 16))?;
-    let mut stream = match Stream::new(alloc, &config, "s", clock, back_end, Values::new(alloc)) {
-        Ok(stream) => stream,
-        Err(refused) => return Err(Fail::new(refused.fault)),
-    };
+    let mut stream = stream(alloc)?;
     for _ in 0..records {
-        assert!(rt; stream.trace(0, &args) == Verdict::Accepted(None));
-        if let Some(packet) = stream.take() {
-            stream.give_back(packet.into_buf());
-        }
+        traces_and_takes(rt, &mut stream, &args);
     }
     Ok(())
+}
+
+fn stream(alloc: Global) -> Result<Stream<ListClock, ListBackEnd>, Fail> {
+    let text = granted(changed(alloc, SMALL, &[]))?;
+    let config = configuration(alloc, text.as_str())?;
+    let clock = ListClock::new(Vec::new(alloc)).ok_or("readings that fall")?;
+    let back_end = granted(ListBackEnd::new(alloc, 2, 16))?;
+    match Stream::new(alloc, &config, "s", clock, back_end, Values::new(alloc)) {
+        Ok(stream) => Ok(stream),
+        Err(refused) => Err(Fail::new(refused.fault)),
+    }
+}
+
+fn traces_and_takes(rt: &impl Abort, stream: &mut Stream<ListClock, ListBackEnd>, args: &Args) {
+    let answer = stream.trace(0, args);
+    assert_eq!(rt; answer, Verdict::Accepted(None));
+    if let Some(packet) = stream.take() {
+        stream.give_back(packet.into_buf());
+    }
 }
