@@ -80,6 +80,10 @@ either_or : (a b : Bool) → a ≡ false → b ≡ false → (a || b) ≡ false
 either_or true b h i = absurd (true≢false h)
 either_or false b h i = i
 
+type_spot : Names FieldType
+unfolding names_alias
+type_spot = inl refl
+
 no_limit : (kind : FaultKind) → (let o : Result Data Why = Err None in o ≡ Err (Some kind)) → ⊥
 no_limit kind h = cc
 
@@ -185,7 +189,7 @@ module _ (al : Members) where
       refused why e q kind h (same f) =
           let g : Some why ≡ Some (Some kind) = sym (updated_same st.refused k q (Some why) f) ∙ h in
           let one : why ≡ Some kind = cc in
-          (w, ap (λ x. get_member x al) f ∙ is, (st.done, known, limit_outcome st.done w kind (e ∙ ap (λ x. Err x) one)))
+          (w, ap (λ x. get_member x al) f ∙ is, (type_spot, (st.done, known, limit_outcome st.done w kind (e ∙ ap (λ x. Err x) one))))
 
       go : (t : Bool) → (has st.done k || is_some (st.refused k)) ≡ t → (u : Bool) → all_named (is_over al st) FieldType w ≡ u → (o : Result Data Why) → outcome al st.done w ≡ o → LimitsHold (step al k w st)
       go true a u b o e = rw a limits

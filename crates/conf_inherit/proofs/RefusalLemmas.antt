@@ -13,18 +13,20 @@ use Rattle.conf_tree.specs.declared.fault_kind.FaultKind.TheVariants.{InheritCyc
 use Rattle.conf_inherit.specs.declared.spot.Spot.{Spot}
 use Rattle.conf_inherit.specs.declared.spot.Spot.TheVariants.{Root, Trace, TraceType, Aliases, FieldType}
 use Rattle.conf_inherit.specs.Spot.{spot_under, spot_in_trace_type, spot_of_items, names_alias, names_member_type, lists_members, leads_on}
-use Rattle.conf_inherit.specs.AliasFlaws.{alias_flaws, all_alias_flaws}
+use Rattle.conf_inherit.specs.AliasFlaws.{over_names, first_or_circle, alias_flaws, all_alias_flaws}
 use Rattle.conf_inherit.specs.Circle.{Walks}
+use Rattle.conf_inherit.specs.SameFlaw.{is_same_flaw}
 use Rattle.conf_inherit.specs.Faults.{Passes, FlawHolds, RefusalHolds}
 use Rattle.conf_inherit.specs.Flaws.{flaws}
 use Rattle.conf_inherit.specs.Looks.{AreResolved}
+use Rattle.conf_inherit.specs.Ready.{Names}
 use Rattle.conf_inherit.specs.Places.{too_many, limit_flaws, place_flaws, inner_places, item_places, member_places, max_extra_members}
 use Rattle.conf_inherit.specs.Laying.{lay}
 use Rattle.conf_inherit.specs.Names.{NoClash}
-use Rattle.conf_inherit.specs.Resolution.{members_or_none, trace_name, type_name, aliases_name, aliases_of, in_aliases, from_aliases, if_shallow, resolution}
+use Rattle.conf_inherit.specs.Resolution.{members_or_none, trace_name, type_name, aliases_name, aliases_of, in_aliases, from_aliases, if_shallow, resolution, Resolves}
 use Rattle.conf_inherit.specs.Nesting.{nests}
 use Rattle.conf_inherit.proofs.PlaceLemmas.{place_of_type, place_of_member, place_of_list, place_of_other}
-use Rattle.conf_inherit.proofs.ResolveLemmas.{laid_resolves}
+use Rattle.conf_inherit.proofs.ResolveLemmas.{laid_resolves, resolution_sound}
 use Rattle.conf_inherit.proofs.RoundLemmas.{rounds_resolved}
 use Rattle.conf_inherit.specs.Rounds.{Why, Outcomes, rounds, no_outcomes, has}
 use Rattle.conf_inherit.specs.Settled.{settled}
@@ -54,6 +56,23 @@ module _ (al : Members) where
   along : (s : Spot) (v : Data) (f g : Flaw) → f ≡ g → FlawHolds al s v g → FlawHolds al s v f
   along s v f g e h = subst (FlawHolds al s v) (sym e) h
 
+  -- a flaw of its own holds, and else the circle is told of
+  own_or_circle : (s : Spot) (w : Data) (f : Flaw) (own known : Result ⊤ Flaw) → refusal (flaws al s false no_members w) ≡ own → Among f (first_or_circle own known) → (f ≡ here InheritCycle → FlawHolds al s w f) → FlawHolds al s w f
+  own_or_circle s w f own known is h circle = go own is known h
+    where
+      only : (g : Flaw) → Among f (g ∷ []) → f ≡ g
+      only g (inl e) = e
+      only g (inr x) = absurd x
+
+      go : (own : Result ⊤ Flaw) → refusal (flaws al s false no_members w) ≡ own → (known : Result ⊤ Flaw) → Among f (first_or_circle own known) → FlawHolds al s w f
+      go (Ok x) e known h = circle (only (here InheritCycle) h)
+      go (Err g) e (Ok x) h = circle (only (here InheritCycle) h)
+      go (Err g) e (Err first) h = by (is_same_flaw g first) refl
+        where
+          by : (t : Bool) → is_same_flaw g first ≡ t → FlawHolds al s w f
+          by true e' = along s w f g (only g (rw e' at h)) (flaw_holds al s w g (refused_among (flaws al s false no_members w) g e))
+          by false e' = circle (only (here InheritCycle) (rw e' at h))
+
   -- ---- the aliases
 
   module _ (st : Outcomes) (limits : LimitsHold al st) (walks : (k : List ℕ) → has al k ≡ true → IsOpen st k → Walks al (members_len al) k) where
@@ -69,7 +88,8 @@ module _ (al : Members) where
 
         go : (t : Bool) → has st.done k ≡ t → (o : Option Why) → st.refused k ≡ o → FlawHolds al FieldType w f
         go true a o b = absurd (rw a at h)
-        go false a None b = along FieldType w f (here InheritCycle) (only (here InheritCycle) (rw (a, b) at h)) (inl (FieldType, w, (refl, refl), inl (k, is, walks k (ap is_some is) (a, ap is_some b))))
+        go false a None b = own_or_circle FieldType w f (refusal (flaws al FieldType false no_members w)) (refusal (flaws (over_names al st no_members) FieldType false no_members w)) refl (rw (a, b) at h)
+            (λ e. along FieldType w f (here InheritCycle) e (inl (FieldType, w, (refl, refl), inl (k, is, walks k (ap is_some is) (a, ap is_some b)))))
         go false a (Some (Some kind)) b = passed kind (only (here kind) (rw (a, b) at h)) (limits k kind b)
         go false a (Some None) b = flaw_holds al FieldType w f (rw (a, b) at h)
 
@@ -86,8 +106,8 @@ module _ (al : Members) where
   -- ---- the places
 
   module _ (done : Members) (known : AreResolved al done) where
-    limit_here : (s : Spot) (v : Data) (f : Flaw) → Among f (limit_flaws (settled done s v)) → FlawHolds al s v f
-    limit_here s v f h = let (kind, e, is) = limit_kind (settled done s v) f h in along s v f (here kind) is (passes_here s v kind (done, known, e))
+    limit_here : (s : Spot) (v : Data) (f : Flaw) → Names s → Among f (limit_flaws (settled done s v)) → FlawHolds al s v f
+    limit_here s v f names h = let (kind, e, is) = limit_kind (settled done s v) f h in along s v f (here kind) is (passes_here s v kind (names, (done, known, e)))
 
     many_here : (s : Spot) (v : Data) (f : Flaw) → lists_members s ≡ true → Among f (too_many v) → FlawHolds al s v f
     unfolding too_many
@@ -113,8 +133,8 @@ module _ (al : Members) where
     place_holds s v f h = go (names_alias s) refl (names_member_type s) refl (lists_members s) refl
       where
         go : (a : Bool) → names_alias s ≡ a → (b : Bool) → names_member_type s ≡ b → (c : Bool) → lists_members s ≡ c → FlawHolds al s v f
-        go true a b b' c c' = first_or_rest al f (flaws al s false no_members v) (limit_flaws (settled done s v)) (subst (Among f) (place_of_type al done s v a) h) (flaw_holds al s v f) (limit_here s v f)
-        go false a true b c c' = limit_here s v f (subst (Among f) (place_of_member al done s v a b) h)
+        go true a b b' c c' = first_or_rest al f (flaws al s false no_members v) (limit_flaws (settled done s v)) (subst (Among f) (place_of_type al done s v a) h) (flaw_holds al s v f) (limit_here s v f (inl a))
+        go false a true b c c' = limit_here s v f (inr b) (subst (Among f) (place_of_member al done s v a b) h)
         go false a false b true c = first_or_rest al f (too_many v) (flaws al s false no_members v) (subst (Among f) (place_of_list al done s v a b c) h) (many_here s v f c) (flaw_holds al s v f)
         go false a false b false c = absurd (subst (Among f) (place_of_other al done s v a b c) h)
 
@@ -268,3 +288,11 @@ module _ (t : Data) (f : Flaw) (apart : NoClash (aliases_of t)) where
   -- the kind of a refusal holds at its path
   pub refusal_holds : resolution t ≡ Err f → RefusalHolds t f
   refusal_holds h = from_first (err_aliases (refusal (all_alias_flaws al_of st_of al_of)) (λ a. refusal (inner_places al_of st_of.done Root t) >>= (λ b. refusal (flaws al_of Root false no_members t) >>= (λ c. if_shallow (lay st_of.done Root t None)))) f h)
+
+-- a configuration has a resolution, or a fault that holds
+pub resolved_or_refused : (t : Data) → NoClash (aliases_of t) → ((r : Data) × Resolves t r) ⊎ ((f : Flaw) × RefusalHolds t f)
+resolved_or_refused t apart = go (resolution t) refl
+  where
+    go : (o : Result Data Flaw) → resolution t ≡ o → ((r : Data) × Resolves t r) ⊎ ((f : Flaw) × RefusalHolds t f)
+    go (Ok r) e = inl (r, (resolution_sound t r apart e).0)
+    go (Err f) e = inr (f, refusal_holds t f apart e)

@@ -6,10 +6,13 @@ use Rattle.std.specs.Map.{update}
 use Rattle.serde_json.specs.Data.{Data, Members, no_members, member, put}
 use Rattle.serde_json.specs.Find.{get_member}
 use Rattle.serde_json.proofs.Views.{get_member-put_other}
+use Rattle.std.specs.Prelude.{⊤}
 use Rattle.conf_tree.specs.Flaw.{Flaw, key, within}
+use Rattle.conf_tree.specs.Walk.{refusal}
+use Rattle.conf_inherit.specs.SameFlaw.{is_same_flaw}
 use Rattle.conf_tree.specs.declared.fault_kind.FaultKind.{FaultKind}
 use Rattle.conf_inherit.specs.declared.spot.Spot.TheVariants.{FieldType}
-use Rattle.conf_inherit.specs.AliasFlaws.{alias_flaws, all_alias_flaws}
+use Rattle.conf_inherit.specs.AliasFlaws.{over_names, first_or_circle, alias_flaws, all_alias_flaws}
 use Rattle.conf_inherit.specs.Flaws.{flaws, own_flaws, inner_flaws}
 use Rattle.conf_inherit.specs.Looks.{Looks, AreResolved}
 use Rattle.conf_inherit.specs.Settled.{settled}
@@ -205,6 +208,16 @@ module _ (al : Members) where
 
 -- ---- without a flaw, every alias is resolved
 
+-- an alias without an outcome has a flaw
+open_flawed : (own known : Result ⊤ Flaw) → first_or_circle own known ≡ [] → ⊥
+open_flawed (Ok x) known h = cc
+open_flawed (Err f) (Ok x) h = cc
+open_flawed (Err f) (Err g) h = go (is_same_flaw f g) refl
+  where
+    go : (t : Bool) → is_same_flaw f g ≡ t → ⊥
+    go true is = let bad = rw is at h in cc
+    go false is = let bad = rw is at h in cc
+
 each_sound : (al : Members) (st : Outcomes) (ms : Members) → all_alias_flaws al st ms ≡ [] → AllEntries (λ k w. alias_flaws al st k w ≡ []) ms
 each_sound al st no_members h = tt
 each_sound al st (member k w ms) h = (part_empty (within (key k)) (alias_flaws al st k w) (all_alias_flaws al st ms) h, each_sound al st ms (rest_empty (within (key k)) (alias_flaws al st k w) (all_alias_flaws al st ms) h))
@@ -236,7 +249,7 @@ module _ (al : Members) (st : Outcomes) (sound : all_alias_flaws al st al ≡ []
     where
       at : (w : Data) → get_member n al ≡ Some w → (t : Bool) → has st.done n ≡ t → (o : Option Why) → st.refused n ≡ o → has st.done n ≡ true
       at w is true e o f = e
-      at w is false e None f = let bad = rw (e, f) at (sound_alias n w is) in cc
+      at w is false e None f = absurd (open_flawed (refusal (flaws al FieldType false no_members w)) (refusal (flaws (over_names al st no_members) FieldType false no_members w)) (rw (e, f) at (sound_alias n w is)))
       at w is false e (Some None) f = absurd (no_root (root n f))
       at w is false e (Some (Some kind)) f = let bad = rw (e, f) at (sound_alias n w is) in cc
 

@@ -1,8 +1,9 @@
--- Worked rows of inheritance, by computing: three aliases that inherit one from another, and two that inherit from each other.
+-- Worked rows of inheritance, by computing: three aliases that inherit one from another, two that inherit from each
+-- other, and one that names itself and what is no alias.
 use Rattle.std.specs.Prelude.{◌≡◌, ℕ, List, codes, Ok, Err, [], ◌∷◌, refl}
 use Rattle.serde_json.specs.Data.{Data, number, string, array, object, unsigned, Items, no_items, item, Members, no_members, member}
-use Rattle.conf_tree.specs.declared.fault_kind.FaultKind.TheVariants.{InheritCycle}
-use Rattle.conf_tree.specs.Flaw.{key}
+use Rattle.conf_tree.specs.declared.fault_kind.FaultKind.TheVariants.{InheritCycle, NoSuchAlias}
+use Rattle.conf_tree.specs.Flaw.{key, index}
 use Rattle.conf_inherit.specs.Resolution.{Resolves, aliases_of, resolution, trace_name, type_name, aliases_name}
 use Rattle.conf_inherit.specs.Names.{NoClash}
 use Rattle.conf_inherit.proofs.ResolveLemmas.{resolution_sound}
@@ -76,5 +77,20 @@ circle =
     (member (codes "Q") (object (member (codes "$inherit") (string (codes "P")) no_members)) no_members))
 
 circle_refused : resolution circle ≡ Err (record { path = key (codes "trace") ∷ key (codes "type") ∷ key (codes "$field-type-aliases") ∷ key (codes "P") ∷ []; kind = InheritCycle })
-unfolding trace_name type_name aliases_name field_type_name names_alias spot_under spot_in_type inherit_name
+unfolding trace_name type_name aliases_name field_type_name names_alias spot_under spot_in_type inherit_name lists_members is_entry names_member_type
 circle_refused = refl
+
+-- P with the members x and y, of these types
+abbrev two_texts : List ℕ → List ℕ → Data
+two_texts one other =
+    with_aliases (member (codes "P") (object (member (codes "members") (array (item (object (member (codes "x") (string one) no_members)) (item (object (member (codes "y") (string other) no_members)) no_items))) no_members)) no_members)
+
+-- the flaw stands before the circle
+flaw_before_circle : resolution (two_texts (codes "nope") (codes "P")) ≡ Err (record { path = key (codes "trace") ∷ key (codes "type") ∷ key (codes "$field-type-aliases") ∷ key (codes "P") ∷ key (codes "members") ∷ index 0 ∷ key (codes "x") ∷ []; kind = NoSuchAlias })
+unfolding trace_name type_name aliases_name field_type_name names_alias spot_under spot_in_type inherit_name lists_members is_entry names_member_type spot_of_items
+flaw_before_circle = refl
+
+-- the circle stands before the flaw
+circle_before_flaw : resolution (two_texts (codes "P") (codes "nope")) ≡ Err (record { path = key (codes "trace") ∷ key (codes "type") ∷ key (codes "$field-type-aliases") ∷ key (codes "P") ∷ []; kind = InheritCycle })
+unfolding trace_name type_name aliases_name field_type_name names_alias spot_under spot_in_type inherit_name lists_members is_entry names_member_type spot_of_items
+circle_before_flaw = refl

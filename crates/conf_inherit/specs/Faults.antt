@@ -13,6 +13,7 @@ use Rattle.conf_inherit.specs.Circle.{Walks}
 use Rattle.conf_inherit.specs.Flaws.{is_wrong, is_unknown}
 use Rattle.conf_inherit.specs.Looks.{AreResolved}
 use Rattle.conf_inherit.specs.Places.{max_extra_members}
+use Rattle.conf_inherit.specs.Ready.{Names}
 use Rattle.conf_inherit.specs.Nesting.{nests}
 use Rattle.conf_inherit.specs.Resolution.{aliases_of, Resolves}
 use Rattle.conf_inherit.specs.Settled.{settled}
@@ -33,9 +34,9 @@ abbrev pub Clashes : Spot → Data → List Place → Type 0
 Clashes s v path = (front : List Place) × (t : Spot) × (es : Items) × (i : ℕ) × (j : ℕ) × (n : List ℕ)
     × (path ≡ front ++ index j ∷ key n ∷ []) × Leads s v front t (array es) × (i < j) × HasEntry i n es × HasEntry j n es
 
--- with the aliases resolved, the value w at the spot t passes the limit
+-- a field type w stands at the spot t, and passes the limit with the aliases resolved
 abbrev pub Passes : Members → FaultKind → Spot → Data → Type 0
-Passes al kind t w = (done : Members) × AreResolved al done × (settled done t w ≡ Err kind)
+Passes al kind t w = Names t × ((done : Members) × AreResolved al done × (settled done t w ≡ Err kind))
 
 -- what a kind tells of the value w that a path leads to
 abbrev pub Tells : Members → FaultKind → Spot → Data → Type 0

@@ -10,6 +10,7 @@ pub mod Settled
 pub mod Limits
 pub mod Rounds
 pub mod Circle
+pub mod SameFlaw
 pub mod AliasFlaws
 pub mod Places
 pub mod AliasOutcomes

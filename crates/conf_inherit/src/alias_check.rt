@@ -1,30 +1,80 @@
 //! The first fault of the aliases, in byte order of their names.
-ghost use Rattle.std.specs.Prelude.{◌≡◌, ◌≤◌, ◌<◌, IfErr, string_bytes};
+ghost use Rattle.std.specs.Prelude.{◌≡◌, ◌≤◌, ◌<◌, false, IfOk, IfErr, string_bytes};
 ghost use Rattle.arrayvec.specs.ArrayVec.{array_vec_len};
-ghost use Rattle.serde_json.specs.Data.{depth, members_depth};
+ghost use Rattle.serde_json.specs.Data.{depth, members_depth, no_members};
 ghost use Rattle.serde_json.specs.View.{view, members_view};
 ghost use Rattle.conf_tree.specs.Reading.{Gives};
 ghost use Rattle.conf_tree.specs.Walk.{refusal};
 ghost use Rattle.conf_inherit.specs.AliasOutcomes.{outcomes_of};
-ghost use Rattle.conf_inherit.specs.AliasFlaws.{alias_flaws, all_alias_flaws};
+ghost use Rattle.conf_inherit.specs.AliasFlaws.{over_names, first_or_circle, alias_flaws, all_alias_flaws};
+ghost use Rattle.conf_inherit.specs.Flaws.{flaws};
 
 use crate::Spot;
-use crate::flaws::check_flaws;
 use crate::outcomes::AliasOutcomes;
+use crate::places::check_value;
 use crate::property::has;
+use crate::same::is_same_fault;
 use conf_tree::{ConfFault, FaultKind};
 use serde_json::{Map, Value};
-use std::alloc::Global;
+use std::alloc::{AllocError, Global};
 
-/// Refuses the first fault of an alias.
+/// The names of the aliases that have an outcome.
+fn names_over(
+    alloc: Global,
+    aliases: &Map<String, Value>,
+    outcomes: &AliasOutcomes,
+) -> Result<Map<String, Value>, AllocError>
+    ensures { IfOk result (λ over. members_view over.entries
+        ≡ over_names (members_view aliases.now.entries) (outcomes_of outcomes.now) no_members) }
+{
+    let mut over = Map::new(alloc);
+    for (name, _value) in aliases.iter() {
+        if outcomes.has_outcome(name.as_str()) {
+            drop(over.insert(name.clone()?, Value::Null)?);
+        }
+    }
+    Ok(over)
+}
+
+/// Refuses an alias that leads into a circle, or a fault of its own that stands before the text that does. `over` has
+/// the names of the aliases that lead into none.
+fn check_circle(
+    alloc: Global,
+    value: &Value,
+    aliases: &Map<String, Value>,
+    over: &Map<String, Value>,
+) -> Result<(), ConfFault>
+    requires { depth (view value.now) ≤ 28 }
+    ensures first { Gives (λ _. tt) result (refusal (first_or_circle (refusal (flaws (members_view aliases.now.entries) Spot.FieldType false no_members (view value.now))) (refusal (flaws (members_view over.now.entries) Spot.FieldType false no_members (view value.now))))) }
+    ensures short { IfErr result (λ fault. array_vec_len fault.path ≤ 28) }
+{
+    if let Err(own) = check_value(alloc, value, Spot::FieldType, 28, aliases) {
+        if own.is_memory() {
+            return Err(own);
+        }
+        if let Err(first) = check_value(alloc, value, Spot::FieldType, 28, over) {
+            if first.is_memory() {
+                return Err(first);
+            }
+            if is_same_fault(&own, &first) {
+                return Err(own);
+            }
+        }
+    }
+    Err(ConfFault::here(FaultKind::InheritCycle))
+}
+
+/// Refuses the first fault of an alias, where `over` has the names of the aliases with an outcome.
 fn check_alias(
     alloc: Global,
     name: &str,
     value: &Value,
     aliases: &Map<String, Value>,
     outcomes: &AliasOutcomes,
+    over: &Map<String, Value>,
 ) -> Result<(), ConfFault>
-    requires { depth (view value.now) ≤ 28 }
+    requires nested { depth (view value.now) ≤ 28 }
+    requires over { members_view over.now.entries ≡ over_names (members_view aliases.now.entries) (outcomes_of outcomes.now) no_members }
     ensures first { Gives (λ _. tt) result (refusal (alias_flaws (members_view aliases.now.entries) (outcomes_of outcomes.now) name.now (view value.now))) }
     ensures short { IfErr result (λ fault. array_vec_len fault.path ≤ 28) }
 {
@@ -32,13 +82,30 @@ fn check_alias(
         return Ok(());
     }
     match outcomes.why(name) {
-        None => Err(ConfFault::here(FaultKind::InheritCycle)),
+        None => check_circle(alloc, value, aliases, over),
         Some(Some(kind)) => Err(ConfFault::here(kind)),
-        Some(None) => {
-            let nothing = Map::new(alloc);
-            check_flaws(alloc, value, Spot::FieldType, false, &nothing, 28, aliases)
+        Some(None) => check_value(alloc, value, Spot::FieldType, 28, aliases),
+    }
+}
+
+/// Refuses the first fault of the aliases, where `over` has the names of those with an outcome.
+fn check_each(
+    alloc: Global,
+    aliases: &Map<String, Value>,
+    outcomes: &AliasOutcomes,
+    over: &Map<String, Value>,
+) -> Result<(), ConfFault>
+    requires nested { members_depth (members_view aliases.now.entries) ≤ 28 }
+    requires over { members_view over.now.entries ≡ over_names (members_view aliases.now.entries) (outcomes_of outcomes.now) no_members }
+    ensures first { Gives (λ _. tt) result (refusal (all_alias_flaws (members_view aliases.now.entries) (outcomes_of outcomes.now) (members_view aliases.now.entries))) }
+    ensures short { IfErr result (λ fault. array_vec_len fault.path ≤ 29) }
+{
+    for (name, value) in aliases.iter() {
+        if let Err(fault) = check_alias(alloc, name.as_str(), value, aliases, outcomes, over) {
+            return Err(fault.in_property(alloc, name.as_str()));
         }
     }
+    Ok(())
 }
 
 /// Refuses the first fault of the aliases.
@@ -51,10 +118,8 @@ pub(crate) fn check_aliases(
     ensures first { Gives (λ _. tt) result (refusal (all_alias_flaws (members_view aliases.now.entries) (outcomes_of outcomes.now) (members_view aliases.now.entries))) }
     ensures short { IfErr result (λ fault. array_vec_len fault.path ≤ 29) }
 {
-    for (name, value) in aliases.iter() {
-        if let Err(fault) = check_alias(alloc, name.as_str(), value, aliases, outcomes) {
-            return Err(fault.in_property(alloc, name.as_str()));
-        }
+    match names_over(alloc, aliases, outcomes) {
+        Ok(over) => check_each(alloc, aliases, outcomes, &over),
+        Err(_) => Err(ConfFault::here(FaultKind::OutOfMemory)),
     }
-    Ok(())
 }

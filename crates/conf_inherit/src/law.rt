@@ -27,6 +27,12 @@ pub fn refusal_holds()
     ensures { (t : Data) (flaw : Flaw) → NoClash (aliases_of t) → resolution t ≡ Err flaw → RefusalHolds t flaw }
 {}
 
+/// A configuration has a resolution, or a fault that holds: where none holds, there is a resolution.
+pub fn resolution_or_fault()
+    ensures { (t : Data) → NoClash (aliases_of t)
+        → ((r : Data) × Resolves t r) ⊎ ((flaw : Flaw) × RefusalHolds t flaw) }
+{}
+
 /// A field type is resolved exactly where it, and each type that it inherits from, is within the limits by itself.
 pub fn type_fits()
     ensures { (done : Members) (s : Spot) (v r : Data) → settled done s v ≡ Ok r

@@ -14,12 +14,16 @@ mod places;
 mod property;
 mod resolution;
 mod rounds;
+mod same;
 mod settled;
 mod size;
 mod spot;
 #[cfg(test)]
 mod tests;
 
-pub use law::{limit_is_passed, one_resolution, refusal_holds, resolution_exists, type_fits};
+pub use law::{
+    limit_is_passed, one_resolution, refusal_holds, resolution_exists, resolution_or_fault,
+    type_fits,
+};
 pub use resolution::resolve;
 pub(crate) use spot::Spot;

@@ -110,6 +110,41 @@ fn refuses_at_the_first_place(rt: HostRuntime) -> Result<(), Fail> {
 }
 
 #[test]
+fn refuses_what_stands_before_a_circle(rt: HostRuntime) -> Result<(), Fail> {
+    let alloc = rt.alloc();
+    let circle =
+        "trace/type/$field-type-aliases/P: alias inherits from itself: expected a chain of aliases that ends";
+    let rows = [
+        (
+            "\"P\":{\"class\":\"struct\",\"members\":[{\"x\":\"nope\"},{\"y\":\"P\"}]}",
+            "trace/type/$field-type-aliases/P/members/0/x: no such alias: expected the name of an alias of this configuration",
+        ),
+        (
+            "\"P\":{\"class\":\"struct\",\"members\":[{\"y\":\"P\"},{\"x\":\"nope\"}]}",
+            circle,
+        ),
+        (
+            "\"P\":{\"$inherit\":\"Q\",\"members\":[{\"x\":\"nope\"}]},\"Q\":{\"$inherit\":\"P\"}",
+            circle,
+        ),
+        (
+            "\"P\":{\"members\":[{\"x\":{}},{\"x\":{}},{\"y\":\"P\"}]}",
+            "trace/type/$field-type-aliases/P/members/1/x: name is taken: expected one that nothing else in this structure has",
+        ),
+        ("\"P\":{\"members\":[{\"x\":{}},{\"x\":\"P\"}]}", circle),
+        (
+            "\"P\":{\"members\":[{\"x\":1},{\"y\":\"P\"}]}",
+            "trace/type/$field-type-aliases/P/members/0/x: wrong kind of value: expected the kind that this place asks for",
+        ),
+    ];
+    for (aliases, expected) in rows {
+        let answer = resolved_payload(alloc, aliases, "{}")?;
+        assert_eq!(rt; answer.as_str(), expected, "{aliases}");
+    }
+    Ok(())
+}
+
+#[test]
 fn ends_soon_on_heavy_aliases(rt: HostRuntime) -> Result<(), Fail> {
     let alloc = rt.alloc();
     let mut aliases = String::from_str(alloc, "\"a0\":{\"class\":\"uint\",\"size\":8}")?;
