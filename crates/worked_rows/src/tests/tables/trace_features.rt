@@ -221,4 +221,14 @@ pub const TRACE_TYPES: &[Row] = &[
         "OutOfRange",
         "$features/uuid-field-type",
     ),
+    (
+        r#"{"trace-byte-order":"le","uuid":"79e49040-21b5-42d4-a83b-646f78666b62","$features":{"uuid-field-type":{"class":"dynamic-array","element-field-type":U8}}}"#,
+        "OutOfRange",
+        "$features/uuid-field-type",
+    ),
+    (
+        r#"{"trace-byte-order":"le","uuid":"79e49040-21b5-42d4-a83b-646f78666b62","$features":{"uuid-field-type":{"class":"struct"}}}"#,
+        "OutOfRange",
+        "$features/uuid-field-type",
+    ),
 ];
