@@ -165,3 +165,52 @@ fn reads_the_traces_identifier(rt: HostRuntime) -> Result<(), Fail> {
         "Faulty(Identity, 0)",
     )
 }
+
+/// The clock of a file's stream, nothing where it has none.
+fn is_of_clock(
+    rt: &impl Abort,
+    alloc: Global,
+    metadata: &Metadata,
+    digits: &str,
+    clock: &str,
+) -> Result<(), Fail>
+    requires { IsMetadata metadata.now }
+{
+    let bytes = bytes_of(alloc, digits)?;
+    assert!(rt; bytes.len() < 1000);
+    let read = read_stream(
+        alloc,
+        metadata,
+        Text::from_str(alloc, "a")?,
+        bytes.as_slice(),
+    )?;
+    let found = match &read.clock {
+        Some(name) => name.as_str(),
+        None => "",
+    };
+    assert_eq!(rt; found, clock, "clock of {digits}");
+    Ok(())
+}
+
+/// A file is of its stream's clock, and of none where it has no packet, or its stream no timestamp.
+#[test]
+fn names_the_clock_of_a_file(rt: HostRuntime) -> Result<(), Fail> {
+    let alloc = rt.alloc();
+    let clocked = read_back(alloc, &configured(alloc, CLOCKED, None)?)?;
+    is_of_clock(
+        &rt,
+        alloc,
+        &clocked,
+        "c1fc1fc1 0200 0188 000000000000000a 000000000000000c 00 00 00 000000000000000a fffe 01 000000000000000b 6f6b00 000000000000000000000000000000",
+        "clk",
+    )?;
+    is_of_clock(&rt, alloc, &clocked, "", "")?;
+    let small = read_back(alloc, &small(alloc, &[])?)?;
+    is_of_clock(
+        &rt,
+        alloc,
+        &small,
+        "c11ffcc1 80000000 70000000 01020000",
+        "",
+    )
+}
