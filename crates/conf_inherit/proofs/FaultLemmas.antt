@@ -65,7 +65,7 @@ below_next : (j i : ℕ) → j < i → j < suc i
 below_next j i lt = omega arith
 
 -- the names that are seen are those of entries before the place i
-abbrev Seen : Items → ℕ → Members → Type 0
+abbrev pub Seen : Items → ℕ → Members → Type 0
 Seen es i seen = (n : List ℕ) → has seen n ≡ true → (j : ℕ) × (j < i) × HasEntry j n es
 
 -- what is left of a list stands from the place i on
@@ -87,7 +87,7 @@ has_marked (member k d ms) seen n h = go (has_marked ms (put k null seen) n h) (
     go (inl f) (same e) = inr (d, inl (e, refl))
     go (inl f) (other apart) = inl (ap is_some (sym (get_member-put_other n k null seen apart)) ∙ f)
 
-seen_next_at : (es : Items) (i : ℕ) (e : Data) (seen : Members) → get_item i es ≡ Some e → Seen es i seen → (n : List ℕ) → has (mark e seen) n ≡ true → (j : ℕ) × (j < suc i) × HasEntry j n es
+pub seen_next_at : (es : Items) (i : ℕ) (e : Data) (seen : Members) → get_item i es ≡ Some e → Seen es i seen → (n : List ℕ) → has (mark e seen) n ≡ true → (j : ℕ) × (j < suc i) × HasEntry j n es
 seen_next_at es i (object ms) seen is before n h = go (has_marked ms seen n h)
   where
     go : (has seen n ≡ true) ⊎ ((d : Data) × HasMember n d ms) → (j : ℕ) × (j < suc i) × HasEntry j n es
@@ -99,7 +99,7 @@ seen_next_at es i (number x) seen is before n h = let (j, lt, m) = before n h in
 seen_next_at es i (string x) seen is before n h = let (j, lt, m) = before n h in (j, below_next j i lt, m)
 seen_next_at es i (array x) seen is before n h = let (j, lt, m) = before n h in (j, below_next j i lt, m)
 
-none_seen : (n : List ℕ) → has no_members n ≡ true → ⊥
+pub none_seen : (n : List ℕ) → has no_members n ≡ true → ⊥
 none_seen n h = true≢false (sym h)
 
 and_one : (a b : Bool) → (a && b) ≡ true → a ≡ true
@@ -202,3 +202,20 @@ module _ (al : Members) where
 
       inner : Among f (inner_flaws al s no_members v) → FlawHolds al s v f
       inner a = elim (inner_holds v s no_members f a) [ inl holds ↦ holds | inr taken ↦ absurd (none_seen taken.0 taken.6) ]
+
+  -- a flaw that a value has by itself holds
+  pub flaw_of_itself_holds : (s : Spot) (v : Data) (f : Flaw) → Among f (own_flaws al s false v) → FlawHolds al s v f
+  flaw_of_itself_holds s v f h = elim (own_holds al s false v f h) [ inl holds ↦ holds | inr bad ↦ absurd (true≢false (sym bad.1)) ]
+
+  among_mapped : (p : Place) (f g : Flaw) (xs : List Flaw) → f ≡ within p g → Among g xs → Among f (map (within p) xs)
+  among_mapped p f g (x ∷ xs) e (inl is) = inl (e ∙ ap (within p) is)
+  among_mapped p f g (x ∷ xs) e (inr h) = inr (among_mapped p f g xs e h)
+  among_mapped p f g [] e h = absurd h
+
+  -- a flaw of an entry, with the names of the entries before it, holds, and so does what else is wrong in it
+  pub entry_holds : (s : Spot) (es : Items) (i : ℕ) (seen : Members) (e : Data) (f : Flaw) (more : List Flaw) → get_item i es ≡ Some e → Seen es i seen
+      → (g : Flaw) × (f ≡ within (index i) g) × Among g ((own_flaws al (spot_of_items s) false e ++ inner_flaws al (spot_of_items s) seen e) ++ more)
+      → ((g : Flaw) → Among g more → FlawHolds al (spot_of_items s) e g) → FlawHolds al s (array es) f
+  entry_holds s es i seen e f more is before (g, same_f, a) deeper = first_or_rest g (own_flaws al (spot_of_items s) false e ++ inner_flaws al (spot_of_items s) seen e) more a
+      (λ b. item_at s es i seen e f is before (among_mapped (index i) f g (own_flaws al (spot_of_items s) false e ++ inner_flaws al (spot_of_items s) seen e) same_f b) (λ x c. inner_holds e (spot_of_items s) seen x c))
+      (λ b. subst (FlawHolds al s (array es)) (sym same_f) (holds_in_list al s i e es g is (deeper g b)))

@@ -17,7 +17,7 @@ use Rattle.conf_inherit.specs.AliasFlaws.{over_names, first_or_circle, alias_fla
 use Rattle.conf_inherit.specs.Circle.{Walks}
 use Rattle.conf_inherit.specs.SameFlaw.{is_same_flaw}
 use Rattle.conf_inherit.specs.Faults.{Passes, FlawHolds, RefusalHolds}
-use Rattle.conf_inherit.specs.Flaws.{flaws}
+use Rattle.conf_inherit.specs.Flaws.{own_flaws, flaws, mark}
 use Rattle.conf_inherit.specs.Looks.{AreResolved}
 use Rattle.conf_inherit.specs.Ready.{Names}
 use Rattle.conf_inherit.specs.Places.{too_many, limit_flaws, place_flaws, inner_places, item_places, member_places, max_extra_members}
@@ -31,7 +31,7 @@ use Rattle.conf_inherit.proofs.RoundLemmas.{rounds_resolved}
 use Rattle.conf_inherit.specs.Rounds.{Why, Outcomes, rounds, no_outcomes, has}
 use Rattle.conf_inherit.specs.Settled.{settled}
 use Rattle.conf_inherit.proofs.CircleLemmas.{IsOpen, open_walks, LimitsHold, limits_hold}
-use Rattle.conf_inherit.proofs.FaultLemmas.{Among, among_within, holds_in_object, holds_in_list, flaw_holds, first_or_rest, Aligned, aligned_here, aligned_next}
+use Rattle.conf_inherit.proofs.FaultLemmas.{Among, among_within, holds_in_object, entry_holds, flaw_of_itself_holds, flaw_holds, first_or_rest, Aligned, aligned_here, aligned_next, Seen, seen_next_at, none_seen}
 use Rattle.conf_inherit.proofs.ListLemmas.{AllEntries, found_each}
 use Rattle.conf_inherit.proofs.LayingLemmas.{Meets, same, other, meets, get_same, get_other}
 
@@ -135,21 +135,16 @@ module _ (al : Members) where
         go : (a : Bool) → names_alias s ≡ a → (b : Bool) → names_member_type s ≡ b → (c : Bool) → lists_members s ≡ c → FlawHolds al s v f
         go true a b b' c c' = first_or_rest al f (flaws al s false no_members v) (limit_flaws (settled done s v)) (subst (Among f) (place_of_type al done s v a) h) (flaw_holds al s v f) (limit_here s v f (inl a))
         go false a true b c c' = limit_here s v f (inr b) (subst (Among f) (place_of_member al done s v a b) h)
-        go false a false b true c = first_or_rest al f (too_many v) (flaws al s false no_members v) (subst (Among f) (place_of_list al done s v a b c) h) (many_here s v f c) (flaw_holds al s v f)
+        go false a false b true c = first_or_rest al f (too_many v) (own_flaws al s false v) (subst (Among f) (place_of_list al done s v a b c) h) (many_here s v f c) (flaw_of_itself_holds al s v f)
         go false a false b false c = absurd (subst (Among f) (place_of_other al done s v a b c) h)
 
-    items_at : (s : Spot) (es : Items) (f : Flaw) → (t : Bool) → lists_members s ≡ t → Among f (inner_places al done s (array es)) → (Among f (item_places al done s 0 es) → FlawHolds al s (array es) f) → FlawHolds al s (array es) f
+    items_at : (s : Spot) (es : Items) (f : Flaw) → (t : Bool) → lists_members s ≡ t → Among f (inner_places al done s (array es)) → (Among f (item_places al done s 0 no_members es) → FlawHolds al s (array es) f) → FlawHolds al s (array es) f
     items_at s es f true is h k = k (rw is at h)
     items_at s es f false is h k = absurd (rw is at h)
 
     members_at : (s : Spot) (ms : Members) (f : Flaw) → (t : Bool) → leads_on s ≡ t → Among f (inner_places al done s (object ms)) → (Among f (member_places al done s ms) → FlawHolds al s (object ms) f) → FlawHolds al s (object ms) f
     members_at s ms f true is h k = k (rw is at h)
     members_at s ms f false is h k = absurd (rw is at h)
-
-    item_here : (s : Spot) (es : Items) (i : ℕ) (e : Data) (f : Flaw) → get_item i es ≡ Some e → (g : Flaw) × (f ≡ within (index i) g) × Among g (place_flaws al done (spot_of_items s) e ++ inner_places al done (spot_of_items s) e)
-        → ((g : Flaw) → Among g (inner_places al done (spot_of_items s) e) → FlawHolds al (spot_of_items s) e g) → FlawHolds al s (array es) f
-    item_here s es i e f is (g, same_f, a) deeper = along s (array es) f (within (index i) g) same_f (holds_in_list al s i e es g is
-        (first_or_rest al g (place_flaws al done (spot_of_items s) e) (inner_places al done (spot_of_items s) e) a (place_holds (spot_of_items s) e g) (deeper g)))
 
     member_here : (s : Spot) (ms : Members) (k : List ℕ) (d : Data) (f : Flaw) → HasMember k d ms → (g : Flaw) × (f ≡ within (key k) g) × Among g (place_flaws al done (spot_under s k) d ++ inner_places al done (spot_under s k) d)
         → ((g : Flaw) → Among g (inner_places al done (spot_under s k) d) → FlawHolds al (spot_under s k) d g) → FlawHolds al s (object ms) f
@@ -162,15 +157,16 @@ module _ (al : Members) where
       places_hold (boolean b) s f h = absurd h
       places_hold (number n) s f h = absurd h
       places_hold (string n) s f h = absurd h
-      places_hold (array es) s f h = items_at s es f (lists_members s) refl h (items_hold es s es 0 f (λ j d g. let same : j ≡ 0 + j = omega arith in subst (λ x. get_item x es ≡ Some d) same g))
+      places_hold (array es) s f h = items_at s es f (lists_members s) refl h (items_hold es s es 0 no_members f (λ j d g. let same : j ≡ 0 + j = omega arith in subst (λ x. get_item x es ≡ Some d) same g) (λ n b. absurd (none_seen n b)))
       places_hold (object ms) s f h = members_at s ms f (leads_on s) refl h (members_hold ms s ms f (λ k d m. m))
 
-      items_hold : (rest : Items) (s : Spot) (es : Items) (i : ℕ) (f : Flaw) → Aligned es i rest → Among f (item_places al done s i rest) → FlawHolds al s (array es) f
-      items_hold no_items s es i f al' h = absurd h
-      items_hold (item e rest) s es i f al' h =
-          first_or_rest al f (map (within (index i)) (place_flaws al done (spot_of_items s) e ++ inner_places al done (spot_of_items s) e)) (item_places al done s (suc i) rest) h
-          (λ a. item_here s es i e f (aligned_here es i e rest al') (among_within (index i) f (place_flaws al done (spot_of_items s) e ++ inner_places al done (spot_of_items s) e) a) (λ g b. places_hold e (spot_of_items s) g b))
-          (λ a. items_hold rest s es (suc i) f (aligned_next es i e rest al') a)
+      items_hold : (rest : Items) (s : Spot) (es : Items) (i : ℕ) (seen : Members) (f : Flaw) → Aligned es i rest → Seen es i seen → Among f (item_places al done s i seen rest) → FlawHolds al s (array es) f
+      items_hold no_items s es i seen f al' before h = absurd h
+      items_hold (item e rest) s es i seen f al' before h =
+          let t = spot_of_items s in
+          first_or_rest al f (map (within (index i)) (flaws al t false seen e ++ inner_places al done t e)) (item_places al done s (suc i) (mark e seen) rest) h
+          (λ a. entry_holds al s es i seen e f (inner_places al done t e) (aligned_here es i e rest al') before (among_within (index i) f (flaws al t false seen e ++ inner_places al done t e) a) (λ g b. places_hold e t g b))
+          (λ a. items_hold rest s es (suc i) (mark e seen) f (aligned_next es i e rest al') (seen_next_at es i e seen (aligned_here es i e rest al') before) a)
 
       members_hold : (rest : Members) (s : Spot) (ms : Members) (f : Flaw) → ((k : List ℕ) (d : Data) → HasMember k d rest → HasMember k d ms) → Among f (member_places al done s rest) → FlawHolds al s (object ms) f
       members_hold no_members s ms f sub h = absurd h

@@ -1,5 +1,6 @@
 -- What is wrong at the places of a configuration where field types stand, in walk order: the flaws of the type
--- there, or else the limit that it passes once it is resolved.
+-- there, or else the limit that it passes once it is resolved. The extra members of a packet context are such
+-- places one after the other, and each has its flaws before its limit.
 use Rattle.std.specs.Prelude.{ℕ, suc, List, [], ◌∷◌, ◌++◌, map, Result, Ok, Err, false, nat_lt, if◌then◌else◌}
 use Rattle.serde_json.specs.Data.{Data, null, boolean, number, string, array, object, Items, no_items, item, Members, no_members, member}
 use Rattle.serde_json.specs.Events.{items_len}
@@ -8,7 +9,7 @@ use Rattle.conf_tree.specs.declared.fault_kind.FaultKind.{FaultKind}
 use Rattle.conf_tree.specs.declared.fault_kind.FaultKind.TheVariants.{Limit}
 use Rattle.conf_inherit.specs.declared.spot.Spot.{Spot}
 use Rattle.conf_inherit.specs.Spot.{spot_under, spot_of_items, names_alias, names_member_type, lists_members, leads_on}
-use Rattle.conf_inherit.specs.Flaws.{flaws}
+use Rattle.conf_inherit.specs.Flaws.{own_flaws, flaws, mark}
 use Rattle.conf_inherit.specs.Settled.{settled}
 
 -- the most extra members of a packet context
@@ -23,12 +24,12 @@ abbrev pub limit_flaws : Result Data FaultKind → List Flaw
 limit_flaws (Ok r) = []
 limit_flaws (Err kind) = here kind ∷ []
 
--- what is wrong with a value as a whole that stands at a place of field types
+-- what is wrong with a value as a whole that stands at a place of field types, or that lists extra members
 unfoldable pub place_flaws : Members → Members → Spot → Data → List Flaw
 place_flaws al done s v =
     if names_alias s then flaws al s false no_members v ++ limit_flaws (settled done s v)
     else if names_member_type s then limit_flaws (settled done s v)
-    else if lists_members s then too_many v ++ flaws al s false no_members v
+    else if lists_members s then too_many v ++ own_flaws al s false v
     else []
 
 abbrev mutual
@@ -38,13 +39,14 @@ abbrev mutual
   inner_places al done s (boolean b) = []
   inner_places al done s (number n) = []
   inner_places al done s (string n) = []
-  inner_places al done s (array es) = if lists_members s then item_places al done s 0 es else []
+  inner_places al done s (array es) = if lists_members s then item_places al done s 0 no_members es else []
   inner_places al done s (object ms) = if leads_on s then member_places al done s ms else []
 
-  pub item_places : Members → Members → Spot → ℕ → Items → List Flaw
-  item_places al done s i no_items = []
-  item_places al done s i (item e es) =
-      map (within (index i)) (place_flaws al done (spot_of_items s) e ++ inner_places al done (spot_of_items s) e) ++ item_places al done s (suc i) es
+  -- the entries of a list of extra members from place i on; `seen` has the names of those before them
+  pub item_places : Members → Members → Spot → ℕ → Members → Items → List Flaw
+  item_places al done s i seen no_items = []
+  item_places al done s i seen (item e es) =
+      map (within (index i)) (flaws al (spot_of_items s) false seen e ++ inner_places al done (spot_of_items s) e) ++ item_places al done s (suc i) (mark e seen) es
 
   pub member_places : Members → Members → Spot → Members → List Flaw
   member_places al done s no_members = []

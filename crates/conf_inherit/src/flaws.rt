@@ -62,7 +62,7 @@ fn is_unknown(value: &Value, spot: Spot, aliases: &Map<String, Value>) -> bool
 }
 
 /// Refuses the first flaw of a value itself, where its name may be taken.
-fn check_itself(
+pub(crate) fn check_itself(
     value: &Value,
     spot: Spot,
     taken: bool,
@@ -84,7 +84,7 @@ fn check_itself(
 }
 
 /// Adds the name of an entry to those of the entries so far.
-fn mark(entry: &Value, seen: &mut Map<String, Value>) -> Result<(), AllocError>
+pub(crate) fn mark(entry: &Value, seen: &mut Map<String, Value>) -> Result<(), AllocError>
     ensures { OnOk result (members_view seen.new.entries
         ≡ mark (view entry.now) (members_view seen.old.entries)) }
 {

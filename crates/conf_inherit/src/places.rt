@@ -5,12 +5,12 @@ ghost use Rattle.serde_json.specs.Data.{depth, items_depth, members_depth, array
 ghost use Rattle.serde_json.specs.View.{view, items_view, members_view};
 ghost use Rattle.conf_tree.specs.Reading.{Gives};
 ghost use Rattle.conf_tree.specs.Walk.{refusal};
-ghost use Rattle.conf_inherit.specs.Flaws.{flaws};
+ghost use Rattle.conf_inherit.specs.Flaws.{own_flaws, flaws};
 ghost use Rattle.conf_inherit.specs.Settled.{settled};
 ghost use Rattle.conf_inherit.specs.Places.{too_many, limit_flaws, place_flaws, inner_places, item_places, member_places};
 
 use crate::Spot;
-use crate::flaws::check_flaws;
+use crate::flaws::{check_flaws, check_itself, mark};
 use crate::settled::settle;
 use conf_tree::{ConfFault, FaultKind};
 use serde_json::{Map, Value};
@@ -97,24 +97,16 @@ fn check_type(
     check_limits(alloc, value, spot, resolved)
 }
 
-/// Refuses a list of extra members that is too long, or else its first flaw.
+/// Refuses a list of extra members that is too long, or a value that is none.
 #[tactic(auto, using(crate::proofs::FlawLemmas::refused_later))]
-fn check_extra(
-    alloc: Global,
-    value: &Value,
-    spot: Spot,
-    levels: usize,
-    aliases: &Map<String, Value>,
-) -> Result<(), ConfFault>
-    requires nested { depth (view value.now) ≤ levels }
-    requires shallow { levels ≤ 32 }
-    ensures first { Gives (λ _. tt) result (refusal (too_many (view value.now) ++ flaws (members_view aliases.now.entries) spot false no_members (view value.now))) }
-    ensures short { IfErr result (λ fault. array_vec_len fault.path ≤ levels) }
+fn check_extra(value: &Value, spot: Spot, aliases: &Map<String, Value>) -> Result<(), ConfFault>
+    ensures first { Gives (λ _. tt) result (refusal (too_many (view value.now) ++ own_flaws (members_view aliases.now.entries) spot false (view value.now))) }
+    ensures short { IfErr result (λ fault. array_vec_len fault.path ≡ 0) }
 {
     if let Err(fault) = check_count(value) {
         return Err(fault);
     }
-    check_value(alloc, value, spot, levels, aliases)
+    check_itself(value, spot, false, aliases)
 }
 
 /// Refuses what is wrong with a value as a whole that stands at a place of field types.
@@ -139,7 +131,7 @@ fn check_place(
         return check_limits(alloc, value, spot, resolved);
     }
     if spot.lists_members() {
-        return check_extra(alloc, value, spot, levels, aliases);
+        return check_extra(value, spot, aliases);
     }
     Ok(())
 }
@@ -176,6 +168,7 @@ pub(crate) fn check_places(
     }
 }
 
+/// Refuses the first fault of the extra members of a packet context, in their order.
 #[cycle(places)]
 fn check_item_places(
     alloc: Global,
@@ -187,24 +180,54 @@ fn check_item_places(
 ) -> Result<(), ConfFault>
     requires nested { items_depth (items_view items.now.items) ≤ levels }
     requires shallow { levels < 32 }
-    ensures first { Gives (λ _. tt) result (refusal (item_places (members_view aliases.now.entries) (members_view resolved.now.entries) spot 0 (items_view items.now.items))) }
+    ensures first { Gives (λ _. tt) result (refusal (item_places (members_view aliases.now.entries) (members_view resolved.now.entries) spot 0 no_members (items_view items.now.items))) }
     ensures short { IfErr result (λ fault. array_vec_len fault.path ≤ levels + 1) }
 {
+    let mut seen = Map::new(alloc);
     for (index, item) in items.iter().enumerate() {
-        if let Err(fault) = check_place_and_inner(
+        if let Err(fault) = check_entry(
             alloc,
             item,
             spot.of_items(),
+            &seen,
             levels,
             aliases,
             resolved,
         ) {
             return Err(fault.inside(index));
         }
+        if mark(item, &mut seen).is_err() {
+            return Err(ConfFault::here(FaultKind::OutOfMemory));
+        }
     }
     Ok(())
 }
 
+/// Refuses the first flaw of an extra member, or else the limit that its field type passes. `seen` has the names of
+/// the entries before it.
+#[cycle(places)]
+#[tactic(auto, using(crate::proofs::FlawLemmas::refused_first, crate::proofs::FlawLemmas::refused_later))]
+fn check_entry(
+    alloc: Global,
+    value: &Value,
+    spot: Spot,
+    seen: &Map<String, Value>,
+    levels: usize,
+    aliases: &Map<String, Value>,
+    resolved: &Map<String, Value>,
+) -> Result<(), ConfFault>
+    requires nested { depth (view value.now) ≤ levels }
+    requires shallow { levels ≤ 32 }
+    ensures first { Gives (λ _. tt) result (refusal (flaws (members_view aliases.now.entries) spot false (members_view seen.now.entries) (view value.now) ++ inner_places (members_view aliases.now.entries) (members_view resolved.now.entries) spot (view value.now))) }
+    ensures short { IfErr result (λ fault. array_vec_len fault.path ≤ levels) }
+{
+    if let Err(fault) = check_flaws(alloc, value, spot, false, seen, levels, aliases) {
+        return Err(fault);
+    }
+    check_places(alloc, value, spot, levels, aliases, resolved)
+}
+
+/// Refuses the first fault at the places in an object's properties.
 #[cycle(places)]
 fn check_member_places(
     alloc: Global,

@@ -188,7 +188,12 @@ fn structure(alloc: Global, count: u32, member: &str) -> Result<String, AllocErr
 /// What is said of the payload once the aliases are resolved: `ok`, or the place that is refused and why.
 fn judged(alloc: Global, aliases: &str, payload: &str) -> Result<String, AllocError> {
     let text = configuration(alloc, aliases, payload)?;
-    match read_tree(alloc, text.as_str().as_bytes()) {
+    verdict(alloc, text.as_str())
+}
+
+/// What is said of a configuration: `ok`, or the place that is refused and why.
+fn verdict(alloc: Global, text: &str) -> Result<String, AllocError> {
+    match read_tree(alloc, text.as_bytes()) {
         Ok(tree) => match resolve(alloc, tree) {
             Ok(_) => String::from_str(alloc, "ok"),
             Err(fault) => format!(in alloc; "{fault}"),
@@ -291,6 +296,46 @@ fn ends_soon_on_heavy_heirs(rt: HostRuntime) -> Result<(), Fail> {
     for (row, payload, expected) in rows {
         let answer = judged(alloc, big.as_str(), payload)?;
         assert_eq!(rt; answer.as_str(), expected, "{row}");
+    }
+    Ok(())
+}
+
+/// Of the extra members of a packet context each has its faults before the limit that it passes, and all of that
+/// before the next one.
+#[test]
+fn judges_extra_members_one_after_the_other(rt: HostRuntime) -> Result<(), Fail> {
+    let alloc = rt.alloc();
+    let big = heavy_alias(alloc, "big", 3998)?;
+    let list = "trace/type/data-stream-types/s/packet-context-field-type-extra-members";
+    let rows = [
+        (
+            "{\"x\":{\"members\":[{\"a\":\"big\"},{\"b\":\"big\"}]}},{\"y\":\"nope\"}",
+            "0/x: past a limit of size: expected fewer or smaller parts",
+        ),
+        (
+            "{\"x\":{\"members\":[{\"a\":\"big\"},{\"b\":\"big\"}]}},{\"x\":{}}",
+            "0/x: past a limit of size: expected fewer or smaller parts",
+        ),
+        (
+            "{\"x\":\"nope\"},{\"y\":{\"members\":[{\"a\":\"big\"},{\"b\":\"big\"}]}}",
+            "0/x: no such alias: expected the name of an alias of this configuration",
+        ),
+        (
+            "{\"x\":{}},{\"x\":{\"members\":[{\"a\":\"big\"},{\"b\":\"big\"}]}}",
+            "1/x: name is taken: expected one that nothing else in this structure has",
+        ),
+        (
+            "{\"x\":{\"members\":[{\"a\":\"big\"},{\"b\":\"big\"},{\"c\":\"nope\"}]}}",
+            "0/x/members/2/c: no such alias: expected the name of an alias of this configuration",
+        ),
+    ];
+    for (extras, expected) in rows {
+        let text = format!(in alloc;
+            "{{\"trace\":{{\"type\":{{\"$field-type-aliases\":{{{big}}},\"data-stream-types\":{{\"s\":{{\"packet-context-field-type-extra-members\":[{extras}]}}}}}}}}}}"
+        )?;
+        let expected = format!(in alloc; "{list}/{expected}")?;
+        let answer = verdict(alloc, text.as_str())?;
+        assert_eq!(rt; answer.as_str(), expected.as_str(), "{extras}");
     }
     Ok(())
 }

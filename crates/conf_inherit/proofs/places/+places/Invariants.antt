@@ -1,5 +1,5 @@
 use Rattle.std.proofs.Common.{◌≡◌, ◌≤◌, ◌+◌, ◌*◌, drop}
-use Rattle.serde_json.specs.Data.{items_depth, members_depth}
+use Rattle.serde_json.specs.Data.{no_members, items_depth, members_depth}
 use Rattle.serde_json.specs.View.{items_view, members_view}
 use Rattle.conf_inherit.specs.Places.{item_places, member_places}
 use Rattle.conf_inherit.proofs.places.+places.Given as goal
@@ -9,6 +9,9 @@ decreases-check_places l = 3 * goal.size-check_places l
 
 abbrev pub decreases-check_place_and_inner : goal.decreases-check_place_and_inner
 decreases-check_place_and_inner l = 3 * goal.size-check_place_and_inner l + 1
+
+abbrev pub decreases-check_entry : goal.decreases-check_entry
+decreases-check_entry l = 3 * goal.size-check_entry l + 1
 
 abbrev pub decreases-check_item_places : goal.decreases-check_item_places
 decreases-check_item_places l = 3 * goal.size-check_item_places l + 2
@@ -20,7 +23,7 @@ decreases-check_member_places l = 3 * goal.size-check_member_places l + 2
 abbrev pub invariant-check_item_places-loop-index : goal.invariant-check_item_places-loop-index
 invariant-check_item_places-loop-index l =
     (items_depth (items_view (drop l.index l.items.items)) ≤ l.levels)
-    × (item_places (members_view l.aliases.entries) (members_view l.resolved.entries) l.spot 0 (items_view l.items.items) ≡ item_places (members_view l.aliases.entries) (members_view l.resolved.entries) l.spot l.index (items_view (drop l.index l.items.items)))
+    × (item_places (members_view l.aliases.entries) (members_view l.resolved.entries) l.spot 0 no_members (items_view l.items.items) ≡ item_places (members_view l.aliases.entries) (members_view l.resolved.entries) l.spot l.index (members_view l.seen.entries) (items_view (drop l.index l.items.items)))
 
 -- what is left of the object has all the flaws
 abbrev pub invariant-check_member_places-loop-name : goal.invariant-check_member_places-loop-name
