@@ -16,7 +16,7 @@ use Rattle.conf_check.specs.declared.feature.Choice.TheVariants.{On, Off, Own}
 use Rattle.conf_check.specs.declared.feature.FeatureRule.{FeatureRule}
 use Rattle.conf_check.specs.declared.feature.FeatureRule.TheVariants.{Plain, Size, Magic, Identifier}
 use Rattle.conf_check.specs.declared.limits.Part.TheVariants as part
-use Rattle.conf_check.specs.Feature.{number_type, magic_type, byte_type, own_of, stands_elsewhere, array_of, plain_of, not_off, magic_or_not, is_byte, byte_or_not, identifier_or_not, identifier_of, choice_of, chosen, chosen_size, mapped, mapped_if_on, next_feature, next_size, next_timestamp, next_magic, next_identifier}
+use Rattle.conf_check.specs.Feature.{number_type, magic_type, byte_type, own_of, is_static_array, array_of, plain_of, not_off, magic_or_not, is_byte, byte_or_not, identifier_or_not, identifier_of, choice_of, chosen, chosen_size, mapped, mapped_if_on, next_feature, next_size, next_timestamp, next_magic, next_identifier}
 use Rattle.conf_check.specs.FieldType.{class_in, unsigned_field_of, field_of, field_in, field_limits}
 use Rattle.conf_check.specs.Limits.{limits, type_limits}
 use Rattle.conf_check.specs.Order.{Ascends, MembersAscend}
@@ -113,15 +113,15 @@ array_there (array ds) t e = e
 array_there (object ms) t e = e
 
 -- an array that is read has a class of field types
-behind_the_class : (b : Bool) (r : Result Choice Flaw) (c : Choice) → cond b (Err (here OutOfRange)) r ≡ Ok c → r ≡ Ok c
-behind_the_class true r c e = absurd cc
-behind_the_class false r c e = e
+behind_the_class : (b : Bool) (r : Result Choice Flaw) (c : Choice) → cond b r (Err (here OutOfRange)) ≡ Ok c → r ≡ Ok c
+behind_the_class true r c e = e
+behind_the_class false r c e = absurd cc
 
 field_there : (d : Data) (t : IntType) → identifier_of d ≡ Ok (Own t) → (field_of d >>= identifier_or_not) ≡ Ok (Own t)
 field_there d t e =
     let there = both_read (object_of d) _ (Own t) (array_there d t e) in
     let class = both_read (class_in there.0) _ (Own t) there.2 in
-    behind_the_class (stands_elsewhere class.0) (field_of d >>= identifier_or_not) (Own t) class.2
+    behind_the_class (is_static_array class.0) (field_of d >>= identifier_or_not) (Own t) class.2
 
 leaf_unclocked : (leaf : Leaf) (t : IntType) → leaf ≡ Number t → IsConfigLeaf leaf → t.clock ≡ None
 leaf_unclocked leaf t is good = subst IsConfigLeaf is good

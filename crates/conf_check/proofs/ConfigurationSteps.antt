@@ -5,11 +5,11 @@ use Rattle.serde_json.specs.Read.{read}
 use Rattle.conf_tree.specs.declared.fault.ConfFault.{ConfFault}
 use Rattle.ctf_types.specs.declared.config.Config.{Config}
 use Rattle.conf_tree.specs.Flaw.{Flaw, flaw_of, IsMemory}
-use Rattle.conf_tree.specs.Walk.{IsTreeOf}
+use Rattle.conf_tree.specs.Walk.{IsTreeOf, IsFirstFlaw, Reads, FlawHolds, max_levels}
 use Rattle.conf_inherit.specs.Faults.{RefusalHolds}
 use Rattle.conf_inherit.specs.Resolution.{aliases_of, resolution, Resolves}
 use Rattle.conf_inherit.proofs.OneReading.{one_look}
-use Rattle.conf_check.specs.Configuration.{IsInnocent, RefusedForMemory, ConfiguresByLookUp}
+use Rattle.conf_check.specs.Configuration.{IsInnocent, IsNoTree, RefusedForMemory, ConfiguresByLookUp}
 use Rattle.conf_check.specs.ConfigurationRows.{IsConfigurationOf}
 use Rattle.conf_check.specs.Judgement.{check_reading}
 use Rattle.conf_check.proofs.ConfigurationRowLaws.{configuration_read}
@@ -28,6 +28,13 @@ memory_alone text number t r fault tree resolved only = λ c configures.
     let found : resolution t ≡ Ok q = subst (λ x. resolution x ≡ Ok q) same configures.3 in
     let equal : q ≡ r = same_resolution q r (resolution t) found resolved in
     only c (subst (λ x. IsConfigurationOf x number c) equal configures.4)
+
+-- a text that has no tree is refused for what is wrong with it
+pub no_tree : (text : List ℕ) (fault : ConfFault) → IsMemory fault ⊎ IsFirstFlaw text (flaw_of fault) → IsMemory fault ⊎ ((d : Data) → Reads text d → FlawHolds d max_levels (flaw_of fault)) → IsMemory fault ⊎ IsNoTree text (flaw_of fault)
+no_tree text fault (inl memory) holds = inl memory
+no_tree text fault (inr first) (inl memory) = inl memory
+no_tree text fault (inr (inl none)) (inr holds) = inr (inl none)
+no_tree text fault (inr (inr (d, rest, reads, is))) (inr holds) = inr (inr (d, reads, holds d reads))
 
 -- ---- by look-up: the tree and its resolution are those that were found
 

@@ -202,19 +202,19 @@ dynamic_only StaticArray e = absurd cc
 dynamic_only Structure e = absurd cc
 
 -- an object of one class is of no other
-same_class : (class other : FieldClass) (d : Data) (ms ns : Members) → IsOfClass class d ms → IsOfClass other d ns → class ≡ other
+pub same_class : (class other : FieldClass) (d : Data) (ms ns : Members) → IsOfClass class d ms → IsOfClass other d ns → class ≡ other
 same_class class other d ms ns (is, says) (is_too, says_too) =
     let same : ns ≡ ms = cc in
     let says_other : class_in ms ≡ Ok other = subst (λ l. class_in l ≡ Ok other) same says_too in
     same_value class other (class_in ms) says says_other
 
-no_such_object : (class : FieldClass) (d : Data) (ms : Members) → as_object d ≡ None → ¬ IsOfClass class d ms
+pub no_such_object : (class : FieldClass) (d : Data) (ms : Members) → as_object d ≡ None → ¬ IsOfClass class d ms
 no_such_object class d ms none (is, says) = absurd cc
 
-object_none : (d : Data) (flaw : Flaw) → object_of d ≡ Err flaw → as_object d ≡ None
+pub object_none : (d : Data) (flaw : Flaw) → object_of d ≡ Err flaw → as_object d ≡ None
 object_none d flaw e = (wanted_refused (as_object d) flaw e).0
 
-no_such_class : (class : FieldClass) (d : Data) (ms ns : Members) (flaw : Flaw) → as_object d ≡ Some ms → class_in ms ≡ Err flaw → ¬ IsOfClass class d ns
+pub no_such_class : (class : FieldClass) (d : Data) (ms ns : Members) (flaw : Flaw) → as_object d ≡ Some ms → class_in ms ≡ Err flaw → ¬ IsOfClass class d ns
 no_such_class class d ms ns flaw there refused (is, says) =
     let same : ns ≡ ms = cc in
     let says_there : class_in ms ≡ Ok class = subst (λ l. class_in l ≡ Ok class) same says in

@@ -22,7 +22,7 @@ use Rattle.conf_check.specs.Alias.{alias_of, aliases_in, aliases_of}
 use Rattle.conf_check.specs.Broken.{HasUnknown, MaySayNot}
 use Rattle.conf_check.specs.ClockType.{Offset, max_u64, offset_in, offset_of, or_no_offset, next_offset, before_origin, origin_in, after_origin, clock_in, clock_type_of, clock_member_of, clocks_in, clock_types_of}
 use Rattle.conf_check.specs.Environment.{environment_value_of, entry_of, entry_member_of, entries_in, environment_of}
-use Rattle.conf_check.specs.Feature.{stands_elsewhere, array_of_class, plain_of, not_off, magic_or_not, is_byte, byte_or_not, identifier_or_not, array_of, identifier_of, choice_of, next_feature, next_size, next_timestamp, next_magic, next_identifier}
+use Rattle.conf_check.specs.Feature.{array_of_class, plain_of, not_off, magic_or_not, is_byte, byte_or_not, identifier_or_not, array_of, identifier_of, choice_of, next_feature, next_size, next_timestamp, next_magic, next_identifier}
 use Rattle.conf_check.specs.Features.{or_empty, header_fields_in, header_in, header_of, next_header, event_header_in, event_header_of, next_event_header, front_in, back_in, context_in, context_of, next_context, stream_fields_in, stream_fields_of}
 use Rattle.conf_check.specs.declared.words.FieldClass.{FieldClass}
 use Rattle.conf_check.specs.declared.words.FieldClass.TheVariants as classes
@@ -34,7 +34,7 @@ use Rattle.conf_check.specs.Name.{name_of, plain_name_of}
 use Rattle.conf_check.specs.ObjectFlaws.{IsNoSuch, HasWrongEntry, IsIdentifierField, IsNoFeature, IsNoHeaderObject, IsNoHeader, IsNoEventHeaderObject, IsNoEventHeader, IsNoPacketObject, IsNoPacketFeatures, IsNoStreamFeaturesObject, IsNoStreamFeatures, IsNoOffsetObject, IsNoOffset, IsNoClockObject, IsNoClock, IsNoClockTypes, IsNoEnvironmentEntry, IsNoEnvironment, IsNoAlias, IsNoAliases, IsNoLogLevelAlias, IsNoLogLevelAliases, IsNoLogLevel}
 use Rattle.conf_check.specs.Property.{first_unknown, next, no_more}
 use Rattle.conf_check.specs.Scalar.{natural_of, signed_of, config_text_of, uuid_of}
-use Rattle.conf_check.proofs.FieldFlawLaws.{class_refused, field_refused, unsigned_field_refused}
+use Rattle.conf_check.proofs.FieldFlawLaws.{class_refused, field_refused, unsigned_field_refused, same_class, no_such_object, object_none, no_such_class}
 use Rattle.conf_check.proofs.LeafFlawLaws.{wanted_found, refused_here_or_next, refused_there, refused_test, none_refused, holds_of, same_flaw, no_more_refused, next_refused, object_refused, flag_refused, natural_refused, signed_refused, config_text_refused, uuid_refused, name_refused, plain_name_refused}
 
 -- ---- steps
@@ -154,31 +154,31 @@ not_identifier t flaw e = λ is. let read = identifier_read t is in clash (ident
     clash : (r : Result Choice Flaw) (c : Choice) (f : Flaw) → r ≡ Ok c → r ≡ Err f → ⊥
     clash r c f p q = absurd cc
 
-identifier_field_refused : (d : Data) (flaw : Flaw) → as_bool d ≡ None → (field_of d >>= identifier_or_not) ≡ Err flaw → IsNoFeature Identifier d flaw
-identifier_field_refused d flaw none e =
+identifier_field_refused : (d : Data) (ms : Members) (flaw : Flaw) → as_bool d ≡ None → IsOfClass classes.StaticArray d ms → (field_of d >>= identifier_or_not) ≡ Err flaw → IsNoFeature Identifier d flaw
+identifier_field_refused d ms flaw none is e =
     either_step (field_of d) identifier_or_not flaw e
-    (λ r. IsNoFeature.no_field refl none (field_refused d flaw r))
+    (λ r. IsNoFeature.no_field refl none (λ class ns of_class. same_class class classes.StaticArray d ns ms of_class is) (field_refused d flaw r))
     (λ t is r. holds_of (IsNoFeature Identifier d) (here OutOfRange) flaw (identifier_kind t flaw r) (IsNoFeature.no_identifier t refl is (not_identifier t flaw r)))
 
-elsewhere_refused : (class : FieldClass) (d : Data) (ms : Members) (flaw : Flaw) → IsOfClass class d ms → stands_elsewhere class ≡ true → flaw ≡ here OutOfRange → IsNoFeature Identifier d flaw
-elsewhere_refused class d ms flaw is at told = holds_of (IsNoFeature Identifier d) (here OutOfRange) flaw told (IsNoFeature.another_class class ms refl is at)
+other_class_refused : (class : FieldClass) (d : Data) (ms : Members) (flaw : Flaw) → IsOfClass class d ms → class ≢ classes.StaticArray → flaw ≡ here OutOfRange → IsNoFeature Identifier d flaw
+other_class_refused class d ms flaw is at told = holds_of (IsNoFeature Identifier d) (here OutOfRange) flaw told (IsNoFeature.another_class class ms refl is at)
 
 array_of_class_refused : (class : FieldClass) (d : Data) (ms : Members) (flaw : Flaw) → as_bool d ≡ None → IsOfClass class d ms → array_of_class class d ≡ Err flaw → IsNoFeature Identifier d flaw
-array_of_class_refused classes.DynamicArray d ms flaw none is e = elsewhere_refused classes.DynamicArray d ms flaw is refl cc
-array_of_class_refused classes.Structure d ms flaw none is e = elsewhere_refused classes.Structure d ms flaw is refl cc
-array_of_class_refused classes.UnsignedInteger d ms flaw none is e = identifier_field_refused d flaw none e
-array_of_class_refused classes.SignedInteger d ms flaw none is e = identifier_field_refused d flaw none e
-array_of_class_refused classes.UnsignedEnumeration d ms flaw none is e = identifier_field_refused d flaw none e
-array_of_class_refused classes.SignedEnumeration d ms flaw none is e = identifier_field_refused d flaw none e
-array_of_class_refused classes.Text d ms flaw none is e = identifier_field_refused d flaw none e
-array_of_class_refused classes.StaticArray d ms flaw none is e = identifier_field_refused d flaw none e
+array_of_class_refused classes.DynamicArray d ms flaw none is e = other_class_refused classes.DynamicArray d ms flaw is (λ same. absurd cc) cc
+array_of_class_refused classes.Structure d ms flaw none is e = other_class_refused classes.Structure d ms flaw is (λ same. absurd cc) cc
+array_of_class_refused classes.UnsignedInteger d ms flaw none is e = other_class_refused classes.UnsignedInteger d ms flaw is (λ same. absurd cc) cc
+array_of_class_refused classes.SignedInteger d ms flaw none is e = other_class_refused classes.SignedInteger d ms flaw is (λ same. absurd cc) cc
+array_of_class_refused classes.UnsignedEnumeration d ms flaw none is e = other_class_refused classes.UnsignedEnumeration d ms flaw is (λ same. absurd cc) cc
+array_of_class_refused classes.SignedEnumeration d ms flaw none is e = other_class_refused classes.SignedEnumeration d ms flaw is (λ same. absurd cc) cc
+array_of_class_refused classes.Text d ms flaw none is e = other_class_refused classes.Text d ms flaw is (λ same. absurd cc) cc
+array_of_class_refused classes.StaticArray d ms flaw none is e = identifier_field_refused d ms flaw none is e
 
 array_refused : (d : Data) (flaw : Flaw) → as_bool d ≡ None → array_of d ≡ Err flaw → IsNoFeature Identifier d flaw
 array_refused d flaw none e =
     either_step (object_of d) _ flaw e
-    (λ r. IsNoFeature.no_field refl none (IsNoFieldWithin.no_object (object_refused d flaw r)))
+    (λ r. IsNoFeature.no_field refl none (λ class ms of_class. absurd (no_such_object class d ms (object_none d flaw r) of_class)) (IsNoFieldWithin.no_object (object_refused d flaw r)))
     (λ ms there r. let is = wanted_found (as_object d) ms there in either_step (class_in ms) _ flaw r
-    (λ s. IsNoFeature.no_field refl none (IsNoFieldWithin.no_class ms is (class_refused ms flaw s)))
+    (λ s. IsNoFeature.no_field refl none (λ class ns of_class. absurd (no_such_class class d ms ns flaw is s of_class)) (IsNoFieldWithin.no_class ms is (class_refused ms flaw s)))
     (λ class told s. array_of_class_refused class d ms flaw none (is, told) s))
 
 identifier_refused : (d : Data) (flaw : Flaw) → identifier_of d ≡ Err flaw → IsNoFeature Identifier d flaw

@@ -6,7 +6,7 @@ use Rattle.std.proofs.lemmas.Bool.{eqb-false, leb-false, lt-ltb, false≢true, a
 use Rattle.std.proofs.lemmas.List.Elements.{recursion_from_All}
 use Rattle.std.proofs.lemmas.List.Folds.{list_any_at}
 use Rattle.std.proofs.lemmas.Slice.Eq.{bytes_eq-Decides}
-use Rattle.serde_json.specs.Data.{Data, null, boolean, number, string, array, object, Members, no_members, member}
+use Rattle.serde_json.specs.Data.{Data, null, boolean, number, string, array, object, Items, Members, no_members, member}
 use Rattle.serde_json.specs.Events.{members_len}
 use Rattle.ctf_types.specs.AllowedConfig.{HoldsUpTo, MemberHasBits, StructHasBits}
 use Rattle.ctf_types.specs.FieldTypes.{chain_of}
@@ -111,16 +111,16 @@ text_refused Words s flaw e =
     passes_as Words (string s) (here Limit) flaw t.3 (too_long s (subst (λ n. n < length s) same t.2))
 text_refused _ s flaw e = absurd cc
 
-list_refused : (part : Part) (d : Data) (flaw : Flaw) → list_limits part d ≡ Err flaw → PassesLimit part d flaw
+list_refused : (part : Part) (ds : Items) (flaw : Flaw) → list_limits part (array ds) ≡ Err flaw → PassesLimit part (array ds) flaw
 unfolding list_limits
-list_refused Extras d flaw e = in_extras (members_limits_refused d flaw e)
-list_refused _ d flaw e = absurd cc
+list_refused Extras ds flaw e = in_extras (members_limits_refused (array ds) flaw e)
+list_refused _ ds flaw e = absurd cc
 
-type_refused : (part : Part) (d : Data) (flaw : Flaw) → type_limits part d ≡ Err flaw → PassesLimit part d flaw
+type_refused : (part : Part) (ms : Members) (flaw : Flaw) → type_limits part (object ms) ≡ Err flaw → PassesLimit part (object ms) flaw
 unfolding type_limits
-type_refused Feature d flaw e = in_feature (field_limits_refused d flaw e)
-type_refused Structure d flaw e = in_structure (struct_limits_refused d flaw e)
-type_refused _ d flaw e = absurd cc
+type_refused Feature ms flaw e = in_feature (field_limits_refused (object ms) flaw e)
+type_refused Structure ms flaw e = in_structure (struct_limits_refused (object ms) flaw e)
+type_refused _ ms flaw e = absurd cc
 
 entries_refused : (part : Part) (ms : Members) (flaw : Flaw) → entries_limit part ms ≡ Err flaw → PassesLimit part (object ms) flaw
 unfolding entries_limit
@@ -143,10 +143,10 @@ mutual
   limit_refused (boolean b) part flaw e = absurd cc
   limit_refused (number n) part flaw e = absurd cc
   limit_refused (string s) part flaw e = text_refused part s flaw e
-  limit_refused (array ds) part flaw e = list_refused part (array ds) flaw e
+  limit_refused (array ds) part flaw e = list_refused part ds flaw e
   limit_refused (object ms) part flaw e =
       elim (refused_here_or_next (type_limits part (object ms)) (λ _. entries_limit part ms >>= (λ _. member_limits part ms)) flaw e) [
-        | inl first ↦ type_refused part (object ms) flaw first
+        | inl first ↦ type_refused part ms flaw first
         | inr rest ↦ elim (refused_here_or_next (entries_limit part ms) (λ _. member_limits part ms) flaw rest.2) [
           | inl first ↦ entries_refused part ms flaw first
           | inr last ↦ there part ms flaw (member_refused ms part flaw last.2)

@@ -4,7 +4,8 @@ use Rattle.std.specs.Prelude.{◌≡◌, ◌⊎◌, ℕ, List, Option, Result, O
 use Rattle.serde_json.specs.Data.{Data, Members}
 use Rattle.ctf_types.specs.declared.config.Config.{Config}
 use Rattle.conf_tree.specs.declared.fault.ConfFault.{ConfFault}
-use Rattle.conf_tree.specs.Flaw.{Flaw, IsMemory}
+use Rattle.conf_tree.specs.declared.fault_kind.FaultKind.TheVariants.{NotJson}
+use Rattle.conf_tree.specs.Flaw.{Flaw, here, IsMemory}
 use Rattle.conf_tree.specs.Reading.{object_of}
 use Rattle.conf_tree.specs.Walk.{IsTreeOf, IsFirstFlaw, Reads, FlawHolds, max_levels}
 use Rattle.conf_inherit.specs.Faults.{RefusalHolds}
@@ -54,10 +55,14 @@ IsNoConfiguration d number flaw =
     IsNoRoot d flaw
     ⊎ ((ms : Members) × (draft : Draft) × (object_of d ≡ Ok ms) × IsRootObject number ms draft × (BreaksRule draft flaw ⊎ PassesLimit Root d flaw))
 
--- the flaw's kind holds at its path: in the tree, in its inheritance, or in the resolved tree
+-- the text is no JSON, or the flaw's kind holds at its path in the value that it is
+abbrev pub IsNoTree : List ℕ → Flaw → Type 0
+IsNoTree text flaw = ((flaw ≡ here NotJson) × ((d : Data) → ¬ Reads text d)) ⊎ ((d : Data) × Reads text d × FlawHolds d max_levels flaw)
+
+-- the flaw's kind holds at its path: in the text's value, in its inheritance, or in the resolved tree
 abbrev pub RefusalIsTrue : List ℕ → Option (List ℕ) → Flaw → Type 0
 RefusalIsTrue text number flaw =
-    ((d : Data) → Reads text d → FlawHolds d max_levels flaw)
+    IsNoTree text flaw
     ⊎ ((t : Data) × IsTreeOf text t × RefusalHolds t flaw)
     ⊎ ((t : Data) × (r : Data) × IsTreeOf text t × Resolves t r × IsNoConfiguration r number flaw)
 

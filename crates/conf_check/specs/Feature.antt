@@ -16,7 +16,7 @@ use Rattle.conf_check.specs.declared.feature.Choice.TheVariants.{On, Off, Own}
 use Rattle.conf_check.specs.declared.feature.FeatureRule.{FeatureRule}
 use Rattle.conf_check.specs.declared.feature.FeatureRule.TheVariants.{Plain, Size, Magic, Identifier}
 use Rattle.conf_check.specs.declared.words.FieldClass.{FieldClass}
-use Rattle.conf_check.specs.declared.words.FieldClass.TheVariants.{DynamicArray, Structure}
+use Rattle.conf_check.specs.declared.words.FieldClass.TheVariants.{StaticArray}
 use Rattle.conf_check.specs.FieldType.{class_in, unsigned_field_of, field_of}
 use Rattle.conf_check.specs.Property.{next}
 
@@ -76,14 +76,13 @@ identifier_or_not (Int t) = Err (here OutOfRange)
 identifier_or_not (Enum t) = Err (here OutOfRange)
 identifier_or_not Str = Err (here OutOfRange)
 
--- a class that stands at other places alone is out of range too
-abbrev pub stands_elsewhere : FieldClass → Bool
-stands_elsewhere DynamicArray = true
-stands_elsewhere Structure = true
-stands_elsewhere _ = false
+abbrev pub is_static_array : FieldClass → Bool
+is_static_array StaticArray = true
+is_static_array _ = false
 
+-- a type of another class is out of range too, whatever stands in it
 abbrev pub array_of_class : FieldClass → Data → Result Choice Flaw
-array_of_class class d = if stands_elsewhere class then Err (here OutOfRange) else field_of d >>= identifier_or_not
+array_of_class class d = if is_static_array class then field_of d >>= identifier_or_not else Err (here OutOfRange)
 
 abbrev pub array_of : Data → Result Choice Flaw
 array_of d = object_of d >>= (λ ms. class_in ms >>= (λ class. array_of_class class d))

@@ -19,7 +19,7 @@ use Rattle.conf_check.specs.declared.property.ObjectKind.TheVariants as objects
 use Rattle.conf_check.specs.Broken.{HasUnknown, SaysNot, MaySayNot}
 use Rattle.conf_check.specs.ClockType.{max_u64}
 use Rattle.conf_check.specs.declared.words.FieldClass.{FieldClass}
-use Rattle.conf_check.specs.Feature.{stands_elsewhere}
+use Rattle.conf_check.specs.declared.words.FieldClass.TheVariants as classes
 use Rattle.conf_check.specs.FieldFlaws.{IsOfClass, IsNoField, IsNoUnsignedField, IsNoStructure, IsNoMembersList}
 use Rattle.conf_check.specs.FieldType.{unsigned_field_of, field_of}
 use Rattle.conf_check.specs.LeafFlaws.{IsNoObject, IsNoText, IsNoFlag, IsNoNatural, IsNoSigned, IsNoConfigText, IsNoUuid, IsNoWordOf, words_of, IsNoName, IsNoPlainName}
@@ -47,9 +47,9 @@ pub data IsNoFeature (rule : FeatureRule) (d : Data) : Flaw → Type 0 where
   -- a packet cannot do without its sizes
   a_size_that_is_off : rule ≡ Size → as_bool d ≡ Some false → IsNoFeature rule d (here OutOfRange)
   no_32_bits : (t : IntType) → rule ≡ Magic → unsigned_field_of d ≡ Ok t → t.size ≢ 32 → IsNoFeature rule d (here OutOfRange)
-  no_field : {flaw : Flaw} → rule ≡ Identifier → as_bool d ≡ None → IsNoField d flaw → IsNoFeature rule d flaw
-  -- a dynamic array or a structure
-  another_class : (class : FieldClass) (ms : Members) → rule ≡ Identifier → IsOfClass class d ms → stands_elsewhere class ≡ true → IsNoFeature rule d (here OutOfRange)
+  -- a static array with a flaw of its own, or a value of no class
+  no_field : {flaw : Flaw} → rule ≡ Identifier → as_bool d ≡ None → ((class : FieldClass) (ms : Members) → IsOfClass class d ms → class ≡ classes.StaticArray) → IsNoField d flaw → IsNoFeature rule d flaw
+  another_class : (class : FieldClass) (ms : Members) → rule ≡ Identifier → IsOfClass class d ms → class ≢ classes.StaticArray → IsNoFeature rule d (here OutOfRange)
   no_identifier : (t : FieldType) → rule ≡ Identifier → field_of d ≡ Ok t → ¬ IsIdentifierField t → IsNoFeature rule d (here OutOfRange)
 
 -- the features of a packet header

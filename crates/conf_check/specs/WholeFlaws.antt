@@ -2,7 +2,7 @@
 -- that tells of it. A flaw of a field stands at its feature, one of a clock at the name of the default clock or at the
 -- feature, one of an event record type at that type, and one of two byte orders at the trace type.
 use Rattle.std.specs.Prelude.{◌≡◌, ◌≢◌, ◌⊎◌, ◌<◌, ◌-◌, ℕ, List, Contains, Option, None, Some, IsSome, length, true, codes}
-use Rattle.serde_json.specs.Data.{Data, string, object, Members}
+use Rattle.serde_json.specs.Data.{Data, string, array, object, Items, Members}
 use Rattle.serde_json.specs.Events.{members_len}
 use Rattle.ctf_types.specs.AllowedConfig.{HoldsUpTo, StructHasBits}
 use Rattle.ctf_types.specs.declared.clock_type.ClockType.{ClockType}
@@ -69,8 +69,8 @@ pub data PassesLimit : Part → Data → Flaw → Type 0 where
   -- a text that people read, of more than 4,096 bytes
   too_long : (s : List ℕ) → 4096 < length s → PassesLimit Words (string s) (here Limit)
   -- a feature's own type, a structure, or the extra members of a packet context past a limit of field types
-  in_feature : {d : Data} {flaw : Flaw} → PassesFieldLimit d flaw → PassesLimit Feature d flaw
-  in_structure : {d : Data} {flaw : Flaw} → PassesStructLimit d flaw → PassesLimit Structure d flaw
-  in_extras : {d : Data} {flaw : Flaw} → PassesMembersLimit d flaw → PassesLimit Extras d flaw
+  in_feature : {ms : Members} {flaw : Flaw} → PassesFieldLimit (object ms) flaw → PassesLimit Feature (object ms) flaw
+  in_structure : {ms : Members} {flaw : Flaw} → PassesStructLimit (object ms) flaw → PassesLimit Structure (object ms) flaw
+  in_extras : {ds : Items} {flaw : Flaw} → PassesMembersLimit (array ds) flaw → PassesLimit Extras (array ds) flaw
   -- a property past a limit of its own
   inside : {part : Part} (ms : Members) (k : List ℕ) (d : Data) (flaw : Flaw) → HasMember k d ms → PassesLimit (part_under part k) d flaw → PassesLimit part (object ms) (within (key k) flaw)

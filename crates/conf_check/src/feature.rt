@@ -8,7 +8,7 @@ ghost use Rattle.ctf_types.specs.declared.field_type.FieldType.TheVariants.{Stat
 ghost use Rattle.conf_tree.specs.Flaw.{IsMemory};
 ghost use Rattle.conf_tree.specs.Reading.{Gives};
 ghost use Rattle.conf_check.specs.Property.{next};
-ghost use Rattle.conf_check.specs.Feature.{number_type as number_type_of, magic_type as magic_type_of, byte_type as byte_type_of, is_byte as is_byte_of, plain_of, not_off as not_off_of, magic_or_not as magic_or_not_of, byte_or_not, identifier_or_not as identifier_or_not_of, stands_elsewhere as stands_elsewhere_of, array_of, identifier_of, choice_of, chosen as chosen_of, chosen_size as chosen_size_of, mapped as mapped_of, mapped_if_on as mapped_if_on_of, next_feature as next_feature_of, next_size as next_size_of, next_timestamp as next_timestamp_of, next_magic as next_magic_of, next_identifier as next_identifier_of};
+ghost use Rattle.conf_check.specs.Feature.{number_type as number_type_of, magic_type as magic_type_of, byte_type as byte_type_of, is_byte as is_byte_of, plain_of, not_off as not_off_of, magic_or_not as magic_or_not_of, byte_or_not, identifier_or_not as identifier_or_not_of, is_static_array as is_static_array_of, array_of, identifier_of, choice_of, chosen as chosen_of, chosen_size as chosen_size_of, mapped as mapped_of, mapped_if_on as mapped_if_on_of, next_feature as next_feature_of, next_size as next_size_of, next_timestamp as next_timestamp_of, next_magic as next_magic_of, next_identifier as next_identifier_of};
 
 use crate::field_type::{read_class, read_field, read_unsigned};
 use crate::kind::object_here;
@@ -172,14 +172,14 @@ fn identifier_or_not(field: FieldType) -> Result<Choice, ConfFault>
     }
 }
 
-/// Whether an object of this class stands at other places alone.
-fn stands_elsewhere(class: FieldClass) -> bool
-    ensures { result ≡ stands_elsewhere_of class }
+/// Whether objects of this class are static arrays.
+fn is_static_array(class: FieldClass) -> bool
+    ensures { result ≡ is_static_array_of class }
 {
-    matches!(class, FieldClass::DynamicArray | FieldClass::Structure)
+    matches!(class, FieldClass::StaticArray)
 }
 
-/// An array of its own.
+/// An array of its own. A type of another class is out of range, whatever stands in it.
 fn identifier_array(alloc: Global, value: &Value) -> Result<Choice, ConfFault>
     requires { depth (view value.now) ≤ 32 }
     ensures reading { Gives (λ c. c) result (array_of (view value.now)) }
@@ -187,7 +187,7 @@ fn identifier_array(alloc: Global, value: &Value) -> Result<Choice, ConfFault>
 {
     let members = object_here(value)?;
     let class = read_class(alloc, members)?;
-    if stands_elsewhere(class) {
+    if !is_static_array(class) {
         return Err(ConfFault::here(FaultKind::OutOfRange));
     }
     identifier_or_not(read_field(alloc, value)?)

@@ -1,8 +1,8 @@
 -- Each flaw that is listed holds at its path.
-use Rattle.std.proofs.Common.{◌≡◌, ◌&&◌, ◌<◌, ◌≤◌, ◌+◌, ◌++◌, ◌⊎◌, inl, inr, ℕ, zero, suc, List, [], ◌∷◌, map, Option, Some, None, is_some, Bool, true, false, true≢false, refl, sym, ap, ◌∙◌, subst, arith}
+use Rattle.std.proofs.Common.{◌≡◌, ◌&&◌, ◌<◌, ◌+◌, ◌++◌, ◌⊎◌, inl, inr, ℕ, suc, List, [], ◌∷◌, map, Some, is_some, Bool, true, false, true≢false, refl, sym, ap, ◌∙◌, subst, arith}
 use Rattle.serde_json.specs.Data.{Data, null, boolean, number, string, array, object, Items, no_items, item, Members, no_members, member, put}
-use Rattle.serde_json.specs.Find.{get_member, get_item}
-use Rattle.serde_json.proofs.Views.{get_member-put, get_member-put_other}
+use Rattle.serde_json.specs.Find.{get_item}
+use Rattle.serde_json.proofs.Views.{get_member-put_other}
 use Rattle.conf_tree.specs.Flaw.{Flaw, Place, key, index, here, within}
 use Rattle.conf_tree.specs.Walk.{HasMember}
 use Rattle.conf_tree.specs.declared.fault_kind.FaultKind.TheVariants.{WrongKind, NoSuchAlias, NameClash}
@@ -10,8 +10,9 @@ use Rattle.conf_inherit.specs.declared.spot.Spot.{Spot}
 use Rattle.conf_inherit.specs.Spot.{spot_under, spot_of_items, is_entry}
 use Rattle.conf_inherit.specs.Flaws.{is_wrong, is_unknown, own_flaws, inner_flaws, item_flaws, member_flaws, mark, mark_names}
 use Rattle.conf_inherit.specs.Rounds.{has}
-use Rattle.conf_inherit.specs.Faults.{Leads, HasEntry, Clashes, SaysOf, FlawHolds}
+use Rattle.conf_inherit.specs.Faults.{Leads, HasEntry, SaysOf, FlawHolds}
 use Rattle.conf_inherit.proofs.LayingLemmas.{Meets, same, other, meets}
+use Rattle.conf_inherit.proofs.SpotLemmas.{entry_list}
 
 -- a flaw is among those of a list
 abbrev pub Among : Flaw → List Flaw → Type 0
@@ -32,13 +33,17 @@ module _ (al : Members) where
   -- one step further out
   pub holds_in_object : (s : Spot) (k : List ℕ) (d : Data) (ms : Members) (f : Flaw) → HasMember k d ms → FlawHolds al (spot_under s k) d f → FlawHolds al s (object ms) (within (key k) f)
   holds_in_object s k d ms f m (inl (t, w, leads, says)) = inl (t, w, (ms, d, refl, m, leads), says)
-  holds_in_object s k d ms f m (inr (e, (front, t, es, i, j, n, path, leads, below, a, b))) =
-      inr (e, (key k ∷ front, t, es, i, j, n, ap (λ p. key k ∷ p) path, (ms, d, refl, m, leads), below, a, b))
+  holds_in_object s k d ms f m (inr (inl (e, (front, t, es, i, j, n, path, leads, lists, below, a, b)))) =
+      inr (inl (e, (key k ∷ front, t, es, i, j, n, ap (λ p. key k ∷ p) path, (ms, d, refl, m, leads), lists, below, a, b)))
+  holds_in_object s k d ms f m (inr (inr (e, (front, n, path, leads, walks)))) =
+      inr (inr (e, (key k ∷ front, n, ap (λ p. key k ∷ p) path, (ms, d, refl, m, leads), walks)))
 
   pub holds_in_list : (s : Spot) (i : ℕ) (d : Data) (es : Items) (f : Flaw) → get_item i es ≡ Some d → FlawHolds al (spot_of_items s) d f → FlawHolds al s (array es) (within (index i) f)
   holds_in_list s i d es f m (inl (t, w, leads, says)) = inl (t, w, (es, d, refl, m, leads), says)
-  holds_in_list s i d es f m (inr (e, (front, t, ds, x, j, n, path, leads, below, a, b))) =
-      inr (e, (index i ∷ front, t, ds, x, j, n, ap (λ p. index i ∷ p) path, (es, d, refl, m, leads), below, a, b))
+  holds_in_list s i d es f m (inr (inl (e, (front, t, ds, x, j, n, path, leads, lists, below, a, b)))) =
+      inr (inl (e, (index i ∷ front, t, ds, x, j, n, ap (λ p. index i ∷ p) path, (es, d, refl, m, leads), lists, below, a, b)))
+  holds_in_list s i d es f m (inr (inr (e, (front, n, path, leads, walks)))) =
+      inr (inr (e, (index i ∷ front, n, ap (λ p. index i ∷ p) path, (es, d, refl, m, leads), walks)))
 
   -- a flaw of a value itself holds, or its name is taken
   own_holds : (s : Spot) (taken : Bool) (v : Data) (f : Flaw) → Among f (own_flaws al s taken v) → FlawHolds al s v f ⊎ ((f ≡ here NameClash) × (taken ≡ true))
@@ -125,7 +130,7 @@ module _ (al : Members) where
       clash g e' (n, d, ms, v, m, entry, b, flaw) =
           let (j, lt, first) = before n b in
           let all : f ≡ within (index i) (within (key n) (here NameClash)) = e' ∙ ap (within (index i)) flaw in
-          inr (ap (λ x. x.kind) all, ([], s, es, j, i, n, ap (λ x. x.path) all, (refl, refl), lt, first, (ms, d, is ∙ ap Some v, m)))
+          inr (inl (ap (λ x. x.kind) all, ([], s, es, j, i, n, ap (λ x. x.path) all, (refl, refl), entry_list s entry, lt, first, (ms, d, is ∙ ap Some v, m))))
 
       own : (g : Flaw) → f ≡ within (index i) g → FlawHolds al (spot_of_items s) e g ⊎ ((g ≡ here NameClash) × (false ≡ true)) → FlawHolds al s (array es) f
       own g e' (inl holds) = here_holds g e' holds

@@ -18,5 +18,6 @@ pub mod WholeNumbers
 pub mod ResolveLemmas
 pub mod FaultLemmas
 pub mod CircleLemmas
+pub mod WalkLemmas
 pub mod RefusalLemmas
 pub mod WorkedRows

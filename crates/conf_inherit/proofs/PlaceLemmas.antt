@@ -9,7 +9,7 @@ use Rattle.conf_tree.specs.Flaw.{here}
 use Rattle.conf_tree.specs.Walk.{refusal}
 use Rattle.conf_tree.specs.declared.fault_kind.FaultKind.TheVariants.{Limit}
 use Rattle.conf_inherit.specs.declared.spot.Spot.{Spot}
-use Rattle.conf_inherit.specs.Spot.{names_alias, names_member_type, lists_members}
+use Rattle.conf_inherit.specs.Spot.{names_alias, names_member_type, lists_extra_members}
 use Rattle.conf_inherit.specs.Flaws.{own_flaws, flaws}
 use Rattle.conf_inherit.specs.Settled.{settled}
 use Rattle.conf_inherit.specs.Places.{too_many, limit_flaws, place_flaws}
@@ -37,10 +37,10 @@ module _ (al done : Members) (s : Spot) (v : Data) where
   unfolding place_flaws
   place_of_member h i = rw (h, i) refl
 
-  pub place_of_list : names_alias s ≡ false → names_member_type s ≡ false → lists_members s ≡ true → place_flaws al done s v ≡ too_many v ++ own_flaws al s false v
+  pub place_of_list : names_alias s ≡ false → names_member_type s ≡ false → lists_extra_members s ≡ true → place_flaws al done s v ≡ too_many v ++ own_flaws al s false v
   unfolding place_flaws
   place_of_list h i j = rw (h, i, j) refl
 
-  pub place_of_other : names_alias s ≡ false → names_member_type s ≡ false → lists_members s ≡ false → place_flaws al done s v ≡ []
+  pub place_of_other : names_alias s ≡ false → names_member_type s ≡ false → lists_extra_members s ≡ false → place_flaws al done s v ≡ []
   unfolding place_flaws
   place_of_other h i j = rw (h, i, j) refl

@@ -12,7 +12,7 @@ use Rattle.conf_tree.specs.declared.fault_kind.FaultKind.{FaultKind}
 use Rattle.conf_tree.specs.declared.fault_kind.FaultKind.TheVariants.{InheritCycle, Limit, TooDeep}
 use Rattle.conf_inherit.specs.declared.spot.Spot.{Spot}
 use Rattle.conf_inherit.specs.declared.spot.Spot.TheVariants.{Root, Trace, TraceType, Aliases, FieldType}
-use Rattle.conf_inherit.specs.Spot.{spot_under, spot_in_trace_type, spot_of_items, names_alias, names_member_type, lists_members, leads_on}
+use Rattle.conf_inherit.specs.Spot.{spot_under, spot_in_trace_type, spot_of_items, names_alias, names_member_type, lists_extra_members, leads_on}
 use Rattle.conf_inherit.specs.AliasFlaws.{over_names, first_or_circle, alias_flaws, all_alias_flaws}
 use Rattle.conf_inherit.specs.Circle.{Walks}
 use Rattle.conf_inherit.specs.SameFlaw.{is_same_flaw}
@@ -23,7 +23,7 @@ use Rattle.conf_inherit.specs.Ready.{Names}
 use Rattle.conf_inherit.specs.Places.{too_many, limit_flaws, place_flaws, inner_places, item_places, member_places, max_extra_members}
 use Rattle.conf_inherit.specs.Laying.{lay}
 use Rattle.conf_inherit.specs.Names.{NoClash}
-use Rattle.conf_inherit.specs.Resolution.{members_or_none, trace_name, type_name, aliases_name, aliases_of, in_aliases, from_aliases, if_shallow, resolution, Resolves}
+use Rattle.conf_inherit.specs.Resolution.{members_or_none, trace_name, type_name, aliases_name, max_aliases, aliases_of, in_aliases, from_aliases, if_shallow, few_aliases, resolution_under, resolution, Resolves}
 use Rattle.conf_inherit.specs.Nesting.{nests}
 use Rattle.conf_inherit.proofs.PlaceLemmas.{place_of_type, place_of_member, place_of_list, place_of_other}
 use Rattle.conf_inherit.proofs.ResolveLemmas.{laid_resolves, resolution_sound}
@@ -57,26 +57,31 @@ module _ (al : Members) where
   along s v f g e h = subst (FlawHolds al s v) (sym e) h
 
   -- a flaw of its own holds, and else the circle is told of
-  own_or_circle : (s : Spot) (w : Data) (f : Flaw) (own known : Result ⊤ Flaw) → refusal (flaws al s false no_members w) ≡ own → Among f (first_or_circle own known) → (f ≡ here InheritCycle → FlawHolds al s w f) → FlawHolds al s w f
-  own_or_circle s w f own known is h circle = go own is known h
+  own_or_circle : (s : Spot) (w : Data) (f : Flaw) (own known : Result ⊤ Flaw) → refusal (flaws al s false no_members w) ≡ own → Among f (first_or_circle own known) → FlawHolds al s w f ⊎ (f ≡ here InheritCycle)
+  own_or_circle s w f own known is h = go own is known h
     where
       only : (g : Flaw) → Among f (g ∷ []) → f ≡ g
       only g (inl e) = e
       only g (inr x) = absurd x
 
-      go : (own : Result ⊤ Flaw) → refusal (flaws al s false no_members w) ≡ own → (known : Result ⊤ Flaw) → Among f (first_or_circle own known) → FlawHolds al s w f
-      go (Ok x) e known h = circle (only (here InheritCycle) h)
-      go (Err g) e (Ok x) h = circle (only (here InheritCycle) h)
+      go : (own : Result ⊤ Flaw) → refusal (flaws al s false no_members w) ≡ own → (known : Result ⊤ Flaw) → Among f (first_or_circle own known) → FlawHolds al s w f ⊎ (f ≡ here InheritCycle)
+      go (Ok x) e known h = inr (only (here InheritCycle) h)
+      go (Err g) e (Ok x) h = inr (only (here InheritCycle) h)
       go (Err g) e (Err first) h = by (is_same_flaw g first) refl
         where
-          by : (t : Bool) → is_same_flaw g first ≡ t → FlawHolds al s w f
-          by true e' = along s w f g (only g (rw e' at h)) (flaw_holds al s w g (refused_among (flaws al s false no_members w) g e))
-          by false e' = circle (only (here InheritCycle) (rw e' at h))
+          by : (t : Bool) → is_same_flaw g first ≡ t → FlawHolds al s w f ⊎ (f ≡ here InheritCycle)
+          by true e' = inl (along s w f g (only g (rw e' at h)) (flaw_holds al s w g (refused_among (flaws al s false no_members w) g e)))
+          by false e' = inr (only (here InheritCycle) (rw e' at h))
 
   -- ---- the aliases
 
   module _ (st : Outcomes) (limits : LimitsHold al st) (walks : (k : List ℕ) → has al k ≡ true → IsOpen st k → Walks al (members_len al) k) where
-    alias_at : (k : List ℕ) (w : Data) (f : Flaw) → get_member k al ≡ Some w → Among f (alias_flaws al st k w) → FlawHolds al FieldType w f
+    -- the flaw is the circle of the alias k
+    abbrev CircleOf : List ℕ → Flaw → Type 0
+    CircleOf k f = (f ≡ here InheritCycle) × Walks al (members_len al) k
+
+    -- a flaw of an alias holds of its value, or is the circle
+    alias_at : (k : List ℕ) (w : Data) (f : Flaw) → get_member k al ≡ Some w → Among f (alias_flaws al st k w) → FlawHolds al FieldType w f ⊎ CircleOf k f
     alias_at k w f is h = go (has st.done k) refl (st.refused k) refl
       where
         only : (g : Flaw) → Among f (g ∷ []) → f ≡ g
@@ -86,12 +91,15 @@ module _ (al : Members) where
         passed : (kind : FaultKind) → f ≡ here kind → (v : Data) × (get_member k al ≡ Some v) × Passes al kind FieldType v → FlawHolds al FieldType w f
         passed kind e (v, is', p) = let g : Some v ≡ Some w = sym is' ∙ is in let one : v ≡ w = cc in along FieldType w f (here kind) e (passes_here FieldType w kind (subst (Passes al kind FieldType) one p))
 
-        go : (t : Bool) → has st.done k ≡ t → (o : Option Why) → st.refused k ≡ o → FlawHolds al FieldType w f
+        circle : has st.done k ≡ false → st.refused k ≡ None → FlawHolds al FieldType w f ⊎ (f ≡ here InheritCycle) → FlawHolds al FieldType w f ⊎ CircleOf k f
+        circle a b (inl holds) = inl holds
+        circle a b (inr e) = inr (e, walks k (ap is_some is) (a, ap is_some b))
+
+        go : (t : Bool) → has st.done k ≡ t → (o : Option Why) → st.refused k ≡ o → FlawHolds al FieldType w f ⊎ CircleOf k f
         go true a o b = absurd (rw a at h)
-        go false a None b = own_or_circle FieldType w f (refusal (flaws al FieldType false no_members w)) (refusal (flaws (over_names al st no_members) FieldType false no_members w)) refl (rw (a, b) at h)
-            (λ e. along FieldType w f (here InheritCycle) e (inl (FieldType, w, (refl, refl), inl (k, is, walks k (ap is_some is) (a, ap is_some b)))))
-        go false a (Some (Some kind)) b = passed kind (only (here kind) (rw (a, b) at h)) (limits k kind b)
-        go false a (Some None) b = flaw_holds al FieldType w f (rw (a, b) at h)
+        go false a None b = circle a b (own_or_circle FieldType w f (refusal (flaws al FieldType false no_members w)) (refusal (flaws (over_names al st no_members) FieldType false no_members w)) refl (rw (a, b) at h))
+        go false a (Some (Some kind)) b = inl (passed kind (only (here kind) (rw (a, b) at h)) (limits k kind b))
+        go false a (Some None) b = inl (flaw_holds al FieldType w f (rw (a, b) at h))
 
     aliases_hold : (ms : Members) (f : Flaw) → AllEntries (λ k w. get_member k al ≡ Some w) ms → ((k : List ℕ) (d : Data) → HasMember k d ms → HasMember k d al) → Among f (all_alias_flaws al st ms) → FlawHolds al Aliases (object al) f
     aliases_hold no_members f each sub h = absurd h
@@ -101,7 +109,13 @@ module _ (al : Members) where
         (λ a. aliases_hold ms f each.1 (λ q d m. sub q d (inr m)) a)
       where
         one : (g : Flaw) × (f ≡ within (key k) g) × Among g (alias_flaws al st k w) → FlawHolds al Aliases (object al) f
-        one (g, e, a) = along Aliases (object al) f (within (key k) g) e (holds_in_object al Aliases k w al g (sub k w (inl (refl, refl))) (subst (λ x. FlawHolds al x w g) (sym (alias_spot_under k)) (alias_at k w g each.0 a)))
+        one (g, e, a) = at (alias_at k w g each.0 a)
+          where
+            at : FlawHolds al FieldType w g ⊎ CircleOf k g → FlawHolds al Aliases (object al) f
+            at (inl holds) = along Aliases (object al) f (within (key k) g) e (holds_in_object al Aliases k w al g (sub k w (inl (refl, refl))) (subst (λ x. FlawHolds al x w g) (sym (alias_spot_under k)) holds))
+            at (inr (circle, steps)) =
+                let all : f ≡ within (key k) (here InheritCycle) = e ∙ ap (within (key k)) circle in
+                inr (inr (ap (λ x. x.kind) all, ([], k, ap (λ x. x.path) all, (refl, refl), steps)))
 
   -- ---- the places
 
@@ -109,7 +123,7 @@ module _ (al : Members) where
     limit_here : (s : Spot) (v : Data) (f : Flaw) → Names s → Among f (limit_flaws (settled done s v)) → FlawHolds al s v f
     limit_here s v f names h = let (kind, e, is) = limit_kind (settled done s v) f h in along s v f (here kind) is (passes_here s v kind (names, (done, known, e)))
 
-    many_here : (s : Spot) (v : Data) (f : Flaw) → lists_members s ≡ true → Among f (too_many v) → FlawHolds al s v f
+    many_here : (s : Spot) (v : Data) (f : Flaw) → lists_extra_members s ≡ true → Among f (too_many v) → FlawHolds al s v f
     unfolding too_many
     many_here s (array es) f is h = go (nat_lt max_extra_members (items_len es)) refl
       where
@@ -121,7 +135,7 @@ module _ (al : Members) where
         only g (inr x) = absurd x
 
         go : (t : Bool) → nat_lt max_extra_members (items_len es) ≡ t → FlawHolds al s (array es) f
-        go true e = along s (array es) f (here Limit) (only (here Limit) (rw e at h)) (inl (s, array es, (refl, refl), inl (es, refl, is, past e)))
+        go true e = along s (array es) f (here Limit) (only (here Limit) (rw e at h)) (inl (s, array es, (refl, refl), inl (inl (es, refl, is, past e))))
         go false e = absurd (rw e at h)
     many_here s (object ms) f is h = absurd h
     many_here s null f is h = absurd h
@@ -130,15 +144,15 @@ module _ (al : Members) where
     many_here s (string n) f is h = absurd h
 
     place_holds : (s : Spot) (v : Data) (f : Flaw) → Among f (place_flaws al done s v) → FlawHolds al s v f
-    place_holds s v f h = go (names_alias s) refl (names_member_type s) refl (lists_members s) refl
+    place_holds s v f h = go (names_alias s) refl (names_member_type s) refl (lists_extra_members s) refl
       where
-        go : (a : Bool) → names_alias s ≡ a → (b : Bool) → names_member_type s ≡ b → (c : Bool) → lists_members s ≡ c → FlawHolds al s v f
+        go : (a : Bool) → names_alias s ≡ a → (b : Bool) → names_member_type s ≡ b → (c : Bool) → lists_extra_members s ≡ c → FlawHolds al s v f
         go true a b b' c c' = first_or_rest al f (flaws al s false no_members v) (limit_flaws (settled done s v)) (subst (Among f) (place_of_type al done s v a) h) (flaw_holds al s v f) (limit_here s v f (inl a))
         go false a true b c c' = limit_here s v f (inr b) (subst (Among f) (place_of_member al done s v a b) h)
         go false a false b true c = first_or_rest al f (too_many v) (own_flaws al s false v) (subst (Among f) (place_of_list al done s v a b c) h) (many_here s v f c) (flaw_of_itself_holds al s v f)
         go false a false b false c = absurd (subst (Among f) (place_of_other al done s v a b c) h)
 
-    items_at : (s : Spot) (es : Items) (f : Flaw) → (t : Bool) → lists_members s ≡ t → Among f (inner_places al done s (array es)) → (Among f (item_places al done s 0 no_members es) → FlawHolds al s (array es) f) → FlawHolds al s (array es) f
+    items_at : (s : Spot) (es : Items) (f : Flaw) → (t : Bool) → lists_extra_members s ≡ t → Among f (inner_places al done s (array es)) → (Among f (item_places al done s 0 no_members es) → FlawHolds al s (array es) f) → FlawHolds al s (array es) f
     items_at s es f true is h k = k (rw is at h)
     items_at s es f false is h k = absurd (rw is at h)
 
@@ -157,7 +171,7 @@ module _ (al : Members) where
       places_hold (boolean b) s f h = absurd h
       places_hold (number n) s f h = absurd h
       places_hold (string n) s f h = absurd h
-      places_hold (array es) s f h = items_at s es f (lists_members s) refl h (items_hold es s es 0 no_members f (λ j d g. let same : j ≡ 0 + j = omega arith in subst (λ x. get_item x es ≡ Some d) same g) (λ n b. absurd (none_seen n b)))
+      places_hold (array es) s f h = items_at s es f (lists_extra_members s) refl h (items_hold es s es 0 no_members f (λ j d g. let same : j ≡ 0 + j = omega arith in subst (λ x. get_item x es ≡ Some d) same g) (λ n b. absurd (none_seen n b)))
       places_hold (object ms) s f h = members_at s ms f (leads_on s) refl h (members_hold ms s ms f (λ k d m. m))
 
       items_hold : (rest : Items) (s : Spot) (es : Items) (i : ℕ) (seen : Members) (f : Flaw) → Aligned es i rest → Seen es i seen → Among f (item_places al done s i seen rest) → FlawHolds al s (array es) f
@@ -248,6 +262,27 @@ err_shallow x f h = go (nests x 32) refl
     go true is = absurd (no_err x f (rw is at h))
     go false is = (one_err f (rw is at h), is)
 
+-- ---- too many aliases
+
+one_number : (f : Flaw) → (let o : Result ⊤ Flaw = Err (in_aliases (here Limit)) in o ≡ Err f) → f ≡ in_aliases (here Limit)
+one_number f h = cc
+
+no_number : (f : Flaw) → (let o : Result ⊤ Flaw = Ok tt in o ≡ Err f) → ⊥
+no_number f h = cc
+
+-- the refusal of too many aliases holds at the object that holds them
+pub number_holds : (t : Data) (f : Flaw) → few_aliases (aliases_of t) ≡ Err f → RefusalHolds t f
+number_holds t f h = go (nat_lt max_aliases (members_len (aliases_of t))) refl
+  where
+    lifted : max_aliases < members_len (aliases_of t) → FlawHolds (aliases_of t) Root t (in_aliases (here Limit))
+    lifted past =
+        lift_aliases (aliases_of t) t (here Limit) (get trace_name t) (option_and_then (get type_name) (get trace_name t)) (option_and_then (get aliases_name) (option_and_then (get type_name) (get trace_name t))) refl refl refl (aliases_of t) refl
+        (inl (inl (Aliases, object (aliases_of t), (refl, refl), inl (inr (aliases_of t, refl, refl, past))))) (λ none. let bad : max_aliases < members_len no_members = subst (λ x. max_aliases < members_len x) none past in omega (arith, bad))
+
+    go : (b : Bool) → nat_lt max_aliases (members_len (aliases_of t)) ≡ b → RefusalHolds t f
+    go true e = inl (subst (FlawHolds (aliases_of t) Root t) (sym (one_number f (rw e at h))) (lifted (ltb-true max_aliases (members_len (aliases_of t)) e)))
+    go false e = absurd (no_number f (rw e at h))
+
 module _ (t : Data) (f : Flaw) (apart : NoClash (aliases_of t)) where
   abbrev al_of : Members
   al_of = aliases_of t
@@ -281,9 +316,13 @@ module _ (t : Data) (f : Flaw) (apart : NoClash (aliases_of t)) where
   from_first (inl (g, h, e)) = inl (subst (FlawHolds al_of Root t) (sym e) (alias_refused g h))
   from_first (inr (a, h)) = after_aliases a (err_then (refusal (inner_places al_of st_of.done Root t)) (λ b. refusal (flaws al_of Root false no_members t) >>= (λ c. if_shallow (lay st_of.done Root t None))) f h)
 
+  from_number : (few_aliases al_of ≡ Err f) ⊎ ((few_aliases al_of ≡ Ok tt) × (resolution_under al_of t ≡ Err f)) → RefusalHolds t f
+  from_number (inl h) = number_holds t f h
+  from_number (inr (few, h)) = from_first (err_aliases (refusal (all_alias_flaws al_of st_of al_of)) (λ a. refusal (inner_places al_of st_of.done Root t) >>= (λ b. refusal (flaws al_of Root false no_members t) >>= (λ c. if_shallow (lay st_of.done Root t None)))) f h)
+
   -- the kind of a refusal holds at its path
   pub refusal_holds : resolution t ≡ Err f → RefusalHolds t f
-  refusal_holds h = from_first (err_aliases (refusal (all_alias_flaws al_of st_of al_of)) (λ a. refusal (inner_places al_of st_of.done Root t) >>= (λ b. refusal (flaws al_of Root false no_members t) >>= (λ c. if_shallow (lay st_of.done Root t None)))) f h)
+  refusal_holds h = from_number (err_then (few_aliases al_of) (λ a. resolution_under al_of t) f h)
 
 -- a configuration has a resolution, or a fault that holds
 pub resolved_or_refused : (t : Data) → NoClash (aliases_of t) → ((r : Data) × Resolves t r) ⊎ ((f : Flaw) × RefusalHolds t f)

@@ -43,7 +43,7 @@ limit_only : (o : Result Data FaultKind) → or_why o ≡ Err None → ⊥
 limit_only (Ok r) h = cc
 limit_only (Err kind) h = cc
 
-no_value : (r : Data) → (let o : Result Data Why = Err None in o ≡ Ok r) → ⊥
+pub no_value : (r : Data) → (let o : Result Data Why = Err None in o ≡ Ok r) → ⊥
 no_value r h = cc
 
 settled_ok : (o : Result Data FaultKind) (t : Data) → or_why o ≡ Ok t → o ≡ Ok t

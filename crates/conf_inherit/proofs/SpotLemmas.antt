@@ -1,10 +1,10 @@
 -- What the spots of a field type and of a member's value have in common.
-use Rattle.std.proofs.Common.{◌≡◌, ℕ, List, [], ◌∷◌, Option, Some, None, Bool, true, false, true≢false, refl, sym, ap, ◌∙◌, subst, bytes_eq}
+use Rattle.std.proofs.Common.{◌≡◌, ℕ, List, Some, Bool, true, false, true≢false, refl, sym, subst, bytes_eq}
 use Rattle.std.proofs.lemmas.Slice.Eq.{bytes_eq-Decides}
 use Rattle.serde_json.specs.Data.{Data, Members, no_members, member}
 use Rattle.conf_inherit.specs.declared.spot.Spot.{Spot}
-use Rattle.conf_inherit.specs.declared.spot.Spot.TheVariants.{FieldType, MemberValue, MemberList, Entry}
-use Rattle.conf_inherit.specs.Spot.{spot_under, spot_in_type, spot_of_items, names_alias, names_member_type, is_base_name, lists_members, inherit_name, field_type_name}
+use Rattle.conf_inherit.specs.declared.spot.Spot.TheVariants.{FieldType, MemberValue, MemberList, ExtraMembers, Entry}
+use Rattle.conf_inherit.specs.Spot.{spot_under, spot_in_type, spot_of_items, names_alias, names_member_type, is_base_name, lists_members, is_entry, inherit_name, field_type_name}
 use Rattle.conf_inherit.specs.Looks.{base_of}
 
 pub alias_spot : (s : Spot) → names_alias s ≡ true → s ≡ FieldType
@@ -20,7 +20,15 @@ member_spot _ h = absurd (true≢false (sym h))
 pub list_spot : (s : Spot) → lists_members s ≡ true → spot_of_items s ≡ Entry
 unfolding lists_members spot_of_items
 list_spot MemberList h = refl
+list_spot ExtraMembers h = refl
 list_spot _ h = absurd (true≢false (sym h))
+
+-- an entry stands in a members list
+pub entry_list : (s : Spot) → is_entry (spot_of_items s) ≡ true → lists_members s ≡ true
+unfolding lists_members spot_of_items is_entry
+entry_list MemberList h = refl
+entry_list ExtraMembers h = refl
+entry_list _ h = absurd (true≢false (sym h))
 
 pub entry_spot : (n : List ℕ) → spot_under Entry n ≡ MemberValue
 unfolding spot_under

@@ -1,13 +1,13 @@
 -- Worked rows of inheritance, by computing: three aliases that inherit one from another, two that inherit from each
 -- other, and one that names itself and what is no alias.
 use Rattle.std.specs.Prelude.{◌≡◌, ℕ, List, codes, Ok, Err, [], ◌∷◌, refl}
-use Rattle.serde_json.specs.Data.{Data, number, string, array, object, unsigned, Items, no_items, item, Members, no_members, member}
+use Rattle.serde_json.specs.Data.{Data, number, string, array, object, unsigned, no_items, item, Members, no_members, member}
 use Rattle.conf_tree.specs.declared.fault_kind.FaultKind.TheVariants.{InheritCycle, NoSuchAlias}
 use Rattle.conf_tree.specs.Flaw.{key, index}
 use Rattle.conf_inherit.specs.Resolution.{Resolves, aliases_of, resolution, trace_name, type_name, aliases_name}
 use Rattle.conf_inherit.specs.Names.{NoClash}
 use Rattle.conf_inherit.proofs.ResolveLemmas.{resolution_sound}
-use Rattle.conf_inherit.specs.Spot.{field_type_name, names_alias, spot_under, spot_in_type, inherit_name, names_member_type, spot_of_items, lists_members, is_entry, is_base_name, leads_on, spot_in_trace_type}
+use Rattle.conf_inherit.specs.Spot.{field_type_name, names_alias, spot_under, spot_in_type, inherit_name, names_member_type, spot_of_items, lists_members, lists_extra_members, is_entry, is_base_name, leads_on, spot_in_trace_type}
 use Rattle.conf_inherit.specs.Places.{place_flaws}
 
 -- `{"class": "uint", "size": size}`
@@ -59,7 +59,7 @@ abbrev resolved_three : Data
 resolved_three = with_aliases (member (codes "A") alias_a (member (codes "B") resolved_b (member (codes "C") resolved_c no_members)))
 
 three_resolved : resolution three ≡ Ok resolved_three
-unfolding trace_name type_name aliases_name field_type_name names_alias spot_under spot_in_type inherit_name names_member_type spot_of_items lists_members is_entry is_base_name leads_on place_flaws spot_in_trace_type
+unfolding trace_name type_name aliases_name field_type_name names_alias spot_under spot_in_type inherit_name names_member_type spot_of_items lists_members lists_extra_members is_entry is_base_name leads_on place_flaws spot_in_trace_type
 three_resolved = refl
 
 three_apart : NoClash (aliases_of three)

@@ -2,22 +2,22 @@
 use Rattle.std.specs.Prelude.{◌≡◌, ◌<◌, ◌++◌, ◌⊎◌, ℕ, List, [], ◌∷◌, Some, Err, true, false}
 use Rattle.serde_json.specs.Data.{Data, array, object, Items, Members}
 use Rattle.serde_json.specs.Events.{items_len, members_len}
-use Rattle.serde_json.specs.Find.{get_member, get_item}
+use Rattle.serde_json.specs.Find.{get_item}
 use Rattle.conf_tree.specs.Flaw.{Flaw, Place, key, index, here}
 use Rattle.conf_tree.specs.Walk.{HasMember}
 use Rattle.conf_tree.specs.declared.fault_kind.FaultKind.{FaultKind}
 use Rattle.conf_tree.specs.declared.fault_kind.FaultKind.TheVariants.{TooDeep, WrongKind, NoSuchAlias, InheritCycle, NameClash, Limit}
 use Rattle.conf_inherit.specs.declared.spot.Spot.{Spot}
-use Rattle.conf_inherit.specs.Spot.{spot_under, spot_of_items, lists_members}
+use Rattle.conf_inherit.specs.Spot.{spot_under, spot_of_items, lists_members, lists_extra_members}
 use Rattle.conf_inherit.specs.Circle.{Walks}
 use Rattle.conf_inherit.specs.Flaws.{is_wrong, is_unknown}
 use Rattle.conf_inherit.specs.Looks.{AreResolved}
 use Rattle.conf_inherit.specs.Places.{max_extra_members}
 use Rattle.conf_inherit.specs.Ready.{Names}
 use Rattle.conf_inherit.specs.Nesting.{nests}
-use Rattle.conf_inherit.specs.Resolution.{aliases_of, Resolves}
+use Rattle.conf_inherit.specs.Resolution.{max_aliases, aliases_of, Resolves}
 use Rattle.conf_inherit.specs.Settled.{settled}
-use Rattle.conf_inherit.specs.declared.spot.Spot.TheVariants.{Root}
+use Rattle.conf_inherit.specs.declared.spot.Spot.TheVariants.{Root, Aliases}
 
 -- the path leads from the value v at the spot s to the value w at the spot t
 abbrev pub Leads : Spot → Data → List Place → Spot → Data → Type 0
@@ -29,21 +29,33 @@ Leads s v (index i ∷ path) t w = (es : Items) × (d : Data) × (v ≡ array es
 abbrev pub HasEntry : ℕ → List ℕ → Items → Type 0
 HasEntry i n es = (ms : Members) × (d : Data) × (get_item i es ≡ Some (object ms)) × HasMember n d ms
 
--- the path ends at an entry of a list whose name an entry before it has
+-- the path ends at an entry of a members list whose name an entry before it has
 abbrev pub Clashes : Spot → Data → List Place → Type 0
 Clashes s v path = (front : List Place) × (t : Spot) × (es : Items) × (i : ℕ) × (j : ℕ) × (n : List ℕ)
-    × (path ≡ front ++ index j ∷ key n ∷ []) × Leads s v front t (array es) × (i < j) × HasEntry i n es × HasEntry j n es
+    × (path ≡ front ++ index j ∷ key n ∷ []) × Leads s v front t (array es) × (lists_members t ≡ true) × (i < j) × HasEntry i n es × HasEntry j n es
+
+-- the path ends at the name of an alias from which there are as many steps as there are aliases
+abbrev pub Circles : Members → Spot → Data → List Place → Type 0
+Circles al s v path = (front : List Place) × (k : List ℕ)
+    × (path ≡ front ++ key k ∷ []) × Leads s v front Aliases (object al) × Walks al (members_len al) k
 
 -- a field type w stands at the spot t, and passes the limit with the aliases resolved
 abbrev pub Passes : Members → FaultKind → Spot → Data → Type 0
 Passes al kind t w = Names t × ((done : Members) × AreResolved al done × (settled done t w ≡ Err kind))
 
+-- a packet context has too many extra members
+abbrev pub ListsTooMany : Spot → Data → Type 0
+ListsTooMany t w = (es : Items) × (w ≡ array es) × (lists_extra_members t ≡ true) × (max_extra_members < items_len es)
+
+-- a configuration has too many field type aliases
+abbrev pub HoldsTooMany : Spot → Data → Type 0
+HoldsTooMany t w = (ms : Members) × (w ≡ object ms) × (t ≡ Aliases) × (max_aliases < members_len ms)
+
 -- what a kind tells of the value w that a path leads to
 abbrev pub Tells : Members → FaultKind → Spot → Data → Type 0
 Tells al WrongKind t w = is_wrong t w ≡ true
 Tells al NoSuchAlias t w = is_unknown al t w ≡ true
-Tells al InheritCycle t w = (k : List ℕ) × (get_member k al ≡ Some w) × Walks al (members_len al) k
-Tells al Limit t w = (es : Items) × (w ≡ array es) × (lists_members t ≡ true) × (max_extra_members < items_len es)
+Tells al Limit t w = ListsTooMany t w ⊎ HoldsTooMany t w
 Tells al _ t w = ⊥
 
 abbrev pub SaysOf : Members → FaultKind → Spot → Data → Type 0
@@ -53,7 +65,7 @@ SaysOf al kind t w = Tells al kind t w ⊎ Passes al kind t w
 abbrev pub FlawHolds : Members → Spot → Data → Flaw → Type 0
 FlawHolds al s v flaw =
     ((t : Spot) × (w : Data) × Leads s v flaw.path t w × SaysOf al flaw.kind t w)
-    ⊎ ((flaw.kind ≡ NameClash) × Clashes s v flaw.path)
+    ⊎ (((flaw.kind ≡ NameClash) × Clashes s v flaw.path) ⊎ ((flaw.kind ≡ InheritCycle) × Circles al s v flaw.path))
 
 -- the kind of a refusal holds at its path, or the whole resolved configuration nests too deep
 abbrev pub RefusalHolds : Data → Flaw → Type 0

@@ -8,7 +8,7 @@ use Rattle.conf_tree.specs.Flaw.{Flaw, key, index, here, within}
 use Rattle.conf_tree.specs.declared.fault_kind.FaultKind.{FaultKind}
 use Rattle.conf_tree.specs.declared.fault_kind.FaultKind.TheVariants.{Limit}
 use Rattle.conf_inherit.specs.declared.spot.Spot.{Spot}
-use Rattle.conf_inherit.specs.Spot.{spot_under, spot_of_items, names_alias, names_member_type, lists_members, leads_on}
+use Rattle.conf_inherit.specs.Spot.{spot_under, spot_of_items, names_alias, names_member_type, lists_extra_members, leads_on}
 use Rattle.conf_inherit.specs.Flaws.{own_flaws, flaws, mark}
 use Rattle.conf_inherit.specs.Settled.{settled}
 
@@ -29,7 +29,7 @@ unfoldable pub place_flaws : Members → Members → Spot → Data → List Flaw
 place_flaws al done s v =
     if names_alias s then flaws al s false no_members v ++ limit_flaws (settled done s v)
     else if names_member_type s then limit_flaws (settled done s v)
-    else if lists_members s then too_many v ++ own_flaws al s false v
+    else if lists_extra_members s then too_many v ++ own_flaws al s false v
     else []
 
 abbrev mutual
@@ -39,7 +39,7 @@ abbrev mutual
   inner_places al done s (boolean b) = []
   inner_places al done s (number n) = []
   inner_places al done s (string n) = []
-  inner_places al done s (array es) = if lists_members s then item_places al done s 0 no_members es else []
+  inner_places al done s (array es) = if lists_extra_members s then item_places al done s 0 no_members es else []
   inner_places al done s (object ms) = if leads_on s then member_places al done s ms else []
 
   -- the entries of a list of extra members from place i on; `seen` has the names of those before them

@@ -1,10 +1,10 @@
 -- Where the field types of a configuration stand. A spot says which names and texts have a meaning at a
 -- value: a field type, or the name of an alias, stands at the spots `FieldType` and `MemberValue` alone.
 -- In each object there, `members`, `field-type`, `element-field-type` and `$inherit` lead on, whatever its class.
-use Rattle.std.specs.Prelude.{ℕ, ◌&&◌, List, Bool, true, false, codes, if◌then◌else◌}
+use Rattle.std.specs.Prelude.{ℕ, List, Bool, true, false, codes, if◌then◌else◌}
 use Rattle.std.specs.Str.{bytes_eq}
 use Rattle.conf_inherit.specs.declared.spot.Spot.{Spot}
-use Rattle.conf_inherit.specs.declared.spot.Spot.TheVariants.{Root, Trace, TraceType, TraceFeatures, Aliases, StreamTypes, StreamType, StreamFeatures, PacketFeatures, EventRecordFeatures, EventTypes, EventType, FieldType, MemberList, Entry, MemberValue, Plain}
+use Rattle.conf_inherit.specs.declared.spot.Spot.TheVariants.{Root, Trace, TraceType, TraceFeatures, Aliases, StreamTypes, StreamType, StreamFeatures, PacketFeatures, EventRecordFeatures, EventTypes, EventType, FieldType, MemberList, ExtraMembers, Entry, MemberValue, Plain}
 
 unfoldable pub inherit_name : List ℕ
 inherit_name = codes "$inherit"
@@ -23,7 +23,7 @@ spot_in_trace_type k =
 unfoldable pub spot_in_stream_type : List ℕ → Spot
 spot_in_stream_type k =
     if bytes_eq k (codes "$features") then StreamFeatures
-    else if bytes_eq k (codes "packet-context-field-type-extra-members") then MemberList
+    else if bytes_eq k (codes "packet-context-field-type-extra-members") then ExtraMembers
     else if bytes_eq k (codes "event-record-common-context-field-type") then FieldType
     else if bytes_eq k (codes "event-record-types") then EventTypes
     else Plain
@@ -93,6 +93,7 @@ spot_under _ k = Plain
 -- the spot of a list's items
 unfoldable pub spot_of_items : Spot → Spot
 spot_of_items MemberList = Entry
+spot_of_items ExtraMembers = Entry
 spot_of_items _ = Plain
 
 -- a text is the name of an alias
@@ -114,7 +115,13 @@ is_base_name _ k = false
 -- a list is a members list
 unfoldable pub lists_members : Spot → Bool
 lists_members MemberList = true
+lists_members ExtraMembers = true
 lists_members _ = false
+
+-- a list has the extra members of a packet context
+unfoldable pub lists_extra_members : Spot → Bool
+lists_extra_members ExtraMembers = true
+lists_extra_members _ = false
 
 -- an object is an entry of a members list
 unfoldable pub is_entry : Spot → Bool
@@ -125,6 +132,7 @@ is_entry _ = false
 unfoldable pub leads_on : Spot → Bool
 leads_on FieldType = false
 leads_on MemberList = false
+leads_on ExtraMembers = false
 leads_on MemberValue = false
 leads_on Plain = false
 leads_on _ = true

@@ -1,11 +1,13 @@
 //! Laws of look-up along inheritance.
-ghost use Rattle.std.specs.Prelude.{◌≡◌, ◌↔◌, ◌⊎◌, None, Ok, Err};
+ghost use Rattle.std.specs.Prelude.{◌≡◌, ◌↔◌, ◌⊎◌, ℕ, List, None, Ok, Err};
 ghost use Rattle.conf_tree.specs.Flaw.{Flaw};
+ghost use Rattle.conf_inherit.specs.Circle.{Walks};
 ghost use Rattle.conf_inherit.specs.Faults.{RefusalHolds};
 ghost use Rattle.serde_json.specs.Data.{Data};
 ghost use Rattle.conf_inherit.specs.Resolution.{Resolves, aliases_of, resolution};
 ghost use Rattle.conf_inherit.specs.Names.{NoClash};
 ghost use Rattle.serde_json.specs.Data.{Members};
+ghost use Rattle.serde_json.specs.Events.{members_len};
 ghost use Rattle.conf_tree.specs.declared.fault_kind.FaultKind.{FaultKind};
 ghost use Rattle.conf_inherit.specs.declared.spot.Spot.{Spot};
 ghost use Rattle.conf_inherit.specs.Laying.{lay};
@@ -31,6 +33,13 @@ pub fn refusal_holds()
 pub fn resolution_or_fault()
     ensures { (t : Data) → NoClash (aliases_of t)
         → ((r : Data) × Resolves t r) ⊎ ((flaw : Flaw) × RefusalHolds t flaw) }
+{}
+
+/// No configuration is resolved in which an alias leads into a circle: one from which there are as many steps as
+/// there are aliases.
+pub fn circle_is_refused()
+    ensures { (t r : Data) (k : List ℕ) → NoClash (aliases_of t)
+        → Walks (aliases_of t) (members_len (aliases_of t)) k → resolution t ≡ Ok r → ⊥ }
 {}
 
 /// A field type is resolved exactly where it, and each type that it inherits from, is within the limits by itself.

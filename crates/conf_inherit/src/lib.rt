@@ -22,8 +22,8 @@ mod spot;
 mod tests;
 
 pub use law::{
-    limit_is_passed, one_resolution, refusal_holds, resolution_exists, resolution_or_fault,
-    type_fits,
+    circle_is_refused, limit_is_passed, one_resolution, refusal_holds, resolution_exists,
+    resolution_or_fault, type_fits,
 };
 pub use resolution::resolve;
 pub(crate) use spot::Spot;

@@ -130,7 +130,7 @@ fn check_place(
     if spot.names_member_type() {
         return check_limits(alloc, value, spot, resolved);
     }
-    if spot.lists_members() {
+    if spot.lists_extra_members() {
         return check_extra(value, spot, aliases);
     }
     Ok(())
@@ -154,7 +154,7 @@ pub(crate) fn check_places(
     match value {
         Value::Null | Value::Bool(_) | Value::Number(_) | Value::String(_) => Ok(()),
         Value::Array(items) => {
-            if spot.lists_members() {
+            if spot.lists_extra_members() {
                 return check_item_places(alloc, items, spot, levels - 1, aliases, resolved);
             }
             Ok(())

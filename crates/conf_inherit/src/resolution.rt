@@ -12,7 +12,7 @@ ghost use Rattle.conf_inherit.specs.Laying.{lay};
 ghost use Rattle.serde_json.specs.Find.{get, as_object};
 ghost use Rattle.serde_json.specs.View.{view, members_view};
 ghost use Rattle.serde_json.specs.Written.{has_float};
-ghost use Rattle.conf_inherit.specs.Resolution.{trace_name, type_name, aliases_name, aliases_of, Resolves, in_aliases, from_aliases, if_shallow, resolution_after, resolution};
+ghost use Rattle.conf_inherit.specs.Resolution.{trace_name, type_name, aliases_name, aliases_of, Resolves, in_aliases, from_aliases, if_shallow, few_aliases, resolution_after, resolution};
 
 use crate::Spot;
 use crate::alias_check::check_aliases;
@@ -25,6 +25,9 @@ use crate::size::Stop;
 use conf_tree::{ConfFault, FaultKind, Tree};
 use serde_json::{Map, Value};
 use std::alloc::Global;
+
+/// The most field type aliases of a configuration.
+const MAX_ALIASES: usize = 1024;
 
 /// The value of the field type aliases.
 #[tactic(auto, unfolding(crate::specs::Resolution::trace_name, crate::specs::Resolution::type_name, crate::specs::Resolution::aliases_name))]
@@ -63,6 +66,18 @@ fn in_aliases(alloc: Global, fault: ConfFault) -> ConfFault
         .in_property(alloc, "$field-type-aliases")
         .in_property(alloc, "type")
         .in_property(alloc, "trace")
+}
+
+/// Refuses more field type aliases than a configuration may have. It comes before any of them is resolved: each takes
+/// up to one round over all of them, and up to 4,096 JSON values, which is far more than its text.
+#[tactic(auto, using(crate::proofs::ResolveLemmas::aliases_past, crate::proofs::ResolveLemmas::aliases_within))]
+fn check_number(alloc: Global, aliases: &Map<String, Value>) -> Result<(), ConfFault>
+    ensures first { Gives (λ _. tt) result (few_aliases (members_view aliases.now.entries)) }
+{
+    if aliases.len() > MAX_ALIASES {
+        return Err(in_aliases(alloc, ConfFault::here(FaultKind::Limit)));
+    }
+    Ok(())
 }
 
 /// Refuses the first fault of the aliases.
@@ -133,6 +148,9 @@ fn resolve_under(
     ensures refused { IfErr result (λ fault. IsMemory fault ⊎ RefusalHolds (view value.now) (flaw_of fault)) }
     ensures first { Gives (λ tree. view tree.value) result (resolution (view value.now)) }
 {
+    if let Err(fault) = check_number(alloc, aliases) {
+        return Err(fault);
+    }
     let outcomes = settle_aliases(alloc, aliases)?;
     match resolve_after(alloc, value, aliases, &outcomes) {
         Ok(value) => Ok(Tree { value }),
@@ -142,7 +160,9 @@ fn resolve_under(
 
 /// The configuration with every inheritance resolved: each property has the value that is looked up along what its
 /// object inherits from (barectf 3.1, "Field type inheritance"). The tree is spent on a refusal, which names the first
-/// fault: those of the aliases in byte order of their names, then those of the other places in walk order.
+/// fault: more than 1,024 aliases, then those of the aliases in byte order of their names, then those of the other
+/// places in walk order. The number of the aliases comes first because to resolve more could take far more time and
+/// memory than their text.
 pub fn resolve(alloc: Global, tree: Tree) -> Result<Tree, ConfFault>
     ensures resolved { IfOk result (λ made. Resolves (view tree.value) (view made.value)) }
     ensures refused { IfErr result (λ fault. IsMemory fault ⊎ RefusalHolds (view tree.value) (flaw_of fault)) }

@@ -32,6 +32,8 @@ pub(crate) enum Spot {
     FieldType,
     /// A members list.
     MemberList,
+    /// The extra members of a packet context, as a members list.
+    ExtraMembers,
     /// An entry of a members list: an object of one property, the member's name.
     Entry,
     /// A member's value: the name of an alias, or an object with `field-type`.
@@ -41,7 +43,7 @@ pub(crate) enum Spot {
 }
 
 impl Spot {
-    ghost use Rattle.conf_inherit.specs.Spot.{spot_under, spot_of_items, names_alias, names_member_type, is_base_name, lists_members, is_entry, leads_on, spot_in_trace_type, spot_in_stream_type, spot_in_event_type, spot_in_type, spot_in_stream_features, spot_in_trace_features, spot_in_packet_features, spot_in_event_record_features};
+    ghost use Rattle.conf_inherit.specs.Spot.{spot_under, spot_of_items, names_alias, names_member_type, is_base_name, lists_members, lists_extra_members, is_entry, leads_on, spot_in_trace_type, spot_in_stream_type, spot_in_event_type, spot_in_type, spot_in_stream_features, spot_in_trace_features, spot_in_packet_features, spot_in_event_record_features};
 
     /// The spot of the property `name` of an object that stands here.
     #[tactic(auto, unfolding(crate::specs::Spot::spot_under))]
@@ -63,7 +65,7 @@ impl Spot {
             Spot::EventType => Spot::in_event_type(name),
             Spot::FieldType | Spot::MemberValue => Spot::in_field_type(name),
             Spot::Entry => Spot::MemberValue,
-            Spot::MemberList | Spot::Plain => Spot::Plain,
+            Spot::MemberList | Spot::ExtraMembers | Spot::Plain => Spot::Plain,
         }
     }
 
@@ -73,7 +75,7 @@ impl Spot {
         ensures { result ≡ spot_of_items self }
     {
         match self {
-            Spot::MemberList => Spot::Entry,
+            Spot::MemberList | Spot::ExtraMembers => Spot::Entry,
             _ => Spot::Plain,
         }
     }
@@ -99,7 +101,15 @@ impl Spot {
     pub(crate) fn lists_members(self) -> bool
         ensures { result ≡ lists_members self }
     {
-        matches!(self, Spot::MemberList)
+        matches!(self, Spot::MemberList | Spot::ExtraMembers)
+    }
+
+    /// Whether a list that stands here has the extra members of a packet context.
+    #[tactic(auto, unfolding(crate::specs::Spot::lists_extra_members))]
+    pub(crate) fn lists_extra_members(self) -> bool
+        ensures { result ≡ lists_extra_members self }
+    {
+        matches!(self, Spot::ExtraMembers)
     }
 
     /// Whether an object that stands here is an entry of a members list.
@@ -117,7 +127,11 @@ impl Spot {
     {
         !matches!(
             self,
-            Spot::FieldType | Spot::MemberList | Spot::MemberValue | Spot::Plain
+            Spot::FieldType
+                | Spot::MemberList
+                | Spot::ExtraMembers
+                | Spot::MemberValue
+                | Spot::Plain
         )
     }
 
@@ -181,7 +195,7 @@ impl Spot {
     {
         match name {
             "$features" => Spot::StreamFeatures,
-            "packet-context-field-type-extra-members" => Spot::MemberList,
+            "packet-context-field-type-extra-members" => Spot::ExtraMembers,
             "event-record-common-context-field-type" => Spot::FieldType,
             "event-record-types" => Spot::EventTypes,
             _ => Spot::Plain,

@@ -173,16 +173,22 @@ fn heavy_alias(alloc: Global, name: &str, numbers: u32) -> Result<String, AllocE
     Ok(alias)
 }
 
-/// A structure of so many members of this type.
-fn structure(alloc: Global, count: u32, member: &str) -> Result<String, AllocError> {
-    let mut text = String::from_str(alloc, "{\"members\":[{\"m0\":")?;
+/// A members list of so many members of this type.
+fn members(alloc: Global, count: u32, member: &str) -> Result<String, AllocError> {
+    let mut text = String::from_str(alloc, "[{\"m0\":")?;
     text.push_str(member)?;
     for i in 1..count {
         let entry = format!(in alloc; "}},{{\"m{i}\":{member}")?;
         text.push_str(entry.as_str())?;
     }
-    text.push_str("}]}")?;
+    text.push_str("}]")?;
     Ok(text)
+}
+
+/// A structure of so many members of this type.
+fn structure(alloc: Global, count: u32, member: &str) -> Result<String, AllocError> {
+    let list = members(alloc, count, member)?;
+    format!(in alloc; "{{\"members\":{list}}}")
 }
 
 /// What is said of the payload once the aliases are resolved: `ok`, or the place that is refused and why.
@@ -336,6 +342,83 @@ fn judges_extra_members_one_after_the_other(rt: HostRuntime) -> Result<(), Fail>
         let expected = format!(in alloc; "{list}/{expected}")?;
         let answer = verdict(alloc, text.as_str())?;
         assert_eq!(rt; answer.as_str(), expected.as_str(), "{extras}");
+    }
+    Ok(())
+}
+
+/// The extra members of a packet context are limited, and the entries of no other members list.
+#[test]
+fn limits_the_extra_members_alone(rt: HostRuntime) -> Result<(), Fail> {
+    let alloc = rt.alloc();
+    let most = members(alloc, 256, "{}")?;
+    let more = members(alloc, 257, "{}")?;
+    let alias = format!(in alloc; "\"$field-type-aliases\":{{\"many\":{{\"members\":{more}}}}}")?;
+    let list = "\"data-stream-types\":{\"s\":{\"packet-context-field-type-extra-members\":";
+    let full = format!(in alloc; "{list}{most}}}}}")?;
+    let over = format!(in alloc; "{list}{more}}}}}")?;
+    let rows = [
+        ("257 members of an alias", alias.as_str(), "ok"),
+        ("256 extra members", full.as_str(), "ok"),
+        (
+            "257 extra members",
+            over.as_str(),
+            "trace/type/data-stream-types/s/packet-context-field-type-extra-members: past a limit of size: expected fewer or smaller parts",
+        ),
+    ];
+    for (row, part, expected) in rows {
+        let text = format!(in alloc; "{{\"trace\":{{\"type\":{{{part}}}}}}}")?;
+        let answer = verdict(alloc, text.as_str())?;
+        assert_eq!(rt; answer.as_str(), expected, "{row}");
+    }
+    Ok(())
+}
+
+/// So many aliases, of this type each.
+fn many_aliases(alloc: Global, count: u32, type_text: &str) -> Result<String, AllocError> {
+    let mut text = format!(in alloc; "\"a0\":{type_text}")?;
+    for i in 1..count {
+        let entry = format!(in alloc; ",\"a{i}\":{type_text}")?;
+        text.push_str(entry.as_str())?;
+    }
+    Ok(text)
+}
+
+/// So many aliases in a chain, each of the name of the next; the last is a type.
+fn chain(alloc: Global, count: u32) -> Result<String, AllocError> {
+    let mut text = String::new(alloc);
+    for i in 1..count {
+        let next = i + 1;
+        let entry = format!(in alloc; "\"a{i}\":\"a{next}\",")?;
+        text.push_str(entry.as_str())?;
+    }
+    let last = format!(in alloc; "\"a{count}\":{{\"class\":\"uint\",\"size\":8}}")?;
+    text.push_str(last.as_str())?;
+    Ok(text)
+}
+
+/// More than 1,024 aliases are refused before any of them is judged.
+#[test]
+fn limits_the_aliases(rt: HostRuntime) -> Result<(), Fail> {
+    let alloc = rt.alloc();
+    let past =
+        "trace/type/$field-type-aliases: past a limit of size: expected fewer or smaller parts";
+    let most = many_aliases(alloc, 1024, "{}")?;
+    let more = many_aliases(alloc, 1025, "{}")?;
+    let unknown = many_aliases(alloc, 1025, "\"nope\"")?;
+    let one_unknown = format!(in alloc; "{most},\"b\":\"nope\"")?;
+    let longest = chain(alloc, 1024)?;
+    let too_long = chain(alloc, 7000)?;
+    let rows = [
+        ("1,024 aliases", most.as_str(), "ok"),
+        ("1,025 aliases", more.as_str(), past),
+        ("1,025 names of no alias", unknown.as_str(), past),
+        ("a name of no alias among 1,025", one_unknown.as_str(), past),
+        ("a chain of 1,024 aliases", longest.as_str(), "ok"),
+        ("a chain of 7,000 aliases", too_long.as_str(), past),
+    ];
+    for (row, aliases, expected) in rows {
+        let answer = judged(alloc, aliases, "\"a1\"")?;
+        assert_eq!(rt; answer.as_str(), expected, "{row}");
     }
     Ok(())
 }

@@ -1,0 +1,169 @@
+-- An alias that is resolved starts no walk as long as there are aliases.
+use Rattle.std.proofs.Common.{◌≡◌, ◌&&◌, ◌||◌, ◌<◌, ◌≤◌, inl, inr, ℕ, zero, suc, List, Some, Result, Ok, Err, is_some, Bool, true, false, true≢false, refl, sym, ap, ◌∙◌, subst, arith, if◌then◌else◌}
+use Rattle.serde_json.specs.Data.{Data, null, boolean, number, string, array, object, Items, no_items, item, Members, no_members, member, put}
+use Rattle.serde_json.specs.Events.{members_len}
+use Rattle.serde_json.specs.Find.{get_member}
+use Rattle.serde_json.proofs.Views.{get_member-put, get_member-put_other}
+use Rattle.conf_inherit.specs.declared.spot.Spot.{Spot}
+use Rattle.conf_inherit.specs.declared.spot.Spot.TheVariants.{FieldType}
+use Rattle.conf_inherit.specs.Spot.{spot_under, spot_of_items, names_alias}
+use Rattle.conf_inherit.specs.AliasFlaws.{all_alias_flaws}
+use Rattle.conf_inherit.specs.Circle.{Mentions, MentionsInItems, MentionsInMembers, Walks}
+use Rattle.conf_inherit.specs.Flaws.{flaws}
+use Rattle.conf_inherit.specs.Names.{NoClash}
+use Rattle.conf_inherit.specs.Ready.{Names}
+use Rattle.conf_inherit.specs.Resolution.{aliases_of, resolution}
+use Rattle.conf_inherit.specs.Rounds.{Why, Outcomes, all_named, all_named_in_items, all_named_in_members, has, is_over, is_empty, outcome, concluded, step, round, rounds, no_outcomes}
+use Rattle.conf_inherit.proofs.LayingLemmas.{Meets, same, other, meets, get_other}
+use Rattle.conf_inherit.proofs.ListLemmas.{AllEntries, found_each}
+use Rattle.conf_inherit.proofs.NamedLemmas.{and_second, and_first}
+use Rattle.conf_inherit.proofs.ResolveLemmas.{no_flaws, aliases_sound}
+use Rattle.conf_inherit.proofs.RoundLemmas.{by_round, no_value, or_left_false, rounds_root, all_done}
+
+-- ---- what a value names passes a test that every name in it passes
+
+passes_text : (p : List ℕ → Bool) (s : Spot) (n : List ℕ) → Names s → all_named p s (string n) ≡ true → p n ≡ true
+passes_text p s n (inl is) h = rw is at h
+passes_text p s n (inr is) h = go (names_alias s) refl
+  where
+    go : (t : Bool) → names_alias s ≡ t → p n ≡ true
+    go true e = rw e at h
+    go false e = rw (e, is) at h
+
+mutual
+  mentioned : (p : List ℕ → Bool) (m : List ℕ) (v : Data) (s : Spot) → all_named p s v ≡ true → Mentions m s v → p m ≡ true
+  mentioned p m null s h x = absurd x
+  mentioned p m (boolean b) s h x = absurd x
+  mentioned p m (number n) s h x = absurd x
+  mentioned p m (string n) s h (names, is) = ap p (sym is) ∙ passes_text p s n names h
+  mentioned p m (array ds) s h x = mentioned_in_items p m ds (spot_of_items s) h x
+  mentioned p m (object ms) s h x = mentioned_in_members p m ms s h x
+
+  mentioned_in_items : (p : List ℕ → Bool) (m : List ℕ) (ds : Items) (s : Spot) → all_named_in_items p s ds ≡ true → MentionsInItems m s ds → p m ≡ true
+  mentioned_in_items p m no_items s h x = absurd x
+  mentioned_in_items p m (item d ds) s h (inl x) = mentioned p m d s (and_first (all_named p s d) (all_named_in_items p s ds) h) x
+  mentioned_in_items p m (item d ds) s h (inr x) = mentioned_in_items p m ds s (and_second (all_named p s d) (all_named_in_items p s ds) h) x
+
+  mentioned_in_members : (p : List ℕ → Bool) (m : List ℕ) (ms : Members) (s : Spot) → all_named_in_members p s ms ≡ true → MentionsInMembers m s ms → p m ≡ true
+  mentioned_in_members p m no_members s h x = absurd x
+  mentioned_in_members p m (member k d ms) s h (inl x) = mentioned p m d (spot_under s k) (and_first (all_named p (spot_under s k) d) (all_named_in_members p s ms) h) x
+  mentioned_in_members p m (member k d ms) s h (inr x) = mentioned_in_members p m ms s (and_second (all_named p (spot_under s k) d) (all_named_in_members p s ms) h) x
+
+-- ---- how many names pass a test
+
+abbrev count : (List ℕ → Bool) → Members → ℕ
+count p no_members = 0
+count p (member k d ms) = if p k then suc (count p ms) else count p ms
+
+count_all : (p : List ℕ → Bool) (ms : Members) → count p ms ≤ members_len ms
+count_all p no_members = omega arith
+count_all p (member k d ms) = go (p k) refl (count_all p ms)
+  where
+    go : (t : Bool) → p k ≡ t → count p ms ≤ members_len ms → count p (member k d ms) ≤ members_len (member k d ms)
+    go true e rest = rw e (omega arith)
+    go false e rest = rw e (omega arith)
+
+module _ (p q : List ℕ → Bool) (more : (n : List ℕ) → p n ≡ true → q n ≡ true) where
+  count_more : (ms : Members) → count p ms ≤ count q ms
+  count_more no_members = omega arith
+  count_more (member k d ms) = go (p k) refl (q k) refl (count_more ms)
+    where
+      go : (t : Bool) → p k ≡ t → (u : Bool) → q k ≡ u → count p ms ≤ count q ms → count p (member k d ms) ≤ count q (member k d ms)
+      go true a true b rest = rw (a, b) (omega arith)
+      go true a false b rest = absurd (true≢false (sym (more k a) ∙ b))
+      go false a true b rest = rw (a, b) (omega arith)
+      go false a false b rest = rw (a, b) rest
+
+  -- one that passes now, and did not before, counts
+  count_new : (k : List ℕ) (w : Data) (ms : Members) → get_member k ms ≡ Some w → p k ≡ false → q k ≡ true → count p ms < count q ms
+  count_new k w no_members is before after = cc
+  count_new k w (member l d ms) is before after = at (meets k l) (λ e. count_new k w ms e before after)
+    where
+      at : Meets k l → (get_member k ms ≡ Some w → count p ms < count q ms) → count p (member l d ms) < count q (member l d ms)
+      at (same e) rest =
+          let a : p l ≡ false = ap p (sym e) ∙ before in
+          let b : q l ≡ true = ap q (sym e) ∙ after in
+          let all = count_more ms in
+          rw (a, b) (omega arith)
+      at (other apart) rest = go (p l) refl (q l) refl (rest (sym (get_other k l d ms apart) ∙ is))
+        where
+          go : (t : Bool) → p l ≡ t → (u : Bool) → q l ≡ u → count p ms < count q ms → count p (member l d ms) < count q (member l d ms)
+          go true a true b later = rw (a, b) (omega arith)
+          go true a false b later = absurd (true≢false (sym (more l a) ∙ b))
+          go false a true b later = rw (a, b) (omega arith)
+          go false a false b later = rw (a, b) later
+
+-- what was there is there still
+still : (k : List ℕ) (r : Data) (done : Members) (n : List ℕ) → has done n ≡ true → has (put k r done) n ≡ true
+still k r done n h = at (meets n k)
+  where
+    at : Meets n k → has (put k r done) n ≡ true
+    at (same e) = ap (has (put k r done)) e ∙ ap is_some (get_member-put k r done)
+    at (other apart) = ap is_some (get_member-put_other n k r done apart) ∙ h
+
+-- ---- the walks of a resolved alias
+
+module _ (al : Members) where
+  -- a walk from a resolved alias has fewer steps than there are resolved aliases
+  abbrev Short : Outcomes → Type 0
+  Short st = (n : ℕ) (k : List ℕ) → has st.done k ≡ true → Walks al n k → n < count (has st.done) al
+
+  short_resolved : (k : List ℕ) (w r : Data) (st : Outcomes) → get_member k al ≡ Some w → has st.done k ≡ false → all_named (has st.done) FieldType w ≡ true → Short st → Short (concluded k st (Ok r))
+  short_resolved k w r st is open_k named short n q h walk = at (meets q k)
+    where
+      grows : count (has st.done) al < count (has (put k r st.done)) al
+      grows = count_new (has st.done) (has (put k r st.done)) (still k r st.done) k w al is open_k (ap is_some (get_member-put k r st.done))
+
+      of_alias : (n : ℕ) → Walks al n k → n < count (has (put k r st.done)) al
+      of_alias zero walk = omega (arith, grows)
+      of_alias (suc n) (v, m, is', x, rest) =
+          let g : Some v ≡ Some w = sym is' ∙ is in
+          let one : v ≡ w = cc in
+          let before : n < count (has st.done) al = short n m (mentioned (has st.done) m w FieldType named (subst (Mentions m FieldType) one x)) rest in
+          omega (arith, grows)
+
+      at : Meets q k → n < count (has (put k r st.done)) al
+      at (same e) = of_alias n (subst (Walks al n) e walk)
+      at (other apart) =
+          let before : n < count (has st.done) al = short n q (ap is_some (sym (get_member-put_other q k r st.done apart)) ∙ h) walk in
+          omega (arith, grows)
+
+  outcome_named : (done : Members) (w r : Data) → outcome al done w ≡ Ok r → all_named (has done) FieldType w ≡ true
+  outcome_named done w r h = go (is_empty (flaws al FieldType false no_members w) && all_named (has done) FieldType w) refl
+    where
+      go : (t : Bool) → (is_empty (flaws al FieldType false no_members w) && all_named (has done) FieldType w) ≡ t → all_named (has done) FieldType w ≡ true
+      go true e = and_second (is_empty (flaws al FieldType false no_members w)) (all_named (has done) FieldType w) e
+      go false e = absurd (no_value r (rw e at h))
+
+  short_step : (k : List ℕ) (w : Data) (st : Outcomes) → get_member k al ≡ Some w → Short st → Short (step al k w st)
+  short_step k w st is short = go (has st.done k || is_some (st.refused k)) refl (all_named (is_over al st) FieldType w) refl (outcome al st.done w) refl
+    where
+      go : (t : Bool) → (has st.done k || is_some (st.refused k)) ≡ t → (u : Bool) → all_named (is_over al st) FieldType w ≡ u → (o : Result Data Why) → outcome al st.done w ≡ o → Short (step al k w st)
+      go true a u b o e = rw a short
+      go false a false b o e = rw (a, b) short
+      go false a true b (Err why) e = rw (a, b, e) short
+      go false a true b (Ok r) e = rw (a, b, e) (short_resolved k w r st is (or_left_false (has st.done k) (is_some (st.refused k)) a) (outcome_named st.done w r e) short)
+
+  short_round : (ms : Members) (st : Outcomes) → AllEntries (λ k w. get_member k al ≡ Some w) ms → Short st → Short (round al ms st)
+  short_round no_members st each short = short
+  short_round (member k w ms) st each short = short_round ms (step al k w st) each.1 (short_step k w st each.0 short)
+
+  rounds_short : (n : ℕ) → AllEntries (λ k w. get_member k al ≡ Some w) al → Short (rounds al n no_outcomes)
+  rounds_short zero each = λ n k h walk. absurd (true≢false (sym h))
+  rounds_short (suc n) each = by_round al Short (rounds al n no_outcomes) (rounds_short n each) (short_round al (rounds al n no_outcomes) each (rounds_short n each))
+
+  walk_starts : (n : ℕ) (k : List ℕ) → Walks al n k → has al k ≡ true
+  walk_starts zero k (w, is) = ap is_some is
+  walk_starts (suc n) k (w, m, is, x, rest) = ap is_some is
+
+-- where there is a resolution, no alias leads into a circle
+pub circle_refused : (t r : Data) (k : List ℕ) → NoClash (aliases_of t) → Walks (aliases_of t) (members_len (aliases_of t)) k → resolution t ≡ Ok r → ⊥
+circle_refused t r k apart walk h =
+    let al = aliases_of t in
+    let n = members_len al in
+    let st = rounds al n no_outcomes in
+    let each = found_each al apart in
+    let done = all_done al st (no_flaws (all_alias_flaws al st al) (aliases_sound t r h)) (rounds_root al n each) k (walk_starts al n k walk) in
+    let long : n < count (has st.done) al = rounds_short al n each n k done walk in
+    let few : count (has st.done) al ≤ n = count_all (has st.done) al in
+    omega arith

@@ -1,0 +1,5 @@
+use Rattle.conf_inherit.proofs.WalkLemmas.{circle_refused}
+use Rattle.conf_inherit.proofs.law.circle_is_refused.Goals as goal
+
+pub returns : goal.returns
+returns c = λ t r k apart walk h. circle_refused t r k apart walk h
