@@ -3,7 +3,7 @@
 ghost use Rattle.std.specs.Prelude.{◌≡◌, ℕ, List, Some, IfOk, string_bytes};
 ghost use Rattle.std.specs.List.{concat};
 ghost use Rattle.packet_reader.specs.StreamReading.{Reads};
-ghost use Rattle.ctftrace.specs.FirstPath.{Answers, IsAnswer, IsTraced, pieces_of};
+ghost use Rattle.ctftrace.specs.FirstPath.{Answers, AreBytes, IsAnswer, IsTraced, pieces_of};
 ghost use Rattle.ctftrace.specs.SmallConfiguration as small;
 
 use crate::lines::{LineFault, read_numbers};
@@ -93,7 +93,8 @@ fn traced_text(alloc: Global, values: &[u8]) -> Result<String, AllocError>
 
 /// What a reader finds in the bytes of the packets.
 fn read_back(alloc: Global, packets: &[Packet]) -> Result<ReadStream, AllocError>
-    ensures { IfOk result (λ s. Reads small.small_metadata (concat (pieces_of packets.now)) s.packets s.end) }
+    ensures reads { IfOk result (λ s. Reads small.small_metadata (concat (pieces_of packets.now)) s.packets s.end) }
+    ensures bytes { IfOk result (λ s. AreBytes (concat (pieces_of packets.now))) }
 {
     let bytes = joined_bytes(alloc, packets)?;
     read_bytes(alloc, bytes.as_slice())
@@ -101,7 +102,8 @@ fn read_back(alloc: Global, packets: &[Packet]) -> Result<ReadStream, AllocError
 
 /// What a reader finds in the bytes of a stream file of the small configuration.
 pub(crate) fn read_bytes(alloc: Global, bytes: &[u8]) -> Result<ReadStream, AllocError>
-    ensures { IfOk result (λ s. Reads small.small_metadata bytes.now s.packets s.end) }
+    ensures reads { IfOk result (λ s. Reads small.small_metadata bytes.now s.packets s.end) }
+    ensures bytes { AreBytes bytes.now }
 {
     let metadata = small_metadata(alloc)?;
     if bytes.len() >= LONGEST_STREAM {
