@@ -2,10 +2,10 @@
 
 use super::{configuration, empty, int, of_one, text};
 use crate::{
-    Args, ByteOrder, Duplicate, Event, FieldType, ListOf, MemberType, Metadata, Stream, StructType,
-    Text, Value, Values,
+    Args, ByteOrder, ClockType, Duplicate, EnumType, EnvironmentEntry, EnvironmentValue, Event,
+    FieldType, ListOf, Mapping, MemberType, Metadata, Stream, StructType, Text, Value, Values,
 };
-use std::alloc::Global;
+use std::alloc::{AllocError, Global};
 use std::process::Abort;
 use std::test::Fail;
 
@@ -116,5 +116,80 @@ fn copies_metadata(rt: HostRuntime) -> Result<(), Fail> {
     assert_eq!(rt; event.name.as_str(), "e");
     assert_eq!(rt; event.log_level, Some(6));
     is_of_one(&rt, &event.fields, 16);
+    Ok(())
+}
+
+fn entry(
+    alloc: Global,
+    name: &str,
+    value: EnvironmentValue,
+) -> Result<EnvironmentEntry, AllocError> {
+    Ok(EnvironmentEntry {
+        name: Text::from_str(alloc, name)?,
+        value,
+    })
+}
+
+fn clock(alloc: Global) -> Result<ClockType, AllocError> {
+    Ok(ClockType {
+        name: Text::from_str(alloc, "c")?,
+        uuid: None,
+        description: Some(Text::from_str(alloc, "a clock")?),
+        frequency: 1000,
+        precision: 2,
+        offset_seconds: -3,
+        offset_cycles: 4,
+        absolute: true,
+    })
+}
+
+#[test]
+fn copies_an_environment_and_a_clock(rt: HostRuntime) -> Result<(), Fail> {
+    let alloc = rt.alloc();
+    let mut given = metadata(alloc)?;
+    given
+        .environment
+        .push(entry(alloc, "a", EnvironmentValue::Whole(-1))?)?;
+    let words = EnvironmentValue::Text(Text::from_str(alloc, "two words")?);
+    given.environment.push(entry(alloc, "b", words)?)?;
+    given.clocks.push(clock(alloc)?)?;
+    let copied = given.copy(alloc)?;
+    assert_eq!(rt; copied.environment.len(), 2);
+    let number = copied.environment.get(0).ok_or("no entry")?;
+    assert_eq!(rt; number.name.as_str(), "a");
+    assert!(rt; matches!(number.value, EnvironmentValue::Whole(-1)));
+    let words = copied.environment.get(1).ok_or("one entry")?;
+    assert_eq!(rt; words.name.as_str(), "b");
+    assert!(rt; matches!(&words.value, EnvironmentValue::Text(t) if t.as_str() == "two words"));
+    let clock = copied.clocks.get(0).ok_or("no clock")?;
+    assert_eq!(rt; clock.name.as_str(), "c");
+    assert!(rt; matches!(&clock.description, Some(t) if t.as_str() == "a clock"));
+    assert_eq!(rt; (clock.frequency, clock.precision), (1000, 2));
+    assert_eq!(rt; (clock.offset_seconds, clock.offset_cycles), (-3, 4));
+    Ok(())
+}
+
+#[test]
+fn copies_an_enumeration(rt: HostRuntime) -> Result<(), Fail> {
+    let alloc = rt.alloc();
+    let mut mappings = ListOf::new(alloc);
+    mappings.push(Mapping {
+        label: Text::from_str(alloc, "low")?,
+        low: -4,
+        high: 1,
+    })?;
+    let given = FieldType::Enum(EnumType {
+        int: int(3, 1, true)?,
+        mappings,
+    });
+    match given.copy(alloc)? {
+        FieldType::Enum(copied) => {
+            assert_eq!(rt; copied.int.size(), 3);
+            let mapping = copied.mappings.get(0).ok_or("no mapping")?;
+            assert_eq!(rt; mapping.label.as_str(), "low");
+            assert_eq!(rt; (mapping.low, mapping.high), (-4, 1));
+        }
+        _ => assert!(rt; false, "another type"),
+    }
     Ok(())
 }
