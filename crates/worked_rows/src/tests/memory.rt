@@ -76,6 +76,24 @@ fn makes_a_configuration(rt: HostRuntime) -> Result<(), Fail> {
     Ok(())
 }
 
+/// Its last fault, two byte orders, is found behind all readings of its objects.
+#[test]
+fn refuses_a_configuration(rt: HostRuntime) -> Result<(), Fail> {
+    let alloc = rt.alloc();
+    let both = r#""trace-byte-order":"be","native-byte-order""#;
+    let text = granted(RICH.replace(alloc, r#""native-byte-order""#, both))?;
+    match configure(alloc, text.as_str().as_bytes(), None) {
+        Ok(_) => Err(Fail::new("two byte orders")),
+        Err(fault) => {
+            if fault.is_memory() {
+                return Err(Fail::new(fault));
+            }
+            assert!(rt; fault.path.len() == 2);
+            Ok(())
+        }
+    }
+}
+
 #[test]
 fn writes_and_reads_metadata(rt: HostRuntime) -> Result<(), Fail> {
     let alloc = rt.alloc();

@@ -3,7 +3,7 @@
 ghost use Rattle.std.specs.Prelude.{IfOk};
 ghost use Rattle.ctf_types.specs.Allowed.{IsMetadata};
 
-use crate::tests::small::{CLOCKED, SMALL, bytes_of, changed, configured, small};
+use crate::tests::small::{CLOCKED, SMALL, WITH_BITS, bytes_of, changed, configured, small};
 use ctf_types::{Config, Metadata, Text};
 use packet_reader::read_stream;
 use std::alloc::Global;
@@ -13,7 +13,7 @@ use tsdl_reader::read_metadata;
 use tsdl_writer::write_metadata;
 
 /// The metadata that is read from the configuration's text.
-fn read_back(alloc: Global, config: &Config) -> Result<Metadata, Fail>
+pub fn read_back(alloc: Global, config: &Config) -> Result<Metadata, Fail>
     ensures { IfOk result (λ m. IsMetadata m) }
 {
     let text = write_metadata(alloc, config)?;
@@ -27,7 +27,7 @@ fn read_back(alloc: Global, config: &Config) -> Result<Metadata, Fail>
 }
 
 /// A reader finds these packets in the bytes, in the form of `Debug`, and that they end so.
-fn reads(
+pub fn reads(
     rt: &impl Abort,
     alloc: Global,
     metadata: &Metadata,
@@ -89,6 +89,21 @@ fn reads_an_empty_array(rt: HostRuntime) -> Result<(), Fail> {
         &metadata,
         "c11ffcc1 c0000000 a8000000 01000000 00000000 02000000",
         "[ReadPacket { stream: 0, begin: None, end: None, sequence: None, discarded: None, extras: Values { items: [] }, records: ListOf { items: [Record { event: 0, clock: None, common: Values { items: [] }, specific: Values { items: [] }, payload: Values { items: [Unsigned(1), Unsigned(0), List(Values { items: [] }), Unsigned(2)] } }] } }]",
+        "Whole",
+    )
+}
+
+/// A number of 1 bit before an array of such numbers, behind an id of 1 bit.
+#[test]
+fn reads_an_array_of_bits(rt: HostRuntime) -> Result<(), Fail> {
+    let alloc = rt.alloc();
+    let metadata = read_back(alloc, &small(alloc, WITH_BITS)?)?;
+    reads(
+        &rt,
+        alloc,
+        &metadata,
+        "c11ffcc1 c0000000 93000000 00 01 03000000 05 0000000000",
+        "[ReadPacket { stream: 0, begin: None, end: None, sequence: None, discarded: None, extras: Values { items: [] }, records: ListOf { items: [Record { event: 0, clock: None, common: Values { items: [] }, specific: Values { items: [] }, payload: Values { items: [Unsigned(1), Unsigned(3), List(Values { items: [Unsigned(1), Unsigned(0), Unsigned(1)] })] } }] } }]",
         "Whole",
     )
 }
@@ -167,7 +182,7 @@ fn reads_the_traces_identifier(rt: HostRuntime) -> Result<(), Fail> {
 }
 
 /// The clock of a file's stream, nothing where it has none.
-fn is_of_clock(
+pub fn is_of_clock(
     rt: &impl Abort,
     alloc: Global,
     metadata: &Metadata,

@@ -35,6 +35,18 @@ pub const CLOCKED: &str =
 /// Pieces of a text, each with what stands in its place.
 pub type Changes = &'static [(&'static str, &'static str)];
 
+/// `SMALL` with an id of 1 bit before its payload: a number of 1 bit, and a dynamic array of such numbers.
+pub const WITH_BITS: Changes = &[
+    (
+        r#""type-id-field-type":false"#,
+        r#""type-id-field-type":{"class":"uint","size":1,"alignment":1}"#,
+    ),
+    (
+        "PAYLOAD",
+        r#"[{"p":{"field-type":{"class":"uint","size":1,"alignment":1}}},{"a":{"field-type":{"class":"dynamic-array","element-field-type":{"class":"uint","size":1,"alignment":1}}}}]"#,
+    ),
+];
+
 /// `SMALL` or `CLOCKED` with these changes, and with the plain words where no change speaks of them.
 pub fn changed(alloc: Global, text: &str, changes: Changes) -> Result<String, AllocError> {
     let mut text = String::from_str(alloc, text)?;

@@ -1,6 +1,6 @@
 //! Streams: what each call answers, and the bytes of the packets.
 
-use crate::tests::small::{CLOCKED, Changes, Datum, bytes_of};
+use crate::tests::small::{CLOCKED, Changes, Datum, WITH_BITS, bytes_of};
 use crate::tests::stream_steps::{
     Round, START, Start, Step, list_back_end, made, runs, runs_handed_back, runs_rounds,
 };
@@ -70,6 +70,33 @@ fn aligns_behind_an_empty_array(rt: HostRuntime) -> Result<(), Fail> {
         ..START
     };
     runs(&rt, rt.alloc(), &start, ALIGNS_BEHIND_AN_EMPTY_ARRAY)?;
+    Ok(())
+}
+
+/// An array's length is aligned to 8, and so is the payload: it begins at bit 104, behind an id at bit 96.
+const ALIGNS_A_PAYLOAD_WITH_AN_ARRAY_OF_BITS: &[Step] = &[
+    Step::Trace(
+        0,
+        &[Datum::Unsigned(1), Datum::List(&[1, 0, 1])],
+        Verdict::Accepted(None),
+    ),
+    Step::Close(PacketAnswer::Done),
+    Step::Collect("c11ffcc1 c0000000 93000000 00 01 03000000 05 0000000000"),
+];
+
+#[test]
+fn aligns_a_payload_with_an_array_of_bits(rt: HostRuntime) -> Result<(), Fail> {
+    let start = Start {
+        changes: WITH_BITS,
+        bytes: 24,
+        ..START
+    };
+    runs(
+        &rt,
+        rt.alloc(),
+        &start,
+        ALIGNS_A_PAYLOAD_WITH_AN_ARRAY_OF_BITS,
+    )?;
     Ok(())
 }
 

@@ -51,6 +51,22 @@ pub const FIELDS: &[Row] = &[
         "Limit",
         "",
     ),
+    // 17 times 61,681 is 2^20 and one more
+    (
+        r#"{"class":"static-array","length":17,"element-field-type":{"class":"static-array","length":61681,"element-field-type":U8}}"#,
+        "Limit",
+        "",
+    ),
+    (
+        r#"{"class":"static-array","length":61681,"element-field-type":{"class":"static-array","length":17,"element-field-type":U8}}"#,
+        "Limit",
+        "",
+    ),
+    (
+        r#"{"class":"dynamic-array","element-field-type":{"class":"static-array","length":17,"element-field-type":{"class":"static-array","length":61681,"element-field-type":U8}}}"#,
+        "Limit",
+        "element-field-type",
+    ),
     (
         r#"{"class":"static-array","length":3,"element-field-type":{"class":"struct"}}"#,
         "WrongKind",
@@ -103,6 +119,19 @@ pub const FIELDS: &[Row] = &[
     ),
     (r#"{"class":"struct"}"#, "WrongKind", ""),
     (r#"{"class":"structure","members":[]}"#, "WrongKind", ""),
+    // a structure where only a field stands: before the faults of its properties
+    (
+        r#"{"class":"struct","minimum-alignment":3,"x":1}"#,
+        "WrongKind",
+        "",
+    ),
+    (
+        r#"{"class":"dynamic-array","element-field-type":{"class":"struct","x":1}}"#,
+        "WrongKind",
+        "element-field-type",
+    ),
+    // a members list of another form, whatever the class
+    (r#"{"class":"str","members":5}"#, "WrongKind", "members"),
     (
         r#"{"class":"static-array","length":null,"element-field-type":U8}"#,
         "WrongKind",

@@ -141,6 +141,10 @@ pub const PAYLOADS: &[Row] = &[
     (r#"{"class":"str"}"#, "WrongKind", ""),
     (r#"{"class":"uint"}"#, "WrongKind", ""),
     (r#"{"class":"enum"}"#, "OutOfRange", "class"),
+    // of another class than a structure's: behind faults of the class itself, before those of its properties
+    (r#"{"class":null,"size":8}"#, "WrongKind", "class"),
+    (r#"{"size":8}"#, "Missing", "class"),
+    (r#"{"class":"uint","size":65,"x":1}"#, "WrongKind", ""),
     (
         r#"{"class":"struct","members":[{"v":{"field-type":U8}}],"minimum-alignment":1}"#,
         "",

@@ -5,6 +5,36 @@ use crate::tests::tables::Row;
 pub const FEATURES: &[Row] = &[
     (r#"{"uuid-field-type":true}"#, "NoUuid", "uuid-field-type"),
     (r#"{"uuid-field-type":false}"#, "", ""),
+    (
+        r#"{"uuid-field-type":{"class":"uint"}}"#,
+        "OutOfRange",
+        "uuid-field-type",
+    ),
+    (
+        r#"{"uuid-field-type":{"class":"str","x":1}}"#,
+        "OutOfRange",
+        "uuid-field-type",
+    ),
+    (
+        r#"{"uuid-field-type":{"class":"struct","x":1}}"#,
+        "OutOfRange",
+        "uuid-field-type",
+    ),
+    (
+        r#"{"uuid-field-type":{"class":"nope"}}"#,
+        "OutOfRange",
+        "uuid-field-type/class",
+    ),
+    (
+        r#"{"uuid-field-type":{"size":8}}"#,
+        "Missing",
+        "uuid-field-type/class",
+    ),
+    (
+        r#"{"uuid-field-type":{"class":"static-array","length":16}}"#,
+        "Missing",
+        "uuid-field-type/element-field-type",
+    ),
     (r#"{"magic-field-type":false}"#, "", ""),
     (r#"{"magic-field-type":{"class":"uint","size":32}}"#, "", ""),
     (
@@ -109,6 +139,38 @@ pub const FEATURES: &[Row] = &[
         "Missing",
         "magic-field-type/size",
     ),
+    // a fault inside the magic number's type stands before that the number is not of 32 bits
+    (
+        r#"{"magic-field-type":{"class":"uint","size":64,"alignment":3}}"#,
+        "OutOfRange",
+        "magic-field-type/alignment",
+    ),
+    (
+        r#"{"magic-field-type":{"class":"uint","size":64,"preferred-display-base":"x"}}"#,
+        "OutOfRange",
+        "magic-field-type/preferred-display-base",
+    ),
+    (
+        r#"{"magic-field-type":{"class":"uint","size":64,"length":3}}"#,
+        "Unknown",
+        "magic-field-type/length",
+    ),
+    (
+        r#"{"magic-field-type":{"class":"uint","size":65}}"#,
+        "OutOfRange",
+        "magic-field-type/size",
+    ),
+    // a limit stands behind it
+    (
+        r#"{"magic-field-type":{"class":"uint","size":64,"alignment":8192}}"#,
+        "OutOfRange",
+        "magic-field-type",
+    ),
+    (
+        r#"{"magic-field-type":{"class":"uint","size":32,"alignment":8192}}"#,
+        "Limit",
+        "magic-field-type/alignment",
+    ),
     (r#"{"uuid-field-type":null}"#, "", ""),
     (r#"{"uuid-field-type":5}"#, "WrongKind", "uuid-field-type"),
     (
@@ -119,6 +181,12 @@ pub const FEATURES: &[Row] = &[
     (
         r#"{"uuid-field-type":{"class":"static-array","length":16,"element-field-type":U8}}"#,
         "NoUuid",
+        "uuid-field-type",
+    ),
+    // an identifier of another form stands before that there is no number for it
+    (
+        r#"{"uuid-field-type":{"class":"static-array","length":15,"element-field-type":U8}}"#,
+        "OutOfRange",
         "uuid-field-type",
     ),
     (r#"{"x":"nope"}"#, "Unknown", "x"),
@@ -228,6 +296,73 @@ pub const TRACE_TYPES: &[Row] = &[
     ),
     (
         r#"{"trace-byte-order":"le","uuid":"79e49040-21b5-42d4-a83b-646f78666b62","$features":{"uuid-field-type":{"class":"struct"}}}"#,
+        "OutOfRange",
+        "$features/uuid-field-type",
+    ),
+    (
+        r#"{"trace-byte-order":"le","uuid":"79e49040-21b5-42d4-a83b-646f78666b62","$features":{"uuid-field-type":{"class":"static-array","length":0,"element-field-type":U8}}}"#,
+        "OutOfRange",
+        "$features/uuid-field-type",
+    ),
+    // a fault inside the identifier's type stands before that it is not of 16 such numbers
+    (
+        r#"{"trace-byte-order":"le","uuid":"79e49040-21b5-42d4-a83b-646f78666b62","$features":{"uuid-field-type":{"class":"static-array","length":15,"element-field-type":{"class":"uint","size":8,"alignment":3}}}}"#,
+        "OutOfRange",
+        "$features/uuid-field-type/element-field-type/alignment",
+    ),
+    (
+        r#"{"trace-byte-order":"le","uuid":"79e49040-21b5-42d4-a83b-646f78666b62","$features":{"uuid-field-type":{"class":"static-array","length":15,"element-field-type":{"class":"uint","size":65}}}}"#,
+        "OutOfRange",
+        "$features/uuid-field-type/element-field-type/size",
+    ),
+    (
+        r#"{"trace-byte-order":"le","uuid":"79e49040-21b5-42d4-a83b-646f78666b62","$features":{"uuid-field-type":{"class":"static-array","length":16,"element-field-type":{"class":"uint"}}}}"#,
+        "Missing",
+        "$features/uuid-field-type/element-field-type/size",
+    ),
+    (
+        r#"{"trace-byte-order":"le","uuid":"79e49040-21b5-42d4-a83b-646f78666b62","$features":{"uuid-field-type":{"class":"static-array","length":16,"element-field-type":{"class":"sint","size":8,"alignment":3}}}}"#,
+        "OutOfRange",
+        "$features/uuid-field-type/element-field-type/alignment",
+    ),
+    (
+        r#"{"trace-byte-order":"le","uuid":"79e49040-21b5-42d4-a83b-646f78666b62","$features":{"uuid-field-type":{"class":"static-array","length":16}}}"#,
+        "Missing",
+        "$features/uuid-field-type/element-field-type",
+    ),
+    (
+        r#"{"trace-byte-order":"le","uuid":"79e49040-21b5-42d4-a83b-646f78666b62","$features":{"uuid-field-type":{"class":"static-array","element-field-type":U8}}}"#,
+        "Missing",
+        "$features/uuid-field-type/length",
+    ),
+    (
+        r#"{"trace-byte-order":"le","uuid":"79e49040-21b5-42d4-a83b-646f78666b62","$features":{"uuid-field-type":{"class":"static-array","length":null,"element-field-type":U8}}}"#,
+        "WrongKind",
+        "$features/uuid-field-type/length",
+    ),
+    (
+        r#"{"trace-byte-order":"le","uuid":"79e49040-21b5-42d4-a83b-646f78666b62","$features":{"uuid-field-type":{"class":"static-array","length":-1,"element-field-type":U8}}}"#,
+        "OutOfRange",
+        "$features/uuid-field-type/length",
+    ),
+    (
+        r#"{"trace-byte-order":"le","uuid":"79e49040-21b5-42d4-a83b-646f78666b62","$features":{"uuid-field-type":{"class":"static-array","length":1048577,"element-field-type":U8}}}"#,
+        "OutOfRange",
+        "$features/uuid-field-type/length",
+    ),
+    (
+        r#"{"trace-byte-order":"le","uuid":"79e49040-21b5-42d4-a83b-646f78666b62","$features":{"uuid-field-type":{"class":"static-array","length":15,"element-field-type":U8,"size":8}}}"#,
+        "Unknown",
+        "$features/uuid-field-type/size",
+    ),
+    // a limit stands behind it
+    (
+        r#"{"trace-byte-order":"le","uuid":"79e49040-21b5-42d4-a83b-646f78666b62","$features":{"uuid-field-type":{"class":"static-array","length":16,"element-field-type":{"class":"uint","size":8,"alignment":8192}}}}"#,
+        "OutOfRange",
+        "$features/uuid-field-type",
+    ),
+    (
+        r#"{"trace-byte-order":"le","uuid":"79e49040-21b5-42d4-a83b-646f78666b62","$features":{"uuid-field-type":{"class":"static-array","length":17,"element-field-type":{"class":"static-array","length":61681,"element-field-type":U8}}}}"#,
         "OutOfRange",
         "$features/uuid-field-type",
     ),
