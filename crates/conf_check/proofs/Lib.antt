@@ -36,6 +36,9 @@ pub mod ConfigurationRowLaws
 pub mod ConfigurationSteps
 pub mod WholeFlawLaws
 pub mod EntryRowLaws
+pub mod MapRowLaws
+pub mod InnerRowLaws
+pub mod FeatureRowLaws
 pub mod ObjectFlawLaws
 pub mod StreamFlawLaws
 pub mod ConfigurationFlawLaws

@@ -34,4 +34,7 @@ pub mod LeafFlaws
 pub mod FieldFlaws
 pub mod WholeFlaws
 pub mod EntryRows
+pub mod MapRows
+pub mod InnerRows
+pub mod FeatureRows
 pub mod ObjectFlaws

@@ -16,12 +16,13 @@ ghost use Rattle.conf_tree.specs.Flaw.{Flaw};
 ghost use Rattle.conf_check.specs.Order.{Ascends};
 ghost use Rattle.conf_check.specs.IntType.{int_of};
 ghost use Rattle.conf_check.specs.EnumType.{enum_of};
-ghost use Rattle.conf_check.specs.FieldType.{static_of, unsigned_field_of};
+ghost use Rattle.conf_check.specs.FieldType.{static_of, field_in, field_of, unsigned_field_of};
 ghost use Rattle.conf_check.specs.MemberType.{dynamic_of};
 ghost use Rattle.conf_check.specs.Member.{member_of};
 ghost use Rattle.conf_check.specs.Members.{members_of, members_limits};
 ghost use Rattle.conf_check.specs.StructType.{struct_of, struct_limits};
 ghost use Rattle.conf_check.specs.FieldRows.{IsIntegerObject, IsEnumerationObject, IsStaticArrayObject, IsDynamicArrayObject, IsMemberObject, IsStructureObject};
+ghost use Rattle.conf_check.specs.InnerRows.{IsFieldWithin, AreMembers};
 
 /// An integer field type is read exactly where its rows hold.
 pub fn integers_by_rows()
@@ -46,6 +47,17 @@ pub fn dynamic_arrays_by_rows()
 /// A member of a structure is read exactly where its rows hold, beside whatever names are taken.
 pub fn members_by_rows()
     ensures { (taken : List (List ℕ)) (name : List ℕ) (d : Data) (m : Member) → (member_of taken name d ≡ Ok m) ↔ IsMemberObject taken name d m }
+{}
+
+/// A field type that may stand anywhere in a structure is read exactly where the rows of its class hold, however deep.
+pub fn field_types_by_class()
+    ensures levels { (levels : ℕ) (d : Data) (t : Field) → (field_in levels d ≡ Ok t) ↔ IsFieldWithin levels d t }
+    ensures fields { (d : Data) (t : Field) → (field_of d ≡ Ok t) ↔ IsFieldWithin 32 d t }
+{}
+
+/// A members list is read exactly where each entry is an object of one property, whose rows hold beside the names before it.
+pub fn members_lists_by_rows()
+    ensures { (taken : List (List ℕ)) (d : Data) (ms : List (List ℕ × Member)) → (members_of taken d ≡ Ok ms) ↔ AreMembers taken d ms }
 {}
 
 /// A structure field type is read exactly where its rows hold.

@@ -42,8 +42,8 @@ mod words;
 pub use configuration::configure;
 pub use field_laws::{
     allowed_members_lists, allowed_structures, dynamic_arrays_by_rows, enumerations_by_rows,
-    free_names, integers_by_rows, members_by_rows, static_arrays_by_rows, structures_by_rows,
-    unsigned_fields,
+    field_types_by_class, free_names, integers_by_rows, members_by_rows, members_lists_by_rows,
+    static_arrays_by_rows, structures_by_rows, unsigned_fields,
 };
 pub use field_refusals::{
     enumerations_refused, field_types_refused, integers_refused, limits_of_field_types,

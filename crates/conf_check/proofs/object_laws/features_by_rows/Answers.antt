@@ -1,3 +1,4 @@
+use Rattle.conf_check.proofs.FeatureRowLaws.{choice_says, choice_read}
 use Rattle.conf_check.proofs.ObjectRowLaws.{header_says, header_read, event_header_says, event_header_read, context_says, context_read, stream_fields_says, stream_fields_read}
 use Rattle.conf_check.proofs.object_laws.features_by_rows.Goals as goal
 
@@ -12,3 +13,6 @@ returns-clause-of_context c = λ clock d f. (context_says clock d f, context_rea
 
 pub returns-clause-of_stream : goal.returns-clause-of_stream
 returns-clause-of_stream c = λ clock d f. (stream_fields_says clock d f, stream_fields_read clock d f)
+
+pub returns-clause-of_feature : goal.returns-clause-of_feature
+returns-clause-of_feature c = λ rule d x. (choice_says rule d x, choice_read rule d x)
