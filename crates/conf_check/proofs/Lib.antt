@@ -39,6 +39,7 @@ pub mod EntryRowLaws
 pub mod MapRowLaws
 pub mod InnerRowLaws
 pub mod FeatureRowLaws
+pub mod MappingRowLaws
 pub mod ObjectFlawLaws
 pub mod StreamFlawLaws
 pub mod ConfigurationFlawLaws

@@ -37,4 +37,5 @@ pub mod EntryRows
 pub mod MapRows
 pub mod InnerRows
 pub mod FeatureRows
+pub mod MappingRows
 pub mod ObjectFlaws

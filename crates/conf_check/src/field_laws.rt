@@ -6,6 +6,7 @@ ghost use Rattle.std.specs.Str.{bytes_eq};
 ghost use Rattle.serde_json.specs.Data.{Data, Members};
 ghost use Rattle.ctf_types.specs.declared.int_type.IntType.{IntType as Int};
 ghost use Rattle.ctf_types.specs.declared.enum_type.EnumType.{EnumType as Enum};
+ghost use Rattle.ctf_types.specs.declared.enum_type.Mapping.{Mapping as Label};
 ghost use Rattle.ctf_types.specs.declared.field_type.FieldType.{FieldType as Field};
 ghost use Rattle.ctf_types.specs.declared.member_type.MemberType.{MemberType as Member};
 ghost use Rattle.ctf_types.specs.declared.struct_type.StructType.{StructType as Struct};
@@ -15,7 +16,8 @@ ghost use Rattle.ctf_types.specs.Shown.{shown_members};
 ghost use Rattle.conf_tree.specs.Flaw.{Flaw};
 ghost use Rattle.conf_check.specs.Order.{Ascends};
 ghost use Rattle.conf_check.specs.IntType.{int_of};
-ghost use Rattle.conf_check.specs.EnumType.{enum_of};
+ghost use Rattle.conf_check.specs.declared.enum_type.Span.{Span};
+ghost use Rattle.conf_check.specs.EnumType.{enum_of, mappings_of};
 ghost use Rattle.conf_check.specs.FieldType.{static_of, field_in, field_of, unsigned_field_of};
 ghost use Rattle.conf_check.specs.MemberType.{dynamic_of};
 ghost use Rattle.conf_check.specs.Member.{member_of};
@@ -23,15 +25,17 @@ ghost use Rattle.conf_check.specs.Members.{members_of, members_limits};
 ghost use Rattle.conf_check.specs.StructType.{struct_of, struct_limits};
 ghost use Rattle.conf_check.specs.FieldRows.{IsIntegerObject, IsEnumerationObject, IsStaticArrayObject, IsDynamicArrayObject, IsMemberObject, IsStructureObject};
 ghost use Rattle.conf_check.specs.InnerRows.{IsFieldWithin, AreMembers};
+ghost use Rattle.conf_check.specs.MappingRows.{AreMappings};
 
 /// An integer field type is read exactly where its rows hold.
 pub fn integers_by_rows()
     ensures { (signed : Bool) (ms : Members) (t : Int) → (int_of signed ms ≡ Ok t) ↔ IsIntegerObject signed ms t }
 {}
 
-/// An enumeration field type is read exactly where its rows hold.
+/// An enumeration field type is read exactly where its rows hold, and its mappings label by label and range by range.
 pub fn enumerations_by_rows()
-    ensures { (signed : Bool) (ms : Members) (t : Enum) → (enum_of signed ms ≡ Ok t) ↔ IsEnumerationObject signed ms t }
+    ensures enumerations { (signed : Bool) (ms : Members) (t : Enum) → (enum_of signed ms ≡ Ok t) ↔ IsEnumerationObject signed ms t }
+    ensures mappings { (numbers : Span) (d : Data) (ms : List Label) → (mappings_of numbers d ≡ Ok ms) ↔ AreMappings numbers d ms }
 {}
 
 /// A static array field type is read exactly where its rows hold, however its elements are read.
