@@ -81,7 +81,8 @@ fn reads(
 #[test]
 fn closes_a_packet_without_records(rt: HostRuntime) -> Result<(), Fail> {
     let config = small_config(rt.alloc())?;
-    let packet = trace_packet(rt.alloc(), &config, 0, &[])?;
+    let packet = trace_packet(rt.alloc(), &config, 7, &[])?;
+    assert_eq!(rt; packet.sequence(), 7);
     let digits = hex::encode(rt.alloc(), packet.bytes())?;
     assert_eq!(rt; digits.as_str(), "c11ffcc1800000006000000000000000");
     Ok(())
