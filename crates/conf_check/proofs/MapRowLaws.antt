@@ -5,12 +5,12 @@ use Rattle.ctf_types.specs.declared.clock_type.ClockType.{ClockType}
 use Rattle.ctf_types.specs.declared.config.EventType.{EventType}
 use Rattle.ctf_types.specs.declared.config.StreamType.{StreamType}
 use Rattle.conf_tree.specs.Flaw.{Flaw, Place, key}
-use Rattle.conf_tree.specs.Reading.{◌>>=◌, at, object_of}
+use Rattle.conf_tree.specs.Reading.{at, object_of}
 use Rattle.conf_check.specs.ClockType.{clock_type_of, clock_member_of, clocks_in, clock_types_of}
 use Rattle.conf_check.specs.EntryRows.{EachEntryIs}
 use Rattle.conf_check.specs.EventType.{event_type_of, event_member_of, events_in, event_types_of}
 use Rattle.conf_check.specs.MapRows.{IsObject, AreClocks, AreEvents, AreStreamEntries, AreStreams}
-use Rattle.conf_check.specs.ObjectRows.{IsClockObject, IsEventObject, IsStreamObject}
+use Rattle.conf_check.specs.ObjectRows.{IsClockObject, IsEventObject}
 use Rattle.conf_check.specs.StreamType.{stream_type_of, stream_member_of, streams_in, stream_types_of}
 use Rattle.conf_check.proofs.InTheMap.{ok_same}
 use Rattle.conf_check.proofs.ObjectRowLaws.{then_read, clock_says, clock_read, event_says, event_read, stream_says, stream_read}

@@ -1,10 +1,10 @@
 -- The mappings of an enumeration are read exactly where their rows hold.
-use Rattle.std.proofs.Common.{◌≡◌, ◌≢◌, ◌++◌, ℕ, suc, Bool, true, false, cond, List, [], ◌∷◌, Result, Ok, Err, refl, sym, ap, subst, ◌∙◌, append-nil, append_assoc}
+use Rattle.std.proofs.Common.{◌≡◌, ◌≢◌, ◌++◌, ℕ, suc, Bool, true, false, cond, List, [], ◌∷◌, Ok, Err, refl, sym, ap, subst, ◌∙◌, append-nil, append_assoc}
 use Rattle.serde_json.specs.Data.{Data, Items, no_items, item, Members, no_members, member}
 use Rattle.ctf_types.specs.declared.enum_type.Mapping.{Mapping}
 use Rattle.conf_tree.specs.declared.fault_kind.FaultKind.TheVariants.{OutOfRange}
 use Rattle.conf_tree.specs.Flaw.{Flaw, key, index, here}
-use Rattle.conf_tree.specs.Reading.{◌>>=◌, at, object_of, list_of}
+use Rattle.conf_tree.specs.Reading.{at, object_of, list_of}
 use Rattle.conf_check.specs.declared.enum_type.Span.{Span}
 use Rattle.conf_check.specs.EnumType.{range_of, is_inside, mapping_of, ranges_from, some_ranges, label_rule, label_from, labels_from, some_labels, mappings_of}
 use Rattle.conf_check.specs.MappingRows.{IsRange, AreRanges, IsLabel, AreLabels, AreMappings}

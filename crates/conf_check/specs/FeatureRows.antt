@@ -1,6 +1,6 @@
 -- What a feature says: on, off, or a field type of its own (barectf 3.1, "Trace type object" and "Data stream type object",
 -- `$features`).
-use Rattle.std.specs.Prelude.{◌≡◌, ◌≢◌, List, [], Some, true, false, Ok}
+use Rattle.std.specs.Prelude.{◌≡◌, ◌≢◌, [], Some, true, false, Ok}
 use Rattle.serde_json.specs.Data.{Data, Members}
 use Rattle.serde_json.specs.Find.{as_bool}
 use Rattle.ctf_types.specs.declared.int_type.IntType.{IntType}

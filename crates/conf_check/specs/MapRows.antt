@@ -1,6 +1,6 @@
 -- What the maps of clock types, event record types and data stream types say, entry by entry: each is an object under its
 -- name, and of data stream types at most one is the default (barectf 3.1, "Trace type object" and "Data stream type object").
-use Rattle.std.specs.Prelude.{◌≡◌, ◌||◌, List, [], ◌∷◌, ℕ, Bool, false, Ok, ⊤}
+use Rattle.std.specs.Prelude.{◌≡◌, ◌||◌, List, [], ◌∷◌, Bool, false, Ok, ⊤}
 use Rattle.serde_json.specs.Data.{Data, Members, no_members, member}
 use Rattle.ctf_types.specs.declared.clock_type.ClockType.{ClockType}
 use Rattle.ctf_types.specs.declared.config.EventType.{EventType}
