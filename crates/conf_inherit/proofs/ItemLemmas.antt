@@ -1,12 +1,12 @@
 -- Lists of values item by item, and the entries of members lists.
-use Rattle.std.proofs.Common.{◌≡◌, ℕ, List, [], ◌∷◌, ◌++◌, map, Option, Some, None, is_some, Bool, true, false, bytes_eq, Vec, Global, String, refl, sym, ap, ◌∙◌, subst}
+use Rattle.std.proofs.Common.{◌≡◌, ℕ, List, [], ◌∷◌, ◌++◌, map, None, is_some, Bool, true, false, bytes_eq, refl, ap}
 use Rattle.std.proofs.lemmas.Slice.Eq.{bytes_eq-Decides}
 use Rattle.std.specs.List.{list_any}
-use Rattle.serde_json.specs.Data.{Data, null, boolean, number, string, array, object, Items, no_items, item, Members, no_members, member, put}
+use Rattle.serde_json.specs.Data.{Data, object, Items, no_items, item, Members, no_members, member, put}
 use Rattle.serde_json.specs.Find.{get_member}
-use Rattle.serde_json.specs.View.{view, items_of, items_view, members_view}
+use Rattle.serde_json.specs.View.{view, items_of, items_view}
 use Rattle.serde_json.specs.declared.value.Value.{Value}
-use Rattle.conf_inherit.specs.Names.{names_of, properties_of, entries_of, join_members, join_items, map_items}
+use Rattle.conf_inherit.specs.Names.{names_of, join_members, join_items, map_items}
 use Rattle.conf_inherit.specs.declared.spot.Spot.TheVariants.{MemberValue}
 use Rattle.conf_inherit.specs.Laying.{lay, has_entry, lay_members, lay_new_member}
 use Rattle.conf_inherit.specs.Spot.{spot_under, is_base_name}

@@ -1,19 +1,19 @@
 -- What laying an object or a members list over another leaves at each name.
-use Rattle.std.proofs.Common.{◌≡◌, ℕ, List, [], ◌∷◌, ◌++◌, Option, Some, None, Bool, true, false, true≢false, Ordering, Less, Equal, Greater, nat_cmp, bytes_eq, is_eq, cond, refl, sym, ap, ◌∙◌, subst}
+use Rattle.std.proofs.Common.{◌≡◌, ℕ, List, Option, Some, None, Bool, true, false, true≢false, Ordering, Less, Equal, Greater, nat_cmp, is_eq, refl, sym, ap, ◌∙◌, subst}
 use Rattle.std.proofs.lemmas.Cmp.{nat_list_cmp_total}
 use Rattle.std.proofs.lemmas.Map.Text.{is_eq-slice_cmp}
 use Rattle.std.proofs.lemmas.Slice.Eq.{bytes_eq-Decides}
 use Rattle.std.specs.Cmp.Lexicographic.{slice_cmp}
 use Rattle.std.specs.Ordering.{match_ordering}
-use Rattle.serde_json.specs.Data.{Data, null, boolean, number, string, array, object, Items, no_items, item, Members, no_members, member, put}
+use Rattle.serde_json.specs.Data.{Data, Members, no_members, member, put}
 use Rattle.serde_json.specs.Find.{get_member}
 use Rattle.serde_json.proofs.Views.{get_member-put, get_member-put_other}
 use Rattle.conf_inherit.specs.declared.spot.Spot.{Spot}
-use Rattle.conf_inherit.specs.declared.spot.Spot.TheVariants.{FieldType, MemberValue}
+use Rattle.conf_inherit.specs.declared.spot.Spot.TheVariants.{FieldType}
 use Rattle.conf_inherit.specs.Spot.{spot_under, is_base_name}
-use Rattle.conf_inherit.specs.Names.{AllAbove, IsInOrder, properties_of, entries_of, join_members}
+use Rattle.conf_inherit.specs.Names.{AllAbove, IsInOrder}
 use Rattle.conf_inherit.specs.Looks.{base_of}
-use Rattle.conf_inherit.specs.Laying.{lay, lay_base, lay_members, lay_over, lay_over_entry, lay_over_member, lay_new, lay_new_entry, lay_new_member}
+use Rattle.conf_inherit.specs.Laying.{lay, lay_base, lay_members}
 use Rattle.conf_inherit.proofs.InOrder.{get_first, get_below, get_after, equal_names, above_turned}
 
 above_put_at : (o : Ordering) (q k l : List ℕ) (d e : Data) (ms : Members) → slice_cmp nat_cmp q k ≡ Less → slice_cmp nat_cmp q l ≡ Less → AllAbove q ms → AllAbove q (put k d ms)

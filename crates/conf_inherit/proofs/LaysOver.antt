@@ -1,20 +1,18 @@
 -- A value laid over what stands for other values is looked up among itself and those values.
-use Rattle.std.proofs.Common.{if◌then◌else◌, ◌≡◌, ℕ, List, [], ◌∷◌, ◌++◌, Option, Some, None, Bool, true, false, true≢false, inl, inr, ◌⊎◌, bytes_eq, refl, sym, ap, ◌∙◌, subst}
+use Rattle.std.proofs.Common.{if◌then◌else◌, ◌≡◌, ℕ, List, [], ◌∷◌, Option, Some, None, Bool, true, false, true≢false, inl, inr, bytes_eq, refl, sym, ap, ◌∙◌, subst}
 use Rattle.std.specs.List.{list_any}
 use Rattle.serde_json.specs.Data.{Data, null, boolean, number, string, array, object, Items, no_items, item, Members, no_members, member}
-use Rattle.serde_json.specs.Find.{get, get_member}
+use Rattle.serde_json.specs.Find.{get_member}
 use Rattle.conf_inherit.specs.declared.spot.Spot.{Spot}
 use Rattle.conf_inherit.specs.declared.spot.Spot.TheVariants.{FieldType, MemberValue, Entry}
-use Rattle.conf_inherit.specs.Spot.{spot_under, spot_of_items, names_alias, names_member_type, is_base_name, lists_members, field_type_name}
+use Rattle.conf_inherit.specs.Spot.{spot_under, names_alias, names_member_type, is_base_name, lists_members, field_type_name}
 use Rattle.conf_inherit.specs.Names.{IsInOrder, NoClash, properties_of, items_in, entries_of, names_of, new_names, join_members, join_items, map_items, cons_some, values_in, entry_values, member_names, joined}
 use Rattle.conf_inherit.specs.Looks.{Chain, nothing, alias, member_alias, heir, own, a_list, plain, Looks, looks, Shows, a_scalar, an_object, the_members, a_join, Entries, no_entry, an_entry, base_of, if_objects, if_lists, values_at, IsPlain, AreResolved}
-use Rattle.conf_inherit.specs.Laying.{lay, has_entry, lay_base, lay_members, lay_over, lay_over_member, lay_new, lay_new_member, lay_text, resolved, members_below, items_below}
+use Rattle.conf_inherit.specs.Laying.{lay, has_entry, lay_base, lay_members, lay_over, lay_new, lay_new_member, lay_text, members_below, items_below}
 use Rattle.conf_inherit.specs.Ready.{Names, IsReady, AreReady, HasReady}
-use Rattle.conf_inherit.proofs.InOrder.{get_first}
 use Rattle.conf_inherit.proofs.SpotLemmas.{alias_spot, member_spot, list_spot, entry_spot, member_type_spot, type_is_no_base, alias_field, base_spot, SameSpot, inheriting_spot}
 use Rattle.conf_inherit.proofs.LayingLemmas.{Meets, same, other, meets, get_other, get_same, lay_base-own, lay_base-heir, in_order_lay, lay_members-base, lay_members-absent, lay_members-found}
-use Rattle.conf_inherit.proofs.ListLemmas.{has_entry_names, over_entries, new_entries, over_absent, over_found, entry_names, entries_joined, AllEntries, all_along, found_each, no_values}
-use Rattle.conf_inherit.proofs.OneReading.{no_reading}
+use Rattle.conf_inherit.proofs.ListLemmas.{has_entry_names, over_entries, new_entries, over_absent, over_found, entry_names, entries_joined, AllEntries, found_each, no_values}
 
 -- what a base stands for: no values, or those that are looked up as it
 abbrev pub StandsFor : Members → Spot → List Data → Option Data → Type 0

@@ -1,12 +1,12 @@
 -- Members lists: their entries by name, and what laying one over another gives.
-use Rattle.std.proofs.Common.{◌≡◌, ℕ, List, [], ◌∷◌, ◌++◌, filter, not, Option, Some, None, is_some, Bool, true, false, true≢false, bytes_eq, refl, sym, ap, ◌∙◌, subst}
+use Rattle.std.proofs.Common.{◌≡◌, ℕ, List, [], ◌∷◌, ◌++◌, Some, None, is_some, Bool, true, false, true≢false, bytes_eq, refl, sym, ap, ◌∙◌, subst}
 use Rattle.std.proofs.lemmas.Slice.Eq.{bytes_eq-Decides}
 use Rattle.std.specs.List.{list_any}
 use Rattle.serde_json.specs.Data.{Data, null, boolean, number, string, array, object, Items, no_items, item, Members, no_members, member}
 use Rattle.serde_json.specs.Find.{get, get_member}
 use Rattle.conf_inherit.specs.declared.spot.Spot.TheVariants.{MemberValue}
-use Rattle.conf_inherit.specs.Names.{NoClash, properties_of, items_in, entries_of, names_of, new_names, join_members, join_items, cons_some, entry_values, member_names}
-use Rattle.conf_inherit.specs.Looks.{Looks, Entries, no_entry, an_entry}
+use Rattle.conf_inherit.specs.Names.{NoClash, properties_of, items_in, entries_of, names_of, new_names, join_members, join_items, entry_values, member_names}
+use Rattle.conf_inherit.specs.Looks.{Entries, no_entry, an_entry}
 use Rattle.conf_inherit.specs.Laying.{lay, has_entry, lay_over, lay_over_entry, lay_over_member, lay_new, lay_new_entry, lay_new_member}
 use Rattle.conf_inherit.proofs.InOrder.{get_first}
 use Rattle.conf_inherit.proofs.ItemLemmas.{has_name, any_joined_here, any_joined_later}

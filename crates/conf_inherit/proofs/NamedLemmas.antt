@@ -1,8 +1,8 @@
 -- The names of aliases in a value: where one test passes and another doesn't, and that a value without a flaw
 -- names aliases alone.
-use Rattle.std.proofs.Common.{◌≡◌, ◌&&◌, ◌||◌, ◌++◌, ◌⊎◌, inl, inr, ℕ, suc, List, [], ◌∷◌, Option, Some, None, is_some, Bool, true, false, not, true≢false, refl, sym, ap, ◌∙◌, subst}
+use Rattle.std.proofs.Common.{◌≡◌, ◌&&◌, ◌||◌, ◌++◌, ◌⊎◌, inl, inr, ℕ, suc, List, [], Bool, true, false, not, true≢false, refl, sym}
 use Rattle.serde_json.specs.Data.{Data, null, boolean, number, string, array, object, Items, no_items, item, Members, no_members, member}
-use Rattle.conf_tree.specs.Flaw.{Flaw, key, index, within}
+use Rattle.conf_tree.specs.Flaw.{key, index, within}
 use Rattle.conf_inherit.specs.declared.spot.Spot.{Spot}
 use Rattle.conf_inherit.specs.Spot.{spot_under, spot_of_items, names_alias, names_member_type, is_entry}
 use Rattle.conf_inherit.specs.Flaws.{is_unknown, own_flaws, inner_flaws, item_flaws, member_flaws, mark}

@@ -1,12 +1,11 @@
 -- Values are looked up as at most one.
-use Rattle.std.proofs.Common.{◌≡◌, ℕ, List, [], ◌∷◌, Option, Some, None, Bool, true, false, true≢false, refl, sym, ap, ◌∙◌, subst}
-use Rattle.serde_json.specs.Data.{Data, null, boolean, number, string, array, object, Items, no_items, item, Members, no_members, member}
+use Rattle.std.proofs.Common.{◌≡◌, ℕ, List, [], ◌∷◌, Option, Some, None, true, true≢false, refl, sym, ap, ◌∙◌, subst}
+use Rattle.serde_json.specs.Data.{Data, array, object, Items, item, Members, no_members, member}
 use Rattle.serde_json.specs.Find.{get_member}
 use Rattle.conf_inherit.specs.declared.spot.Spot.{Spot}
-use Rattle.conf_inherit.specs.declared.spot.Spot.TheVariants.{FieldType, MemberValue, Root}
-use Rattle.conf_inherit.specs.Spot.{spot_under, names_alias, names_member_type, is_base_name, lists_members}
-use Rattle.conf_inherit.specs.Names.{IsInOrder, entry_values, member_names}
-use Rattle.conf_inherit.specs.Looks.{Chain, nothing, alias, member_alias, heir, own, a_list, plain, Looks, looks, Shows, a_scalar, an_object, the_members, a_join, Entries, no_entry, an_entry, base_of, if_objects, if_lists, values_at, IsPlain}
+use Rattle.conf_inherit.specs.declared.spot.Spot.TheVariants.{FieldType}
+use Rattle.conf_inherit.specs.Spot.{spot_under, names_alias, names_member_type}
+use Rattle.conf_inherit.specs.Looks.{Chain, nothing, alias, member_alias, heir, own, a_list, plain, Looks, looks, Shows, a_scalar, an_object, the_members, a_join, Entries, no_entry, an_entry, if_objects, if_lists, values_at}
 use Rattle.conf_inherit.proofs.InOrder.{same_members}
 
 -- a text names an alias, or a member's type, and not both

@@ -1,18 +1,18 @@
 -- A value without a flaw, whose names are all of resolved aliases, is ready to be resolved.
-use Rattle.std.proofs.Common.{◌≡◌, ◌&&◌, ◌||◌, ◌++◌, ◌⊎◌, inl, inr, ℕ, suc, List, [], ◌∷◌, map, Option, Some, None, is_some, Bool, true, false, not, true≢false, refl, sym, ap, ◌∙◌, subst, cond, if◌then◌else◌}
+use Rattle.std.proofs.Common.{◌≡◌, ◌&&◌, ◌||◌, ◌++◌, inl, inr, ℕ, suc, List, [], ◌∷◌, map, Option, Some, None, is_some, Bool, true, false, true≢false, refl, sym, ap, ◌∙◌, subst}
 use Rattle.serde_json.specs.Data.{Data, null, boolean, number, string, array, object, Items, no_items, item, Members, no_members, member, put}
 use Rattle.serde_json.specs.Find.{get_member}
 use Rattle.serde_json.proofs.Views.{get_member-put, get_member-put_other}
-use Rattle.conf_tree.specs.Flaw.{Flaw, Place, key, index, here, within}
+use Rattle.conf_tree.specs.Flaw.{key, index, within}
 use Rattle.conf_inherit.specs.declared.spot.Spot.{Spot}
-use Rattle.conf_inherit.specs.declared.spot.Spot.TheVariants.{FieldType, MemberValue, MemberList, Entry}
+use Rattle.conf_inherit.specs.declared.spot.Spot.TheVariants.{Entry}
 use Rattle.conf_inherit.specs.Spot.{spot_under, spot_of_items, names_alias, names_member_type, lists_members, is_entry}
-use Rattle.conf_inherit.specs.Names.{entries_of, properties_of, join_members, NoClash}
-use Rattle.conf_inherit.specs.Flaws.{is_wrong, is_no_list, is_no_entry, is_no_member, is_unknown, own_flaws, inner_flaws, item_flaws, member_flaws, mark, mark_names}
+use Rattle.conf_inherit.specs.Names.{entries_of, NoClash}
+use Rattle.conf_inherit.specs.Flaws.{is_wrong, is_no_entry, is_no_member, is_unknown, own_flaws, inner_flaws, item_flaws, member_flaws, mark}
 use Rattle.conf_inherit.specs.Ready.{Names, IsReady, AreReady, HasReady}
 use Rattle.conf_inherit.specs.Rounds.{all_named, all_named_in_items, all_named_in_members, has}
 use Rattle.conf_inherit.proofs.SpotLemmas.{list_spot}
-use Rattle.conf_inherit.proofs.LayingLemmas.{Meets, same, other, meets, get_other, get_same}
+use Rattle.conf_inherit.proofs.LayingLemmas.{get_other}
 
 pub part_empty : {A B : Type 0} (f : A → B) (xs : List A) (ys : List B) → map f xs ++ ys ≡ [] → xs ≡ []
 part_empty f [] ys e = refl

@@ -1,12 +1,11 @@
 -- What is looked up in values without a float has none.
-use Rattle.std.proofs.Common.{◌≡◌, ◌||◌, ℕ, List, [], ◌∷◌, Option, Some, None, Bool, true, false, true≢false, refl, sym, ap, ◌∙◌, subst}
+use Rattle.std.proofs.Common.{◌≡◌, ◌||◌, ℕ, List, [], ◌∷◌, Option, Some, None, Bool, true, false, true≢false, refl, sym, ◌∙◌, subst}
 use Rattle.serde_json.specs.Data.{Data, null, boolean, number, string, array, object, Items, no_items, item, Members, no_members, member}
 use Rattle.serde_json.specs.Find.{get, get_member}
 use Rattle.serde_json.specs.Written.{has_float, items_have_float, members_have_float}
 use Rattle.conf_inherit.specs.declared.spot.Spot.{Spot}
-use Rattle.conf_inherit.specs.declared.spot.Spot.TheVariants.{MemberValue}
-use Rattle.conf_inherit.specs.Spot.{is_base_name, field_type_name}
-use Rattle.conf_inherit.specs.Names.{IsInOrder, AllAbove, properties_of, items_in, entries_of, join_members, join_items, cons_some, values_in, entry_values, joined}
+use Rattle.conf_inherit.specs.Spot.{is_base_name}
+use Rattle.conf_inherit.specs.Names.{IsInOrder, properties_of, items_in, entries_of, join_members, join_items, cons_some, values_in, entry_values, joined}
 use Rattle.conf_inherit.specs.Looks.{Chain, nothing, alias, member_alias, heir, own, a_list, plain, Looks, looks, Shows, a_scalar, an_object, the_members, a_join, Entries, no_entry, an_entry, base_of, if_objects, if_lists, values_at}
 use Rattle.conf_inherit.proofs.InOrder.{get_first, get_none}
 use Rattle.conf_inherit.proofs.LayingLemmas.{Meets, same, other, meets, get_other, get_same}

@@ -1,11 +1,10 @@
 -- What is wrong with a value before anything is laid over anything: names of no alias, members lists of another
 -- form, and names that stand twice in one. The flaws are in walk order: an object or a list before its content,
 -- an object in the byte order of its names, a list by index.
-use Rattle.std.specs.Prelude.{◌≡◌, ◌&&◌, ◌||◌, ◌++◌, ℕ, suc, List, [], ◌∷◌, map, Bool, true, false, not, is_some, if◌then◌else◌}
+use Rattle.std.specs.Prelude.{◌&&◌, ◌||◌, ◌++◌, ℕ, suc, List, [], ◌∷◌, map, Bool, true, false, not, is_some, if◌then◌else◌}
 use Rattle.serde_json.specs.Data.{Data, null, boolean, number, string, array, object, Items, no_items, item, Members, no_members, member, put}
 use Rattle.serde_json.specs.Find.{get_member}
-use Rattle.conf_tree.specs.Flaw.{Flaw, Place, key, index, here, within}
-use Rattle.conf_tree.specs.declared.fault_kind.FaultKind.{FaultKind}
+use Rattle.conf_tree.specs.Flaw.{Flaw, key, index, here, within}
 use Rattle.conf_tree.specs.declared.fault_kind.FaultKind.TheVariants.{WrongKind, NoSuchAlias, NameClash}
 use Rattle.conf_inherit.specs.declared.spot.Spot.{Spot}
 use Rattle.conf_inherit.specs.Spot.{spot_under, spot_of_items, names_alias, names_member_type, lists_members, is_entry}

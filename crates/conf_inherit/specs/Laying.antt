@@ -1,6 +1,6 @@
 -- A value laid over the resolved value of what it inherits from, or over nothing, where `done` holds the
 -- resolved aliases. This is the merge that the code makes; that it is what look-up finds is proved.
-use Rattle.std.specs.Prelude.{ℕ, List, [], ◌∷◌, Option, None, Some, Bool, true, false, ◌||◌, is_some, unwrap_or, if◌then◌else◌}
+use Rattle.std.specs.Prelude.{ℕ, List, Option, None, Some, Bool, false, ◌||◌, is_some, unwrap_or, if◌then◌else◌}
 use Rattle.serde_json.specs.Data.{Data, null, boolean, number, string, array, object, Items, no_items, item, Members, no_members, member, put}
 use Rattle.serde_json.specs.Find.{get, get_member}
 use Rattle.conf_inherit.specs.declared.spot.Spot.{Spot}

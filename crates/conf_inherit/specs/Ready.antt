@@ -1,6 +1,6 @@
 -- What has to hold of a value before it can be resolved: the names in it are names of resolved aliases,
 -- and no name stands twice in a members list.
-use Rattle.std.specs.Prelude.{◌≡◌, ℕ, List, Option, Some, Bool, true, ◌⊎◌}
+use Rattle.std.specs.Prelude.{◌≡◌, Some, true, ◌⊎◌}
 use Rattle.serde_json.specs.Data.{Data, null, boolean, number, string, array, object, Items, no_items, item, Members, no_members, member}
 use Rattle.serde_json.specs.Find.{get_member}
 use Rattle.conf_inherit.specs.declared.spot.Spot.{Spot}

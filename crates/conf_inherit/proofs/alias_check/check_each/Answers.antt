@@ -1,4 +1,4 @@
-use Rattle.std.proofs.Common.{◌≡◌, ◌≤◌, string_bytes, inl, inr, Err, sym, ap, ◌∙◌, subst, arith}
+use Rattle.std.proofs.Common.{◌≤◌, string_bytes, inl, inr, Err, sym, ap, ◌∙◌, subst, arith}
 use Rattle.serde_json.specs.Data.{members_depth}
 use Rattle.serde_json.specs.View.{view, members_view}
 use Rattle.conf_tree.specs.Flaw.{flaw_of, key, within}

@@ -1,8 +1,7 @@
-use Rattle.std.proofs.Common.{◌≡◌, ◌+◌, [], ◌∷◌, ◌++◌, drop, get_or, ap, sym, ◌∙◌, arith}
+use Rattle.std.proofs.Common.{◌+◌, drop, get_or, ap, sym, ◌∙◌, arith}
 use Rattle.std.proofs.lemmas.List.{at_drop_more, at_drop_all}
-use Rattle.std.proofs.lemmas.Grind.{common_steps}
 use Rattle.serde_json.specs.View.{view, items_view}
-use Rattle.serde_json.specs.Data.{Items, item}
+use Rattle.serde_json.specs.Data.{item}
 use Rattle.conf_inherit.specs.Names.{join_items}
 use Rattle.conf_inherit.proofs.ItemLemmas.{join_none, join_pushed}
 use Rattle.conf_inherit.proofs.base.join.Goals as goal

@@ -1,7 +1,6 @@
 use Rattle.std.proofs.Common.{◌≡◌, ◌≤◌, ◌+◌, ◌*◌, drop}
 use Rattle.serde_json.specs.Data.{no_members, items_depth, members_depth}
 use Rattle.serde_json.specs.View.{items_view, members_view}
-use Rattle.conf_tree.specs.Walk.{refusal}
 use Rattle.conf_inherit.specs.Flaws.{item_flaws, member_flaws}
 use Rattle.conf_inherit.proofs.flaws.+flaws.Given as goal
 

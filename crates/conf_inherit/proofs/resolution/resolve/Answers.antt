@@ -1,7 +1,7 @@
-use Rattle.std.proofs.Common.{◌≡◌, Option, Some, None, option_and_then, ap, sym, ◌∙◌}
+use Rattle.std.proofs.Common.{option_and_then, ap, ◌∙◌}
 use Rattle.serde_json.specs.Find.{get}
 use Rattle.serde_json.specs.View.{view, members_view}
-use Rattle.conf_inherit.specs.Resolution.{trace_name, type_name, aliases_name, aliases_of}
+use Rattle.conf_inherit.specs.Resolution.{trace_name, type_name, aliases_name}
 use Rattle.conf_inherit.proofs.ResolveLemmas.{members_found, members_missing}
 use Rattle.conf_inherit.proofs.resolution.resolve.Goals as goal
 

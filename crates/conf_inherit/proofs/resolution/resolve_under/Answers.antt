@@ -1,4 +1,4 @@
-use Rattle.std.proofs.Common.{◌≡◌, ◌≤◌, ap, sym, ◌∙◌, subst, arith}
+use Rattle.std.proofs.Common.{◌≤◌, ap, sym, ◌∙◌, subst, arith}
 use Rattle.serde_json.specs.Data.{members_depth}
 use Rattle.serde_json.specs.View.{view, members_view}
 use Rattle.std.proofs.Common.{inl, inr}

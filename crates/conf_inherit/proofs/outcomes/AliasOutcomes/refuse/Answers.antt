@@ -1,8 +1,8 @@
-use Rattle.std.proofs.Common.{◌≡◌, ℕ, List, Option, Some, bytes_eq, string_bytes, ap, ◌∙◌, sym}
+use Rattle.std.proofs.Common.{ℕ, List, Option, Some, bytes_eq, string_bytes, ap, ◌∙◌}
 use Rattle.std.proofs.lemmas.Map.Text.{btree_map_updates_text}
 use Rattle.std.specs.BTreeMap.{get_by_text}
 use Rattle.std.specs.Map.{update}
-use Rattle.serde_json.specs.View.{view, members_view}
+use Rattle.serde_json.specs.View.{members_view}
 use Rattle.conf_inherit.specs.Rounds.{Outcomes, Why}
 use Rattle.conf_inherit.proofs.FunctionLemmas.{same_function}
 use Rattle.conf_inherit.proofs.outcomes.AliasOutcomes.refuse.Goals as goal
