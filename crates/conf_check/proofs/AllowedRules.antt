@@ -20,10 +20,10 @@ use Rattle.conf_tree.specs.Reading.{at}
 use Rattle.conf_check.specs.declared.stream_rule.StreamRule.{StreamRule}
 use Rattle.conf_check.specs.declared.stream_rule.StreamRule.TheVariants.{NumbersFit, RecordsHaveBits, ClocksAreThere, TimestampsAreWide}
 use Rattle.conf_check.specs.StreamRules.{unless, holds, numbers_fit, member_has_bits, struct_has_bits, header_has_bits, event_has_bits, event_bits, events_bits, records_have_bits, has_clock, clock_is_there, is_clocked, timestamp_clocked, record_clocked, begin_clocked, end_clocked, timestamps_clocked, clocks_are_there, is_wide, timestamp_wide, record_is_wide, begin_is_wide, end_is_wide, timestamps_are_wide, judged, judged_by_name, all_judged}
-use Rattle.conf_check.proofs.AllowedEvents.{IsGoodEvent, AreGoodEvents}
-use Rattle.conf_check.proofs.AllowedFeatures.{IsOfClock}
-use Rattle.conf_check.proofs.AllowedStreams.{IsGoodStream}
-use Rattle.conf_check.proofs.Steps.{both_read, read_there}
+use Rattle.conf_objects.proofs.AllowedEvents.{IsGoodEvent, AreGoodEvents}
+use Rattle.conf_objects.proofs.AllowedFeatures.{IsOfClock}
+use Rattle.conf_objects.proofs.AllowedStreams.{IsGoodStream}
+use Rattle.conf_values.proofs.Steps.{both_read, read_there}
 
 pub unless_passed : (b : Bool) (flaw : Flaw) → unless b flaw ≡ Ok tt → b ≡ true
 unless_passed true flaw e = refl

@@ -1,46 +1,8 @@
-pub mod Alignments
-pub mod AllowedEnums
-pub mod AllowedFields
-pub mod AllowedInts
-pub mod AllowedLists
-pub mod Ascending
-pub mod AllowedStructs
-pub mod DistinctNames
-pub mod Numbers
-pub mod Sizes
-pub mod Steps
-pub mod Taken
-pub mod TypeParts
-pub mod Walks
-pub mod Depths
-pub mod StreamLemmas
 pub mod BitsLemmas
-pub mod InTheMap
-pub mod AllowedEnvironment
-pub mod AllowedClocks
-pub mod AllowedFeatures
-pub mod AllowedEvents
-pub mod AllowedStreams
 pub mod AllowedRules
 pub mod AllowedConfiguration
-pub mod FieldRowLaws
-mod WorkedFieldTypes
-pub mod LeafFlawLaws
-pub mod IntegerFlawLaws
-pub mod EnumerationFlawLaws
-pub mod FieldFlawLaws
-pub mod FieldLimitFlawLaws
-mod WorkedFieldFlaws
-pub mod ObjectRowLaws
 pub mod ConfigurationRowLaws
 pub mod ConfigurationSteps
 pub mod WholeFlawLaws
-pub mod EntryRowLaws
-pub mod MapRowLaws
-pub mod InnerRowLaws
-pub mod FeatureRowLaws
-pub mod MappingRowLaws
-pub mod ObjectFlawLaws
-pub mod StreamFlawLaws
 pub mod ConfigurationFlawLaws
 mod WorkedObjectFlaws

@@ -22,17 +22,17 @@ use Rattle.conf_tree.specs.declared.fault_kind.FaultKind.TheVariants.{FieldTooSm
 use Rattle.conf_tree.specs.Flaw.{Flaw, key, here, within}
 use Rattle.conf_tree.specs.Reading.{◌>>=◌, at}
 use Rattle.conf_tree.specs.Walk.{HasMember}
-use Rattle.conf_check.specs.declared.draft.Draft.{Draft}
-use Rattle.conf_check.specs.declared.limits.Part.{Part}
-use Rattle.conf_check.specs.declared.limits.Part.TheVariants.{Root, Feature, Structure, Extras, Words}
+use Rattle.conf_objects.specs.declared.draft.Draft.{Draft}
+use Rattle.conf_objects.specs.declared.limits.Part.{Part}
+use Rattle.conf_objects.specs.declared.limits.Part.TheVariants.{Root, Feature, Structure, Extras, Words}
 use Rattle.conf_check.specs.declared.stream_rule.StreamRule.{StreamRule}
 use Rattle.conf_check.specs.declared.stream_rule.StreamRule.TheVariants.{NumbersFit, RecordsHaveBits, ClocksAreThere, TimestampsAreWide}
 use Rattle.conf_check.specs.Judgement.{in_type, header_flaw, stream_number_fits, number_given, identifier_given, one_order, sizes_and_bits, clocks_and_identifier, limits_and_orders, whole}
-use Rattle.conf_check.specs.Limits.{part_under, most_entries, at_most, entries_limit, text_limit, list_limits, type_limits, limits, member_limits}
+use Rattle.conf_objects.specs.Limits.{part_under, most_entries, at_most, entries_limit, text_limit, list_limits, type_limits, limits, member_limits}
 use Rattle.conf_check.specs.StreamRules.{unless, feature_flaw, holds, numbers_fit, member_has_bits, struct_has_bits, header_has_bits, event_has_bits, event_bits, events_bits, records_have_bits, has_clock, clock_is_there, is_clocked, timestamp_clocked, record_clocked, begin_clocked, end_clocked, timestamps_clocked, clocks_are_there, is_wide, timestamp_wide, record_is_wide, begin_is_wide, end_is_wide, timestamps_are_wide, judged, judged_by_name, all_judged, streams_judged}
 use Rattle.conf_check.specs.WholeFlaws.{in_stream, IsTimestampOf, of_record, of_beginning, of_end, RecordHasBits, BreaksRule, stream_number, event_number, no_bits, no_such_clock, no_clock, no_number, no_identifier, two_orders, narrow, PassesLimit, too_many, too_long, in_feature, in_structure, in_extras, inside}
-use Rattle.conf_check.proofs.FieldLimitFlawLaws.{field_limits_refused, members_limits_refused, struct_limits_refused}
-use Rattle.conf_check.proofs.LeafFlawLaws.{refused_here_or_next, refused_there, refused_test, refused_where}
+use Rattle.conf_fields.proofs.FieldLimitFlawLaws.{field_limits_refused, members_limits_refused, struct_limits_refused}
+use Rattle.conf_values.proofs.LeafFlawLaws.{refused_here_or_next, refused_there, refused_test, refused_where}
 
 -- ---- tests that were not passed
 

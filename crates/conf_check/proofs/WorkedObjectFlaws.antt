@@ -9,13 +9,13 @@ use Rattle.ctf_types.specs.declared.config.StreamType.{StreamType}
 use Rattle.conf_tree.specs.Flaw.{Flaw, Place, key, here}
 use Rattle.conf_tree.specs.declared.fault_kind.FaultKind.{FaultKind}
 use Rattle.conf_tree.specs.declared.fault_kind.FaultKind.TheVariants.{WrongKind, Missing, Unknown, NoSuchAlias, OutOfRange, ZeroSizeRecord, NoClock, NoUuid, Limit, TwoOrders}
-use Rattle.conf_check.specs.declared.draft.Draft.{Draft}
-use Rattle.conf_check.specs.declared.limits.Part.TheVariants.{Root}
+use Rattle.conf_objects.specs.declared.draft.Draft.{Draft}
+use Rattle.conf_objects.specs.declared.limits.Part.TheVariants.{Root}
 use Rattle.conf_check.specs.Judgement.{header_flaw}
-use Rattle.conf_check.specs.LeafFlaws.{IsNoObject}
-use Rattle.conf_check.specs.Limits.{part_in_root, part_in_trace, part_under, most_entries}
-use Rattle.conf_check.specs.ObjectFlaws.{IsNoFeature, IsNoPacketObject, IsNoPacketFeatures, IsNoOffsetObject, IsNoOffset, IsNoEnvironmentEntry, IsNoEnvironment, IsNoLogLevel, IsNoEventObject, IsNoEventType, IsNoDefault, IsNoStreamObject, IsNoStreamType, SaysDefault, IsBehindDefault, HasNoStreamTypes, IsNoStreamTypes, IsNoTraceTypeObject, IsNoTraceType, IsNoTraceObject, IsNoTrace, IsNoRootObject, IsNoRoot}
-use Rattle.conf_check.specs.Property.{has_property}
+use Rattle.conf_values.specs.LeafFlaws.{IsNoObject}
+use Rattle.conf_objects.specs.Limits.{part_in_root, part_in_trace, part_under, most_entries}
+use Rattle.conf_objects.specs.ObjectFlaws.{IsNoFeature, IsNoPacketObject, IsNoPacketFeatures, IsNoOffsetObject, IsNoOffset, IsNoEnvironmentEntry, IsNoEnvironment, IsNoLogLevel, IsNoEventObject, IsNoEventType, IsNoDefault, IsNoStreamObject, IsNoStreamType, SaysDefault, IsBehindDefault, HasNoStreamTypes, IsNoStreamTypes, IsNoTraceTypeObject, IsNoTraceType, IsNoTraceObject, IsNoTrace, IsNoRootObject, IsNoRoot}
+use Rattle.conf_values.specs.Property.{has_property}
 use Rattle.conf_check.specs.StreamRules.{feature_flaw}
 use Rattle.conf_check.specs.WholeFlaws.{IsTimestampOf, RecordHasBits, BreaksRule, PassesLimit}
 

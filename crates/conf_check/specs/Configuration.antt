@@ -10,11 +10,12 @@ use Rattle.conf_tree.specs.Reading.{object_of}
 use Rattle.conf_tree.specs.Walk.{IsTreeOf, IsFirstFlaw, Reads, FlawHolds, max_levels}
 use Rattle.conf_inherit.specs.Faults.{RefusalHolds}
 use Rattle.conf_inherit.specs.Resolution.{resolution, Resolves}
-use Rattle.conf_check.specs.declared.draft.Draft.{Draft}
-use Rattle.conf_check.specs.declared.limits.Part.TheVariants.{Root}
-use Rattle.conf_check.specs.ConfigurationRows.{IsRootObject, IsConfigurationOf}
+use Rattle.conf_objects.specs.declared.draft.Draft.{Draft}
+use Rattle.conf_objects.specs.declared.limits.Part.TheVariants.{Root}
+use Rattle.conf_check.specs.ConfigurationRows.{IsConfigurationOf}
+use Rattle.conf_objects.specs.TraceRows.{IsRootObject}
 use Rattle.conf_check.specs.Judgement.{check_reading}
-use Rattle.conf_check.specs.ObjectFlaws.{IsNoRoot}
+use Rattle.conf_objects.specs.ObjectFlaws.{IsNoRoot}
 use Rattle.conf_check.specs.WholeFlaws.{BreaksRule, PassesLimit}
 
 -- c is the configuration of the text, where `number` is the identifier that is handed in

@@ -7,12 +7,12 @@ use Rattle.conf_tree.specs.declared.fault_kind.FaultKind.{FaultKind}
 use Rattle.conf_tree.specs.declared.fault_kind.FaultKind.TheVariants.{FieldTooSmall, NoUuid, TwoOrders}
 use Rattle.conf_tree.specs.Flaw.{Flaw, key, here, within}
 use Rattle.conf_tree.specs.Reading.{◌>>=◌}
-use Rattle.conf_check.specs.declared.draft.Draft.{Draft}
-use Rattle.conf_check.specs.declared.limits.Part.TheVariants.{Root}
+use Rattle.conf_objects.specs.declared.draft.Draft.{Draft}
+use Rattle.conf_objects.specs.declared.limits.Part.TheVariants.{Root}
 use Rattle.conf_check.specs.declared.stream_rule.StreamRule.TheVariants.{NumbersFit, RecordsHaveBits, ClocksAreThere, TimestampsAreWide}
-use Rattle.conf_check.specs.Limits.{limits}
+use Rattle.conf_objects.specs.Limits.{limits}
 use Rattle.conf_check.specs.StreamRules.{holds, streams_judged, unless}
-use Rattle.conf_check.specs.Trace.{draft_reading}
+use Rattle.conf_objects.specs.Trace.{draft_reading}
 
 -- a flaw of the trace type, seen from the configuration
 abbrev pub in_type : Flaw → Flaw

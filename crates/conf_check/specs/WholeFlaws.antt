@@ -12,12 +12,12 @@ use Rattle.ctf_types.specs.declared.int_type.IntType.{IntType}
 use Rattle.conf_tree.specs.declared.fault_kind.FaultKind.TheVariants.{FieldTooSmall, ZeroSizeRecord, NoClock, NoUuid, Limit, TwoOrders, TimestampSize}
 use Rattle.conf_tree.specs.Flaw.{Flaw, key, here, within}
 use Rattle.conf_tree.specs.Walk.{HasMember}
-use Rattle.conf_check.specs.declared.draft.Draft.{Draft}
-use Rattle.conf_check.specs.declared.limits.Part.{Part}
-use Rattle.conf_check.specs.declared.limits.Part.TheVariants.{Feature, Structure, Extras, Words}
-use Rattle.conf_check.specs.FieldFlaws.{PassesFieldLimit, PassesStructLimit, PassesMembersLimit}
+use Rattle.conf_objects.specs.declared.draft.Draft.{Draft}
+use Rattle.conf_objects.specs.declared.limits.Part.{Part}
+use Rattle.conf_objects.specs.declared.limits.Part.TheVariants.{Feature, Structure, Extras, Words}
+use Rattle.conf_fields.specs.FieldFlaws.{PassesFieldLimit, PassesStructLimit, PassesMembersLimit}
 use Rattle.conf_check.specs.Judgement.{in_type, header_flaw}
-use Rattle.conf_check.specs.Limits.{part_under, most_entries}
+use Rattle.conf_objects.specs.Limits.{part_under, most_entries}
 use Rattle.conf_check.specs.StreamRules.{feature_flaw}
 
 -- ---- rules over the whole

@@ -10,11 +10,9 @@ ghost use Rattle.conf_check.specs.Configuration.{IsNoConfiguration, IsInnocent};
 ghost use Rattle.conf_check.specs.ConfigurationRows.{IsConfigurationOf};
 ghost use Rattle.conf_check.specs.Judgement.{in_type as in_type_is, header_flaw, stream_number_fits as stream_number_fits_is, number_given as number_given_is, identifier_given as identifier_given_is, one_order as one_order_is, sizes_and_bits as sizes_and_bits_is, clocks_and_identifier as clocks_and_identifier_is, limits_and_orders as limits_and_orders_is, whole as whole_is, check_reading};
 
-use crate::draft::Draft;
-use crate::limits::{Part, check_limits};
-use crate::order::walk_in_order;
 use crate::stream_rule::{StreamRule, check_streams, holds};
-use crate::trace::read_draft;
+use conf_fields::walk_in_order;
+use conf_objects::{Draft, Part, check_limits, read_draft};
 use conf_tree::{ConfFault, FaultKind, Tree};
 use ctf_types::Config;
 use serde_json::Value;

@@ -1,0 +1,5 @@
+use Rattle.conf_check.proofs.ConfigurationFlawLaws.{configuration_refused}
+use Rattle.conf_check.proofs.laws.configurations_refused.Goals as goal
+
+pub returns : goal.returns
+returns c = configuration_refused

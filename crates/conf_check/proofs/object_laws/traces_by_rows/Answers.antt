@@ -1,8 +1,0 @@
-use Rattle.conf_check.proofs.ConfigurationRowLaws.{trace_type_says, trace_type_read, trace_says, trace_read}
-use Rattle.conf_check.proofs.object_laws.traces_by_rows.Goals as goal
-
-pub returns-clause-trace_types : goal.returns-clause-trace_types
-returns-clause-trace_types c = λ number environment d draft. (trace_type_says number environment d draft, trace_type_read number environment d draft)
-
-pub returns-clause-traces : goal.returns-clause-traces
-returns-clause-traces c = λ number d draft. (trace_says number d draft, trace_read number d draft)

@@ -1,5 +1,0 @@
-use Rattle.conf_check.proofs.ConfigurationFlawLaws.{configuration_refused}
-use Rattle.conf_check.proofs.object_refusals.configurations_refused.Goals as goal
-
-pub returns : goal.returns
-returns c = configuration_refused

@@ -1,7 +1,0 @@
-use Rattle.std.proofs.Common.{◌≡◌, drop}
-use Rattle.conf_check.specs.Scalar.{is_printable}
-use Rattle.conf_check.proofs.scalar.is_printable.Given as goal
-
--- the bytes that are left are printable where all of them are
-abbrev pub invariant-loop-byte : goal.invariant-loop-byte
-invariant-loop-byte l = is_printable l.text ≡ is_printable (drop l.byte-index l.text)

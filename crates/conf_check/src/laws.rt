@@ -1,0 +1,28 @@
+//! Laws of the whole: a resolved tree is judged to be a configuration exactly where all rows and all rules say so, and what is
+//! refused breaks a row, a rule or a limit.
+ghost use Rattle.std.specs.Prelude.{◌≡◌, ◌↔◌, ◌⊎◌, ℕ, List, Option, Ok, Err};
+ghost use Rattle.serde_json.specs.Data.{Data};
+ghost use Rattle.ctf_types.specs.declared.config.Config.{Config as Configuration};
+ghost use Rattle.conf_tree.specs.Flaw.{Flaw};
+ghost use Rattle.conf_objects.specs.declared.draft.Draft.{Draft};
+ghost use Rattle.conf_objects.specs.declared.limits.Part.TheVariants.{Root};
+ghost use Rattle.conf_check.specs.Configuration.{IsNoConfiguration};
+ghost use Rattle.conf_check.specs.ConfigurationRows.{IsConfigurationOf};
+ghost use Rattle.conf_check.specs.Judgement.{whole, check_reading};
+ghost use Rattle.conf_check.specs.WholeFlaws.{BreaksRule, PassesLimit};
+
+/// A resolved tree is judged to be a configuration exactly where all rows and all rules say so.
+pub fn configurations_by_rows()
+    ensures { (d : Data) (number : Option (List ℕ)) (c : Configuration)
+        → (check_reading d number ≡ Ok c) ↔ IsConfigurationOf d number c }
+{}
+
+/// A configuration whose objects are each as they should be is refused where it breaks a rule over the whole or passes a limit.
+pub fn rules_refused()
+    ensures { (d : Data) (draft : Draft) (flaw : Flaw) → whole d draft ≡ Err flaw → BreaksRule draft flaw ⊎ PassesLimit Root d flaw }
+{}
+
+/// A resolved tree that is refused has an object with a row that does not hold, breaks a rule over the whole or passes a limit.
+pub fn configurations_refused()
+    ensures { (d : Data) (number : Option (List ℕ)) (flaw : Flaw) → check_reading d number ≡ Err flaw → IsNoConfiguration d number flaw }
+{}

@@ -1,0 +1,81 @@
+-- The entries of a map ascend by their names, and so do the members that they are seen as; what is found in a value with ascending names
+-- has them too.
+use Rattle.std.proofs.Common.{◌≡◌, ℕ, List, [], ◌∷◌, Option, Some, None, Result, Ok, Err, Ordering, Less, Equal, Greater, string_cmp, string_bytes, nat_cmp, subst}
+use Rattle.std.specs.List.{AllByRecursion}
+use Rattle.std.specs.List.Sorted.{IsStrictlySortedBy}
+use Rattle.std.specs.Map.{keys_of}
+use Rattle.serde_json.specs.View.{members_view}
+use Rattle.serde_json.proofs.Views.{Entry}
+use Rattle.serde_json.specs.Data.{Data, null, boolean, number, string, array, object, Items, Members, no_members, member}
+use Rattle.serde_json.specs.Find.{get_member}
+use Rattle.std.specs.Ordering.{match_ordering}
+use Rattle.std.specs.Cmp.Lexicographic.{slice_cmp}
+use Rattle.conf_tree.specs.declared.fault_kind.FaultKind.TheVariants.{Missing}
+use Rattle.conf_tree.specs.Flaw.{Flaw, key, here, within}
+use Rattle.conf_tree.specs.Reading.{needed, given, optional, object_of, list_of}
+use Rattle.conf_inherit.specs.Names.{AllAbove, IsInOrder}
+use Rattle.conf_fields.specs.Order.{Ascends, ItemsAscend, MembersAscend}
+
+above : (e : Entry) (es : List Entry) → AllByRecursion (λ k. string_cmp e.0 k ≡ Less) (keys_of es) → AllAbove (string_bytes e.0) (members_view es)
+above e [] h = tt
+above e (f ∷ es) h = (h.0, above e es h.1)
+
+pub in_order : (es : List Entry) → IsStrictlySortedBy string_cmp (keys_of es) → IsInOrder (members_view es)
+unfolding IsStrictlySortedBy
+in_order [] h = tt
+in_order (e ∷ es) h = (above e es h.0, in_order es h.1)
+
+-- ---- what is found
+
+found_ascends : (o : Ordering) (found : Option Data) (e d : Data) → ((x : Data) → found ≡ Some x → Ascends x) → match_ordering o found (Some e) found ≡ Some d → Ascends e → Ascends d
+found_ascends Less found e d later is here = later d is
+found_ascends Equal found e d later is here = let same : e ≡ d = cc in subst (λ x. Ascends x) same here
+found_ascends Greater found e d later is here = later d is
+
+pub ascends-get_member : (name : List ℕ) (ms : Members) (d : Data) → MembersAscend ms → get_member name ms ≡ Some d → Ascends d
+ascends-get_member name no_members d h is = cc
+ascends-get_member name (member k e ms) d h is = found_ascends (slice_cmp nat_cmp name k) (get_member name ms) e d (λ x there. ascends-get_member name ms x h.1 there) is h.0
+
+abbrev found_or_not : List ℕ → Option Data → Result Data Flaw
+found_or_not name None = Err (within (key name) (here Missing))
+found_or_not name (Some d) = Ok d
+
+found_is : (name : List ℕ) (found : Option Data) (d : Data) → found_or_not name found ≡ Ok d → found ≡ Some d
+found_is name None d e = absurd cc
+found_is name (Some x) d e = cc
+
+pub needed_found : (name : List ℕ) (ms : Members) (d : Data) → needed name ms ≡ Ok d → get_member name ms ≡ Some d
+needed_found name ms d e = found_is name (get_member name ms) d e
+
+pub ascends_needed : (name : List ℕ) (ms : Members) (d : Data) → MembersAscend ms → needed name ms ≡ Ok d → Ascends d
+ascends_needed name ms d h e = ascends-get_member name ms d h (needed_found name ms d e)
+
+-- the members of an object
+pub ascends_object : (d : Data) (ms : Members) → object_of d ≡ Ok ms → Ascends d → IsInOrder ms × MembersAscend ms
+ascends_object null ms e h = absurd cc
+ascends_object (boolean b) ms e h = absurd cc
+ascends_object (number n) ms e h = absurd cc
+ascends_object (string s) ms e h = absurd cc
+ascends_object (array ds) ms e h = absurd cc
+ascends_object (object ns) ms e h = let same : ns ≡ ms = cc in subst (λ l. IsInOrder l × MembersAscend l) same h
+
+-- the items of a list
+pub ascends_list : (d : Data) (ds : Items) → list_of d ≡ Ok ds → Ascends d → ItemsAscend ds
+ascends_list null ds e h = absurd cc
+ascends_list (boolean b) ds e h = absurd cc
+ascends_list (number n) ds e h = absurd cc
+ascends_list (string s) ds e h = absurd cc
+ascends_list (array es) ds e h = let same : es ≡ ds = cc in subst (λ l. ItemsAscend l) same h
+ascends_list (object ns) ds e h = absurd cc
+
+given_is : (found : Option Data) (d : Data) → given found ≡ Some d → found ≡ Some d
+given_is None d e = e
+given_is (Some null) d e = absurd cc
+given_is (Some (boolean b)) d e = e
+given_is (Some (number n)) d e = e
+given_is (Some (string s)) d e = e
+given_is (Some (array ds)) d e = e
+given_is (Some (object ms)) d e = e
+
+pub ascends_given : (name : List ℕ) (ms : Members) (d : Data) → MembersAscend ms → optional name ms ≡ Some d → Ascends d
+ascends_given name ms d h e = ascends-get_member name ms d h (given_is (get_member name ms) d e)

@@ -1,0 +1,12 @@
+pub mod Order
+pub mod IntType
+pub mod EnumType
+pub mod FieldType
+pub mod MemberType
+pub mod Member
+pub mod Members
+pub mod StructType
+pub mod FieldRows
+pub mod FieldFlaws
+pub mod InnerRows
+pub mod MappingRows

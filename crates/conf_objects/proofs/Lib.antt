@@ -1,0 +1,16 @@
+pub mod StreamLemmas
+pub mod ObjectRowLaws
+pub mod EntryRowLaws
+pub mod MapRowLaws
+pub mod FeatureRowLaws
+pub mod ObjectFlawLaws
+pub mod StreamFlawLaws
+pub mod TraceRowLaws
+pub mod TraceFlawLaws
+pub mod InTheMap
+pub mod AllowedEnvironment
+pub mod AllowedClocks
+pub mod AllowedFeatures
+pub mod AllowedEvents
+pub mod AllowedStreams
+pub mod AllowedDraft

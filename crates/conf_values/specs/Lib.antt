@@ -1,0 +1,7 @@
+pub mod Name
+pub mod Property
+pub mod Scalar
+pub mod Words
+pub mod Parts
+pub mod Broken
+pub mod LeafFlaws

@@ -1,0 +1,19 @@
+//! Lists that grow while a configuration is read.
+ghost use Rattle.std.specs.Prelude.{◌≡◌, ◌++◌, ◌∷◌, [], IfErr, OnOk};
+ghost use Rattle.arrayvec.specs.ArrayVec.{array_vec_len};
+ghost use Rattle.conf_tree.specs.Flaw.{IsMemory};
+
+use conf_tree::{ConfFault, FaultKind};
+use ctf_types::ListOf;
+
+/// Adds an item behind the others.
+pub fn grow<T: Drop>(list: &mut ListOf<T>, item: T) -> Result<(), ConfFault>
+    ensures grown { OnOk result (list.new ≡ list.old ++ item ∷ []) }
+    ensures memory { IfErr result IsMemory }
+    ensures steps { IfErr result (λ fault. array_vec_len fault.path ≡ 0) }
+{
+    match list.push(item) {
+        Ok(()) => Ok(()),
+        Err(_) => Err(ConfFault::here(FaultKind::OutOfMemory)),
+    }
+}

@@ -1,0 +1,124 @@
+//! The names of a configuration, and the words that are no names.
+ghost use Rattle.std.specs.Prelude.{◌≡◌, ◌≤◌, ◌||◌, ◌&&◌, IfErr};
+ghost use Rattle.std.specs.List.{list_any, list_all};
+ghost use Rattle.std.specs.Str.{bytes_eq};
+ghost use Rattle.arrayvec.specs.ArrayVec.{array_vec_len};
+ghost use Rattle.conf_tree.specs.Reading.{Gives};
+ghost use Rattle.ctf_types.specs.Names.{is_identifier as is_identifier_of, is_letter as is_letter_of, is_digit as is_digit_of, unused_keywords, used_keywords};
+ghost use Rattle.conf_values.specs.Name.{name_of, plain_name_of, is_reserved as is_reserved_of};
+
+use conf_tree::{ConfFault, FaultKind};
+
+fn is_letter(byte: u8) -> bool
+    ensures { result ≡ is_letter_of byte }
+{
+    byte.is_ascii_uppercase() || byte.is_ascii_lowercase() || byte == b'_'
+}
+
+fn is_letter_or_digit(byte: u8) -> bool
+    ensures { result ≡ (is_letter_of byte || is_digit_of byte) }
+{
+    is_letter(byte) || byte.is_ascii_digit()
+}
+
+fn are_letters_or_digits(bytes: &[u8]) -> bool
+    ensures { result ≡ list_all (λ d. is_letter_of d || is_digit_of d) bytes.now }
+{
+    for byte in bytes {
+        if !is_letter_or_digit(*byte) {
+            return false;
+        }
+    }
+    true
+}
+
+/// Whether a text is a letter or an underscore, and then letters, digits and underscores.
+#[tactic(auto, unfolding(ctf_types::specs::Names::is_identifier))]
+fn is_identifier(text: &str) -> bool
+    ensures { result ≡ is_identifier_of text.now }
+{
+    match text.as_bytes() {
+        [] => false,
+        [first, rest @ ..] => is_letter(*first) && are_letters_or_digits(rest),
+    }
+}
+
+/// Refuses a name that is no identifier of 255 bytes at most.
+#[tactic(auto, unfolding(crate::specs::Name::name_of))]
+pub fn check_name(name: &str) -> Result<(), ConfFault>
+    ensures reading { Gives (λ _. tt) result (name_of name.now) }
+    ensures steps { IfErr result (λ fault. array_vec_len fault.path ≡ 0) }
+{
+    if is_identifier(name) && name.len() <= 255 {
+        Ok(())
+    } else {
+        Err(ConfFault::here(FaultKind::BadName))
+    }
+}
+
+/// Whether the metadata language has the word for itself, though nothing here writes it.
+fn is_unused_keyword(word: &str) -> bool
+    ensures { result ≡ list_any (bytes_eq word.now) unused_keywords }
+{
+    matches!(
+        word,
+        "callsite"
+            | "char"
+            | "const"
+            | "double"
+            | "float"
+            | "floating_point"
+            | "int"
+            | "long"
+            | "short"
+            | "typealias"
+            | "typedef"
+            | "unsigned"
+            | "variant"
+            | "void"
+            | "_Bool"
+            | "_Complex"
+            | "_Imaginary"
+    )
+}
+
+/// Whether the word is one that metadata is written with.
+fn is_used_keyword(word: &str) -> bool
+    ensures { result ≡ list_any (bytes_eq word.now) used_keywords }
+{
+    matches!(
+        word,
+        "align"
+            | "clock"
+            | "enum"
+            | "env"
+            | "event"
+            | "integer"
+            | "signed"
+            | "stream"
+            | "string"
+            | "struct"
+            | "trace"
+    )
+}
+
+#[tactic(auto, unfolding(crate::specs::Name::is_reserved))]
+fn is_reserved(word: &str) -> bool
+    ensures { result ≡ is_reserved_of word.now }
+{
+    is_unused_keyword(word) || is_used_keyword(word)
+}
+
+/// Refuses a name that is no identifier of 255 bytes at most, or that is a reserved word.
+#[tactic(auto, unfolding(crate::specs::Name::plain_name_of))]
+pub fn check_plain_name(name: &str) -> Result<(), ConfFault>
+    ensures reading { Gives (λ _. tt) result (plain_name_of name.now) }
+    ensures steps { IfErr result (λ fault. array_vec_len fault.path ≡ 0) }
+{
+    check_name(name)?;
+    if is_reserved(name) {
+        Err(ConfFault::here(FaultKind::ReservedName))
+    } else {
+        Ok(())
+    }
+}
