@@ -6,7 +6,6 @@ use Rattle.conf_tree.specs.declared.fault.ConfFault.{ConfFault}
 use Rattle.conf_tree.specs.Flaw.{Flaw, flaw_of, IsMemory}
 use Rattle.conf_objects.specs.declared.draft.Draft.{Draft}
 use Rattle.conf_objects.specs.declared.limits.Part.TheVariants.{Root}
-use Rattle.conf_values.specs.declared.properties.ObjectKind.TheVariants as objects
 use Rattle.conf_check.specs.declared.stream_rule.StreamRule.TheVariants.{NumbersFit, ClocksAreThere}
 use Rattle.conf_check.specs.Judgement.{stream_number_fits, number_given, one_order, sizes_and_bits, clocks_and_identifier, limits_and_orders, whole, check_reading}
 use Rattle.conf_objects.specs.Limits.{limits}

@@ -1,24 +1,16 @@
--- What the rounds leave of the aliases that are not resolved: those with no outcome start long walks, and those
--- refused for a limit pass it.
-use Rattle.std.proofs.Common.{◌≡◌, ◌&&◌, ◌||◌, ◌⊎◌, inl, inr, ℕ, zero, suc, List, Some, None, Result, Ok, Err, is_some, Bool, true, false, not, true≢false, bytes_eq, refl, sym, ap, ◌∙◌}
-use Rattle.std.specs.Map.{update}
+-- What the rounds leave of the aliases with no outcome: they start long walks.
+use Rattle.std.proofs.Common.{◌≡◌, ◌||◌, ◌⊎◌, inl, inr, ℕ, zero, suc, List, Option, Some, None, Bool, true, false, not, true≢false, refl, sym, ◌∙◌}
 use Rattle.serde_json.specs.Data.{Data, null, boolean, number, string, array, object, Items, no_items, item, Members, no_members, member, put}
 use Rattle.serde_json.specs.Find.{get_member}
-use Rattle.serde_json.proofs.Views.{get_member-put, get_member-put_other}
-use Rattle.conf_tree.specs.declared.fault_kind.FaultKind.{FaultKind}
 use Rattle.conf_inherit.specs.declared.spot.Spot.{Spot}
 use Rattle.conf_inherit.specs.declared.spot.Spot.TheVariants.{FieldType}
 use Rattle.conf_inherit.specs.Spot.{spot_under, spot_of_items, names_alias, names_member_type}
 use Rattle.conf_inherit.specs.Circle.{Mentions, MentionsInItems, MentionsInMembers, Walks}
-use Rattle.conf_inherit.specs.Faults.{Passes}
-use Rattle.conf_inherit.specs.Flaws.{flaws}
-use Rattle.conf_inherit.specs.Looks.{AreResolved}
 use Rattle.conf_inherit.specs.Ready.{Names}
-use Rattle.conf_inherit.specs.Settled.{settled}
-use Rattle.conf_inherit.specs.Rounds.{Why, Outcomes, all_named, all_named_in_items, all_named_in_members, has, is_over, is_empty, or_why, outcome, concluded, step, round, all_over, next_round, rounds, no_outcomes}
-use Rattle.conf_inherit.proofs.LayingLemmas.{Meets, same, other, meets}
+use Rattle.conf_inherit.specs.Named.{all_named, all_named_in_items, all_named_in_members, has}
+use Rattle.conf_inherit.specs.Rounds.{has_outcome, Outcomes, is_over, outcome, concluded, step, round, all_over, next_round, rounds, no_outcomes}
 use Rattle.conf_inherit.proofs.ListLemmas.{AllEntries, all_along}
-use Rattle.conf_inherit.proofs.RoundLemmas.{updated_same, updated_other, by_round, some_of, entry_found, step_resolved, rounds_resolved}
+use Rattle.conf_inherit.proofs.RoundLemmas.{is_put, is_still, some_of, entry_found}
 use Rattle.conf_inherit.proofs.NamedLemmas.{either_false, and_first, and_second}
 
 -- ---- a name that keeps a value from its turn
@@ -68,7 +60,7 @@ mutual
 
 -- the alias has no outcome yet
 abbrev pub IsOpen : Outcomes → List ℕ → Type 0
-IsOpen st k = (has st.done k ≡ false) × (is_some (st.refused k) ≡ false)
+IsOpen st k = (has st.done k ≡ false) × (has st.refused k ≡ false)
 
 over_false : (a b c : Bool) → (a || b || not c) ≡ false → (a ≡ false) × (b ≡ false) × (c ≡ true)
 over_false true b c h = absurd (true≢false h)
@@ -80,31 +72,24 @@ either_or : (a b : Bool) → a ≡ false → b ≡ false → (a || b) ≡ false
 either_or true b h i = absurd (true≢false h)
 either_or false b h i = i
 
-type_spot : Names FieldType
-unfolding names_alias
-type_spot = inl refl
-
-no_limit : (kind : FaultKind) → (let o : Result Data Why = Err None in o ≡ Err (Some kind)) → ⊥
-no_limit kind h = cc
+-- a name that is not there once another is put was not there before
+open_put : (k : List ℕ) (r : Data) (ms : Members) (q : List ℕ) → has (put k r ms) q ≡ false → has ms q ≡ false
+open_put k r ms q h = go (has ms q) refl
+  where
+    go : (t : Bool) → has ms q ≡ t → has ms q ≡ false
+    go true e = absurd (true≢false (sym (is_still k r ms q e) ∙ h))
+    go false e = e
 
 module _ (al : Members) where
   -- what is open after a conclusion was open before it
-  open_concluded : (k : List ℕ) (st : Outcomes) (o : Result Data Why) (q : List ℕ) → IsOpen (concluded k st o) q → IsOpen st q
-  open_concluded k st (Ok r) q (d, f) = (at (meets q k), f)
-    where
-      at : Meets q k → has st.done q ≡ false
-      at (same e) = absurd (let g : has (put k r st.done) q ≡ true = ap (has (put k r st.done)) e ∙ ap is_some (get_member-put k r st.done) in true≢false (sym g ∙ d))
-      at (other apart) = ap is_some (sym (get_member-put_other q k r st.done apart)) ∙ d
-  open_concluded k st (Err why) q (d, f) = (d, at (meets q k))
-    where
-      at : Meets q k → is_some (st.refused q) ≡ false
-      at (same e) = absurd (true≢false (sym (ap is_some (updated_same st.refused k q (Some why) e)) ∙ f))
-      at (other apart) = ap is_some (sym (updated_other st.refused k q (Some why) apart)) ∙ f
+  open_concluded : (k : List ℕ) (st : Outcomes) (o : Option Data) (q : List ℕ) → IsOpen (concluded k st o) q → IsOpen st q
+  open_concluded k st (Some r) q (d, f) = (open_put k r st.done q d, f)
+  open_concluded k st None q (d, f) = (d, open_put k null st.refused q f)
 
   open_step : (k : List ℕ) (w : Data) (st : Outcomes) (q : List ℕ) → IsOpen (step al k w st) q → IsOpen st q
-  open_step k w st q h = go (has st.done k || is_some (st.refused k)) refl (all_named (is_over al st) FieldType w) refl
+  open_step k w st q h = go (has_outcome st k) refl (all_named (is_over al st) FieldType w) refl
     where
-      go : (t : Bool) → (has st.done k || is_some (st.refused k)) ≡ t → (u : Bool) → all_named (is_over al st) FieldType w ≡ u → IsOpen st q
+      go : (t : Bool) → has_outcome st k ≡ t → (u : Bool) → all_named (is_over al st) FieldType w ≡ u → IsOpen st q
       go true a u b = rw a at h
       go false a false b = rw (a, b) at h
       go false a true b = open_concluded k st (outcome al st.done w) q (rw (a, b) at h)
@@ -114,20 +99,20 @@ module _ (al : Members) where
   open_round (member k w ms) st q h = open_step k w st q (open_round ms (step al k w st) q h)
 
   -- what has an outcome after its step
-  closed : (k : List ℕ) (st : Outcomes) (o : Result Data Why) → IsOpen (concluded k st o) k → ⊥
-  closed k st (Ok r) (d, f) = true≢false (sym (ap is_some (get_member-put k r st.done)) ∙ d)
-  closed k st (Err why) (d, f) = true≢false (sym (ap is_some (updated_same st.refused k k (Some why) refl)) ∙ f)
+  closed : (k : List ℕ) (st : Outcomes) (o : Option Data) → IsOpen (concluded k st o) k → ⊥
+  closed k st (Some r) (d, f) = true≢false (sym (is_put k r st.done) ∙ d)
+  closed k st None (d, f) = true≢false (sym (is_put k null st.refused) ∙ f)
 
   -- an alias that stays open names an open one
   waits_step : (k : List ℕ) (w : Data) (st : Outcomes) → IsOpen (step al k w st) k → (m : List ℕ) × Mentions m FieldType w × (has al m ≡ true) × IsOpen st m
-  waits_step k w st h = go (has st.done k || is_some (st.refused k)) refl (all_named (is_over al st) FieldType w) refl
+  waits_step k w st h = go (has_outcome st k) refl (all_named (is_over al st) FieldType w) refl
     where
-      go : (t : Bool) → (has st.done k || is_some (st.refused k)) ≡ t → (u : Bool) → all_named (is_over al st) FieldType w ≡ u → (m : List ℕ) × Mentions m FieldType w × (has al m ≡ true) × IsOpen st m
-      go true a u b = let o = open_step k w st k h in absurd (true≢false (sym a ∙ either_or (has st.done k) (is_some (st.refused k)) o.0 o.1))
+      go : (t : Bool) → has_outcome st k ≡ t → (u : Bool) → all_named (is_over al st) FieldType w ≡ u → (m : List ℕ) × Mentions m FieldType w × (has al m ≡ true) × IsOpen st m
+      go true a u b = let o = open_step k w st k h in absurd (true≢false (sym a ∙ either_or (has st.done k) (has st.refused k) o.0 o.1))
       go false a true b = absurd (closed k st (outcome al st.done w) (rw (a, b) at h))
       go false a false b =
           let (m, x, f) = blocked (is_over al st) w FieldType b in
-          let parts = over_false (has st.done m) (is_some (st.refused m)) (has al m) f in
+          let parts = over_false (has st.done m) (has st.refused m) (has al m) f in
           (m, x, parts.2, (parts.0, parts.1))
 
   abbrev pub Waits : Outcomes → List ℕ → Data → Outcomes → Type 0
@@ -146,8 +131,8 @@ module _ (al : Members) where
   all_closed : (ms : Members) (st : Outcomes) → all_over ms st ≡ true → AllEntries (λ k w. IsOpen st k → ⊥) ms
   all_closed no_members st h = tt
   all_closed (member k w ms) st h = (
-    λ o. true≢false (sym (and_first (has st.done k || is_some (st.refused k)) (all_over ms st) h) ∙ either_or (has st.done k) (is_some (st.refused k)) o.0 o.1),
-    all_closed ms st (and_second (has st.done k || is_some (st.refused k)) (all_over ms st) h),
+    λ o. true≢false (sym (and_first (has_outcome st k) (all_over ms st) h) ∙ either_or (has st.done k) (has st.refused k) o.0 o.1),
+    all_closed ms st (and_second (has_outcome st k) (all_over ms st) h),
   )
 
   waits_next : (k : List ℕ) (w : Data) (st : Outcomes) → get_member k al ≡ Some w → IsOpen (next_round al st) k → (m : List ℕ) × Mentions m FieldType w × (has al m ≡ true) × IsOpen st m
@@ -164,43 +149,3 @@ module _ (al : Members) where
       let (w, is) = some_of (get_member k al) known in
       let (m, x, there, o) = waits_next k w (rounds al n no_outcomes) is h in
       (w, m, is, x, open_walks n m there o)
-
-  -- ---- an alias that is refused for a limit
-
-  abbrev pub LimitsHold : Outcomes → Type 0
-  LimitsHold st = (q : List ℕ) (kind : FaultKind) → st.refused q ≡ Some (Some kind) → (w : Data) × (get_member q al ≡ Some w) × Passes al kind FieldType w
-
-  limit_of : (o : Result Data FaultKind) (kind : FaultKind) → or_why o ≡ Err (Some kind) → o ≡ Err kind
-  limit_of (Ok r) kind h = cc
-  limit_of (Err x) kind h = cc
-
-  limit_outcome : (done : Members) (w : Data) (kind : FaultKind) → outcome al done w ≡ Err (Some kind) → settled done FieldType w ≡ Err kind
-  limit_outcome done w kind h = go (is_empty (flaws al FieldType false no_members w) && all_named (has done) FieldType w) refl
-    where
-      go : (t : Bool) → (is_empty (flaws al FieldType false no_members w) && all_named (has done) FieldType w) ≡ t → settled done FieldType w ≡ Err kind
-      go true a = limit_of (settled done FieldType w) kind (rw a at h)
-      go false a = absurd (no_limit kind (rw a at h))
-
-  limits_step : (k : List ℕ) (w : Data) (st : Outcomes) → get_member k al ≡ Some w → AreResolved al st.done → LimitsHold st → LimitsHold (step al k w st)
-  limits_step k w st is known limits = go (has st.done k || is_some (st.refused k)) refl (all_named (is_over al st) FieldType w) refl (outcome al st.done w) refl
-    where
-      refused : (why : Why) → outcome al st.done w ≡ Err why → (q : List ℕ) (kind : FaultKind) → update bytes_eq st.refused k (Some why) q ≡ Some (Some kind) → Meets q k → (v : Data) × (get_member q al ≡ Some v) × Passes al kind FieldType v
-      refused why e q kind h (other apart) = limits q kind (sym (updated_other st.refused k q (Some why) apart) ∙ h)
-      refused why e q kind h (same f) =
-          let g : Some why ≡ Some (Some kind) = sym (updated_same st.refused k q (Some why) f) ∙ h in
-          let one : why ≡ Some kind = cc in
-          (w, ap (λ x. get_member x al) f ∙ is, (type_spot, (st.done, known, limit_outcome st.done w kind (e ∙ ap (λ x. Err x) one))))
-
-      go : (t : Bool) → (has st.done k || is_some (st.refused k)) ≡ t → (u : Bool) → all_named (is_over al st) FieldType w ≡ u → (o : Result Data Why) → outcome al st.done w ≡ o → LimitsHold (step al k w st)
-      go true a u b o e = rw a limits
-      go false a false b o e = rw (a, b) limits
-      go false a true b (Ok r) e = rw (a, b, e) limits
-      go false a true b (Err why) e = rw (a, b, e) (λ q kind h. refused why e q kind h (meets q k))
-
-  limits_round : (ms : Members) (st : Outcomes) → AllEntries (λ k w. get_member k al ≡ Some w) ms → AreResolved al st.done → LimitsHold st → LimitsHold (round al ms st)
-  limits_round no_members st each known limits = limits
-  limits_round (member k w ms) st each known limits = limits_round ms (step al k w st) each.1 (step_resolved al k w st each.0 known) (limits_step k w st each.0 known limits)
-
-  pub limits_hold : (n : ℕ) → AllEntries (λ k w. get_member k al ≡ Some w) al → LimitsHold (rounds al n no_outcomes)
-  limits_hold zero each = λ q kind h. cc
-  limits_hold (suc n) each = by_round al LimitsHold (rounds al n no_outcomes) (limits_hold n each) (limits_round al (rounds al n no_outcomes) each (rounds_resolved al n each) (limits_hold n each))

@@ -1,15 +1,15 @@
 -- Each flaw that is listed holds at its path.
-use Rattle.std.proofs.Common.{◌≡◌, ◌&&◌, ◌<◌, ◌+◌, ◌++◌, ◌⊎◌, inl, inr, ℕ, suc, List, [], ◌∷◌, map, Some, is_some, Bool, true, false, true≢false, refl, sym, ap, ◌∙◌, subst, arith}
+use Rattle.std.proofs.Common.{◌≡◌, ◌&&◌, ◌<◌, ◌+◌, ◌++◌, ◌⊎◌, inl, inr, ℕ, suc, List, [], ◌∷◌, map, Option, Some, Err, is_some, Bool, true, false, true≢false, refl, sym, ap, ◌∙◌, subst, arith}
 use Rattle.serde_json.specs.Data.{Data, null, boolean, number, string, array, object, Items, no_items, item, Members, no_members, member, put}
 use Rattle.serde_json.specs.Find.{get_item}
 use Rattle.serde_json.proofs.Views.{get_member-put_other}
 use Rattle.conf_tree.specs.Flaw.{Flaw, Place, key, index, here, within}
-use Rattle.conf_tree.specs.Walk.{HasMember}
+use Rattle.conf_tree.specs.Walk.{HasMember, refusal}
 use Rattle.conf_tree.specs.declared.fault_kind.FaultKind.TheVariants.{WrongKind, NoSuchAlias, NameClash}
 use Rattle.conf_inherit.specs.declared.spot.Spot.{Spot}
 use Rattle.conf_inherit.specs.Spot.{spot_under, spot_of_items, is_entry}
-use Rattle.conf_inherit.specs.Flaws.{is_wrong, is_unknown, own_flaws, inner_flaws, item_flaws, member_flaws, mark, mark_names}
-use Rattle.conf_inherit.specs.Rounds.{has}
+use Rattle.conf_inherit.specs.Flaws.{is_wrong, is_unknown, own_flaws, base_flaws, inner_flaws, item_flaws, member_flaws, mark, mark_names}
+use Rattle.conf_inherit.specs.Named.{has}
 use Rattle.conf_inherit.specs.Faults.{Leads, HasEntry, SaysOf, FlawHolds}
 use Rattle.conf_inherit.proofs.LayingLemmas.{Meets, same, other, meets}
 use Rattle.conf_inherit.proofs.SpotLemmas.{entry_list}
@@ -19,10 +19,18 @@ abbrev pub Among : Flaw → List Flaw → Type 0
 Among f [] = ⊥
 Among f (g ∷ fs) = (f ≡ g) ⊎ Among f fs
 
+-- the first flaw is one of them
+pub refused_among : (fs : List Flaw) (f : Flaw) → refusal fs ≡ Err f → Among f fs
+refused_among [] f h = cc
+refused_among (g ∷ fs) f h = inl (let e : f ≡ g = cc in e)
+
 pub among_joined : (f : Flaw) (xs ys : List Flaw) → Among f (xs ++ ys) → Among f xs ⊎ Among f ys
 among_joined f [] ys h = inr h
 among_joined f (x ∷ xs) ys (inl e) = inl (inl e)
 among_joined f (x ∷ xs) ys (inr h) = elim (among_joined f xs ys h) [ inl a ↦ inl (inr a) | inr b ↦ inr b ]
+
+pub first_or_rest : {A : Type 0} (f : Flaw) (xs ys : List Flaw) → Among f (xs ++ ys) → (Among f xs → A) → (Among f ys → A) → A
+first_or_rest f xs ys h g k = elim (among_joined f xs ys h) [ inl a ↦ g a | inr a ↦ k a ]
 
 pub among_within : (p : Place) (f : Flaw) (xs : List Flaw) → Among f (map (within p) xs) → (g : Flaw) × (f ≡ within p g) × Among g xs
 among_within p f (x ∷ xs) (inl e) = (x, e, inl refl)
@@ -61,6 +69,10 @@ module _ (al : Members) where
       go false a true b t e = inl (at_it (here NoSuchAlias, only (here NoSuchAlias) (rw (a, b) at h), refl, inl b))
       go false a false b true e = inr (only (here NameClash) (rw (a, b, e) at h), e)
       go false a false b false e = absurd (rw (a, b, e) at h)
+
+  -- a flaw that a value has by itself holds
+  pub flaw_of_itself_holds : (s : Spot) (v : Data) (f : Flaw) → Among f (own_flaws al s false v) → FlawHolds al s v f
+  flaw_of_itself_holds s v f h = elim (own_holds s false v f h) [ inl holds ↦ holds | inr bad ↦ absurd (true≢false (sym bad.1)) ]
 
 -- the name of an entry that one before it has
 abbrev Taken : Spot → Members → Data → Flaw → Type 0
@@ -115,13 +127,17 @@ and_two : (a b : Bool) → (a && b) ≡ true → b ≡ true
 and_two true b h = h
 and_two false b h = absurd (true≢false (sym h))
 
-module _ (al : Members) where
+-- each limit that is listed of the value of a `$inherit` holds
+abbrev pub BasesHold : Members → Option Members → Type 0
+BasesHold al rs = (s : Spot) (k : List ℕ) (d : Data) (f : Flaw) → Among f (base_flaws rs s k d) → FlawHolds al (spot_under s k) d f
+
+module _ (al : Members) (rs : Option Members) (bases : BasesHold al rs) where
   -- a flaw of an item, or in it
   item_at : (s : Spot) (es : Items) (i : ℕ) (seen : Members) (e : Data) (f : Flaw) → get_item i es ≡ Some e → Seen es i seen
-      → Among f (map (within (index i)) (own_flaws al (spot_of_items s) false e ++ inner_flaws al (spot_of_items s) seen e))
-      → ((g : Flaw) → Among g (inner_flaws al (spot_of_items s) seen e) → FlawHolds al (spot_of_items s) e g ⊎ Taken (spot_of_items s) seen e g)
+      → Among f (map (within (index i)) (own_flaws al (spot_of_items s) false e ++ inner_flaws al rs (spot_of_items s) seen e))
+      → ((g : Flaw) → Among g (inner_flaws al rs (spot_of_items s) seen e) → FlawHolds al (spot_of_items s) e g ⊎ Taken (spot_of_items s) seen e g)
       → FlawHolds al s (array es) f
-  item_at s es i seen e f is before h deeper = go (among_within (index i) f (own_flaws al (spot_of_items s) false e ++ inner_flaws al (spot_of_items s) seen e) h)
+  item_at s es i seen e f is before h deeper = go (among_within (index i) f (own_flaws al (spot_of_items s) false e ++ inner_flaws al rs (spot_of_items s) seen e) h)
     where
       here_holds : (g : Flaw) → f ≡ within (index i) g → FlawHolds al (spot_of_items s) e g → FlawHolds al s (array es) f
       here_holds g e' holds = subst (FlawHolds al s (array es)) (sym e') (holds_in_list al s i e es g is holds)
@@ -140,19 +156,19 @@ module _ (al : Members) where
       inner g e' (inl holds) = here_holds g e' holds
       inner g e' (inr taken) = clash g e' taken
 
-      either : (g : Flaw) → f ≡ within (index i) g → Among g (own_flaws al (spot_of_items s) false e) ⊎ Among g (inner_flaws al (spot_of_items s) seen e) → FlawHolds al s (array es) f
+      either : (g : Flaw) → f ≡ within (index i) g → Among g (own_flaws al (spot_of_items s) false e) ⊎ Among g (inner_flaws al rs (spot_of_items s) seen e) → FlawHolds al s (array es) f
       either g e' (inl a) = own g e' (own_holds al (spot_of_items s) false e g a)
       either g e' (inr a) = inner g e' (deeper g a)
 
-      go : (g : Flaw) × (f ≡ within (index i) g) × Among g (own_flaws al (spot_of_items s) false e ++ inner_flaws al (spot_of_items s) seen e) → FlawHolds al s (array es) f
-      go (g, e', a) = either g e' (among_joined g (own_flaws al (spot_of_items s) false e) (inner_flaws al (spot_of_items s) seen e) a)
+      go : (g : Flaw) × (f ≡ within (index i) g) × Among g (own_flaws al (spot_of_items s) false e ++ inner_flaws al rs (spot_of_items s) seen e) → FlawHolds al s (array es) f
+      go (g, e', a) = either g e' (among_joined g (own_flaws al (spot_of_items s) false e) (inner_flaws al rs (spot_of_items s) seen e) a)
 
   -- a flaw of a property, or in it
   member_at : (s : Spot) (ms : Members) (seen : Members) (k : List ℕ) (d : Data) (f : Flaw) → HasMember k d ms
-      → Among f (map (within (key k)) (own_flaws al (spot_under s k) (is_entry s && has seen k) d ++ inner_flaws al (spot_under s k) no_members d))
-      → ((g : Flaw) → Among g (inner_flaws al (spot_under s k) no_members d) → FlawHolds al (spot_under s k) d g ⊎ Taken (spot_under s k) no_members d g)
+      → Among f (map (within (key k)) ((own_flaws al (spot_under s k) (is_entry s && has seen k) d ++ inner_flaws al rs (spot_under s k) no_members d) ++ base_flaws rs s k d))
+      → ((g : Flaw) → Among g (inner_flaws al rs (spot_under s k) no_members d) → FlawHolds al (spot_under s k) d g ⊎ Taken (spot_under s k) no_members d g)
       → FlawHolds al s (object ms) f ⊎ Taken s seen (object ms) f
-  member_at s ms seen k d f m h deeper = go (among_within (key k) f (own_flaws al (spot_under s k) (is_entry s && has seen k) d ++ inner_flaws al (spot_under s k) no_members d) h)
+  member_at s ms seen k d f m h deeper = go (among_within (key k) f ((own_flaws al (spot_under s k) (is_entry s && has seen k) d ++ inner_flaws al rs (spot_under s k) no_members d) ++ base_flaws rs s k d) h)
     where
       here_holds : (g : Flaw) → f ≡ within (key k) g → FlawHolds al (spot_under s k) d g → FlawHolds al s (object ms) f
       here_holds g e' holds = subst (FlawHolds al s (object ms)) (sym e') (holds_in_object al s k d ms g m holds)
@@ -165,18 +181,19 @@ module _ (al : Members) where
       inner g e' (inl holds) = inl (here_holds g e' holds)
       inner g e' (inr (n, d', ns, v, m', entry, b, flaw)) = absurd (none_seen n b)
 
-      either : (g : Flaw) → f ≡ within (key k) g → Among g (own_flaws al (spot_under s k) (is_entry s && has seen k) d) ⊎ Among g (inner_flaws al (spot_under s k) no_members d) → FlawHolds al s (object ms) f ⊎ Taken s seen (object ms) f
+      either : (g : Flaw) → f ≡ within (key k) g → Among g (own_flaws al (spot_under s k) (is_entry s && has seen k) d) ⊎ Among g (inner_flaws al rs (spot_under s k) no_members d) → FlawHolds al s (object ms) f ⊎ Taken s seen (object ms) f
       either g e' (inl a) = own g e' (own_holds al (spot_under s k) (is_entry s && has seen k) d g a)
       either g e' (inr a) = inner g e' (deeper g a)
 
-      go : (g : Flaw) × (f ≡ within (key k) g) × Among g (own_flaws al (spot_under s k) (is_entry s && has seen k) d ++ inner_flaws al (spot_under s k) no_members d) → FlawHolds al s (object ms) f ⊎ Taken s seen (object ms) f
-      go (g, e', a) = either g e' (among_joined g (own_flaws al (spot_under s k) (is_entry s && has seen k) d) (inner_flaws al (spot_under s k) no_members d) a)
+      with_base : (g : Flaw) → f ≡ within (key k) g → Among g (own_flaws al (spot_under s k) (is_entry s && has seen k) d ++ inner_flaws al rs (spot_under s k) no_members d) ⊎ Among g (base_flaws rs s k d) → FlawHolds al s (object ms) f ⊎ Taken s seen (object ms) f
+      with_base g e' (inl a) = either g e' (among_joined g (own_flaws al (spot_under s k) (is_entry s && has seen k) d) (inner_flaws al rs (spot_under s k) no_members d) a)
+      with_base g e' (inr a) = inl (here_holds g e' (bases s k d g a))
 
-  pub first_or_rest : {A : Type 0} (f : Flaw) (xs ys : List Flaw) → Among f (xs ++ ys) → (Among f xs → A) → (Among f ys → A) → A
-  first_or_rest f xs ys h g k = elim (among_joined f xs ys h) [ inl a ↦ g a | inr a ↦ k a ]
+      go : (g : Flaw) × (f ≡ within (key k) g) × Among g ((own_flaws al (spot_under s k) (is_entry s && has seen k) d ++ inner_flaws al rs (spot_under s k) no_members d) ++ base_flaws rs s k d) → FlawHolds al s (object ms) f ⊎ Taken s seen (object ms) f
+      go (g, e', a) = with_base g e' (among_joined g (own_flaws al (spot_under s k) (is_entry s && has seen k) d ++ inner_flaws al rs (spot_under s k) no_members d) (base_flaws rs s k d) a)
 
   mutual
-    inner_holds : (v : Data) (s : Spot) (seen : Members) (f : Flaw) → Among f (inner_flaws al s seen v) → FlawHolds al s v f ⊎ Taken s seen v f
+    inner_holds : (v : Data) (s : Spot) (seen : Members) (f : Flaw) → Among f (inner_flaws al rs s seen v) → FlawHolds al s v f ⊎ Taken s seen v f
     inner_holds null s seen f h = absurd h
     inner_holds (boolean b) s seen f h = absurd h
     inner_holds (number n) s seen f h = absurd h
@@ -184,33 +201,29 @@ module _ (al : Members) where
     inner_holds (array es) s seen f h = inl (items_hold es s es 0 no_members f (λ j d g. let same : j ≡ 0 + j = omega arith in subst (λ x. get_item x es ≡ Some d) same g) (λ n b. absurd (none_seen n b)) h)
     inner_holds (object ms) s seen f h = members_hold ms s ms seen f (λ k d m. m) h
 
-    items_hold : (rest : Items) (s : Spot) (es : Items) (i : ℕ) (seen : Members) (f : Flaw) → Aligned es i rest → Seen es i seen → Among f (item_flaws al s i seen rest) → FlawHolds al s (array es) f
+    items_hold : (rest : Items) (s : Spot) (es : Items) (i : ℕ) (seen : Members) (f : Flaw) → Aligned es i rest → Seen es i seen → Among f (item_flaws al rs s i seen rest) → FlawHolds al s (array es) f
     items_hold no_items s es i seen f al' before h = absurd h
     items_hold (item e rest) s es i seen f al' before h =
-        first_or_rest f (map (within (index i)) (own_flaws al (spot_of_items s) false e ++ inner_flaws al (spot_of_items s) seen e)) (item_flaws al s (suc i) (mark e seen) rest) h
+        first_or_rest f (map (within (index i)) (own_flaws al (spot_of_items s) false e ++ inner_flaws al rs (spot_of_items s) seen e)) (item_flaws al rs s (suc i) (mark e seen) rest) h
         (λ a. item_at s es i seen e f (aligned_here es i e rest al') before a (λ g b. inner_holds e (spot_of_items s) seen g b))
         (λ a. items_hold rest s es (suc i) (mark e seen) f (aligned_next es i e rest al') (seen_next_at es i e seen (aligned_here es i e rest al') before) a)
 
-    members_hold : (rest : Members) (s : Spot) (ms : Members) (seen : Members) (f : Flaw) → ((k : List ℕ) (d : Data) → HasMember k d rest → HasMember k d ms) → Among f (member_flaws al s seen rest) → FlawHolds al s (object ms) f ⊎ Taken s seen (object ms) f
+    members_hold : (rest : Members) (s : Spot) (ms : Members) (seen : Members) (f : Flaw) → ((k : List ℕ) (d : Data) → HasMember k d rest → HasMember k d ms) → Among f (member_flaws al rs s seen rest) → FlawHolds al s (object ms) f ⊎ Taken s seen (object ms) f
     members_hold no_members s ms seen f within_all h = absurd h
     members_hold (member k d rest) s ms seen f within_all h =
-        first_or_rest f (map (within (key k)) (own_flaws al (spot_under s k) (is_entry s && has seen k) d ++ inner_flaws al (spot_under s k) no_members d)) (member_flaws al s seen rest) h
+        first_or_rest f (map (within (key k)) ((own_flaws al (spot_under s k) (is_entry s && has seen k) d ++ inner_flaws al rs (spot_under s k) no_members d) ++ base_flaws rs s k d)) (member_flaws al rs s seen rest) h
         (λ a. member_at s ms seen k d f (within_all k d (inl (refl, refl))) a (λ g b. inner_holds d (spot_under s k) no_members g b))
         (λ a. members_hold rest s ms seen f (λ q e m. within_all q e (inr m)) a)
 
   -- each flaw of a value, with no entry before it, holds
-  pub flaw_holds : (s : Spot) (v : Data) (f : Flaw) → Among f (own_flaws al s false v ++ inner_flaws al s no_members v) → FlawHolds al s v f
-  flaw_holds s v f h = first_or_rest f (own_flaws al s false v) (inner_flaws al s no_members v) h own inner
+  pub flaw_holds : (s : Spot) (v : Data) (f : Flaw) → Among f (own_flaws al s false v ++ inner_flaws al rs s no_members v) → FlawHolds al s v f
+  flaw_holds s v f h = first_or_rest f (own_flaws al s false v) (inner_flaws al rs s no_members v) h own inner
     where
       own : Among f (own_flaws al s false v) → FlawHolds al s v f
       own a = elim (own_holds al s false v f a) [ inl holds ↦ holds | inr bad ↦ absurd (true≢false (sym bad.1)) ]
 
-      inner : Among f (inner_flaws al s no_members v) → FlawHolds al s v f
+      inner : Among f (inner_flaws al rs s no_members v) → FlawHolds al s v f
       inner a = elim (inner_holds v s no_members f a) [ inl holds ↦ holds | inr taken ↦ absurd (none_seen taken.0 taken.6) ]
-
-  -- a flaw that a value has by itself holds
-  pub flaw_of_itself_holds : (s : Spot) (v : Data) (f : Flaw) → Among f (own_flaws al s false v) → FlawHolds al s v f
-  flaw_of_itself_holds s v f h = elim (own_holds al s false v f h) [ inl holds ↦ holds | inr bad ↦ absurd (true≢false (sym bad.1)) ]
 
   among_mapped : (p : Place) (f g : Flaw) (xs : List Flaw) → f ≡ within p g → Among g xs → Among f (map (within p) xs)
   among_mapped p f g (x ∷ xs) e (inl is) = inl (e ∙ ap (within p) is)
@@ -219,8 +232,8 @@ module _ (al : Members) where
 
   -- a flaw of an entry, with the names of the entries before it, holds, and so does what else is wrong in it
   pub entry_holds : (s : Spot) (es : Items) (i : ℕ) (seen : Members) (e : Data) (f : Flaw) (more : List Flaw) → get_item i es ≡ Some e → Seen es i seen
-      → (g : Flaw) × (f ≡ within (index i) g) × Among g ((own_flaws al (spot_of_items s) false e ++ inner_flaws al (spot_of_items s) seen e) ++ more)
+      → (g : Flaw) × (f ≡ within (index i) g) × Among g ((own_flaws al (spot_of_items s) false e ++ inner_flaws al rs (spot_of_items s) seen e) ++ more)
       → ((g : Flaw) → Among g more → FlawHolds al (spot_of_items s) e g) → FlawHolds al s (array es) f
-  entry_holds s es i seen e f more is before (g, same_f, a) deeper = first_or_rest g (own_flaws al (spot_of_items s) false e ++ inner_flaws al (spot_of_items s) seen e) more a
-      (λ b. item_at s es i seen e f is before (among_mapped (index i) f g (own_flaws al (spot_of_items s) false e ++ inner_flaws al (spot_of_items s) seen e) same_f b) (λ x c. inner_holds e (spot_of_items s) seen x c))
+  entry_holds s es i seen e f more is before (g, same_f, a) deeper = first_or_rest g (own_flaws al (spot_of_items s) false e ++ inner_flaws al rs (spot_of_items s) seen e) more a
+      (λ b. item_at s es i seen e f is before (among_mapped (index i) f g (own_flaws al (spot_of_items s) false e ++ inner_flaws al rs (spot_of_items s) seen e) same_f b) (λ x c. inner_holds e (spot_of_items s) seen x c))
       (λ b. subst (FlawHolds al s (array es)) (sym same_f) (holds_in_list al s i e es g is (deeper g b)))

@@ -10,13 +10,13 @@ pub mod FlawLemmas
 pub mod FunctionLemmas
 pub mod ReadyLemmas
 pub mod NamedLemmas
-pub mod SettledLemmas
+pub mod KeptLemmas
+pub mod FaultLemmas
 pub mod LimitLemmas
 pub mod RoundLemmas
 pub mod PlaceLemmas
 pub mod WholeNumbers
 pub mod ResolveLemmas
-pub mod FaultLemmas
 pub mod CircleLemmas
 pub mod WalkLemmas
 pub mod RefusalLemmas

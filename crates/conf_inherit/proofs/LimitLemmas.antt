@@ -1,26 +1,34 @@
--- A type is settled exactly where it, and each that it inherits from, is within the limits by itself.
-use Rattle.std.proofs.Common.{◌≡◌, ◌⊎◌, inl, inr, ◌↔◌, ℕ, List, Option, Some, None, Result, Ok, Err, nat_lt, Bool, true, false, true≢false, refl, sym, ap, ◌∙◌, subst, arith, if◌then◌else◌}
+-- What the limits of a type are judged by: nothing is refused exactly where all that is judged fits, and what is
+-- refused is past the limit.
+use Rattle.std.proofs.Common.{◌≡◌, ◌&&◌, ◌+◌, ◌++◌, ◌⊎◌, inl, inr, ◌↔◌, ℕ, suc, List, [], ◌∷◌, map, Some, None, Result, Ok, Err, is_some, nat_lt, Bool, true, false, true≢false, refl, sym, ap, ◌∙◌, subst, arith}
 use Rattle.std.proofs.lemmas.Bool.{ltb-false}
 use borrow.Author.Tests.{ltb-true}
 use Rattle.serde_json.specs.Data.{Data, null, boolean, number, string, array, object, Items, no_items, item, Members, no_members, member}
+use Rattle.serde_json.specs.Find.{get_item, get_member}
+use Rattle.conf_tree.specs.Flaw.{Flaw, key, index, here, within}
+use Rattle.conf_tree.specs.Walk.{HasMember, refusal}
 use Rattle.conf_tree.specs.declared.fault_kind.FaultKind.{FaultKind}
-use Rattle.conf_tree.specs.declared.fault_kind.FaultKind.TheVariants.{TooDeep, Limit}
+use Rattle.conf_tree.specs.declared.fault_kind.FaultKind.TheVariants.{TooDeep, Limit, WrongKind, NoSuchAlias, NameClash}
 use Rattle.conf_inherit.specs.declared.spot.Spot.{Spot}
 use Rattle.conf_inherit.specs.declared.spot.Spot.TheVariants.{FieldType}
+use Rattle.conf_inherit.specs.Faults.{Leads}
+use Rattle.conf_inherit.specs.Flaws.{is_wrong, is_unknown, own_flaws, base_flaws, inner_flaws, item_flaws, member_flaws, flaws, type_flaws, mark}
 use Rattle.conf_inherit.specs.Laying.{lay}
-use Rattle.conf_inherit.specs.Limits.{Fits, Exceeds, Inherits, InheritsInItems, InheritsInMembers}
+use Rattle.conf_inherit.specs.Limits.{max_values, max_levels, Fits, Exceeds, fitting, passed, limit_flaws, Inherits, InheritsInItems, InheritsInMembers}
+use Rattle.conf_inherit.specs.Named.{all_named, has}
 use Rattle.conf_inherit.specs.Nesting.{nests}
-use Rattle.conf_inherit.specs.Settled.{max_values, max_levels, fitting, passed, first_of, unless, inherited, inherited_in_items, inherited_in_members, settled}
 use Rattle.conf_inherit.specs.Size.{size}
-use Rattle.conf_inherit.specs.Spot.{spot_under, spot_of_items, is_base_name}
-use Rattle.conf_inherit.proofs.SpotLemmas.{base_spot}
+use Rattle.conf_inherit.specs.Spot.{spot_under, spot_of_items, names_alias, is_base_name, is_entry}
+use Rattle.conf_inherit.proofs.FaultLemmas.{Among, refused_among, among_within, first_or_rest, Aligned, aligned_here, aligned_next}
+use Rattle.conf_inherit.proofs.ReadyLemmas.{part_empty, rest_empty, front_empty, back_empty}
+use Rattle.conf_inherit.proofs.SpotLemmas.{alias_spot, base_spot}
 
 -- a resolved type fits, or passes a limit
-data Judged (r : Data) : Result Data FaultKind → Type 0 where
+pub data Judged (r : Data) : Result Data FaultKind → Type 0 where
   fits : Fits r → Judged r (Ok r)
   exceeds : (kind : FaultKind) → Exceeds kind r → Judged r (Err kind)
 
-judged : (r : Data) → Judged r (fitting r)
+pub judged : (r : Data) → Judged r (fitting r)
 judged r = go (nat_lt max_values (size r)) refl (nests r max_levels) refl
   where
     go : (a : Bool) → nat_lt max_values (size r) ≡ a → (b : Bool) → nests r max_levels ≡ b → Judged r (fitting r)
@@ -34,102 +42,258 @@ apart_fits Limit r (few, flat) past = omega arith
 apart_fits TooDeep r (few, flat) deep = true≢false (sym flat ∙ deep)
 apart_fits _ r f h = h
 
+-- what fits is the value itself
+pub fitting_value : (r t : Data) → fitting r ≡ Ok t → r ≡ t
+fitting_value r t h = go (nat_lt max_values (size r)) refl (nests r max_levels) refl
+  where
+    same_value : (let o : Result Data FaultKind = Ok r in o ≡ Ok t) → r ≡ t
+    same_value e = cc
+
+    no_limit : (kind : FaultKind) → (let o : Result Data FaultKind = Err kind in o ≡ Ok t) → r ≡ t
+    no_limit kind e = cc
+
+    go : (a : Bool) → nat_lt max_values (size r) ≡ a → (b : Bool) → nests r max_levels ≡ b → r ≡ t
+    go true is b e = no_limit Limit (rw is at h)
+    go false is true e = same_value (rw (is, e) at h)
+    go false is false e = no_limit TooDeep (rw (is, e) at h)
+
+-- a limit that is listed is passed
+past_at : (r : Data) (o : Result Data FaultKind) (f : Flaw) → Judged r o → Among f (passed o) → (f ≡ here f.kind) × Exceeds f.kind r
+past_at r o f (fits h) a = absurd a
+past_at r o f (exceeds kind past) (inr a) = absurd a
+past_at r o f (exceeds kind past) (inl e) = (e ∙ ap (λ x. here x) (ap (λ x. x.kind) (sym e)), subst (λ x. Exceeds x r) (ap (λ x. x.kind) (sym e)) past)
+
+-- nothing is listed where the type fits, and only there
+fits_at : (r : Data) (o : Result Data FaultKind) → Judged r o → (passed o ≡ [] → Fits r) × (Fits r → passed o ≡ [])
+fits_at r o (fits h) = ((λ e. h), (λ f. refl))
+fits_at r o (exceeds kind past) = ((λ e. cc), (λ f. absurd (apart_fits kind r f past)))
+
+-- the limit that the alias of a name passes
+pub name_limit : (done : Members) (s : Spot) (v : Data) (n m : List ℕ) → v ≡ string n → m ≡ n → names_alias s ≡ true → all_named (has done) s v ≡ true → passed (fitting (lay done FieldType (string m) None)) ≡ limit_flaws done s v
+name_limit done s v n m is same names named =
+    let at : limit_flaws done s v ≡ passed (fitting (lay done s v None)) = rw named refl in
+    ap (λ x. passed (fitting (lay done FieldType (string x) None))) same
+    ∙ ap (λ t. passed (fitting (lay done t (string n) None))) (sym (alias_spot s names))
+    ∙ ap (λ x. passed (fitting (lay done s x None))) (sym is)
+    ∙ sym at
+
+-- two lists are empty alike, where P holds
+abbrev Alike : List Flaw → List Flaw → Type 0 → Type 0
+Alike xs ys P = (xs ≡ [] → (ys ≡ []) × P) × ((ys ≡ []) × P → xs ≡ [])
+
+both_empty : {A : Type 0} (xs ys : List A) → xs ≡ [] → ys ≡ [] → xs ++ ys ≡ []
+both_empty [] ys e h = h
+both_empty (x ∷ xs) ys e h = cc
+
+map_empty : {A B : Type 0} (f : A → B) (xs : List A) → xs ≡ [] → map f xs ≡ []
+map_empty f [] e = refl
+map_empty f (x ∷ xs) e = cc
+
+alike_joined : (xs ys zs ws : List Flaw) (P Q : Type 0) → Alike xs ys P → Alike zs ws Q → Alike (xs ++ zs) (ys ++ ws) (P × Q)
+alike_joined xs ys zs ws P Q a b = (
+  λ e. let l = a.0 (front_empty xs zs e) in let r = b.0 (back_empty xs zs e) in (both_empty ys ws l.0 r.0, (l.1, r.1)),
+  λ h. both_empty xs zs (a.1 (front_empty ys ws h.0, h.1.0)) (b.1 (back_empty ys ws h.0, h.1.1)),
+)
+
+alike_part : (f : Flaw → Flaw) (xs ys zs ws : List Flaw) (P Q : Type 0) → Alike xs ys P → Alike zs ws Q → Alike (map f xs ++ zs) (map f ys ++ ws) (P × Q)
+alike_part f xs ys zs ws P Q a b = (
+  λ e. let l = a.0 (part_empty f xs zs e) in let r = b.0 (rest_empty f xs zs e) in (both_empty (map f ys) ws (map_empty f ys l.0) r.0, (l.1, r.1)),
+  λ h. both_empty (map f xs) zs (map_empty f xs (a.1 (part_empty f ys ws h.0, h.1.0))) (b.1 (rest_empty f ys ws h.0, h.1.1)),
+)
+
+alike_along : (xs ys : List Flaw) (P Q : Type 0) → (P → Q) → (Q → P) → Alike xs ys P → Alike xs ys Q
+alike_along xs ys P Q there back a = ((λ e. let h = a.0 e in (h.0, there h.1)), (λ h. a.1 (h.0, back h.1)))
+
+alike_same : (xs : List Flaw) → Alike xs xs (Unit {0})
+alike_same xs = ((λ e. (e, tt)), (λ h. h.0))
+
 module _ (done : Members) where
-  -- what is inherited from, by itself
-  abbrev base : Data → Data
-  base d = lay done FieldType d None
+  -- a field type, by itself, fits, if it resolves
+  abbrev FitsAlone : Spot → Data → Type 0
+  FitsAlone s d = all_named (has done) s d ≡ true → Fits (lay done s d None)
 
-  -- all that is inherited from fits, or the first limit that is passed is that of one of them
-  data Told (In : Data → Type 0) : Option FaultKind → Type 0 where
-    all_fit : ((d : Data) → In d → Fits (base d)) → Told In None
-    one_passes : (kind : FaultKind) (d : Data) → In d → Exceeds kind (base d) → Told In (Some kind)
+  -- all of these do
+  abbrev EachFits : (Data → Type 0) → Type 0
+  EachFits In = (d : Data) → In d → FitsAlone FieldType d
 
-  told_along : (In On : Data → Type 0) (o : Option FaultKind) → ((d : Data) → In d → On d) → ((d : Data) → On d → In d) → Told In o → Told On o
-  told_along In On o there back (all_fit each) = all_fit (λ d h. each d (back d h))
-  told_along In On o there back (one_passes kind d h past) = one_passes kind d (there d h) past
-
-  told_both : (In On : Data → Type 0) (o p : Option FaultKind) → Told In o → Told On p → Told (λ d. In d ⊎ On d) (first_of o p)
-  told_both In On o p (one_passes kind d h past) later = one_passes kind d (inl h) past
-  told_both In On o p (all_fit each) (one_passes kind d h past) = one_passes kind d (inr h) past
-  told_both In On o p (all_fit each) (all_fit more) = all_fit (λ d h. elim h [ inl a ↦ each d a | inr b ↦ more d b ])
-
-  -- a type that is inherited from, and all that it inherits from
-  told_base : (e : Data) (In : Data → Type 0) (o : Option FaultKind) → Told In o → Told (λ d. (d ≡ e) ⊎ In d) (passed (unless o (fitting (base e))))
-  told_base e In o (one_passes kind d h past) = one_passes kind d (inr h) past
-  told_base e In o (all_fit each) = go (fitting (base e)) (judged (base e))
+  alike_limit : (s : Spot) (v : Data) → Alike (limit_flaws done s v) [] (FitsAlone s v)
+  alike_limit s v = go (all_named (has done) s v) refl (fits_at (lay done s v None) (fitting (lay done s v None)) (judged (lay done s v None)))
     where
-      go : (x : Result Data FaultKind) → Judged (base e) x → Told (λ d. (d ≡ e) ⊎ In d) (passed x)
-      go x (fits f) = all_fit (λ d h. elim h [ inl same ↦ subst (λ y. Fits (base y)) (sym same) f | inr b ↦ each d b ])
-      go x (exceeds kind past) = one_passes kind e (inl refl) past
+      go : (t : Bool) → all_named (has done) s v ≡ t → (passed (fitting (lay done s v None)) ≡ [] → Fits (lay done s v None)) × (Fits (lay done s v None) → passed (fitting (lay done s v None)) ≡ []) → Alike (limit_flaws done s v) [] (FitsAlone s v)
+      go true is f = let at : limit_flaws done s v ≡ passed (fitting (lay done s v None)) = rw is refl in ((λ e. (refl, λ x. f.0 (sym at ∙ e))), (λ h. at ∙ f.1 (h.1 is)))
+      go false is f = let at : limit_flaws done s v ≡ [] = rw is refl in ((λ e. (refl, λ x. absurd (true≢false (sym x ∙ is)))), (λ h. at))
 
-  -- d is what the value of a name is inherited from as, or is in it
-  abbrev IsBase : Spot → List ℕ → Data → Data → Type 0
-  IsBase s k e d = ((is_base_name s k ≡ true) × (d ≡ e)) ⊎ Inherits d (spot_under s k) e
+  abbrev BaseFits : Spot → List ℕ → Data → Type 0
+  BaseFits s k d = is_base_name s k ≡ true → FitsAlone FieldType d
 
-  -- the limit that the value of a name passes
-  abbrev member_limit : Spot → List ℕ → Data → Option FaultKind
-  member_limit s k e = if is_base_name s k then passed (unless (inherited done FieldType e) (fitting (base e))) else inherited done (spot_under s k) e
-
-  told_member : (s : Spot) (k : List ℕ) (e : Data) → Told (λ d. Inherits d FieldType e) (inherited done FieldType e) → Told (λ d. Inherits d (spot_under s k) e) (inherited done (spot_under s k) e)
-      → Told (IsBase s k e) (member_limit s k e)
-  told_member s k e as_type under = go (is_base_name s k) refl
+  alike_base : (s : Spot) (k : List ℕ) (d : Data) → Alike (base_flaws (Some done) s k d) (base_flaws None s k d) (BaseFits s k d)
+  alike_base s k d = go (is_base_name s k) refl
     where
-      there : is_base_name s k ≡ true → (d : Data) → (d ≡ e) ⊎ Inherits d FieldType e → IsBase s k e d
-      there is d (inl same) = inl (is, same)
-      there is d (inr h) = inr (subst (λ t. Inherits d t e) (sym (base_spot s k is)) h)
-
-      back : is_base_name s k ≡ true → (d : Data) → IsBase s k e d → (d ≡ e) ⊎ Inherits d FieldType e
-      back is d (inl h) = inl h.1
-      back is d (inr h) = inr (subst (λ t. Inherits d t e) (base_spot s k is) h)
-
-      only : is_base_name s k ≡ false → (d : Data) → IsBase s k e d → Inherits d (spot_under s k) e
-      only is d (inl h) = absurd (true≢false (sym h.0 ∙ is))
-      only is d (inr h) = h
-
-      go : (t : Bool) → is_base_name s k ≡ t → Told (IsBase s k e) (member_limit s k e)
+      go : (t : Bool) → is_base_name s k ≡ t → Alike (base_flaws (Some done) s k d) (base_flaws None s k d) (BaseFits s k d)
       go true is =
-          let at : member_limit s k e ≡ passed (unless (inherited done FieldType e) (fitting (base e))) = rw is refl in
-          subst (Told (IsBase s k e)) (sym at) (told_along (λ d. (d ≡ e) ⊎ Inherits d FieldType e) (IsBase s k e) (passed (unless (inherited done FieldType e) (fitting (base e)))) (there is) (back is)
-          (told_base e (λ d. Inherits d FieldType e) (inherited done FieldType e) as_type))
-      go false is =
-          let at : member_limit s k e ≡ inherited done (spot_under s k) e = rw is refl in
-          subst (Told (IsBase s k e)) (sym at) (told_along (λ d. Inherits d (spot_under s k) e) (IsBase s k e) (inherited done (spot_under s k) e) (λ d h. inr h) (only is) under)
+          let at : base_flaws (Some done) s k d ≡ limit_flaws done FieldType d = rw is refl in
+          let a = alike_limit FieldType d in
+          ((λ e. (refl, λ x. (a.0 (sym at ∙ e)).1)), (λ h. at ∙ a.1 (refl, h.1 is)))
+      go false is = let at : base_flaws (Some done) s k d ≡ [] = rw is refl in ((λ e. (refl, λ x. absurd (true≢false (sym x ∙ is)))), (λ h. at))
 
-  mutual
-    told : (v : Data) (s : Spot) → Told (λ d. Inherits d s v) (inherited done s v)
-    told null s = all_fit (λ d h. absurd h)
-    told (boolean b) s = all_fit (λ d h. absurd h)
-    told (number n) s = all_fit (λ d h. absurd h)
-    told (string n) s = all_fit (λ d h. absurd h)
-    told (array es) s = told_items es (spot_of_items s)
-    told (object ms) s = told_members ms s
+  -- d is what the value of a name is inherited from as, or is in it, or in what is left
+  member_there : (s : Spot) (k : List ℕ) (e : Data) (ms : Members) → ((Unit {0} × EachFits (λ d. Inherits d (spot_under s k) e)) × BaseFits s k e) × EachFits (λ d. InheritsInMembers d s ms) → EachFits (λ d. InheritsInMembers d s (member k e ms))
+  member_there s k e ms h d (inl (inl (is, same))) named = subst (λ x. Fits (lay done FieldType x None)) (sym same) (h.0.1 is (subst (λ x. all_named (has done) FieldType x ≡ true) same named))
+  member_there s k e ms h d (inl (inr a)) named = h.0.0.1 d a named
+  member_there s k e ms h d (inr a) named = h.1 d a named
 
-    told_items : (es : Items) (s : Spot) → Told (λ d. InheritsInItems d s es) (inherited_in_items done s es)
-    told_items no_items s = all_fit (λ d h. absurd h)
-    told_items (item e es) s = told_both (λ d. Inherits d s e) (λ d. InheritsInItems d s es) (inherited done s e) (inherited_in_items done s es) (told e s) (told_items es s)
+  member_back : (s : Spot) (k : List ℕ) (e : Data) (ms : Members) → EachFits (λ d. InheritsInMembers d s (member k e ms)) → ((Unit {0} × EachFits (λ d. Inherits d (spot_under s k) e)) × BaseFits s k e) × EachFits (λ d. InheritsInMembers d s ms)
+  member_back s k e ms h = (((tt, (λ d a. h d (inl (inr a)))), (λ is. h e (inl (inl (is, refl))))), (λ d a. h d (inr a)))
 
-    told_members : (ms : Members) (s : Spot) → Told (λ d. InheritsInMembers d s ms) (inherited_in_members done s ms)
-    told_members no_members s = all_fit (λ d h. absurd h)
-    told_members (member k e ms) s =
-        told_both (IsBase s k e) (λ d. InheritsInMembers d s ms) (member_limit s k e) (inherited_in_members done s ms)
-        (told_member s k e (told e FieldType) (told e (spot_under s k))) (told_members ms s)
+  module _ (al : Members) where
+    mutual
+      alike_inner : (v : Data) (s : Spot) (seen : Members) → Alike (inner_flaws al (Some done) s seen v) (inner_flaws al None s seen v) (EachFits (λ d. Inherits d s v))
+      alike_inner null s seen = ((λ e. (refl, λ d h. absurd h)), (λ h. refl))
+      alike_inner (boolean b) s seen = ((λ e. (refl, λ d h. absurd h)), (λ h. refl))
+      alike_inner (number n) s seen = ((λ e. (refl, λ d h. absurd h)), (λ h. refl))
+      alike_inner (string n) s seen = ((λ e. (refl, λ d h. absurd h)), (λ h. refl))
+      alike_inner (array es) s seen = alike_items es s 0 no_members
+      alike_inner (object ms) s seen = alike_members ms s seen
 
-  -- a type is settled as what it is resolved to, exactly where that and all that it inherits from fits
-  pub settled_fits : (s : Spot) (v r : Data) → settled done s v ≡ Ok r ↔ ((r ≡ lay done s v None) × Fits r × ((d : Data) → Inherits d s v → Fits (base d)))
-  settled_fits s v r = go (inherited done s v) (told v s) (fitting (lay done s v None)) (judged (lay done s v None))
-    where
-      go : (o : Option FaultKind) → Told (λ d. Inherits d s v) o → (x : Result Data FaultKind) → Judged (lay done s v None) x
-          → unless o x ≡ Ok r ↔ ((r ≡ lay done s v None) × Fits r × ((d : Data) → Inherits d s v → Fits (base d)))
-      go o (one_passes kind d h past) x j = ((λ e. cc), (λ p. absurd (apart_fits kind (base d) (p.2 d h) past)))
-      go o (all_fit each) x (fits f) = ((λ e. let same : r ≡ lay done s v None = cc in (same, subst Fits (sym same) f, each)), (λ p. ap (λ y. Ok y) (sym p.0)))
-      go o (all_fit each) x (exceeds kind past) = ((λ e. cc), (λ p. absurd (apart_fits kind (lay done s v None) (subst Fits p.0 p.1) past)))
+      alike_items : (es : Items) (s : Spot) (i : ℕ) (seen : Members) → Alike (item_flaws al (Some done) s i seen es) (item_flaws al None s i seen es) (EachFits (λ d. InheritsInItems d (spot_of_items s) es))
+      alike_items no_items s i seen = ((λ e. (refl, λ d h. absurd h)), (λ h. refl))
+      alike_items (item e es) s i seen =
+          let t = spot_of_items s in
+          let own = own_flaws al t false e in
+          let In : Data → Type 0 = λ d. Inherits d t e in
+          let On : Data → Type 0 = λ d. InheritsInItems d t es in
+          alike_along (item_flaws al (Some done) s i seen (item e es)) (item_flaws al None s i seen (item e es)) ((Unit {0} × EachFits In) × EachFits On) (EachFits (λ d. InheritsInItems d t (item e es)))
+          (λ h d a named. elim a [ inl b ↦ h.0.1 d b named | inr c ↦ h.1 d c named ]) (λ h. ((tt, (λ d a. h d (inl a))), (λ d a. h d (inr a))))
+          (alike_part (within (index i)) (own ++ inner_flaws al (Some done) t seen e) (own ++ inner_flaws al None t seen e) (item_flaws al (Some done) s (suc i) (mark e seen) es) (item_flaws al None s (suc i) (mark e seen) es)
+          (Unit {0} × EachFits In) (EachFits On)
+          (alike_joined own own (inner_flaws al (Some done) t seen e) (inner_flaws al None t seen e) (Unit {0}) (EachFits In) (alike_same own) (alike_inner e t seen))
+          (alike_items es s (suc i) (mark e seen)))
 
-  -- a limit that is named is passed, by the type or by what it inherits from
-  pub settled_exceeds : (s : Spot) (v : Data) (kind : FaultKind) → settled done s v ≡ Err kind → Exceeds kind (lay done s v None) ⊎ ((d : Data) × Inherits d s v × Exceeds kind (base d))
-  settled_exceeds s v kind = go (inherited done s v) (told v s) (fitting (lay done s v None)) (judged (lay done s v None))
-    where
-      go : (o : Option FaultKind) → Told (λ d. Inherits d s v) o → (x : Result Data FaultKind) → Judged (lay done s v None) x
-          → unless o x ≡ Err kind → Exceeds kind (lay done s v None) ⊎ ((d : Data) × Inherits d s v × Exceeds kind (base d))
-      go o (one_passes k d h past) x j e = let same : k ≡ kind = cc in inr (d, h, subst (λ y. Exceeds y (base d)) same past)
-      go o (all_fit each) x (fits f) e = cc
-      go o (all_fit each) x (exceeds k past) e = let same : k ≡ kind = cc in inl (subst (λ y. Exceeds y (lay done s v None)) same past)
+      alike_members : (ms : Members) (s : Spot) (seen : Members) → Alike (member_flaws al (Some done) s seen ms) (member_flaws al None s seen ms) (EachFits (λ d. InheritsInMembers d s ms))
+      alike_members no_members s seen = ((λ e. (refl, λ d h. absurd h)), (λ h. refl))
+      alike_members (member k e ms) s seen =
+          let t = spot_under s k in
+          let own = own_flaws al t (is_entry s && is_some (get_member k seen)) e in
+          let In : Data → Type 0 = λ d. Inherits d t e in
+          let On : Data → Type 0 = λ d. InheritsInMembers d s ms in
+          alike_along (member_flaws al (Some done) s seen (member k e ms)) (member_flaws al None s seen (member k e ms)) (((Unit {0} × EachFits In) × BaseFits s k e) × EachFits On) (EachFits (λ d. InheritsInMembers d s (member k e ms)))
+          (member_there s k e ms) (member_back s k e ms)
+          (alike_part (within (key k)) ((own ++ inner_flaws al (Some done) t no_members e) ++ base_flaws (Some done) s k e) ((own ++ inner_flaws al None t no_members e) ++ base_flaws None s k e)
+          (member_flaws al (Some done) s seen ms) (member_flaws al None s seen ms) ((Unit {0} × EachFits In) × BaseFits s k e) (EachFits On)
+          (alike_joined (own ++ inner_flaws al (Some done) t no_members e) (own ++ inner_flaws al None t no_members e) (base_flaws (Some done) s k e) (base_flaws None s k e) (Unit {0} × EachFits In) (BaseFits s k e)
+          (alike_joined own own (inner_flaws al (Some done) t no_members e) (inner_flaws al None t no_members e) (Unit {0}) (EachFits In) (alike_same own) (alike_inner e t no_members))
+          (alike_base s k e))
+          (alike_members ms s seen))
+
+    -- nothing is refused exactly where there is no other flaw, and the type and all that it inherits from fit
+    pub sound_type : (s : Spot) (v : Data) → type_flaws al done s v ≡ [] ↔ ((flaws al None s false no_members v ≡ []) × FitsAlone s v × EachFits (λ d. Inherits d s v))
+    sound_type s v =
+        let own = own_flaws al s false v in
+        let inner = alike_joined own own (inner_flaws al (Some done) s no_members v) (inner_flaws al None s no_members v) (Unit {0}) (EachFits (λ d. Inherits d s v)) (alike_same own) (alike_inner v s no_members) in
+        let all = flaws al (Some done) s false no_members v in
+        let limit = alike_limit s v in (
+          λ e. let a = inner.0 (front_empty all (limit_flaws done s v) e) in let b = limit.0 (back_empty all (limit_flaws done s v) e) in (a.0, b.1, a.1.1),
+          λ h. both_empty all (limit_flaws done s v) (inner.1 (h.0, (tt, h.2))) (limit.1 (refl, h.1)),
+        )
+
+    -- ---- a limit that is refused
+
+    abbrev IsLimit : FaultKind → Type 0
+    IsLimit kind = (kind ≡ Limit) ⊎ (kind ≡ TooDeep)
+
+    -- the type that the path leads to is past the limit
+    abbrev LimitAt : Spot → Data → Flaw → Type 0
+    LimitAt s v f = (d : Data) × Leads s v f.path FieldType d × (all_named (has done) FieldType d ≡ true) × Exceeds f.kind (lay done FieldType d None)
+
+    limit_at : (v : Data) (f : Flaw) → Among f (limit_flaws done FieldType v) → LimitAt FieldType v f
+    limit_at v f h = go (all_named (has done) FieldType v) refl
+      where
+        go : (t : Bool) → all_named (has done) FieldType v ≡ t → LimitAt FieldType v f
+        go false is = absurd (rw is at h)
+        go true is =
+            let past = past_at (lay done FieldType v None) (fitting (lay done FieldType v None)) f (judged (lay done FieldType v None)) (rw is at h) in
+            (v, subst (λ p. Leads FieldType v p FieldType v) (sym (ap (λ x. x.path) past.0)) (refl, refl), is, past.1)
+
+    not_limit : (kind : FaultKind) (f : Flaw) → (IsLimit kind → ⊥) → Among f (here kind ∷ []) → IsLimit f.kind → ⊥
+    not_limit kind f other (inl e) is = other (subst IsLimit (ap (λ x. x.kind) e) is)
+    not_limit kind f other (inr x) is = x
+
+    own_limit : (s : Spot) (taken : Bool) (v : Data) (f : Flaw) → Among f (own_flaws al s taken v) → IsLimit f.kind → ⊥
+    own_limit s taken v f h is = go (is_wrong s v) refl (is_unknown al s v) refl taken refl
+      where
+        wrong : IsLimit WrongKind → ⊥
+        wrong (inl e) = cc
+        wrong (inr e) = cc
+
+        unknown : IsLimit NoSuchAlias → ⊥
+        unknown (inl e) = cc
+        unknown (inr e) = cc
+
+        clash : IsLimit NameClash → ⊥
+        clash (inl e) = cc
+        clash (inr e) = cc
+
+        go : (a : Bool) → is_wrong s v ≡ a → (b : Bool) → is_unknown al s v ≡ b → (c : Bool) → taken ≡ c → ⊥
+        go true a b b' c c' = not_limit WrongKind f wrong (rw a at h) is
+        go false a true b c c' = not_limit NoSuchAlias f unknown (rw (a, b) at h) is
+        go false a false b true c = not_limit NameClash f clash (rw (a, b, c) at h) is
+        go false a false b false c = rw (a, b, c) at h
+
+    base_limit : (s : Spot) (k : List ℕ) (d : Data) (f : Flaw) → Among f (base_flaws (Some done) s k d) → LimitAt (spot_under s k) d f
+    base_limit s k d f h = go (is_base_name s k) refl
+      where
+        go : (t : Bool) → is_base_name s k ≡ t → LimitAt (spot_under s k) d f
+        go true is = subst (λ t. LimitAt t d f) (sym (base_spot s k is)) (limit_at d f (rw is at h))
+        go false is = absurd (rw is at h)
+
+    in_member : (s : Spot) (k : List ℕ) (e : Data) (ms : Members) (f g : Flaw) → HasMember k e ms → f ≡ within (key k) g → LimitAt (spot_under s k) e g → LimitAt s (object ms) f
+    in_member s k e ms f g m is (d, leads, named, past) = subst (LimitAt s (object ms)) (sym is) (d, (ms, e, refl, m, leads), named, past)
+
+    in_item : (s : Spot) (i : ℕ) (e : Data) (es : Items) (f g : Flaw) → get_item i es ≡ Some e → f ≡ within (index i) g → LimitAt (spot_of_items s) e g → LimitAt s (array es) f
+    in_item s i e es f g m is (d, leads, named, past) = subst (LimitAt s (array es)) (sym is) (d, (es, e, refl, m, leads), named, past)
+
+    mutual
+      inner_limit : (v : Data) (s : Spot) (seen : Members) (f : Flaw) → Among f (inner_flaws al (Some done) s seen v) → IsLimit f.kind → LimitAt s v f
+      inner_limit null s seen f h is = absurd h
+      inner_limit (boolean b) s seen f h is = absurd h
+      inner_limit (number n) s seen f h is = absurd h
+      inner_limit (string n) s seen f h is = absurd h
+      inner_limit (array es) s seen f h is = item_limit es s es 0 no_members f (λ j d g. let same : j ≡ 0 + j = omega arith in subst (λ x. get_item x es ≡ Some d) same g) h is
+      inner_limit (object ms) s seen f h is = member_limit ms s ms seen f (λ k d m. m) h is
+
+      item_limit : (rest : Items) (s : Spot) (es : Items) (i : ℕ) (seen : Members) (f : Flaw) → Aligned es i rest → Among f (item_flaws al (Some done) s i seen rest) → IsLimit f.kind → LimitAt s (array es) f
+      item_limit no_items s es i seen f al' h is = absurd h
+      item_limit (item e rest) s es i seen f al' h is =
+          let t = spot_of_items s in
+          let own = own_flaws al t false e in
+          let inner = inner_flaws al (Some done) t seen e in
+          first_or_rest f (map (within (index i)) (own ++ inner)) (item_flaws al (Some done) s (suc i) (mark e seen) rest) h
+          (λ a. let (g, e', b) = among_within (index i) f (own ++ inner) a in
+          let kind : IsLimit g.kind = subst IsLimit (ap (λ x. x.kind) e') is in
+          in_item s i e es f g (aligned_here es i e rest al') e' (first_or_rest g own inner b (λ c. absurd (own_limit t false e g c kind)) (λ c. inner_limit e t seen g c kind)))
+          (λ a. item_limit rest s es (suc i) (mark e seen) f (aligned_next es i e rest al') a is)
+
+      member_limit : (rest : Members) (s : Spot) (ms : Members) (seen : Members) (f : Flaw) → ((k : List ℕ) (d : Data) → HasMember k d rest → HasMember k d ms) → Among f (member_flaws al (Some done) s seen rest) → IsLimit f.kind → LimitAt s (object ms) f
+      member_limit no_members s ms seen f sub h is = absurd h
+      member_limit (member k e rest) s ms seen f sub h is =
+          let t = spot_under s k in
+          let taken = is_entry s && is_some (get_member k seen) in
+          let own = own_flaws al t taken e in
+          let inner = inner_flaws al (Some done) t no_members e in
+          first_or_rest f (map (within (key k)) ((own ++ inner) ++ base_flaws (Some done) s k e)) (member_flaws al (Some done) s seen rest) h
+          (λ a. let (g, e', b) = among_within (key k) f ((own ++ inner) ++ base_flaws (Some done) s k e) a in
+          let kind : IsLimit g.kind = subst IsLimit (ap (λ x. x.kind) e') is in
+          in_member s k e ms f g (sub k e (inl (refl, refl))) e'
+          (first_or_rest g (own ++ inner) (base_flaws (Some done) s k e) b
+          (λ c. first_or_rest g own inner c (λ d. absurd (own_limit t taken e g d kind)) (λ d. inner_limit e t no_members g d kind))
+          (λ c. base_limit s k e g c)))
+          (λ a. member_limit rest s ms seen f (λ q d m. sub q d (inr m)) a is)
+
+    -- a type that is refused for a limit leads to one that passes it
+    pub refused_limit : (v : Data) (f : Flaw) → refusal (type_flaws al done FieldType v) ≡ Err f → IsLimit f.kind → LimitAt FieldType v f
+    refused_limit v f h is =
+        let own = own_flaws al FieldType false v in
+        let inner = inner_flaws al (Some done) FieldType no_members v in
+        first_or_rest f (own ++ inner) (limit_flaws done FieldType v) (refused_among (type_flaws al done FieldType v) f h)
+        (λ a. first_or_rest f own inner a (λ b. absurd (own_limit FieldType false v f b is)) (λ b. inner_limit v FieldType no_members f b is))
+        (λ a. limit_at v f a)

@@ -1,12 +1,12 @@
 -- The names of aliases in a value: where one test passes and another doesn't, and that a value without a flaw
 -- names aliases alone.
-use Rattle.std.proofs.Common.{◌≡◌, ◌&&◌, ◌||◌, ◌++◌, ◌⊎◌, inl, inr, ℕ, suc, List, [], Bool, true, false, not, true≢false, refl, sym}
+use Rattle.std.proofs.Common.{◌≡◌, ◌&&◌, ◌||◌, ◌++◌, ◌⊎◌, inl, inr, ℕ, suc, List, [], Option, Bool, true, false, not, true≢false, refl, sym, ◌∙◌}
 use Rattle.serde_json.specs.Data.{Data, null, boolean, number, string, array, object, Items, no_items, item, Members, no_members, member}
 use Rattle.conf_tree.specs.Flaw.{key, index, within}
 use Rattle.conf_inherit.specs.declared.spot.Spot.{Spot}
 use Rattle.conf_inherit.specs.Spot.{spot_under, spot_of_items, names_alias, names_member_type, is_entry}
-use Rattle.conf_inherit.specs.Flaws.{is_unknown, own_flaws, inner_flaws, item_flaws, member_flaws, mark}
-use Rattle.conf_inherit.specs.Rounds.{all_named, all_named_in_items, all_named_in_members, has}
+use Rattle.conf_inherit.specs.Flaws.{is_unknown, own_flaws, base_flaws, inner_flaws, item_flaws, member_flaws, mark}
+use Rattle.conf_inherit.specs.Named.{all_named, all_named_in_items, all_named_in_members, has}
 use Rattle.conf_inherit.proofs.ReadyLemmas.{part_empty, rest_empty, front_empty, back_empty, not_unknown}
 
 both : (a b : Bool) → a ≡ true → b ≡ true → (a && b) ≡ true
@@ -58,7 +58,7 @@ mutual
       (λ f. between_members p q s ms (and_second (all_named p (spot_under s k) d) (all_named_in_members p s ms) h) f)
 
 -- a text without a flaw passes a test that all aliases pass
-module _ (al : Members) (p : List ℕ → Bool) (passes : (n : List ℕ) → has al n ≡ true → p n ≡ true) where
+module _ (al : Members) (rs : Option Members) (p : List ℕ → Bool) (passes : (n : List ℕ) → has al n ≡ true → p n ≡ true) where
   named_text : (s : Spot) (taken : Bool) (n : List ℕ) → own_flaws al s taken (string n) ≡ [] → all_named p s (string n) ≡ true
   named_text s taken n h = go (names_alias s || names_member_type s) refl (has al n) refl
     where
@@ -71,7 +71,7 @@ module _ (al : Members) (p : List ℕ → Bool) (passes : (n : List ℕ) → has
       go true is false e = absurd (true≢false (rw (is, e) at known))
 
   mutual
-    pub named : (v : Data) (s : Spot) (taken : Bool) (seen : Members) → own_flaws al s taken v ≡ [] → inner_flaws al s seen v ≡ [] → all_named p s v ≡ true
+    pub named : (v : Data) (s : Spot) (taken : Bool) (seen : Members) → own_flaws al s taken v ≡ [] → inner_flaws al rs s seen v ≡ [] → all_named p s v ≡ true
     named null s taken seen o h = refl
     named (boolean b) s taken seen o h = refl
     named (number n) s taken seen o h = refl
@@ -79,25 +79,26 @@ module _ (al : Members) (p : List ℕ → Bool) (passes : (n : List ℕ) → has
     named (array es) s taken seen o h = named_items es s 0 no_members h
     named (object ms) s taken seen o h = named_members ms s seen h
 
-    named_items : (es : Items) (s : Spot) (i : ℕ) (seen : Members) → item_flaws al s i seen es ≡ [] → all_named_in_items p (spot_of_items s) es ≡ true
+    named_items : (es : Items) (s : Spot) (i : ℕ) (seen : Members) → item_flaws al rs s i seen es ≡ [] → all_named_in_items p (spot_of_items s) es ≡ true
     named_items no_items s i seen h = refl
     named_items (item v es) s i seen h =
         let own = own_flaws al (spot_of_items s) false v in
-        let inner = inner_flaws al (spot_of_items s) seen v in
-        let here_none = part_empty (within (index i)) (own ++ inner) (item_flaws al s (suc i) (mark v seen) es) h in
-        let later_none = rest_empty (within (index i)) (own ++ inner) (item_flaws al s (suc i) (mark v seen) es) h in
+        let inner = inner_flaws al rs (spot_of_items s) seen v in
+        let here_none = part_empty (within (index i)) (own ++ inner) (item_flaws al rs s (suc i) (mark v seen) es) h in
+        let later_none = rest_empty (within (index i)) (own ++ inner) (item_flaws al rs s (suc i) (mark v seen) es) h in
         both (all_named p (spot_of_items s) v) (all_named_in_items p (spot_of_items s) es)
         (named v (spot_of_items s) false seen (front_empty own inner here_none) (back_empty own inner here_none))
         (named_items es s (suc i) (mark v seen) later_none)
 
-    named_members : (ms : Members) (s : Spot) (seen : Members) → member_flaws al s seen ms ≡ [] → all_named_in_members p s ms ≡ true
+    named_members : (ms : Members) (s : Spot) (seen : Members) → member_flaws al rs s seen ms ≡ [] → all_named_in_members p s ms ≡ true
     named_members no_members s seen h = refl
     named_members (member k d ms) s seen h =
         let taken = is_entry s && has seen k in
         let own = own_flaws al (spot_under s k) taken d in
-        let inner = inner_flaws al (spot_under s k) no_members d in
-        let here_none = part_empty (within (key k)) (own ++ inner) (member_flaws al s seen ms) h in
-        let later_none = rest_empty (within (key k)) (own ++ inner) (member_flaws al s seen ms) h in
+        let inner = inner_flaws al rs (spot_under s k) no_members d in
+        let base = base_flaws rs s k d in
+        let here_none = front_empty (own ++ inner) base (part_empty (within (key k)) ((own ++ inner) ++ base) (member_flaws al rs s seen ms) h) in
+        let later_none = rest_empty (within (key k)) ((own ++ inner) ++ base) (member_flaws al rs s seen ms) h in
         both (all_named p (spot_under s k) d) (all_named_in_members p s ms)
         (named d (spot_under s k) taken no_members (front_empty own inner here_none) (back_empty own inner here_none))
         (named_members ms s seen later_none)
@@ -127,3 +128,14 @@ mutual
   both_in_members p q s (member k d ms) h i = both (all_named (λ n. p n && q n) (spot_under s k) d) (all_named_in_members (λ n. p n && q n) s ms)
       (both_named p q (spot_under s k) d (and_first (all_named p (spot_under s k) d) (all_named_in_members p s ms) h) (and_first (all_named q (spot_under s k) d) (all_named_in_members q s ms) i))
       (both_in_members p q s ms (and_second (all_named p (spot_under s k) d) (all_named_in_members p s ms) h) (and_second (all_named q (spot_under s k) d) (all_named_in_members q s ms) i))
+
+-- names that pass a test pass each that is passed more often
+pub named_along : (p q : List ℕ → Bool) → ((n : List ℕ) → p n ≡ true → q n ≡ true) → (s : Spot) (v : Data) → all_named p s v ≡ true → all_named q s v ≡ true
+named_along p q along s v h = go (all_named q s v) refl
+  where
+    apart : Between p q → ⊥
+    apart (n, a, b) = true≢false (sym (along n a) ∙ b)
+
+    go : (t : Bool) → all_named q s v ≡ t → all_named q s v ≡ true
+    go true e = e
+    go false e = absurd (apart (between p q s v h e))

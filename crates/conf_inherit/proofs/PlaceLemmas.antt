@@ -1,7 +1,7 @@
 -- What is wrong at a place of field types, part by part.
 use Rattle.std.proofs.Common.{◌≡◌, ◌++◌, ◌<◌, ◌≤◌, ℕ, List, [], length, nat_lt, true, false, Ok, Err, refl, arith}
 use Rattle.std.proofs.lemmas.Bool.Decides.{nat_tests}
-use Rattle.serde_json.specs.Data.{Data, array, Members, no_members}
+use Rattle.serde_json.specs.Data.{Data, array, Members}
 use Rattle.serde_json.specs.View.{items_view}
 use Rattle.serde_json.specs.declared.value.Value.{Value}
 use Rattle.serde_json.proofs.Views.{items_len-items_view}
@@ -10,9 +10,9 @@ use Rattle.conf_tree.specs.Walk.{refusal}
 use Rattle.conf_tree.specs.declared.fault_kind.FaultKind.TheVariants.{Limit}
 use Rattle.conf_inherit.specs.declared.spot.Spot.{Spot}
 use Rattle.conf_inherit.specs.Spot.{names_alias, names_member_type, lists_extra_members}
-use Rattle.conf_inherit.specs.Flaws.{own_flaws, flaws}
-use Rattle.conf_inherit.specs.Settled.{settled}
-use Rattle.conf_inherit.specs.Places.{too_many, limit_flaws, place_flaws}
+use Rattle.conf_inherit.specs.Flaws.{own_flaws, type_flaws}
+use Rattle.conf_inherit.specs.Limits.{limit_flaws}
+use Rattle.conf_inherit.specs.Places.{too_many, place_flaws}
 
 many : (n : ℕ) → 256 < n → nat_lt 256 n ≡ true
 many n h = grind (arith, nat_tests)
@@ -29,11 +29,11 @@ unfolding too_many
 count_within vs h = rw (items_len-items_view vs, few (length vs) h) refl
 
 module _ (al done : Members) (s : Spot) (v : Data) where
-  pub place_of_type : names_alias s ≡ true → place_flaws al done s v ≡ flaws al s false no_members v ++ limit_flaws (settled done s v)
+  pub place_of_type : names_alias s ≡ true → place_flaws al done s v ≡ type_flaws al done s v
   unfolding place_flaws
   place_of_type h = rw h refl
 
-  pub place_of_member : names_alias s ≡ false → names_member_type s ≡ true → place_flaws al done s v ≡ limit_flaws (settled done s v)
+  pub place_of_member : names_alias s ≡ false → names_member_type s ≡ true → place_flaws al done s v ≡ limit_flaws done s v
   unfolding place_flaws
   place_of_member h i = rw (h, i) refl
 

@@ -8,9 +8,9 @@ use Rattle.conf_inherit.specs.declared.spot.Spot.{Spot}
 use Rattle.conf_inherit.specs.declared.spot.Spot.TheVariants.{Entry}
 use Rattle.conf_inherit.specs.Spot.{spot_under, spot_of_items, names_alias, names_member_type, lists_members, is_entry}
 use Rattle.conf_inherit.specs.Names.{entries_of, NoClash}
-use Rattle.conf_inherit.specs.Flaws.{is_wrong, is_no_entry, is_no_member, is_unknown, own_flaws, inner_flaws, item_flaws, member_flaws, mark}
+use Rattle.conf_inherit.specs.Flaws.{is_wrong, is_no_entry, is_no_member, is_unknown, own_flaws, base_flaws, inner_flaws, item_flaws, member_flaws, mark}
 use Rattle.conf_inherit.specs.Ready.{Names, IsReady, AreReady, HasReady}
-use Rattle.conf_inherit.specs.Rounds.{all_named, all_named_in_items, all_named_in_members, has}
+use Rattle.conf_inherit.specs.Named.{all_named, all_named_in_items, all_named_in_members, has}
 use Rattle.conf_inherit.proofs.SpotLemmas.{list_spot}
 use Rattle.conf_inherit.proofs.LayingLemmas.{get_other}
 
@@ -100,10 +100,10 @@ apart_more n d seen es h a = record {
   new = λ q f. get_other q n d es (some_or_none n seen h q f) ∙ a.new q (ap is_some (get_member-put_other q n null seen (some_or_none n seen h q f)) ∙ f);
 }
 
-module _ (al : Members) where
-  apart_at : (s : Spot) (i : ℕ) (seen : Members) (v : Data) (es : Items) → is_no_entry v ≡ false → inner_flaws al Entry seen v ≡ [] → (Apart (mark v seen) (entries_of es)) → Apart seen (entries_of (item v es))
+module _ (al : Members) (rs : Option Members) where
+  apart_at : (s : Spot) (i : ℕ) (seen : Members) (v : Data) (es : Items) → is_no_entry v ≡ false → inner_flaws al rs Entry seen v ≡ [] → (Apart (mark v seen) (entries_of es)) → Apart seen (entries_of (item v es))
   apart_at s i seen (object (member n d no_members)) es single h a =
-      let own = front_empty _ _ (part_empty (within (key n)) _ _ h) in
+      let own = front_empty _ _ (front_empty _ _ (part_empty (within (key n)) _ _ h)) in
       let free : (is_entry Entry && has seen n) ≡ false = not_taken al (spot_under Entry n) (is_entry Entry && has seen n) d own in
       apart_more n d seen (entries_of es) (rw entry_is at free) a
   apart_at s i seen (object (member n d (member m e ms))) es single h a = absurd (true≢false single)
@@ -114,13 +114,13 @@ module _ (al : Members) where
   apart_at s i seen (string x) es single h a = absurd (true≢false single)
   apart_at s i seen (array x) es single h a = absurd (true≢false single)
 
-  apart_entries : (s : Spot) (i : ℕ) (seen : Members) (es : Items) → spot_of_items s ≡ Entry → item_flaws al s i seen es ≡ [] → Apart seen (entries_of es)
+  apart_entries : (s : Spot) (i : ℕ) (seen : Members) (es : Items) → spot_of_items s ≡ Entry → item_flaws al rs s i seen es ≡ [] → Apart seen (entries_of es)
   apart_entries s i seen no_items spot h = record { distinct = tt; new = λ n f. refl }
   apart_entries s i seen (item v es) spot h =
-      let here_none = part_empty (within (index i)) (own_flaws al (spot_of_items s) false v ++ inner_flaws al (spot_of_items s) seen v) (item_flaws al s (suc i) (mark v seen) es) h in
-      let later_none = rest_empty (within (index i)) (own_flaws al (spot_of_items s) false v ++ inner_flaws al (spot_of_items s) seen v) (item_flaws al s (suc i) (mark v seen) es) h in
+      let here_none = part_empty (within (index i)) (own_flaws al (spot_of_items s) false v ++ inner_flaws al rs (spot_of_items s) seen v) (item_flaws al rs s (suc i) (mark v seen) es) h in
+      let later_none = rest_empty (within (index i)) (own_flaws al (spot_of_items s) false v ++ inner_flaws al rs (spot_of_items s) seen v) (item_flaws al rs s (suc i) (mark v seen) es) h in
       let own : own_flaws al Entry false v ≡ [] = subst (λ x. own_flaws al x false v ≡ []) spot (front_empty _ _ here_none) in
-      let inner : inner_flaws al Entry seen v ≡ [] = subst (λ x. inner_flaws al x seen v ≡ []) spot (back_empty (own_flaws al (spot_of_items s) false v) (inner_flaws al (spot_of_items s) seen v) here_none) in
+      let inner : inner_flaws al rs Entry seen v ≡ [] = subst (λ x. inner_flaws al rs x seen v ≡ []) spot (back_empty (own_flaws al (spot_of_items s) false v) (inner_flaws al rs (spot_of_items s) seen v) here_none) in
       apart_at s i seen v es (single_entry v (not_wrong al Entry false v own)) inner (apart_entries s (suc i) (mark v seen) es spot later_none)
 
   module _ (done : Members) where
@@ -140,7 +140,7 @@ module _ (al : Members) where
         go false e = rw (e, is) at h
 
     mutual
-      pub ready : (v : Data) (s : Spot) (seen : Members) → inner_flaws al s seen v ≡ [] → all_named (has done) s v ≡ true → IsReady done s v
+      pub ready : (v : Data) (s : Spot) (seen : Members) → inner_flaws al rs s seen v ≡ [] → all_named (has done) s v ≡ true → IsReady done s v
       ready null s seen h named = tt
       ready (boolean b) s seen h named = tt
       ready (number n) s seen h named = tt
@@ -148,22 +148,23 @@ module _ (al : Members) where
       ready (array es) s seen h named = ((λ is. (apart_entries s 0 no_members es (list_spot s is) h).distinct), ready_items es s 0 no_members h named)
       ready (object ms) s seen h named = ready_members ms s seen h named
 
-      ready_items : (es : Items) (s : Spot) (i : ℕ) (seen : Members) → item_flaws al s i seen es ≡ [] → all_named_in_items (has done) (spot_of_items s) es ≡ true → AreReady done (spot_of_items s) es
+      ready_items : (es : Items) (s : Spot) (i : ℕ) (seen : Members) → item_flaws al rs s i seen es ≡ [] → all_named_in_items (has done) (spot_of_items s) es ≡ true → AreReady done (spot_of_items s) es
       ready_items no_items s i seen h named = tt
       ready_items (item v es) s i seen h named =
-          let here_none = part_empty (within (index i)) (own_flaws al (spot_of_items s) false v ++ inner_flaws al (spot_of_items s) seen v) (item_flaws al s (suc i) (mark v seen) es) h in
-          let later_none = rest_empty (within (index i)) (own_flaws al (spot_of_items s) false v ++ inner_flaws al (spot_of_items s) seen v) (item_flaws al s (suc i) (mark v seen) es) h in (
-            ready v (spot_of_items s) seen (back_empty (own_flaws al (spot_of_items s) false v) (inner_flaws al (spot_of_items s) seen v) here_none) (and_left (all_named (has done) (spot_of_items s) v) (all_named_in_items (has done) (spot_of_items s) es) named),
+          let here_none = part_empty (within (index i)) (own_flaws al (spot_of_items s) false v ++ inner_flaws al rs (spot_of_items s) seen v) (item_flaws al rs s (suc i) (mark v seen) es) h in
+          let later_none = rest_empty (within (index i)) (own_flaws al (spot_of_items s) false v ++ inner_flaws al rs (spot_of_items s) seen v) (item_flaws al rs s (suc i) (mark v seen) es) h in (
+            ready v (spot_of_items s) seen (back_empty (own_flaws al (spot_of_items s) false v) (inner_flaws al rs (spot_of_items s) seen v) here_none) (and_left (all_named (has done) (spot_of_items s) v) (all_named_in_items (has done) (spot_of_items s) es) named),
             ready_items es s (suc i) (mark v seen) later_none (and_right (all_named (has done) (spot_of_items s) v) (all_named_in_items (has done) (spot_of_items s) es) named),
           )
 
-      ready_members : (ms : Members) (s : Spot) (seen : Members) → member_flaws al s seen ms ≡ [] → all_named_in_members (has done) s ms ≡ true → HasReady done s ms
+      ready_members : (ms : Members) (s : Spot) (seen : Members) → member_flaws al rs s seen ms ≡ [] → all_named_in_members (has done) s ms ≡ true → HasReady done s ms
       ready_members no_members s seen h named = tt
       ready_members (member k d ms) s seen h named =
           let own = own_flaws al (spot_under s k) (is_entry s && is_some (get_member k seen)) d in
-          let inner = inner_flaws al (spot_under s k) no_members d in
-          let here_none = part_empty (within (key k)) (own ++ inner) (member_flaws al s seen ms) h in
-          let later_none = rest_empty (within (key k)) (own ++ inner) (member_flaws al s seen ms) h in (
+          let inner = inner_flaws al rs (spot_under s k) no_members d in
+          let base = base_flaws rs s k d in
+          let here_none = front_empty (own ++ inner) base (part_empty (within (key k)) ((own ++ inner) ++ base) (member_flaws al rs s seen ms) h) in
+          let later_none = rest_empty (within (key k)) ((own ++ inner) ++ base) (member_flaws al rs s seen ms) h in (
             ready d (spot_under s k) no_members (back_empty own inner here_none) (and_left (all_named (has done) (spot_under s k) d) (all_named_in_members (has done) s ms) named),
             ready_members ms s seen later_none (and_right (all_named (has done) (spot_under s k) d) (all_named_in_members (has done) s ms) named),
           )

@@ -12,15 +12,15 @@ use Rattle.conf_tree.specs.declared.fault_kind.FaultKind.{FaultKind}
 use Rattle.conf_tree.specs.declared.fault_kind.FaultKind.TheVariants.{InheritCycle, Limit, TooDeep}
 use Rattle.conf_inherit.specs.declared.spot.Spot.{Spot}
 use Rattle.conf_inherit.specs.declared.spot.Spot.TheVariants.{Root, Trace, TraceType, Aliases, FieldType}
-use Rattle.conf_inherit.specs.Spot.{spot_under, spot_in_trace_type, spot_of_items, names_alias, names_member_type, lists_extra_members, leads_on}
+use Rattle.conf_inherit.specs.Spot.{spot_under, spot_in_trace_type, spot_of_items, names_alias, names_member_type, is_base_name, lists_extra_members, leads_on}
 use Rattle.conf_inherit.specs.AliasFlaws.{over_names, first_or_circle, alias_flaws, all_alias_flaws}
 use Rattle.conf_inherit.specs.Circle.{Walks}
 use Rattle.conf_inherit.specs.SameFlaw.{is_same_flaw}
 use Rattle.conf_inherit.specs.Faults.{Passes, FlawHolds, RefusalHolds}
-use Rattle.conf_inherit.specs.Flaws.{own_flaws, flaws, mark}
+use Rattle.conf_inherit.specs.Flaws.{own_flaws, flaws, type_flaws, mark}
 use Rattle.conf_inherit.specs.Looks.{AreResolved}
 use Rattle.conf_inherit.specs.Ready.{Names}
-use Rattle.conf_inherit.specs.Places.{too_many, limit_flaws, place_flaws, inner_places, item_places, member_places, max_extra_members}
+use Rattle.conf_inherit.specs.Places.{too_many, place_flaws, inner_places, item_places, member_places, max_extra_members}
 use Rattle.conf_inherit.specs.Laying.{lay}
 use Rattle.conf_inherit.specs.Names.{NoClash}
 use Rattle.conf_inherit.specs.Resolution.{members_or_none, trace_name, type_name, aliases_name, max_aliases, aliases_of, in_aliases, from_aliases, if_shallow, few_aliases, resolution_under, resolution, Resolves}
@@ -28,21 +28,20 @@ use Rattle.conf_inherit.specs.Nesting.{nests}
 use Rattle.conf_inherit.proofs.PlaceLemmas.{place_of_type, place_of_member, place_of_list, place_of_other}
 use Rattle.conf_inherit.proofs.ResolveLemmas.{laid_resolves, resolution_sound}
 use Rattle.conf_inherit.proofs.RoundLemmas.{rounds_resolved}
-use Rattle.conf_inherit.specs.Rounds.{Why, Outcomes, rounds, no_outcomes, has}
-use Rattle.conf_inherit.specs.Settled.{settled}
-use Rattle.conf_inherit.proofs.CircleLemmas.{IsOpen, open_walks, LimitsHold, limits_hold}
-use Rattle.conf_inherit.proofs.FaultLemmas.{Among, among_within, holds_in_object, entry_holds, flaw_of_itself_holds, flaw_holds, first_or_rest, Aligned, aligned_here, aligned_next, Seen, seen_next_at, none_seen}
+use Rattle.conf_inherit.specs.Named.{all_named, has}
+use Rattle.conf_inherit.specs.Rounds.{Outcomes, rounds, no_outcomes}
+use Rattle.conf_inherit.specs.Limits.{Exceeds, fitting, passed, limit_flaws}
+use Rattle.conf_inherit.proofs.CircleLemmas.{IsOpen, open_walks}
+use Rattle.conf_inherit.proofs.LimitLemmas.{Judged, fits, exceeds, judged}
+use Rattle.conf_inherit.proofs.SpotLemmas.{alias_field, base_spot}
+use Rattle.conf_inherit.proofs.FaultLemmas.{Among, refused_among, BasesHold, among_within, holds_in_object, entry_holds, flaw_of_itself_holds, flaw_holds, first_or_rest, Aligned, aligned_here, aligned_next, Seen, seen_next_at, none_seen}
 use Rattle.conf_inherit.proofs.ListLemmas.{AllEntries, found_each}
 use Rattle.conf_inherit.proofs.LayingLemmas.{Meets, same, other, meets, get_same, get_other}
 
-pub refused_among : (fs : List Flaw) (f : Flaw) → refusal fs ≡ Err f → Among f fs
-refused_among [] f h = cc
-refused_among (g ∷ fs) f h = inl (let e : f ≡ g = cc in e)
-
-limit_kind : (o : Result Data FaultKind) (f : Flaw) → Among f (limit_flaws o) → (kind : FaultKind) × (o ≡ Err kind) × (f ≡ here kind)
-limit_kind (Ok r) f h = absurd h
-limit_kind (Err kind) f (inl e) = (kind, refl, e)
-limit_kind (Err kind) f (inr h) = absurd h
+limit_kind : (r : Data) (o : Result Data FaultKind) (f : Flaw) → Judged r o → Among f (passed o) → (kind : FaultKind) × Exceeds kind r × (f ≡ here kind)
+limit_kind r o f (fits x) h = absurd h
+limit_kind r o f (exceeds kind past) (inl e) = (kind, past, e)
+limit_kind r o f (exceeds kind past) (inr h) = absurd h
 
 alias_spot_under : (k : List ℕ) → spot_under Aliases k ≡ FieldType
 unfolding spot_under
@@ -56,55 +55,72 @@ module _ (al : Members) where
   along : (s : Spot) (v : Data) (f g : Flaw) → f ≡ g → FlawHolds al s v g → FlawHolds al s v f
   along s v f g e h = subst (FlawHolds al s v) (sym e) h
 
-  -- a flaw of its own holds, and else the circle is told of
-  own_or_circle : (s : Spot) (w : Data) (f : Flaw) (own known : Result ⊤ Flaw) → refusal (flaws al s false no_members w) ≡ own → Among f (first_or_circle own known) → FlawHolds al s w f ⊎ (f ≡ here InheritCycle)
-  own_or_circle s w f own known is h = go own is known h
-    where
-      only : (g : Flaw) → Among f (g ∷ []) → f ≡ g
-      only g (inl e) = e
-      only g (inr x) = absurd x
+  no_bases : BasesHold al None
+  no_bases s k d f h = absurd h
 
-      go : (own : Result ⊤ Flaw) → refusal (flaws al s false no_members w) ≡ own → (known : Result ⊤ Flaw) → Among f (first_or_circle own known) → FlawHolds al s w f ⊎ (f ≡ here InheritCycle)
-      go (Ok x) e known h = inr (only (here InheritCycle) h)
-      go (Err g) e (Ok x) h = inr (only (here InheritCycle) h)
-      go (Err g) e (Err first) h = by (is_same_flaw g first) refl
-        where
-          by : (t : Bool) → is_same_flaw g first ≡ t → FlawHolds al s w f ⊎ (f ≡ here InheritCycle)
-          by true e' = inl (along s w f g (only g (rw e' at h)) (flaw_holds al s w g (refused_among (flaws al s false no_members w) g e)))
-          by false e' = inr (only (here InheritCycle) (rw e' at h))
+  -- ---- a field type, where the resolved aliases are known
+
+  module _ (done : Members) (known : AreResolved al done) where
+    limit_here : (s : Spot) (v : Data) (f : Flaw) → Names s → Among f (limit_flaws done s v) → FlawHolds al s v f
+    limit_here s v f names h = go (all_named (has done) s v) refl
+      where
+        go : (t : Bool) → all_named (has done) s v ≡ t → FlawHolds al s v f
+        go false is = absurd (rw is at h)
+        go true is =
+            let (kind, past, e) = limit_kind (lay done s v None) (fitting (lay done s v None)) f (judged (lay done s v None)) (rw is at h) in
+            along s v f (here kind) e (passes_here s v kind (names, (done, known, is, past)))
+
+    bases_hold : BasesHold al (Some done)
+    bases_hold s k d f h = go (is_base_name s k) refl
+      where
+        go : (t : Bool) → is_base_name s k ≡ t → FlawHolds al (spot_under s k) d f
+        go true is = subst (λ t. FlawHolds al t d f) (sym (base_spot s k is)) (limit_here FieldType d f (inl alias_field) (rw is at h))
+        go false is = absurd (rw is at h)
+
+    type_holds : (s : Spot) (v : Data) (f : Flaw) → Names s → Among f (type_flaws al done s v) → FlawHolds al s v f
+    type_holds s v f names h = first_or_rest f (flaws al (Some done) s false no_members v) (limit_flaws done s v) h (flaw_holds al (Some done) bases_hold s v f) (limit_here s v f names)
+
+    -- a flaw of its own holds, and else the circle is told of
+    own_or_circle : (s : Spot) (w : Data) (f : Flaw) → Names s → (own over : Result ⊤ Flaw) → refusal (type_flaws al done s w) ≡ own → Among f (first_or_circle own over) → FlawHolds al s w f ⊎ (f ≡ here InheritCycle)
+    own_or_circle s w f names own over is h = go own is over h
+      where
+        only : (g : Flaw) → Among f (g ∷ []) → f ≡ g
+        only g (inl e) = e
+        only g (inr x) = absurd x
+
+        go : (own : Result ⊤ Flaw) → refusal (type_flaws al done s w) ≡ own → (over : Result ⊤ Flaw) → Among f (first_or_circle own over) → FlawHolds al s w f ⊎ (f ≡ here InheritCycle)
+        go (Ok x) e over h = inr (only (here InheritCycle) h)
+        go (Err g) e (Ok x) h = inr (only (here InheritCycle) h)
+        go (Err g) e (Err first) h = by (is_same_flaw g first) refl
+          where
+            by : (t : Bool) → is_same_flaw g first ≡ t → FlawHolds al s w f ⊎ (f ≡ here InheritCycle)
+            by true e' = inl (along s w f g (only g (rw e' at h)) (type_holds s w g names (refused_among (type_flaws al done s w) g e)))
+            by false e' = inr (only (here InheritCycle) (rw e' at h))
 
   -- ---- the aliases
 
-  module _ (st : Outcomes) (limits : LimitsHold al st) (walks : (k : List ℕ) → has al k ≡ true → IsOpen st k → Walks al (members_len al) k) where
+  module _ (st : Outcomes) (known : AreResolved al st.done) (walks : (k : List ℕ) → has al k ≡ true → IsOpen st k → Walks al (members_len al) k) where
     -- the flaw is the circle of the alias k
     abbrev CircleOf : List ℕ → Flaw → Type 0
     CircleOf k f = (f ≡ here InheritCycle) × Walks al (members_len al) k
 
     -- a flaw of an alias holds of its value, or is the circle
     alias_at : (k : List ℕ) (w : Data) (f : Flaw) → get_member k al ≡ Some w → Among f (alias_flaws al st k w) → FlawHolds al FieldType w f ⊎ CircleOf k f
-    alias_at k w f is h = go (has st.done k) refl (st.refused k) refl
+    alias_at k w f is h = go (has st.done k) refl (has st.refused k) refl
       where
-        only : (g : Flaw) → Among f (g ∷ []) → f ≡ g
-        only g (inl e) = e
-        only g (inr x) = absurd x
-
-        passed : (kind : FaultKind) → f ≡ here kind → (v : Data) × (get_member k al ≡ Some v) × Passes al kind FieldType v → FlawHolds al FieldType w f
-        passed kind e (v, is', p) = let g : Some v ≡ Some w = sym is' ∙ is in let one : v ≡ w = cc in along FieldType w f (here kind) e (passes_here FieldType w kind (subst (Passes al kind FieldType) one p))
-
-        circle : has st.done k ≡ false → st.refused k ≡ None → FlawHolds al FieldType w f ⊎ (f ≡ here InheritCycle) → FlawHolds al FieldType w f ⊎ CircleOf k f
+        circle : has st.done k ≡ false → has st.refused k ≡ false → FlawHolds al FieldType w f ⊎ (f ≡ here InheritCycle) → FlawHolds al FieldType w f ⊎ CircleOf k f
         circle a b (inl holds) = inl holds
-        circle a b (inr e) = inr (e, walks k (ap is_some is) (a, ap is_some b))
+        circle a b (inr e) = inr (e, walks k (ap is_some is) (a, b))
 
-        go : (t : Bool) → has st.done k ≡ t → (o : Option Why) → st.refused k ≡ o → FlawHolds al FieldType w f ⊎ CircleOf k f
-        go true a o b = absurd (rw a at h)
-        go false a None b = circle a b (own_or_circle FieldType w f (refusal (flaws al FieldType false no_members w)) (refusal (flaws (over_names al st no_members) FieldType false no_members w)) refl (rw (a, b) at h))
-        go false a (Some (Some kind)) b = inl (passed kind (only (here kind) (rw (a, b) at h)) (limits k kind b))
-        go false a (Some None) b = inl (flaw_holds al FieldType w f (rw (a, b) at h))
+        go : (t : Bool) → has st.done k ≡ t → (u : Bool) → has st.refused k ≡ u → FlawHolds al FieldType w f ⊎ CircleOf k f
+        go true a u b = absurd (rw a at h)
+        go false a true b = inl (type_holds st.done known FieldType w f (inl alias_field) (rw (a, b) at h))
+        go false a false b = circle a b (own_or_circle st.done known FieldType w f (inl alias_field) (refusal (type_flaws al st.done FieldType w)) (refusal (type_flaws (over_names al st no_members) st.done FieldType w)) refl (rw (a, b) at h))
 
     aliases_hold : (ms : Members) (f : Flaw) → AllEntries (λ k w. get_member k al ≡ Some w) ms → ((k : List ℕ) (d : Data) → HasMember k d ms → HasMember k d al) → Among f (all_alias_flaws al st ms) → FlawHolds al Aliases (object al) f
     aliases_hold no_members f each sub h = absurd h
     aliases_hold (member k w ms) f each sub h =
-        first_or_rest al f (map (within (key k)) (alias_flaws al st k w)) (all_alias_flaws al st ms) h
+        first_or_rest f (map (within (key k)) (alias_flaws al st k w)) (all_alias_flaws al st ms) h
         (λ a. one (among_within (key k) f (alias_flaws al st k w) a))
         (λ a. aliases_hold ms f each.1 (λ q d m. sub q d (inr m)) a)
       where
@@ -120,9 +136,6 @@ module _ (al : Members) where
   -- ---- the places
 
   module _ (done : Members) (known : AreResolved al done) where
-    limit_here : (s : Spot) (v : Data) (f : Flaw) → Names s → Among f (limit_flaws (settled done s v)) → FlawHolds al s v f
-    limit_here s v f names h = let (kind, e, is) = limit_kind (settled done s v) f h in along s v f (here kind) is (passes_here s v kind (names, (done, known, e)))
-
     many_here : (s : Spot) (v : Data) (f : Flaw) → lists_extra_members s ≡ true → Among f (too_many v) → FlawHolds al s v f
     unfolding too_many
     many_here s (array es) f is h = go (nat_lt max_extra_members (items_len es)) refl
@@ -147,9 +160,9 @@ module _ (al : Members) where
     place_holds s v f h = go (names_alias s) refl (names_member_type s) refl (lists_extra_members s) refl
       where
         go : (a : Bool) → names_alias s ≡ a → (b : Bool) → names_member_type s ≡ b → (c : Bool) → lists_extra_members s ≡ c → FlawHolds al s v f
-        go true a b b' c c' = first_or_rest al f (flaws al s false no_members v) (limit_flaws (settled done s v)) (subst (Among f) (place_of_type al done s v a) h) (flaw_holds al s v f) (limit_here s v f (inl a))
-        go false a true b c c' = limit_here s v f (inr b) (subst (Among f) (place_of_member al done s v a b) h)
-        go false a false b true c = first_or_rest al f (too_many v) (own_flaws al s false v) (subst (Among f) (place_of_list al done s v a b c) h) (many_here s v f c) (flaw_of_itself_holds al s v f)
+        go true a b b' c c' = type_holds done known s v f (inl a) (subst (Among f) (place_of_type al done s v a) h)
+        go false a true b c c' = limit_here done known s v f (inr b) (subst (Among f) (place_of_member al done s v a b) h)
+        go false a false b true c = first_or_rest f (too_many v) (own_flaws al s false v) (subst (Among f) (place_of_list al done s v a b c) h) (many_here s v f c) (flaw_of_itself_holds al s v f)
         go false a false b false c = absurd (subst (Among f) (place_of_other al done s v a b c) h)
 
     items_at : (s : Spot) (es : Items) (f : Flaw) → (t : Bool) → lists_extra_members s ≡ t → Among f (inner_places al done s (array es)) → (Among f (item_places al done s 0 no_members es) → FlawHolds al s (array es) f) → FlawHolds al s (array es) f
@@ -163,7 +176,7 @@ module _ (al : Members) where
     member_here : (s : Spot) (ms : Members) (k : List ℕ) (d : Data) (f : Flaw) → HasMember k d ms → (g : Flaw) × (f ≡ within (key k) g) × Among g (place_flaws al done (spot_under s k) d ++ inner_places al done (spot_under s k) d)
         → ((g : Flaw) → Among g (inner_places al done (spot_under s k) d) → FlawHolds al (spot_under s k) d g) → FlawHolds al s (object ms) f
     member_here s ms k d f m (g, same_f, a) deeper = along s (object ms) f (within (key k) g) same_f (holds_in_object al s k d ms g m
-        (first_or_rest al g (place_flaws al done (spot_under s k) d) (inner_places al done (spot_under s k) d) a (place_holds (spot_under s k) d g) (deeper g)))
+        (first_or_rest g (place_flaws al done (spot_under s k) d) (inner_places al done (spot_under s k) d) a (place_holds (spot_under s k) d g) (deeper g)))
 
     mutual
       places_hold : (v : Data) (s : Spot) (f : Flaw) → Among f (inner_places al done s v) → FlawHolds al s v f
@@ -178,14 +191,14 @@ module _ (al : Members) where
       items_hold no_items s es i seen f al' before h = absurd h
       items_hold (item e rest) s es i seen f al' before h =
           let t = spot_of_items s in
-          first_or_rest al f (map (within (index i)) (flaws al t false seen e ++ inner_places al done t e)) (item_places al done s (suc i) (mark e seen) rest) h
-          (λ a. entry_holds al s es i seen e f (inner_places al done t e) (aligned_here es i e rest al') before (among_within (index i) f (flaws al t false seen e ++ inner_places al done t e) a) (λ g b. places_hold e t g b))
+          first_or_rest f (map (within (index i)) (flaws al (Some done) t false seen e ++ inner_places al done t e)) (item_places al done s (suc i) (mark e seen) rest) h
+          (λ a. entry_holds al (Some done) (bases_hold done known) s es i seen e f (inner_places al done t e) (aligned_here es i e rest al') before (among_within (index i) f (flaws al (Some done) t false seen e ++ inner_places al done t e) a) (λ g b. places_hold e t g b))
           (λ a. items_hold rest s es (suc i) (mark e seen) f (aligned_next es i e rest al') (seen_next_at es i e seen (aligned_here es i e rest al') before) a)
 
       members_hold : (rest : Members) (s : Spot) (ms : Members) (f : Flaw) → ((k : List ℕ) (d : Data) → HasMember k d rest → HasMember k d ms) → Among f (member_places al done s rest) → FlawHolds al s (object ms) f
       members_hold no_members s ms f sub h = absurd h
       members_hold (member k d rest) s ms f sub h =
-          first_or_rest al f (map (within (key k)) (place_flaws al done (spot_under s k) d ++ inner_places al done (spot_under s k) d)) (member_places al done s rest) h
+          first_or_rest f (map (within (key k)) (place_flaws al done (spot_under s k) d ++ inner_places al done (spot_under s k) d)) (member_places al done s rest) h
           (λ a. member_here s ms k d f (sub k d (inl (refl, refl))) (among_within (key k) f (place_flaws al done (spot_under s k) d ++ inner_places al done (spot_under s k) d) a) (λ g b. places_hold d (spot_under s k) g b))
           (λ a. members_hold rest s ms f (λ q e m. sub q e (inr m)) a)
 
@@ -294,31 +307,31 @@ module _ (t : Data) (f : Flaw) (apart : NoClash (aliases_of t)) where
   alias_refused g h =
       let each = found_each al_of apart in
       let among = refused_among (all_alias_flaws al_of st_of al_of) g h in
-      let limits = limits_hold al_of (members_len al_of) each in
+      let known = rounds_resolved al_of (members_len al_of) each in
       let walks : (k : List ℕ) → has al_of k ≡ true → IsOpen st_of k → Walks al_of (members_len al_of) k = λ k known o. open_walks al_of (members_len al_of) k known o in
       lift_aliases al_of t g (get trace_name t) (option_and_then (get type_name) (get trace_name t)) (option_and_then (get aliases_name) (option_and_then (get type_name) (get trace_name t))) refl refl refl al_of refl
-      (inl (aliases_hold al_of st_of limits walks al_of g each (λ k d m. m) among)) (λ none. subst (λ x. Among g (all_alias_flaws al_of st_of x)) none among)
+      (inl (aliases_hold al_of st_of known walks al_of g each (λ k d m. m) among)) (λ none. subst (λ x. Among g (all_alias_flaws al_of st_of x)) none among)
 
-  laid_deep : refusal (all_alias_flaws al_of st_of al_of) ≡ Ok tt → refusal (flaws al_of Root false no_members t) ≡ Ok tt → if_shallow (lay st_of.done Root t None) ≡ Err f → RefusalHolds t f
+  laid_deep : refusal (all_alias_flaws al_of st_of al_of) ≡ Ok tt → refusal (flaws al_of None Root false no_members t) ≡ Ok tt → if_shallow (lay st_of.done Root t None) ≡ Err f → RefusalHolds t f
   laid_deep a b h =
       let deep = err_shallow (lay st_of.done Root t None) f h in
       inr (deep.0, (lay st_of.done Root t None, laid_resolves t al_of (members_len al_of) st_of refl apart refl a b, deep.1))
 
-  after_places : refusal (all_alias_flaws al_of st_of al_of) ≡ Ok tt → (refusal (flaws al_of Root false no_members t) ≡ Err f) ⊎ ((refusal (flaws al_of Root false no_members t) ≡ Ok tt) × (if_shallow (lay st_of.done Root t None) ≡ Err f)) → RefusalHolds t f
-  after_places a (inl h) = inl (flaw_holds al_of Root t f (refused_among (flaws al_of Root false no_members t) f h))
+  after_places : refusal (all_alias_flaws al_of st_of al_of) ≡ Ok tt → (refusal (flaws al_of None Root false no_members t) ≡ Err f) ⊎ ((refusal (flaws al_of None Root false no_members t) ≡ Ok tt) × (if_shallow (lay st_of.done Root t None) ≡ Err f)) → RefusalHolds t f
+  after_places a (inl h) = inl (flaw_holds al_of None (no_bases al_of) Root t f (refused_among (flaws al_of None Root false no_members t) f h))
   after_places a (inr (b, h)) = laid_deep a b h
 
-  after_aliases : refusal (all_alias_flaws al_of st_of al_of) ≡ Ok tt → (refusal (inner_places al_of st_of.done Root t) ≡ Err f) ⊎ ((refusal (inner_places al_of st_of.done Root t) ≡ Ok tt) × ((refusal (flaws al_of Root false no_members t) >>= (λ c. if_shallow (lay st_of.done Root t None))) ≡ Err f)) → RefusalHolds t f
+  after_aliases : refusal (all_alias_flaws al_of st_of al_of) ≡ Ok tt → (refusal (inner_places al_of st_of.done Root t) ≡ Err f) ⊎ ((refusal (inner_places al_of st_of.done Root t) ≡ Ok tt) × ((refusal (flaws al_of None Root false no_members t) >>= (λ c. if_shallow (lay st_of.done Root t None))) ≡ Err f)) → RefusalHolds t f
   after_aliases a (inl h) = inl (places_hold al_of st_of.done (rounds_resolved al_of (members_len al_of) (found_each al_of apart)) t Root f (refused_among (inner_places al_of st_of.done Root t) f h))
-  after_aliases a (inr (b, h)) = after_places a (err_then (refusal (flaws al_of Root false no_members t)) (λ c. if_shallow (lay st_of.done Root t None)) f h)
+  after_aliases a (inr (b, h)) = after_places a (err_then (refusal (flaws al_of None Root false no_members t)) (λ c. if_shallow (lay st_of.done Root t None)) f h)
 
-  from_first : ((g : Flaw) × (refusal (all_alias_flaws al_of st_of al_of) ≡ Err g) × (f ≡ in_aliases g)) ⊎ ((refusal (all_alias_flaws al_of st_of al_of) ≡ Ok tt) × ((refusal (inner_places al_of st_of.done Root t) >>= (λ b. refusal (flaws al_of Root false no_members t) >>= (λ c. if_shallow (lay st_of.done Root t None)))) ≡ Err f)) → RefusalHolds t f
+  from_first : ((g : Flaw) × (refusal (all_alias_flaws al_of st_of al_of) ≡ Err g) × (f ≡ in_aliases g)) ⊎ ((refusal (all_alias_flaws al_of st_of al_of) ≡ Ok tt) × ((refusal (inner_places al_of st_of.done Root t) >>= (λ b. refusal (flaws al_of None Root false no_members t) >>= (λ c. if_shallow (lay st_of.done Root t None)))) ≡ Err f)) → RefusalHolds t f
   from_first (inl (g, h, e)) = inl (subst (FlawHolds al_of Root t) (sym e) (alias_refused g h))
-  from_first (inr (a, h)) = after_aliases a (err_then (refusal (inner_places al_of st_of.done Root t)) (λ b. refusal (flaws al_of Root false no_members t) >>= (λ c. if_shallow (lay st_of.done Root t None))) f h)
+  from_first (inr (a, h)) = after_aliases a (err_then (refusal (inner_places al_of st_of.done Root t)) (λ b. refusal (flaws al_of None Root false no_members t) >>= (λ c. if_shallow (lay st_of.done Root t None))) f h)
 
   from_number : (few_aliases al_of ≡ Err f) ⊎ ((few_aliases al_of ≡ Ok tt) × (resolution_under al_of t ≡ Err f)) → RefusalHolds t f
   from_number (inl h) = number_holds t f h
-  from_number (inr (few, h)) = from_first (err_aliases (refusal (all_alias_flaws al_of st_of al_of)) (λ a. refusal (inner_places al_of st_of.done Root t) >>= (λ b. refusal (flaws al_of Root false no_members t) >>= (λ c. if_shallow (lay st_of.done Root t None)))) f h)
+  from_number (inr (few, h)) = from_first (err_aliases (refusal (all_alias_flaws al_of st_of al_of)) (λ a. refusal (inner_places al_of st_of.done Root t) >>= (λ b. refusal (flaws al_of None Root false no_members t) >>= (λ c. if_shallow (lay st_of.done Root t None)))) f h)
 
   -- the kind of a refusal holds at its path
   pub refusal_holds : resolution t ≡ Err f → RefusalHolds t f

@@ -24,7 +24,8 @@ use Rattle.std.specs.Prelude.{⊤}
 use Rattle.conf_tree.specs.Reading.{◌>>=◌}
 use Rattle.serde_json.specs.Events.{members_len}
 use Rattle.conf_inherit.specs.Places.{inner_places}
-use Rattle.conf_inherit.specs.Rounds.{Outcomes, rounds, no_outcomes, has}
+use Rattle.conf_inherit.specs.Named.{has}
+use Rattle.conf_inherit.specs.Rounds.{Outcomes, rounds, no_outcomes}
 use Rattle.conf_inherit.proofs.InOrder.{get_none}
 use Rattle.conf_inherit.proofs.LayingLemmas.{Meets, same, other, meets, get_other, get_same}
 use Rattle.conf_inherit.proofs.LaysOver.{lays}
@@ -41,17 +42,17 @@ no_flaws (f ∷ fs) h = cc
 -- ---- a configuration without a flaw is resolved
 
 pub laid_resolves : (t : Data) (al : Members) (n : ℕ) (st : Outcomes) → al ≡ aliases_of t → NoClash al → st ≡ rounds al n no_outcomes
-    → refusal (all_alias_flaws al st al) ≡ Ok tt → refusal (flaws al Root false no_members t) ≡ Ok tt → Resolves t (lay st.done Root t None)
+    → refusal (all_alias_flaws al st al) ≡ Ok tt → refusal (flaws al None Root false no_members t) ≡ Ok tt → Resolves t (lay st.done Root t None)
 laid_resolves t al n st is apart turned sound whole =
     let each = found_each al apart in
     let known : AreResolved al st.done = subst (λ x. AreResolved al x.done) (sym turned) (rounds_resolved al n each) in
     let root : HasRoot al st = subst (HasRoot al) (sym turned) (rounds_root al n each) in
-    let none = no_flaws (flaws al Root false no_members t) whole in
-    let own = front_empty (own_flaws al Root false t) (inner_flaws al Root no_members t) none in
-    let inner = back_empty (own_flaws al Root false t) (inner_flaws al Root no_members t) none in
+    let none = no_flaws (flaws al None Root false no_members t) whole in
+    let own = front_empty (own_flaws al Root false t) (inner_flaws al None Root no_members t) none in
+    let inner = back_empty (own_flaws al Root false t) (inner_flaws al None Root no_members t) none in
     let all = all_done al st (no_flaws (all_alias_flaws al st al) sound) root in
     subst (λ x. Looks x Root (t ∷ []) (lay st.done Root t None)) is
-    (lays al st.done known t Root (ready al st.done t Root no_members inner (named al (has st.done) all t Root false no_members own inner)) [] None refl)
+    (lays al st.done known t Root (ready al None st.done t Root no_members inner (named al None (has st.done) all t Root false no_members own inner)) [] None refl)
 
 -- ---- nesting
 
@@ -216,16 +217,16 @@ pub aliases_sound : (t r : Data) → resolution t ≡ Ok r → refusal (all_alia
 aliases_sound t r h =
     let al = aliases_of t in
     let st = rounds al (members_len al) no_outcomes in
-    (ok_aliases (refusal (all_alias_flaws al st al)) (λ a. refusal (inner_places al st.done Root t) >>= (λ b. refusal (flaws al Root false no_members t) >>= (λ c. if_shallow (lay st.done Root t None)))) r (ok_few t r h)).0
+    (ok_aliases (refusal (all_alias_flaws al st al)) (λ a. refusal (inner_places al st.done Root t) >>= (λ b. refusal (flaws al None Root false no_members t) >>= (λ c. if_shallow (lay st.done Root t None)))) r (ok_few t r h)).0
 
 -- what is answered is the resolution, and nests at most 32 deep
 pub resolution_sound : (t r : Data) → NoClash (aliases_of t) → resolution t ≡ Ok r → Resolves t r × (nests r 32 ≡ true)
 resolution_sound t r apart h =
     let al = aliases_of t in
     let st = rounds al (members_len al) no_outcomes in
-    let first = ok_aliases (refusal (all_alias_flaws al st al)) (λ a. refusal (inner_places al st.done Root t) >>= (λ b. refusal (flaws al Root false no_members t) >>= (λ c. if_shallow (lay st.done Root t None)))) r (ok_few t r h) in
-    let second = ok_then (refusal (inner_places al st.done Root t)) (λ b. refusal (flaws al Root false no_members t) >>= (λ c. if_shallow (lay st.done Root t None))) r first.1 in
-    let third = ok_then (refusal (flaws al Root false no_members t)) (λ c. if_shallow (lay st.done Root t None)) r second.1 in
+    let first = ok_aliases (refusal (all_alias_flaws al st al)) (λ a. refusal (inner_places al st.done Root t) >>= (λ b. refusal (flaws al None Root false no_members t) >>= (λ c. if_shallow (lay st.done Root t None)))) r (ok_few t r h) in
+    let second = ok_then (refusal (inner_places al st.done Root t)) (λ b. refusal (flaws al None Root false no_members t) >>= (λ c. if_shallow (lay st.done Root t None))) r first.1 in
+    let third = ok_then (refusal (flaws al None Root false no_members t)) (λ c. if_shallow (lay st.done Root t None)) r second.1 in
     let last = ok_shallow (lay st.done Root t None) r third.1 in
     (subst (Resolves t) last.0 (laid_resolves t al (members_len al) st refl apart refl first.0 third.0), last.1)
 

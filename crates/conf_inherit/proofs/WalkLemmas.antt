@@ -1,9 +1,9 @@
 -- An alias that is resolved starts no walk as long as there are aliases.
-use Rattle.std.proofs.Common.{◌≡◌, ◌&&◌, ◌||◌, ◌<◌, ◌≤◌, inl, inr, ℕ, zero, suc, List, Some, Result, Ok, Err, is_some, Bool, true, false, true≢false, refl, sym, ap, ◌∙◌, subst, arith, if◌then◌else◌}
+use Rattle.std.proofs.Common.{◌≡◌, ◌&&◌, ◌<◌, ◌≤◌, inl, inr, ℕ, zero, suc, List, Option, Some, None, Ok, is_some, Bool, true, false, true≢false, refl, sym, ap, ◌∙◌, subst, arith, if◌then◌else◌}
 use Rattle.serde_json.specs.Data.{Data, null, boolean, number, string, array, object, Items, no_items, item, Members, no_members, member, put}
 use Rattle.serde_json.specs.Events.{members_len}
 use Rattle.serde_json.specs.Find.{get_member}
-use Rattle.serde_json.proofs.Views.{get_member-put, get_member-put_other}
+use Rattle.serde_json.proofs.Views.{get_member-put_other}
 use Rattle.conf_inherit.specs.declared.spot.Spot.{Spot}
 use Rattle.conf_inherit.specs.declared.spot.Spot.TheVariants.{FieldType}
 use Rattle.conf_inherit.specs.Spot.{spot_under, spot_of_items, names_alias}
@@ -13,12 +13,13 @@ use Rattle.conf_inherit.specs.Flaws.{flaws}
 use Rattle.conf_inherit.specs.Names.{NoClash}
 use Rattle.conf_inherit.specs.Ready.{Names}
 use Rattle.conf_inherit.specs.Resolution.{aliases_of, resolution}
-use Rattle.conf_inherit.specs.Rounds.{Why, Outcomes, all_named, all_named_in_items, all_named_in_members, has, is_over, is_empty, outcome, concluded, step, round, rounds, no_outcomes}
+use Rattle.conf_inherit.specs.Named.{all_named, all_named_in_items, all_named_in_members, has}
+use Rattle.conf_inherit.specs.Rounds.{has_outcome, Outcomes, is_over, is_empty, outcome, concluded, step, round, rounds, no_outcomes}
 use Rattle.conf_inherit.proofs.LayingLemmas.{Meets, same, other, meets, get_other}
 use Rattle.conf_inherit.proofs.ListLemmas.{AllEntries, found_each}
 use Rattle.conf_inherit.proofs.NamedLemmas.{and_second, and_first}
 use Rattle.conf_inherit.proofs.ResolveLemmas.{no_flaws, aliases_sound}
-use Rattle.conf_inherit.proofs.RoundLemmas.{by_round, no_value, or_left_false, rounds_root, all_done}
+use Rattle.conf_inherit.proofs.RoundLemmas.{is_put, is_still, by_round, no_value, or_left_false, rounds_root, all_done}
 
 -- ---- what a value names passes a test that every name in it passes
 
@@ -93,14 +94,6 @@ module _ (p q : List ℕ → Bool) (more : (n : List ℕ) → p n ≡ true → q
           go false a true b later = rw (a, b) (omega arith)
           go false a false b later = rw (a, b) later
 
--- what was there is there still
-still : (k : List ℕ) (r : Data) (done : Members) (n : List ℕ) → has done n ≡ true → has (put k r done) n ≡ true
-still k r done n h = at (meets n k)
-  where
-    at : Meets n k → has (put k r done) n ≡ true
-    at (same e) = ap (has (put k r done)) e ∙ ap is_some (get_member-put k r done)
-    at (other apart) = ap is_some (get_member-put_other n k r done apart) ∙ h
-
 -- ---- the walks of a resolved alias
 
 module _ (al : Members) where
@@ -108,11 +101,11 @@ module _ (al : Members) where
   abbrev Short : Outcomes → Type 0
   Short st = (n : ℕ) (k : List ℕ) → has st.done k ≡ true → Walks al n k → n < count (has st.done) al
 
-  short_resolved : (k : List ℕ) (w r : Data) (st : Outcomes) → get_member k al ≡ Some w → has st.done k ≡ false → all_named (has st.done) FieldType w ≡ true → Short st → Short (concluded k st (Ok r))
+  short_resolved : (k : List ℕ) (w r : Data) (st : Outcomes) → get_member k al ≡ Some w → has st.done k ≡ false → all_named (has st.done) FieldType w ≡ true → Short st → Short (concluded k st (Some r))
   short_resolved k w r st is open_k named short n q h walk = at (meets q k)
     where
       grows : count (has st.done) al < count (has (put k r st.done)) al
-      grows = count_new (has st.done) (has (put k r st.done)) (still k r st.done) k w al is open_k (ap is_some (get_member-put k r st.done))
+      grows = count_new (has st.done) (has (put k r st.done)) (is_still k r st.done) k w al is open_k (is_put k r st.done)
 
       of_alias : (n : ℕ) → Walks al n k → n < count (has (put k r st.done)) al
       of_alias zero walk = omega (arith, grows)
@@ -128,21 +121,21 @@ module _ (al : Members) where
           let before : n < count (has st.done) al = short n q (ap is_some (sym (get_member-put_other q k r st.done apart)) ∙ h) walk in
           omega (arith, grows)
 
-  outcome_named : (done : Members) (w r : Data) → outcome al done w ≡ Ok r → all_named (has done) FieldType w ≡ true
-  outcome_named done w r h = go (is_empty (flaws al FieldType false no_members w) && all_named (has done) FieldType w) refl
+  outcome_named : (done : Members) (w r : Data) → outcome al done w ≡ Some r → all_named (has done) FieldType w ≡ true
+  outcome_named done w r h = go (all_named (has done) FieldType w && is_empty (flaws al (Some done) FieldType false no_members w)) refl
     where
-      go : (t : Bool) → (is_empty (flaws al FieldType false no_members w) && all_named (has done) FieldType w) ≡ t → all_named (has done) FieldType w ≡ true
-      go true e = and_second (is_empty (flaws al FieldType false no_members w)) (all_named (has done) FieldType w) e
+      go : (t : Bool) → (all_named (has done) FieldType w && is_empty (flaws al (Some done) FieldType false no_members w)) ≡ t → all_named (has done) FieldType w ≡ true
+      go true e = and_first (all_named (has done) FieldType w) (is_empty (flaws al (Some done) FieldType false no_members w)) e
       go false e = absurd (no_value r (rw e at h))
 
   short_step : (k : List ℕ) (w : Data) (st : Outcomes) → get_member k al ≡ Some w → Short st → Short (step al k w st)
-  short_step k w st is short = go (has st.done k || is_some (st.refused k)) refl (all_named (is_over al st) FieldType w) refl (outcome al st.done w) refl
+  short_step k w st is short = go (has_outcome st k) refl (all_named (is_over al st) FieldType w) refl (outcome al st.done w) refl
     where
-      go : (t : Bool) → (has st.done k || is_some (st.refused k)) ≡ t → (u : Bool) → all_named (is_over al st) FieldType w ≡ u → (o : Result Data Why) → outcome al st.done w ≡ o → Short (step al k w st)
+      go : (t : Bool) → has_outcome st k ≡ t → (u : Bool) → all_named (is_over al st) FieldType w ≡ u → (o : Option Data) → outcome al st.done w ≡ o → Short (step al k w st)
       go true a u b o e = rw a short
       go false a false b o e = rw (a, b) short
-      go false a true b (Err why) e = rw (a, b, e) short
-      go false a true b (Ok r) e = rw (a, b, e) (short_resolved k w r st is (or_left_false (has st.done k) (is_some (st.refused k)) a) (outcome_named st.done w r e) short)
+      go false a true b None e = rw (a, b, e) short
+      go false a true b (Some r) e = rw (a, b, e) (short_resolved k w r st is (or_left_false (has st.done k) (has st.refused k) a) (outcome_named st.done w r e) short)
 
   short_round : (ms : Members) (st : Outcomes) → AllEntries (λ k w. get_member k al ≡ Some w) ms → Short st → Short (round al ms st)
   short_round no_members st each short = short

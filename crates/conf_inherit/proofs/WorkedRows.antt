@@ -77,7 +77,7 @@ circle =
     (member (codes "Q") (object (member (codes "$inherit") (string (codes "P")) no_members)) no_members))
 
 circle_refused : resolution circle ≡ Err (record { path = key (codes "trace") ∷ key (codes "type") ∷ key (codes "$field-type-aliases") ∷ key (codes "P") ∷ []; kind = InheritCycle })
-unfolding trace_name type_name aliases_name field_type_name names_alias spot_under spot_in_type inherit_name lists_members is_entry names_member_type
+unfolding trace_name type_name aliases_name field_type_name names_alias spot_under spot_in_type inherit_name lists_members is_entry names_member_type is_base_name
 circle_refused = refl
 
 -- P with the members x and y, of these types
@@ -92,5 +92,5 @@ flaw_before_circle = refl
 
 -- the circle stands before the flaw
 circle_before_flaw : resolution (two_texts (codes "P") (codes "nope")) ≡ Err (record { path = key (codes "trace") ∷ key (codes "type") ∷ key (codes "$field-type-aliases") ∷ key (codes "P") ∷ []; kind = InheritCycle })
-unfolding trace_name type_name aliases_name field_type_name names_alias spot_under spot_in_type inherit_name lists_members is_entry names_member_type spot_of_items
+unfolding trace_name type_name aliases_name field_type_name names_alias spot_under spot_in_type inherit_name lists_members is_entry names_member_type spot_of_items is_base_name
 circle_before_flaw = refl

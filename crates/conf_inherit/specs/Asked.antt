@@ -4,7 +4,8 @@ use Rattle.serde_json.specs.View.{members_view}
 use Rattle.conf_inherit.specs.declared.asked.Asked.{Asked}
 use Rattle.conf_inherit.specs.declared.asked.Asked.TheVariants.{IsResolved, IsOver}
 use Rattle.conf_inherit.specs.AliasOutcomes.{outcomes_of}
-use Rattle.conf_inherit.specs.Rounds.{has, is_over}
+use Rattle.conf_inherit.specs.Named.{has}
+use Rattle.conf_inherit.specs.Rounds.{is_over}
 
 abbrev pub passes : Asked → List ℕ → Bool
 passes (IsResolved resolved) n = has (members_view resolved.now.entries) n

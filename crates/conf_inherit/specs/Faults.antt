@@ -1,5 +1,5 @@
 -- What a refusal says: its kind holds at its path, over the configuration as it was given.
-use Rattle.std.specs.Prelude.{◌≡◌, ◌<◌, ◌++◌, ◌⊎◌, ℕ, List, [], ◌∷◌, Some, Err, true, false}
+use Rattle.std.specs.Prelude.{◌≡◌, ◌<◌, ◌++◌, ◌⊎◌, ℕ, List, [], ◌∷◌, Some, None, true, false}
 use Rattle.serde_json.specs.Data.{Data, array, object, Items, Members}
 use Rattle.serde_json.specs.Events.{items_len, members_len}
 use Rattle.serde_json.specs.Find.{get_item}
@@ -16,7 +16,9 @@ use Rattle.conf_inherit.specs.Places.{max_extra_members}
 use Rattle.conf_inherit.specs.Ready.{Names}
 use Rattle.conf_inherit.specs.Nesting.{nests}
 use Rattle.conf_inherit.specs.Resolution.{max_aliases, aliases_of, Resolves}
-use Rattle.conf_inherit.specs.Settled.{settled}
+use Rattle.conf_inherit.specs.Laying.{lay}
+use Rattle.conf_inherit.specs.Limits.{Exceeds}
+use Rattle.conf_inherit.specs.Named.{all_named, has}
 use Rattle.conf_inherit.specs.declared.spot.Spot.TheVariants.{Root, Aliases}
 
 -- the path leads from the value v at the spot s to the value w at the spot t
@@ -39,9 +41,9 @@ abbrev pub Circles : Members → Spot → Data → List Place → Type 0
 Circles al s v path = (front : List Place) × (k : List ℕ)
     × (path ≡ front ++ key k ∷ []) × Leads s v front Aliases (object al) × Walks al (members_len al) k
 
--- a field type w stands at the spot t, and passes the limit with the aliases resolved
+-- a field type w stands at the spot t, all that it names is resolved, and what it is resolved to is past the limit
 abbrev pub Passes : Members → FaultKind → Spot → Data → Type 0
-Passes al kind t w = Names t × ((done : Members) × AreResolved al done × (settled done t w ≡ Err kind))
+Passes al kind t w = Names t × ((done : Members) × AreResolved al done × (all_named (has done) t w ≡ true) × Exceeds kind (lay done t w None))
 
 -- a packet context has too many extra members
 abbrev pub ListsTooMany : Spot → Data → Type 0

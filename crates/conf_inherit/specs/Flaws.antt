@@ -1,13 +1,16 @@
--- What is wrong with a value before anything is laid over anything: names of no alias, members lists of another
--- form, and names that stand twice in one. The flaws are in walk order: an object or a list before its content,
--- an object in the byte order of its names, a list by index.
-use Rattle.std.specs.Prelude.{◌&&◌, ◌||◌, ◌++◌, ℕ, suc, List, [], ◌∷◌, map, Bool, true, false, not, is_some, if◌then◌else◌}
+-- What is wrong with a value: names of no alias, members lists of another form, names that stand twice in one, and,
+-- where the resolved aliases are known, the limit that the value of a `$inherit` passes by itself. The flaws are in
+-- walk order: an object or a list before its content, an object in the byte order of its names, a list by index. A
+-- limit comes behind all else that is wrong in the value that passes it.
+use Rattle.std.specs.Prelude.{◌&&◌, ◌||◌, ◌++◌, ℕ, suc, List, [], ◌∷◌, map, Option, None, Some, Bool, true, false, not, is_some, if◌then◌else◌}
 use Rattle.serde_json.specs.Data.{Data, null, boolean, number, string, array, object, Items, no_items, item, Members, no_members, member, put}
 use Rattle.serde_json.specs.Find.{get_member}
 use Rattle.conf_tree.specs.Flaw.{Flaw, key, index, here, within}
 use Rattle.conf_tree.specs.declared.fault_kind.FaultKind.TheVariants.{WrongKind, NoSuchAlias, NameClash}
 use Rattle.conf_inherit.specs.declared.spot.Spot.{Spot}
-use Rattle.conf_inherit.specs.Spot.{spot_under, spot_of_items, names_alias, names_member_type, lists_members, is_entry}
+use Rattle.conf_inherit.specs.declared.spot.Spot.TheVariants.{FieldType}
+use Rattle.conf_inherit.specs.Spot.{spot_under, spot_of_items, names_alias, names_member_type, is_base_name, lists_members, is_entry}
+use Rattle.conf_inherit.specs.Limits.{limit_flaws}
 
 -- a members list is a list, or null
 abbrev pub is_no_list : Data → Bool
@@ -52,27 +55,36 @@ abbrev pub mark : Data → Members → Members
 mark (object ms) seen = mark_names ms seen
 mark _ seen = seen
 
+-- the limit that the value of a `$inherit` passes, where the resolved aliases are known
+abbrev pub base_flaws : Option Members → Spot → List ℕ → Data → List Flaw
+base_flaws None s k d = []
+base_flaws (Some done) s k d = if is_base_name s k then limit_flaws done FieldType d else []
+
 abbrev mutual
   -- the flaws of all that is in a value; `seen` has the names of the entries before it
-  pub inner_flaws : Members → Spot → Members → Data → List Flaw
-  inner_flaws al s seen null = []
-  inner_flaws al s seen (boolean b) = []
-  inner_flaws al s seen (number n) = []
-  inner_flaws al s seen (string n) = []
-  inner_flaws al s seen (array es) = item_flaws al s 0 no_members es
-  inner_flaws al s seen (object ms) = member_flaws al s seen ms
+  pub inner_flaws : Members → Option Members → Spot → Members → Data → List Flaw
+  inner_flaws al known s seen null = []
+  inner_flaws al known s seen (boolean b) = []
+  inner_flaws al known s seen (number n) = []
+  inner_flaws al known s seen (string n) = []
+  inner_flaws al known s seen (array es) = item_flaws al known s 0 no_members es
+  inner_flaws al known s seen (object ms) = member_flaws al known s seen ms
 
   -- the items from place i on
-  pub item_flaws : Members → Spot → ℕ → Members → Items → List Flaw
-  item_flaws al s i seen no_items = []
-  item_flaws al s i seen (item e es) =
-      map (within (index i)) (own_flaws al (spot_of_items s) false e ++ inner_flaws al (spot_of_items s) seen e) ++ item_flaws al s (suc i) (mark e seen) es
+  pub item_flaws : Members → Option Members → Spot → ℕ → Members → Items → List Flaw
+  item_flaws al known s i seen no_items = []
+  item_flaws al known s i seen (item e es) =
+      map (within (index i)) (own_flaws al (spot_of_items s) false e ++ inner_flaws al known (spot_of_items s) seen e) ++ item_flaws al known s (suc i) (mark e seen) es
 
-  pub member_flaws : Members → Spot → Members → Members → List Flaw
-  member_flaws al s seen no_members = []
-  member_flaws al s seen (member k d ms) =
-      map (within (key k)) (own_flaws al (spot_under s k) (is_entry s && is_some (get_member k seen)) d ++ inner_flaws al (spot_under s k) no_members d) ++ member_flaws al s seen ms
+  pub member_flaws : Members → Option Members → Spot → Members → Members → List Flaw
+  member_flaws al known s seen no_members = []
+  member_flaws al known s seen (member k d ms) =
+      map (within (key k)) ((own_flaws al (spot_under s k) (is_entry s && is_some (get_member k seen)) d ++ inner_flaws al known (spot_under s k) no_members d) ++ base_flaws known s k d) ++ member_flaws al known s seen ms
 
 -- the flaws of a value and all that is in it
-abbrev pub flaws : Members → Spot → Bool → Members → Data → List Flaw
-flaws al s taken seen v = own_flaws al s taken v ++ inner_flaws al s seen v
+abbrev pub flaws : Members → Option Members → Spot → Bool → Members → Data → List Flaw
+flaws al known s taken seen v = own_flaws al s taken v ++ inner_flaws al known s seen v
+
+-- the flaws of a field type, and then the limit that it passes
+abbrev pub type_flaws : Members → Members → Spot → Data → List Flaw
+type_flaws al done s v = flaws al (Some done) s false no_members v ++ limit_flaws done s v

@@ -3,11 +3,11 @@ pub mod Names
 pub mod Looks
 pub mod Laying
 pub mod Ready
-pub mod Flaws
+pub mod Named
 pub mod Size
 pub mod Nesting
-pub mod Settled
 pub mod Limits
+pub mod Flaws
 pub mod Rounds
 pub mod Circle
 pub mod SameFlaw

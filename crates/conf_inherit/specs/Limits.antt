@@ -1,13 +1,24 @@
--- What a field type's limits are, once it is resolved, and where a type inherits from another.
-use Rattle.std.specs.Prelude.{◌≡◌, ◌<◌, ◌≤◌, ◌⊎◌, true, false}
+-- The limits of a field type, once it is resolved: its JSON values and its levels. Only a type that resolves has a
+-- size: all aliases that it names are resolved. Where a type passes both limits, that of its values is named.
+use Rattle.std.specs.Prelude.{◌≡◌, ◌<◌, ◌≤◌, ◌⊎◌, ℕ, List, [], ◌∷◌, None, Result, Ok, Err, nat_lt, true, false, if◌then◌else◌}
 use Rattle.serde_json.specs.Data.{Data, null, boolean, number, string, array, object, Items, no_items, item, Members, no_members, member}
+use Rattle.conf_tree.specs.Flaw.{Flaw, here}
 use Rattle.conf_tree.specs.declared.fault_kind.FaultKind.{FaultKind}
 use Rattle.conf_tree.specs.declared.fault_kind.FaultKind.TheVariants.{TooDeep, Limit}
 use Rattle.conf_inherit.specs.declared.spot.Spot.{Spot}
 use Rattle.conf_inherit.specs.Spot.{spot_under, spot_of_items, is_base_name}
+use Rattle.conf_inherit.specs.Laying.{lay}
+use Rattle.conf_inherit.specs.Named.{all_named, has}
 use Rattle.conf_inherit.specs.Nesting.{nests}
-use Rattle.conf_inherit.specs.Settled.{max_values, max_levels}
 use Rattle.conf_inherit.specs.Size.{size}
+
+-- the most JSON values of a resolved type
+abbrev pub max_values : ℕ
+max_values = 4096
+
+-- the most levels of its objects and lists
+abbrev pub max_levels : ℕ
+max_levels = 32
 
 -- a resolved type is within both limits
 abbrev pub Fits : Data → Type 0
@@ -18,6 +29,18 @@ abbrev pub Exceeds : FaultKind → Data → Type 0
 Exceeds Limit r = max_values < size r
 Exceeds TooDeep r = nests r max_levels ≡ false
 Exceeds _ r = ⊥
+
+-- a resolved type within the limits, or the limit that it passes
+abbrev pub fitting : Data → Result Data FaultKind
+fitting r = if nat_lt max_values (size r) then Err Limit else if nests r max_levels then Ok r else Err TooDeep
+
+abbrev pub passed : Result Data FaultKind → List Flaw
+passed (Ok r) = []
+passed (Err kind) = here kind ∷ []
+
+-- the limit that a type passes, if it resolves
+abbrev pub limit_flaws : Members → Spot → Data → List Flaw
+limit_flaws done s v = if all_named (has done) s v then passed (fitting (lay done s v None)) else []
 
 abbrev mutual
   -- d is the value of a `$inherit`, anywhere in a value

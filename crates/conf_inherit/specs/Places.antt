@@ -1,16 +1,15 @@
 -- What is wrong at the places of a configuration where field types stand, in walk order: the flaws of the type
 -- there, or else the limit that it passes once it is resolved. The extra members of a packet context are such
 -- places one after the other, and each has its flaws before its limit.
-use Rattle.std.specs.Prelude.{ℕ, suc, List, [], ◌∷◌, ◌++◌, map, Result, Ok, Err, false, nat_lt, if◌then◌else◌}
+use Rattle.std.specs.Prelude.{ℕ, suc, List, [], ◌∷◌, ◌++◌, map, Some, false, nat_lt, if◌then◌else◌}
 use Rattle.serde_json.specs.Data.{Data, null, boolean, number, string, array, object, Items, no_items, item, Members, no_members, member}
 use Rattle.serde_json.specs.Events.{items_len}
 use Rattle.conf_tree.specs.Flaw.{Flaw, key, index, here, within}
-use Rattle.conf_tree.specs.declared.fault_kind.FaultKind.{FaultKind}
 use Rattle.conf_tree.specs.declared.fault_kind.FaultKind.TheVariants.{Limit}
 use Rattle.conf_inherit.specs.declared.spot.Spot.{Spot}
 use Rattle.conf_inherit.specs.Spot.{spot_under, spot_of_items, names_alias, names_member_type, lists_extra_members, leads_on}
-use Rattle.conf_inherit.specs.Flaws.{own_flaws, flaws, mark}
-use Rattle.conf_inherit.specs.Settled.{settled}
+use Rattle.conf_inherit.specs.Flaws.{own_flaws, flaws, type_flaws, mark}
+use Rattle.conf_inherit.specs.Limits.{limit_flaws}
 
 -- the most extra members of a packet context
 abbrev pub max_extra_members : ℕ
@@ -20,15 +19,11 @@ unfoldable pub too_many : Data → List Flaw
 too_many (array es) = if nat_lt max_extra_members (items_len es) then here Limit ∷ [] else []
 too_many _ = []
 
-abbrev pub limit_flaws : Result Data FaultKind → List Flaw
-limit_flaws (Ok r) = []
-limit_flaws (Err kind) = here kind ∷ []
-
 -- what is wrong with a value as a whole that stands at a place of field types, or that lists extra members
 unfoldable pub place_flaws : Members → Members → Spot → Data → List Flaw
 place_flaws al done s v =
-    if names_alias s then flaws al s false no_members v ++ limit_flaws (settled done s v)
-    else if names_member_type s then limit_flaws (settled done s v)
+    if names_alias s then type_flaws al done s v
+    else if names_member_type s then limit_flaws done s v
     else if lists_extra_members s then too_many v ++ own_flaws al s false v
     else []
 
@@ -46,7 +41,7 @@ abbrev mutual
   pub item_places : Members → Members → Spot → ℕ → Members → Items → List Flaw
   item_places al done s i seen no_items = []
   item_places al done s i seen (item e es) =
-      map (within (index i)) (flaws al (spot_of_items s) false seen e ++ inner_places al done (spot_of_items s) e) ++ item_places al done s (suc i) (mark e seen) es
+      map (within (index i)) (flaws al (Some done) (spot_of_items s) false seen e ++ inner_places al done (spot_of_items s) e) ++ item_places al done s (suc i) (mark e seen) es
 
   pub member_places : Members → Members → Spot → Members → List Flaw
   member_places al done s no_members = []

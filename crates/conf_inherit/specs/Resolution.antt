@@ -56,9 +56,10 @@ from_aliases (Err flaw) = Err (in_aliases flaw)
 abbrev pub if_shallow : Data → Result Data Flaw
 if_shallow r = if nests r 32 then Ok r else Err (here TooDeep)
 
+-- the limits are judged at the places, so that the pass over the whole leaves them out
 abbrev pub resolution_after : Members → Outcomes → Data → Result Data Flaw
 resolution_after al st t =
-    from_aliases (refusal (all_alias_flaws al st al)) >>= (λ a. refusal (inner_places al st.done Root t) >>= (λ b. refusal (flaws al Root false no_members t) >>= (λ c. if_shallow (lay st.done Root t None))))
+    from_aliases (refusal (all_alias_flaws al st al)) >>= (λ a. refusal (inner_places al st.done Root t) >>= (λ b. refusal (flaws al None Root false no_members t) >>= (λ c. if_shallow (lay st.done Root t None))))
 
 abbrev pub resolution_under : Members → Data → Result Data Flaw
 resolution_under al t = resolution_after al (rounds al (members_len al) no_outcomes) t

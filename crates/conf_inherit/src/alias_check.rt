@@ -1,5 +1,5 @@
 //! The first fault of the aliases, in byte order of their names.
-ghost use Rattle.std.specs.Prelude.{◌≡◌, ◌≤◌, ◌<◌, false, IfOk, IfErr, string_bytes};
+ghost use Rattle.std.specs.Prelude.{◌≡◌, ◌≤◌, ◌<◌, IfOk, IfErr, string_bytes};
 ghost use Rattle.arrayvec.specs.ArrayVec.{array_vec_len};
 ghost use Rattle.serde_json.specs.Data.{depth, members_depth, no_members};
 ghost use Rattle.serde_json.specs.View.{view, members_view};
@@ -7,11 +7,11 @@ ghost use Rattle.conf_tree.specs.Reading.{Gives};
 ghost use Rattle.conf_tree.specs.Walk.{refusal};
 ghost use Rattle.conf_inherit.specs.AliasOutcomes.{outcomes_of};
 ghost use Rattle.conf_inherit.specs.AliasFlaws.{over_names, first_or_circle, alias_flaws, all_alias_flaws};
-ghost use Rattle.conf_inherit.specs.Flaws.{flaws};
+ghost use Rattle.conf_inherit.specs.Flaws.{type_flaws};
 
 use crate::Spot;
+use crate::flaws::check_type;
 use crate::outcomes::AliasOutcomes;
-use crate::places::check_value;
 use crate::property::has;
 use crate::same::is_same_fault;
 use conf_tree::{ConfFault, FaultKind};
@@ -42,17 +42,18 @@ fn check_circle(
     alloc: Global,
     value: &Value,
     aliases: &Map<String, Value>,
+    resolved: &Map<String, Value>,
     over: &Map<String, Value>,
 ) -> Result<(), ConfFault>
     requires { depth (view value.now) ≤ 28 }
-    ensures first { Gives (λ _. tt) result (refusal (first_or_circle (refusal (flaws (members_view aliases.now.entries) Spot.FieldType false no_members (view value.now))) (refusal (flaws (members_view over.now.entries) Spot.FieldType false no_members (view value.now))))) }
+    ensures first { Gives (λ _. tt) result (refusal (first_or_circle (refusal (type_flaws (members_view aliases.now.entries) (members_view resolved.now.entries) Spot.FieldType (view value.now))) (refusal (type_flaws (members_view over.now.entries) (members_view resolved.now.entries) Spot.FieldType (view value.now))))) }
     ensures short { IfErr result (λ fault. array_vec_len fault.path ≤ 28) }
 {
-    if let Err(own) = check_value(alloc, value, Spot::FieldType, 28, aliases) {
+    if let Err(own) = check_type(alloc, value, Spot::FieldType, 28, aliases, resolved) {
         if own.is_memory() {
             return Err(own);
         }
-        if let Err(first) = check_value(alloc, value, Spot::FieldType, 28, over) {
+        if let Err(first) = check_type(alloc, value, Spot::FieldType, 28, over, resolved) {
             if first.is_memory() {
                 return Err(first);
             }
@@ -78,14 +79,14 @@ fn check_alias(
     ensures first { Gives (λ _. tt) result (refusal (alias_flaws (members_view aliases.now.entries) (outcomes_of outcomes.now) name.now (view value.now))) }
     ensures short { IfErr result (λ fault. array_vec_len fault.path ≤ 28) }
 {
-    if has(&outcomes.resolved, name) {
+    let resolved = &outcomes.resolved;
+    if has(resolved, name) {
         return Ok(());
     }
-    match outcomes.why(name) {
-        None => check_circle(alloc, value, aliases, over),
-        Some(Some(kind)) => Err(ConfFault::here(kind)),
-        Some(None) => check_value(alloc, value, Spot::FieldType, 28, aliases),
+    if has(&outcomes.refused, name) {
+        return check_type(alloc, value, Spot::FieldType, 28, aliases, resolved);
     }
+    check_circle(alloc, value, aliases, resolved, over)
 }
 
 /// Refuses the first fault of the aliases, where `over` has the names of those with an outcome.

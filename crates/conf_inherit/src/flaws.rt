@@ -1,15 +1,16 @@
-//! The first flaw of a value before anything is laid over anything, in walk order.
-ghost use Rattle.std.specs.Prelude.{◌≡◌, ◌+◌, ◌≤◌, ◌<◌, ◌&&◌, IfErr, IfOk, OnOk, is_some};
+//! The first flaw of a value, in walk order.
+ghost use Rattle.std.specs.Prelude.{◌≡◌, ◌+◌, ◌≤◌, ◌<◌, ◌&&◌, ◌++◌, Some, false, IfErr, IfOk, OnOk, is_some, option_map};
 ghost use Rattle.arrayvec.specs.ArrayVec.{array_vec_len};
 ghost use Rattle.serde_json.specs.Data.{depth, items_depth, members_depth, array, object, no_members};
 ghost use Rattle.serde_json.specs.Find.{get_member};
 ghost use Rattle.serde_json.specs.View.{view, items_view, members_view};
 ghost use Rattle.conf_tree.specs.Reading.{Gives};
 ghost use Rattle.conf_tree.specs.Walk.{refusal};
-ghost use Rattle.conf_inherit.specs.Spot.{is_entry};
-ghost use Rattle.conf_inherit.specs.Flaws.{is_wrong, is_no_list, is_no_entry, is_no_member, is_unknown, own_flaws, flaws, inner_flaws, item_flaws, member_flaws, mark, mark_names};
+ghost use Rattle.conf_inherit.specs.Spot.{spot_under, is_entry};
+ghost use Rattle.conf_inherit.specs.Flaws.{is_wrong, is_no_list, is_no_entry, is_no_member, is_unknown, own_flaws, base_flaws, flaws, type_flaws, inner_flaws, item_flaws, member_flaws, mark, mark_names};
 
 use crate::Spot;
+use crate::limits::check_limits;
 use crate::property::property;
 use conf_tree::{ConfFault, FaultKind};
 use serde_json::{Map, Value};
@@ -104,8 +105,9 @@ fn mark_names(members: &Map<String, Value>, seen: &mut Map<String, Value>) -> Re
     Ok(())
 }
 
-/// Refuses the first flaw of a value and all that is in it. `seen` has the names of the entries before it, and the
-/// value nests at most `levels` deep.
+/// Refuses the first flaw of a value and all that is in it, the limits that the values of `$inherit` pass among them
+/// where the resolved aliases are given. `seen` has the names of the entries before it, and the value nests at most
+/// `levels` deep.
 #[cycle(flaws)]
 #[tactic(auto, using(crate::proofs::FlawLemmas::refused_first, crate::proofs::FlawLemmas::refused_later))]
 pub(crate) fn check_flaws(
@@ -116,16 +118,17 @@ pub(crate) fn check_flaws(
     seen: &Map<String, Value>,
     levels: usize,
     aliases: &Map<String, Value>,
+    resolved: Option<&Map<String, Value>>,
 ) -> Result<(), ConfFault>
     requires nested { depth (view value.now) ≤ levels }
     requires shallow { levels ≤ 32 }
-    ensures first { Gives (λ _. tt) result (refusal (flaws (members_view aliases.now.entries) spot taken (members_view seen.now.entries) (view value.now))) }
+    ensures first { Gives (λ _. tt) result (refusal (flaws (members_view aliases.now.entries) (option_map (λ m. members_view m.now.entries) resolved.entry) spot taken (members_view seen.now.entries) (view value.now))) }
     ensures short { IfErr result (λ fault. array_vec_len fault.path ≤ levels) }
 {
     if let Err(fault) = check_itself(value, spot, taken, aliases) {
         return Err(fault);
     }
-    check_inner(alloc, value, spot, seen, levels, aliases)
+    check_inner(alloc, value, spot, seen, levels, aliases, resolved)
 }
 
 #[cycle(flaws)]
@@ -136,16 +139,25 @@ fn check_inner(
     seen: &Map<String, Value>,
     levels: usize,
     aliases: &Map<String, Value>,
+    resolved: Option<&Map<String, Value>>,
 ) -> Result<(), ConfFault>
     requires nested { depth (view value.now) ≤ levels }
     requires shallow { levels ≤ 32 }
-    ensures first { Gives (λ _. tt) result (refusal (inner_flaws (members_view aliases.now.entries) spot (members_view seen.now.entries) (view value.now))) }
+    ensures first { Gives (λ _. tt) result (refusal (inner_flaws (members_view aliases.now.entries) (option_map (λ m. members_view m.now.entries) resolved.entry) spot (members_view seen.now.entries) (view value.now))) }
     ensures short { IfErr result (λ fault. array_vec_len fault.path ≤ levels) }
 {
     match value {
         Value::Null | Value::Bool(_) | Value::Number(_) | Value::String(_) => Ok(()),
-        Value::Array(items) => check_items(alloc, items, spot, levels - 1, aliases),
-        Value::Object(members) => check_members(alloc, members, spot, seen, levels - 1, aliases),
+        Value::Array(items) => check_items(alloc, items, spot, levels - 1, aliases, resolved),
+        Value::Object(members) => check_members(
+            alloc,
+            members,
+            spot,
+            seen,
+            levels - 1,
+            aliases,
+            resolved,
+        ),
     }
 }
 
@@ -156,10 +168,11 @@ fn check_items(
     spot: Spot,
     levels: usize,
     aliases: &Map<String, Value>,
+    resolved: Option<&Map<String, Value>>,
 ) -> Result<(), ConfFault>
     requires nested { items_depth (items_view items.now.items) ≤ levels }
     requires shallow { levels < 32 }
-    ensures first { Gives (λ _. tt) result (refusal (item_flaws (members_view aliases.now.entries) spot 0 no_members (items_view items.now.items))) }
+    ensures first { Gives (λ _. tt) result (refusal (item_flaws (members_view aliases.now.entries) (option_map (λ m. members_view m.now.entries) resolved.entry) spot 0 no_members (items_view items.now.items))) }
     ensures short { IfErr result (λ fault. array_vec_len fault.path ≤ levels + 1) }
 {
     let mut seen = Map::new(alloc);
@@ -172,6 +185,7 @@ fn check_items(
             &seen,
             levels,
             aliases,
+            resolved,
         ) {
             return Err(fault.inside(index));
         }
@@ -190,23 +204,23 @@ fn check_members(
     seen: &Map<String, Value>,
     levels: usize,
     aliases: &Map<String, Value>,
+    resolved: Option<&Map<String, Value>>,
 ) -> Result<(), ConfFault>
     requires nested { members_depth (members_view members.now.entries) ≤ levels }
     requires shallow { levels < 32 }
-    ensures first { Gives (λ _. tt) result (refusal (member_flaws (members_view aliases.now.entries) spot (members_view seen.now.entries) (members_view members.now.entries))) }
+    ensures first { Gives (λ _. tt) result (refusal (member_flaws (members_view aliases.now.entries) (option_map (λ m. members_view m.now.entries) resolved.entry) spot (members_view seen.now.entries) (members_view members.now.entries))) }
     ensures short { IfErr result (λ fault. array_vec_len fault.path ≤ levels + 1) }
 {
-    let nothing = Map::new(alloc);
     for (name, member) in members.iter() {
-        let taken = is_taken(name.as_str(), spot, seen);
-        if let Err(fault) = check_flaws(
+        if let Err(fault) = check_member(
             alloc,
+            name.as_str(),
             member,
-            spot.under(name.as_str()),
-            taken,
-            &nothing,
+            spot,
+            seen,
             levels,
             aliases,
+            resolved,
         ) {
             return Err(fault.in_property(alloc, name.as_str()));
         }
@@ -214,9 +228,102 @@ fn check_members(
     Ok(())
 }
 
+/// Refuses the first flaw of a property's value and all that is in it, and then the limit that it passes, if the
+/// object inherits from it.
+#[cycle(flaws)]
+#[tactic(auto, using(crate::proofs::FlawLemmas::refused_first, crate::proofs::FlawLemmas::refused_later))]
+fn check_member(
+    alloc: Global,
+    name: &str,
+    member: &Value,
+    spot: Spot,
+    seen: &Map<String, Value>,
+    levels: usize,
+    aliases: &Map<String, Value>,
+    resolved: Option<&Map<String, Value>>,
+) -> Result<(), ConfFault>
+    requires nested { depth (view member.now) ≤ levels }
+    requires shallow { levels < 32 }
+    ensures first { Gives (λ _. tt) result (refusal (flaws (members_view aliases.now.entries) (option_map (λ m. members_view m.now.entries) resolved.entry) (spot_under spot name.now) (is_entry spot && is_some (get_member name.now (members_view seen.now.entries))) no_members (view member.now) ++ base_flaws (option_map (λ m. members_view m.now.entries) resolved.entry) spot name.now (view member.now))) }
+    ensures short { IfErr result (λ fault. array_vec_len fault.path ≤ levels) }
+{
+    let taken = is_taken(name, spot, seen);
+    let nothing = Map::new(alloc);
+    let inner = spot.under(name);
+    if let Err(fault) = check_flaws(
+        alloc, member, inner, taken, &nothing, levels, aliases, resolved,
+    ) {
+        return Err(fault);
+    }
+    check_base(alloc, name, member, spot, resolved)
+}
+
+/// Refuses the limit that a property's value passes by itself, if the object inherits from it.
+fn check_base(
+    alloc: Global,
+    name: &str,
+    member: &Value,
+    spot: Spot,
+    resolved: Option<&Map<String, Value>>,
+) -> Result<(), ConfFault>
+    ensures first { Gives (λ _. tt) result (refusal (base_flaws (option_map (λ m. members_view m.now.entries) resolved.entry) spot name.now (view member.now))) }
+    ensures short { IfErr result (λ fault. array_vec_len fault.path ≡ 0) }
+{
+    match resolved {
+        Some(resolved) => {
+            if spot.is_base_name(name) {
+                return check_limits(alloc, member, Spot::FieldType, resolved);
+            }
+            Ok(())
+        }
+        None => Ok(()),
+    }
+}
+
 /// Whether the name of an entry is taken by one before it.
 fn is_taken(name: &str, spot: Spot, seen: &Map<String, Value>) -> bool
     ensures { result ≡ (is_entry spot && is_some (get_member name.now (members_view seen.now.entries))) }
 {
     spot.is_entry() && property(seen, name).is_some()
+}
+
+/// Refuses the first flaw of a value as a whole.
+pub(crate) fn check_value(
+    alloc: Global,
+    value: &Value,
+    spot: Spot,
+    levels: usize,
+    aliases: &Map<String, Value>,
+    resolved: Option<&Map<String, Value>>,
+) -> Result<(), ConfFault>
+    requires nested { depth (view value.now) ≤ levels }
+    requires shallow { levels ≤ 32 }
+    ensures first { Gives (λ _. tt) result (refusal (flaws (members_view aliases.now.entries) (option_map (λ m. members_view m.now.entries) resolved.entry) spot false no_members (view value.now))) }
+    ensures short { IfErr result (λ fault. array_vec_len fault.path ≤ levels) }
+{
+    let nothing = Map::new(alloc);
+    check_flaws(
+        alloc, value, spot, false, &nothing, levels, aliases, resolved,
+    )
+}
+
+/// Refuses the first flaw of a field type, or else the limit that it passes.
+#[tactic(auto, using(crate::proofs::FlawLemmas::refused_later))]
+pub(crate) fn check_type(
+    alloc: Global,
+    value: &Value,
+    spot: Spot,
+    levels: usize,
+    aliases: &Map<String, Value>,
+    resolved: &Map<String, Value>,
+) -> Result<(), ConfFault>
+    requires nested { depth (view value.now) ≤ levels }
+    requires shallow { levels ≤ 32 }
+    ensures first { Gives (λ _. tt) result (refusal (type_flaws (members_view aliases.now.entries) (members_view resolved.now.entries) spot (view value.now))) }
+    ensures short { IfErr result (λ fault. array_vec_len fault.path ≤ levels) }
+{
+    if let Err(fault) = check_value(alloc, value, spot, levels, aliases, Some(resolved)) {
+        return Err(fault);
+    }
+    check_limits(alloc, value, spot, resolved)
 }

@@ -1,18 +1,19 @@
 //! Laws of look-up along inheritance.
-ghost use Rattle.std.specs.Prelude.{◌≡◌, ◌↔◌, ◌⊎◌, ℕ, List, None, Ok, Err};
-ghost use Rattle.conf_tree.specs.Flaw.{Flaw};
-ghost use Rattle.conf_inherit.specs.Circle.{Walks};
-ghost use Rattle.conf_inherit.specs.Faults.{RefusalHolds};
-ghost use Rattle.serde_json.specs.Data.{Data};
-ghost use Rattle.conf_inherit.specs.Resolution.{Resolves, aliases_of, resolution};
-ghost use Rattle.conf_inherit.specs.Names.{NoClash};
-ghost use Rattle.serde_json.specs.Data.{Members};
+ghost use Rattle.std.specs.Prelude.{◌≡◌, ◌↔◌, ◌⊎◌, ℕ, List, [], None, Ok, Err, true, false};
+ghost use Rattle.serde_json.specs.Data.{Data, Members, no_members};
 ghost use Rattle.serde_json.specs.Events.{members_len};
+ghost use Rattle.conf_tree.specs.Flaw.{Flaw};
+ghost use Rattle.conf_tree.specs.Walk.{refusal};
 ghost use Rattle.conf_tree.specs.declared.fault_kind.FaultKind.{FaultKind};
 ghost use Rattle.conf_inherit.specs.declared.spot.Spot.{Spot};
+ghost use Rattle.conf_inherit.specs.Circle.{Walks};
+ghost use Rattle.conf_inherit.specs.Faults.{Leads, RefusalHolds};
+ghost use Rattle.conf_inherit.specs.Flaws.{flaws, type_flaws};
 ghost use Rattle.conf_inherit.specs.Laying.{lay};
 ghost use Rattle.conf_inherit.specs.Limits.{Fits, Exceeds, Inherits};
-ghost use Rattle.conf_inherit.specs.Settled.{settled};
+ghost use Rattle.conf_inherit.specs.Named.{all_named, has};
+ghost use Rattle.conf_inherit.specs.Names.{NoClash};
+ghost use Rattle.conf_inherit.specs.Resolution.{Resolves, aliases_of, resolution};
 
 /// A configuration has at most one resolution.
 pub fn one_resolution()
@@ -42,14 +43,19 @@ pub fn circle_is_refused()
         → Walks (aliases_of t) (members_len (aliases_of t)) k → resolution t ≡ Ok r → ⊥ }
 {}
 
-/// A field type is resolved exactly where it, and each type that it inherits from, is within the limits by itself.
+/// At a place nothing is refused exactly where the type there has no other flaw, and it, and each value of a `$inherit`
+/// in it, is within the limits by itself, as far as all aliases that it names are resolved.
 pub fn type_fits()
-    ensures { (done : Members) (s : Spot) (v r : Data) → settled done s v ≡ Ok r
-        ↔ ((r ≡ lay done s v None) × Fits r × ((d : Data) → Inherits d s v → Fits (lay done Spot.FieldType d None))) }
+    ensures { (al done : Members) (s : Spot) (v : Data) → type_flaws al done s v ≡ []
+        ↔ ((flaws al None s false no_members v ≡ [])
+        × (all_named (has done) s v ≡ true → Fits (lay done s v None))
+        × ((d : Data) → Inherits d s v → all_named (has done) Spot.FieldType d ≡ true → Fits (lay done Spot.FieldType d None))) }
 {}
 
-/// Where a field type passes a limit, it, or a type that it inherits from, is past the limit of that kind.
+/// Where a field type is refused for a limit, the type that the path leads to is past the limit of that kind: it itself,
+/// or the value of a `$inherit` in it.
 pub fn limit_is_passed()
-    ensures { (done : Members) (s : Spot) (v : Data) (kind : FaultKind) → settled done s v ≡ Err kind
-        → Exceeds kind (lay done s v None) ⊎ ((d : Data) × Inherits d s v × Exceeds kind (lay done Spot.FieldType d None)) }
+    ensures { (al done : Members) (v : Data) (flaw : Flaw) → refusal (type_flaws al done Spot.FieldType v) ≡ Err flaw
+        → (flaw.kind ≡ FaultKind.Limit) ⊎ (flaw.kind ≡ FaultKind.TooDeep)
+        → (d : Data) × Leads Spot.FieldType v flaw.path Spot.FieldType d × (all_named (has done) Spot.FieldType d ≡ true) × Exceeds flaw.kind (lay done Spot.FieldType d None) }
 {}

@@ -7,6 +7,7 @@ mod base;
 mod flaws;
 mod law;
 mod laying;
+mod limits;
 mod named;
 mod nesting;
 mod outcomes;
@@ -15,7 +16,6 @@ mod property;
 mod resolution;
 mod rounds;
 mod same;
-mod settled;
 mod size;
 mod spot;
 #[cfg(test)]

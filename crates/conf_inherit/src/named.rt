@@ -2,7 +2,7 @@
 ghost use Rattle.std.specs.Prelude.{◌≡◌};
 ghost use Rattle.serde_json.specs.View.{view, items_view, members_view};
 ghost use Rattle.conf_inherit.specs.Asked.{passes};
-ghost use Rattle.conf_inherit.specs.Rounds.{all_named, all_named_in_items, all_named_in_members};
+ghost use Rattle.conf_inherit.specs.Named.{all_named, all_named_in_items, all_named_in_members};
 
 use crate::Spot;
 use crate::asked::Asked;

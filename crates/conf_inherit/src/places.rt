@@ -1,17 +1,16 @@
 //! The first fault at the places of a configuration where field types stand, in walk order.
-ghost use Rattle.std.specs.Prelude.{◌≡◌, ◌+◌, ◌≤◌, ◌<◌, ◌++◌, IfErr, false};
+ghost use Rattle.std.specs.Prelude.{◌≡◌, ◌+◌, ◌≤◌, ◌<◌, ◌++◌, Some, IfErr, false};
 ghost use Rattle.arrayvec.specs.ArrayVec.{array_vec_len};
 ghost use Rattle.serde_json.specs.Data.{depth, items_depth, members_depth, array, no_members};
 ghost use Rattle.serde_json.specs.View.{view, items_view, members_view};
 ghost use Rattle.conf_tree.specs.Reading.{Gives};
 ghost use Rattle.conf_tree.specs.Walk.{refusal};
 ghost use Rattle.conf_inherit.specs.Flaws.{own_flaws, flaws};
-ghost use Rattle.conf_inherit.specs.Settled.{settled};
-ghost use Rattle.conf_inherit.specs.Places.{too_many, limit_flaws, place_flaws, inner_places, item_places, member_places};
+ghost use Rattle.conf_inherit.specs.Places.{too_many, place_flaws, inner_places, item_places, member_places};
 
 use crate::Spot;
-use crate::flaws::{check_flaws, check_itself, mark};
-use crate::settled::settle;
+use crate::flaws::{check_flaws, check_itself, check_type, mark};
+use crate::limits::check_limits;
 use conf_tree::{ConfFault, FaultKind};
 use serde_json::{Map, Value};
 use std::alloc::Global;
@@ -40,61 +39,6 @@ fn check_length(items: &Vec<Value>) -> Result<(), ConfFault>
         return Err(ConfFault::here(FaultKind::Limit));
     }
     Ok(())
-}
-
-/// Refuses a field type that passes a limit once it is resolved.
-fn check_limits(
-    alloc: Global,
-    value: &Value,
-    spot: Spot,
-    resolved: &Map<String, Value>,
-) -> Result<(), ConfFault>
-    ensures first { Gives (λ _. tt) result (refusal (limit_flaws (settled (members_view resolved.now.entries) spot (view value.now)))) }
-    ensures short { IfErr result (λ fault. array_vec_len fault.path ≡ 0) }
-{
-    match settle(alloc, value, spot, resolved) {
-        Ok(Ok(_)) => Ok(()),
-        Ok(Err(kind)) => Err(ConfFault::here(kind)),
-        Err(_) => Err(ConfFault::here(FaultKind::OutOfMemory)),
-    }
-}
-
-/// Refuses the first flaw of a value as a whole.
-pub(crate) fn check_value(
-    alloc: Global,
-    value: &Value,
-    spot: Spot,
-    levels: usize,
-    aliases: &Map<String, Value>,
-) -> Result<(), ConfFault>
-    requires nested { depth (view value.now) ≤ levels }
-    requires shallow { levels ≤ 32 }
-    ensures first { Gives (λ _. tt) result (refusal (flaws (members_view aliases.now.entries) spot false no_members (view value.now))) }
-    ensures short { IfErr result (λ fault. array_vec_len fault.path ≤ levels) }
-{
-    let nothing = Map::new(alloc);
-    check_flaws(alloc, value, spot, false, &nothing, levels, aliases)
-}
-
-/// Refuses the first flaw of a field type, or else the limit that it passes.
-#[tactic(auto, using(crate::proofs::FlawLemmas::refused_later))]
-fn check_type(
-    alloc: Global,
-    value: &Value,
-    spot: Spot,
-    levels: usize,
-    aliases: &Map<String, Value>,
-    resolved: &Map<String, Value>,
-) -> Result<(), ConfFault>
-    requires nested { depth (view value.now) ≤ levels }
-    requires shallow { levels ≤ 32 }
-    ensures first { Gives (λ _. tt) result (refusal (flaws (members_view aliases.now.entries) spot false no_members (view value.now) ++ limit_flaws (settled (members_view resolved.now.entries) spot (view value.now)))) }
-    ensures short { IfErr result (λ fault. array_vec_len fault.path ≤ levels) }
-{
-    if let Err(fault) = check_value(alloc, value, spot, levels, aliases) {
-        return Err(fault);
-    }
-    check_limits(alloc, value, spot, resolved)
 }
 
 /// Refuses a list of extra members that is too long, or a value that is none.
@@ -218,10 +162,11 @@ fn check_entry(
 ) -> Result<(), ConfFault>
     requires nested { depth (view value.now) ≤ levels }
     requires shallow { levels ≤ 32 }
-    ensures first { Gives (λ _. tt) result (refusal (flaws (members_view aliases.now.entries) spot false (members_view seen.now.entries) (view value.now) ++ inner_places (members_view aliases.now.entries) (members_view resolved.now.entries) spot (view value.now))) }
+    ensures first { Gives (λ _. tt) result (refusal (flaws (members_view aliases.now.entries) (Some (members_view resolved.now.entries)) spot false (members_view seen.now.entries) (view value.now) ++ inner_places (members_view aliases.now.entries) (members_view resolved.now.entries) spot (view value.now))) }
     ensures short { IfErr result (λ fault. array_vec_len fault.path ≤ levels) }
 {
-    if let Err(fault) = check_flaws(alloc, value, spot, false, seen, levels, aliases) {
+    let known = Some(resolved);
+    if let Err(fault) = check_flaws(alloc, value, spot, false, seen, levels, aliases, known) {
         return Err(fault);
     }
     check_places(alloc, value, spot, levels, aliases, resolved)

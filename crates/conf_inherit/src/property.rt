@@ -3,7 +3,7 @@ ghost use Rattle.std.specs.Prelude.{◌≡◌, string_bytes, IfOk, option_map, o
 ghost use Rattle.serde_json.specs.Data.{object, member, no_members};
 ghost use Rattle.serde_json.specs.Find.{get, get_member};
 ghost use Rattle.serde_json.specs.View.{view, members_view};
-ghost use Rattle.conf_inherit.specs.Rounds.{has};
+ghost use Rattle.conf_inherit.specs.Named.{has};
 
 use serde_json::{Map, Value};
 use std::alloc::{AllocError, Global};

@@ -16,10 +16,11 @@ ghost use Rattle.conf_inherit.specs.Resolution.{trace_name, type_name, aliases_n
 
 use crate::Spot;
 use crate::alias_check::check_aliases;
+use crate::flaws::check_value;
 use crate::laying::lay;
 use crate::nesting::nests;
 use crate::outcomes::AliasOutcomes;
-use crate::places::{check_places, check_value};
+use crate::places::check_places;
 use crate::rounds::settle_aliases;
 use crate::size::Stop;
 use conf_tree::{ConfFault, FaultKind, Tree};
@@ -129,7 +130,8 @@ fn resolve_after(
     if let Err(fault) = check_places(alloc, value, Spot::Root, 32, aliases, &outcomes.resolved) {
         return Err(fault);
     }
-    if let Err(fault) = check_value(alloc, value, Spot::Root, 32, aliases) {
+    // The limits were judged at the places.
+    if let Err(fault) = check_value(alloc, value, Spot::Root, 32, aliases, None) {
         return Err(fault);
     }
     lay_all(alloc, value, outcomes)

@@ -1,5 +1,5 @@
 //! Resolves the aliases in rounds.
-ghost use Rattle.std.specs.Prelude.{◌≡◌, ◌≤◌, false, Ok, Err, OnOk, IfOk, IfErr, MatchResult, string_bytes};
+ghost use Rattle.std.specs.Prelude.{◌≡◌, ◌≤◌, false, Some, OnOk, IfOk, IfErr, option_map, string_bytes};
 ghost use Rattle.serde_json.specs.Data.{depth, members_depth, no_members};
 ghost use Rattle.serde_json.specs.View.{view, members_view};
 ghost use Rattle.std.specs.BTreeMap.{btree_map_len};
@@ -7,28 +7,32 @@ ghost use Rattle.conf_tree.specs.Flaw.{IsMemory};
 ghost use Rattle.conf_inherit.specs.AliasOutcomes.{outcomes_of};
 ghost use Rattle.conf_inherit.specs.Flaws.{flaws};
 ghost use Rattle.conf_inherit.specs.Names.{NoClash};
-ghost use Rattle.conf_inherit.specs.Rounds.{is_over, all_named, is_empty, outcome, step, round, all_over, rounds, no_outcomes};
+ghost use Rattle.conf_inherit.specs.Named.{all_named};
+ghost use Rattle.conf_inherit.specs.Rounds.{is_over, is_empty, outcome, step, round, all_over, rounds, no_outcomes};
 
 use crate::Spot;
 use crate::asked::Asked;
-use crate::flaws::check_flaws;
+use crate::flaws::check_value;
+use crate::limits::fit;
 use crate::named::all_named;
 use crate::outcomes::AliasOutcomes;
-use crate::settled::settle;
 use conf_tree::{ConfFault, FaultKind};
 use serde_json::{Map, Value};
 use std::alloc::Global;
-use std::collections::BTreeMap;
 
-/// Whether an alias has no flaw of its own.
-fn is_sound(alloc: Global, value: &Value, aliases: &Map<String, Value>) -> Result<bool, ConfFault>
+/// Whether an alias has no flaw, seen where the aliases that it names are resolved.
+fn is_sound(
+    alloc: Global,
+    value: &Value,
+    aliases: &Map<String, Value>,
+    resolved: &Map<String, Value>,
+) -> Result<bool, ConfFault>
     requires { depth (view value.now) ≤ 32 }
     ensures sound { IfOk result (λ sound. sound
-        ≡ is_empty (flaws (members_view aliases.now.entries) Spot.FieldType false no_members (view value.now))) }
+        ≡ is_empty (flaws (members_view aliases.now.entries) (Some (members_view resolved.now.entries)) Spot.FieldType false no_members (view value.now))) }
     ensures memory { IfErr result IsMemory }
 {
-    let nothing = Map::new(alloc);
-    if let Err(fault) = check_flaws(alloc, value, Spot::FieldType, false, &nothing, 32, aliases) {
+    if let Err(fault) = check_value(alloc, value, Spot::FieldType, 32, aliases, Some(resolved)) {
         if fault.is_memory() {
             return Err(fault);
         }
@@ -37,26 +41,27 @@ fn is_sound(alloc: Global, value: &Value, aliases: &Map<String, Value>) -> Resul
     Ok(true)
 }
 
-/// The resolved alias, or why there is none.
+/// The resolved alias, unless it can't be resolved.
 fn outcome(
     alloc: Global,
     value: &Value,
     aliases: &Map<String, Value>,
     resolved: &Map<String, Value>,
-) -> Result<Result<Value, Option<FaultKind>>, ConfFault>
+) -> Result<Option<Value>, ConfFault>
     requires { depth (view value.now) ≤ 32 }
-    ensures answer { IfOk result (λ answer. MatchResult answer
-        (λ alias. outcome (members_view aliases.now.entries) (members_view resolved.now.entries) (view value.now) ≡ Ok (view alias))
-        (λ why. outcome (members_view aliases.now.entries) (members_view resolved.now.entries) (view value.now) ≡ Err why)) }
+    ensures answer { IfOk result (λ answer. option_map view answer
+        ≡ outcome (members_view aliases.now.entries) (members_view resolved.now.entries) (view value.now)) }
     ensures memory { IfErr result IsMemory }
 {
-    let sound = is_sound(alloc, value, aliases)?;
-    if !(sound && all_named(value, Spot::FieldType, Asked::IsResolved(resolved))) {
-        return Ok(Err(None));
+    if !all_named(value, Spot::FieldType, Asked::IsResolved(resolved)) {
+        return Ok(None);
     }
-    match settle(alloc, value, Spot::FieldType, resolved) {
-        Ok(Ok(alias)) => Ok(Ok(alias)),
-        Ok(Err(kind)) => Ok(Err(Some(kind))),
+    if !is_sound(alloc, value, aliases, resolved)? {
+        return Ok(None);
+    }
+    match fit(alloc, value, Spot::FieldType, resolved) {
+        Ok(Ok(alias)) => Ok(Some(alias)),
+        Ok(Err(_)) => Ok(None),
         Err(_) => Err(ConfFault::here(FaultKind::OutOfMemory)),
     }
 }
@@ -81,8 +86,8 @@ fn step(
         return Ok(());
     }
     let noted = match outcome(alloc, value, aliases, &outcomes.resolved)? {
-        Ok(alias) => outcomes.resolve(name, alias),
-        Err(why) => outcomes.refuse(name, why),
+        Some(alias) => outcomes.resolve(name, alias),
+        None => outcomes.refuse(name),
     };
     if noted.is_err() {
         return Err(ConfFault::here(FaultKind::OutOfMemory));
@@ -140,7 +145,7 @@ pub(crate) fn settle_aliases(
 {
     let mut outcomes = AliasOutcomes {
         resolved: Map::new(alloc),
-        refused: BTreeMap::new(alloc),
+        refused: Map::new(alloc),
     };
     let count = aliases.len();
     let mut over = false;

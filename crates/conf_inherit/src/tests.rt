@@ -224,10 +224,10 @@ fn counts_what_is_left_of_a_type(rt: HostRuntime) -> Result<(), Fail> {
     let closed = "]".repeat(alloc, 25)?;
     let deep = format!(in alloc; "\"deep\":{{\"list\":{opened}1{closed}}}")?;
     let past = format!(in alloc;
-        "{PAYLOAD}: past a limit of size: expected fewer or smaller parts"
+        "{PAYLOAD}/$inherit: past a limit of size: expected fewer or smaller parts"
     )?;
     let too_deep = format!(in alloc;
-        "{PAYLOAD}: nested too deep: expected at most 32 levels of objects and lists"
+        "{PAYLOAD}/$inherit: nested too deep: expected at most 32 levels of objects and lists"
     )?;
     let rows = [
         (
@@ -258,6 +258,131 @@ fn counts_what_is_left_of_a_type(rt: HostRuntime) -> Result<(), Fail> {
     for (row, aliases, payload, expected) in rows {
         let answer = judged(alloc, aliases, payload)?;
         assert_eq!(rt; answer.as_str(), expected, "{row}");
+    }
+    Ok(())
+}
+
+/// What is said behind a place.
+const PAST: &str = "past a limit of size: expected fewer or smaller parts";
+
+const UNKNOWN: &str = "no such alias: expected the name of an alias of this configuration";
+
+const TAKEN: &str = "name is taken: expected one that nothing else in this structure has";
+
+const CIRCLE: &str = "alias inherits from itself: expected a chain of aliases that ends";
+
+/// A limit that what is inherited from passes stands at its place in the walk.
+#[test]
+fn limits_what_is_inherited_from(rt: HostRuntime) -> Result<(), Fail> {
+    let alloc = rt.alloc();
+    let big = heavy_alias(alloc, "big", 3998)?;
+    let rows = [
+        (
+            "{\"$inherit\":{\"members\":[{\"a\":\"big\"},{\"b\":\"big\"}]},\"members\":[{\"x\":\"nope\"}]}",
+            "/$inherit",
+            PAST,
+        ),
+        (
+            "{\"$inherit\":{\"members\":[{\"a\":\"big\"},{\"b\":\"big\"},{\"c\":\"nope\"}]},\"members\":null}",
+            "/$inherit/members/2/c",
+            UNKNOWN,
+        ),
+        (
+            "{\"element-field-type\":{\"members\":[{\"x\":{}},{\"x\":{}}]},\"field-type\":{\"$inherit\":{\"members\":[{\"a\":\"big\"},{\"b\":\"big\"}]},\"members\":null}}",
+            "/element-field-type/members/1/x",
+            TAKEN,
+        ),
+        (
+            "{\"members\":[{\"x\":{\"$inherit\":{\"members\":[{\"a\":\"big\"},{\"b\":\"big\"}]},\"members\":null}},{\"x\":{}}]}",
+            "/members/0/x/$inherit",
+            PAST,
+        ),
+        (
+            "{\"members\":[{\"x\":{}},{\"x\":{\"$inherit\":{\"members\":[{\"a\":\"big\"},{\"b\":\"big\"}]},\"members\":null}}]}",
+            "/members/1/x",
+            TAKEN,
+        ),
+        (
+            "{\"$inherit\":{\"$inherit\":{\"members\":[{\"a\":\"big\"},{\"b\":\"big\"}]},\"members\":null},\"members\":[{\"x\":\"nope\"}]}",
+            "/$inherit/$inherit",
+            PAST,
+        ),
+        (
+            "{\"$inherit\":{\"$inherit\":{\"members\":[{\"a\":\"big\"}]},\"members\":[{\"b\":\"big\"}]},\"members\":null}",
+            "/$inherit",
+            PAST,
+        ),
+        (
+            "{\"$inherit\":{\"members\":[{\"a\":\"big\"}]},\"members\":[{\"b\":\"big\"}]}",
+            "",
+            PAST,
+        ),
+        (
+            "{\"$inherit\":{\"members\":[{\"a\":\"big\"}]},\"members\":[{\"b\":\"big\"},{\"c\":\"nope\"}]}",
+            "/members/1/c",
+            UNKNOWN,
+        ),
+    ];
+    for (payload, place, kind) in rows {
+        let expected = format!(in alloc; "{PAYLOAD}{place}: {kind}")?;
+        let answer = judged(alloc, big.as_str(), payload)?;
+        assert_eq!(rt; answer.as_str(), expected.as_str(), "{payload}");
+    }
+    Ok(())
+}
+
+/// So it does in an alias, which may be resolved, or not, or lead into a circle.
+#[test]
+fn limits_what_an_alias_inherits_from(rt: HostRuntime) -> Result<(), Fail> {
+    let alloc = rt.alloc();
+    let big = heavy_alias(alloc, "big", 3998)?;
+    let rows = [
+        (
+            "\"heir\":{\"$inherit\":{\"members\":[{\"a\":\"big\"},{\"b\":\"big\"}]},\"members\":[{\"x\":\"nope\"}]}",
+            "heir/$inherit",
+            PAST,
+        ),
+        (
+            "\"area\":\"heir\",\"heir\":{\"$inherit\":{\"members\":[{\"a\":\"big\"},{\"b\":\"big\"}]},\"members\":null},\"zone\":\"nope\"",
+            "heir/$inherit",
+            PAST,
+        ),
+        (
+            "\"area\":\"nope\",\"heir\":{\"$inherit\":{\"members\":[{\"a\":\"big\"},{\"b\":\"big\"}]},\"members\":null}",
+            "area",
+            UNKNOWN,
+        ),
+        (
+            "\"area\":{\"$inherit\":{\"members\":[{\"a\":\"big\"},{\"b\":\"big\"},{\"c\":\"heir\"}]}},\"heir\":\"nope\"",
+            "heir",
+            UNKNOWN,
+        ),
+        (
+            "\"area\":{\"members\":[{\"a\":\"big\"},{\"b\":\"big\"},{\"c\":\"heir\"}]},\"heir\":\"nope\"",
+            "heir",
+            UNKNOWN,
+        ),
+        (
+            "\"area\":{\"$inherit\":{\"members\":[{\"a\":\"big\"},{\"b\":\"big\"}]},\"members\":[{\"c\":\"heir\"}]},\"heir\":\"nope\"",
+            "area/$inherit",
+            PAST,
+        ),
+        (
+            "\"ring\":{\"$inherit\":{\"members\":[{\"a\":\"big\"},{\"b\":\"big\"}]},\"members\":[{\"c\":\"ring\"}]}",
+            "ring/$inherit",
+            PAST,
+        ),
+        (
+            "\"ring\":{\"$inherit\":{\"members\":[{\"a\":\"big\"},{\"b\":\"big\"},{\"c\":\"ring\"}]},\"members\":null}",
+            "ring",
+            CIRCLE,
+        ),
+    ];
+    for (aliases, place, kind) in rows {
+        let all = format!(in alloc; "{big},{aliases}")?;
+        let expected = format!(in alloc; "trace/type/$field-type-aliases/{place}: {kind}")?;
+        let answer = judged(alloc, all.as_str(), "{}")?;
+        assert_eq!(rt; answer.as_str(), expected.as_str(), "{aliases}");
     }
     Ok(())
 }
@@ -328,6 +453,14 @@ fn judges_extra_members_one_after_the_other(rt: HostRuntime) -> Result<(), Fail>
         ),
         (
             "{\"x\":{}},{\"x\":{\"members\":[{\"a\":\"big\"},{\"b\":\"big\"}]}}",
+            "1/x: name is taken: expected one that nothing else in this structure has",
+        ),
+        (
+            "{\"x\":{\"$inherit\":{\"members\":[{\"a\":\"big\"},{\"b\":\"big\"}]},\"members\":[{\"c\":\"nope\"}]}},{\"y\":\"nope\"}",
+            "0/x/$inherit: past a limit of size: expected fewer or smaller parts",
+        ),
+        (
+            "{\"x\":{}},{\"x\":{\"$inherit\":{\"members\":[{\"a\":\"big\"},{\"b\":\"big\"}]},\"members\":null}}",
             "1/x: name is taken: expected one that nothing else in this structure has",
         ),
         (

@@ -1,5 +1,5 @@
 -- What the objects of a configuration say, where they keep their limits, is what the rules allow of each part by itself.
-use Rattle.std.proofs.Common.{◌≡◌, ℕ, ◌-◌, Bool, true, List, Option, Some, None, Ok, subst}
+use Rattle.std.proofs.Common.{◌≡◌, ℕ, Bool, true, List, Option, Some, None, Ok, subst}
 use Rattle.std.specs.Prelude.{codes}
 use Rattle.serde_json.specs.Data.{Data, Members, no_members}
 use Rattle.ctf_types.specs.AllowedConfig.{OnlyIf, IsPlainUnsigned}

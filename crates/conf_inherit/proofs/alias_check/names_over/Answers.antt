@@ -1,22 +1,23 @@
-use Rattle.std.proofs.Common.{◌≡◌, ◌||◌, string_bytes, is_some, sym, ap, ◌∙◌, rules, List, ℕ, Bool, true, refl}
+use Rattle.std.proofs.Common.{◌≡◌, ◌||◌, string_bytes, sym, ap, ◌∙◌, rules, List, ℕ, Bool, true, refl}
 use Rattle.serde_json.specs.Data.{Data, Members, member, null, put}
 use Rattle.serde_json.specs.View.{view, members_view}
 use Rattle.serde_json.specs.declared.value.Value.{Null, the_lemmas}
 use Rattle.serde_json.proofs.Views.{members_view-insert_entry}
 use Rattle.conf_inherit.specs.AliasOutcomes.{outcomes_of}
 use Rattle.conf_inherit.specs.AliasFlaws.{over_names}
-use Rattle.conf_inherit.specs.Rounds.{Outcomes, has}
+use Rattle.conf_inherit.specs.Named.{has}
+use Rattle.conf_inherit.specs.Rounds.{Outcomes, has_outcome}
 use Rattle.conf_inherit.proofs.alias_check.names_over.Goals as goal
 
 view-null : view Null ≡ null
 view-null = search (rules, the_lemmas)
 
 -- an alias with an outcome is added
-one_over : (k : List ℕ) (w : Data) (ms : Members) (st : Outcomes) (over : Members) → true ≡ (has st.done k || is_some (st.refused k)) → over_names ms st (put k null over) ≡ over_names (member k w ms) st over
+one_over : (k : List ℕ) (w : Data) (ms : Members) (st : Outcomes) (over : Members) → true ≡ has_outcome st k → over_names ms st (put k null over) ≡ over_names (member k w ms) st over
 one_over k w ms st over h = rw (sym h) refl
 
-outcome : (st : Outcomes) {b : Bool} {k l : List ℕ} → b ≡ true → b ≡ (has st.done k || is_some (st.refused k)) → k ≡ l → true ≡ (has st.done l || is_some (st.refused l))
-outcome st h i e = sym h ∙ i ∙ ap (λ x. has st.done x || is_some (st.refused x)) e
+outcome : (st : Outcomes) {b : Bool} {k l : List ℕ} → b ≡ true → b ≡ has_outcome st k → k ≡ l → true ≡ (has st.done l || has st.refused l)
+outcome st h i e = sym h ∙ i ∙ ap (λ x. has st.done x || has st.refused x) e
 
 pub loop-name-preserved-then-has_outcome : goal.loop-name-preserved-then-has_outcome
 loop-name-preserved-then-has_outcome c =

@@ -1,4 +1,4 @@
-use Rattle.std.proofs.Common.{◌≡◌, ◌≤◌, ◌+◌, ◌*◌, drop}
+use Rattle.std.proofs.Common.{◌≡◌, ◌≤◌, ◌+◌, ◌*◌, drop, option_map}
 use Rattle.serde_json.specs.Data.{no_members, items_depth, members_depth}
 use Rattle.serde_json.specs.View.{items_view, members_view}
 use Rattle.conf_inherit.specs.Flaws.{item_flaws, member_flaws}
@@ -7,21 +7,24 @@ use Rattle.conf_inherit.proofs.flaws.+flaws.Given as goal
 -- what is left of the list has all the flaws
 abbrev pub invariant-check_items-loop-index : goal.invariant-check_items-loop-index
 invariant-check_items-loop-index l =
-    (items_depth (items_view (drop l.index l.items.items)) ≤ l.levels) × (item_flaws (members_view l.aliases.entries) l.spot 0 no_members (items_view l.items.items) ≡ item_flaws (members_view l.aliases.entries) l.spot l.index (members_view l.seen.entries) (items_view (drop l.index l.items.items)))
+    (items_depth (items_view (drop l.index l.items.items)) ≤ l.levels) × (item_flaws (members_view l.aliases.entries) (option_map (λ m. members_view m.now.entries) l.resolved) l.spot 0 no_members (items_view l.items.items) ≡ item_flaws (members_view l.aliases.entries) (option_map (λ m. members_view m.now.entries) l.resolved) l.spot l.index (members_view l.seen.entries) (items_view (drop l.index l.items.items)))
 
 -- what is left of the object has all the flaws
 abbrev pub invariant-check_members-loop-name : goal.invariant-check_members-loop-name
 invariant-check_members-loop-name l =
-    (members_depth (members_view l.name-iterator) ≤ l.levels) × (members_view l.nothing.entries ≡ no_members) × (member_flaws (members_view l.aliases.entries) l.spot (members_view l.seen.entries) (members_view l.members.entries) ≡ member_flaws (members_view l.aliases.entries) l.spot (members_view l.seen.entries) (members_view l.name-iterator))
+    (members_depth (members_view l.name-iterator) ≤ l.levels) × (member_flaws (members_view l.aliases.entries) (option_map (λ m. members_view m.now.entries) l.resolved) l.spot (members_view l.seen.entries) (members_view l.members.entries) ≡ member_flaws (members_view l.aliases.entries) (option_map (λ m. members_view m.now.entries) l.resolved) l.spot (members_view l.seen.entries) (members_view l.name-iterator))
 
 abbrev pub decreases-check_flaws : goal.decreases-check_flaws
-decreases-check_flaws l = 3 * goal.size-check_flaws l + 1
+decreases-check_flaws l = 4 * goal.size-check_flaws l + 1
 
 abbrev pub decreases-check_inner : goal.decreases-check_inner
-decreases-check_inner l = 3 * goal.size-check_inner l
+decreases-check_inner l = 4 * goal.size-check_inner l
 
 abbrev pub decreases-check_items : goal.decreases-check_items
-decreases-check_items l = 3 * goal.size-check_items l + 2
+decreases-check_items l = 4 * goal.size-check_items l + 3
 
 abbrev pub decreases-check_members : goal.decreases-check_members
-decreases-check_members l = 3 * goal.size-check_members l + 2
+decreases-check_members l = 4 * goal.size-check_members l + 3
+
+abbrev pub decreases-check_member : goal.decreases-check_member
+decreases-check_member l = 4 * goal.size-check_member l + 2

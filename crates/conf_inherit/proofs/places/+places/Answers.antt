@@ -1,4 +1,4 @@
-use Rattle.std.proofs.Common.{false, inl, inr}
+use Rattle.std.proofs.Common.{Some, false, inl, inr}
 use Rattle.conf_tree.specs.Flaw.{flaw_of}
 use Rattle.serde_json.specs.View.{view, members_view}
 use Rattle.conf_inherit.specs.Flaws.{flaws}
@@ -18,4 +18,4 @@ check_entry-returns-in-Err-clause-first t c =
     let al = members_view c.args.aliases.now.entries in
     let done = members_view c.args.resolved.now.entries in
     let v = view c.args.value.now in
-    elim c.in-Err.ensures.first [ inl memory ↦ inl memory | inr flawed ↦ inr (refused_first (flaws al c.args.spot false (members_view c.args.seen.now.entries) v) (inner_places al done c.args.spot v) (flaw_of c.in-Err.fault) flawed) ]
+    elim c.in-Err.ensures.first [ inl memory ↦ inl memory | inr flawed ↦ inr (refused_first (flaws al (Some done) c.args.spot false (members_view c.args.seen.now.entries) v) (inner_places al done c.args.spot v) (flaw_of c.in-Err.fault) flawed) ]

@@ -1,0 +1,102 @@
+//! The limits of a field type, once it is resolved.
+ghost use Rattle.std.specs.Prelude.{◌≡◌, Ok, Err, None, IfErr, IfOk, MatchResult};
+ghost use Rattle.arrayvec.specs.ArrayVec.{array_vec_len};
+ghost use Rattle.serde_json.specs.Data.{string};
+ghost use Rattle.serde_json.specs.View.{view, members_view};
+ghost use Rattle.conf_tree.specs.Reading.{Gives};
+ghost use Rattle.conf_tree.specs.Walk.{refusal};
+ghost use Rattle.conf_inherit.specs.Laying.{lay, resolved};
+ghost use Rattle.conf_inherit.specs.Limits.{fitting, passed, limit_flaws};
+
+use crate::Spot;
+use crate::asked::Asked;
+use crate::laying::lay;
+use crate::named::all_named;
+use crate::nesting::nests;
+use crate::property::property;
+use crate::size::{Stop, count};
+use conf_tree::{ConfFault, FaultKind};
+use serde_json::{Map, Value};
+use std::alloc::{AllocError, Global};
+
+/// The most JSON values of one resolved field type.
+const MAX_VALUES: usize = 4096;
+
+/// The most levels of its objects and lists.
+const MAX_LEVELS: usize = 32;
+
+/// Refuses a field type that passes a limit, if all aliases that it names are resolved. One that is the name of an
+/// alias is not copied.
+pub(crate) fn check_limits(
+    alloc: Global,
+    value: &Value,
+    spot: Spot,
+    resolved: &Map<String, Value>,
+) -> Result<(), ConfFault>
+    ensures first { Gives (λ _. tt) result (refusal (limit_flaws (members_view resolved.now.entries) spot (view value.now))) }
+    ensures short { IfErr result (λ fault. array_vec_len fault.path ≡ 0) }
+{
+    if !all_named(value, spot, Asked::IsResolved(resolved)) {
+        return Ok(());
+    }
+    if spot.names_alias() {
+        if let Value::String(name) = value {
+            return check_alias_limits(resolved, name.as_str());
+        }
+    }
+    match fit(alloc, value, spot, resolved) {
+        Ok(Ok(_)) => Ok(()),
+        Ok(Err(kind)) => Err(ConfFault::here(kind)),
+        Err(_) => Err(ConfFault::here(FaultKind::OutOfMemory)),
+    }
+}
+
+/// The type laid over what it inherits from, or the limit that it passes. What it inherits from fits by itself, so
+/// nothing that is made on the way holds more than a few times as many values as a type may.
+pub(crate) fn fit(
+    alloc: Global,
+    value: &Value,
+    spot: Spot,
+    resolved: &Map<String, Value>,
+) -> Result<Result<Value, FaultKind>, AllocError>
+    ensures { IfOk result (λ answer. MatchResult answer
+        (λ laid. fitting (lay (members_view resolved.now.entries) spot (view value.now) None) ≡ Ok (view laid))
+        (λ kind. fitting (lay (members_view resolved.now.entries) spot (view value.now) None) ≡ Err kind)) }
+{
+    match lay(alloc, spot, value, None, resolved, Some(MAX_VALUES)) {
+        Ok(laid) => {
+            if !nests(&laid, MAX_LEVELS) {
+                return Ok(Err(FaultKind::TooDeep));
+            }
+            Ok(Ok(laid))
+        }
+        Err(Stop::Limit) => Ok(Err(FaultKind::Limit)),
+        Err(Stop::Memory) => Err(AllocError),
+    }
+}
+
+/// Refuses a resolved alias that passes a limit.
+#[tactic(auto, unfolding(crate::specs::Spot::names_alias))]
+fn check_alias_limits(aliases: &Map<String, Value>, name: &str) -> Result<(), ConfFault>
+    ensures first { Gives (λ _. tt) result (refusal (passed (fitting (lay (members_view aliases.now.entries) Spot.FieldType (string name.now) None)))) }
+    ensures short { IfErr result (λ fault. array_vec_len fault.path ≡ 0) }
+{
+    match property(aliases, name) {
+        Some(alias) => check_fits(alias),
+        None => Ok(()),
+    }
+}
+
+/// Refuses a resolved type that passes a limit.
+fn check_fits(value: &Value) -> Result<(), ConfFault>
+    ensures first { Gives (λ _. tt) result (refusal (passed (fitting (view value.now)))) }
+    ensures short { IfErr result (λ fault. array_vec_len fault.path ≡ 0) }
+{
+    if count(value, MAX_VALUES).is_none() {
+        return Err(ConfFault::here(FaultKind::Limit));
+    }
+    if !nests(value, MAX_LEVELS) {
+        return Err(ConfFault::here(FaultKind::TooDeep));
+    }
+    Ok(())
+}
