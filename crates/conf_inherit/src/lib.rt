@@ -18,8 +18,6 @@ mod rounds;
 mod same;
 mod size;
 mod spot;
-#[cfg(test)]
-mod tests;
 
 pub use law::{
     circle_is_refused, limit_is_passed, one_resolution, refusal_holds, resolution_exists,

@@ -7,8 +7,6 @@ mod fault_kind;
 mod lookup;
 mod read;
 mod step;
-#[cfg(test)]
-mod tests;
 mod tree;
 mod walk;
 

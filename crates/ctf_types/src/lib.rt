@@ -23,8 +23,6 @@ mod metadata;
 mod packet;
 mod size;
 mod struct_type;
-#[cfg(test)]
-mod tests;
 mod text;
 mod value;
 

@@ -14,8 +14,6 @@ mod scripted_clock;
 mod scripted_sink;
 mod sink;
 mod stopping_writer;
-#[cfg(test)]
-mod tests;
 mod writer_sink;
 
 pub use back_end::BackEnd;

@@ -31,6 +31,3 @@ pub use tree::{
     Attribute, Block, Bracket, Closing, Entries, Entry, Fact, Item, Kind, Label, MemberTree, Name,
     NamedFact, Number, Scope, Sign, Structure, Value,
 };
-
-#[cfg(test)]
-mod tests;

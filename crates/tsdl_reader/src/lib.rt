@@ -6,6 +6,3 @@ mod read;
 
 pub use laws::denoted_is_unique;
 pub use read::read_metadata;
-
-#[cfg(test)]
-mod tests;

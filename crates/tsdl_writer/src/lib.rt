@@ -11,6 +11,3 @@ mod metadata_text;
 mod scope_text;
 
 pub use metadata_text::write_metadata;
-
-#[cfg(test)]
-mod tests;

@@ -7,8 +7,6 @@ mod read_number;
 mod read_start;
 mod read_structure;
 mod read_text;
-#[cfg(test)]
-mod tests;
 mod write_fields;
 mod write_numbers;
 mod write_padding;

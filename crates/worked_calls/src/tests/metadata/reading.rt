@@ -2,12 +2,12 @@
 
 use super::described::described;
 use super::unmarked;
-use crate::read_metadata;
 use std::alloc::Global;
 use std::process::Abort;
 use std::test::Fail;
 use tsdl_fault::first_fault;
 use tsdl_grammar::{MetaFaultKind, atoms, tokens};
+use tsdl_reader::read_metadata;
 
 /// Two texts behind the magic line that denote the same metadata.
 static PAIRS: &[(&str, &str)] = &[

@@ -2,12 +2,12 @@ mod described;
 mod reading;
 mod smallest;
 
-use crate::read_metadata;
 use std::alloc::{AllocError, Global};
 use std::process::Abort;
 use std::test::Fail;
 use tsdl_fault::explain_fault;
 use tsdl_grammar::{MAGIC_LINE, MetaFault, MetaFaultKind};
+use tsdl_reader::read_metadata;
 
 /// The fault that a text is refused with.
 fn fault_of(alloc: Global, text: &[u8]) -> Result<MetaFault, Fail> {

@@ -1,4 +1,4 @@
-use crate::resolve;
+use conf_inherit::resolve;
 use conf_tree::read_tree;
 use std::alloc::{AllocError, Global};
 use std::test::Fail;

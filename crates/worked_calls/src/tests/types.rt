@@ -4,7 +4,7 @@ mod containers;
 mod copies;
 mod refills;
 
-use crate::{
+use ctf_types::{
     ArgFault, Args, Base, ByteOrder, Bytes, Config, ContextFeatures, Duplicate, Element,
     EventFeatures, EventType, FieldType, HeaderFeatures, IntType, ListOf, MemberType, Members,
     StreamType, StructType, Text, Value, Values, align_of, call_faults, fits, members_size,

@@ -1,6 +1,5 @@
 //! Structures read from bytes.
 
-use crate::{read_member, read_struct};
 use ctf_types::{
     Base, ByteOrder, FieldType, IntType, Length, MemberType, Members, StructType, Value,
 };
@@ -8,6 +7,7 @@ use indexmap::IndexMap;
 use std::alloc::Global;
 use std::process::Abort;
 use std::test::Fail;
+use value_codec::{read_member, read_struct};
 
 fn int(size: u8, align: u32) -> Result<FieldType, Fail> {
     let int = IntType::new(size, align, false, Base::Dec).ok_or("no such integer")?;

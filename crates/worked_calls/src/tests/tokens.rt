@@ -1,6 +1,6 @@
-use super::*;
 use std::alloc::Global;
 use std::test::*;
+use tsdl_grammar::*;
 
 /// The kinds of a text's tokens behind the magic line, and what each one's bytes are.
 fn pieces<'a>(alloc: Global, text: &'a [u8]) -> Result<Vec<(TokenKind, &'a [u8])>, Fail> {

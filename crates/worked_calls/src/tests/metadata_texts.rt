@@ -1,6 +1,5 @@
 //! The texts of two configurations, word for word.
 
-use crate::write_metadata;
 use ctf_types::{
     Base, ByteOrder, ClockType, Config, ContextFeatures, Element, EnumType, EnvironmentEntry,
     EnvironmentValue, EventFeatures, EventType, FieldType, HeaderFeatures, IntType, Length, ListOf,
@@ -8,6 +7,7 @@ use ctf_types::{
 };
 use std::alloc::Global;
 use std::test::Fail;
+use tsdl_writer::write_metadata;
 use uuid::Uuid;
 
 fn int(size: u8, align: u32, signed: bool, base: Base) -> Result<IntType, Fail> {

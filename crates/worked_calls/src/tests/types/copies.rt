@@ -1,7 +1,7 @@
 //! Copies, beside what was copied.
 
 use super::{configuration, empty, int, of_one, text};
-use crate::{
+use ctf_types::{
     Args, ByteOrder, ClockType, Duplicate, EnumType, EnvironmentEntry, EnvironmentValue, Event,
     FieldType, ListOf, Mapping, MemberType, Metadata, Stream, StructType, Text, Value, Values,
 };

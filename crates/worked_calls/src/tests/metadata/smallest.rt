@@ -1,13 +1,13 @@
 //! The smallest text: one stream of one kind of event record, whose payload is one byte.
 
 use super::described::described;
-use crate::read_metadata;
 use ctf_types::{
     Base, ByteOrder, Event, FieldType, IntType, ListOf, MemberType, Members, Metadata, Stream,
     StructType, Text,
 };
 use std::alloc::Global;
 use std::test::Fail;
+use tsdl_reader::read_metadata;
 
 /// An unsigned integer of alignment 8.
 fn unsigned(size: u8, base: Base) -> Result<MemberType, Fail> {

@@ -1,6 +1,6 @@
 //! A caller that traces again and again makes its arguments once: numbers are set and texts refilled in place, with no memory asked for.
 
-use crate::{Args, Bytes, Value, Values};
+use ctf_types::{Args, Bytes, Value, Values};
 use std::alloc::Global;
 use std::process::Abort;
 use std::test::Fail;

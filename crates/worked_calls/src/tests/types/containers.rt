@@ -1,7 +1,7 @@
 //! The calls of the containers, each once with ample memory.
 
 use super::{int, with_member};
-use crate::{Bytes, Element, FieldType, Members, Value, Values};
+use ctf_types::{Bytes, Element, FieldType, Members, Value, Values};
 use std::test::Fail;
 
 #[test]

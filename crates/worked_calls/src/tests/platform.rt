@@ -1,13 +1,13 @@
 //! What no clause says: with ample memory the platform works, and each refusal comes where it should.
 
-use crate::{
+use packet_writer::PacketBuf;
+use std::alloc::Global;
+use std::test::Fail;
+use trace_platform::{
     BackEnd, Clock, ClockSpent, ListBackEnd, ListClock, MemorySink, PacketSource, Script,
     ScriptedBackEnd, ScriptedClock, ScriptedSink, Sink, SinkFault, StoppingWriter, Turn,
     WriterSink,
 };
-use packet_writer::PacketBuf;
-use std::alloc::Global;
-use std::test::Fail;
 
 fn script(alloc: Global, turns: &[Turn]) -> Result<Script, Fail> {
     Ok(Script::new(Vec::from_slice(alloc, turns)?))

@@ -3,7 +3,6 @@
 ghost use Rattle.std.specs.Prelude.{IfOk};
 ghost use Rattle.ctf_types.specs.Laws.{IsAutomatic, AreAutomatic};
 
-use crate::{read_struct, write_struct};
 use ctf_types::{
     Base, ByteOrder, Element, FieldType, IntType, Length, MemberType, Members, StructType, Text,
     Value, Values, fits, size_from,
@@ -11,6 +10,7 @@ use ctf_types::{
 use std::alloc::Global;
 use std::process::Abort;
 use std::test::Fail;
+use value_codec::{read_struct, write_struct};
 
 fn int(size: u8, align: u32, signed: bool) -> Result<IntType, Fail> {
     Ok(IntType::new(size, align, signed, Base::Dec).ok_or("no such integer")?)

@@ -1,4 +1,4 @@
-use crate::{
+use conf_tree::{
     At, ConfFault, FaultKind, flag, list, needed, object, optional_flag, optional_text,
     optional_whole, read_tree, whole,
 };
@@ -111,7 +111,7 @@ fn first_flag(alloc: Global, text: &[u8]) -> Result<bool, ConfFault> {
 /// The number of bytes of the text that the value is.
 fn text_len(alloc: Global, text: &[u8]) -> Result<usize, ConfFault> {
     let tree = read_tree(alloc, text)?;
-    let word = crate::text(alloc, At::Here, &tree.value)?;
+    let word = conf_tree::text(alloc, At::Here, &tree.value)?;
     Ok(word.len())
 }
 
