@@ -1,6 +1,7 @@
 -- A configuration that is read, passes no limit and breaks no rule, is one that the rules allow.
 use Rattle.std.proofs.Common.{◌≡◌, ℕ, ◌-◌, ◌&&◌, cond, List, length, IsSome, Option, Some, None, is_some, is_none, Ok, Err, refl, subst}
 use Rattle.std.specs.Prelude.{codes}
+use Rattle.std.proofs.lemmas.List.Elements.{recursion_from_All}
 use Rattle.serde_json.specs.Data.{Data}
 use Rattle.ctf_types.specs.AllowedConfig.{HoldsUpTo, IsConfig}
 use Rattle.ctf_types.specs.declared.config.Config.{Config}
@@ -17,7 +18,8 @@ use Rattle.conf_check.specs.StreamRules.{all_judged, streams_judged}
 use Rattle.conf_objects.specs.Trace.{draft_reading}
 use Rattle.conf_check.proofs.AllowedRules.{unless_passed, holds_up_to, streams_are}
 use Rattle.conf_values.proofs.Steps.{both_read, read_there, ok_same}
-use Rattle.conf_objects.proofs.AllowedDraft.{IsGoodDraft, draft_read}
+use Rattle.conf_objects.proofs.AllowedDraft.{IsGoodDraft, good_draft}
+use Rattle.conf_objects.proofs.AllowedStreams.{IsGoodStream}
 
 -- ---- the rules
 
@@ -76,7 +78,7 @@ draft_allowed d draft good rules =
       uuid_is_there = identifier_there c rules.identifier;
       stream_id = good.header.stream_id;
       stream_id_holds = number_holds c rules.stream_number;
-      streams = streams_are c.clocks c.streams good.streams.each (judged_streams NumbersFit c rules.numbers) (judged_streams RecordsHaveBits c rules.bits) (judged_streams ClocksAreThere c rules.clocks) (judged_streams TimestampsAreWide c rules.wide);
+      streams = streams_are c.clocks c.streams (recursion_from_All IsGoodStream c.streams good.streams.each) (judged_streams NumbersFit c rules.numbers) (judged_streams RecordsHaveBits c rules.bits) (judged_streams ClocksAreThere c rules.clocks) (judged_streams TimestampsAreWide c rules.wide);
       streams_in_order = good.streams.in_order;
       streams_few = good.streams.few;
     }
@@ -88,4 +90,4 @@ allowed d number c ascends e =
     let draft = both_read (draft_reading number d) _ c e in
     let rules = both_read (whole d draft.0) _ c draft.2 in
     let p = passed d draft.0 rules.1 in
-    subst IsConfig (ok_same draft.0.config c rules.2) (draft_allowed d draft.0 (draft_read number d draft.0 ascends p.within draft.1) p)
+    subst IsConfig (ok_same draft.0.config c rules.2) (draft_allowed d draft.0 (good_draft number d draft.0 ascends p.within draft.1) p)

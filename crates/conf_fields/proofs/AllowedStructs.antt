@@ -1,5 +1,5 @@
--- A members list or a structure that is read, and passes no limit, is one that the rules allow.
-use Rattle.std.proofs.Common.{◌≡◌, ℕ, ◌+◌, ◌≤◌, true, false, List, [], length, All, Option, Some, None, Result, Ok, refl, sym, ap, subst, ◌∙◌, arith}
+-- A members list or a structure as its rows say, which passes no limit, is one that the rules allow.
+use Rattle.std.proofs.Common.{◌≡◌, ℕ, ◌≤◌, true, false, List, [], length, All, Option, Some, None, Result, Ok, sym, ap, subst, ◌∙◌, arith}
 use Rattle.std.specs.Prelude.{codes, nat_le}
 use Rattle.std.specs.List.{IsDistinct, list_any}
 use Rattle.std.specs.Str.{bytes_eq}
@@ -15,51 +15,46 @@ use Rattle.ctf_types.specs.Names.{IsPlainName}
 use Rattle.ctf_types.specs.Shown.{shown_members}
 use Rattle.conf_tree.specs.Flaw.{Flaw, key}
 use Rattle.conf_tree.specs.Reading.{at, optional, optional_as, some_read, object_of, list_of}
-use Rattle.conf_values.specs.declared.properties.ObjectKind.TheVariants as objects
-use Rattle.conf_values.specs.declared.words.FieldClass.{FieldClass}
-use Rattle.conf_values.specs.declared.words.FieldClass.TheVariants.{UnsignedInteger, SignedInteger, UnsignedEnumeration, SignedEnumeration, Text, StaticArray, DynamicArray, Structure}
-use Rattle.conf_values.specs.Property.{first_unknown, turn, next, no_more}
 use Rattle.conf_fields.specs.Order.{Ascends, MembersAscend}
-use Rattle.conf_fields.specs.IntType.{alignment_of}
-use Rattle.conf_fields.specs.FieldType.{class_in}
-use Rattle.conf_fields.specs.Members.{members_from, members_of, entry_limits_from, count_limit, members_limits}
-use Rattle.conf_fields.specs.StructType.{structure, structure_of, or_none, min_align_for, struct_parts, struct_of_class, struct_of, listed_limits, struct_limits}
+use Rattle.conf_fields.specs.Members.{members_of, entry_limits_from, count_limit, members_limits}
+use Rattle.conf_fields.specs.StructType.{or_none, min_align_for, struct_of, listed_limits, struct_limits}
 use Rattle.conf_fields.proofs.Ascending.{ascends_object, ascends_list, ascends_given}
-use Rattle.conf_values.proofs.Steps.{both_read, read_there, is_passed, is_one_of, same_value}
-use Rattle.conf_fields.proofs.TypeParts.{structure-parts}
+use Rattle.conf_values.proofs.Steps.{both_read, read_there, is_passed, same_value, given_read}
 use Rattle.conf_fields.proofs.AllowedLists.{types_allowed, members_counted}
 use Rattle.conf_fields.proofs.DistinctNames.{list_read, list_first}
+use Rattle.conf_fields.proofs.FieldRowLaws.{structure_says}
+use Rattle.conf_fields.proofs.InnerRowLaws.{members_list_says}
 
 -- ---- members lists
 
-few_enough : (ds : Items) (ms : List (List ℕ × MemberType)) (x : Unit {0}) → count_limit ds ≡ Ok x → length ms ≡ length {A = List ℕ × MemberType} [] + items_len ds → length ms ≤ 256
+few_enough : (ds : Items) (ms : List (List ℕ × MemberType)) (x : Unit {0}) → count_limit ds ≡ Ok x → length ms ≡ items_len ds → length ms ≤ 256
 few_enough ds ms x e counted =
     let p = is_passed (nat_le (items_len ds) 256) tt x _ e in
     let b : nat_le (items_len ds) 256 ≡ true = p.0 in
     let few : items_len ds ≤ 256 = grind (arith, nat_tests) in
-    omega (arith, few, counted)
+    subst (λ n. n ≤ 256) (sym counted) few
 
 pub allowed_members : (taken : List (List ℕ)) (d : Data) (ms : List (List ℕ × MemberType)) → Ascends d → members_of taken d ≡ Ok ms → members_limits d ≡ Ok tt → AreConfigMembers ms
-unfolding members_of members_limits
+unfolding members_limits
 allowed_members taken d ms ascends e limits =
-    let ds = both_read (list_of d) (members_from [] taken 0) ms e in
+    let row = members_list_says taken d ms e in
+    let ds = row.0 in
     let es = both_read (list_of d) _ tt limits in
-    let same : es.0 ≡ ds.0 = same_value es.0 ds.0 _ es.1 ds.1 in
+    let same : es.0 ≡ ds = same_value es.0 ds _ es.1 row.1 in
     let count = both_read (count_limit es.0) _ tt es.2 in
-    let read = list_read taken [] ms taken 0 ds.0 ds.2 (list_first taken) in
+    let read = list_read taken [] taken ds ms (list_first taken) row.2 in
     record {
-      types = types_allowed [] ms taken 0 0 ds.0 (ascends_list d ds.0 ds.1 ascends) ds.2 (subst (λ l. entry_limits_from 0 l ≡ Ok tt) same count.2) (All-nil (λ m. IsConfigMember m.1));
+      types = All-from_recursion (λ (m : List ℕ × MemberType). IsConfigMember m.1) ms (types_allowed taken 0 ds ms (ascends_list d ds row.1 ascends) row.2 (subst (λ l. entry_limits_from 0 l ≡ Ok tt) same count.2));
       names = read.1.names;
       distinct = read.1.distinct;
-      few = few_enough ds.0 ms count.0 (subst (λ l. count_limit l ≡ Ok count.0) same count.1) (members_counted [] ms taken 0 ds.0 ds.2);
+      few = few_enough ds ms count.0 (subst (λ l. count_limit l ≡ Ok count.0) same count.1) (members_counted taken ds ms row.2);
     }
 
 -- no member has, or takes for its length, a name that was taken before
 pub names_free : (taken : List (List ℕ)) (d : Data) (ms : List (List ℕ × MemberType)) → members_of taken d ≡ Ok ms → All (λ name. list_any (bytes_eq name) taken ≡ false) (names_in (shown_members 0 ms))
-unfolding members_of
 names_free taken d ms e =
-    let ds = both_read (list_of d) (members_from [] taken 0) ms e in
-    let read = list_read taken [] ms taken 0 ds.0 ds.2 (list_first taken) in
+    let row = members_list_says taken d ms e in
+    let read = list_read taken [] taken row.0 ms (list_first taken) row.2 in
     All-from_recursion (λ name. list_any (bytes_eq name) taken ≡ false) (names_in (shown_members 0 ms)) read.1.free
 
 pub no_members_allowed : AreConfigMembers []
@@ -67,27 +62,6 @@ unfolding shown_members IsDistinct
 no_members_allowed = record { types = All-nil (λ m. IsConfigMember m.1); names = All-nil IsPlainName; distinct = tt; few = omega arith }
 
 -- ---- structures
-
-abbrev some_ok : {A : Type 0} → A → Result (Option A) Flaw
-some_ok x = Ok (Some x)
-
-inner_same : {A : Type 0} (y x : A) → some_ok y ≡ some_ok x → y ≡ x
-inner_same y x same = cc
-
--- what an optional property is read as
-some_there : {A : Type 0} (found : Option Data) (reads : Data → Result A Flaw) (x : A) → some_read reads found ≡ Ok (Some x) → (d : Data) × (found ≡ Some d) × (reads d ≡ Ok x)
-some_there None reads x e = absurd cc
-some_there (Some d) reads x e = let read = both_read (reads d) _ (Some x) e in (d, refl, read.1 ∙ ap Ok (inner_same read.0 x read.2))
-
-pub given_read : {A : Type 0} (name : List ℕ) (reads : Data → Result A Flaw) (ms : Members) (x : A) → optional_as name reads ms ≡ Ok (Some x) → (d : Data) × (optional name ms ≡ Some d) × (reads d ≡ Ok x)
-unfolding optional_as
-given_read name reads ms x e =
-    let s = some_there (optional name ms) (λ d. at (key name) (reads d)) x e in
-    (s.0, s.1, read_there (key name) (reads s.0) x s.2)
-
-pub next_read_there : {A : Type 0} (u : Option (List ℕ)) (name : List ℕ) (reads : Data → Result A Flaw) (ms : Members) (x : Option A) → next u name reads ms ≡ Ok x → optional_as name reads ms ≡ Ok x
-unfolding next
-next_read_there u name reads ms x e = (both_read (turn u name) (λ _. optional_as name reads ms) x e).2
 
 -- a property that is there is within its limits
 limits_there : (found : Option Data) (judges : Data → Result (Unit {0}) Flaw) (d : Data) (x : Option (Unit {0})) → some_read judges found ≡ Ok x → found ≡ Some d → judges d ≡ Ok tt
@@ -106,38 +80,16 @@ listed_allowed (Some l) ms ascends e limits =
     let read = given_read (codes "members") (members_of []) ms l e in
     allowed_members [] read.0 l (ascends_given (codes "members") ms read.0 ascends read.1) read.2 (listed_within (codes "members") ms read.0 tt limits read.1)
 
-aligns_nothing : (ms : List (List ℕ × MemberType)) (align : Option ℕ) → ms ≡ [] → min_align_for ms align ≡ 1
-aligns_nothing ms align is = ap (λ l. min_align_for l align) is
-
-parts_allowed : (u : Option (List ℕ)) (ms : Members) (s : StructType) → MembersAscend ms → struct_parts u ms ≡ Ok s → listed_limits (codes "members") ms ≡ Ok tt → IsConfigStruct s
-unfolding struct_parts structure_of
-parts_allowed u ms s ascends e limits =
-    let listed = both_read (next u (codes "members") (members_of []) ms) _ s e in
-    let align = both_read (next u (codes "minimum-alignment") alignment_of ms) _ s listed.2 in
-    let known = both_read (no_more u) _ s align.2 in
-    let parts = structure-parts (or_none listed.0) (min_align_for (or_none listed.0) align.0) s (is_one_of (structure (or_none listed.0) (min_align_for (or_none listed.0) align.0)) s known.2) in
-    let allowed = listed_allowed listed.0 ms ascends (next_read_there u (codes "members") (members_of []) ms listed.0 listed.1) limits in
-    record {
-      members = subst (λ l. AreConfigMembers l) (sym parts.0) allowed;
-      empty = λ none. parts.1 ∙ aligns_nothing (or_none listed.0) align.0 (sym parts.0 ∙ none);
-    }
-
-class_allowed : (class : FieldClass) (ms : Members) (s : StructType) → MembersAscend ms → struct_of_class class ms ≡ Ok s → listed_limits (codes "members") ms ≡ Ok tt → IsConfigStruct s
-class_allowed Structure ms s ascends e limits = parts_allowed (first_unknown objects.Structure ms) ms s ascends e limits
-class_allowed UnsignedInteger ms s ascends e limits = absurd cc
-class_allowed SignedInteger ms s ascends e limits = absurd cc
-class_allowed UnsignedEnumeration ms s ascends e limits = absurd cc
-class_allowed SignedEnumeration ms s ascends e limits = absurd cc
-class_allowed Text ms s ascends e limits = absurd cc
-class_allowed StaticArray ms s ascends e limits = absurd cc
-class_allowed DynamicArray ms s ascends e limits = absurd cc
-
 pub allowed_struct : (d : Data) (s : StructType) → Ascends d → struct_of d ≡ Ok s → struct_limits d ≡ Ok tt → IsConfigStruct s
-unfolding struct_of struct_limits
+unfolding struct_limits
 allowed_struct d s ascends e limits =
-    let ms = both_read (object_of d) _ s e in
-    let class = both_read (class_in ms.0) _ s ms.2 in
-    let ns = both_read (object_of d) _ tt limits in
-    let same : ns.0 ≡ ms.0 = same_value ns.0 ms.0 _ ns.1 ms.1 in
-    let listed = both_read (listed_limits (codes "members") ns.0) _ tt ns.2 in
-    class_allowed class.0 ms.0 s (ascends_object d ms.0 ms.1 ascends).1 class.2 (subst (λ l. listed_limits (codes "members") l ≡ Ok tt) same listed.1)
+    let h = structure_says d s e in
+    let ms = both_read (object_of d) _ tt limits in
+    let same : ms.0 ≡ h.members = same_value ms.0 h.members _ ms.1 h.object_is in
+    let listed = both_read (listed_limits (codes "members") ms.0) _ tt ms.2 in
+    let within : listed_limits (codes "members") h.members ≡ Ok listed.0 = subst (λ l. listed_limits (codes "members") l ≡ Ok listed.0) same listed.1 in
+    let allowed = listed_allowed h.listed.0 h.members (ascends_object d h.members h.object_is ascends).1 h.listed.1 within in
+    record {
+      members = subst (λ l. AreConfigMembers l) (sym h.listed.2) allowed;
+      empty = λ none. h.alignment.2 ∙ ap (λ l. min_align_for l h.alignment.0) none;
+    }

@@ -1,6 +1,6 @@
 -- The entries of a map ascend by their names, and so do the members that they are seen as; what is found in a value with ascending names
 -- has them too.
-use Rattle.std.proofs.Common.{◌≡◌, ℕ, List, [], ◌∷◌, Option, Some, None, Result, Ok, Err, Ordering, Less, Equal, Greater, string_cmp, string_bytes, nat_cmp, subst}
+use Rattle.std.proofs.Common.{◌≡◌, ℕ, List, [], ◌∷◌, Option, Some, None, Ok, Ordering, Less, Equal, Greater, string_cmp, string_bytes, nat_cmp, subst}
 use Rattle.std.specs.List.{AllByRecursion}
 use Rattle.std.specs.List.Sorted.{IsStrictlySortedBy}
 use Rattle.std.specs.Map.{keys_of}
@@ -10,11 +10,10 @@ use Rattle.serde_json.specs.Data.{Data, null, boolean, number, string, array, ob
 use Rattle.serde_json.specs.Find.{get_member}
 use Rattle.std.specs.Ordering.{match_ordering}
 use Rattle.std.specs.Cmp.Lexicographic.{slice_cmp}
-use Rattle.conf_tree.specs.declared.fault_kind.FaultKind.TheVariants.{Missing}
-use Rattle.conf_tree.specs.Flaw.{Flaw, key, here, within}
 use Rattle.conf_tree.specs.Reading.{needed, given, optional, object_of, list_of}
 use Rattle.conf_inherit.specs.Names.{AllAbove, IsInOrder}
 use Rattle.conf_fields.specs.Order.{Ascends, ItemsAscend, MembersAscend}
+use Rattle.conf_values.proofs.LeafFlawLaws.{found_there}
 
 above : (e : Entry) (es : List Entry) → AllByRecursion (λ k. string_cmp e.0 k ≡ Less) (keys_of es) → AllAbove (string_bytes e.0) (members_view es)
 above e [] h = tt
@@ -36,19 +35,8 @@ pub ascends-get_member : (name : List ℕ) (ms : Members) (d : Data) → Members
 ascends-get_member name no_members d h is = cc
 ascends-get_member name (member k e ms) d h is = found_ascends (slice_cmp nat_cmp name k) (get_member name ms) e d (λ x there. ascends-get_member name ms x h.1 there) is h.0
 
-abbrev found_or_not : List ℕ → Option Data → Result Data Flaw
-found_or_not name None = Err (within (key name) (here Missing))
-found_or_not name (Some d) = Ok d
-
-found_is : (name : List ℕ) (found : Option Data) (d : Data) → found_or_not name found ≡ Ok d → found ≡ Some d
-found_is name None d e = absurd cc
-found_is name (Some x) d e = cc
-
-pub needed_found : (name : List ℕ) (ms : Members) (d : Data) → needed name ms ≡ Ok d → get_member name ms ≡ Some d
-needed_found name ms d e = found_is name (get_member name ms) d e
-
 pub ascends_needed : (name : List ℕ) (ms : Members) (d : Data) → MembersAscend ms → needed name ms ≡ Ok d → Ascends d
-ascends_needed name ms d h e = ascends-get_member name ms d h (needed_found name ms d e)
+ascends_needed name ms d h e = ascends-get_member name ms d h (found_there name ms d e)
 
 -- the members of an object
 pub ascends_object : (d : Data) (ms : Members) → object_of d ≡ Ok ms → Ascends d → IsInOrder ms × MembersAscend ms

@@ -1,5 +1,5 @@
 -- The names of a members list that is read are apart, those of lengths included, and apart from those that were taken before.
-use Rattle.std.proofs.Common.{◌≡◌, ℕ, suc, ◌+◌, Bool, true, false, ◌||◌, cond, List, [], ◌∷◌, ◌++◌, length, All, Ok, Err, refl, sym, ap, subst, ◌∙◌, arith, length-append, append_assoc}
+use Rattle.std.proofs.Common.{◌≡◌, ℕ, ◌+◌, Bool, true, false, ◌||◌, cond, List, [], ◌∷◌, ◌++◌, length, All, Ok, Err, refl, sym, ap, subst, ◌∙◌, arith, length-append, append_assoc}
 use Rattle.std.specs.Prelude.{codes}
 use Rattle.std.specs.List.{IsDistinct, AllByRecursion}
 use Rattle.std.specs.Str.{bytes_eq}
@@ -8,19 +8,18 @@ use Rattle.std.proofs.lemmas.List.{map-append, append-nil}
 use Rattle.std.proofs.lemmas.List.Elements.{All-push, All-nil}
 use Rattle.std.proofs.lemmas.List.Folds.{list_any-append}
 use Rattle.std.proofs.lemmas.Slice.Eq.{bytes_eq-Decides}
-use Rattle.serde_json.specs.Data.{Data, Items, no_items, item}
+use Rattle.serde_json.specs.Data.{Items, no_items, item}
 use Rattle.ctf_types.specs.declared.member_type.Length.TheVariants.{Auto, At}
 use Rattle.ctf_types.specs.declared.member_type.MemberType.{MemberType}
 use Rattle.ctf_types.specs.declared.member_type.MemberType.TheVariants.{Plain, Dyn}
 use Rattle.ctf_types.specs.Members.{names_in}
 use Rattle.ctf_types.specs.Names.{IsPlainName}
 use Rattle.ctf_types.specs.Shown.{length_name, shown_members}
-use Rattle.conf_tree.specs.Flaw.{Flaw, index}
-use Rattle.conf_tree.specs.Reading.{at}
+use Rattle.conf_tree.specs.Flaw.{Flaw}
 use Rattle.conf_fields.specs.Member.{is_taken, not_taken, none_taken, names_of}
-use Rattle.conf_fields.specs.Members.{Sofar, next_entry, members_from}
-use Rattle.conf_values.proofs.Steps.{both_read, read_there, same_value}
-use Rattle.conf_fields.proofs.AllowedLists.{MemberRead, member_read, entry_read, next_read}
+use Rattle.conf_fields.specs.InnerRows.{AreEntries}
+use Rattle.conf_values.proofs.Steps.{both_read}
+use Rattle.conf_fields.proofs.AllowedLists.{member_named_well}
 
 neither : (a b : Bool) → (a || b) ≡ false → (a ≡ false) × (b ≡ false)
 neither true b e = absurd cc
@@ -117,28 +116,27 @@ all_joined : (P : List ℕ → Type 0) (xs ys : List (List ℕ)) → AllByRecurs
 all_joined P [] ys h k = k
 all_joined P (x ∷ xs) ys h k = (h.0, all_joined P xs ys h.1 k)
 
-list_more : (all : List (List ℕ)) (ms : List (List ℕ × MemberType)) (taken : List (List ℕ)) (name : List ℕ) (m : MemberType) (d : Data) → ListRead all ms taken → MemberRead taken name d m
+list_more : (all : List (List ℕ)) (ms : List (List ℕ × MemberType)) (taken : List (List ℕ)) (name : List ℕ) (m : MemberType) → ListRead all ms taken → IsPlainName name × (none_taken taken (names_of (name, m)) ≡ Ok tt)
     → ListRead all (ms ++ (name, m) ∷ []) (taken ++ names_of (name, m))
-list_more all ms taken name m d h read =
-    let free : AllFree (all ++ shown_of ms) (names_of (name, m)) = subst (λ l. AllFree l (names_of (name, m))) h.taken_is (all_free taken (names_of (name, m)) tt read.free) in
+list_more all ms taken name m h (plain, apart_from) =
+    let free : AllFree (all ++ shown_of ms) (names_of (name, m)) = subst (λ l. AllFree l (names_of (name, m))) h.taken_is (all_free taken (names_of (name, m)) tt apart_from) in
     let both = all_free_before all (shown_of ms) (names_of (name, m)) free in
     let shown = shown_last 0 ms name m in
     record {
-      names = subst (λ l. All IsPlainName l) (sym (map-append (λ (e : List ℕ × MemberType). e.0) ms ((name, m) ∷ []))) (All-push IsPlainName (names_in ms) name h.names read.plain);
+      names = subst (λ l. All IsPlainName l) (sym (map-append (λ (e : List ℕ × MemberType). e.0) ms ((name, m) ∷ []))) (All-push IsPlainName (names_in ms) name h.names plain);
       taken_is = ap (λ l. l ++ names_of (name, m)) h.taken_is ∙ append_assoc all (shown_of ms) (names_of (name, m)) ∙ ap (λ l. all ++ l) (sym shown);
       distinct = subst (λ l. IsDistinct bytes_eq l) (sym shown) (distinct_more (shown_of ms) name m h.distinct both.1);
       free = subst (λ l. AllFree all l) (sym shown) (all_joined (λ n. is_taken all n ≡ false) (shown_of ms) (names_of (name, m)) h.free both.0);
     }
 
-pub list_read : (all : List (List ℕ)) (before more : List (List ℕ × MemberType)) (taken : List (List ℕ)) (i : ℕ) (ds : Items) → members_from before taken i ds ≡ Ok more → ListRead all before taken → (final : List (List ℕ)) × ListRead all more final
-list_read all before more taken i no_items e h = (taken, subst (λ (l : List (List ℕ × MemberType)). ListRead all l taken) (same_value before more _ refl e) h)
-list_read all before more taken i (item d ds) e h =
-    let step = both_read (at (index i) (next_entry before taken d)) _ more e in
-    let next = next_read before taken d step.0 (read_there (index i) (next_entry before taken d) step.0 step.1) in
-    let entry = entry_read taken d next.entry next.read in
-    let member_is = member_read taken next.entry.0 entry.value next.entry.1 entry.read in
-    list_read all step.0.members more step.0.taken (suc i) ds step.2
-    (subst (λ (s : Sofar). ListRead all s.members s.taken) next.is (list_more all before taken next.entry.0 next.entry.1 entry.value h member_is))
+pub list_read : (all : List (List ℕ)) (before : List (List ℕ × MemberType)) (taken : List (List ℕ)) (ds : Items) (ms : List (List ℕ × MemberType)) → ListRead all before taken → AreEntries taken ds ms → (final : List (List ℕ)) × ListRead all (before ++ ms) final
+list_read all before taken no_items [] h entries = (taken, subst (λ (l : List (List ℕ × MemberType)). ListRead all l taken) (sym (append-nil before)) h)
+list_read all before taken no_items (m ∷ ms) h entries = absurd entries
+list_read all before taken (item d ds) [] h entries = absurd entries
+list_read all before taken (item d ds) (m ∷ ms) h ((value, is, object), rest) =
+    let more = list_more all before taken m.0 m.1 h (member_named_well taken m.0 value m.1 object) in
+    let read = list_read all (before ++ m ∷ []) (taken ++ names_of m) ds ms more rest in
+    (read.0, subst (λ (l : List (List ℕ × MemberType)). ListRead all l read.0) (append_assoc before (m ∷ []) ms) read.1)
 
 pub list_first : (all : List (List ℕ)) → ListRead all [] all
 unfolding shown_members IsDistinct

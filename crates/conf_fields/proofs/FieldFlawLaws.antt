@@ -35,10 +35,11 @@ use Rattle.conf_fields.specs.Members.{Sofar, with_member, next_entry, members_fr
 use Rattle.conf_fields.specs.StructType.{structure_of, or_none, min_align_for, struct_parts, struct_of_class, struct_of}
 use Rattle.conf_values.specs.LeafFlaws.{IsNoNatural, IsNoWordOf, words_of}
 use Rattle.conf_fields.specs.FieldFlaws.{IsNoAlignment, IsNoClass, IsOfClass, integer_class, enumeration_class, IsNoStaticArray, IsNoFieldWithin, IsNoField, IsNoUnsignedField, IsNoElement, IsNoDynamicArray, IsNoMemberType, IsEntry, IsMemberOf, TakesName, IsTakenBefore, IsNoMember, IsNoEntry, IsNoMembersList, IsNoStructure}
-use Rattle.conf_values.proofs.Steps.{both_read, read_there, needed_read, same_value}
+use Rattle.conf_fields.specs.FieldRows.{IsMemberObject}
+use Rattle.conf_fields.specs.InnerRows.{IsEntryObject}
+use Rattle.conf_values.proofs.Steps.{both_read, read_there, needed_read, same_value, next_read_there}
 use Rattle.conf_fields.proofs.TypeParts.{structure_of-gives}
-use Rattle.conf_fields.proofs.AllowedStructs.{next_read_there}
-use Rattle.conf_fields.proofs.AllowedLists.{next_read, entry_read, member_read}
+use Rattle.conf_fields.proofs.InnerRowLaws.{next_says}
 use Rattle.conf_values.proofs.LeafFlawLaws.{same_flaw, refused_here_or_next, refused_there, refused_test, refused_where, wanted_refused, wanted_found, none_refused, holds_of, no_more_refused, lacks_refused, found_there, needed_refused, next_refused, next_needed_refused, object_refused, list_refused, natural_refused, word_refused, plain_name_refused, listed}
 use Rattle.conf_fields.proofs.IntegerFlawLaws.{alignment_refused, integer_refused, IsGivenAboveZero, positive_read, up_to_limit_aligns}
 use Rattle.conf_fields.proofs.EnumerationFlawLaws.{enumeration_refused, Follows, follows_itself, first_follows, rest_follows, WrongItem}
@@ -372,23 +373,21 @@ dynamic_there d t e =
 entry_is : (d : Data) (name : List ℕ) (v : Data) → object_of d ≡ Ok (member name v no_members) → IsEntry d name v
 entry_is d name v e = wanted_found (as_object d) (member name v no_members) e
 
-takes_name : (d : Data) (own : List ℕ) (v : Data) (m : MemberType) (name : List ℕ) (now : List (List ℕ)) → IsEntry d own v → member_of now own v ≡ Ok m → Contains (names_of (own, m)) name → TakesName d name
+takes_name : (d : Data) (own : List ℕ) (v : Data) (m : MemberType) (name : List ℕ) (now : List (List ℕ)) → IsEntry d own v → IsMemberObject now own v m → Contains (names_of (own, m)) name → TakesName d name
 takes_name d own v (Plain t) name now is read c = TakesName.by_itself v (subst (λ n. IsEntry d n v) (one_name own name c) is)
 takes_name d own v (Dyn t (At i)) name now is read c = TakesName.by_itself v (subst (λ n. IsEntry d n v) (one_name own name c) is)
 takes_name d own v (Dyn t Auto) name now is read c =
     elim (two_names (length_name own) own name c) [
       | inl first ↦
-          let said = member_read now own v (Dyn t Auto) read in
-          let dynamic = dynamic_there said.value t said.type_is in
-          TakesName.by_its_length own v is (said.members, said.value, dynamic.0, wanted_found (as_object v) said.members said.object_is, found_there (codes "field-type") said.members said.value said.there, dynamic.1) (sym first)
+          let type = needed_read (codes "field-type") member_type_of read.members (Dyn t Auto) read.type_says in
+          let dynamic = dynamic_there type.0 t type.2 in
+          TakesName.by_its_length own v is (read.members, type.0, dynamic.0, wanted_found (as_object v) read.members read.object_is, found_there (codes "field-type") read.members type.0 type.1, dynamic.1) (sym first)
       | inr second ↦ TakesName.by_itself v (subst (λ n. IsEntry d n v) second is)
     ]
 
 -- an entry that was read takes the names of its member
-entry_takes : (now : List (List ℕ)) (d : Data) (m : List ℕ × MemberType) (name : List ℕ) → entry_of now d ≡ Ok m → Contains (names_of m) name → TakesName d name
-entry_takes now d (own, t) name e c =
-    let entry = entry_read now d (own, t) e in
-    takes_name d own entry.value t name now (entry_is d own entry.value entry.object_is) entry.read c
+entry_takes : (now : List (List ℕ)) (d : Data) (m : List ℕ × MemberType) (name : List ℕ) → IsEntryObject now d m → Contains (names_of m) name → TakesName d name
+entry_takes now d (own, t) name (value, is, read) c = takes_name d own value t name now (entry_is d own value is) read c
 
 taken_later : (taken : List (List ℕ)) (ds : Items) (i : ℕ) (name : List ℕ) → IsTakenBefore taken ds i name → IsTakenBefore taken ds (suc i) name
 taken_later taken ds i name (inl beside) = inl beside
@@ -398,7 +397,7 @@ taken_later taken ds i name (inr (j, e, below, there, takes)) = inr (j, e, omega
 abbrev AreBefore : List (List ℕ) → Items → ℕ → List (List ℕ) → Type 0
 AreBefore taken ds i now = (name : List ℕ) → Contains now name → IsTakenBefore taken ds i name
 
-before_more : (taken : List (List ℕ)) (ds : Items) (i : ℕ) (now : List (List ℕ)) (d : Data) (m : List ℕ × MemberType) → AreBefore taken ds i now → get_item i ds ≡ Some d → entry_of now d ≡ Ok m → AreBefore taken ds (suc i) (now ++ names_of m)
+before_more : (taken : List (List ℕ)) (ds : Items) (i : ℕ) (now : List (List ℕ)) (d : Data) (m : List ℕ × MemberType) → AreBefore taken ds i now → get_item i ds ≡ Some d → IsEntryObject now d m → AreBefore taken ds (suc i) (now ++ names_of m)
 before_more taken ds i now d m h there read name c =
     elim (Contains-append_cases now (names_of m) name c) [
       | inl before ↦ taken_later taken ds i name (h name before)
@@ -424,9 +423,9 @@ entries_refused taken ds before now i (item d rest) flaw follows h e =
           let told = refused_there (index i) (next_entry before now d) flaw refused in
           record { place = i; value = d; told = told.0; there = first_follows d rest i ds follows; is_wrong = next_refused_told taken ds i before now d told.0 h told.1; is = told.2 }
       | inr (s, went, later) ↦
-          let read = next_read before now d s (read_there (index i) (next_entry before now d) s went) in
-          let more = before_more taken ds i now d read.entry h (first_follows d rest i ds follows) read.read in
-          entries_refused taken ds s.members s.taken (suc i) rest flaw (rest_follows d rest i ds follows) (subst (λ (x : Sofar). AreBefore taken ds (suc i) x.taken) read.is more) later
+          let read = next_says now before d s (read_there (index i) (next_entry before now d) s went) in
+          let more = before_more taken ds i now d read.0 h (first_follows d rest i ds follows) read.1 in
+          entries_refused taken ds s.members s.taken (suc i) rest flaw (rest_follows d rest i ds follows) (subst (λ (x : Sofar). AreBefore taken ds (suc i) x.taken) (sym read.2) more) later
     ]
 
 pub members_refused : (taken : List (List ℕ)) (d : Data) (flaw : Flaw) → members_of taken d ≡ Err flaw → IsNoMembersList taken d flaw

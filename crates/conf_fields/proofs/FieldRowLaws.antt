@@ -1,5 +1,5 @@
 -- The readings of field types and their rows say the same.
-use Rattle.std.proofs.Common.{◌≡◌, ℕ, Bool, List, [], Option, Some, None, Result, Ok, refl, sym, ap, subst, ◌∙◌}
+use Rattle.std.proofs.Common.{◌≡◌, ℕ, Bool, List, [], Option, None, Result, Ok, refl, sym, ap, subst, ◌∙◌}
 use Rattle.std.specs.Prelude.{codes}
 use Rattle.serde_json.specs.Data.{Data, Members}
 use Rattle.ctf_types.specs.declared.int_type.IntType.{IntType}
@@ -26,19 +26,8 @@ use Rattle.conf_fields.specs.Member.{name_rules, member_of}
 use Rattle.conf_fields.specs.Members.{members_of}
 use Rattle.conf_fields.specs.StructType.{structure, structure_of, or_none, min_align_for, struct_parts, struct_of_class, struct_of}
 use Rattle.conf_fields.specs.FieldRows.{IsIntegerObject, IsEnumerationObject, IsStaticArrayObject, IsDynamicArrayObject, IsMemberObject, IsStructureObject}
-use Rattle.conf_values.proofs.Steps.{both_read, is_one_of, same_value, needed_read, next_needed_read}
-use Rattle.conf_fields.proofs.TypeParts.{integer_of-gives, structure_of-gives, structure-parts}
-use Rattle.conf_fields.proofs.AllowedInts.{integer_parts}
-use Rattle.conf_fields.proofs.AllowedStructs.{next_read_there}
-
--- one step went well, and then the next
-then_read : {A B : Type 0} (r : Result A Flaw) (step : A → Result B Flaw) (x : A) (y : B) → r ≡ Ok x → step x ≡ Ok y → (r >>= step) ≡ Ok y
-then_read r step x y p q = ap (λ s. s >>= step) p ∙ q
-
--- a walk that ends without an unknown property met none
-none_unknown : (u : Option (List ℕ)) (x : Unit {0}) → no_more u ≡ Ok x → u ≡ None
-none_unknown None x e = refl
-none_unknown (Some n) x e = absurd cc
+use Rattle.conf_values.proofs.Steps.{both_read, is_one_of, same_value, needed_read, next_needed_read, next_read_there, then_read, none_unknown}
+use Rattle.conf_fields.proofs.TypeParts.{integer_of-gives, integer_of-parts, structure_of-gives, structure-parts}
 
 -- ---- integers
 
@@ -50,7 +39,7 @@ int_parts_rows signed ms t e =
     let base = both_read (next u (codes "preferred-display-base") base_of ms) _ t align.2 in
     let size = both_read (next_needed u (codes "size") size_of ms) _ t base.2 in
     let known = both_read (no_more u) _ t size.2 in
-    let parts = integer_parts size.0 align.0 signed base.0 t known.2 in
+    let parts = integer_of-parts size.0 align.0 signed base.0 t known.2 in
     record {
       known = none_unknown u known.0 known.1;
       size = next_needed_read u (codes "size") size_of ms size.0 size.1 ∙ ap Ok (sym parts.size_is);
@@ -90,7 +79,7 @@ enum_parts_rows signed ms t e =
     let size = both_read (next_needed u (codes "size") size_of ms) _ t base.2 in
     let known = both_read (no_more u) _ t size.2 in
     let int = both_read (integer_of size.0 align.0 signed base.0) _ t known.2 in
-    let parts = integer_parts size.0 align.0 signed base.0 int.0 int.1 in
+    let parts = integer_of-parts size.0 align.0 signed base.0 int.0 int.1 in
     let is : enumeration mappings.0 int.0 ≡ t = same_value (enumeration mappings.0 int.0) t _ refl int.2 in
     let made : IsEnumerationObject signed ms (enumeration mappings.0 int.0) = record {
       known = none_unknown u known.0 known.1;

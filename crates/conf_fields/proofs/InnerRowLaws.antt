@@ -100,7 +100,7 @@ module _ (taken : List (List ℕ)) where
   entry_read d m (v, is, h) =
       then_read (object_of d) (single_of (member_named taken)) (member m.0 v no_members) m is (ap (λ r. at (key m.0) (named m.0 r)) (member_read_of taken m.0 v m.1 h))
 
-  next_says : (before : List Named) (d : Data) (s : Sofar) → next_entry before taken d ≡ Ok s → (m : Named) × IsEntryObject taken d m × (s ≡ with_member before taken m)
+  pub next_says : (before : List Named) (d : Data) (s : Sofar) → next_entry before taken d ≡ Ok s → (m : Named) × IsEntryObject taken d m × (s ≡ with_member before taken m)
   unfolding next_entry
   next_says before d s e = let m = both_read (entry_of taken d) _ s e in (m.0, entry_says d m.0 m.1, sym (ok_same (with_member before taken m.0) s m.2))
 

@@ -19,10 +19,9 @@ use Rattle.conf_values.specs.Words.{base_words}
 use Rattle.conf_fields.specs.IntType.{is_power_of_two, power_or_not, alignment_of, up_to_limit, base_of, align_or_default, base_or_default, integer_of, size_of, int_parts, int_of}
 use Rattle.conf_values.specs.LeafFlaws.{IsNoNatural, IsNoWordOf, words_of}
 use Rattle.conf_fields.specs.FieldFlaws.{IsPowerOfTwo, IsNoAlignment, IsNoInteger}
-use Rattle.conf_values.proofs.Steps.{both_read, needed_read, next_needed_read}
+use Rattle.conf_values.proofs.Steps.{both_read, needed_read, next_needed_read, given_read, next_read_there}
 use Rattle.conf_values.proofs.Numbers.{natural_low, natural_high}
 use Rattle.conf_fields.proofs.TypeParts.{integer_of-gives}
-use Rattle.conf_fields.proofs.AllowedStructs.{given_read, next_read_there}
 use Rattle.conf_values.proofs.LeafFlawLaws.{refused_here_or_next, refused_test, wanted_found, none_refused, holds_of, no_more_refused, lacks_refused, next_refused, next_needed_refused, natural_refused, word_refused}
 
 -- ---- alignments

@@ -1,19 +1,15 @@
 -- The mappings of an enumeration are read exactly where their rows hold.
-use Rattle.std.proofs.Common.{◌≡◌, ◌≢◌, ◌++◌, ℕ, suc, Bool, true, false, cond, List, [], ◌∷◌, Ok, Err, refl, sym, ap, subst, ◌∙◌, append-nil, append_assoc}
+use Rattle.std.proofs.Common.{◌≡◌, ◌≢◌, ◌++◌, ℕ, suc, cond, List, [], ◌∷◌, Ok, Err, refl, sym, ap, subst, ◌∙◌, append-nil, append_assoc}
 use Rattle.serde_json.specs.Data.{Data, Items, no_items, item, Members, no_members, member}
 use Rattle.ctf_types.specs.declared.enum_type.Mapping.{Mapping}
 use Rattle.conf_tree.specs.declared.fault_kind.FaultKind.TheVariants.{OutOfRange}
-use Rattle.conf_tree.specs.Flaw.{Flaw, key, index, here}
+use Rattle.conf_tree.specs.Flaw.{key, index, here}
 use Rattle.conf_tree.specs.Reading.{at, object_of, list_of}
 use Rattle.conf_fields.specs.declared.enum_type.Span.{Span}
 use Rattle.conf_fields.specs.EnumType.{range_of, is_inside, mapping_of, ranges_from, some_ranges, label_rule, label_from, labels_from, some_labels, mappings_of}
 use Rattle.conf_fields.specs.MappingRows.{IsRange, AreRanges, IsLabel, AreLabels, AreMappings}
 use Rattle.conf_values.specs.Scalar.{is_printable}
-use Rattle.conf_values.proofs.Steps.{both_read, read_there, ok_same, then_read}
-
-passed : {A : Type 0} (b : Bool) (x y : A) (f : Flaw) → cond b (Ok x) (Err f) ≡ Ok y → (b ≡ true) × (x ≡ y)
-passed true x y f e = (refl, ok_same x y e)
-passed false x y f e = absurd cc
+use Rattle.conf_values.proofs.Steps.{both_read, read_there, ok_same, is_passed, then_read}
 
 -- ---- ranges
 
@@ -22,7 +18,7 @@ module _ (numbers : Span) (label : List ℕ) where
   unfolding mapping_of
   range_says d m e =
       let range = both_read (range_of d) _ m e in
-      let p = passed (is_inside numbers range.0) (record { label = label; low = range.0.low; high = range.0.high }) m (here OutOfRange) range.2 in
+      let p = is_passed (is_inside numbers range.0) (record { label = label; low = range.0.low; high = range.0.high }) m (here OutOfRange) range.2 in
       (range.0, range.1, p.0, p.1)
 
   range_read : (d : Data) (m : Mapping) → IsRange numbers label d m → mapping_of numbers label d ≡ Ok m
@@ -65,7 +61,7 @@ module _ (numbers : Span) where
       let some = both_read (some_ranges ds.0) _ all ds.2 in
       let rule = both_read (label_rule label) _ all some.2 in
       let told = ranges_say numbers label ds.0 before 0 all rule.2 in
-      (told.0, told.1, (ds.0, ds.1, some_say ds.0 some.0 some.1, (passed (is_printable label) tt rule.0 (here OutOfRange) rule.1).0, told.2))
+      (told.0, told.1, (ds.0, ds.1, some_say ds.0 some.0 some.1, (is_passed (is_printable label) tt rule.0 (here OutOfRange) rule.1).0, told.2))
 
   label_read : (before : List Mapping) (label : List ℕ) (d : Data) (own : List Mapping) → IsLabel numbers label d own → label_from numbers before label d ≡ Ok (before ++ own)
   unfolding label_from

@@ -14,6 +14,7 @@ use Rattle.conf_tree.specs.Flaw.{here}
 use Rattle.conf_values.specs.Parts.{proved}
 use Rattle.conf_fields.specs.IntType.{integer, integer_of, align_or_default, base_or_default}
 use Rattle.conf_fields.specs.StructType.{structure, structure_of, or_none, min_align_for}
+use Rattle.conf_values.proofs.Steps.{is_one_of}
 
 proved_true : {A : Type 0} (b : Bool) (f : b ≡ true → Option A) (h : b ≡ true) → proved b f ≡ f h
 proved_true true f h = let same : IsProp (true ≡ true) = hlevel props in ap f (same refl h)
@@ -121,6 +122,11 @@ structure-refuses members align h =
 pub integer_of-gives : (t : IntType) (size : ℕ) (align : Option ℕ) (signed : Bool) (base : Option Base) → t.size ≡ size → t.align ≡ align_or_default align size → t.signed ≡ signed → t.base ≡ base_or_default base → t.clock ≡ None → integer_of size align signed base ≡ Ok t
 unfolding integer_of
 integer_of-gives t size align signed base a b c d e = rw (integer-gives t size (align_or_default align size) signed (base_or_default base) None a b c d e) refl
+
+pub integer_of-parts : (size : ℕ) (align : Option ℕ) (signed : Bool) (base : Option Base) (t : IntType) → integer_of size align signed base ≡ Ok t → HasParts t size (align_or_default align size) signed (base_or_default base) None
+unfolding integer_of
+integer_of-parts size align signed base t e =
+    integer-parts size (align_or_default align size) signed (base_or_default base) None t (is_one_of (integer size (align_or_default align size) signed (base_or_default base) None) t e)
 
 pub integer_of-refuses : (size : ℕ) (align : Option ℕ) (signed : Bool) (base : Option Base) → ((0 < size) × (size ≤ 64) × IsAlignment (align_or_default align size) → ⊥) → integer_of size align signed base ≡ Err (here OutOfRange)
 unfolding integer_of

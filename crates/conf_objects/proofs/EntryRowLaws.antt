@@ -1,11 +1,11 @@
 -- The readings of the entries of a configuration's maps and their rows say the same.
-use Rattle.std.proofs.Common.{◌≡◌, inl, inr, ℕ, ℤ, List, [], ◌∷◌, Option, None, Some, Result, Ok, refl, sym, ap, subst, ◌∙◌}
+use Rattle.std.proofs.Common.{◌≡◌, inl, inr, ℕ, ℤ, List, [], ◌∷◌, Option, None, Some, Ok, refl, sym, ap, subst, ◌∙◌}
 use Rattle.serde_json.specs.Data.{Data, null, boolean, number, string, array, object, Members, no_members, member}
 use Rattle.serde_json.specs.Find.{get_member}
 use Rattle.ctf_types.specs.declared.environment.EnvironmentEntry.{EnvironmentEntry}
 use Rattle.ctf_types.specs.declared.environment.EnvironmentValue.{EnvironmentValue}
 use Rattle.ctf_types.specs.declared.environment.EnvironmentValue.TheVariants.{Whole, Text}
-use Rattle.conf_tree.specs.Flaw.{Flaw, Place, key}
+use Rattle.conf_tree.specs.Flaw.{key}
 use Rattle.conf_tree.specs.Reading.{◌>>=◌, at, object_of, text_of}
 use Rattle.conf_objects.specs.Alias.{alias_of, aliases_in, aliases_of}
 use Rattle.conf_objects.specs.EntryRows.{EachEntry, EachEntryIs, IsMapOf, IsMapTo, IsEnvironmentValue, IsEnvironmentEntry, IsAliasObject, IsLogLevelAlias, IsLogLevel}
@@ -13,10 +13,7 @@ use Rattle.conf_objects.specs.Environment.{environment_value_of, entry_of, entry
 use Rattle.conf_objects.specs.LogLevel.{level_of, level_or_none, log_level_of, level_alias_of, level_aliases_in, level_aliases_of}
 use Rattle.conf_values.specs.Name.{name_of, plain_name_of}
 use Rattle.conf_values.specs.Scalar.{natural_of, signed_of, config_text_of}
-use Rattle.conf_values.proofs.Steps.{both_read, read_there, ok_same, then_read}
-
-read_at : {A : Type 0} (place : Place) (r : Result A Flaw) (x : A) → r ≡ Ok x → at place r ≡ Ok x
-read_at place r x e = ap (at place) e
+use Rattle.conf_values.proofs.Steps.{both_read, read_there, read_at, ok_same, then_read}
 
 -- ---- the environment
 

@@ -21,12 +21,12 @@ use Rattle.conf_objects.specs.FeatureRows.{IsByte, IsChoice}
 use Rattle.conf_fields.specs.FieldFlaws.{IsOfClass}
 use Rattle.conf_fields.specs.FieldType.{class_in, unsigned_field_of, field_of}
 use Rattle.conf_values.proofs.LeafFlawLaws.{wanted_found}
-use Rattle.conf_values.proofs.Steps.{both_read, ok_same, then_read}
+use Rattle.conf_values.proofs.Steps.{both_read, ok_same, is_passed, then_read}
 
 -- ---- what is read is said
 
 -- a flag, or an unsigned integer of its own
-data IsPlain (d : Data) : Choice → Type 0 where
+pub data IsPlain (d : Data) : Choice → Type 0 where
   flag_on : as_bool d ≡ Some true → IsPlain d On
   flag_off : as_bool d ≡ Some false → IsPlain d Off
   own_number : (t : IntType) → unsigned_field_of d ≡ Ok t → IsPlain d (Own t)
@@ -34,7 +34,7 @@ data IsPlain (d : Data) : Choice → Type 0 where
 owned : (d : Data) (c : Choice) → (unsigned_field_of d >>= (λ t. Ok (Own t))) ≡ Ok c → IsPlain d c
 owned d c e = let t = both_read (unsigned_field_of d) (λ x. Ok (Own x)) c e in subst (IsPlain d) (ok_same (Own t.0) c t.2) (own_number t.0 t.1)
 
-plain_says : (d : Data) (c : Choice) → plain_of d ≡ Ok c → IsPlain d c
+pub plain_says : (d : Data) (c : Choice) → plain_of d ≡ Ok c → IsPlain d c
 unfolding plain_of
 plain_says (boolean true) c e = subst (IsPlain (boolean true)) (ok_same On c e) (flag_on refl)
 plain_says (boolean false) c e = subst (IsPlain (boolean false)) (ok_same Off c e) (flag_off refl)
@@ -43,10 +43,6 @@ plain_says (number n) c e = owned (number n) c e
 plain_says (string s) c e = owned (string s) c e
 plain_says (array ds) c e = owned (array ds) c e
 plain_says (object ms) c e = owned (object ms) c e
-
-passed : {A : Type 0} (b : Bool) (x y : A) (f : Flaw) → cond b (Ok x) (Err f) ≡ Ok y → (b ≡ true) × (x ≡ y)
-passed true x y f e = (refl, ok_same x y e)
-passed false x y f e = absurd cc
 
 any_says : (d : Data) (c : Choice) → IsPlain d c → IsChoice Plain d c
 any_says d c (flag_on is) = IsChoice.on is
@@ -64,7 +60,7 @@ unfolding magic_or_not
 magic_says d c b (flag_on is) e = subst (IsChoice Magic d) (ok_same On c e) (IsChoice.on is)
 magic_says d c b (flag_off is) e = subst (IsChoice Magic d) (ok_same Off c e) (IsChoice.off (λ same. absurd cc) is)
 magic_says d c b (own_number t is) e =
-    let p = passed (t.size == 32) (Own t) c (here OutOfRange) e in
+    let p = is_passed (t.size == 32) (Own t) c (here OutOfRange) e in
     subst (IsChoice Magic d) p.1 (IsChoice.number t (λ same. absurd cc) is (λ same. eqb-true t.size 32 p.0))
 
 both_true : (a b : Bool) → (a && b) ≡ true → (a ≡ true) × (b ≡ true)
@@ -87,7 +83,7 @@ IsSixteen f c = (byte : IntType) × (f ≡ Static (record { lengths = []; leaf =
 
 byte_says : (ns : List ℕ) (leaf : Leaf) (c : Choice) → byte_or_not ns leaf ≡ Ok c → (byte : IntType) × (ns ≡ []) × (leaf ≡ Number byte) × IsByte byte × (Own byte ≡ c)
 unfolding byte_or_not
-byte_says [] (Number t) c e = let p = passed (is_byte t) (Own t) c (here OutOfRange) e in (t, refl, refl, byte_is t p.0, p.1)
+byte_says [] (Number t) c e = let p = is_passed (is_byte t) (Own t) c (here OutOfRange) e in (t, refl, refl, byte_is t p.0, p.1)
 byte_says [] (Labelled t) c e = absurd cc
 byte_says [] ByteString c e = absurd cc
 byte_says (n ∷ ns) leaf c e = absurd cc

@@ -8,6 +8,7 @@ pub mod StreamFlawLaws
 pub mod TraceRowLaws
 pub mod TraceFlawLaws
 pub mod InTheMap
+pub mod AllowedMaps
 pub mod AllowedEnvironment
 pub mod AllowedClocks
 pub mod AllowedFeatures

@@ -1,10 +1,10 @@
 -- The readings of the maps of clock types, event record types and data stream types, and their rows, say the same.
-use Rattle.std.proofs.Common.{◌≡◌, ◌||◌, ℕ, List, [], ◌∷◌, Bool, false, Result, Ok, refl, ap, subst}
+use Rattle.std.proofs.Common.{◌≡◌, ◌||◌, ℕ, List, [], ◌∷◌, Bool, false, Ok, refl, ap, subst}
 use Rattle.serde_json.specs.Data.{Data, Members, no_members, member}
 use Rattle.ctf_types.specs.declared.clock_type.ClockType.{ClockType}
 use Rattle.ctf_types.specs.declared.config.EventType.{EventType}
 use Rattle.ctf_types.specs.declared.config.StreamType.{StreamType}
-use Rattle.conf_tree.specs.Flaw.{Flaw, Place, key}
+use Rattle.conf_tree.specs.Flaw.{key}
 use Rattle.conf_tree.specs.Reading.{at, object_of}
 use Rattle.conf_objects.specs.ClockType.{clock_type_of, clock_member_of, clocks_in, clock_types_of}
 use Rattle.conf_objects.specs.EntryRows.{EachEntryIs}
@@ -13,10 +13,7 @@ use Rattle.conf_objects.specs.MapRows.{IsObject, AreClocks, AreEvents, AreStream
 use Rattle.conf_objects.specs.ObjectRows.{IsClockObject, IsEventObject}
 use Rattle.conf_objects.specs.StreamType.{stream_type_of, stream_member_of, streams_in, stream_types_of}
 use Rattle.conf_objects.proofs.ObjectRowLaws.{clock_says, clock_read, event_says, event_read, stream_says, stream_read}
-use Rattle.conf_values.proofs.Steps.{both_read, read_there, ok_same, then_read}
-
-read_at : {A : Type 0} (place : Place) (r : Result A Flaw) (x : A) → r ≡ Ok x → at place r ≡ Ok x
-read_at place r x e = ap (at place) e
+use Rattle.conf_values.proofs.Steps.{both_read, read_there, read_at, ok_same, then_read}
 
 -- ---- clock types
 

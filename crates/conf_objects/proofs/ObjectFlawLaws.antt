@@ -34,6 +34,7 @@ use Rattle.conf_values.specs.Name.{name_of, plain_name_of}
 use Rattle.conf_objects.specs.ObjectFlaws.{IsNoSuch, HasWrongEntry, IsIdentifierField, IsNoFeature, IsNoHeaderObject, IsNoHeader, IsNoEventHeaderObject, IsNoEventHeader, IsNoPacketObject, IsNoPacketFeatures, IsNoStreamFeaturesObject, IsNoStreamFeatures, IsNoOffsetObject, IsNoOffset, IsNoClockObject, IsNoClock, IsNoClockTypes, IsNoEnvironmentEntry, IsNoEnvironment, IsNoAlias, IsNoAliases, IsNoLogLevelAlias, IsNoLogLevelAliases, IsNoLogLevel}
 use Rattle.conf_values.specs.Property.{first_unknown, next, no_more}
 use Rattle.conf_values.specs.Scalar.{natural_of, signed_of, config_text_of, uuid_of}
+use Rattle.conf_objects.proofs.FeatureRowLaws.{IsPlain, plain_says}
 use Rattle.conf_fields.proofs.FieldFlawLaws.{class_refused, field_refused, unsigned_field_refused, same_class, no_such_object, object_none, no_such_class}
 use Rattle.conf_values.proofs.LeafFlawLaws.{wanted_found, refused_here_or_next, refused_there, refused_test, none_refused, holds_of, same_flaw, no_more_refused, next_refused, object_refused, flag_refused, natural_refused, signed_refused, config_text_refused, uuid_refused, name_refused, plain_name_refused}
 
@@ -77,33 +78,21 @@ plain_refused (string s) flaw e = (refl, only_step (unsigned_field_of (string s)
 plain_refused (array ds) flaw e = (refl, only_step (unsigned_field_of (array ds)) Own flaw e (unsigned_field_refused (array ds) flaw))
 plain_refused (object ms) flaw e = (refl, only_step (unsigned_field_of (object ms)) Own flaw e (unsigned_field_refused (object ms) flaw))
 
--- a choice that has a type of its own
-owned : (r : Result IntType Flaw) (c : Choice) → (r >>= (λ t. Ok (Own t))) ≡ Ok c → (t : IntType) × (r ≡ Ok t) × (c ≡ Own t)
-owned (Ok t) c e = (t, refl, cc)
-owned (Err flaw) c e = absurd cc
+off_is : (d : Data) (c : Choice) → IsPlain d c → c ≡ Off → as_bool d ≡ Some false
+off_is d c (IsPlain.flag_on is) e = absurd cc
+off_is d c (IsPlain.flag_off is) e = is
+off_is d c (IsPlain.own_number t read) e = absurd cc
 
 off_said : (d : Data) → plain_of d ≡ Ok Off → as_bool d ≡ Some false
-unfolding plain_of
-off_said (boolean true) e = absurd cc
-off_said (boolean false) e = refl
-off_said null e = let t = owned (unsigned_field_of null) Off e in absurd cc
-off_said (number n) e = let t = owned (unsigned_field_of (number n)) Off e in absurd cc
-off_said (string s) e = let t = owned (unsigned_field_of (string s)) Off e in absurd cc
-off_said (array ds) e = let t = owned (unsigned_field_of (array ds)) Off e in absurd cc
-off_said (object ms) e = let t = owned (unsigned_field_of (object ms)) Off e in absurd cc
+off_said d e = off_is d Off (plain_says d Off e) refl
 
-own_same : (d : Data) (t : IntType) → ((x : IntType) × (unsigned_field_of d ≡ Ok x) × (Own t ≡ Own x)) → unsigned_field_of d ≡ Ok t
-own_same d t (x, read, is) = let same : x ≡ t = cc in read ∙ ap Ok same
+own_is : (d : Data) (c : Choice) (t : IntType) → IsPlain d c → c ≡ Own t → unsigned_field_of d ≡ Ok t
+own_is d c t (IsPlain.flag_on is) e = absurd cc
+own_is d c t (IsPlain.flag_off is) e = absurd cc
+own_is d c t (IsPlain.own_number x read) e = let same : x ≡ t = cc in read ∙ ap Ok same
 
 own_said : (d : Data) (t : IntType) → plain_of d ≡ Ok (Own t) → unsigned_field_of d ≡ Ok t
-unfolding plain_of
-own_said (boolean true) t e = absurd cc
-own_said (boolean false) t e = absurd cc
-own_said null t e = own_same null t (owned (unsigned_field_of null) (Own t) e)
-own_said (number n) t e = own_same (number n) t (owned (unsigned_field_of (number n)) (Own t) e)
-own_said (string s) t e = own_same (string s) t (owned (unsigned_field_of (string s)) (Own t) e)
-own_said (array ds) t e = own_same (array ds) t (owned (unsigned_field_of (array ds)) (Own t) e)
-own_said (object ms) t e = own_same (object ms) t (owned (unsigned_field_of (object ms)) (Own t) e)
+own_said d t e = own_is d (Own t) t (plain_says d (Own t) e) refl
 
 size_off : (c : Choice) (flaw : Flaw) → not_off c ≡ Err flaw → (c ≡ Off) × (flaw ≡ here OutOfRange)
 unfolding not_off

@@ -35,8 +35,7 @@ use Rattle.conf_values.specs.Property.{first_unknown, next, no_more}
 use Rattle.conf_values.specs.Scalar.{natural_of, signed_of, config_text_of, uuid_of}
 use Rattle.conf_objects.specs.StreamType.{default_of, next_default, clocked_in, head_in, rest_in, listed_of, stream_parts_in, stream_in, stream_type_of}
 use Rattle.conf_fields.specs.StructType.{struct_of}
-use Rattle.conf_fields.proofs.AllowedStructs.{next_read_there}
-use Rattle.conf_values.proofs.Steps.{both_read, ok_same, then_read, none_unknown}
+use Rattle.conf_values.proofs.Steps.{both_read, ok_same, then_read, none_unknown, next_read_there}
 
 -- ---- clock types
 
@@ -183,14 +182,16 @@ header_fields_says has u ms f known e =
       uuid = (i.0, next_read_there u (codes "uuid-field-type") (choice_of Identifier) ms i.0 i.1, sym (ok_same (chosen has byte_type i.0) uuid.0 i.2));
     })
 
-pub header_says : (has : Bool) (d : Data) (f : HeaderFeatures) → header_of has d ≡ Ok f → (ms : Members) × (object_of d ≡ Ok ms) × IsHeaderObject has ms f
-unfolding header_of header_in
-header_says has d f e =
-    let ms = both_read (object_of d) _ f e in
-    let u = first_unknown objects.TraceFeatures ms.0 in
-    let fields = both_read (header_fields_in has u ms.0) _ f ms.2 in
+pub header_in_says : (has : Bool) (u : Option (List ℕ)) (ms : Members) (f : HeaderFeatures) → u ≡ first_unknown objects.TraceFeatures ms → header_in has u ms ≡ Ok f → IsHeaderObject has ms f
+unfolding header_in
+header_in_says has u ms f is e =
+    let fields = both_read (header_fields_in has u ms) _ f e in
     let known = both_read (no_more u) _ f fields.2 in
-    (ms.0, ms.1, subst (IsHeaderObject has ms.0) (ok_same fields.0 f known.2) (header_fields_says has u ms.0 fields.0 (none_unknown u known.0 known.1) fields.1))
+    subst (IsHeaderObject has ms) (ok_same fields.0 f known.2) (header_fields_says has u ms fields.0 (sym is ∙ none_unknown u known.0 known.1) fields.1)
+
+pub header_says : (has : Bool) (d : Data) (f : HeaderFeatures) → header_of has d ≡ Ok f → (ms : Members) × (object_of d ≡ Ok ms) × IsHeaderObject has ms f
+unfolding header_of
+header_says has d f e = let ms = both_read (object_of d) _ f e in (ms.0, ms.1, header_in_says has (first_unknown objects.TraceFeatures ms.0) ms.0 f refl ms.2)
 
 header_fields_read : (has : Bool) (ms : Members) (f : HeaderFeatures) → IsHeaderObject has ms f → header_fields_in has None ms ≡ Ok f
 unfolding header_fields_in next_magic next_identifier next
@@ -207,7 +208,7 @@ pub header_read : (has : Bool) (d : Data) (f : HeaderFeatures) → ((ms : Member
 unfolding header_of
 header_read has d f (ms, is, h) = then_read (object_of d) _ ms f is (subst (λ u. header_in has u ms ≡ Ok f) (sym h.known) (header_in_read has ms f h))
 
-event_header_in_says : (clock u : Option (List ℕ)) (ms : Members) (f : EventFeatures) → u ≡ first_unknown objects.EventFeatures ms → event_header_in clock u ms ≡ Ok f → IsEventHeaderObject clock ms f
+pub event_header_in_says : (clock u : Option (List ℕ)) (ms : Members) (f : EventFeatures) → u ≡ first_unknown objects.EventFeatures ms → event_header_in clock u ms ≡ Ok f → IsEventHeaderObject clock ms f
 unfolding event_header_in
 event_header_in_says clock u ms f is e =
     let timestamp = both_read (next_timestamp clock u (codes "timestamp-field-type") ms) _ f e in
@@ -257,7 +258,7 @@ back_says clock u ms f e =
     (ok_same (record { timestamp_end = end.0; packet_seq_num = sequence.0; packet_size = size.0 }) f size.2)
     (timestamp_says clock u (codes "end-timestamp-field-type") ms end.0 end.1, feature_says false u (codes "sequence-number-field-type") ms sequence.0 sequence.1, size_says u (codes "total-size-field-type") ms size.0 size.1)
 
-context_in_says : (clock u : Option (List ℕ)) (ms : Members) (f : ContextFeatures) → u ≡ first_unknown objects.PacketFeatures ms → context_in clock u ms ≡ Ok f → IsContextObject clock ms f
+pub context_in_says : (clock u : Option (List ℕ)) (ms : Members) (f : ContextFeatures) → u ≡ first_unknown objects.PacketFeatures ms → context_in clock u ms ≡ Ok f → IsContextObject clock ms f
 unfolding context_in
 context_in_says clock u ms f is e =
     let front = both_read (front_in clock u ms) _ f e in
@@ -312,7 +313,7 @@ context_read clock d f (ms, is, h) = then_read (object_of d) _ ms f is (subst (�
 
 -- ---- the features of a data stream type
 
-stream_fields_in_says : (clock u : Option (List ℕ)) (ms : Members) (f : StreamFields) → u ≡ first_unknown objects.StreamFeatures ms → stream_fields_in clock u ms ≡ Ok f → IsStreamFieldsObject clock ms f
+pub stream_fields_in_says : (clock u : Option (List ℕ)) (ms : Members) (f : StreamFields) → u ≡ first_unknown objects.StreamFeatures ms → stream_fields_in clock u ms ≡ Ok f → IsStreamFieldsObject clock ms f
 unfolding stream_fields_in next_event_header next_context
 stream_fields_in_says clock u ms f is e =
     let header = both_read (next_event_header clock u (codes "event-record") ms) _ f e in

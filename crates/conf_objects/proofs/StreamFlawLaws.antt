@@ -23,12 +23,11 @@ use Rattle.conf_objects.specs.OptionalStruct.{next_struct, next_extras}
 use Rattle.conf_values.specs.Property.{first_unknown, next, no_more}
 use Rattle.conf_objects.specs.StreamType.{default_of, next_default, clocked_in, head_in, rest_in, stream_parts_in, stream_in, stream_type_of, stream_member_of, streams_in, stream_types_of}
 use Rattle.conf_fields.specs.StructType.{struct_of}
-use Rattle.conf_fields.proofs.AllowedStructs.{given_read}
 use Rattle.conf_fields.proofs.FieldFlawLaws.{structure_refused, members_refused}
 use Rattle.conf_values.proofs.LeafFlawLaws.{refused_where, wanted_found, holds_of, no_more_refused, next_refused, text_refused, flag_refused, name_refused}
 use Rattle.conf_objects.proofs.ObjectFlawLaws.{Row, either_step, only_step, either_way, in_object, entry_here, entry_later, absent_or_there, no_stream_fields_fine, stream_fields_refused, log_level_refused}
 use Rattle.conf_objects.proofs.ObjectRowLaws.{stream_says}
-use Rattle.conf_values.proofs.Steps.{both_read, read_there}
+use Rattle.conf_values.proofs.Steps.{both_read, read_there, given_read}
 
 next_struct_refused : (kind : ObjectKind) (name : List ℕ) (ms : Members) (flaw : Flaw) → next_struct (first_unknown kind ms) name ms ≡ Err flaw → Row kind name IsNoStructure ms flaw
 unfolding next_struct

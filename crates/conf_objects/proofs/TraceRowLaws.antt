@@ -23,8 +23,7 @@ use Rattle.conf_objects.specs.StreamType.{stream_types_of, next_streams}
 use Rattle.conf_objects.specs.Trace.{next_environment, trace_in, trace_of, root_in, draft_reading}
 use Rattle.conf_objects.specs.TraceType.{order_of, uuid_choice_of, next_clocks, levels_in, has_uuid, front_in, lists_in, ends_in, draft_of, trace_parts_in, trace_type_in, order_there, trace_type_of}
 use Rattle.conf_objects.specs.TraceRows.{IsTraceTypeObject, IsTraceObject, IsRootObject}
-use Rattle.conf_fields.proofs.AllowedStructs.{next_read_there}
-use Rattle.conf_values.proofs.Steps.{both_read, needed_read, next_needed_read, ok_same, then_read, none_unknown}
+use Rattle.conf_values.proofs.Steps.{both_read, needed_read, next_needed_read, ok_same, then_read, none_unknown, next_read_there}
 
 -- ---- the trace type
 

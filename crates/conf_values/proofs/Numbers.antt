@@ -1,23 +1,19 @@
 -- What a natural number that was read is: in its range.
-use Rattle.std.proofs.Common.{◌≡◌, ℕ, ◌≤◌, Bool, true, false, ◌&&◌, Ok, Err, Some, None, refl, arith, cond}
+use Rattle.std.proofs.Common.{◌≡◌, ℕ, ◌≤◌, true, ◌&&◌, Ok, Some, None, arith}
 use Rattle.std.proofs.lemmas.Bool.Decides.{nat_tests}
 use Rattle.std.specs.Prelude.{nat_le, Option}
 use Rattle.serde_json.specs.Data.{Data, Num, unsigned, negative, float}
 use Rattle.serde_json.specs.Find.{as_number}
 use Rattle.conf_tree.specs.Reading.{wanted, ◌>>=◌}
 use Rattle.conf_values.specs.Scalar.{natural_of, natural_in}
-
--- what a test let through
-pub passed : {A B : Type 0} (b : Bool) (x y : A) (f : B) → cond b (Ok x) (Err f) ≡ Ok y → (b ≡ true) × (x ≡ y)
-passed true x y f e = (refl, cc)
-passed false x y f e = absurd cc
+use Rattle.conf_values.proofs.Steps.{is_passed}
 
 between : (low high k : ℕ) → (nat_le low k && nat_le k high) ≡ true → (low ≤ k) × (k ≤ high)
 between low high k e = (grind (arith, nat_tests), grind (arith, nat_tests))
 
 natural_in_range : (low high : ℕ) (m : Num) (n : ℕ) → natural_in low high m ≡ Ok n → (low ≤ n) × (n ≤ high)
 natural_in_range low high (unsigned k) n e =
-    let p = passed (nat_le low k && nat_le k high) k n _ e in
+    let p = is_passed (nat_le low k && nat_le k high) k n _ e in
     let b = between low high k p.0 in
     (rw (← p.1) b.0, rw (← p.1) b.1)
 natural_in_range low high (negative z) n e = cc
