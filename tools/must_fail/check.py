@@ -1,0 +1,82 @@
+"""A copy of a crate in which edits are written and checked, and what its check says of each edited function."""
+import os
+import shutil
+import signal
+import subprocess
+import tempfile
+
+from must_fail.edit import applied
+from must_fail.source import functions_of
+
+PARTS = ("src", "specs", "proofs")
+class Late(Exception):
+    """A check that did not end in its time."""
+
+
+def kit():
+    """The folder of the kit whose rt is on the PATH."""
+    return os.path.dirname(os.path.dirname(os.path.realpath(shutil.which("rt"))))
+
+
+class Copy:
+    """A copy of a crate of a repository whose libraries are built, and the work that checks of it keep."""
+
+    def __init__(self, top, crate, uses, room):
+        self.top, self.crate, self.uses, self.room = top, crate, uses, room
+        self.folder, self.kept = f"{top}/crates/{crate}", f"{room}/kept"
+        self.sources = {}
+        for below, _, names in os.walk(f"{self.folder}/src"):
+            for name in names:
+                with open(f"{below}/{name}", encoding="utf-8") as it:
+                    self.sources[os.path.relpath(f"{below}/{name}", self.folder)] = it.read()
+        self.functions = functions_of(self.sources)
+        self.is_program = "src/main.rt" in self.sources
+
+    def words(self, functions):
+        """The command that checks these functions."""
+        own = kit()
+        words = [f"{own}/bin/rattle", "check", "--crate-name", self.crate, f"src/{'main' if self.is_program else 'lib'}.rt"]
+        for name in ["std", *self.uses[self.crate]]:
+            built = f"{self.top}/crates/{name}/out/rlib" if name in self.uses else f"{own}/rlibs"
+            words += ["--extern", f"{name}={built}/{name}.rlib"]
+        words += ["-L", f"dependency={own}/rlibs"]
+        for name in self.below(self.crate):
+            words += ["-L", f"dependency={self.top}/crates/{name}/out/rlib"]
+        words += ["--antt-project", f"{own}/rattle/logic/antt-project.json", "--logic-built", f"{own}/logic_built"]
+        for path in dict.fromkeys(it.path() for it in functions):
+            words += ["--only", path]
+        return [*words, "--links", f"{self.crate}=", "--jobs", "1", "--allow-holes"]
+
+    def below(self, crate):
+        """The repository's crates that this one stands on."""
+        found = []
+        for name in self.uses[crate]:
+            if name in self.uses:
+                found += [it for it in [*self.below(name), name] if it not in found]
+        return found
+
+    def check(self, edits, functions, seconds):
+        """Checks these functions in a copy with these edits; returns what the check says, or Late. The first check, without edits, keeps its work
+        for the others, each of which has a copy of it."""
+        with tempfile.TemporaryDirectory(prefix="edits-", dir=self.room) as copy:
+            kept = f"{copy}/kept" if edits else self.kept
+            if edits:
+                shutil.copytree(self.kept, kept, copy_function=shutil.copyfile)
+            for part in PARTS:
+                if os.path.isdir(f"{self.folder}/{part}"):
+                    shutil.copytree(f"{self.folder}/{part}", f"{copy}/{part}")
+            for file, text in applied(edits, self.sources).items():
+                with open(f"{copy}/{file}", "w", encoding="utf-8") as it:
+                    it.write(text)
+            return said_by([*self.words(functions), "--incremental", kept], copy, seconds)
+
+
+def said_by(words, folder, seconds):
+    """What a command says, in its own process group, which ends with it."""
+    how = {"cwd": folder, "stdin": subprocess.DEVNULL, "stdout": subprocess.PIPE, "stderr": subprocess.STDOUT}
+    with subprocess.Popen(words, start_new_session=True, text=True, errors="replace", **how) as ran:
+        try:
+            return ran.communicate(timeout=seconds)[0]
+        except subprocess.TimeoutExpired:
+            os.killpg(ran.pid, signal.SIGKILL)
+            raise Late from None
