@@ -1,6 +1,6 @@
 -- Worked rows of where a number's bits lie among its own.
 use Rattle.std.specs.Prelude.{◌≡◌, refl}
-use Rattle.ctf_types.specs.declared.byte_order.ByteOrder.TheVariants.{Little, Big}
+use Rattle.ctf_types.specs.declared.ByteOrder.TheVariants.{Little, Big}
 use Rattle.bit_codec.specs.Place.{place_in_number, number_with}
 
 -- the second of five bits

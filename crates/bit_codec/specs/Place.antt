@@ -1,8 +1,8 @@
 -- Where a number's bits lie among its own (CTF 1.8.3, section 4.1.5): in little-endian order the first bit
 -- is the least significant one, in big-endian order the most significant one.
 use Rattle.std.specs.Prelude.{ℕ, ◌+◌, ◌-◌, ◌*◌, ◌^◌}
-use Rattle.ctf_types.specs.declared.byte_order.ByteOrder.{ByteOrder}
-use Rattle.ctf_types.specs.declared.byte_order.ByteOrder.TheVariants.{Little, Big}
+use Rattle.ctf_types.specs.declared.ByteOrder.{ByteOrder}
+use Rattle.ctf_types.specs.declared.ByteOrder.TheVariants.{Little, Big}
 
 -- which bit of a number of n bits, counted from the least significant, is its bit j
 abbrev pub place_in_number : ByteOrder → ℕ → ℕ → ℕ

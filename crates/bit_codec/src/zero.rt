@@ -1,7 +1,7 @@
 //! Clearing a span of bits of a byte slice.
 
 ghost use Rattle.std.specs.Prelude.{◌*◌, ◌≤◌, length};
-ghost use Rattle.ctf_types.specs.declared.byte_order.ByteOrder.{ByteOrder};
+ghost use Rattle.ctf_types.specs.declared.ByteOrder.{ByteOrder};
 ghost use Rattle.ctf_types.specs.Bits.{bit_of, AreZero, SameOutside};
 
 use crate::bit::put_bit;

@@ -4,8 +4,8 @@ use Rattle.std.specs.Prelude.{codes}
 use Rattle.std.proofs.lemmas.List.Elements.{recursion_from_All}
 use Rattle.serde_json.specs.Data.{Data}
 use Rattle.ctf_types.specs.AllowedConfig.{HoldsUpTo, IsConfig}
-use Rattle.ctf_types.specs.declared.config.Config.{Config}
-use Rattle.ctf_types.specs.declared.int_type.IntType.{IntType}
+use Rattle.ctf_types.specs.declared.Config.{Config}
+use Rattle.ctf_types.specs.declared.IntType.{IntType}
 use Rattle.conf_tree.specs.Flaw.{Flaw, key}
 use Rattle.conf_objects.specs.declared.draft.Draft.{Draft}
 use Rattle.conf_objects.specs.declared.limits.Part.TheVariants as part

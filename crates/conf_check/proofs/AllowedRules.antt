@@ -7,13 +7,13 @@ use Rattle.std.proofs.lemmas.List.Elements.{All-from_recursion, recursion_from_A
 use Rattle.std.proofs.lemmas.Slice.Eq.{bytes_eq-Decides}
 use Rattle.ctf_types.specs.AllowedConfig.{HoldsUpTo, OnlyIf, IsTimestamp, MemberHasBits, StructHasBits, IsEventType, IsStreamType}
 use Rattle.ctf_types.specs.FieldTypes.{chain_of}
-use Rattle.ctf_types.specs.declared.clock_type.ClockType.{ClockType}
-use Rattle.ctf_types.specs.declared.config.EventType.{EventType}
-use Rattle.ctf_types.specs.declared.config.StreamType.{StreamType}
-use Rattle.ctf_types.specs.declared.int_type.IntType.{IntType}
-use Rattle.ctf_types.specs.declared.member_type.MemberType.{MemberType}
-use Rattle.ctf_types.specs.declared.member_type.MemberType.TheVariants.{Plain, Dyn}
-use Rattle.ctf_types.specs.declared.struct_type.StructType.{StructType}
+use Rattle.ctf_types.specs.declared.ClockType.{ClockType}
+use Rattle.ctf_types.specs.declared.EventType.{EventType}
+use Rattle.ctf_types.specs.declared.StreamType.{StreamType}
+use Rattle.ctf_types.specs.declared.IntType.{IntType}
+use Rattle.ctf_types.specs.declared.MemberType.{MemberType}
+use Rattle.ctf_types.specs.declared.MemberType.TheVariants.{Plain, Dyn}
+use Rattle.ctf_types.specs.declared.StructType.{StructType}
 use Rattle.conf_tree.specs.Flaw.{Flaw, key, here}
 use Rattle.conf_tree.specs.declared.fault_kind.FaultKind.TheVariants.{ZeroSizeRecord}
 use Rattle.conf_tree.specs.Reading.{at}

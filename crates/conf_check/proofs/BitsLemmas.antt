@@ -1,7 +1,7 @@
 -- Members with bits, from the front of a structure on.
 use Rattle.std.proofs.Common.{◌≡◌, ℕ, zero, suc, Bool, ◌||◌, List, [], ◌∷◌, drop, slice_get, option_map, Some, ap}
 use Rattle.std.specs.List.{list_any}
-use Rattle.ctf_types.specs.declared.member_type.MemberType.{MemberType}
+use Rattle.ctf_types.specs.declared.MemberType.{MemberType}
 use Rattle.conf_check.specs.StreamRules.{member_has_bits}
 
 abbrev pub any_bits : List (List ℕ × MemberType) → Bool

@@ -1,7 +1,7 @@
 -- The reading of a whole configuration and its rows say the same.
 use Rattle.std.proofs.Common.{◌≡◌, ℕ, Bool, true, false, cond, List, Option, Result, Ok, Err, refl, ap, ◌⊎◌, inl, inr}
 use Rattle.serde_json.specs.Data.{Data}
-use Rattle.ctf_types.specs.declared.config.Config.{Config}
+use Rattle.ctf_types.specs.declared.Config.{Config}
 use Rattle.conf_tree.specs.declared.fault.ConfFault.{ConfFault}
 use Rattle.conf_tree.specs.Flaw.{Flaw, flaw_of, IsMemory}
 use Rattle.conf_objects.specs.declared.draft.Draft.{Draft}

@@ -3,7 +3,7 @@ use Rattle.std.proofs.Common.{◌≡◌, ◌⊎◌, inl, inr, ℕ, List, Option,
 use Rattle.serde_json.specs.Data.{Data}
 use Rattle.serde_json.specs.Read.{read}
 use Rattle.conf_tree.specs.declared.fault.ConfFault.{ConfFault}
-use Rattle.ctf_types.specs.declared.config.Config.{Config}
+use Rattle.ctf_types.specs.declared.Config.{Config}
 use Rattle.conf_tree.specs.Flaw.{Flaw, flaw_of, IsMemory}
 use Rattle.conf_tree.specs.Walk.{IsTreeOf, IsFirstFlaw, Reads, FlawHolds, max_levels}
 use Rattle.conf_inherit.specs.Faults.{RefusalHolds}

@@ -10,14 +10,14 @@ use Rattle.serde_json.specs.Data.{Data, null, boolean, number, string, array, ob
 use Rattle.serde_json.specs.Events.{members_len}
 use Rattle.ctf_types.specs.AllowedConfig.{HoldsUpTo, MemberHasBits, StructHasBits}
 use Rattle.ctf_types.specs.FieldTypes.{chain_of}
-use Rattle.ctf_types.specs.declared.clock_type.ClockType.{ClockType}
-use Rattle.ctf_types.specs.declared.config.Config.{Config}
-use Rattle.ctf_types.specs.declared.config.EventType.{EventType}
-use Rattle.ctf_types.specs.declared.config.StreamType.{StreamType}
-use Rattle.ctf_types.specs.declared.int_type.IntType.{IntType}
-use Rattle.ctf_types.specs.declared.member_type.MemberType.{MemberType}
-use Rattle.ctf_types.specs.declared.member_type.MemberType.TheVariants.{Plain, Dyn}
-use Rattle.ctf_types.specs.declared.struct_type.StructType.{StructType}
+use Rattle.ctf_types.specs.declared.ClockType.{ClockType}
+use Rattle.ctf_types.specs.declared.Config.{Config}
+use Rattle.ctf_types.specs.declared.EventType.{EventType}
+use Rattle.ctf_types.specs.declared.StreamType.{StreamType}
+use Rattle.ctf_types.specs.declared.IntType.{IntType}
+use Rattle.ctf_types.specs.declared.MemberType.{MemberType}
+use Rattle.ctf_types.specs.declared.MemberType.TheVariants.{Plain, Dyn}
+use Rattle.ctf_types.specs.declared.StructType.{StructType}
 use Rattle.conf_tree.specs.declared.fault_kind.FaultKind.TheVariants.{FieldTooSmall, ZeroSizeRecord, NoClock, NoUuid, Limit, TwoOrders, TimestampSize}
 use Rattle.conf_tree.specs.Flaw.{Flaw, key, here, within}
 use Rattle.conf_tree.specs.Reading.{◌>>=◌, at}

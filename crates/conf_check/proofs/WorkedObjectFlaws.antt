@@ -4,8 +4,8 @@ use Rattle.std.proofs.Common.{◌≡◌, ◌<◌, [], ◌∷◌, List, Contains,
 use Rattle.std.specs.Prelude.{codes}
 use Rattle.serde_json.specs.Data.{Data, Members, null, boolean, string, object, no_members, member}
 use Rattle.serde_json.specs.Events.{members_len}
-use Rattle.ctf_types.specs.declared.config.EventType.{EventType}
-use Rattle.ctf_types.specs.declared.config.StreamType.{StreamType}
+use Rattle.ctf_types.specs.declared.EventType.{EventType}
+use Rattle.ctf_types.specs.declared.StreamType.{StreamType}
 use Rattle.conf_tree.specs.Flaw.{Flaw, Place, key, here}
 use Rattle.conf_tree.specs.declared.fault_kind.FaultKind.{FaultKind}
 use Rattle.conf_tree.specs.declared.fault_kind.FaultKind.TheVariants.{WrongKind, Missing, Unknown, NoSuchAlias, OutOfRange, ZeroSizeRecord, NoClock, NoUuid, Limit, TwoOrders}

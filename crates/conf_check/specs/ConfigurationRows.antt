@@ -1,7 +1,7 @@
 -- What a whole configuration says: its objects row by row, and the rules over all of them.
 use Rattle.std.specs.Prelude.{◌≡◌, ℕ, List, false, Option, Ok}
 use Rattle.serde_json.specs.Data.{Data, Members}
-use Rattle.ctf_types.specs.declared.config.Config.{Config}
+use Rattle.ctf_types.specs.declared.Config.{Config}
 use Rattle.conf_tree.specs.Reading.{object_of}
 use Rattle.conf_objects.specs.declared.draft.Draft.{Draft}
 use Rattle.conf_objects.specs.declared.limits.Part.TheVariants.{Root}

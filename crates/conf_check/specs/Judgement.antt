@@ -2,7 +2,7 @@
 -- the objects have to be together, one rule after the other, each at its first place (barectf 3.1, "Configuration object").
 use Rattle.std.specs.Prelude.{ℕ, ◌-◌, ◌&&◌, List, Option, is_some, is_none, length, Result, Ok, Err, codes, if◌then◌else◌, ⊤}
 use Rattle.serde_json.specs.Data.{Data}
-use Rattle.ctf_types.specs.declared.config.Config.{Config}
+use Rattle.ctf_types.specs.declared.Config.{Config}
 use Rattle.conf_tree.specs.declared.fault_kind.FaultKind.{FaultKind}
 use Rattle.conf_tree.specs.declared.fault_kind.FaultKind.TheVariants.{FieldTooSmall, NoUuid, TwoOrders}
 use Rattle.conf_tree.specs.Flaw.{Flaw, key, here, within}

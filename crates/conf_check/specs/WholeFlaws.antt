@@ -5,10 +5,10 @@ use Rattle.std.specs.Prelude.{◌≡◌, ◌≢◌, ◌⊎◌, ◌<◌, ◌-◌,
 use Rattle.serde_json.specs.Data.{Data, string, array, object, Items, Members}
 use Rattle.serde_json.specs.Events.{members_len}
 use Rattle.ctf_types.specs.AllowedConfig.{HoldsUpTo, StructHasBits}
-use Rattle.ctf_types.specs.declared.clock_type.ClockType.{ClockType}
-use Rattle.ctf_types.specs.declared.config.EventType.{EventType}
-use Rattle.ctf_types.specs.declared.config.StreamType.{StreamType}
-use Rattle.ctf_types.specs.declared.int_type.IntType.{IntType}
+use Rattle.ctf_types.specs.declared.ClockType.{ClockType}
+use Rattle.ctf_types.specs.declared.EventType.{EventType}
+use Rattle.ctf_types.specs.declared.StreamType.{StreamType}
+use Rattle.ctf_types.specs.declared.IntType.{IntType}
 use Rattle.conf_tree.specs.declared.fault_kind.FaultKind.TheVariants.{FieldTooSmall, ZeroSizeRecord, NoClock, NoUuid, Limit, TwoOrders, TimestampSize}
 use Rattle.conf_tree.specs.Flaw.{Flaw, key, here, within}
 use Rattle.conf_tree.specs.Walk.{HasMember}

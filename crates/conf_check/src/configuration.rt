@@ -1,6 +1,6 @@
 //! From the text of a configuration to the configuration.
 ghost use Rattle.std.specs.Prelude.{◌⊎◌, IfOk, IfErr};
-ghost use Rattle.ctf_types.specs.declared.config.Config.{Config as Configuration};
+ghost use Rattle.ctf_types.specs.declared.Config.{Config as Configuration};
 ghost use Rattle.ctf_types.specs.AllowedConfig.{IsConfig};
 ghost use Rattle.conf_tree.specs.Flaw.{flaw_of, IsMemory};
 ghost use Rattle.conf_check.specs.Configuration.{Configures, ConfiguresResolved, ConfiguresByLookUp, GivesThat, IsRefusal, RefusalIsTrue, RefusedForMemory};

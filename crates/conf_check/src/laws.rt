@@ -2,7 +2,7 @@
 //! refused breaks a row, a rule or a limit.
 ghost use Rattle.std.specs.Prelude.{◌≡◌, ◌↔◌, ◌⊎◌, ℕ, List, Option, Ok, Err};
 ghost use Rattle.serde_json.specs.Data.{Data};
-ghost use Rattle.ctf_types.specs.declared.config.Config.{Config as Configuration};
+ghost use Rattle.ctf_types.specs.declared.Config.{Config as Configuration};
 ghost use Rattle.conf_tree.specs.Flaw.{Flaw};
 ghost use Rattle.conf_objects.specs.declared.draft.Draft.{Draft};
 ghost use Rattle.conf_objects.specs.declared.limits.Part.TheVariants.{Root};

@@ -6,9 +6,9 @@ use Rattle.std.proofs.lemmas.Bool.Decides.{nat_tests}
 use Rattle.std.proofs.lemmas.List.Elements.{All-weaker}
 use Rattle.std.proofs.lemmas.List.Sums.{AllPass-from_list_all}
 use Rattle.serde_json.specs.Data.{Data, Members}
-use Rattle.ctf_types.specs.declared.field_type.FieldType.{FieldType}
-use Rattle.ctf_types.specs.declared.member_type.MemberType.{MemberType}
-use Rattle.ctf_types.specs.declared.member_type.MemberType.TheVariants.{Plain}
+use Rattle.ctf_types.specs.declared.FieldType.{FieldType}
+use Rattle.ctf_types.specs.declared.MemberType.{MemberType}
+use Rattle.ctf_types.specs.declared.MemberType.TheVariants.{Plain}
 use Rattle.ctf_types.specs.Allowed.{IsNest, HasBits, elements_of}
 use Rattle.ctf_types.specs.AllowedConfig.{IsConfigLeaf, IsConfigField, IsConfigMember}
 use Rattle.ctf_types.specs.FieldTypes.{chain_of}

@@ -1,7 +1,7 @@
 -- Unsigned integers as their rows say are ones that the rules allow.
 use Rattle.std.proofs.Common.{◌≡◌, false, Ok}
 use Rattle.serde_json.specs.Data.{Data, Members}
-use Rattle.ctf_types.specs.declared.int_type.IntType.{IntType}
+use Rattle.ctf_types.specs.declared.IntType.{IntType}
 use Rattle.ctf_types.specs.AllowedConfig.{IsPlainUnsigned}
 use Rattle.conf_tree.specs.Reading.{object_of}
 use Rattle.conf_values.specs.declared.words.FieldClass.{FieldClass}

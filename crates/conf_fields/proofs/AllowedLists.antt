@@ -7,8 +7,8 @@ use Rattle.std.proofs.lemmas.Bool.{and_parts}
 use Rattle.std.proofs.lemmas.Bool.Decides.{nat_tests}
 use Rattle.serde_json.specs.Data.{Data, Items, no_items, item, Members, no_members, member}
 use Rattle.serde_json.specs.Events.{items_len}
-use Rattle.ctf_types.specs.declared.member_type.MemberType.{MemberType}
-use Rattle.ctf_types.specs.declared.member_type.MemberType.TheVariants.{Plain}
+use Rattle.ctf_types.specs.declared.MemberType.{MemberType}
+use Rattle.ctf_types.specs.declared.MemberType.TheVariants.{Plain}
 use Rattle.ctf_types.specs.AllowedConfig.{IsConfigMember}
 use Rattle.ctf_types.specs.Names.{is_identifier, unused_keywords, used_keywords, IsConfigName, IsPlainName}
 use Rattle.conf_tree.specs.Flaw.{Flaw, key, index}

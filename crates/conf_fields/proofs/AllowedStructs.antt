@@ -7,8 +7,8 @@ use Rattle.std.proofs.lemmas.Bool.Decides.{nat_tests}
 use Rattle.std.proofs.lemmas.List.Elements.{All-nil, All-from_recursion}
 use Rattle.serde_json.specs.Data.{Data, Items, Members}
 use Rattle.serde_json.specs.Events.{items_len}
-use Rattle.ctf_types.specs.declared.member_type.MemberType.{MemberType}
-use Rattle.ctf_types.specs.declared.struct_type.StructType.{StructType}
+use Rattle.ctf_types.specs.declared.MemberType.{MemberType}
+use Rattle.ctf_types.specs.declared.StructType.{StructType}
 use Rattle.ctf_types.specs.AllowedConfig.{IsConfigMember, AreConfigMembers, IsConfigStruct}
 use Rattle.ctf_types.specs.Members.{names_in}
 use Rattle.ctf_types.specs.Names.{IsPlainName}

@@ -6,7 +6,7 @@ use borrow.Author.Differences.{le-false, below_in}
 use Rattle.serde_json.specs.Data.{Data, null, boolean, number, string, array, object, Items, no_items, item, Members, no_members, member}
 use Rattle.serde_json.specs.Events.{items_len}
 use Rattle.serde_json.specs.Find.{get_item, as_object, as_array, as_number, as_integer}
-use Rattle.ctf_types.specs.declared.enum_type.Mapping.{Mapping}
+use Rattle.ctf_types.specs.declared.Mapping.{Mapping}
 use Rattle.ctf_types.specs.AllowedConfig.{lowest, highest}
 use Rattle.conf_tree.specs.declared.fault_kind.FaultKind.TheVariants.{WrongKind, OutOfRange}
 use Rattle.conf_tree.specs.Flaw.{Flaw, key, index, here, within}

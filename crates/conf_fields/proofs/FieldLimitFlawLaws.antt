@@ -5,9 +5,9 @@ use Rattle.std.proofs.lemmas.Bool.{cases_lt, agree_below_at, and_cases, false≢
 use Rattle.serde_json.specs.Data.{Data, null, boolean, number, string, array, object, Items, no_items, item, Members, no_members, member}
 use Rattle.serde_json.specs.Events.{items_len}
 use Rattle.serde_json.specs.Find.{as_object, as_array}
-use Rattle.ctf_types.specs.declared.enum_type.Mapping.{Mapping}
-use Rattle.ctf_types.specs.declared.field_type.FieldType.{FieldType}
-use Rattle.ctf_types.specs.declared.field_type.FieldType.TheVariants as fields
+use Rattle.ctf_types.specs.declared.Mapping.{Mapping}
+use Rattle.ctf_types.specs.declared.FieldType.{FieldType}
+use Rattle.ctf_types.specs.declared.FieldType.TheVariants as fields
 use Rattle.ctf_types.specs.FieldTypes.{chain_of}
 use Rattle.conf_tree.specs.declared.fault_kind.FaultKind.TheVariants.{WrongKind, OutOfRange, Limit}
 use Rattle.conf_tree.specs.Flaw.{Flaw, key, index, here, within}

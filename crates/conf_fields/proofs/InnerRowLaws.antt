@@ -2,9 +2,9 @@
 use Rattle.std.proofs.Common.{◌≡◌, ◌++◌, ℕ, zero, suc, true, false, List, [], ◌∷◌, Result, Ok, Err, refl, sym, ap, subst, ◌∙◌, append-nil, append_assoc}
 use Rattle.std.specs.Prelude.{None}
 use Rattle.serde_json.specs.Data.{Data, Items, no_items, item, Members, no_members, member}
-use Rattle.ctf_types.specs.declared.field_type.FieldType.{FieldType}
-use Rattle.ctf_types.specs.declared.field_type.FieldType.TheVariants as fields
-use Rattle.ctf_types.specs.declared.member_type.MemberType.{MemberType}
+use Rattle.ctf_types.specs.declared.FieldType.{FieldType}
+use Rattle.ctf_types.specs.declared.FieldType.TheVariants as fields
+use Rattle.ctf_types.specs.declared.MemberType.{MemberType}
 use Rattle.conf_tree.specs.Flaw.{Flaw, key, index}
 use Rattle.conf_tree.specs.Reading.{◌>>=◌, at, object_of, list_of}
 use Rattle.conf_values.specs.declared.properties.ObjectKind.TheVariants as objects

@@ -5,8 +5,8 @@ use Rattle.std.proofs.lemmas.Bool.{cases_lt, agree_below_at, false≢true, eqb-t
 use Rattle.std.proofs.Math.Pow.{pow_mono}
 use Rattle.serde_json.specs.Data.{Data, Num, unsigned, negative, float, Members}
 use Rattle.serde_json.specs.Find.{as_number}
-use Rattle.ctf_types.specs.declared.base.Base.{Base}
-use Rattle.ctf_types.specs.declared.int_type.IntType.{IntType}
+use Rattle.ctf_types.specs.declared.Base.{Base}
+use Rattle.ctf_types.specs.declared.IntType.{IntType}
 use Rattle.ctf_types.specs.Alignment.{IsAlignment}
 use Rattle.conf_tree.specs.declared.fault_kind.FaultKind.TheVariants.{OutOfRange}
 use Rattle.conf_tree.specs.Flaw.{Flaw, here}

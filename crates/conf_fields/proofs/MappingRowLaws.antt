@@ -1,7 +1,7 @@
 -- The mappings of an enumeration are read exactly where their rows hold.
 use Rattle.std.proofs.Common.{◌≡◌, ◌≢◌, ◌++◌, ℕ, suc, cond, List, [], ◌∷◌, Ok, Err, refl, sym, ap, subst, ◌∙◌, append-nil, append_assoc}
 use Rattle.serde_json.specs.Data.{Data, Items, no_items, item, Members, no_members, member}
-use Rattle.ctf_types.specs.declared.enum_type.Mapping.{Mapping}
+use Rattle.ctf_types.specs.declared.Mapping.{Mapping}
 use Rattle.conf_tree.specs.declared.fault_kind.FaultKind.TheVariants.{OutOfRange}
 use Rattle.conf_tree.specs.Flaw.{key, index, here}
 use Rattle.conf_tree.specs.Reading.{at, object_of, list_of}

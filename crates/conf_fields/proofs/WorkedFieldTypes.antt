@@ -2,7 +2,7 @@
 use Rattle.std.proofs.Common.{◌≡◌, ℕ, [], ◌∷◌, List, Result, Ok, Err, pos, refl, true, false}
 use Rattle.std.specs.Prelude.{codes}
 use Rattle.serde_json.specs.Data.{Data, number, string, array, object, unsigned, no_items, item, no_members, member}
-use Rattle.ctf_types.specs.declared.int_type.IntType.{IntType}
+use Rattle.ctf_types.specs.declared.IntType.{IntType}
 use Rattle.conf_tree.specs.Flaw.{Flaw, key, index}
 use Rattle.conf_tree.specs.Reading.{whole_of, optional_as}
 use Rattle.conf_tree.specs.declared.fault_kind.FaultKind.TheVariants.{WrongKind, Missing, Unknown, OutOfRange, ReservedName, NameClash, Limit}

@@ -3,9 +3,9 @@
 -- least; a range is inside the integer's numbers, and ranges may overlap. The mappings stand in the byte order of the labels.
 use Rattle.std.specs.Prelude.{ℕ, suc, ℤ, pos, negsuc, int_le, ◌&&◌, Bool, nat_le, if◌then◌else◌, List, [], ◌∷◌, ◌++◌, length, Option, Result, Ok, Err, codes, ⊤}
 use Rattle.serde_json.specs.Data.{Data, null, boolean, number, string, array, object, Items, no_items, item, Members, no_members, member}
-use Rattle.ctf_types.specs.declared.int_type.IntType.{IntType}
-use Rattle.ctf_types.specs.declared.enum_type.Mapping.{Mapping}
-use Rattle.ctf_types.specs.declared.enum_type.EnumType.{EnumType}
+use Rattle.ctf_types.specs.declared.IntType.{IntType}
+use Rattle.ctf_types.specs.declared.Mapping.{Mapping}
+use Rattle.ctf_types.specs.declared.EnumType.{EnumType}
 use Rattle.ctf_types.specs.AllowedConfig.{lowest, highest}
 use Rattle.conf_tree.specs.declared.fault_kind.FaultKind.TheVariants.{WrongKind, OutOfRange, Limit}
 use Rattle.conf_tree.specs.Flaw.{Flaw, key, index, here, within}

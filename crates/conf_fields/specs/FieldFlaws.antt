@@ -5,7 +5,7 @@ use Rattle.std.specs.Prelude.{◌≡◌, ◌≢◌, ◌⊎◌, ℕ, suc, ◌<◌
 use Rattle.serde_json.specs.Data.{Data, array, Num, unsigned, Items, no_items, item, Members, no_members, member}
 use Rattle.serde_json.specs.Events.{items_len, members_len}
 use Rattle.serde_json.specs.Find.{get_member, get_item, as_object, as_array, as_number, as_integer}
-use Rattle.ctf_types.specs.declared.field_type.FieldType.{FieldType}
+use Rattle.ctf_types.specs.declared.FieldType.{FieldType}
 use Rattle.ctf_types.specs.Allowed.{elements_of}
 use Rattle.ctf_types.specs.AllowedConfig.{lowest, highest}
 use Rattle.ctf_types.specs.FieldTypes.{chain_of}

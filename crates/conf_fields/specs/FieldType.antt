@@ -3,9 +3,9 @@
 -- structure or a dynamic array stands at no such place.
 use Rattle.std.specs.Prelude.{ℕ, zero, suc, ◌&&◌, Bool, false, true, nat_le, if◌then◌else◌, List, length, Result, Ok, Err, codes, ⊤}
 use Rattle.serde_json.specs.Data.{Data, Members}
-use Rattle.ctf_types.specs.declared.int_type.IntType.{IntType}
-use Rattle.ctf_types.specs.declared.field_type.FieldType.{FieldType}
-use Rattle.ctf_types.specs.declared.field_type.FieldType.TheVariants as fields
+use Rattle.ctf_types.specs.declared.IntType.{IntType}
+use Rattle.ctf_types.specs.declared.FieldType.{FieldType}
+use Rattle.ctf_types.specs.declared.FieldType.TheVariants as fields
 use Rattle.ctf_types.specs.Allowed.{elements_of}
 use Rattle.ctf_types.specs.FieldTypes.{chain_of}
 use Rattle.conf_tree.specs.declared.fault_kind.FaultKind.TheVariants.{WrongKind, TooDeep, Limit}

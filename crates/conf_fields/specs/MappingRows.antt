@@ -2,7 +2,7 @@
 -- numbers (barectf 3.1, "Enumeration field type objects").
 use Rattle.std.specs.Prelude.{◌≡◌, ◌≢◌, ◌++◌, ℕ, List, [], ◌∷◌, true, Ok, ⊤}
 use Rattle.serde_json.specs.Data.{Data, Items, no_items, item, Members, no_members, member}
-use Rattle.ctf_types.specs.declared.enum_type.Mapping.{Mapping}
+use Rattle.ctf_types.specs.declared.Mapping.{Mapping}
 use Rattle.conf_tree.specs.Reading.{object_of, list_of}
 use Rattle.conf_fields.specs.declared.enum_type.Span.{Span}
 use Rattle.conf_fields.specs.EnumType.{range_of, is_inside}

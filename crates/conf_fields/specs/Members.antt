@@ -3,7 +3,7 @@
 use Rattle.std.specs.Prelude.{◌≡◌, ℕ, suc, false, nat_le, Contains, if◌then◌else◌, List, [], ◌∷◌, ◌++◌, Result, Ok, Err, ⊤}
 use Rattle.serde_json.specs.Data.{Data, Items, no_items, item}
 use Rattle.serde_json.specs.Events.{items_len}
-use Rattle.ctf_types.specs.declared.member_type.MemberType.{MemberType}
+use Rattle.ctf_types.specs.declared.MemberType.{MemberType}
 use Rattle.conf_tree.specs.declared.fault_kind.FaultKind.TheVariants.{Limit}
 use Rattle.conf_tree.specs.Flaw.{Flaw, index, here}
 use Rattle.conf_tree.specs.Reading.{◌>>=◌, at, list_of}

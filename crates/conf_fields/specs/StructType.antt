@@ -3,8 +3,8 @@
 use Rattle.std.specs.Prelude.{ℕ, ◌%◌, ◌==◌, nat_lt, List, [], ◌∷◌, Option, Some, None, Result, Ok, Err, codes, ⊤}
 use Rattle.std.proofs.lemmas.Bool.{ltb-true, eqb-true}
 use Rattle.serde_json.specs.Data.{Data, Members}
-use Rattle.ctf_types.specs.declared.member_type.MemberType.{MemberType}
-use Rattle.ctf_types.specs.declared.struct_type.StructType.{StructType}
+use Rattle.ctf_types.specs.declared.MemberType.{MemberType}
+use Rattle.ctf_types.specs.declared.StructType.{StructType}
 use Rattle.conf_tree.specs.declared.fault_kind.FaultKind.TheVariants.{WrongKind}
 use Rattle.conf_tree.specs.Flaw.{Flaw, here}
 use Rattle.conf_tree.specs.Reading.{◌>>=◌, optional_as, object_of}

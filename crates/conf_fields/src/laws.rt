@@ -4,12 +4,12 @@ ghost use Rattle.std.specs.Prelude.{◌≡◌, ◌↔◌, ℕ, Bool, List, Resul
 ghost use Rattle.std.specs.List.{list_any};
 ghost use Rattle.std.specs.Str.{bytes_eq};
 ghost use Rattle.serde_json.specs.Data.{Data, Members};
-ghost use Rattle.ctf_types.specs.declared.int_type.IntType.{IntType as Int};
-ghost use Rattle.ctf_types.specs.declared.enum_type.EnumType.{EnumType as Enum};
-ghost use Rattle.ctf_types.specs.declared.enum_type.Mapping.{Mapping as Label};
-ghost use Rattle.ctf_types.specs.declared.field_type.FieldType.{FieldType as Field};
-ghost use Rattle.ctf_types.specs.declared.member_type.MemberType.{MemberType as Member};
-ghost use Rattle.ctf_types.specs.declared.struct_type.StructType.{StructType as Struct};
+ghost use Rattle.ctf_types.specs.declared.IntType.{IntType as Int};
+ghost use Rattle.ctf_types.specs.declared.EnumType.{EnumType as Enum};
+ghost use Rattle.ctf_types.specs.declared.Mapping.{Mapping as Label};
+ghost use Rattle.ctf_types.specs.declared.FieldType.{FieldType as Field};
+ghost use Rattle.ctf_types.specs.declared.MemberType.{MemberType as Member};
+ghost use Rattle.ctf_types.specs.declared.StructType.{StructType as Struct};
 ghost use Rattle.ctf_types.specs.AllowedConfig.{IsConfigStruct, AreConfigMembers, IsPlainUnsigned};
 ghost use Rattle.ctf_types.specs.Members.{names_in};
 ghost use Rattle.ctf_types.specs.Shown.{shown_members};

@@ -1,10 +1,11 @@
 //! Structure field types of a configuration.
-ghost use Rattle.std.specs.Prelude.{◌≡◌, ◌+◌, ◌<◌, ◌≤◌, [], IfErr, IfSome, option_map};
+ghost use Rattle.std.specs.Prelude.{◌≡◌, ◌+◌, ◌<◌, ◌≤◌, [], Ok, IfOk, IfErr, IfSome, option_map};
 ghost use Rattle.arrayvec.specs.ArrayVec.{array_vec_len};
 ghost use Rattle.serde_json.specs.Data.{depth, members_depth};
 ghost use Rattle.serde_json.specs.View.{view, members_view};
-ghost use Rattle.conf_tree.specs.Reading.{Gives};
-ghost use Rattle.conf_values.specs.Property.{next};
+ghost use Rattle.conf_tree.specs.Reading.{Gives, ◌>>=◌ as followed_by};
+ghost use Rattle.conf_values.specs.Property.{next, no_more as none_more};
+ghost use Rattle.conf_fields.specs.IntType.{alignment_of};
 ghost use Rattle.conf_fields.specs.Members.{members_of};
 ghost use Rattle.conf_fields.specs.StructType.{min_align_for, or_none, structure_of, struct_parts, struct_of_class, struct_of, listed_limits, struct_limits};
 
@@ -82,6 +83,24 @@ fn structure(
     }
 }
 
+/// The alignment that the last property `name` is, if it is there, and nothing unknown behind it.
+fn last_alignment(
+    alloc: Global,
+    members: &Map<String, Value>,
+    unknown: Option<&str>,
+    name: &str,
+) -> Result<Option<u64>, ConfFault>
+    ensures reading { Gives (λ n. n) result
+        (followed_by (next (option_map (λ s. s.now) unknown.entry) name.now alignment_of (members_view members.now.entries))
+        (λ align. followed_by (none_more (option_map (λ s. s.now) unknown.entry)) (λ _. Ok align))) }
+    ensures positive { IfOk result (λ n. IfSome n (λ a. 0 < a)) }
+    ensures steps { IfErr result (λ fault. array_vec_len fault.path ≤ 1) }
+{
+    let alignment = next_alignment(alloc, members, unknown, name)?;
+    no_more(alloc, unknown)?;
+    Ok(alignment)
+}
+
 #[tactic(auto, unfolding(crate::specs::StructType::struct_parts))]
 fn read_struct_parts(
     alloc: Global,
@@ -93,8 +112,7 @@ fn read_struct_parts(
     ensures steps { IfErr result (λ fault. array_vec_len fault.path ≤ members_depth (members_view members.now.entries) + 1) }
 {
     let listed = next_members(alloc, members, unknown, "members")?;
-    let alignment = next_alignment(alloc, members, unknown, "minimum-alignment")?;
-    no_more(alloc, unknown)?;
+    let alignment = last_alignment(alloc, members, unknown, "minimum-alignment")?;
     structure(alloc, listed, alignment)
 }
 

@@ -4,7 +4,7 @@ use Rattle.std.specs.Prelude.{codes, unwrap_or}
 use Rattle.serde_json.specs.Data.{Data, Members}
 use Rattle.ctf_types.specs.AllowedConfig.{IsClockType}
 use Rattle.ctf_types.specs.Names.{IsPlainName, IsConfigText}
-use Rattle.ctf_types.specs.declared.clock_type.ClockType.{ClockType}
+use Rattle.ctf_types.specs.declared.ClockType.{ClockType}
 use Rattle.conf_tree.specs.Reading.{optional}
 use Rattle.conf_objects.specs.declared.limits.Part.TheVariants as part
 use Rattle.conf_objects.specs.ClockType.{max_u64, clock_types_of}

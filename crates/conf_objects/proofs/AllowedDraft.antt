@@ -3,9 +3,9 @@ use Rattle.std.proofs.Common.{◌≡◌, ℕ, Bool, true, List, Option, Some, No
 use Rattle.std.specs.Prelude.{codes}
 use Rattle.serde_json.specs.Data.{Data, Members, no_members}
 use Rattle.ctf_types.specs.AllowedConfig.{OnlyIf, IsPlainUnsigned}
-use Rattle.ctf_types.specs.declared.config.Config.{Config}
-use Rattle.ctf_types.specs.declared.environment.EnvironmentEntry.{EnvironmentEntry}
-use Rattle.ctf_types.specs.declared.features.HeaderFeatures.{HeaderFeatures}
+use Rattle.ctf_types.specs.declared.Config.{Config}
+use Rattle.ctf_types.specs.declared.EnvironmentEntry.{EnvironmentEntry}
+use Rattle.ctf_types.specs.declared.HeaderFeatures.{HeaderFeatures}
 use Rattle.conf_tree.specs.Reading.{needed, optional}
 use Rattle.conf_objects.specs.declared.draft.Draft.{Draft}
 use Rattle.conf_objects.specs.declared.limits.Part.TheVariants as part

@@ -7,8 +7,8 @@ use Rattle.std.proofs.lemmas.List.Elements.{All-from_recursion, recursion_from_A
 use Rattle.serde_json.specs.Data.{Data, null, boolean, number, string, array, object, Members}
 use Rattle.ctf_types.specs.AllowedConfig.{InByteOrder, IsEnvironmentValue}
 use Rattle.ctf_types.specs.Names.{IsPlainName, IsConfigText}
-use Rattle.ctf_types.specs.declared.environment.EnvironmentEntry.{EnvironmentEntry}
-use Rattle.ctf_types.specs.declared.environment.EnvironmentValue.{EnvironmentValue}
+use Rattle.ctf_types.specs.declared.EnvironmentEntry.{EnvironmentEntry}
+use Rattle.ctf_types.specs.declared.EnvironmentValue.{EnvironmentValue}
 use Rattle.conf_tree.specs.Reading.{optional}
 use Rattle.conf_objects.specs.declared.limits.Part.TheVariants as part
 use Rattle.conf_objects.specs.EntryRows as rows

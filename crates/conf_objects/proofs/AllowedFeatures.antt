@@ -3,9 +3,9 @@ use Rattle.std.proofs.Common.{◌≡◌, ◌≢◌, ℕ, List, [], Bool, true, f
 use Rattle.serde_json.specs.Data.{Data, null, boolean, number, string, array, object, Members}
 use Rattle.ctf_types.specs.AllowedConfig.{OnlyIf, IsPlainUnsigned}
 use Rattle.ctf_types.specs.Chain.{Number}
-use Rattle.ctf_types.specs.declared.int_type.IntType.{IntType}
-use Rattle.ctf_types.specs.declared.field_type.FieldType.{FieldType}
-use Rattle.ctf_types.specs.declared.field_type.FieldType.TheVariants.{Static}
+use Rattle.ctf_types.specs.declared.IntType.{IntType}
+use Rattle.ctf_types.specs.declared.FieldType.{FieldType}
+use Rattle.ctf_types.specs.declared.FieldType.TheVariants.{Static}
 use Rattle.conf_tree.specs.Reading.{optional}
 use Rattle.conf_objects.specs.declared.feature.Choice.{Choice}
 use Rattle.conf_objects.specs.declared.feature.Choice.TheVariants.{On, Off, Own}

@@ -9,11 +9,11 @@ use Rattle.ctf_types.specs.Members.{names_in}
 use Rattle.ctf_types.specs.Names.{IsConfigName}
 use Rattle.ctf_types.specs.Packets.{own_names}
 use Rattle.ctf_types.specs.Shown.{shown_members}
-use Rattle.ctf_types.specs.declared.config.StreamType.{StreamType}
-use Rattle.ctf_types.specs.declared.features.ContextFeatures.{ContextFeatures}
-use Rattle.ctf_types.specs.declared.features.EventFeatures.{EventFeatures}
-use Rattle.ctf_types.specs.declared.member_type.MemberType.{MemberType}
-use Rattle.ctf_types.specs.declared.struct_type.StructType.{StructType}
+use Rattle.ctf_types.specs.declared.StreamType.{StreamType}
+use Rattle.ctf_types.specs.declared.ContextFeatures.{ContextFeatures}
+use Rattle.ctf_types.specs.declared.EventFeatures.{EventFeatures}
+use Rattle.ctf_types.specs.declared.MemberType.{MemberType}
+use Rattle.ctf_types.specs.declared.StructType.{StructType}
 use Rattle.conf_tree.specs.Flaw.{Flaw}
 use Rattle.conf_tree.specs.Reading.{optional}
 use Rattle.conf_objects.specs.declared.features.StreamFields.{StreamFields}

@@ -2,9 +2,9 @@
 use Rattle.std.proofs.Common.{◌≡◌, inl, inr, ℕ, ℤ, List, [], ◌∷◌, Option, None, Some, Ok, refl, sym, ap, subst, ◌∙◌}
 use Rattle.serde_json.specs.Data.{Data, null, boolean, number, string, array, object, Members, no_members, member}
 use Rattle.serde_json.specs.Find.{get_member}
-use Rattle.ctf_types.specs.declared.environment.EnvironmentEntry.{EnvironmentEntry}
-use Rattle.ctf_types.specs.declared.environment.EnvironmentValue.{EnvironmentValue}
-use Rattle.ctf_types.specs.declared.environment.EnvironmentValue.TheVariants.{Whole, Text}
+use Rattle.ctf_types.specs.declared.EnvironmentEntry.{EnvironmentEntry}
+use Rattle.ctf_types.specs.declared.EnvironmentValue.{EnvironmentValue}
+use Rattle.ctf_types.specs.declared.EnvironmentValue.TheVariants.{Whole, Text}
 use Rattle.conf_tree.specs.Flaw.{key}
 use Rattle.conf_tree.specs.Reading.{◌>>=◌, at, object_of, text_of}
 use Rattle.conf_objects.specs.Alias.{alias_of, aliases_in, aliases_of}

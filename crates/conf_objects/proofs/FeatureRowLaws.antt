@@ -3,9 +3,9 @@ use Rattle.std.proofs.Common.{◌≡◌, ◌≢◌, ◌&&◌, ◌==◌, ℕ, Boo
 use Rattle.std.proofs.lemmas.Bool.{eqb-true}
 use Rattle.serde_json.specs.Data.{Data, null, boolean, number, string, array, object, Members}
 use Rattle.serde_json.specs.Find.{as_bool, as_object}
-use Rattle.ctf_types.specs.declared.int_type.IntType.{IntType}
-use Rattle.ctf_types.specs.declared.field_type.FieldType.{FieldType}
-use Rattle.ctf_types.specs.declared.field_type.FieldType.TheVariants.{Int, Enum, Str, Static}
+use Rattle.ctf_types.specs.declared.IntType.{IntType}
+use Rattle.ctf_types.specs.declared.FieldType.{FieldType}
+use Rattle.ctf_types.specs.declared.FieldType.TheVariants.{Int, Enum, Str, Static}
 use Rattle.ctf_types.specs.Chain.{Leaf, Number, Labelled, ByteString}
 use Rattle.conf_tree.specs.declared.fault_kind.FaultKind.TheVariants.{OutOfRange}
 use Rattle.conf_tree.specs.Flaw.{Flaw, here}

@@ -1,5 +1,6 @@
 pub mod StreamLemmas
 pub mod ObjectRowLaws
+pub mod Completed
 pub mod EntryRowLaws
 pub mod MapRowLaws
 pub mod FeatureRowLaws

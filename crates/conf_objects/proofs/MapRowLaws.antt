@@ -1,9 +1,9 @@
 -- The readings of the maps of clock types, event record types and data stream types, and their rows, say the same.
 use Rattle.std.proofs.Common.{◌≡◌, ◌||◌, ℕ, List, [], ◌∷◌, Bool, false, Ok, refl, ap, subst}
 use Rattle.serde_json.specs.Data.{Data, Members, no_members, member}
-use Rattle.ctf_types.specs.declared.clock_type.ClockType.{ClockType}
-use Rattle.ctf_types.specs.declared.config.EventType.{EventType}
-use Rattle.ctf_types.specs.declared.config.StreamType.{StreamType}
+use Rattle.ctf_types.specs.declared.ClockType.{ClockType}
+use Rattle.ctf_types.specs.declared.EventType.{EventType}
+use Rattle.ctf_types.specs.declared.StreamType.{StreamType}
 use Rattle.conf_tree.specs.Flaw.{key}
 use Rattle.conf_tree.specs.Reading.{at, object_of}
 use Rattle.conf_objects.specs.ClockType.{clock_type_of, clock_member_of, clocks_in, clock_types_of}

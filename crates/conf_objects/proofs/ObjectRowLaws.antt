@@ -2,14 +2,14 @@
 use Rattle.std.proofs.Common.{◌≡◌, ℕ, pos, Bool, true, false, List, Option, None, is_some, Ok, refl, sym, ap, ap₂, subst, ◌∙◌}
 use Rattle.std.specs.Prelude.{codes, unwrap_or}
 use Rattle.serde_json.specs.Data.{Data, Members, no_members}
-use Rattle.ctf_types.specs.declared.clock_type.ClockType.{ClockType}
-use Rattle.ctf_types.specs.declared.config.EventType.{EventType}
-use Rattle.ctf_types.specs.declared.features.HeaderFeatures.{HeaderFeatures}
-use Rattle.ctf_types.specs.declared.features.ContextFeatures.{ContextFeatures}
-use Rattle.ctf_types.specs.declared.features.EventFeatures.{EventFeatures}
-use Rattle.ctf_types.specs.declared.int_type.IntType.{IntType}
-use Rattle.ctf_types.specs.declared.struct_type.StructType.{StructType}
-use Rattle.ctf_types.specs.declared.member_type.MemberType.{MemberType}
+use Rattle.ctf_types.specs.declared.ClockType.{ClockType}
+use Rattle.ctf_types.specs.declared.EventType.{EventType}
+use Rattle.ctf_types.specs.declared.HeaderFeatures.{HeaderFeatures}
+use Rattle.ctf_types.specs.declared.ContextFeatures.{ContextFeatures}
+use Rattle.ctf_types.specs.declared.EventFeatures.{EventFeatures}
+use Rattle.ctf_types.specs.declared.IntType.{IntType}
+use Rattle.ctf_types.specs.declared.StructType.{StructType}
+use Rattle.ctf_types.specs.declared.MemberType.{MemberType}
 use Rattle.ctf_types.specs.Packets.{own_names}
 use Rattle.conf_tree.specs.Reading.{◌>>=◌, object_of, text_of, flag_of, optional_as}
 use Rattle.conf_objects.specs.declared.feature.FeatureRule.TheVariants.{Plain, Size, Magic, Identifier}

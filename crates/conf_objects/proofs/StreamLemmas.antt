@@ -1,7 +1,7 @@
 -- Data stream types that are read one after the other, at most one of which is the default.
 use Rattle.std.proofs.Common.{◌≡◌, ℕ, List, [], ◌∷◌, ◌++◌, Bool, ◌||◌, Ok, ap, ◌∙◌}
 use Rattle.serde_json.specs.Data.{Data, Members, member}
-use Rattle.ctf_types.specs.declared.config.StreamType.{StreamType}
+use Rattle.ctf_types.specs.declared.StreamType.{StreamType}
 use Rattle.conf_tree.specs.Reading.{◌>>=◌}
 use Rattle.conf_objects.specs.declared.stream_type.Listed.{Listed}
 use Rattle.conf_objects.specs.StreamType.{stream_member_of, streams_in}

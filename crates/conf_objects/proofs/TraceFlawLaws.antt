@@ -5,7 +5,7 @@ use Rattle.std.proofs.lemmas.Bool.{and_parts, false≢true}
 use Rattle.std.proofs.lemmas.Slice.Eq.{bytes_eq-Decides}
 use Rattle.serde_json.specs.Data.{Data, Members}
 use Rattle.serde_json.specs.Find.{as_str}
-use Rattle.ctf_types.specs.declared.environment.EnvironmentEntry.{EnvironmentEntry}
+use Rattle.ctf_types.specs.declared.EnvironmentEntry.{EnvironmentEntry}
 use Rattle.uuid.specs.Text.{parsed}
 use Rattle.conf_tree.specs.declared.fault_kind.FaultKind.TheVariants.{WrongKind, Missing, OutOfRange}
 use Rattle.conf_tree.specs.Flaw.{Flaw, key, here, within}

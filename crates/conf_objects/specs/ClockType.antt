@@ -1,7 +1,7 @@
 -- Clock types (barectf 3.1, "Clock type object"; CTF 1.8.3, section 8).
 use Rattle.std.specs.Prelude.{ℕ, ◌^◌, ◌-◌, ℤ, pos, List, [], ◌∷◌, Bool, true, Option, None, Some, Result, Ok, codes, unwrap_or}
 use Rattle.serde_json.specs.Data.{Data, Members, no_members, member}
-use Rattle.ctf_types.specs.declared.clock_type.ClockType.{ClockType}
+use Rattle.ctf_types.specs.declared.ClockType.{ClockType}
 use Rattle.conf_tree.specs.Flaw.{Flaw, key}
 use Rattle.conf_tree.specs.Reading.{at, object_of, flag_of, ◌>>=◌}
 use Rattle.conf_values.specs.declared.properties.ObjectKind.TheVariants as object

@@ -4,9 +4,9 @@
 use Rattle.std.specs.Prelude.{◌≡◌, ◌⊎◌, ℕ, ℤ, List, [], ◌∷◌, Some, Ok, ⊤}
 use Rattle.serde_json.specs.Data.{Data, Members, no_members, member}
 use Rattle.serde_json.specs.Find.{get_member}
-use Rattle.ctf_types.specs.declared.environment.EnvironmentEntry.{EnvironmentEntry}
-use Rattle.ctf_types.specs.declared.environment.EnvironmentValue.{EnvironmentValue}
-use Rattle.ctf_types.specs.declared.environment.EnvironmentValue.TheVariants.{Whole, Text}
+use Rattle.ctf_types.specs.declared.EnvironmentEntry.{EnvironmentEntry}
+use Rattle.ctf_types.specs.declared.EnvironmentValue.{EnvironmentValue}
+use Rattle.ctf_types.specs.declared.EnvironmentValue.TheVariants.{Whole, Text}
 use Rattle.conf_tree.specs.Reading.{object_of, text_of}
 use Rattle.conf_objects.specs.LogLevel.{level_of}
 use Rattle.conf_values.specs.Name.{name_of, plain_name_of}

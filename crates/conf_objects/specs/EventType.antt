@@ -1,7 +1,7 @@
 -- Event record types (barectf 3.1, "Event record type object").
 use Rattle.std.specs.Prelude.{ℕ, List, [], ◌∷◌, Option, None, Some, Result, Ok, codes}
 use Rattle.serde_json.specs.Data.{Data, Members, no_members, member}
-use Rattle.ctf_types.specs.declared.config.EventType.{EventType}
+use Rattle.ctf_types.specs.declared.EventType.{EventType}
 use Rattle.conf_tree.specs.Flaw.{Flaw, key}
 use Rattle.conf_tree.specs.Reading.{at, object_of, ◌>>=◌}
 use Rattle.conf_values.specs.declared.properties.ObjectKind.TheVariants as objects

@@ -3,8 +3,8 @@
 use Rattle.std.specs.Prelude.{◌≡◌, ◌≢◌, [], Some, true, false, Ok}
 use Rattle.serde_json.specs.Data.{Data, Members}
 use Rattle.serde_json.specs.Find.{as_bool}
-use Rattle.ctf_types.specs.declared.int_type.IntType.{IntType}
-use Rattle.ctf_types.specs.declared.field_type.FieldType.TheVariants.{Static}
+use Rattle.ctf_types.specs.declared.IntType.{IntType}
+use Rattle.ctf_types.specs.declared.FieldType.TheVariants.{Static}
 use Rattle.ctf_types.specs.Chain.{Number}
 use Rattle.conf_objects.specs.declared.feature.Choice.{Choice}
 use Rattle.conf_objects.specs.declared.feature.Choice.TheVariants.{On, Off, Own}

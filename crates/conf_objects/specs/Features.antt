@@ -2,9 +2,9 @@
 -- object" and "Data stream type object", `$features`). What an object does not say is as if it were empty.
 use Rattle.std.specs.Prelude.{ℕ, List, Bool, true, false, Option, None, Some, Result, Ok, codes}
 use Rattle.serde_json.specs.Data.{Data, Members, no_members}
-use Rattle.ctf_types.specs.declared.features.HeaderFeatures.{HeaderFeatures}
-use Rattle.ctf_types.specs.declared.features.ContextFeatures.{ContextFeatures}
-use Rattle.ctf_types.specs.declared.features.EventFeatures.{EventFeatures}
+use Rattle.ctf_types.specs.declared.HeaderFeatures.{HeaderFeatures}
+use Rattle.ctf_types.specs.declared.ContextFeatures.{ContextFeatures}
+use Rattle.ctf_types.specs.declared.EventFeatures.{EventFeatures}
 use Rattle.conf_tree.specs.Flaw.{Flaw}
 use Rattle.conf_tree.specs.Reading.{object_of, ◌>>=◌}
 use Rattle.conf_objects.specs.declared.features.FrontFields.{FrontFields}

@@ -3,8 +3,8 @@
 use Rattle.std.specs.Prelude.{ℕ, List, [], Option, None, Some, Result, Ok, refl}
 use Rattle.std.proofs.Common.{lit<}
 use Rattle.serde_json.specs.Data.{Members}
-use Rattle.ctf_types.specs.declared.member_type.MemberType.{MemberType}
-use Rattle.ctf_types.specs.declared.struct_type.StructType.{StructType}
+use Rattle.ctf_types.specs.declared.MemberType.{MemberType}
+use Rattle.ctf_types.specs.declared.StructType.{StructType}
 use Rattle.conf_tree.specs.Flaw.{Flaw}
 use Rattle.conf_tree.specs.Reading.{◌>>=◌}
 use Rattle.ctf_types.specs.Packets.{own_names}

@@ -1,7 +1,7 @@
 -- Data stream types (barectf 3.1, "Data stream type object"). At most one of them is the default.
 use Rattle.std.specs.Prelude.{ℕ, List, [], ◌∷◌, ◌&&◌, ◌||◌, Bool, false, Option, Result, Ok, Err, codes, unwrap_or, if◌then◌else◌}
 use Rattle.serde_json.specs.Data.{Data, Members, no_members, member}
-use Rattle.ctf_types.specs.declared.config.StreamType.{StreamType}
+use Rattle.ctf_types.specs.declared.StreamType.{StreamType}
 use Rattle.conf_tree.specs.declared.fault_kind.FaultKind.TheVariants.{OutOfRange}
 use Rattle.conf_tree.specs.Flaw.{Flaw, key, here}
 use Rattle.conf_tree.specs.Reading.{at, object_of, text_of, flag_of, ◌>>=◌}

@@ -1,7 +1,7 @@
 -- The trace and the configuration around it (barectf 3.1, "Configuration object", "Trace object").
 use Rattle.std.specs.Prelude.{ℕ, List, Option, Result, Ok, codes}
 use Rattle.serde_json.specs.Data.{Data, Members}
-use Rattle.ctf_types.specs.declared.environment.EnvironmentEntry.{EnvironmentEntry}
+use Rattle.ctf_types.specs.declared.EnvironmentEntry.{EnvironmentEntry}
 use Rattle.conf_tree.specs.Flaw.{Flaw}
 use Rattle.conf_tree.specs.Reading.{object_of, needed, ◌>>=◌}
 use Rattle.conf_objects.specs.declared.draft.Draft.{Draft}

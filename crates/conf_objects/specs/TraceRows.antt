@@ -2,11 +2,11 @@
 -- (barectf 3.1, "Configuration object", "Trace object", "Trace type object").
 use Rattle.std.specs.Prelude.{◌≡◌, ℕ, List, ◌&&◌, Option, None, is_some, Ok, codes, ⊤}
 use Rattle.serde_json.specs.Data.{Members, no_members}
-use Rattle.ctf_types.specs.declared.byte_order.ByteOrder.{ByteOrder}
-use Rattle.ctf_types.specs.declared.clock_type.ClockType.{ClockType}
-use Rattle.ctf_types.specs.declared.config.StreamType.{StreamType}
-use Rattle.ctf_types.specs.declared.environment.EnvironmentEntry.{EnvironmentEntry}
-use Rattle.ctf_types.specs.declared.features.HeaderFeatures.{HeaderFeatures}
+use Rattle.ctf_types.specs.declared.ByteOrder.{ByteOrder}
+use Rattle.ctf_types.specs.declared.ClockType.{ClockType}
+use Rattle.ctf_types.specs.declared.StreamType.{StreamType}
+use Rattle.ctf_types.specs.declared.EnvironmentEntry.{EnvironmentEntry}
+use Rattle.ctf_types.specs.declared.HeaderFeatures.{HeaderFeatures}
 use Rattle.conf_objects.specs.declared.draft.Draft.{Draft}
 use Rattle.conf_values.specs.declared.properties.ObjectKind.TheVariants as objects
 use Rattle.conf_objects.specs.Alias.{aliases_of}

@@ -10,6 +10,7 @@ ghost use Rattle.conf_values.specs.Property.{next};
 
 use crate::log_level::log_level;
 use crate::optional_struct::next_struct;
+use crate::sequence::{beside, complete};
 use conf_tree::ConfFault;
 use conf_values::{
     ObjectKind, check_name, copied, first_unknown, grow, no_more, object, property, turn,
@@ -58,7 +59,8 @@ fn event_parts_in(
 {
     let log_level = next_level(alloc, members, unknown, "log-level", aliases)?;
     let payload = next_struct(alloc, members, unknown, "payload-field-type")?;
-    let specific = next_struct(alloc, members, unknown, "specific-context-field-type")?;
+    let specific = next_struct(alloc, members, unknown, "specific-context-field-type");
+    let (payload, specific) = beside(payload, specific)?;
     Ok(EventType {
         name,
         log_level,
@@ -82,8 +84,7 @@ fn event_in(
         ≤ members_depth (members_view members.now.entries) + 1) }
 {
     let event = event_parts_in(alloc, name, members, unknown, aliases)?;
-    no_more(alloc, unknown)?;
-    Ok(event)
+    complete(event, no_more(alloc, unknown))
 }
 
 /// The event record type of this name that a value is.

@@ -3,8 +3,8 @@ ghost use Rattle.std.specs.Prelude.{◌≡◌, ◌≤◌, ◌<◌, ◌+◌, ◌%
 ghost use Rattle.arrayvec.specs.ArrayVec.{array_vec_len};
 ghost use Rattle.serde_json.specs.Data.{depth, members_depth};
 ghost use Rattle.serde_json.specs.View.{view, members_view};
-ghost use Rattle.ctf_types.specs.declared.base.Base.TheVariants as base;
-ghost use Rattle.ctf_types.specs.declared.field_type.FieldType.TheVariants.{Static};
+ghost use Rattle.ctf_types.specs.declared.Base.TheVariants as base;
+ghost use Rattle.ctf_types.specs.declared.FieldType.TheVariants.{Static};
 ghost use Rattle.conf_tree.specs.Flaw.{IsMemory};
 ghost use Rattle.conf_tree.specs.Reading.{Gives};
 ghost use Rattle.conf_values.specs.Property.{next};

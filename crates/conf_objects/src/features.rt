@@ -7,6 +7,7 @@ ghost use Rattle.conf_tree.specs.Reading.{Gives};
 ghost use Rattle.conf_objects.specs.Features.{header_fields_in as header_fields_in_is, header_in as header_in_is, header_of as header_of_is, next_header as next_header_is, event_header_in as event_header_in_is, event_header_of as event_header_of_is, next_event_header as next_event_header_is, front_in as front_in_is, back_in as back_in_is, context_in as context_in_is, context_of as context_of_is, next_context as next_context_is, stream_fields_in as stream_fields_in_is, stream_fields_of as stream_fields_of_is, next_stream_fields as next_stream_fields_is};
 
 use crate::feature::{next_feature, next_identifier, next_magic, next_size, next_timestamp};
+use crate::sequence::{beside, complete};
 use conf_tree::ConfFault;
 use conf_values::{ObjectKind, first_unknown, no_more, object, property, turn};
 use ctf_types::{ContextFeatures, EventFeatures, HeaderFeatures, IntType, Text};
@@ -58,8 +59,7 @@ fn header_in(
         ≤ members_depth (members_view members.now.entries) + 1) }
 {
     let fields = header_fields_in(alloc, members, unknown, has_uuid)?;
-    no_more(alloc, unknown)?;
-    Ok(fields)
+    complete(fields, no_more(alloc, unknown))
 }
 
 /// The fields of the packet header that a value is an object of.
@@ -118,8 +118,7 @@ fn event_header_in(
 {
     let timestamp = next_timestamp(alloc, members, unknown, "timestamp-field-type", clock)?;
     let id = next_feature(alloc, members, unknown, "type-id-field-type", true)?;
-    no_more(alloc, unknown)?;
-    Ok(EventFeatures { id, timestamp })
+    complete(EventFeatures { id, timestamp }, no_more(alloc, unknown))
 }
 
 /// The fields of the event record header that a value is an object of.
@@ -270,16 +269,16 @@ fn context_in(
         ≤ members_depth (members_view members.now.entries) + 1) }
 {
     let front = front_in(alloc, members, unknown, clock)?;
-    let back = back_in(alloc, members, unknown, clock)?;
-    no_more(alloc, unknown)?;
-    Ok(ContextFeatures {
+    let (front, back) = beside(front, back_in(alloc, members, unknown, clock))?;
+    let context = ContextFeatures {
         packet_size: back.packet_size,
         content_size: front.content_size,
         timestamp_begin: front.timestamp_begin,
         timestamp_end: back.timestamp_end,
         events_discarded: front.events_discarded,
         packet_seq_num: back.packet_seq_num,
-    })
+    };
+    complete(context, no_more(alloc, unknown))
 }
 
 /// The fields of the packet context that a value is an object of.
@@ -337,12 +336,13 @@ fn stream_fields_in(
         ≤ members_depth (members_view members.now.entries) + 1) }
 {
     let event_header = next_event_header(alloc, members, unknown, "event-record", clock)?;
-    let context = next_context(alloc, members, unknown, "packet", clock)?;
-    no_more(alloc, unknown)?;
-    Ok(StreamFields {
+    let context = next_context(alloc, members, unknown, "packet", clock);
+    let (event_header, context) = beside(event_header, context)?;
+    let fields = StreamFields {
         event_header,
         context,
-    })
+    };
+    complete(fields, no_more(alloc, unknown))
 }
 
 /// The fields of a data stream type that a value is an object of.

@@ -1,13 +1,13 @@
 //! Laws of a configuration's objects: they are read exactly where the rows of their tables hold.
 ghost use Rattle.std.specs.Prelude.{◌≡◌, ◌↔◌, ℕ, Bool, List, Option, Ok};
 ghost use Rattle.serde_json.specs.Data.{Data, Members};
-ghost use Rattle.ctf_types.specs.declared.clock_type.ClockType.{ClockType as Clock};
-ghost use Rattle.ctf_types.specs.declared.config.EventType.{EventType as Event};
-ghost use Rattle.ctf_types.specs.declared.config.StreamType.{StreamType as StreamOf};
-ghost use Rattle.ctf_types.specs.declared.environment.EnvironmentEntry.{EnvironmentEntry as Entry};
-ghost use Rattle.ctf_types.specs.declared.features.HeaderFeatures.{HeaderFeatures as Header};
-ghost use Rattle.ctf_types.specs.declared.features.ContextFeatures.{ContextFeatures as Context};
-ghost use Rattle.ctf_types.specs.declared.features.EventFeatures.{EventFeatures as EventHeader};
+ghost use Rattle.ctf_types.specs.declared.ClockType.{ClockType as Clock};
+ghost use Rattle.ctf_types.specs.declared.EventType.{EventType as Event};
+ghost use Rattle.ctf_types.specs.declared.StreamType.{StreamType as StreamOf};
+ghost use Rattle.ctf_types.specs.declared.EnvironmentEntry.{EnvironmentEntry as Entry};
+ghost use Rattle.ctf_types.specs.declared.HeaderFeatures.{HeaderFeatures as Header};
+ghost use Rattle.ctf_types.specs.declared.ContextFeatures.{ContextFeatures as Context};
+ghost use Rattle.ctf_types.specs.declared.EventFeatures.{EventFeatures as EventHeader};
 ghost use Rattle.conf_tree.specs.Reading.{object_of};
 ghost use Rattle.conf_objects.specs.declared.draft.Draft.{Draft};
 ghost use Rattle.conf_objects.specs.declared.feature.Choice.{Choice};

@@ -14,6 +14,7 @@ mod limits;
 mod log_level;
 mod optional_struct;
 mod refusals;
+mod sequence;
 mod stream_type;
 mod trace;
 mod trace_type;

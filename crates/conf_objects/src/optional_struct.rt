@@ -1,5 +1,5 @@
 //! Structures that an object may leave out.
-ghost use Rattle.std.specs.Prelude.{◌≡◌, ◌≤◌, ◌+◌, [], IfOk, IfErr, option_map};
+ghost use Rattle.std.specs.Prelude.{◌≡◌, ◌≤◌, ◌+◌, [], ◌∷◌, ◌++◌, IfOk, IfErr, option_map};
 ghost use Rattle.arrayvec.specs.ArrayVec.{array_vec_len};
 ghost use Rattle.serde_json.specs.Data.{members_depth};
 ghost use Rattle.serde_json.specs.View.{members_view};
@@ -57,18 +57,25 @@ pub(crate) fn next_struct(
     }
 }
 
+/// The texts and one more.
+fn with_text(alloc: Global, mut texts: ListOf<Text>, text: &str) -> Result<ListOf<Text>, AllocError>
+    ensures { IfOk result (λ v. v ≡ texts ++ text.now ∷ []) }
+{
+    texts.push(Text::from_str(alloc, text)?)?;
+    Ok(texts)
+}
+
 /// The names of the packet context's members that the tracer fills itself.
 fn own_texts(alloc: Global) -> Result<ListOf<Text>, AllocError>
     ensures { IfOk result (λ v. v ≡ own_names_of) }
 {
-    let mut names = ListOf::new(alloc);
-    names.push(Text::from_str(alloc, "packet_size")?)?;
-    names.push(Text::from_str(alloc, "content_size")?)?;
-    names.push(Text::from_str(alloc, "timestamp_begin")?)?;
-    names.push(Text::from_str(alloc, "timestamp_end")?)?;
-    names.push(Text::from_str(alloc, "events_discarded")?)?;
-    names.push(Text::from_str(alloc, "packet_seq_num")?)?;
-    Ok(names)
+    let names = ListOf::new(alloc);
+    let names = with_text(alloc, names, "packet_size")?;
+    let names = with_text(alloc, names, "content_size")?;
+    let names = with_text(alloc, names, "timestamp_begin")?;
+    let names = with_text(alloc, names, "timestamp_end")?;
+    let names = with_text(alloc, names, "events_discarded")?;
+    with_text(alloc, names, "packet_seq_num")
 }
 
 fn own_names(alloc: Global) -> Result<ListOf<Text>, ConfFault>

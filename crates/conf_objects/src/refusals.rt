@@ -2,7 +2,7 @@
 //! at the path that the flaw tells.
 ghost use Rattle.std.specs.Prelude.{◌≡◌, ℕ, Bool, List, Option, Err};
 ghost use Rattle.serde_json.specs.Data.{Data, Members};
-ghost use Rattle.ctf_types.specs.declared.environment.EnvironmentEntry.{EnvironmentEntry as Entry};
+ghost use Rattle.ctf_types.specs.declared.EnvironmentEntry.{EnvironmentEntry as Entry};
 ghost use Rattle.conf_tree.specs.Flaw.{Flaw};
 ghost use Rattle.conf_objects.specs.declared.feature.FeatureRule.{FeatureRule as Rule};
 ghost use Rattle.conf_objects.specs.Alias.{aliases_of};

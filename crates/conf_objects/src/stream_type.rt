@@ -9,6 +9,7 @@ ghost use Rattle.conf_objects.specs.StreamType.{default_of, next_default as next
 use crate::event_type::next_events;
 use crate::features::next_stream_fields;
 use crate::optional_struct::{next_extras, next_struct};
+use crate::sequence::{beside, complete};
 use conf_tree::{ConfFault, FaultKind};
 use conf_values::{
     ObjectKind, check_name, copied, first_unknown, flag, grow, next_word, no_more, object,
@@ -123,7 +124,8 @@ fn head_in(
         ≤ members_depth (members_view members.now.entries) + 1) }
 {
     let clocked = clocked_in(alloc, members, unknown)?;
-    let is_default = next_default(alloc, members, unknown, "$is-default", taken)?;
+    let is_default = next_default(alloc, members, unknown, "$is-default", taken);
+    let (clocked, is_default) = beside(clocked, is_default)?;
     Ok(Head {
         clock: clocked.clock,
         event_header: clocked.event_header,
@@ -151,7 +153,8 @@ fn rest_in(
         unknown,
         "event-record-common-context-field-type",
     )?;
-    let events = next_events(alloc, members, unknown, "event-record-types", aliases)?;
+    let events = next_events(alloc, members, unknown, "event-record-types", aliases);
+    let (common, events) = beside(common, events)?;
     let extras = next_extras(
         alloc,
         members,
@@ -182,7 +185,7 @@ fn stream_parts_in(
         ≤ members_depth (members_view members.now.entries) + 1) }
 {
     let head = head_in(alloc, members, unknown, taken)?;
-    let rest = rest_in(alloc, members, unknown, aliases)?;
+    let (head, rest) = beside(head, rest_in(alloc, members, unknown, aliases))?;
     let stream = StreamType {
         name,
         default_clock: head.clock,
@@ -215,8 +218,7 @@ fn stream_in(
         ≤ members_depth (members_view members.now.entries) + 1) }
 {
     let listed = stream_parts_in(alloc, name, members, aliases, taken, unknown)?;
-    no_more(alloc, unknown)?;
-    Ok(listed)
+    complete(listed, no_more(alloc, unknown))
 }
 
 /// The data stream type of this name that a value is, and whether it is the default.

@@ -10,6 +10,7 @@ ghost use Rattle.conf_objects.specs.TraceType.{trace_type_of};
 
 use crate::draft::Draft;
 use crate::environment::environment;
+use crate::sequence::complete;
 use crate::trace_type::trace_type;
 use conf_tree::ConfFault;
 use conf_values::{ObjectKind, first_unknown, needed_value, no_more, object, property, turn};
@@ -77,8 +78,7 @@ fn trace_in(
 {
     let environment = next_environment(alloc, members, unknown, "environment")?;
     let draft = next_type(alloc, members, unknown, "type", number, environment)?;
-    no_more(alloc, unknown)?;
-    Ok(draft)
+    complete(draft, no_more(alloc, unknown))
 }
 
 /// The trace that a value is.
@@ -129,8 +129,7 @@ fn root_in(
     ensures steps { IfErr result (λ fault. array_vec_len fault.path ≤ 32) }
 {
     let draft = next_trace(alloc, members, unknown, "trace", number)?;
-    no_more(alloc, unknown)?;
-    Ok(draft)
+    complete(draft, no_more(alloc, unknown))
 }
 
 /// What each object of the configuration that a value is says by itself. `number` is the identifier that the caller

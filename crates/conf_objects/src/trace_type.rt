@@ -15,6 +15,7 @@ use crate::clock_type::clock_types;
 use crate::draft::Draft;
 use crate::features::next_header;
 use crate::log_level::check_level_aliases;
+use crate::sequence::{beside, complete};
 use crate::stream_type::next_streams;
 use conf_tree::{At, ConfFault, FaultKind};
 use conf_values::{
@@ -204,8 +205,10 @@ fn front_in(
     ensures steps { IfErr result (λ fault. array_vec_len fault.path ≤ 30) }
 {
     let header = next_header(alloc, members, unknown, "$features", has_uuid)?;
-    next_aliases(alloc, members, unknown, "$field-type-aliases")?;
-    next_level_aliases(alloc, members, unknown, "$log-level-aliases")?;
+    let aliases = next_aliases(alloc, members, unknown, "$field-type-aliases");
+    let (header, _) = beside(header, aliases)?;
+    let levels = next_level_aliases(alloc, members, unknown, "$log-level-aliases");
+    let (header, _) = beside(header, levels)?;
     Ok(header)
 }
 
@@ -247,7 +250,8 @@ fn lists_in(
     ensures steps { IfErr result (λ fault. array_vec_len fault.path ≤ 30) }
 {
     let clocks = next_clocks(alloc, members, unknown, "clock-types")?;
-    let streams = streams_in(alloc, members, unknown, "data-stream-types")?;
+    let streams = streams_in(alloc, members, unknown, "data-stream-types");
+    let (clocks, streams) = beside(clocks, streams)?;
     Ok(Lists { clocks, streams })
 }
 
@@ -346,8 +350,8 @@ fn trace_parts_in(
     ensures steps { IfErr result (λ fault. array_vec_len fault.path ≤ 30) }
 {
     let header = front_in(alloc, members, unknown, has_uuid(members))?;
-    let lists = lists_in(alloc, members, unknown)?;
-    let ends = ends_in(alloc, members, unknown)?;
+    let (header, lists) = beside(header, lists_in(alloc, members, unknown))?;
+    let (lists, ends) = beside(lists, ends_in(alloc, members, unknown))?;
     Ok(draft_of(number, environment, header, lists, ends))
 }
 
@@ -365,8 +369,7 @@ fn trace_type_in(
     ensures steps { IfErr result (λ fault. array_vec_len fault.path ≤ 30) }
 {
     let draft = trace_parts_in(alloc, number, environment, unknown, members)?;
-    no_more(alloc, unknown)?;
-    Ok(draft)
+    complete(draft, no_more(alloc, unknown))
 }
 
 /// Refuses a trace type without a byte order.

@@ -1,10 +1,10 @@
 -- The fixed words of a configuration, and what they stand for (barectf 3.1, "Integer field type object", "Trace type object").
 use Rattle.std.specs.Prelude.{ℕ, List, [], ◌∷◌, Option, Some, None, codes, if◌then◌else◌}
 use Rattle.std.specs.Str.{bytes_eq}
-use Rattle.ctf_types.specs.declared.base.Base.{Base}
-use Rattle.ctf_types.specs.declared.base.Base.TheVariants.{Bin, Oct, Dec, Hex}
-use Rattle.ctf_types.specs.declared.byte_order.ByteOrder.{ByteOrder}
-use Rattle.ctf_types.specs.declared.byte_order.ByteOrder.TheVariants.{Little, Big}
+use Rattle.ctf_types.specs.declared.Base.{Base}
+use Rattle.ctf_types.specs.declared.Base.TheVariants.{Bin, Oct, Dec, Hex}
+use Rattle.ctf_types.specs.declared.ByteOrder.{ByteOrder}
+use Rattle.ctf_types.specs.declared.ByteOrder.TheVariants.{Little, Big}
 use Rattle.conf_values.specs.declared.words.FieldClass.{FieldClass}
 use Rattle.conf_values.specs.declared.words.FieldClass.TheVariants.{UnsignedInteger, SignedInteger, UnsignedEnumeration, SignedEnumeration, Text, StaticArray, DynamicArray, Structure}
 

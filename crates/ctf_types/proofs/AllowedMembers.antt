@@ -6,19 +6,19 @@ use Rattle.std.proofs.lemmas.Option.{none-some}
 use Rattle.std.proofs.lemmas.List.Elements.{All-head, All-tail, All-cons, All-nil, All-weaker}
 use Rattle.std.proofs.lemmas.List.Folds.{list_all-append}
 use Rattle.std.specs.List.{list_any, list_all}
-use Rattle.ctf_types.specs.declared.int_type.IntType.{IntType}
-use Rattle.ctf_types.specs.declared.enum_type.Mapping.{Mapping}
-use Rattle.ctf_types.specs.declared.field_type.FieldType.{FieldType}
-use Rattle.ctf_types.specs.declared.field_type.FieldType.TheVariants.{Int}
-use Rattle.ctf_types.specs.declared.member_type.Length.TheVariants.{Auto, At}
-use Rattle.ctf_types.specs.declared.member_type.MemberType.{MemberType}
-use Rattle.ctf_types.specs.declared.member_type.MemberType.TheVariants.{Plain, Dyn}
-use Rattle.ctf_types.specs.declared.struct_type.StructType.{StructType}
+use Rattle.data_types.specs.declared.int_type.IntType.{IntType}
+use Rattle.data_types.specs.declared.enum_type.Mapping.{Mapping}
+use Rattle.data_types.specs.declared.field_type.FieldType.{FieldType}
+use Rattle.data_types.specs.declared.field_type.FieldType.TheVariants.{Int}
+use Rattle.data_types.specs.declared.member_type.Length.TheVariants.{Auto, At}
+use Rattle.data_types.specs.declared.member_type.MemberType.{MemberType}
+use Rattle.data_types.specs.declared.member_type.MemberType.TheVariants.{Plain, Dyn}
+use Rattle.data_types.specs.declared.struct_type.StructType.{StructType}
 use Rattle.ctf_types.specs.Allowed.{IsMappedTo, IsRange, IsLeaf, IsNest, elements_of, IsField, HasBits, IsCount, AreMembers, IsStruct}
 use Rattle.ctf_types.specs.AllowedConfig.{IsRangeOf, lowest, highest, IsConfigLeaf, IsConfigField, IsConfigMember, AreConfigMembers, IsConfigStruct}
-use Rattle.ctf_types.specs.Chain.{Leaf, Number, Labelled, ByteString}
-use Rattle.ctf_types.specs.FieldTypes.{chain_of}
-use Rattle.ctf_types.specs.Members.{names_in}
+use Rattle.data_types.specs.Chain.{Leaf, Number, Labelled, ByteString}
+use Rattle.data_types.specs.FieldTypes.{chain_of}
+use Rattle.data_types.specs.Members.{names_in}
 use Rattle.ctf_types.specs.Names.{is_letter, is_digit, is_identifier, unused_keywords, IsMetadataName, IsPlainName}
 use Rattle.ctf_types.specs.Shown.{length_name, length_type, shown_members, shown_struct}
 

@@ -8,20 +8,20 @@ use Rattle.std.proofs.lemmas.List.Elements.{All-head, All-tail, All-cons, All-ni
 use Rattle.std.specs.Cmp.Lexicographic.{slice_cmp}
 use Rattle.std.specs.List.{list_any, IsDistinct, AllByRecursion}
 use Rattle.std.specs.List.Sorted.{IsStrictlySortedBy}
-use Rattle.ctf_types.specs.declared.int_type.IntType.{IntType}
-use Rattle.ctf_types.specs.declared.field_type.FieldType.TheVariants.{Int, Static}
-use Rattle.ctf_types.specs.declared.member_type.MemberType.{MemberType}
-use Rattle.ctf_types.specs.declared.member_type.MemberType.TheVariants.{Plain}
-use Rattle.ctf_types.specs.declared.features.HeaderFeatures.{HeaderFeatures}
-use Rattle.ctf_types.specs.declared.features.ContextFeatures.{ContextFeatures}
-use Rattle.ctf_types.specs.declared.features.EventFeatures.{EventFeatures}
-use Rattle.ctf_types.specs.declared.config.Config.{Config}
-use Rattle.ctf_types.specs.declared.config.StreamType.{StreamType}
-use Rattle.ctf_types.specs.declared.config.EventType.{EventType}
+use Rattle.data_types.specs.declared.int_type.IntType.{IntType}
+use Rattle.data_types.specs.declared.field_type.FieldType.TheVariants.{Int, Static}
+use Rattle.data_types.specs.declared.member_type.MemberType.{MemberType}
+use Rattle.data_types.specs.declared.member_type.MemberType.TheVariants.{Plain}
+use Rattle.data_types.specs.declared.features.HeaderFeatures.{HeaderFeatures}
+use Rattle.data_types.specs.declared.features.ContextFeatures.{ContextFeatures}
+use Rattle.data_types.specs.declared.features.EventFeatures.{EventFeatures}
+use Rattle.data_types.specs.declared.config.Config.{Config}
+use Rattle.data_types.specs.declared.config.StreamType.{StreamType}
+use Rattle.data_types.specs.declared.config.EventType.{EventType}
 use Rattle.ctf_types.specs.Allowed.{IsMappedTo, IsNest, elements_of, AreMembers, IsStruct, IsUnsigned, IsMagic, IsIdentity, Where, IsEvent, IsStream, IsMetadata}
 use Rattle.ctf_types.specs.AllowedConfig.{InByteOrder, OnlyIf, IsPlainUnsigned, IsTimestamp, IsEventType, IsStreamType, IsConfig}
-use Rattle.ctf_types.specs.FieldTypes.{chain_of}
-use Rattle.ctf_types.specs.Members.{names_in}
+use Rattle.data_types.specs.FieldTypes.{chain_of}
+use Rattle.data_types.specs.Members.{names_in}
 use Rattle.ctf_types.specs.MetadataOf.{number_member, uuid_member, header_members, context_numbers, event_header_members, struct_with, header_of, context_of, event_header_of, event_of, events_of, stream_of, streams_of, metadata_of}
 use Rattle.ctf_types.specs.Names.{is_identifier, IsMetadataName, IsPlainName}
 use Rattle.ctf_types.specs.Packets.{own_names}

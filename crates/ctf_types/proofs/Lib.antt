@@ -1,3 +1,4 @@
+pub use Rattle.data_types.proofs.MembersLemmas
 pub mod AllowedMembers
 pub mod AllowedMetadata
 pub mod BitsOfBytes
@@ -6,7 +7,6 @@ pub mod FittingLemmas
 pub mod Joined
 pub mod Locality
 pub mod LyingFits
-pub mod MembersLemmas
 pub mod Numbered
 pub mod ShownLies
 pub mod SizesLemmas

@@ -3,17 +3,17 @@ use Rattle.std.proofs.Common.{◌≡◌, ℕ, ◌+◌, ◌*◌, ◌^◌, ◌<◌
 use Rattle.std.proofs.lemmas.Bool.{cases_Bool, cond-true, cond-false, ltb-true, ltb-false}
 use Rattle.std.proofs.lemmas.Int.{ints}
 use Rattle.std.proofs.lemmas.List.Elements.{All-head, All-tail, All-cons, All-nil}
-use Rattle.ctf_types.specs.declared.byte_order.ByteOrder.{ByteOrder}
-use Rattle.ctf_types.specs.declared.int_type.IntType.{IntType}
-use Rattle.ctf_types.specs.declared.member_type.Length.TheVariants.{Auto, At}
-use Rattle.ctf_types.specs.declared.member_type.MemberType.{MemberType}
-use Rattle.ctf_types.specs.declared.member_type.MemberType.TheVariants.{Plain, Dyn}
-use Rattle.ctf_types.specs.declared.struct_type.StructType.{StructType}
-use Rattle.ctf_types.specs.Alignment.{up}
+use Rattle.data_types.specs.declared.byte_order.ByteOrder.{ByteOrder}
+use Rattle.data_types.specs.declared.int_type.IntType.{IntType}
+use Rattle.data_types.specs.declared.member_type.Length.TheVariants.{Auto, At}
+use Rattle.data_types.specs.declared.member_type.MemberType.{MemberType}
+use Rattle.data_types.specs.declared.member_type.MemberType.TheVariants.{Plain, Dyn}
+use Rattle.data_types.specs.declared.struct_type.StructType.{StructType}
+use Rattle.data_types.specs.Alignment.{up}
 use Rattle.ctf_types.specs.Bits.{number_at, signed_of}
-use Rattle.ctf_types.specs.Chain.{Leaf, Number, Labelled, ByteString}
-use Rattle.ctf_types.specs.Datum.{Datum, Unsigned, Signed, Text, Many, data_in}
-use Rattle.ctf_types.specs.FieldTypes.{chain_of}
+use Rattle.data_types.specs.Chain.{Leaf, Number, Labelled, ByteString}
+use Rattle.data_types.specs.Datum.{Datum, Unsigned, Signed, Text, Many, data_in}
+use Rattle.data_types.specs.FieldTypes.{chain_of}
 use Rattle.ctf_types.specs.Fitting.{InSignedRange, IntFits, TextFits, LeafFits, ListFits, FieldFits, MemberFits, MembersFit, Fits}
 use Rattle.ctf_types.specs.Laws.{IsAutomatic, AreAutomatic}
 use Rattle.ctf_types.specs.Layout.{leaf_align, elements_in, field_end, member_end, members_start, value_of, IntLies, BytesLie, TextLies, LeafLies, EachLies, ArrayLies, FieldLies, CountLies, MemberLies, MembersLie, StructLies}

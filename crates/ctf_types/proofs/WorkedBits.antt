@@ -1,6 +1,6 @@
 -- Worked rows of the bits of numbers, in both byte orders.
 use Rattle.std.specs.Prelude.{◌≡◌, negsuc, [], ◌∷◌, refl}
-use Rattle.ctf_types.specs.declared.byte_order.ByteOrder.TheVariants.{Little, Big}
+use Rattle.data_types.specs.declared.byte_order.ByteOrder.TheVariants.{Little, Big}
 use Rattle.ctf_types.specs.Bits.{bit_of, number_of, number_at, signed_of}
 
 -- a 3-bit 5 and a 5-bit 17 in one byte

@@ -4,21 +4,21 @@ use Rattle.std.proofs.Common.{lit<, lit≤, arith, inl, inr, sym, ap, ◌∙◌,
 use Rattle.std.proofs.Math.Nat.{zero-div}
 use Rattle.std.proofs.lemmas.Bool.{cases_eq}
 use Rattle.std.proofs.lemmas.Option.{none-some, same_Some}
-use Rattle.ctf_types.specs.declared.base.Base.TheVariants.{Dec, Hex}
-use Rattle.ctf_types.specs.declared.byte_order.ByteOrder.TheVariants.{Little}
-use Rattle.ctf_types.specs.declared.int_type.IntType.{IntType}
-use Rattle.ctf_types.specs.declared.field_type.FieldType.TheVariants.{Int}
-use Rattle.ctf_types.specs.declared.member_type.MemberType.TheVariants.{Plain}
-use Rattle.ctf_types.specs.declared.struct_type.StructType.{StructType}
-use Rattle.ctf_types.specs.declared.config.Config.{Config}
-use Rattle.ctf_types.specs.declared.metadata.Event.{Event}
-use Rattle.ctf_types.specs.declared.metadata.Metadata.{Metadata}
-use Rattle.ctf_types.specs.declared.metadata.Stream.{Stream}
-use Rattle.ctf_types.specs.declared.packet.Record.{Record}
-use Rattle.ctf_types.specs.declared.packet.ReadPacket.{ReadPacket}
-use Rattle.ctf_types.specs.Alignment.{up}
+use Rattle.data_types.specs.declared.base.Base.TheVariants.{Dec, Hex}
+use Rattle.data_types.specs.declared.byte_order.ByteOrder.TheVariants.{Little}
+use Rattle.data_types.specs.declared.int_type.IntType.{IntType}
+use Rattle.data_types.specs.declared.field_type.FieldType.TheVariants.{Int}
+use Rattle.data_types.specs.declared.member_type.MemberType.TheVariants.{Plain}
+use Rattle.data_types.specs.declared.struct_type.StructType.{StructType}
+use Rattle.data_types.specs.declared.config.Config.{Config}
+use Rattle.data_types.specs.declared.metadata.Event.{Event}
+use Rattle.data_types.specs.declared.metadata.Metadata.{Metadata}
+use Rattle.data_types.specs.declared.metadata.Stream.{Stream}
+use Rattle.data_types.specs.declared.packet.Record.{Record}
+use Rattle.data_types.specs.declared.packet.ReadPacket.{ReadPacket}
+use Rattle.data_types.specs.Alignment.{up}
 use Rattle.ctf_types.specs.Bits.{bit_of, number_of, number_at, AreZero}
-use Rattle.ctf_types.specs.Datum.{Unsigned}
+use Rattle.data_types.specs.Datum.{Unsigned}
 use Rattle.ctf_types.specs.Layout.{largest_align, leaf_end, field_end, member_end, members_end, struct_end, structs_end, IntLies, LeafLies, FieldLies, MemberLies, MembersLie, StructLies, StructsLie}
 use Rattle.ctf_types.specs.MetadataOf.{header_of, context_of, event_header_of, event_of, events_of, stream_of, streams_of, metadata_of}
 use Rattle.ctf_types.specs.Packets.{value_named, number_named, extras_in, stream_with, event_with, RecordLies, RecordsLie, PacketLies, PacketsLie, LieClean}

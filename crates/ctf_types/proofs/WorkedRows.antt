@@ -1,18 +1,18 @@
 -- Worked rows of the layout: where small structures lie in bytes that are written out, in both byte orders, and where they end.
 use Rattle.std.specs.Prelude.{◌≡◌, ℕ, negsuc, List, [], ◌∷◌, None, true, false, codes, refl}
 use Rattle.std.proofs.Common.{lit<, lit≤, arith}
-use Rattle.ctf_types.specs.declared.base.Base.TheVariants.{Dec}
-use Rattle.ctf_types.specs.declared.byte_order.ByteOrder.TheVariants.{Little, Big}
-use Rattle.ctf_types.specs.declared.int_type.IntType.{IntType}
-use Rattle.ctf_types.specs.declared.field_type.FieldType.TheVariants.{Int, Str, Static}
-use Rattle.ctf_types.specs.declared.member_type.Length.TheVariants.{Auto}
-use Rattle.ctf_types.specs.declared.member_type.MemberType.TheVariants.{Plain, Dyn}
-use Rattle.ctf_types.specs.declared.struct_type.StructType.{StructType}
-use Rattle.ctf_types.specs.Alignment.{up}
+use Rattle.data_types.specs.declared.base.Base.TheVariants.{Dec}
+use Rattle.data_types.specs.declared.byte_order.ByteOrder.TheVariants.{Little, Big}
+use Rattle.data_types.specs.declared.int_type.IntType.{IntType}
+use Rattle.data_types.specs.declared.field_type.FieldType.TheVariants.{Int, Str, Static}
+use Rattle.data_types.specs.declared.member_type.Length.TheVariants.{Auto}
+use Rattle.data_types.specs.declared.member_type.MemberType.TheVariants.{Plain, Dyn}
+use Rattle.data_types.specs.declared.struct_type.StructType.{StructType}
+use Rattle.data_types.specs.Alignment.{up}
 use Rattle.ctf_types.specs.Bits.{bit_of, number_of, number_at, signed_of}
-use Rattle.ctf_types.specs.Chain.{Number}
-use Rattle.ctf_types.specs.Datum.{Unsigned, Signed, Text, Many, items_of}
-use Rattle.ctf_types.specs.FieldTypes.{chain_of}
+use Rattle.data_types.specs.Chain.{Number}
+use Rattle.data_types.specs.Datum.{Unsigned, Signed, Text, Many, items_of}
+use Rattle.data_types.specs.FieldTypes.{chain_of}
 use Rattle.ctf_types.specs.Layout.{largest_align, leaf_end, end_all, field_end, member_end, members_end, struct_end, IntLies, BytesLie, TextLies, LeafLies, EachLies, ArrayLies, FieldLies, CountLies, MemberLies, MembersLie, StructLies, AnyBits}
 
 -- ---- types

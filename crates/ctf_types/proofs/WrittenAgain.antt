@@ -1,16 +1,16 @@
 -- Numbers that are written again: other values over the first members of a structure, all integers, leave the further members where and as they lie.
 use Rattle.std.proofs.Common.{◌≡◌, ℕ, List, [], ◌∷◌, ◌++◌, length, All, refl, sym, ap, subst, ◌∙◌, arith}
 use Rattle.std.proofs.lemmas.List.Elements.{All-head, All-tail}
-use Rattle.ctf_types.specs.declared.byte_order.ByteOrder.{ByteOrder}
-use Rattle.ctf_types.specs.declared.field_type.FieldType.TheVariants.{Int, Enum, Str, Static}
-use Rattle.ctf_types.specs.declared.member_type.Length.TheVariants.{Auto, At}
-use Rattle.ctf_types.specs.declared.member_type.MemberType.{MemberType}
-use Rattle.ctf_types.specs.declared.member_type.MemberType.TheVariants.{Plain, Dyn}
-use Rattle.ctf_types.specs.Datum.{Datum}
+use Rattle.data_types.specs.declared.byte_order.ByteOrder.{ByteOrder}
+use Rattle.data_types.specs.declared.field_type.FieldType.TheVariants.{Int, Enum, Str, Static}
+use Rattle.data_types.specs.declared.member_type.Length.TheVariants.{Auto, At}
+use Rattle.data_types.specs.declared.member_type.MemberType.{MemberType}
+use Rattle.data_types.specs.declared.member_type.MemberType.TheVariants.{Plain, Dyn}
+use Rattle.data_types.specs.Datum.{Datum}
 use Rattle.ctf_types.specs.Laws.{IsAutomatic, AreAutomatic}
 use Rattle.ctf_types.specs.Layout.{leaf_end, field_end, member_end, members_end, MemberLies, MembersLie}
 use Rattle.ctf_types.specs.MetadataOf.{context_numbers}
-use Rattle.ctf_types.specs.declared.features.ContextFeatures.{ContextFeatures}
+use Rattle.data_types.specs.declared.features.ContextFeatures.{ContextFeatures}
 use Rattle.ctf_types.proofs.AllowedMetadata.{all_context_numbers}
 use Rattle.ctf_types.proofs.Ends.{members_end-append}
 use Rattle.ctf_types.proofs.Joined.{members_join, members_split}

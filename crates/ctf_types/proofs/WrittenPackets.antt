@@ -1,14 +1,14 @@
 -- Packets that a tracer writes: from a header, a context and records that lie under a configuration's structures to a packet that lies under its metadata.
 use Rattle.std.proofs.Common.{◌≡◌, ℕ, ◌%◌, ◌≤◌, List, ◌++◌, length, slice_get, Some, codes, refl, sym, ap, subst, ◌∙◌, true, bytes_eq}
 use Rattle.std.specs.List.{list_any}
-use Rattle.ctf_types.specs.declared.byte_order.ByteOrder.{ByteOrder}
-use Rattle.ctf_types.specs.declared.config.Config.{Config}
-use Rattle.ctf_types.specs.declared.config.StreamType.{StreamType}
-use Rattle.ctf_types.specs.declared.struct_type.StructType.{StructType}
-use Rattle.ctf_types.specs.declared.packet.Record.{Record}
-use Rattle.ctf_types.specs.declared.packet.ReadPacket.{ReadPacket}
+use Rattle.data_types.specs.declared.byte_order.ByteOrder.{ByteOrder}
+use Rattle.data_types.specs.declared.config.Config.{Config}
+use Rattle.data_types.specs.declared.config.StreamType.{StreamType}
+use Rattle.data_types.specs.declared.struct_type.StructType.{StructType}
+use Rattle.data_types.specs.declared.packet.Record.{Record}
+use Rattle.data_types.specs.declared.packet.ReadPacket.{ReadPacket}
 use Rattle.ctf_types.specs.AllowedConfig.{IsStreamType}
-use Rattle.ctf_types.specs.Datum.{Datum}
+use Rattle.data_types.specs.Datum.{Datum}
 use Rattle.ctf_types.specs.Layout.{struct_end, structs_end, StructLies, StructsLie}
 use Rattle.ctf_types.specs.MetadataOf.{context_numbers, struct_with, header_of, context_of, stream_of, streams_of, metadata_of}
 use Rattle.ctf_types.specs.Packets.{own_names, stream_with, number_named, number_or_zero, HeaderMeans, RecordsLie, PacketLies}

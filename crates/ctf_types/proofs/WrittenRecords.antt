@@ -3,20 +3,20 @@
 use Rattle.std.proofs.Common.{◌≡◌, ℕ, zero, suc, ◌+◌, ◌<◌, ◌≤◌, ◌⊎◌, inl, inr, List, [], ◌∷◌, ◌++◌, length, slice_get, All, Option, Some, None, IsSome, codes, refl, sym, ap, subst, ◌∙◌, arith, get_or}
 use Rattle.std.proofs.lemmas.List.Elements.{All-nil, All-cons, All-head, All-tail, All-weaker}
 use Rattle.std.proofs.lemmas.Bool.{false≢true}
-use Rattle.ctf_types.specs.declared.byte_order.ByteOrder.{ByteOrder}
-use Rattle.ctf_types.specs.declared.field_type.FieldType.TheVariants.{Int}
-use Rattle.ctf_types.specs.declared.int_type.IntType.{IntType}
-use Rattle.ctf_types.specs.declared.member_type.Length.TheVariants.{Auto, At}
-use Rattle.ctf_types.specs.declared.member_type.MemberType.{MemberType}
-use Rattle.ctf_types.specs.declared.member_type.MemberType.TheVariants.{Plain, Dyn}
-use Rattle.ctf_types.specs.declared.struct_type.StructType.{StructType}
-use Rattle.ctf_types.specs.declared.config.StreamType.{StreamType}
-use Rattle.ctf_types.specs.declared.config.EventType.{EventType}
-use Rattle.ctf_types.specs.Alignment.{up}
+use Rattle.data_types.specs.declared.byte_order.ByteOrder.{ByteOrder}
+use Rattle.data_types.specs.declared.field_type.FieldType.TheVariants.{Int}
+use Rattle.data_types.specs.declared.int_type.IntType.{IntType}
+use Rattle.data_types.specs.declared.member_type.Length.TheVariants.{Auto, At}
+use Rattle.data_types.specs.declared.member_type.MemberType.{MemberType}
+use Rattle.data_types.specs.declared.member_type.MemberType.TheVariants.{Plain, Dyn}
+use Rattle.data_types.specs.declared.struct_type.StructType.{StructType}
+use Rattle.data_types.specs.declared.config.StreamType.{StreamType}
+use Rattle.data_types.specs.declared.config.EventType.{EventType}
+use Rattle.data_types.specs.Alignment.{up}
 use Rattle.ctf_types.specs.AllowedConfig.{IsConfigMember, AreConfigMembers, MemberHasBits, StructHasBits, IsEventType, IsStreamType}
-use Rattle.ctf_types.specs.Chain.{Leaf}
-use Rattle.ctf_types.specs.Datum.{Datum, Unsigned, Signed, Text, Many, data_in}
-use Rattle.ctf_types.specs.FieldTypes.{chain_of}
+use Rattle.data_types.specs.Chain.{Leaf}
+use Rattle.data_types.specs.Datum.{Datum, Unsigned, Signed, Text, Many, data_in}
+use Rattle.data_types.specs.FieldTypes.{chain_of}
 use Rattle.ctf_types.specs.Laws.{IsAutomatic, AreAutomatic}
 use Rattle.ctf_types.specs.Layout.{leaf_align, elements_in, end_all, field_end, member_end, members_end, members_start, struct_end, structs_end, EachLies, ArrayLies, FieldLies, MemberLies, MembersLie, StructLies, StructsLie}
 use Rattle.ctf_types.specs.MetadataOf.{number_member, struct_with, event_header_of, event_of, events_of, stream_of}

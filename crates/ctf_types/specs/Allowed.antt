@@ -4,20 +4,20 @@ use Rattle.std.specs.Ordering.{nat_cmp}
 use Rattle.std.specs.List.{IsDistinct}
 use Rattle.std.specs.List.Sorted.{IsStrictlySortedBy}
 use Rattle.std.specs.Str.{bytes_eq}
-use Rattle.ctf_types.specs.declared.int_type.IntType.{IntType}
-use Rattle.ctf_types.specs.declared.enum_type.Mapping.{Mapping}
-use Rattle.ctf_types.specs.declared.field_type.FieldType.{FieldType}
-use Rattle.ctf_types.specs.declared.field_type.FieldType.TheVariants.{Int, Enum, Str, Static}
-use Rattle.ctf_types.specs.declared.member_type.Length.TheVariants.{Auto, At}
-use Rattle.ctf_types.specs.declared.member_type.MemberType.{MemberType}
-use Rattle.ctf_types.specs.declared.member_type.MemberType.TheVariants.{Plain, Dyn}
-use Rattle.ctf_types.specs.declared.struct_type.StructType.{StructType}
-use Rattle.ctf_types.specs.declared.metadata.Metadata.{Metadata}
-use Rattle.ctf_types.specs.declared.metadata.Stream.{Stream}
-use Rattle.ctf_types.specs.declared.metadata.Event.{Event}
-use Rattle.ctf_types.specs.Chain.{Leaf, Number, Labelled, ByteString}
-use Rattle.ctf_types.specs.FieldTypes.{chain_of}
-use Rattle.ctf_types.specs.Members.{names_in}
+use Rattle.data_types.specs.declared.int_type.IntType.{IntType}
+use Rattle.data_types.specs.declared.enum_type.Mapping.{Mapping}
+use Rattle.data_types.specs.declared.field_type.FieldType.{FieldType}
+use Rattle.data_types.specs.declared.field_type.FieldType.TheVariants.{Int, Enum, Str, Static}
+use Rattle.data_types.specs.declared.member_type.Length.TheVariants.{Auto, At}
+use Rattle.data_types.specs.declared.member_type.MemberType.{MemberType}
+use Rattle.data_types.specs.declared.member_type.MemberType.TheVariants.{Plain, Dyn}
+use Rattle.data_types.specs.declared.struct_type.StructType.{StructType}
+use Rattle.data_types.specs.declared.metadata.Metadata.{Metadata}
+use Rattle.data_types.specs.declared.metadata.Stream.{Stream}
+use Rattle.data_types.specs.declared.metadata.Event.{Event}
+use Rattle.data_types.specs.Chain.{Leaf, Number, Labelled, ByteString}
+use Rattle.data_types.specs.FieldTypes.{chain_of}
+use Rattle.data_types.specs.Members.{names_in}
 use Rattle.ctf_types.specs.Names.{IsMetadataName}
 use Rattle.ctf_types.specs.Packets.{own_names}
 use Rattle.std.specs.List.{list_any}

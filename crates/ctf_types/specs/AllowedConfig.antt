@@ -6,24 +6,24 @@ use Rattle.std.specs.List.Sorted.{IsStrictlySortedBy}
 use Rattle.std.specs.Cmp.Lexicographic.{slice_cmp}
 use Rattle.std.specs.declared.cmp.Ordering.TheVariants.{Greater}
 use Rattle.std.specs.Str.{bytes_eq}
-use Rattle.ctf_types.specs.declared.int_type.IntType.{IntType}
-use Rattle.ctf_types.specs.declared.enum_type.Mapping.{Mapping}
-use Rattle.ctf_types.specs.declared.enum_type.EnumType.{EnumType}
-use Rattle.ctf_types.specs.declared.environment.EnvironmentValue.{EnvironmentValue}
-use Rattle.ctf_types.specs.declared.environment.EnvironmentValue.TheVariants as environment
-use Rattle.ctf_types.specs.declared.clock_type.ClockType.{ClockType}
-use Rattle.ctf_types.specs.declared.field_type.FieldType.{FieldType}
-use Rattle.ctf_types.specs.declared.member_type.Length.TheVariants.{Auto, At}
-use Rattle.ctf_types.specs.declared.member_type.MemberType.{MemberType}
-use Rattle.ctf_types.specs.declared.member_type.MemberType.TheVariants.{Plain, Dyn}
-use Rattle.ctf_types.specs.declared.struct_type.StructType.{StructType}
-use Rattle.ctf_types.specs.declared.config.Config.{Config}
-use Rattle.ctf_types.specs.declared.config.StreamType.{StreamType}
-use Rattle.ctf_types.specs.declared.config.EventType.{EventType}
+use Rattle.data_types.specs.declared.int_type.IntType.{IntType}
+use Rattle.data_types.specs.declared.enum_type.Mapping.{Mapping}
+use Rattle.data_types.specs.declared.enum_type.EnumType.{EnumType}
+use Rattle.data_types.specs.declared.environment.EnvironmentValue.{EnvironmentValue}
+use Rattle.data_types.specs.declared.environment.EnvironmentValue.TheVariants as environment
+use Rattle.data_types.specs.declared.clock_type.ClockType.{ClockType}
+use Rattle.data_types.specs.declared.field_type.FieldType.{FieldType}
+use Rattle.data_types.specs.declared.member_type.Length.TheVariants.{Auto, At}
+use Rattle.data_types.specs.declared.member_type.MemberType.{MemberType}
+use Rattle.data_types.specs.declared.member_type.MemberType.TheVariants.{Plain, Dyn}
+use Rattle.data_types.specs.declared.struct_type.StructType.{StructType}
+use Rattle.data_types.specs.declared.config.Config.{Config}
+use Rattle.data_types.specs.declared.config.StreamType.{StreamType}
+use Rattle.data_types.specs.declared.config.EventType.{EventType}
 use Rattle.ctf_types.specs.Allowed.{IsNest, HasBits}
-use Rattle.ctf_types.specs.Chain.{Leaf, Number, Labelled, ByteString}
-use Rattle.ctf_types.specs.FieldTypes.{chain_of}
-use Rattle.ctf_types.specs.Members.{names_in}
+use Rattle.data_types.specs.Chain.{Leaf, Number, Labelled, ByteString}
+use Rattle.data_types.specs.FieldTypes.{chain_of}
+use Rattle.data_types.specs.Members.{names_in}
 use Rattle.ctf_types.specs.Names.{IsConfigName, IsPlainName, IsConfigText}
 use Rattle.ctf_types.specs.Packets.{own_names}
 use Rattle.ctf_types.specs.Shown.{shown_members}

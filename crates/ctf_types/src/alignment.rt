@@ -1,11 +1,11 @@
 //! Alignment: where a structure or a field may begin (CTF 1.8.3, sections 4.1.2, "align", and 4.2.1).
 
 ghost use Rattle.std.specs.Prelude.{◌≡◌, ◌<◌, ◌≤◌, ◌^◌, max, SomeIff};
-ghost use Rattle.ctf_types.specs.Alignment.{IsAlignment, up};
-ghost use Rattle.ctf_types.specs.FieldTypes.{chain_of};
+ghost use Rattle.data_types.specs.Alignment.{IsAlignment, up};
+ghost use Rattle.data_types.specs.FieldTypes.{chain_of};
 ghost use Rattle.ctf_types.specs.Layout.{leaf_align, member_align, struct_align};
 
-use crate::{FieldType, Length, MemberType, StructType};
+use data_types::{FieldType, Length, MemberType, StructType};
 
 /// The length of the longest packet, in bits: no position is past it.
 pub const LONGEST_PACKET: u64 = 8_388_608;

@@ -1,14 +1,14 @@
 //! Sizes: where the values of a structure end in a packet (CTF 1.8.3, sections 4.1 and 4.2).
 
 ghost use Rattle.std.specs.Prelude.{◌≡◌, ◌+◌, ◌<◌, ◌≤◌, ◌^◌, ◌∷◌, ℕ, List, drop, length, SomeIff};
-ghost use Rattle.ctf_types.specs.Alignment.{up};
-ghost use Rattle.ctf_types.specs.Chain.{ByteString};
-ghost use Rattle.ctf_types.specs.FieldTypes.{chain_of};
+ghost use Rattle.data_types.specs.Alignment.{up};
+ghost use Rattle.data_types.specs.Chain.{ByteString};
+ghost use Rattle.data_types.specs.FieldTypes.{chain_of};
 ghost use Rattle.ctf_types.specs.Layout.{elements_in, field_end, leaf_end, member_end, members_end, struct_end, text_in};
-ghost use Rattle.ctf_types.specs.Values.{data_of, datum_of};
+ghost use Rattle.data_types.specs.Values.{data_of, datum_of};
 
 use crate::alignment::{LONGEST_PACKET, align_of, align_of_field, aligned, within_packet};
-use crate::{FieldType, IntType, Length, MemberType, StructType, Value};
+use data_types::{FieldType, IntType, Length, MemberType, StructType, Value};
 
 /// Where the structure's values end that begins at this position, in bits from the packet's start. None past the longest packet, 2^23 bits.
 pub fn size_from(structure: &StructType, values: &[Value], at: u64) -> Option<u64>

@@ -6,16 +6,16 @@ use Rattle.std.specs.Str.{bytes_eq}
 use Rattle.std.proofs.lemmas.List.Elements.{All-nil, All-cons}
 use Rattle.std.proofs.lemmas.Bool.{false≢true}
 use Rattle.ctf_types.specs.Packets.{own_names}
-use Rattle.ctf_types.specs.declared.int_type.IntType.{IntType}
-use Rattle.ctf_types.specs.declared.field_type.FieldType.TheVariants.{Int}
-use Rattle.ctf_types.specs.declared.member_type.MemberType.{MemberType}
-use Rattle.ctf_types.specs.declared.member_type.MemberType.TheVariants.{Plain}
-use Rattle.ctf_types.specs.declared.byte_order.ByteOrder.TheVariants.{Little}
-use Rattle.ctf_types.specs.declared.environment.EnvironmentEntry.{EnvironmentEntry}
-use Rattle.ctf_types.specs.declared.clock_type.ClockType.{ClockType}
-use Rattle.ctf_types.specs.declared.config.StreamType.{StreamType}
-use Rattle.ctf_types.specs.declared.config.Config.{Config}
-use Rattle.ctf_types.specs.declared.metadata.Metadata.{Metadata}
+use Rattle.ctf_types.specs.declared.IntType.{IntType}
+use Rattle.ctf_types.specs.declared.FieldType.TheVariants.{Int}
+use Rattle.ctf_types.specs.declared.MemberType.{MemberType}
+use Rattle.ctf_types.specs.declared.MemberType.TheVariants.{Plain}
+use Rattle.ctf_types.specs.declared.ByteOrder.TheVariants.{Little}
+use Rattle.ctf_types.specs.declared.EnvironmentEntry.{EnvironmentEntry}
+use Rattle.ctf_types.specs.declared.ClockType.{ClockType}
+use Rattle.ctf_types.specs.declared.StreamType.{StreamType}
+use Rattle.ctf_types.specs.declared.Config.{Config}
+use Rattle.ctf_types.specs.declared.Metadata.{Metadata}
 use Rattle.ctf_types.specs.Allowed.{IsMappedTo, IsNest, elements_of, IsMember, AreMembers, IsStruct, IsUnsigned, IsMagic, IsIdentity, IsEvent, IsStream, IsMetadata}
 use Rattle.ctf_types.specs.AllowedConfig.{IsConfig, IsConfigMember, IsConfigStruct, IsEventType, IsStreamType, OnlyIf, IsPlainUnsigned, IsTimestamp, IsClockType, IsEnvironmentValue, StructHasBits}
 use Rattle.ctf_types.specs.MetadataOf.{metadata_of, header_of, streams_of, stream_of, context_of, event_header_of, events_of, event_of}

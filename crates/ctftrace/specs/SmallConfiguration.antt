@@ -2,18 +2,18 @@
 -- A packet says its magic number and its two sizes, nothing else; an event record has no header.
 use Rattle.std.specs.Prelude.{[], ◌∷◌, None, Some, codes, false, refl}
 use Rattle.std.proofs.Common.{lit<, lit≤}
-use Rattle.ctf_types.specs.declared.base.Base.TheVariants.{Dec, Hex}
-use Rattle.ctf_types.specs.declared.byte_order.ByteOrder.TheVariants.{Little}
-use Rattle.ctf_types.specs.declared.int_type.IntType.{IntType}
-use Rattle.ctf_types.specs.declared.field_type.FieldType.TheVariants.{Int}
-use Rattle.ctf_types.specs.declared.member_type.MemberType.TheVariants.{Plain}
-use Rattle.ctf_types.specs.declared.struct_type.StructType.{StructType}
-use Rattle.ctf_types.specs.declared.config.Config.{Config}
-use Rattle.ctf_types.specs.declared.config.StreamType.{StreamType}
-use Rattle.ctf_types.specs.declared.config.EventType.{EventType}
-use Rattle.ctf_types.specs.declared.metadata.Metadata.{Metadata}
-use Rattle.ctf_types.specs.declared.metadata.Stream.{Stream}
-use Rattle.ctf_types.specs.declared.metadata.Event.{Event}
+use Rattle.ctf_types.specs.declared.Base.TheVariants.{Dec, Hex}
+use Rattle.ctf_types.specs.declared.ByteOrder.TheVariants.{Little}
+use Rattle.ctf_types.specs.declared.IntType.{IntType}
+use Rattle.ctf_types.specs.declared.FieldType.TheVariants.{Int}
+use Rattle.ctf_types.specs.declared.MemberType.TheVariants.{Plain}
+use Rattle.ctf_types.specs.declared.StructType.{StructType}
+use Rattle.ctf_types.specs.declared.Config.{Config}
+use Rattle.ctf_types.specs.declared.StreamType.{StreamType}
+use Rattle.ctf_types.specs.declared.EventType.{EventType}
+use Rattle.ctf_types.specs.declared.Metadata.{Metadata}
+use Rattle.ctf_types.specs.declared.Stream.{Stream}
+use Rattle.ctf_types.specs.declared.Event.{Event}
 
 -- unsigned numbers of 32 bits, of 32 bits in base 16, and of 8 bits, each at a multiple of 8 bits
 abbrev pub size_type : IntType

@@ -1,8 +1,8 @@
 //! The configuration of the first path and its metadata: packets of numbers of 8 bits.
 
 ghost use Rattle.std.specs.Prelude.{◌≡◌, ◌<◌, ◌≤◌, None, IfOk, false};
-ghost use Rattle.ctf_types.specs.declared.field_type.FieldType.TheVariants.{Int};
-ghost use Rattle.ctf_types.specs.declared.member_type.MemberType.TheVariants.{Plain};
+ghost use Rattle.ctf_types.specs.declared.FieldType.TheVariants.{Int};
+ghost use Rattle.ctf_types.specs.declared.MemberType.TheVariants.{Plain};
 ghost use Rattle.ctf_types.specs.Allowed.{IsMetadata};
 ghost use Rattle.ctf_types.specs.AllowedConfig.{IsConfig};
 ghost use Rattle.ctf_types.specs.MetadataOf.{metadata_of};

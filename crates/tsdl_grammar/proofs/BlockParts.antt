@@ -1,10 +1,10 @@
 -- What clock, stream and event blocks mean, taken apart: each step that follows has a name.
 use Rattle.std.proofs.Common.{◌≡◌, ℕ, Bool, true, false, ◌&&◌, List, [], ◌∷◌, Option, Some, refl, subst, ℤ, pos}
 use Rattle.std.specs.Prelude.{codes}
-use Rattle.ctf_types.specs.declared.struct_type.StructType.{StructType}
-use Rattle.ctf_types.specs.declared.clock_type.ClockType.{ClockType}
-use Rattle.ctf_types.specs.declared.metadata.Stream.{Stream}
-use Rattle.ctf_types.specs.declared.metadata.Event.{Event}
+use Rattle.ctf_types.specs.declared.StructType.{StructType}
+use Rattle.ctf_types.specs.declared.ClockType.{ClockType}
+use Rattle.ctf_types.specs.declared.Stream.{Stream}
+use Rattle.ctf_types.specs.declared.Event.{Event}
 use Rattle.tsdl_grammar.specs.declared.tree.Attribute.{Attribute}
 use Rattle.tsdl_grammar.specs.declared.tree.Scope.{Scope}
 use Rattle.tsdl_grammar.specs.declared.tree.Item.{Item}

@@ -3,15 +3,15 @@ use Rattle.std.proofs.Common.{◌≡◌, ℕ, Bool, true, false, List, [], lengt
 use Rattle.std.specs.Prelude.{nat_le, codes}
 use Rattle.std.specs.List.{flat_map}
 use Rattle.std.specs.Str.{bytes_eq}
-use Rattle.ctf_types.specs.declared.base.Base.{Base}
-use Rattle.ctf_types.specs.declared.base.Base.TheVariants.{Dec}
-use Rattle.ctf_types.specs.declared.byte_order.ByteOrder.{ByteOrder}
-use Rattle.ctf_types.specs.declared.int_type.IntType.{IntType}
-use Rattle.ctf_types.specs.declared.struct_type.StructType.{StructType}
-use Rattle.ctf_types.specs.declared.member_type.MemberType.{MemberType}
-use Rattle.ctf_types.specs.declared.clock_type.ClockType.{ClockType}
-use Rattle.ctf_types.specs.declared.environment.EnvironmentEntry.{EnvironmentEntry}
-use Rattle.ctf_types.specs.declared.metadata.Metadata.{Metadata}
+use Rattle.ctf_types.specs.declared.Base.{Base}
+use Rattle.ctf_types.specs.declared.Base.TheVariants.{Dec}
+use Rattle.ctf_types.specs.declared.ByteOrder.{ByteOrder}
+use Rattle.ctf_types.specs.declared.IntType.{IntType}
+use Rattle.ctf_types.specs.declared.StructType.{StructType}
+use Rattle.ctf_types.specs.declared.MemberType.{MemberType}
+use Rattle.ctf_types.specs.declared.ClockType.{ClockType}
+use Rattle.ctf_types.specs.declared.EnvironmentEntry.{EnvironmentEntry}
+use Rattle.ctf_types.specs.declared.Metadata.{Metadata}
 use Rattle.tsdl_grammar.specs.declared.tree.Value.{Value}
 use Rattle.tsdl_grammar.specs.declared.tree.Attribute.{Attribute}
 use Rattle.tsdl_grammar.specs.declared.tree.Structure.{Structure}

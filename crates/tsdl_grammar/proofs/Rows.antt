@@ -2,10 +2,10 @@
 use Rattle.std.proofs.Common.{◌≡◌, ℕ, List, [], ◌∷◌, map, Option, Some, None, refl}
 use Rattle.std.specs.Prelude.{codes}
 use Rattle.std.specs.Option.{option_map}
-use Rattle.ctf_types.specs.declared.byte_order.ByteOrder.TheVariants.{Big}
-use Rattle.ctf_types.specs.declared.member_type.MemberType.{MemberType}
-use Rattle.ctf_types.specs.declared.member_type.MemberType.TheVariants.{Plain, Dyn}
-use Rattle.ctf_types.specs.declared.member_type.Length.TheVariants.{Auto, At}
+use Rattle.ctf_types.specs.declared.ByteOrder.TheVariants.{Big}
+use Rattle.ctf_types.specs.declared.MemberType.{MemberType}
+use Rattle.ctf_types.specs.declared.MemberType.TheVariants.{Plain, Dyn}
+use Rattle.ctf_types.specs.declared.Length.TheVariants.{Auto, At}
 use Rattle.tsdl_grammar.specs.declared.tree.Number.{Number}
 use Rattle.tsdl_grammar.specs.declared.tree.Name.{Name}
 use Rattle.tsdl_grammar.specs.declared.tree.Value.TheVariants as values

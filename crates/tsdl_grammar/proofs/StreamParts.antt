@@ -1,8 +1,8 @@
 -- The streams of a text stand by number, and so do the events of each.
 use Rattle.std.proofs.Common.{◌≡◌, ℕ, List, Some, refl, subst}
 use Rattle.std.specs.List.{flat_map, AllByRecursion}
-use Rattle.ctf_types.specs.declared.metadata.Stream.{Stream}
-use Rattle.ctf_types.specs.declared.metadata.Event.{Event}
+use Rattle.ctf_types.specs.declared.Stream.{Stream}
+use Rattle.ctf_types.specs.declared.Event.{Event}
 use Rattle.tsdl_grammar.specs.declared.tree.Block.{Block}
 use Rattle.tsdl_grammar.specs.Steps.{◌>>=◌, provided, each, by_number}
 use Rattle.tsdl_grammar.specs.IntegerMeaning.{Known}

@@ -5,11 +5,11 @@ use Rattle.std.specs.Prelude.{ℕ, ◌%◌, Bool, false, ◌&&◌, ◌==◌, nat
 use Rattle.std.specs.List.{list_all, list_any}
 use Rattle.std.specs.Str.{bytes_eq}
 use Rattle.std.proofs.lemmas.Bool.{ltb-true, leb-true, eqb-true}
-use Rattle.ctf_types.specs.declared.byte_order.ByteOrder.{ByteOrder}
-use Rattle.ctf_types.specs.declared.byte_order.ByteOrder.TheVariants.{Little, Big}
-use Rattle.ctf_types.specs.declared.base.Base.{Base}
-use Rattle.ctf_types.specs.declared.base.Base.TheVariants.{Bin, Oct, Dec, Hex}
-use Rattle.ctf_types.specs.declared.int_type.IntType.{IntType}
+use Rattle.ctf_types.specs.declared.ByteOrder.{ByteOrder}
+use Rattle.ctf_types.specs.declared.ByteOrder.TheVariants.{Little, Big}
+use Rattle.ctf_types.specs.declared.Base.{Base}
+use Rattle.ctf_types.specs.declared.Base.TheVariants.{Bin, Oct, Dec, Hex}
+use Rattle.ctf_types.specs.declared.IntType.{IntType}
 use Rattle.tsdl_grammar.specs.declared.tree.Value.{Value}
 use Rattle.tsdl_grammar.specs.declared.tree.Value.TheVariants as values
 use Rattle.tsdl_grammar.specs.declared.tree.Attribute.{Attribute}

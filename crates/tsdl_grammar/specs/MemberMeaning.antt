@@ -5,14 +5,14 @@ use Rattle.std.specs.Prelude.{ℕ, ◌*◌, ◌^◌, max, Bool, true, false, not
 use Rattle.std.specs.List.{list_all, position}
 use Rattle.std.specs.Str.{bytes_eq}
 use Rattle.std.specs.Option.{option_map}
-use Rattle.ctf_types.specs.declared.int_type.IntType.{IntType}
-use Rattle.ctf_types.specs.declared.enum_type.EnumType.{EnumType}
-use Rattle.ctf_types.specs.declared.enum_type.Mapping.{Mapping}
-use Rattle.ctf_types.specs.declared.field_type.FieldType.{FieldType}
-use Rattle.ctf_types.specs.declared.field_type.FieldType.TheVariants.{Int, Enum, Str, Static}
-use Rattle.ctf_types.specs.declared.member_type.MemberType.{MemberType}
-use Rattle.ctf_types.specs.declared.member_type.MemberType.TheVariants.{Plain, Dyn}
-use Rattle.ctf_types.specs.declared.member_type.Length.TheVariants.{At}
+use Rattle.ctf_types.specs.declared.IntType.{IntType}
+use Rattle.ctf_types.specs.declared.EnumType.{EnumType}
+use Rattle.ctf_types.specs.declared.Mapping.{Mapping}
+use Rattle.ctf_types.specs.declared.FieldType.{FieldType}
+use Rattle.ctf_types.specs.declared.FieldType.TheVariants.{Int, Enum, Str, Static}
+use Rattle.ctf_types.specs.declared.MemberType.{MemberType}
+use Rattle.ctf_types.specs.declared.MemberType.TheVariants.{Plain, Dyn}
+use Rattle.ctf_types.specs.declared.Length.TheVariants.{At}
 use Rattle.ctf_types.specs.Chain.{Leaf, Number, Labelled, ByteString}
 use Rattle.tsdl_grammar.specs.declared.tree.Value.{Value}
 use Rattle.tsdl_grammar.specs.declared.tree.Attribute.{Attribute}

@@ -6,10 +6,10 @@ use Rattle.std.proofs.lemmas.Bool.{leb-true, false≢true}
 use Rattle.std.proofs.lemmas.List.Elements.{All-from_recursion, All-weaker}
 use Rattle.std.proofs.lemmas.List.Sums.{AllPass-from_list_all}
 use Rattle.std.proofs.lemmas.Slice.Eq.{bytes_eq-Decides}
-use Rattle.ctf_types.specs.declared.field_type.FieldType.TheVariants.{Int, Enum, Str, Static}
-use Rattle.ctf_types.specs.declared.member_type.MemberType.{MemberType}
-use Rattle.ctf_types.specs.declared.member_type.MemberType.TheVariants.{Plain, Dyn}
-use Rattle.ctf_types.specs.declared.struct_type.StructType.{StructType}
+use Rattle.ctf_types.specs.declared.FieldType.TheVariants.{Int, Enum, Str, Static}
+use Rattle.ctf_types.specs.declared.MemberType.{MemberType}
+use Rattle.ctf_types.specs.declared.MemberType.TheVariants.{Plain, Dyn}
+use Rattle.ctf_types.specs.declared.StructType.{StructType}
 use Rattle.ctf_types.specs.Allowed.{AreMembers, IsStruct, IsUnsigned}
 use Rattle.ctf_types.specs.Members.{names_in}
 use Rattle.ctf_types.specs.Names.{IsMetadataName}

@@ -14,13 +14,13 @@ use Rattle.std.proofs.lemmas.List.Quantifiers.{position-Some}
 use Rattle.std.proofs.lemmas.Option.{slice_get-get_or}
 use Rattle.std.proofs.lemmas.Map.Views.{Contains-from_any}
 use Rattle.std.proofs.lemmas.Slice.Eq.{bytes_eq-Decides}
-use Rattle.ctf_types.specs.declared.int_type.IntType.{IntType}
-use Rattle.ctf_types.specs.declared.enum_type.EnumType.{EnumType}
-use Rattle.ctf_types.specs.declared.enum_type.Mapping.{Mapping}
-use Rattle.ctf_types.specs.declared.field_type.FieldType.TheVariants.{Int, Enum, Str, Static}
-use Rattle.ctf_types.specs.declared.member_type.MemberType.{MemberType}
-use Rattle.ctf_types.specs.declared.member_type.MemberType.TheVariants.{Plain, Dyn}
-use Rattle.ctf_types.specs.declared.member_type.Length.TheVariants.{At}
+use Rattle.ctf_types.specs.declared.IntType.{IntType}
+use Rattle.ctf_types.specs.declared.EnumType.{EnumType}
+use Rattle.ctf_types.specs.declared.Mapping.{Mapping}
+use Rattle.ctf_types.specs.declared.FieldType.TheVariants.{Int, Enum, Str, Static}
+use Rattle.ctf_types.specs.declared.MemberType.{MemberType}
+use Rattle.ctf_types.specs.declared.MemberType.TheVariants.{Plain, Dyn}
+use Rattle.ctf_types.specs.declared.Length.TheVariants.{At}
 use Rattle.ctf_types.specs.Chain.{Chain, Leaf, Number, Labelled, ByteString}
 use Rattle.ctf_types.specs.FieldTypes.{chain_of}
 use Rattle.ctf_types.specs.Allowed as allowed

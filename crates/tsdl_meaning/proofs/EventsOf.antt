@@ -1,6 +1,6 @@
 -- The events of one stream, one after the other.
 use Rattle.std.proofs.Common.{◌≡◌, ℕ, ◌-◌, ◌≤◌, List, [], ◌∷◌, ◌++◌, length, take, drop, get_or, sym, ap, ◌∙◌, append_assoc, arith, eq-eqb}
-use Rattle.ctf_types.specs.declared.metadata.Event.{Event}
+use Rattle.ctf_types.specs.declared.Event.{Event}
 use Rattle.tsdl_grammar.specs.Denotes.{events_of}
 use Rattle.tsdl_meaning.proofs.Fronts.{whole}
 

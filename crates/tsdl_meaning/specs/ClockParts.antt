@@ -1,6 +1,6 @@
 -- The parts of a clock type, as its attributes give them, and the type that they make.
 use Rattle.std.specs.Option.{option_map}
-use Rattle.ctf_types.specs.declared.clock_type.ClockType.{ClockType}
+use Rattle.ctf_types.specs.declared.ClockType.{ClockType}
 use Rattle.tsdl_meaning.specs.declared.clock.ClockParts.{ClockParts}
 
 abbrev pub made_clock : ClockParts → ClockType

@@ -1,6 +1,6 @@
 -- The parts of an event, as its attributes give them, and the event that they make with its structures.
 use Rattle.std.specs.Prelude.{ℕ, List, true, Option, Some}
-use Rattle.ctf_types.specs.declared.metadata.Event.{Event}
+use Rattle.ctf_types.specs.declared.Event.{Event}
 use Rattle.tsdl_grammar.specs.declared.tree.Scope.{Scope}
 use Rattle.tsdl_grammar.specs.Steps.{◌>>=◌}
 use Rattle.tsdl_grammar.specs.IntegerMeaning.{Known}

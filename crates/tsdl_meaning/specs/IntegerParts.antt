@@ -1,8 +1,8 @@
 -- The parts of an integer type, as its attributes give them, and the type that they make.
 use Rattle.std.specs.Prelude.{◌≡◌, ℕ, Bool, List, Option}
-use Rattle.ctf_types.specs.declared.base.Base.{Base}
+use Rattle.ctf_types.specs.declared.Base.{Base}
 use Rattle.std.specs.Option.{option_map}
-use Rattle.ctf_types.specs.declared.int_type.IntType.{IntType}
+use Rattle.ctf_types.specs.declared.IntType.{IntType}
 use Rattle.tsdl_grammar.specs.Steps.{◌>>=◌}
 use Rattle.tsdl_grammar.specs.IntegerMeaning.{int_type}
 use Rattle.tsdl_meaning.specs.declared.integer.IntegerParts.{IntegerParts}

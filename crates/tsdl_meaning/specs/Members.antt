@@ -1,7 +1,7 @@
 -- What a string's attributes come to, and the members that may hold a length.
 use Rattle.std.specs.Prelude.{◌≡◌, ℕ, Bool, true, false, ◌&&◌, List, Option, Some, None, slice_index_or}
 use Rattle.std.specs.Str.{bytes_eq}
-use Rattle.ctf_types.specs.declared.member_type.MemberType.{MemberType}
+use Rattle.ctf_types.specs.declared.MemberType.{MemberType}
 use Rattle.ctf_types.specs.Chain.{Leaf, ByteString}
 use Rattle.tsdl_grammar.specs.MemberMeaning.{is_unsigned}
 

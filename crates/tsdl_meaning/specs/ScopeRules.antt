@@ -1,6 +1,6 @@
 -- What the scopes of a metadata text ask of their members.
 use Rattle.std.specs.Prelude.{◌≡◌, ℕ, Bool, true, ◌&&◌, List, [], ◌∷◌, slice_index_or, codes}
-use Rattle.ctf_types.specs.declared.member_type.MemberType.{MemberType}
+use Rattle.ctf_types.specs.declared.MemberType.{MemberType}
 use Rattle.ctf_types.specs.Chain.{Chain}
 use Rattle.tsdl_grammar.specs.BlockMeaning.{suits_header, suits, context_names, is_flat, is_byte}
 use Rattle.tsdl_meaning.specs.declared.scope_rule.ScopeRule.{ScopeRule}

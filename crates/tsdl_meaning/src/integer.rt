@@ -2,7 +2,7 @@
 
 ghost use Rattle.std.specs.Prelude.{◌≡◌, ◌↔◌, ◌<◌, ◌≤◌, false, option_map, IfOk, IfSome, IsSome};
 ghost use Rattle.ctf_types.specs.Alignment.{IsAlignment};
-ghost use Rattle.ctf_types.specs.declared.base.Base.TheVariants as bases;
+ghost use Rattle.ctf_types.specs.declared.Base.TheVariants as bases;
 ghost use Rattle.tsdl_grammar.specs.AttributeValues.{natural_value, flag_value, meant_by, numbered, with_default, optional};
 ghost use Rattle.tsdl_grammar.specs.IntegerMeaning.{int_type, default_align, base_words, base_numbers, base_value, order_value, clock_value, int_meaning};
 ghost use Rattle.tsdl_meaning.specs.IntegerParts.{typed_parts, HasParts};

@@ -11,23 +11,26 @@ use tsdl_grammar::Atom;
 pub fn is_unread(word: &str) -> bool
     ensures { result ≡ list_any (bytes_eq word.now) unread_words }
 {
-    word == "callsite"
-        || word == "char"
-        || word == "const"
-        || word == "double"
-        || word == "float"
-        || word == "floating_point"
-        || word == "int"
-        || word == "long"
-        || word == "short"
-        || word == "typealias"
-        || word == "typedef"
-        || word == "unsigned"
-        || word == "variant"
-        || word == "void"
-        || word == "_Bool"
-        || word == "_Complex"
-        || word == "_Imaginary"
+    matches!(
+        word,
+        "callsite"
+            | "char"
+            | "const"
+            | "double"
+            | "float"
+            | "floating_point"
+            | "int"
+            | "long"
+            | "short"
+            | "typealias"
+            | "typedef"
+            | "unsigned"
+            | "variant"
+            | "void"
+            | "_Bool"
+            | "_Complex"
+            | "_Imaginary"
+    )
 }
 
 /// Whether an atom is no keyword that this project doesn't read.

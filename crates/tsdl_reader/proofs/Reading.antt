@@ -1,7 +1,7 @@
 -- A text has one list of tokens, of atoms and of blocks, so it denotes at most one metadata.
 use Rattle.std.proofs.Common.{◌≡◌, ℕ, List, length, slice_get, sym, ap, ◌∙◌}
 use Rattle.std.specs.List.{list_all}
-use Rattle.ctf_types.specs.declared.metadata.Metadata.{Metadata}
+use Rattle.ctf_types.specs.declared.Metadata.{Metadata}
 use Rattle.tsdl_grammar.specs.declared.token.Token.{Token}
 use Rattle.tsdl_grammar.specs.declared.atom.Atom.{Atom}
 use Rattle.tsdl_grammar.specs.declared.fault.MetaFaultKind.{MetaFaultKind}

@@ -1,7 +1,7 @@
 -- What a reader of metadata answers: the metadata that the text denotes, or a fault that says why it denotes none.
 use Rattle.std.specs.Prelude.{◌≡◌, ℕ, true, ◌⊎◌, List, length, Option, Some, None, slice_get, Result, Ok, Err}
 use Rattle.std.specs.List.{list_all}
-use Rattle.ctf_types.specs.declared.metadata.Metadata.{Metadata}
+use Rattle.ctf_types.specs.declared.Metadata.{Metadata}
 use Rattle.tsdl_grammar.specs.declared.token.Token.{Token}
 use Rattle.tsdl_grammar.specs.declared.atom.Atom.{Atom}
 use Rattle.tsdl_grammar.specs.declared.tree.Block.{Block}

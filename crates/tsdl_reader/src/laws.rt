@@ -1,7 +1,7 @@
 //! Laws of reading. Each function is a statement, and does nothing when it runs.
 
 ghost use Rattle.std.specs.Prelude.{◌≡◌, ℕ, List};
-ghost use Rattle.ctf_types.specs.declared.metadata.Metadata.{Metadata};
+ghost use Rattle.ctf_types.specs.declared.Metadata.{Metadata};
 ghost use Rattle.tsdl_grammar.specs.Denotes.{Denotes};
 
 use tsdl_grammar::tokens_are_unique;

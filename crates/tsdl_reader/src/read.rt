@@ -1,7 +1,7 @@
 //! Reads a metadata text.
 
 ghost use Rattle.std.specs.Prelude.{◌≡◌, ℕ, ◌≤◌, length, slice_get, IfOk, IfErr, IfSome, IfNone};
-ghost use Rattle.ctf_types.specs.declared.metadata.Metadata.{Metadata};
+ghost use Rattle.ctf_types.specs.declared.Metadata.{Metadata};
 ghost use Rattle.ctf_types.specs.Allowed.{IsMetadata};
 ghost use Rattle.tsdl_grammar.specs.Tokens.{HasMagicLine, StopsAt};
 ghost use Rattle.tsdl_grammar.specs.Denotes.{Denotes};

@@ -8,15 +8,15 @@ use Rattle.std.proofs.lemmas.Bool.{cases_Bool}
 use Rattle.std.proofs.lemmas.Bool.Decides.{nat_tests}
 use Rattle.std.proofs.lemmas.List.{length-map}
 use Rattle.std.proofs.lemmas.List.Elements.{All-head, All-tail}
-use Rattle.ctf_types.specs.declared.base.Base.{Base}
-use Rattle.ctf_types.specs.declared.base.Base.TheVariants.{Bin, Oct, Dec, Hex}
-use Rattle.ctf_types.specs.declared.int_type.IntType.{IntType}
-use Rattle.ctf_types.specs.declared.enum_type.Mapping.{Mapping}
-use Rattle.ctf_types.specs.declared.enum_type.EnumType.{EnumType}
-use Rattle.ctf_types.specs.declared.field_type.FieldType.{FieldType}
-use Rattle.ctf_types.specs.declared.field_type.FieldType.TheVariants.{Int, Enum, Str, Static}
-use Rattle.ctf_types.specs.declared.member_type.MemberType.{MemberType}
-use Rattle.ctf_types.specs.declared.member_type.MemberType.TheVariants.{Plain}
+use Rattle.ctf_types.specs.declared.Base.{Base}
+use Rattle.ctf_types.specs.declared.Base.TheVariants.{Bin, Oct, Dec, Hex}
+use Rattle.ctf_types.specs.declared.IntType.{IntType}
+use Rattle.ctf_types.specs.declared.Mapping.{Mapping}
+use Rattle.ctf_types.specs.declared.EnumType.{EnumType}
+use Rattle.ctf_types.specs.declared.FieldType.{FieldType}
+use Rattle.ctf_types.specs.declared.FieldType.TheVariants.{Int, Enum, Str, Static}
+use Rattle.ctf_types.specs.declared.MemberType.{MemberType}
+use Rattle.ctf_types.specs.declared.MemberType.TheVariants.{Plain}
 use Rattle.ctf_types.specs.Chain.{Leaf, Number, Labelled, ByteString}
 use Rattle.ctf_types.specs.FieldTypes.{chain_of}
 use Rattle.ctf_types.specs.Allowed as allowed

@@ -6,10 +6,10 @@ use Rattle.std.proofs.lemmas.Bool.Decides.{nat_tests}
 use Rattle.std.proofs.lemmas.List.{append-nil}
 use Rattle.std.proofs.lemmas.List.Concat.{flat_map-append}
 use Rattle.std.proofs.lemmas.List.Folds.{list_all-append}
-use Rattle.ctf_types.specs.declared.config.StreamType.{StreamType}
-use Rattle.ctf_types.specs.declared.config.EventType.{EventType}
-use Rattle.ctf_types.specs.declared.metadata.Stream.{Stream}
-use Rattle.ctf_types.specs.declared.metadata.Event.{Event}
+use Rattle.ctf_types.specs.declared.StreamType.{StreamType}
+use Rattle.ctf_types.specs.declared.EventType.{EventType}
+use Rattle.ctf_types.specs.declared.Stream.{Stream}
+use Rattle.ctf_types.specs.declared.Event.{Event}
 use Rattle.ctf_types.specs.MetadataOf as meta
 use Rattle.ctf_types.specs.MetadataOf.{event_of, stream_of, streams_of}
 use Rattle.tsdl_grammar.specs.Steps.{◌>>=◌, each, by_number}

@@ -6,10 +6,10 @@ use Rattle.std.specs.Str.{bytes_eq}
 use Rattle.std.proofs.lemmas.Bool.{cases_Bool, false≢true}
 use Rattle.std.proofs.lemmas.List.Elements.{All-head, All-tail, All-weaker}
 use Rattle.std.proofs.lemmas.List.Concat.{flat_map-append}
-use Rattle.ctf_types.specs.declared.member_type.MemberType.{MemberType}
-use Rattle.ctf_types.specs.declared.struct_type.StructType.{StructType}
-use Rattle.ctf_types.specs.declared.config.StreamType.{StreamType}
-use Rattle.ctf_types.specs.declared.config.EventType.{EventType}
+use Rattle.ctf_types.specs.declared.MemberType.{MemberType}
+use Rattle.ctf_types.specs.declared.StructType.{StructType}
+use Rattle.ctf_types.specs.declared.StreamType.{StreamType}
+use Rattle.ctf_types.specs.declared.EventType.{EventType}
 use Rattle.ctf_types.specs.Allowed.{IsStruct, IsStream, IsUnsigned, Where}
 use Rattle.ctf_types.specs.AllowedConfig.{IsConfigStruct, IsEventType, IsStreamType}
 use Rattle.ctf_types.specs.MetadataOf as meta

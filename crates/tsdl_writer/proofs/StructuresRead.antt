@@ -6,15 +6,15 @@ use Rattle.std.specs.Str.{bytes_eq}
 use Rattle.std.proofs.lemmas.Bool.{cases_Bool, false≢true}
 use Rattle.std.proofs.lemmas.List.Elements.{All-head, All-tail}
 use Rattle.std.proofs.lemmas.Slice.Eq.{bytes_eq-Decides}
-use Rattle.ctf_types.specs.declared.int_type.IntType.{IntType}
-use Rattle.ctf_types.specs.declared.field_type.FieldType.TheVariants.{Int, Enum, Str, Static}
-use Rattle.ctf_types.specs.declared.member_type.MemberType.{MemberType}
-use Rattle.ctf_types.specs.declared.member_type.MemberType.TheVariants.{Plain, Dyn}
-use Rattle.ctf_types.specs.declared.member_type.Length.TheVariants.{Auto, At}
-use Rattle.ctf_types.specs.declared.struct_type.StructType.{StructType}
-use Rattle.ctf_types.specs.declared.features.HeaderFeatures.{HeaderFeatures}
-use Rattle.ctf_types.specs.declared.features.ContextFeatures.{ContextFeatures}
-use Rattle.ctf_types.specs.declared.features.EventFeatures.{EventFeatures}
+use Rattle.ctf_types.specs.declared.IntType.{IntType}
+use Rattle.ctf_types.specs.declared.FieldType.TheVariants.{Int, Enum, Str, Static}
+use Rattle.ctf_types.specs.declared.MemberType.{MemberType}
+use Rattle.ctf_types.specs.declared.MemberType.TheVariants.{Plain, Dyn}
+use Rattle.ctf_types.specs.declared.Length.TheVariants.{Auto, At}
+use Rattle.ctf_types.specs.declared.StructType.{StructType}
+use Rattle.ctf_types.specs.declared.HeaderFeatures.{HeaderFeatures}
+use Rattle.ctf_types.specs.declared.ContextFeatures.{ContextFeatures}
+use Rattle.ctf_types.specs.declared.EventFeatures.{EventFeatures}
 use Rattle.ctf_types.specs.Chain.{Leaf, Number, Labelled, ByteString}
 use Rattle.ctf_types.specs.FieldTypes.{chain_of}
 use Rattle.ctf_types.specs.Members.{names_in}

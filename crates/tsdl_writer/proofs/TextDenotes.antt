@@ -1,6 +1,6 @@
 -- The written text of an allowed configuration denotes its metadata.
 use Rattle.std.proofs.Common.{refl}
-use Rattle.ctf_types.specs.declared.config.Config.{Config}
+use Rattle.ctf_types.specs.declared.Config.{Config}
 use Rattle.ctf_types.specs.AllowedConfig.{IsConfig}
 use Rattle.ctf_types.specs.MetadataOf.{metadata_of}
 use Rattle.tsdl_grammar.specs.Spelling.{text_toks}

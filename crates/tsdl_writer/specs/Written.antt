@@ -1,6 +1,6 @@
 -- The metadata text of a configuration.
 use Rattle.std.specs.Prelude.{ℕ, List}
-use Rattle.ctf_types.specs.declared.config.Config.{Config}
+use Rattle.ctf_types.specs.declared.Config.{Config}
 use Rattle.tsdl_writer.specs.Layout.{text_of}
 use Rattle.tsdl_writer.specs.BlockTrees.{blocks_of}
 

@@ -3,9 +3,9 @@
 ghost use Rattle.std.specs.Prelude.{◌≡◌, ◌++◌, map, Some, OnOk, codes, string_bytes};
 ghost use Rattle.std.specs.List.{flat_map};
 ghost use Rattle.tsdl_writer.specs.Appends.{Appends};
-ghost use Rattle.ctf_types.specs.declared.member_type.MemberType.TheVariants.{Plain, Dyn};
-ghost use Rattle.ctf_types.specs.declared.member_type.Length.TheVariants.{Auto};
-ghost use Rattle.ctf_types.specs.declared.field_type.FieldType.TheVariants.{Int};
+ghost use Rattle.ctf_types.specs.declared.MemberType.TheVariants.{Plain, Dyn};
+ghost use Rattle.ctf_types.specs.declared.Length.TheVariants.{Auto};
+ghost use Rattle.ctf_types.specs.declared.FieldType.TheVariants.{Int};
 ghost use Rattle.ctf_types.specs.FieldTypes.{chain_of};
 ghost use Rattle.ctf_types.specs.MetadataOf.{number_member, uuid_member};
 ghost use Rattle.ctf_types.specs.Shown.{length_name};

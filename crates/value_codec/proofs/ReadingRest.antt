@@ -2,7 +2,7 @@
 use Rattle.std.proofs.Common.{◌≡◌, ℕ, suc, List, [], ◌∷◌, ◌++◌, refl, ap, ◌∙◌, append_assoc}
 use Rattle.std.specs.Prelude.{Result, Ok, Err}
 use Rattle.std.proofs.lemmas.List.{append-nil, map-append}
-use Rattle.ctf_types.specs.declared.value.Value.{Value}
+use Rattle.ctf_types.specs.declared.Value.{Value}
 use Rattle.ctf_types.specs.Values.{datum_of, data_of}
 use Rattle.ctf_types.specs.Datum.{Datum}
 use Rattle.value_codec.specs.declared.read_fault.ReadFault.{ReadFault}

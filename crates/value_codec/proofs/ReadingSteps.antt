@@ -5,14 +5,14 @@ use Rattle.std.specs.List.{position_from, position, slice_range}
 use Rattle.std.proofs.lemmas.Iterator.Adapters.{position_from-zero}
 use Rattle.std.proofs.lemmas.List.Quantifiers.{position-Some}
 use Rattle.bit_codec.proofs.BitLaws.{number_at-byte}
-use Rattle.ctf_types.specs.declared.byte_order.ByteOrder.{ByteOrder}
-use Rattle.ctf_types.specs.declared.byte_order.ByteOrder.TheVariants.{Little}
+use Rattle.ctf_types.specs.declared.ByteOrder.{ByteOrder}
+use Rattle.ctf_types.specs.declared.ByteOrder.TheVariants.{Little}
 use Rattle.ctf_types.specs.Alignment.{up}
 use Rattle.ctf_types.specs.Bits.{bit_of, number_at}
 use Rattle.ctf_types.proofs.Ends.{up-mod, up_of_multiple, up_by_rest}
 use Rattle.value_codec.specs.declared.read_fault.ReadFault.{ReadFault}
 use Rattle.value_codec.specs.declared.read_fault.ReadFault.TheVariants.{PastEnd, NoTerminator, OutOfMemory}
-use Rattle.ctf_types.specs.declared.int_type.IntType.{IntType}
+use Rattle.ctf_types.specs.declared.IntType.{IntType}
 use Rattle.ctf_types.specs.Layout.{value_of}
 use Rattle.value_codec.specs.Reading.{◌>>=◌, start_at, bits_at, int_at, bytes_at, text_at, Gives}
 use Rattle.value_codec.proofs.ReadingLaws.{start_found}

@@ -1,13 +1,13 @@
 -- Worked rows of reading: numbers in both byte orders, strings with and without their zero byte, and an empty array that is aligned past the limit.
 use Rattle.std.proofs.Common.{◌≡◌, lit<, lit≤}
 use Rattle.std.specs.Prelude.{negsuc, [], ◌∷◌, Ok, Err, None, true, false, codes, refl}
-use Rattle.ctf_types.specs.declared.base.Base.TheVariants.{Dec}
-use Rattle.ctf_types.specs.declared.byte_order.ByteOrder.TheVariants.{Little, Big}
-use Rattle.ctf_types.specs.declared.int_type.IntType.{IntType}
-use Rattle.ctf_types.specs.declared.field_type.FieldType.TheVariants.{Int}
-use Rattle.ctf_types.specs.declared.member_type.Length.TheVariants.{At}
-use Rattle.ctf_types.specs.declared.member_type.MemberType.TheVariants.{Plain, Dyn}
-use Rattle.ctf_types.specs.declared.struct_type.StructType.{StructType}
+use Rattle.ctf_types.specs.declared.Base.TheVariants.{Dec}
+use Rattle.ctf_types.specs.declared.ByteOrder.TheVariants.{Little, Big}
+use Rattle.ctf_types.specs.declared.IntType.{IntType}
+use Rattle.ctf_types.specs.declared.FieldType.TheVariants.{Int}
+use Rattle.ctf_types.specs.declared.Length.TheVariants.{At}
+use Rattle.ctf_types.specs.declared.MemberType.TheVariants.{Plain, Dyn}
+use Rattle.ctf_types.specs.declared.StructType.{StructType}
 use Rattle.ctf_types.specs.Alignment.{up}
 use Rattle.ctf_types.specs.Bits.{bit_of, number_of, number_at, signed_of}
 use Rattle.ctf_types.specs.Chain.{Number, ByteString}

@@ -1,10 +1,10 @@
 -- Worked rows of what a writer leaves.
 use Rattle.std.specs.Prelude.{◌≡◌, [], ◌∷◌, None, false, refl}
 use Rattle.std.proofs.Common.{lit<, lit≤}
-use Rattle.ctf_types.specs.declared.base.Base.TheVariants.{Dec}
-use Rattle.ctf_types.specs.declared.byte_order.ByteOrder.TheVariants.{Little, Big}
-use Rattle.ctf_types.specs.declared.field_type.FieldType.TheVariants.{Int}
-use Rattle.ctf_types.specs.declared.int_type.IntType.{IntType}
+use Rattle.ctf_types.specs.declared.Base.TheVariants.{Dec}
+use Rattle.ctf_types.specs.declared.ByteOrder.TheVariants.{Little, Big}
+use Rattle.ctf_types.specs.declared.FieldType.TheVariants.{Int}
+use Rattle.ctf_types.specs.declared.IntType.{IntType}
 use Rattle.ctf_types.specs.Alignment.{up}
 use Rattle.ctf_types.specs.Bits.{bit_of, number_of, number_at}
 use Rattle.ctf_types.specs.Datum.{Unsigned}

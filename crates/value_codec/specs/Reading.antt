@@ -4,20 +4,20 @@
 -- A string that begins before the limit and has no zero byte up to it is `NoTerminator`. The answer is the first fault, in the order of the fields.
 use Rattle.std.specs.Prelude.{◌≡◌, ℕ, ◌+◌, ◌-◌, ◌/◌, List, [], ◌∷◌, ◌++◌, Result, Ok, Err, if◌then◌else◌, nat_le, nat_lt, nat_eq}
 use Rattle.std.proofs.Common.{suc, zero}
-use Rattle.ctf_types.specs.declared.byte_order.ByteOrder.{ByteOrder}
-use Rattle.ctf_types.specs.declared.int_type.IntType.{IntType}
-use Rattle.ctf_types.specs.declared.member_type.Length.{Length}
-use Rattle.ctf_types.specs.declared.member_type.Length.TheVariants.{Auto, At}
-use Rattle.ctf_types.specs.declared.member_type.MemberType.{MemberType}
-use Rattle.ctf_types.specs.declared.member_type.MemberType.TheVariants.{Plain, Dyn}
-use Rattle.ctf_types.specs.declared.struct_type.StructType.{StructType}
+use Rattle.ctf_types.specs.declared.ByteOrder.{ByteOrder}
+use Rattle.ctf_types.specs.declared.IntType.{IntType}
+use Rattle.ctf_types.specs.declared.Length.{Length}
+use Rattle.ctf_types.specs.declared.Length.TheVariants.{Auto, At}
+use Rattle.ctf_types.specs.declared.MemberType.{MemberType}
+use Rattle.ctf_types.specs.declared.MemberType.TheVariants.{Plain, Dyn}
+use Rattle.ctf_types.specs.declared.StructType.{StructType}
 use Rattle.ctf_types.specs.Alignment.{up}
 use Rattle.ctf_types.specs.Bits.{number_at}
 use Rattle.ctf_types.specs.Chain.{Leaf, Number, Labelled, ByteString}
 use Rattle.ctf_types.specs.Datum.{Datum, Text, Many, items_of}
 use Rattle.ctf_types.specs.FieldTypes.{chain_of}
 use Rattle.ctf_types.specs.Layout.{leaf_align, largest_align, value_of, count_at}
-use Rattle.ctf_types.specs.declared.value.Value.{Value}
+use Rattle.ctf_types.specs.declared.Value.{Value}
 use Rattle.ctf_types.specs.Values.{datum_of}
 use Rattle.value_codec.specs.declared.read_fault.ReadFault.{ReadFault}
 use Rattle.value_codec.specs.declared.read_fault.ReadFault.TheVariants.{PastEnd, NoTerminator, OutOfMemory}

@@ -1,5 +1,5 @@
 use Rattle.std.proofs.Common.{◌+◌, ◌*◌, set, arith}
-use Rattle.ctf_types.specs.declared.byte_order.ByteOrder.{ByteOrder}
+use Rattle.ctf_types.specs.declared.ByteOrder.{ByteOrder}
 use Rattle.ctf_types.specs.Bits.{bit_of}
 use Rattle.bit_codec.proofs.BitLaws.{AreZero-zero_byte, SameOutside-set}
 use Rattle.bit_codec.proofs.SpanLaws.{AreZero-none, AreZero-grow, SameOutside-none, SameOutside-then}

@@ -1,5 +1,5 @@
 use Rattle.std.proofs.Common.{◌*◌}
-use Rattle.ctf_types.specs.declared.byte_order.ByteOrder.{ByteOrder}
+use Rattle.ctf_types.specs.declared.ByteOrder.{ByteOrder}
 use Rattle.ctf_types.specs.Bits.{bit_of, AreZero, SameOutside}
 use Rattle.bit_codec.proofs.zero.zero_bytes.Given as goal
 

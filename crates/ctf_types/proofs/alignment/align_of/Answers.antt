@@ -1,5 +1,5 @@
 use Rattle.std.proofs.Common.{ap, sym, subst, ◌∙◌, max, drop, suc, add-one, arith}
-use Rattle.ctf_types.specs.Alignment.{IsAlignment}
+use Rattle.data_types.specs.Alignment.{IsAlignment}
 use Rattle.ctf_types.specs.Layout.{largest_align}
 use Rattle.ctf_types.proofs.SizesLemmas.{largest_turn, largest_end, larger_alignment}
 use Rattle.ctf_types.proofs.alignment.align_of.Goals as goal

@@ -1,5 +1,5 @@
 use Rattle.std.proofs.Common.{◌≡◌, drop}
-use Rattle.ctf_types.specs.Alignment.{IsAlignment}
+use Rattle.data_types.specs.Alignment.{IsAlignment}
 use Rattle.ctf_types.specs.Layout.{largest_align, struct_align}
 use Rattle.ctf_types.proofs.alignment.align_of.Given as goal
 

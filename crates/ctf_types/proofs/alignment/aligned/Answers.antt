@@ -1,5 +1,5 @@
 use Rattle.std.proofs.Common.{arith}
-use Rattle.ctf_types.specs.Alignment.{up}
+use Rattle.data_types.specs.Alignment.{up}
 use Rattle.ctf_types.proofs.SizesLemmas.{up_over}
 use Rattle.ctf_types.proofs.alignment.aligned.Goals as goal
 

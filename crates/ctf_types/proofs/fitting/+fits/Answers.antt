@@ -1,9 +1,9 @@
 use Rattle.std.proofs.Common.{◌≡◌, true, false, arith, drop, length, nat_eq, suc, add-one, sym, ap, ◌∙◌}
 use Rattle.std.proofs.lemmas.List.{length-map}
 use Rattle.std.proofs.lemmas.Bool.Decides.{nat_tests}
-use Rattle.ctf_types.specs.FieldTypes.{chain_of}
+use Rattle.data_types.specs.FieldTypes.{chain_of}
 use Rattle.ctf_types.specs.Faults.{field_fault, first_fault, elements_fault}
-use Rattle.ctf_types.specs.Values.{data_of, datum_of}
+use Rattle.data_types.specs.Values.{data_of, datum_of}
 use Rattle.ctf_types.proofs.SizesLemmas.{datum_first}
 use Rattle.ctf_types.proofs.FittingLemmas.{first_fault_turn, first_fault_end, err_is, or_here, or_later, static_fault, length_passes, length_fails}
 use Rattle.ctf_types.proofs.fitting.+fits.Goals as goal

@@ -1,7 +1,7 @@
 use Rattle.std.proofs.Common.{◌≡◌, drop}
 use Rattle.ctf_types.specs.Faults.{field_fault, first_fault}
-use Rattle.ctf_types.specs.FieldTypes.{chain_of}
-use Rattle.ctf_types.specs.Values.{data_of}
+use Rattle.data_types.specs.FieldTypes.{chain_of}
+use Rattle.data_types.specs.Values.{data_of}
 use Rattle.ctf_types.proofs.fitting.+fits.Given as goal
 
 abbrev pub invariant-elements_fit-loop-value : goal.invariant-elements_fit-loop-value

@@ -1,8 +1,8 @@
 use Rattle.std.proofs.Common.{Err, refl, sym, ◌∙◌}
 use Rattle.std.specs.Option.{option_or}
-use Rattle.ctf_types.specs.declared.arg_fault.ArgFault.TheVariants.{NoSuchEvent}
+use Rattle.data_types.specs.declared.arg_fault.ArgFault.TheVariants.{NoSuchEvent}
 use Rattle.ctf_types.specs.Faults.{struct_fault, call_fault}
-use Rattle.ctf_types.specs.Values.{data_of}
+use Rattle.data_types.specs.Values.{data_of}
 use Rattle.ctf_types.proofs.FittingLemmas.{call_none, ok_none, err_is, or_here, or_later, no_event_fault, event_faults}
 use Rattle.ctf_types.proofs.fitting.call_faults.Goals as goal
 

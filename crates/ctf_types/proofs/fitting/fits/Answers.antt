@@ -1,9 +1,9 @@
 use Rattle.std.proofs.Common.{◌≡◌, Ok, Err, true, false, length, drop, nat_eq, suc, add-one, sym, ◌∙◌, arith}
 use Rattle.std.proofs.lemmas.Bool.Decides.{nat_tests}
 use Rattle.std.proofs.lemmas.List.{length-map}
-use Rattle.ctf_types.specs.declared.arg_fault.ArgFault.TheVariants.{Count}
+use Rattle.data_types.specs.declared.arg_fault.ArgFault.TheVariants.{Count}
 use Rattle.ctf_types.specs.Faults.{member_fault, members_fault, struct_fault}
-use Rattle.ctf_types.specs.Values.{data_of, datum_of}
+use Rattle.data_types.specs.Values.{data_of, datum_of}
 use Rattle.ctf_types.proofs.SizesLemmas.{datum_first}
 use Rattle.ctf_types.proofs.FittingLemmas.{struct_none, ok_none, err_is, or_here, or_later, members_fault_turn, members_fault_end, count_fails, count_passes}
 use Rattle.ctf_types.proofs.fitting.fits.Goals as goal

@@ -1,6 +1,6 @@
 use Rattle.std.proofs.Common.{◌≡◌, drop}
 use Rattle.ctf_types.specs.Faults.{members_fault}
-use Rattle.ctf_types.specs.Values.{data_of}
+use Rattle.data_types.specs.Values.{data_of}
 use Rattle.ctf_types.proofs.fitting.fits.Given as goal
 
 abbrev pub invariant-loop-index : goal.invariant-loop-index

@@ -1,8 +1,8 @@
 use Rattle.std.proofs.Common.{◌≡◌, ◌^◌, true, false, length, nat_lt, sym, ap, ◌∙◌, arith}
 use Rattle.std.proofs.lemmas.Bool.Decides.{nat_tests}
-use Rattle.ctf_types.specs.FieldTypes.{chain_of}
+use Rattle.data_types.specs.FieldTypes.{chain_of}
 use Rattle.ctf_types.specs.Faults.{field_fault, elements_fault, member_fault}
-use Rattle.ctf_types.specs.Values.{datum_of}
+use Rattle.data_types.specs.Values.{datum_of}
 use Rattle.ctf_types.proofs.FittingLemmas.{dyn_fault, length_passes, length_fails}
 use Rattle.ctf_types.proofs.fitting.member_fits.Goals as goal
 

@@ -1,4 +1,4 @@
-use Rattle.ctf_types.specs.FieldTypes.{chain_of}
+use Rattle.data_types.specs.FieldTypes.{chain_of}
 use Rattle.ctf_types.specs.Layout.{AnyBits}
 use Rattle.ctf_types.proofs.Unique.{field_one, struct_one, packet_one}
 use Rattle.ctf_types.proofs.laws.one_value.Goals as goal

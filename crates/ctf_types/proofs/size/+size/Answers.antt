@@ -1,9 +1,9 @@
 use Rattle.std.proofs.Common.{◌≤◌, ◌^◌, length, drop, suc, add-one, sym, ap, subst, ◌∙◌, arith}
 use Rattle.std.proofs.lemmas.List.{length-map}
-use Rattle.ctf_types.specs.Alignment.{up}
-use Rattle.ctf_types.specs.FieldTypes.{chain_of}
+use Rattle.data_types.specs.Alignment.{up}
+use Rattle.data_types.specs.FieldTypes.{chain_of}
 use Rattle.ctf_types.specs.Layout.{elements_in, end_all, field_end, leaf_align, leaf_end}
-use Rattle.ctf_types.specs.Values.{data_of, datum_of}
+use Rattle.data_types.specs.Values.{data_of, datum_of}
 use Rattle.ctf_types.proofs.SizesLemmas.{past_over, array_is, array_over, all_over, all_turn, all_spent, field_over, datum_first, static_size}
 use Rattle.ctf_types.proofs.size.+size.Goals as goal
 

@@ -1,8 +1,8 @@
 use Rattle.std.proofs.Common.{◌≡◌, ◌≤◌, ◌^◌, drop}
-use Rattle.ctf_types.specs.Alignment.{up}
-use Rattle.ctf_types.specs.FieldTypes.{chain_of}
+use Rattle.data_types.specs.Alignment.{up}
+use Rattle.data_types.specs.FieldTypes.{chain_of}
 use Rattle.ctf_types.specs.Layout.{end_all, field_end, leaf_align}
-use Rattle.ctf_types.specs.Values.{data_of}
+use Rattle.data_types.specs.Values.{data_of}
 use Rattle.ctf_types.proofs.size.+size.Given as goal
 
 abbrev pub invariant-array_size-loop-inner : goal.invariant-array_size-loop-inner

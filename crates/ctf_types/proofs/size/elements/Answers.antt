@@ -1,5 +1,5 @@
 use Rattle.std.proofs.Common.{sym, ◌∙◌}
-use Rattle.ctf_types.specs.Datum.{data_in-items_of}
+use Rattle.data_types.specs.Datum.{data_in-items_of}
 use Rattle.ctf_types.proofs.size.elements.Goals as goal
 
 pub returns-in-List : goal.returns-in-List

@@ -1,8 +1,8 @@
 use Rattle.std.proofs.Common.{◌+◌, ◌∷◌, length, ap, sym}
-use Rattle.ctf_types.specs.Alignment.{up}
-use Rattle.ctf_types.specs.FieldTypes.{chain_of}
+use Rattle.data_types.specs.Alignment.{up}
+use Rattle.data_types.specs.FieldTypes.{chain_of}
 use Rattle.ctf_types.specs.Layout.{elements_in, field_end, member_end}
-use Rattle.ctf_types.specs.Values.{datum_of}
+use Rattle.data_types.specs.Values.{datum_of}
 use Rattle.ctf_types.proofs.SizesLemmas.{past_over, same_end, field_over, auto_is, named_is}
 use Rattle.ctf_types.proofs.size.member_size.Goals as goal
 

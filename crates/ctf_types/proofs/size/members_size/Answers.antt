@@ -1,7 +1,7 @@
 use Rattle.std.proofs.Common.{◌≤◌, ◌^◌, drop, suc, add-one, sym, ap, subst, ◌∙◌, arith}
 use Rattle.std.proofs.lemmas.List.{length-map}
 use Rattle.ctf_types.specs.Layout.{member_end, members_end}
-use Rattle.ctf_types.specs.Values.{data_of, datum_of}
+use Rattle.data_types.specs.Values.{data_of, datum_of}
 use Rattle.ctf_types.proofs.SizesLemmas.{past_over, members_over, members_turn, members_none, members_spent, datum_first}
 use Rattle.ctf_types.proofs.size.members_size.Goals as goal
 

@@ -1,6 +1,6 @@
 use Rattle.std.proofs.Common.{◌≡◌, ◌≤◌, ◌^◌, drop}
 use Rattle.ctf_types.specs.Layout.{members_end}
-use Rattle.ctf_types.specs.Values.{data_of}
+use Rattle.data_types.specs.Values.{data_of}
 use Rattle.ctf_types.proofs.size.members_size.Given as goal
 
 abbrev pub invariant-loop-value : goal.invariant-loop-value

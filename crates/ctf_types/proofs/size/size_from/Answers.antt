@@ -1,8 +1,8 @@
 use Rattle.std.proofs.Common.{sym, ap, ◌∙◌}
 use Rattle.std.proofs.lemmas.Bool.{false≢true}
-use Rattle.ctf_types.specs.Alignment.{up}
+use Rattle.data_types.specs.Alignment.{up}
 use Rattle.ctf_types.specs.Layout.{members_end, struct_align}
-use Rattle.ctf_types.specs.Values.{data_of}
+use Rattle.data_types.specs.Values.{data_of}
 use Rattle.ctf_types.proofs.SizesLemmas.{past_over, same_end, members_over, struct_empty, struct_filled}
 use Rattle.ctf_types.proofs.size.size_from.Goals as goal
 

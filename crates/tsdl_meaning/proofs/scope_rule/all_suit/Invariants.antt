@@ -1,5 +1,5 @@
 use Rattle.std.proofs.Common.{◌≡◌, ℕ, ◌<◌, true, List, get_or}
-use Rattle.ctf_types.specs.declared.member_type.MemberType.{MemberType}
+use Rattle.ctf_types.specs.declared.MemberType.{MemberType}
 use Rattle.tsdl_meaning.specs.ScopeRules.{suits_rule}
 use Rattle.tsdl_meaning.proofs.scope_rule.all_suit.Given as goal
 

@@ -1,5 +1,5 @@
 use Rattle.std.proofs.Common.{All, subst}
-use Rattle.ctf_types.specs.declared.environment.EnvironmentEntry.{EnvironmentEntry}
+use Rattle.ctf_types.specs.declared.EnvironmentEntry.{EnvironmentEntry}
 use Rattle.tsdl_writer.specs.Held.{IsHeldValue, IsHeldClock, IsHeldStream}
 use Rattle.tsdl_writer.proofs.held.config_is_held.Goals as goal
 

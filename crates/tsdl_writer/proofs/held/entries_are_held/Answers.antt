@@ -1,4 +1,4 @@
-use Rattle.ctf_types.specs.declared.environment.EnvironmentEntry.{EnvironmentEntry}
+use Rattle.ctf_types.specs.declared.EnvironmentEntry.{EnvironmentEntry}
 use Rattle.tsdl_writer.specs.Held.{IsHeldValue}
 use Rattle.tsdl_writer.proofs.Walks.{all_more, all_met}
 use Rattle.tsdl_writer.proofs.held.entries_are_held.Goals as goal

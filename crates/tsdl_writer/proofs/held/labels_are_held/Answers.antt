@@ -1,5 +1,5 @@
 use Rattle.std.specs.Str.{IsUtf8}
-use Rattle.ctf_types.specs.declared.enum_type.Mapping.{Mapping}
+use Rattle.ctf_types.specs.declared.Mapping.{Mapping}
 use Rattle.tsdl_writer.proofs.Walks.{all_more, all_met}
 use Rattle.tsdl_writer.proofs.held.labels_are_held.Goals as goal
 

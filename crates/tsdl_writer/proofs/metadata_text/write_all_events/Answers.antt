@@ -1,7 +1,7 @@
 use Rattle.std.proofs.Common.{ℕ, List, refl, sym, ap, ◌∙◌, arith}
 use Rattle.std.specs.List.{flat_map}
 use Rattle.std.proofs.lemmas.List.{append-nil}
-use Rattle.ctf_types.specs.declared.config.EventType.{EventType}
+use Rattle.ctf_types.specs.declared.EventType.{EventType}
 use Rattle.tsdl_writer.specs.Layout.{spaced_block}
 use Rattle.tsdl_writer.specs.BlockTrees.{event_blocks}
 use Rattle.tsdl_writer.proofs.Appending.{more, said, numbered_more, numbered_all}

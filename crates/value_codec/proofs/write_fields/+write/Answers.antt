@@ -1,8 +1,8 @@
 -- Each kind of field, then an array, then its elements one after the other.
 use Rattle.std.proofs.Common.{◌≡◌, ℕ, suc, ◌+◌, ◌≤◌, length, drop, refl, sym, ap, ◌∙◌, subst, arith}
 use Rattle.ctf_types.proofs.Ends.{le-end_all, le-field_end}
-use Rattle.ctf_types.specs.declared.field_type.FieldType.{FieldType}
-use Rattle.ctf_types.specs.declared.field_type.FieldType.TheVariants.{Static}
+use Rattle.ctf_types.specs.declared.FieldType.{FieldType}
+use Rattle.ctf_types.specs.declared.FieldType.TheVariants.{Static}
 use Rattle.ctf_types.specs.Alignment.{up}
 use Rattle.ctf_types.specs.Bits.{AreZero}
 use Rattle.ctf_types.specs.Chain.{Chain}

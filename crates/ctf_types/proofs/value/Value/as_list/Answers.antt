@@ -1,6 +1,0 @@
-use Rattle.std.proofs.Common.{Some, ap, sym}
-use Rattle.ctf_types.specs.Datum.{data_in-items_of}
-use Rattle.ctf_types.proofs.value.Value.as_list.Goals as goal
-
-pub returns-in-List : goal.returns-in-List
-returns-in-List c = rw c.in-List.is (ap Some (sym (data_in-items_of c.in-List.values)))
