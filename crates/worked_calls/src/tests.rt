@@ -1,6 +1,8 @@
 //! A module a crate.
 
 mod codec;
+mod described;
+mod fixtures;
 mod inheritance;
 mod json_tree;
 mod metadata;

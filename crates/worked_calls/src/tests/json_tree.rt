@@ -1,73 +1,61 @@
+//! Worked rows of reading a tree and looking values up in it.
+
 use conf_tree::{
     At, ConfFault, FaultKind, flag, list, needed, object, optional_flag, optional_text,
     optional_whole, read_tree, whole,
 };
+use serde_json::Value;
 use std::alloc::{AllocError, Global};
 use std::fmt::Display;
+use std::process::Abort;
 use std::test::Fail;
 
-/// What a text is refused with, printed, or `tree`.
-fn verdict(alloc: Global, text: &[u8]) -> Result<String, AllocError> {
-    match read_tree(alloc, text) {
-        Ok(_) => String::from_str(alloc, "tree"),
-        Err(fault) => format!(in alloc; "{fault}"),
+/// What is looked up in a tree.
+#[derive(Clone, Copy)]
+enum Look {
+    /// Nothing.
+    Tree,
+    /// The property `a`, from 0 to 9.
+    Digit,
+    /// The property `a`, from -2^63 to 2^64 - 1, or -1 where it is not there.
+    NumberOrNone,
+    /// The first item, a flag.
+    FirstFlag,
+    /// The number of bytes of the text that the value is.
+    TextLen,
+    /// Whether the property `a` is there and a true flag, and the property `b` there and a text.
+    FlagAndText,
+}
+
+fn digit(alloc: Global, value: &Value) -> Result<i128, ConfFault> {
+    let members = object(alloc, At::Here, value)?;
+    let value = needed(alloc, members, "a")?;
+    whole(alloc, At::Property("a"), value, 0, 9)
+}
+
+fn number_or_none(alloc: Global, value: &Value) -> Result<i128, ConfFault> {
+    let members = object(alloc, At::Here, value)?;
+    let low = i128::from(i64::MIN);
+    let number = optional_whole(alloc, members, "a", low, i128::from(u64::MAX))?;
+    Ok(number.unwrap_or(-1))
+}
+
+fn first_flag(alloc: Global, value: &Value) -> Result<bool, ConfFault> {
+    match list(alloc, At::Here, value)?.first() {
+        Some(item) => flag(alloc, At::Item(0), item),
+        None => Ok(false),
     }
 }
 
-/// So many `[`, and as many `]`.
-fn brackets(alloc: Global, levels: usize) -> Result<Vec<u8>, AllocError> {
-    let mut text = Vec::new(alloc);
-    for _ in 0..levels {
-        text.push(b'[')?;
-    }
-    for _ in 0..levels {
-        text.push(b']')?;
-    }
-    Ok(text)
+fn text_len(alloc: Global, value: &Value) -> Result<usize, ConfFault> {
+    Ok(conf_tree::text(alloc, At::Here, value)?.len())
 }
 
-#[test]
-fn nests_32_levels(rt: HostRuntime) -> Result<(), Fail> {
-    let alloc = rt.alloc();
-    let rows = [
-        (32, "tree"),
-        (
-            33,
-            "0/0/0/0/0/0/0/0/0/0/0/0/0/0/0/0/0/0/0/0/0/0/0/0/0/0/0/0/0/0/0/0: nested too deep: expected at most 32 levels of objects and lists",
-        ),
-        (128, "not JSON: expected one JSON value in UTF-8"),
-    ];
-    for (levels, expected) in rows {
-        let text = brackets(alloc, levels)?;
-        let printed = verdict(alloc, text.as_slice())?;
-        assert_eq!(rt; printed.as_str(), expected, "{levels} levels");
-    }
-    Ok(())
-}
-
-#[test]
-fn refuses_at_the_first_place(rt: HostRuntime) -> Result<(), Fail> {
-    let alloc = rt.alloc();
-    let not_whole = "not a whole number: expected one of 64 bits, without fraction or exponent";
-    let not_json = "not JSON: expected one JSON value in UTF-8";
-    let rows: [(&[u8], &str, &str); 10] = [
-        (b"{\"trace\":1e3}", "trace: ", not_whole),
-        (b"{\"trace\":18446744073709551616}", "trace: ", not_whole),
-        (b"{\"trace\":18446744073709551615}", "tree", ""),
-        (b"{\"trace\":-0}", "trace: ", not_whole),
-        (b"[-9223372036854775809]", "0: ", not_whole),
-        (b"{\"b\":0.5,\"a\":[7,{\"c\":1.5}]}", "a/1/c: ", not_whole),
-        (b"0.5", "", not_whole),
-        (b"1e999", "", not_json),
-        (b"{", "", not_json),
-        (b"\"\xff\"", "", not_json),
-    ];
-    for (text, place, what) in rows {
-        let printed = verdict(alloc, text)?;
-        let expected = format!(in alloc; "{place}{what}")?;
-        assert_eq!(rt; printed.as_str(), expected.as_str());
-    }
-    Ok(())
+fn flag_and_text(alloc: Global, value: &Value) -> Result<bool, ConfFault> {
+    let members = object(alloc, At::Here, value)?;
+    let flag = optional_flag(alloc, members, "a")?;
+    let word = optional_text(alloc, members, "b")?;
+    Ok(flag.unwrap_or(false) && word.is_some())
 }
 
 /// What was read, or why it was refused.
@@ -81,222 +69,260 @@ fn printed<T: Display + Drop>(
     }
 }
 
-/// The property `a`, from 0 to 9.
-fn digit(alloc: Global, text: &[u8]) -> Result<i128, ConfFault> {
-    let tree = read_tree(alloc, text)?;
-    let members = object(alloc, At::Here, &tree.value)?;
-    let value = needed(alloc, members, "a")?;
-    whole(alloc, At::Property("a"), value, 0, 9)
-}
-
-/// The property `a`, from -2^63 to 2^64 - 1, or -1 where it is not there.
-fn number_or_none(alloc: Global, text: &[u8]) -> Result<i128, ConfFault> {
-    let tree = read_tree(alloc, text)?;
-    let members = object(alloc, At::Here, &tree.value)?;
-    let low = i128::from(i64::MIN);
-    let number = optional_whole(alloc, members, "a", low, i128::from(u64::MAX))?;
-    Ok(number.unwrap_or(-1))
-}
-
-/// The first item, a flag.
-fn first_flag(alloc: Global, text: &[u8]) -> Result<bool, ConfFault> {
-    let tree = read_tree(alloc, text)?;
-    let items = list(alloc, At::Here, &tree.value)?;
-    match items.first() {
-        Some(item) => flag(alloc, At::Item(0), item),
-        None => Ok(false),
+fn looked_up(alloc: Global, look: Look, value: &Value) -> Result<String, AllocError> {
+    match look {
+        Look::Tree => String::from_str(alloc, "tree"),
+        Look::Digit => printed(alloc, digit(alloc, value)),
+        Look::NumberOrNone => printed(alloc, number_or_none(alloc, value)),
+        Look::FirstFlag => printed(alloc, first_flag(alloc, value)),
+        Look::TextLen => printed(alloc, text_len(alloc, value)),
+        Look::FlagAndText => printed(alloc, flag_and_text(alloc, value)),
     }
 }
 
-/// The number of bytes of the text that the value is.
-fn text_len(alloc: Global, text: &[u8]) -> Result<usize, ConfFault> {
-    let tree = read_tree(alloc, text)?;
-    let word = conf_tree::text(alloc, At::Here, &tree.value)?;
-    Ok(word.len())
+fn read(alloc: Global, look: Look, text: &[u8]) -> Result<String, AllocError> {
+    match read_tree(alloc, text) {
+        Ok(tree) => looked_up(alloc, look, &tree.value),
+        Err(fault) => format!(in alloc; "{fault}"),
+    }
 }
 
-/// Whether the property `a` is there and a true flag, and the property `b` there and a text.
-fn flag_and_text(alloc: Global, text: &[u8]) -> Result<bool, ConfFault> {
-    let tree = read_tree(alloc, text)?;
-    let members = object(alloc, At::Here, &tree.value)?;
-    let flag = optional_flag(alloc, members, "a")?;
-    let word = optional_text(alloc, members, "b")?;
-    Ok(flag.unwrap_or(false) && word.is_some())
+fn are_read(
+    rt: &impl Abort,
+    alloc: Global,
+    look: Look,
+    rows: &[(&[u8], &str)],
+) -> Result<(), Fail> {
+    for (text, expected) in rows {
+        let found = read(alloc, look, text)?;
+        assert_eq!(rt; found.as_str(), *expected, "{text:?}");
+    }
+    Ok(())
 }
+
+/// So many `[` and as many `]`, and what is read.
+static LEVELS: &[(usize, &str)] = &[
+    (32, "tree"),
+    (
+        33,
+        "0/0/0/0/0/0/0/0/0/0/0/0/0/0/0/0/0/0/0/0/0/0/0/0/0/0/0/0/0/0/0/0: nested too deep: expected at most 32 levels of objects and lists",
+    ),
+    (128, "not JSON: expected one JSON value in UTF-8"),
+];
+
+#[test]
+fn nests_32_levels(rt: HostRuntime) -> Result<(), Fail> {
+    for (levels, expected) in LEVELS {
+        let mut text = "[".repeat(rt.alloc(), *levels)?;
+        text.push_str("]".repeat(rt.alloc(), *levels)?.as_str())?;
+        let found = read(rt.alloc(), Look::Tree, text.as_str().as_bytes())?;
+        assert_eq!(rt; found.as_str(), *expected, "{levels} levels");
+    }
+    Ok(())
+}
+
+const NOT_JSON: &str = "not JSON: expected one JSON value in UTF-8";
 
 const WRONG_KIND: &str = "wrong kind of value: expected the kind that this place asks for";
 
-const MISSING: &str = "property is missing: expected a value here";
+static TREES: &[(&[u8], &str)] = &[
+    (
+        b"{\"trace\":1e3}",
+        "trace: not a whole number: expected one of 64 bits, without fraction or exponent",
+    ),
+    (
+        b"{\"trace\":18446744073709551616}",
+        "trace: not a whole number: expected one of 64 bits, without fraction or exponent",
+    ),
+    (b"{\"trace\":18446744073709551615}", "tree"),
+    (
+        b"{\"trace\":-0}",
+        "trace: not a whole number: expected one of 64 bits, without fraction or exponent",
+    ),
+    (
+        b"[-9223372036854775809]",
+        "0: not a whole number: expected one of 64 bits, without fraction or exponent",
+    ),
+    (
+        b"{\"b\":0.5,\"a\":[7,{\"c\":1.5}]}",
+        "a/1/c: not a whole number: expected one of 64 bits, without fraction or exponent",
+    ),
+    (
+        b"0.5",
+        "not a whole number: expected one of 64 bits, without fraction or exponent",
+    ),
+    (b"1e999", NOT_JSON),
+    (b"{", NOT_JSON),
+    (b"\"\xff\"", NOT_JSON),
+];
 
-const OUT_OF_RANGE: &str = "value out of range: expected one that this place allows";
+#[test]
+fn refuses_at_the_first_place(rt: HostRuntime) -> Result<(), Fail> {
+    are_read(&rt, rt.alloc(), Look::Tree, TREES)
+}
+
+static DIGITS: &[(&[u8], &str)] = &[
+    (b"{\"a\":1,\"a\":2}", "2"),
+    (b"{\"a\":9,\"b\":8}", "9"),
+    (
+        b"{\"a\":10}",
+        "a: value out of range: expected one that this place allows",
+    ),
+    (
+        b"{\"a\":null}",
+        "a: wrong kind of value: expected the kind that this place asks for",
+    ),
+    (
+        b"{\"b\":1}",
+        "a: property is missing: expected a value here",
+    ),
+    (b"[1]", WRONG_KIND),
+    (b"7", WRONG_KIND),
+];
 
 #[test]
 fn reads_needed_properties(rt: HostRuntime) -> Result<(), Fail> {
-    let alloc = rt.alloc();
-    let rows: [(&[u8], &str, &str); 7] = [
-        (b"{\"a\":1,\"a\":2}", "", "2"),
-        (b"{\"a\":9,\"b\":8}", "", "9"),
-        (b"{\"a\":10}", "a: ", OUT_OF_RANGE),
-        (b"{\"a\":null}", "a: ", WRONG_KIND),
-        (b"{\"b\":1}", "a: ", MISSING),
-        (b"[1]", "", WRONG_KIND),
-        (b"7", "", WRONG_KIND),
-    ];
-    for (text, place, what) in rows {
-        let found = printed(alloc, digit(alloc, text))?;
-        let expected = format!(in alloc; "{place}{what}")?;
-        assert_eq!(rt; found.as_str(), expected.as_str());
-    }
-    Ok(())
+    are_read(&rt, rt.alloc(), Look::Digit, DIGITS)
 }
+
+static NUMBERS: &[(&[u8], &str)] = &[
+    (b"{}", "-1"),
+    (b"{\"a\":null}", "-1"),
+    (b"{\"a\":18446744073709551615}", "18446744073709551615"),
+    (b"{\"a\":-9223372036854775808}", "-9223372036854775808"),
+    (
+        b"{\"a\":\"1\"}",
+        "a: wrong kind of value: expected the kind that this place asks for",
+    ),
+];
 
 #[test]
 fn reads_optional_properties(rt: HostRuntime) -> Result<(), Fail> {
-    let alloc = rt.alloc();
-    let rows: [(&[u8], &str, &str); 5] = [
-        (b"{}", "", "-1"),
-        (b"{\"a\":null}", "", "-1"),
-        (b"{\"a\":18446744073709551615}", "", "18446744073709551615"),
-        (b"{\"a\":-9223372036854775808}", "", "-9223372036854775808"),
-        (b"{\"a\":\"1\"}", "a: ", WRONG_KIND),
-    ];
-    for (text, place, what) in rows {
-        let found = printed(alloc, number_or_none(alloc, text))?;
-        let expected = format!(in alloc; "{place}{what}")?;
-        assert_eq!(rt; found.as_str(), expected.as_str());
-    }
-    Ok(())
+    are_read(&rt, rt.alloc(), Look::NumberOrNone, NUMBERS)
 }
+
+static FLAGS: &[(&[u8], &str)] = &[
+    (b"[true,1]", "true"),
+    (
+        b"[1]",
+        "0: wrong kind of value: expected the kind that this place asks for",
+    ),
+    (b"{}", WRONG_KIND),
+];
+
+static TEXTS: &[(&[u8], &str)] = &[(b"\"four\"", "4"), (b"4", WRONG_KIND)];
+
+static FLAGS_AND_TEXTS: &[(&[u8], &str)] = &[
+    (b"{\"a\":true,\"b\":\"\"}", "true"),
+    (b"{\"a\":null,\"b\":\"\"}", "false"),
+    (
+        b"{\"a\":0}",
+        "a: wrong kind of value: expected the kind that this place asks for",
+    ),
+    (
+        b"{\"b\":0}",
+        "b: wrong kind of value: expected the kind that this place asks for",
+    ),
+];
 
 #[test]
 fn reads_lists_flags_and_texts(rt: HostRuntime) -> Result<(), Fail> {
-    let alloc = rt.alloc();
-    let rows = [
-        (printed(alloc, first_flag(alloc, b"[true,1]"))?, "", "true"),
-        (
-            printed(alloc, first_flag(alloc, b"[1]"))?,
-            "0: ",
-            WRONG_KIND,
-        ),
-        (printed(alloc, first_flag(alloc, b"{}"))?, "", WRONG_KIND),
-        (printed(alloc, text_len(alloc, b"\"four\""))?, "", "4"),
-        (printed(alloc, text_len(alloc, b"4"))?, "", WRONG_KIND),
-        (
-            printed(alloc, flag_and_text(alloc, b"{\"a\":true,\"b\":\"\"}"))?,
-            "",
-            "true",
-        ),
-        (
-            printed(alloc, flag_and_text(alloc, b"{\"a\":null,\"b\":\"\"}"))?,
-            "",
-            "false",
-        ),
-        (
-            printed(alloc, flag_and_text(alloc, b"{\"a\":0}"))?,
-            "a: ",
-            WRONG_KIND,
-        ),
-        (
-            printed(alloc, flag_and_text(alloc, b"{\"b\":0}"))?,
-            "b: ",
-            WRONG_KIND,
-        ),
-    ];
-    for (found, place, what) in &rows {
-        let expected = format!(in alloc; "{place}{what}")?;
-        assert_eq!(rt; found.as_str(), expected.as_str());
-    }
-    Ok(())
+    are_read(&rt, rt.alloc(), Look::FirstFlag, FLAGS)?;
+    are_read(&rt, rt.alloc(), Look::TextLen, TEXTS)?;
+    are_read(&rt, rt.alloc(), Look::FlagAndText, FLAGS_AND_TEXTS)
 }
+
+/// Each kind as it prints at a place.
+static KINDS: &[(FaultKind, &str)] = &[
+    (
+        FaultKind::NotJson,
+        "members/12: not JSON: expected one JSON value in UTF-8",
+    ),
+    (
+        FaultKind::TooDeep,
+        "members/12: nested too deep: expected at most 32 levels of objects and lists",
+    ),
+    (
+        FaultKind::WrongKind,
+        "members/12: wrong kind of value: expected the kind that this place asks for",
+    ),
+    (
+        FaultKind::NotWhole,
+        "members/12: not a whole number: expected one of 64 bits, without fraction or exponent",
+    ),
+    (
+        FaultKind::Missing,
+        "members/12: property is missing: expected a value here",
+    ),
+    (
+        FaultKind::Unknown,
+        "members/12: unknown property: expected only the ones that this object can have",
+    ),
+    (
+        FaultKind::NoSuchAlias,
+        "members/12: no such alias: expected the name of an alias of this configuration",
+    ),
+    (
+        FaultKind::InheritCycle,
+        "members/12: alias inherits from itself: expected a chain of aliases that ends",
+    ),
+    (
+        FaultKind::OutOfRange,
+        "members/12: value out of range: expected one that this place allows",
+    ),
+    (
+        FaultKind::BadName,
+        "members/12: bad name: expected a letter or `_`, then letters, digits or `_`, 255 bytes at most",
+    ),
+    (
+        FaultKind::ReservedName,
+        "members/12: reserved word: expected a name that the metadata language does not use itself",
+    ),
+    (
+        FaultKind::NameClash,
+        "members/12: name is taken: expected one that nothing else in this structure has",
+    ),
+    (
+        FaultKind::FieldTooSmall,
+        "members/12: field is too small: expected room for the largest number that it must hold",
+    ),
+    (
+        FaultKind::ZeroSizeRecord,
+        "members/12: event record without bits: expected an integer, an enumeration or a string in it",
+    ),
+    (
+        FaultKind::NoClock,
+        "members/12: no clock: expected a default clock type that the trace type has",
+    ),
+    (
+        FaultKind::NoUuid,
+        "members/12: no UUID: expected one for this trace",
+    ),
+    (
+        FaultKind::Limit,
+        "members/12: past a limit of size: expected fewer or smaller parts",
+    ),
+    (
+        FaultKind::TwoOrders,
+        "members/12: two byte orders: expected only one of `trace-byte-order` and `native-byte-order`",
+    ),
+    (
+        FaultKind::TimestampSize,
+        "members/12: timestamp field of a wrong size: expected one that can tell the times of this stream",
+    ),
+    // the place of want of memory says nothing
+    (FaultKind::OutOfMemory, "out of memory"),
+];
 
 #[test]
 fn prints_each_kind_at_its_place(rt: HostRuntime) -> Result<(), Fail> {
     let alloc = rt.alloc();
-    let rows = [
-        (
-            FaultKind::NotJson,
-            "not JSON: expected one JSON value in UTF-8",
-        ),
-        (
-            FaultKind::TooDeep,
-            "nested too deep: expected at most 32 levels of objects and lists",
-        ),
-        (
-            FaultKind::WrongKind,
-            "wrong kind of value: expected the kind that this place asks for",
-        ),
-        (
-            FaultKind::NotWhole,
-            "not a whole number: expected one of 64 bits, without fraction or exponent",
-        ),
-        (
-            FaultKind::Missing,
-            "property is missing: expected a value here",
-        ),
-        (
-            FaultKind::Unknown,
-            "unknown property: expected only the ones that this object can have",
-        ),
-        (
-            FaultKind::NoSuchAlias,
-            "no such alias: expected the name of an alias of this configuration",
-        ),
-        (
-            FaultKind::InheritCycle,
-            "alias inherits from itself: expected a chain of aliases that ends",
-        ),
-        (
-            FaultKind::OutOfRange,
-            "value out of range: expected one that this place allows",
-        ),
-        (
-            FaultKind::BadName,
-            "bad name: expected a letter or `_`, then letters, digits or `_`, 255 bytes at most",
-        ),
-        (
-            FaultKind::ReservedName,
-            "reserved word: expected a name that the metadata language does not use itself",
-        ),
-        (
-            FaultKind::NameClash,
-            "name is taken: expected one that nothing else in this structure has",
-        ),
-        (
-            FaultKind::FieldTooSmall,
-            "field is too small: expected room for the largest number that it must hold",
-        ),
-        (
-            FaultKind::ZeroSizeRecord,
-            "event record without bits: expected an integer, an enumeration or a string in it",
-        ),
-        (
-            FaultKind::NoClock,
-            "no clock: expected a default clock type that the trace type has",
-        ),
-        (FaultKind::NoUuid, "no UUID: expected one for this trace"),
-        (
-            FaultKind::Limit,
-            "past a limit of size: expected fewer or smaller parts",
-        ),
-        (
-            FaultKind::TwoOrders,
-            "two byte orders: expected only one of `trace-byte-order` and `native-byte-order`",
-        ),
-        (
-            FaultKind::TimestampSize,
-            "timestamp field of a wrong size: expected one that can tell the times of this stream",
-        ),
-    ];
-    for (kind, what) in rows {
-        let fault = ConfFault::here(kind)
+    for (kind, expected) in KINDS {
+        let fault = ConfFault::here(*kind)
             .inside(12)
             .in_property(alloc, "members");
-        let printed = format!(in alloc; "{fault}")?;
-        let expected = format!(in alloc; "members/12: {what}")?;
-        assert_eq!(rt; printed.as_str(), expected.as_str());
+        let found = format!(in alloc; "{fault}")?;
+        assert_eq!(rt; found.as_str(), *expected);
     }
-    let fault = ConfFault::here(FaultKind::OutOfMemory).inside(12);
-    let printed = format!(in alloc; "{fault}")?;
-    assert_eq!(rt; printed.as_str(), "out of memory");
     Ok(())
 }

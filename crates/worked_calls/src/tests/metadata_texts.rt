@@ -1,106 +1,28 @@
 //! The texts of two configurations, word for word.
 
-use ctf_types::{
-    Base, ByteOrder, ClockType, Config, ContextFeatures, Element, EnumType, EnvironmentEntry,
-    EnvironmentValue, EventFeatures, EventType, FieldType, HeaderFeatures, IntType, Length, ListOf,
-    Mapping, MemberType, Members, StreamType, StructType, Text,
-};
+use crate::tests::fixtures::configured;
 use std::alloc::Global;
+use std::process::Abort;
 use std::test::Fail;
 use tsdl_writer::write_metadata;
-use uuid::Uuid;
 
-fn int(size: u8, align: u32, signed: bool, base: Base) -> Result<IntType, Fail> {
-    Ok(IntType::new(size, align, signed, base).ok_or("no such integer")?)
-}
-
-fn mapped(alloc: Global, size: u8, clock: &str) -> Result<IntType, Fail> {
-    Ok(int(size, 8, false, Base::Dec)?.with_clock(Text::from_str(alloc, clock)?))
-}
-
-fn structure(members: Members, min_align: u32) -> Result<StructType, Fail> {
-    Ok(StructType::new(members, min_align).ok_or("no such alignment")?)
-}
-
-fn no_structure(alloc: Global) -> Result<StructType, Fail> {
-    structure(Members::new(alloc), 1)
-}
-
-fn with(
+/// The metadata of a configuration is this text.
+fn is_written(
+    rt: &impl Abort,
     alloc: Global,
-    mut members: Members,
-    name: &str,
-    member: MemberType,
-) -> Result<Members, Fail> {
-    if members.contains(name) {
-        return Err("a name twice".into());
-    }
-    let name = Text::from_str(alloc, name)?;
-    members.push(name, member)?;
-    Ok(members)
+    configuration: &str,
+    expected: &str,
+) -> Result<(), Fail> {
+    let text = write_metadata(alloc, &configured(alloc, configuration)?)?;
+    assert_eq!(rt; text.as_str(), expected);
+    Ok(())
 }
 
-fn of_one(
-    alloc: Global,
-    name: &str,
-    member: MemberType,
-    min_align: u32,
-) -> Result<StructType, Fail> {
-    structure(with(alloc, Members::new(alloc), name, member)?, min_align)
-}
+/// One data stream type with one event record type.
+const SMALL: &str =
+    r#"{"trace":{"type":{"trace-byte-order":"le","$features":{"data-stream-type-id-field-type":false},"data-stream-types":{"s":{"$features":{"packet":{"total-size-field-type":{"class":"uint","size":32},"content-size-field-type":{"class":"uint","size":32},"discarded-event-records-counter-snapshot-field-type":false},"event-record":{"type-id-field-type":false}},"event-record-types":{"e":{"payload-field-type":{"class":"struct","members":[{"v":{"field-type":{"class":"uint","size":8}}}]}}}}}}}}"#;
 
-fn small_event(alloc: Global) -> Result<EventType, Fail> {
-    let v = MemberType::Plain(FieldType::Int(int(8, 8, false, Base::Dec)?));
-    Ok(EventType {
-        name: Text::from_str(alloc, "e")?,
-        log_level: None,
-        specific: no_structure(alloc)?,
-        payload: of_one(alloc, "v", v, 1)?,
-    })
-}
-
-fn small_stream(alloc: Global) -> Result<StreamType, Fail> {
-    let mut events = ListOf::new(alloc);
-    events.push(small_event(alloc)?)?;
-    Ok(StreamType {
-        name: Text::from_str(alloc, "s")?,
-        default_clock: None,
-        context: ContextFeatures {
-            packet_size: int(32, 8, false, Base::Dec)?,
-            content_size: int(32, 8, false, Base::Dec)?,
-            timestamp_begin: None,
-            timestamp_end: None,
-            events_discarded: None,
-            packet_seq_num: None,
-        },
-        extras: no_structure(alloc)?,
-        event_header: EventFeatures {
-            id: None,
-            timestamp: None,
-        },
-        common: no_structure(alloc)?,
-        events,
-    })
-}
-
-fn small(alloc: Global) -> Result<Config, Fail> {
-    let mut streams = ListOf::new(alloc);
-    streams.push(small_stream(alloc)?)?;
-    Ok(Config {
-        order: ByteOrder::Little,
-        uuid: None,
-        environment: ListOf::new(alloc),
-        clocks: ListOf::new(alloc),
-        header: HeaderFeatures {
-            magic: Some(int(32, 8, false, Base::Hex)?),
-            uuid: None,
-            stream_id: None,
-        },
-        streams,
-    })
-}
-
-const SMALL: &str = "/* CTF 1.8 */
+const SMALL_TEXT: &str = "/* CTF 1.8 */
 
 trace {
 \tmajor = 1;
@@ -131,211 +53,15 @@ event {
 
 #[test]
 fn writes_the_small_configuration(rt: HostRuntime) -> Result<(), Fail> {
-    let alloc = rt.alloc();
-    let text = write_metadata(alloc, &small(alloc)?)?;
-    assert_eq!(rt; text.as_str(), SMALL);
-    Ok(())
+    is_written(&rt, rt.alloc(), SMALL, SMALL_TEXT)
 }
 
-fn mapping(alloc: Global, label: &str, low: i128, high: i128) -> Result<Mapping, Fail> {
-    Ok(Mapping {
-        label: Text::from_str(alloc, label)?,
-        low,
-        high,
-    })
-}
+/// Every kind of field: an integer, both enumerations, one with a label that needs escapes, a string, arrays in arrays and dynamic arrays;
+/// every feature, clocks, an environment, and the small data stream type beside.
+const FULL: &str =
+    r#"{"trace":{"environment":{"least":-9223372036854775808,"path":"C:\\x \"y\"\n\tz","zero":0},"type":{"native-byte-order":"be","uuid":"67e55044-10b1-426f-9247-bb680e5fe0c8","clock-types":{"coarse":{"frequency":1000,"origin-is-unix-epoch":false},"fine":{"uuid":"67e55044-10b1-426f-9247-bb680e5fe0c8","description":"the \"fine\" one","frequency":18446744073709551615,"precision":7,"offset":{"seconds":-5,"cycles":11},"origin-is-unix-epoch":true}},"$features":{"magic-field-type":{"class":"uint","size":32,"preferred-display-base":"hexadecimal"},"uuid-field-type":{"class":"static-array","length":16,"element-field-type":{"class":"uint","size":8}},"data-stream-type-id-field-type":{"class":"uint","size":8}},"data-stream-types":{"full":{"$default-clock-type-name":"fine","$features":{"packet":{"total-size-field-type":{"class":"uint","size":64},"content-size-field-type":{"class":"uint","size":64},"beginning-timestamp-field-type":{"class":"uint","size":64},"end-timestamp-field-type":{"class":"uint","size":64},"discarded-event-records-counter-snapshot-field-type":{"class":"uint","size":16},"sequence-number-field-type":{"class":"uint","size":8}},"event-record":{"type-id-field-type":{"class":"uint","size":16},"timestamp-field-type":{"class":"uint","size":64}}},"packet-context-field-type-extra-members":[{"cpu":{"field-type":{"class":"uint","size":8}}}],"event-record-common-context-field-type":{"class":"struct","minimum-alignment":64,"members":[{"note":{"field-type":{"class":"str"}}}]},"event-record-types":{"a":{"log-level":13,"specific-context-field-type":{"class":"struct","members":[{"tid":{"field-type":{"class":"sint","size":32,"alignment":32}}}]},"payload-field-type":{"class":"struct","minimum-alignment":32,"members":[{"bits":{"field-type":{"class":"sint","size":5,"alignment":1,"preferred-display-base":"octal"}}},{"x":{"field-type":{"class":"uenum","size":8,"mappings":{"OFF":[0],"ON":[[1,3],9]}}}},{"level":{"field-type":{"class":"senum","size":3,"alignment":1,"preferred-display-base":"binary","mappings":{"a\\\"\n\tb":[[-4,-1]]}}}},{"words":{"field-type":{"class":"static-array","length":2,"element-field-type":{"class":"static-array","length":3,"element-field-type":{"class":"str"}}}}},{"rows":{"field-type":{"class":"dynamic-array","element-field-type":{"class":"static-array","length":4,"element-field-type":{"class":"uint","size":16,"alignment":16,"preferred-display-base":"hexadecimal"}}}}},{"names":{"field-type":{"class":"dynamic-array","element-field-type":{"class":"str"}}}}]}},"b":{}}},"s":{"$features":{"packet":{"total-size-field-type":{"class":"uint","size":32},"content-size-field-type":{"class":"uint","size":32},"discarded-event-records-counter-snapshot-field-type":false},"event-record":{"type-id-field-type":false}},"event-record-types":{"e":{"payload-field-type":{"class":"struct","members":[{"v":{"field-type":{"class":"uint","size":8}}}]}}}}}}}}"#;
 
-/// An enumeration of 8 bits: `{"OFF":[0],"ON":[[1,3],9]}`.
-fn switch(alloc: Global) -> Result<EnumType, Fail> {
-    let mut mappings = ListOf::new(alloc);
-    mappings.push(mapping(alloc, "OFF", 0, 0)?)?;
-    mappings.push(mapping(alloc, "ON", 1, 3)?)?;
-    mappings.push(mapping(alloc, "ON", 9, 9)?)?;
-    Ok(EnumType {
-        int: int(8, 8, false, Base::Dec)?,
-        mappings,
-    })
-}
-
-/// A signed enumeration with a label that needs escapes.
-fn levels(alloc: Global) -> Result<EnumType, Fail> {
-    let mut mappings = ListOf::new(alloc);
-    mappings.push(mapping(alloc, "a\\\"\n\tb", -4, -1)?)?;
-    Ok(EnumType {
-        int: int(3, 1, true, Base::Bin)?,
-        mappings,
-    })
-}
-
-fn array(alloc: Global, of: FieldType, length: u32) -> Result<FieldType, Fail> {
-    Ok(FieldType::Static(Element::new(alloc, of)?, length))
-}
-
-/// Every kind of field: an integer, both enumerations, a string, arrays in arrays and dynamic arrays.
-fn payload(alloc: Global) -> Result<StructType, Fail> {
-    let bits = FieldType::Int(int(5, 1, true, Base::Oct)?);
-    let nested = array(alloc, array(alloc, FieldType::Str, 3)?, 2)?;
-    let inner = array(alloc, FieldType::Int(int(16, 16, false, Base::Hex)?), 4)?;
-    let members = Members::new(alloc);
-    let members = with(alloc, members, "bits", MemberType::Plain(bits))?;
-    let members = with(
-        alloc,
-        members,
-        "x",
-        MemberType::Plain(FieldType::Enum(switch(alloc)?)),
-    )?;
-    let members = with(
-        alloc,
-        members,
-        "level",
-        MemberType::Plain(FieldType::Enum(levels(alloc)?)),
-    )?;
-    let members = with(alloc, members, "words", MemberType::Plain(nested))?;
-    let members = with(alloc, members, "rows", MemberType::Dyn(inner, Length::Auto))?;
-    let members = with(
-        alloc,
-        members,
-        "names",
-        MemberType::Dyn(FieldType::Str, Length::Auto),
-    )?;
-    structure(members, 32)
-}
-
-fn full_event(alloc: Global) -> Result<EventType, Fail> {
-    let tid = MemberType::Plain(FieldType::Int(int(32, 32, true, Base::Dec)?));
-    Ok(EventType {
-        name: Text::from_str(alloc, "a")?,
-        log_level: Some(13),
-        specific: of_one(alloc, "tid", tid, 1)?,
-        payload: payload(alloc)?,
-    })
-}
-
-fn bare_event(alloc: Global) -> Result<EventType, Fail> {
-    Ok(EventType {
-        name: Text::from_str(alloc, "b")?,
-        log_level: None,
-        specific: no_structure(alloc)?,
-        payload: no_structure(alloc)?,
-    })
-}
-
-fn full_events(alloc: Global) -> Result<ListOf<EventType>, Fail> {
-    let mut events = ListOf::new(alloc);
-    events.push(full_event(alloc)?)?;
-    events.push(bare_event(alloc)?)?;
-    Ok(events)
-}
-
-fn full_context(alloc: Global) -> Result<ContextFeatures, Fail> {
-    let begin = mapped(alloc, 64, "fine")?;
-    let end = mapped(alloc, 64, "fine")?;
-    Ok(ContextFeatures {
-        packet_size: int(64, 8, false, Base::Dec)?,
-        content_size: int(64, 8, false, Base::Dec)?,
-        timestamp_begin: Some(begin),
-        timestamp_end: Some(end),
-        events_discarded: Some(int(16, 8, false, Base::Dec)?),
-        packet_seq_num: Some(int(8, 8, false, Base::Dec)?),
-    })
-}
-
-fn full_event_header(alloc: Global) -> Result<EventFeatures, Fail> {
-    Ok(EventFeatures {
-        id: Some(int(16, 8, false, Base::Dec)?),
-        timestamp: Some(mapped(alloc, 64, "fine")?),
-    })
-}
-
-fn full_extras(alloc: Global) -> Result<StructType, Fail> {
-    let cpu = MemberType::Plain(FieldType::Int(int(8, 8, false, Base::Dec)?));
-    of_one(alloc, "cpu", cpu, 1)
-}
-
-fn full_stream(alloc: Global) -> Result<StreamType, Fail> {
-    Ok(StreamType {
-        name: Text::from_str(alloc, "full")?,
-        default_clock: Some(Text::from_str(alloc, "fine")?),
-        context: full_context(alloc)?,
-        extras: full_extras(alloc)?,
-        event_header: full_event_header(alloc)?,
-        common: of_one(alloc, "note", MemberType::Plain(FieldType::Str), 64)?,
-        events: full_events(alloc)?,
-    })
-}
-
-fn entry(alloc: Global, name: &str, value: EnvironmentValue) -> Result<EnvironmentEntry, Fail> {
-    Ok(EnvironmentEntry {
-        name: Text::from_str(alloc, name)?,
-        value,
-    })
-}
-
-fn environment(alloc: Global) -> Result<ListOf<EnvironmentEntry>, Fail> {
-    let mut entries = ListOf::new(alloc);
-    let text = EnvironmentValue::Text(Text::from_str(alloc, "C:\\x \"y\"\n\tz")?);
-    entries.push(entry(
-        alloc,
-        "least",
-        EnvironmentValue::Whole(-9223372036854775808),
-    )?)?;
-    entries.push(entry(alloc, "path", text)?)?;
-    entries.push(entry(alloc, "zero", EnvironmentValue::Whole(0))?)?;
-    Ok(entries)
-}
-
-fn identifier() -> Result<Uuid, Fail> {
-    Ok(
-        Uuid::parse_str("67e55044-10b1-426f-9247-bb680e5fe0c8")
-            .ok()
-            .ok_or("no identifier")?,
-    )
-}
-
-fn clocks(alloc: Global) -> Result<ListOf<ClockType>, Fail> {
-    let mut clocks = ListOf::new(alloc);
-    clocks.push(ClockType {
-        name: Text::from_str(alloc, "coarse")?,
-        uuid: None,
-        description: None,
-        frequency: 1000,
-        precision: 0,
-        offset_seconds: 0,
-        offset_cycles: 0,
-        absolute: false,
-    })?;
-    clocks.push(ClockType {
-        name: Text::from_str(alloc, "fine")?,
-        uuid: Some(identifier()?),
-        description: Some(Text::from_str(alloc, "the \"fine\" one")?),
-        frequency: 18446744073709551615,
-        precision: 7,
-        offset_seconds: -5,
-        offset_cycles: 11,
-        absolute: true,
-    })?;
-    Ok(clocks)
-}
-
-fn full(alloc: Global) -> Result<Config, Fail> {
-    let mut streams = ListOf::new(alloc);
-    streams.push(full_stream(alloc)?)?;
-    streams.push(small_stream(alloc)?)?;
-    Ok(Config {
-        order: ByteOrder::Big,
-        uuid: Some(identifier()?),
-        environment: environment(alloc)?,
-        clocks: clocks(alloc)?,
-        header: HeaderFeatures {
-            magic: Some(int(32, 8, false, Base::Hex)?),
-            uuid: Some(int(8, 8, false, Base::Dec)?),
-            stream_id: Some(int(8, 8, false, Base::Dec)?),
-        },
-        streams,
-    })
-}
-
-const FULL: &str = "/* CTF 1.8 */
+const FULL_TEXT: &str = "/* CTF 1.8 */
 
 trace {
 \tmajor = 1;
@@ -441,8 +167,5 @@ event {
 
 #[test]
 fn writes_a_full_configuration(rt: HostRuntime) -> Result<(), Fail> {
-    let alloc = rt.alloc();
-    let text = write_metadata(alloc, &full(alloc)?)?;
-    assert_eq!(rt; text.as_str(), FULL);
-    Ok(())
+    is_written(&rt, rt.alloc(), FULL, FULL_TEXT)
 }

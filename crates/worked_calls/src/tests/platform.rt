@@ -2,6 +2,7 @@
 
 use packet_writer::PacketBuf;
 use std::alloc::Global;
+use std::process::Abort;
 use std::test::Fail;
 use trace_platform::{
     BackEnd, Clock, ClockSpent, ListBackEnd, ListClock, MemorySink, PacketSource, Script,
@@ -17,15 +18,19 @@ fn list_clock(alloc: Global, readings: &[u64]) -> Result<Option<ListClock>, Fail
     Ok(ListClock::new(Vec::from_slice(alloc, readings)?))
 }
 
+/// The clock answers these readings, and has then refused so many.
+fn gives(rt: &impl Abort, clock: &mut impl Clock, answers: &[Result<u64, ClockSpent>], spent: u64) {
+    for answer in answers {
+        assert_eq!(rt; clock.read(), *answer);
+    }
+    assert_eq!(rt; clock.spent_count(), spent);
+}
+
 #[test]
 fn clock_gives_its_readings_and_then_refuses(rt: HostRuntime) -> Result<(), Fail> {
     assert!(rt; list_clock(rt.alloc(), &[3, 9, 8])?.is_none());
     let mut clock = list_clock(rt.alloc(), &[3, 3, 9])?.ok_or("these never fall")?;
-    assert_eq!(rt; clock.read(), Ok(3));
-    assert_eq!(rt; clock.read(), Ok(3));
-    assert_eq!(rt; clock.read(), Ok(9));
-    assert_eq!(rt; clock.read(), Err(ClockSpent));
-    assert_eq!(rt; clock.spent_count(), 1);
+    gives(&rt, &mut clock, &[Ok(3), Ok(3), Ok(9), Err(ClockSpent)], 1);
     Ok(())
 }
 
@@ -34,11 +39,8 @@ fn scripted_clock_refuses_at_its_turns(rt: HostRuntime) -> Result<(), Fail> {
     let clock = list_clock(rt.alloc(), &[3, 9])?.ok_or("these never fall")?;
     let turns = script(rt.alloc(), &[Turn::Works, Turn::Fails])?;
     let mut clock = ScriptedClock::new(clock, turns);
-    assert_eq!(rt; clock.read(), Ok(3));
-    assert_eq!(rt; clock.read(), Err(ClockSpent));
-    assert_eq!(rt; clock.read(), Ok(9));
-    assert_eq!(rt; clock.read(), Err(ClockSpent));
-    assert_eq!(rt; clock.spent_count(), 2);
+    let answers = [Ok(3), Err(ClockSpent), Ok(9), Err(ClockSpent)];
+    gives(&rt, &mut clock, &answers, 2);
     Ok(())
 }
 
@@ -78,25 +80,44 @@ fn scripted_back_end_is_full_at_its_turns(rt: HostRuntime) -> Result<(), Fail> {
     Ok(())
 }
 
+/// The sink answers each of these so, and has then failed so often.
+fn appends(
+    rt: &impl Abort,
+    sink: &mut impl Sink,
+    rows: &[(&[u8], Result<(), SinkFault>)],
+    faults: u64,
+) {
+    for (bytes, answer) in rows {
+        assert_eq!(rt; sink.append(bytes), *answer);
+    }
+    assert_eq!(rt; sink.fault_count(), faults);
+}
+
+static PIECES: &[(&[u8], Result<(), SinkFault>)] = &[
+    (b"cd", Ok(())),
+    (b"ef", Err(SinkFault)),
+    (b"gh", Ok(())),
+];
+
 #[test]
 fn sinks_append_all_or_a_prefix(rt: HostRuntime) -> Result<(), Fail> {
     let mut sink = MemorySink::new(rt.alloc());
     assert_eq!(rt; sink.append(b"ab"), Ok(()));
     let mut sink = ScriptedSink::new(sink, script(rt.alloc(), &[Turn::Works, Turn::Fails])?, 1);
-    assert_eq!(rt; sink.append(b"cd"), Ok(()));
-    assert_eq!(rt; sink.append(b"ef"), Err(SinkFault));
-    assert_eq!(rt; sink.append(b"gh"), Ok(()));
-    assert_eq!(rt; sink.fault_count(), 1);
+    appends(&rt, &mut sink, PIECES, 1);
     assert_eq!(rt; sink.sink.bytes(), b"abcdegh".as_slice());
     Ok(())
 }
 
+static LONG_PIECES: &[(&[u8], Result<(), SinkFault>)] = &[
+    (b"0123456789abcdef", Ok(())),
+    (b"ghijkl", Err(SinkFault)),
+];
+
 #[test]
 fn writer_takes_pieces_until_it_stops(rt: HostRuntime) -> Result<(), Fail> {
     let mut sink = WriterSink::new(StoppingWriter::new(rt.alloc(), 20, 5));
-    assert_eq!(rt; sink.append(b"0123456789abcdef"), Ok(()));
-    assert_eq!(rt; sink.append(b"ghijkl"), Err(SinkFault));
-    assert_eq!(rt; sink.fault_count(), 1);
+    appends(&rt, &mut sink, LONG_PIECES, 1);
     let writer = sink.into_writer();
     assert_eq!(rt; writer.bytes.as_slice(), b"0123456789abcdefghij".as_slice());
     Ok(())

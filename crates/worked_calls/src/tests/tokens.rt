@@ -1,123 +1,122 @@
+//! Worked rows of tokens, and what they stand for.
+
 use std::alloc::Global;
+use std::process::Abort;
 use std::test::*;
 use tsdl_grammar::*;
 
-/// The kinds of a text's tokens behind the magic line, and what each one's bytes are.
-fn pieces<'a>(alloc: Global, text: &'a [u8]) -> Result<Vec<(TokenKind, &'a [u8])>, Fail> {
+/// A text, and its tokens or the place where none starts, as they print.
+type Row = (&'static [u8], &'static str);
+
+fn are_cut(rt: &impl Abort, alloc: Global, rows: &[Row]) -> Result<(), Fail> {
+    for (text, expected) in rows {
+        let found = format!(in alloc; "{:?}", tokens(alloc, text))?;
+        assert_eq!(rt; found.as_str(), *expected, "{text:?}");
+    }
+    Ok(())
+}
+
+static SPANS: &[Row] = &[(
+    b"/* CTF 1.8 */ a;",
+    "Ok([Token { kind: Identifier, span: Span { start: 14, end: 15 } }, Token { kind: Mark(Semicolon), span: Span { start: 15, end: 16 } }])",
+)];
+
+#[test]
+fn spans_of_two_tokens(rt: HostRuntime) -> Result<(), Fail> {
+    are_cut(&rt, rt.alloc(), SPANS)
+}
+
+static BAD_BYTES: &[Row] = &[
+    // a byte that begins no token
+    (
+        b"/* CTF 1.8 */ @",
+        "Err(MetaFault { place: 14, kind: Token })",
+    ),
+    // a comment without an end
+    (
+        b"/* CTF 1.8 */ /*",
+        "Err(MetaFault { place: 14, kind: Token })",
+    ),
+    // comments that nest
+    (
+        b"/* CTF 1.8 */ /* /* */ */",
+        "Err(MetaFault { place: 23, kind: Token })",
+    ),
+    // a slash alone
+    (
+        b"/* CTF 1.8 */a /",
+        "Err(MetaFault { place: 15, kind: Token })",
+    ),
+    // a string without an end
+    (
+        b"/* CTF 1.8 */ \"ab",
+        "Err(MetaFault { place: 14, kind: Token })",
+    ),
+    // an escape that is none
+    (
+        b"/* CTF 1.8 */ \"a\\q\"",
+        "Err(MetaFault { place: 14, kind: Token })",
+    ),
+    // a string on two lines
+    (
+        b"/* CTF 1.8 */ \"a\nb\"",
+        "Err(MetaFault { place: 14, kind: Token })",
+    ),
+    // a string that is no UTF-8
+    (
+        b"/* CTF 1.8 */ \"\xff\"",
+        "Err(MetaFault { place: 14, kind: Token })",
+    ),
+    // no text
+    (b"", "Err(MetaFault { place: 0, kind: NoMagicLine })"),
+    // a blank first
+    (
+        b" /* CTF 1.8 */",
+        "Err(MetaFault { place: 0, kind: NoMagicLine })",
+    ),
+];
+
+#[test]
+fn places_of_bad_bytes(rt: HostRuntime) -> Result<(), Fail> {
+    are_cut(&rt, rt.alloc(), BAD_BYTES)
+}
+
+/// The bytes of a text's tokens, with a blank behind each.
+fn pieces(alloc: Global, text: &[u8]) -> Result<Vec<u8>, Fail> {
     let mut pieces = Vec::new(alloc);
     for token in &tokens(alloc, text)? {
         let bytes = text
             .get(token.span.start..token.span.end)
             .ok_or("a span past the text")?;
-        pieces.push((token.kind, bytes))?;
+        pieces.extend_from_slice(bytes)?;
+        pieces.push(b' ')?;
     }
     Ok(pieces)
 }
 
-fn place_of(alloc: Global, text: &[u8]) -> Option<usize> {
-    match tokens(alloc, text) {
-        Ok(_) => None,
-        Err(fault) => Some(fault.place),
-    }
-}
-
-#[test]
-fn spans_of_two_tokens(rt: HostRuntime) -> Result<(), Fail> {
-    let found = tokens(rt.alloc(), b"/* CTF 1.8 */ a;")?;
-    assert_eq!(rt; found.len(), 2);
-    assert_eq!(rt; found[0].kind, TokenKind::Identifier);
-    assert_eq!(rt; found[0].span, Span { start: 14, end: 15 });
-    assert_eq!(rt; found[1].kind, TokenKind::Mark(Mark::Semicolon));
-    assert_eq!(rt; found[1].span, Span { start: 15, end: 16 });
-    Ok(())
-}
-
-#[test]
-fn places_of_bad_bytes(rt: HostRuntime) {
-    let alloc = rt.alloc();
-    assert_eq!(rt;
-        place_of(alloc, b"/* CTF 1.8 */ @"),
-        Some(14),
-        "a byte that begins no token"
-    );
-    assert_eq!(rt;
-        place_of(alloc, b"/* CTF 1.8 */ /*"),
-        Some(14),
-        "a comment without an end"
-    );
-    assert_eq!(rt;
-        place_of(alloc, b"/* CTF 1.8 */ /* /* */ */"),
-        Some(23),
-        "comments that nest"
-    );
-    assert_eq!(rt;
-        place_of(alloc, b"/* CTF 1.8 */a /"),
-        Some(15),
-        "a slash alone"
-    );
-    assert_eq!(rt;
-        place_of(alloc, b"/* CTF 1.8 */ \"ab"),
-        Some(14),
-        "a string without an end"
-    );
-    assert_eq!(rt;
-        place_of(alloc, b"/* CTF 1.8 */ \"a\\q\""),
-        Some(14),
-        "an escape that is none"
-    );
-    assert_eq!(rt;
-        place_of(alloc, b"/* CTF 1.8 */ \"a\nb\""),
-        Some(14),
-        "a string on two lines"
-    );
-    assert_eq!(rt;
-        place_of(alloc, b"/* CTF 1.8 */ \"\xff\""),
-        Some(14),
-        "a string that is no UTF-8"
-    );
-    assert_eq!(rt; place_of(alloc, b""), Some(0), "no text");
-    assert_eq!(rt;
-        place_of(alloc, b" /* CTF 1.8 */"),
-        Some(0),
-        "a blank first"
-    );
-}
-
 #[test]
 fn where_tokens_end(rt: HostRuntime) -> Result<(), Fail> {
-    let text = b"/* CTF 1.8 */0x1F 08 0x 0X8 1ul 5llLu a//b\n/**/...:=:".as_slice();
+    let text = b"/* CTF 1.8 */0x1F 08 0x 0X8 1ul 5llLu a//b\n/**/...:=:";
     let found = pieces(rt.alloc(), text)?;
-    let wanted = [
-        b"0x1F".as_slice(),
-        b"0",
-        b"8",
-        b"0",
-        b"x",
-        b"0",
-        b"X8",
-        b"1ul",
-        b"5llL",
-        b"u",
-        b"a",
-        b"...",
-        b":=",
-        b":",
-    ];
-    assert_eq!(rt; found.len(), wanted.len());
-    for (piece, bytes) in found.iter().zip(&wanted) {
-        assert_eq!(rt; piece.1, *bytes);
-    }
+    let expected = b"0x1F 0 8 0 x 0 X8 1ul 5llL u a ... := : ";
+    assert_eq!(rt; found.as_slice(), expected.as_slice());
     Ok(())
 }
+
+static LITERALS: &[(&[u8], Option<u64>)] = &[
+    (b"0x1F", Some(31)),
+    (b"017", Some(15)),
+    (b"10ULL", Some(10)),
+    (b"0", Some(0)),
+    (b"18446744073709551615", Some(u64::MAX)),
+    (b"18446744073709551616", None),
+];
 
 #[test]
 fn values_of_literals(rt: HostRuntime) {
-    assert_eq!(rt; literal_value(b"0x1F"), Some(31));
-    assert_eq!(rt; literal_value(b"017"), Some(15));
-    assert_eq!(rt; literal_value(b"10ULL"), Some(10));
-    assert_eq!(rt; literal_value(b"0"), Some(0));
-    assert_eq!(rt; literal_value(b"18446744073709551615"), Some(u64::MAX));
-    assert_eq!(rt; literal_value(b"18446744073709551616"), None);
+    for (literal, value) in LITERALS {
+        assert_eq!(rt; literal_value(literal), *value, "{literal:?}");
+    }
 }
 
 #[test]
@@ -137,35 +136,41 @@ fn atoms_of_tokens(rt: HostRuntime) -> Result<(), Fail> {
     let text = b"/* CTF 1.8 */ size = 0x10; \"a\\n\" 18446744073709551616".as_slice();
     let found = tokens(rt.alloc(), text)?;
     let atoms = atoms(rt.alloc(), text, &found)?;
-    assert_eq!(rt; atoms.len(), 6);
-    assert!(rt; matches!(&atoms[0], Atom::Word(word) if word.as_str() == "size"));
-    assert!(rt; matches!(&atoms[1], Atom::Mark(Mark::Equals)));
-    assert!(rt; matches!(&atoms[2], Atom::Number(16)));
-    assert!(rt; matches!(&atoms[4], Atom::Text(text) if text.as_str() == "a\n"));
-    assert!(rt; matches!(&atoms[5], Atom::TooLarge));
+    let shown = format!(in rt.alloc(); "{atoms:?}")?;
+    assert_eq!(rt;
+        shown.as_str(),
+        r#"[Word(Text { text: "size" }), Mark(Equals), Number(16), Mark(Semicolon), Text(Text { text: "a\n" }), TooLarge]"#
+    );
+    Ok(())
+}
+
+/// A fault of this kind and place is explained in these words.
+fn is_explained(
+    rt: &impl Abort,
+    alloc: Global,
+    place: usize,
+    kind: MetaFaultKind,
+    words: &str,
+) -> Result<(), Fail> {
+    let said = explain(alloc, b"/* CTF 1.8 */\na @", &MetaFault { place, kind })?;
+    assert_eq!(rt; said.as_str(), words);
     Ok(())
 }
 
 #[test]
 fn faults_in_words(rt: HostRuntime) -> Result<(), Fail> {
-    let text = b"/* CTF 1.8 */\na @".as_slice();
-    let fault = MetaFault {
-        place: 16,
-        kind: MetaFaultKind::Token,
-    };
-    let said = explain(rt.alloc(), text, &fault)?;
-    assert_eq!(rt;
-        said.as_str(),
-        "byte 16, line 2, column 3: found \"@\": no token of TSDL starts here"
-    );
-    let end = MetaFault {
-        place: 17,
-        kind: MetaFaultKind::Syntax,
-    };
-    let said = explain(rt.alloc(), text, &end)?;
-    assert_eq!(rt;
-        said.as_str(),
-        "byte 17, line 2, column 4: found the end of the text: the grammar of TSDL has no such token here"
-    );
-    Ok(())
+    is_explained(
+        &rt,
+        rt.alloc(),
+        16,
+        MetaFaultKind::Token,
+        "byte 16, line 2, column 3: found \"@\": no token of TSDL starts here",
+    )?;
+    is_explained(
+        &rt,
+        rt.alloc(),
+        17,
+        MetaFaultKind::Syntax,
+        "byte 17, line 2, column 4: found the end of the text: the grammar of TSDL has no such token here",
+    )
 }

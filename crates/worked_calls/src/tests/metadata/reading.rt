@@ -1,7 +1,7 @@
 //! Texts that are metadata, in pairs of two that denote the same.
 
-use super::described::described;
 use super::unmarked;
+use crate::tests::described::described;
 use std::alloc::Global;
 use std::process::Abort;
 use std::test::Fail;
@@ -101,17 +101,16 @@ fn read(rt: &impl Abort, alloc: Global, row: &str) -> Result<String, Fail> {
     let (text, _place) = unmarked(alloc, row.as_bytes())?;
     let metadata = read_metadata(alloc, &text)?;
     let tokens = tokens(alloc, &text)?;
-    let (at, kind) = first_fault(alloc, &atoms(alloc, &text, &tokens)?)?;
-    assert_eq!(rt; at, tokens.len(), "{row}");
-    assert_eq!(rt; kind, MetaFaultKind::Syntax, "{row}");
+    let stop = first_fault(alloc, &atoms(alloc, &text, &tokens)?)?;
+    assert_eq!(rt; stop, (tokens.len(), MetaFaultKind::Syntax), "{row}");
     Ok(described(alloc, &metadata)?)
 }
 
 #[test]
 fn reads_what_denotes_the_same_alike(rt: HostRuntime) -> Result<(), Fail> {
     for (text, same) in PAIRS {
-        let metadata = read(&rt, rt.alloc(), *text)?;
-        assert_eq!(rt; metadata, read(&rt, rt.alloc(), *same)?, "{same}");
+        let metadata = read(&rt, rt.alloc(), text)?;
+        assert_eq!(rt; metadata, read(&rt, rt.alloc(), same)?, "{same}");
     }
     Ok(())
 }

@@ -1,7 +1,7 @@
 //! The calls of the containers, each once with ample memory.
 
-use super::{int, with_member};
-use ctf_types::{Bytes, Element, FieldType, Members, Value, Values};
+use crate::tests::fixtures::{Kind, structure};
+use ctf_types::{Base, Bytes, Element, FieldType, IntType, Members, Value, Values};
 use std::test::Fail;
 
 #[test]
@@ -42,8 +42,8 @@ fn values_are_replaced_and_cleared(rt: HostRuntime) -> Result<(), Fail> {
 #[test]
 fn an_element_in_a_box(rt: HostRuntime) -> Result<(), Fail> {
     let alloc = rt.alloc();
-    let inner = Box::new(alloc, FieldType::Int(int(5, 2, true)?))?;
-    let element = Element::from_box(inner);
+    let int = IntType::new(5, 2, true, Base::Dec).ok_or("no such integer")?;
+    let element = Element::from_box(Box::new(alloc, FieldType::Int(int))?);
     assert!(rt; matches!(element.field_type(), FieldType::Int(five) if five.size() == 5));
     let inner = element.into_box();
     assert!(rt; matches!(&*inner, FieldType::Int(five) if five.align() == 2));
@@ -52,11 +52,11 @@ fn an_element_in_a_box(rt: HostRuntime) -> Result<(), Fail> {
 
 #[test]
 fn members_of_a_map_and_back(rt: HostRuntime) -> Result<(), Fail> {
-    let alloc = rt.alloc();
-    let members = with_member(alloc, Members::new(alloc), "s", FieldType::Str)?;
-    let map = members.into_map();
-    assert_eq!(rt; map.len(), 1);
+    let pair = structure(rt.alloc(), &[Kind::Int(8, 8, false), Kind::Str])?;
+    assert_eq!(rt; pair.members.index_of("b"), Some(1));
+    let map = pair.members.into_map();
+    assert_eq!(rt; map.len(), 2);
     let members = Members::from_map(map);
-    assert_eq!(rt; members.index_of("s"), Some(0));
+    assert_eq!(rt; members.index_of("a"), Some(0));
     Ok(())
 }

@@ -1,21 +1,19 @@
 //! A caller that traces again and again makes its arguments once: numbers are set and texts refilled in place, with no memory asked for.
 
-use ctf_types::{Args, Bytes, Value, Values};
-use std::alloc::Global;
+use crate::tests::fixtures::{Datum, values};
+use ctf_types::Args;
+use std::alloc::{AllocError, Global};
 use std::process::Abort;
 use std::test::Fail;
 
-fn of_one(alloc: Global, value: Value) -> Result<Values, Fail> {
-    let mut values = Values::new(alloc);
-    values.push(value)?;
-    Ok(values)
-}
+/// The values of the three structures of a call: a number, a signed number and a text.
+type Call = (u64, i64, &'static [u8]);
 
-fn arguments(alloc: Global, longest: &[u8]) -> Result<Args, Fail> {
+fn arguments(alloc: Global, (unsigned, signed, text): Call) -> Result<Args, AllocError> {
     Ok(Args {
-        common: of_one(alloc, Value::Unsigned(0))?,
-        specific: of_one(alloc, Value::Signed(0))?,
-        payload: of_one(alloc, Value::Text(Bytes::from_slice(alloc, longest)?))?,
+        common: values(alloc, &[Datum::Unsigned(unsigned)])?,
+        specific: values(alloc, &[Datum::Signed(signed)])?,
+        payload: values(alloc, &[Datum::Text(text)])?,
     })
 }
 
@@ -29,46 +27,39 @@ fn set(args: &mut Args, unsigned: u64, signed: i64, text: &[u8]) -> bool {
     args.payload.refill_text(0, text)
 }
 
-fn holds(rt: &impl Abort, args: &Args, unsigned: u64, signed: i64, text: &[u8]) {
-    match (
-        args.common.get(0),
-        args.specific.get(0),
-        args.payload.get(0),
-    ) {
-        (Some(Value::Unsigned(n)), Some(Value::Signed(z)), Some(Value::Text(held))) => {
-            assert_eq!(rt; *n, unsigned);
-            assert_eq!(rt; *z, signed);
-            assert_eq!(rt; held.as_slice(), text);
-        }
-        _ => assert!(rt; false, "another value"),
-    }
+/// The arguments are those of this call.
+fn holds(rt: &impl Abort, alloc: Global, args: &Args, call: Call) -> Result<(), Fail> {
+    let found = format!(in alloc; "{args:?}")?;
+    let expected = format!(in alloc; "{:?}", arguments(alloc, call)?)?;
+    assert_eq!(rt; found.as_str(), expected.as_str());
+    Ok(())
 }
+
+static CALLS: &[Call] = &[
+    (1, -1, b"as long...."),
+    (2, -2, b"shorter"),
+    (3, i64::MIN, b""),
+    (u64::MAX, 4, b"the longest"),
+];
 
 #[test]
 fn arguments_are_set_in_place(rt: HostRuntime) -> Result<(), Fail> {
     let alloc = rt.alloc();
-    let mut args = arguments(alloc, b"the longest")?;
-    for (unsigned, signed, text) in [
-        (1, -1, &b"as long...."[..]),
-        (2, -2, &b"shorter"[..]),
-        (3, i64::MIN, &b""[..]),
-        (u64::MAX, 4, &b"the longest"[..]),
-    ] {
-        assert!(rt; set(&mut args, unsigned, signed, text));
-        holds(&rt, &args, unsigned, signed, text);
+    let mut args = arguments(alloc, (0, 0, b"the longest"))?;
+    for call in CALLS {
+        assert!(rt; set(&mut args, call.0, call.1, call.2));
+        holds(&rt, alloc, &args, *call)?;
     }
     assert!(rt;
         !set(&mut args, 5, 5, &[b'x'; 4096]),
         "more than was ever held"
     );
-    holds(&rt, &args, 5, 5, b"the longest");
-    Ok(())
+    holds(&rt, alloc, &args, (5, 5, b"the longest"))
 }
 
 #[test]
 fn a_number_is_not_refilled(rt: HostRuntime) -> Result<(), Fail> {
-    let alloc = rt.alloc();
-    let mut values = of_one(alloc, Value::Unsigned(7))?;
+    let mut values = values(rt.alloc(), &[Datum::Unsigned(7)])?;
     if values.len() == 1 {
         assert!(rt; !values.refill_text(0, b""));
     }
