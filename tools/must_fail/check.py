@@ -1,4 +1,4 @@
-"""A copy of a crate in which edits are written and checked, and what its check says of each edited function."""
+"""A copy of a crate in which edits are written and checked."""
 import os
 import shutil
 import signal
@@ -9,6 +9,8 @@ from must_fail.edit import applied
 from must_fail.source import functions_of
 
 PARTS = ("src", "specs", "proofs")
+
+
 class Late(Exception):
     """A check that did not end in its time."""
 

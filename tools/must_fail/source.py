@@ -3,7 +3,7 @@ import re
 from dataclasses import dataclass, replace
 
 NO_TEXT = re.compile(
-    r"//[^\n]*|/\*.*?\*/|b?\"(?:\\.|[^\"\\])*\"|b?'(?:\\(?:x[0-9a-fA-F]{2}|u\{[0-9a-fA-F]+\}|.)|[^'\\])'", re.S
+    r"//[^\n]*|/\*.*?\*/|\bb?r(?P<marks>#*)\".*?\"(?P=marks)|b?\"(?:\\.|[^\"\\])*\"|b?'(?:\\(?:x[0-9a-fA-F]{2}|u\{[0-9a-fA-F]+\}|.)|[^'\\])'", re.S
 )
 HEAD = re.compile(r"\b(fn|impl|trait|mod)\b")
 # What stands before the word of an item and belongs to it.
@@ -27,7 +27,6 @@ class Function:
     def path(self):
         """The name by which rattle knows it, without the crate's."""
         return "::".join(it for it in (self.module, self.owner + self.trait, self.name) if it)
-
 
     def lines(self, text):
         """The numbers of its first and its last line."""
