@@ -74,9 +74,9 @@ class Copy:
 
 
 def said_by(words, folder, seconds):
-    """What a command says, in its own process group, which ends with it."""
+    """What a command says, in a process group of its own, which ends with it. Its session stays that of the caller, whose priority it has."""
     how = {"cwd": folder, "stdin": subprocess.DEVNULL, "stdout": subprocess.PIPE, "stderr": subprocess.STDOUT}
-    with subprocess.Popen(words, start_new_session=True, text=True, errors="replace", **how) as ran:
+    with subprocess.Popen(words, process_group=0, text=True, errors="replace", **how) as ran:
         try:
             return ran.communicate(timeout=seconds)[0]
         except subprocess.TimeoutExpired:
