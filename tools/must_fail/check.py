@@ -74,11 +74,10 @@ class Copy:
 
 
 def said_by(words, folder, seconds):
-    """What a command says, in a process group of its own, which ends with it. Its session stays that of the caller, whose priority it has."""
+    """What a command says, or Late where it takes more seconds of processor time: of time by the clock it may be given little."""
+    limited = ["sh", "-c", 'ulimit -t "$0"; exec "$@"', str(seconds), *words]
     how = {"cwd": folder, "stdin": subprocess.DEVNULL, "stdout": subprocess.PIPE, "stderr": subprocess.STDOUT}
-    with subprocess.Popen(words, process_group=0, text=True, errors="replace", **how) as ran:
-        try:
-            return ran.communicate(timeout=seconds)[0]
-        except subprocess.TimeoutExpired:
-            os.killpg(ran.pid, signal.SIGKILL)
-            raise Late from None
+    ran = subprocess.run(limited, text=True, errors="replace", **how)
+    if ran.returncode in (-signal.SIGXCPU, -signal.SIGKILL):
+        raise Late
+    return ran.stdout
