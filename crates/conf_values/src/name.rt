@@ -1,47 +1,14 @@
 //! The names of a configuration, and the words that are no names.
-ghost use Rattle.std.specs.Prelude.{◌≡◌, ◌≤◌, ◌||◌, ◌&&◌, IfErr};
-ghost use Rattle.std.specs.List.{list_any, list_all};
+ghost use Rattle.std.specs.Prelude.{◌≡◌, IfErr};
+ghost use Rattle.std.specs.List.{list_any};
 ghost use Rattle.std.specs.Str.{bytes_eq};
 ghost use Rattle.arrayvec.specs.ArrayVec.{array_vec_len};
 ghost use Rattle.conf_tree.specs.Reading.{Gives};
-ghost use Rattle.ctf_types.specs.Names.{is_identifier as is_identifier_of, is_letter as is_letter_of, is_digit as is_digit_of, unused_keywords, used_keywords};
+ghost use Rattle.ctf_types.specs.Names.{unused_keywords, used_keywords};
 ghost use Rattle.conf_values.specs.Name.{name_of, plain_name_of, is_reserved as is_reserved_of};
 
 use conf_tree::{ConfFault, FaultKind};
-
-fn is_letter(byte: u8) -> bool
-    ensures { result ≡ is_letter_of byte }
-{
-    byte.is_ascii_uppercase() || byte.is_ascii_lowercase() || byte == b'_'
-}
-
-fn is_letter_or_digit(byte: u8) -> bool
-    ensures { result ≡ (is_letter_of byte || is_digit_of byte) }
-{
-    is_letter(byte) || byte.is_ascii_digit()
-}
-
-fn are_letters_or_digits(bytes: &[u8]) -> bool
-    ensures { result ≡ list_all (λ d. is_letter_of d || is_digit_of d) bytes.now }
-{
-    for byte in bytes {
-        if !is_letter_or_digit(*byte) {
-            return false;
-        }
-    }
-    true
-}
-
-/// Whether a text is a letter or an underscore, and then letters, digits and underscores.
-#[tactic(auto, unfolding(ctf_types::specs::Names::is_identifier))]
-fn is_identifier(text: &str) -> bool
-    ensures { result ≡ is_identifier_of text.now }
-{
-    match text.as_bytes() {
-        [] => false,
-        [first, rest @ ..] => is_letter(*first) && are_letters_or_digits(rest),
-    }
-}
+use ctf_types::is_identifier;
 
 /// Refuses a name that is no identifier of 255 bytes at most.
 #[tactic(auto, unfolding(crate::specs::Name::name_of))]

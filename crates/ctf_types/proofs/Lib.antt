@@ -4,6 +4,7 @@ pub mod AllowedMetadata
 pub mod BitsOfBytes
 pub mod Ends
 pub mod FittingLemmas
+pub mod FrontsOfFiles
 pub mod Joined
 pub mod Locality
 pub mod LyingFits

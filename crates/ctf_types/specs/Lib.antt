@@ -15,5 +15,6 @@ pub mod Laws
 pub mod Layout
 pub mod MetadataOf
 pub mod Names
+pub mod PacketRuns
 pub mod Packets
 pub mod Shown

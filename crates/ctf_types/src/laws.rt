@@ -1,6 +1,7 @@
 //! Laws of the layout: what holds of all values, structures and bits. The functions do nothing; their contracts are the laws.
 
 ghost use Rattle.ctf_types.specs.Laws.{OneFieldEnd, OneStructEnd, OneRecord, OneFieldValue, OneValue, OnePacket, OnePacketList, FrontOfFile, LyingFits, OwnBits, OwnZeros, OwnPacketBits, CleanIsLying, ShownLies, ShownLieClean, ShownEnd, AllowedStaysAllowed};
+ghost use Rattle.ctf_types.specs.PacketRuns.{RunsJoin, RunsJoinClean, FilesJoin, FilesJoinClean, PiecesJoin, PiecesJoinClean, FrontLies, FrontLiesClean, FrontIsOfOneStream, FrontNeverFalls, FrontOfStream, CleanStructLies, CleanPacketLies, CleanStreamLies};
 
 /// In given bits a field has at most one value at a place, and a structure one list of values: what a reader finds there is what was written.
 pub fn one_value()
@@ -47,4 +48,30 @@ pub fn shown_lies()
 /// The metadata of a configuration that the rules allow is metadata that the rules allow.
 pub fn allowed_metadata()
     ensures allowed { AllowedStaysAllowed }
+{}
+
+/// Packets that lie one after the other lie joined: two runs, a file and what is appended to it, pieces that are a packet each.
+pub fn joined_packets()
+    ensures runs { RunsJoin }
+    ensures clean_runs { RunsJoinClean }
+    ensures files { FilesJoin }
+    ensures clean_files { FilesJoinClean }
+    ensures pieces { PiecesJoin }
+    ensures clean_pieces { PiecesJoinClean }
+{}
+
+/// The first packets of what lies lie by themselves: of a run, of packets of one stream, of clock values that never fall, and of a stream file.
+pub fn front_of_packets()
+    ensures of_a_run { FrontLies }
+    ensures of_a_clean_run { FrontLiesClean }
+    ensures of_one_stream { FrontIsOfOneStream }
+    ensures of_clocks { FrontNeverFalls }
+    ensures of_a_stream { FrontOfStream }
+{}
+
+/// What lies with every unused bit zero lies for a reader, who takes any bits there.
+pub fn clean_lies()
+    ensures of_a_structure { CleanStructLies }
+    ensures of_a_packet { CleanPacketLies }
+    ensures of_a_stream { CleanStreamLies }
 {}

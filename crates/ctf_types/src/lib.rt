@@ -3,6 +3,7 @@
 
 mod alignment;
 mod fitting;
+mod identifier;
 mod laws;
 mod size;
 
@@ -14,8 +15,10 @@ pub use data_types::{
     StreamType, StructType, Value, Values,
 };
 pub use fitting::{call_faults, fits};
+pub use identifier::is_identifier;
 pub use laws::{
-    allowed_metadata, lying_fits, one_end, one_packet_list, one_value, own_bits_alone, shown_lies,
+    allowed_metadata, clean_lies, front_of_packets, joined_packets, lying_fits, one_end,
+    one_packet_list, one_value, own_bits_alone, shown_lies,
 };
 pub use plain_lists::{Bytes, Duplicate, ListOf, Text};
 pub use size::{members_size, size_from};

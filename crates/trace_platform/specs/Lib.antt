@@ -1,5 +1,6 @@
 pub mod Appending
 pub mod AppendingLaws
+pub mod AppendingPieces
 pub mod Count
 pub mod Queue
 pub mod QueueLaws

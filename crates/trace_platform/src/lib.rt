@@ -3,6 +3,7 @@
 
 mod back_end;
 mod clock;
+mod laws;
 mod list_back_end;
 mod list_clock;
 mod memory_sink;
@@ -18,6 +19,7 @@ mod writer_sink;
 
 pub use back_end::BackEnd;
 pub use clock::{Clock, ClockSpent};
+pub use laws::appended_pieces;
 pub use list_back_end::ListBackEnd;
 pub use list_clock::ListClock;
 pub use memory_sink::MemorySink;

@@ -1,7 +1,7 @@
 use Rattle.std.proofs.Common.{◌≡◌, ◌||◌, drop}
 use Rattle.std.specs.List.{list_all}
 use Rattle.ctf_types.specs.Names.{is_letter, is_digit}
-use Rattle.conf_values.proofs.name.are_letters_or_digits.Given as goal
+use Rattle.ctf_types.proofs.identifier.are_letters_or_digits.Given as goal
 
 -- the bytes that are left are letters and digits where all of them are
 abbrev pub invariant-loop-byte : goal.invariant-loop-byte
