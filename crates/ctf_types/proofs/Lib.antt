@@ -1,3 +1,4 @@
+pub use Rattle.data_types.proofs.Crossing
 pub use Rattle.data_types.proofs.MembersLemmas
 pub mod AllowedMembers
 pub mod AllowedMetadata
