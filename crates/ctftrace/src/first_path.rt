@@ -11,12 +11,12 @@ use crate::packets::{joined_bytes, trace_values, values_of};
 use crate::printed::{bad_line, print_packets, print_values};
 use crate::read_all::read_all;
 use crate::small_configuration::small_metadata;
-use crate::write_text::write_text;
 use ctf_types::Text;
 use packet_reader::{ReadStream, read_stream};
 use packet_writer::Packet;
 use std::alloc::{AllocError, Global};
 use std::io::{Read, Write};
+use trace_platform::write_all;
 
 /// The status where a read or a write failed, the input had no end, or memory was wanting.
 const FAILED: u8 = 3;
@@ -51,10 +51,10 @@ pub fn first_path<R: Read, W: Write, E: Write>(
     let Ok(answer) = answer_to(alloc, text.as_slice()) else {
         return FAILED;
     };
-    if !write_text(output, answer.output.as_bytes()) {
+    if !write_all(output, answer.output.as_bytes()) {
         return FAILED;
     }
-    if !write_text(errors, answer.errors.as_bytes()) {
+    if !write_all(errors, answer.errors.as_bytes()) {
         return FAILED;
     }
     answer.status

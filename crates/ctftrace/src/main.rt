@@ -9,7 +9,6 @@ mod read_all;
 mod small_configuration;
 #[cfg(test)]
 mod tests;
-mod write_text;
 
 use first_path::first_path;
 use std::process::ExitCode;

@@ -1,3 +1,3 @@
-pub mod Known
+pub mod Fronts
 pub mod Pieces
 pub mod Rising

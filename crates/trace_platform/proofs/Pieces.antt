@@ -1,19 +1,15 @@
 -- Bytes that are appended piece by piece are appended joined, and the other way round.
-use Rattle.std.proofs.Common.{ℕ, List, [], ◌∷◌, ◌++◌, Option, None, Some, refl, append_assoc, append-nil, sym, ◌∙◌}
+use Rattle.std.proofs.Common.{ℕ, List, [], ◌∷◌, ◌++◌, Option, None, Some, refl, append_assoc, sym, ◌∙◌}
+use Rattle.std.proofs.KnownBytes.{Appends-trans}
 use Rattle.std.specs.Prelude.{◌↔◌}
 use Rattle.std.specs.List.{concat}
 use Rattle.std.specs.Io.KnownBytes.{Appends}
 use Rattle.trace_platform.specs.AppendingPieces.{AppendsEach}
-use Rattle.trace_platform.proofs.Known.{Appends-twice}
-
-pub Appends-nothing : (held : Option (List ℕ)) → Appends held held []
-Appends-nothing None = tt
-Appends-nothing (Some bytes) = sym (append-nil bytes)
 
 -- pieces, joined
 Appends-joined : (first last : Option (List ℕ)) (pieces : List (List ℕ)) → AppendsEach first last pieces → Appends first last (concat pieces)
 Appends-joined first last [] h = h
-Appends-joined first last (piece ∷ pieces) h = Appends-twice first h.0 last piece (concat pieces) h.1 (Appends-joined h.0 last pieces h.2)
+Appends-joined first last (piece ∷ pieces) h = Appends-trans first h.0 last piece (concat pieces) h.1 (Appends-joined h.0 last pieces h.2)
 
 -- and joined bytes in their pieces
 Appends-apart : (first last : Option (List ℕ)) (pieces : List (List ℕ)) → Appends first last (concat pieces) → AppendsEach first last pieces

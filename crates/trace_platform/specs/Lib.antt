@@ -2,9 +2,12 @@ pub mod Appending
 pub mod AppendingLaws
 pub mod AppendingPieces
 pub mod Count
+pub mod Fronts
 pub mod Queue
 pub mod QueueLaws
 pub mod Readings
 pub mod Scripted
 pub mod ScriptedLaws
+pub mod ScriptedSourceLaws
+pub mod ScriptedSources
 pub mod Turns

@@ -1,6 +1,7 @@
 //! Structures, values and configurations that rows say in short.
 
 ghost use Rattle.std.specs.Prelude.{IfOk};
+ghost use Rattle.ctf_types.specs.AllowedConfig.{IsConfig};
 ghost use Rattle.ctf_types.specs.Laws.{IsAutomatic, AreAutomatic};
 
 use conf_check::configure;
@@ -135,7 +136,9 @@ fn zeros(alloc: Global, count: usize) -> Result<Values, AllocError> {
 }
 
 /// The configuration that a text is.
-pub fn configured(alloc: Global, text: &str) -> Result<Config, Fail> {
+pub fn configured(alloc: Global, text: &str) -> Result<Config, Fail>
+    ensures { IfOk result (λ c. IsConfig c) }
+{
     match configure(alloc, text.as_bytes(), None) {
         Ok(config) => Ok(config),
         Err(fault) => Err(Fail::new(fault)),
