@@ -1,0 +1,18 @@
+//! One clock for many threads: a word that is read by adding one to it, so that each reading is given once.
+#![tactic(auto)]
+
+mod bounds;
+mod clock_fault;
+mod clock_steps;
+mod clock_table;
+#[cfg(test)]
+mod tests;
+mod tick_clock;
+mod tick_seat;
+mod view;
+
+pub use bounds::Bounds;
+pub use clock_fault::ClockFault;
+pub use tick_clock::TickClock;
+pub use tick_seat::TickSeat;
+pub use view::View;
