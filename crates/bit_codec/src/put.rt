@@ -2,9 +2,10 @@
 
 ghost use Rattle.std.specs.Prelude.{◌≡◌, ◌+◌, ◌*◌, ◌^◌, ◌<◌, ◌≤◌, length};
 ghost use Rattle.ctf_types.specs.Bits.{bit_of, number_at, SameOutside};
-ghost use Rattle.bit_codec.specs.Place.{place_in_number};
 
-use crate::bit::put_bit;
+use crate::in_byte::{put_in_byte, size_in_byte};
+use crate::number_parts::take_part;
+use crate::word::{put_8, put_16, put_32, put_64};
 use ctf_types::ByteOrder;
 
 /// Writes `value` as the `n` bits from the bit position `at` on; every other bit stays.
@@ -21,19 +22,52 @@ pub fn put_bits(bytes: &mut [u8], at: u64, n: u8, order: ByteOrder, value: u64)
     ensures number { number_at order (bit_of order bytes.new) at n ≡ value }
     ensures others { SameOutside (bit_of order bytes.new) (bit_of order bytes.old) at (at + n) }
 {
-    for j in 0..n {
-        let bit = (value >> place(j, n, order)) % 2;
-        put_bit(bytes, at + u64::from(j), order, bit);
+    match order {
+        ByteOrder::Little => put_in_order(bytes, at, n, ByteOrder::Little, value),
+        ByteOrder::Big => put_in_order(bytes, at, n, ByteOrder::Big, value),
     }
 }
 
-/// Which bit of a number of `n` bits, counted from the least significant, is its bit `j` in a byte slice.
-fn place(j: u8, n: u8, order: ByteOrder) -> u32
-    requires { j < n }
-    ensures { result ≡ place_in_number order n j }
+/// `put_bits` where the order is known when it is compiled, so that a word is one store.
+#[inline(always)]
+fn put_in_order(bytes: &mut [u8], at: u64, n: u8, order: ByteOrder, value: u64)
+    requires some { 0 < n }
+    requires at_most_64 { n ≤ 64 }
+    requires position { at + n < 2 ^ 64 }
+    requires within { at + n ≤ 8 * length bytes.old }
+    requires fits { value < 2 ^ n }
+    ensures number { number_at order (bit_of order bytes.new) at n ≡ value }
+    ensures others { SameOutside (bit_of order bytes.new) (bit_of order bytes.old) at (at + n) }
 {
-    match order {
-        ByteOrder::Little => u32::from(j),
-        ByteOrder::Big => u32::from(n - 1 - j),
+    let index = (at / 8) as usize;
+    match (at % 8, n) {
+        (0, 8) => put_8(bytes, index, order, value),
+        (0, 16) => put_16(bytes, index, order, value),
+        (0, 32) => put_32(bytes, index, order, value),
+        (0, 64) => put_64(bytes, index, order, value),
+        (skipped, _) if skipped + u64::from(n) <= 8 => {
+            put_in_byte(bytes, at, u32::from(n), order, value);
+        }
+        _ => put_by_bytes(bytes, at, u32::from(n), order, value),
+    }
+}
+
+/// `put_bits`, byte by byte: of each byte the bits that the number has in it.
+#[inline(never)]
+fn put_by_bytes(bytes: &mut [u8], at: u64, n: u32, order: ByteOrder, value: u64)
+    requires at_most_64 { n ≤ 64 }
+    requires position { at + n < 2 ^ 64 }
+    requires within { at + n ≤ 8 * length bytes.old }
+    requires fits { value < 2 ^ n }
+    ensures number { number_at order (bit_of order bytes.new) at n ≡ value }
+    ensures others { SameOutside (bit_of order bytes.new) (bit_of order bytes.old) at (at + n) }
+{
+    let mut done = 0;
+    while done < n {
+        let place = at + u64::from(done);
+        let size = size_in_byte(place, n - done);
+        let part = take_part(value, n, done, size, order);
+        put_in_byte(bytes, place, size, order, part);
+        done += size;
     }
 }

@@ -2,7 +2,7 @@
 
 ghost use Rattle.std.specs.Prelude.{◌≡◌, ◌^◌, ◌<◌, ◌≤◌, length, IsTrue};
 
-use crate::{get_bits, put_bits, zero_bits};
+use crate::{get_bits, put_bits, put_bytes, zero_bits};
 use ctf_types::ByteOrder;
 use std::process::Abort;
 
@@ -60,6 +60,15 @@ fn clears_a_span_in_both_orders(rt: HostRuntime) {
     let mut big = [0xff; 4];
     zero_bits(&mut big, 5, 22, ByteOrder::Big);
     assert_eq!(rt; big, [0xf8, 0x00, 0x03, 0xff]);
+}
+
+#[test]
+fn copies_bytes_to_a_whole_byte(rt: HostRuntime) {
+    let mut bytes = [0xa5; 5];
+    put_bytes(&mut bytes, 8, b"abc");
+    assert_eq!(rt; bytes, [0xa5, b'a', b'b', b'c', 0xa5]);
+    put_bytes(&mut bytes, 40, b"");
+    assert_eq!(rt; bytes, [0xa5, b'a', b'b', b'c', 0xa5]);
 }
 
 #[test]
