@@ -3,10 +3,11 @@
 use crate::tests::reading::read_back;
 use crate::tests::small::{Changes, small};
 use ctf_types::{Config, Metadata, align_of};
+use std::alloc::Global;
 use std::test::Fail;
 
 /// What a row shows, the small configuration's payload, and the payload's alignment in bits. The length of a dynamic array is a number of 32 bits, aligned to 8.
-const PAYLOADS: &[(&str, Changes, u32)] = &[
+static PAYLOADS: &[(&str, Changes, u32)] = &[
     (
         "a number of 1 bit",
         &[(
@@ -75,28 +76,35 @@ const PAYLOADS: &[(&str, Changes, u32)] = &[
 
 #[test]
 fn aligns_structures(rt: HostRuntime) -> Result<(), Fail> {
-    let alloc = rt.alloc();
     for (shows, changes, align) in PAYLOADS {
-        let config = small(alloc, *changes)?;
-        let found = payload_align(&config)?;
-        assert_eq!(rt; found, *align, "{shows}");
-        let metadata = read_back(alloc, &config)?;
-        let found = fields_align(&metadata)?;
-        assert_eq!(rt; found, *align, "metadata of {shows}");
+        let found = configured_align(rt.alloc(), *changes)?;
+        assert_eq!(rt; found, Some(*align), "{shows}");
+        let found = read_align(rt.alloc(), *changes)?;
+        assert_eq!(rt; found, Some(*align), "metadata of {shows}");
     }
     Ok(())
 }
 
-/// The alignment of the payload of a configuration's first event record type.
-fn payload_align(config: &Config) -> Result<u32, Fail> {
-    let stream = config.streams.get(0).ok_or("no data stream type")?;
-    let event = stream.events.get(0).ok_or("no event record type")?;
-    Ok(align_of(&event.payload))
+/// The alignment of the payload of the configuration's first event record type.
+fn configured_align(alloc: Global, changes: Changes) -> Result<Option<u32>, Fail> {
+    let config = small(alloc, changes)?;
+    Ok(payload_align(&config))
 }
 
-/// The alignment of the fields of metadata's first event record type.
-fn fields_align(metadata: &Metadata) -> Result<u32, Fail> {
-    let stream = metadata.streams.get(0).ok_or("no stream")?;
-    let event = stream.events.get(0).ok_or("no event record type")?;
-    Ok(align_of(&event.fields))
+fn payload_align(config: &Config) -> Option<u32> {
+    let stream = config.streams.get(0)?;
+    let event = stream.events.get(0)?;
+    Some(align_of(&event.payload))
+}
+
+/// The alignment of the fields of the first event record type of the metadata that is read from the configuration's text.
+fn read_align(alloc: Global, changes: Changes) -> Result<Option<u32>, Fail> {
+    let metadata = read_back(alloc, &small(alloc, changes)?)?;
+    Ok(fields_align(&metadata))
+}
+
+fn fields_align(metadata: &Metadata) -> Option<u32> {
+    let stream = metadata.streams.get(0)?;
+    let event = stream.events.get(0)?;
+    Some(align_of(&event.fields))
 }

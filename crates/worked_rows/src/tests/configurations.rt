@@ -1,109 +1,105 @@
 //! Small configurations are accepted, or refused with the first fault and its place.
 
-use crate::tests::judging::{is_judged, judges};
+use crate::tests::judging::{are_judged, judges, judges_in_place};
 use crate::tests::small::{CLOCKED, Changes, SMALL, changed};
 use crate::tests::tables::{
     Slot, aliases, arrays, clock_types, clocked_streams, data_stream_features, data_stream_types,
     enumerations, environment, events, inheritance, integers, structures, trace_features,
     trace_types, whole_texts,
 };
+use std::alloc::Global;
+use std::process::Abort;
 use std::test::Fail;
 
-#[test]
-fn judges_integers(rt: HostRuntime) -> Result<(), Fail> {
-    is_judged(&rt, rt.alloc(), Slot::Field, integers::FIELDS)
-}
+/// A place, and the rows of texts in it.
+type Place = (Slot, &'static str);
+
+static FIELD_TYPES: &[Place] = &[
+    (Slot::Field, integers::FIELDS),
+    (Slot::Field, enumerations::FIELDS),
+    (Slot::Field, arrays::FIELDS),
+    (Slot::Payload, arrays::PAYLOADS),
+    (Slot::Payload, structures::PAYLOADS),
+    (Slot::Field, inheritance::FIELDS),
+    (Slot::Payload, inheritance::PAYLOADS),
+];
 
 #[test]
-fn judges_enumerations(rt: HostRuntime) -> Result<(), Fail> {
-    is_judged(&rt, rt.alloc(), Slot::Field, enumerations::FIELDS)
+fn judges_field_types(rt: HostRuntime) -> Result<(), Fail> {
+    all_are_judged(&rt, rt.alloc(), FIELD_TYPES)
 }
 
-#[test]
-fn judges_strings_and_arrays(rt: HostRuntime) -> Result<(), Fail> {
-    is_judged(&rt, rt.alloc(), Slot::Field, arrays::FIELDS)?;
-    is_judged(&rt, rt.alloc(), Slot::Payload, arrays::PAYLOADS)
-}
-
-#[test]
-fn judges_structures(rt: HostRuntime) -> Result<(), Fail> {
-    is_judged(&rt, rt.alloc(), Slot::Payload, structures::PAYLOADS)
-}
-
-#[test]
-fn judges_event_record_types(rt: HostRuntime) -> Result<(), Fail> {
-    is_judged(&rt, rt.alloc(), Slot::Event, events::EVENTS)
-}
+static STREAM_TYPES: &[Place] = &[
+    (Slot::Event, events::EVENTS),
+    (Slot::Stream, data_stream_types::STREAMS),
+    (Slot::Packet, data_stream_features::PACKETS),
+    (Slot::Record, data_stream_features::RECORDS),
+    (Slot::ClockedStream, clocked_streams::CLOCKED_STREAMS),
+];
 
 #[test]
 fn judges_data_stream_types(rt: HostRuntime) -> Result<(), Fail> {
-    is_judged(&rt, rt.alloc(), Slot::Stream, data_stream_types::STREAMS)
+    all_are_judged(&rt, rt.alloc(), STREAM_TYPES)
 }
 
-#[test]
-fn judges_data_stream_features(rt: HostRuntime) -> Result<(), Fail> {
-    is_judged(&rt, rt.alloc(), Slot::Packet, data_stream_features::PACKETS)?;
-    is_judged(&rt, rt.alloc(), Slot::Record, data_stream_features::RECORDS)
-}
-
-#[test]
-fn judges_timestamp_features(rt: HostRuntime) -> Result<(), Fail> {
-    is_judged(
-        &rt,
-        rt.alloc(),
-        Slot::ClockedStream,
-        clocked_streams::CLOCKED_STREAMS,
-    )
-}
+static TRACE_TYPES: &[Place] = &[
+    (Slot::Type, trace_types::TRACE_TYPES),
+    (Slot::Features, trace_features::FEATURES),
+    (Slot::Type, trace_features::TRACE_TYPES),
+    (Slot::Type, inheritance::TRACE_TYPES),
+];
 
 #[test]
 fn judges_trace_types(rt: HostRuntime) -> Result<(), Fail> {
-    is_judged(&rt, rt.alloc(), Slot::Type, trace_types::TRACE_TYPES)
+    all_are_judged(&rt, rt.alloc(), TRACE_TYPES)
 }
 
-#[test]
-fn judges_trace_features(rt: HostRuntime) -> Result<(), Fail> {
-    is_judged(&rt, rt.alloc(), Slot::Features, trace_features::FEATURES)?;
-    is_judged(&rt, rt.alloc(), Slot::Type, trace_features::TRACE_TYPES)
-}
+static OTHERS: &[Place] = &[
+    (Slot::Clock, clock_types::CLOCKS),
+    (Slot::LogLevels, aliases::LOG_LEVELS),
+    (Slot::Aliases, aliases::FIELD_TYPES),
+    (Slot::Root, whole_texts::ROOTS),
+    (Slot::Environment, environment::ENVIRONMENTS),
+];
 
 #[test]
-fn judges_clock_types(rt: HostRuntime) -> Result<(), Fail> {
-    is_judged(&rt, rt.alloc(), Slot::Clock, clock_types::CLOCKS)
+fn judges_clock_types_aliases_environments_and_whole_texts(rt: HostRuntime) -> Result<(), Fail> {
+    all_are_judged(&rt, rt.alloc(), OTHERS)
 }
 
-#[test]
-fn judges_aliases(rt: HostRuntime) -> Result<(), Fail> {
-    is_judged(&rt, rt.alloc(), Slot::LogLevels, aliases::LOG_LEVELS)?;
-    is_judged(&rt, rt.alloc(), Slot::Aliases, aliases::FIELD_TYPES)
+fn all_are_judged(rt: &impl Abort, alloc: Global, places: &[Place]) -> Result<(), Fail> {
+    for (slot, rows) in places {
+        are_judged(rt, alloc, *slot, rows)?;
+    }
+    Ok(())
 }
 
-#[test]
-fn judges_inheritance(rt: HostRuntime) -> Result<(), Fail> {
-    is_judged(&rt, rt.alloc(), Slot::Field, inheritance::FIELDS)?;
-    is_judged(&rt, rt.alloc(), Slot::Payload, inheritance::PAYLOADS)?;
-    is_judged(&rt, rt.alloc(), Slot::Type, inheritance::TRACE_TYPES)
-}
+/// Fields whose labels have control characters, and the kind and the path of their fault.
+static CONTROLS: &[(&str, &str, &str)] = &[
+    (
+        r#"{"class":"uenum","size":8,"mappings":{"A\u0001":[1]}}"#,
+        "OutOfRange",
+        "mappings/A\u{1}",
+    ),
+    (
+        r#"{"class":"uenum","size":8,"mappings":{"A\u001f":[1]}}"#,
+        "OutOfRange",
+        "mappings/A\u{1f}",
+    ),
+];
 
 #[test]
-fn judges_whole_texts(rt: HostRuntime) -> Result<(), Fail> {
-    is_judged(&rt, rt.alloc(), Slot::Root, whole_texts::ROOTS)
-}
-
-#[test]
-fn judges_environments(rt: HostRuntime) -> Result<(), Fail> {
-    is_judged(
-        &rt,
-        rt.alloc(),
-        Slot::Environment,
-        environment::ENVIRONMENTS,
-    )
+fn refuses_labels_with_control_characters(rt: HostRuntime) -> Result<(), Fail> {
+    for (text, kind, path) in CONTROLS {
+        judges_in_place(&rt, rt.alloc(), Slot::Field, text, kind, path)?;
+    }
+    Ok(())
 }
 
 const IDENTIFIER: u128 = 0x79e4_9040_21b5_42d4_a83b_646f_7866_6b62;
 
 /// Whole texts, judged with an identifier that is handed in.
-const WITH_IDENTIFIER: &[(&str, &str, &str)] = &[
+static WITH_IDENTIFIER: &[(&str, &str, &str)] = &[
     (
         r#"{"trace":{"type":{"trace-byte-order":"le","uuid":"auto"}}}"#,
         "",
@@ -155,7 +151,7 @@ fn judges_with_an_identifier(rt: HostRuntime) -> Result<(), Fail> {
 }
 
 /// `SMALL` or `CLOCKED`, what is changed in it, and the kind and the path of the fault.
-const CHANGED: &[(&str, Changes, &str, &str)] = &[
+static CHANGED: &[(&str, Changes, &str, &str)] = &[
     (SMALL, &[], "", ""),
     (CLOCKED, &[], "", ""),
     (

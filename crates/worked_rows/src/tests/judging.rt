@@ -1,6 +1,6 @@
 //! Judges the text of a row in its place.
 
-use crate::tests::tables::{Row, Slot};
+use crate::tests::tables::Slot;
 use conf_check::configure;
 use std::alloc::{AllocError, Global};
 use std::process::Abort;
@@ -20,7 +20,7 @@ const WORDS: [(&str, &str); 5] = [
 ];
 
 /// For each place what stands before and behind its text, seen from the place around it, the steps to it, and that place; inner places first.
-const PLACES: &[(Slot, &str, &str, &str, Slot)] = &[
+static PLACES: &[(Slot, &str, &str, &str, Slot)] = &[
     (
         Slot::Field,
         r#"{"class":"struct","members":[{"v":{"field-type":"#,
@@ -145,17 +145,16 @@ fn joined(alloc: Global, first: &str, second: &str) -> Result<String, AllocError
 }
 
 /// The kind of the fault, empty where there is none, and its path.
-fn judged(alloc: Global, text: &str, number: Option<u128>) -> Result<(String, String), AllocError> {
+fn judged(alloc: Global, text: &str, number: Option<u128>) -> Result<String, AllocError> {
     match configure(alloc, text.as_bytes(), number.map(Uuid::from_u128)) {
-        Ok(_) => Ok((String::new(alloc), String::new(alloc))),
+        Ok(_) => String::from_str(alloc, " "),
         Err(fault) => {
-            let kind = format!(in alloc; "{:?}", fault.kind)?;
             let mut path = String::new(alloc);
             for step in fault.path.as_slice() {
                 let step = format!(in alloc; "{step}")?;
                 path = joined(alloc, path.as_str(), step.as_str())?;
             }
-            Ok((kind, path))
+            format!(in alloc; "{:?} {path}", fault.kind)
         }
     }
 }
@@ -169,9 +168,9 @@ pub fn judges(
     kind: &str,
     path: &str,
 ) -> Result<(), Fail> {
-    let (found, at) = judged(alloc, text, number)?;
-    assert_eq!(rt; found.as_str(), kind, "{text}");
-    assert_eq!(rt; at.as_str(), path, "{text}");
+    let found = judged(alloc, text, number)?;
+    let want = format!(in alloc; "{kind} {path}")?;
+    assert_eq!(rt; found.as_str(), want.as_str(), "{text}");
     Ok(())
 }
 
@@ -201,10 +200,27 @@ pub fn judges_in_place(
     judges(rt, alloc, configuration.as_str(), None, kind, want.as_str())
 }
 
-/// The rows of a place.
-pub fn is_judged(rt: &impl Abort, alloc: Global, slot: Slot, rows: &[Row]) -> Result<(), Fail> {
-    for (text, kind, path) in rows {
-        judges_in_place(rt, alloc, slot, text, kind, path)?;
+/// The rows of a place, a line each.
+pub fn are_judged(rt: &impl Abort, alloc: Global, slot: Slot, rows: &str) -> Result<(), Fail> {
+    for row in rows.lines() {
+        is_judged(rt, alloc, slot, row)?;
     }
     Ok(())
+}
+
+fn is_judged(rt: &impl Abort, alloc: Global, slot: Slot, row: &str) -> Result<(), Fail> {
+    if row.is_empty() || row.starts_with("# ") {
+        return Ok(());
+    }
+    let (text, answer) = row.split_once(" -> ").ok_or("a row without an answer")?;
+    let (kind, path) = fault_of(answer);
+    judges_in_place(rt, alloc, slot, text, kind, path)
+}
+
+/// The kind and the path that an answer names, both empty where it is `accepted`.
+fn fault_of(answer: &str) -> (&str, &str) {
+    if answer == "accepted" {
+        return ("", "");
+    }
+    answer.split_once(" ").unwrap_or((answer, ""))
 }

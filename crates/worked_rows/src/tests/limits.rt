@@ -16,7 +16,7 @@ const NONE: Fault = ("", "");
 /// limit and one past it.
 type Many = (Slot, &'static str, &'static str, usize, Fault, Fault);
 
-const MANY: &[Many] = &[
+static MANY: &[Many] = &[
     (
         Slot::Environment,
         "{@}",
@@ -221,7 +221,7 @@ fn has_fault(
 /// A long word in one place: the text with `@` for the word, the limit of its length, and the fault one past it, in whose path `@` is the word.
 type Long = (Slot, &'static str, usize, Fault);
 
-const LONG: &[Long] = &[
+static LONG: &[Long] = &[
     (Slot::Environment, r#"{"@":1}"#, 255, ("BadName", "@")),
     (
         Slot::Type,
@@ -314,7 +314,7 @@ const ELEMENT: &str = r#"{"class":"static-array","length":2,"element-field-type"
 const INNER: &str = r#"{"element-field-type":"#;
 
 /// The whole text is the first level of objects and lists, an alias the fifth.
-const DEEP: &[Deep] = &[
+static DEEP: &[Deep] = &[
     (Slot::Field, "@", ELEMENT, "U8", "}", 8, NONE, ("Limit", "")),
     (
         Slot::Field,

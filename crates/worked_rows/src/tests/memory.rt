@@ -9,11 +9,12 @@ use crate::tests::small::{Datum, SMALL, changed, payload};
 use conf_check::configure;
 use ctf_types::{Args, Config, Metadata, Text, Values};
 use packet_reader::{ReadStream, StreamEnding, read_stream};
+use packet_ring::ring;
 use std::alloc::{AllocError, Global};
 use std::process::Abort;
 use std::test::Fail;
 use thread_stream::{Stream, Verdict};
-use trace_platform::{ListBackEnd, ListClock, PacketSource};
+use trace_platform::{BackEnd, ListBackEnd, ListClock, PacketSource};
 use tsdl_reader::read_metadata;
 use tsdl_writer::write_metadata;
 
@@ -62,9 +63,6 @@ fn read_back(alloc: Global, config: &Config) -> Result<Metadata, Fail>
 fn read(alloc: Global, metadata: &Metadata, bytes: &[u8]) -> Result<ReadStream, Fail>
     requires { IsMetadata metadata.now }
 {
-    if bytes.len() >= 1000 {
-        return Err(Fail::new("too many bytes"));
-    }
     let name = granted(Text::from_str(alloc, "a"))?;
     granted(read_stream(alloc, metadata, name, bytes))
 }
@@ -104,13 +102,17 @@ fn writes_and_reads_metadata(rt: HostRuntime) -> Result<(), Fail> {
 
 #[test]
 fn reads_strings_and_lists(rt: HostRuntime) -> Result<(), Fail> {
-    let alloc = rt.alloc();
-    let text = granted(changed(alloc, SMALL, &[("PAYLOAD", LISTS)]))?;
-    let metadata = read_back(alloc, &configuration(alloc, text.as_str())?)?;
-    let read = read(alloc, &metadata, FILE)?;
+    let read = lists_read(rt.alloc())?;
     assert_eq!(rt; read.packets.len(), 1);
     assert!(rt; matches!(read.end, StreamEnding::Whole));
     Ok(())
+}
+
+/// What is read of `FILE` by the metadata of the small configuration with `LISTS`.
+fn lists_read(alloc: Global) -> Result<ReadStream, Fail> {
+    let text = granted(changed(alloc, SMALL, &[("PAYLOAD", LISTS)]))?;
+    let metadata = read_back(alloc, &configuration(alloc, text.as_str())?)?;
+    read(alloc, &metadata, FILE)
 }
 
 #[test]
@@ -126,18 +128,22 @@ fn traces_a_thousand_records(rt: HostRuntime) -> Result<(), Fail> {
 /// Traces so many records with one list of arguments, and takes each packet as it is closed.
 fn traces(rt: &impl Abort, alloc: Global, records: u32) -> Result<(), Fail> {
     let args = granted(payload(alloc, &[Datum::Unsigned(7)]))?;
-    let mut stream = stream(alloc)?;
+    let back_end = granted(ListBackEnd::new(alloc, 2, 16))?;
+    let mut stream = stream_over(alloc, back_end)?;
     for _ in 0..records {
         traces_and_takes(rt, &mut stream, &args);
     }
     Ok(())
 }
 
-fn stream(alloc: Global) -> Result<Stream<ListClock, ListBackEnd>, Fail> {
+/// A stream of the small configuration over this back end.
+fn stream_over<B: BackEnd + Drop>(
+    alloc: Global,
+    back_end: B,
+) -> Result<Stream<ListClock, B>, Fail> {
     let text = granted(changed(alloc, SMALL, &[]))?;
     let config = configuration(alloc, text.as_str())?;
     let clock = ListClock::new(Vec::new(alloc)).ok_or("readings that fall")?;
-    let back_end = granted(ListBackEnd::new(alloc, 2, 16))?;
     match Stream::new(alloc, &config, "s", clock, back_end, Values::new(alloc)) {
         Ok(stream) => Ok(stream),
         Err(refused) => Err(Fail::new(refused.fault)),
@@ -150,4 +156,29 @@ fn traces_and_takes(rt: &impl Abort, stream: &mut Stream<ListClock, ListBackEnd>
     if let Some(packet) = stream.take() {
         stream.give_back(packet.into_buf());
     }
+}
+
+#[test]
+fn traces_one_record_over_a_ring(rt: HostRuntime) -> Result<(), Fail> {
+    traces_over_a_ring(&rt, rt.alloc(), 1)
+}
+
+#[test]
+fn traces_a_thousand_records_over_a_ring(rt: HostRuntime) -> Result<(), Fail> {
+    traces_over_a_ring(&rt, rt.alloc(), 1000)
+}
+
+/// Traces so many records over a ring of one place, and takes each packet as it is closed.
+fn traces_over_a_ring(rt: &impl Abort, alloc: Global, records: u32) -> Result<(), Fail> {
+    let args = granted(payload(alloc, &[Datum::Unsigned(7)]))?;
+    let (back_end, mut ring_end) = granted(ring(alloc, 1, 16))?;
+    let mut stream = stream_over(alloc, back_end)?;
+    for _ in 0..records {
+        let answer = stream.trace(0, &args);
+        assert_eq!(rt; answer, Verdict::Accepted(None));
+        if let Some(packet) = ring_end.take() {
+            ring_end.give_back(packet.into_buf());
+        }
+    }
+    Ok(())
 }

@@ -6,7 +6,7 @@ use std::alloc::Global;
 use std::process::Abort;
 use std::test::Fail;
 
-const WORDS: &[&str] = &[
+static WORDS: &[&str] = &[
     "align",
     "callsite",
     "char",
@@ -38,7 +38,7 @@ const WORDS: &[&str] = &[
 ];
 
 /// A place, the text with `@` for the name, and the kind and the path of the fault, empty where the name may be such a word.
-const NAMES: &[(Slot, &str, &str, &str)] = &[
+static NAMES: &[(Slot, &str, &str, &str)] = &[
     (
         Slot::Payload,
         r#"{"class":"struct","members":[{"@":{"field-type":U8}}]}"#,

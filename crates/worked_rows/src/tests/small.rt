@@ -32,6 +32,9 @@ const PLAIN: [(&str, &str); 8] = [
 pub const CLOCKED: &str =
     r#"{"trace":{"type":{"native-byte-order":"be","clock-types":{"clk":{}},"$features":{"data-stream-type-id-field-type":false},"data-stream-types":{"s":{"$default-clock-type-name":"clk","$features":{"packet":{"total-size-field-type":"u16","content-size-field-type":"u16","discarded-event-records-counter-snapshot-field-type":"u8","sequence-number-field-type":"u8"},"event-record":{"type-id-field-type":"u8"}},"event-record-types":{"a":{"payload-field-type":{"class":"struct","members":[{"n":{"field-type":{"class":"sint","size":16}}}]}},"b":{"payload-field-type":{"class":"struct","members":[{"s":{"field-type":{"class":"str"}}}]}}}}},"$field-type-aliases":{"u8":{"class":"uint","size":8},"u16":{"class":"uint","size":16}}}}}"#;
 
+/// An unsigned integer of 8 bits.
+pub const NARROW: &str = r#"{"class":"uint","size":8}"#;
+
 /// Pieces of a text, each with what stands in its place.
 pub type Changes = &'static [(&'static str, &'static str)];
 
@@ -68,13 +71,8 @@ fn plain(alloc: Global, text: String) -> Result<String, AllocError> {
 pub fn configured(alloc: Global, text: &str, number: Option<u128>) -> Result<Config, Fail>
     ensures { IfOk result (λ c. IsConfig c) }
 {
-    match configure(alloc, text.as_bytes(), number.map(Uuid::from_u128)) {
-        Ok(config) => Ok(config),
-        Err(fault) => {
-            let why = format!(in alloc; "{fault}")?;
-            Err(why.as_str().into())
-        }
-    }
+    let config = configure(alloc, text.as_bytes(), number.map(Uuid::from_u128))?;
+    Ok(config)
 }
 
 /// The small configuration with these words in the place of its own.

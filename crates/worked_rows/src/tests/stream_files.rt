@@ -3,9 +3,10 @@
 ghost use Rattle.std.specs.Prelude.{IfOk};
 ghost use Rattle.ctf_types.specs.Allowed.{IsMetadata};
 
-use crate::tests::small::{Changes, bytes_of};
-use ctf_types::{Metadata, Text};
-use packet_reader::read_stream;
+use crate::tests::reading::read;
+use crate::tests::small::Changes;
+use ctf_types::Metadata;
+use packet_reader::ReadStream;
 use std::alloc::{AllocError, Global};
 use std::process::Abort;
 use std::test::Fail;
@@ -54,51 +55,56 @@ pub fn metadata_of(alloc: Global, changes: Changes) -> Result<Metadata, Fail>
     ensures { IfOk result (λ m. IsMetadata m) }
 {
     let text = metadata_text(alloc, changes)?;
-    match read_metadata(alloc, text.as_bytes()) {
-        Ok(metadata) => Ok(metadata),
-        Err(fault) => {
-            let why = format!(in alloc; "{fault}")?;
-            Err(why.as_str().into())
-        }
-    }
+    let metadata = read_metadata(alloc, text.as_bytes())?;
+    Ok(metadata)
 }
 
-/// What a row shows, the file in hexadecimal, how many records each of its packets has, and how it ends.
-pub type Row = (&'static str, &'static str, &'static str, &'static str);
+/// Words of a metadata text and of others, and the files that are read by each of them, a line each: what the file shows, its bytes in hexadecimal,
+/// how many records each of its packets has, and how it ends, as `a packet of one record: c11ffcc1 .. -> [1] Whole`.
+pub type Table = (&'static [Changes], &'static str);
 
-/// The files of rows end as they say, by the metadata with these words.
-pub fn all_end(rt: &impl Abort, alloc: Global, changes: Changes, rows: &[Row]) -> Result<(), Fail> {
-    for (shows, digits, records, end) in rows {
-        ends(rt, alloc, changes, shows, digits, records, end)?;
+/// The files of each table end as their lines say.
+pub fn all_end(rt: &impl Abort, alloc: Global, tables: &[Table]) -> Result<(), Fail> {
+    for (texts, files) in tables {
+        end_by_each(rt, alloc, texts, files)?;
     }
     Ok(())
 }
 
-fn ends(
-    rt: &impl Abort,
-    alloc: Global,
-    changes: Changes,
-    shows: &str,
-    digits: &str,
-    records: &str,
-    end: &str,
-) -> Result<(), Fail> {
+fn end_by_each(rt: &impl Abort, alloc: Global, texts: &[Changes], files: &str) -> Result<(), Fail> {
+    for changes in texts {
+        files_end(rt, alloc, *changes, files)?;
+    }
+    Ok(())
+}
+
+fn files_end(rt: &impl Abort, alloc: Global, changes: Changes, files: &str) -> Result<(), Fail> {
+    for line in files.trim().lines() {
+        let (shows, digits, want) = file_line(line).ok_or("a line without a file or an answer")?;
+        let found = ending(alloc, changes, digits)?;
+        assert_eq!(rt; found.as_str(), want, "{shows}");
+    }
+    Ok(())
+}
+
+/// What a file shows, its bytes in hexadecimal, and what is found in it.
+pub fn file_line(line: &str) -> Option<(&str, &str, &str)> {
+    let (shows, file) = line.split_once(": ")?;
+    let (digits, found) = file.split_once(" -> ")?;
+    Some((shows, digits, found))
+}
+
+/// How many records each packet of a file has, and how it ends.
+fn ending(alloc: Global, changes: Changes, digits: &str) -> Result<String, Fail> {
     let metadata = metadata_of(alloc, changes)?;
-    let bytes = bytes_of(alloc, digits)?;
-    assert!(rt; bytes.len() < 1000);
-    let read = read_stream(
-        alloc,
-        &metadata,
-        Text::from_str(alloc, "a")?,
-        bytes.as_slice(),
-    )?;
+    let read = read(alloc, &metadata, digits)?;
+    Ok(shown_ending(alloc, &read)?)
+}
+
+fn shown_ending(alloc: Global, read: &ReadStream) -> Result<String, AllocError> {
     let mut counts = Vec::new(alloc);
     for packet in read.packets.as_slice() {
         counts.push(packet.records.len())?;
     }
-    let found = format!(in alloc; "{:?}", counts.as_slice())?;
-    assert_eq!(rt; found.as_str(), records, "records of {shows}");
-    let found = format!(in alloc; "{:?}", read.end)?;
-    assert_eq!(rt; found.as_str(), end, "end of {shows}");
-    Ok(())
+    format!(in alloc; "{:?} {:?}", counts.as_slice(), read.end)
 }

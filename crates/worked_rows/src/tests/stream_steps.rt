@@ -9,11 +9,7 @@ use std::alloc::Global;
 use std::process::Abort;
 use std::test::Fail;
 use thread_stream::{PacketAnswer, Stream, StreamFault, Verdict};
-use trace_platform::{
-    ListBackEnd, ListClock, OwnBackEnd, PacketSource, Script, ScriptedBackEnd, Turn,
-};
-
-pub type ListStream = Stream<ListClock, ListBackEnd>;
+use trace_platform::{ListBackEnd, ListClock, OwnBackEnd, PacketSource};
 
 /// What a stream is made from.
 #[derive(Clone, Copy)]
@@ -69,56 +65,43 @@ pub enum Step {
 /// Steps, and how often they are taken.
 pub type Round = (u32, &'static [Step]);
 
-/// Each step answers what it says.
-pub fn runs(
-    rt: &impl Abort,
-    alloc: Global,
-    start: &Start,
-    steps: &[Step],
-) -> Result<ListStream, Fail> {
-    let mut stream = started(alloc, start, list_back_end(alloc, start)?)?;
-    takes_steps(rt, alloc, &mut stream, steps)?;
-    Ok(stream)
-}
+/// What a row shows, what its stream is made from, and its steps.
+pub type Row = (&'static str, Start, &'static [Round]);
 
-/// Each step of the rounds answers what it says.
-pub fn runs_rounds(
-    rt: &impl Abort,
-    alloc: Global,
-    start: &Start,
-    rounds: &[Round],
-) -> Result<(), Fail> {
-    let mut stream = started(alloc, start, list_back_end(alloc, start)?)?;
-    for (times, steps) in rounds {
-        repeats(rt, alloc, &mut stream, *times, steps)?;
+/// Each row runs over lists.
+pub fn all_run(rt: &impl Abort, alloc: Global, rows: &[Row]) -> Result<(), Fail> {
+    for row in rows {
+        let back_end = list_back_end(alloc, &row.1)?;
+        runs(rt, alloc, back_end, row)?;
     }
     Ok(())
 }
 
-/// Each step answers what it says, over a back end that hands packets back where these turns say so, and takes all after them.
-pub fn runs_handed_back(
+/// The stream of a row over this back end behind its steps, each of which answers what it says.
+pub fn runs<B: OwnBackEnd + Drop>(
     rt: &impl Abort,
     alloc: Global,
-    start: &Start,
-    handing: &[Turn],
-    steps: &[Step],
-) -> Result<(), Fail> {
-    let looking = Script::new(Vec::new(alloc));
-    let handing = Script::new(Vec::from_slice(alloc, handing)?);
-    let back_end = ScriptedBackEnd::new(list_back_end(alloc, start)?, looking, handing);
+    back_end: B,
+    row: &Row,
+) -> Result<Stream<ListClock, B>, Fail> {
+    let (shows, start, rounds) = row;
     let mut stream = started(alloc, start, back_end)?;
-    takes_steps(rt, alloc, &mut stream, steps)
+    for (times, steps) in *rounds {
+        repeats(rt, alloc, &mut stream, shows, *times, steps)?;
+    }
+    Ok(stream)
 }
 
-fn repeats(
+fn repeats<B: OwnBackEnd>(
     rt: &impl Abort,
     alloc: Global,
-    stream: &mut ListStream,
+    stream: &mut Stream<ListClock, B>,
+    shows: &str,
     times: u32,
     steps: &[Step],
 ) -> Result<(), Fail> {
     for _ in 0..times {
-        takes_steps(rt, alloc, stream, steps)?;
+        takes_steps(rt, alloc, stream, shows, steps)?;
     }
     Ok(())
 }
@@ -127,161 +110,83 @@ fn takes_steps<B: OwnBackEnd>(
     rt: &impl Abort,
     alloc: Global,
     stream: &mut Stream<ListClock, B>,
+    shows: &str,
     steps: &[Step],
 ) -> Result<(), Fail> {
-    for step in steps {
-        takes_step(rt, alloc, stream, step)?;
+    for (number, step) in steps.iter().enumerate() {
+        let answers = answers(alloc, stream, step)?;
+        assert!(rt; answers, "{shows}: step {number}");
     }
     Ok(())
 }
 
-fn takes_step<B: OwnBackEnd>(
-    rt: &impl Abort,
+/// Whether a step answers what it says.
+fn answers<B: OwnBackEnd>(
     alloc: Global,
     stream: &mut Stream<ListClock, B>,
     step: &Step,
-) -> Result<(), Fail> {
+) -> Result<bool, Fail> {
     match step {
-        Step::Trace(event, data, want) => traces(rt, alloc, stream, *event, data, *want),
-        Step::Open(want) => opens(rt, stream, *want),
-        Step::Close(want) => closes(rt, stream, *want),
-        Step::Enable(enabled) => enables(stream, *enabled),
-        Step::Extras(data, want) => sets(rt, alloc, stream, data, *want),
-        Step::Collect(digits) => collects(rt, alloc, stream, digits),
-        Step::CollectAny => collects_any(stream),
-        Step::CollectNothing => collects_nothing(rt, stream),
-        Step::Discarded(want) => has_discarded(rt, stream, *want),
-        Step::Sequence(want) => has_sequence(rt, stream, *want),
-        Step::Packet(open, empty, full) => has_packet(rt, stream, *open, *empty, *full),
+        Step::Trace(event, data, want) => {
+            let args = payload(alloc, data)?;
+            Ok(stream.trace(*event, &args) == *want)
+        }
+        Step::Open(want) => Ok(stream.open_packet() == *want),
+        Step::Close(want) => Ok(stream.close_packet() == *want),
+        Step::Enable(enabled) => {
+            stream.set_enabled(*enabled);
+            Ok(true)
+        }
+        Step::Extras(data, want) => {
+            let extras = values(alloc, data)?;
+            let answer = stream.set_extras(extras).err().map(|refused| refused.fault);
+            Ok(answer == *want)
+        }
+        Step::Collect(digits) => collects(alloc, stream, digits),
+        Step::CollectAny => Ok(collects_any(stream)),
+        Step::CollectNothing => Ok(!collects_any(stream)),
+        Step::Discarded(want) => Ok(stream.discarded_count() == *want),
+        Step::Sequence(want) => Ok(stream.sequence_number() == *want),
+        Step::Packet(open, empty, full) => Ok(
+            stream.packet_is_open() == *open
+                && stream.packet_is_empty() == *empty
+                && stream.packet_is_full() == *full,
+        ),
     }
 }
 
-fn traces<B: OwnBackEnd>(
-    rt: &impl Abort,
-    alloc: Global,
-    stream: &mut Stream<ListClock, B>,
-    event: usize,
-    data: &[Datum],
-    want: Verdict,
-) -> Result<(), Fail> {
-    let args = payload(alloc, data)?;
-    let answer = stream.trace(event, &args);
-    assert_eq!(rt; answer, want);
-    Ok(())
-}
-
-fn opens<B: OwnBackEnd>(
-    rt: &impl Abort,
-    stream: &mut Stream<ListClock, B>,
-    want: PacketAnswer,
-) -> Result<(), Fail> {
-    let answer = stream.open_packet();
-    assert_eq!(rt; answer, want);
-    Ok(())
-}
-
-fn closes<B: OwnBackEnd>(
-    rt: &impl Abort,
-    stream: &mut Stream<ListClock, B>,
-    want: PacketAnswer,
-) -> Result<(), Fail> {
-    let answer = stream.close_packet();
-    assert_eq!(rt; answer, want);
-    Ok(())
-}
-
-fn enables<B: OwnBackEnd>(stream: &mut Stream<ListClock, B>, enabled: bool) -> Result<(), Fail> {
-    stream.set_enabled(enabled);
-    Ok(())
-}
-
-fn sets<B: OwnBackEnd>(
-    rt: &impl Abort,
-    alloc: Global,
-    stream: &mut Stream<ListClock, B>,
-    data: &[Datum],
-    want: Option<StreamFault>,
-) -> Result<(), Fail> {
-    let extras = values(alloc, data)?;
-    let answer = stream.set_extras(extras).err().map(|refused| refused.fault);
-    assert_eq!(rt; answer, want);
-    Ok(())
-}
-
+/// Whether the next packet is these bytes; its buffer goes back.
 fn collects<B: OwnBackEnd>(
-    rt: &impl Abort,
     alloc: Global,
     stream: &mut Stream<ListClock, B>,
     digits: &str,
-) -> Result<(), Fail> {
-    let packet = stream.take().ok_or("no packet")?;
+) -> Result<bool, Fail> {
     let want = bytes_of(alloc, digits)?;
-    assert_eq!(rt; packet.bytes(), want.as_slice(), "{digits}");
-    stream.give_back(packet.into_buf());
-    Ok(())
-}
-
-fn collects_any<B: OwnBackEnd>(stream: &mut Stream<ListClock, B>) -> Result<(), Fail> {
     let packet = stream.take().ok_or("no packet")?;
+    let same = packet.bytes() == want.as_slice();
     stream.give_back(packet.into_buf());
-    Ok(())
+    Ok(same)
 }
 
-fn collects_nothing<B: OwnBackEnd>(
-    rt: &impl Abort,
-    stream: &mut Stream<ListClock, B>,
-) -> Result<(), Fail> {
-    let answer = stream.take();
-    assert!(rt; answer.is_none());
-    Ok(())
+/// Whether there is a packet; its buffer goes back.
+fn collects_any<B: OwnBackEnd>(stream: &mut Stream<ListClock, B>) -> bool {
+    match stream.take() {
+        None => false,
+        Some(packet) => {
+            stream.give_back(packet.into_buf());
+            true
+        }
+    }
 }
 
-fn has_discarded<B: OwnBackEnd>(
-    rt: &impl Abort,
-    stream: &Stream<ListClock, B>,
-    want: u64,
-) -> Result<(), Fail> {
-    let answer = stream.discarded_count();
-    assert_eq!(rt; answer, want);
-    Ok(())
-}
-
-fn has_sequence<B: OwnBackEnd>(
-    rt: &impl Abort,
-    stream: &Stream<ListClock, B>,
-    want: u64,
-) -> Result<(), Fail> {
-    let answer = stream.sequence_number();
-    assert_eq!(rt; answer, want);
-    Ok(())
-}
-
-fn has_packet<B: OwnBackEnd>(
-    rt: &impl Abort,
-    stream: &Stream<ListClock, B>,
-    open: bool,
-    empty: bool,
-    full: bool,
-) -> Result<(), Fail> {
-    assert_eq!(rt; stream.packet_is_open(), open);
-    assert_eq!(rt; stream.packet_is_empty(), empty);
-    assert_eq!(rt; stream.packet_is_full(), full);
-    Ok(())
-}
-
-/// The stream, or the fault's text as an error.
+/// The stream, or the fault as an error.
 fn started<B: OwnBackEnd + Drop>(
     alloc: Global,
     start: &Start,
     back_end: B,
 ) -> Result<Stream<ListClock, B>, Fail> {
-    match made(alloc, start, back_end)? {
-        Ok(stream) => Ok(stream),
-        Err(fault) => {
-            let why = format!(in alloc; "{fault}")?;
-            Err(why.as_str().into())
-        }
-    }
+    let stream = made(alloc, start, back_end)??;
+    Ok(stream)
 }
 
 /// The stream, or why none is made.
@@ -290,13 +195,17 @@ pub fn made<B: OwnBackEnd + Drop>(
     start: &Start,
     back_end: B,
 ) -> Result<Result<Stream<ListClock, B>, StreamFault>, Fail> {
-    let config = configuration(alloc, start)?;
-    let clock = ListClock::new(Vec::from_slice(alloc, start.readings)?).ok_or("bad readings")?;
+    let clock = clock(alloc, start.readings)?;
     let extras = values(alloc, start.extras)?;
-    match Stream::new(alloc, &config, start.type_name, clock, back_end, extras) {
-        Ok(stream) => Ok(Ok(stream)),
-        Err(refused) => Ok(Err(refused.fault)),
-    }
+    let config = configuration(alloc, start)?;
+    let made = Stream::new(alloc, &config, start.type_name, clock, back_end, extras);
+    Ok(made.map_err(|refused| refused.fault))
+}
+
+/// A clock of these readings.
+pub fn clock(alloc: Global, readings: &[u64]) -> Result<ListClock, Fail> {
+    let clock = ListClock::new(Vec::from_slice(alloc, readings)?).ok_or("readings that fall")?;
+    Ok(clock)
 }
 
 fn configuration(alloc: Global, start: &Start) -> Result<Config, Fail>

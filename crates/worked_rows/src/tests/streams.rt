@@ -1,104 +1,15 @@
 //! Streams: what each call answers, and the bytes of the packets.
 
-use crate::tests::small::{CLOCKED, Changes, Datum, WITH_BITS, bytes_of};
+use crate::tests::small::{CLOCKED, Changes, Datum, NARROW, bytes_of};
 use crate::tests::stream_steps::{
-    Round, START, Start, Step, list_back_end, made, runs, runs_handed_back, runs_rounds,
+    Round, Row, START, Start, Step, all_run, list_back_end, made, runs,
 };
 use ctf_types::ArgFault;
 use std::alloc::Global;
 use std::process::Abort;
 use std::test::Fail;
 use thread_stream::{PacketAnswer, StreamFault, Verdict, Why};
-use trace_platform::{PacketSource, Turn};
-
-const OPENS_AND_CLOSES_A_PACKET: &[Step] = &[
-    Step::Open(PacketAnswer::Done),
-    Step::Packet(true, true, false),
-    Step::Close(PacketAnswer::Done),
-    Step::Packet(false, false, false),
-    Step::Collect("c11ffcc1 80000000 60000000 00000000"),
-];
-
-#[test]
-fn opens_and_closes_a_packet(rt: HostRuntime) -> Result<(), Fail> {
-    runs(&rt, rt.alloc(), &START, OPENS_AND_CLOSES_A_PACKET)?;
-    Ok(())
-}
-
-const ALIGNED: &str =
-    r#"[{"a":{"field-type":{"class":"uint","size":8}}},{"b":{"field-type":{"class":"uint","size":8,"alignment":64}}}]"#;
-
-const ALIGNS_FROM_THE_PACKETS_START: &[Step] = &[
-    Step::Trace(
-        0,
-        &[Datum::Unsigned(1), Datum::Unsigned(2)],
-        Verdict::Accepted(None),
-    ),
-    Step::Close(PacketAnswer::Done),
-    Step::Collect("c11ffcc1 00010000 c8000000 00000000 01000000 00000000 02000000 00000000"),
-];
-
-#[test]
-fn aligns_from_the_packets_start(rt: HostRuntime) -> Result<(), Fail> {
-    let start = Start {
-        changes: &[("PAYLOAD", ALIGNED)],
-        bytes: 32,
-        ..START
-    };
-    runs(&rt, rt.alloc(), &start, ALIGNS_FROM_THE_PACKETS_START)?;
-    Ok(())
-}
-
-const WITH_AN_ARRAY: &str =
-    r#"[{"x":{"field-type":{"class":"uint","size":8}}},{"a":{"field-type":{"class":"dynamic-array","element-field-type":{"class":"uint","size":32,"alignment":32}}}},{"b":{"field-type":{"class":"uint","size":8}}}]"#;
-
-const ALIGNS_BEHIND_AN_EMPTY_ARRAY: &[Step] = &[
-    Step::Trace(
-        0,
-        &[Datum::Unsigned(1), Datum::List(&[]), Datum::Unsigned(2)],
-        Verdict::Accepted(None),
-    ),
-    Step::Close(PacketAnswer::Done),
-    Step::Collect("c11ffcc1 c0000000 a8000000 01000000 00000000 02000000"),
-];
-
-#[test]
-fn aligns_behind_an_empty_array(rt: HostRuntime) -> Result<(), Fail> {
-    let start = Start {
-        changes: &[("PAYLOAD", WITH_AN_ARRAY)],
-        bytes: 24,
-        ..START
-    };
-    runs(&rt, rt.alloc(), &start, ALIGNS_BEHIND_AN_EMPTY_ARRAY)?;
-    Ok(())
-}
-
-/// An array's length is aligned to 8, and so is the payload: it begins at bit 104, behind an id at bit 96.
-const ALIGNS_A_PAYLOAD_WITH_AN_ARRAY_OF_BITS: &[Step] = &[
-    Step::Trace(
-        0,
-        &[Datum::Unsigned(1), Datum::List(&[1, 0, 1])],
-        Verdict::Accepted(None),
-    ),
-    Step::Close(PacketAnswer::Done),
-    Step::Collect("c11ffcc1 c0000000 93000000 00 01 03000000 05 0000000000"),
-];
-
-#[test]
-fn aligns_a_payload_with_an_array_of_bits(rt: HostRuntime) -> Result<(), Fail> {
-    let start = Start {
-        changes: WITH_BITS,
-        bytes: 24,
-        ..START
-    };
-    runs(
-        &rt,
-        rt.alloc(),
-        &start,
-        ALIGNS_A_PAYLOAD_WITH_AN_ARRAY_OF_BITS,
-    )?;
-    Ok(())
-}
+use trace_platform::{PacketSource, Script, ScriptedBackEnd, Turn};
 
 const STRING: Changes = &[("PAYLOAD", r#"[{"s":{"field-type":{"class":"str"}}}]"#)];
 
@@ -115,16 +26,6 @@ const REFUSES_A_ZERO_BYTE_IN_A_TEXT: &[Step] = &[
     Step::Collect("c11ffcc1 80000000 80000000 00486900"),
 ];
 
-#[test]
-fn refuses_a_zero_byte_in_a_text(rt: HostRuntime) -> Result<(), Fail> {
-    let start = Start {
-        changes: STRING,
-        ..START
-    };
-    runs(&rt, rt.alloc(), &start, REFUSES_A_ZERO_BYTE_IN_A_TEXT)?;
-    Ok(())
-}
-
 const DISCARDS_WHAT_IS_TOO_LARGE: &[Step] = &[
     Step::Trace(0, &[Datum::Text(b"ab")], Verdict::Accepted(None)),
     Step::Trace(
@@ -137,16 +38,6 @@ const DISCARDS_WHAT_IS_TOO_LARGE: &[Step] = &[
     Step::Close(PacketAnswer::Done),
     Step::Collect("c11ffcc1 80000000 80000000 61620000"),
 ];
-
-#[test]
-fn discards_what_is_too_large(rt: HostRuntime) -> Result<(), Fail> {
-    let start = Start {
-        changes: STRING,
-        ..START
-    };
-    runs(&rt, rt.alloc(), &start, DISCARDS_WHAT_IS_TOO_LARGE)?;
-    Ok(())
-}
 
 const COUNTED: Changes = &[("DISCARDED", r#"{"class":"uint","size":32}"#)];
 
@@ -167,23 +58,6 @@ const COUNTS_WHAT_A_FULL_BACK_END_DISCARDS: &[Step] = &[
     Step::CollectNothing,
 ];
 
-#[test]
-fn counts_what_a_full_back_end_discards(rt: HostRuntime) -> Result<(), Fail> {
-    let start = Start {
-        changes: COUNTED,
-        buffers: 1,
-        bytes: 20,
-        ..START
-    };
-    runs(
-        &rt,
-        rt.alloc(),
-        &start,
-        COUNTS_WHAT_A_FULL_BACK_END_DISCARDS,
-    )?;
-    Ok(())
-}
-
 const ANSWERS_OUT_OF_TURN: &[Step] = &[
     Step::Close(PacketAnswer::NotOpen),
     Step::Open(PacketAnswer::Done),
@@ -199,14 +73,6 @@ const ANSWERS_OUT_OF_TURN: &[Step] = &[
     Step::Discarded(0),
     Step::Collect("c11ffcc1 80000000 68000000 07000000"),
 ];
-
-#[test]
-fn answers_out_of_turn(rt: HostRuntime) -> Result<(), Fail> {
-    runs(&rt, rt.alloc(), &START, ANSWERS_OUT_OF_TURN)?;
-    Ok(())
-}
-
-const NARROW: &str = r#"{"class":"uint","size":8}"#;
 
 /// A discard count of 257 and a packet number of 299 in fields of 8 bits.
 const REDUCED: &[Round] = &[
@@ -252,40 +118,49 @@ const REDUCED: &[Round] = &[
     ),
 ];
 
-#[test]
-fn reduces_counts_to_their_fields(rt: HostRuntime) -> Result<(), Fail> {
-    let start = Start {
-        changes: &[("DISCARDED", NARROW), ("SEQUENCE", NARROW)],
-        buffers: 1,
-        ..START
-    };
-    runs_rounds(&rt, rt.alloc(), &start, REDUCED)
-}
-
-const HELD: &[Step] = &[
-    Step::Trace(0, &[Datum::Unsigned(1)], Verdict::Accepted(None)),
-    Step::Trace(0, &[Datum::Unsigned(2)], Verdict::Accepted(None)),
-    Step::Trace(0, &[Datum::Unsigned(3)], Verdict::Accepted(None)),
-    Step::Trace(0, &[Datum::Unsigned(4)], Verdict::Accepted(None)),
-    Step::Trace(
-        0,
-        &[Datum::Unsigned(5)],
-        Verdict::Discarded(Why::BackEndFull),
+/// Calls out of turn, and calls that a stream discards.
+static COUNTS: &[Row] = &[
+    (
+        "refuses a zero byte in a text",
+        Start {
+            changes: STRING,
+            ..START
+        },
+        &[(1, REFUSES_A_ZERO_BYTE_IN_A_TEXT)],
     ),
-    Step::Trace(0, &[Datum::Unsigned(6)], Verdict::Accepted(None)),
-    Step::Close(PacketAnswer::Done),
-    Step::Collect("c11ffcc1 a0000000 a0000000 00000000 01020304"),
-    Step::Collect("c11ffcc1 a0000000 88000000 01000000 06000000"),
+    (
+        "discards what is too large",
+        Start {
+            changes: STRING,
+            ..START
+        },
+        &[(1, DISCARDS_WHAT_IS_TOO_LARGE)],
+    ),
+    (
+        "counts what a full back end discards",
+        Start {
+            changes: COUNTED,
+            buffers: 1,
+            bytes: 20,
+            ..START
+        },
+        &[(1, COUNTS_WHAT_A_FULL_BACK_END_DISCARDS)],
+    ),
+    ("answers out of turn", START, &[(1, ANSWERS_OUT_OF_TURN)]),
+    (
+        "reduces counts to their fields",
+        Start {
+            changes: &[("DISCARDED", NARROW), ("SEQUENCE", NARROW)],
+            buffers: 1,
+            ..START
+        },
+        REDUCED,
+    ),
 ];
 
 #[test]
-fn holds_a_packet_that_comes_back(rt: HostRuntime) -> Result<(), Fail> {
-    let start = Start {
-        changes: COUNTED,
-        bytes: 20,
-        ..START
-    };
-    runs_handed_back(&rt, rt.alloc(), &start, &[Turn::Fails], HELD)
+fn discards_and_counts(rt: HostRuntime) -> Result<(), Fail> {
+    all_run(&rt, rt.alloc(), COUNTS)
 }
 
 const WRITES_EXTRA_MEMBERS: &[Step] = &[
@@ -298,99 +173,10 @@ const WRITES_EXTRA_MEMBERS: &[Step] = &[
     ),
 ];
 
-#[test]
-fn writes_extra_members(rt: HostRuntime) -> Result<(), Fail> {
-    let start = Start {
-        changes: &[(
-            "EXTRAS",
-            r#"[{"cpu":{"field-type":{"class":"uint","size":8}}}]"#,
-        )],
-        extras: &[Datum::Unsigned(3)],
-        ..START
-    };
-    runs(&rt, rt.alloc(), &start, WRITES_EXTRA_MEMBERS)?;
-    Ok(())
-}
-
 const SETS_EXTRA_MEMBERS_THAT_HAVE_ROOM: &[Step] = &[
     Step::Extras(&[Datum::Text(b"abc")], None),
     Step::Extras(&[Datum::Text(b"abcd")], Some(StreamFault::BufferTooSmall)),
 ];
-
-#[test]
-fn sets_extra_members_that_have_room(rt: HostRuntime) -> Result<(), Fail> {
-    let start = Start {
-        changes: &[("EXTRAS", r#"[{"n":{"field-type":{"class":"str"}}}]"#)],
-        extras: &[Datum::Text(b"")],
-        ..START
-    };
-    runs(&rt, rt.alloc(), &start, SETS_EXTRA_MEMBERS_THAT_HAVE_ROOM)?;
-    Ok(())
-}
-
-#[test]
-fn finishes_an_open_packet(rt: HostRuntime) -> Result<(), Fail> {
-    let alloc = rt.alloc();
-    let steps = &[
-        Step::Trace(0, &[Datum::Unsigned(1)], Verdict::Accepted(None)),
-        Step::Trace(0, &[Datum::Unsigned(2)], Verdict::Accepted(None)),
-    ];
-    let stream = runs(&rt, alloc, &START, steps)?;
-    let (end, _clock) = stream.finish();
-    assert!(rt; end.left.is_none());
-    let mut back_end = end.done;
-    let packet = back_end.take().ok_or("no packet")?;
-    let want = bytes_of(alloc, "c11ffcc1 80000000 70000000 01020000")?;
-    assert_eq!(rt; packet.bytes(), want.as_slice());
-    Ok(())
-}
-
-/// A packet of as many bytes as header and context have is large enough.
-#[test]
-fn refuses_to_start(rt: HostRuntime) -> Result<(), Fail> {
-    let smallest = Start { bytes: 12, ..START };
-    starts(&rt, rt.alloc(), &smallest, None)?;
-    let too_small = Start { bytes: 11, ..START };
-    starts(
-        &rt,
-        rt.alloc(),
-        &too_small,
-        Some(StreamFault::BufferTooSmall),
-    )?;
-    let narrow = Start {
-        changes: &[("SIZE", NARROW)],
-        bytes: 32,
-        ..START
-    };
-    starts(&rt, rt.alloc(), &narrow, Some(StreamFault::SizeField))?;
-    let other_type = Start {
-        type_name: "t",
-        ..START
-    };
-    starts(
-        &rt,
-        rt.alloc(),
-        &other_type,
-        Some(StreamFault::NoSuchStream),
-    )?;
-    let with_extras = Start {
-        extras: &[Datum::Unsigned(1)],
-        ..START
-    };
-    let count = StreamFault::BadExtras(ArgFault::Count);
-    starts(&rt, rt.alloc(), &with_extras, Some(count))
-}
-
-fn starts(
-    rt: &impl Abort,
-    alloc: Global,
-    start: &Start,
-    fault: Option<StreamFault>,
-) -> Result<(), Fail> {
-    let made = made(alloc, start, list_back_end(alloc, start)?)?;
-    assert_eq!(rt; made.err(), fault);
-    Ok(())
-}
 
 const READS_ITS_CLOCK: &[Step] = &[
     Step::Trace(0, &[Datum::Signed(-2)], Verdict::Accepted(Some(10))),
@@ -404,18 +190,6 @@ const READS_ITS_CLOCK: &[Step] = &[
     Step::Discarded(1),
     Step::Sequence(1),
 ];
-
-#[test]
-fn reads_its_clock(rt: HostRuntime) -> Result<(), Fail> {
-    let start = Start {
-        text: CLOCKED,
-        bytes: 64,
-        readings: &[10, 11, 12],
-        ..START
-    };
-    runs(&rt, rt.alloc(), &start, READS_ITS_CLOCK)?;
-    Ok(())
-}
 
 const NO_TIMESTAMPS: Changes = &[
     (
@@ -438,115 +212,166 @@ const READS_ITS_CLOCK_WITHOUT_A_TIMESTAMP_FIELD: &[Step] = &[
     ),
 ];
 
-#[test]
-fn reads_its_clock_without_a_timestamp_field(rt: HostRuntime) -> Result<(), Fail> {
-    let start = Start {
-        text: CLOCKED,
-        changes: NO_TIMESTAMPS,
-        bytes: 64,
-        readings: &[10],
-        ..START
-    };
-    runs(
-        &rt,
-        rt.alloc(),
-        &start,
-        READS_ITS_CLOCK_WITHOUT_A_TIMESTAMP_FIELD,
-    )?;
-    Ok(())
-}
-
-const WRITES_THE_STREAMS_NUMBER: &[Step] = &[
-    Step::Trace(0, &[Datum::Unsigned(1)], Verdict::Accepted(None)),
-    Step::Close(PacketAnswer::Done),
-    Step::Collect("c11ffcc1 00800000 00700000 00010000"),
-];
-
-#[test]
-fn writes_the_streams_number(rt: HostRuntime) -> Result<(), Fail> {
-    let start = Start {
-        changes: &[("STREAM_ID", NARROW)],
-        ..START
-    };
-    runs(&rt, rt.alloc(), &start, WRITES_THE_STREAMS_NUMBER)?;
-    Ok(())
-}
-
-/// The identifier is handed in.
-const WRITES_THE_TRACES_IDENTIFIER: &[Step] = &[
-    Step::Open(PacketAnswer::Done),
-    Step::Close(PacketAnswer::Done),
-    Step::Collect("c11ffcc1 79e4904021b542d4a83b646f78666b62 00010000 e0000000 00000000"),
-];
-
-#[test]
-fn writes_the_traces_identifier(rt: HostRuntime) -> Result<(), Fail> {
-    let start = Start {
-        changes: &[("UUID", r#""auto""#)],
-        number: Some(0x79e4_9040_21b5_42d4_a83b_646f_7866_6b62),
-        bytes: 32,
-        ..START
-    };
-    runs(&rt, rt.alloc(), &start, WRITES_THE_TRACES_IDENTIFIER)?;
-    Ok(())
-}
-
-const INHERITED: Changes = &[
-    (r#"{"class":"struct","members":PAYLOAD}"#, r#""C""#),
+/// Streams with extra members, or with a clock.
+static EXTRAS_AND_CLOCKS: &[Row] = &[
     (
-        "ALIASES",
-        r#"{"A":{"class":"struct","members":[{"x":{"field-type":{"class":"uint","size":8}}},{"y":{"field-type":{"class":"uint","size":8}}}]},"B":{"$inherit":"A","members":[{"x":{"field-type":{"size":4}}}]},"C":{"$inherit":"B","members":[{"z":{"field-type":{"class":"uint","size":4}}}]}}"#,
+        "writes extra members",
+        Start {
+            changes: &[(
+                "EXTRAS",
+                r#"[{"cpu":{"field-type":{"class":"uint","size":8}}}]"#,
+            )],
+            extras: &[Datum::Unsigned(3)],
+            ..START
+        },
+        &[(1, WRITES_EXTRA_MEMBERS)],
     ),
-];
-
-/// `x` is 4 bits wide, and `z` lies behind `y`.
-const INHERITS_ALONG_THREE_ALIASES: &[Step] = &[
-    Step::Trace(
-        0,
-        &[Datum::Unsigned(5), Datum::Unsigned(171), Datum::Unsigned(3)],
-        Verdict::Accepted(None),
+    (
+        "sets extra members that have room",
+        Start {
+            changes: &[("EXTRAS", r#"[{"n":{"field-type":{"class":"str"}}}]"#)],
+            extras: &[Datum::Text(b"")],
+            ..START
+        },
+        &[(1, SETS_EXTRA_MEMBERS_THAT_HAVE_ROOM)],
     ),
-    Step::Close(PacketAnswer::Done),
-    Step::Collect("c11ffcc1 80000000 74000000 05ab0300"),
+    (
+        "reads its clock",
+        Start {
+            text: CLOCKED,
+            bytes: 64,
+            readings: &[10, 11, 12],
+            ..START
+        },
+        &[(1, READS_ITS_CLOCK)],
+    ),
+    (
+        "reads its clock without a timestamp field",
+        Start {
+            text: CLOCKED,
+            changes: NO_TIMESTAMPS,
+            bytes: 64,
+            readings: &[10],
+            ..START
+        },
+        &[(1, READS_ITS_CLOCK_WITHOUT_A_TIMESTAMP_FIELD)],
+    ),
 ];
 
 #[test]
-fn inherits_along_three_aliases(rt: HostRuntime) -> Result<(), Fail> {
-    let start = Start {
-        changes: INHERITED,
-        ..START
-    };
-    runs(&rt, rt.alloc(), &start, INHERITS_ALONG_THREE_ALIASES)?;
-    Ok(())
+fn writes_extra_members_and_clock_values(rt: HostRuntime) -> Result<(), Fail> {
+    all_run(&rt, rt.alloc(), EXTRAS_AND_CLOCKS)
 }
 
-/// A null alignment over a base's brings the size's own back.
-const WRITES_WHAT_INHERITS_NO_ALIGNMENT: &[Step] = &[
+const HELD: &[Step] = &[
+    Step::Trace(0, &[Datum::Unsigned(1)], Verdict::Accepted(None)),
+    Step::Trace(0, &[Datum::Unsigned(2)], Verdict::Accepted(None)),
+    Step::Trace(0, &[Datum::Unsigned(3)], Verdict::Accepted(None)),
+    Step::Trace(0, &[Datum::Unsigned(4)], Verdict::Accepted(None)),
     Step::Trace(
         0,
-        &[Datum::Unsigned(1), Datum::Unsigned(2), Datum::Unsigned(3)],
-        Verdict::Accepted(None),
+        &[Datum::Unsigned(5)],
+        Verdict::Discarded(Why::BackEndFull),
     ),
+    Step::Trace(0, &[Datum::Unsigned(6)], Verdict::Accepted(None)),
     Step::Close(PacketAnswer::Done),
-    Step::Collect("c11ffcc1 a0000000 88000000 01020000 03000000"),
+    Step::Collect("c11ffcc1 a0000000 a0000000 00000000 01020304"),
+    Step::Collect("c11ffcc1 a0000000 88000000 01000000 06000000"),
 ];
 
-#[test]
-fn writes_what_inherits_no_alignment(rt: HostRuntime) -> Result<(), Fail> {
-    let start = Start {
-        changes: &[
-            (
-                "PAYLOAD",
-                r#"[{"x":"u8"},{"y":{"field-type":{"$inherit":"wide","alignment":null}}},{"z":"wide"}]"#,
-            ),
-            (
-                "ALIASES",
-                r#"{"u8":{"class":"uint","size":8},"wide":{"$inherit":"u8","alignment":32}}"#,
-            ),
-        ],
+/// The back end hands the first packet back, and takes all after it.
+static HANDED_BACK: Row = (
+    "holds a packet that comes back",
+    Start {
+        changes: COUNTED,
         bytes: 20,
         ..START
-    };
-    runs(&rt, rt.alloc(), &start, WRITES_WHAT_INHERITS_NO_ALIGNMENT)?;
+    },
+    &[(1, HELD)],
+);
+
+#[test]
+fn holds_a_packet_that_comes_back(rt: HostRuntime) -> Result<(), Fail> {
+    let alloc = rt.alloc();
+    let looking = Script::new(Vec::new(alloc));
+    let handing = Script::new(Vec::from_slice(alloc, &[Turn::Fails])?);
+    let list = list_back_end(alloc, &HANDED_BACK.1)?;
+    let back_end = ScriptedBackEnd::new(list, looking, handing);
+    runs(&rt, alloc, back_end, &HANDED_BACK)?;
     Ok(())
+}
+
+/// Two event records in a packet that stays open.
+static UNFINISHED: Row = (
+    "finishes an open packet",
+    START,
+    &[(
+        1,
+        &[
+            Step::Trace(0, &[Datum::Unsigned(1)], Verdict::Accepted(None)),
+            Step::Trace(0, &[Datum::Unsigned(2)], Verdict::Accepted(None)),
+        ],
+    )],
+);
+
+#[test]
+fn finishes_an_open_packet(rt: HostRuntime) -> Result<(), Fail> {
+    let packet = bytes_of(rt.alloc(), "c11ffcc1 80000000 70000000 01020000")?;
+    finishes_with(&rt, rt.alloc(), packet.as_slice())
+}
+
+/// The stream's end hands a packet of these bytes over.
+fn finishes_with(rt: &impl Abort, alloc: Global, bytes: &[u8]) -> Result<(), Fail> {
+    let stream = runs(rt, alloc, list_back_end(alloc, &START)?, &UNFINISHED)?;
+    let (end, _clock) = stream.finish();
+    assert!(rt; end.left.is_none());
+    let mut back_end = end.done;
+    let packet = back_end.take().ok_or("no packet")?;
+    assert_eq!(rt; packet.bytes(), bytes);
+    Ok(())
+}
+
+/// What a stream is made from, and its fault. A packet of as many bytes as header and context have is large enough.
+static STARTS: &[(Start, Option<StreamFault>)] = &[
+    (Start { bytes: 12, ..START }, None),
+    (
+        Start { bytes: 11, ..START },
+        Some(StreamFault::BufferTooSmall),
+    ),
+    (
+        Start {
+            changes: &[("SIZE", NARROW)],
+            bytes: 32,
+            ..START
+        },
+        Some(StreamFault::SizeField),
+    ),
+    (
+        Start {
+            type_name: "t",
+            ..START
+        },
+        Some(StreamFault::NoSuchStream),
+    ),
+    (
+        Start {
+            extras: &[Datum::Unsigned(1)],
+            ..START
+        },
+        Some(StreamFault::BadExtras(ArgFault::Count)),
+    ),
+];
+
+#[test]
+fn refuses_to_start(rt: HostRuntime) -> Result<(), Fail> {
+    for (start, fault) in STARTS {
+        let found = start_fault(rt.alloc(), start)?;
+        assert_eq!(rt; found, *fault, "{fault:?}");
+    }
+    Ok(())
+}
+
+fn start_fault(alloc: Global, start: &Start) -> Result<Option<StreamFault>, Fail> {
+    let back_end = list_back_end(alloc, start)?;
+    Ok(made(alloc, start, back_end)?.err())
 }

@@ -1,4 +1,8 @@
 //! Small configurations by the object that they show, each with what it is refused with and where.
+//!
+//! A line has a text, ` -> `, and the kind and the path of its fault, or `accepted`. The path is seen from the text's place; `^` is the event
+//! record type, `/` the whole text. In a text `U8` is an unsigned integer of 8 bits, `ONE_BIT` one of 1 bit, `BYTE` a structure of one `U8`,
+//! `EMPTY` an event record type without fields and `FULL` one with that structure. A line that begins with `#` is a comment.
 
 pub mod aliases;
 pub mod arrays;
@@ -48,8 +52,3 @@ pub enum Slot {
     /// The field type of the payload's member `v`.
     Field,
 }
-
-/// A text, and the kind and the path of its fault. The path is seen from the text's place; `^` is the event record type, `/` the whole text.
-/// The kind is empty where the configuration is accepted. In a text `U8` is an unsigned integer of 8 bits, `ONE_BIT` one of 1 bit,
-/// `BYTE` a structure of one `U8`, `EMPTY` an event record type without fields and `FULL` one with that structure.
-pub type Row = (&'static str, &'static str, &'static str);

@@ -1,104 +1,58 @@
 //! Clock types.
 
-use crate::tests::tables::Row;
-
-pub const CLOCKS: &[Row] = &[
-    ("{}", "", ""),
-    ("null", "WrongKind", ""),
-    (r#"{"x":1}"#, "Unknown", "x"),
-    (r#"{"frequency":0}"#, "OutOfRange", "frequency"),
-    (r#"{"frequency":18446744073709551615}"#, "", ""),
-    (r#"{"frequency":"fast"}"#, "WrongKind", "frequency"),
-    (r#"{"precision":-1}"#, "OutOfRange", "precision"),
-    (
-        r#"{"offset":{"seconds":-9223372036854775808,"cycles":18446744073709551615}}"#,
-        "",
-        "",
-    ),
-    (
-        r#"{"offset":{"seconds":9223372036854775808}}"#,
-        "OutOfRange",
-        "offset/seconds",
-    ),
-    (r#"{"offset":{"cycles":-1}}"#, "OutOfRange", "offset/cycles"),
-    (r#"{"offset":{"x":1}}"#, "Unknown", "offset/x"),
-    (r#"{"offset":5}"#, "WrongKind", "offset"),
-    (r#"{"description":"a\u0001"}"#, "OutOfRange", "description"),
-    (r#"{"description":"a\n\tb"}"#, "", ""),
-    (r#"{"uuid":"auto"}"#, "OutOfRange", "uuid"),
-    (
-        r#"{"origin-is-unix-epoch":1}"#,
-        "WrongKind",
-        "origin-is-unix-epoch",
-    ),
-    (r#"{"origin-is-unix-epoch":false,"$c-type":["x"]}"#, "", ""),
-    (r#"{"frequency":1}"#, "", ""),
-    (r#"{"frequency":null}"#, "", ""),
-    (r#"{"frequency":-1}"#, "OutOfRange", "frequency"),
-    (
-        r#"{"frequency":18446744073709551616}"#,
-        "NotWhole",
-        "frequency",
-    ),
-    (r#"{"precision":0}"#, "", ""),
-    (r#"{"precision":18446744073709551615}"#, "", ""),
-    (
-        r#"{"precision":18446744073709551616}"#,
-        "NotWhole",
-        "precision",
-    ),
-    (r#"{"precision":"x"}"#, "WrongKind", "precision"),
-    (r#"{"precision":null}"#, "", ""),
-    (r#"{"uuid":"79e49040-21b5-42d4-a83b-646f78666b62"}"#, "", ""),
-    (r#"{"uuid":"79e4904021b542d4a83b646f78666b62"}"#, "", ""),
-    (r#"{"uuid":"x"}"#, "OutOfRange", "uuid"),
-    (r#"{"uuid":5}"#, "WrongKind", "uuid"),
-    (r#"{"uuid":null}"#, "", ""),
-    (r#"{"description":""}"#, "", ""),
-    (r#"{"description":5}"#, "WrongKind", "description"),
-    (r#"{"description":null}"#, "", ""),
-    (r#"{"description":"\u001f"}"#, "OutOfRange", "description"),
-    (r#"{"description":" \u007f é"}"#, "", ""),
-    (r#"{"offset":{}}"#, "", ""),
-    (r#"{"offset":null}"#, "", ""),
-    (r#"{"offset":[]}"#, "WrongKind", "offset"),
-    (
-        r#"{"offset":{"seconds":9223372036854775807,"cycles":0}}"#,
-        "",
-        "",
-    ),
-    (r#"{"offset":{"seconds":-9223372036854775808}}"#, "", ""),
-    (
-        r#"{"offset":{"seconds":-9223372036854775809}}"#,
-        "NotWhole",
-        "offset/seconds",
-    ),
-    (
-        r#"{"offset":{"seconds":"1"}}"#,
-        "WrongKind",
-        "offset/seconds",
-    ),
-    (r#"{"offset":{"seconds":null,"cycles":null}}"#, "", ""),
-    (r#"{"offset":{"cycles":18446744073709551615}}"#, "", ""),
-    (
-        r#"{"offset":{"cycles":18446744073709551616}}"#,
-        "NotWhole",
-        "offset/cycles",
-    ),
-    (r#"{"offset":{"cycles":"1"}}"#, "WrongKind", "offset/cycles"),
-    (r#"{"origin-is-unix-epoch":true}"#, "", ""),
-    (r#"{"origin-is-unix-epoch":null}"#, "", ""),
-    (
-        r#"{"origin-is-unix-epoch":"true"}"#,
-        "WrongKind",
-        "origin-is-unix-epoch",
-    ),
-    (r#"{"$c-type":5}"#, "", ""),
-    (r#"{"$c-type":null}"#, "", ""),
-    (r#"{"$c-type":1.5}"#, "NotWhole", "$c-type"),
-    (
-        r#"{"frequency":0,"description":5}"#,
-        "WrongKind",
-        "description",
-    ),
-];
+pub const CLOCKS: &str = r#"
+{} -> accepted
+null -> WrongKind
+{"x":1} -> Unknown x
+{"frequency":0} -> OutOfRange frequency
+{"frequency":18446744073709551615} -> accepted
+{"frequency":"fast"} -> WrongKind frequency
+{"precision":-1} -> OutOfRange precision
+{"offset":{"seconds":-9223372036854775808,"cycles":18446744073709551615}} -> accepted
+{"offset":{"seconds":9223372036854775808}} -> OutOfRange offset/seconds
+{"offset":{"cycles":-1}} -> OutOfRange offset/cycles
+{"offset":{"x":1}} -> Unknown offset/x
+{"offset":5} -> WrongKind offset
+{"description":"a\u0001"} -> OutOfRange description
+{"description":"a\n\tb"} -> accepted
+{"uuid":"auto"} -> OutOfRange uuid
+{"origin-is-unix-epoch":1} -> WrongKind origin-is-unix-epoch
+{"origin-is-unix-epoch":false,"$c-type":["x"]} -> accepted
+{"frequency":1} -> accepted
+{"frequency":null} -> accepted
+{"frequency":-1} -> OutOfRange frequency
+{"frequency":18446744073709551616} -> NotWhole frequency
+{"precision":0} -> accepted
+{"precision":18446744073709551615} -> accepted
+{"precision":18446744073709551616} -> NotWhole precision
+{"precision":"x"} -> WrongKind precision
+{"precision":null} -> accepted
+{"uuid":"79e49040-21b5-42d4-a83b-646f78666b62"} -> accepted
+{"uuid":"79e4904021b542d4a83b646f78666b62"} -> accepted
+{"uuid":"x"} -> OutOfRange uuid
+{"uuid":5} -> WrongKind uuid
+{"uuid":null} -> accepted
+{"description":""} -> accepted
+{"description":5} -> WrongKind description
+{"description":null} -> accepted
+{"description":"\u001f"} -> OutOfRange description
+{"description":" \u007f é"} -> accepted
+{"offset":{}} -> accepted
+{"offset":null} -> accepted
+{"offset":[]} -> WrongKind offset
+{"offset":{"seconds":9223372036854775807,"cycles":0}} -> accepted
+{"offset":{"seconds":-9223372036854775808}} -> accepted
+{"offset":{"seconds":-9223372036854775809}} -> NotWhole offset/seconds
+{"offset":{"seconds":"1"}} -> WrongKind offset/seconds
+{"offset":{"seconds":null,"cycles":null}} -> accepted
+{"offset":{"cycles":18446744073709551615}} -> accepted
+{"offset":{"cycles":18446744073709551616}} -> NotWhole offset/cycles
+{"offset":{"cycles":"1"}} -> WrongKind offset/cycles
+{"origin-is-unix-epoch":true} -> accepted
+{"origin-is-unix-epoch":null} -> accepted
+{"origin-is-unix-epoch":"true"} -> WrongKind origin-is-unix-epoch
+{"$c-type":5} -> accepted
+{"$c-type":null} -> accepted
+{"$c-type":1.5} -> NotWhole $c-type
+{"frequency":0,"description":5} -> WrongKind description
+"#;

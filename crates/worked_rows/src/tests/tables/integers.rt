@@ -1,174 +1,64 @@
 //! Integers as fields.
 
-use crate::tests::tables::Row;
-
-pub const FIELDS: &[Row] = &[
-    (r#"{"class":"uint","size":1}"#, "", ""),
-    (r#"{"class":"uint","size":64}"#, "", ""),
-    (r#"{"class":"uint","size":0}"#, "OutOfRange", "size"),
-    (r#"{"class":"uint","size":65}"#, "OutOfRange", "size"),
-    (r#"{"class":"uint"}"#, "Missing", "size"),
-    (r#"{"class":"uint","size":null}"#, "WrongKind", "size"),
-    (r#"{"class":"uint","size":"8"}"#, "WrongKind", "size"),
-    (r#"{"class":"uint","size":8,"alignment":4096}"#, "", ""),
-    (
-        r#"{"class":"uint","size":8,"alignment":8192}"#,
-        "Limit",
-        "alignment",
-    ),
-    (
-        r#"{"class":"uint","size":8,"alignment":3}"#,
-        "OutOfRange",
-        "alignment",
-    ),
-    (
-        r#"{"class":"uint","size":8,"alignment":0}"#,
-        "OutOfRange",
-        "alignment",
-    ),
-    (
-        r#"{"class":"uint","size":8,"alignment":"8"}"#,
-        "WrongKind",
-        "alignment",
-    ),
-    (r#"{"class":"uint","size":8,"alignment":null}"#, "", ""),
-    (
-        r#"{"class":"uint","size":8,"preferred-display-base":"binary"}"#,
-        "",
-        "",
-    ),
-    (
-        r#"{"class":"uint","size":8,"preferred-display-base":"bin"}"#,
-        "",
-        "",
-    ),
-    (
-        r#"{"class":"uint","size":8,"preferred-display-base":"octal"}"#,
-        "",
-        "",
-    ),
-    (
-        r#"{"class":"uint","size":8,"preferred-display-base":"oct"}"#,
-        "",
-        "",
-    ),
-    (
-        r#"{"class":"uint","size":8,"preferred-display-base":"decimal"}"#,
-        "",
-        "",
-    ),
-    (
-        r#"{"class":"uint","size":8,"preferred-display-base":"dec"}"#,
-        "",
-        "",
-    ),
-    (
-        r#"{"class":"uint","size":8,"preferred-display-base":"hexadecimal"}"#,
-        "",
-        "",
-    ),
-    (
-        r#"{"class":"uint","size":8,"preferred-display-base":"hex"}"#,
-        "",
-        "",
-    ),
-    (
-        r#"{"class":"uint","size":8,"preferred-display-base":"sixteen"}"#,
-        "OutOfRange",
-        "preferred-display-base",
-    ),
-    (
-        r#"{"class":"uint","size":8,"preferred-display-base":16}"#,
-        "WrongKind",
-        "preferred-display-base",
-    ),
-    (
-        r#"{"class":"uint","size":8,"length":3}"#,
-        "Unknown",
-        "length",
-    ),
-    (r#"{"class":"unsigned-integer","size":8}"#, "", ""),
-    (r#"{"class":"unsigned-int","size":8}"#, "", ""),
-    (r#"{"class":"signed-integer","size":8}"#, "", ""),
-    (r#"{"class":"signed-int","size":8}"#, "", ""),
-    (r#"{"class":"sint","size":64}"#, "", ""),
-    (r#"{"class":"sint","size":65}"#, "OutOfRange", "size"),
-    (r#"{"class":"int","size":8}"#, "OutOfRange", "class"),
-    (r#"{"class":8,"size":8}"#, "WrongKind", "class"),
-    (r#"{"class":null,"size":8}"#, "WrongKind", "class"),
-    (r#"{"size":8}"#, "Missing", "class"),
-    ("8", "WrongKind", ""),
-    ("null", "WrongKind", ""),
-    (r#""nope""#, "NoSuchAlias", ""),
-    (r#"{"$inherit":"nope"}"#, "NoSuchAlias", "$inherit"),
-    (r#"{"class":"uint","size":8.5}"#, "NotWhole", "size"),
-    (r#"{"class":"uint","alignment":3}"#, "Missing", "size"),
-    (r#"{"class":"uint","size":-1}"#, "OutOfRange", "size"),
-    (r#"{"class":"uint","size":true}"#, "WrongKind", "size"),
-    (r#"{"class":"sint","size":1}"#, "", ""),
-    (r#"{"class":"sint","size":0}"#, "OutOfRange", "size"),
-    (r#"{"class":"uint","size":8,"alignment":1}"#, "", ""),
-    (
-        r#"{"class":"uint","size":8,"alignment":-8}"#,
-        "OutOfRange",
-        "alignment",
-    ),
-    (
-        r#"{"class":"uint","size":8,"alignment":12288}"#,
-        "OutOfRange",
-        "alignment",
-    ),
-    (r#"{"class":"sint","size":8,"alignment":4096}"#, "", ""),
-    (
-        r#"{"class":"sint","size":8,"alignment":8192}"#,
-        "Limit",
-        "alignment",
-    ),
-    (
-        r#"{"class":"sint","size":8,"alignment":6}"#,
-        "OutOfRange",
-        "alignment",
-    ),
-    (
-        r#"{"class":"sint","size":8,"preferred-display-base":"oct"}"#,
-        "",
-        "",
-    ),
-    (
-        r#"{"class":"sint","size":8,"preferred-display-base":"base"}"#,
-        "OutOfRange",
-        "preferred-display-base",
-    ),
-    (
-        r#"{"class":"uint","size":8,"preferred-display-base":null}"#,
-        "",
-        "",
-    ),
-    (
-        r#"{"class":"uint","size":8,"preferred-display-base":"Hex"}"#,
-        "OutOfRange",
-        "preferred-display-base",
-    ),
-    (
-        r#"{"class":"uint","size":65,"alignment":3}"#,
-        "OutOfRange",
-        "alignment",
-    ),
-    (
-        r#"{"class":"uint","size":65,"extra":1}"#,
-        "Unknown",
-        "extra",
-    ),
-    (
-        r#"{"class":"uint","size":65,"zero":1}"#,
-        "OutOfRange",
-        "size",
-    ),
-    (
-        r#"{"class":"uint","size":8,"mappings":{"A":[1]}}"#,
-        "Unknown",
-        "mappings",
-    ),
-    ("[]", "WrongKind", ""),
-    ("true", "WrongKind", ""),
-];
+pub const FIELDS: &str = r#"
+{"class":"uint","size":1} -> accepted
+{"class":"uint","size":64} -> accepted
+{"class":"uint","size":0} -> OutOfRange size
+{"class":"uint","size":65} -> OutOfRange size
+{"class":"uint"} -> Missing size
+{"class":"uint","size":null} -> WrongKind size
+{"class":"uint","size":"8"} -> WrongKind size
+{"class":"uint","size":8,"alignment":4096} -> accepted
+{"class":"uint","size":8,"alignment":8192} -> Limit alignment
+{"class":"uint","size":8,"alignment":3} -> OutOfRange alignment
+{"class":"uint","size":8,"alignment":0} -> OutOfRange alignment
+{"class":"uint","size":8,"alignment":"8"} -> WrongKind alignment
+{"class":"uint","size":8,"alignment":null} -> accepted
+{"class":"uint","size":8,"preferred-display-base":"binary"} -> accepted
+{"class":"uint","size":8,"preferred-display-base":"bin"} -> accepted
+{"class":"uint","size":8,"preferred-display-base":"octal"} -> accepted
+{"class":"uint","size":8,"preferred-display-base":"oct"} -> accepted
+{"class":"uint","size":8,"preferred-display-base":"decimal"} -> accepted
+{"class":"uint","size":8,"preferred-display-base":"dec"} -> accepted
+{"class":"uint","size":8,"preferred-display-base":"hexadecimal"} -> accepted
+{"class":"uint","size":8,"preferred-display-base":"hex"} -> accepted
+{"class":"uint","size":8,"preferred-display-base":"sixteen"} -> OutOfRange preferred-display-base
+{"class":"uint","size":8,"preferred-display-base":16} -> WrongKind preferred-display-base
+{"class":"uint","size":8,"length":3} -> Unknown length
+{"class":"unsigned-integer","size":8} -> accepted
+{"class":"unsigned-int","size":8} -> accepted
+{"class":"signed-integer","size":8} -> accepted
+{"class":"signed-int","size":8} -> accepted
+{"class":"sint","size":64} -> accepted
+{"class":"sint","size":65} -> OutOfRange size
+{"class":"int","size":8} -> OutOfRange class
+{"class":8,"size":8} -> WrongKind class
+{"class":null,"size":8} -> WrongKind class
+{"size":8} -> Missing class
+8 -> WrongKind
+null -> WrongKind
+"nope" -> NoSuchAlias
+{"$inherit":"nope"} -> NoSuchAlias $inherit
+{"class":"uint","size":8.5} -> NotWhole size
+{"class":"uint","alignment":3} -> Missing size
+{"class":"uint","size":-1} -> OutOfRange size
+{"class":"uint","size":true} -> WrongKind size
+{"class":"sint","size":1} -> accepted
+{"class":"sint","size":0} -> OutOfRange size
+{"class":"uint","size":8,"alignment":1} -> accepted
+{"class":"uint","size":8,"alignment":-8} -> OutOfRange alignment
+{"class":"uint","size":8,"alignment":12288} -> OutOfRange alignment
+{"class":"sint","size":8,"alignment":4096} -> accepted
+{"class":"sint","size":8,"alignment":8192} -> Limit alignment
+{"class":"sint","size":8,"alignment":6} -> OutOfRange alignment
+{"class":"sint","size":8,"preferred-display-base":"oct"} -> accepted
+{"class":"sint","size":8,"preferred-display-base":"base"} -> OutOfRange preferred-display-base
+{"class":"uint","size":8,"preferred-display-base":null} -> accepted
+{"class":"uint","size":8,"preferred-display-base":"Hex"} -> OutOfRange preferred-display-base
+{"class":"uint","size":65,"alignment":3} -> OutOfRange alignment
+{"class":"uint","size":65,"extra":1} -> Unknown extra
+{"class":"uint","size":65,"zero":1} -> OutOfRange size
+{"class":"uint","size":8,"mappings":{"A":[1]}} -> Unknown mappings
+[] -> WrongKind
+true -> WrongKind
+"#;

@@ -1,0 +1,70 @@
+//! Streams that a session takes, and those that it refuses.
+
+use crate::tests::session_steps::{Prepared, SOURCE, Source, with, with_name, without_streams};
+use crate::tests::small::small;
+use std::alloc::Global;
+use std::test::Fail;
+
+/// A session of the small configuration, without streams.
+fn small_session(alloc: Global) -> Result<Prepared, Fail> {
+    Ok(without_streams(alloc, small(alloc, &[])?))
+}
+
+/// What a row shows, the name of a stream that is added behind those before it, the name of its type, and why it is not added.
+static ADDED: &[(&str, &str, &str, &str)] = &[
+    (
+        "the name of the metadata's file",
+        "metadata",
+        "s",
+        "Name(BadName)",
+    ),
+    (
+        "a name that begins with a digit",
+        "9a",
+        "s",
+        "Name(BadName)",
+    ),
+    ("a bad name before a bad type", "", "t", "Name(BadName)"),
+    ("a first stream", "a", "s", ""),
+    ("a name twice", "a", "s", "Name(SameName)"),
+    ("a name twice before a bad type", "a", "t", "Name(SameName)"),
+    ("no such type", "b", "t", "Stream(NoSuchStream)"),
+    ("the name of a stream that was refused", "b", "s", ""),
+];
+
+#[test]
+fn refuses_streams_by_their_first_fault(rt: HostRuntime) -> Result<(), Fail> {
+    let mut session = small_session(rt.alloc())?;
+    for (shows, name, type_name, want) in ADDED {
+        let source = Source {
+            name: *name,
+            type_name: *type_name,
+            ..SOURCE
+        };
+        let (next, fault) = with(rt.alloc(), session, &source)?;
+        assert_eq!(rt; fault.as_str(), *want, "{shows}");
+        session = next;
+    }
+    Ok(())
+}
+
+#[test]
+fn takes_64_streams(rt: HostRuntime) -> Result<(), Fail> {
+    let mut session = small_session(rt.alloc())?;
+    for number in 0..64 {
+        let name = format!(in rt.alloc(); "s{number}")?;
+        let (next, fault) = with_name(rt.alloc(), session, name.as_str(), &SOURCE)?;
+        assert!(rt; fault.is_empty(), "{name}");
+        session = next;
+    }
+    for (name, want) in [
+        ("s64", "Name(TooMany)"),
+        ("s0", "Name(SameName)"),
+        ("9", "Name(BadName)"),
+    ] {
+        let (next, fault) = with_name(rt.alloc(), session, name, &SOURCE)?;
+        assert_eq!(rt; fault.as_str(), want, "{name}");
+        session = next;
+    }
+    Ok(())
+}

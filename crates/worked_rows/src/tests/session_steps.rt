@@ -1,0 +1,286 @@
+//! Sessions over lists, made and driven as tables say, and read back by their own metadata.
+
+ghost use Rattle.std.specs.Prelude.{◌≡◌, [], IfOk, nat_lt};
+ghost use Rattle.std.specs.List.{list_all};
+ghost use Rattle.ctf_types.specs.AllowedConfig.{IsConfig};
+
+use crate::tests::session_calls::{act, values};
+use crate::tests::small::{Changes, SMALL, changed, configured};
+use crate::tests::stream_steps::clock;
+use ctf_types::Config;
+use std::alloc::{AllocError, Global};
+use std::process::Abort;
+use std::test::Fail;
+use trace_platform::{ListBackEnd, ListClock, MemorySink, Script, ScriptedSink, Turn};
+use trace_stack::{
+    AddFault, Answer, Event, FinishedSession, ReadTrace, Session, read_trace, run_events,
+};
+
+/// What a stream is made from. Its sink faults at the first packet where `faults` says so, and takes none of that packet's bytes.
+#[derive(Clone, Copy)]
+pub struct Source {
+    pub name: &'static str,
+    pub type_name: &'static str,
+    pub readings: &'static [u64],
+    pub buffers: usize,
+    pub bytes: usize,
+    /// The values of the extra members, with blanks between them.
+    pub extras: &'static str,
+    pub faults: bool,
+}
+
+/// A stream of the small configuration over two buffers of 16 bytes.
+pub const SOURCE: Source = Source {
+    name: "a",
+    type_name: "s",
+    readings: &[],
+    buffers: 2,
+    bytes: 16,
+    extras: "",
+    faults: false,
+};
+
+/// Calls, a line each, that are run as one list of events, so many times. A line has the stream's number, the call, and what it answers, as
+/// `0 trace 1 ok -> Traced(Accepted(Some(11)))` for an event record of type 1. Any answer goes where a line says none.
+pub type Round = (u32, &'static str);
+
+/// A session, and what becomes of it.
+#[derive(Clone, Copy)]
+pub struct Run {
+    pub shows: &'static str,
+    /// `SMALL` or another text, and what is changed in it.
+    pub text: &'static str,
+    pub changes: Changes,
+    pub streams: &'static [Source],
+    pub rounds: &'static [Round],
+    /// What the finishing of each stream answers.
+    pub ends: &'static str,
+}
+
+/// A run of the small configuration with one stream.
+pub const RUN: Run = Run {
+    shows: "",
+    text: SMALL,
+    changes: &[],
+    streams: &[SOURCE],
+    rounds: &[],
+    ends: "[Settled]",
+};
+
+/// A session that ended: the stream files by their names, and what is read from them.
+#[derive(Drop)]
+pub struct Ended {
+    pub files: Vec<(String, Vec<u8>)>,
+    pub trace: ReadTrace,
+}
+
+/// A session over lists.
+pub type Prepared = Session<ListClock, ListBackEnd, ScriptedSink>;
+
+/// A session without streams.
+pub fn without_streams(alloc: Global, config: Config) -> Prepared
+    requires { IsConfig config }
+{
+    Session::new(alloc, config)
+}
+
+/// The session with one stream more, or as it was and why: the text is empty where the stream was added.
+pub fn with(
+    alloc: Global,
+    prepared: Prepared,
+    source: &Source,
+) -> Result<(Prepared, String), Fail> {
+    with_name(alloc, prepared, source.name, source)
+}
+
+/// The same under another name.
+pub fn with_name(
+    alloc: Global,
+    prepared: Prepared,
+    name: &str,
+    source: &Source,
+) -> Result<(Prepared, String), Fail> {
+    let (prepared, fault) = added(alloc, prepared, name, source)?;
+    let fault = fault_text(alloc, fault)?;
+    Ok((prepared, fault))
+}
+
+fn fault_text(alloc: Global, fault: Option<AddFault>) -> Result<String, AllocError> {
+    match fault {
+        None => Ok(String::new(alloc)),
+        Some(fault) => format!(in alloc; "{fault:?}"),
+    }
+}
+
+fn added(
+    alloc: Global,
+    prepared: Prepared,
+    name: &str,
+    source: &Source,
+) -> Result<(Prepared, Option<AddFault>), Fail> {
+    let clock = clock(alloc, source.readings)?;
+    let back_end = back_end(alloc, source.buffers, source.bytes)?;
+    let extras = values(alloc, source.extras)?;
+    let sink = sink(alloc, source.faults)?;
+    let mut session = prepared;
+    match session.add_stream(name, source.type_name, clock, back_end, sink, extras) {
+        Ok(_number) => Ok((session, None)),
+        Err(refused) => Ok((session, Some(refused.fault))),
+    }
+}
+
+fn back_end(alloc: Global, buffers: usize, bytes: usize) -> Result<ListBackEnd, Fail>
+    ensures { IfOk result (λ b. b.waiting ≡ []) }
+{
+    if buffers == 0 || buffers > 1024 || bytes == 0 || bytes > 1 << 20 {
+        return Err("no such back end".into());
+    }
+    Ok(ListBackEnd::new(alloc, buffers, bytes)?)
+}
+
+fn sink(alloc: Global, faults: bool) -> Result<ScriptedSink, AllocError> {
+    let turn = if faults { Turn::Fails } else { Turn::Works };
+    let script = Script::new(Vec::from_slice(alloc, &[turn])?);
+    Ok(ScriptedSink::new(MemorySink::new(alloc), script, 0))
+}
+
+/// A run to its end. Each call answers what its line says, and what its sinks hold is read by its metadata.
+pub fn run_to_end(rt: &impl Abort, alloc: Global, run: &Run) -> Result<Ended, Fail> {
+    let prepared = started(rt, alloc, run)?;
+    let metadata = prepared.metadata()?;
+    let files = files_of(rt, alloc, prepared, run)?;
+    let trace = read_trace(alloc, metadata.as_bytes(), &files)?;
+    Ok(Ended { files, trace })
+}
+
+fn started(rt: &impl Abort, alloc: Global, run: &Run) -> Result<Prepared, Fail> {
+    let text = changed(alloc, run.text, run.changes)?;
+    let config = configured(alloc, text.as_str(), None)?;
+    with_all(rt, alloc, without_streams(alloc, config), run.streams)
+}
+
+/// The session with all these streams.
+fn with_all(
+    rt: &impl Abort,
+    alloc: Global,
+    prepared: Prepared,
+    sources: &[Source],
+) -> Result<Prepared, Fail> {
+    let mut prepared = prepared;
+    for source in sources {
+        let (next, fault) = added(alloc, prepared, source.name, source)?;
+        assert_eq!(rt; fault, None);
+        prepared = next;
+    }
+    Ok(prepared)
+}
+
+fn repeats(
+    rt: &impl Abort,
+    alloc: Global,
+    prepared: &mut Prepared,
+    times: u32,
+    calls: &str,
+    shows: &str,
+) -> Result<(), Fail> {
+    for _ in 0..times {
+        runs(rt, alloc, prepared, calls, shows)?;
+    }
+    Ok(())
+}
+
+/// Runs the calls as one list of events, each of which answers what its line says.
+fn runs(
+    rt: &impl Abort,
+    alloc: Global,
+    prepared: &mut Prepared,
+    calls: &str,
+    shows: &str,
+) -> Result<(), Fail> {
+    let events = events(alloc, calls)?;
+    if !are_below(&events, prepared.stream_count()) {
+        return Err("no such stream".into());
+    }
+    let answers = run_events(prepared, &events)?;
+    assert_eq!(rt; answers.len(), events.len());
+    for (line, answer) in calls.trim().lines().zip(answers.as_slice()) {
+        answers_so(rt, alloc, line, answer, shows)?;
+    }
+    Ok(())
+}
+
+fn events(alloc: Global, calls: &str) -> Result<Vec<Event>, Fail> {
+    let mut events = Vec::new(alloc);
+    for line in calls.trim().lines() {
+        events.push(event(alloc, line)?)?;
+    }
+    Ok(events)
+}
+
+fn event(alloc: Global, line: &str) -> Result<Event, Fail> {
+    let (call, _) = line.split_once(" -> ").unwrap_or((line, ""));
+    let (stream, call) = call.split_once(" ").ok_or("a line without a call")?;
+    Ok(Event {
+        stream: stream.parse::<usize>()?,
+        act: act(alloc, call)?,
+    })
+}
+
+/// Whether each event is of one of so many streams.
+fn are_below(events: &[Event], streams: usize) -> bool
+    ensures { result ≡ list_all (λ e. nat_lt e.stream streams) events.now }
+{
+    for event in events {
+        if event.stream >= streams {
+            return false;
+        }
+    }
+    true
+}
+
+fn answers_so(
+    rt: &impl Abort,
+    alloc: Global,
+    line: &str,
+    answer: &Answer,
+    shows: &str,
+) -> Result<(), Fail> {
+    if let Some((_, want)) = line.split_once(" -> ") {
+        let found = format!(in alloc; "{answer:?}")?;
+        assert_eq!(rt; found.as_str(), want, "{shows}: {line}");
+    }
+    Ok(())
+}
+
+/// The stream files of a session behind the calls of a run.
+fn files_of(
+    rt: &impl Abort,
+    alloc: Global,
+    prepared: Prepared,
+    run: &Run,
+) -> Result<Vec<(String, Vec<u8>)>, Fail> {
+    let mut prepared = prepared;
+    for (times, calls) in run.rounds {
+        repeats(rt, alloc, &mut prepared, *times, calls, run.shows)?;
+    }
+    let Ok(finished) = prepared.finish_all() else {
+        return Err("out of memory".into());
+    };
+    named(rt, alloc, finished, run)
+}
+
+fn named(
+    rt: &impl Abort,
+    alloc: Global,
+    finished: FinishedSession<ScriptedSink>,
+    run: &Run,
+) -> Result<Vec<(String, Vec<u8>)>, Fail> {
+    let ends = format!(in alloc; "{:?}", finished.answers.as_slice())?;
+    assert_eq!(rt; ends.as_str(), run.ends, "ends of {}", run.shows);
+    let mut files = Vec::new(alloc);
+    for (source, sink) in run.streams.iter().zip(finished.sinks) {
+        let name = String::from_str(alloc, source.name)?;
+        files.push((name, sink.sink.into_bytes()))?;
+    }
+    Ok(files)
+}
