@@ -54,7 +54,7 @@ fn takes_64_streams(rt: HostRuntime) -> Result<(), Fail> {
     for number in 0..64 {
         let name = format!(in rt.alloc(); "s{number}")?;
         let (next, fault) = with_name(rt.alloc(), session, name.as_str(), &SOURCE)?;
-        assert!(rt; fault.is_empty(), "{name}");
+        assert_eq!(rt; fault.len(), 0, "{name}");
         session = next;
     }
     for (name, want) in [
