@@ -5,8 +5,6 @@ mod get;
 mod in_byte;
 mod number_parts;
 mod put;
-#[cfg(test)]
-mod tests;
 mod whole_bytes;
 mod word;
 mod zero;

@@ -5,6 +5,7 @@ mod alignment;
 mod fitting;
 mod identifier;
 mod laws;
+mod magic;
 mod size;
 
 pub use alignment::{LONGEST_PACKET, align_of, align_of_field};
@@ -14,11 +15,12 @@ pub use data_types::{
     IntType, Length, Mapping, MemberType, Members, Metadata, ReadPacket, Record, Stream,
     StreamType, StructType, Value, Values,
 };
-pub use fitting::{call_faults, fits};
+pub use fitting::{call_faults, fits, is_below};
 pub use identifier::is_identifier;
 pub use laws::{
     allowed_metadata, clean_lies, front_of_packets, joined_packets, lying_fits, one_end,
     one_packet_list, one_value, own_bits_alone, shown_lies,
 };
+pub use magic::MAGIC;
 pub use plain_lists::{Bytes, Duplicate, ListOf, Text};
 pub use size::{members_size, size_from};

@@ -5,8 +5,6 @@ mod bounds;
 mod clock_fault;
 mod clock_steps;
 mod clock_table;
-#[cfg(test)]
-mod tests;
 mod tick_clock;
 mod tick_seat;
 mod view;

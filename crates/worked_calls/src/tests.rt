@@ -1,17 +1,14 @@
 //! A module a crate.
 
+mod bits;
+mod clocks;
 mod codec;
-mod described;
 mod fixtures;
-mod inheritance;
-mod json_tree;
-mod metadata;
-mod metadata_texts;
+mod merging;
 mod platform;
 mod requests;
 mod sink_faults;
 mod stream_faults;
 mod streams;
-mod tokens;
 mod traced;
 mod types;

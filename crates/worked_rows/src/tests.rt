@@ -5,6 +5,7 @@ mod alignments;
 mod clock_values;
 mod configurations;
 mod context_faults;
+mod example;
 mod gaps;
 mod header_faults;
 mod judging;

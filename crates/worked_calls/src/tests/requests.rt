@@ -1,7 +1,7 @@
 //! Tracing and collecting take no memory: two tests make the same streams, arguments, extra members and sinks, and one of them then calls each row of
 //! each call's table. The script beside the gate counts the requests for memory of both: they make equally many.
 
-ghost use Rattle.std.specs.Prelude.{IfOk, ◌<◌, length};
+ghost use Rattle.std.specs.Prelude.{IfOk, ◌≡◌, ◌<◌, length};
 
 use crate::tests::fixtures::{Datum, values};
 use crate::tests::traced::{Traced, Turns, WORKS, traced};
@@ -10,8 +10,8 @@ use packet_collector::{Collected, Collector, FinishAnswer, collect_into};
 use std::alloc::Global;
 use std::process::Abort;
 use std::test::Fail;
-use thread_stream::{PacketAnswer, StreamFault, Verdict, Why};
-use trace_platform::{StoppingWriter, Turn, WriterSink};
+use thread_stream::{PacketAnswer, StreamEnd, StreamFault, Verdict, Why};
+use trace_platform::{ScriptedBackEnd, StoppingWriter, Turn, WriterSink};
 
 type Sink = WriterSink<StoppingWriter>;
 
@@ -141,10 +141,9 @@ static CALLS: &[Call] = &[
     Call::Collect(Collected::Faulted),
 ];
 
-/// What the calls of the table need.
+/// What the calls of the table need beside their stream.
 #[derive(Drop)]
-struct Called {
-    stream: Traced,
+struct Needs {
     payloads: Vec<Args>,
     extras: Vec<Values>,
     /// It stops within the fourth packet.
@@ -152,21 +151,28 @@ struct Called {
     faulted: bool,
 }
 
+/// A stream whose last packet comes back, one that ends whole, and one that is taken apart.
+#[derive(Drop)]
+struct Ending {
+    leaving: Traced,
+    whole: Traced,
+    idle: Traced,
+}
+
 /// What all calls need: all of it is made before them.
 #[derive(Drop)]
 struct Made {
-    called: Called,
-    /// A stream whose last packet comes back, one that ends whole, and one that is taken apart.
-    leaving: Traced,
-    ending: Traced,
-    idle: Traced,
+    needs: Needs,
+    stream: Traced,
+    ending: Ending,
     collector: Collector<Sink>,
 }
 
 /// A sink over a writer that has memory for all bytes that it has room for.
 fn sink(alloc: Global, room: usize) -> Result<Sink, Fail> {
+    let bytes = Vec::with_capacity(alloc, room)?;
     Ok(WriterSink::new(StoppingWriter {
-        bytes: Vec::with_capacity(alloc, room)?,
+        bytes,
         room,
         piece: 48,
     }))
@@ -192,77 +198,145 @@ fn extras(alloc: Global) -> Result<Vec<Values>, Fail> {
     Ok(extras)
 }
 
+fn all_needed(alloc: Global) -> Result<Needs, Fail> {
+    let sink = sink(alloc, 224)?;
+    let payloads = payloads(alloc)?;
+    let extras = extras(alloc)?;
+    Ok(Needs {
+        payloads,
+        extras,
+        sink,
+        faulted: false,
+    })
+}
+
+fn streams_that_end(alloc: Global) -> Result<Ending, Fail> {
+    let leaving = traced(alloc, &LEAVES)?;
+    let whole = traced(alloc, &WORKS)?;
+    let idle = traced(alloc, &WORKS)?;
+    Ok(Ending {
+        leaving,
+        whole,
+        idle,
+    })
+}
+
+fn collector(alloc: Global) -> Result<Collector<Sink>, Fail>
+    ensures { IfOk result (λ c. 0 < length c) }
+{
+    let sink = sink(alloc, 64)?;
+    let mut collector = Collector::new(alloc);
+    if collector.add(sink).is_err() {
+        return Err(Fail::new("out of memory"));
+    }
+    Ok(collector)
+}
+
 fn all_made(alloc: Global) -> Result<Made, Fail>
     ensures { IfOk result (λ m. 0 < length m.collector) }
 {
-    let mut collector = Collector::new(alloc);
-    if collector.add(sink(alloc, 64)?).is_err() {
-        return Err(Fail::new("out of memory"));
-    }
-    let called = Called {
-        stream: traced(alloc, &TURNS)?,
-        payloads: payloads(alloc)?,
-        extras: extras(alloc)?,
-        sink: sink(alloc, 224)?,
-        faulted: false,
-    };
+    let collector = collector(alloc)?;
+    let needs = all_needed(alloc)?;
+    let ending = streams_that_end(alloc)?;
+    let stream = traced(alloc, &TURNS)?;
     Ok(Made {
-        called,
-        leaving: traced(alloc, &LEAVES)?,
-        ending: traced(alloc, &WORKS)?,
-        idle: traced(alloc, &WORKS)?,
+        needs,
+        stream,
+        ending,
         collector,
     })
 }
 
-/// Whether a call answers what it says.
-fn answers(called: &mut Called, call: &Call) -> bool {
-    let stream = &mut called.stream;
-    match call {
-        Call::Trace(event, payload, want) => match called.payloads.get(*payload) {
-            None => false,
-            Some(args) => stream.trace(*event, args) == *want,
-        },
-        Call::Open(want) => stream.open_packet() == *want,
-        Call::Close(want) => stream.close_packet() == *want,
-        Call::Enable(enabled) => {
-            stream.set_enabled(*enabled);
-            stream.is_enabled() == *enabled
-        }
-        Call::Extras(want) => match called.extras.pop() {
-            None => false,
-            Some(extras) => stream.set_extras(extras).err().map(|refused| refused.fault) == *want,
-        },
-        Call::Tells(open, empty, idle) => tells(stream, *open, *empty, *idle),
-        Call::Collect(want) => collect_into(&mut called.sink, &mut called.faulted, stream) == *want,
-    }
+/// The stream's answer alone, of which no more is said.
+fn open(stream: &mut Traced) -> PacketAnswer {
+    stream.open_packet()
 }
 
-/// Whether a stream tells this of its packet in hand, which is not full.
-fn tells(stream: &Traced, open: bool, empty: bool, idle: bool) -> bool {
+fn close(stream: &mut Traced) -> PacketAnswer {
+    stream.close_packet()
+}
+
+fn traces(stream: &mut Traced, payloads: &[Args], event: usize, payload: usize) -> Option<Verdict> {
+    let args = payloads.get(payload)?;
+    Some(stream.trace(event, args))
+}
+
+fn enables(stream: &mut Traced, enabled: bool) -> bool {
+    stream.set_enabled(enabled);
+    stream.is_enabled() == enabled
+}
+
+/// The fault that the last of these members are refused with, where there is one.
+fn extras_fault(stream: &mut Traced, extras: &mut Vec<Values>) -> Option<Option<StreamFault>> {
+    let last = extras.pop()?;
+    Some(stream.set_extras(last).err().map(|refused| refused.fault))
+}
+
+fn tells_of_its_packet(stream: &Traced, open: bool, empty: bool, idle: bool) -> bool {
     stream.packet_is_open() == open
         && stream.packet_is_empty() == empty
         && stream.is_idle() == idle
         && !stream.packet_is_full()
-        && stream.packet_bits() == 512
-        && stream.sequence_number() <= 1
-        && stream.discarded_count() <= 5
 }
 
-fn calls_each_row(rt: &impl Abort, called: &mut Called) {
+fn tells_of_itself(stream: &Traced) -> bool {
+    stream.packet_bits() == 512 && stream.sequence_number() <= 1 && stream.discarded_count() <= 5
+}
+
+fn collected(needs: &mut Needs, stream: &mut Traced) -> Collected {
+    collect_into(&mut needs.sink, &mut needs.faulted, stream)
+}
+
+/// Whether a call answers what it says. A stream tells of its packet in hand, which is not full, and of itself.
+fn answers(needs: &mut Needs, stream: &mut Traced, call: &Call) -> bool {
+    match call {
+        Call::Trace(event, payload, want) => {
+            traces(stream, needs.payloads.as_slice(), *event, *payload) == Some(*want)
+        }
+        Call::Open(want) => open(stream) == *want,
+        Call::Close(want) => close(stream) == *want,
+        Call::Enable(enabled) => enables(stream, *enabled),
+        Call::Extras(want) => extras_fault(stream, &mut needs.extras) == Some(*want),
+        Call::Tells(open, empty, idle) => {
+            tells_of_its_packet(stream, *open, *empty, *idle) && tells_of_itself(stream)
+        }
+        Call::Collect(want) => collected(needs, stream) == *want,
+    }
+}
+
+fn calls_each_row(rt: &impl Abort, needs: &mut Needs, stream: &mut Traced) {
     for (number, call) in CALLS.iter().enumerate() {
-        let answers = answers(called, call);
+        let answers = answers(needs, stream, call);
         assert!(rt; answers, "call {number}");
     }
+}
+
+/// The end of a stream, whose clock is let go.
+fn end_of(stream: Traced) -> StreamEnd<ScriptedBackEnd> {
+    let (end, clock) = stream.finish();
+    drop(clock);
+    end
 }
 
 /// A stream with a packet open ends: whether the packet is left behind.
 fn leaves_its_packet(rt: &impl Abort, stream: Traced) -> bool {
     let mut stream = stream;
-    assert_eq!(rt; stream.open_packet(), PacketAnswer::Done);
-    let (end, clock) = stream.finish();
-    drop(clock);
-    end.left.is_some()
+    assert_eq!(rt; open(&mut stream), PacketAnswer::Done);
+    end_of(stream).left.is_some()
+}
+
+fn collect(collector: &mut Collector<Sink>, stream: &mut Traced) -> Collected
+    requires { 0 < length collector.old }
+    ensures { length collector.new ≡ length collector.old }
+{
+    collector.collect(0, stream)
+}
+
+fn finish(collector: Collector<Sink>, end: StreamEnd<ScriptedBackEnd>) -> FinishAnswer
+    requires { 0 < length collector }
+{
+    let mut collector = collector;
+    collector.finish_own(0, end)
 }
 
 /// A stream closes a packet, which a collector takes, and ends with the next one open, which the collector has no room for.
@@ -271,38 +345,61 @@ fn ends(rt: &impl Abort, stream: Traced, collector: Collector<Sink>)
 {
     let mut stream = stream;
     let mut collector = collector;
-    assert_eq!(rt; stream.open_packet(), PacketAnswer::Done);
-    assert_eq!(rt; stream.close_packet(), PacketAnswer::Done);
-    assert_eq!(rt; collector.collect(0, &mut stream), Collected::Took(0));
-    assert_eq!(rt; collector.collect(0, &mut stream), Collected::Nothing);
-    assert_eq!(rt; stream.open_packet(), PacketAnswer::Done);
-    let (end, clock) = stream.finish();
-    drop(clock);
+    assert_eq!(rt; open(&mut stream), PacketAnswer::Done);
+    assert_eq!(rt; close(&mut stream), PacketAnswer::Done);
+    assert_eq!(rt; collect(&mut collector, &mut stream), Collected::Took(0));
+    assert_eq!(rt; collect(&mut collector, &mut stream), Collected::Nothing);
+    assert_eq!(rt; open(&mut stream), PacketAnswer::Done);
+    let end = end_of(stream);
     assert!(rt; end.left.is_none());
-    assert_eq!(rt; collector.finish_own(0, end), FinishAnswer::Faulted);
+    assert_eq!(rt; finish(collector, end), FinishAnswer::Faulted);
+}
+
+fn gives_its_parts_back(stream: Traced) {
+    if stream.is_idle() {
+        drop(stream.into_parts());
+    }
+}
+
+fn each_ends(rt: &impl Abort, streams: Ending, collector: Collector<Sink>)
+    requires { 0 < length collector }
+{
+    let Ending {
+        leaving,
+        whole,
+        idle,
+    } = streams;
+    assert!(rt; leaves_its_packet(rt, leaving));
+    ends(rt, whole, collector);
+    gives_its_parts_back(idle);
 }
 
 #[test]
 fn makes_streams(rt: HostRuntime) -> Result<(), Fail> {
-    all_made(rt.alloc())?;
+    let Made {
+        needs,
+        stream,
+        ending,
+        collector,
+    } = all_made(rt.alloc())?;
+    drop(needs);
+    drop(stream);
+    drop(ending);
+    drop(collector);
     Ok(())
 }
 
 #[test]
 fn makes_streams_and_calls_each_row(rt: HostRuntime) -> Result<(), Fail> {
     let Made {
-        called,
-        leaving,
+        needs,
+        stream,
         ending,
-        idle,
         collector,
     } = all_made(rt.alloc())?;
-    let mut called = called;
-    calls_each_row(&rt, &mut called);
-    assert!(rt; leaves_its_packet(&rt, leaving));
-    ends(&rt, ending, collector);
-    if idle.is_idle() {
-        drop(idle.into_parts());
-    }
+    let mut needs = needs;
+    let mut stream = stream;
+    calls_each_row(&rt, &mut needs, &mut stream);
+    each_ends(&rt, ending, collector);
     Ok(())
 }

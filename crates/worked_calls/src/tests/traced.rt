@@ -1,6 +1,5 @@
 //! Streams over scripted platforms, of a configuration with a clock, texts and extra members.
 
-ghost use Rattle.std.specs.Prelude.{IfOk};
 ghost use Rattle.ctf_types.specs.AllowedConfig.{IsConfig};
 
 use crate::tests::fixtures::{Datum, configured, values};
@@ -37,26 +36,40 @@ pub static WORKS: Turns = Turns {
     handing: &[],
 };
 
-fn configuration(alloc: Global) -> Result<Config, Fail>
-    ensures { IfOk result (λ c. IsConfig c) }
-{
-    configured(alloc, TRACED)
-}
-
 fn script(alloc: Global, turns: &[Turn]) -> Result<Script, Fail> {
     Ok(Script::new(Vec::from_slice(alloc, turns)?))
 }
 
-/// A stream over three buffers of 64 bytes, whose extra members are 1 and `x`.
-pub fn traced(alloc: Global, turns: &Turns) -> Result<Traced, Fail> {
-    let clock = ListClock::new(Vec::from_slice(alloc, READINGS)?).ok_or("readings that fall")?;
-    let clock = ScriptedClock::new(clock, script(alloc, turns.reading)?);
-    let list = ListBackEnd::new(alloc, 3, 64)?;
+fn clock(alloc: Global, turns: &Turns) -> Result<ScriptedClock, Fail> {
+    let readings = Vec::from_slice(alloc, READINGS)?;
+    let turns = script(alloc, turns.reading)?;
+    let clock = ListClock::new(readings).ok_or("readings that fall")?;
+    Ok(ScriptedClock::new(clock, turns))
+}
+
+/// Three buffers of 64 bytes.
+fn back_end(alloc: Global, turns: &Turns) -> Result<ScriptedBackEnd, Fail> {
     let looking = script(alloc, turns.looking)?;
-    let back_end = ScriptedBackEnd::new(list, looking, script(alloc, turns.handing)?);
+    let handing = script(alloc, turns.handing)?;
+    let list = ListBackEnd::new(alloc, 3, 64)?;
+    Ok(ScriptedBackEnd::new(list, looking, handing))
+}
+
+/// A stream of this configuration, whose extra members are 1 and `x`.
+fn started(alloc: Global, config: &Config, turns: &Turns) -> Result<Traced, Fail>
+    requires { IsConfig config.now }
+{
     let extras = values(alloc, &[Datum::Unsigned(1), Datum::Text(b"x")])?;
-    match Stream::new(alloc, &configuration(alloc)?, "s", clock, back_end, extras) {
+    let clock = clock(alloc, turns)?;
+    let back_end = back_end(alloc, turns)?;
+    match Stream::new(alloc, config, "s", clock, back_end, extras) {
         Ok(stream) => Ok(stream),
         Err(refused) => Err(Fail::new(refused.fault)),
     }
+}
+
+/// A stream over three buffers of 64 bytes, whose extra members are 1 and `x`.
+pub fn traced(alloc: Global, turns: &Turns) -> Result<Traced, Fail> {
+    let config = configured(alloc, TRACED)?;
+    started(alloc, &config, turns)
 }
