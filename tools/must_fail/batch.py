@@ -1,5 +1,6 @@
-"""Which edits can stand in one copy: each touches functions of its own, and none touches a function that another's rests on,
-since the goals of a caller are not tried while its callee is not proved. Functions of one cycle are proved together, and each has goals of its own."""
+"""Which edits can stand in one copy of a crate: each touches functions of its own, and none touches a function that another's rests on, since the
+goals of a caller are not tried while its callee is not proved. Nothing rests on the copies of functions in which most edits stand (layout.py).
+Functions of one cycle are proved together, and each has goals of its own."""
 import re
 
 WAITS = re.compile(r"(?m)^fn (\S+): .*?it calls `([^`]+)`, which is not proved")

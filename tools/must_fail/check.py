@@ -6,6 +6,7 @@ import subprocess
 import tempfile
 
 from must_fail.edit import applied
+from must_fail.layout import Layout
 from must_fail.source import functions_of
 
 PARTS = ("src", "specs", "proofs")
@@ -32,7 +33,13 @@ class Copy:
                 with open(f"{below}/{name}", encoding="utf-8") as it:
                     self.sources[os.path.relpath(f"{below}/{name}", self.folder)] = it.read()
         self.functions = functions_of(self.sources)
+        self.layout = Layout(self.sources, [])
         self.is_program = "src/main.rt" in self.sources
+
+    def lay_out(self, edits):
+        """Gives each edit a copy of its function."""
+        self.layout = Layout(self.sources, edits)
+        self.sources, self.functions = self.layout.sources, self.layout.functions
 
     def words(self, functions):
         """The command that checks these functions."""
@@ -57,17 +64,18 @@ class Copy:
                 found += [it for it in [*self.below(name), name] if it not in found]
         return found
 
-    def check(self, edits, functions, seconds):
-        """Checks these functions in a copy with these edits; returns what the check says, or Late. The first check, without edits, keeps its work
-        for the others, each of which has a copy of it."""
+    def check(self, edits, functions, seconds, keeps=False):
+        """Checks these functions in a copy with these edits; returns what the check says, or Late. A check that keeps its work serves the others, each
+        of which has a copy of it."""
         with tempfile.TemporaryDirectory(prefix="edits-", dir=self.room) as copy:
-            kept = f"{copy}/kept" if edits else self.kept
-            if edits:
+            kept = self.kept if keeps else f"{copy}/kept"
+            if not keeps and os.path.isdir(self.kept):
                 shutil.copytree(self.kept, kept, copy_function=shutil.copyfile)
             for part in PARTS:
                 if os.path.isdir(f"{self.folder}/{part}"):
                     shutil.copytree(f"{self.folder}/{part}", f"{copy}/{part}")
-            for file, text in applied(edits, self.sources).items():
+            self.layout.copy_proofs(self.crate, copy)
+            for file, text in {**self.sources, **applied(edits, self.sources)}.items():
                 with open(f"{copy}/{file}", "w", encoding="utf-8") as it:
                     it.write(text)
             return said_by([*self.words(functions), "--incremental", kept], copy, seconds)

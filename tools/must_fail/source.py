@@ -13,7 +13,7 @@ BEFORE = re.compile(r"(?:#\[(?:[^\[\]]|\[[^\]]*\])*\]\s*)*(?:pub(?:\([^)]*\))?\s
 @dataclass(frozen=True)
 class Function:
     """A function with a body: its file, the places in the text where it begins and ends, and its name without the crate's.
-    The owner is the type of an impl and the trait of it, or is empty; the cycle is the name of the functions that are proved with it, or is empty."""
+    The owner is the type of an impl, and the trait is that of the impl or the one that declares it; each may be empty; the cycle is the name of the functions that are proved with it, or is empty."""
 
     file: str
     begins: int
@@ -23,6 +23,10 @@ class Function:
     trait: str
     name: str
     cycle: str
+
+    def named(self, name):
+        """A function of another name in its place."""
+        return replace(self, name=name)
 
     def path(self):
         """The name by which rattle knows it, without the crate's."""
@@ -113,7 +117,7 @@ def functions_within(file, plain, at, ends, module, owner, trait):
         elif found[1] == "impl":
             yield from functions_within(file, plain, opens + 1, closes, module, *owner_of(plain[found.end() : opens]))
         elif found[1] == "trait":
-            yield from functions_within(file, plain, opens + 1, closes, module, name, "")
+            yield from functions_within(file, plain, opens + 1, closes, module, "", name)
         else:
             inner = "::".join(it for it in (module, name) if it)
             yield from functions_within(file, plain, opens + 1, closes, inner, "", "")
