@@ -11,6 +11,7 @@ use trace_platform::{ListBackEnd, ListClock, MemorySink};
 use trace_stack::{Act, Answer, Event, FinishedSession, Session, read_trace, run_events};
 
 type Listed = Session<ListClock, ListBackEnd, MemorySink>;
+
 type Files = Vec<(String, Vec<u8>)>;
 
 const CONFIGURATION: &str = r#"{"trace": {"type": {

@@ -1,6 +1,8 @@
 //! Calls that take memory, each answering want of memory in the words `out of memory` wherever a request is refused, and tracing, which takes none:
 //! the script beside the gate refuses each request of these tests in turn, and counts those of tracing.
 
+mod session;
+
 ghost use Rattle.std.specs.Prelude.{IfOk};
 ghost use Rattle.ctf_types.specs.Allowed.{IsMetadata};
 ghost use Rattle.ctf_types.specs.AllowedConfig.{IsConfig};

@@ -1,0 +1,98 @@
+//! A session from its beginning on, and its trace read back: each of its calls that takes memory.
+
+ghost use Rattle.std.specs.Prelude.{◌≡◌, IfOk};
+
+use super::{configuration, granted};
+use crate::tests::small::{Datum, SMALL, changed, payload, values};
+use packet_collector::FinishAnswer;
+use std::alloc::Global;
+use std::test::Fail;
+use trace_platform::{ListBackEnd, ListClock, MemorySink};
+use trace_stack::{Act, Event, FinishedSession, Session, read_trace, run_events};
+
+/// Each packet says a number of its own.
+const EXTRAS: &str = r#"[{"cpu":{"field-type":{"class":"uint","size":8}}}]"#;
+
+type Listed = Session<ListClock, ListBackEnd, MemorySink>;
+
+#[test]
+fn records_a_session_and_reads_it(rt: HostRuntime) -> Result<(), Fail> {
+    let alloc = rt.alloc();
+    let mut session = started(alloc)?;
+    let metadata = granted(session.metadata())?;
+    run(alloc, &mut session)?;
+    let files = files_of(alloc, session)?;
+    match read_trace(alloc, metadata.as_bytes(), &files) {
+        Ok(trace) => {
+            assert_eq!(rt; trace.streams.len(), 1);
+            assert_eq!(rt; trace.order.len(), 2);
+            Ok(())
+        }
+        Err(fault) => Err(Fail::new(fault)),
+    }
+}
+
+/// A session with one stream.
+fn started(alloc: Global) -> Result<Listed, Fail> {
+    let text = granted(changed(alloc, SMALL, &[("EXTRAS", EXTRAS)]))?;
+    let mut session = Session::new(alloc, configuration(alloc, text.as_str())?);
+    add_stream(alloc, &mut session)?;
+    Ok(session)
+}
+
+fn add_stream(alloc: Global, session: &mut Listed) -> Result<(), Fail> {
+    let clock = ListClock::new(Vec::new(alloc)).ok_or("readings that fall")?;
+    let back_end = two_buffers(alloc)?;
+    let extras = granted(values(alloc, &[Datum::Unsigned(1)]))?;
+    match session.add_stream("a", "s", clock, back_end, MemorySink::new(alloc), extras) {
+        Ok(_) => Ok(()),
+        Err(refused) => Err(Fail::new(refused.fault)),
+    }
+}
+
+fn two_buffers(alloc: Global) -> Result<ListBackEnd, Fail>
+    ensures { IfOk result (λ b. b.waiting ≡ []) }
+{
+    match ListBackEnd::new(alloc, 2, 20) {
+        Ok(back_end) => Ok(back_end),
+        Err(_) => Err(Fail::new("out of memory")),
+    }
+}
+
+/// Traces a call into each of two packets, which have different extra members.
+fn run(alloc: Global, session: &mut Listed) -> Result<(), Fail> {
+    let extras = granted(values(alloc, &[Datum::Unsigned(2)]))?;
+    let first = granted(payload(alloc, &[Datum::Unsigned(7)]))?;
+    let second = granted(payload(alloc, &[Datum::Unsigned(8)]))?;
+    act(session, Act::Trace(0, first))?;
+    act(session, Act::ClosePacket)?;
+    act(session, Act::Extras(extras))?;
+    act(session, Act::Trace(0, second))
+}
+
+fn act(session: &mut Listed, act: Act) -> Result<(), Fail> {
+    if session.stream_count() == 0 {
+        return Err("no stream".into());
+    }
+    granted(run_events(session, &[Event { stream: 0, act }]))?;
+    Ok(())
+}
+
+/// The stream files of a session, once it is finished. A sink in memory faults where its memory is refused, and nowhere else.
+fn files_of(alloc: Global, session: Listed) -> Result<Vec<(String, Vec<u8>)>, Fail> {
+    let Ok(finished) = session.finish_all() else {
+        return Err("out of memory".into());
+    };
+    let FinishedSession { sinks, answers } = finished;
+    if !answers.as_slice().contains(&FinishAnswer::Settled) {
+        return Err("out of memory".into());
+    }
+    let mut files = Vec::new(alloc);
+    for sink in sinks {
+        let name = granted(String::from_str(alloc, "a"))?;
+        if files.push((name, sink.into_bytes())).is_err() {
+            return Err("out of memory".into());
+        }
+    }
+    Ok(files)
+}
