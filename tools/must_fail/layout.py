@@ -1,7 +1,7 @@
 """Each edit in a copy of its function, which stands behind the function under a name of its own. Nothing calls a copy, so the edits of a crate stand side
 by side: several of one function, and those of a function and of one that it calls. A copy has its function's clauses, and its proof is the function's under
-the new name; one copy without an edit shows that they are proved so. A trait's methods, the functions of a cycle and `main` have no copy: an edit of them
-stands in the function itself."""
+the new name; one copy without an edit shows that they are proved so. A trait's methods, functions that call themselves or stand in a cycle, and `main`
+have no copy: an edit of them stands in the function itself."""
 import os
 import re
 
@@ -9,7 +9,7 @@ from must_fail.source import functions_of
 
 
 def can_be_copied(function):
-    return not (function.trait or function.cycle or function.name == "main")
+    return not (function.trait or function.cycle or function.calls_itself or function.name == "main")
 
 
 def renamed(line, name, new_name):

@@ -13,7 +13,7 @@ BEFORE = re.compile(r"(?:#\[(?:[^\[\]]|\[[^\]]*\])*\]\s*)*(?:pub(?:\([^)]*\))?\s
 @dataclass(frozen=True)
 class Function:
     """A function with a body: its file, the places in the text where it begins and ends, and its name without the crate's.
-    The owner is the type of an impl, and the trait is that of the impl or the one that declares it; each may be empty; the cycle is the name of the functions that are proved with it, or is empty."""
+    The owner is the type of an impl, and the trait is that of the impl or the one that declares it; each may be empty; the cycle is the name of the functions that are proved with it, or is empty. It may call itself."""
 
     file: str
     begins: int
@@ -23,6 +23,7 @@ class Function:
     trait: str
     name: str
     cycle: str
+    calls_itself: bool
 
     def named(self, name):
         """A function of another name in its place."""
@@ -113,7 +114,9 @@ def functions_within(file, plain, at, ends, module, owner, trait):
         if found[1] == "fn":
             begins = beginning(plain, found.start())
             cycle = re.search(r"#\[cycle\((\w+)\)\]", plain[begins : found.start()])
-            yield Function(file, begins, closes, module, owner, trait, name, cycle[1] if cycle else "")
+            itself = rf"\b(?:self\.|Self::){name}\s*\(" if owner else rf"(?<![\w.:]){name}\s*\("
+            calls_itself = bool(re.search(itself, plain[opens:closes]))
+            yield Function(file, begins, closes, module, owner, trait, name, cycle[1] if cycle else "", calls_itself)
         elif found[1] == "impl":
             yield from functions_within(file, plain, opens + 1, closes, module, *owner_of(plain[found.end() : opens]))
         elif found[1] == "trait":
