@@ -65,7 +65,7 @@ fn holds_the_packet_that_a_ring_hands_back(rt: HostRuntime) -> Result<(), Fail> 
 }
 
 /// A closed packet of 16 bytes with this number.
-fn packet(alloc: Global, number: u64) -> Result<Packet, Fail> {
+pub fn packet(alloc: Global, number: u64) -> Result<Packet, Fail> {
     let mut stream = stream(alloc, ListBackEnd::new(alloc, 1, 16)?)?;
     let args = payload(alloc, &[Datum::Unsigned(number)])?;
     stream.trace(0, &args);
@@ -73,9 +73,9 @@ fn packet(alloc: Global, number: u64) -> Result<Packet, Fail> {
     Ok(stream.take().ok_or("no packet")?)
 }
 
-const FIRST: &str = "c11ffcc1 80000000 68000000 01000000";
+pub const FIRST: &str = "c11ffcc1 80000000 68000000 01000000";
 
-const SECOND: &str = "c11ffcc1 80000000 68000000 02000000";
+pub const SECOND: &str = "c11ffcc1 80000000 68000000 02000000";
 
 #[test]
 fn hands_over_in_order_and_settles(rt: HostRuntime) -> Result<(), Fail> {
