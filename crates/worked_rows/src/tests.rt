@@ -17,6 +17,7 @@ mod reading;
 mod record_faults;
 mod reserved_words;
 mod rings;
+mod scripts;
 mod session_calls;
 mod session_steps;
 mod sessions;

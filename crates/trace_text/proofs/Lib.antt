@@ -1,0 +1,5 @@
+mod DoingLaws
+mod EventLaws
+mod ScriptLaws
+mod StepLaws
+mod StreamLaws

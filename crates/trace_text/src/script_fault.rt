@@ -1,0 +1,58 @@
+//! Why a text is no script.
+
+ghost use Rattle.std.specs.Prelude.{◌≡◌};
+ghost use Rattle.trace_text.specs.declared.script_fault.ScriptFaultKind.TheVariants.{OutOfMemory};
+ghost use Rattle.trace_text.specs.ScriptReading.{of_entry as of_entry_of};
+
+use std::alloc::AllocError;
+use thiserror::Error;
+
+/// What is wrong with a script. Of the faults of one entry, the kind that stands first in this list is answered.
+#[derive(Clone, Copy, Debug, PartialEq, Eq, Error)]
+pub enum ScriptFaultKind {
+    #[error("not JSON: expected one JSON value in UTF-8")]
+    NotJson,
+    #[error("not of a script's form: expected its properties, each of its kind, and no others")]
+    Shape,
+    #[error("no such stream: expected the name of a stream, or of a data stream type")]
+    NoSuchStream,
+    #[error("no such event record type: expected the name of one of the stream's type")]
+    NoSuchEvent,
+    #[error("bad value: expected a whole number of its field's sign in 64 bits, a text or a list")]
+    BadValue,
+    #[error("out of memory")]
+    OutOfMemory,
+}
+
+/// The first fault of a script: one that lies in no entry, else the first of its streams' entries, else the first of its events'.
+#[derive(Clone, Copy, Debug, PartialEq, Eq, Error)]
+#[error("entry {at}: {kind}")]
+pub struct ScriptFault {
+    /// The index of the entry in its list, 0 where no entry has the fault.
+    pub at: usize,
+    pub kind: ScriptFaultKind,
+}
+
+impl From<AllocError> for ScriptFaultKind {
+    ghost from_gives = { λ _ e. e ≡ OutOfMemory };
+
+    fn from(_error: AllocError) -> ScriptFaultKind {
+        ScriptFaultKind::OutOfMemory
+    }
+}
+
+impl ScriptFault {
+    /// The fault of an entry. Want of memory is no entry's.
+    pub(crate) fn of_entry(at: usize, kind: ScriptFaultKind) -> ScriptFault
+        ensures { result ≡ of_entry_of at kind }
+    {
+        match kind {
+            ScriptFaultKind::NotJson
+            | ScriptFaultKind::Shape
+            | ScriptFaultKind::NoSuchStream
+            | ScriptFaultKind::NoSuchEvent
+            | ScriptFaultKind::BadValue => ScriptFault { at, kind },
+            ScriptFaultKind::OutOfMemory => ScriptFault { at: 0, kind },
+        }
+    }
+}
