@@ -1,4 +1,10 @@
 pub mod Names
+pub mod PrintedNumbers
+pub mod PrintedPages
+pub mod PrintedStreams
+pub mod PrintedTexts
+pub mod PrintedTrace
+pub mod PrintedValues
 pub mod Script
 pub mod ScriptEntries
 pub mod ScriptFaults

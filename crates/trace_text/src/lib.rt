@@ -1,7 +1,17 @@
-//! Reads scripts: the streams of a session, and what they are to do.
+//! Reads scripts: the streams of a session, and what they are to do; and prints traces that were read.
 #![tactic(auto)]
 
 mod names;
+mod printing;
+mod printing_fault;
+mod printing_law;
+mod printing_numbers;
+mod printing_order;
+mod printing_page;
+mod printing_records;
+mod printing_streams;
+mod printing_texts;
+mod printing_values;
 mod script;
 mod script_event;
 mod script_fault;
@@ -13,6 +23,9 @@ mod script_stream;
 mod script_value;
 
 pub use names::names_fault;
+pub use printing::print_trace;
+pub use printing_fault::PrintFault;
+pub use printing_law::one_printed_trace;
 pub use script::{Script, ScriptStream};
 pub use script_fault::{ScriptFault, ScriptFaultKind};
 pub use script_law::scripts_or_faults;

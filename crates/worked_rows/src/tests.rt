@@ -13,6 +13,7 @@ mod judging;
 mod limits;
 mod memory;
 mod packet_layouts;
+mod printed_traces;
 mod reading;
 mod record_faults;
 mod reserved_words;

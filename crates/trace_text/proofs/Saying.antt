@@ -1,0 +1,148 @@
+-- One text said behind another, and what a fault leaves.
+use Rattle.std.proofs.Common.{◌≡◌, ℕ, ◌+◌, ◌≤◌, List, [], ◌∷◌, ◌++◌, length, length-append, length-drop, take, drop, get_or, Option, None, Some, arith, refl, sym, ap, subst, ◌∙◌, append_assoc, inl, inr}
+use Rattle.std.proofs.KnownBytes.{Appends-nil, Appends-trans}
+use Rattle.std.proofs.lemmas.List.{append-nil, take-append-le, drop-append-le, take_all, drop_all}
+use Rattle.std.specs.Prelude.{◌⊎◌, Result, Ok, Err, OnOk, OnErr}
+use Rattle.trace_platform.proofs.Fronts.{Advances-trans}
+use Rattle.std.specs.Io.KnownBytes.{Appends}
+use Rattle.trace_platform.specs.Fronts.{AppendsFront, Advances}
+use Rattle.trace_text.specs.declared.printing_page.Page.{Page}
+use Rattle.trace_text.specs.declared.printing_fault.PrintFault.{PrintFault}
+use Rattle.trace_text.specs.PrintedPages.{IsOpen, Says}
+
+-- ---- fronts
+
+-- a front is one of a longer text, and what is left is longer by the same
+further : (a b : Option (List ℕ)) (x left u : List ℕ) → Advances a b x left → Advances a b (x ++ u) (left ++ u)
+further a b x left u p = record {
+  count = p.count;
+  within = omega (arith, p.within, length-append x u);
+  written = subst (λ (l : List ℕ). Appends a b l) (sym (take-append-le p.count x u p.within)) p.written;
+  left_is = ap (λ (l : List ℕ). l ++ u) p.left_is ∙ sym (drop-append-le p.count x u p.within);
+}
+
+go_on : (a b c : Option (List ℕ)) (x left u rest : List ℕ) → Advances a b x left → Advances b c (left ++ u) rest → Advances a c (x ++ u) rest
+go_on a b c x left u rest p q = Advances-trans a b c (x ++ u) (left ++ u) rest (further a b x left u p) q
+
+front_more : (a b c : Option (List ℕ)) (x left : List ℕ) → Advances a b x left → AppendsFront b c left → AppendsFront a c x
+front_more a b c x left p q =
+    let next : Advances b c left (drop q.0 left) = record { count = q.0; within = q.1; written = q.2; left_is = refl } in
+    let both = Advances-trans a b c x left (drop q.0 left) p next in
+    (both.count, both.within, both.written)
+
+front_longer : (a b : Option (List ℕ)) (x u : List ℕ) → AppendsFront a b x → AppendsFront a b (x ++ u)
+front_longer a b x u p =
+    (p.0, omega (arith, p.1, length-append x u), subst (λ (l : List ℕ). Appends a b l) (sym (take-append-le p.0 x u p.1)) p.2)
+
+front_stays : (a b c : Option (List ℕ)) (x : List ℕ) → AppendsFront a b x → Appends b c [] → AppendsFront a c x
+front_stays a b c x p q =
+    (p.0, p.1, subst (λ (l : List ℕ). Appends a c l) (append-nil (take p.0 x)) (Appends-trans a b c (take p.0 x) [] p.2 q))
+
+-- ---- a fault or none
+
+abbrev IsNone : Option PrintFault → Type 0
+IsNone None = Unit {0}
+IsNone (Some fault) = ⊥
+
+none_or : (o : Option PrintFault) → (o ≡ None) ⊎ ((fault : PrintFault) × (o ≡ Some fault))
+none_or None = inl refl
+none_or (Some fault) = inr (fault, refl)
+
+pub never : {X : Type 0} (o : Option PrintFault) (fault : PrintFault) → o ≡ None → o ≡ Some fault → X
+never o fault e f = absurd (subst (λ (v : Option PrintFault). IsNone v) f (subst (λ (v : Option PrintFault). IsNone v) (sym e) tt))
+
+pub open_before : {a b : Option (List ℕ)} {p q : Page} {t : List ℕ} → Says a p b q t → IsOpen q → IsOpen p
+open_before {a} {b} {p} {q} s o = elim (none_or p.fault) [
+  | inl e ↦ e
+  | inr h ↦ never q.fault h.0 o (s.stays h.0 h.1).0
+]
+
+-- ---- texts
+
+-- the same text, in other words
+pub said : {a b : Option (List ℕ)} {p q : Page} {t : List ℕ} (u : List ℕ) → t ≡ u → Says a p b q t → Says a p b q u
+said {a} {b} {p} {q} u e s = subst (λ (v : List ℕ). Says a p b q v) e s
+
+-- nothing is said
+pub nothing : (a : Option (List ℕ)) (p : Page) → Says a p a p []
+nothing a p = record {
+  told = λ o. record { count = 0; within = omega arith; written = Appends-nil a; left_is = sym (append-nil p.bytes.items) };
+  front = λ o. (0, omega arith, Appends-nil a);
+  stays = λ fault e. (e, Appends-nil a);
+}
+
+-- after a fault any text is said by saying nothing
+pub stopped : {a b : Option (List ℕ)} {p q : Page} {t : List ℕ} (u : List ℕ) (fault : PrintFault) → Says a p b q t → q.fault ≡ Some fault → Says a p b q (t ++ u)
+stopped {a} {b} {p} {q} {t} u fault s e = record {
+  told = λ o. never q.fault fault o e;
+  front = λ o. subst (λ (v : List ℕ). AppendsFront a b v) (append_assoc p.bytes.items t u) (front_longer a b (p.bytes.items ++ t) u (s.front o));
+  stays = s.stays;
+}
+
+-- two texts
+pub more : {a b c : Option (List ℕ)} {p q r : Page} {t u : List ℕ} → Says a p b q t → Says b q c r u → Says a p c r (t ++ u)
+more {a} {b} {c} {p} {q} {r} {t} {u} s v = record {
+  told = λ o. subst (λ (w : List ℕ). Advances a c w r.bytes.items) (append_assoc p.bytes.items t u)
+      (go_on a b c (p.bytes.items ++ t) q.bytes.items u r.bytes.items (s.told (open_before v o)) (v.told o));
+  front = λ o. subst (λ (w : List ℕ). AppendsFront a c w) (append_assoc p.bytes.items t u) (elim (none_or q.fault) [
+    | inl e ↦ front_more a b c (p.bytes.items ++ t ++ u) (q.bytes.items ++ u) (further a b (p.bytes.items ++ t) q.bytes.items u (s.told e)) (v.front e)
+    | inr h ↦ front_longer a c (p.bytes.items ++ t) u (front_stays a b c (p.bytes.items ++ t) (s.front o) (v.stays h.0 h.1).1)
+  ]);
+  stays = λ fault e. ((v.stays fault (s.stays fault e).0).0, Appends-trans a b c [] [] (s.stays fault e).1 (v.stays fault (s.stays fault e).0).1);
+}
+
+-- ---- what is said at once
+
+-- nothing after a fault
+pub lost : (a : Option (List ℕ)) (p : Page) (t : List ℕ) (fault : PrintFault) → p.fault ≡ Some fault → Says a p a p t
+lost a p t fault e = stopped t fault (nothing a p) e
+
+-- a text that the page takes
+pub held_back : (a : Option (List ℕ)) (p q : Page) (t : List ℕ) → p.fault ≡ None → q.bytes.items ≡ p.bytes.items ++ t → Says a p a q t
+held_back a p q t bare e = record {
+  told = λ o. record { count = 0; within = omega arith; written = Appends-nil a; left_is = e };
+  front = λ o. (0, omega arith, Appends-nil a);
+  stays = λ fault f. never p.fault fault bare f;
+}
+
+-- a text that met a fault
+pub failed : (a : Option (List ℕ)) (p q : Page) (t : List ℕ) (fault : PrintFault) → p.fault ≡ None → q.fault ≡ Some fault → Says a p a q t
+failed a p q t fault bare e = record {
+  told = λ o. never q.fault fault o e;
+  front = λ o. (0, omega arith, Appends-nil a);
+  stays = λ fault f. never p.fault fault bare f;
+}
+
+-- all that was said is written
+pub written_all : (a b : Option (List ℕ)) (p q : Page) (t : List ℕ) → (IsOpen q → Appends a b (p.bytes.items ++ t)) → (IsOpen p → AppendsFront a b (p.bytes.items ++ t))
+    → ((fault : PrintFault) → p.fault ≡ Some fault → (q.fault ≡ Some fault) × Appends a b []) → q.bytes.items ≡ [] → Says a p b q t
+written_all a b p q t whole front stays empty = record {
+  told = λ o. record {
+    count = length (p.bytes.items ++ t);
+    within = omega arith;
+    written = subst (λ (l : List ℕ). Appends a b l) (sym (take_all (length (p.bytes.items ++ t)) (p.bytes.items ++ t) (omega arith))) (whole o);
+    left_is = empty ∙ sym (drop_all (length (p.bytes.items ++ t)) (p.bytes.items ++ t) (omega arith));
+  };
+  front = front;
+  stays = stays;
+}
+
+-- a text that the page takes, unless memory is wanting
+pub taken_or_failed : {X E : Type 0} (a : Option (List ℕ)) (p q : Page) (t : List ℕ) (fault : PrintFault) (r : Result X E) → p.fault ≡ None
+    → OnOk r (q.bytes.items ≡ p.bytes.items ++ t) → OnErr r (q.fault ≡ Some fault) → Says a p a q t
+taken_or_failed a p q t fault (Ok x) bare e f = held_back a p q t bare e
+taken_or_failed a p q t fault (Err x) bare e f = failed a p q t fault bare f
+
+-- ---- from an empty page to an empty page
+
+-- all that was said is written
+pub written_out : {a b : Option (List ℕ)} {p q : Page} {t : List ℕ} → Says a p b q t → p.bytes.items ≡ [] → q.bytes.items ≡ [] → IsOpen q → Appends a b t
+written_out {a} {b} {p} {q} {t} s e f o =
+    let x : List ℕ = p.bytes.items ++ t in
+    let w = s.told o in
+    let all : length x ≤ w.count = omega (arith, length-drop w.count x, ap (λ (l : List ℕ). length l) w.left_is, ap (λ (l : List ℕ). length l) f) in
+    subst (λ (l : List ℕ). Appends a b l) (take_all w.count x all ∙ ap (λ (l : List ℕ). l ++ t) e) w.written
+
+-- a front of it is written
+pub front_out : {a b : Option (List ℕ)} {p q : Page} {t : List ℕ} → Says a p b q t → p.bytes.items ≡ [] → IsOpen p → AppendsFront a b t
+front_out {a} {b} {p} {q} {t} s e o = subst (λ (l : List ℕ). AppendsFront a b l) (ap (λ (l : List ℕ). l ++ t) e) (s.front o)

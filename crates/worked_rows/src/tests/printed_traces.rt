@@ -1,0 +1,147 @@
+//! Traces that were read, printed.
+
+use crate::tests::small::{CLOCKED, Changes, SMALL, bytes_of, changed, configured};
+use std::alloc::Global;
+use std::test::Fail;
+use trace_platform::StoppingWriter;
+use trace_stack::{ReadTrace, read_trace};
+use trace_text::{PrintFault, print_trace};
+use tsdl_writer::write_metadata;
+
+/// `SMALL` or `CLOCKED` with changes, the stream files of a trace, a line each with a file's name and its bytes in hexadecimal, and the printed text.
+type Row = (&'static str, Changes, &'static str, &'static str);
+
+static TRACES: &[Row] = &[
+    (
+        CLOCKED,
+        &[],
+        "t0: c1fc1fc1 0200 0188 000000000000000a 000000000000000c 00 00 00 000000000000000a fffe 01 000000000000000b 6f6b00 000000000000000000000000000000",
+        r#"
+clk:10 t0 a fields{n=-2}
+clk:11 t0 b fields{s="ok"}
+stream t0: packets 1, records 2, discarded 0, gaps 0, end Whole
+"#,
+    ),
+    (
+        SMALL,
+        &[],
+        "a: c11ffcc1 80000000 70000000 01020000 c11ffcc1",
+        r#"
+- a e fields{v=1}
+- a e fields{v=2}
+stream a: packets 1, records 2, discarded -, gaps -, end Torn(16)
+"#,
+    ),
+    (
+        CLOCKED,
+        &[],
+        "t0: c1fc1fc1 0200 0188 000000000000000a 000000000000000c 00 00 02 000000000000000a fffe 01 000000000000000b 6f6b00 000000000000000000000000000000",
+        "stream t0: packets 0, records 0, discarded -, gaps -, end P4(0)",
+    ),
+    (
+        SMALL,
+        &[],
+        r#"
+b: c11ffcc1 68000000 68000000 03
+a: c11ffcc1 68000000 68000000 04
+empty: 
+"#,
+        r#"
+- a e fields{v=4}
+- b e fields{v=3}
+stream a: packets 1, records 1, discarded -, gaps -, end Whole
+stream b: packets 1, records 1, discarded -, gaps -, end Whole
+stream empty: packets 0, records 0, discarded -, gaps -, end Whole
+"#,
+    ),
+    (
+        SMALL,
+        &[(
+            "PAYLOAD",
+            r#"[{"b":{"field-type":{"class":"uint","size":8,"preferred-display-base":"bin"}}},{"o":{"field-type":{"class":"uint","size":8,"preferred-display-base":"oct"}}},{"d":{"field-type":{"class":"uint","size":8}}},{"h":{"field-type":{"class":"uint","size":8,"preferred-display-base":"hex"}}},{"s":{"field-type":{"class":"sint","size":8,"preferred-display-base":"hex"}}}]"#,
+        )],
+        "a: c11ffcc1 88000000 88000000 05 08 0a ff fe",
+        r#"
+- a e fields{b=0b101, o=0o10, d=10, h=0xff, s=-2}
+stream a: packets 1, records 1, discarded -, gaps -, end Whole
+"#,
+    ),
+    (
+        SMALL,
+        &[(
+            "PAYLOAD",
+            r#"[{"x":{"field-type":{"class":"uenum","size":8,"mappings":{"OFF":[0],"ON":[[1,3],9],"A\nB":[[2,4]]}}}}]"#,
+        )],
+        "a: c11ffcc1 80000000 80000000 01 02 09 05",
+        r#"
+- a e fields{x=1(ON)}
+- a e fields{x=2(A\nB)}
+- a e fields{x=9(ON)}
+- a e fields{x=5}
+stream a: packets 1, records 4, discarded -, gaps -, end Whole
+"#,
+    ),
+    (
+        SMALL,
+        &[(
+            "PAYLOAD",
+            r#"[{"l":{"field-type":{"class":"dynamic-array","element-field-type":{"class":"uint","size":8}}}},{"m":{"field-type":{"class":"static-array","length":2,"element-field-type":{"class":"static-array","length":1,"element-field-type":{"class":"uint","size":8,"preferred-display-base":"hex"}}}}}]"#,
+        )],
+        "a: c11ffcc1 d0000000 d0000000 02000000 01 02 0a 0b 00000000 0c 0d",
+        r#"
+- a e fields{__l_len=2, l=[1, 2], m=[[0xa], [0xb]]}
+- a e fields{__l_len=0, l=[], m=[[0xc], [0xd]]}
+stream a: packets 1, records 2, discarded -, gaps -, end Whole
+"#,
+    ),
+    (
+        SMALL,
+        &[("PAYLOAD", r#"[{"s":{"field-type":{"class":"str"}}}]"#)],
+        "a: c11ffcc1 b0000000 b0000000 61 22 ff 00 5c 0a 09 7f 1f 00",
+        r#"
+- a e fields{s="a\"\xff"}
+- a e fields{s="\\\n\t\x7f\x1f"}
+stream a: packets 1, records 2, discarded -, gaps -, end Whole
+"#,
+    ),
+];
+
+#[test]
+fn prints_what_was_read(rt: HostRuntime) -> Result<(), Fail> {
+    for (text, changes, files, want) in TRACES {
+        let trace = trace_of(rt.alloc(), text, changes, files)?;
+        let mut writer = StoppingWriter::new(rt.alloc(), usize::MAX, 7);
+        print_trace(rt.alloc(), &trace, &mut writer)?;
+        let printed = std::str::from_utf8(&writer.bytes)?;
+        assert_eq!(rt; printed.trim(), want.trim());
+    }
+    Ok(())
+}
+
+#[test]
+fn a_writer_that_stops_has_a_front_of_the_text(rt: HostRuntime) -> Result<(), Fail> {
+    let (text, changes, files, want) = TRACES[1];
+    let trace = trace_of(rt.alloc(), text, changes, files)?;
+    for room in [0, 1, 17, 18, 101] {
+        let mut writer = StoppingWriter::new(rt.alloc(), room, 16);
+        let answer = print_trace(rt.alloc(), &trace, &mut writer);
+        assert_eq!(rt; answer, Err(PrintFault::Writer));
+        assert_eq!(rt;
+            writer.bytes.as_slice(),
+            &want.trim_start().as_bytes()[..room]
+        );
+    }
+    Ok(())
+}
+
+fn trace_of(alloc: Global, text: &str, changes: Changes, files: &str) -> Result<ReadTrace, Fail> {
+    let text = changed(alloc, text, changes)?;
+    let config = configured(alloc, text.as_str(), None)?;
+    let metadata = write_metadata(alloc, &config)?;
+    let mut streams = Vec::new(alloc);
+    for line in files.trim_start().lines() {
+        let (name, digits) = line.split_once(": ").ok_or("a line without a file")?;
+        streams.push((String::from_str(alloc, name)?, bytes_of(alloc, digits)?))?;
+    }
+    Ok(read_trace(alloc, metadata.as_bytes(), &streams)?)
+}
