@@ -1,4 +1,10 @@
+pub mod Checking
+pub mod CommandLine
 pub mod FirstPath
 pub mod Lines
 pub mod Printed
+pub mod ProgramWords
+pub mod Running
+pub mod Shown
 pub mod SmallConfiguration
+pub mod Telling

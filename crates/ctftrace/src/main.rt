@@ -1,21 +1,62 @@
-//! The program: numbers from standard input become packets, are printed in hexadecimal, and are read back.
+//! The program: numbers from standard input become packets, are printed in hexadecimal, and are read back; configurations are judged, and their metadata is printed.
 #![tactic(auto)]
 
+mod answer;
+mod check_command;
+mod command_line;
+mod commands;
+mod fault_lines;
+mod files;
+mod first_command;
 mod first_path;
+mod line_answer;
+mod line_fault;
 mod lines;
+mod metadata_command;
 mod packets;
 mod printed;
+mod program_words;
 mod read_all;
+mod running;
+mod shown;
 mod small_configuration;
 #[cfg(test)]
 mod tests;
+mod word_values;
 
-use first_path::first_path;
+use answer::{OUT_OF_MEMORY, fail};
+use running::run;
+use std::env;
+use std::io::{ErrorKind, Result as IoResult};
 use std::process::ExitCode;
+use trace_platform::write_all;
+
+/// The status of a bad command line.
+const BAD_LINE: u8 = 2;
 
 fn main(rt: HostRuntime) -> ExitCode {
+    let mut errors = rt.stderr();
+    let status = match run_words(&rt) {
+        Ok(status) => status,
+        Err(fault) if fault.kind() == ErrorKind::InvalidData => {
+            write_all(&mut errors, b"error: a word is not UTF-8\n");
+            BAD_LINE
+        }
+        Err(_) => fail(&mut errors, OUT_OF_MEMORY),
+    };
+    ExitCode::from(status)
+}
+
+/// Runs what the words of the command line ask for; a fault is one of reading these words.
+fn run_words(rt: &HostRuntime) -> IoResult<u8> {
+    let alloc = rt.alloc();
+    let given: Vec<String> = env::args(rt)?.collect(alloc)?;
+    let mut words = Vec::new(alloc);
+    for word in given.iter().skip(1) {
+        words.push(word.as_str())?;
+    }
     let mut input = rt.reader();
     let mut output = rt.stdout();
     let mut errors = rt.stderr();
-    ExitCode::from(first_path(rt.alloc(), &mut input, &mut output, &mut errors))
+    Ok(run(rt, words.as_slice(), &mut input, &mut output, &mut errors))
 }

@@ -1,6 +1,8 @@
-//! The rows of the program: what it answers, its configuration, what a reader finds in bytes that were changed, and reads and writes that fail.
+//! The rows of the program: what it and its commands answer, its configuration, what a reader finds in bytes that were changed, and reads and writes that fail.
 
 mod answers;
+mod command_line;
+mod commands;
 mod configuration;
 mod faults;
 mod stream_files;

@@ -1,0 +1,55 @@
+//! The parts of commands, defaults filled in.
+
+use crate::command_line::command;
+use std::test::Fail;
+
+/// Words, and the command that they ask for.
+static ROWS: &[(&[&str], &str)] = &[
+    (&[], "FirstPath"),
+    (&["check", "a b"], "Check(\"a b\")"),
+    (
+        &["metadata", "c"],
+        "Metadata(MetadataCommand { config: \"c\", uuid: None })",
+    ),
+    (
+        &[
+            "metadata",
+            "--uuid=79e49040-21b5-42d4-a83b-646f78666b62",
+            "c",
+        ],
+        "Metadata(MetadataCommand { config: \"c\", uuid: Some(79e49040-21b5-42d4-a83b-646f78666b62) })",
+    ),
+    (
+        &["trace", "c", "s", "d"],
+        "Trace(TraceCommand { config: \"c\", script: \"s\", folder: \"d\", packet_bytes: 4096, buffers: 4, uuid: None, is_quiet: false })",
+    ),
+    (
+        &[
+            "trace",
+            "--packet=16",
+            "c",
+            "--quiet",
+            "s",
+            "--buffers",
+            "+1024",
+            "d",
+        ],
+        "Trace(TraceCommand { config: \"c\", script: \"s\", folder: \"d\", packet_bytes: 16, buffers: 1024, uuid: None, is_quiet: true })",
+    ),
+    (
+        &["read", "d", "--quiet"],
+        "Read(ReadCommand { folder: \"d\", is_quiet: true })",
+    ),
+];
+
+#[test]
+fn asks_for_commands(rt: HostRuntime) -> Result<(), Fail> {
+    for (words, asked) in ROWS {
+        let Ok(found) = command(rt.alloc(), words) else {
+            return Err(Fail::new("no command"));
+        };
+        let text = format!(in rt.alloc(); "{found:?}")?;
+        assert_eq!(rt; text.as_str(), *asked);
+    }
+    Ok(())
+}

@@ -1,0 +1,101 @@
+//! The workers, with their calls, made ready.
+
+ghost use Rattle.std.specs.Prelude.{◌≡◌, ◌≤◌, IfOk};
+ghost use Rattle.std.specs.List.{All};
+ghost use Rattle.trace_stack.specs.Workers.{IsWorker};
+ghost use Rattle.trace_stack.specs.Working.{IsOfStream};
+
+use crate::fault::BenchFault;
+use crate::plan::{Kind, Plan};
+use ctf_types::{Args, Text, Value, Values};
+use packet_ring::ring;
+use std::alloc::{AllocError, Global};
+use trace_clock::{TickClock, TickSeat};
+use trace_platform::MemorySink;
+use trace_stack::{Act, Worker};
+
+/// The places of a ring, and the bytes of a packet.
+const PLACES: usize = 1024;
+
+const PACKET_BYTES: usize = 4096;
+
+/// The workers of a plan.
+pub fn workers(alloc: Global, plan: Plan) -> Result<Vec<Worker<MemorySink>>, BenchFault>
+    requires { (plan.threads ≤ 64) × (plan.calls ≤ 1000000) }
+    ensures { IfOk result (λ workers. All IsWorker workers.items) }
+{
+    let quota = quota_of(plan);
+    let mut clock = TickClock::new(alloc, 0, 64 * quota)?;
+    let mut workers = Vec::new(alloc);
+    for _ in 0..plan.threads {
+        let seat = seat_of(alloc, &mut clock, plan.kind, quota)?;
+        let worker = worker(alloc, seat, plan.calls)?;
+        if workers.push(worker).is_err() {
+            return Err(BenchFault::OutOfMemory);
+        }
+    }
+    Ok(workers)
+}
+
+/// Readings enough for all calls of a thread and for the packets around them.
+pub fn quota_of(plan: Plan) -> u64
+    requires { plan.calls ≤ 1000000 }
+    ensures { result ≤ 3000008 }
+{
+    3 * plan.calls as u64 + 8
+}
+
+/// A seat at the one clock, or at one of its own.
+pub fn seat_of(
+    alloc: Global,
+    clock: &mut TickClock,
+    kind: Kind,
+    quota: u64,
+) -> Result<TickSeat, BenchFault>
+    requires { quota ≤ 3000008 }
+{
+    match kind {
+        Kind::Own => seat_at(alloc, &mut TickClock::new(alloc, 0, quota)?, quota),
+        Kind::Shared | Kind::Made => seat_at(alloc, clock, quota),
+    }
+}
+
+fn seat_at(alloc: Global, clock: &mut TickClock, quota: u64) -> Result<TickSeat, BenchFault> {
+    clock.seat(alloc, quota).map_err(|_fault| BenchFault::Clock)
+}
+
+fn worker(alloc: Global, seat: TickSeat, calls: usize) -> Result<Worker<MemorySink>, BenchFault>
+    ensures { IfOk result (λ worker. IsWorker worker) }
+{
+    let (back_end, ring_end) = ring(alloc, PLACES, PACKET_BYTES)?;
+    let type_name = Text::from_str(alloc, "s")?;
+    let acts = acts(alloc, calls)?;
+    Ok(Worker {
+        type_name,
+        seat,
+        back_end,
+        ring_end,
+        extras: Values::new(alloc),
+        sink: MemorySink::new(alloc),
+        acts,
+    })
+}
+
+fn acts(alloc: Global, calls: usize) -> Result<Vec<Act>, AllocError>
+    ensures { IfOk result (λ acts. All IsOfStream acts.items) }
+{
+    let mut acts = Vec::with_capacity(alloc, calls)?;
+    for _ in 0..calls {
+        acts.push(Act::Trace(0, args(alloc)?))?;
+    }
+    Ok(acts)
+}
+
+/// A call's arguments: one byte.
+pub fn args(alloc: Global) -> Result<Args, AllocError> {
+    Ok(Args {
+        common: Values::new(alloc),
+        specific: Values::new(alloc),
+        payload: Values::from_vec(vec![in alloc; Value::Unsigned(7)]?),
+    })
+}
