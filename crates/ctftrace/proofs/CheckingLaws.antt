@@ -4,7 +4,7 @@ use Rattle.ctf_types.specs.declared.Config.{Config}
 use Rattle.ctf_types.specs.declared.IntType.{IntType}
 use Rattle.conf_tree.specs.declared.fault.ConfFault.{ConfFault}
 use Rattle.conf_tree.specs.Flaw.{flaw_of, IsMemory}
-use Rattle.conf_check.specs.Configuration.{Configures, IsRefusal, RefusedForMemory}
+use Rattle.conf_check.specs.Configuration.{IsRefusal, RefusedForMemory}
 use Rattle.ctftrace.specs.Checking.{IsRefused, hint, hint_by, hint_line}
 use Rattle.ctftrace.specs.Shown.{fault_line}
 

@@ -1,5 +1,5 @@
 -- Refusals of parts of a command line, and what they say of the whole.
-use Rattle.std.proofs.Common.{◌≡◌, ◌<◌, ◌⊎◌, ◌∙◌, inl, inr, ℕ, List, [], ◌∷◌, length, map, Option, Some, None, option_map, Result, Err, IfErr, IsErrAnd, true, refl, sym, subst, ap₂, arith}
+use Rattle.std.proofs.Common.{◌≡◌, ◌<◌, ◌⊎◌, ◌∙◌, inl, inr, ℕ, List, [], ◌∷◌, length, map, Option, Some, None, option_map, Result, IfErr, IsErrAnd, true, refl, sym, subst, ap₂, arith}
 use Rattle.std.specs.Borrow.{Bor}
 use Rattle.std.proofs.lemmas.Option.{none-some, same_Some}
 use Rattle.std.proofs.lemmas.Result.{err_from_is_err_and}

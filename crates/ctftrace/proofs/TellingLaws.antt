@@ -1,12 +1,12 @@
 -- What was told before, and more that is said behind it.
-use Rattle.std.proofs.Common.{◌≡◌, ◌≤◌, ◌⊎◌, inl, inr, ℕ, List, [], ◌++◌, Option, length, take, string_bytes, refl, subst, sym, arith}
+use Rattle.std.proofs.Common.{inl, inr, ℕ, List, [], ◌++◌, Option, length, take, string_bytes, refl, subst, sym, arith}
 use Rattle.std.specs.Io.KnownBytes.{Appends}
 use Rattle.std.proofs.KnownBytes.{Appends-nil, Appends-trans}
 use Rattle.std.proofs.lemmas.List.{take_all}
 use Rattle.trace_platform.specs.Fronts.{AppendsFront}
-use Rattle.ctftrace.specs.FirstPath.{IsAnswer, Answers, Says, SaysFront}
+use Rattle.ctftrace.specs.FirstPath.{IsAnswer, Answers}
 use Rattle.ctftrace.specs.declared.answer.Answer.{Answer}
-use Rattle.ctftrace.specs.Telling.{Answering, Tells, Told, ToldWhole, ToldFront, ToldOrFails, SaysFailure, SaysMore}
+use Rattle.ctftrace.specs.Telling.{Answering, Tells, Told, ToldOrFails, SaysFailure, SaysMore}
 
 -- a front is something more
 pub more_of_front : (old new : Option (List ℕ)) (bytes : List ℕ) → AppendsFront old new bytes → SaysMore old new

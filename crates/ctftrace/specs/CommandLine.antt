@@ -1,9 +1,9 @@
 -- What the words of a command line ask for: the command that they name, with the values that they give for its parts, or the defaults.
-use Rattle.std.specs.Prelude.{◌≡◌, ◌≤◌, ◌^◌, ◌⊎◌, if◌then◌else◌, ℕ, Bool, true, false, List, [], ◌∷◌, Option, Some, None, option_map, codes}
+use Rattle.std.specs.Prelude.{◌≡◌, ◌≤◌, ◌^◌, if◌then◌else◌, ℕ, Bool, List, [], ◌∷◌, Option, Some, None, option_map, codes}
 use Rattle.std.specs.Str.Parse.{IsNumeral, digits_value, without_leading_plus}
 use Rattle.std.specs.Borrow.{Bor}
 use Rattle.uuid.specs.Text.{parsed}
-use Rattle.clap.specs.Words.{Row, Text, first_of, one_of, fault_of, subcommand_of}
+use Rattle.clap.specs.Words.{Row, Text, first_of, fault_of, subcommand_of}
 use Rattle.ctftrace.specs.declared.commands.Command.{Command}
 use Rattle.ctftrace.specs.declared.commands.Command.TheVariants.{FirstPath, Check, Metadata, Trace, Read}
 use Rattle.ctftrace.specs.declared.commands.MetadataCommand.{MetadataCommand}

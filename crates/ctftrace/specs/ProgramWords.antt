@@ -1,7 +1,7 @@
 -- The words that the program knows, as its parser of command lines sees them: a command of the program has a name, words that it needs in
 -- their order (CONFIG, SCRIPT, DIR), and options with or without a value.
-use Rattle.std.specs.Prelude.{ℕ, List, [], ◌∷◌, Option, Some, true, codes}
-use Rattle.clap.specs.Words.{App, Rule, Shape, Text, new_app, new_rule, with_rule, with_subcommand}
+use Rattle.std.specs.Prelude.{List, [], ◌∷◌, Some, true, codes}
+use Rattle.clap.specs.Words.{App, Rule, Shape, Text, new_rule, with_subcommand}
 use Rattle.clap.specs.Simple.{new_shape}
 use Rattle.clap.specs.declared.builder.action.ArgAction.TheVariants.{SetTrue}
 

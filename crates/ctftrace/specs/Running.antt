@@ -1,11 +1,11 @@
 -- What the program does for the words of its command line, by what the readers had to give and what the writers took.
-use Rattle.std.specs.Prelude.{◌≡◌, ◌⊎◌, ℕ, List, [], Option, Some}
+use Rattle.std.specs.Prelude.{◌≡◌, ◌⊎◌, ℕ, List, Option, Some}
 use Rattle.ctftrace.specs.declared.commands.Command.{Command}
 use Rattle.ctftrace.specs.declared.commands.Command.TheVariants.{FirstPath, Check, Metadata, Trace, Read}
 use Rattle.ctftrace.specs.CommandLine.{Asks, HasNoCommand}
 use Rattle.ctftrace.specs.FirstPath.{IsAnswer}
 use Rattle.ctftrace.specs.Checking.{IsChecked, IsMetadata}
-use Rattle.ctftrace.specs.Telling.{Answering, ToldOrFails, SaysFailure, AnswersFile, TellsNoCommand}
+use Rattle.ctftrace.specs.Telling.{ToldOrFails, SaysFailure, AnswersFile, TellsNoCommand}
 
 abbrev pub Does : {File : Type 0} → (File → Option (List ℕ)) → Command → Option (List ℕ) → Option (List ℕ) → Option (List ℕ) → Option (List ℕ) → Option (List ℕ) → ℕ → Type 0
 Does remaining FirstPath input old new old_errors new_errors status =

@@ -4,7 +4,7 @@ use Rattle.std.specs.Prelude.{◌==◌, codes, min, Option, None, Some, slice_ge
 use Rattle.std.specs.List.{flat_map}
 use Rattle.std.specs.Option.{option_map_or}
 use Rattle.std.proofs.lemmas.Bool.Decides.{nat_tests}
-use Rattle.std.proofs.lemmas.List.{append-nil, take_more, take_all, length-map}
+use Rattle.std.proofs.lemmas.List.{append-nil, take_more, take_all}
 use Rattle.std.proofs.lemmas.Option.{slice_get_within, get_or_from_slice_get, slice_get-get_or, slice_get-map}
 use Rattle.std.proofs.lemmas.List.Concat.{flat_map-append}
 use Rattle.ctf_types.specs.Chain.{Leaf}
@@ -109,10 +109,6 @@ pub elements_more : (t : Leaf) (vs : List Value) (ds : List Datum) (i : ℕ) (v 
 elements_more t vs ds i v s h e =
     listed_at (map (value_text t) ds) i (value_text t (datum_of v))
     (slice_get-map (value_text t) ds i ∙ ap (option_map (value_text t)) (ap (λ (w : List Datum). slice_get w i) (sym s) ∙ datum_at vs i v h e))
-
-pub elements_all : (t : Leaf) (vs : List Value) (ds : List Datum) (n : ℕ) → data_of vs ≡ ds → length vs ≤ n → listed (take n (map (value_text t) ds)) ≡ listed (map (value_text t) ds)
-elements_all t vs ds n s h =
-    ap listed (take_all n (map (value_text t) ds) (omega (arith, length-map ds (value_text t), ap (λ (w : List Datum). length w) s, length-map vs datum_of, h)))
 
 -- ---- structures
 

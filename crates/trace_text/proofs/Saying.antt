@@ -1,8 +1,8 @@
 -- One text said behind another, and what a fault leaves.
-use Rattle.std.proofs.Common.{◌≡◌, ℕ, ◌+◌, ◌≤◌, List, [], ◌∷◌, ◌++◌, length, length-append, length-drop, take, drop, get_or, Option, None, Some, arith, refl, sym, ap, subst, ◌∙◌, append_assoc, inl, inr}
+use Rattle.std.proofs.Common.{◌≡◌, ℕ, ◌≤◌, List, [], ◌++◌, length, length-append, length-drop, take, drop, Option, None, Some, arith, refl, sym, ap, subst, ◌∙◌, append_assoc, inl, inr}
 use Rattle.std.proofs.KnownBytes.{Appends-nil, Appends-trans}
 use Rattle.std.proofs.lemmas.List.{append-nil, take-append-le, drop-append-le, take_all, drop_all}
-use Rattle.std.specs.Prelude.{◌⊎◌, Result, Ok, Err, OnOk, OnErr}
+use Rattle.std.specs.Prelude.{◌⊎◌}
 use Rattle.trace_platform.proofs.Fronts.{Advances-trans}
 use Rattle.std.specs.Io.KnownBytes.{Appends}
 use Rattle.trace_platform.specs.Fronts.{AppendsFront, Advances}
@@ -93,26 +93,6 @@ more {a} {b} {c} {p} {q} {r} {t} {u} s v = record {
 
 -- ---- what is said at once
 
--- nothing after a fault
-pub lost : (a : Option (List ℕ)) (p : Page) (t : List ℕ) (fault : PrintFault) → p.fault ≡ Some fault → Says a p a p t
-lost a p t fault e = stopped t fault (nothing a p) e
-
--- a text that the page takes
-pub held_back : (a : Option (List ℕ)) (p q : Page) (t : List ℕ) → p.fault ≡ None → q.bytes.items ≡ p.bytes.items ++ t → Says a p a q t
-held_back a p q t bare e = record {
-  told = λ o. record { count = 0; within = omega arith; written = Appends-nil a; left_is = e };
-  front = λ o. (0, omega arith, Appends-nil a);
-  stays = λ fault f. never p.fault fault bare f;
-}
-
--- a text that met a fault
-pub failed : (a : Option (List ℕ)) (p q : Page) (t : List ℕ) (fault : PrintFault) → p.fault ≡ None → q.fault ≡ Some fault → Says a p a q t
-failed a p q t fault bare e = record {
-  told = λ o. never q.fault fault o e;
-  front = λ o. (0, omega arith, Appends-nil a);
-  stays = λ fault f. never p.fault fault bare f;
-}
-
 -- all that was said is written
 pub written_all : (a b : Option (List ℕ)) (p q : Page) (t : List ℕ) → (IsOpen q → Appends a b (p.bytes.items ++ t)) → (IsOpen p → AppendsFront a b (p.bytes.items ++ t))
     → ((fault : PrintFault) → p.fault ≡ Some fault → (q.fault ≡ Some fault) × Appends a b []) → q.bytes.items ≡ [] → Says a p b q t
@@ -126,12 +106,6 @@ written_all a b p q t whole front stays empty = record {
   front = front;
   stays = stays;
 }
-
--- a text that the page takes, unless memory is wanting
-pub taken_or_failed : {X E : Type 0} (a : Option (List ℕ)) (p q : Page) (t : List ℕ) (fault : PrintFault) (r : Result X E) → p.fault ≡ None
-    → OnOk r (q.bytes.items ≡ p.bytes.items ++ t) → OnErr r (q.fault ≡ Some fault) → Says a p a q t
-taken_or_failed a p q t fault (Ok x) bare e f = held_back a p q t bare e
-taken_or_failed a p q t fault (Err x) bare e f = failed a p q t fault bare f
 
 -- ---- from an empty page to an empty page
 

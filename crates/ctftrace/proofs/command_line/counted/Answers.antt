@@ -1,7 +1,4 @@
-use Rattle.std.proofs.Common.{◌≡◌, ◌∙◌, ◌^◌, ℕ, List, Option, Some, option_map, ap, codes, if◌then◌else◌}
-use Rattle.clap.specs.Words.{found_of, rows_of, first_of}
-use Rattle.std.specs.Borrow.{Bor}
-use Rattle.clap.proofs.WalkLemmas.{first_value-rows}
+use Rattle.clap.specs.Words.{found_of, rows_of}
 use Rattle.ctftrace.specs.CommandLine.{HasWord, HasNumber}
 use Rattle.ctftrace.proofs.CommandLineLaws.{handed_on}
 use Rattle.ctftrace.proofs.command_line.counted.Goals as goal

@@ -1,7 +1,5 @@
-use Rattle.std.proofs.Common.{◌≡◌, ◌∙◌, ◌^◌, ℕ, List, Option, Some, option_map, ap, codes, if◌then◌else◌}
-use Rattle.clap.specs.Words.{found_of, rows_of, first_of}
-use Rattle.std.specs.Borrow.{Bor}
-use Rattle.clap.proofs.WalkLemmas.{first_value-rows}
+use Rattle.std.proofs.Common.{codes, if◌then◌else◌}
+use Rattle.clap.specs.Words.{found_of, rows_of}
 use Rattle.ctftrace.specs.CommandLine.{HasWord, HasFlag}
 use Rattle.ctftrace.proofs.CommandLineLaws.{handed_on}
 use Rattle.ctftrace.proofs.command_line.flag.Goals as goal

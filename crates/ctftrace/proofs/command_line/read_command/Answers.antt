@@ -1,8 +1,6 @@
-use Rattle.std.proofs.Common.{◌≡◌, ◌∙◌, ◌^◌, ℕ, List, Option, Some, option_map, ap, codes, if◌then◌else◌}
-use Rattle.clap.specs.Words.{found_of, rows_of, first_of}
-use Rattle.std.specs.Borrow.{Bor}
-use Rattle.clap.proofs.WalkLemmas.{first_value-rows}
-use Rattle.ctftrace.specs.CommandLine.{HasWord, HasNumber, HasFlag, uuid_said, AsksRead}
+use Rattle.std.proofs.Common.{codes}
+use Rattle.clap.specs.Words.{found_of, rows_of}
+use Rattle.ctftrace.specs.CommandLine.{HasWord, HasFlag, AsksRead}
 use Rattle.ctftrace.proofs.CommandLineLaws.{handed_on}
 use Rattle.ctftrace.proofs.command_line.read_command.Goals as goal
 

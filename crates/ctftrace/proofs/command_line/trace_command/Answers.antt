@@ -1,6 +1,5 @@
-use Rattle.std.proofs.Common.{◌≡◌, ◌∙◌, ◌^◌, ℕ, List, Option, Some, option_map, ap, sym, codes, if◌then◌else◌}
-use Rattle.clap.specs.Words.{found_of, rows_of, first_of}
-use Rattle.std.specs.Borrow.{Bor}
+use Rattle.std.proofs.Common.{◌≡◌, ◌∙◌, ◌^◌, ℕ, List, Option, Some, option_map, ap, sym, codes}
+use Rattle.clap.specs.Words.{found_of, rows_of}
 use Rattle.clap.proofs.WalkLemmas.{first_value-rows}
 use Rattle.ctftrace.specs.CommandLine.{HasWord, HasNumber, HasFlag, uuid_said, AsksTrace}
 use Rattle.ctftrace.proofs.CommandLineLaws.{handed_on}
