@@ -1,6 +1,6 @@
 //! A session from its beginning on, and its trace read back: each of its calls that takes memory.
 
-ghost use Rattle.std.specs.Prelude.{◌≡◌, IfOk};
+ghost use Rattle.std.specs.Prelude.{◌≡◌, [], IfOk};
 
 use super::{configuration, granted};
 use crate::tests::small::{Datum, SMALL, changed, payload, values};
