@@ -12,6 +12,7 @@ use Rattle.ctftrace.specs.declared.commands.Command.{Command}
 use Rattle.ctftrace.specs.declared.line_fault.LineFault.{LineFault}
 use Rattle.ctftrace.specs.ProgramWords.{program}
 use Rattle.ctftrace.specs.CommandLine.{IsMemory, Asks, AsksBy, AsksCommand, uuid_said}
+use Rattle.ctftrace.specs.LineFaults.{FitsKind, IsFaultOfWords}
 
 -- memory ran out, or nothing has the property
 abbrev pub Refuses : {A : Type 0} → LineFault → (A → Type 0) → Type 0
@@ -55,6 +56,12 @@ pub parser_refuses : (words : List Text) (e : Error) (fault : LineFault) → 0 <
 parser_refuses words e fault h memory (inl m) = inl (memory m)
 parser_refuses words e fault h memory (inr among) =
     inr (λ c a. subst (IsAmong (kind_of e)) (asked_command words c h a).taken among)
+
+-- what is told of it fits the words
+pub parser_told : (words : List Text) (e : Error) (fault : LineFault) → (kind_of e ≡ kind.OutOfMemory → IsMemory fault) → FitsKind (kind_of e) fault
+    → HasKind (fault_of program words) e → IsFaultOfWords words fault
+parser_told words e fault memory fits (inl m) = inl (memory m)
+parser_told words e fault memory fits (inr among) = inr (inl (kind_of e, among, fits))
 
 pub program_is_simple : is_simple program ≡ true
 unfolding clap_on_literals

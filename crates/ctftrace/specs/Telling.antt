@@ -68,6 +68,7 @@ TellsLineFault (Bad text) old new old_errors new_errors status =
     Told (λ output errors s. (output ≡ []) × (errors ≡ string_bytes text) × (s ≡ 2)) old new old_errors new_errors status
 TellsLineFault OutOfMemory old new old_errors new_errors status = (status ≡ 3) × SaysFailure old new old_errors new_errors
 
--- one of these for words that ask for no command
-abbrev pub TellsNoCommand : Option (List ℕ) → Option (List ℕ) → Option (List ℕ) → Option (List ℕ) → ℕ → Type 0
-TellsNoCommand old new old_errors new_errors status = (fault : LineFault) × TellsLineFault fault old new old_errors new_errors status
+-- one of the faults that fit the words is told
+abbrev pub TellsNoCommand : (LineFault → Type 0) → Option (List ℕ) → Option (List ℕ) → Option (List ℕ) → Option (List ℕ) → ℕ → Type 0
+TellsNoCommand Fits old new old_errors new_errors status =
+    (fault : LineFault) × Fits fault × TellsLineFault fault old new old_errors new_errors status

@@ -4,6 +4,7 @@ ghost use Rattle.std.specs.Prelude.{◌≡◌, ◌⊎◌, ℕ, Bool, List, Optio
 ghost use Rattle.std.specs.Borrow.{Bor};
 ghost use Rattle.clap.specs.Words.{rows_of, found_of};
 ghost use Rattle.ctftrace.specs.CommandLine.{Asks, AsksBy, AsksTrace, AsksMetadata, AsksRead, HasWord, HasNumber, HasUuid, HasFlag, IsMemory};
+ghost use Rattle.ctftrace.specs.LineFaults.{IsFaultOfWords, IsNoHelp};
 ghost use Rattle.ctftrace.specs.declared.commands.Command.{Command as Wanted};
 ghost use Rattle.ctftrace.specs.declared.commands.TraceCommand.{TraceCommand as WantedTrace};
 ghost use Rattle.ctftrace.specs.declared.commands.MetadataCommand.{MetadataCommand as WantedMetadata};
@@ -23,6 +24,7 @@ use std::alloc::Global;
 pub fn command<'a>(alloc: Global, words: &'a [&'a str]) -> Result<commands::Command<'a>, LineFault>
     ensures asks { IfOk result (λ c. Asks (map (λ s. s.now) words.now) c) }
     ensures refused { IfErr result (λ fault. IsMemory fault ⊎ ((c : Wanted) → Asks (map (λ s. s.now) words.now) c → ⊥)) }
+    ensures told { IfErr result (IsFaultOfWords (map (λ s. s.now) words.now)) }
 {
     if words.is_empty() {
         return Ok(commands::Command::FirstPath);
@@ -45,6 +47,7 @@ fn named<'a>(
 ) -> Result<commands::Command<'a>, LineFault>
     ensures asks { IfOk result (λ c. AsksBy name.now (rows_of (found_of found.now)) c) }
     ensures refused { IfErr result (λ fault. IsMemory fault ⊎ ((c : Wanted) → AsksBy name.now (rows_of (found_of found.now)) c → ⊥)) }
+    ensures told { IfErr result IsNoHelp }
 {
     match name {
         "check" => Ok(commands::Command::Check(needed(alloc, found, "config")?)),
@@ -61,6 +64,7 @@ fn metadata_command<'a>(
 ) -> Result<MetadataCommand<'a>, LineFault>
     ensures asks { IfOk result (λ m. AsksMetadata (rows_of (found_of found.now)) m) }
     ensures refused { IfErr result (λ fault. IsMemory fault ⊎ ((m : WantedMetadata) → AsksMetadata (rows_of (found_of found.now)) m → ⊥)) }
+    ensures told { IfErr result IsNoHelp }
 {
     let config = needed(alloc, found, "config")?;
     let uuid = identifier(alloc, found.get_str("uuid"))?;
@@ -70,6 +74,7 @@ fn metadata_command<'a>(
 fn trace_command<'a>(alloc: Global, found: &ArgMatches<'a>) -> Result<TraceCommand<'a>, LineFault>
     ensures asks { IfOk result (λ t. AsksTrace (rows_of (found_of found.now)) t) }
     ensures refused { IfErr result (λ fault. IsMemory fault ⊎ ((t : WantedTrace) → AsksTrace (rows_of (found_of found.now)) t → ⊥)) }
+    ensures told { IfErr result IsNoHelp }
 {
     let config = needed(alloc, found, "config")?;
     let script = needed(alloc, found, "script")?;
@@ -92,6 +97,7 @@ fn trace_command<'a>(alloc: Global, found: &ArgMatches<'a>) -> Result<TraceComma
 fn read_command<'a>(alloc: Global, found: &ArgMatches<'a>) -> Result<ReadCommand<'a>, LineFault>
     ensures asks { IfOk result (λ r. AsksRead (rows_of (found_of found.now)) r) }
     ensures refused { IfErr result (λ fault. IsMemory fault ⊎ ((r : WantedRead) → AsksRead (rows_of (found_of found.now)) r → ⊥)) }
+    ensures told { IfErr result IsNoHelp }
 {
     let folder = needed(alloc, found, "folder")?;
     let is_quiet = flag(alloc, found, "quiet")?;
@@ -102,6 +108,7 @@ fn read_command<'a>(alloc: Global, found: &ArgMatches<'a>) -> Result<ReadCommand
 fn needed<'a>(alloc: Global, found: &ArgMatches<'a>, id: &str) -> Result<&'a str, LineFault>
     ensures has { IfOk result (λ word. HasWord (rows_of (found_of found.now)) id.now word) }
     ensures refused { IfErr result (λ fault. IsMemory fault ⊎ ((word : Bor (List ℕ)) → HasWord (rows_of (found_of found.now)) id.now word → ⊥)) }
+    ensures told { IfErr result IsNoHelp }
 {
     match found.get_str(id) {
         Some(word) => Ok(word),
@@ -113,6 +120,7 @@ fn needed<'a>(alloc: Global, found: &ArgMatches<'a>, id: &str) -> Result<&'a str
 fn counted(alloc: Global, found: &ArgMatches<'_>, id: &str, most: u32) -> Result<u32, LineFault>
     ensures has { IfOk result (λ n. HasNumber (rows_of (found_of found.now)) id.now most n) }
     ensures refused { IfErr result (λ fault. IsMemory fault ⊎ ((n : ℕ) → HasNumber (rows_of (found_of found.now)) id.now most n → ⊥)) }
+    ensures told { IfErr result IsNoHelp }
 {
     let word = needed(alloc, found, id)?;
     number(alloc, id, word, most)
@@ -122,6 +130,7 @@ fn counted(alloc: Global, found: &ArgMatches<'_>, id: &str, most: u32) -> Result
 fn flag(alloc: Global, found: &ArgMatches<'_>, id: &str) -> Result<bool, LineFault>
     ensures has { IfOk result (λ b. HasFlag (rows_of (found_of found.now)) id.now b) }
     ensures refused { IfErr result (λ fault. IsMemory fault ⊎ ((b : Bool) → HasFlag (rows_of (found_of found.now)) id.now b → ⊥)) }
+    ensures told { IfErr result IsNoHelp }
 {
     match needed(alloc, found, id)? {
         "true" => Ok(true),
@@ -131,7 +140,9 @@ fn flag(alloc: Global, found: &ArgMatches<'_>, id: &str) -> Result<bool, LineFau
 }
 
 /// That a word is missing.
-fn incomplete(alloc: Global, word: &str) -> LineFault {
+fn incomplete(alloc: Global, word: &str) -> LineFault
+    ensures { IsNoHelp result }
+{
     match format!(in alloc;
         "error: nothing is given for {word}\n\nFor more information, try '--help'.\n"
     ) {

@@ -38,7 +38,7 @@ pub struct TraceCommand<'a> {
     pub buffers: u32,
     /// The trace's identifier, where the configuration asks for one to be handed in.
     pub uuid: Option<Uuid>,
-    /// Whether the answers to events are left unprinted.
+    /// Whether no progress is said.
     pub is_quiet: bool,
 }
 
@@ -47,7 +47,7 @@ pub struct TraceCommand<'a> {
 pub struct ReadCommand<'a> {
     /// The path of the folder.
     pub folder: &'a str,
-    /// Whether event records are left unprinted.
+    /// Whether no progress is said.
     pub is_quiet: bool,
 }
 

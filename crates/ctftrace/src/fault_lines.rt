@@ -41,7 +41,7 @@ pub fn configuration_line(
 }
 
 /// The line and the column at which a text stops being JSON.
-fn push_position(alloc: Global, said: &mut Vec<u8>, text: &[u8]) -> Result<(), AllocError> {
+pub fn push_position(alloc: Global, said: &mut Vec<u8>, text: &[u8]) -> Result<(), AllocError> {
     let Err(error) = Value::from_slice(alloc, text) else {
         return Ok(());
     };
@@ -77,7 +77,7 @@ fn push_step(alloc: Global, said: &mut Vec<u8>, step: &Step) -> Result<(), Alloc
 }
 
 /// A name, or its first characters and three dots.
-fn push_name(said: &mut Vec<u8>, name: &[u8]) -> Result<(), AllocError> {
+pub fn push_name(said: &mut Vec<u8>, name: &[u8]) -> Result<(), AllocError> {
     let front = first_characters(name);
     said.extend_from_slice(front)?;
     if front.len() < name.len() {

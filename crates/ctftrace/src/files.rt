@@ -1,4 +1,4 @@
-//! Files of the command line, read whole.
+//! Files of the command line, read whole, and why a file fails.
 
 ghost use Rattle.std.specs.Prelude.{◌≡◌, IfOk};
 ghost use Rattle.ctftrace.specs.Telling.{SaysMore, WasGiven};
@@ -12,13 +12,19 @@ use std::io::{ErrorKind, Write};
 use std::rt::Files;
 use thiserror::Error;
 
-/// Why a file was not read.
+/// Why a file was not read, or not written, or a folder not listed.
 #[derive(Debug, Drop, Error)]
 pub enum FileFault {
     #[error("cannot open: {0}")]
     NotOpened(ErrorKind),
     #[error("cannot read: {0}")]
     NotRead(InputFault),
+    #[error("cannot list: {0}")]
+    NotListed(ErrorKind),
+    #[error("cannot make: {0}")]
+    NotMade(ErrorKind),
+    #[error("a write failed")]
+    NotWritten,
 }
 
 /// The bytes of a file.

@@ -4,6 +4,7 @@ ghost use Rattle.std.specs.Prelude.{◌≡◌};
 ghost use Rattle.clap.specs.Words.{kind_of};
 ghost use Rattle.clap.specs.declared.error.kind.ErrorKind.TheVariants as kind;
 ghost use Rattle.ctftrace.specs.CommandLine.{IsMemory};
+ghost use Rattle.ctftrace.specs.LineFaults.{FitsKind};
 
 use clap::error::ErrorKind;
 use std::alloc::{AllocError, AllocFailed, Global};
@@ -45,6 +46,7 @@ impl<T: Drop> From<AllocFailed<T>> for LineFault {
 /// What `clap` says of the words.
 pub fn line_fault(alloc: Global, error: &clap::Error) -> LineFault
     ensures memory { kind_of error.now ≡ kind.OutOfMemory → IsMemory result }
+    ensures told { FitsKind (kind_of error.now) result }
 {
     let kind = error.kind();
     if kind == ErrorKind::OutOfMemory {

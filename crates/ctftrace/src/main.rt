@@ -1,10 +1,13 @@
-//! The program: numbers from standard input become packets, are printed in hexadecimal, and are read back; configurations are judged, and their metadata is printed.
+//! The program: configurations are judged, and their metadata is printed; scripts are traced, and traces are read; without words, numbers from standard input become packets,
+//! are printed in hexadecimal, and are read back.
 #![tactic(auto)]
 
 mod answer;
+mod answer_lines;
 mod check_command;
 mod command_line;
 mod commands;
+mod failure;
 mod fault_lines;
 mod files;
 mod first_command;
@@ -13,15 +16,21 @@ mod line_answer;
 mod line_fault;
 mod lines;
 mod metadata_command;
+mod new_folder;
 mod packets;
 mod printed;
 mod program_words;
 mod read_all;
+mod read_command;
+mod recording;
 mod running;
+mod script_lines;
 mod shown;
 mod small_configuration;
 #[cfg(test)]
 mod tests;
+mod trace_command;
+mod trace_folder;
 mod word_values;
 
 use answer::{OUT_OF_MEMORY, fail};

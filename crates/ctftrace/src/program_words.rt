@@ -202,6 +202,6 @@ fn quiet_word<'a>(alloc: Global) -> Arg<'a>
 {
     Arg::new(alloc, "quiet")
         .long("quiet")
-        .help("Prints no line for an event")
+        .help("Says no progress on a terminal")
         .action(ArgAction::SetTrue)
 }

@@ -1,21 +1,23 @@
 //! The program: the command that the words ask for is run, and its answer is told.
 
 ghost use Rattle.std.specs.Prelude.{map};
-ghost use Rattle.ctftrace.specs.Running.{Does, Runs};
+ghost use Rattle.ctftrace.specs.Running.{Does, HasSizes, Runs};
 
-use crate::answer::fail;
 use crate::check_command::check;
 use crate::command_line::command;
 use crate::commands::Command as Wanted;
 use crate::first_command::trace_numbers;
 use crate::line_answer::tell_line_fault;
 use crate::metadata_command::metadata;
+use crate::read_command::read;
+use crate::trace_command::trace;
 use std::io::{Read, Write};
 use std::rt::Files;
 
 /// Runs the command that the words ask for, which are those behind the program's own name, and answers the exit status: 0; 1 where what was
 /// read has a fault; 2 where the words ask for no command; 3 where a file, a read or a write failed or memory was wanting, which a line on
 /// `errors` says. Without words, numbers of `input` are traced.
+#[tactic(auto, using(crate::proofs::TracingLaws::asked_sizes))]
 pub fn run<'a, X: Files + AllocGlobal + Clone + Drop, R: Read, W: Write, E: Write>(
     rt: &X,
     words: &'a [&'a str],
@@ -23,7 +25,7 @@ pub fn run<'a, X: Files + AllocGlobal + Clone + Drop, R: Read, W: Write, E: Writ
     output: &mut W,
     errors: &mut E,
 ) -> u8
-    ensures { Runs X.File.remaining (map (λ s. s.now) words.now) (R.remaining input.old) (W.contents output.old) (W.contents output.new) (E.contents errors.old) (E.contents errors.new) result }
+    ensures { Runs X.File.contents X.File.remaining (map (λ s. s.now) words.now) (R.remaining input.old) (W.contents output.old) (W.contents output.new) (E.contents errors.old) (E.contents errors.new) result }
 {
     match command(rt.alloc(), words) {
         Ok(asked) => obey(rt, &asked, input, output, errors),
@@ -38,14 +40,14 @@ fn obey<X: Files + AllocGlobal + Clone + Drop, R: Read, W: Write, E: Write>(
     output: &mut W,
     errors: &mut E,
 ) -> u8
-    ensures { Does X.File.remaining asked.now (R.remaining input.old) (W.contents output.old) (W.contents output.new) (E.contents errors.old) (E.contents errors.new) result }
+    requires { HasSizes asked.now }
+    ensures { Does X.File.contents X.File.remaining asked.now (R.remaining input.old) (W.contents output.old) (W.contents output.new) (E.contents errors.old) (E.contents errors.new) result }
 {
     match asked {
         Wanted::FirstPath => trace_numbers(rt.alloc(), input, output, errors),
         Wanted::Check(path) => check(rt, path, output, errors),
         Wanted::Metadata(asked) => metadata(rt, asked, output, errors),
-        Wanted::Trace(_) | Wanted::Read(_) => {
-            fail(errors, b"ctftrace: this command is not there yet\n")
-        }
+        Wanted::Trace(asked) => trace(rt, asked, output, errors),
+        Wanted::Read(asked) => read(rt, asked, output, errors),
     }
 }

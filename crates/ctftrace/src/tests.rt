@@ -5,4 +5,6 @@ mod command_line;
 mod commands;
 mod configuration;
 mod faults;
+mod read_command;
 mod stream_files;
+mod trace_command;

@@ -2,6 +2,7 @@
 
 ghost use Rattle.std.specs.Prelude.{◌≡◌, ◌⊎◌, ℕ, List, Option, IfOk, IfErr, Some, option_map};
 ghost use Rattle.ctftrace.specs.CommandLine.{SaysNumber, IsMemory, uuid_said};
+ghost use Rattle.ctftrace.specs.LineFaults.{IsNoHelp};
 
 use crate::line_fault::LineFault;
 use std::alloc::Global;
@@ -11,6 +12,7 @@ use uuid::Uuid;
 pub fn number(alloc: Global, option: &str, value: &str, most: u32) -> Result<u32, LineFault>
     ensures says { IfOk result (λ n. SaysNumber value.now most n) }
     ensures refused { IfErr result (λ fault. IsMemory fault ⊎ ((n : ℕ) → SaysNumber value.now most n → ⊥)) }
+    ensures told { IfErr result IsNoHelp }
 {
     match value.parse::<u32>() {
         Ok(number) if 1 <= number && number <= most => Ok(number),
@@ -22,6 +24,7 @@ pub fn number(alloc: Global, option: &str, value: &str, most: u32) -> Result<u32
 pub fn identifier(alloc: Global, value: Option<&str>) -> Result<Option<Uuid>, LineFault>
     ensures says { IfOk result (λ u. uuid_said (option_map (λ s. s.now) value.entry) ≡ Some u) }
     ensures refused { IfErr result (λ fault. IsMemory fault ⊎ ((u : Option (List ℕ)) → uuid_said (option_map (λ s. s.now) value.entry) ≡ Some u → ⊥)) }
+    ensures told { IfErr result IsNoHelp }
 {
     let Some(text) = value else {
         return Ok(None);
@@ -38,7 +41,9 @@ pub fn identifier(alloc: Global, value: Option<&str>) -> Result<Option<Uuid>, Li
 }
 
 /// That the value of an option says nothing of what is expected there.
-fn bad_value(alloc: Global, option: &str, value: &str, expected: &str) -> LineFault {
+fn bad_value(alloc: Global, option: &str, value: &str, expected: &str) -> LineFault
+    ensures { IsNoHelp result }
+{
     match format!(in alloc;
         "error: invalid value '{value}' for '{option}': expected {expected}\n\nFor more information, try '--help'.\n"
     ) {

@@ -1,11 +1,11 @@
-use Rattle.std.proofs.Common.{◌<◌, ◌∙◌, ap, sym, length, map, subst, arith}
+use Rattle.std.proofs.Common.{◌<◌, ◌∙◌, inr, ap, sym, length, map, subst, arith}
 use Rattle.std.specs.Box.{box_value}
 use Rattle.std.proofs.lemmas.Bool.Decides.{nat_tests}
 use Rattle.std.proofs.lemmas.Result.{IfErr-weaker, IfOk-weaker}
 use Rattle.clap.specs.Words.{App, HasKind, fault_of, found_of, is_simple, is_simple_and_free, rows_of, subcommand_of}
 use Rattle.clap.specs.declared.parser.matches.ArgMatches.TheViews.{out-ArgMatches, out-SubCommand}
 use Rattle.ctftrace.specs.CommandLine.{Asks, AsksBy}
-use Rattle.ctftrace.proofs.CommandLineLaws.{asked_by, command_asks, pair_known, parser_refuses, program_is_free, program_is_simple, refused_by, words_there}
+use Rattle.ctftrace.proofs.CommandLineLaws.{asked_by, command_asks, pair_known, parser_refuses, parser_told, program_is_free, program_is_simple, refused_by, words_there}
 use Rattle.ctftrace.proofs.command_line.command.Goals as goal
 
 pub returns-in-Err-clause-refused : goal.returns-in-Err-clause-refused
@@ -14,6 +14,13 @@ returns-in-Err-clause-refused c =
     let some : 0 < length c.args.words.now = grind (arith, nat_tests) in
     let app = c.in_ok-program.ensures.words in
     parser_refuses words c.in-Err.error c.line_fault.result (words_there c.args.words.now some) c.line_fault.ensures.memory
+    (subst (λ (a : App). HasKind (fault_of a words) c.in-Err.error) app (c.in-Err.ensures.kinds (ap is_simple_and_free app ∙ program_is_free)))
+
+pub returns-in-Err-clause-told : goal.returns-in-Err-clause-told
+returns-in-Err-clause-told c =
+    let words = map (λ s. s.now) c.args.words.now in
+    let app = c.in_ok-program.ensures.words in
+    parser_told words c.in-Err.error c.line_fault.result c.line_fault.ensures.memory c.line_fault.ensures.told
     (subst (λ (a : App). HasKind (fault_of a words) c.in-Err.error) app (c.in-Err.ensures.kinds (ap is_simple_and_free app ∙ program_is_free)))
 
 pub returns-in-Some-clause-asks : goal.returns-in-Some-clause-asks
@@ -43,3 +50,10 @@ returns-in-Some-clause-refused c =
     let found = sym (ap (λ (a : App). subcommand_of a words) app) ∙ sym (c.in-Ok.ensures.matches (ap is_simple app ∙ program_is_simple)).1 ∙ known in
     IfErr-weaker c.named.result _ _ (λ fault h. refused_by fault (AsksBy name rows) (Asks words) h
     (λ asked a. (asked, asked_by words asked name rows (words_there c.args.words.now some) found a))) c.named.ensures.refused
+
+pub returns-in-Some-clause-told : goal.returns-in-Some-clause-told
+returns-in-Some-clause-told c =
+    let words = map (λ s. s.now) c.args.words.now in
+    let app = c.in_ok-program.ensures.words in
+    let taken = sym (ap (λ (a : App). fault_of a words) app) ∙ c.in-Ok.ensures.kinds (ap is_simple_and_free app ∙ program_is_free) in
+    IfErr-weaker c.named.result _ _ (λ fault h. inr (inr (taken, h))) c.named.ensures.told
