@@ -16,6 +16,7 @@ mod packet_layouts;
 mod printed_traces;
 mod reading;
 mod record_faults;
+mod recycled_buffers;
 mod reserved_words;
 mod rings;
 mod scripts;

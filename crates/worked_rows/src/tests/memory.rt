@@ -7,16 +7,18 @@ ghost use Rattle.std.specs.Prelude.{IfOk};
 ghost use Rattle.ctf_types.specs.Allowed.{IsMetadata};
 ghost use Rattle.ctf_types.specs.AllowedConfig.{IsConfig};
 
+use crate::tests::recycled_buffers::{collect, collector, opens_and_closes};
 use crate::tests::small::{Datum, SMALL, changed, payload};
 use conf_check::configure;
 use ctf_types::{Args, Config, Metadata, Text, Values};
+use packet_collector::Collected;
 use packet_reader::{ReadStream, StreamEnding, read_stream};
 use packet_ring::ring;
 use std::alloc::{AllocError, Global};
 use std::process::Abort;
 use std::test::Fail;
 use thread_stream::{Stream, Verdict};
-use trace_platform::{BackEnd, ListBackEnd, ListClock, PacketSource};
+use trace_platform::{BackEnd, ListBackEnd, ListClock, MemorySink, PacketSource};
 use tsdl_reader::read_metadata;
 use tsdl_writer::write_metadata;
 
@@ -181,6 +183,23 @@ fn traces_over_a_ring(rt: &impl Abort, alloc: Global, records: u32) -> Result<()
         if let Some(packet) = ring_end.take() {
             ring_end.give_back(packet.into_buf());
         }
+    }
+    Ok(())
+}
+
+/// Opens, closes and collects 300 packets over a ring of one place, into a sink with room for their bytes. Each answer is the ample one once all is
+/// made, whichever request is refused: there is none.
+#[test]
+fn collects_300_packets_over_a_ring(rt: HostRuntime) -> Result<(), Fail> {
+    let alloc = rt.alloc();
+    let (back_end, mut ring_end) = granted(ring(alloc, 1, 16))?;
+    let mut stream = stream_over(alloc, back_end)?;
+    let sink = granted(MemorySink::with_capacity(alloc, 300 * 16))?;
+    let mut collector = granted(collector(alloc, sink))?;
+    for number in 0..300 {
+        opens_and_closes(&rt, &mut stream);
+        let answer = collect(&mut collector, &mut ring_end);
+        assert_eq!(rt; answer, Collected::Took(number));
     }
     Ok(())
 }

@@ -15,7 +15,7 @@ use trace_platform::{BackEnd, ListBackEnd, ListClock, PacketSource};
 const EMPTY: &str = "c11ffcc1 80000000 60000000 00000000";
 
 /// A stream of the small configuration over this back end.
-fn stream<B: BackEnd + Drop>(alloc: Global, back_end: B) -> Result<Stream<ListClock, B>, Fail> {
+pub fn stream<B: BackEnd + Drop>(alloc: Global, back_end: B) -> Result<Stream<ListClock, B>, Fail> {
     let config = small(alloc, &[])?;
     let clock = ListClock::new(Vec::new(alloc)).ok_or("readings that fall")?;
     match Stream::new(alloc, &config, "s", clock, back_end, Values::new(alloc)) {
