@@ -5,6 +5,7 @@ mod alignments;
 mod clock_values;
 mod configurations;
 mod context_faults;
+mod damaged_files;
 mod declined_ends;
 mod example;
 mod gaps;

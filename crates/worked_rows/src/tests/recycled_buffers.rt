@@ -5,17 +5,19 @@ ghost use Rattle.std.specs.Prelude.{◌≡◌, ◌<◌, IfOk, length};
 use crate::tests::rings::stream;
 use crate::tests::small::{Datum, bytes_of, payload};
 use packet_collector::{Collected, Collector};
-use packet_ring::{RingBackEnd, RingEnd, ring};
+use packet_ring::{RingBackEnd, ring};
 use std::alloc::{AllocError, Global};
 use std::process::Abort;
 use std::test::Fail;
 use thread_stream::{PacketAnswer, Stream, Verdict};
-use trace_platform::{ListBackEnd, ListClock, MemorySink, Script, ScriptedSink, Sink, Turn};
+use trace_platform::{
+    ListBackEnd, ListClock, MemorySink, PacketSource, Script, ScriptedSink, Sink, Turn,
+};
 
 pub type RingStream = Stream<ListClock, RingBackEnd>;
 
 /// A collector of one sink.
-pub fn collector<W: Sink>(alloc: Global, sink: W) -> Result<Collector<W>, AllocError>
+pub fn collector<W: Sink + Drop>(alloc: Global, sink: W) -> Result<Collector<W>, AllocError>
     ensures { IfOk result (λ c. 0 < length c) }
 {
     let mut collector = Collector::new(alloc);
@@ -26,7 +28,7 @@ pub fn collector<W: Sink>(alloc: Global, sink: W) -> Result<Collector<W>, AllocE
 }
 
 /// What collecting the next packet into the first sink answers.
-pub fn collect<W: Sink>(collector: &mut Collector<W>, source: &mut RingEnd) -> Collected
+pub fn collect<W: Sink, R: PacketSource>(collector: &mut Collector<W>, source: &mut R) -> Collected
     requires { 0 < length collector.old }
     ensures { length collector.new ≡ length collector.old }
 {
