@@ -20,10 +20,12 @@ mod new_folder;
 mod packets;
 mod printed;
 mod program_words;
+mod progress;
 mod read_all;
 mod read_command;
 mod recording;
 mod running;
+mod script_entry;
 mod script_lines;
 mod shown;
 mod small_configuration;
@@ -34,9 +36,10 @@ mod trace_folder;
 mod word_values;
 
 use answer::{OUT_OF_MEMORY, fail};
+use progress::{CountedFiles, Tally};
 use running::run;
 use std::env;
-use std::io::{ErrorKind, Result as IoResult};
+use std::io::{ErrorKind, IsTerminal, Result as IoResult};
 use std::process::ExitCode;
 use trace_platform::write_all;
 
@@ -65,7 +68,15 @@ fn run_words(rt: &HostRuntime) -> IoResult<u8> {
         words.push(word.as_str())?;
     }
     let mut input = rt.reader();
-    let mut output = rt.stdout();
     let mut errors = rt.stderr();
-    Ok(run(rt, words.as_slice(), &mut input, &mut output, &mut errors))
+    let tally = Tally::new(errors.is_terminal());
+    let files = CountedFiles::new(rt, &tally);
+    let mut output = files.counted(rt.stdout());
+    Ok(run(
+        &files,
+        words.as_slice(),
+        &mut input,
+        &mut output,
+        &mut errors,
+    ))
 }

@@ -9,6 +9,7 @@ use crate::commands::Command as Wanted;
 use crate::first_command::trace_numbers;
 use crate::line_answer::tell_line_fault;
 use crate::metadata_command::metadata;
+use crate::progress::Progress;
 use crate::read_command::read;
 use crate::trace_command::trace;
 use std::io::{Read, Write};
@@ -16,9 +17,9 @@ use std::rt::Files;
 
 /// Runs the command that the words ask for, which are those behind the program's own name, and answers the exit status: 0; 1 where what was
 /// read has a fault; 2 where the words ask for no command; 3 where a file, a read or a write failed or memory was wanting, which a line on
-/// `errors` says. Without words, numbers of `input` are traced.
+/// `errors` says. Without words, numbers of `input` are traced. How far `trace` and `read` are is said by `rt`, unless they are to be quiet, and never on `errors`.
 #[tactic(auto, using(crate::proofs::TracingLaws::asked_sizes))]
-pub fn run<'a, X: Files + AllocGlobal + Clone + Drop, R: Read, W: Write, E: Write>(
+pub fn run<'a, X: Files + Progress + AllocGlobal + Clone + Drop, R: Read, W: Write, E: Write>(
     rt: &X,
     words: &'a [&'a str],
     input: &mut R,
@@ -33,7 +34,7 @@ pub fn run<'a, X: Files + AllocGlobal + Clone + Drop, R: Read, W: Write, E: Writ
     }
 }
 
-fn obey<X: Files + AllocGlobal + Clone + Drop, R: Read, W: Write, E: Write>(
+fn obey<X: Files + Progress + AllocGlobal + Clone + Drop, R: Read, W: Write, E: Write>(
     rt: &X,
     asked: &Wanted<'_>,
     input: &mut R,
@@ -47,7 +48,17 @@ fn obey<X: Files + AllocGlobal + Clone + Drop, R: Read, W: Write, E: Write>(
         Wanted::FirstPath => trace_numbers(rt.alloc(), input, output, errors),
         Wanted::Check(path) => check(rt, path, output, errors),
         Wanted::Metadata(asked) => metadata(rt, asked, output, errors),
-        Wanted::Trace(asked) => trace(rt, asked, output, errors),
-        Wanted::Read(asked) => read(rt, asked, output, errors),
+        Wanted::Trace(asked) => {
+            if !asked.is_quiet {
+                rt.say_progress();
+            }
+            trace(rt, asked, output, errors)
+        }
+        Wanted::Read(asked) => {
+            if !asked.is_quiet {
+                rt.say_progress();
+            }
+            read(rt, asked, output, errors)
+        }
     }
 }

@@ -4,28 +4,31 @@ ghost use Rattle.std.specs.Prelude.{IfOk};
 ghost use Rattle.ctftrace.specs.Shown.{IsFaultLine};
 
 use crate::fault_lines::{fault_line, push_name, push_position};
+use crate::script_entry::push_fault;
+use ctf_types::Config;
 use std::alloc::{AllocError, Global};
 use thread_stream::StreamFault;
 use trace_stack::NameFault;
 use trace_text::{Script, ScriptFault, ScriptFaultKind};
 
-/// The line of a text that is no script. Where it is no JSON, the place is a line and a column, else the index of an entry.
+/// The line of a text that is no script of the configuration. Where it is no JSON, the place is a line and a column, else an entry.
 pub fn script_line(
     alloc: Global,
     file: &[u8],
+    config: &Config,
     text: &[u8],
     fault: &ScriptFault,
 ) -> Result<Vec<u8>, AllocError>
     ensures { IfOk result (λ line. IsFaultLine file.now line.items) }
 {
     let mut said = Vec::new(alloc);
-    let kind = if fault.kind == ScriptFaultKind::NotJson {
+    if fault.kind == ScriptFaultKind::NotJson {
         push_position(alloc, &mut said, text)?;
-        format!(in alloc; "{}", fault.kind)?
+        let kind = format!(in alloc; "{}", fault.kind)?;
+        said.extend_from_slice(kind.as_bytes())?;
     } else {
-        format!(in alloc; "{fault}")?
-    };
-    said.extend_from_slice(kind.as_bytes())?;
+        push_fault(alloc, &mut said, config, text, fault)?;
+    }
     fault_line(alloc, file, said.as_slice())
 }
 
@@ -39,8 +42,8 @@ pub fn name_line(
 ) -> Result<Vec<u8>, AllocError>
     ensures { IfOk result (λ line. IsFaultLine file.now line.items) }
 {
-    let fault = format!(in alloc; "{fault}")?;
-    stream_line(alloc, file, script, number, fault.as_str())
+    let why = format!(in alloc; "{fault}")?;
+    stream_line(alloc, file, script, number, why.as_str())
 }
 
 /// The line of a stream of the script that a session refuses by what it is made from.

@@ -5,6 +5,15 @@ mod command_line;
 mod commands;
 mod configuration;
 mod faults;
+mod narrow_files;
+mod progress;
 mod read_command;
 mod stream_files;
 mod trace_command;
+
+use crate::progress::Progress;
+
+/// Tests are not told how far a command is.
+impl Progress for HostRuntime {
+    fn say_progress(&self) {}
+}

@@ -1,5 +1,6 @@
 //! The rows of `read`: what is printed of a folder, what is said of faults, and the status.
 
+use crate::progress::Progress;
 use crate::running::run;
 use crate::small_configuration::small_config;
 use std::fs;
@@ -80,7 +81,7 @@ fn make_folder(
 }
 
 /// What the program says of words that ask for a folder, and its status.
-fn answers<X: Files + AllocGlobal + Clone + Drop + Abort>(
+fn answers<X: Files + Progress + AllocGlobal + Clone + Drop + Abort>(
     rt: &X,
     words: &[&str],
     output: &str,

@@ -1,5 +1,6 @@
 //! The rows of `trace`: what is printed, what is said of faults, the status, and what then stands in the folder.
 
+use crate::progress::Progress;
 use crate::running::run;
 use std::fs;
 use std::process::Abort;
@@ -11,14 +12,14 @@ const SMALL: &str =
     r#"{"trace":{"type":{"trace-byte-order":"le","$features":{"data-stream-type-id-field-type":false},"data-stream-types":{"s":{"$features":{"packet":{"total-size-field-type":{"class":"uint","size":32},"content-size-field-type":{"class":"uint","size":32},"discarded-event-records-counter-snapshot-field-type":false},"event-record":{"type-id-field-type":false}},"event-record-types":{"e":{"payload-field-type":{"class":"struct","members":[{"v":{"field-type":{"class":"uint","size":8}}}]}}}}}}}}"#;
 
 /// One stream type with a clock and two event record types, in big-endian order.
-const CLOCKED: &str =
+pub const CLOCKED: &str =
     r#"{"trace":{"type":{"native-byte-order":"be","clock-types":{"clk":{}},"$features":{"data-stream-type-id-field-type":false},"data-stream-types":{"s":{"$default-clock-type-name":"clk","$features":{"packet":{"total-size-field-type":"u16","content-size-field-type":"u16","discarded-event-records-counter-snapshot-field-type":"u8","sequence-number-field-type":"u8"},"event-record":{"type-id-field-type":"u8"}},"event-record-types":{"a":{"payload-field-type":{"class":"struct","members":[{"n":{"field-type":{"class":"sint","size":16}}}]}},"b":{"payload-field-type":{"class":"struct","members":[{"s":{"field-type":{"class":"str"}}}]}}}}},"$field-type-aliases":{"u8":{"class":"uint","size":8},"u16":{"class":"uint","size":16}}}}}"#;
 
-const CLOCKED_SCRIPT: &str =
+pub const CLOCKED_SCRIPT: &str =
     r#"{"streams":[{"name":"t0","type":"s","clock":[10,11,12]}],"events":[{"trace":"t0","event":"a","payload":[-2]},{"trace":"t0","event":"b","payload":["ok"]},{"close":"t0"},{"collect":"t0"}]}"#;
 
 /// Of one packet of 64 bytes.
-const CLOCKED_BYTES: &str =
+pub const CLOCKED_BYTES: &str =
     "c1fc1fc102000188000000000000000a000000000000000c000000000000000000000afffe01000000000000000b6f6b00000000000000000000000000000000";
 
 /// What stands in the folder behind a command.
@@ -122,7 +123,57 @@ static ROWS: &[Row] = &[
         script: r#"{"streams":3}"#,
         words: &[],
         output: "",
-        errors: "ctftrace: script.json: entry 0: not of a script's form: expected its properties, each of its kind, and no others\n",
+        errors: "ctftrace: script.json: {\"streams\":3}: not of a script's form: expected its properties, each of its kind, and no others\n",
+        status: 1,
+        left: Left::Nothing,
+    },
+    Row {
+        shows: "a stream of another form",
+        config: SMALL,
+        script: r#"{"streams":[{"name":"a","type":"s"},{"name":"b"}],"events":[{"open":3}]}"#,
+        words: &[],
+        output: "",
+        errors: "ctftrace: script.json: streams/1: {\"name\":\"b\"}: not of a script's form: expected its properties, each of its kind, and no others\n",
+        status: 1,
+        left: Left::Nothing,
+    },
+    Row {
+        shows: "a stream of no type",
+        config: CLOCKED,
+        script: r#"{"streams":[{"name":"a","type":"\u001b"}],"events":[]}"#,
+        words: &[],
+        output: "",
+        errors: "ctftrace: script.json: streams/0: \\x1b: no such stream: expected the name of a stream, or of a data stream type (there are: s)\n",
+        status: 1,
+        left: Left::Nothing,
+    },
+    Row {
+        shows: "an event record of no stream",
+        config: SMALL,
+        script: r#"{"streams":[],"events":[{"trace":"zz","event":"e","payload":[1]}]}"#,
+        words: &[],
+        output: "",
+        errors: "ctftrace: script.json: events/0: zz: no such stream: expected the name of a stream, or of a data stream type (there are none)\n",
+        status: 1,
+        left: Left::Nothing,
+    },
+    Row {
+        shows: "an event record of no type",
+        config: CLOCKED,
+        script: r#"{"streams":[{"name":"t0","type":"s"}],"events":[{"open":"t0"},{"trace":"t0","event":"c","payload":[1]}]}"#,
+        words: &[],
+        output: "",
+        errors: "ctftrace: script.json: events/1: c: no such event record type: expected the name of one of the stream's type (there are: a, b)\n",
+        status: 1,
+        left: Left::Nothing,
+    },
+    Row {
+        shows: "a value of another kind",
+        config: SMALL,
+        script: r#"{"streams":[{"name":"a","type":"s"}],"events":[{"trace":"a","event":"e","payload":[{"an object":"of more than sixty characters, all in all"}]}]}"#,
+        words: &[],
+        output: "",
+        errors: "ctftrace: script.json: events/0: {\"event\":\"e\",\"payload\":[{\"an object\":\"of more than sixty cha...: bad value: expected a whole number of its field's sign in 64 bits, a text or a list\n",
         status: 1,
         left: Left::Nothing,
     },
@@ -132,7 +183,7 @@ static ROWS: &[Row] = &[
         script: r#"{"streams":[{"name":"a","type":"s"},{"name":"a","type":"s"}],"events":[{"open":"zz"}]}"#,
         words: &[],
         output: "",
-        errors: "ctftrace: script.json: entry 0: no such stream: expected the name of a stream, or of a data stream type\n",
+        errors: "ctftrace: script.json: events/0: zz: no such stream: expected the name of a stream, or of a data stream type (there are: a, a)\n",
         status: 1,
         left: Left::Nothing,
     },
@@ -224,7 +275,7 @@ fn traces(rt: HostRuntime) -> Result<(), Fail> {
 }
 
 /// What stands in the folder is what the row says. The folder is removed.
-fn check_left<X: Files + AllocGlobal + Clone + Drop + Abort>(
+fn check_left<X: Files + Progress + AllocGlobal + Clone + Drop + Abort>(
     rt: &X,
     row: &Row,
 ) -> Result<(), Fail> {
@@ -250,7 +301,7 @@ fn check_left<X: Files + AllocGlobal + Clone + Drop + Abort>(
 }
 
 /// The metadata is what the command that prints it prints.
-fn check_metadata<X: Files + AllocGlobal + Clone + Drop + Abort>(
+fn check_metadata<X: Files + Progress + AllocGlobal + Clone + Drop + Abort>(
     rt: &X,
     row: &Row,
 ) -> Result<(), Fail> {

@@ -1,0 +1,79 @@
+//! What is said of the bytes that went through files: a line once a second, where somebody waits.
+
+use crate::progress::{CountedFiles, Progress, Tally};
+use std::alloc::Global;
+use std::cell::Cell;
+use std::fmt::Display;
+use std::io::{Eprint, Read, Result as IoResult, Write};
+use std::test::Fail;
+use std::time::{Clock, Duration};
+
+/// A clock that goes on by half a second with each reading, and what was said.
+#[derive(Drop)]
+struct Ticking {
+    alloc: Global,
+    readings: Cell<u64>,
+    said: Cell<String>,
+}
+
+impl Clock for Ticking {
+    fn monotonic(&self) -> IoResult<Duration> {
+        let readings = self.readings.get();
+        self.readings.set(readings.saturating_add(1));
+        Ok(Duration::from_millis(readings.saturating_mul(500)))
+    }
+
+    fn since_1970(&self) -> IoResult<Duration> {
+        self.monotonic()
+    }
+}
+
+impl Eprint for Ticking {
+    fn eprint<D: Display + Drop>(&self, value: D) -> IoResult<()> {
+        let before = self.said.replace(String::new(self.alloc));
+        self.said.set(format!(in self.alloc; "{before}{value}")?);
+        Ok(())
+    }
+
+    fn eprintln<D: Display + Drop>(&self, value: D) -> IoResult<()> {
+        let before = self.said.replace(String::new(self.alloc));
+        self.said.set(format!(in self.alloc; "{before}{value}\n")?);
+        Ok(())
+    }
+}
+
+/// What is said where so many bytes are written five times, and three read.
+fn said(rt: &HostRuntime, is_watched: bool, is_wanted: bool) -> Result<String, Fail> {
+    let ticking = Ticking {
+        alloc: rt.alloc(),
+        readings: Cell::new(0),
+        said: Cell::new(String::new(rt.alloc())),
+    };
+    let tally = Tally::new(is_watched);
+    let files = CountedFiles::new(&ticking, &tally);
+    if is_wanted {
+        files.say_progress();
+    }
+    let mut output = files.counted(Vec::new(rt.alloc()));
+    for _ in 0..5 {
+        output.write(b"four")?;
+    }
+    let mut input = files.counted(b"abc".as_slice());
+    let mut piece = [0u8; 8];
+    input.read(&mut piece)?;
+    Ok(ticking.said.replace(String::new(rt.alloc())))
+}
+
+#[test]
+fn says_once_a_second_how_many_bytes_there_were(rt: HostRuntime) -> Result<(), Fail> {
+    let found = said(&rt, true, true)?;
+    assert_eq!(rt;
+        found.as_str(),
+        "ctftrace: 0 bytes read, 8 written\nctftrace: 0 bytes read, 16 written\nctftrace: 3 bytes read, 20 written\n"
+    );
+    for (is_watched, is_wanted) in [(false, true), (true, false), (false, false)] {
+        let found = said(&rt, is_watched, is_wanted)?;
+        assert_eq!(rt; found.as_str(), "");
+    }
+    Ok(())
+}
