@@ -7,11 +7,11 @@ ghost use Rattle.std.specs.Prelude.{IfOk};
 ghost use Rattle.ctf_types.specs.Allowed.{IsMetadata};
 ghost use Rattle.ctf_types.specs.AllowedConfig.{IsConfig};
 
-use crate::tests::recycled_buffers::{collect, collector, opens_and_closes};
+use crate::tests::recycled_buffers::opens_and_closes;
 use crate::tests::small::{Datum, SMALL, changed, payload};
 use conf_check::configure;
 use ctf_types::{Args, Config, Metadata, Text, Values};
-use packet_collector::Collected;
+use packet_collector::{Collected, collect_into};
 use packet_reader::{ReadStream, StreamEnding, read_stream};
 use packet_ring::ring;
 use std::alloc::{AllocError, Global};
@@ -194,11 +194,11 @@ fn collects_300_packets_over_a_ring(rt: HostRuntime) -> Result<(), Fail> {
     let alloc = rt.alloc();
     let (back_end, mut ring_end) = granted(ring(alloc, 1, 16))?;
     let mut stream = stream_over(alloc, back_end)?;
-    let sink = granted(MemorySink::with_capacity(alloc, 300 * 16))?;
-    let mut collector = granted(collector(alloc, sink))?;
+    let mut sink = granted(MemorySink::with_capacity(alloc, 300 * 16))?;
+    let mut faulted = false;
     for number in 0..300 {
         opens_and_closes(&rt, &mut stream);
-        let answer = collect(&mut collector, &mut ring_end);
+        let answer = collect_into(&mut sink, &mut faulted, &mut ring_end);
         assert_eq!(rt; answer, Collected::Took(number));
     }
     Ok(())

@@ -1,39 +1,15 @@
 //! Buffers that go round between a stream and a collector over a ring.
 
-ghost use Rattle.std.specs.Prelude.{◌≡◌, ◌<◌, IfOk, length};
-
 use crate::tests::rings::stream;
 use crate::tests::small::{Datum, bytes_of, payload};
-use packet_collector::{Collected, Collector};
+use packet_collector::{Collected, collect_into};
 use packet_ring::{RingBackEnd, ring};
-use std::alloc::{AllocError, Global};
 use std::process::Abort;
 use std::test::Fail;
 use thread_stream::{PacketAnswer, Stream, Verdict};
-use trace_platform::{
-    ListBackEnd, ListClock, MemorySink, PacketSource, Script, ScriptedSink, Sink, Turn,
-};
+use trace_platform::{ListBackEnd, ListClock, MemorySink, Script, ScriptedSink, Turn};
 
 pub type RingStream = Stream<ListClock, RingBackEnd>;
-
-/// A collector of one sink.
-pub fn collector<W: Sink + Drop>(alloc: Global, sink: W) -> Result<Collector<W>, AllocError>
-    ensures { IfOk result (λ c. 0 < length c) }
-{
-    let mut collector = Collector::new(alloc);
-    match collector.add(sink) {
-        Ok(_) => Ok(collector),
-        Err(_) => Err(AllocError),
-    }
-}
-
-/// What collecting the next packet into the first sink answers.
-pub fn collect<W: Sink, R: PacketSource>(collector: &mut Collector<W>, source: &mut R) -> Collected
-    requires { 0 < length collector.old }
-    ensures { length collector.new ≡ length collector.old }
-{
-    collector.collect(0, source)
-}
 
 pub fn opens_and_closes(rt: &impl Abort, stream: &mut RingStream) {
     assert_eq!(rt; stream.open_packet(), PacketAnswer::Done);
@@ -47,15 +23,21 @@ fn gives_back_the_buffer_at_a_fault_of_the_sink(rt: HostRuntime) -> Result<(), F
     let (back_end, mut ring_end) = ring(alloc, 1, 16)?;
     let mut stream = stream(alloc, back_end)?;
     let script = Script::new(vec![in alloc; Turn::Fails]?);
-    let sink = ScriptedSink::new(MemorySink::new(alloc), script, 0);
-    let mut collector = collector(alloc, sink)?;
+    let mut sink = ScriptedSink::new(MemorySink::new(alloc), script, 0);
+    let mut faulted = false;
     opens_and_closes(&rt, &mut stream);
-    assert_eq!(rt; collect(&mut collector, &mut ring_end), Collected::Faulted);
+    assert_eq!(rt;
+        collect_into(&mut sink, &mut faulted, &mut ring_end),
+        Collected::Faulted
+    );
     opens_and_closes(&rt, &mut stream);
     opens_and_closes(&rt, &mut stream);
     for _ in 0..2 {
         assert_eq!(rt; stream.open_packet(), PacketAnswer::Full);
-        assert_eq!(rt; collect(&mut collector, &mut ring_end), Collected::Faulted);
+        assert_eq!(rt;
+            collect_into(&mut sink, &mut faulted, &mut ring_end),
+            Collected::Faulted
+        );
     }
     Ok(())
 }
