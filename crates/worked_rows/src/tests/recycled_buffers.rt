@@ -7,7 +7,9 @@ use packet_ring::{RingBackEnd, ring};
 use std::process::Abort;
 use std::test::Fail;
 use thread_stream::{PacketAnswer, Stream, Verdict};
-use trace_platform::{ListBackEnd, ListClock, MemorySink, Script, ScriptedSink, Turn};
+use trace_platform::{
+    ListBackEnd, ListClock, MemorySink, PacketSource, Script, ScriptedSink, Turn,
+};
 
 pub type RingStream = Stream<ListClock, RingBackEnd>;
 
