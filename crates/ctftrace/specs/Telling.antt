@@ -1,10 +1,13 @@
 -- How an answer is told: all of it is written, with its status; or a write failed, and at status 3 a front of the output is written.
-use Rattle.std.specs.Prelude.{◌≡◌, ◌⊎◌, ℕ, List, [], Option, IfSome, string_bytes}
+use Rattle.std.specs.Prelude.{◌≡◌, ◌⊎◌, ℕ, List, [], ◌∷◌, ◌++◌, Option, IfSome, codes, string_bytes}
 use Rattle.std.specs.Io.KnownBytes.{Appends}
 use Rattle.trace_platform.specs.Fronts.{AppendsFront}
 use Rattle.ctftrace.specs.declared.answer.Answer.{Answer}
+use Rattle.ctftrace.specs.declared.failure.Failure.{Failure}
+use Rattle.ctftrace.specs.declared.failure.Failure.TheVariants.{File as FileFailed, OutOfMemory as NoMemory}
 use Rattle.ctftrace.specs.declared.line_fault.LineFault.{LineFault}
 use Rattle.ctftrace.specs.declared.line_fault.LineFault.TheVariants.{Help, Bad, OutOfMemory}
+use Rattle.ctftrace.specs.Shown.{IsFaultLine}
 
 -- what may be answered, by its output, its errors and its status
 abbrev pub Answering : Type 1
@@ -38,6 +41,22 @@ Told P old new old_errors new_errors status =
 -- something more is said
 abbrev pub SaysMore : Option (List ℕ) → Option (List ℕ) → Type 0
 SaysMore old new = (more : List ℕ) × Appends old new more
+
+-- a line of a fault in this file, or the line that memory was wanting
+abbrev pub IsMemoryLine : List ℕ → Type 0
+IsMemoryLine line = line ≡ codes "ctftrace: out of memory" ++ 10 ∷ []
+
+abbrev pub IsFileLine : List ℕ → List ℕ → Type 0
+IsFileLine path line = IsFaultLine path line ⊎ IsMemoryLine line
+
+-- a line that says what failed
+abbrev pub IsFailureLine : Failure → List ℕ → Type 0
+IsFailureLine (FileFailed path fault) line = IsFileLine (string_bytes path) line
+IsFailureLine NoMemory line = IsMemoryLine line
+
+-- such a line is said, or a front of it
+abbrev pub SaysLine : (List ℕ → Type 0) → Option (List ℕ) → Option (List ℕ) → Type 0
+SaysLine Is old new = (line : List ℕ) × Is line × AppendsFront old new line
 
 -- nothing is printed, and what failed is said
 pub record SaysFailure (old new old_errors new_errors : Option (List ℕ)) : Type 0 where

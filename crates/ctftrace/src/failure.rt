@@ -1,7 +1,7 @@
 //! Why a command has no answer.
 
 ghost use Rattle.std.specs.Prelude.{◌≡◌};
-ghost use Rattle.ctftrace.specs.Telling.{SaysMore};
+ghost use Rattle.ctftrace.specs.Telling.{IsFailureLine, SaysLine, SaysMore};
 
 use crate::answer::{OUT_OF_MEMORY, fail};
 use crate::files::{FileFault, fail_at};
@@ -38,6 +38,7 @@ pub fn file_failure(alloc: Global, path: &str, fault: FileFault) -> Failure {
 /// Says what failed, as far as `errors` takes it.
 pub fn say_failure<E: Write>(alloc: Global, failure: &Failure, errors: &mut E) -> u8
     ensures status { result ≡ 3 }
+    ensures said { SaysLine (IsFailureLine failure.now) (E.contents errors.old) (E.contents errors.new) }
     ensures more { SaysMore (E.contents errors.old) (E.contents errors.new) }
 {
     match failure {

@@ -1,7 +1,7 @@
 //! Files of the command line, read whole, and why a file fails.
 
 ghost use Rattle.std.specs.Prelude.{◌≡◌, IfOk};
-ghost use Rattle.ctftrace.specs.Telling.{SaysMore, WasGiven};
+ghost use Rattle.ctftrace.specs.Telling.{IsFileLine, SaysLine, SaysMore, WasGiven};
 
 use crate::answer::{OUT_OF_MEMORY, fail};
 use crate::fault_lines::fault_line;
@@ -44,6 +44,7 @@ pub fn read_file<X: Files + AllocGlobal>(rt: &X, path: &str) -> Result<Vec<u8>, 
 /// Says what failed of a file.
 pub fn fail_at<E: Write>(alloc: Global, path: &str, fault: &FileFault, errors: &mut E) -> u8
     ensures status { result ≡ 3 }
+    ensures said { SaysLine (IsFileLine path.now) (E.contents errors.old) (E.contents errors.new) }
     ensures more { SaysMore (E.contents errors.old) (E.contents errors.new) }
 {
     let Ok(said) = format!(in alloc; "{fault}") else {

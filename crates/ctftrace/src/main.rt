@@ -69,7 +69,7 @@ fn run_words(rt: &HostRuntime) -> IoResult<u8> {
     }
     let mut input = rt.reader();
     let mut errors = rt.stderr();
-    let tally = Tally::new(errors.is_terminal());
+    let tally = Tally::new(errors.is_terminal(), input.is_terminal());
     let files = CountedFiles::new(rt, &tally);
     let mut output = files.counted(rt.stdout());
     Ok(run(

@@ -1,4 +1,4 @@
-//! How many bytes went through the program's files and its output, said once a second while somebody waits.
+//! What is said to people at a terminal: how many bytes went through the program's files and its output, once a second, and what is to be typed.
 
 use std::alloc::{Alloc, Allocator, Global};
 use std::cell::Cell;
@@ -10,10 +10,17 @@ use std::time::Instant;
 /// For how many seconds nothing is said.
 const PAUSE: u64 = 1;
 
-/// What can say how far a command is.
+/// What is to be typed where the program has no words.
+const WANTED: &str =
+    "ctftrace: waiting for whole numbers from 0 to 255, one a line, up to the end of the input; `ctftrace help` says what else it does";
+
+/// What can say how far a command is, and what it waits for.
 pub trait Progress {
-    /// From now on it says so, where somebody waits.
+    /// From now on it says how far the command is, where somebody waits.
     fn say_progress(&self);
+
+    /// Says which input is wanted, where somebody types it.
+    fn say_wanted(&self);
 }
 
 /// The bytes that were read and written so far.
@@ -21,6 +28,8 @@ pub trait Progress {
 pub struct Tally {
     /// Whether standard error is a terminal.
     is_watched: bool,
+    /// Whether standard input is a terminal.
+    is_typed: bool,
     /// When something was last said. None says nothing.
     last: Cell<Option<Instant>>,
     read: Cell<u64>,
@@ -28,9 +37,10 @@ pub struct Tally {
 }
 
 impl Tally {
-    pub fn new(is_watched: bool) -> Tally {
+    pub fn new(is_watched: bool, is_typed: bool) -> Tally {
         Tally {
             is_watched,
+            is_typed,
             last: Cell::new(None),
             read: Cell::new(0),
             written: Cell::new(0),
@@ -69,10 +79,16 @@ impl<'a, R> CountedFiles<'a, R> {
     }
 }
 
-impl<R: Clock> Progress for CountedFiles<'_, R> {
+impl<R: Clock + Eprint> Progress for CountedFiles<'_, R> {
     fn say_progress(&self) {
         if self.tally.is_watched {
             self.tally.last.set(Instant::now(self.rt).ok());
+        }
+    }
+
+    fn say_wanted(&self) {
+        if self.tally.is_typed {
+            let _ = eprintln!(self.rt; "{WANTED}");
         }
     }
 }

@@ -17,7 +17,8 @@ use std::rt::Files;
 
 /// Runs the command that the words ask for, which are those behind the program's own name, and answers the exit status: 0; 1 where what was
 /// read has a fault; 2 where the words ask for no command; 3 where a file, a read or a write failed or memory was wanting, which a line on
-/// `errors` says. Without words, numbers of `input` are traced. How far `trace` and `read` are is said by `rt`, unless they are to be quiet, and never on `errors`.
+/// `errors` says. Without words, numbers of `input` are traced. How far `trace` and `read` are is said by `rt`, unless they are to be quiet, and without words
+/// that numbers are waited for; never on `errors`.
 #[tactic(auto, using(crate::proofs::TracingLaws::asked_sizes))]
 pub fn run<'a, X: Files + Progress + AllocGlobal + Clone + Drop, R: Read, W: Write, E: Write>(
     rt: &X,
@@ -45,7 +46,10 @@ fn obey<X: Files + Progress + AllocGlobal + Clone + Drop, R: Read, W: Write, E: 
     ensures { Does X.File.contents X.File.remaining asked.now (R.remaining input.old) (W.contents output.old) (W.contents output.new) (E.contents errors.old) (E.contents errors.new) result }
 {
     match asked {
-        Wanted::FirstPath => trace_numbers(rt.alloc(), input, output, errors),
+        Wanted::FirstPath => {
+            rt.say_wanted();
+            trace_numbers(rt.alloc(), input, output, errors)
+        }
         Wanted::Check(path) => check(rt, path, output, errors),
         Wanted::Metadata(asked) => metadata(rt, asked, output, errors),
         Wanted::Trace(asked) => {

@@ -13,7 +13,9 @@ mod trace_command;
 
 use crate::progress::Progress;
 
-/// Tests are not told how far a command is.
+/// Tests are not told how far a command is, nor what it waits for.
 impl Progress for HostRuntime {
     fn say_progress(&self) {}
+
+    fn say_wanted(&self) {}
 }

@@ -9,6 +9,7 @@ use Rattle.trace_clock.specs.declared.bounds.Bounds.{Bounds}
 use Rattle.trace_clock.specs.declared.view.View.{View}
 use Rattle.trace_clock.specs.declared.tick_seat.TickSeat.{TickSeat}
 use Rattle.trace_clock.specs.declared.tick_clock.TickClock.{TickClock}
+use Rattle.trace_clock.specs.declared.told.Told.{Told}
 use Rattle.trace_clock.specs.History.{AllBelow, Happens}
 
 -- which clock it is, and which numbers that gives
@@ -19,11 +20,15 @@ abbrev pub bounds_of : TickSeat → Bounds
 bounds_of s = (arc_value s.table).shared.key
 
 abbrev pub view_of : TickSeat → View
-view_of s = s.seat.me.0
+view_of s = s.seat.me.0.view
 
 -- the numbers that it drew, in their order
 abbrev pub drawn : TickSeat → List ℕ
 drawn s = (view_of s).drawn
+
+-- the numbers that it heard of from other seats, kept apart from those that it drew
+abbrev pub heard_of : TickSeat → List ℕ
+heard_of s = s.seat.me.0.heard
 
 -- how many readings it may still give, and how many it refused
 abbrev pub quota_of : TickSeat → ℕ
@@ -56,3 +61,10 @@ left c = quota_of (rest c)
 -- a new seat of this clock, with this quota
 abbrev pub IsNew : TickSeat → ℕ → TickSeat → Type 0
 IsNew a quota s = SameClock a s × (drawn s ≡ []) × (quota_of s ≡ quota) × (refused_of s ≡ 0)
+
+-- of which clock a `Told` is, and which numbers it tells of
+abbrev pub told_clock : Told → TableId
+told_clock t = t.seat.table_id
+
+abbrev pub told_numbers : Told → List ℕ
+told_numbers t = t.seat.me.0.heard

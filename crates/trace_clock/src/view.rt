@@ -1,4 +1,4 @@
-//! What a seat at a clock knows.
+//! What a seat did at a clock.
 
 use std::collections::LinkedList;
 

@@ -123,7 +123,7 @@ pub(crate) fn has_only(allowed: &[&[&str]], attributes: &[Attribute]) -> bool
 {
     let mut rest = attributes;
     while let [attribute, others @ ..] = rest {
-        if has_attr(&attribute.name, others) || !is_among(allowed, &attribute.name) {
+        if !is_among(allowed, &attribute.name) || has_attr(&attribute.name, others) {
             return false;
         }
         rest = others;
@@ -268,7 +268,7 @@ fn has_scopes_among(allowed: &[&[&str]], items: &[Item]) -> bool
 pub(crate) fn has_parts(allowed: &[&[&str]], items: &[Item]) -> bool
     ensures { result ≡ has_parts (names_of allowed.now) items.now }
 {
-    has_attrs_once(items) && has_scopes_once(items) && has_scopes_among(allowed, items)
+    has_scopes_among(allowed, items) && has_scopes_once(items) && has_attrs_once(items)
 }
 
 /// Whether a text is among these.

@@ -14,6 +14,7 @@ mod judging;
 mod limits;
 mod memory;
 mod packet_layouts;
+mod positions;
 mod printed_traces;
 mod reading;
 mod record_faults;

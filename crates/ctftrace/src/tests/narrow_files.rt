@@ -76,6 +76,8 @@ impl Progress for NarrowFiles<'_> {
     fn say_progress(&self) {
         self.is_asked.set(true);
     }
+
+    fn say_wanted(&self) {}
 }
 
 impl Alloc for NarrowFiles<'_> {

@@ -1,4 +1,4 @@
-//! What is said of the bytes that went through files: a line once a second, where somebody waits.
+//! What is said to people at a terminal: of the bytes that went through files a line once a second, and what is to be typed.
 
 use crate::progress::{CountedFiles, Progress, Tally};
 use std::alloc::Global;
@@ -49,7 +49,7 @@ fn said(rt: &HostRuntime, is_watched: bool, is_wanted: bool) -> Result<String, F
         readings: Cell::new(0),
         said: Cell::new(String::new(rt.alloc())),
     };
-    let tally = Tally::new(is_watched);
+    let tally = Tally::new(is_watched, true);
     let files = CountedFiles::new(&ticking, &tally);
     if is_wanted {
         files.say_progress();
@@ -75,5 +75,27 @@ fn says_once_a_second_how_many_bytes_there_were(rt: HostRuntime) -> Result<(), F
         let found = said(&rt, is_watched, is_wanted)?;
         assert_eq!(rt; found.as_str(), "");
     }
+    Ok(())
+}
+
+/// What is said of the input that is wanted.
+fn wanted(rt: &HostRuntime, is_typed: bool) -> String {
+    let ticking = Ticking {
+        alloc: rt.alloc(),
+        readings: Cell::new(0),
+        said: Cell::new(String::new(rt.alloc())),
+    };
+    let tally = Tally::new(true, is_typed);
+    CountedFiles::new(&ticking, &tally).say_wanted();
+    ticking.said.replace(String::new(rt.alloc()))
+}
+
+#[test]
+fn says_what_is_to_be_typed(rt: HostRuntime) -> Result<(), Fail> {
+    assert_eq!(rt;
+        wanted(&rt, true).as_str(),
+        "ctftrace: waiting for whole numbers from 0 to 255, one a line, up to the end of the input; `ctftrace help` says what else it does\n"
+    );
+    assert_eq!(rt; wanted(&rt, false).as_str(), "");
     Ok(())
 }

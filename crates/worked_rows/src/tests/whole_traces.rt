@@ -55,7 +55,7 @@ fn reads_each_file_as_far_as_its_packets_lie(rt: HostRuntime) -> Result<(), Fail
     Ok(())
 }
 
-fn read_files(alloc: Global, metadata: &str, files: &str) -> Result<ReadTrace, Fail> {
+pub fn read_files(alloc: Global, metadata: &str, files: &str) -> Result<ReadTrace, Fail> {
     let mut streams = Vec::new(alloc);
     for line in files.trim_start().lines() {
         let (name, digits) = line.split_once(": ").ok_or("a line without a file")?;
