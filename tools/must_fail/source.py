@@ -72,11 +72,25 @@ def beginning(plain, at):
 
 
 def owner_of(head):
-    """The type of an impl's head, without arguments, and the trait of it with the names of its arguments behind it, as rattle joins them."""
-    head = re.sub(r"^\s*(<(?:[^<>]|<[^<>]*>)*>)?", "", head.split(" where ")[0])
-    trait, _, kind = head.rpartition(" for ")
+    """The type of an impl's head, without arguments, and the trait of it with the names of its arguments behind it, as rattle joins them.
+    A type of which an argument is none of the impl's parameters has the names of its arguments behind it, too."""
+    head = head.split(" where ")[0]
+    parameters = re.match(r"\s*(<(?:[^<>]|<[^<>]*>)*>)?", head)[0]
+    trait, _, kind = head[len(parameters) :].rpartition(" for ")
     name, _, arguments = trait.partition("<")
-    return last_name(kind), last_name(name) + "".join(last_name(it) for it in re.sub(r"<[^<>]*>", "", arguments[:-1]).split(","))
+    return last_name(kind) + ("" if trait else own_arguments(kind, parameters)), last_name(name) + "".join(map(last_name, arguments_of(arguments[:-1])))
+
+
+def arguments_of(text):
+    """The arguments in a list, without their own."""
+    return re.sub(r"<[^<>]*>", "", text).split(",")
+
+
+def own_arguments(kind, parameters):
+    """What rattle puts behind the name of a type that a method without a trait belongs to."""
+    given = [last_name(it) for it in arguments_of(kind.strip().partition("<")[2][:-1]) if it.strip()]
+    taken = {last_name(it.split(":")[0]) for it in arguments_of(parameters.strip()[1:-1])}
+    return "" if all(it in taken or it == "_" for it in given) else "".join(f"+{it}" for it in given)
 
 
 def last_name(path):
