@@ -10,5 +10,6 @@ mod requests;
 mod sink_faults;
 mod stream_faults;
 mod streams;
+mod telling;
 mod traced;
 mod types;

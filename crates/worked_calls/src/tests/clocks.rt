@@ -1,9 +1,12 @@
 //! One clock for many threads: its readings are given once each, up to the quota of each seat.
 
+ghost use Rattle.std.specs.Prelude.{◌≡◌};
+ghost use Rattle.trace_clock.specs.Seats.{SameClock, clock_of, told_clock};
+
 use std::alloc::{AllocError, Global};
 use std::test::Fail;
 use std::thread;
-use trace_clock::{ClockFault, TickClock, TickSeat};
+use trace_clock::{ClockFault, TickClock, TickSeat, Told, join_all};
 use trace_platform::{Clock, ClockSpent};
 
 #[test]
@@ -61,5 +64,77 @@ fn gives_each_reading_to_one_thread(rt: HostRuntime) -> Result<(), Fail> {
     for i in 0..2000 {
         assert!(rt; all[i] == i as u64 + 5);
     }
+    Ok(())
+}
+
+/// A reading: the seat stays at its clock.
+fn reading(seat: &mut TickSeat) -> Result<u64, ClockSpent>
+    ensures { SameClock seat.old seat.new }
+{
+    seat.read()
+}
+
+/// A reading after what was told: the seat stays at its clock.
+fn reading_after(seat: &mut TickSeat, told: Told) -> Result<u64, ClockSpent>
+    requires { told_clock told ≡ clock_of seat.old }
+    ensures { SameClock seat.old seat.new }
+{
+    seat.read_after(told)
+}
+
+#[test]
+fn reads_after_what_was_told(rt: HostRuntime) -> Result<(), Fail> {
+    let alloc = rt.alloc();
+    let mut clock = TickClock::new(alloc, 0, 6)?;
+    let mut first = clock.seat(alloc, 3)?;
+    let mut second = clock.seat(alloc, 3)?;
+    assert!(rt; reading(&mut first) == Ok(0));
+    let told = first.tell(alloc)?;
+    assert!(rt; second.read_after(told) == Ok(1));
+    assert!(rt; first.read() == Ok(2));
+    Ok(())
+}
+
+#[test]
+fn refuses_after_being_told_where_the_quota_is_spent(rt: HostRuntime) -> Result<(), Fail> {
+    let alloc = rt.alloc();
+    let mut clock = TickClock::new(alloc, 0, 1)?;
+    let mut first = clock.seat(alloc, 1)?;
+    let mut second = clock.seat(alloc, 0)?;
+    let told = first.tell(alloc)?;
+    assert!(rt; second.read_after(told) == Err(ClockSpent));
+    assert!(rt; second.spent_count() == 1);
+    assert!(rt; first.read() == Ok(0));
+    Ok(())
+}
+
+#[test]
+fn a_seat_that_joins_brings_its_quota(rt: HostRuntime) -> Result<(), Fail> {
+    let alloc = rt.alloc();
+    let mut clock = TickClock::new(alloc, 0, 3)?;
+    let mut first = clock.seat(alloc, 2)?;
+    let mut second = clock.seat(alloc, 1)?;
+    assert!(rt; reading(&mut first) == Ok(0));
+    let told = first.tell(alloc)?;
+    assert!(rt; reading_after(&mut second, told) == Ok(1));
+    second.join(first);
+    assert!(rt; second.read() == Ok(2));
+    assert!(rt; second.read() == Err(ClockSpent));
+    Ok(())
+}
+
+#[test]
+fn all_seats_join_the_first(rt: HostRuntime) -> Result<(), Fail> {
+    let alloc = rt.alloc();
+    let mut clock = TickClock::new(alloc, 0, 3)?;
+    let first = clock.seat(alloc, 1)?;
+    let second = clock.seat(alloc, 1)?;
+    let third = clock.seat(alloc, 1)?;
+    let others = vec![in alloc; second, third]?;
+    let mut all = join_all(first, others);
+    assert!(rt; all.read() == Ok(0));
+    assert!(rt; all.read() == Ok(1));
+    assert!(rt; all.read() == Ok(2));
+    assert!(rt; all.read() == Err(ClockSpent));
     Ok(())
 }
