@@ -32,10 +32,11 @@ __attribute__((destructor)) static void write_count(void)
     }
 }
 
+/* A program may ask for memory in several threads. */
 static int is_refused(void)
 {
-    requests += 1;
-    if (refused_request == 0 || requests != refused_request)
+    long request = __atomic_add_fetch(&requests, 1, __ATOMIC_SEQ_CST);
+    if (refused_request == 0 || request != refused_request)
         return 0;
     if (refused_file)
         close(open(refused_file, O_CREAT | O_WRONLY, 0600));

@@ -10,12 +10,21 @@ mod progress;
 mod read_command;
 mod stream_files;
 mod trace_command;
+mod workers;
 
-use crate::progress::Progress;
+use std::io::{Eprint, Read, Write};
+use std::rt::{Clock, Files};
+use std::sync::Wait;
+use std::thread::Threads;
+use trace_commands::{CountedFiles, Tally, run};
 
-/// Tests are not told how far a command is, nor what it waits for.
-impl Progress for HostRuntime {
-    fn say_progress(&self) {}
-
-    fn say_wanted(&self) {}
+/// Runs what the words ask for, where nobody is told how far a command is, nor what it waits for.
+fn run_quietly<
+    X: Files + Clock + Eprint + AllocGlobal + Clone + Threads + Wait,
+    R: Read,
+    W: Write,
+    E: Write,
+>(rt: &X, words: &[&str], input: &mut R, output: &mut W, errors: &mut E) -> u8 {
+    let tally = Tally::new(false, false);
+    run(&CountedFiles::new(rt, &tally), words, input, output, errors)
 }

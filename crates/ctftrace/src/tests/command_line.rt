@@ -1,7 +1,7 @@
 //! The parts of commands, defaults filled in.
 
-use crate::command_line::command;
 use std::test::Fail;
+use trace_commands::command;
 
 /// Words, and the command that they ask for.
 static ROWS: &[(&[&str], &str)] = &[
@@ -21,7 +21,7 @@ static ROWS: &[(&[&str], &str)] = &[
     ),
     (
         &["trace", "c", "s", "d"],
-        "Trace(TraceCommand { config: \"c\", script: \"s\", folder: \"d\", packet_bytes: 4096, buffers: 4, uuid: None, is_quiet: false })",
+        "Trace(TraceCommand { config: \"c\", script: \"s\", folder: \"d\", packet_bytes: 4096, buffers: 4, uuid: None, is_quiet: false, workers: None })",
     ),
     (
         &[
@@ -34,7 +34,26 @@ static ROWS: &[(&[&str], &str)] = &[
             "+1024",
             "d",
         ],
-        "Trace(TraceCommand { config: \"c\", script: \"s\", folder: \"d\", packet_bytes: 16, buffers: 1024, uuid: None, is_quiet: true })",
+        "Trace(TraceCommand { config: \"c\", script: \"s\", folder: \"d\", packet_bytes: 16, buffers: 1024, uuid: None, is_quiet: true, workers: None })",
+    ),
+    (
+        &["trace", "c", "s", "d", "--workers"],
+        "Trace(TraceCommand { config: \"c\", script: \"s\", folder: \"d\", packet_bytes: 4096, buffers: 4, uuid: None, is_quiet: false, workers: Some(Quota { readings: 1000000 }) })",
+    ),
+    (
+        &[
+            "trace",
+            "--quota=288230376151711743",
+            "c",
+            "s",
+            "--workers",
+            "d",
+        ],
+        "Trace(TraceCommand { config: \"c\", script: \"s\", folder: \"d\", packet_bytes: 4096, buffers: 4, uuid: None, is_quiet: false, workers: Some(Quota { readings: 288230376151711743 }) })",
+    ),
+    (
+        &["trace", "c", "s", "d", "--quota", "0", "--workers"],
+        "Trace(TraceCommand { config: \"c\", script: \"s\", folder: \"d\", packet_bytes: 4096, buffers: 4, uuid: None, is_quiet: false, workers: Some(Quota { readings: 0 }) })",
     ),
     (
         &["read", "d", "--quiet"],

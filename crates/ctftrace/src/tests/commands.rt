@@ -1,6 +1,6 @@
 //! The rows of the commands: what is printed, what is said of faults, and the status.
 
-use crate::running::run;
+use crate::tests::run_quietly;
 use std::fs;
 use std::test::Fail;
 
@@ -87,7 +87,7 @@ fn answers_commands(rt: HostRuntime) -> Result<(), Fail> {
         let mut input = b"".as_slice();
         let mut printed = Vec::new(rt.alloc());
         let mut said = Vec::new(rt.alloc());
-        let answered = run(&rt, words, &mut input, &mut printed, &mut said);
+        let answered = run_quietly(&rt, words, &mut input, &mut printed, &mut said);
         fs::remove_file(&rt, "conf.json")?;
         assert_eq!(rt; printed.as_slice(), output.as_bytes(), "{words:?} prints");
         assert_eq!(rt; said.as_slice(), errors.as_bytes(), "{words:?} says");
@@ -102,7 +102,7 @@ fn prints_metadata(rt: HostRuntime) -> Result<(), Fail> {
     let mut input = b"".as_slice();
     let mut printed = Vec::new(rt.alloc());
     let mut said = Vec::new(rt.alloc());
-    let answered = run(
+    let answered = run_quietly(
         &rt,
         &["metadata", "small.json"],
         &mut input,
@@ -139,7 +139,6 @@ static LINES: &[(&[&str], u8)] = &[
         2,
     ),
     (&["trace", "c", "s", "d", "--buffers", "1025"], 2),
-    (&["trace", "c", "s", "d", "--workers"], 2),
     (&["trace", "c", "s", "d", "--quota", "1"], 2),
 ];
 
@@ -149,7 +148,7 @@ fn judges_the_command_line(rt: HostRuntime) -> Result<(), Fail> {
         let mut input = b"".as_slice();
         let mut printed = Vec::new(rt.alloc());
         let mut said = Vec::new(rt.alloc());
-        let answered = run(&rt, words, &mut input, &mut printed, &mut said);
+        let answered = run_quietly(&rt, words, &mut input, &mut printed, &mut said);
         assert_eq!(rt; answered, *status, "{words:?} ends with");
         assert_eq!(rt; printed.is_empty(), *status != 0, "{words:?} prints");
         assert_eq!(rt; said.is_empty(), *status == 0, "{words:?} says");

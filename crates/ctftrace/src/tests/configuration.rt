@@ -1,8 +1,8 @@
 //! The program's own configuration is what its JSON configures.
 
-use crate::small_configuration::small_config;
 use conf_check::configure;
 use std::test::Fail;
+use trace_commands::small_config;
 use tsdl_writer::write_metadata;
 
 /// One stream type `s` with one event record type `e`, whose payload is the number `v` of 8 bits.

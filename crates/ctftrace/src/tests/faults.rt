@@ -1,8 +1,8 @@
 //! Reads and writes that fail in mid-stream: the status is 3, and what was written is a front of the answer.
 
-use crate::first_path::first_path;
 use std::io::{Error, ErrorKind, Read, Result as IoResult, Write};
 use std::test::Fail;
+use trace_commands::first_path::first_path;
 
 /// The answer to the lines `1` and `2`.
 const OUTPUT: &str = "c11ffcc1800000007000000001020000\nread: 1 2\n";

@@ -1,19 +1,20 @@
 //! A write that fails while `trace` runs: the status is 3, a line names the file, and the file has a front of what it was to have.
 
-use crate::progress::Progress;
-use crate::running::run;
 use crate::tests::trace_command::{CLOCKED, CLOCKED_BYTES, CLOCKED_SCRIPT};
 use std::alloc::{Alloc, Allocator, Global};
 use std::cell::Cell;
-use std::fs::{self, File, FileTimes, Metadata, OpenFile, OpenOptions, Permissions};
+use std::fs::{self, FileTimes, Metadata, OpenFile, OpenOptions, Permissions};
 use std::io::{Error, ErrorKind, Read, Result as IoResult, Seek, SeekFrom, Write};
 use std::rt::Files;
+use std::sync::Wait;
 use std::test::Fail;
+use std::thread::Threads;
+use trace_commands::{Progress, run};
 
 /// The files of a runtime, of which the one at this path has room for so many bytes.
 #[derive(Clone, Copy)]
-struct NarrowFiles<'a> {
-    rt: &'a HostRuntime,
+struct NarrowFiles<'a, R> {
+    rt: &'a R,
     path: &'a str,
     room: usize,
     /// Whether it was to say how far a command is.
@@ -21,18 +22,18 @@ struct NarrowFiles<'a> {
 }
 
 #[derive(Drop)]
-struct NarrowFile {
-    file: File,
+struct NarrowFile<F> {
+    file: F,
     room: usize,
 }
 
-impl Read for NarrowFile {
+impl<F: Read> Read for NarrowFile<F> {
     fn read(&mut self, piece: &mut [u8]) -> IoResult<usize> {
         self.file.read(piece)
     }
 }
 
-impl Write for NarrowFile {
+impl<F: Write> Write for NarrowFile<F> {
     fn write(&mut self, bytes: &[u8]) -> IoResult<usize> {
         let most = bytes.len().min(self.room);
         if most == 0 {
@@ -48,13 +49,13 @@ impl Write for NarrowFile {
     }
 }
 
-impl Seek for NarrowFile {
+impl<F: Seek> Seek for NarrowFile<F> {
     fn seek(&mut self, to: SeekFrom) -> IoResult<u64> {
         self.file.seek(to)
     }
 }
 
-impl OpenFile for NarrowFile {
+impl<F: OpenFile> OpenFile for NarrowFile<F> {
     fn metadata(&self) -> IoResult<Metadata> {
         self.file.metadata()
     }
@@ -72,7 +73,7 @@ impl OpenFile for NarrowFile {
     }
 }
 
-impl Progress for NarrowFiles<'_> {
+impl<R> Progress for NarrowFiles<'_, R> {
     fn say_progress(&self) {
         self.is_asked.set(true);
     }
@@ -80,7 +81,11 @@ impl Progress for NarrowFiles<'_> {
     fn say_wanted(&self) {}
 }
 
-impl Alloc for NarrowFiles<'_> {
+impl<R: Threads> Threads for NarrowFiles<'_, R> {}
+
+impl<R: Wait> Wait for NarrowFiles<'_, R> {}
+
+impl<R: AllocGlobal> Alloc for NarrowFiles<'_, R> {
     type A = Global;
 
     fn alloc(&self) -> Global {
@@ -88,12 +93,12 @@ impl Alloc for NarrowFiles<'_> {
     }
 }
 
-impl Files for NarrowFiles<'_> {
-    type File = NarrowFile;
+impl<R: Files> Files for NarrowFiles<'_, R> {
+    type File = NarrowFile<R::File>;
 
-    type Dir = <HostRuntime as Files>::Dir;
+    type Dir = R::Dir;
 
-    fn open_file(&self, how: &OpenOptions, path: &str) -> IoResult<NarrowFile> {
+    fn open_file(&self, how: &OpenOptions, path: &str) -> IoResult<NarrowFile<R::File>> {
         let file = self.rt.open_file(how, path)?;
         let room = if path == self.path {
             self.room
@@ -103,7 +108,7 @@ impl Files for NarrowFiles<'_> {
         Ok(NarrowFile { file, room })
     }
 
-    fn open_dir(&self, path: &str) -> IoResult<<HostRuntime as Files>::Dir> {
+    fn open_dir(&self, path: &str) -> IoResult<R::Dir> {
         self.rt.open_dir(path)
     }
 
@@ -140,9 +145,20 @@ impl Files for NarrowFiles<'_> {
     }
 }
 
-/// Traces where the file at this path has room for so many bytes: what is printed, what is said, the status, and the bytes of the file.
-fn traced(
-    rt: &HostRuntime,
+/// The words of the command, behind which more may stand.
+const WORDS: [&str; 6] = [
+    "trace",
+    "narrow.json",
+    "narrow_script.json",
+    "narrow",
+    "--packet",
+    "64",
+];
+
+/// Traces with these words too where the file at this path has room for so many bytes: what is printed, what is said, the status, and the bytes of the file.
+fn traced<R: Files + AllocGlobal + Clone + Threads + Wait>(
+    rt: &R,
+    more: &[&str],
     path: &str,
     room: usize,
 ) -> Result<(Vec<u8>, Vec<u8>, u8, Vec<u8>), Fail> {
@@ -156,14 +172,9 @@ fn traced(
     let mut input = b"".as_slice();
     let mut printed = Vec::new(rt.alloc());
     let mut said = Vec::new(rt.alloc());
-    let words = [
-        "trace",
-        "narrow.json",
-        "narrow_script.json",
-        "narrow",
-        "--packet",
-        "64",
-    ];
+    let mut words = Vec::new(rt.alloc());
+    words.extend_from_slice(WORDS.as_slice())?;
+    words.extend_from_slice(more)?;
     let status = run(
         &files,
         words.as_slice(),
@@ -176,38 +187,63 @@ fn traced(
     Ok((printed, said, status, bytes))
 }
 
+/// What is printed, said and written where the file of the stream has room for so many bytes of these.
+struct Row {
+    words: &'static [&'static str],
+    /// What is printed where the file takes all.
+    whole: &'static str,
+    /// What is printed where it does not.
+    torn: &'static str,
+    bytes: &'static str,
+}
+
+static ROWS: &[Row] = &[
+    Row {
+        words: &[],
+        whole: "0 Accepted 10\n1 Accepted 11\n2 Done\n3 Took 0\n",
+        torn: "0 Accepted 10\n1 Accepted 11\n2 Done\n3 Faulted\n",
+        bytes: CLOCKED_BYTES,
+    },
+    Row {
+        words: &["--workers"],
+        whole: "t0 0 Accepted 0\nt0 1 Accepted 1\nt0 2 Done\n",
+        torn: "t0 0 Accepted 0\nt0 1 Accepted 1\nt0 2 Done\n",
+        bytes: "c1fc1fc102000188000000000000000000000000000000020000000000000000000000fffe0100000000000000016f6b00000000000000000000000000000000",
+    },
+];
+
 #[test]
 fn says_which_file_takes_no_more(rt: HostRuntime) -> Result<(), Fail> {
-    let whole = hex::decode(rt.alloc(), CLOCKED_BYTES)?;
     fs::write(&rt, "narrow.json", CLOCKED)?;
     fs::write(&rt, "narrow_script.json", CLOCKED_SCRIPT)?;
-    for room in [0, 1, 17, 63] {
-        let (printed, said, status, bytes) = traced(&rt, "narrow/t0", room)?;
-        assert_eq!(rt; status, 3, "room for {room} bytes");
-        assert_eq!(rt;
-            printed.as_slice(),
-            b"0 Accepted 10\n1 Accepted 11\n2 Done\n3 Faulted\n".as_slice(),
-            "room for {room} bytes"
-        );
-        assert_eq!(rt;
-            said.as_slice(),
-            b"ctftrace: narrow/t0: a write failed\n".as_slice(),
-            "room for {room} bytes"
-        );
-        assert_eq!(rt;
-            bytes.as_slice(),
-            &whole.as_slice()[..room.min(whole.len())],
-            "room for {room} bytes"
-        );
+    for row in ROWS {
+        let whole = hex::decode(rt.alloc(), row.bytes)?;
+        for room in [0, 1, 17, 63, 64] {
+            let (printed, said, status, bytes) = traced(&rt, row.words, "narrow/t0", room)?;
+            let (output, errors, ends) = if room < whole.len() {
+                (row.torn, "ctftrace: narrow/t0: a write failed\n", 3)
+            } else {
+                (row.whole, "", 0)
+            };
+            let words = row.words;
+            assert_eq!(rt; status, ends, "room for {room} bytes, {words:?}");
+            assert_eq!(rt;
+                printed.as_slice(),
+                output.as_bytes(),
+                "room for {room} bytes, {words:?}"
+            );
+            assert_eq!(rt;
+                said.as_slice(),
+                errors.as_bytes(),
+                "room for {room} bytes, {words:?}"
+            );
+            assert_eq!(rt;
+                bytes.as_slice(),
+                &whole.as_slice()[..room.min(whole.len())],
+                "room for {room} bytes, {words:?}"
+            );
+        }
     }
-    let (printed, said, status, bytes) = traced(&rt, "narrow/t0", 64)?;
-    assert_eq!(rt; status, 0);
-    assert_eq!(rt;
-        printed.as_slice(),
-        b"0 Accepted 10\n1 Accepted 11\n2 Done\n3 Took 0\n".as_slice()
-    );
-    assert!(rt; said.is_empty());
-    assert_eq!(rt; bytes.as_slice(), whole.as_slice());
     Ok(())
 }
 
@@ -215,7 +251,7 @@ fn says_which_file_takes_no_more(rt: HostRuntime) -> Result<(), Fail> {
 fn says_that_the_metadata_takes_no_more(rt: HostRuntime) -> Result<(), Fail> {
     fs::write(&rt, "narrow.json", CLOCKED)?;
     fs::write(&rt, "narrow_script.json", CLOCKED_SCRIPT)?;
-    let (printed, said, status, bytes) = traced(&rt, "narrow/metadata", 12)?;
+    let (printed, said, status, bytes) = traced(&rt, &[], "narrow/metadata", 12)?;
     assert_eq!(rt; status, 3);
     assert!(rt; printed.is_empty());
     assert_eq!(rt;
@@ -227,7 +263,10 @@ fn says_that_the_metadata_takes_no_more(rt: HostRuntime) -> Result<(), Fail> {
 }
 
 /// Whether these words ask for progress, and their status.
-fn asks_for_progress(rt: &HostRuntime, words: &[&str]) -> (bool, u8) {
+fn asks_for_progress<R: Files + AllocGlobal + Clone + Threads + Wait>(
+    rt: &R,
+    words: &[&str],
+) -> (bool, u8) {
     let is_asked = Cell::new(false);
     let files = NarrowFiles {
         rt,

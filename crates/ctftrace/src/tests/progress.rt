@@ -1,12 +1,12 @@
 //! What is said to people at a terminal: of the bytes that went through files a line once a second, and what is to be typed.
 
-use crate::progress::{CountedFiles, Progress, Tally};
 use std::alloc::Global;
 use std::cell::Cell;
 use std::fmt::Display;
 use std::io::{Eprint, Read, Result as IoResult, Write};
 use std::test::Fail;
 use std::time::{Clock, Duration};
+use trace_commands::{CountedFiles, Progress, Tally};
 
 /// A clock that goes on by half a second with each reading, and what was said.
 #[derive(Drop)]

@@ -1,12 +1,14 @@
 //! The rows of `read`: what is printed of a folder, what is said of faults, and the status.
 
-use crate::progress::Progress;
-use crate::running::run;
-use crate::small_configuration::small_config;
+use crate::tests::run_quietly;
 use std::fs;
+use std::io::Eprint;
 use std::process::Abort;
-use std::rt::Files;
+use std::rt::{Clock, Files};
+use std::sync::Wait;
 use std::test::Fail;
+use std::thread::Threads;
+use trace_commands::small_config;
 use trace_platform::StoppingWriter;
 use tsdl_writer::write_metadata;
 
@@ -81,7 +83,7 @@ fn make_folder(
 }
 
 /// What the program says of words that ask for a folder, and its status.
-fn answers<X: Files + Progress + AllocGlobal + Clone + Drop + Abort>(
+fn answers<X: Files + Clock + Eprint + AllocGlobal + Clone + Drop + Abort + Threads + Wait>(
     rt: &X,
     words: &[&str],
     output: &str,
@@ -91,7 +93,7 @@ fn answers<X: Files + Progress + AllocGlobal + Clone + Drop + Abort>(
     let mut input = b"".as_slice();
     let mut printed = Vec::new(rt.alloc());
     let mut said = Vec::new(rt.alloc());
-    let answered = run(rt, words, &mut input, &mut printed, &mut said);
+    let answered = run_quietly(rt, words, &mut input, &mut printed, &mut said);
     assert_eq!(rt;
         String::from_utf8(printed)?.as_str(),
         output,
@@ -166,7 +168,7 @@ fn prints_a_front_where_a_write_fails(rt: HostRuntime) -> Result<(), Fail> {
         let mut input = b"".as_slice();
         let mut printed = StoppingWriter::new(rt.alloc(), room, 7);
         let mut said = Vec::new(rt.alloc());
-        let answered = run(&rt, &["read", "front"], &mut input, &mut printed, &mut said);
+        let answered = run_quietly(&rt, &["read", "front"], &mut input, &mut printed, &mut said);
         let all = room >= whole.len();
         assert_eq!(rt; answered, if all { 0 } else { 3 }, "room for {room} bytes");
         let front = &whole.as_bytes()[..room.min(whole.len())];

@@ -1,11 +1,10 @@
 //! What a reader finds in bytes that a tracer did not write so.
 
-use crate::first_path::read_bytes;
-use crate::packets::trace_packet;
-use crate::small_configuration::small_config;
 use std::alloc::Global;
 use std::process::Abort;
 use std::test::Fail;
+use trace_commands::first_path::read_bytes;
+use trace_commands::{small_config, trace_packet};
 
 /// What the row shows, the file in hexadecimal, how many records each packet has, and how the file ends.
 const ROWS: [(&str, &str, &str, &str); 7] = [

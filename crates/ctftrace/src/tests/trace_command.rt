@@ -1,11 +1,13 @@
 //! The rows of `trace`: what is printed, what is said of faults, the status, and what then stands in the folder.
 
-use crate::progress::Progress;
-use crate::running::run;
+use crate::tests::run_quietly;
 use std::fs;
+use std::io::Eprint;
 use std::process::Abort;
-use std::rt::Files;
+use std::rt::{Clock, Files};
+use std::sync::Wait;
 use std::test::Fail;
+use std::thread::Threads;
 
 /// One stream type with one event record type of a byte.
 const SMALL: &str =
@@ -253,7 +255,7 @@ fn traces(rt: HostRuntime) -> Result<(), Fail> {
         let mut input = b"".as_slice();
         let mut printed = Vec::new(rt.alloc());
         let mut said = Vec::new(rt.alloc());
-        let status = run(&rt, words.as_slice(), &mut input, &mut printed, &mut said);
+        let status = run_quietly(&rt, words.as_slice(), &mut input, &mut printed, &mut said);
         assert_eq!(rt;
             printed.as_slice(),
             row.output.as_bytes(),
@@ -275,7 +277,7 @@ fn traces(rt: HostRuntime) -> Result<(), Fail> {
 }
 
 /// What stands in the folder is what the row says. The folder is removed.
-fn check_left<X: Files + Progress + AllocGlobal + Clone + Drop + Abort>(
+fn check_left<X: Files + Clock + Eprint + AllocGlobal + Clone + Drop + Abort + Threads + Wait>(
     rt: &X,
     row: &Row,
 ) -> Result<(), Fail> {
@@ -315,14 +317,14 @@ fn check_files<X: Files + AllocGlobal + Clone + Drop + Abort>(
 }
 
 /// The metadata is what the command that prints it prints.
-fn check_metadata<X: Files + Progress + AllocGlobal + Clone + Drop + Abort>(
+fn check_metadata<X: Files + Clock + Eprint + AllocGlobal + Clone + Drop + Abort + Threads + Wait>(
     rt: &X,
     row: &Row,
 ) -> Result<(), Fail> {
     let mut input = b"".as_slice();
     let mut printed = Vec::new(rt.alloc());
     let mut said = Vec::new(rt.alloc());
-    let status = run(
+    let status = run_quietly(
         rt,
         &["metadata", "conf.json"],
         &mut input,

@@ -1,0 +1,256 @@
+-- The workers of a script's streams: their clock, their acts, and the lines of what they were told.
+use Rattle.std.proofs.Common.{◌≡◌, ◌<◌, ◌≤◌, ◌+◌, ◌*◌, ◌^◌, ℕ, zero, suc, Bool, true, false, ◌&&◌, if◌then◌else◌, List, [], ◌∷◌, ◌++◌, Option, None, Some, length, take, nat_eq, nat_lt, refl, sym, subst, ap, ap₂, ◌∙◌, append_assoc, append-nil, add-one, arith}
+use Rattle.std.proofs.Math.Nat.{mul-suc, mul-le-mul, mul-le-mul_left}
+use Rattle.std.proofs.lemmas.Bool.Decides.{nat_tests}
+use Rattle.std.proofs.lemmas.Option.{same_Some}
+use Rattle.std.proofs.lemmas.List.Elements.{All-nil, All-cons}
+use Rattle.std.specs.Prelude.{slice_get}
+use Rattle.std.specs.Global.{Vec}
+use Rattle.std.specs.List.{All}
+use Rattle.std.specs.Option.{option_or, unwrap_or}
+use Rattle.ctf_types.specs.declared.Config.{Config}
+use Rattle.packet_ring.specs.Handing.{bytes_of}
+use Rattle.thread_stream.specs.declared.stream_fault.StreamFault.{StreamFault}
+use Rattle.thread_stream.specs.declared.stream_fault.StreamFault.TheVariants.{OutOfMemory}
+use Rattle.thread_stream.specs.Starting.{start_fault}
+use Rattle.trace_clock.specs.declared.tick_seat.TickSeat.{TickSeat}
+use Rattle.trace_clock.specs.Seats.{IsNew, SameClock}
+use Rattle.trace_platform.specs.declared.writer_sink.WriterSink.{WriterSink}
+use Rattle.trace_stack.specs.declared.answer.Answer.{Answer}
+use Rattle.trace_stack.specs.declared.event.Act.{Act}
+use Rattle.trace_stack.specs.declared.event.Act.TheVariants as act
+use Rattle.trace_stack.specs.declared.event.Event.{Event}
+use Rattle.trace_stack.specs.declared.names.NameFault.TheVariants.{BadName, SameName, TooMany}
+use Rattle.trace_stack.specs.declared.worker.Worker.{Worker}
+use Rattle.trace_stack.specs.StreamNames.{name_fault, is_stream_name, is_taken}
+use Rattle.trace_stack.specs.Workers.{IsWorker, first_fault}
+use Rattle.trace_stack.specs.Working.{IsOfStream}
+use Rattle.trace_stack.proofs.Fronts.{take-more}
+use Rattle.trace_text.specs.declared.script.Script.{Script}
+use Rattle.trace_text.specs.declared.script.ScriptStream.{ScriptStream}
+use Rattle.trace_text.specs.Names.{first_refused}
+use Rattle.std.proofs.lemmas.List.{length-map}
+use Rattle.trace_commands.specs.declared.recording.Sizes.{Sizes}
+use Rattle.trace_commands.specs.Tracing.{AreFree, IsBadStream, stream_names}
+use Rattle.trace_commands.specs.Workers.{AreWorkers, IsWorkerOf, acts_of, answers_at, is_of_stream, named_line, named_lines, stream_lines}
+use Rattle.trace_commands.proofs.SessionLaws.{free_first}
+
+-- ---- few streams
+
+room_left : (before : List (List ℕ)) (name : List ℕ) → name_fault before name ≡ None → length before < 64
+room_left before name h = go (is_stream_name name) (is_taken before name) (nat_lt (length before) 64) refl h
+  where
+    go : (a b c : Bool) → nat_lt (length before) 64 ≡ c
+        → (if a then (if b then Some SameName else (if c then None else Some TooMany)) else Some BadName) ≡ None → length before < 64
+    go true true c e h = absurd (let k : Some SameName ≡ None = h in cc)
+    go true false true e h = grind (arith, nat_tests)
+    go true false false e h = absurd (let k : Some TooMany ≡ None = h in cc)
+    go false b c e h = absurd (let k : Some BadName ≡ None = h in cc)
+
+length_push : {X : Type 0} (xs : List X) (x : X) → length (xs ++ x ∷ []) ≡ length xs + 1
+length_push [] x = refl
+length_push (y ∷ xs) x = let more = length_push xs x in omega (arith, more)
+
+free_few : (before : List (List ℕ)) (i : ℕ) (names : List (List ℕ)) → length before ≤ 64 → first_refused before i names ≡ None → length before + length names ≤ 64
+free_few before i [] low h = omega (arith, low)
+free_few before i (name ∷ names) low h =
+    let free = free_first before i name names h in
+    let room = room_left before name free.0 in
+    let longer : length (before ++ name ∷ []) ≡ length before + 1 = length_push before name in
+    let more = free_few (before ++ name ∷ []) (suc i) names (omega (arith, room, longer)) free.1 in
+    omega (arith, more, longer)
+
+pub few_streams : (s : Script) → AreFree s → length s.streams ≤ 64
+few_streams s free =
+    let few = free_few [] 0 (stream_names s) (omega arith) free in
+    let same = length-map s.streams (λ (x : ScriptStream). x.name) in
+    omega (arith, few, same)
+
+-- as many readings as a quota for each have 64 bits
+pub few_readings : (s : Script) (q : ℕ) → AreFree s → q < 2 ^ 58 → q * length s.streams < 2 ^ 64
+few_readings s q free low =
+    let few = few_streams s free in
+    let below : q ≤ 288230376151711743 = omega (arith, low) in
+    let most = mul-le-mul below few in
+    omega (arith, most)
+
+-- ---- seats
+
+-- a quota is left for each worker that is to come
+pub share_left : (q i n left : ℕ) → left + q * i ≡ q * n → i < n → q ≤ left
+share_left q i n left e low =
+    let up : suc i ≤ n = omega (arith, low) in
+    let more = mul-le-mul_left q up in
+    let next = mul-suc q i in
+    omega (arith, e, more, next)
+
+share_taken : (q i n left less : ℕ) → left + q * i ≡ q * n → less + q ≡ left → less + q * (i + 1) ≡ q * n
+share_taken q i n left less e step = rw add-one (let next = mul-suc q i in omega (arith, e, step, next))
+
+same_clock : (a b c : TickSeat) → SameClock a b → SameClock b c → SameClock a c
+same_clock a b c p q = (q.0 ∙ p.0, q.1 ∙ p.1)
+
+new_of_same : (a b : TickSeat) (q : ℕ) (s : TickSeat) → SameClock a b → IsNew b q s → IsNew a q s
+new_of_same a b q s same new = (same_clock a b s same new.0, new.1, new.2, new.3)
+
+-- ---- acts
+
+length_take : {X : Type 0} (xs : List X) (i : ℕ) (x : X) → slice_get xs i ≡ Some x → length (take i xs) ≡ i
+length_take [] i x e = absurd (let k : None ≡ Some x = e in cc)
+length_take (y ∷ xs) zero x e = refl
+length_take (y ∷ xs) (suc i) x e = ap suc (length_take xs i x e)
+
+both_true : (a b : Bool) → (a && b) ≡ true → b ≡ true
+both_true true b e = e
+both_true false b e = absurd (let k : false ≡ true = e in cc)
+
+of_stream : (a : Act) → is_of_stream a ≡ true → IsOfStream a
+of_stream (act.Trace event args) e = tt
+of_stream act.OpenPacket e = tt
+of_stream act.ClosePacket e = tt
+of_stream act.Collect e = absurd (let k : false ≡ true = e in cc)
+of_stream (act.Enable enabled) e = tt
+of_stream (act.Extras extras) e = tt
+
+acts_alone : (n : ℕ) (es : List Event) → All IsOfStream (acts_of n es)
+acts_alone n [] = All-nil IsOfStream
+acts_alone n (e ∷ es) = go (nat_eq e.stream n && is_of_stream e.act) refl (acts_alone n es)
+  where
+    go : (b : Bool) → (nat_eq e.stream n && is_of_stream e.act) ≡ b → All IsOfStream (acts_of n es) → All IsOfStream (if b then e.act ∷ acts_of n es else acts_of n es)
+    go true is rest = All-cons IsOfStream e.act (acts_of n es) (of_stream e.act (both_true (nat_eq e.stream n) (is_of_stream e.act) is)) rest
+    go false is rest = rest
+
+-- ---- one worker more
+
+module _ {File : Type 0} where
+  one_more : (clock : TickSeat) (q : ℕ) (z : Sizes) (es : List Event) (n : ℕ) (ss : List ScriptStream) (ws : List (Worker (WriterSink File))) (s : ScriptStream)
+      (w : Worker (WriterSink File)) → AreWorkers clock q z es n ss ws → IsNew clock q w.seat → IsWorkerOf z es (n + length ss) s w
+      → AreWorkers clock q z es n (ss ++ s ∷ []) (ws ++ w ∷ [])
+  one_more clock q z es n [] [] s w h new is = (new, subst (λ m. IsWorkerOf z es m s w) (let e : n + 0 ≡ n = omega arith in e) is, tt)
+  one_more clock q z es n [] (x ∷ ws) s w h new is = absurd h
+  one_more clock q z es n (t ∷ ss) [] s w h new is = absurd h
+  one_more clock q z es n (t ∷ ss) (x ∷ ws) s w h new is =
+      (h.0, h.1, one_more clock q z es (suc n) ss ws s w h.2 new (subst (λ m. IsWorkerOf z es m s w) (let e : n + suc (length ss) ≡ suc n + length ss = omega arith in e) is))
+
+  -- all of the first i streams have their workers, and the clock has a quota for each of the others
+  pub record Standing (first clock : TickSeat) (left : ℕ) (q : ℕ) (z : Sizes) (es : List Event) (ss : List ScriptStream) (i : ℕ) (ws : List (Worker (WriterSink File))) : Type 0 where
+    pub same : SameClock first clock
+    pub shares : left + q * i ≡ q * length ss
+    pub workers : AreWorkers first q z es 0 (take i ss) ws
+
+  pub standing_one : (first clock after : TickSeat) (left less : ℕ) (q : ℕ) (z : Sizes) (es : List Event) (ss : List ScriptStream) (i : ℕ) (ws : List (Worker (WriterSink File)))
+      (s : ScriptStream) (w : Worker (WriterSink File)) → Standing first clock left q z es ss i ws → slice_get ss i ≡ Some s → SameClock clock after → less + q ≡ left
+      → IsNew clock q w.seat → IsWorkerOf z es i s w → Standing first after less q z es ss (i + 1) (ws ++ w ∷ [])
+  standing_one first clock after left less q z es ss i ws s w h at same step new is = record {
+    same = same_clock first clock after h.same same;
+    shares = share_taken q i (length ss) left less h.shares step;
+    workers = subst (λ l. AreWorkers first q z es 0 l (ws ++ w ∷ [])) (sym (take-more ss i s at))
+        (one_more first q z es 0 (take i ss) ws s w h.workers (new_of_same first clock q w.seat h.same new)
+        (subst (λ m. IsWorkerOf z es m s w) (let e : i ≡ 0 + length (take i ss) = (let taken = length_take ss i s at in omega (arith, taken)) in e) is));
+  }
+
+  -- ---- what the threads want
+
+  pub can_work : (clock : TickSeat) (q : ℕ) (z : Sizes) (es : List Event) (n : ℕ) (ss : List ScriptStream) (ws : List (Worker (WriterSink File)))
+      → AreWorkers clock q z es n ss ws → All IsWorker ws
+  can_work clock q z es n [] [] h = All-nil IsWorker
+  can_work clock q z es n [] (w ∷ ws) h = absurd h
+  can_work clock q z es n (s ∷ ss) [] h = absurd h
+  can_work clock q z es n (s ∷ ss) (w ∷ ws) h =
+      All-cons IsWorker w ws (h.1.unused, subst (All IsOfStream) (sym h.1.acts) (acts_alone n es)) (can_work clock q z es (suc n) ss ws h.2)
+
+  -- ---- refusals
+
+  fault_at : (c : Config) (z : Sizes) (es : List Event) (n : ℕ) (s : ScriptStream) (w : Worker (WriterSink File)) → IsWorkerOf z es n s w
+      → start_fault c w.type_name (bytes_of w.back_end) w.extras ≡ start_fault c s.type_name z.bytes s.extras
+  fault_at c z es n s w is =
+      subst (λ x. start_fault c w.type_name (bytes_of w.back_end) w.extras ≡ start_fault c x z.bytes s.extras) is.type_name
+      (subst (λ x. start_fault c w.type_name (bytes_of w.back_end) w.extras ≡ start_fault c w.type_name x s.extras) is.places.2
+      (ap (λ x. start_fault c w.type_name (bytes_of w.back_end) x) is.extras))
+
+  refused : (c : Config) (clock : TickSeat) (q : ℕ) (z : Sizes) (es : List Event) (n : ℕ) (ss : List ScriptStream) (ws : List (Worker (WriterSink File))) (fault : StreamFault)
+      → AreWorkers clock q z es n ss ws → first_fault c ws ≡ Some fault → IsBadStream c z.bytes ss
+  refused c clock q z es n [] [] fault h e = absurd (let k : None ≡ Some fault = e in cc)
+  refused c clock q z es n [] (w ∷ ws) fault h e = absurd h
+  refused c clock q z es n (s ∷ ss) [] fault h e = absurd h
+  refused c clock q z es n (s ∷ ss) (w ∷ ws) fault h e = go (start_fault c s.type_name z.bytes s.extras) refl (subst (λ o. option_or o (first_fault c ws) ≡ Some fault) (fault_at c z es n s w h.1) e)
+      (λ later. refused c clock q z es (suc n) ss ws fault h.2 later)
+    where
+      go : (o : Option StreamFault) → start_fault c s.type_name z.bytes s.extras ≡ o → option_or o (first_fault c ws) ≡ Some fault
+          → (first_fault c ws ≡ Some fault → IsBadStream c z.bytes ss) → IsBadStream c z.bytes (s ∷ ss)
+      go (Some f) is e rest = record {
+        before = [];
+        stream = s;
+        behind = ss;
+        there = refl;
+        fault = f;
+        none_before = All-nil (λ (x : ScriptStream). start_fault c x.type_name z.bytes x.extras ≡ None);
+        first = is;
+      }
+      go None is e rest =
+          let later = rest e in
+          record {
+            before = s ∷ later.before;
+            stream = later.stream;
+            behind = later.behind;
+            there = ap (λ l. s ∷ l) later.there;
+            fault = later.fault;
+            none_before = All-cons (λ (x : ScriptStream). start_fault c x.type_name z.bytes x.extras ≡ None) s later.before is later.none_before;
+            first = later.first;
+          }
+
+  -- a fault that is no want of memory is the first stream's that has one
+  pub bad_stream : (c : Config) (clock : TickSeat) (q : ℕ) (z : Sizes) (es : List Event) (ss : List ScriptStream) (ws : List (Worker (WriterSink File))) (fault : StreamFault)
+      → AreWorkers clock q z es 0 ss ws → fault ≡ unwrap_or (first_fault c ws) OutOfMemory → (fault ≡ OutOfMemory → ⊥) → IsBadStream c z.bytes ss
+  bad_stream c clock q z es ss ws fault h e innocent = go (first_fault c ws) refl e
+    where
+      go : (o : Option StreamFault) → first_fault c ws ≡ o → fault ≡ unwrap_or o OutOfMemory → IsBadStream c z.bytes ss
+      go None is e = absurd (innocent e)
+      go (Some f) is e = refused c clock q z es 0 ss ws f h is
+
+-- ---- lines
+
+named_suc : (name : List ℕ) (n : ℕ) (answers : List Answer) (i : ℕ) (a : Answer) → slice_get answers i ≡ Some a
+    → named_lines name n (take (suc i) answers) ≡ named_lines name n (take i answers) ++ named_line name (n + i) a
+named_suc name n [] i a at = absurd (let k : None ≡ Some a = at in cc)
+named_suc name n (x ∷ answers) zero a at =
+    let same : x ≡ a = same_Some x a at in
+    append-nil (named_line name n x) ∙ ap (λ y. named_line name n y) same ∙ ap (λ m. named_line name m a) (let e : n ≡ n + 0 = omega arith in e)
+named_suc name n (x ∷ answers) (suc i) a at =
+    ap (λ l. named_line name n x ++ l) (named_suc name (suc n) answers i a at)
+    ∙ sym (append_assoc (named_line name n x) (named_lines name (suc n) (take i answers)) (named_line name (suc n + i) a))
+    ∙ ap (λ m. (named_line name n x ++ named_lines name (suc n) (take i answers)) ++ named_line name m a) (let e : suc n + i ≡ n + suc i = omega arith in e)
+
+-- one line more of a stream
+pub named_more : (name : List ℕ) (answers : List Answer) (i : ℕ) (a : Answer) → slice_get answers i ≡ Some a
+    → named_lines name 0 (take (i + 1) answers) ≡ named_lines name 0 (take i answers) ++ named_line name i a
+named_more name answers i a at =
+    rw add-one (named_suc name 0 answers i a at ∙ ap (λ m. named_lines name 0 (take i answers) ++ named_line name m a) (let e : 0 + i ≡ i = omega arith in e))
+
+streams_suc : (ss : List ScriptStream) (rs : List (Vec Answer)) (i : ℕ) (s : ScriptStream) (r : Vec Answer) → slice_get ss i ≡ Some s → slice_get rs i ≡ Some r
+    → stream_lines (take (suc i) ss) rs ≡ stream_lines (take i ss) rs ++ named_lines s.name 0 r.items
+streams_suc [] rs i s r at found = absurd (let k : None ≡ Some s = at in cc)
+streams_suc (x ∷ ss) [] i s r at found = absurd (let k : None ≡ Some r = found in cc)
+streams_suc (x ∷ ss) (y ∷ rs) zero s r at found =
+    append-nil (named_lines x.name 0 y.items)
+    ∙ ap₂ (λ (a : ScriptStream) (b : Vec Answer). named_lines a.name 0 b.items) (same_Some x s at) (same_Some y r found)
+streams_suc (x ∷ ss) (y ∷ rs) (suc i) s r at found =
+    ap (λ l. named_lines x.name 0 y.items ++ l) (streams_suc ss rs i s r at found)
+    ∙ sym (append_assoc (named_lines x.name 0 y.items) (stream_lines (take i ss) rs) (named_lines s.name 0 r.items))
+
+streams_end : (ss : List ScriptStream) (rs : List (Vec Answer)) (i : ℕ) → slice_get rs i ≡ None → stream_lines (take (suc i) ss) rs ≡ stream_lines (take i ss) rs
+streams_end [] rs zero found = refl
+streams_end [] rs (suc i) found = refl
+streams_end (x ∷ ss) [] zero found = refl
+streams_end (x ∷ ss) [] (suc i) found = refl
+streams_end (x ∷ ss) (y ∷ rs) zero found = absurd (let k : Some y ≡ None = found in cc)
+streams_end (x ∷ ss) (y ∷ rs) (suc i) found = ap (λ l. named_lines x.name 0 y.items ++ l) (streams_end ss rs i found)
+
+-- the lines of one stream more
+pub streams_more : (ss : List ScriptStream) (rs : List (Vec Answer)) (i : ℕ) (s : ScriptStream) → slice_get ss i ≡ Some s
+    → stream_lines (take (i + 1) ss) rs ≡ stream_lines (take i ss) rs ++ named_lines s.name 0 (answers_at (slice_get rs i))
+streams_more ss rs i s at = rw add-one (go (slice_get rs i) refl)
+  where
+    go : (o : Option (Vec Answer)) → slice_get rs i ≡ o → stream_lines (take (suc i) ss) rs ≡ stream_lines (take i ss) rs ++ named_lines s.name 0 (answers_at o)
+    go (Some r) found = streams_suc ss rs i s r at found
+    go None found = streams_end ss rs i found ∙ sym (append-nil (stream_lines (take i ss) rs))

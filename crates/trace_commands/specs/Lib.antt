@@ -1,0 +1,16 @@
+pub mod AnswerLines
+pub mod Checking
+pub mod CommandLine
+pub mod FirstPath
+pub mod LineFaults
+pub mod Lines
+pub mod ListSessions
+pub mod Printed
+pub mod ProgramWords
+pub mod Reading
+pub mod Running
+pub mod Shown
+pub mod SmallConfiguration
+pub mod Telling
+pub mod Tracing
+pub mod Workers

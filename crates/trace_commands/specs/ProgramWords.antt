@@ -1,0 +1,78 @@
+-- The words that the program knows, as its parser of command lines sees them: a command of the program has a name, words that it needs in
+-- their order (CONFIG, SCRIPT, DIR), and options with or without a value.
+use Rattle.std.specs.Prelude.{List, [], ◌∷◌, Some, true, codes}
+use Rattle.clap.specs.Words.{App, Rule, Shape, Text, new_rule, with_subcommand}
+use Rattle.clap.specs.Simple.{new_shape}
+use Rattle.clap.specs.declared.builder.action.ArgAction.TheVariants.{SetTrue}
+
+-- a word that is needed at its place
+abbrev pub needed : Text → Rule
+needed id = record (new_rule id) { value_names = 1; required = true }
+
+-- an option with a value, named as its long form is
+abbrev pub valued : Text → Rule
+valued id = record (new_rule id) { long = Some id; value_names = 1 }
+
+abbrev pub config : Rule
+config = needed (codes "config")
+
+abbrev pub script : Rule
+script = needed (codes "script")
+
+abbrev pub folder : Rule
+folder = needed (codes "folder")
+
+abbrev pub packet : Rule
+packet = record (valued (codes "packet")) { defaults = codes "4096" ∷ [] }
+
+abbrev pub buffers : Rule
+buffers = record (valued (codes "buffers")) { defaults = codes "4" ∷ [] }
+
+abbrev pub uuid : Rule
+uuid = valued (codes "uuid")
+
+abbrev pub quiet : Rule
+quiet = record (new_rule (codes "quiet")) { long = Some (codes "quiet"); action = Some SetTrue }
+
+abbrev pub workers : Rule
+workers = record (new_rule (codes "workers")) { long = Some (codes "workers"); action = Some SetTrue }
+
+abbrev pub quota : Rule
+quota = valued (codes "quota")
+
+abbrev pub shape_with : Text → List Rule → Shape
+shape_with name rules = record (new_shape name) { rules = rules }
+
+abbrev pub check : Shape
+check = shape_with (codes "check") (config ∷ [])
+
+abbrev pub metadata : Shape
+metadata = shape_with (codes "metadata") (config ∷ uuid ∷ [])
+
+abbrev pub trace_places : Shape
+trace_places = shape_with (codes "trace") (config ∷ script ∷ folder ∷ [])
+
+abbrev pub trace_sizes : Shape
+trace_sizes = shape_with (codes "trace") (config ∷ script ∷ folder ∷ packet ∷ buffers ∷ [])
+
+abbrev pub trace_wishes : Shape
+trace_wishes = shape_with (codes "trace") (config ∷ script ∷ folder ∷ packet ∷ buffers ∷ uuid ∷ quiet ∷ [])
+
+abbrev pub trace : Shape
+trace = shape_with (codes "trace") (config ∷ script ∷ folder ∷ packet ∷ buffers ∷ uuid ∷ quiet ∷ workers ∷ quota ∷ [])
+
+abbrev pub read : Shape
+read = shape_with (codes "read") (folder ∷ quiet ∷ [])
+
+-- the program's own settings: the first word is a word of the line, a command is needed, and `--version` is there
+abbrev pub own : App
+own = record {
+  top = record (new_shape (codes "ctftrace")) { no_binary_name = true; subcommand_required = true; has_version = true };
+  subs = [];
+}
+
+abbrev pub judging : App
+judging = with_subcommand (with_subcommand own check) metadata
+
+abbrev pub program : App
+program = with_subcommand (with_subcommand judging trace) read

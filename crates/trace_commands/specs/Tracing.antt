@@ -1,0 +1,199 @@
+-- What `trace` answers to the texts of a configuration's and of a script's file. The configuration is judged before the script is read, the script before the
+-- names of its streams, and these before the folder of the trace is made. Then there is the metadata, whole, in its file, and a file for each stream;
+-- the streams are added in the order of the script, and its events are run. Files are known by what their writers took.
+use Rattle.std.specs.Prelude.{◌≡◌, ◌⊎◌, ℕ, true, List, [], ◌∷◌, ◌++◌, Option, None, Some, length, map}
+use Rattle.std.specs.Global.{Vec}
+use Rattle.std.specs.List.{All}
+use Rattle.std.specs.Io.KnownBytes.{Appends}
+use Rattle.ctf_types.specs.declared.Config.{Config}
+use Rattle.ctf_types.specs.MetadataOf.{metadata_of}
+use Rattle.conf_check.specs.Configuration.{Configures}
+use Rattle.packet_collector.specs.declared.finish_answer.FinishAnswer.{FinishAnswer}
+use Rattle.packet_collector.specs.declared.finish_answer.FinishAnswer.TheVariants.{Settled}
+use Rattle.thread_stream.specs.declared.stream_fault.StreamFault.{StreamFault}
+use Rattle.thread_stream.specs.Starting.{start_fault}
+use Rattle.trace_clock.specs.declared.tick_clock.TickClock.{TickClock}
+use Rattle.trace_clock.specs.Seats.{rest}
+use Rattle.trace_platform.specs.declared.writer_sink.WriterSink.{WriterSink}
+use Rattle.trace_platform.specs.Appending.{Writes}
+use Rattle.trace_stack.specs.declared.answer.Answer.{Answer}
+use Rattle.trace_stack.specs.declared.names.NameFault.{NameFault}
+use Rattle.trace_stack.specs.declared.worker.ThreadsRun.{ThreadsRun}
+use Rattle.trace_stack.specs.declared.worker.Worker.{Worker}
+use Rattle.trace_stack.specs.Workers.{ThreadsRan}
+use Rattle.trace_text.specs.declared.script.Script.{Script}
+use Rattle.trace_text.specs.declared.script.ScriptStream.{ScriptStream}
+use Rattle.trace_text.specs.declared.script_fault.ScriptFault.{ScriptFault}
+use Rattle.trace_text.specs.Names.{first_refused}
+use Rattle.trace_text.specs.Script.{IsScriptOf}
+use Rattle.trace_text.specs.ScriptFaults.{IsFirstFault}
+use Rattle.tsdl_grammar.specs.Denotes.{Denotes}
+use Rattle.tsdl_writer.specs.Written.{written}
+use Rattle.trace_commands.specs.declared.commands.TraceCommand.{TraceCommand}
+use Rattle.trace_commands.specs.declared.quota.Quota.{Quota}
+use Rattle.trace_commands.specs.declared.recording.NotRecorded.{NotRecorded}
+use Rattle.trace_commands.specs.declared.recording.NotRecorded.TheVariants.{Stream, OutOfMemory}
+use Rattle.trace_commands.specs.declared.recording.Sizes.{Sizes}
+use Rattle.trace_commands.specs.AnswerLines.{answer_lines}
+use Rattle.trace_commands.specs.Checking.{IsFaultOf}
+use Rattle.trace_commands.specs.ListSessions.{IsRecording}
+use Rattle.trace_commands.specs.Shown.{IsFaultLine}
+use Rattle.trace_commands.specs.Telling.{WasGiven}
+use Rattle.trace_commands.specs.Workers.{AreWorkers, IsSharedBy, stream_lines}
+
+abbrev pub sizes_of : TraceCommand → Sizes
+sizes_of t = record { bytes = t.packet_bytes; buffers = t.buffers }
+
+-- ---- refusals: nothing is printed, one line says the fault, and the status is 1
+
+abbrev pub IsSaid : List ℕ → List ℕ → List ℕ → ℕ → Type 0
+IsSaid path output errors status = (output ≡ []) × IsFaultLine path errors × (status ≡ 1)
+
+-- the text has this first fault as a script of the configuration
+pub record IsBadScript (c : Config) (text : List ℕ) : Type 0 where
+  pub fault : ScriptFault
+  pub first : IsFirstFault c text fault
+
+abbrev pub stream_names : Script → List (List ℕ)
+stream_names s = map (λ (x : ScriptStream). x.name) s.streams
+
+-- the names that a session can have
+abbrev pub AreFree : Script → Type 0
+AreFree s = first_refused [] 0 (stream_names s) ≡ None
+
+-- this stream of the script is the first that a session refuses by its name
+pub record IsBadName (s : Script) : Type 0 where
+  pub index : ℕ
+  pub fault : NameFault
+  pub first : first_refused [] 0 (stream_names s) ≡ Some (index, fault)
+
+-- this stream of the script is the first of which none is made, by its type, its extra members or the size of packets
+pub record IsBadStream (c : Config) (bytes : ℕ) (streams : List ScriptStream) : Type 0 where
+  pub before : List ScriptStream
+  pub stream : ScriptStream
+  pub behind : List ScriptStream
+  pub there : streams ≡ before ++ stream ∷ behind
+  pub fault : StreamFault
+  pub none_before : All (λ (s : ScriptStream). start_fault c s.type_name bytes s.extras ≡ None) before
+  pub first : start_fault c stream.type_name bytes stream.extras ≡ Some fault
+
+-- for a session the stream has this fault, or memory was wanting
+abbrev pub Refuses : Config → ℕ → ScriptStream → NotRecorded → Type 0
+Refuses c bytes s (Stream number fault) = start_fault c s.type_name bytes s.extras ≡ Some fault
+Refuses c bytes s OutOfMemory = Unit {0}
+
+-- one of these streams, the first of them, has a fault, or memory was wanting
+abbrev pub RefusesOne : Config → ℕ → List ScriptStream → NotRecorded → Type 0
+RefusesOne c bytes streams (Stream number fault) = IsBadStream c bytes streams
+RefusesOne c bytes streams OutOfMemory = Unit {0}
+
+-- ---- a run
+
+-- all streams settled: the sink of each took all its packets
+abbrev pub AllSettled : List FinishAnswer → Type 0
+AllSettled ends = All (λ (r : FinishAnswer). r ≡ Settled) ends
+
+-- a line in a file
+abbrev pub SaysFile : List ℕ → Type 0
+SaysFile errors = (file : List ℕ) × IsFaultLine file errors
+
+abbrev pub EndsTold : List FinishAnswer → List ℕ → ℕ → Type 0
+EndsTold ends errors status =
+    (AllSettled ends × (errors ≡ []) × (status ≡ 0))
+    ⊎ ((AllSettled ends → ⊥) × SaysFile errors × (status ≡ 3))
+
+-- all workers made all their calls, and the sink of each took all its packets
+abbrev pub AllDone : {W : Type 0} → ThreadsRun W → Type 0
+AllDone run = (run.fault ≡ None) × AllSettled run.ends.items
+
+-- what is said of a run: nothing exactly where all is done
+abbrev pub IsRunLine : {W : Type 0} → ThreadsRun W → Option (Vec ℕ) → Type 0
+IsRunLine run None = AllDone run
+IsRunLine run (Some errors) = (AllDone run → ⊥) × SaysFile errors.items
+
+abbrev pub RunTold : {W : Type 0} → ThreadsRun W → List ℕ → ℕ → Type 0
+RunTold run errors status =
+    (AllDone run × (errors ≡ []) × (status ≡ 0))
+    ⊎ ((AllDone run → ⊥) × SaysFile errors × (status ≡ 3))
+
+module _ {File : Type 0} (contents : File → Option (List ℕ)) where
+  -- the writer of a file took these bytes from first to last
+  pub record WereTaken (bytes : List ℕ) : Type 0 where
+    pub made : File
+    pub left : File
+    pub took : Appends (contents made) (contents left) bytes
+
+  -- the metadata is written: the text denotes that of the configuration
+  abbrev pub HoldsMetadata : Config → Type 0
+  HoldsMetadata c = WereTaken (written c) × Denotes (written c) (metadata_of c)
+
+  -- the session ran, and this is told of it
+  pub record IsRun (t : TraceCommand) (c : Config) (s : Script) (output errors : List ℕ) (status : ℕ) : Type 0 where
+    pub answers : List Answer
+    pub ends : List FinishAnswer
+    pub recording : IsRecording contents c (sizes_of t) s answers ends
+    pub printed : output ≡ answer_lines 0 answers
+    pub ended : EndsTold ends errors status
+
+  -- a stream is refused, or the session ran
+  abbrev pub TellsSession : TraceCommand → Config → Script → List ℕ → List ℕ → ℕ → Type 0
+  TellsSession t c s output errors status =
+      (IsBadStream c t.packet_bytes s.streams × IsSaid t.script.now output errors status)
+      ⊎ IsRun t c s output errors status
+
+  -- a worker for each stream ran, all by one clock, and this is told of them: each has its answers under its stream's name
+  pub record IsWorkersRun (quota : Quota) (t : TraceCommand) (c : Config) (s : Script) (output errors : List ℕ) (status : ℕ) : Type 0 where
+    pub clock : TickClock
+    pub shared : IsSharedBy quota (length s.streams) clock
+    pub workers : List (Worker (WriterSink File))
+    pub each : AreWorkers (rest clock) quota.readings (sizes_of t) s.events 0 s.streams workers
+    pub run : ThreadsRun (WriterSink File)
+    pub ran : ThreadsRan (λ (a : WriterSink File) (bytes : List ℕ) answer (b : WriterSink File). Writes (contents a.writer) a.faults bytes answer (contents b.writer) b.faults)
+        (λ (k : WriterSink File). contents k.writer) (λ (k : WriterSink File). k.faults) true c workers run
+    pub printed : output ≡ stream_lines s.streams run.answers.items
+    pub ended : RunTold run errors status
+
+  -- a stream is refused, or the workers ran
+  abbrev pub TellsWorkers : Quota → TraceCommand → Config → Script → List ℕ → List ℕ → ℕ → Type 0
+  TellsWorkers quota t c s output errors status =
+      (IsBadStream c t.packet_bytes s.streams × IsSaid t.script.now output errors status)
+      ⊎ IsWorkersRun quota t c s output errors status
+
+  -- by workers where they are asked for, else by a session
+  abbrev pub TellsStreams : Option Quota → TraceCommand → Config → Script → List ℕ → List ℕ → ℕ → Type 0
+  TellsStreams None t c s output errors status = TellsSession t c s output errors status
+  TellsStreams (Some quota) t c s output errors status = TellsWorkers quota t c s output errors status
+
+  -- the folder is made, and its metadata is written
+  pub record IsTraced (t : TraceCommand) (c : Config) (s : Script) (output errors : List ℕ) (status : ℕ) : Type 0 where
+    pub metadata : HoldsMetadata c
+    pub streams : TellsStreams t.workers t c s output errors status
+
+  -- ---- in their order
+
+  -- of a script: its names, and then its session
+  abbrev pub TellsScript : TraceCommand → Config → Script → List ℕ → List ℕ → ℕ → Type 0
+  TellsScript t c s output errors status =
+      (IsBadName s × IsSaid t.script.now output errors status)
+      ⊎ (AreFree s × IsTraced t c s output errors status)
+
+  -- of the text of a script's file
+  abbrev pub TellsText : TraceCommand → Config → List ℕ → List ℕ → List ℕ → ℕ → Type 0
+  TellsText t c text output errors status =
+      (IsBadScript c text × IsSaid t.script.now output errors status)
+      ⊎ ((s : Script) × IsScriptOf c text s × TellsScript t c s output errors status)
+
+  module _ (remaining : File → Option (List ℕ)) where
+    -- of a configuration: the script's file is read
+    abbrev pub TellsConfig : TraceCommand → Config → List ℕ → List ℕ → ℕ → Type 0
+    TellsConfig t c output errors status = (text : List ℕ) × WasGiven remaining text × TellsText t c text output errors status
+
+    -- of the text of a configuration's file
+    abbrev pub TellsFirst : TraceCommand → List ℕ → List ℕ → List ℕ → ℕ → Type 0
+    TellsFirst t text output errors status =
+        IsFaultOf t.config.now text t.uuid output errors status
+        ⊎ ((c : Config) × Configures text t.uuid c × TellsConfig t c output errors status)
+
+    -- of the command: the configuration's file is read
+    abbrev pub TellsTrace : TraceCommand → List ℕ → List ℕ → ℕ → Type 0
+    TellsTrace t output errors status = (text : List ℕ) × WasGiven remaining text × TellsFirst t text output errors status

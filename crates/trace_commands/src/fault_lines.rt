@@ -1,0 +1,87 @@
+//! The lines of faults: the program, the file, the place, what stands there, and what was expected.
+
+ghost use Rattle.std.specs.Prelude.{◌≡◌, IfOk};
+ghost use Rattle.trace_commands.specs.Shown.{IsFaultLine, fault_line as line_of};
+
+use crate::shown::{first_characters, push_shown};
+use conf_tree::{ConfFault, FaultKind, Step};
+use serde_json::Value;
+use std::alloc::{AllocError, Global};
+
+/// The line of what is said of a file.
+pub fn fault_line(alloc: Global, file: &[u8], said: &[u8]) -> Result<Vec<u8>, AllocError>
+    ensures { IfOk result (λ line. line.items ≡ line_of file.now said.now) }
+{
+    let mut line = Vec::new(alloc);
+    line.extend_from_slice(b"ctftrace: ".as_slice())?;
+    push_shown(&mut line, file)?;
+    line.extend_from_slice(b": ".as_slice())?;
+    push_shown(&mut line, said)?;
+    line.push(b'\n')?;
+    Ok(line)
+}
+
+/// The line of a configuration's fault. Where the text is no JSON, the place is a line and a column.
+pub fn configuration_line(
+    alloc: Global,
+    file: &[u8],
+    text: &[u8],
+    fault: &ConfFault,
+) -> Result<Vec<u8>, AllocError>
+    ensures { IfOk result (λ line. IsFaultLine file.now line.items) }
+{
+    let mut said = Vec::new(alloc);
+    if fault.kind == FaultKind::NotJson {
+        push_position(alloc, &mut said, text)?;
+    }
+    push_path(alloc, &mut said, fault.path.as_slice())?;
+    let kind = format!(in alloc; "{}", fault.kind)?;
+    said.extend_from_slice(kind.as_bytes())?;
+    fault_line(alloc, file, said.as_slice())
+}
+
+/// The line and the column at which a text stops being JSON.
+pub fn push_position(alloc: Global, said: &mut Vec<u8>, text: &[u8]) -> Result<(), AllocError> {
+    let Err(error) = Value::from_slice(alloc, text) else {
+        return Ok(());
+    };
+    if error.is_memory() {
+        return Err(AllocError);
+    }
+    let place = format!(in alloc; "line {}, column {}: ", error.line(), error.column())?;
+    said.extend_from_slice(place.as_bytes())
+}
+
+/// The steps of a path joined by `/`, names cut to their first characters.
+fn push_path(alloc: Global, said: &mut Vec<u8>, path: &[Step]) -> Result<(), AllocError> {
+    let mut separator = b"".as_slice();
+    for step in path {
+        said.extend_from_slice(separator)?;
+        push_step(alloc, said, step)?;
+        separator = b"/".as_slice();
+    }
+    if !path.is_empty() {
+        said.extend_from_slice(b": ".as_slice())?;
+    }
+    Ok(())
+}
+
+fn push_step(alloc: Global, said: &mut Vec<u8>, step: &Step) -> Result<(), AllocError> {
+    match step {
+        Step::Key(name) => push_name(said, name.as_bytes()),
+        Step::Index(index) => {
+            let digits = format!(in alloc; "{index}")?;
+            said.extend_from_slice(digits.as_bytes())
+        }
+    }
+}
+
+/// A name, or its first characters and three dots.
+pub fn push_name(said: &mut Vec<u8>, name: &[u8]) -> Result<(), AllocError> {
+    let front = first_characters(name);
+    said.extend_from_slice(front)?;
+    if front.len() < name.len() {
+        said.extend_from_slice(b"...".as_slice())?;
+    }
+    Ok(())
+}

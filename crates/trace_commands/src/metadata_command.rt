@@ -1,0 +1,63 @@
+//! `metadata`: prints the metadata of a configuration.
+
+ghost use Rattle.std.specs.Prelude.{IfOk, string_bytes};
+ghost use Rattle.trace_commands.specs.Checking.{IsMetadata};
+ghost use Rattle.trace_commands.specs.Telling.{AnswersFile};
+
+use crate::answer::{Answer, OUT_OF_MEMORY, fail, tell};
+use crate::commands::MetadataCommand;
+use crate::fault_lines::configuration_line;
+use crate::files::{fail_at, read_file};
+use conf_check::configure;
+use std::alloc::{AllocError, Global};
+use std::io::Write;
+use std::rt::Files;
+use tsdl_writer::write_metadata;
+use uuid::Uuid;
+
+/// Reads the file of a configuration, and tells its metadata.
+pub fn metadata<X: Files + AllocGlobal + Clone + Drop, W: Write, E: Write>(
+    rt: &X,
+    asked: &MetadataCommand<'_>,
+    output: &mut W,
+    errors: &mut E,
+) -> u8
+    ensures { AnswersFile X.File.remaining (λ text. IsMetadata asked.now.config.now text asked.now.uuid) (W.contents output.old) (W.contents output.new) (E.contents errors.old) (E.contents errors.new) result }
+{
+    let text = match read_file(rt, asked.config) {
+        Ok(text) => text,
+        Err(fault) => return fail_at(rt.alloc(), asked.config, &fault, errors),
+    };
+    match metadata_text(rt.alloc(), asked.config, text.as_slice(), asked.uuid) {
+        Ok(answer) => tell(&answer, output, errors),
+        Err(_) => fail(errors, OUT_OF_MEMORY),
+    }
+}
+
+/// What is answered of the configuration that the text of a file is, where `number` is the identifier that is handed in.
+fn metadata_text(
+    alloc: Global,
+    path: &str,
+    text: &[u8],
+    number: Option<Uuid>,
+) -> Result<Answer, AllocError>
+    ensures { IfOk result (λ a. IsMetadata path.now text.now number (string_bytes a.output) a.errors.items a.status) }
+{
+    match configure(alloc, text, number) {
+        Ok(config) => Ok(Answer {
+            output: write_metadata(alloc, &config)?,
+            errors: Vec::new(alloc),
+            status: 0,
+        }),
+        Err(fault) => {
+            if fault.is_memory() {
+                return Err(AllocError);
+            }
+            Ok(Answer {
+                output: String::new(alloc),
+                errors: configuration_line(alloc, path.as_bytes(), text, &fault)?,
+                status: 1,
+            })
+        }
+    }
+}

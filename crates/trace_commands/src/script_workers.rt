@@ -1,0 +1,113 @@
+//! The workers of a script's streams.
+
+ghost use Rattle.std.specs.Prelude.{◌≡◌, ◌*◌, IfOk, length};
+ghost use Rattle.trace_clock.specs.Seats.{left, rest};
+ghost use Rattle.trace_commands.specs.ListSessions.{AreSizes};
+ghost use Rattle.trace_commands.specs.Workers.{AreWorkers, IsWorkerOf, acts_of as acts_of_stream, is_of_stream as is_of_stream_of};
+
+use crate::quota::Quota;
+use crate::recording::Sizes;
+use crate::shared_clock::seat_for;
+use packet_ring::ring;
+use plain_lists::Duplicate;
+use std::alloc::{AllocError, Global};
+use std::collections::VecDeque;
+use std::io::Write;
+use trace_clock::{TickClock, TickSeat};
+use trace_platform::WriterSink;
+use trace_stack::{Act, Event, Worker};
+use trace_text::{Script, ScriptStream};
+
+type FileWorker<F> = Worker<WriterSink<F>>;
+
+/// A worker for each stream of the script, over its file.
+pub fn script_workers<F: Write + Drop>(
+    alloc: Global,
+    script: &Script,
+    sizes: Sizes,
+    clock: &mut TickClock,
+    quota: Quota,
+    files: VecDeque<F>,
+) -> Result<Vec<FileWorker<F>>, AllocError>
+    requires sizes { AreSizes sizes }
+    requires clock { left clock.old ≡ quota.readings * length script.now.streams }
+    requires files { length files.items ≡ length script.now.streams }
+    ensures { IfOk result (λ ws. AreWorkers (rest clock.old) quota.readings sizes script.now.events 0 script.now.streams ws.items) }
+{
+    let mut files = files;
+    let mut workers = Vec::new(alloc);
+    let events = script.events.as_slice();
+    for (number, stream) in script.streams.as_slice().iter().enumerate() {
+        let Some(file) = files.pop_front() else {
+            unreachable!()
+        };
+        let seat = seat_for(alloc, clock, quota)?;
+        workers.push(worker_of(alloc, events, number, stream, sizes, seat, file)?)?;
+    }
+    Ok(workers)
+}
+
+/// The worker of the stream of this number in the script.
+fn worker_of<F: Write + Drop>(
+    alloc: Global,
+    events: &[Event],
+    number: usize,
+    stream: &ScriptStream,
+    sizes: Sizes,
+    seat: TickSeat,
+    file: F,
+) -> Result<FileWorker<F>, AllocError>
+    requires { AreSizes sizes }
+    ensures seat { IfOk result (λ w. w.seat ≡ seat) }
+    ensures worker { IfOk result (IsWorkerOf sizes events.now number stream.now) }
+{
+    let (back_end, ring_end) = ring(alloc, sizes.buffers, sizes.bytes)?;
+    let type_name = stream.type_name.copy(alloc)?;
+    let extras = stream.extras.copy(alloc)?;
+    let acts = acts_of(alloc, events, number)?;
+    Ok(Worker {
+        type_name,
+        seat,
+        back_end,
+        ring_end,
+        extras,
+        sink: WriterSink::new(file),
+        acts,
+    })
+}
+
+/// The acts of the stream of this number, but for collections.
+fn acts_of(alloc: Global, events: &[Event], number: usize) -> Result<Vec<Act>, AllocError>
+    ensures { IfOk result (λ acts. acts.items ≡ acts_of_stream number events.now) }
+{
+    let mut acts = Vec::new(alloc);
+    for event in events {
+        if event.stream == number && is_of_stream(&event.act) {
+            acts.push(copy_of(alloc, &event.act)?)?;
+        }
+    }
+    Ok(acts)
+}
+
+fn is_of_stream(act: &Act) -> bool
+    ensures { result ≡ is_of_stream_of act.now }
+{
+    match act {
+        Act::Trace(_, _) | Act::OpenPacket | Act::ClosePacket | Act::Enable(_) | Act::Extras(_) =>
+            true,
+        Act::Collect => false,
+    }
+}
+
+fn copy_of(alloc: Global, act: &Act) -> Result<Act, AllocError>
+    ensures { IfOk result (λ copied. copied ≡ act.now) }
+{
+    match act {
+        Act::Trace(event, args) => Ok(Act::Trace(*event, args.copy(alloc)?)),
+        Act::OpenPacket => Ok(Act::OpenPacket),
+        Act::ClosePacket => Ok(Act::ClosePacket),
+        Act::Collect => Ok(Act::Collect),
+        Act::Enable(enabled) => Ok(Act::Enable(*enabled)),
+        Act::Extras(extras) => Ok(Act::Extras(extras.copy(alloc)?)),
+    }
+}
