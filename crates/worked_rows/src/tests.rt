@@ -7,7 +7,6 @@ mod configurations;
 mod context_faults;
 mod damaged_files;
 mod declined_ends;
-mod ended_threads;
 mod example;
 mod gaps;
 mod header_faults;

@@ -1,4 +1,4 @@
-//! Two streams over rings at one clock, of which the second is told what the first traced: in one thread, and in two.
+//! Two streams over rings at one clock, each in a thread of its own, of which the second is told what the first traced.
 
 ghost use Rattle.std.specs.Prelude.{◌≡◌, IfSome};
 ghost use Rattle.ctf_types.specs.AllowedConfig.{IsConfig};
@@ -83,44 +83,6 @@ fn read_back(alloc: Global, first: Vec<u8>, second: Vec<u8>) -> Result<ReadTrace
     files.push((String::from_str(alloc, "t0")?, first))?;
     files.push((String::from_str(alloc, "t1")?, second))?;
     Ok(read_trace(alloc, metadata.as_bytes(), &files)?)
-}
-
-/// A stream, a reading, and the index of its record in the order.
-static PLACES: &[(usize, u64, Option<usize>)] = &[
-    (0, 0, Some(0)),
-    (1, 1, Some(1)),
-    (0, 2, Some(2)),
-    (1, 2, None),
-];
-
-#[test]
-fn stands_between_what_was_told_and_what_came_after(rt: HostRuntime) -> Result<(), Fail> {
-    let alloc = rt.alloc();
-    let mut clock = TickClock::new(alloc, 0, 6)?;
-    let first_seat = clock.seat(alloc, 3)?;
-    let second_seat = clock.seat(alloc, 3)?;
-    let (first_back_end, first_end) = ring(alloc, 1, 64)?;
-    let (second_back_end, second_end) = ring(alloc, 1, 64)?;
-    let mut first = begun(alloc, first_seat, first_back_end).ok_or("no stream")?;
-    let mut second = begun(alloc, second_seat, second_back_end).ok_or("no stream")?;
-    let five = number(alloc, 5).ok_or("no number")?;
-    let six = number(alloc, 6).ok_or("no number")?;
-    let seven = number(alloc, 7).ok_or("no number")?;
-    assert_eq!(rt; traced(&mut first, &five), Verdict::Accepted(Some(0)));
-    let told = first.tell(alloc)?;
-    assert_eq!(rt;
-        second.trace_after(told, 0, &six),
-        Verdict::Accepted(Some(1))
-    );
-    assert_eq!(rt; first.trace(0, &seven), Verdict::Accepted(Some(2)));
-    let first_bytes = collected(alloc, first, first_end);
-    let second_bytes = collected(alloc, second, second_end);
-    let trace = read_back(alloc, first_bytes, second_bytes)?;
-    assert_eq!(rt; trace.order.len(), 3);
-    for (stream, value, want) in PLACES {
-        assert_eq!(rt; position(&trace, *stream, *value), *want);
-    }
-    Ok(())
 }
 
 /// Traces, tells through the channel, and traces again.
