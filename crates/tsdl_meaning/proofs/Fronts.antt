@@ -1,5 +1,5 @@
 -- What is made of each item of a list, one item after the other.
-use Rattle.std.proofs.Common.{◌≡◌, ℕ, ◌-◌, ◌≤◌, List, [], ◌∷◌, ◌++◌, length, take, drop, get_or, Option, Some, None, refl, sym, ap, ◌∙◌, append_assoc, arith}
+use Rattle.std.proofs.Common.{◌≡◌, ℕ, ◌+◌, ◌-◌, ◌≤◌, ◌<◌, List, [], ◌∷◌, ◌++◌, map, length, take, drop, get_or, take-suc, add-one, Option, Some, None, refl, sym, ap, ◌∙◌, append_assoc, arith}
 use Rattle.std.proofs.Math.Seq.{take-length}
 use Rattle.std.specs.List.{flat_map}
 use Rattle.tsdl_grammar.specs.Steps.{◌>>=◌, each}
@@ -35,3 +35,14 @@ made_part part f front new (z ∷ rest) x p y all n len is has makes adds count 
     ∙ ap (λ (zs : List _). with_front (front ++ y ∷ []) (each f (flat_map part zs))) (whole rest n (omega arith))
     ∙ each_more f front p (flat_map part rest) y makes
     ∙ ap (λ (ps : List _). with_front front (each f (ps ++ flat_map part rest))) (sym has ∙ ap part is) ∙ h
+
+map_behind : {A B : Type 0} (f : A → B) (xs : List A) (x : A) → map f (xs ++ x ∷ []) ≡ map f xs ++ f x ∷ []
+map_behind f [] x = refl
+map_behind f (y ∷ xs) x = ap (λ (ys : List _). f y ∷ ys) (map_behind f xs x)
+
+-- what is made of the items up to one, with what is made of that one
+pub made_up_to : {A B : Type 0} (f : A → B) (xs : List A) (i : ℕ) (x : A) (old new : List B) → i < length xs → x ≡ get_or xs i x → old ≡ map f (take i xs) → new ≡ old ++ f x ∷ []
+    → new ≡ map f (take (i + 1) xs)
+made_up_to {A} f xs i x old new h is made adds =
+    adds ∙ ap (λ (ys : List _). ys ++ f x ∷ []) made ∙ sym (map_behind f (take i xs) x)
+    ∙ ap (map f) (ap (λ (y : A). take i xs ++ y ∷ []) is ∙ sym (take-suc xs i x h) ∙ ap (λ (k : ℕ). take k xs) (sym (add-one i)))

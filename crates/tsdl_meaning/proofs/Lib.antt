@@ -1,12 +1,14 @@
 pub mod Identity
 pub mod WordTables
 pub mod Fronts
+pub mod DistinctKeys
+pub mod DistinctWords
 pub mod ElementCounts
 pub mod LengthPlaces
 pub mod MemberNames
 pub mod StructureTypes
 pub mod NumberOrder
-pub mod EventsOf
+pub mod ClockSets
 pub mod GoodAtoms
 pub mod AllowedTypes
 pub mod AllowedStructures

@@ -1,9 +1,12 @@
 pub mod Names
+pub mod Distinct
 pub mod IntegerParts
 pub mod Fronts
 pub mod Members
 pub mod ScopeRules
 pub mod ClockParts
 pub mod EventParts
+pub mod ClockNames
 pub mod Numbers
+pub mod Groups
 pub mod TextParts

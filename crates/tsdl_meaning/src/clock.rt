@@ -1,6 +1,7 @@
 //! What a clock block means (CTF 1.8.3, section 8).
 
-ghost use Rattle.std.specs.Prelude.{◌≡◌, option_map, IfOk};
+ghost use Rattle.std.specs.Prelude.{◌≡◌, true, [], option_map, IfOk};
+ghost use Rattle.tsdl_grammar.specs.Lookups.{has_parts};
 ghost use Rattle.tsdl_grammar.specs.BlockMeaning.{clock_meaning};
 ghost use Rattle.tsdl_meaning.specs.ClockParts.{made_clock};
 
@@ -31,10 +32,14 @@ struct ClockParts<'a> {
 }
 
 /// The clock type of a block.
+#[tactic(auto, unfolding(tsdl_grammar::specs::BlockMeaning::clock_meaning))]
 pub(crate) fn clock_meaning(alloc: Global, items: &[Item]) -> Result<Option<ClockType>, AllocError>
     ensures { IfOk result (λ c. c ≡ clock_meaning items.now) }
 {
-    let Some(parts) = parts_of(items) else {
+    if !has_parts(alloc, &[], items)? {
+        return Ok(None);
+    }
+    let Some(parts) = said_by(items) else {
         return Ok(None);
     };
     let name = parts.name.copy(alloc)?;
@@ -54,13 +59,11 @@ pub(crate) fn clock_meaning(alloc: Global, items: &[Item]) -> Result<Option<Cloc
     }))
 }
 
+/// The parts that the attributes of a clock block say, where no attribute stands twice, and no scope.
 #[tactic(auto, unfolding(tsdl_grammar::specs::BlockMeaning::clock_meaning))]
-fn parts_of(items: &[Item]) -> Option<ClockParts<'_>>
-    ensures { option_map made_clock result ≡ clock_meaning items.now }
+fn said_by(items: &[Item]) -> Option<ClockParts<'_>>
+    ensures { has_parts [] items.now ≡ true → option_map made_clock result ≡ clock_meaning items.now }
 {
-    if !has_parts(&[], items) {
-        return None;
-    }
     let name = name_value(attr_in("name", items)?)?;
     let uuid = uuid_if_there(attr_in("uuid", items))?;
     let description = text_if_there(attr_in("description", items))?;

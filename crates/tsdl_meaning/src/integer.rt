@@ -8,7 +8,7 @@ ghost use Rattle.tsdl_grammar.specs.IntegerMeaning.{int_type, default_align, bas
 ghost use Rattle.tsdl_meaning.specs.IntegerParts.{typed_parts, HasParts};
 
 use crate::known::Known;
-use crate::lookup::{attr, has_only, has_text};
+use crate::lookup::{attr, has_only};
 use crate::value::{flag_or_false, natural, natural_or, natural_value, one_word, word_value};
 use ctf_types::{Base, ByteOrder, IntType, Text};
 use std::alloc::{AllocError, Global};
@@ -66,7 +66,7 @@ fn parts_of<'a>(known: &Known, attributes: &'a [Attribute]) -> Option<IntegerPar
     let signed = flag_or_false(attr("signed", attributes))?;
     order_or_own(known.order(), attr("byte_order", attributes))?;
     let base = base_or_decimal(attr("base", attributes))?;
-    let clock = clock_if_mapped(known.clocks(), attr("map", attributes))?;
+    let clock = clock_if_mapped(known, attr("map", attributes))?;
     Some(IntegerParts {
         size,
         align,
@@ -173,12 +173,12 @@ fn base_word(word: &str) -> Option<Base>
     }
 }
 
-fn clock_if_mapped<'a>(clocks: &[Text], value: Option<&'a Value>) -> Option<Option<&'a Text>>
-    ensures { option_map (option_map (λ t. t.now)) result ≡ optional (clock_value clocks.now) (option_map (λ v. v.now) value.entry) }
+fn clock_if_mapped<'a>(known: &Known, value: Option<&'a Value>) -> Option<Option<&'a Text>>
+    ensures { option_map (option_map (λ t. t.now)) result ≡ optional (clock_value known.now.clocks) (option_map (λ v. v.now) value.entry) }
 {
     match value {
         None => Some(None),
-        Some(value) => match clock_value(clocks, value) {
+        Some(value) => match clock_value(known, value) {
             None => None,
             Some(name) => Some(Some(name)),
         },
@@ -187,15 +187,15 @@ fn clock_if_mapped<'a>(clocks: &[Text], value: Option<&'a Value>) -> Option<Opti
 
 /// The middle word of `clock.NAME.value`, where it names a clock.
 #[tactic(auto, unfolding(tsdl_grammar::specs::IntegerMeaning::clock_value))]
-fn clock_value<'a>(clocks: &[Text], value: &'a Value) -> Option<&'a Text>
-    ensures { option_map (λ t. t.now) result ≡ clock_value clocks.now value.now }
+fn clock_value<'a>(known: &Known, value: &'a Value) -> Option<&'a Text>
+    ensures { option_map (λ t. t.now) result ≡ clock_value known.now.clocks value.now }
 {
     match value {
         Value::Name(name) => match name.rest.as_slice() {
             [clock, last] => {
                 if name.first.as_str() == "clock"
                     && last.as_str() == "value"
-                    && has_text(clock, clocks)
+                    && known.has_clock(clock.as_str())
                 {
                     Some(clock)
                 } else {

@@ -1,31 +1,54 @@
 //! What the integers of a text have to know of all of it.
 
-ghost use Rattle.std.specs.Prelude.{◌≡◌};
+ghost use Rattle.std.specs.Prelude.{◌≡◌, map, IfOk};
+ghost use Rattle.std.specs.List.{list_any};
+ghost use Rattle.std.specs.Str.{bytes_eq};
+ghost use Rattle.tsdl_grammar.specs.Denotes.{known_of};
 
-use ctf_types::{ByteOrder, ListOf, Text};
+use ctf_types::{ByteOrder, ClockType, ListOf, Text};
+use std::alloc::{AllocError, Global};
+use std::collections::BTreeSet;
 use std::marker::Model;
 
-/// The byte order of the trace, and the names of the clocks.
+/// The byte order of the trace, and the names of the clocks: as they stand, and as a set.
 #[derive(Drop)]
 pub(crate) struct Known {
     order: ByteOrder,
     clocks: ListOf<Text>,
+    names: BTreeSet<String>,
 }
 
 impl Model for Known {
     ghost use Rattle.tsdl_grammar.specs.IntegerMeaning as meaning;
+    ghost use Rattle.tsdl_meaning.specs.ClockNames.{HasNames};
 
     ghost Value = { meaning.Known };
 
     ghost view = { λ k. record { order = k.order; clocks = k.clocks } };
+
+    ghost invariant = { λ k. HasNames k.names k.clocks };
 }
 
 impl Known {
-    pub(crate) fn new(order: ByteOrder, clocks: ListOf<Text>) -> Known
-        ensures order { result.order ≡ order }
-        ensures clocks { result.clocks ≡ clocks }
+    /// What integers have to know of a text of these clocks.
+    pub(crate) fn of(
+        alloc: Global,
+        order: ByteOrder,
+        clocks: &[ClockType],
+    ) -> Result<Known, AllocError>
+        ensures { IfOk result (λ k. k ≡ known_of order clocks.now) }
     {
-        Known { order, clocks }
+        let mut listed = ListOf::new(alloc);
+        let mut names = BTreeSet::new(alloc);
+        for clock in clocks {
+            let _is_new = names.insert(String::from_str(alloc, clock.name.as_str())?)?;
+            listed.push(clock.name.copy(alloc)?)?;
+        }
+        Ok(Known {
+            order,
+            clocks: listed,
+            names,
+        })
     }
 
     pub(crate) fn order(&self) -> ByteOrder
@@ -38,5 +61,12 @@ impl Known {
         ensures { result.now ≡ self.now.clocks }
     {
         self.clocks.as_slice()
+    }
+
+    /// Whether a clock has this name.
+    pub(crate) fn has_clock(&self, name: &str) -> bool
+        ensures { result ≡ list_any (bytes_eq name.now) self.now.clocks }
+    {
+        self.names.contains(name)
     }
 }

@@ -3,6 +3,7 @@
 
 mod array;
 mod clock;
+mod distinct;
 mod enumeration;
 mod environment;
 mod integer;

@@ -1,13 +1,14 @@
 //! Names, and what stands under a name: attributes and scopes are looked up by their words, and no name stands twice.
 
-ghost use Rattle.std.specs.Prelude.{◌≡◌, ℕ, List, map, option_map};
+ghost use Rattle.std.specs.Prelude.{◌≡◌, map, option_map, IfOk};
 ghost use Rattle.std.specs.List.{list_any, list_all};
-ghost use Rattle.std.specs.Str.{bytes_eq};
-ghost use Rattle.tsdl_grammar.specs.Lookups.{no_two, words_of, same_words, is_word, is_among, attr, attr_names, attrs_in, scopes_in, scope, are_distinct, has_parts};
+ghost use Rattle.tsdl_grammar.specs.Lookups.{words_of, same_words, is_word, is_among, attr, attr_names, attrs_in, scopes_in, scope, are_distinct, has_parts};
 ghost use Rattle.tsdl_grammar.specs.IntegerMeaning.{has_only};
-ghost use Rattle.tsdl_meaning.specs.Names.{names_of, texts_of, scope_names};
+ghost use Rattle.tsdl_meaning.specs.Names.{names_of, texts_of, name_lists, scope_names};
 
+use crate::distinct::are_distinct;
 use ctf_types::Text;
+use std::alloc::{AllocError, Global};
 use tsdl_grammar::{Attribute, Item, Name, Structure, Value};
 
 /// Whether a name is this one word.
@@ -169,25 +170,6 @@ pub(crate) fn scope_in<'a>(words: &[&str], items: &'a [Item]) -> Option<&'a Stru
     None
 }
 
-/// Whether an attribute of a block has this name.
-fn has_attr_in(name: &Name, items: &[Item]) -> bool
-    ensures { result ≡ list_any (same_words (words_of name.now)) (attr_names (attrs_in items.now)) }
-{
-    let mut rest = items;
-    while let [item, others @ ..] = rest {
-        match item {
-            Item::Attribute(attribute) => {
-                if is_same(name, &attribute.name) {
-                    return true;
-                }
-            }
-            Item::Scope(_) => {}
-        }
-        rest = others;
-    }
-    false
-}
-
 /// Whether a scope of a block has this name.
 fn has_scope_in(name: &Name, items: &[Item]) -> bool
     ensures { result ≡ list_any (same_words (words_of name.now)) (scope_names (scopes_in items.now)) }
@@ -207,23 +189,39 @@ fn has_scope_in(name: &Name, items: &[Item]) -> bool
     false
 }
 
-/// Whether no attribute of a block stands twice.
-fn has_attrs_once(items: &[Item]) -> bool
-    ensures { result ≡ are_distinct (attr_names (attrs_in items.now)) }
+/// The words of a name.
+fn words_of<'a>(alloc: Global, name: &'a Name) -> Result<Vec<&'a str>, AllocError>
+    ensures { IfOk result (λ words. texts_of words.items ≡ words_of name.now) }
 {
+    let mut words = Vec::new(alloc);
+    words.push(name.first.as_str())?;
+    for word in name.rest.as_slice() {
+        words.push(word.as_str())?;
+    }
+    Ok(words)
+}
+
+/// The names of the attributes of a block.
+fn attr_names<'a>(alloc: Global, items: &'a [Item]) -> Result<Vec<Vec<&'a str>>, AllocError>
+    ensures { IfOk result (λ names. name_lists names ≡ attr_names (attrs_in items.now)) }
+{
+    let mut names = Vec::new(alloc);
     let mut rest = items;
     while let [item, others @ ..] = rest {
         match item {
-            Item::Attribute(attribute) => {
-                if has_attr_in(&attribute.name, others) {
-                    return false;
-                }
-            }
+            Item::Attribute(attribute) => names.push(words_of(alloc, &attribute.name)?)?,
             Item::Scope(_) => {}
         }
         rest = others;
     }
-    true
+    Ok(names)
+}
+
+/// Whether no attribute of a block stands twice.
+fn has_attrs_once(alloc: Global, items: &[Item]) -> Result<bool, AllocError>
+    ensures { IfOk result (λ once. once ≡ are_distinct (attr_names (attrs_in items.now))) }
+{
+    are_distinct(alloc, attr_names(alloc, items)?)
 }
 
 /// Whether no scope of a block stands twice.
@@ -265,36 +263,15 @@ fn has_scopes_among(allowed: &[&[&str]], items: &[Item]) -> bool
 }
 
 /// Whether no attribute of a block stands twice, nor a scope, and each scope is one of these.
-pub(crate) fn has_parts(allowed: &[&[&str]], items: &[Item]) -> bool
-    ensures { result ≡ has_parts (names_of allowed.now) items.now }
+pub(crate) fn has_parts(
+    alloc: Global,
+    allowed: &[&[&str]],
+    items: &[Item],
+) -> Result<bool, AllocError>
+    ensures { IfOk result (λ has. has ≡ has_parts (names_of allowed.now) items.now) }
 {
-    has_scopes_among(allowed, items) && has_scopes_once(items) && has_attrs_once(items)
-}
-
-/// Whether a text is among these.
-pub(crate) fn has_text(text: &Text, texts: &[Text]) -> bool
-    ensures { result ≡ list_any (bytes_eq text.now) texts.now }
-{
-    let mut rest = texts;
-    while let [other, others @ ..] = rest {
-        if text.as_str() == other.as_str() {
-            return true;
-        }
-        rest = others;
+    if !has_scopes_among(allowed, items) || !has_scopes_once(items) {
+        return Ok(false);
     }
-    false
-}
-
-/// Whether no text stands twice.
-pub(crate) fn are_distinct(texts: &[Text]) -> bool
-    ensures { result ≡ no_two bytes_eq texts.now }
-{
-    let mut rest = texts;
-    while let [text, others @ ..] = rest {
-        if has_text(text, others) {
-            return false;
-        }
-        rest = others;
-    }
-    true
+    has_attrs_once(alloc, items)
 }

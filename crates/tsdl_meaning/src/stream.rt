@@ -1,10 +1,10 @@
 //! What stream blocks and event blocks mean (CTF 1.8.3, section 7).
 
-ghost use Rattle.std.specs.Prelude.{◌≡◌, ◌&&◌, IfOk, codes};
+ghost use Rattle.std.specs.Prelude.{◌≡◌, ◌&&◌, true, [], ◌∷◌, IfOk, codes};
 ghost use Rattle.tsdl_grammar.specs.IntegerMeaning.{Known};
-ghost use Rattle.tsdl_grammar.specs.Lookups.{scopes_in};
+ghost use Rattle.tsdl_grammar.specs.Lookups.{scopes_in, has_parts};
 ghost use Rattle.tsdl_grammar.specs.StructureMeaning.{has_member};
-ghost use Rattle.tsdl_grammar.specs.BlockMeaning.{stream_meaning, event_meaning};
+ghost use Rattle.tsdl_grammar.specs.BlockMeaning.{specific_context, fields_scope, stream_meaning, event_meaning};
 ghost use Rattle.tsdl_meaning.specs.EventParts.{made_event};
 
 use crate::known::Known;
@@ -44,7 +44,11 @@ pub(crate) fn stream_meaning(
 ) -> Result<Option<Stream>, AllocError>
     ensures { IfOk result (λ s. s ≡ stream_meaning known.now items.now) }
 {
-    if !has_parts(&[&PACKET_CONTEXT, &EVENT_HEADER, &EVENT_CONTEXT], items) {
+    if !has_parts(
+        alloc,
+        &[&PACKET_CONTEXT, &EVENT_HEADER, &EVENT_CONTEXT],
+        items,
+    )? {
         return Ok(None);
     }
     let Some(id) = natural_or_zero(attr_in("id", items)) else {
@@ -82,6 +86,7 @@ fn has_sizes(context: &StructType) -> bool
 }
 
 /// The event of a block, and the number of its stream.
+#[tactic(auto, unfolding(tsdl_grammar::specs::BlockMeaning::event_meaning))]
 pub(crate) fn event_meaning(
     alloc: Global,
     known: &Known,
@@ -89,7 +94,10 @@ pub(crate) fn event_meaning(
 ) -> Result<Option<(u64, Event)>, AllocError>
     ensures { IfOk result (λ e. e ≡ event_meaning known.now items.now) }
 {
-    let Some(parts) = event_parts(items) else {
+    if !has_parts(alloc, &[&SPECIFIC_CONTEXT, &FIELDS], items)? {
+        return Ok(None);
+    }
+    let Some(parts) = said_by(items) else {
         return Ok(None);
     };
     let rule = ScopeRule::AnyMembers;
@@ -110,14 +118,11 @@ pub(crate) fn event_meaning(
     Ok(Some((parts.stream, event)))
 }
 
-/// The parts that the attributes of an event block say.
+/// The parts that the attributes of an event block say, where no attribute stands twice, and no scope.
 #[tactic(auto, unfolding(tsdl_grammar::specs::BlockMeaning::event_meaning))]
-fn event_parts(items: &[Item]) -> Option<EventParts<'_>>
-    ensures { (known : Known) → event_meaning known items.now ≡ made_event known (scopes_in items.now) result }
+fn said_by(items: &[Item]) -> Option<EventParts<'_>>
+    ensures { (known : Known) → has_parts (specific_context ∷ fields_scope ∷ []) items.now ≡ true → event_meaning known items.now ≡ made_event known (scopes_in items.now) result }
 {
-    if !has_parts(&[&SPECIFIC_CONTEXT, &FIELDS], items) {
-        return None;
-    }
     let name = name_value(attr_in("name", items)?)?;
     let id = natural_or_zero(attr_in("id", items))?;
     let stream = natural_or_zero(attr_in("stream_id", items))?;

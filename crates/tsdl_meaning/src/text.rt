@@ -1,16 +1,19 @@
 //! What the blocks of a metadata text mean (CTF 1.8.3, section 7).
 
-ghost use Rattle.std.specs.Prelude.{◌≡◌, map, option_map, IfOk};
+ghost use Rattle.std.specs.Prelude.{◌≡◌, true, Some, option_map, IfOk};
 ghost use Rattle.std.specs.List.{flat_map};
+ghost use Rattle.std.specs.Str.{bytes_eq};
+ghost use Rattle.tsdl_grammar.specs.Lookups.{no_two};
 ghost use Rattle.tsdl_grammar.specs.Steps.{each, only, at_most_one};
-ghost use Rattle.tsdl_grammar.specs.BlockMeaning.{clock_meaning};
-ghost use Rattle.tsdl_grammar.specs.Denotes.{trace_in, clock_in, environment_in, known_of, text_meta};
-ghost use Rattle.tsdl_meaning.specs.TextParts.{SaysFirstTrace, SaysFirstEnvironment, made_text};
+ghost use Rattle.tsdl_grammar.specs.BlockMeaning.{is_trace, clock_meaning};
+ghost use Rattle.tsdl_grammar.specs.Denotes.{trace_in, clock_in, environment_in, text_meta};
+ghost use Rattle.tsdl_meaning.specs.Names.{texts_of};
+ghost use Rattle.tsdl_meaning.specs.TextParts.{SaysFirstTrace, SaysFirstEnvironment, with_blocks, made_text};
 
 use crate::clock::clock_meaning;
+use crate::distinct::are_distinct;
 use crate::environment::environment_meaning;
 use crate::known::Known;
-use crate::lookup::are_distinct;
 use crate::text_streams::streams_meaning;
 use crate::trace::{header_meaning, is_trace, trace_order, trace_uuid};
 use ctf_types::{ByteOrder, ClockType, ListOf, Metadata, Text};
@@ -28,20 +31,38 @@ struct TextParts<'a> {
 }
 
 /// The metadata that the blocks of a text mean, if they mean any.
+#[tactic(auto, unfolding(tsdl_grammar::specs::Denotes::text_meta))]
 pub fn metadata_of(alloc: Global, blocks: &[Block]) -> Result<Option<Metadata>, AllocError>
     ensures { IfOk result (λ m. m ≡ text_meta blocks.now) }
 {
-    let Some(parts) = parts_of(blocks) else {
+    let Some(trace) = only_trace(blocks) else {
         return Ok(None);
     };
+    if !is_trace(alloc, trace)? {
+        return Ok(None);
+    }
+    let Some(parts) = said_by(trace, blocks) else {
+        return Ok(None);
+    };
+    with_blocks(alloc, blocks, &parts)
+}
+
+/// The metadata of these parts and of the other blocks.
+fn with_blocks(
+    alloc: Global,
+    blocks: &[Block],
+    parts: &TextParts,
+) -> Result<Option<Metadata>, AllocError>
+    ensures { IfOk result (λ m. m ≡ with_blocks blocks.now parts.now) }
+{
     let Some(environment) = environment_meaning(alloc, parts.facts)? else {
         return Ok(None);
     };
     let Some(clocks) = clocks_of(alloc, blocks)? else {
         return Ok(None);
     };
-    let known = known_of(alloc, parts.order, clocks.as_slice())?;
-    if !are_distinct(known.clocks()) {
+    let known = Known::of(alloc, parts.order, clocks.as_slice())?;
+    if !are_apart(alloc, known.clocks())? {
         return Ok(None);
     }
     let Some(header) = header_meaning(alloc, &known, parts.trace)? else {
@@ -60,15 +81,11 @@ pub fn metadata_of(alloc: Global, blocks: &[Block]) -> Result<Option<Metadata>, 
     }))
 }
 
-/// What the only trace block says, and the facts of the only environment block, if there is one.
+/// What a trace block of version 1.8 says, with the facts of the only environment block.
 #[tactic(auto, unfolding(tsdl_grammar::specs::Denotes::text_meta))]
-fn parts_of(blocks: &[Block]) -> Option<TextParts<'_>>
-    ensures { text_meta blocks.now ≡ made_text blocks.now result }
+fn said_by<'a>(trace: &'a [Item], blocks: &'a [Block]) -> Option<TextParts<'a>>
+    ensures { only (flat_map trace_in blocks.now) ≡ Some trace.now → is_trace trace.now ≡ true → text_meta blocks.now ≡ made_text blocks.now result }
 {
-    let trace = only_trace(blocks)?;
-    if !is_trace(trace) {
-        return None;
-    }
     let order = trace_order(trace)?;
     let uuid = trace_uuid(trace)?;
     let facts = facts_of(blocks)?;
@@ -133,21 +150,21 @@ fn first_environment(blocks: &[Block]) -> Option<(&[NamedFact], &[Block])>
     None
 }
 
-/// What integers have to know of the text.
-fn known_of(alloc: Global, order: ByteOrder, clocks: &[ClockType]) -> Result<Known, AllocError>
-    ensures { IfOk result (λ k. k ≡ known_of order clocks.now) }
+/// Whether no text stands twice.
+fn are_apart(alloc: Global, texts: &[Text]) -> Result<bool, AllocError>
+    ensures { IfOk result (λ apart. apart ≡ no_two bytes_eq texts.now) }
 {
-    Ok(Known::new(order, clock_names(alloc, clocks)?))
+    are_distinct(alloc, words_in(alloc, texts)?)
 }
 
-fn clock_names(alloc: Global, clocks: &[ClockType]) -> Result<ListOf<Text>, AllocError>
-    ensures { IfOk result (λ names. names ≡ map (λ c. c.name) clocks.now) }
+fn words_in<'a>(alloc: Global, texts: &'a [Text]) -> Result<Vec<&'a str>, AllocError>
+    ensures { IfOk result (λ words. texts_of words.items ≡ texts.now) }
 {
-    let mut names = ListOf::new(alloc);
-    for clock in clocks {
-        names.push(clock.name.copy(alloc)?)?;
+    let mut words = Vec::new(alloc);
+    for text in texts {
+        words.push(text.as_str())?;
     }
-    Ok(names)
+    Ok(words)
 }
 
 /// The clock types of the clock blocks.

@@ -1,17 +1,22 @@
 //! The streams of a metadata text, each with its events (CTF 1.8.3, section 7).
 
-ghost use Rattle.std.specs.Prelude.{◌≡◌, ◌==◌, IfOk};
-ghost use Rattle.std.specs.List.{list_any, flat_map};
+ghost use Rattle.std.specs.Prelude.{◌≡◌, ℕ, map, IfOk, OnOk};
+ghost use Rattle.std.specs.List.{flat_map};
 ghost use Rattle.tsdl_grammar.specs.Steps.{each};
 ghost use Rattle.tsdl_grammar.specs.BlockMeaning.{stream_meaning, event_meaning};
-ghost use Rattle.tsdl_grammar.specs.Denotes.{stream_in, event_in, events_of, with_events, have_streams, streams_meaning};
+ghost use Rattle.tsdl_grammar.specs.Denotes.{stream_in, event_in, events_of, have_streams, streams_meaning};
+ghost use Rattle.tsdl_meaning.specs.Groups.{HasNumbers, AddsEvent, group_of, with_group};
 
 use crate::known::Known;
 use crate::numbered::by_number;
 use crate::stream::{event_meaning, stream_meaning};
 use ctf_types::{Duplicate, Event, ListOf, Stream};
 use std::alloc::{AllocError, Global};
+use std::collections::{BTreeMap, BTreeSet};
 use tsdl_grammar::Block;
+
+/// Events by the number of their stream, each group as it stands in the text.
+type Groups<'a> = BTreeMap<u64, Vec<&'a Event>>;
 
 /// The streams by number, each with its events by number.
 #[tactic(auto, unfolding(tsdl_grammar::specs::Denotes::streams_meaning))]
@@ -31,10 +36,11 @@ pub(crate) fn streams_meaning(
     let Some(events) = events_found(alloc, known, blocks)? else {
         return Ok(None);
     };
-    if !have_streams(streams.as_slice(), events.as_slice()) {
+    if !have_streams(alloc, streams.as_slice(), events.as_slice())? {
         return Ok(None);
     }
-    streams_with(alloc, events.as_slice(), streams.as_slice())
+    let groups = groups_of(alloc, events.as_slice())?;
+    streams_with(alloc, &groups, streams.as_slice())
 }
 
 /// The streams of the stream blocks, as they stand.
@@ -88,44 +94,77 @@ fn events_found(
 }
 
 /// Whether each event is of a stream that is there.
-fn have_streams(streams: &[Stream], events: &[(u64, Event)]) -> bool
-    ensures { result ≡ have_streams streams.now events.now }
+fn have_streams(
+    alloc: Global,
+    streams: &[Stream],
+    events: &[(u64, Event)],
+) -> Result<bool, AllocError>
+    ensures { IfOk result (λ have. have ≡ have_streams streams.now events.now) }
 {
+    let numbers = numbers_of(alloc, streams)?;
     let mut rest = events;
     while let [event, others @ ..] = rest {
-        if !has_stream(event.0, streams) {
-            return false;
+        if !numbers.contains(&event.0) {
+            return Ok(false);
         }
         rest = others;
     }
-    true
+    Ok(true)
 }
 
-fn has_stream(id: u64, streams: &[Stream]) -> bool
-    ensures { result ≡ list_any (λ s. s.id == id) streams.now }
+/// The numbers of the streams.
+fn numbers_of(alloc: Global, streams: &[Stream]) -> Result<BTreeSet<u64>, AllocError>
+    ensures { IfOk result (HasNumbers streams.now) }
 {
-    let mut rest = streams;
-    while let [stream, others @ ..] = rest {
-        if stream.id == id {
-            return true;
-        }
-        rest = others;
+    let mut numbers = BTreeSet::new(alloc);
+    for stream in streams {
+        let _is_new = numbers.insert(stream.id)?;
     }
-    false
+    Ok(numbers)
 }
 
-/// Each stream with its events.
+/// The events by the number of their stream.
+fn groups_of(alloc: Global, events: &[(u64, Event)]) -> Result<Groups<'_>, AllocError>
+    ensures { IfOk result (λ groups. (id : ℕ) → group_of groups id ≡ events_of id events.now) }
+{
+    let mut groups = BTreeMap::new(alloc);
+    let mut rest = events;
+    while let [event, others @ ..] = rest {
+        add_event(alloc, &mut groups, event)?;
+        rest = others;
+    }
+    Ok(groups)
+}
+
+/// Adds an event behind the others of its stream.
+fn add_event<'a>(
+    alloc: Global,
+    groups: &mut Groups<'a>,
+    event: &'a (u64, Event),
+) -> Result<(), AllocError>
+    ensures { OnOk result (AddsEvent groups.old event.now groups.new) }
+{
+    let mut group = match groups.remove(&event.0) {
+        Some(group) => group,
+        None => Vec::new(alloc),
+    };
+    group.push(&event.1)?;
+    drop(groups.insert(event.0, group)?);
+    Ok(())
+}
+
+/// Each stream with the events of its group.
 fn streams_with(
     alloc: Global,
-    events: &[(u64, Event)],
+    groups: &Groups,
     streams: &[Stream],
 ) -> Result<Option<ListOf<Stream>>, AllocError>
-    ensures { IfOk result (λ ss. ss ≡ each (with_events events.now) streams.now) }
+    ensures { IfOk result (λ ss. ss ≡ each (with_group groups.now) streams.now) }
 {
     let mut made = ListOf::new(alloc);
     let mut rest = streams;
     while let [stream, others @ ..] = rest {
-        let Some(stream) = with_events(alloc, events, stream)? else {
+        let Some(stream) = with_group(alloc, groups, stream)? else {
             return Ok(None);
         };
         made.push(stream)?;
@@ -134,15 +173,11 @@ fn streams_with(
     Ok(Some(made))
 }
 
-/// A stream with its events, by number.
-fn with_events(
-    alloc: Global,
-    events: &[(u64, Event)],
-    stream: &Stream,
-) -> Result<Option<Stream>, AllocError>
-    ensures { IfOk result (λ s. s ≡ with_events events.now stream.now) }
+/// A stream with the events of its group, by number.
+fn with_group(alloc: Global, groups: &Groups, stream: &Stream) -> Result<Option<Stream>, AllocError>
+    ensures { IfOk result (λ s. s ≡ with_group groups.now stream.now) }
 {
-    let own = events_of(alloc, stream.id, events)?;
+    let own = group_of(alloc, groups, stream.id)?;
     let Some(events) = by_number(alloc, own)? else {
         return Ok(None);
     };
@@ -155,17 +190,22 @@ fn with_events(
     }))
 }
 
-/// The events of the stream of this number.
-fn events_of(alloc: Global, id: u64, events: &[(u64, Event)]) -> Result<ListOf<Event>, AllocError>
-    ensures { IfOk result (λ es. es ≡ events_of id events.now) }
+/// Copies of the events of the stream of this number.
+fn group_of(alloc: Global, groups: &Groups, id: u64) -> Result<ListOf<Event>, AllocError>
+    ensures { IfOk result (λ es. es ≡ group_of groups.now id) }
 {
-    let mut own = ListOf::new(alloc);
-    let mut rest = events;
-    while let [event, others @ ..] = rest {
-        if event.0 == id {
-            own.push(event.1.copy(alloc)?)?;
-        }
-        rest = others;
+    match groups.get(&id) {
+        None => Ok(ListOf::new(alloc)),
+        Some(group) => copies_of(alloc, group.as_slice()),
     }
-    Ok(own)
+}
+
+fn copies_of(alloc: Global, events: &[&Event]) -> Result<ListOf<Event>, AllocError>
+    ensures { IfOk result (λ es. es ≡ map (λ e. e.now) events.now) }
+{
+    let mut copies = ListOf::new(alloc);
+    for event in events {
+        copies.push(event.copy(alloc)?)?;
+    }
+    Ok(copies)
 }

@@ -35,12 +35,14 @@ fn order_word(word: &str) -> Option<ByteOrder>
 }
 
 /// Version 1.8, and no scope but the packet header.
-pub(crate) fn is_trace(items: &[Item]) -> bool
-    ensures { result ≡ is_trace items.now }
+pub(crate) fn is_trace(alloc: Global, items: &[Item]) -> Result<bool, AllocError>
+    ensures { IfOk result (λ is. is ≡ is_trace items.now) }
 {
-    has_parts(&[&PACKET_HEADER], items)
-        && has_number("major", 1, items)
-        && has_number("minor", 8, items)
+    Ok(
+        has_parts(alloc, &[&PACKET_HEADER], items)?
+            && has_number("major", 1, items)
+            && has_number("minor", 8, items),
+    )
 }
 
 /// Whether an attribute is there and has this number.

@@ -1,11 +1,11 @@
 use Rattle.std.proofs.Common.{◌≡◌, length}
 use Rattle.tsdl_grammar.specs.Steps.{each}
 use Rattle.tsdl_meaning.specs.Fronts.{with_front}
-use Rattle.tsdl_grammar.specs.Denotes.{with_events}
+use Rattle.tsdl_meaning.specs.Groups.{with_group}
 use Rattle.tsdl_meaning.proofs.text_streams.streams_with.Given as goal
 
 abbrev pub invariant-loop-rest : goal.invariant-loop-rest
-invariant-loop-rest l = with_front l.made (each (with_events l.events) l.rest) ≡ each (with_events l.events) l.streams
+invariant-loop-rest l = with_front l.made (each (with_group l.groups) l.rest) ≡ each (with_group l.groups) l.streams
 
 abbrev pub decreases-loop-rest : goal.decreases-loop-rest
 decreases-loop-rest l = length l.rest

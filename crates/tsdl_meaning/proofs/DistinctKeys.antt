@@ -1,0 +1,95 @@
+-- Lists of which no two items are the same, walked from the last item to the first.
+use Rattle.std.proofs.Common.{◌≡◌, Bool, true, false, not, cond, ◌&&◌, ◌||◌, List, [], ◌∷◌, ◌++◌, map, refl, sym, ap, ap₂, ◌∙◌}
+use Rattle.std.specs.List.{list_any}
+use Rattle.std.specs.Ordering.{eq_by_cmp}
+use Rattle.std.specs.declared.cmp.Ordering.{Ordering}
+use Rattle.std.specs.Cmp.{IsTotalOrder, eq_by_cmp_equiv}
+use Rattle.std.specs.BTreeMap.{is_at}
+use Rattle.tsdl_grammar.specs.Lookups.{no_two}
+use Rattle.tsdl_meaning.specs.Distinct.{no_two_before}
+
+-- ---- tests
+
+or_false : (a : Bool) → (a || false) ≡ a
+or_false true = refl
+or_false false = refl
+
+and_false : (a : Bool) → (a && false) ≡ false
+and_false true = refl
+and_false false = refl
+
+or_assoc : (a b c : Bool) → ((a || b) || c) ≡ (a || (b || c))
+or_assoc true b c = refl
+or_assoc false b c = refl
+
+pub any_behind : {A : Type 0} (f : A → Bool) (xs : List A) (x : A) → list_any f (xs ++ x ∷ []) ≡ (list_any f xs || f x)
+any_behind f [] x = or_false (f x)
+any_behind f (y ∷ xs) x = ap (λ (b : Bool). f y || b) (any_behind f xs x) ∙ sym (or_assoc (f y) (list_any f xs) (f x))
+
+-- ---- the walk
+
+nothing_behind : {A : Type 0} (same : A → A → Bool) (xs : List A) → no_two_before same (λ w. false) xs ≡ no_two same xs
+nothing_behind same [] = refl
+nothing_behind same (x ∷ xs) = ap₂ (λ (a b : Bool). not a && b) (or_false (list_any (same x) xs)) (nothing_behind same xs)
+
+-- nothing is behind the whole list
+pub at_first : {A : Type 0} (cmp : A → A → Ordering) (keys xs : List A) → keys ≡ [] → no_two_before (eq_by_cmp cmp) (λ w. list_any (is_at (cmp w)) keys) xs ≡ no_two (eq_by_cmp cmp) xs
+at_first cmp keys xs e = ap (λ (ks : List _). no_two_before (eq_by_cmp cmp) (λ w. list_any (is_at (cmp w)) ks) xs) e ∙ nothing_behind (eq_by_cmp cmp) xs
+
+twice : {A : Type 0} (same : A → A → Bool) (behind : A → Bool) (x : A) (xs : List A) → behind x ≡ true → no_two_before same behind (xs ++ x ∷ []) ≡ false
+twice same behind x [] h = rw h refl
+twice same behind x (y ∷ xs) h =
+    ap (λ (b : Bool). not (list_any (same y) (xs ++ x ∷ []) || behind y) && b) (twice same behind x xs h) ∙ and_false (not (list_any (same y) (xs ++ x ∷ []) || behind y))
+
+once : {A : Type 0} (same : A → A → Bool) (behind more : A → Bool) (x : A) (xs : List A) → behind x ≡ false → ((w : A) → more w ≡ (same w x || behind w))
+    → no_two_before same behind (xs ++ x ∷ []) ≡ no_two_before same more xs
+once same behind more x [] h e = rw h refl
+once same behind more x (y ∷ xs) h e =
+    ap₂ (λ (a b : Bool). not a && b)
+    (ap (λ (b : Bool). b || behind y) (any_behind (same y) xs x) ∙ or_assoc (list_any (same y) xs) (same y x) (behind y) ∙ ap (λ (b : Bool). list_any (same y) xs || b) (sym (e y)))
+    (once same behind more x xs h e)
+
+by_cond : (b c : Bool) → cond b true c ≡ (b || c)
+by_cond true c = refl
+by_cond false c = refl
+
+is_not : (b : Bool) → not b ≡ true → b ≡ false
+is_not true e = absurd cc
+is_not false e = refl
+
+is_so : (b : Bool) → not b ≡ false → b ≡ true
+is_so true e = refl
+is_so false e = absurd cc
+
+module _ {A : Type 0} (cmp : A → A → Ordering) (old left rest : List A) (x : A) (all added : Bool) where
+  -- the key is among those behind it
+  pub stands_twice : left ≡ rest ++ x ∷ [] → no_two_before (eq_by_cmp cmp) (λ w. list_any (is_at (cmp w)) old) left ≡ all → added ≡ not (list_any (is_at (cmp x)) old) → added ≡ false → false ≡ all
+  stands_twice e h a f =
+      sym (twice (eq_by_cmp cmp) (λ w. list_any (is_at (cmp w)) old) x rest (is_so (list_any (is_at (cmp x)) old) (sym a ∙ f)))
+      ∙ ap (λ (l : List _). no_two_before (eq_by_cmp cmp) (λ w. list_any (is_at (cmp w)) old) l) (sym e) ∙ h
+
+  -- the key joins those behind the keys before it
+  pub stands_once : (new : List A) → IsTotalOrder cmp → left ≡ rest ++ x ∷ [] → no_two_before (eq_by_cmp cmp) (λ w. list_any (is_at (cmp w)) old) left ≡ all
+      → added ≡ not (list_any (is_at (cmp x)) old) → added ≡ true → ((w : A) → list_any (is_at (cmp w)) new ≡ cond (is_at (cmp x) w) true (list_any (is_at (cmp w)) old))
+      → no_two_before (eq_by_cmp cmp) (λ w. list_any (is_at (cmp w)) new) rest ≡ all
+  stands_once new o e h a t u =
+      sym
+      (once (eq_by_cmp cmp) (λ w. list_any (is_at (cmp w)) old) (λ w. list_any (is_at (cmp w)) new) x rest (is_not (list_any (is_at (cmp x)) old) (sym a ∙ t))
+      (λ w. u w ∙ by_cond (is_at (cmp x) w) (list_any (is_at (cmp w)) old) ∙ ap (λ (b : Bool). b || list_any (is_at (cmp w)) old) ((eq_by_cmp_equiv o).symm x w)))
+      ∙ ap (λ (l : List _). no_two_before (eq_by_cmp cmp) (λ w. list_any (is_at (cmp w)) old) l) (sym e) ∙ h
+
+-- ---- the same items, seen otherwise
+
+pub no_two_seen : {A B : Type 0} (same : A → A → Bool) (equal : B → B → Bool) (view : A → B) (xs : List A) → ((x y : A) → same x y ≡ equal (view x) (view y)) → no_two same xs ≡ no_two equal (map view xs)
+no_two_seen same equal view [] h = refl
+no_two_seen same equal view (x ∷ xs) h = ap₂ (λ (a b : Bool). not a && b) (any xs) (no_two_seen same equal view xs h)
+  where
+    any : (ys : List _) → list_any (same x) ys ≡ list_any (equal (view x)) (map view ys)
+    any [] = refl
+    any (y ∷ ys) = ap₂ (λ (a b : Bool). a || b) (h x y) (any ys)
+
+pub or_swap : (b c : Bool) → cond b true c ≡ (c || b)
+or_swap true true = refl
+or_swap true false = refl
+or_swap false true = refl
+or_swap false false = refl

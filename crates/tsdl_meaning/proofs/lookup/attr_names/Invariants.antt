@@ -1,0 +1,10 @@
+use Rattle.std.proofs.Common.{◌≡◌, ◌++◌, length}
+use Rattle.tsdl_grammar.specs.Lookups.{attr_names, attrs_in}
+use Rattle.tsdl_meaning.specs.Names.{name_lists}
+use Rattle.tsdl_meaning.proofs.lookup.attr_names.Given as goal
+
+abbrev pub invariant-loop-rest : goal.invariant-loop-rest
+invariant-loop-rest l = name_lists l.names ++ attr_names (attrs_in l.rest) ≡ attr_names (attrs_in l.items)
+
+abbrev pub decreases-loop-rest : goal.decreases-loop-rest
+decreases-loop-rest l = length l.rest

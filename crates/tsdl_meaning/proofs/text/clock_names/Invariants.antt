@@ -1,5 +1,0 @@
-use Rattle.std.proofs.Common.{◌≡◌, map, take}
-use Rattle.tsdl_meaning.proofs.text.clock_names.Given as goal
-
-abbrev pub invariant-loop-clock : goal.invariant-loop-clock
-invariant-loop-clock l = l.names ≡ map (λ c. c.name) (take l.clock-index l.clocks)
