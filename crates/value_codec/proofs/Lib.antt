@@ -1,5 +1,6 @@
 mod WorkedWriting
 pub mod Complements
+pub mod DraftingLaws
 pub mod DynamicLaws
 pub mod FieldLaws
 pub mod MemberLaws

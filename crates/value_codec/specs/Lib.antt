@@ -1,2 +1,3 @@
+pub mod Drafting
 pub mod Reading
 pub mod Writing

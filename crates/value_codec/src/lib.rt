@@ -1,6 +1,11 @@
 //! Values of structures at any bit position of a byte slice.
 #![tactic(auto)]
 
+mod draft_fields;
+mod draft_numbers;
+mod draft_padding;
+mod draft_strings;
+mod draft_structs;
 mod read_fault;
 mod read_field;
 mod read_number;
@@ -14,6 +19,7 @@ mod write_strings;
 mod write_structs;
 mod write_values;
 
+pub use draft_structs::draft_struct;
 pub use read_fault::ReadFault;
 pub use read_start::members_start;
 pub use read_structure::{read_member, read_struct};

@@ -20,7 +20,7 @@ pub(crate) fn write_padding(bytes: &mut [u8], at: u64, order: ByteOrder, align: 
 }
 
 /// The least multiple of `align` that is not below `at`.
-fn aligned(at: u64, align: u32) -> u64
+pub(crate) fn aligned(at: u64, align: u32) -> u64
     requires positive { 0 < align }
     requires position { up at align < 2 ^ 64 }
     ensures { result ≡ up at align }

@@ -22,7 +22,7 @@ pub(crate) fn number_of(int: &IntType, value: &Value) -> u64
 }
 
 /// The two's complement of a number in `size` bits, 1 to 64.
-fn twos_complement(number: i64, size: u8) -> u64
+pub(crate) fn twos_complement(number: i64, size: u8) -> u64
     requires some { 0 < size }
     requires at_most_64 { size ≤ 64 }
     requires in_range { InSignedRange size number }
