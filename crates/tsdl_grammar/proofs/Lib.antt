@@ -14,8 +14,12 @@ pub mod MarkStands
 pub mod ListStands
 pub mod TypeParts
 pub mod Inversion
+pub mod Reordering
 pub mod MeaningParts
 pub mod StreamParts
 pub mod Rows
 pub mod BlockParts
+pub mod KnownClocks
+pub mod BlockOrder
+pub mod ItemOrder
 pub mod LengthParts

@@ -161,6 +161,22 @@ says_metadata bs m e =
     } in
     subst (SaysMetadata bs) (some_same made m (Some made) refl k.2) says
 
+-- blocks that say the parts of a metadata mean it
+pub text_says : (bs : List Block) (m : Metadata) → SaysMetadata bs m → text_meta bs ≡ Some m
+unfolding text_meta
+text_says bs m s =
+    let d = bind_some (at_most_one (flat_map environment_in bs)) environment_meaning m.environment s.environment in
+    let known = known_of m.order m.clocks in
+    bind_is (only (flat_map trace_in bs)) (after_trace bs) s.trace m s.one_trace
+    (bind_is (provided (is_trace s.trace) (trace_order s.trace)) (after_trace_order bs s.trace) m.order m (ap (λ (b : Bool). provided b (trace_order s.trace)) s.version ∙ s.order)
+    (bind_is (trace_uuid s.trace) (after_uuid bs s.trace m.order) m.uuid m s.uuid
+    (bind_is (at_most_one (flat_map environment_in bs)) (after_facts bs s.trace m.order m.uuid) d.0 m d.1
+    (bind_is (environment_meaning d.0) (after_environment bs s.trace m.order m.uuid) m.environment m d.2
+    (bind_is (each clock_meaning (flat_map clock_in bs)) (after_clocks bs s.trace m.order m.uuid m.environment) m.clocks m s.clocks
+    (bind_is (provided (no_two bytes_eq known.clocks) (header_meaning known s.trace)) (after_header bs m.order m.uuid m.environment m.clocks) m.header m
+    (ap (λ (b : Bool). provided b (header_meaning known s.trace)) s.clocks_once ∙ s.header)
+    (bind_is (streams_meaning known bs) (λ streams. Some (record { order = m.order; uuid = m.uuid; environment = m.environment; clocks = m.clocks; header = m.header; streams = streams })) m.streams m s.streams refl)))))))
+
 -- a text means what its blocks of each kind mean, however the kinds are mixed
 pub same_meaning : (bs cs : List Block) → SameBlocks bs cs → text_meta bs ≡ text_meta cs
 unfolding text_meta streams_meaning

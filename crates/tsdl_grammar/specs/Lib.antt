@@ -13,5 +13,6 @@ pub mod MemberMeaning
 pub mod StructureMeaning
 pub mod BlockMeaning
 pub mod Denotes
+pub mod Orders
 pub mod Laws
 pub mod Positions

@@ -30,6 +30,7 @@ ghost use Rattle.tsdl_grammar.specs.Lookups.{attr};
 ghost use Rattle.tsdl_grammar.specs.BlockMeaning.{clock_meaning, stream_meaning, event_meaning};
 ghost use Rattle.tsdl_grammar.specs.MemberMeaning.{member_meaning};
 ghost use Rattle.tsdl_grammar.specs.StructureMeaning.{struct_meaning};
+ghost use Rattle.tsdl_grammar.specs.Orders.{Reordered, SameItems, Paired, SameButClockOrder, SameButEnvironmentOrder};
 ghost use Rattle.tsdl_grammar.specs.Laws.{SaysInteger, SaysStructure, SaysClock, SaysStream, SaysEvent, SaysMetadata, SameBlocks, NamesLength, NumbersRise};
 
 /// A text has one list of tokens.
@@ -111,6 +112,18 @@ pub fn texts_say_their_parts()
 /// Blocks of different kinds stand in any order.
 pub fn kinds_of_blocks_mix()
     ensures { (bs cs : List Block) → SameBlocks bs cs → text_meta bs ≡ text_meta cs }
+{}
+
+/// Blocks stand in any order: those of a text in another order mean the same metadata, but for the order of the clocks,
+/// which is the text's.
+pub fn blocks_stand_in_any_order()
+    ensures { (bs cs : List Block) (m : Metadata) → Reordered bs cs → text_meta bs ≡ Some m → (n : Metadata) × (text_meta cs ≡ Some n) × SameButClockOrder m n }
+{}
+
+/// Attributes, scopes and entries of the environment stand in any order in their block: in another order the text means the
+/// same metadata, but for the order of the environment, which is the text's.
+pub fn items_stand_in_any_order()
+    ensures { (bs cs : List Block) (m : Metadata) → Paired SameItems bs cs → text_meta bs ≡ Some m → (n : Metadata) × (text_meta cs ≡ Some n) × SameButEnvironmentOrder m n }
 {}
 
 /// The streams of the metadata stand by number, no two of one number, and so do the events of each stream.

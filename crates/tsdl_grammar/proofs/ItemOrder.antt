@@ -1,0 +1,327 @@
+-- The attributes, scopes and entries of blocks in another order.
+use Rattle.std.proofs.Common.{◌≡◌, ℕ, suc, Bool, true, false, not, cond, ◌&&◌, ◌||◌, List, [], ◌∷◌, ◌++◌, map, length, Option, Some, None, refl, sym, ap, ap₂, subst, ◌∙◌}
+use Rattle.std.specs.Prelude.{pos, codes, nat_le}
+use Rattle.std.specs.List.{list_any, list_all, flat_map}
+use Rattle.std.specs.Str.{bytes_eq}
+use Rattle.std.specs.Cmp.{IsEquivalence}
+use Rattle.std.specs.Cmp.Lexicographic.{lists_equiv, nat_list_eq_equiv}
+use Rattle.std.proofs.lemmas.List.Concat.{flat_map-cons}
+use Rattle.ctf_types.specs.declared.ClockType.{ClockType}
+use Rattle.ctf_types.specs.declared.EnvironmentEntry.{EnvironmentEntry}
+use Rattle.ctf_types.specs.declared.Stream.{Stream}
+use Rattle.ctf_types.specs.declared.Event.{Event}
+use Rattle.ctf_types.specs.declared.StructType.{StructType}
+use Rattle.ctf_types.specs.declared.Metadata.{Metadata}
+use Rattle.tsdl_grammar.specs.declared.tree.Value.{Value}
+use Rattle.tsdl_grammar.specs.declared.tree.Attribute.{Attribute}
+use Rattle.tsdl_grammar.specs.declared.tree.Structure.{Structure}
+use Rattle.tsdl_grammar.specs.declared.tree.Scope.{Scope}
+use Rattle.tsdl_grammar.specs.declared.tree.Item.{Item}
+use Rattle.tsdl_grammar.specs.declared.tree.NamedFact.{NamedFact}
+use Rattle.tsdl_grammar.specs.declared.tree.Block.{Block}
+use Rattle.tsdl_grammar.specs.Steps.{◌>>=◌, provided, only, at_most_one, each}
+use Rattle.tsdl_grammar.specs.Lookups.{words_of, same_words, is_word, is_among, no_two, are_distinct, attr, attr_names, attr_in, attrs_in, scope, scope_in, scopes_in, has_parts}
+use Rattle.tsdl_grammar.specs.AttributeValues.{natural_value, whole_value, text_value, name_value, flag_value, uuid_value, with_default, optional}
+use Rattle.tsdl_grammar.specs.IntegerMeaning.{Known}
+use Rattle.tsdl_grammar.specs.StructureMeaning.{structure_of, scope_meaning, has_member}
+use Rattle.tsdl_grammar.specs.BlockMeaning.{number_or_zero, packet_header, has_number, is_trace, trace_order, trace_uuid, header_meaning, suits_header, clock_meaning, packet_context, event_header, event_context, context_names, suits, stream_meaning, specific_context, fields_scope, event_meaning, named_fact_meaning, environment_meaning}
+use Rattle.tsdl_grammar.specs.Denotes.{text_meta, trace_in, stream_in, event_in, clock_in, environment_in, known_of, streams_meaning}
+use Rattle.tsdl_grammar.specs.Laws.{SaysMetadata}
+use Rattle.tsdl_grammar.specs.Orders.{Reordered, same, neighbours, behind, further, SameItems, traces, streams, events, clocks, environments, Paired, none, more, SameButEnvironmentOrder}
+use Rattle.tsdl_grammar.proofs.Inversion.{bind_some, bind_is, provided_some, some_same}
+use Rattle.tsdl_grammar.proofs.MeaningParts.{says_metadata, text_says}
+use Rattle.tsdl_grammar.proofs.Reordering.{reordered_parts, reordered_map, all_stays, no_two_stays, each_stays}
+
+-- ---- names
+
+words_equiv : IsEquivalence same_words
+words_equiv = lists_equiv nat_list_eq_equiv
+
+-- two names that are one are the same
+both_are : (v w n : List (List ℕ)) → same_words v n ≡ true → same_words w n ≡ true → same_words v w ≡ true
+both_are v w n p q = words_equiv.congr v n w p ∙ words_equiv.symm n w ∙ q
+
+not_twice : (a b c d : Bool) → (not (a || b) && (not c && d)) ≡ true → a ≡ true → ⊥
+not_twice true b c d e h = absurd cc
+not_twice false b c d e h = absurd cc
+
+tail_holds : (a b : Bool) → (a && b) ≡ true → b ≡ true
+tail_holds true b e = e
+tail_holds false b e = absurd cc
+
+front_holds : (a b : Bool) → (a && b) ≡ true → a ≡ true
+front_holds true b e = refl
+front_holds false b e = absurd cc
+
+looks_swap : {A : Type 0} (b c : Bool) (u v o : Option A) → (b ≡ true → c ≡ true → ⊥) → cond b u (cond c v o) ≡ cond c v (cond b u o)
+looks_swap true true u v o h = absurd (h refl refl)
+looks_swap true false u v o h = refl
+looks_swap false true u v o h = refl
+looks_swap false false u v o h = refl
+
+names_stay : {xs ys : List Attribute} → Reordered xs ys → are_distinct (attr_names xs) ≡ are_distinct (attr_names ys)
+names_stay r = no_two_stays same_words words_equiv.symm (reordered_map (λ a. words_of a.name) r)
+
+attr_stays : (w : List ℕ) {xs ys : List Attribute} → Reordered xs ys → are_distinct (attr_names xs) ≡ true → attr w xs ≡ attr w ys
+attr_stays w (same xs) d = refl
+attr_stays w (neighbours x y xs) d =
+    looks_swap (is_word w x.name) (is_word w y.name) (Some x.value) (Some y.value) (attr w xs)
+    (λ p q. not_twice (same_words (words_of x.name) (words_of y.name)) (list_any (same_words (words_of x.name)) (attr_names xs)) (list_any (same_words (words_of y.name)) (attr_names xs))
+    (are_distinct (attr_names xs)) d (both_are (words_of x.name) (words_of y.name) (w ∷ []) p q))
+attr_stays w (behind x xs ys r) d =
+    ap (λ (o : Option Value). cond (is_word w x.name) (Some x.value) o)
+    (attr_stays w r (tail_holds (not (list_any (same_words (words_of x.name)) (attr_names xs))) (are_distinct (attr_names xs)) d))
+attr_stays w (further xs ys zs r s) d = attr_stays w r d ∙ attr_stays w s (sym (names_stay r) ∙ d)
+
+abbrev scope_names : List Scope → List (List (List ℕ))
+scope_names scopes = map (λ s. words_of s.name) scopes
+
+scope_names_stay : {xs ys : List Scope} → Reordered xs ys → are_distinct (scope_names xs) ≡ are_distinct (scope_names ys)
+scope_names_stay r = no_two_stays same_words words_equiv.symm (reordered_map (λ s. words_of s.name) r)
+
+scope_stays : (n : List (List ℕ)) {xs ys : List Scope} → Reordered xs ys → are_distinct (scope_names xs) ≡ true → scope n xs ≡ scope n ys
+scope_stays n (same xs) d = refl
+scope_stays n (neighbours x y xs) d =
+    looks_swap (same_words (words_of x.name) n) (same_words (words_of y.name) n) (Some x.structure) (Some y.structure) (scope n xs)
+    (λ p q. not_twice (same_words (words_of x.name) (words_of y.name)) (list_any (same_words (words_of x.name)) (scope_names xs)) (list_any (same_words (words_of y.name)) (scope_names xs))
+    (are_distinct (scope_names xs)) d (both_are (words_of x.name) (words_of y.name) n p q))
+scope_stays n (behind x xs ys r) d =
+    ap (λ (o : Option Structure). cond (same_words (words_of x.name) n) (Some x.structure) o)
+    (scope_stays n r (tail_holds (not (list_any (same_words (words_of x.name)) (scope_names xs))) (are_distinct (scope_names xs)) d))
+scope_stays n (further xs ys zs r s) d = scope_stays n r d ∙ scope_stays n s (sym (scope_names_stay r) ∙ d)
+
+-- ---- blocks of the same items
+
+guarded : {A : Type 0} (b c : Bool) (o p : Option A) → b ≡ c → (b ≡ true → o ≡ p) → provided b o ≡ provided c p
+guarded true true o p e h = h refl
+guarded true false o p e h = absurd cc
+guarded false true o p e h = absurd cc
+guarded false false o p e h = refl
+
+module _ (is js : List Item) (r : Reordered is js) (allowed : List (List (List ℕ))) where
+  abbrev attr_part : Reordered (attrs_in is) (attrs_in js)
+  attr_part = reordered_parts attr_in r
+
+  abbrev scope_part : Reordered (scopes_in is) (scopes_in js)
+  scope_part = reordered_parts scope_in r
+
+  parts_stay : has_parts allowed is ≡ has_parts allowed js
+  parts_stay =
+      ap₂ (λ (a b : Bool). a && b) (ap₂ (λ (a b : Bool). a && b) (names_stay attr_part) (scope_names_stay scope_part)) (all_stays (λ s. is_among allowed (words_of s.name)) scope_part)
+
+  attrs_once : has_parts allowed is ≡ true → are_distinct (attr_names (attrs_in is)) ≡ true
+  attrs_once h =
+      front_holds (are_distinct (attr_names (attrs_in is))) (are_distinct (scope_names (scopes_in is)))
+      (front_holds (are_distinct (attr_names (attrs_in is)) && are_distinct (scope_names (scopes_in is))) (list_all (λ s. is_among allowed (words_of s.name)) (scopes_in is)) h)
+
+  scopes_once : has_parts allowed is ≡ true → are_distinct (scope_names (scopes_in is)) ≡ true
+  scopes_once h =
+      tail_holds (are_distinct (attr_names (attrs_in is))) (are_distinct (scope_names (scopes_in is)))
+      (front_holds (are_distinct (attr_names (attrs_in is)) && are_distinct (scope_names (scopes_in is))) (list_all (λ s. is_among allowed (words_of s.name)) (scopes_in is)) h)
+
+  attr_alike : has_parts allowed is ≡ true → (w : List ℕ) → attr w (attrs_in is) ≡ attr w (attrs_in js)
+  attr_alike h w = attr_stays w attr_part (attrs_once h)
+
+  scope_alike : has_parts allowed is ≡ true → (n : List (List ℕ)) → scope n (scopes_in is) ≡ scope n (scopes_in js)
+  scope_alike h n = scope_stays n scope_part (scopes_once h)
+
+abbrev clock_body : List Attribute → Option ClockType
+clock_body attrs = do
+  name ← attr (codes "name") attrs >>= name_value
+  uuid ← optional uuid_value (attr (codes "uuid") attrs)
+  description ← optional text_value (attr (codes "description") attrs)
+  frequency ← with_default 1000000000 natural_value (attr (codes "freq") attrs)
+  precision ← number_or_zero (codes "precision") attrs
+  offset_seconds ← with_default (pos 0) whole_value (attr (codes "offset_s") attrs)
+  offset_cycles ← number_or_zero (codes "offset") attrs
+  absolute ← with_default false flag_value (attr (codes "absolute") attrs)
+  Some (record {
+    name = name;
+    uuid = uuid;
+    description = description;
+    frequency = frequency;
+    precision = precision;
+    offset_seconds = offset_seconds;
+    offset_cycles = offset_cycles;
+    absolute = absolute;
+  })
+
+clock_stays : (is js : List Item) → Reordered is js → clock_meaning is ≡ clock_meaning js
+unfolding clock_meaning
+clock_stays is js r =
+    guarded (has_parts [] is) (has_parts [] js) (clock_body (attrs_in is)) (clock_body (attrs_in js)) (parts_stay is js r [])
+    (λ h. let a = attr_alike is js r [] h in
+    rw (a (codes "name"), a (codes "uuid"), a (codes "description"), a (codes "freq"), a (codes "precision"), a (codes "offset_s"), a (codes "offset"), a (codes "absolute")) refl)
+
+abbrev stream_body : Known → List Attribute → List Scope → Option Stream
+stream_body known attrs scopes = do
+  id ← number_or_zero (codes "id") attrs
+  context ← scope_meaning known packet_context (suits context_names) scopes
+  header ← scope_meaning known event_header (suits (codes "id" ∷ [])) scopes
+  common ← scope_meaning known event_context (λ m. true) scopes
+  provided (has_member (codes "packet_size") context.members && has_member (codes "content_size") context.members)
+      (Some (record { id = id; context = context; event_header = header; common = common; events = [] }))
+
+abbrev stream_scopes : List (List (List ℕ))
+stream_scopes = packet_context ∷ event_header ∷ event_context ∷ []
+
+stream_stays : (known : Known) (is js : List Item) → Reordered is js → stream_meaning known is ≡ stream_meaning known js
+unfolding stream_meaning
+stream_stays known is js r =
+    guarded (has_parts stream_scopes is) (has_parts stream_scopes js) (stream_body known (attrs_in is) (scopes_in is)) (stream_body known (attrs_in js) (scopes_in js)) (parts_stay is js r stream_scopes)
+    (λ h. let a = attr_alike is js r stream_scopes h in let s = scope_alike is js r stream_scopes h in
+    rw (a (codes "id"), s packet_context, s event_header, s event_context) refl)
+
+abbrev event_body : Known → List Attribute → List Scope → Option (ℕ × Event)
+event_body known attrs scopes = do
+  name ← attr (codes "name") attrs >>= name_value
+  id ← number_or_zero (codes "id") attrs
+  stream ← number_or_zero (codes "stream_id") attrs
+  level ← optional natural_value (attr (codes "loglevel") attrs)
+  specific ← scope_meaning known specific_context (λ m. true) scopes
+  fields ← scope_meaning known fields_scope (λ m. true) scopes
+  Some (stream, record { id = id; name = name; log_level = level; specific = specific; fields = fields })
+
+abbrev event_scopes : List (List (List ℕ))
+event_scopes = specific_context ∷ fields_scope ∷ []
+
+event_stays : (known : Known) (is js : List Item) → Reordered is js → event_meaning known is ≡ event_meaning known js
+unfolding event_meaning
+event_stays known is js r =
+    guarded (has_parts event_scopes is) (has_parts event_scopes js) (event_body known (attrs_in is) (scopes_in is)) (event_body known (attrs_in js) (scopes_in js)) (parts_stay is js r event_scopes)
+    (λ h. let a = attr_alike is js r event_scopes h in let s = scope_alike is js r event_scopes h in
+    rw (a (codes "name"), a (codes "id"), a (codes "stream_id"), a (codes "loglevel"), s specific_context, s fields_scope) refl)
+
+-- ---- the trace block
+
+abbrev trace_scopes : List (List (List ℕ))
+trace_scopes = packet_header ∷ []
+
+module _ (is js : List Item) (r : Reordered is js) (h : has_parts trace_scopes is ≡ true) where
+  version_stays : is_trace is ≡ is_trace js
+  version_stays = let a = attr_alike is js r trace_scopes h in rw (parts_stay is js r trace_scopes, a (codes "major"), a (codes "minor")) refl
+
+  order_stays : trace_order is ≡ trace_order js
+  order_stays = let a = attr_alike is js r trace_scopes h in rw (a (codes "byte_order")) refl
+
+  uuid_stays : trace_uuid is ≡ trace_uuid js
+  unfolding trace_uuid
+  uuid_stays = let a = attr_alike is js r trace_scopes h in rw (a (codes "uuid")) refl
+
+  header_stays : (known : Known) → header_meaning known is ≡ header_meaning known js
+  unfolding header_meaning
+  header_stays known = let s = scope_alike is js r trace_scopes h in rw (s packet_header) refl
+
+trace_parts : (is : List Item) → is_trace is ≡ true → has_parts trace_scopes is ≡ true
+trace_parts is e =
+    front_holds (has_parts trace_scopes is) (has_number (codes "major") 1 is) (front_holds (has_parts trace_scopes is && has_number (codes "major") 1 is) (has_number (codes "minor") 8 is) e)
+
+-- ---- the environment block
+
+length_stays : {A : Type 0} {xs ys : List A} → Reordered xs ys → length xs ≡ length ys
+length_stays (same xs) = refl
+length_stays (neighbours x y xs) = refl
+length_stays (behind x xs ys r) = ap suc (length_stays r)
+length_stays (further xs ys zs r s) = length_stays r ∙ length_stays s
+
+environment_stays : (fs gs : List NamedFact) (entries : List EnvironmentEntry) → Reordered fs gs → environment_meaning fs ≡ Some entries
+    → (others : List EnvironmentEntry) × (environment_meaning gs ≡ Some others) × Reordered entries others
+unfolding environment_meaning
+environment_stays fs gs entries r e =
+    let p = provided_some (nat_le (length fs) 256 && no_two bytes_eq (map (λ f. f.name) fs)) (each named_fact_meaning fs) entries e in
+    let i = each_stays named_fact_meaning entries r p.1 in
+    let tests : (nat_le (length fs) 256 && no_two bytes_eq (map (λ f. f.name) fs)) ≡ (nat_le (length gs) 256 && no_two bytes_eq (map (λ f. f.name) gs)) =
+    ap₂ (λ (n : ℕ) (b : Bool). nat_le n 256 && b) (length_stays r) (no_two_stays bytes_eq nat_list_eq_equiv.symm (reordered_map (λ f. f.name) r))
+    in
+    (i.0, ap (λ (b : Bool). provided b (each named_fact_meaning gs)) (sym tests ∙ p.0) ∙ i.1, i.2)
+
+-- ---- blocks side by side
+
+paired_append : {A : Type 0} {R : A → A → Type 0} {xs ys us vs : List A} → Paired R xs ys → Paired R us vs → Paired R (xs ++ us) (ys ++ vs)
+paired_append none q = q
+paired_append (more x y xs ys r p) q = more x y _ _ r (paired_append p q)
+
+paired_parts : {A : Type 0} (part : Block → List (List A)) {bs cs : List Block} → ((b c : Block) → SameItems b c → Paired Reordered (part b) (part c)) → Paired SameItems bs cs
+    → Paired Reordered (flat_map part bs) (flat_map part cs)
+paired_parts part h none = none
+paired_parts part h (more b c bs cs r p) = rw (flat_map-cons part b bs, flat_map-cons part c cs) (paired_append (h b c r) (paired_parts part h p))
+
+trace_pair : (b c : Block) → SameItems b c → Paired Reordered (trace_in b) (trace_in c)
+trace_pair _ _ (traces is js r) = more is js [] [] r none
+trace_pair _ _ (streams is js r) = none
+trace_pair _ _ (events is js r) = none
+trace_pair _ _ (clocks is js r) = none
+trace_pair _ _ (environments fs gs r) = none
+
+stream_pair : (b c : Block) → SameItems b c → Paired Reordered (stream_in b) (stream_in c)
+stream_pair _ _ (traces is js r) = none
+stream_pair _ _ (streams is js r) = more is js [] [] r none
+stream_pair _ _ (events is js r) = none
+stream_pair _ _ (clocks is js r) = none
+stream_pair _ _ (environments fs gs r) = none
+
+event_pair : (b c : Block) → SameItems b c → Paired Reordered (event_in b) (event_in c)
+event_pair _ _ (traces is js r) = none
+event_pair _ _ (streams is js r) = none
+event_pair _ _ (events is js r) = more is js [] [] r none
+event_pair _ _ (clocks is js r) = none
+event_pair _ _ (environments fs gs r) = none
+
+clock_pair : (b c : Block) → SameItems b c → Paired Reordered (clock_in b) (clock_in c)
+clock_pair _ _ (traces is js r) = none
+clock_pair _ _ (streams is js r) = none
+clock_pair _ _ (events is js r) = none
+clock_pair _ _ (clocks is js r) = more is js [] [] r none
+clock_pair _ _ (environments fs gs r) = none
+
+environment_pair : (b c : Block) → SameItems b c → Paired Reordered (environment_in b) (environment_in c)
+environment_pair _ _ (traces is js r) = none
+environment_pair _ _ (streams is js r) = none
+environment_pair _ _ (events is js r) = none
+environment_pair _ _ (clocks is js r) = none
+environment_pair _ _ (environments fs gs r) = more fs gs [] [] r none
+
+only_pair : {A : Type 0} {R : A → A → Type 0} {xs ys : List A} (x : A) → Paired R xs ys → only xs ≡ Some x → (y : A) × (only ys ≡ Some y) × R x y
+only_pair x none e = absurd cc
+only_pair {A} {R} x (more u v _ _ r none) e = (v, refl, subst (λ (w : A). R w v) (some_same u x (Some u) refl e) r)
+only_pair x (more u v _ _ r (more y z us vs s p)) e = absurd cc
+
+at_most_one_pair : {A : Type 0} {xs ys : List (List A)} (x : List A) → Paired Reordered xs ys → at_most_one xs ≡ Some x → (y : List A) × (at_most_one ys ≡ Some y) × Reordered x y
+at_most_one_pair {A} x none e = ([], refl, subst (λ (w : List A). Reordered w []) (some_same [] x (Some []) refl e) (same []))
+at_most_one_pair {A} x (more u v _ _ r none) e = (v, refl, subst (λ (w : List A). Reordered w v) (some_same u x (Some u) refl e) r)
+at_most_one_pair x (more u v _ _ r (more y z us vs s p)) e = absurd cc
+
+each_pair : {A B : Type 0} {R : A → A → Type 0} (f : A → Option B) {xs ys : List A} → ((x y : A) → R x y → f x ≡ f y) → Paired R xs ys → each f xs ≡ each f ys
+each_pair f h none = refl
+each_pair {A} {B} f h (more x y xs ys r p) = ap₂ (λ (o : Option B) (q : Option (List B)). o >>= λ u. q >>= λ us. Some (u ∷ us)) (h x y r) (each_pair f h p)
+
+-- ---- the whole text
+
+streams_inside : (known : Known) (bs cs : List Block) → Paired SameItems bs cs → streams_meaning known bs ≡ streams_meaning known cs
+unfolding streams_meaning
+streams_inside known bs cs p =
+    rw (each_pair (stream_meaning known) (stream_stays known) (paired_parts stream_in stream_pair p), each_pair (event_meaning known) (event_stays known) (paired_parts event_in event_pair p)) refl
+
+pub items_reordered : (bs cs : List Block) (m : Metadata) → Paired SameItems bs cs → text_meta bs ≡ Some m → (n : Metadata) × (text_meta cs ≡ Some n) × SameButEnvironmentOrder m n
+items_reordered bs cs m p e =
+    let s = says_metadata bs m e in
+    let t = only_pair s.trace (paired_parts trace_in trace_pair p) s.one_trace in
+    let h = trace_parts s.trace s.version in
+    let f = bind_some (at_most_one (flat_map environment_in bs)) environment_meaning m.environment s.environment in
+    let g = at_most_one_pair f.0 (paired_parts environment_in environment_pair p) f.1 in
+    let v = environment_stays f.0 g.0 m.environment g.2 f.2 in
+    let known = known_of m.order m.clocks in
+    let n : Metadata = record m { environment = v.0 } in
+    let says : SaysMetadata cs n = record {
+      trace = t.0;
+      one_trace = t.1;
+      version = sym (version_stays s.trace t.0 t.2 h) ∙ s.version;
+      order = sym (order_stays s.trace t.0 t.2 h) ∙ s.order;
+      uuid = sym (uuid_stays s.trace t.0 t.2 h) ∙ s.uuid;
+      environment = bind_is (at_most_one (flat_map environment_in cs)) environment_meaning g.0 v.0 g.1 v.1;
+      clocks = sym (each_pair clock_meaning clock_stays (paired_parts clock_in clock_pair p)) ∙ s.clocks;
+      clocks_once = s.clocks_once;
+      header = sym (header_stays s.trace t.0 t.2 h known) ∙ s.header;
+      streams = sym (streams_inside known bs cs p) ∙ s.streams;
+    } in
+    (n, text_says cs n says, record { environment = v.2; others = refl })

@@ -1,0 +1,101 @@
+-- What is known of the clocks is their names, and not the order in which they stand.
+use Rattle.std.proofs.Common.{◌≡◌, ℕ, Bool, true, not, ◌&&◌, List, [], ◌∷◌, ◌++◌, Option, Some, None, refl, ap, ◌∙◌}
+use Rattle.std.specs.Prelude.{codes, nat_le, length}
+use Rattle.std.specs.Option.{option_map}
+use Rattle.std.specs.List.{list_any, list_all}
+use Rattle.std.specs.Str.{bytes_eq}
+use Rattle.ctf_types.specs.declared.MemberType.{MemberType}
+use Rattle.ctf_types.specs.declared.StructType.{StructType}
+use Rattle.ctf_types.specs.declared.IntType.{IntType}
+use Rattle.ctf_types.specs.Chain.{Leaf, Number, Labelled}
+use Rattle.tsdl_grammar.specs.declared.tree.Value.{Value}
+use Rattle.tsdl_grammar.specs.declared.tree.Value.TheVariants as values
+use Rattle.tsdl_grammar.specs.declared.tree.Attribute.{Attribute}
+use Rattle.tsdl_grammar.specs.declared.tree.Kind.{Kind}
+use Rattle.tsdl_grammar.specs.declared.tree.Kind.TheVariants as kinds
+use Rattle.tsdl_grammar.specs.declared.tree.MemberTree.{MemberTree}
+use Rattle.tsdl_grammar.specs.declared.tree.Structure.{Structure}
+use Rattle.tsdl_grammar.specs.declared.tree.Scope.{Scope}
+use Rattle.tsdl_grammar.specs.declared.tree.Item.{Item}
+use Rattle.tsdl_grammar.specs.Steps.{◌>>=◌, provided}
+use Rattle.tsdl_grammar.specs.Lookups.{words_of, attr, scope, scopes_in}
+use Rattle.tsdl_grammar.specs.AttributeValues.{optional}
+use Rattle.tsdl_grammar.specs.IntegerMeaning.{Known, clock_in, clock_value, int_meaning}
+use Rattle.tsdl_grammar.specs.MemberMeaning.{kind_meaning, enum_meaning, bracketed, member_meaning}
+use Rattle.tsdl_grammar.specs.StructureMeaning.{has_member, members_meaning, align_of, align_with, struct_type, struct_meaning, structure_of, scope_meaning}
+use Rattle.tsdl_grammar.specs.BlockMeaning.{header_meaning, stream_meaning, event_meaning, packet_header, suits_header, packet_context, context_names, suits, event_header, event_context, specific_context, fields_scope}
+
+-- the same byte order, and clocks of the same names
+pub record KnowSame (k l : Known) : Type 0 where
+  pub order : k.order ≡ l.order
+  pub clocks : (w : List ℕ) → list_any (bytes_eq w) k.clocks ≡ list_any (bytes_eq w) l.clocks
+
+-- steps that go on alike
+pub goes_on_alike : {A B : Type 0} (o : Option A) (f g : A → Option B) → ((x : A) → f x ≡ g x) → (o >>= f) ≡ (o >>= g)
+goes_on_alike None f g h = refl
+goes_on_alike (Some x) f g h = h x
+
+optional_alike : {A : Type 0} (f g : Value → Option A) (o : Option Value) → ((v : Value) → f v ≡ g v) → optional f o ≡ optional g o
+optional_alike f g None h = refl
+optional_alike f g (Some v) h = ap (option_map Some) (h v)
+
+module _ (k l : Known) (same : KnowSame k l) where
+  clock_alike : (v : Value) → clock_value k.clocks v ≡ clock_value l.clocks v
+  unfolding clock_value
+  clock_alike (values.Number n) = refl
+  clock_alike (values.Text s) = refl
+  clock_alike (values.Name n) = among (words_of n)
+    where
+      among : (ws : List (List ℕ)) → clock_in k.clocks ws ≡ clock_in l.clocks ws
+      among [] = refl
+      among (a ∷ []) = refl
+      among (a ∷ b ∷ []) = refl
+      among (a ∷ b ∷ c ∷ []) = ap (λ (there : Bool). provided (bytes_eq a (codes "clock") && bytes_eq c (codes "value") && there) (Some b)) (same.clocks b)
+      among (a ∷ b ∷ c ∷ d ∷ ws) = refl
+
+  int_alike : (attrs : List Attribute) → int_meaning k attrs ≡ int_meaning l attrs
+  unfolding int_meaning
+  int_alike attrs = rw (same.order, optional_alike (clock_value k.clocks) (clock_value l.clocks) (attr (codes "map") attrs) clock_alike) refl
+
+  kind_alike : (kind : Kind) → kind_meaning k kind ≡ kind_meaning l kind
+  unfolding kind_meaning
+  kind_alike (kinds.Integer attrs) = ap (option_map Number) (int_alike attrs)
+  kind_alike (kinds.Enumeration attrs es) = ap (λ (o : Option IntType). o >>= λ int. option_map Labelled (enum_meaning int es)) (int_alike attrs)
+  kind_alike (kinds.Text attrs) = refl
+
+  member_alike : (before : List (List ℕ × MemberType)) (m : MemberTree) → member_meaning k before m ≡ member_meaning l before m
+  unfolding member_meaning
+  member_alike before m = ap (λ (o : Option Leaf). o >>= λ leaf. bracketed before leaf m.brackets) (kind_alike m.kind)
+
+  members_alike : (before : List (List ℕ × MemberType)) (ms : List MemberTree) → members_meaning k before ms ≡ members_meaning l before ms
+  unfolding members_meaning
+  members_alike before [] = refl
+  members_alike before (m ∷ ms) =
+      ap (λ (o : Option MemberType). provided (not (has_member m.name before)) o >>= λ t. members_meaning k (before ++ (m.name, t) ∷ []) ms) (member_alike before m)
+      ∙ goes_on_alike (provided (not (has_member m.name before)) (member_meaning l before m)) (λ t. members_meaning k (before ++ (m.name, t) ∷ []) ms) (λ t. members_meaning l (before ++ (m.name, t) ∷ []) ms)
+      (λ t. members_alike (before ++ (m.name, t) ∷ []) ms)
+
+  struct_alike : (s : Structure) → struct_meaning k s ≡ struct_meaning l s
+  unfolding struct_meaning
+  struct_alike s =
+      ap (λ (o : Option (List (List ℕ × MemberType))). provided (nat_le (length s.members) 1024) o >>= λ members. align_of s.align >>= λ align. struct_type members (align_with members align)) (members_alike [] s.members)
+
+  structure_alike : (o : Option Structure) → structure_of k o ≡ structure_of l o
+  structure_alike None = refl
+  structure_alike (Some s) = struct_alike s
+
+  pub scope_alike : (name : List (List ℕ)) (test : List ℕ × MemberType → Bool) (scopes : List Scope) → scope_meaning k name test scopes ≡ scope_meaning l name test scopes
+  scope_alike name test scopes = ap (λ (o : Option StructType). o >>= λ t. provided (list_all test t.members) (Some t)) (structure_alike (scope name scopes))
+
+  pub header_alike : (is : List Item) → header_meaning k is ≡ header_meaning l is
+  unfolding header_meaning
+  header_alike is = scope_alike packet_header suits_header (scopes_in is)
+
+  pub stream_alike : (is : List Item) → stream_meaning k is ≡ stream_meaning l is
+  unfolding stream_meaning
+  stream_alike is =
+      rw (scope_alike packet_context (suits context_names) (scopes_in is), scope_alike event_header (suits (codes "id" ∷ [])) (scopes_in is), scope_alike event_context (λ m. true) (scopes_in is)) refl
+
+  pub event_alike : (is : List Item) → event_meaning k is ≡ event_meaning l is
+  unfolding event_meaning
+  event_alike is = rw (scope_alike specific_context (λ m. true) (scopes_in is), scope_alike fields_scope (λ m. true) (scopes_in is)) refl
