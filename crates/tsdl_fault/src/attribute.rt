@@ -1,20 +1,25 @@
 //! The first fault of a block's attribute. An attribute that no rule names is passed over.
 
+ghost use Rattle.std.specs.Prelude.{IfErr};
+ghost use Rattle.tsdl_fault.specs.Faults.{StopsInside};
+
 use crate::block::{BlockKind, BlockParts};
 use crate::cursor::Cursor;
-use crate::flaw::Stop;
+use crate::flaw::{Remedy, Stop};
 use crate::ledger::Ledger;
 use crate::name::Name;
 use crate::value::Value;
 use std::alloc::Global;
 
 /// The value of an attribute, behind its name and `=`.
-pub(crate) fn judge_attribute(
-    cursor: &mut Cursor,
+pub(crate) fn judge_attribute<'a>(
+    cursor: &mut Cursor<'a>,
     ledger: &mut Ledger,
-    parts: &mut BlockParts,
+    parts: &mut BlockParts<'a>,
     name: &Name,
-) -> Result<(), Stop> {
+) -> Result<(), Stop>
+    ensures { IfErr result StopsInside }
+{
     parts.attributes.add(name.at, name.dotted(cursor.alloc)?)?;
     let value = Value::read(cursor)?;
     let Some(word) = name.only() else {
@@ -28,9 +33,11 @@ pub(crate) fn judge_attribute(
     }
 }
 
-fn judge_trace(alloc: Global, word: &str, value: &Value) -> Result<(), Stop> {
+fn judge_trace(alloc: Global, word: &str, value: &Value) -> Result<(), Stop>
+    ensures { IfErr result StopsInside }
+{
     match word {
-        "byte_order" => value.judge_word(alloc, &["le", "be"]),
+        "byte_order" => value.judge_order(alloc, &["le", "be"]),
         "major" => judge_version(alloc, word, value, 1),
         "minor" => judge_version(alloc, word, value, 8),
         "uuid" => value.judge_uuid(),
@@ -39,26 +46,30 @@ fn judge_trace(alloc: Global, word: &str, value: &Value) -> Result<(), Stop> {
 }
 
 /// A part of the version, of which only one number is supported.
-fn judge_version(alloc: Global, word: &str, value: &Value, wanted: u64) -> Result<(), Stop> {
+fn judge_version(alloc: Global, word: &str, value: &Value, wanted: u64) -> Result<(), Stop>
+    ensures { IfErr result StopsInside }
+{
     if value.natural()? == wanted {
         Ok(())
     } else {
-        Err(Stop::unsupported(alloc, value.at, word))
+        Err(Stop::unsupported(alloc, value.at, word, Remedy::Nothing))
     }
 }
 
-fn judge_stream(ledger: &mut Ledger, word: &str, value: &Value) -> Result<(), Stop> {
+fn judge_stream(ledger: &mut Ledger, word: &str, value: &Value) -> Result<(), Stop>
+    ensures { IfErr result StopsInside }
+{
     match word {
         "id" => ledger.add_stream(value.at, value.natural()?),
         _ => Ok(()),
     }
 }
 
-fn judge_event(parts: &mut BlockParts, word: &str, value: &Value) -> Result<(), Stop> {
+fn judge_event<'a>(parts: &mut BlockParts<'a>, word: &str, value: &Value<'a>) -> Result<(), Stop>
+    ensures { IfErr result StopsInside }
+{
     match word {
-        "name" => {
-            value.label()?;
-        }
+        "name" => parts.name = Some(value.label()?),
         "id" => parts.id = value.natural()?,
         "stream_id" => parts.stream_id = value.natural()?,
         "loglevel" => {
@@ -69,7 +80,9 @@ fn judge_event(parts: &mut BlockParts, word: &str, value: &Value) -> Result<(), 
     Ok(())
 }
 
-fn judge_clock(alloc: Global, ledger: &mut Ledger, word: &str, value: &Value) -> Result<(), Stop> {
+fn judge_clock(alloc: Global, ledger: &mut Ledger, word: &str, value: &Value) -> Result<(), Stop>
+    ensures { IfErr result StopsInside }
+{
     match word {
         "name" => {
             let name = String::from_str(alloc, value.label()?)?;

@@ -1,8 +1,11 @@
 //! The first fault of a block with attributes and scopes: a trace, a stream, an event or a clock.
 
+ghost use Rattle.std.specs.Prelude.{IfErr};
+ghost use Rattle.tsdl_fault.specs.Faults.{StopsInside};
+
 use crate::attribute::judge_attribute;
 use crate::cursor::Cursor;
-use crate::flaw::Stop;
+use crate::flaw::{Remedy, Stop};
 use crate::ledger::Ledger;
 use crate::name::{Name, Names};
 use crate::scope::ScopeKind;
@@ -21,8 +24,10 @@ pub(crate) enum BlockKind {
 
 /// What a block has so far. A number that is left out is 0.
 #[derive(Drop)]
-pub(crate) struct BlockParts {
+pub(crate) struct BlockParts<'a> {
     pub kind: BlockKind,
+    /// An event's name.
+    pub name: Option<&'a str>,
     pub attributes: Names,
     scopes: Names,
     pub id: u64,
@@ -31,10 +36,11 @@ pub(crate) struct BlockParts {
     pub has_sizes: bool,
 }
 
-impl BlockParts {
-    fn new(alloc: Global, kind: BlockKind) -> BlockParts {
+impl BlockParts<'_> {
+    fn new(alloc: Global, kind: BlockKind) -> BlockParts<'static> {
         BlockParts {
             kind,
+            name: None,
             attributes: Names::new(alloc),
             scopes: Names::new(alloc),
             id: 0,
@@ -50,13 +56,15 @@ pub(crate) fn judge_block(
     survey: &Survey,
     ledger: &mut Ledger,
     kind: BlockKind,
-) -> Result<(), Stop> {
+) -> Result<(), Stop>
+    ensures { IfErr result StopsInside }
+{
     cursor.expect(Mark::OpenBrace)?;
     let mut parts = BlockParts::new(cursor.alloc, kind);
     for _ in 0..cursor.left() {
         let end = cursor.at();
         if cursor.take(Mark::CloseBrace) {
-            return ledger.close(end, &parts);
+            return ledger.close(cursor.alloc, end, &parts);
         }
         judge_item(cursor, survey, ledger, &mut parts)?;
     }
@@ -64,12 +72,14 @@ pub(crate) fn judge_block(
 }
 
 /// `name "=" value ";"` or `name ":=" structure ";"`.
-fn judge_item(
-    cursor: &mut Cursor,
+fn judge_item<'a>(
+    cursor: &mut Cursor<'a>,
     survey: &Survey,
     ledger: &mut Ledger,
-    parts: &mut BlockParts,
-) -> Result<(), Stop> {
+    parts: &mut BlockParts<'a>,
+) -> Result<(), Stop>
+    ensures { IfErr result StopsInside }
+{
     let name = cursor.name("an attribute, a scope or `}`")?;
     if cursor.take(Mark::Equals) {
         judge_attribute(cursor, ledger, parts, &name)?;
@@ -87,9 +97,11 @@ fn judge_scope(
     survey: &Survey,
     parts: &mut BlockParts,
     name: &Name,
-) -> Result<(), Stop> {
+) -> Result<(), Stop>
+    ensures { IfErr result StopsInside }
+{
     let Some(scope) = ScopeKind::named(parts.kind, name) else {
-        return Err(name.unsupported(cursor.alloc));
+        return Err(name.unsupported(cursor.alloc, Remedy::Nothing));
     };
     parts.scopes.add(name.at, name.dotted(cursor.alloc)?)?;
     let members = judge_structure(cursor, survey, scope)?;

@@ -1,6 +1,9 @@
 //! A place among the atoms of a text.
 
-use crate::flaw::{Flaw, Stop};
+ghost use Rattle.std.specs.Prelude.{IfErr};
+ghost use Rattle.tsdl_fault.specs.Faults.{StopsInside};
+
+use crate::flaw::{Flaw, Remedy, Stop};
 use crate::name::Name;
 use ctf_types::Text;
 use std::alloc::Global;
@@ -45,25 +48,47 @@ impl<'a> Cursor<'a> {
     }
 
     /// The flaw of what comes next, where something else is expected. A keyword that is not read is one everywhere.
-    pub(crate) fn unexpected(&self, expected: &'static str) -> Stop {
+    pub(crate) fn unexpected(&self, expected: &'static str) -> Stop
+        ensures { StopsInside result }
+    {
         if let Some(Atom::Word(word)) = self.peek()
             && is_unread(word.as_str())
         {
-            return Stop::unsupported(self.alloc, self.at, word.as_str());
+            let word = word.as_str();
+            return Stop::unsupported(self.alloc, self.at, word, remedy_of(word));
         }
         Stop::at(self.at, Flaw::Syntax(expected))
     }
 
+    /// The same where a type is expected: a type by its name is a flaw of its own.
+    pub(crate) fn no_type(&self, expected: &'static str) -> Stop
+        ensures { StopsInside result }
+    {
+        match self.peek() {
+            Some(Atom::Word(word)) if !is_unread(word.as_str()) && !is_type_word(word.as_str()) => {
+                Stop::at(self.at, Flaw::NamedType)
+            }
+            _ => self.unexpected(expected),
+        }
+    }
+
     /// Passes a mark, if it comes next.
     pub(crate) fn take(&mut self, mark: Mark) -> bool {
-        let is_there = matches!(self.peek(), Some(Atom::Mark(found)) if *found == mark);
+        let is_there = self.is_at_mark(mark);
         if is_there {
             self.step();
         }
         is_there
     }
 
-    pub(crate) fn expect(&mut self, mark: Mark) -> Result<(), Stop> {
+    /// Whether this mark comes next.
+    pub(crate) fn is_at_mark(&self, mark: Mark) -> bool {
+        matches!(self.peek(), Some(Atom::Mark(found)) if *found == mark)
+    }
+
+    pub(crate) fn expect(&mut self, mark: Mark) -> Result<(), Stop>
+        ensures { IfErr result StopsInside }
+    {
         if self.take(mark) {
             Ok(())
         } else {
@@ -109,7 +134,9 @@ impl<'a> Cursor<'a> {
     }
 
     /// An identifier. No keyword that is not read is one.
-    pub(crate) fn identifier(&mut self, expected: &'static str) -> Result<&'a str, Stop> {
+    pub(crate) fn identifier(&mut self, expected: &'static str) -> Result<&'a str, Stop>
+        ensures { IfErr result StopsInside }
+    {
         if let Some(Atom::Word(word)) = self.peek()
             && !is_unread(word.as_str())
         {
@@ -120,7 +147,9 @@ impl<'a> Cursor<'a> {
     }
 
     /// `identifier { "." identifier }`.
-    pub(crate) fn name(&mut self, expected: &'static str) -> Result<Name<'a>, Stop> {
+    pub(crate) fn name(&mut self, expected: &'static str) -> Result<Name<'a>, Stop>
+        ensures { IfErr result StopsInside }
+    {
         let at = self.at;
         let mut name = Name::new(self.alloc, at, self.identifier(expected)?)?;
         for _ in 0..self.left() {
@@ -133,7 +162,9 @@ impl<'a> Cursor<'a> {
     }
 
     /// `[ "-" | "+" ] literal`.
-    pub(crate) fn number(&mut self, expected: &'static str) -> Result<Number, Stop> {
+    pub(crate) fn number(&mut self, expected: &'static str) -> Result<Number, Stop>
+        ensures { IfErr result StopsInside }
+    {
         let sign = self.sign();
         match self.peek() {
             Some(Atom::Number(literal)) => {
@@ -159,6 +190,28 @@ impl<'a> Cursor<'a> {
             None
         }
     }
+}
+
+/// Aliases of types, and the words of C that stand for some, are written in other words; types of reals and variants stay.
+fn remedy_of(word: &str) -> Remedy {
+    match word {
+        "typealias"
+        | "typedef"
+        | "char"
+        | "const"
+        | "int"
+        | "long"
+        | "short"
+        | "unsigned"
+        | "void"
+        | "_Bool" => Remedy::Conversion,
+        _ => Remedy::Nothing,
+    }
+}
+
+/// Whether a type begins with this word.
+fn is_type_word(word: &str) -> bool {
+    matches!(word, "enum" | "integer" | "string" | "struct")
 }
 
 fn quoted(mark: Mark) -> &'static str {

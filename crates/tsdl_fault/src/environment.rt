@@ -1,5 +1,8 @@
 //! The first fault of the environment block.
 
+ghost use Rattle.std.specs.Prelude.{IfErr};
+ghost use Rattle.tsdl_fault.specs.Faults.{StopsInside};
+
 use crate::cursor::Cursor;
 use crate::flaw::{Flaw, Stop};
 use crate::name::Names;
@@ -10,7 +13,9 @@ use tsdl_grammar::Mark;
 const MOST_NAMES: usize = 256;
 
 /// `"{" { identifier "=" (number | string) ";" } "}"`, behind `env`.
-pub(crate) fn judge_environment(cursor: &mut Cursor) -> Result<(), Stop> {
+pub(crate) fn judge_environment(cursor: &mut Cursor) -> Result<(), Stop>
+    ensures { IfErr result StopsInside }
+{
     cursor.expect(Mark::OpenBrace)?;
     let mut names = Names::new(cursor.alloc);
     for _ in 0..cursor.left() {
@@ -22,7 +27,9 @@ pub(crate) fn judge_environment(cursor: &mut Cursor) -> Result<(), Stop> {
     Err(cursor.unexpected("`}`"))
 }
 
-fn judge_entry(cursor: &mut Cursor, names: &mut Names) -> Result<(), Stop> {
+fn judge_entry(cursor: &mut Cursor, names: &mut Names) -> Result<(), Stop>
+    ensures { IfErr result StopsInside }
+{
     let at = cursor.at();
     let name = cursor.identifier("a name or `}`")?;
     names.add(at, String::from_str(cursor.alloc, name)?)?;

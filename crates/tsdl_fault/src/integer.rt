@@ -1,7 +1,10 @@
 //! The first fault of `integer { .. }`: its attributes, of which `size` is needed.
 
+ghost use Rattle.std.specs.Prelude.{IfErr};
+ghost use Rattle.tsdl_fault.specs.Faults.{StopsInside};
+
 use crate::cursor::Cursor;
-use crate::flaw::{Flaw, Stop};
+use crate::flaw::{Flaw, Remedy, Stop};
 use crate::name::{Name, Names};
 use crate::survey::Survey;
 use crate::value::Value;
@@ -41,9 +44,11 @@ pub(crate) fn judge_integer(
     cursor: &mut Cursor,
     survey: &Survey,
     expected: &'static str,
-) -> Result<IntegerParts, Stop> {
+) -> Result<IntegerParts, Stop>
+    ensures { IfErr result StopsInside }
+{
     if !cursor.take_word("integer") {
-        return Err(cursor.unexpected(expected));
+        return Err(cursor.no_type(expected));
     }
     cursor.expect(Mark::OpenBrace)?;
     let mut names = Names::new(cursor.alloc);
@@ -67,10 +72,12 @@ fn judge_attribute(
     survey: &Survey,
     names: &mut Names,
     given: &mut Given,
-) -> Result<(), Stop> {
+) -> Result<(), Stop>
+    ensures { IfErr result StopsInside }
+{
     let name = cursor.name("an attribute or `}`")?;
     let Some(attribute) = IntegerAttribute::named(&name) else {
-        return Err(name.unsupported(cursor.alloc));
+        return Err(name.unsupported(cursor.alloc, Remedy::Nothing));
     };
     names.add(name.at, name.dotted(cursor.alloc)?)?;
     cursor.expect(Mark::Equals)?;
@@ -115,7 +122,9 @@ impl IntegerAttribute {
 }
 
 /// A size from 1 to 64 bits.
-fn size(value: &Value) -> Result<u64, Stop> {
+fn size(value: &Value) -> Result<u64, Stop>
+    ensures { IfErr result StopsInside }
+{
     match value.natural()? {
         size @ 1..=64 => Ok(size),
         _ => Err(value.misplaced("a size from 1 to 64 bits")),
@@ -123,17 +132,21 @@ fn size(value: &Value) -> Result<u64, Stop> {
 }
 
 /// `native`, or the trace's own byte order.
-fn judge_order(cursor: &Cursor, survey: &Survey, value: &Value) -> Result<(), Stop> {
+fn judge_order(cursor: &Cursor, survey: &Survey, value: &Value) -> Result<(), Stop>
+    ensures { IfErr result StopsInside }
+{
     let words: &[&str] = match survey.order {
         Some(ByteOrder::Little) => &["native", "le"],
         Some(ByteOrder::Big) => &["native", "be", "network"],
         None => &["native"],
     };
-    value.judge_word(cursor.alloc, words)
+    value.judge_order(cursor.alloc, words)
 }
 
 /// `2 binary b`, `8 octal oct o`, `10 decimal dec d i u` or `16 hexadecimal hex x X p`.
-fn judge_base(cursor: &Cursor, value: &Value) -> Result<(), Stop> {
+fn judge_base(cursor: &Cursor, value: &Value) -> Result<(), Stop>
+    ensures { IfErr result StopsInside }
+{
     if value.is_number() {
         return match value.natural()? {
             2 | 8 | 10 | 16 => Ok(()),
@@ -163,7 +176,9 @@ fn judge_base(cursor: &Cursor, value: &Value) -> Result<(), Stop> {
 }
 
 /// `clock.NAME.value`. A clock that is not there is a fault of its name.
-fn judge_map(survey: &Survey, value: &Value) -> Result<(), Stop> {
+fn judge_map(survey: &Survey, value: &Value) -> Result<(), Stop>
+    ensures { IfErr result StopsInside }
+{
     match value.name()?.words() {
         ["clock", name, "value"] => {
             if survey.clocks.contains(*name) {

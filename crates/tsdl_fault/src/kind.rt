@@ -1,7 +1,10 @@
 //! The first fault of a member's kind: an integer, an enumeration or a string.
 
+ghost use Rattle.std.specs.Prelude.{IfErr};
+ghost use Rattle.tsdl_fault.specs.Faults.{StopsInside};
+
 use crate::cursor::Cursor;
-use crate::flaw::{Flaw, Stop};
+use crate::flaw::{Flaw, Remedy, Stop};
 use crate::integer::{IntegerParts, judge_integer};
 use crate::name::Names;
 use crate::survey::Survey;
@@ -20,9 +23,13 @@ pub(crate) enum Element {
 }
 
 /// `integer { .. }`, `enum : integer { .. } { .. }` or `string { .. }`. A structure is not supported here.
-pub(crate) fn judge_kind(cursor: &mut Cursor, survey: &Survey) -> Result<Element, Stop> {
+pub(crate) fn judge_kind(cursor: &mut Cursor, survey: &Survey) -> Result<Element, Stop>
+    ensures { IfErr result StopsInside }
+{
     if cursor.take_word("enum") {
-        cursor.expect(Mark::Colon)?;
+        if !cursor.take(Mark::Colon) {
+            return Err(cursor.no_type("`:`"));
+        }
         let _integer = judge_integer(cursor, survey, "`integer`")?;
         judge_ranges(cursor)?;
         Ok(Element::Other)
@@ -30,7 +37,8 @@ pub(crate) fn judge_kind(cursor: &mut Cursor, survey: &Survey) -> Result<Element
         judge_string(cursor)?;
         Ok(Element::Other)
     } else if cursor.is_at("struct") {
-        Err(Stop::unsupported(cursor.alloc, cursor.at(), "struct"))
+        let at = cursor.at();
+        Err(Stop::unsupported(cursor.alloc, at, "struct", Remedy::Nothing))
     } else {
         let parts = judge_integer(cursor, survey, "`integer`, `enum`, `string` or `}`")?;
         Ok(Element::Integer(parts))
@@ -38,7 +46,9 @@ pub(crate) fn judge_kind(cursor: &mut Cursor, survey: &Survey) -> Result<Element
 }
 
 /// `"{" [ range { "," range } [ "," ] ] "}"`.
-fn judge_ranges(cursor: &mut Cursor) -> Result<(), Stop> {
+fn judge_ranges(cursor: &mut Cursor) -> Result<(), Stop>
+    ensures { IfErr result StopsInside }
+{
     cursor.expect(Mark::OpenBrace)?;
     for before in 0..cursor.left() {
         if cursor.take(Mark::CloseBrace) {
@@ -53,13 +63,18 @@ fn judge_ranges(cursor: &mut Cursor) -> Result<(), Stop> {
 }
 
 /// `(string | identifier) "=" number [ "..." number ]`, behind so many ranges.
-fn judge_range(cursor: &mut Cursor, before: usize) -> Result<(), Stop> {
+fn judge_range(cursor: &mut Cursor, before: usize) -> Result<(), Stop>
+    ensures { IfErr result StopsInside }
+{
     let at = cursor.at();
     if cursor.text().is_none() {
         cursor.identifier("a label or `}`")?;
     }
     if before >= MOST_RANGES {
         return Err(Stop::at(at, Flaw::Limit("at most 65536 ranges")));
+    }
+    if cursor.is_at_mark(Mark::Comma) || cursor.is_at_mark(Mark::CloseBrace) {
+        return Err(Stop::at(cursor.at(), Flaw::LabelWithoutValue));
     }
     cursor.expect(Mark::Equals)?;
     let low = cursor.number("a number")?;
@@ -77,7 +92,9 @@ fn judge_range(cursor: &mut Cursor, before: usize) -> Result<(), Stop> {
 }
 
 /// `[ "{" { attribute } "}" ]`, behind `string`.
-fn judge_string(cursor: &mut Cursor) -> Result<(), Stop> {
+fn judge_string(cursor: &mut Cursor) -> Result<(), Stop>
+    ensures { IfErr result StopsInside }
+{
     if !cursor.take(Mark::OpenBrace) {
         return Ok(());
     }
@@ -92,10 +109,12 @@ fn judge_string(cursor: &mut Cursor) -> Result<(), Stop> {
 }
 
 /// The only attribute of a string.
-fn judge_encoding(cursor: &mut Cursor, names: &mut Names) -> Result<(), Stop> {
+fn judge_encoding(cursor: &mut Cursor, names: &mut Names) -> Result<(), Stop>
+    ensures { IfErr result StopsInside }
+{
     let name = cursor.name("an attribute or `}`")?;
     if name.only() != Some("encoding") {
-        return Err(name.unsupported(cursor.alloc));
+        return Err(name.unsupported(cursor.alloc, Remedy::Nothing));
     }
     names.add(name.at, name.dotted(cursor.alloc)?)?;
     cursor.expect(Mark::Equals)?;

@@ -1,10 +1,13 @@
 //! What a pass over a text keeps of its blocks: what may stand once only, and what the end of the text is judged by.
 
+ghost use Rattle.std.specs.Prelude.{IfErr};
+ghost use Rattle.tsdl_fault.specs.Faults.{StopsInside};
+
 use crate::block::{BlockKind, BlockParts};
-use crate::flaw::{Flaw, Stop};
+use crate::flaw::{Flaw, Orphan, Stop};
 use crate::name::Names;
-use std::alloc::Global;
-use std::collections::BTreeSet;
+use std::alloc::{AllocError, Global};
+use std::collections::{BTreeMap, BTreeSet};
 
 /// The blocks so far.
 #[derive(Drop)]
@@ -13,8 +16,8 @@ pub(crate) struct Ledger {
     has_environment: bool,
     pub clocks: Names,
     streams: BTreeSet<u64>,
-    /// The stream and the number of each event.
-    events: BTreeSet<(u64, u64)>,
+    /// The name of each event, by its stream and its number.
+    events: BTreeMap<(u64, u64), String>,
     /// Whether a stream has no packet context with both sizes.
     lacks_sizes: bool,
 }
@@ -26,13 +29,15 @@ impl Ledger {
             has_environment: false,
             clocks: Names::new(alloc),
             streams: BTreeSet::new(alloc),
-            events: BTreeSet::new(alloc),
+            events: BTreeMap::new(alloc),
             lacks_sizes: false,
         }
     }
 
     /// Notes the trace block, whose word stands at an atom.
-    pub(crate) fn begin_trace(&mut self, at: usize) -> Result<(), Stop> {
+    pub(crate) fn begin_trace(&mut self, at: usize) -> Result<(), Stop>
+        ensures { IfErr result StopsInside }
+    {
         if self.has_trace {
             return Err(Stop::at(at, Flaw::Duplicate));
         }
@@ -41,7 +46,9 @@ impl Ledger {
     }
 
     /// Notes the environment block, whose word stands at an atom.
-    pub(crate) fn begin_environment(&mut self, at: usize) -> Result<(), Stop> {
+    pub(crate) fn begin_environment(&mut self, at: usize) -> Result<(), Stop>
+        ensures { IfErr result StopsInside }
+    {
         if self.has_environment {
             return Err(Stop::at(at, Flaw::Duplicate));
         }
@@ -50,7 +57,9 @@ impl Ledger {
     }
 
     /// Adds the number of a stream, which stands at an atom.
-    pub(crate) fn add_stream(&mut self, at: usize, id: u64) -> Result<(), Stop> {
+    pub(crate) fn add_stream(&mut self, at: usize, id: u64) -> Result<(), Stop>
+        ensures { IfErr result StopsInside }
+    {
         if self.streams.insert(id)? {
             Ok(())
         } else {
@@ -58,16 +67,25 @@ impl Ledger {
         }
     }
 
-    fn add_event(&mut self, at: usize, stream: u64, id: u64) -> Result<(), Stop> {
-        if self.events.insert((stream, id))? {
-            Ok(())
-        } else {
+    fn add_event(&mut self, alloc: Global, at: usize, parts: &BlockParts) -> Result<(), Stop>
+        ensures { IfErr result StopsInside }
+    {
+        let name = String::from_str(alloc, parts.name.unwrap_or(""))?;
+        if self
+            .events
+            .insert((parts.stream_id, parts.id), name)?
+            .is_some()
+        {
             Err(Stop::at(at, Flaw::Duplicate))
+        } else {
+            Ok(())
         }
     }
 
     /// Judges a block at its closing brace, an atom, and keeps what later blocks are judged by.
-    pub(crate) fn close(&mut self, at: usize, parts: &BlockParts) -> Result<(), Stop> {
+    pub(crate) fn close(&mut self, alloc: Global, at: usize, parts: &BlockParts) -> Result<(), Stop>
+        ensures { IfErr result StopsInside }
+    {
         for (name, quoted) in needed(parts.kind) {
             if !parts.attributes.contains(*name) {
                 return Err(Stop::at(at, Flaw::Syntax(*quoted)));
@@ -76,11 +94,13 @@ impl Ledger {
         match parts.kind {
             BlockKind::Trace | BlockKind::Clock => Ok(()),
             BlockKind::Stream => self.close_stream(at, parts),
-            BlockKind::Event => self.add_event(at, parts.stream_id, parts.id),
+            BlockKind::Event => self.add_event(alloc, at, parts),
         }
     }
 
-    fn close_stream(&mut self, at: usize, parts: &BlockParts) -> Result<(), Stop> {
+    fn close_stream(&mut self, at: usize, parts: &BlockParts) -> Result<(), Stop>
+        ensures { IfErr result StopsInside }
+    {
         if !parts.has_sizes {
             self.lacks_sizes = true;
         }
@@ -92,20 +112,30 @@ impl Ledger {
     }
 
     /// What is wrong with the whole text, at its end.
-    pub(crate) fn flaw_at_end(&self) -> Option<Flaw> {
+    pub(crate) fn flaw_at_end(&self, alloc: Global) -> Result<Option<Flaw>, AllocError> {
         if !self.has_trace {
-            Some(Flaw::Syntax("a trace block"))
-        } else if self
-            .events
-            .iter()
-            .any(|event| !self.streams.contains(&event.0))
-        {
-            Some(Flaw::Syntax("a stream block with the number of each event's stream"))
-        } else if self.lacks_sizes {
-            Some(Flaw::NoPacketSize)
-        } else {
-            None
+            return Ok(Some(Flaw::Syntax("a trace block")));
         }
+        if let Some(orphan) = self.first_orphan(alloc)? {
+            return Ok(Some(Flaw::NoStream(orphan)));
+        }
+        if self.lacks_sizes {
+            return Ok(Some(Flaw::NoPacketSize));
+        }
+        Ok(None)
+    }
+
+    /// The first event by number whose stream is not there.
+    fn first_orphan(&self, alloc: Global) -> Result<Option<Orphan>, AllocError> {
+        for ((stream, _), name) in &self.events {
+            if !self.streams.contains(stream) {
+                return Ok(Some(Orphan {
+                    stream: *stream,
+                    event: String::from_str(alloc, name.as_str())?,
+                }));
+            }
+        }
+        Ok(None)
     }
 }
 

@@ -1,4 +1,4 @@
-//! Finds the first fault of a TSDL metadata text that denotes no metadata, and says it in words.
+//! Finds the first fault of a TSDL metadata text that denotes no metadata.
 #![tactic(auto)]
 
 mod attribute;
@@ -17,7 +17,6 @@ mod structure;
 mod survey;
 mod text;
 mod value;
-mod words;
 
-pub use text::first_fault;
-pub use words::explain_fault;
+pub use flaw::CONVERTED;
+pub use text::{first_fault, first_words};

@@ -1,7 +1,10 @@
 //! The first fault of a structure's member: its kind, its name, its brackets, and what its name asks of it.
 
+ghost use Rattle.std.specs.Prelude.{IfErr};
+ghost use Rattle.tsdl_fault.specs.Faults.{StopsInside};
+
 use crate::cursor::Cursor;
-use crate::flaw::{Flaw, Stop};
+use crate::flaw::{Flaw, Remedy, Stop};
 use crate::integer::IntegerParts;
 use crate::kind::{Element, judge_kind};
 use crate::name::Names;
@@ -44,7 +47,9 @@ impl Members {
     }
 
     /// Adds the name of a member, which stands at an atom.
-    fn add(&mut self, alloc: Global, at: usize, name: &str) -> Result<(), Stop> {
+    fn add(&mut self, alloc: Global, at: usize, name: &str) -> Result<(), Stop>
+        ensures { IfErr result StopsInside }
+    {
         self.names.add(at, String::from_str(alloc, name)?)?;
         if self.names.len() > MOST_MEMBERS {
             Err(Stop::at(at, Flaw::Limit("at most 1024 members")))
@@ -60,7 +65,9 @@ pub(crate) fn judge_member(
     survey: &Survey,
     scope: ScopeKind,
     members: &mut Members,
-) -> Result<(), Stop> {
+) -> Result<(), Stop>
+    ensures { IfErr result StopsInside }
+{
     let element = judge_kind(cursor, survey)?;
     let at = cursor.at();
     let name = cursor.identifier("the name of a member")?;
@@ -68,7 +75,7 @@ pub(crate) fn judge_member(
     let lengths = judge_brackets(cursor, members)?;
     let shape = lengths.shape(element);
     if !scope.suits(name, shape) {
-        return Err(Stop::unsupported(cursor.alloc, at, name));
+        return Err(Stop::unsupported(cursor.alloc, at, name, Remedy::Nothing));
     }
     if matches!(shape, Shape::Unsigned(_)) {
         let name = String::from_str(cursor.alloc, name)?;
@@ -107,7 +114,9 @@ impl Lengths {
     }
 
     /// Adds the length in a bracket, which stands at an atom.
-    fn add(&mut self, at: usize, length: u64) -> Result<(), Stop> {
+    fn add(&mut self, at: usize, length: u64) -> Result<(), Stop>
+        ensures { IfErr result StopsInside }
+    {
         self.count = self.count.saturating_add(1);
         self.last = length;
         self.elements = self.elements.saturating_mul(length.max(1));
@@ -132,7 +141,9 @@ impl Lengths {
 }
 
 /// `{ "[" (number | identifier) "]" }`.
-fn judge_brackets(cursor: &mut Cursor, members: &Members) -> Result<Lengths, Stop> {
+fn judge_brackets(cursor: &mut Cursor, members: &Members) -> Result<Lengths, Stop>
+    ensures { IfErr result StopsInside }
+{
     let mut lengths = Lengths {
         is_sequence: false,
         count: 0,
@@ -150,7 +161,9 @@ fn judge_brackets(cursor: &mut Cursor, members: &Members) -> Result<Lengths, Sto
 }
 
 /// What stands in a bracket: a number, or in the first one the name of an unsigned integer member before.
-fn judge_length(cursor: &mut Cursor, members: &Members, lengths: &mut Lengths) -> Result<(), Stop> {
+fn judge_length(cursor: &mut Cursor, members: &Members, lengths: &mut Lengths) -> Result<(), Stop>
+    ensures { IfErr result StopsInside }
+{
     let at = cursor.at();
     if !cursor.is_at_word() {
         let number = cursor.number("a number or the name of a member")?;
@@ -158,7 +171,7 @@ fn judge_length(cursor: &mut Cursor, members: &Members, lengths: &mut Lengths) -
     }
     let name = cursor.identifier("the name of a member")?;
     if lengths.is_sequence || lengths.count > 0 {
-        return Err(Stop::unsupported(cursor.alloc, at, name));
+        return Err(Stop::unsupported(cursor.alloc, at, name, Remedy::Nothing));
     }
     if !members.unsigned.contains(name) {
         return Err(Stop::at(at, Flaw::BadLength));

@@ -1,6 +1,9 @@
 //! Names of attributes, scopes and values as a text has them, and the names that have stood so far.
 
-use crate::flaw::{Flaw, Stop};
+ghost use Rattle.std.specs.Prelude.{IfErr};
+ghost use Rattle.tsdl_fault.specs.Faults.{StopsInside};
+
+use crate::flaw::{Flaw, Remedy, Stop};
 use std::alloc::{AllocError, Global};
 use std::collections::BTreeSet;
 
@@ -48,9 +51,11 @@ impl<'a> Name<'a> {
     }
 
     /// The flaw of a name that stands for a construct that is not read.
-    pub(crate) fn unsupported(&self, alloc: Global) -> Stop {
+    pub(crate) fn unsupported(&self, alloc: Global, remedy: Remedy) -> Stop
+        ensures { StopsInside result }
+    {
         match self.dotted(alloc) {
-            Ok(name) => Stop::at(self.at, Flaw::Unsupported(name)),
+            Ok(name) => Stop::at(self.at, Flaw::Unsupported(name, remedy)),
             Err(_) => Stop::NoMemory,
         }
     }
@@ -83,7 +88,9 @@ impl Names {
     }
 
     /// Adds a name, which stands at an atom and may not have stood before.
-    pub(crate) fn add(&mut self, at: usize, name: String) -> Result<(), Stop> {
+    pub(crate) fn add(&mut self, at: usize, name: String) -> Result<(), Stop>
+        ensures { IfErr result StopsInside }
+    {
         if self.insert(name)? {
             Ok(())
         } else {

@@ -1,5 +1,8 @@
 //! The first fault of a scope's structure: its members in order, then its alignment.
 
+ghost use Rattle.std.specs.Prelude.{IfErr};
+ghost use Rattle.tsdl_fault.specs.Faults.{StopsInside};
+
 use crate::cursor::Cursor;
 use crate::flaw::Stop;
 use crate::member::{Members, judge_member};
@@ -14,11 +17,15 @@ pub(crate) fn judge_structure(
     cursor: &mut Cursor,
     survey: &Survey,
     scope: ScopeKind,
-) -> Result<Names, Stop> {
+) -> Result<Names, Stop>
+    ensures { IfErr result StopsInside }
+{
     if !cursor.take_word("struct") {
-        return Err(cursor.unexpected("`struct`"));
+        return Err(cursor.no_type("`struct`"));
     }
-    cursor.expect(Mark::OpenBrace)?;
+    if !cursor.take(Mark::OpenBrace) {
+        return Err(cursor.no_type("`{`"));
+    }
     let mut members = Members::new(cursor.alloc);
     for _ in 0..cursor.left() {
         if cursor.take(Mark::CloseBrace) {
@@ -31,7 +38,9 @@ pub(crate) fn judge_structure(
 }
 
 /// `[ "align" "(" number ")" ]`.
-fn judge_align(cursor: &mut Cursor) -> Result<(), Stop> {
+fn judge_align(cursor: &mut Cursor) -> Result<(), Stop>
+    ensures { IfErr result StopsInside }
+{
     if !cursor.take_word("align") {
         return Ok(());
     }

@@ -1,12 +1,12 @@
 //! The first fault of a text that denotes no metadata, by one pass over its atoms.
 
-ghost use Rattle.std.specs.Prelude.{◌≤◌, length, IfOk};
-ghost use Rattle.tsdl_fault.specs.Faults.{IsOfAtoms};
+ghost use Rattle.std.specs.Prelude.{◌≤◌, length, IfOk, IfErr};
+ghost use Rattle.tsdl_fault.specs.Faults.{IsOfAtoms, LacksSizesAt, StopsInside, StopsInText};
 
 use crate::block::{BlockKind, judge_block};
 use crate::cursor::Cursor;
 use crate::environment::judge_environment;
-use crate::flaw::{Fault, Flaw, Stop};
+use crate::flaw::{Fault, Flaw, Remedy, Stop};
 use crate::ledger::Ledger;
 use crate::survey::Survey;
 use std::alloc::{AllocError, Global};
@@ -18,9 +18,11 @@ use tsdl_grammar::{Atom, Mark, MetaFaultKind};
 /// Faults come in the order of the text. At one atom the syntax comes first, then what is not supported, what stands
 /// twice, a bad length and a limit. The end of the text lacks a trace block, the stream of an event or the sizes of
 /// a stream's packets, in this order.
+#[tactic(auto, using(crate::proofs::Stops::of_atoms, crate::proofs::Stops::at_end))]
 pub fn first_fault(alloc: Global, atoms: &[Atom]) -> Result<(usize, MetaFaultKind), AllocError>
     ensures place { IfOk result (λ fault. fault.0 ≤ length atoms.now) }
     ensures kind { IfOk result (λ fault. IsOfAtoms fault.1) }
+    ensures sizes { IfOk result (λ fault. LacksSizesAt (length atoms.now) fault.0 fault.1) }
 {
     match judge_text(alloc, atoms) {
         Err(Stop::Fault(Fault { at, flaw })) => Ok((at.min(atoms.len()), flaw.into_kind())),
@@ -29,20 +31,20 @@ pub fn first_fault(alloc: Global, atoms: &[Atom]) -> Result<(usize, MetaFaultKin
     }
 }
 
-/// What was expected at the first fault of a text, in words.
-pub(crate) fn first_expected(
-    alloc: Global,
-    atoms: &[Atom],
-) -> Result<Option<&'static str>, AllocError> {
+/// What is wrong at the first fault of a text, in words, where its kind does not say all of it.
+pub fn first_words(alloc: Global, atoms: &[Atom]) -> Result<Option<String>, AllocError> {
     match judge_text(alloc, atoms) {
-        Err(Stop::Fault(fault)) => Ok(fault.flaw.expected()),
+        Err(Stop::Fault(fault)) => fault.flaw.words(alloc),
         Err(Stop::NoMemory) => Err(AllocError),
         Ok(()) => Ok(None),
     }
 }
 
 /// Judges the blocks of a text in their order, and then its end.
-fn judge_text(alloc: Global, atoms: &[Atom]) -> Result<(), Stop> {
+#[tactic(auto, using(crate::proofs::Stops::inside, crate::proofs::Stops::whole_text))]
+fn judge_text(alloc: Global, atoms: &[Atom]) -> Result<(), Stop>
+    ensures { IfErr result (StopsInText (length atoms.now)) }
+{
     let survey = Survey::of(alloc, atoms)?;
     let mut ledger = Ledger::new(alloc);
     let mut cursor = Cursor::new(alloc, atoms);
@@ -53,14 +55,16 @@ fn judge_text(alloc: Global, atoms: &[Atom]) -> Result<(), Stop> {
         judge_any_block(&mut cursor, &survey, &mut ledger)?;
         cursor.expect(Mark::Semicolon)?;
     }
-    match ledger.flaw_at_end() {
+    match ledger.flaw_at_end(alloc)? {
         Some(flaw) => Err(Stop::at(atoms.len(), flaw)),
         None => Ok(()),
     }
 }
 
 /// A block with its word. Any other word is not supported.
-fn judge_any_block(cursor: &mut Cursor, survey: &Survey, ledger: &mut Ledger) -> Result<(), Stop> {
+fn judge_any_block(cursor: &mut Cursor, survey: &Survey, ledger: &mut Ledger) -> Result<(), Stop>
+    ensures { IfErr result StopsInside }
+{
     let at = cursor.at();
     let Some(word) = cursor.any_word() else {
         return Err(cursor.unexpected("`trace`, `env`, `clock`, `stream` or `event`"));
@@ -77,6 +81,14 @@ fn judge_any_block(cursor: &mut Cursor, survey: &Survey, ledger: &mut Ledger) ->
             ledger.begin_environment(at)?;
             judge_environment(cursor)
         }
-        _ => Err(Stop::unsupported(cursor.alloc, at, word)),
+        _ => Err(Stop::unsupported(cursor.alloc, at, word, remedy_of(word))),
+    }
+}
+
+/// Types that have names are written where they are used.
+fn remedy_of(word: &str) -> Remedy {
+    match word {
+        "enum" | "struct" | "typealias" | "typedef" => Remedy::Conversion,
+        _ => Remedy::Nothing,
     }
 }

@@ -1,7 +1,10 @@
 //! What attributes have, judged by what each one may have. A flaw of a value stands at its first atom.
 
+ghost use Rattle.std.specs.Prelude.{IfErr};
+ghost use Rattle.tsdl_fault.specs.Faults.{StopsInside};
+
 use crate::cursor::Cursor;
-use crate::flaw::{Flaw, Stop};
+use crate::flaw::{Flaw, Remedy, Stop};
 use crate::name::Name;
 use crate::number::{align, judge_whole, natural};
 use std::alloc::Global;
@@ -23,7 +26,9 @@ enum Form<'a> {
 }
 
 impl<'a> Value<'a> {
-    pub(crate) fn read(cursor: &mut Cursor<'a>) -> Result<Value<'a>, Stop> {
+    pub(crate) fn read(cursor: &mut Cursor<'a>) -> Result<Value<'a>, Stop>
+        ensures { IfErr result StopsInside }
+    {
         let at = cursor.at();
         let form = if let Some(text) = cursor.text() {
             Form::Text(text.as_str())
@@ -36,7 +41,9 @@ impl<'a> Value<'a> {
     }
 
     /// The flaw of a value that may not stand here.
-    pub(crate) fn misplaced(&self, expected: &'static str) -> Stop {
+    pub(crate) fn misplaced(&self, expected: &'static str) -> Stop
+        ensures { StopsInside result }
+    {
         Stop::at(self.at, Flaw::Syntax(expected))
     }
 
@@ -44,7 +51,9 @@ impl<'a> Value<'a> {
         matches!(&self.form, Form::Number(_))
     }
 
-    fn number(&self) -> Result<&Number, Stop> {
+    fn number(&self) -> Result<&Number, Stop>
+        ensures { IfErr result StopsInside }
+    {
         match &self.form {
             Form::Number(number) => Ok(number),
             Form::Text(_) | Form::Name(_) => Err(self.misplaced("a number")),
@@ -52,21 +61,29 @@ impl<'a> Value<'a> {
     }
 
     /// A number that is not below 0.
-    pub(crate) fn natural(&self) -> Result<u64, Stop> {
+    pub(crate) fn natural(&self) -> Result<u64, Stop>
+        ensures { IfErr result StopsInside }
+    {
         natural(self.at, self.number()?)
     }
 
     /// Judges whether this is a number from -2^63 to 2^63 - 1.
-    pub(crate) fn judge_whole(&self) -> Result<(), Stop> {
+    pub(crate) fn judge_whole(&self) -> Result<(), Stop>
+        ensures { IfErr result StopsInside }
+    {
         judge_whole(self.at, self.number()?)
     }
 
     /// An alignment in bits.
-    pub(crate) fn align(&self) -> Result<u64, Stop> {
+    pub(crate) fn align(&self) -> Result<u64, Stop>
+        ensures { IfErr result StopsInside }
+    {
         align(self.at, self.number()?)
     }
 
-    pub(crate) fn text(&self) -> Result<&'a str, Stop> {
+    pub(crate) fn text(&self) -> Result<&'a str, Stop>
+        ensures { IfErr result StopsInside }
+    {
         match &self.form {
             Form::Text(text) => Ok(*text),
             Form::Number(_) | Form::Name(_) => Err(self.misplaced("a string")),
@@ -74,7 +91,9 @@ impl<'a> Value<'a> {
     }
 
     /// Judges whether this is a string that an identifier of a trace or a clock parses from.
-    pub(crate) fn judge_uuid(&self) -> Result<(), Stop> {
+    pub(crate) fn judge_uuid(&self) -> Result<(), Stop>
+        ensures { IfErr result StopsInside }
+    {
         match Uuid::parse_str(self.text()?) {
             Ok(_) => Ok(()),
             Err(_) => Err(self.misplaced("a string with a UUID")),
@@ -82,7 +101,9 @@ impl<'a> Value<'a> {
     }
 
     /// The name of a clock or an event: an identifier or a string.
-    pub(crate) fn label(&self) -> Result<&'a str, Stop> {
+    pub(crate) fn label(&self) -> Result<&'a str, Stop>
+        ensures { IfErr result StopsInside }
+    {
         let label = match &self.form {
             Form::Text(text) => Some(*text),
             Form::Name(name) => name.only(),
@@ -92,7 +113,9 @@ impl<'a> Value<'a> {
     }
 
     /// A flag, by one of its words or as 1 or 0.
-    pub(crate) fn flag(&self) -> Result<bool, Stop> {
+    pub(crate) fn flag(&self) -> Result<bool, Stop>
+        ensures { IfErr result StopsInside }
+    {
         let flag = match &self.form {
             Form::Number(number) => match natural(self.at, number)? {
                 1 => Some(true),
@@ -109,7 +132,9 @@ impl<'a> Value<'a> {
         flag.ok_or(self.misplaced("`true`, `TRUE`, `1`, `false`, `FALSE` or `0`"))
     }
 
-    pub(crate) fn name(&self) -> Result<&Name<'a>, Stop> {
+    pub(crate) fn name(&self) -> Result<&Name<'a>, Stop>
+        ensures { IfErr result StopsInside }
+    {
         match &self.form {
             Form::Name(name) => Ok(name),
             Form::Number(_) | Form::Text(_) => Err(self.misplaced("a name")),
@@ -117,11 +142,30 @@ impl<'a> Value<'a> {
     }
 
     /// Judges whether this is one of these words. Another name is not supported.
-    pub(crate) fn judge_word(&self, alloc: Global, words: &[&str]) -> Result<(), Stop> {
+    pub(crate) fn judge_word(&self, alloc: Global, words: &[&str]) -> Result<(), Stop>
+        ensures { IfErr result StopsInside }
+    {
+        self.judge_among(alloc, words, Remedy::Nothing)
+    }
+
+    /// Judges whether this is one of these words for a byte order. Another byte order is converted.
+    pub(crate) fn judge_order(&self, alloc: Global, words: &[&str]) -> Result<(), Stop>
+        ensures { IfErr result StopsInside }
+    {
+        let remedy = match self.name()?.words() {
+            ["be" | "le" | "network"] => Remedy::Conversion,
+            _ => Remedy::Nothing,
+        };
+        self.judge_among(alloc, words, remedy)
+    }
+
+    fn judge_among(&self, alloc: Global, words: &[&str], remedy: Remedy) -> Result<(), Stop>
+        ensures { IfErr result StopsInside }
+    {
         let name = self.name()?;
         match name.only() {
             Some(word) if words.iter().any(|w| *w == word) => Ok(()),
-            _ => Err(name.unsupported(alloc)),
+            _ => Err(name.unsupported(alloc, remedy)),
         }
     }
 }

@@ -6,7 +6,7 @@ ghost use Rattle.tsdl_grammar.specs.Escapes.{escaped_byte, unescaped, unescaped_
 use std::alloc::{AllocError, Global};
 
 /// The byte that a letter after a backslash stands for, if it is an escape.
-pub(crate) fn escaped_byte(letter: u8) -> Option<u8>
+pub fn escaped_byte(letter: u8) -> Option<u8>
     ensures { result ≡ escaped_byte letter }
 {
     match letter {

@@ -19,7 +19,7 @@ pub struct MetaFault {
 #[derive(Debug, Drop, PartialEq, Eq, Error)]
 pub enum MetaFaultKind {
     /// The text doesn't begin with `/* CTF 1.8 */`.
-    #[error("expected the line `/* CTF 1.8 */` (packetized metadata and CTF 2 are not read; `babeltrace2 -o ctf` converts such a trace)")]
+    #[error("expected the line `/* CTF 1.8 */`")]
     NoMagicLine,
     /// No token starts here, or one has no end.
     #[error("no token of TSDL starts here")]
@@ -28,7 +28,7 @@ pub enum MetaFaultKind {
     #[error("the grammar of TSDL has no such token here")]
     Syntax,
     /// A construct of TSDL that this project doesn't read, by its name.
-    #[error("`{0}` is not supported here (`babeltrace2 -o ctf` converts such a trace)")]
+    #[error("`{0}` is not supported here")]
     Unsupported(String),
     /// An attribute, scope, member, name or number that stands twice.
     #[error("this is given twice")]

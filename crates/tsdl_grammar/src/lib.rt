@@ -13,7 +13,7 @@ mod tokenizer;
 mod tree;
 
 pub use atom::{Atom, atom_at, atoms};
-pub use escapes::{escape, unescape};
+pub use escapes::{escape, escaped_byte, unescape};
 pub use fault::{MetaFault, MetaFaultKind};
 pub use laws::{
     blocks_stand_in_any_order, clocks_say_their_parts, decimals_come_back, escapes_come_back,
@@ -24,7 +24,7 @@ pub use laws::{
 };
 pub use literal::literal_value;
 pub use piece::{Cut, Piece};
-pub use position::{Position, explain, position_of};
+pub use position::{Position, explain, found_at, position_of};
 pub use token::{Mark, Span, Token, TokenKind};
 pub use tokenizer::{MAGIC_LINE, tokens};
 pub use tree::{

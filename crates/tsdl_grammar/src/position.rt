@@ -9,6 +9,8 @@ use std::alloc::{AllocError, Global};
 
 /// How many bytes of a text a message shows.
 const LONGEST_SHOWN: usize = 40;
+/// How many bytes a character has at most.
+const LONGEST_CHARACTER: usize = 4;
 
 /// A place in a text as editors count it, both from 1. A column counts bytes.
 #[derive(Clone, Copy, Debug, PartialEq, Eq)]
@@ -46,19 +48,42 @@ fn column_behind(before: &[u8]) -> usize
 
 /// A fault in words: its byte, line and column, what stands there, and what is wrong.
 pub fn explain(alloc: Global, text: &[u8], fault: &MetaFault) -> Result<String, AllocError> {
-    let place = fault.place.min(text.len());
+    let found = found_at(alloc, text, fault.place)?;
+    format!(in alloc; "{found}: {}", fault.kind)
+}
+
+/// What stands at a byte of a text, in words, with its line and its column.
+pub fn found_at(alloc: Global, text: &[u8], place: usize) -> Result<String, AllocError> {
+    let place = place.min(text.len());
     let Position { line, column } = position_of(text, place);
     let rest = &text[place..];
     if rest.is_empty() {
         return format!(in alloc;
-            "byte {place}, line {line}, column {column}: found the end of the text: {}",
-            fault.kind
+            "byte {place}, line {line}, column {column}: found the end of the text"
         );
     }
-    let len = piece_at(rest).map_or(1, |cut| cut.len);
-    let found = String::from_utf8_lossy(alloc, &rest[..len.min(LONGEST_SHOWN)])?;
-    format!(in alloc;
-        "byte {place}, line {line}, column {column}: found {found:?}: {}",
-        fault.kind
-    )
+    let piece = &rest[..piece_at(rest).map_or(1, |cut| cut.len)];
+    let front = front_of(piece);
+    let found = String::from_utf8_lossy(alloc, front)?;
+    let cut = if front.len() < piece.len() { "..." } else { "" };
+    format!(in alloc; "byte {place}, line {line}, column {column}: found {found:?}{cut}")
+}
+
+/// What a message shows of a piece: all of it, or so much of its front that no character is cut.
+fn front_of(piece: &[u8]) -> &[u8] {
+    if piece.len() <= LONGEST_SHOWN {
+        return piece;
+    }
+    let mut len = LONGEST_SHOWN;
+    for _ in 1..LONGEST_CHARACTER {
+        if piece.get(len).is_some_and(|b| is_inner(*b)) {
+            len = len.saturating_sub(1);
+        }
+    }
+    piece.get(..len).unwrap_or(piece)
+}
+
+/// Whether a byte is one of a character's but not its first.
+fn is_inner(b: u8) -> bool {
+    b & 0xc0 == 0x80
 }

@@ -47,14 +47,14 @@ pub record IsRefused (text : List ℕ) (at : ℕ) : Type 0 where
   pub place : at ≡ start_of (slice_get tokens index) (length text)
   pub nothing : (m : Metadata) → Denotes text m → ⊥
 
--- what a fault says of the text, by its kind and place
+-- what a fault says of the text, by its kind and place: the sizes of a stream's packets are missed where the text ends
 abbrev pub FaultHolds : List ℕ → MetaFaultKind → ℕ → Type 0
 FaultHolds text faults.NoMagicLine at = (at ≡ 0) × (HasMagicLine text → ⊥)
 FaultHolds text faults.Token at = HasMagicLine text × StopsAt text at
 FaultHolds text faults.Syntax at = IsRefused text at
 FaultHolds text (faults.Unsupported name) at = IsRefused text at
 FaultHolds text faults.Duplicate at = IsRefused text at
-FaultHolds text faults.NoPacketSize at = IsRefused text at
+FaultHolds text faults.NoPacketSize at = IsRefused text at × (at ≡ length text)
 FaultHolds text faults.BadLength at = IsRefused text at
 FaultHolds text faults.Limit at = IsRefused text at
 FaultHolds text faults.OutOfMemory at = Unit {0}

@@ -1,8 +1,11 @@
-//! Reads a TSDL metadata text into the metadata that it denotes.
+//! Reads a TSDL metadata text into the metadata that it denotes, and says in words why one denotes none.
 #![tactic(auto)]
 
 mod laws;
 mod read;
+mod token_words;
+mod words;
 
 pub use laws::denoted_is_unique;
 pub use read::read_metadata;
+pub use words::explain_fault;

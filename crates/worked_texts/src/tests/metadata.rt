@@ -4,15 +4,15 @@ mod smallest;
 mod syntax;
 
 use faults::{
-    BAD_LENGTH, BAD_LENGTH_IN_LINES, DUPLICATE, LIMIT, LIMITS, NO_PACKET_SIZE, UNSUPPORTED, WORDS,
+    BAD_LENGTH, BAD_LENGTH_IN_LINES, DUPLICATE, LIMIT, LIMITS, NO_PACKET_SIZE, PACKETS, UNSUPPORTED,
+    WORDS,
 };
 use std::alloc::{AllocError, Global};
 use std::process::Abort;
 use std::test::Fail;
 use syntax::SYNTAX;
-use tsdl_fault::explain_fault;
 use tsdl_grammar::{MAGIC_LINE, MetaFault};
-use tsdl_reader::read_metadata;
+use tsdl_reader::{explain_fault, read_metadata};
 
 /// The fault that a text is refused with.
 fn fault_of(alloc: Global, text: &[u8]) -> Result<MetaFault, Fail> {
@@ -135,6 +135,16 @@ fn says_what_was_expected(rt: HostRuntime) -> Result<(), Fail> {
         let fault = fault_of(rt.alloc(), text.as_bytes())?;
         let said = explain_fault(rt.alloc(), text.as_bytes(), &fault)?;
         assert_eq!(rt; said.as_str(), *words, "{text}");
+    }
+    Ok(())
+}
+
+#[test]
+fn names_metadata_in_packets(rt: HostRuntime) -> Result<(), Fail> {
+    for text in PACKETS {
+        let fault = fault_of(rt.alloc(), text)?;
+        let said = explain_fault(rt.alloc(), text, &fault)?;
+        assert!(rt; said.as_str().ends_with(": metadata in packets is not read here (`babeltrace2 -o ctf` converts such a trace)"), "{said}");
     }
     Ok(())
 }

@@ -221,18 +221,112 @@ pub static LIMITS: &[(&str, (&str, &str), usize, &str, &str)] = &[
 pub static WORDS: &[(&str, &str)] = &[
     (
         "",
-        "byte 0, line 1, column 1: found the end of the text: expected the line `/* CTF 1.8 */` (packetized metadata and CTF 2 are not read; `babeltrace2 -o ctf` converts such a trace)",
+        "byte 0, line 1, column 1: found the end of the text: expected the line `/* CTF 1.8 */`",
+    ),
+    (
+        "W\u{1d}",
+        "byte 0, line 1, column 1: found \"W\": expected the line `/* CTF 1.8 */`",
     ),
     (
         "/* CTF 1.8 */\ntrace { major = 1 }",
         "byte 32, line 2, column 19: found \"}\": the grammar of TSDL has no such token here: expected `;`",
     ),
     (
+        "/* CTF 1.8 */ event { fields := struct { } align(8192); };",
+        "byte 49, line 1, column 50: found \"8192\": this passes a limit: expected an alignment of at most 4096 bits",
+    ),
+    // what is converted, and what stays
+    (
         "/* CTF 1.8 */\ntypealias integer { size = 8; } := uint8_t;",
         "byte 14, line 2, column 1: found \"typealias\": `typealias` is not supported here (`babeltrace2 -o ctf` converts such a trace)",
     ),
     (
-        "/* CTF 1.8 */ event { fields := struct { } align(8192); };",
-        "byte 49, line 1, column 50: found \"8192\": this passes a limit: expected an alignment of at most 4096 bits",
+        "/* CTF 1.8 */\nstruct s { };",
+        "byte 14, line 2, column 1: found \"struct\": `struct` is not supported here (`babeltrace2 -o ctf` converts such a trace)",
     ),
+    (
+        "/* CTF 1.8 */\nevent { fields := struct { uint8_t x; }; };",
+        "byte 41, line 2, column 28: found \"uint8_t\": a type by its name is TSDL that is not read here (`babeltrace2 -o ctf` converts such a trace)",
+    ),
+    (
+        "/* CTF 1.8 */\nevent { fields := struct { enum : uint8_t { A = 1 } x; }; };",
+        "byte 48, line 2, column 35: found \"uint8_t\": a type by its name is TSDL that is not read here (`babeltrace2 -o ctf` converts such a trace)",
+    ),
+    (
+        "/* CTF 1.8 */\nevent { fields := struct s; };",
+        "byte 39, line 2, column 26: found \"s\": a type by its name is TSDL that is not read here (`babeltrace2 -o ctf` converts such a trace)",
+    ),
+    (
+        "/* CTF 1.8 */\nevent { fields := struct { unsigned int x; }; };",
+        "byte 41, line 2, column 28: found \"unsigned\": `unsigned` is not supported here (`babeltrace2 -o ctf` converts such a trace)",
+    ),
+    (
+        "/* CTF 1.8 */\nevent { fields := struct { enum : integer { size = 8; } { A, B } x; }; };",
+        "byte 73, line 2, column 60: found \",\": a label without a value is TSDL that is not read here (`babeltrace2 -o ctf` converts such a trace)",
+    ),
+    (
+        "/* CTF 1.8 */\ntrace { byte_order = le; packet.header := struct { integer { byte_order = be;",
+        "byte 88, line 2, column 75: found \"be\": `be` is not supported here (`babeltrace2 -o ctf` converts such a trace)",
+    ),
+    (
+        "/* CTF 1.8 */\nevent { fields := struct { struct { } x; }; };",
+        "byte 41, line 2, column 28: found \"struct\": `struct` is not supported here",
+    ),
+    (
+        "/* CTF 1.8 */\nevent { fields := struct { variant <tag> { } x; }; };",
+        "byte 49, line 2, column 36: found \"<\": `<` and `>` are TSDL that is not read here",
+    ),
+    (
+        "/* CTF 1.8 */\nevent { fields := struct { floating_point { } x; }; };",
+        "byte 41, line 2, column 28: found \"floating_point\": `floating_point` is not supported here",
+    ),
+    (
+        "/* CTF 1.8 */\ntrace { major = 2; };",
+        "byte 30, line 2, column 17: found \"2\": `major` is not supported here",
+    ),
+    // no token
+    (
+        "/* CTF 1.8 */\nenv { a = @; };",
+        "byte 24, line 2, column 11: found \"@\": no token of TSDL starts here",
+    ),
+    (
+        "/* CTF 1.8 */\nenv { a = \"b; };",
+        "byte 24, line 2, column 11: found \"\\\"\": this string has no closing quote in its line",
+    ),
+    (
+        "/* CTF 1.8 */\nenv { a = \"b\nc\"; };",
+        "byte 24, line 2, column 11: found \"\\\"\": this string has no closing quote in its line",
+    ),
+    (
+        "/* CTF 1.8 */\nenv { a = \"b\\q\"; };",
+        "byte 24, line 2, column 11: found \"\\\"\": this string has `\\q`, which is no escape",
+    ),
+    (
+        "/* CTF 1.8 */\nenv { a = \"b\\\u{e9}\"; };",
+        "byte 24, line 2, column 11: found \"\\\"\": this string has a backslash that begins no escape",
+    ),
+    (
+        "/* CTF 1.8 */ /* trace",
+        "byte 14, line 1, column 15: found \"/\": this comment has no end",
+    ),
+    // the end of the text
+    (
+        "/* CTF 1.8 */trace{byte_order=le;major=1;minor=8;};event{name=\"e\";stream_id=3;};",
+        "byte 80, line 1, column 81: found the end of the text: no stream block with number 3 for event \"e\"",
+    ),
+    // a token that is cut at a character
+    (
+        "/* CTF 1.8 */ \"aaaaaaaaaaaaaaaaaaaaaaaaaaaaaaaaaaaaaa\u{e9}\" ",
+        "byte 14, line 1, column 15: found \"\\\"aaaaaaaaaaaaaaaaaaaaaaaaaaaaaaaaaaaaaa\"...: the grammar of TSDL has no such token here: expected `trace`, `env`, `clock`, `stream` or `event`",
+    ),
+    (
+        "/* CTF 1.8 */ abcdefghijklmnopqrstuvwxyz0123456789_abcdef;",
+        "byte 14, line 1, column 15: found \"abcdefghijklmnopqrstuvwxyz0123456789_abc\"...: `abcdefghijklmnopqrstuvwxyz0123456789_abcdef` is not supported here",
+    ),
+];
+
+/// What metadata in packets begins with, in both byte orders, as in CTF 1.8.3, section 7.1.
+pub static PACKETS: &[&[u8]] = &[
+    b"\x57\x1d\xd1\x75\x00\x00",
+    b"\x75\xd1\x1d\x57\x00\x00",
 ];

@@ -1,0 +1,58 @@
+//! Faults of a metadata text as people read them.
+
+use crate::token_words::token_words;
+use std::alloc::{AllocError, Global};
+use tsdl_fault::{CONVERTED, first_words};
+use tsdl_grammar::{MetaFault, MetaFaultKind, atoms, found_at, tokens};
+
+/// What packets of metadata begin with, as numbers in both byte orders.
+const PACKET_MAGIC: [[u8; 4]; 2] = [[0x57, 0x1d, 0xd1, 0x75], [0x75, 0xd1, 0x1d, 0x57]];
+
+/// The fault that `read_metadata` answers for a text, in words: its byte, line and column, what stands there, what is
+/// wrong, and what was expected or what can be done where that is not said by then.
+pub fn explain_fault(alloc: Global, text: &[u8], fault: &MetaFault) -> Result<String, AllocError> {
+    let found = found_at(alloc, text, fault.place)?;
+    match words_of(alloc, text, fault)? {
+        Some(words) => format!(in alloc; "{found}: {words}"),
+        None => format!(in alloc; "{found}: {}", fault.kind),
+    }
+}
+
+/// What is wrong with a text at its fault, in words, where the kind of the fault does not say all of it.
+fn words_of(alloc: Global, text: &[u8], fault: &MetaFault) -> Result<Option<String>, AllocError> {
+    match fault.kind {
+        MetaFaultKind::NoMagicLine => packets_words(alloc, text),
+        MetaFaultKind::Token => token_words(alloc, text.get(fault.place..).unwrap_or(&[])),
+        MetaFaultKind::Syntax | MetaFaultKind::Unsupported(_) | MetaFaultKind::Limit => {
+            atoms_words(alloc, text)
+        }
+        MetaFaultKind::Duplicate
+        | MetaFaultKind::NoPacketSize
+        | MetaFaultKind::BadLength
+        | MetaFaultKind::OutOfMemory => Ok(None),
+    }
+}
+
+/// Metadata in packets, as tracers write it that stream it.
+fn packets_words(alloc: Global, text: &[u8]) -> Result<Option<String>, AllocError> {
+    if PACKET_MAGIC.iter().any(|magic| text.starts_with(magic)) {
+        let words = format!(in alloc; "metadata in packets is not read here{CONVERTED}")?;
+        Ok(Some(words))
+    } else {
+        Ok(None)
+    }
+}
+
+/// What is wrong with the atoms of a text.
+fn atoms_words(alloc: Global, text: &[u8]) -> Result<Option<String>, AllocError> {
+    match tokens(alloc, text) {
+        Ok(tokens) => first_words(alloc, &atoms(alloc, text, &tokens)?),
+        Err(
+            MetaFault {
+                kind: MetaFaultKind::OutOfMemory,
+                ..
+            },
+        ) => Err(AllocError),
+        Err(_) => Ok(None),
+    }
+}
