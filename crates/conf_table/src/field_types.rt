@@ -1,0 +1,110 @@
+//! The properties of field types, by class (barectf 3.1, "Field type objects").
+
+use crate::{Content, Place, Presence, Row, Words};
+
+const CLASS: Row = ("class", Presence::Needed, Content::Class);
+
+const INHERIT: Row = (
+    "$inherit",
+    Presence::Optional,
+    Content::At(Place::FieldType),
+);
+
+const SIZE: Row = (
+    "size",
+    Presence::Needed,
+    Content::Whole { low: 1, high: 64 },
+);
+
+const ALIGNMENT: Row = (
+    "alignment",
+    Presence::ByteAlignment,
+    Content::PowerOfTwo { high: 4096 },
+);
+
+const BASE: Row = (
+    "preferred-display-base",
+    Presence::Decimal,
+    Content::Word(Words::DisplayBase),
+);
+
+const ELEMENT: Row = (
+    "element-field-type",
+    Presence::Needed,
+    Content::At(Place::ElementType),
+);
+
+/// A field type whose class is not known.
+pub(crate) static FIELD_TYPE: [Row; 2] = [CLASS, INHERIT];
+
+pub(crate) static INTEGER: [Row; 5] = [CLASS, INHERIT, SIZE, ALIGNMENT, BASE];
+
+pub(crate) static ENUMERATION: [Row; 6] = [
+    CLASS,
+    INHERIT,
+    SIZE,
+    ALIGNMENT,
+    BASE,
+    ("mappings", Presence::Needed, Content::At(Place::Mappings)),
+];
+
+pub(crate) static STR: [Row; 2] = [CLASS, INHERIT];
+
+pub(crate) static STATIC_ARRAY: [Row; 4] = [
+    CLASS,
+    INHERIT,
+    ELEMENT,
+    (
+        "length",
+        Presence::Needed,
+        Content::Whole {
+            low: 0,
+            high: 1048576,
+        },
+    ),
+];
+
+pub(crate) static DYNAMIC_ARRAY: [Row; 3] = [CLASS, INHERIT, ELEMENT];
+
+pub(crate) static STRUCTURE: [Row; 4] = [
+    CLASS,
+    INHERIT,
+    ("members", Presence::Optional, Content::At(Place::Members)),
+    (
+        "minimum-alignment",
+        Presence::Number(1),
+        Content::PowerOfTwo { high: 4096 },
+    ),
+];
+
+/// What an entry of a members list says of its member.
+pub(crate) static MEMBER: [Row; 2] = [
+    INHERIT,
+    (
+        "field-type",
+        Presence::Needed,
+        Content::At(Place::MemberType),
+    ),
+];
+
+/// The words of classes, and the place that is a field type of the class.
+pub(crate) static CLASSES: [(&str, Place); 18] = [
+    ("unsigned-integer", Place::UnsignedInteger),
+    ("unsigned-int", Place::UnsignedInteger),
+    ("uint", Place::UnsignedInteger),
+    ("signed-integer", Place::SignedInteger),
+    ("signed-int", Place::SignedInteger),
+    ("sint", Place::SignedInteger),
+    ("unsigned-enumeration", Place::UnsignedEnumeration),
+    ("unsigned-enum", Place::UnsignedEnumeration),
+    ("uenum", Place::UnsignedEnumeration),
+    ("signed-enumeration", Place::SignedEnumeration),
+    ("signed-enum", Place::SignedEnumeration),
+    ("senum", Place::SignedEnumeration),
+    ("string", Place::Str),
+    ("str", Place::Str),
+    ("static-array", Place::StaticArray),
+    ("dynamic-array", Place::DynamicArray),
+    ("structure", Place::Structure),
+    ("struct", Place::Structure),
+];

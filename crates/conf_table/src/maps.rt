@@ -1,0 +1,86 @@
+//! What the maps and the lists of a configuration hold.
+
+use crate::objects::{HIGHEST, HIGHEST_UNSIGNED, LOWEST, MOST_BYTES};
+use crate::{Content, Entries, Keys, Place};
+
+pub(crate) const ENVIRONMENT: Entries = Entries {
+    keys: Keys::PlainName,
+    most: Some(256),
+    content: Content::WholeOrText {
+        low: LOWEST,
+        high: HIGHEST,
+        most_bytes: MOST_BYTES,
+    },
+};
+
+pub(crate) const FIELD_TYPE_ALIASES: Entries = Entries {
+    keys: Keys::Name,
+    most: Some(1024),
+    content: Content::At(Place::FieldType),
+};
+
+pub(crate) const LOG_LEVEL_ALIASES: Entries = Entries {
+    keys: Keys::Name,
+    most: Some(1024),
+    content: Content::Whole {
+        low: 0,
+        high: HIGHEST,
+    },
+};
+
+pub(crate) const CLOCK_TYPES: Entries = Entries {
+    keys: Keys::PlainName,
+    most: Some(64),
+    content: Content::At(Place::ClockType),
+};
+
+pub(crate) const STREAM_TYPES: Entries = Entries {
+    keys: Keys::Name,
+    most: Some(64),
+    content: Content::At(Place::StreamType),
+};
+
+pub(crate) const EVENT_TYPES: Entries = Entries {
+    keys: Keys::Name,
+    most: Some(1024),
+    content: Content::At(Place::EventType),
+};
+
+pub(crate) const ENTRY: Entries = Entries {
+    keys: Keys::PlainName,
+    most: Some(1),
+    content: Content::At(Place::Member),
+};
+
+pub(crate) const MAPPINGS: Entries = Entries {
+    keys: Keys::Label,
+    most: None,
+    content: Content::At(Place::Ranges),
+};
+
+pub(crate) const EXTRA_MEMBERS: Entries = Entries {
+    keys: Keys::Index,
+    most: Some(256),
+    content: Content::At(Place::Entry),
+};
+
+pub(crate) const MEMBERS: Entries = Entries {
+    keys: Keys::Index,
+    most: Some(256),
+    content: Content::At(Place::Entry),
+};
+
+pub(crate) const RANGES: Entries = Entries {
+    keys: Keys::Index,
+    most: None,
+    content: Content::At(Place::Range),
+};
+
+pub(crate) const RANGE: Entries = Entries {
+    keys: Keys::Index,
+    most: Some(2),
+    content: Content::Whole {
+        low: LOWEST,
+        high: HIGHEST_UNSIGNED,
+    },
+};

@@ -1,0 +1,245 @@
+//! The properties of the objects that are no field types (barectf 3.1, "Configuration object" and the pages below it).
+
+use crate::{Content, Place, Presence, Row, Words};
+
+/// The lowest number of 64 bits, one of which is the sign.
+pub(crate) const LOWEST: i128 = -9223372036854775808;
+
+/// The highest of these.
+pub(crate) const HIGHEST: i128 = 9223372036854775807;
+
+/// The highest number of 64 bits without a sign.
+pub(crate) const HIGHEST_UNSIGNED: i128 = 18446744073709551615;
+
+/// The most bytes of a text that people read.
+pub(crate) const MOST_BYTES: u64 = 4096;
+
+pub(crate) static ROOT: [Row; 2] = [
+    ("trace", Presence::Needed, Content::At(Place::Trace)),
+    ("options", Presence::Optional, Content::Anything),
+];
+
+pub(crate) static TRACE: [Row; 2] = [
+    ("type", Presence::Needed, Content::At(Place::TraceType)),
+    (
+        "environment",
+        Presence::Optional,
+        Content::At(Place::Environment),
+    ),
+];
+
+pub(crate) static TRACE_TYPE: [Row; 8] = [
+    (
+        "trace-byte-order",
+        Presence::OneOrder,
+        Content::Word(Words::ByteOrder),
+    ),
+    (
+        "native-byte-order",
+        Presence::OneOrder,
+        Content::Word(Words::ByteOrder),
+    ),
+    ("uuid", Presence::Optional, Content::IdentifierOrAuto),
+    (
+        "clock-types",
+        Presence::Optional,
+        Content::At(Place::ClockTypes),
+    ),
+    (
+        "data-stream-types",
+        Presence::Optional,
+        Content::At(Place::StreamTypes),
+    ),
+    (
+        "$features",
+        Presence::Optional,
+        Content::At(Place::TraceFeatures),
+    ),
+    (
+        "$field-type-aliases",
+        Presence::Optional,
+        Content::At(Place::FieldTypeAliases),
+    ),
+    (
+        "$log-level-aliases",
+        Presence::Optional,
+        Content::At(Place::LogLevelAliases),
+    ),
+];
+
+pub(crate) static TRACE_FEATURES: [Row; 3] = [
+    (
+        "magic-field-type",
+        Presence::Flag(true),
+        Content::At(Place::MagicFeature),
+    ),
+    (
+        "uuid-field-type",
+        Presence::WithIdentifier,
+        Content::At(Place::IdentifierFeature),
+    ),
+    (
+        "data-stream-type-id-field-type",
+        Presence::Flag(true),
+        Content::At(Place::Feature),
+    ),
+];
+
+pub(crate) static CLOCK_TYPE: [Row; 7] = [
+    (
+        "frequency",
+        Presence::Number(1000000000),
+        Content::Whole {
+            low: 1,
+            high: HIGHEST_UNSIGNED,
+        },
+    ),
+    (
+        "description",
+        Presence::Optional,
+        Content::Text {
+            most_bytes: MOST_BYTES,
+        },
+    ),
+    ("uuid", Presence::Optional, Content::Identifier),
+    (
+        "precision",
+        Presence::Number(0),
+        Content::Whole {
+            low: 0,
+            high: HIGHEST_UNSIGNED,
+        },
+    ),
+    (
+        "offset",
+        Presence::Optional,
+        Content::At(Place::ClockOffset),
+    ),
+    ("origin-is-unix-epoch", Presence::Flag(true), Content::Flag),
+    ("$c-type", Presence::Optional, Content::Anything),
+];
+
+pub(crate) static CLOCK_OFFSET: [Row; 2] = [
+    (
+        "seconds",
+        Presence::Number(0),
+        Content::Whole {
+            low: LOWEST,
+            high: HIGHEST,
+        },
+    ),
+    (
+        "cycles",
+        Presence::Number(0),
+        Content::Whole {
+            low: 0,
+            high: HIGHEST_UNSIGNED,
+        },
+    ),
+];
+
+pub(crate) static STREAM_TYPE: [Row; 6] = [
+    ("$is-default", Presence::Flag(false), Content::Flag),
+    (
+        "$default-clock-type-name",
+        Presence::Optional,
+        Content::ClockName,
+    ),
+    (
+        "$features",
+        Presence::Optional,
+        Content::At(Place::StreamFeatures),
+    ),
+    (
+        "packet-context-field-type-extra-members",
+        Presence::Optional,
+        Content::At(Place::ExtraMembers),
+    ),
+    (
+        "event-record-common-context-field-type",
+        Presence::Optional,
+        Content::At(Place::StructureType),
+    ),
+    (
+        "event-record-types",
+        Presence::Optional,
+        Content::At(Place::EventTypes),
+    ),
+];
+
+pub(crate) static STREAM_FEATURES: [Row; 2] = [
+    (
+        "packet",
+        Presence::Optional,
+        Content::At(Place::PacketFeatures),
+    ),
+    (
+        "event-record",
+        Presence::Optional,
+        Content::At(Place::EventRecordFeatures),
+    ),
+];
+
+pub(crate) static PACKET_FEATURES: [Row; 6] = [
+    (
+        "total-size-field-type",
+        Presence::Flag(true),
+        Content::At(Place::SizeFeature),
+    ),
+    (
+        "content-size-field-type",
+        Presence::Flag(true),
+        Content::At(Place::SizeFeature),
+    ),
+    (
+        "beginning-timestamp-field-type",
+        Presence::WithClock,
+        Content::At(Place::Feature),
+    ),
+    (
+        "end-timestamp-field-type",
+        Presence::WithClock,
+        Content::At(Place::Feature),
+    ),
+    (
+        "discarded-event-records-counter-snapshot-field-type",
+        Presence::Flag(true),
+        Content::At(Place::Feature),
+    ),
+    (
+        "sequence-number-field-type",
+        Presence::Flag(false),
+        Content::At(Place::Feature),
+    ),
+];
+
+pub(crate) static EVENT_RECORD_FEATURES: [Row; 2] = [
+    (
+        "type-id-field-type",
+        Presence::Flag(true),
+        Content::At(Place::Feature),
+    ),
+    (
+        "timestamp-field-type",
+        Presence::WithClock,
+        Content::At(Place::Feature),
+    ),
+];
+
+pub(crate) static EVENT_TYPE: [Row; 3] = [
+    (
+        "log-level",
+        Presence::Optional,
+        Content::Level { high: HIGHEST },
+    ),
+    (
+        "specific-context-field-type",
+        Presence::Optional,
+        Content::At(Place::StructureType),
+    ),
+    (
+        "payload-field-type",
+        Presence::Optional,
+        Content::At(Place::StructureType),
+    ),
+];

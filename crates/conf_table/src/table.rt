@@ -1,0 +1,173 @@
+//! Look-ups in the table: the rows of an object, what a map or a list holds, and where a property leads.
+ghost use Rattle.std.specs.Prelude.{◌≡◌, map, option_map};
+ghost use Rattle.conf_table.specs.Table.{rows_of, told_of, entries_of, row_in, under_of, content_under, place_in};
+
+use crate::{Content, Entries, Keys, Place, Row, field_types, maps, objects};
+
+/// The rows of an object. A map, a list, a number or a text has none.
+#[tactic(auto, unfolding(crate::specs::Table::rows_of))]
+pub fn rows(place: Place) -> &'static [Row]
+    ensures { map told_of result.now ≡ rows_of place }
+{
+    match place {
+        Place::Root => &objects::ROOT,
+        Place::Trace => &objects::TRACE,
+        Place::TraceType => &objects::TRACE_TYPE,
+        Place::TraceFeatures => &objects::TRACE_FEATURES,
+        Place::ClockType => &objects::CLOCK_TYPE,
+        Place::ClockOffset => &objects::CLOCK_OFFSET,
+        Place::StreamType => &objects::STREAM_TYPE,
+        Place::StreamFeatures => &objects::STREAM_FEATURES,
+        Place::PacketFeatures => &objects::PACKET_FEATURES,
+        Place::EventRecordFeatures => &objects::EVENT_RECORD_FEATURES,
+        Place::EventType => &objects::EVENT_TYPE,
+        Place::Member => &field_types::MEMBER,
+        Place::FieldType
+        | Place::StructureType
+        | Place::MemberType
+        | Place::ElementType
+        | Place::Feature
+        | Place::SizeFeature
+        | Place::MagicFeature
+        | Place::IdentifierFeature => &field_types::FIELD_TYPE,
+        Place::UnsignedInteger | Place::SignedInteger => &field_types::INTEGER,
+        Place::UnsignedEnumeration | Place::SignedEnumeration => &field_types::ENUMERATION,
+        Place::Str => &field_types::STR,
+        Place::StaticArray => &field_types::STATIC_ARRAY,
+        Place::DynamicArray => &field_types::DYNAMIC_ARRAY,
+        Place::Structure => &field_types::STRUCTURE,
+        Place::Environment
+        | Place::FieldTypeAliases
+        | Place::LogLevelAliases
+        | Place::ClockTypes
+        | Place::StreamTypes
+        | Place::EventTypes
+        | Place::Entry
+        | Place::Mappings
+        | Place::ExtraMembers
+        | Place::Members
+        | Place::Ranges
+        | Place::Range
+        | Place::Scalar
+        | Place::Ignored => &[],
+    }
+}
+
+/// What a map or a list holds. No other place holds entries.
+#[tactic(auto, unfolding(crate::specs::Table::entries_of))]
+pub fn entries(place: Place) -> Option<Entries>
+    ensures { result ≡ entries_of place }
+{
+    match place {
+        Place::Environment => Some(maps::ENVIRONMENT),
+        Place::FieldTypeAliases => Some(maps::FIELD_TYPE_ALIASES),
+        Place::LogLevelAliases => Some(maps::LOG_LEVEL_ALIASES),
+        Place::ClockTypes => Some(maps::CLOCK_TYPES),
+        Place::StreamTypes => Some(maps::STREAM_TYPES),
+        Place::EventTypes => Some(maps::EVENT_TYPES),
+        Place::Entry => Some(maps::ENTRY),
+        Place::Mappings => Some(maps::MAPPINGS),
+        Place::ExtraMembers => Some(maps::EXTRA_MEMBERS),
+        Place::Members => Some(maps::MEMBERS),
+        Place::Ranges => Some(maps::RANGES),
+        Place::Range => Some(maps::RANGE),
+        Place::Root
+        | Place::Trace
+        | Place::TraceType
+        | Place::TraceFeatures
+        | Place::ClockType
+        | Place::ClockOffset
+        | Place::StreamType
+        | Place::StreamFeatures
+        | Place::PacketFeatures
+        | Place::EventRecordFeatures
+        | Place::EventType
+        | Place::Member
+        | Place::FieldType
+        | Place::StructureType
+        | Place::MemberType
+        | Place::ElementType
+        | Place::Feature
+        | Place::SizeFeature
+        | Place::MagicFeature
+        | Place::IdentifierFeature
+        | Place::UnsignedInteger
+        | Place::SignedInteger
+        | Place::UnsignedEnumeration
+        | Place::SignedEnumeration
+        | Place::Str
+        | Place::StaticArray
+        | Place::DynamicArray
+        | Place::Structure
+        | Place::Scalar
+        | Place::Ignored => None,
+    }
+}
+
+/// What the value of the property `name` is, where there is one: by its row, or as each entry of a map.
+#[tactic(auto, unfolding(crate::specs::Table::content_under))]
+pub fn content(place: Place, name: &str) -> Option<Content>
+    ensures { result ≡ content_under place name.now }
+{
+    if place == Place::Ignored {
+        return Some(Content::Anything);
+    }
+    match entries(place) {
+        Some(entries) => {
+            if entries.keys == Keys::Index {
+                None
+            } else {
+                Some(entries.content)
+            }
+        }
+        None => content_in(rows(place), name),
+    }
+}
+
+/// What the value of the property `name` is, where a row has the name.
+fn content_in(rows: &'static [Row], name: &str) -> Option<Content>
+    ensures { result ≡ option_map (λ r. r.content) (row_in name.now (map told_of rows.now)) }
+{
+    for (row, _, content) in rows {
+        if *row == name {
+            return Some(*content);
+        }
+    }
+    None
+}
+
+/// The place of the property `name`. None is an unknown property.
+pub fn under(place: Place, name: &str) -> Option<Place>
+    ensures { result ≡ under_of place name.now }
+{
+    let content = content(place, name)?;
+    Some(content.place())
+}
+
+impl Content {
+    /// The place that a value of this content is.
+    #[tactic(auto, unfolding(crate::specs::Table::place_in))]
+    pub fn place(self) -> Place
+        ensures { result ≡ place_in self }
+    {
+        match self {
+            Content::At(place) => place,
+            Content::Anything => Place::Ignored,
+            Content::Whole { low: _, high: _ }
+            | Content::PowerOfTwo { high: _ }
+            | Content::Flag
+            | Content::Text { most_bytes: _ }
+            | Content::ClockName
+            | Content::Identifier
+            | Content::IdentifierOrAuto
+            | Content::Word(_)
+            | Content::Class
+            | Content::WholeOrText {
+                low: _,
+                high: _,
+                most_bytes: _,
+            }
+            | Content::Level { high: _ } => Place::Scalar,
+        }
+    }
+}
