@@ -4,8 +4,8 @@ mod smallest;
 mod syntax;
 
 use faults::{
-    BAD_LENGTH, BAD_LENGTH_IN_LINES, DUPLICATE, LIMIT, LIMITS, NO_PACKET_SIZE, PACKETS, UNSUPPORTED,
-    WORDS,
+    BAD_LENGTH, BAD_LENGTH_IN_LINES, DUPLICATE, LIMIT, LIMITS, NO_PACKET_SIZE, PACKETS,
+    UNSUPPORTED, WORDS,
 };
 use std::alloc::{AllocError, Global};
 use std::process::Abort;
@@ -144,7 +144,12 @@ fn names_metadata_in_packets(rt: HostRuntime) -> Result<(), Fail> {
     for text in PACKETS {
         let fault = fault_of(rt.alloc(), text)?;
         let said = explain_fault(rt.alloc(), text, &fault)?;
-        assert!(rt; said.as_str().ends_with(": metadata in packets is not read here (`babeltrace2 -o ctf` converts such a trace)"), "{said}");
+        assert!(rt;
+            said.as_str().ends_with(
+                ": metadata in packets is not read here (`babeltrace2 -o ctf` converts such a trace)"
+            ),
+            "{said}"
+        );
     }
     Ok(())
 }

@@ -326,7 +326,4 @@ pub static WORDS: &[(&str, &str)] = &[
 ];
 
 /// What metadata in packets begins with, in both byte orders, as in CTF 1.8.3, section 7.1.
-pub static PACKETS: &[&[u8]] = &[
-    b"\x57\x1d\xd1\x75\x00\x00",
-    b"\x75\xd1\x1d\x57\x00\x00",
-];
+pub static PACKETS: &[&[u8]] = &[b"\x57\x1d\xd1\x75\x00\x00", b"\x75\xd1\x1d\x57\x00\x00"];
