@@ -1,4 +1,5 @@
 mod WorkedWriting
+pub mod Alignments
 pub mod Complements
 pub mod DraftingLaws
 pub mod DynamicLaws

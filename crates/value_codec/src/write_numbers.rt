@@ -1,7 +1,7 @@
 //! Unsigned numbers at their alignment (CTF 1.8.3, section 4.1.5).
 
 ghost use Rattle.std.specs.Prelude.{◌≡◌, ◌+◌, ◌*◌, ◌^◌, ◌<◌, ◌≤◌, length};
-ghost use Rattle.ctf_types.specs.Alignment.{up};
+ghost use Rattle.ctf_types.specs.Alignment.{up, IsAlignment};
 ghost use Rattle.ctf_types.specs.Bits.{bit_of, number_at, AreZero, SameOutside};
 ghost use Rattle.value_codec.specs.Writing.{Writes, HasRoom, NumberLies};
 
@@ -31,7 +31,7 @@ pub(crate) fn write_aligned(
     size: u8,
     number: u64,
 ) -> u64
-    requires positive { 0 < align }
+    requires align { IsAlignment align }
     requires some { 0 < size }
     requires at_most_64 { size ≤ 64 }
     requires fits { number < 2 ^ size }
