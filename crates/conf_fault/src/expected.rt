@@ -1,0 +1,144 @@
+//! What the table expects of a value, in words.
+
+use crate::nearest::push_nearest;
+use conf_table::{Content, Keys, Place, class_words, entries, rows, words_in};
+use std::alloc::{AllocError, Global};
+
+/// Adds what a value of this content is.
+pub(crate) fn push_expected(
+    alloc: Global,
+    said: &mut String,
+    content: Content,
+    position: Place,
+) -> Result<(), AllocError> {
+    match content {
+        Content::Whole { low, high } => push_range(alloc, said, low, high),
+        Content::PowerOfTwo { high } => said.push_str(format!(in alloc;
+            "a power of two, {high} at most"
+        )?.as_str()),
+        Content::Flag => said.push_str("true or false"),
+        Content::Text { most_bytes } => push_text(alloc, said, most_bytes),
+        Content::ClockName => said.push_str("the name of a clock type"),
+        Content::Identifier => said.push_str("a UUID as text"),
+        Content::IdentifierOrAuto => said.push_str("a UUID as text, or `auto`"),
+        Content::Word(choice) => push_words(said, words_in(choice)),
+        Content::Class => push_words(said, classes_at(alloc, position)?.as_slice()),
+        Content::WholeOrText {
+            low,
+            high,
+            most_bytes,
+        } => {
+            push_range(alloc, said, low, high)?;
+            said.push_str(", or ")?;
+            push_text(alloc, said, most_bytes)
+        }
+        Content::Level { high } => {
+            push_range(alloc, said, 0, high)?;
+            said.push_str(", or the name of a log level alias")
+        }
+        Content::At(place) => said.push_str(described(place)),
+        Content::Anything => said.push_str("any value"),
+    }
+}
+
+fn push_range(alloc: Global, said: &mut String, low: i128, high: i128) -> Result<(), AllocError> {
+    said.push_str(format!(in alloc; "a whole number from {low} to {high}")?.as_str())
+}
+
+fn push_text(alloc: Global, said: &mut String, most_bytes: u64) -> Result<(), AllocError> {
+    said.push_str(format!(in alloc;
+        "a text of {most_bytes} bytes at most, without control characters but newline and tab"
+    )?.as_str())
+}
+
+/// Adds words, each as it is written.
+pub(crate) fn push_words(said: &mut String, words: &[&str]) -> Result<(), AllocError> {
+    if words.is_empty() {
+        return said.push_str("none");
+    }
+    let mut before = "`";
+    for word in words {
+        said.push_str(before)?;
+        said.push_str(*word)?;
+        before = "`, `";
+    }
+    said.push('`')
+}
+
+/// The names of an object's properties.
+fn property_names(alloc: Global, holder: Place) -> Result<Vec<&'static str>, AllocError> {
+    let mut names = Vec::new(alloc);
+    for (name, _, _) in rows(holder) {
+        names.push(*name)?;
+    }
+    Ok(names)
+}
+
+/// The words of the classes that may stand at a position.
+fn classes_at(alloc: Global, position: Place) -> Result<Vec<&'static str>, AllocError> {
+    let mut words = Vec::new(alloc);
+    for (word, class) in class_words() {
+        if position.admits(*class) {
+            words.push(*word)?;
+        }
+    }
+    Ok(words)
+}
+
+/// Adds the properties of an object, with the one most like `name`.
+pub(crate) fn push_properties(
+    alloc: Global,
+    said: &mut String,
+    holder: Place,
+    name: &str,
+) -> Result<(), AllocError> {
+    let names = property_names(alloc, holder)?;
+    push_words(said, names.as_slice())?;
+    push_nearest(said, name, names.as_slice())
+}
+
+/// What stands at a place.
+fn described(place: Place) -> &'static str {
+    match place {
+        Place::StructureType => "a structure field type, or the name of an alias of one",
+        Place::FieldType => "a field type, or the name of an alias",
+        Place::MemberType => "a field type that is no structure, or the name of an alias of one",
+        Place::ElementType =>
+            "a field type that is neither a structure nor a dynamic array, or the name of an alias of one",
+        Place::Feature => "true, false, or an unsigned integer field type",
+        Place::SizeFeature => "true, or an unsigned integer field type: a packet has its sizes",
+        Place::MagicFeature => "true, false, or an unsigned integer field type of 32 bits",
+        Place::IdentifierFeature =>
+            "true, false, or a static array field type of 16 unsigned integers of 8 bits with alignment 8",
+        Place::Entry => "an object of one property, the member's name",
+        Place::Member => "the name of an alias, or an object with `field-type`",
+        Place::Range => "a whole number, or a list of the lowest and the highest of a range",
+        Place::Scalar => "a value",
+        Place::Ignored => "any value",
+        _ => match entries(place) {
+            Some(entries) => {
+                if entries.keys == Keys::Index {
+                    "a list"
+                } else {
+                    "an object"
+                }
+            }
+            None => "an object",
+        },
+    }
+}
+
+/// Adds the word of a choice that is most like one that is none of them.
+pub(crate) fn push_nearest_word(
+    alloc: Global,
+    said: &mut String,
+    content: Option<Content>,
+    position: Place,
+    word: &str,
+) -> Result<(), AllocError> {
+    match content {
+        Some(Content::Word(choice)) => push_nearest(said, word, words_in(choice)),
+        Some(Content::Class) => push_nearest(said, word, classes_at(alloc, position)?.as_slice()),
+        _ => Ok(()),
+    }
+}

@@ -1,0 +1,121 @@
+//! The walk along a fault's path over the text.
+
+use crate::layers::{Layer, holds_field_type};
+use crate::source::Source;
+use conf_table::{Content, Place, class_place, content, entries};
+use conf_tree::Step;
+use std::alloc::AllocError;
+
+/// How far a path leads in the text.
+#[derive(Drop)]
+pub(crate) struct Found {
+    /// The value there, before what it is laid over.
+    pub layers: Vec<Layer>,
+    /// What holds the value of the last step: a position of field types, or what it is.
+    pub position: Place,
+    /// The same, by the class of the field type.
+    pub holder: Place,
+    /// What the table says of the value at the end of the path.
+    pub content: Option<Content>,
+    /// Whether the path leads to a value, and not only to what would hold it.
+    pub is_there: bool,
+}
+
+impl Found {
+    /// The nearest value there.
+    pub(crate) fn layer(&self) -> Layer {
+        match self.layers.first() {
+            Some(layer) => *layer,
+            None => Layer {
+                key: 0,
+                at: 0,
+                alias: None,
+            },
+        }
+    }
+}
+
+impl<'t> Source<'t> {
+    /// The value to which the path leads, or the last one on the way that is there.
+    pub(crate) fn find(&self, path: &[Step]) -> Result<Found, AllocError> {
+        let start = self.start();
+        let mut layers = Vec::new(self.alloc);
+        layers.push(Layer {
+            key: start,
+            at: start,
+            alias: None,
+        })?;
+        let mut found = Found {
+            layers,
+            position: Place::Root,
+            holder: Place::Root,
+            content: Some(Content::At(Place::Root)),
+            is_there: true,
+        };
+        for index in 0..path.len() {
+            if !self.step(&mut found, &path[index], path.get(index + 1))? {
+                break;
+            }
+        }
+        Ok(found)
+    }
+
+    /// Goes one step further. False where nothing is there.
+    fn step(
+        &self,
+        found: &mut Found,
+        step: &Step,
+        next: Option<&Step>,
+    ) -> Result<bool, AllocError> {
+        let position = match found.content {
+            Some(content) => content.place(),
+            None => Place::Ignored,
+        };
+        let holder = self.class_of(found.layers.as_slice(), position)?;
+        let told = told(holder, step);
+        let below = match told {
+            Some(content) => content.place(),
+            None => Place::Ignored,
+        };
+        let inner = self.inside(found.layers.as_slice(), holder, step, next)?;
+        let layers = self.followed(inner, below)?;
+        found.position = position;
+        found.holder = holder;
+        found.content = told;
+        found.is_there = !layers.is_empty();
+        if found.is_there {
+            found.layers = layers;
+        }
+        Ok(found.is_there)
+    }
+
+    /// The place that a value at a position is: a field type by its class, where the class is known.
+    fn class_of(&self, layers: &[Layer], position: Place) -> Result<Place, AllocError> {
+        if !holds_field_type(position) || position == Place::Member {
+            return Ok(position);
+        }
+        for layer in layers {
+            if let Some(class) = self.member(layer.at, "class")? {
+                let Some(word) = self.text_of(class.at)? else {
+                    return Ok(position);
+                };
+                return Ok(match class_place(word.as_str()) {
+                    Some(place) => place,
+                    None => position,
+                });
+            }
+        }
+        Ok(position)
+    }
+}
+
+/// What the table says of the value one step into a place.
+fn told(holder: Place, step: &Step) -> Option<Content> {
+    match step {
+        Step::Key(name) => content(holder, name.as_str()),
+        Step::Index(_) => {
+            let entries = entries(holder)?;
+            Some(entries.content)
+        }
+    }
+}

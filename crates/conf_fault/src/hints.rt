@@ -1,0 +1,71 @@
+//! Hints where a user of barectf lands first.
+
+use crate::line_column::LineColumn;
+use crate::source::Source;
+use conf_tree::{FaultKind, Step};
+use serde_json::Value;
+use std::alloc::AllocError;
+
+/// Adds where a text stops being JSON.
+pub(crate) fn push_not_json(source: Source<'_>, said: &mut String) -> Result<(), AllocError> {
+    let place = match Value::from_slice(source.alloc, source.text) {
+        Ok(_) => LineColumn { line: 1, column: 1 },
+        Err(error) => {
+            if error.is_memory() {
+                return Err(AllocError);
+            }
+            LineColumn {
+                line: error.line(),
+                column: error.column(),
+            }
+        }
+    };
+    let numbers = format!(in source.alloc; "{}:{}: ", place.line, place.column)?;
+    said.push_str(numbers.as_str())?;
+    said.push_str("not JSON: expected one JSON value in UTF-8")?;
+    if source.text.starts_with(b"---".as_slice()) || source.text.starts_with(b"%YAML".as_slice()) {
+        said.push_str("; this looks like YAML, of which tools/yaml_to_json makes JSON")?;
+    }
+    Ok(())
+}
+
+/// Adds what helps where a property is missing.
+pub(crate) fn push_missing_hint(
+    source: Source<'_>,
+    said: &mut String,
+    path: &[Step],
+) -> Result<(), AllocError> {
+    let root = source.start();
+    let is_second = path.len() == 1
+        && (source.member(root, "metadata")?.is_some()
+            || source.member(root, "version")?.is_some());
+    if is_second {
+        said.push_str(
+            "; this looks like a configuration of barectf 2, and ctftrace reads those of barectf 3",
+        )?;
+    }
+    Ok(())
+}
+
+/// Adds what helps where a name is at fault.
+pub(crate) fn push_name_hint(
+    said: &mut String,
+    kind: FaultKind,
+    name: &str,
+) -> Result<(), AllocError> {
+    if kind == FaultKind::Unknown && name == "$include" {
+        return said.push_str("; tools/yaml_to_json puts in what `$include` names");
+    }
+    if kind == FaultKind::BadName && name.as_bytes().contains(&b'-') {
+        return said.push_str("; a hyphen stands in no name, `_` does");
+    }
+    Ok(())
+}
+
+/// Adds what helps where a class is none.
+pub(crate) fn push_class_hint(said: &mut String, word: &str) -> Result<(), AllocError> {
+    if word == "real" {
+        return said.push_str("; there are no real numbers");
+    }
+    Ok(())
+}

@@ -1,0 +1,21 @@
+//! Says of a configuration's fault where it stands in the text, what stands there, and what the table expects.
+#![tactic(auto)]
+
+mod by_kind;
+mod child;
+mod expected;
+mod explanation;
+mod found;
+mod hints;
+mod layers;
+mod line_column;
+mod named;
+mod nearest;
+mod scan;
+mod shown;
+mod source;
+
+pub use explanation::explain_fault;
+
+#[cfg(test)]
+mod tests;
