@@ -1,9 +1,8 @@
 -- Each kind of field, then an array, then its elements one after the other.
-use Rattle.std.proofs.Common.{◌≡◌, ℕ, suc, ◌+◌, ◌*◌, ◌≤◌, Some, None, List, All, length, drop, refl, sym, ap, ◌∙◌, subst, arith}
+use Rattle.std.proofs.Common.{◌≡◌, ℕ, ◌+◌, Some, List, All, length, drop, refl, sym, ap, ◌∙◌, subst, arith}
 use Rattle.std.proofs.lemmas.List.{drop_all}
 use Rattle.std.proofs.lemmas.List.Elements.{All-nil, All-cons}
 use Rattle.ctf_types.proofs.Ends.{le-field_end}
-use Rattle.ctf_types.specs.declared.FieldType.{FieldType}
 use Rattle.ctf_types.specs.declared.FieldType.TheVariants.{Static}
 use Rattle.ctf_types.specs.declared.Value.{Value}
 use Rattle.ctf_types.specs.Alignment.{up}
@@ -18,7 +17,7 @@ use Rattle.value_codec.specs.Drafting.{Drafts}
 use Rattle.value_codec.specs.Writing.{Writes, element_align, elements_end, ElementsLie}
 use Rattle.value_codec.proofs.FieldLaws.{data_of-more, next_end, end_all-none, EachLies-more, EachLies-none, array_lies}
 use Rattle.value_codec.proofs.WritingLaws.{Writes-none, Writes-then, Writes-weaker}
-use Rattle.value_codec.proofs.DraftingLaws.{Drafts-weaker, Drafts-then, Writes-left, SameBelow-none, array_fits, list_elements}
+use Rattle.value_codec.proofs.DraftingLaws.{Drafts-weaker, Drafts-then, Writes-left, array_fits, list_elements}
 use Rattle.value_codec.proofs.draft_fields.+draft.Goals as goal
 
 -- ---- fields

@@ -1,5 +1,5 @@
 -- The number of a list's elements, and the elements behind it.
-use Rattle.std.proofs.Common.{◌≡◌, ℕ, ◌^◌, ◌<◌, Some, List, All, length, refl, sym, ap, ◌∙◌, arith}
+use Rattle.std.proofs.Common.{◌≡◌, ℕ, ◌^◌, ◌<◌, Some, All, length, refl, sym, ap, ◌∙◌, arith}
 use Rattle.std.proofs.lemmas.List.{length-map}
 use Rattle.ctf_types.specs.declared.FieldType.{FieldType}
 use Rattle.ctf_types.specs.declared.Length.TheVariants.{Auto}

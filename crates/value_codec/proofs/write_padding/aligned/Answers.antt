@@ -1,5 +1,5 @@
 -- A position that is no multiple of the alignment goes on to the multiple after it.
-use Rattle.std.proofs.Common.{◌≡◌, ◌≢◌, ℕ, ◌+◌, ◌-◌, ◌%◌, ◌∙◌, sym, ap, arith}
+use Rattle.std.proofs.Common.{◌≡◌, ◌≢◌, ℕ, ◌-◌, ◌%◌, ◌∙◌, sym, ap, arith}
 use Rattle.std.specs.Int.Bits.{bit_and}
 use Rattle.std.proofs.Math.Nat.{mod-le, mod-lt}
 use Rattle.ctf_types.proofs.Ends.{up_of_multiple, up_by_rest}
