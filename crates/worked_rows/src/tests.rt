@@ -13,6 +13,7 @@ mod header_faults;
 mod judging;
 mod limits;
 mod memory;
+mod packet_by_packet;
 mod packet_layouts;
 mod positions;
 mod printed_traces;
