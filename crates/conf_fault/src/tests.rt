@@ -15,20 +15,14 @@ type Row = (
     &'static str,
 );
 
-static ROWS: &[Row] = &[
+/// A row for each kind of fault.
+static KINDS: &[Row] = &[
     (
         "no JSON",
         "{\n \"trace\": }",
         FaultKind::NotJson,
         "",
         "2:11: not JSON: expected one JSON value in UTF-8",
-    ),
-    (
-        "YAML",
-        "--- !<tag:barectf.org,2020/3/config>\ntrace:\n",
-        FaultKind::NotJson,
-        "",
-        "1:1: not JSON: expected one JSON value in UTF-8; this looks like YAML, of which tools/yaml_to_json makes JSON",
     ),
     (
         "too deep",
@@ -80,6 +74,101 @@ static ROWS: &[Row] = &[
         "1:18: trace/type/trace-byte-order: missing: expected just one of `trace-byte-order` and `native-byte-order`",
     ),
     (
+        "a circle of aliases",
+        r#"{"trace":{"type":{"native-byte-order":"le","$field-type-aliases":{"a":"b","b":"a"}}}}"#,
+        FaultKind::InheritCycle,
+        "trace/type/$field-type-aliases/a",
+        r#"1:71: trace/type/$field-type-aliases/a: "b": expected a chain of aliases that ends: this alias inherits from itself"#,
+    ),
+    (
+        "out of range",
+        r#"{"trace":{"type":{"native-byte-order":"le","data-stream-types":{"s":{"event-record-types":{"e":{"payload-field-type":{"class":"struct","members":[{"x":{"field-type":{"class":"uint","size":128}}}]}}}}}}}}"#,
+        FaultKind::OutOfRange,
+        "trace/type/data-stream-types/s/event-record-types/e/payload-field-type/members/0/x/field-type/size",
+        "1:189: trace/type/data-stream-types/s/event-record-types/e/payload-field-type/members/0/x/field-type/size: 128: expected a whole number from 1 to 64",
+    ),
+    (
+        "no power of two",
+        r#"{"trace":{"type":{"native-byte-order":"le","data-stream-types":{"s":{"event-record-types":{"e":{"payload-field-type":{"class":"struct","members":[{"x":{"field-type":{"class":"uint","size":8,"alignment":3}}}]}}}}}}}}"#,
+        FaultKind::OutOfRange,
+        "trace/type/data-stream-types/s/event-record-types/e/payload-field-type/members/0/x/field-type/alignment",
+        "1:203: trace/type/data-stream-types/s/event-record-types/e/payload-field-type/members/0/x/field-type/alignment: 3: expected a power of two, 4096 at most",
+    ),
+    (
+        "no UUID's text",
+        r#"{"trace":{"type":{"native-byte-order":"le","uuid":"x"}}}"#,
+        FaultKind::OutOfRange,
+        "trace/type/uuid",
+        r#"1:51: trace/type/uuid: "x": expected a UUID as text, or `auto`"#,
+    ),
+    (
+        "a reserved word",
+        r#"{"trace":{"environment":{"int":1},"type":{"native-byte-order":"le"}}}"#,
+        FaultKind::ReservedName,
+        "trace/environment/int",
+        "1:26: trace/environment/int: reserved word: expected a name that the metadata language does not use itself",
+    ),
+    (
+        "a name that is taken",
+        r#"{"trace":{"type":{"native-byte-order":"le","$field-type-aliases":{"u8":{"class":"uint","size":8}},"data-stream-types":{"s":{"event-record-types":{"e":{"payload-field-type":{"class":"struct","members":[{"x":"u8"},{"x":"u8"}]}}}}}}}}"#,
+        FaultKind::NameClash,
+        "trace/type/data-stream-types/s/event-record-types/e/payload-field-type/members/1/x",
+        "1:214: trace/type/data-stream-types/s/event-record-types/e/payload-field-type/members/1/x: name is taken: expected a name that nothing else in this structure has",
+    ),
+    (
+        "a field that is too small",
+        r#"{"trace":{"type":{"native-byte-order":"le","$features":{"data-stream-type-id-field-type":{"class":"uint","size":1}},"data-stream-types":{"a":{},"b":{},"c":{}}}}}"#,
+        FaultKind::FieldTooSmall,
+        "trace/type/$features/data-stream-type-id-field-type",
+        r#"1:90: trace/type/$features/data-stream-type-id-field-type: {"class":"uint","size":1}: expected room for the number 2"#,
+    ),
+    (
+        "no bits",
+        r#"{"trace":{"type":{"native-byte-order":"le","data-stream-types":{"s":{"$features":{"event-record":{"type-id-field-type":false}},"event-record-types":{"e":{}}}}}}}"#,
+        FaultKind::ZeroSizeRecord,
+        "trace/type/data-stream-types/s/event-record-types/e",
+        "1:154: trace/type/data-stream-types/s/event-record-types/e: {}: expected an integer, an enumeration or a string in its contexts or its payload",
+    ),
+    (
+        "no UUID",
+        r#"{"trace":{"type":{"native-byte-order":"le","uuid":"auto"}}}"#,
+        FaultKind::NoUuid,
+        "trace/type/uuid",
+        r#"1:51: trace/type/uuid: "auto": expected a UUID of the trace type, or with `auto` one from the caller"#,
+    ),
+    (
+        "past a limit",
+        r#"{"trace":{"type":{"native-byte-order":"le","data-stream-types":{"s":{"event-record-types":{"e":{"payload-field-type":{"class":"struct","members":[{"x":{"field-type":{"class":"uint","size":8,"alignment":8192}}}]}}}}}}}}"#,
+        FaultKind::Limit,
+        "trace/type/data-stream-types/s/event-record-types/e/payload-field-type/members/0/x/field-type/alignment",
+        "1:203: trace/type/data-stream-types/s/event-record-types/e/payload-field-type/members/0/x/field-type/alignment: 8192: expected a power of two, 4096 at most",
+    ),
+    (
+        "two byte orders",
+        r#"{"trace":{"type":{"trace-byte-order":"le","native-byte-order":"le"}}}"#,
+        FaultKind::TwoOrders,
+        "trace/type",
+        r#"1:18: trace/type: {"native-byte-order":"le","trace-byte-order":"le"}: expected only one of `trace-byte-order` and `native-byte-order`"#,
+    ),
+    (
+        "a short timestamp",
+        r#"{"trace":{"type":{"native-byte-order":"le","clock-types":{"c":{}},"data-stream-types":{"s":{"$default-clock-type-name":"c","$features":{"packet":{"beginning-timestamp-field-type":{"class":"uint","size":32}}}}}}}}"#,
+        FaultKind::TimestampSize,
+        "trace/type/data-stream-types/s/$features/packet/beginning-timestamp-field-type",
+        r#"1:180: trace/type/data-stream-types/s/$features/packet/beginning-timestamp-field-type: {"class":"uint","size":32}: expected a field of 64 bits, or the feature off"#,
+    ),
+];
+
+/// Hints, names that are like one that is not there, and values that stand in aliases and bases.
+static HINTS: &[Row] = &[
+    (
+        "YAML",
+        "--- !<tag:barectf.org,2020/3/config>\ntrace:\n",
+        FaultKind::NotJson,
+        "",
+        "1:1: not JSON: expected one JSON value in UTF-8; this looks like YAML, of which tools/yaml_to_json makes JSON",
+    ),
+    (
         "missing in an alias",
         r#"{"trace":{"type":{"native-byte-order":"le","$field-type-aliases":{"u8":{"class":"uint"}},"data-stream-types":{"s":{"event-record-types":{"e":{"payload-field-type":{"class":"struct","members":[{"x":{"field-type":"u8"}}]}}}}}}}}"#,
         FaultKind::Missing,
@@ -122,20 +211,6 @@ static ROWS: &[Row] = &[
         r#"1:144: trace/type/data-stream-types/s/event-record-types/e/log-level: "warn": expected the name of a log level alias (there are `warning`); the nearest is `warning`"#,
     ),
     (
-        "a circle of aliases",
-        r#"{"trace":{"type":{"native-byte-order":"le","$field-type-aliases":{"a":"b","b":"a"}}}}"#,
-        FaultKind::InheritCycle,
-        "trace/type/$field-type-aliases/a",
-        r#"1:71: trace/type/$field-type-aliases/a: "b": expected a chain of aliases that ends: this alias inherits from itself"#,
-    ),
-    (
-        "out of range",
-        r#"{"trace":{"type":{"native-byte-order":"le","data-stream-types":{"s":{"event-record-types":{"e":{"payload-field-type":{"class":"struct","members":[{"x":{"field-type":{"class":"uint","size":128}}}]}}}}}}}}"#,
-        FaultKind::OutOfRange,
-        "trace/type/data-stream-types/s/event-record-types/e/payload-field-type/members/0/x/field-type/size",
-        "1:189: trace/type/data-stream-types/s/event-record-types/e/payload-field-type/members/0/x/field-type/size: 128: expected a whole number from 1 to 64",
-    ),
-    (
         "out of range in a base",
         r#"{"trace":{"type":{"native-byte-order":"le","$field-type-aliases":{"b":{"class":"uint","size":65}},"data-stream-types":{"s":{"event-record-types":{"e":{"payload-field-type":{"class":"struct","members":[{"x":{"field-type":{"$inherit":"b","alignment":8}}}]}}}}}}}}"#,
         FaultKind::OutOfRange,
@@ -157,13 +232,6 @@ static ROWS: &[Row] = &[
         "1:308: trace/type/data-stream-types/s/event-record-types/e/payload-field-type/members/1/x/field-type/size: 71: expected a whole number from 1 to 64",
     ),
     (
-        "no power of two",
-        r#"{"trace":{"type":{"native-byte-order":"le","data-stream-types":{"s":{"event-record-types":{"e":{"payload-field-type":{"class":"struct","members":[{"x":{"field-type":{"class":"uint","size":8,"alignment":3}}}]}}}}}}}}"#,
-        FaultKind::OutOfRange,
-        "trace/type/data-stream-types/s/event-record-types/e/payload-field-type/members/0/x/field-type/alignment",
-        "1:203: trace/type/data-stream-types/s/event-record-types/e/payload-field-type/members/0/x/field-type/alignment: 3: expected a power of two, 4096 at most",
-    ),
-    (
         "no word",
         r#"{"trace":{"type":{"native-byte-order":"le","data-stream-types":{"s":{"event-record-types":{"e":{"payload-field-type":{"class":"struct","members":[{"x":{"field-type":{"class":"uint","size":8,"preferred-display-base":"hexa"}}}]}}}}}}}}"#,
         FaultKind::OutOfRange,
@@ -178,13 +246,6 @@ static ROWS: &[Row] = &[
         r#"1:175: trace/type/data-stream-types/s/event-record-types/e/payload-field-type/members/0/x/field-type/class: "real": expected `unsigned-integer`, `unsigned-int`, `uint`, `signed-integer`, `signed-int`, `sint`, `unsigned-enumeration`, `unsigned-enum`, `uenum`, `signed-enumeration`, `signed-enum`, `senum`, `string`, `str`, `static-array`, `dynamic-array`; there are no real numbers"#,
     ),
     (
-        "no UUID's text",
-        r#"{"trace":{"type":{"native-byte-order":"le","uuid":"x"}}}"#,
-        FaultKind::OutOfRange,
-        "trace/type/uuid",
-        r#"1:51: trace/type/uuid: "x": expected a UUID as text, or `auto`"#,
-    ),
-    (
         "a hyphen",
         r#"{"trace":{"type":{"native-byte-order":"le","$field-type-aliases":{"my-alias":{"class":"str"}}}}}"#,
         FaultKind::BadName,
@@ -192,67 +253,11 @@ static ROWS: &[Row] = &[
         "1:67: trace/type/$field-type-aliases/my-alias: bad name: expected a letter or `_`, then letters, digits or `_`, 255 bytes at most; a hyphen stands in no name, `_` does",
     ),
     (
-        "a reserved word",
-        r#"{"trace":{"environment":{"int":1},"type":{"native-byte-order":"le"}}}"#,
-        FaultKind::ReservedName,
-        "trace/environment/int",
-        "1:26: trace/environment/int: reserved word: expected a name that the metadata language does not use itself",
-    ),
-    (
-        "a name that is taken",
-        r#"{"trace":{"type":{"native-byte-order":"le","$field-type-aliases":{"u8":{"class":"uint","size":8}},"data-stream-types":{"s":{"event-record-types":{"e":{"payload-field-type":{"class":"struct","members":[{"x":"u8"},{"x":"u8"}]}}}}}}}}"#,
-        FaultKind::NameClash,
-        "trace/type/data-stream-types/s/event-record-types/e/payload-field-type/members/1/x",
-        "1:214: trace/type/data-stream-types/s/event-record-types/e/payload-field-type/members/1/x: name is taken: expected a name that nothing else in this structure has",
-    ),
-    (
-        "a field that is too small",
-        r#"{"trace":{"type":{"native-byte-order":"le","$features":{"data-stream-type-id-field-type":{"class":"uint","size":1}},"data-stream-types":{"a":{},"b":{},"c":{}}}}}"#,
-        FaultKind::FieldTooSmall,
-        "trace/type/$features/data-stream-type-id-field-type",
-        r#"1:90: trace/type/$features/data-stream-type-id-field-type: {"class":"uint","size":1}: expected room for the number 2"#,
-    ),
-    (
-        "no bits",
-        r#"{"trace":{"type":{"native-byte-order":"le","data-stream-types":{"s":{"$features":{"event-record":{"type-id-field-type":false}},"event-record-types":{"e":{}}}}}}}"#,
-        FaultKind::ZeroSizeRecord,
-        "trace/type/data-stream-types/s/event-record-types/e",
-        "1:154: trace/type/data-stream-types/s/event-record-types/e: {}: expected an integer, an enumeration or a string in its contexts or its payload",
-    ),
-    (
         "no clock",
         r#"{"trace":{"type":{"native-byte-order":"le","clock-types":{"c":{}},"data-stream-types":{"s":{"$default-clock-type-name":"x"}}}}}"#,
         FaultKind::NoClock,
         "trace/type/data-stream-types/s/$default-clock-type-name",
         r#"1:120: trace/type/data-stream-types/s/$default-clock-type-name: "x": expected the name of a clock type (there are `c`)"#,
-    ),
-    (
-        "no UUID",
-        r#"{"trace":{"type":{"native-byte-order":"le","uuid":"auto"}}}"#,
-        FaultKind::NoUuid,
-        "trace/type/uuid",
-        r#"1:51: trace/type/uuid: "auto": expected a UUID of the trace type, or with `auto` one from the caller"#,
-    ),
-    (
-        "past a limit",
-        r#"{"trace":{"type":{"native-byte-order":"le","data-stream-types":{"s":{"event-record-types":{"e":{"payload-field-type":{"class":"struct","members":[{"x":{"field-type":{"class":"uint","size":8,"alignment":8192}}}]}}}}}}}}"#,
-        FaultKind::Limit,
-        "trace/type/data-stream-types/s/event-record-types/e/payload-field-type/members/0/x/field-type/alignment",
-        "1:203: trace/type/data-stream-types/s/event-record-types/e/payload-field-type/members/0/x/field-type/alignment: 8192: expected a power of two, 4096 at most",
-    ),
-    (
-        "two byte orders",
-        r#"{"trace":{"type":{"trace-byte-order":"le","native-byte-order":"le"}}}"#,
-        FaultKind::TwoOrders,
-        "trace/type",
-        r#"1:18: trace/type: {"native-byte-order":"le","trace-byte-order":"le"}: expected only one of `trace-byte-order` and `native-byte-order`"#,
-    ),
-    (
-        "a short timestamp",
-        r#"{"trace":{"type":{"native-byte-order":"le","clock-types":{"c":{}},"data-stream-types":{"s":{"$default-clock-type-name":"c","$features":{"packet":{"beginning-timestamp-field-type":{"class":"uint","size":32}}}}}}}}"#,
-        FaultKind::TimestampSize,
-        "trace/type/data-stream-types/s/$features/packet/beginning-timestamp-field-type",
-        r#"1:180: trace/type/data-stream-types/s/$features/packet/beginning-timestamp-field-type: {"class":"uint","size":32}: expected a field of 64 bits, or the feature off"#,
     ),
     (
         "bytes of a terminal",
@@ -271,10 +276,19 @@ static ROWS: &[Row] = &[
 ];
 
 #[test]
-fn says_where_a_fault_stands_and_what_was_expected(rt: HostRuntime) -> Result<(), Fail> {
-    for (what, text, kind, path, said) in ROWS {
-        let fault = fault_at(rt.alloc(), *path, *kind);
-        let explained = explain_fault(rt.alloc(), text.as_bytes(), &fault)?;
+fn says_where_each_kind_stands_and_what_was_expected(rt: HostRuntime) -> Result<(), Fail> {
+    explains_each(&rt, rt.alloc(), KINDS)
+}
+
+#[test]
+fn hints_at_what_would_do(rt: HostRuntime) -> Result<(), Fail> {
+    explains_each(&rt, rt.alloc(), HINTS)
+}
+
+fn explains_each(rt: &impl Abort, alloc: Global, rows: &[Row]) -> Result<(), Fail> {
+    for (what, text, kind, path, said) in rows {
+        let fault = fault_at(alloc, *path, *kind);
+        let explained = explain_fault(alloc, text.as_bytes(), &fault)?;
         assert_eq!(rt; explained.as_str(), *said, "{what}");
     }
     Ok(())
