@@ -4,7 +4,8 @@ ghost use Rattle.std.specs.Prelude.{◌≡◌, IfOk};
 ghost use Rattle.trace_commands.specs.Shown.{IsFaultLine, fault_line as line_of};
 
 use crate::shown::{first_characters, push_shown};
-use conf_tree::{ConfFault, FaultKind, Step};
+use conf_fault::explain_fault;
+use conf_tree::ConfFault;
 use serde_json::Value;
 use std::alloc::{AllocError, Global};
 
@@ -21,7 +22,7 @@ pub fn fault_line(alloc: Global, file: &[u8], said: &[u8]) -> Result<Vec<u8>, Al
     Ok(line)
 }
 
-/// The line of a configuration's fault. Where the text is no JSON, the place is a line and a column.
+/// The line of a configuration's fault: the line and the column, the path, what stands there, and what was expected.
 pub fn configuration_line(
     alloc: Global,
     file: &[u8],
@@ -30,14 +31,8 @@ pub fn configuration_line(
 ) -> Result<Vec<u8>, AllocError>
     ensures { IfOk result (λ line. IsFaultLine file.now line.items) }
 {
-    let mut said = Vec::new(alloc);
-    if fault.kind == FaultKind::NotJson {
-        push_position(alloc, &mut said, text)?;
-    }
-    push_path(alloc, &mut said, fault.path.as_slice())?;
-    let kind = format!(in alloc; "{}", fault.kind)?;
-    said.extend_from_slice(kind.as_bytes())?;
-    fault_line(alloc, file, said.as_slice())
+    let said = explain_fault(alloc, text, fault)?;
+    fault_line(alloc, file, said.as_bytes())
 }
 
 /// The line and the column at which a text stops being JSON.
@@ -50,30 +45,6 @@ pub fn push_position(alloc: Global, said: &mut Vec<u8>, text: &[u8]) -> Result<(
     }
     let place = format!(in alloc; "line {}, column {}: ", error.line(), error.column())?;
     said.extend_from_slice(place.as_bytes())
-}
-
-/// The steps of a path joined by `/`, names cut to their first characters.
-fn push_path(alloc: Global, said: &mut Vec<u8>, path: &[Step]) -> Result<(), AllocError> {
-    let mut separator = b"".as_slice();
-    for step in path {
-        said.extend_from_slice(separator)?;
-        push_step(alloc, said, step)?;
-        separator = b"/".as_slice();
-    }
-    if !path.is_empty() {
-        said.extend_from_slice(b": ".as_slice())?;
-    }
-    Ok(())
-}
-
-fn push_step(alloc: Global, said: &mut Vec<u8>, step: &Step) -> Result<(), AllocError> {
-    match step {
-        Step::Key(name) => push_name(said, name.as_bytes()),
-        Step::Index(index) => {
-            let digits = format!(in alloc; "{index}")?;
-            said.extend_from_slice(digits.as_bytes())
-        }
-    }
 }
 
 /// A name, or its first characters and three dots.

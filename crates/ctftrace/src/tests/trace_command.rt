@@ -105,7 +105,7 @@ static ROWS: &[Row] = &[
         script: "{",
         words: &[],
         output: "",
-        errors: "ctftrace: conf.json: trace: property is missing: expected a value here\n",
+        errors: "ctftrace: conf.json: 1:1: trace: missing: expected an object\n",
         status: 1,
         left: Left::Nothing,
     },
