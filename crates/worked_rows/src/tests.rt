@@ -2,6 +2,7 @@
 
 mod added_streams;
 mod alignments;
+mod changed_bytes;
 mod clock_values;
 mod configurations;
 mod context_faults;
