@@ -8,6 +8,7 @@ mod configurations;
 mod context_faults;
 mod damaged_files;
 mod declined_ends;
+mod ended_threads;
 mod example;
 mod gaps;
 mod header_faults;

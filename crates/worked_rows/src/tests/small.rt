@@ -1,6 +1,6 @@
 //! Configurations of the rows, from their JSON, and what the rows say in bytes.
 
-ghost use Rattle.std.specs.Prelude.{IfOk};
+ghost use Rattle.std.specs.Prelude.{IfOk, IfSome};
 ghost use Rattle.ctf_types.specs.AllowedConfig.{IsConfig};
 
 use conf_check::configure;
@@ -73,6 +73,16 @@ pub fn configured(alloc: Global, text: &str, number: Option<u128>) -> Result<Con
 {
     let config = configure(alloc, text.as_bytes(), number.map(Uuid::from_u128))?;
     Ok(config)
+}
+
+/// The configuration of this text, or None: a thread answers no fault.
+pub fn config_of(alloc: Global, text: &str) -> Option<Config>
+    ensures { IfSome result (λ c. IsConfig c) }
+{
+    match configure(alloc, text.as_bytes(), None) {
+        Ok(config) => Some(config),
+        Err(_) => None,
+    }
 }
 
 /// The small configuration with these words in the place of its own.

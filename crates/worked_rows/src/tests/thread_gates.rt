@@ -21,12 +21,12 @@ impl Flag {
         }
     }
 
-    fn raise(&self) {
+    pub fn raise(&self) {
         self.raised.store(1, Ordering::SeqCst);
     }
 
     /// Whether it is raised within 2,000 turns of one millisecond's sleep.
-    fn is_seen<C: Clock>(&self, clock: &C) -> bool {
+    pub fn is_seen<C: Clock>(&self, clock: &C) -> bool {
         for _turn in 0..2000 {
             if self.raised.load(Ordering::SeqCst) == 1 {
                 return true;
