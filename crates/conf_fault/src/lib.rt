@@ -16,6 +16,3 @@ mod shown;
 mod source;
 
 pub use explanation::explain_fault;
-
-#[cfg(test)]
-mod tests;
