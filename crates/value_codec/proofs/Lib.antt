@@ -12,5 +12,6 @@ pub mod ReadingMembers
 pub mod ReadingRest
 pub mod ReadingSteps
 pub mod SignedNumbers
+pub mod StoppingLaws
 pub mod WorkedReading
 pub mod WritingLaws

@@ -1,3 +1,4 @@
 pub mod Drafting
 pub mod Reading
+pub mod Stopping
 pub mod Writing

@@ -1,11 +1,13 @@
 //! Reading structures (CTF 1.8.3, section 4.2.1) and dynamic arrays (section 4.2.4).
 
-ghost use Rattle.std.specs.Prelude.{◌≡◌, ◌*◌, ◌<◌, ◌≤◌, List, Ok, length, slice_get, IfOk, IfSome};
+ghost use Rattle.std.specs.Prelude.{◌≡◌, ◌*◌, ◌<◌, ◌≤◌, List, Ok, Err, length, slice_get, IfOk, IfErr, IfSome};
 ghost use Rattle.ctf_types.specs.Bits.{bit_of};
 ghost use Rattle.ctf_types.specs.Datum.{Datum};
 ghost use Rattle.ctf_types.specs.Layout.{count_at, member_end, struct_end, MemberLies, StructLies, AnyBits};
 ghost use Rattle.ctf_types.specs.Values.{datum_of, data_of};
 ghost use Rattle.value_codec.specs.Reading.{length_at, member_at, struct_at, datum_read, Gives};
+ghost use Rattle.value_codec.specs.Stopping.{ForReason, MemberStops, StructStops};
+ghost use Rattle.value_codec.specs.declared.read_fault.ReadFault.{ReadFault};
 
 use crate::ReadFault;
 use crate::read_field::{read_array, read_field};
@@ -36,6 +38,8 @@ pub fn read_struct(
     ensures within { IfOk result (λ read. read.1 ≤ limit) }
     ensures only { (vs : List Datum) → StructLies order (bit_of order bytes.now) AnyBits s.now at vs → struct_end s.now at vs ≤ limit
         → Gives (λ read. read) result (Ok (vs, struct_end s.now at vs)) }
+    ensures stops { IfErr result (ForReason (StructStops order (bit_of order bytes.now) limit s.now at)) }
+    ensures stops_only { (e : ReadFault) → StructStops order (bit_of order bytes.now) limit s.now at e → Gives (λ read. read) result (Err e) }
 {
     read_values(alloc, bytes, at, limit, order, s)
 }
@@ -89,6 +93,10 @@ pub fn read_member(
     ensures only { IfSome (slice_get s.now.members i)
         (λ m. (v : Datum) → MemberLies order (bit_of order bytes.now) AnyBits m.1 (data_of before.now) at v → member_end m.1 at v ≤ limit
         → Gives datum_read result (Ok (v, member_end m.1 at v))) }
+    ensures stops { IfSome (slice_get s.now.members i)
+        (λ m. IfErr result (ForReason (MemberStops order (bit_of order bytes.now) limit (data_of before.now) m.1 at))) }
+    ensures stops_only { IfSome (slice_get s.now.members i)
+        (λ m. (e : ReadFault) → MemberStops order (bit_of order bytes.now) limit (data_of before.now) m.1 at e → Gives datum_read result (Err e)) }
 {
     let Some((_, member)) = s.members.get(i) else {
         unreachable!()
