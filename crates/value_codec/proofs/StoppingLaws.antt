@@ -24,7 +24,7 @@ use Rattle.value_codec.proofs.ReadingLaws.{Reads, bits_found, bits_again, start_
 
 -- ---- faults
 
-one_err : {A E : Type 0} (x y : E) → ◌≡◌ {A = Result A E} (Err x) (Err y) → x ≡ y
+pub one_err : {A E : Type 0} (x y : E) → ◌≡◌ {A = Result A E} (Err x) (Err y) → x ≡ y
 one_err x y h = cc
 
 -- the fault of two readings is the first one's, or the second's after an answer of the first
@@ -33,7 +33,7 @@ both_err (Ok x) f e h = inr (x, refl, h)
 both_err (Err d) f e h = inl (ap Err (one_err d e h))
 
 -- an answer and then an answer is no fault
-never_err : {A B E : Type 0} (r : Result A E) (g : A → B) (e : E) → (r >>= (λ x. Ok (g x))) ≡ Err e → r ≡ Err e
+pub never_err : {A B E : Type 0} (r : Result A E) (g : A → B) (e : E) → (r >>= (λ x. Ok (g x))) ≡ Err e → r ≡ Err e
 never_err (Ok x) g e h = absurd (cc)
 never_err (Err d) g e h = ap Err (one_err d e h)
 
@@ -308,7 +308,7 @@ module _ (o : ByteOrder) (b : ℕ → ℕ) (limit : ℕ) where
       let after = members_stop_again front m rest (before ++ v ∷ []) (member_end k.1 p v) vs e l.1 w there in
       rw (first, after) refl
 
-  begin_stop : (ms : List (List ℕ × MemberType)) (least p : ℕ) (e : ReadFault) → members_begin limit ms least p ≡ Err e → (ms ≢ []) × (e ≡ PastEnd) × (limit < up p (largest_align least ms))
+  pub begin_stop : (ms : List (List ℕ × MemberType)) (least p : ℕ) (e : ReadFault) → members_begin limit ms least p ≡ Err e → (ms ≢ []) × (e ≡ PastEnd) × (limit < up p (largest_align least ms))
   unfolding start_at
   begin_stop [] least p e h = absurd (cc)
   begin_stop (m ∷ ms) least p e h =
@@ -316,7 +316,7 @@ module _ (o : ByteOrder) (b : ℕ → ℕ) (limit : ℕ) where
       let past : limit < up p (largest_align least (m ∷ ms)) = search (tests, rules) in
       (λ e. cc, t.1, past)
 
-  begin_stop_again : (ms : List (List ℕ × MemberType)) (least p : ℕ) → ms ≢ [] → limit < up p (largest_align least ms) → members_begin limit ms least p ≡ Err PastEnd
+  pub begin_stop_again : (ms : List (List ℕ × MemberType)) (least p : ℕ) → ms ≢ [] → limit < up p (largest_align least ms) → members_begin limit ms least p ≡ Err PastEnd
   unfolding start_at
   begin_stop_again [] least p n h = absurd (n refl)
   begin_stop_again (m ∷ ms) least p n h = search (tests, rules)
