@@ -164,6 +164,7 @@ module _ (o : ByteOrder) (b : ℕ → ℕ) (limit : ℕ) where
       where
         first : read p ≡ Err e → Some (suc n) p e
         first f = record { before = []; fewer = omega arith; lie = tt; within = h; stops = s.found p e f }
+
         step : ((q : ℕ) → q ≤ limit → many_at read n q ≡ Err e → Some n q e)
             → (read p ≡ Err e) ⊎ ((v : Datum × ℕ) × (read p ≡ Ok v) × ((◌>>=◌ {B = List Datum × ℕ} (many_at read n v.1) (λ vs. Ok (v.0 ∷ vs.0, vs.1))) ≡ Err e)) → Some (suc n) p e
         step others (inl f) = first f
@@ -191,6 +192,7 @@ module _ (o : ByteOrder) (b : ℕ → ℕ) (limit : ℕ) where
             let tested = tested_err (leb (up p (leaf_align t)) limit) (up p (leaf_align t)) PastEnd e f in
             let past : limit < up p (leaf_align t) = search (tests, rules) in
             (tested.1, past)
+
         step : (start_at limit (leaf_align t) p ≡ Err e) ⊎ ((q : ℕ) × (start_at limit (leaf_align t) p ≡ Ok q) × ((◌>>=◌ {B = Datum × ℕ} (many_at (field_at o b limit t ns) n q) (λ vs. Ok (Many (items_of vs.0), vs.1))) ≡ Err e))
             → FieldStops o b limit t (n ∷ ns) p e
         step (inl f) = inl (unstarted f)
@@ -209,7 +211,7 @@ module _ (o : ByteOrder) (b : ℕ → ℕ) (limit : ℕ) where
     array_stop_again p e (inr some) =
         let begins = start_again o b limit (leaf_align t) p (omega (arith, some.within, le-end_all (field_end t ns) (le-field_end t ns) (up p (leaf_align t)) some.before)) in
         let rest = many_stop_again (field_at o b limit t ns) (FieldLies o b AnyBits t ns) (field_end t ns) (FieldStops o b limit t ns) (field_reads o b limit t ns) s (le-field_end t ns)
-            some.before n (up p (leaf_align t)) e some.fewer some.lie some.within some.stops in
+        some.before n (up p (leaf_align t)) e some.fewer some.lie some.within some.stops in
         rw (begins, rest) refl
 
   pub field_stops : (t : Leaf) (ns : List ℕ) → Stops (field_at o b limit t ns) (FieldStops o b limit t ns)
@@ -283,6 +285,7 @@ module _ (o : ByteOrder) (b : ℕ → ℕ) (limit : ℕ) where
         within = h;
         stops = rw append-nil (Stops.found (member_stops before m.1) p e g);
       }
+
       step : ((v : Datum) (q : ℕ) → q ≤ limit → members_at o b limit (before ++ v ∷ []) ms q ≡ Err e → MembersStop o b limit ms (before ++ v ∷ []) q e)
           → (member_at o b limit before m.1 p ≡ Err e)
           ⊎ ((v : Datum × ℕ) × (member_at o b limit before m.1 p ≡ Ok v) × ((◌>>=◌ {B = List Datum × ℕ} (members_at o b limit (before ++ v.0 ∷ []) ms v.1) (λ vs. Ok (v.0 ∷ vs.0, vs.1))) ≡ Err e))
