@@ -8,7 +8,7 @@ use trace_stack::{ReadTrace, TraceFault, read_trace};
 use tsdl_writer::write_metadata;
 
 /// `SMALL` or `CLOCKED`, the stream files of a trace, a line each with a file's name and its bytes in hexadecimal, and what is read of them.
-static TRACES: &[(&str, &str, &str)] = &[
+pub static TRACES: &[(&str, &str, &str)] = &[
     (
         SMALL,
         r#"
@@ -65,7 +65,7 @@ pub fn read_files(alloc: Global, metadata: &str, files: &str) -> Result<ReadTrac
 }
 
 /// Texts that denote no metadata, and the fault in words.
-static REFUSED: &[(&str, &str)] = &[
+pub static REFUSED: &[(&str, &str)] = &[
     ("", "NoMagicLine"),
     (
         "/* CTF 1.8 */ trace{floating_point}",
@@ -88,6 +88,7 @@ fn refusal(alloc: Global, text: &str) -> Result<String, Fail> {
     match read_trace(alloc, text.as_bytes(), &[]) {
         Ok(_) => Err("such a text was read".into()),
         Err(TraceFault::Metadata(fault)) => Ok(format!(in alloc; "{:?}", fault.kind)?),
+        Err(TraceFault::Reader(_, _)) => Err("a reader failed where there is none".into()),
         Err(TraceFault::OutOfMemory) => Err("out of memory".into()),
     }
 }
