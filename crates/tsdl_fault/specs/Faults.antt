@@ -1,65 +1,44 @@
--- The flaws of a text that has tokens, and their kinds: of its grammar and its meaning, and neither of its first line, nor of
--- its tokens, nor want of memory. What is wrong with the whole text stands at its end.
-use Rattle.std.specs.Prelude.{◌≡◌, ℕ}
+-- What a fault says of the text that it stands in, by its kind and its place: of the grammar and the meaning, and neither of the first line, nor of
+-- the tokens, nor want of memory. What is wrong with the whole text stands at its end.
+use Rattle.std.specs.Prelude.{◌≡◌, ℕ, suc, ◌⊎◌, List, length, codes, string_bytes}
+use Rattle.tsdl_grammar.specs.declared.atom.Atom.{Atom}
+use Rattle.tsdl_grammar.specs.declared.token.Mark.TheVariants as marks
+use Rattle.tsdl_grammar.specs.declared.tree.Number.{Number}
 use Rattle.tsdl_grammar.specs.declared.fault.MetaFaultKind.{MetaFaultKind}
 use Rattle.tsdl_grammar.specs.declared.fault.MetaFaultKind.TheVariants as faults
-use Rattle.tsdl_fault.specs.declared.flaw.Flaw.{Flaw}
-use Rattle.tsdl_fault.specs.declared.flaw.Flaw.TheVariants as flaws
-use Rattle.tsdl_fault.specs.declared.flaw.Stop.{Stop}
-use Rattle.tsdl_fault.specs.declared.flaw.Stop.TheVariants as stops
+use Rattle.tsdl_grammar.specs.Spelling.{word, mark, number_toks}
+use Rattle.tsdl_fault.specs.Standing.{AtomAt, Stands, IsSpelled}
 
-abbrev pub IsOfAtoms : MetaFaultKind → Type 0
-IsOfAtoms faults.NoMagicLine = ⊥
-IsOfAtoms faults.Token = ⊥
-IsOfAtoms faults.OutOfMemory = ⊥
-IsOfAtoms faults.Syntax = Unit {0}
-IsOfAtoms (faults.Unsupported name) = Unit {0}
-IsOfAtoms faults.Duplicate = Unit {0}
-IsOfAtoms faults.NoPacketSize = Unit {0}
-IsOfAtoms faults.BadLength = Unit {0}
-IsOfAtoms faults.Limit = Unit {0}
+-- a part of the version
+abbrev pub IsPartOfVersion : List ℕ → Type 0
+IsPartOfVersion name = (name ≡ codes "major") ⊎ (name ≡ codes "minor")
 
--- the kind of a flaw
-abbrev pub kind_of : Flaw → MetaFaultKind
-kind_of (flaws.Syntax expected) = faults.Syntax
-kind_of flaws.NamedType = faults.Syntax
-kind_of flaws.LabelWithoutValue = faults.Syntax
-kind_of (flaws.NoStream orphan) = faults.Syntax
-kind_of (flaws.Unsupported name remedy) = faults.Unsupported name
-kind_of flaws.Duplicate = faults.Duplicate
-kind_of flaws.NoPacketSize = faults.NoPacketSize
-kind_of flaws.BadLength = faults.BadLength
-kind_of (flaws.Limit expected) = faults.Limit
+-- the version's part of this name, of which another number stands at the place
+pub record IsVersionPart (text : List Atom) (at : ℕ) (name : List ℕ) : Type 0 where
+  pub named : IsPartOfVersion name
+  pub number : Number
+  pub stand : Stands text at (number_toks number)
 
--- a stream lacks the sizes of its packets only where the text ends
-abbrev pub LacksSizesAt : ℕ → ℕ → MetaFaultKind → Type 0
-LacksSizesAt end at faults.NoPacketSize = at ≡ end
-LacksSizesAt end at faults.NoMagicLine = Unit {0}
-LacksSizesAt end at faults.Token = Unit {0}
-LacksSizesAt end at faults.OutOfMemory = Unit {0}
-LacksSizesAt end at faults.Syntax = Unit {0}
-LacksSizesAt end at (faults.Unsupported name) = Unit {0}
-LacksSizesAt end at faults.Duplicate = Unit {0}
-LacksSizesAt end at faults.BadLength = Unit {0}
-LacksSizesAt end at faults.Limit = Unit {0}
+-- this name is spelled at the place, or it is the version's part whose number stands there
+abbrev pub IsUnsupported : List Atom → ℕ → List ℕ → Type 0
+IsUnsupported text at name = IsSpelled text at name ⊎ IsVersionPart text at name
 
--- a flaw inside a block: anything but sizes that are missed in the whole text
-abbrev pub IsInside : Flaw → Type 0
-IsInside flaws.NoPacketSize = ⊥
-IsInside (flaws.Syntax expected) = Unit {0}
-IsInside flaws.NamedType = Unit {0}
-IsInside flaws.LabelWithoutValue = Unit {0}
-IsInside (flaws.NoStream orphan) = Unit {0}
-IsInside (flaws.Unsupported name remedy) = Unit {0}
-IsInside flaws.Duplicate = Unit {0}
-IsInside flaws.BadLength = Unit {0}
-IsInside (flaws.Limit expected) = Unit {0}
+-- a bracket stands before the place
+abbrev pub IsInBracket : List Atom → ℕ → Type 0
+IsInBracket text at = (before : ℕ) × (at ≡ suc before) × AtomAt text before (mark marks.OpenBracket)
 
-abbrev pub StopsInside : Stop → Type 0
-StopsInside (stops.Fault fault) = IsInside fault.flaw
-StopsInside stops.NoMemory = Unit {0}
+-- a word behind a bracket
+abbrev pub IsBadLength : List Atom → ℕ → Type 0
+IsBadLength text at = IsInBracket text at × ((w : List ℕ) × AtomAt text at (word w))
 
--- a pass over a text of so many atoms stops at a flaw inside a block, or behind the last atom
-abbrev pub StopsInText : ℕ → Stop → Type 0
-StopsInText end (stops.Fault fault) = LacksSizesAt end fault.at (kind_of fault.flaw)
-StopsInText end stops.NoMemory = Unit {0}
+-- a fault of this kind at this place of the text
+abbrev pub FaultStands : List Atom → ℕ → MetaFaultKind → Type 0
+FaultStands text at faults.NoMagicLine = ⊥
+FaultStands text at faults.Token = ⊥
+FaultStands text at faults.OutOfMemory = ⊥
+FaultStands text at faults.Syntax = Unit {0}
+FaultStands text at (faults.Unsupported name) = IsUnsupported text at (string_bytes name)
+FaultStands text at faults.Duplicate = Unit {0}
+FaultStands text at faults.NoPacketSize = at ≡ length text
+FaultStands text at faults.BadLength = IsBadLength text at
+FaultStands text at faults.Limit = Unit {0}

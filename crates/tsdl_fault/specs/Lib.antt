@@ -1,1 +1,4 @@
+pub mod Standing
+pub mod Names
 pub mod Faults
+pub mod Stopping

@@ -1,63 +1,73 @@
 //! The first fault of a block's attribute. An attribute that no rule names is passed over.
 
 ghost use Rattle.std.specs.Prelude.{IfErr};
-ghost use Rattle.tsdl_fault.specs.Faults.{StopsInside};
+ghost use Rattle.tsdl_fault.specs.Faults.{IsPartOfVersion};
+ghost use Rattle.tsdl_fault.specs.Names.{IsNameAt, IsValueAt};
+ghost use Rattle.tsdl_fault.specs.Stopping.{StopsIn, StopsAnywhere};
 
 use crate::block::{BlockKind, BlockParts};
-use crate::cursor::Cursor;
 use crate::flaw::{Remedy, Stop};
 use crate::ledger::Ledger;
 use crate::name::Name;
+use crate::number::natural;
+use crate::source::Source;
 use crate::value::Value;
-use std::alloc::Global;
 
 /// The value of an attribute, behind its name and `=`.
+#[tactic(auto, using(crate::proofs::Stops::anywhere))]
 pub(crate) fn judge_attribute<'a>(
-    cursor: &mut Cursor<'a>,
+    source: &Source<'a>,
+    next: &mut usize,
     ledger: &mut Ledger,
     parts: &mut BlockParts<'a>,
     name: &Name,
 ) -> Result<(), Stop>
-    ensures { IfErr result StopsInside }
+    requires { IsNameAt source.now.atoms.now name.now.at name.now }
+    ensures { IfErr result (StopsIn source.now.atoms.now) }
 {
-    parts.attributes.add(name.at, name.dotted(cursor.alloc)?)?;
-    let value = Value::read(cursor)?;
+    parts.attributes.add_name(source, name)?;
+    let value = Value::read(source, next)?;
     let Some(word) = name.only() else {
         return Ok(());
     };
     match parts.kind {
-        BlockKind::Trace => judge_trace(cursor.alloc, word, &value),
+        BlockKind::Trace => judge_trace(source, word, &value),
         BlockKind::Stream => judge_stream(ledger, word, &value),
         BlockKind::Event => judge_event(parts, word, &value),
-        BlockKind::Clock => judge_clock(cursor.alloc, ledger, word, &value),
+        BlockKind::Clock => judge_clock(source, ledger, word, &value),
     }
 }
 
-fn judge_trace(alloc: Global, word: &str, value: &Value) -> Result<(), Stop>
-    ensures { IfErr result StopsInside }
+#[tactic(auto, using(crate::proofs::Stops::anywhere))]
+fn judge_trace(source: &Source, word: &str, value: &Value) -> Result<(), Stop>
+    requires { IsValueAt source.now.atoms.now value.now }
+    ensures { IfErr result (StopsIn source.now.atoms.now) }
 {
     match word {
-        "byte_order" => value.judge_order(alloc, &["le", "be"]),
-        "major" => judge_version(alloc, word, value, 1),
-        "minor" => judge_version(alloc, word, value, 8),
+        "byte_order" => value.judge_order(source, &["le", "be"]),
+        "major" => judge_version(source, "major", value, 1),
+        "minor" => judge_version(source, "minor", value, 8),
         "uuid" => value.judge_uuid(),
         _ => Ok(()),
     }
 }
 
 /// A part of the version, of which only one number is supported.
-fn judge_version(alloc: Global, word: &str, value: &Value, wanted: u64) -> Result<(), Stop>
-    ensures { IfErr result StopsInside }
+#[tactic(auto, using(crate::proofs::Stops::anywhere))]
+fn judge_version(source: &Source, word: &str, value: &Value, wanted: u64) -> Result<(), Stop>
+    requires stands { IsValueAt source.now.atoms.now value.now }
+    requires part { IsPartOfVersion word.now }
+    ensures { IfErr result (StopsIn source.now.atoms.now) }
 {
-    if value.natural()? == wanted {
+    if natural(value.at, value.number()?)? == wanted {
         Ok(())
     } else {
-        Err(Stop::unsupported(alloc, value.at, word, Remedy::Nothing))
+        Err(Stop::unsupported(source.alloc, value.at, word, Remedy::Nothing))
     }
 }
 
 fn judge_stream(ledger: &mut Ledger, word: &str, value: &Value) -> Result<(), Stop>
-    ensures { IfErr result StopsInside }
+    ensures { IfErr result StopsAnywhere }
 {
     match word {
         "id" => ledger.add_stream(value.at, value.natural()?),
@@ -66,7 +76,7 @@ fn judge_stream(ledger: &mut Ledger, word: &str, value: &Value) -> Result<(), St
 }
 
 fn judge_event<'a>(parts: &mut BlockParts<'a>, word: &str, value: &Value<'a>) -> Result<(), Stop>
-    ensures { IfErr result StopsInside }
+    ensures { IfErr result StopsAnywhere }
 {
     match word {
         "name" => parts.name = Some(value.label()?),
@@ -80,13 +90,13 @@ fn judge_event<'a>(parts: &mut BlockParts<'a>, word: &str, value: &Value<'a>) ->
     Ok(())
 }
 
-fn judge_clock(alloc: Global, ledger: &mut Ledger, word: &str, value: &Value) -> Result<(), Stop>
-    ensures { IfErr result StopsInside }
+#[tactic(auto, using(crate::proofs::Stops::anywhere))]
+fn judge_clock(source: &Source, ledger: &mut Ledger, word: &str, value: &Value) -> Result<(), Stop>
+    ensures { IfErr result (StopsIn source.now.atoms.now) }
 {
     match word {
         "name" => {
-            let name = String::from_str(alloc, value.label()?)?;
-            ledger.clocks.add(value.at, name)?;
+            ledger.clocks.add_word(source, value.at, value.label()?)?;
         }
         "uuid" => value.judge_uuid()?,
         "description" => {

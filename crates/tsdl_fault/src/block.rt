@@ -1,14 +1,15 @@
 //! The first fault of a block with attributes and scopes: a trace, a stream, an event or a clock.
 
 ghost use Rattle.std.specs.Prelude.{IfErr};
-ghost use Rattle.tsdl_fault.specs.Faults.{StopsInside};
+ghost use Rattle.tsdl_fault.specs.Names.{IsNameAt};
+ghost use Rattle.tsdl_fault.specs.Stopping.{StopsIn};
 
 use crate::attribute::judge_attribute;
-use crate::cursor::Cursor;
 use crate::flaw::{Remedy, Stop};
 use crate::ledger::Ledger;
 use crate::name::{Name, Names};
 use crate::scope::ScopeKind;
+use crate::source::Source;
 use crate::structure::judge_structure;
 use crate::survey::Survey;
 use std::alloc::Global;
@@ -51,60 +52,65 @@ impl BlockParts<'_> {
 }
 
 /// `"{" { attribute | scope } "}"`, behind the block's word.
+#[tactic(auto, using(crate::proofs::Stops::anywhere))]
 pub(crate) fn judge_block(
-    cursor: &mut Cursor,
+    source: &Source,
+    next: &mut usize,
     survey: &Survey,
     ledger: &mut Ledger,
     kind: BlockKind,
 ) -> Result<(), Stop>
-    ensures { IfErr result StopsInside }
+    ensures { IfErr result (StopsIn source.now.atoms.now) }
 {
-    cursor.expect(Mark::OpenBrace)?;
-    let mut parts = BlockParts::new(cursor.alloc, kind);
-    for _ in 0..cursor.left() {
-        let end = cursor.at();
-        if cursor.take(Mark::CloseBrace) {
-            return ledger.close(cursor.alloc, end, &parts);
+    source.expect(next, Mark::OpenBrace)?;
+    let mut parts = BlockParts::new(source.alloc, kind);
+    for _ in 0..source.left(*next) {
+        let end = *next;
+        if source.take(next, Mark::CloseBrace) {
+            return ledger.close(source.alloc, end, &parts);
         }
-        judge_item(cursor, survey, ledger, &mut parts)?;
+        judge_item(source, next, survey, ledger, &mut parts)?;
     }
-    Err(cursor.unexpected("`}`"))
+    Err(source.unexpected(*next, "`}`"))
 }
 
 /// `name "=" value ";"` or `name ":=" structure ";"`.
 fn judge_item<'a>(
-    cursor: &mut Cursor<'a>,
+    source: &Source<'a>,
+    next: &mut usize,
     survey: &Survey,
     ledger: &mut Ledger,
     parts: &mut BlockParts<'a>,
 ) -> Result<(), Stop>
-    ensures { IfErr result StopsInside }
+    ensures { IfErr result (StopsIn source.now.atoms.now) }
 {
-    let name = cursor.name("an attribute, a scope or `}`")?;
-    if cursor.take(Mark::Equals) {
-        judge_attribute(cursor, ledger, parts, &name)?;
-    } else if cursor.take(Mark::Assign) {
-        judge_scope(cursor, survey, parts, &name)?;
+    let name = source.name(next, "an attribute, a scope or `}`")?;
+    if source.take(next, Mark::Equals) {
+        judge_attribute(source, next, ledger, parts, &name)?;
+    } else if source.take(next, Mark::Assign) {
+        judge_scope(source, next, survey, parts, &name)?;
     } else {
-        return Err(cursor.unexpected("`=` or `:=`"));
+        return Err(source.unexpected(*next, "`=` or `:=`"));
     }
-    cursor.expect(Mark::Semicolon)
+    source.expect(next, Mark::Semicolon)
 }
 
 /// A scope behind its name and `:=`.
 fn judge_scope(
-    cursor: &mut Cursor,
+    source: &Source,
+    next: &mut usize,
     survey: &Survey,
     parts: &mut BlockParts,
     name: &Name,
 ) -> Result<(), Stop>
-    ensures { IfErr result StopsInside }
+    requires { IsNameAt source.now.atoms.now name.now.at name.now }
+    ensures { IfErr result (StopsIn source.now.atoms.now) }
 {
     let Some(scope) = ScopeKind::named(parts.kind, name) else {
-        return Err(name.unsupported(cursor.alloc, Remedy::Nothing));
+        return Err(name.unsupported(source.alloc, Remedy::Nothing));
     };
-    parts.scopes.add(name.at, name.dotted(cursor.alloc)?)?;
-    let members = judge_structure(cursor, survey, scope)?;
+    parts.scopes.add_name(source, name)?;
+    let members = judge_structure(source, next, survey, scope)?;
     if matches!(scope, ScopeKind::PacketContext) {
         parts.has_sizes = members.contains("packet_size") && members.contains("content_size");
     }

@@ -1,46 +1,53 @@
 //! The first fault of the environment block.
 
 ghost use Rattle.std.specs.Prelude.{IfErr};
-ghost use Rattle.tsdl_fault.specs.Faults.{StopsInside};
+ghost use Rattle.tsdl_fault.specs.Stopping.{StopsIn};
 
-use crate::cursor::Cursor;
 use crate::flaw::{Flaw, Stop};
 use crate::name::Names;
 use crate::number::judge_whole;
+use crate::source::Source;
 use tsdl_grammar::Mark;
 
 /// How many names an environment may have.
 const MOST_NAMES: usize = 256;
 
 /// `"{" { identifier "=" (number | string) ";" } "}"`, behind `env`.
-pub(crate) fn judge_environment(cursor: &mut Cursor) -> Result<(), Stop>
-    ensures { IfErr result StopsInside }
+pub(crate) fn judge_environment(source: &Source, next: &mut usize) -> Result<(), Stop>
+    ensures { IfErr result (StopsIn source.now.atoms.now) }
 {
-    cursor.expect(Mark::OpenBrace)?;
-    let mut names = Names::new(cursor.alloc);
-    for _ in 0..cursor.left() {
-        if cursor.take(Mark::CloseBrace) {
+    source.expect(next, Mark::OpenBrace)?;
+    let mut names = Names::new(source.alloc);
+    for before in 0..source.left(*next) {
+        if source.take(next, Mark::CloseBrace) {
             return Ok(());
         }
-        judge_entry(cursor, &mut names)?;
+        judge_entry(source, next, before, &mut names)?;
     }
-    Err(cursor.unexpected("`}`"))
+    Err(source.unexpected(*next, "`}`"))
 }
 
-fn judge_entry(cursor: &mut Cursor, names: &mut Names) -> Result<(), Stop>
-    ensures { IfErr result StopsInside }
+/// An entry behind so many.
+#[tactic(auto, using(crate::proofs::Stops::anywhere))]
+fn judge_entry(
+    source: &Source,
+    next: &mut usize,
+    before: usize,
+    names: &mut Names,
+) -> Result<(), Stop>
+    ensures { IfErr result (StopsIn source.now.atoms.now) }
 {
-    let at = cursor.at();
-    let name = cursor.identifier("a name or `}`")?;
-    names.add(at, String::from_str(cursor.alloc, name)?)?;
-    if names.len() > MOST_NAMES {
+    let at = *next;
+    let name = source.identifier(next, "a name or `}`")?;
+    names.add_word(source, at, name)?;
+    if before >= MOST_NAMES {
         return Err(Stop::at(at, Flaw::Limit("at most 256 names")));
     }
-    cursor.expect(Mark::Equals)?;
-    let at = cursor.at();
-    if cursor.text().is_none() {
-        let number = cursor.number("a number or a string")?;
+    source.expect(next, Mark::Equals)?;
+    let at = *next;
+    if source.text(next).is_none() {
+        let number = source.number(next, "a number or a string")?;
         judge_whole(at, &number)?;
     }
-    cursor.expect(Mark::Semicolon)
+    source.expect(next, Mark::Semicolon)
 }

@@ -1,7 +1,9 @@
 //! What is wrong with the atoms of a text, and where a pass over them stops.
 
-ghost use Rattle.std.specs.Prelude.{◌≡◌};
-ghost use Rattle.tsdl_fault.specs.Faults.{kind_of, StopsInside};
+ghost use Rattle.std.specs.Prelude.{◌≡◌, List};
+ghost use Rattle.tsdl_grammar.specs.declared.atom.Atom.{Atom};
+ghost use Rattle.tsdl_fault.specs.Faults.{IsUnsupported};
+ghost use Rattle.tsdl_fault.specs.Stopping.{kind_of, StopsIn};
 ghost use Rattle.tsdl_fault.specs.declared.flaw.Stop.TheVariants as stops;
 
 use std::alloc::{AllocError, AllocFailed, Global};
@@ -121,7 +123,7 @@ impl Stop {
 
     /// A construct that is not read, by its name, which begins at an atom.
     pub(crate) fn unsupported(alloc: Global, at: usize, name: &str, remedy: Remedy) -> Stop
-        ensures { StopsInside result }
+        ensures { (text : List Atom) → IsUnsupported text at name.now → StopsIn text result }
     {
         match String::from_str(alloc, name) {
             Ok(name) => Stop::at(at, Flaw::Unsupported(name, remedy)),

@@ -1,11 +1,12 @@
 //! The first fault of `integer { .. }`: its attributes, of which `size` is needed.
 
 ghost use Rattle.std.specs.Prelude.{IfErr};
-ghost use Rattle.tsdl_fault.specs.Faults.{StopsInside};
+ghost use Rattle.tsdl_fault.specs.Names.{IsValueAt};
+ghost use Rattle.tsdl_fault.specs.Stopping.{StopsIn, StopsAnywhere};
 
-use crate::cursor::Cursor;
 use crate::flaw::{Flaw, Remedy, Stop};
 use crate::name::{Name, Names};
+use crate::source::Source;
 use crate::survey::Survey;
 use crate::value::Value;
 use ctf_types::ByteOrder;
@@ -41,57 +42,60 @@ impl Given {
 
 /// `"integer" "{" { attribute } "}"`.
 pub(crate) fn judge_integer(
-    cursor: &mut Cursor,
+    source: &Source,
+    next: &mut usize,
     survey: &Survey,
     expected: &'static str,
 ) -> Result<IntegerParts, Stop>
-    ensures { IfErr result StopsInside }
+    ensures { IfErr result (StopsIn source.now.atoms.now) }
 {
-    if !cursor.take_word("integer") {
-        return Err(cursor.no_type(expected));
+    if !source.take_word(next, "integer") {
+        return Err(source.no_type(*next, expected));
     }
-    cursor.expect(Mark::OpenBrace)?;
-    let mut names = Names::new(cursor.alloc);
+    source.expect(next, Mark::OpenBrace)?;
+    let mut names = Names::new(source.alloc);
     let mut given = Given {
         size: None,
         align: None,
         is_signed: false,
     };
-    for _ in 0..cursor.left() {
-        let end = cursor.at();
-        if cursor.take(Mark::CloseBrace) {
+    for _ in 0..source.left(*next) {
+        let end = *next;
+        if source.take(next, Mark::CloseBrace) {
             return given.parts().ok_or(Stop::at(end, Flaw::Syntax("a `size`")));
         }
-        judge_attribute(cursor, survey, &mut names, &mut given)?;
+        judge_attribute(source, next, survey, &mut names, &mut given)?;
     }
-    Err(cursor.unexpected("`}`"))
+    Err(source.unexpected(*next, "`}`"))
 }
 
+#[tactic(auto, using(crate::proofs::Stops::anywhere))]
 fn judge_attribute(
-    cursor: &mut Cursor,
+    source: &Source,
+    next: &mut usize,
     survey: &Survey,
     names: &mut Names,
     given: &mut Given,
 ) -> Result<(), Stop>
-    ensures { IfErr result StopsInside }
+    ensures { IfErr result (StopsIn source.now.atoms.now) }
 {
-    let name = cursor.name("an attribute or `}`")?;
+    let name = source.name(next, "an attribute or `}`")?;
     let Some(attribute) = IntegerAttribute::named(&name) else {
-        return Err(name.unsupported(cursor.alloc, Remedy::Nothing));
+        return Err(name.unsupported(source.alloc, Remedy::Nothing));
     };
-    names.add(name.at, name.dotted(cursor.alloc)?)?;
-    cursor.expect(Mark::Equals)?;
-    let value = Value::read(cursor)?;
+    names.add_name(source, &name)?;
+    source.expect(next, Mark::Equals)?;
+    let value = Value::read(source, next)?;
     match attribute {
         IntegerAttribute::Size => given.size = Some(size(&value)?),
         IntegerAttribute::Align => given.align = Some(value.align()?),
         IntegerAttribute::Signed => given.is_signed = value.flag()?,
-        IntegerAttribute::ByteOrder => judge_order(cursor, survey, &value)?,
-        IntegerAttribute::Base => judge_base(cursor, &value)?,
+        IntegerAttribute::ByteOrder => judge_order(source, survey, &value)?,
+        IntegerAttribute::Base => judge_base(source, &value)?,
         IntegerAttribute::Map => judge_map(survey, &value)?,
         IntegerAttribute::Encoding => {}
     }
-    cursor.expect(Mark::Semicolon)
+    source.expect(next, Mark::Semicolon)
 }
 
 /// An attribute that an integer may have.
@@ -123,7 +127,7 @@ impl IntegerAttribute {
 
 /// A size from 1 to 64 bits.
 fn size(value: &Value) -> Result<u64, Stop>
-    ensures { IfErr result StopsInside }
+    ensures { IfErr result StopsAnywhere }
 {
     match value.natural()? {
         size @ 1..=64 => Ok(size),
@@ -132,20 +136,23 @@ fn size(value: &Value) -> Result<u64, Stop>
 }
 
 /// `native`, or the trace's own byte order.
-fn judge_order(cursor: &Cursor, survey: &Survey, value: &Value) -> Result<(), Stop>
-    ensures { IfErr result StopsInside }
+fn judge_order(source: &Source, survey: &Survey, value: &Value) -> Result<(), Stop>
+    requires { IsValueAt source.now.atoms.now value.now }
+    ensures { IfErr result (StopsIn source.now.atoms.now) }
 {
     let words: &[&str] = match survey.order {
         Some(ByteOrder::Little) => &["native", "le"],
         Some(ByteOrder::Big) => &["native", "be", "network"],
         None => &["native"],
     };
-    value.judge_order(cursor.alloc, words)
+    value.judge_order(source, words)
 }
 
 /// `2 binary b`, `8 octal oct o`, `10 decimal dec d i u` or `16 hexadecimal hex x X p`.
-fn judge_base(cursor: &Cursor, value: &Value) -> Result<(), Stop>
-    ensures { IfErr result StopsInside }
+#[tactic(auto, using(crate::proofs::Stops::anywhere))]
+fn judge_base(source: &Source, value: &Value) -> Result<(), Stop>
+    requires { IsValueAt source.now.atoms.now value.now }
+    ensures { IfErr result (StopsIn source.now.atoms.now) }
 {
     if value.is_number() {
         return match value.natural()? {
@@ -154,7 +161,7 @@ fn judge_base(cursor: &Cursor, value: &Value) -> Result<(), Stop>
         };
     }
     value.judge_word(
-        cursor.alloc,
+        source,
         &[
             "binary",
             "b",
@@ -177,10 +184,11 @@ fn judge_base(cursor: &Cursor, value: &Value) -> Result<(), Stop>
 
 /// `clock.NAME.value`. A clock that is not there is a fault of its name.
 fn judge_map(survey: &Survey, value: &Value) -> Result<(), Stop>
-    ensures { IfErr result StopsInside }
+    ensures { IfErr result StopsAnywhere }
 {
-    match value.name()?.words() {
-        ["clock", name, "value"] => {
+    let name = value.name()?;
+    match (name.first, name.others.as_slice()) {
+        ("clock", [name, "value"]) => {
             if survey.clocks.contains(*name) {
                 Ok(())
             } else {

@@ -1,12 +1,12 @@
 //! The first fault of a member's kind: an integer, an enumeration or a string.
 
 ghost use Rattle.std.specs.Prelude.{IfErr};
-ghost use Rattle.tsdl_fault.specs.Faults.{StopsInside};
+ghost use Rattle.tsdl_fault.specs.Stopping.{StopsIn};
 
-use crate::cursor::Cursor;
 use crate::flaw::{Flaw, Remedy, Stop};
 use crate::integer::{IntegerParts, judge_integer};
 use crate::name::Names;
+use crate::source::Source;
 use crate::survey::Survey;
 use crate::value::Value;
 use tsdl_grammar::Mark;
@@ -23,64 +23,69 @@ pub(crate) enum Element {
 }
 
 /// `integer { .. }`, `enum : integer { .. } { .. }` or `string { .. }`. A structure is not supported here.
-pub(crate) fn judge_kind(cursor: &mut Cursor, survey: &Survey) -> Result<Element, Stop>
-    ensures { IfErr result StopsInside }
+#[tactic(auto, using(crate::proofs::Stops::anywhere, crate::proofs::Stops::word_unsupported))]
+pub(crate) fn judge_kind(
+    source: &Source,
+    next: &mut usize,
+    survey: &Survey,
+) -> Result<Element, Stop>
+    ensures { IfErr result (StopsIn source.now.atoms.now) }
 {
-    if cursor.take_word("enum") {
-        if !cursor.take(Mark::Colon) {
-            return Err(cursor.no_type("`:`"));
+    if source.take_word(next, "enum") {
+        if !source.take(next, Mark::Colon) {
+            return Err(source.no_type(*next, "`:`"));
         }
-        let _integer = judge_integer(cursor, survey, "`integer`")?;
-        judge_ranges(cursor)?;
+        let _integer = judge_integer(source, next, survey, "`integer`")?;
+        judge_ranges(source, next)?;
         Ok(Element::Other)
-    } else if cursor.take_word("string") {
-        judge_string(cursor)?;
+    } else if source.take_word(next, "string") {
+        judge_string(source, next)?;
         Ok(Element::Other)
-    } else if cursor.is_at("struct") {
-        let at = cursor.at();
-        Err(Stop::unsupported(cursor.alloc, at, "struct", Remedy::Nothing))
+    } else if source.is_at(*next, "struct") {
+        let at = *next;
+        Err(Stop::unsupported(source.alloc, at, "struct", Remedy::Nothing))
     } else {
-        let parts = judge_integer(cursor, survey, "`integer`, `enum`, `string` or `}`")?;
+        let parts = judge_integer(source, next, survey, "`integer`, `enum`, `string` or `}`")?;
         Ok(Element::Integer(parts))
     }
 }
 
 /// `"{" [ range { "," range } [ "," ] ] "}"`.
-fn judge_ranges(cursor: &mut Cursor) -> Result<(), Stop>
-    ensures { IfErr result StopsInside }
+fn judge_ranges(source: &Source, next: &mut usize) -> Result<(), Stop>
+    ensures { IfErr result (StopsIn source.now.atoms.now) }
 {
-    cursor.expect(Mark::OpenBrace)?;
-    for before in 0..cursor.left() {
-        if cursor.take(Mark::CloseBrace) {
+    source.expect(next, Mark::OpenBrace)?;
+    for before in 0..source.left(*next) {
+        if source.take(next, Mark::CloseBrace) {
             return Ok(());
         }
-        judge_range(cursor, before)?;
-        if !cursor.take(Mark::Comma) {
-            return cursor.expect(Mark::CloseBrace);
+        judge_range(source, next, before)?;
+        if !source.take(next, Mark::Comma) {
+            return source.expect(next, Mark::CloseBrace);
         }
     }
-    Err(cursor.unexpected("`}`"))
+    Err(source.unexpected(*next, "`}`"))
 }
 
 /// `(string | identifier) "=" number [ "..." number ]`, behind so many ranges.
-fn judge_range(cursor: &mut Cursor, before: usize) -> Result<(), Stop>
-    ensures { IfErr result StopsInside }
+fn judge_range(source: &Source, next: &mut usize, before: usize) -> Result<(), Stop>
+    ensures { IfErr result (StopsIn source.now.atoms.now) }
 {
-    let at = cursor.at();
-    if cursor.text().is_none() {
-        cursor.identifier("a label or `}`")?;
+    let at = *next;
+    if source.text(next).is_none() {
+        source.identifier(next, "a label or `}`")?;
     }
     if before >= MOST_RANGES {
         return Err(Stop::at(at, Flaw::Limit("at most 65536 ranges")));
     }
-    if cursor.is_at_mark(Mark::Comma) || cursor.is_at_mark(Mark::CloseBrace) {
-        return Err(Stop::at(cursor.at(), Flaw::LabelWithoutValue));
+    if source.is_at_mark(*next, Mark::Comma) || source.is_at_mark(*next, Mark::CloseBrace) {
+        return Err(Stop::at(*next, Flaw::LabelWithoutValue));
     }
-    cursor.expect(Mark::Equals)?;
-    let low = cursor.number("a number")?;
-    if cursor.take(Mark::Ellipsis) {
-        let at = cursor.at();
-        let high = cursor.number("a number")?;
+    source.expect(next, Mark::Equals)?;
+    let low = source.number(next, "a number")?;
+    if source.take(next, Mark::Ellipsis) {
+        let at = *next;
+        let high = source.number(next, "a number")?;
         if signed_of(high) < signed_of(low) {
             return Err(Stop::at(
                 at,
@@ -92,33 +97,33 @@ fn judge_range(cursor: &mut Cursor, before: usize) -> Result<(), Stop>
 }
 
 /// `[ "{" { attribute } "}" ]`, behind `string`.
-fn judge_string(cursor: &mut Cursor) -> Result<(), Stop>
-    ensures { IfErr result StopsInside }
+fn judge_string(source: &Source, next: &mut usize) -> Result<(), Stop>
+    ensures { IfErr result (StopsIn source.now.atoms.now) }
 {
-    if !cursor.take(Mark::OpenBrace) {
+    if !source.take(next, Mark::OpenBrace) {
         return Ok(());
     }
-    let mut names = Names::new(cursor.alloc);
-    for _ in 0..cursor.left() {
-        if cursor.take(Mark::CloseBrace) {
+    let mut names = Names::new(source.alloc);
+    for _ in 0..source.left(*next) {
+        if source.take(next, Mark::CloseBrace) {
             return Ok(());
         }
-        judge_encoding(cursor, &mut names)?;
+        judge_encoding(source, next, &mut names)?;
     }
-    Err(cursor.unexpected("`}`"))
+    Err(source.unexpected(*next, "`}`"))
 }
 
 /// The only attribute of a string.
-fn judge_encoding(cursor: &mut Cursor, names: &mut Names) -> Result<(), Stop>
-    ensures { IfErr result StopsInside }
+fn judge_encoding(source: &Source, next: &mut usize, names: &mut Names) -> Result<(), Stop>
+    ensures { IfErr result (StopsIn source.now.atoms.now) }
 {
-    let name = cursor.name("an attribute or `}`")?;
+    let name = source.name(next, "an attribute or `}`")?;
     if name.only() != Some("encoding") {
-        return Err(name.unsupported(cursor.alloc, Remedy::Nothing));
+        return Err(name.unsupported(source.alloc, Remedy::Nothing));
     }
-    names.add(name.at, name.dotted(cursor.alloc)?)?;
-    cursor.expect(Mark::Equals)?;
-    let value = Value::read(cursor)?;
-    value.judge_word(cursor.alloc, &["UTF8", "utf8", "ASCII", "ascii", "none"])?;
-    cursor.expect(Mark::Semicolon)
+    names.add_name(source, &name)?;
+    source.expect(next, Mark::Equals)?;
+    let value = Value::read(source, next)?;
+    value.judge_word(source, &["UTF8", "utf8", "ASCII", "ascii", "none"])?;
+    source.expect(next, Mark::Semicolon)
 }

@@ -1,7 +1,9 @@
 //! What a pass over a text keeps of its blocks: what may stand once only, and what the end of the text is judged by.
 
-ghost use Rattle.std.specs.Prelude.{IfErr};
-ghost use Rattle.tsdl_fault.specs.Faults.{StopsInside};
+ghost use Rattle.std.specs.Prelude.{List, IfOk, IfErr, IfSome, length};
+ghost use Rattle.tsdl_fault.specs.Faults.{FaultStands};
+ghost use Rattle.tsdl_grammar.specs.declared.atom.Atom.{Atom};
+ghost use Rattle.tsdl_fault.specs.Stopping.{kind_of, StopsAnywhere};
 
 use crate::block::{BlockKind, BlockParts};
 use crate::flaw::{Flaw, Orphan, Stop};
@@ -36,7 +38,7 @@ impl Ledger {
 
     /// Notes the trace block, whose word stands at an atom.
     pub(crate) fn begin_trace(&mut self, at: usize) -> Result<(), Stop>
-        ensures { IfErr result StopsInside }
+        ensures { IfErr result StopsAnywhere }
     {
         if self.has_trace {
             return Err(Stop::at(at, Flaw::Duplicate));
@@ -47,7 +49,7 @@ impl Ledger {
 
     /// Notes the environment block, whose word stands at an atom.
     pub(crate) fn begin_environment(&mut self, at: usize) -> Result<(), Stop>
-        ensures { IfErr result StopsInside }
+        ensures { IfErr result StopsAnywhere }
     {
         if self.has_environment {
             return Err(Stop::at(at, Flaw::Duplicate));
@@ -58,7 +60,7 @@ impl Ledger {
 
     /// Adds the number of a stream, which stands at an atom.
     pub(crate) fn add_stream(&mut self, at: usize, id: u64) -> Result<(), Stop>
-        ensures { IfErr result StopsInside }
+        ensures { IfErr result StopsAnywhere }
     {
         if self.streams.insert(id)? {
             Ok(())
@@ -68,7 +70,7 @@ impl Ledger {
     }
 
     fn add_event(&mut self, alloc: Global, at: usize, parts: &BlockParts) -> Result<(), Stop>
-        ensures { IfErr result StopsInside }
+        ensures { IfErr result StopsAnywhere }
     {
         let name = String::from_str(alloc, parts.name.unwrap_or(""))?;
         if self
@@ -84,7 +86,7 @@ impl Ledger {
 
     /// Judges a block at its closing brace, an atom, and keeps what later blocks are judged by.
     pub(crate) fn close(&mut self, alloc: Global, at: usize, parts: &BlockParts) -> Result<(), Stop>
-        ensures { IfErr result StopsInside }
+        ensures { IfErr result StopsAnywhere }
     {
         for (name, quoted) in needed(parts.kind) {
             if !parts.attributes.contains(*name) {
@@ -99,7 +101,7 @@ impl Ledger {
     }
 
     fn close_stream(&mut self, at: usize, parts: &BlockParts) -> Result<(), Stop>
-        ensures { IfErr result StopsInside }
+        ensures { IfErr result StopsAnywhere }
     {
         if !parts.has_sizes {
             self.lacks_sizes = true;
@@ -112,7 +114,9 @@ impl Ledger {
     }
 
     /// What is wrong with the whole text, at its end.
-    pub(crate) fn flaw_at_end(&self, alloc: Global) -> Result<Option<Flaw>, AllocError> {
+    pub(crate) fn flaw_at_end(&self, alloc: Global) -> Result<Option<Flaw>, AllocError>
+        ensures { (text : List Atom) → IfOk result (λ found. IfSome found (λ flaw. FaultStands text (length text) (kind_of flaw))) }
+    {
         if !self.has_trace {
             return Ok(Some(Flaw::Syntax("a trace block")));
         }

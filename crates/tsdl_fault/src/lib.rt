@@ -3,7 +3,6 @@
 
 mod attribute;
 mod block;
-mod cursor;
 mod environment;
 mod flaw;
 mod integer;
@@ -13,6 +12,7 @@ mod member;
 mod name;
 mod number;
 mod scope;
+mod source;
 mod structure;
 mod survey;
 mod text;

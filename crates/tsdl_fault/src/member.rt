@@ -1,15 +1,16 @@
 //! The first fault of a structure's member: its kind, its name, its brackets, and what its name asks of it.
 
 ghost use Rattle.std.specs.Prelude.{IfErr};
-ghost use Rattle.tsdl_fault.specs.Faults.{StopsInside};
+ghost use Rattle.tsdl_fault.specs.Faults.{IsInBracket};
+ghost use Rattle.tsdl_fault.specs.Stopping.{StopsIn, StopsAnywhere};
 
-use crate::cursor::Cursor;
 use crate::flaw::{Flaw, Remedy, Stop};
 use crate::integer::IntegerParts;
 use crate::kind::{Element, judge_kind};
 use crate::name::Names;
 use crate::number::natural;
 use crate::scope::ScopeKind;
+use crate::source::Source;
 use crate::survey::Survey;
 use std::alloc::Global;
 use tsdl_grammar::Mark;
@@ -46,12 +47,12 @@ impl Members {
         }
     }
 
-    /// Adds the name of a member, which stands at an atom.
-    fn add(&mut self, alloc: Global, at: usize, name: &str) -> Result<(), Stop>
-        ensures { IfErr result StopsInside }
+    /// Adds the name of a member, which stands at an atom, behind so many.
+    fn add(&mut self, source: &Source, at: usize, name: &str, before: usize) -> Result<(), Stop>
+        ensures { IfErr result (StopsIn source.now.atoms.now) }
     {
-        self.names.add(at, String::from_str(alloc, name)?)?;
-        if self.names.len() > MOST_MEMBERS {
+        self.names.add_word(source, at, name)?;
+        if before >= MOST_MEMBERS {
             Err(Stop::at(at, Flaw::Limit("at most 1024 members")))
         } else {
             Ok(())
@@ -59,29 +60,32 @@ impl Members {
     }
 }
 
-/// `kind identifier { bracket } ";"`, behind other members.
+/// `kind identifier { bracket } ";"`, behind so many other members.
+#[tactic(auto, using(crate::proofs::Stops::anywhere, crate::proofs::Stops::word_unsupported))]
 pub(crate) fn judge_member(
-    cursor: &mut Cursor,
+    source: &Source,
+    next: &mut usize,
     survey: &Survey,
     scope: ScopeKind,
     members: &mut Members,
+    before: usize,
 ) -> Result<(), Stop>
-    ensures { IfErr result StopsInside }
+    ensures { IfErr result (StopsIn source.now.atoms.now) }
 {
-    let element = judge_kind(cursor, survey)?;
-    let at = cursor.at();
-    let name = cursor.identifier("the name of a member")?;
-    members.add(cursor.alloc, at, name)?;
-    let lengths = judge_brackets(cursor, members)?;
+    let element = judge_kind(source, next, survey)?;
+    let at = *next;
+    let name = source.identifier(next, "the name of a member")?;
+    members.add(source, at, name, before)?;
+    let lengths = judge_brackets(source, next, members)?;
     let shape = lengths.shape(element);
     if !scope.suits(name, shape) {
-        return Err(Stop::unsupported(cursor.alloc, at, name, Remedy::Nothing));
+        return Err(Stop::unsupported(source.alloc, at, name, Remedy::Nothing));
     }
     if matches!(shape, Shape::Unsigned(_)) {
-        let name = String::from_str(cursor.alloc, name)?;
+        let name = String::from_str(source.alloc, name)?;
         let _is_new = members.unsigned.insert(name)?;
     }
-    cursor.expect(Mark::Semicolon)
+    source.expect(next, Mark::Semicolon)
 }
 
 /// The brackets of a member so far.
@@ -115,7 +119,7 @@ impl Lengths {
 
     /// Adds the length in a bracket, which stands at an atom.
     fn add(&mut self, at: usize, length: u64) -> Result<(), Stop>
-        ensures { IfErr result StopsInside }
+        ensures { IfErr result StopsAnywhere }
     {
         self.count = self.count.saturating_add(1);
         self.last = length;
@@ -141,8 +145,8 @@ impl Lengths {
 }
 
 /// `{ "[" (number | identifier) "]" }`.
-fn judge_brackets(cursor: &mut Cursor, members: &Members) -> Result<Lengths, Stop>
-    ensures { IfErr result StopsInside }
+fn judge_brackets(source: &Source, next: &mut usize, members: &Members) -> Result<Lengths, Stop>
+    ensures { IfErr result (StopsIn source.now.atoms.now) }
 {
     let mut lengths = Lengths {
         is_sequence: false,
@@ -150,28 +154,48 @@ fn judge_brackets(cursor: &mut Cursor, members: &Members) -> Result<Lengths, Sto
         last: 0,
         elements: 1,
     };
-    for _ in 0..cursor.left() {
-        if !cursor.take(Mark::OpenBracket) {
+    for _ in 0..source.left(*next) {
+        if !source.is_at_mark(*next, Mark::OpenBracket) {
             break;
         }
-        judge_length(cursor, members, &mut lengths)?;
-        cursor.expect(Mark::CloseBracket)?;
+        judge_bracket(source, next, members, &mut lengths)?;
     }
     Ok(lengths)
 }
 
-/// What stands in a bracket: a number, or in the first one the name of an unsigned integer member before.
-fn judge_length(cursor: &mut Cursor, members: &Members, lengths: &mut Lengths) -> Result<(), Stop>
-    ensures { IfErr result StopsInside }
+/// `"[" (number | identifier) "]"`.
+fn judge_bracket(
+    source: &Source,
+    next: &mut usize,
+    members: &Members,
+    lengths: &mut Lengths,
+) -> Result<(), Stop>
+    ensures { IfErr result (StopsIn source.now.atoms.now) }
 {
-    let at = cursor.at();
-    if !cursor.is_at_word() {
-        let number = cursor.number("a number or the name of a member")?;
+    source.expect(next, Mark::OpenBracket)?;
+    judge_length(source, next, members, lengths)?;
+    source.expect(next, Mark::CloseBracket)
+}
+
+/// What stands in a bracket: a number, or in the first one the name of an unsigned integer member before.
+#[tactic(auto, using(crate::proofs::Stops::anywhere, crate::proofs::Stops::word_unsupported))]
+fn judge_length(
+    source: &Source,
+    next: &mut usize,
+    members: &Members,
+    lengths: &mut Lengths,
+) -> Result<(), Stop>
+    requires { IsInBracket source.now.atoms.now next.old }
+    ensures { IfErr result (StopsIn source.now.atoms.now) }
+{
+    let at = *next;
+    if !source.is_at_word(*next) {
+        let number = source.number(next, "a number or the name of a member")?;
         return lengths.add(at, natural(at, &number)?);
     }
-    let name = cursor.identifier("the name of a member")?;
+    let name = source.identifier(next, "the name of a member")?;
     if lengths.is_sequence || lengths.count > 0 {
-        return Err(Stop::unsupported(cursor.alloc, at, name, Remedy::Nothing));
+        return Err(Stop::unsupported(source.alloc, at, name, Remedy::Nothing));
     }
     if !members.unsigned.contains(name) {
         return Err(Stop::at(at, Flaw::BadLength));

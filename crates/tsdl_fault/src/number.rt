@@ -1,7 +1,7 @@
 //! Numbers of a text in the ranges that the grammar gives them.
 
 ghost use Rattle.std.specs.Prelude.{IfErr};
-ghost use Rattle.tsdl_fault.specs.Faults.{StopsInside};
+ghost use Rattle.tsdl_fault.specs.Stopping.{StopsAnywhere};
 
 use crate::flaw::{Flaw, Stop};
 use tsdl_grammar::Number;
@@ -11,7 +11,7 @@ const LARGEST_ALIGN: u64 = 4096;
 
 /// A number that is not below 0. It begins at an atom.
 pub(crate) fn natural(at: usize, number: &Number) -> Result<u64, Stop>
-    ensures { IfErr result StopsInside }
+    ensures { IfErr result StopsAnywhere }
 {
     match tsdl_meaning::natural(*number) {
         Some(natural) => Ok(natural),
@@ -21,7 +21,7 @@ pub(crate) fn natural(at: usize, number: &Number) -> Result<u64, Stop>
 
 /// Judges whether a number, which begins at an atom, is one from -2^63 to 2^63 - 1.
 pub(crate) fn judge_whole(at: usize, number: &Number) -> Result<(), Stop>
-    ensures { IfErr result StopsInside }
+    ensures { IfErr result StopsAnywhere }
 {
     match tsdl_meaning::whole(*number) {
         Some(_) => Ok(()),
@@ -31,7 +31,7 @@ pub(crate) fn judge_whole(at: usize, number: &Number) -> Result<(), Stop>
 
 /// An alignment in bits: a power of two. It begins at an atom.
 pub(crate) fn align(at: usize, number: &Number) -> Result<u64, Stop>
-    ensures { IfErr result StopsInside }
+    ensures { IfErr result StopsAnywhere }
 {
     let align = natural(at, number)?;
     if !align.is_power_of_two() {

@@ -18,13 +18,13 @@ pub(crate) enum ScopeKind {
 impl ScopeKind {
     /// The scope of this name in a block, if the block may have it.
     pub(crate) fn named(block: BlockKind, name: &Name) -> Option<ScopeKind> {
-        match (block, name.words()) {
-            (BlockKind::Trace, ["packet", "header"]) => Some(ScopeKind::PacketHeader),
-            (BlockKind::Stream, ["packet", "context"]) => Some(ScopeKind::PacketContext),
-            (BlockKind::Stream, ["event", "header"]) => Some(ScopeKind::EventHeader),
-            (BlockKind::Stream, ["event", "context"]) => Some(ScopeKind::CommonContext),
-            (BlockKind::Event, ["context"]) => Some(ScopeKind::SpecificContext),
-            (BlockKind::Event, ["fields"]) => Some(ScopeKind::Fields),
+        match (block, name.first, name.others.as_slice()) {
+            (BlockKind::Trace, "packet", ["header"]) => Some(ScopeKind::PacketHeader),
+            (BlockKind::Stream, "packet", ["context"]) => Some(ScopeKind::PacketContext),
+            (BlockKind::Stream, "event", ["header"]) => Some(ScopeKind::EventHeader),
+            (BlockKind::Stream, "event", ["context"]) => Some(ScopeKind::CommonContext),
+            (BlockKind::Event, "context", []) => Some(ScopeKind::SpecificContext),
+            (BlockKind::Event, "fields", []) => Some(ScopeKind::Fields),
             _ => None,
         }
     }

@@ -1,52 +1,54 @@
 //! The first fault of a scope's structure: its members in order, then its alignment.
 
 ghost use Rattle.std.specs.Prelude.{IfErr};
-ghost use Rattle.tsdl_fault.specs.Faults.{StopsInside};
+ghost use Rattle.tsdl_fault.specs.Stopping.{StopsIn};
 
-use crate::cursor::Cursor;
 use crate::flaw::Stop;
 use crate::member::{Members, judge_member};
 use crate::name::Names;
 use crate::number::align;
 use crate::scope::ScopeKind;
+use crate::source::Source;
 use crate::survey::Survey;
 use tsdl_grammar::Mark;
 
 /// `"struct" "{" { member } "}" [ "align" "(" number ")" ]`. Answers the members' names.
 pub(crate) fn judge_structure(
-    cursor: &mut Cursor,
+    source: &Source,
+    next: &mut usize,
     survey: &Survey,
     scope: ScopeKind,
 ) -> Result<Names, Stop>
-    ensures { IfErr result StopsInside }
+    ensures { IfErr result (StopsIn source.now.atoms.now) }
 {
-    if !cursor.take_word("struct") {
-        return Err(cursor.no_type("`struct`"));
+    if !source.take_word(next, "struct") {
+        return Err(source.no_type(*next, "`struct`"));
     }
-    if !cursor.take(Mark::OpenBrace) {
-        return Err(cursor.no_type("`{`"));
+    if !source.take(next, Mark::OpenBrace) {
+        return Err(source.no_type(*next, "`{`"));
     }
-    let mut members = Members::new(cursor.alloc);
-    for _ in 0..cursor.left() {
-        if cursor.take(Mark::CloseBrace) {
-            judge_align(cursor)?;
+    let mut members = Members::new(source.alloc);
+    for before in 0..source.left(*next) {
+        if source.take(next, Mark::CloseBrace) {
+            judge_align(source, next)?;
             return Ok(members.names);
         }
-        judge_member(cursor, survey, scope, &mut members)?;
+        judge_member(source, next, survey, scope, &mut members, before)?;
     }
-    Err(cursor.unexpected("`}`"))
+    Err(source.unexpected(*next, "`}`"))
 }
 
 /// `[ "align" "(" number ")" ]`.
-fn judge_align(cursor: &mut Cursor) -> Result<(), Stop>
-    ensures { IfErr result StopsInside }
+#[tactic(auto, using(crate::proofs::Stops::anywhere))]
+fn judge_align(source: &Source, next: &mut usize) -> Result<(), Stop>
+    ensures { IfErr result (StopsIn source.now.atoms.now) }
 {
-    if !cursor.take_word("align") {
+    if !source.take_word(next, "align") {
         return Ok(());
     }
-    cursor.expect(Mark::OpenParenthesis)?;
-    let at = cursor.at();
-    let number = cursor.number("a number")?;
+    source.expect(next, Mark::OpenParenthesis)?;
+    let at = *next;
+    let number = source.number(next, "a number")?;
     let _align = align(at, &number)?;
-    cursor.expect(Mark::CloseParenthesis)
+    source.expect(next, Mark::CloseParenthesis)
 }

@@ -1,13 +1,14 @@
 //! The first fault of a text that denotes no metadata, by one pass over its atoms.
 
 ghost use Rattle.std.specs.Prelude.{◌≤◌, length, IfOk, IfErr};
-ghost use Rattle.tsdl_fault.specs.Faults.{IsOfAtoms, LacksSizesAt, StopsInside, StopsInText};
+ghost use Rattle.tsdl_fault.specs.Faults.{FaultStands};
+ghost use Rattle.tsdl_fault.specs.Stopping.{StopsIn};
 
 use crate::block::{BlockKind, judge_block};
-use crate::cursor::Cursor;
 use crate::environment::judge_environment;
 use crate::flaw::{Fault, Flaw, Remedy, Stop};
 use crate::ledger::Ledger;
+use crate::source::Source;
 use crate::survey::Survey;
 use std::alloc::{AllocError, Global};
 use tsdl_grammar::{Atom, Mark, MetaFaultKind};
@@ -18,11 +19,10 @@ use tsdl_grammar::{Atom, Mark, MetaFaultKind};
 /// Faults come in the order of the text. At one atom the syntax comes first, then what is not supported, what stands
 /// twice, a bad length and a limit. The end of the text lacks a trace block, the stream of an event or the sizes of
 /// a stream's packets, in this order.
-#[tactic(auto, using(crate::proofs::Stops::of_atoms, crate::proofs::Stops::at_end))]
+#[tactic(auto, using(crate::proofs::Stops::at_end))]
 pub fn first_fault(alloc: Global, atoms: &[Atom]) -> Result<(usize, MetaFaultKind), AllocError>
     ensures place { IfOk result (λ fault. fault.0 ≤ length atoms.now) }
-    ensures kind { IfOk result (λ fault. IsOfAtoms fault.1) }
-    ensures sizes { IfOk result (λ fault. LacksSizesAt (length atoms.now) fault.0 fault.1) }
+    ensures fault { IfOk result (λ fault. FaultStands atoms.now fault.0 fault.1) }
 {
     match judge_text(alloc, atoms) {
         Err(Stop::Fault(Fault { at, flaw })) => Ok((at.min(atoms.len()), flaw.into_kind())),
@@ -41,19 +41,19 @@ pub fn first_words(alloc: Global, atoms: &[Atom]) -> Result<Option<String>, Allo
 }
 
 /// Judges the blocks of a text in their order, and then its end.
-#[tactic(auto, using(crate::proofs::Stops::inside, crate::proofs::Stops::whole_text))]
 fn judge_text(alloc: Global, atoms: &[Atom]) -> Result<(), Stop>
-    ensures { IfErr result (StopsInText (length atoms.now)) }
+    ensures { IfErr result (StopsIn atoms.now) }
 {
     let survey = Survey::of(alloc, atoms)?;
     let mut ledger = Ledger::new(alloc);
-    let mut cursor = Cursor::new(alloc, atoms);
+    let source = Source { alloc, atoms };
+    let mut next = 0;
     for _ in 0..atoms.len() {
-        if cursor.left() == 0 {
+        if source.left(next) == 0 {
             break;
         }
-        judge_any_block(&mut cursor, &survey, &mut ledger)?;
-        cursor.expect(Mark::Semicolon)?;
+        judge_any_block(&source, &mut next, &survey, &mut ledger)?;
+        source.expect(&mut next, Mark::Semicolon)?;
     }
     match ledger.flaw_at_end(alloc)? {
         Some(flaw) => Err(Stop::at(atoms.len(), flaw)),
@@ -62,26 +62,32 @@ fn judge_text(alloc: Global, atoms: &[Atom]) -> Result<(), Stop>
 }
 
 /// A block with its word. Any other word is not supported.
-fn judge_any_block(cursor: &mut Cursor, survey: &Survey, ledger: &mut Ledger) -> Result<(), Stop>
-    ensures { IfErr result StopsInside }
+#[tactic(auto, using(crate::proofs::Stops::anywhere, crate::proofs::Stops::word_unsupported))]
+fn judge_any_block(
+    source: &Source,
+    next: &mut usize,
+    survey: &Survey,
+    ledger: &mut Ledger,
+) -> Result<(), Stop>
+    ensures { IfErr result (StopsIn source.now.atoms.now) }
 {
-    let at = cursor.at();
-    let Some(word) = cursor.any_word() else {
-        return Err(cursor.unexpected("`trace`, `env`, `clock`, `stream` or `event`"));
+    let at = *next;
+    let Some(word) = source.any_word(next) else {
+        return Err(source.unexpected(*next, "`trace`, `env`, `clock`, `stream` or `event`"));
     };
     match word {
         "trace" => {
             ledger.begin_trace(at)?;
-            judge_block(cursor, survey, ledger, BlockKind::Trace)
+            judge_block(source, next, survey, ledger, BlockKind::Trace)
         }
-        "stream" => judge_block(cursor, survey, ledger, BlockKind::Stream),
-        "event" => judge_block(cursor, survey, ledger, BlockKind::Event),
-        "clock" => judge_block(cursor, survey, ledger, BlockKind::Clock),
+        "stream" => judge_block(source, next, survey, ledger, BlockKind::Stream),
+        "event" => judge_block(source, next, survey, ledger, BlockKind::Event),
+        "clock" => judge_block(source, next, survey, ledger, BlockKind::Clock),
         "env" => {
             ledger.begin_environment(at)?;
-            judge_environment(cursor)
+            judge_environment(source, next)
         }
-        _ => Err(Stop::unsupported(cursor.alloc, at, word, remedy_of(word))),
+        _ => Err(Stop::unsupported(source.alloc, at, word, remedy_of(word))),
     }
 }
 

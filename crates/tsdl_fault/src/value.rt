@@ -1,13 +1,14 @@
 //! What attributes have, judged by what each one may have. A flaw of a value stands at its first atom.
 
-ghost use Rattle.std.specs.Prelude.{IfErr};
-ghost use Rattle.tsdl_fault.specs.Faults.{StopsInside};
+ghost use Rattle.std.specs.Prelude.{◌≡◌, List, IfOk, IfErr};
+ghost use Rattle.tsdl_grammar.specs.declared.atom.Atom.{Atom};
+ghost use Rattle.tsdl_fault.specs.Names.{IsNameAt, IsValueAt};
+ghost use Rattle.tsdl_fault.specs.Stopping.{StopsIn, StopsAnywhere};
 
-use crate::cursor::Cursor;
 use crate::flaw::{Flaw, Remedy, Stop};
 use crate::name::Name;
 use crate::number::{align, judge_whole, natural};
-use std::alloc::Global;
+use crate::source::Source;
 use tsdl_grammar::Number;
 use uuid::Uuid;
 
@@ -26,23 +27,24 @@ enum Form<'a> {
 }
 
 impl<'a> Value<'a> {
-    pub(crate) fn read(cursor: &mut Cursor<'a>) -> Result<Value<'a>, Stop>
-        ensures { IfErr result StopsInside }
+    pub(crate) fn read(source: &Source<'a>, next: &mut usize) -> Result<Value<'a>, Stop>
+        ensures fault { IfErr result (StopsIn source.now.atoms.now) }
+        ensures stands { IfOk result (IsValueAt source.now.atoms.now) }
     {
-        let at = cursor.at();
-        let form = if let Some(text) = cursor.text() {
+        let at = *next;
+        let form = if let Some(text) = source.text(next) {
             Form::Text(text.as_str())
-        } else if cursor.is_at_word() {
-            Form::Name(cursor.name("a name")?)
+        } else if source.is_at_word(*next) {
+            Form::Name(source.name(next, "a name")?)
         } else {
-            Form::Number(cursor.number("a number, a string or a name")?)
+            Form::Number(source.number(next, "a number, a string or a name")?)
         };
         Ok(Value { at, form })
     }
 
     /// The flaw of a value that may not stand here.
     pub(crate) fn misplaced(&self, expected: &'static str) -> Stop
-        ensures { StopsInside result }
+        ensures { StopsAnywhere result }
     {
         Stop::at(self.at, Flaw::Syntax(expected))
     }
@@ -51,8 +53,9 @@ impl<'a> Value<'a> {
         matches!(&self.form, Form::Number(_))
     }
 
-    fn number(&self) -> Result<&Number, Stop>
-        ensures { IfErr result StopsInside }
+    pub(crate) fn number(&self) -> Result<&Number, Stop>
+        ensures fault { IfErr result StopsAnywhere }
+        ensures number { IfOk result (λ n. self.now.form ≡ Form.Number n.now) }
     {
         match &self.form {
             Form::Number(number) => Ok(number),
@@ -62,27 +65,27 @@ impl<'a> Value<'a> {
 
     /// A number that is not below 0.
     pub(crate) fn natural(&self) -> Result<u64, Stop>
-        ensures { IfErr result StopsInside }
+        ensures { IfErr result StopsAnywhere }
     {
         natural(self.at, self.number()?)
     }
 
     /// Judges whether this is a number from -2^63 to 2^63 - 1.
     pub(crate) fn judge_whole(&self) -> Result<(), Stop>
-        ensures { IfErr result StopsInside }
+        ensures { IfErr result StopsAnywhere }
     {
         judge_whole(self.at, self.number()?)
     }
 
     /// An alignment in bits.
     pub(crate) fn align(&self) -> Result<u64, Stop>
-        ensures { IfErr result StopsInside }
+        ensures { IfErr result StopsAnywhere }
     {
         align(self.at, self.number()?)
     }
 
     pub(crate) fn text(&self) -> Result<&'a str, Stop>
-        ensures { IfErr result StopsInside }
+        ensures { IfErr result StopsAnywhere }
     {
         match &self.form {
             Form::Text(text) => Ok(*text),
@@ -92,7 +95,7 @@ impl<'a> Value<'a> {
 
     /// Judges whether this is a string that an identifier of a trace or a clock parses from.
     pub(crate) fn judge_uuid(&self) -> Result<(), Stop>
-        ensures { IfErr result StopsInside }
+        ensures { IfErr result StopsAnywhere }
     {
         match Uuid::parse_str(self.text()?) {
             Ok(_) => Ok(()),
@@ -102,7 +105,7 @@ impl<'a> Value<'a> {
 
     /// The name of a clock or an event: an identifier or a string.
     pub(crate) fn label(&self) -> Result<&'a str, Stop>
-        ensures { IfErr result StopsInside }
+        ensures { IfErr result StopsAnywhere }
     {
         let label = match &self.form {
             Form::Text(text) => Some(*text),
@@ -114,7 +117,7 @@ impl<'a> Value<'a> {
 
     /// A flag, by one of its words or as 1 or 0.
     pub(crate) fn flag(&self) -> Result<bool, Stop>
-        ensures { IfErr result StopsInside }
+        ensures { IfErr result StopsAnywhere }
     {
         let flag = match &self.form {
             Form::Number(number) => match natural(self.at, number)? {
@@ -122,9 +125,9 @@ impl<'a> Value<'a> {
                 0 => Some(false),
                 _ => None,
             },
-            Form::Name(name) => match name.words() {
-                ["true" | "TRUE"] => Some(true),
-                ["false" | "FALSE"] => Some(false),
+            Form::Name(name) => match name.only() {
+                Some("true" | "TRUE") => Some(true),
+                Some("false" | "FALSE") => Some(false),
                 _ => None,
             },
             Form::Text(_) => None,
@@ -133,7 +136,8 @@ impl<'a> Value<'a> {
     }
 
     pub(crate) fn name(&self) -> Result<&Name<'a>, Stop>
-        ensures { IfErr result StopsInside }
+        ensures fault { IfErr result StopsAnywhere }
+        ensures stands { (text : List Atom) → IsValueAt text self.now → IfOk result (λ n. IsNameAt text self.now.at n.now) }
     {
         match &self.form {
             Form::Name(name) => Ok(name),
@@ -142,30 +146,35 @@ impl<'a> Value<'a> {
     }
 
     /// Judges whether this is one of these words. Another name is not supported.
-    pub(crate) fn judge_word(&self, alloc: Global, words: &[&str]) -> Result<(), Stop>
-        ensures { IfErr result StopsInside }
+    pub(crate) fn judge_word(&self, source: &Source, words: &[&str]) -> Result<(), Stop>
+        requires { IsValueAt source.now.atoms.now self.now }
+        ensures { IfErr result (StopsIn source.now.atoms.now) }
     {
-        self.judge_among(alloc, words, Remedy::Nothing)
+        self.judge_among(source, words, Remedy::Nothing)
     }
 
     /// Judges whether this is one of these words for a byte order. Another byte order is converted.
-    pub(crate) fn judge_order(&self, alloc: Global, words: &[&str]) -> Result<(), Stop>
-        ensures { IfErr result StopsInside }
+    #[tactic(auto, using(crate::proofs::Stops::anywhere))]
+    pub(crate) fn judge_order(&self, source: &Source, words: &[&str]) -> Result<(), Stop>
+        requires { IsValueAt source.now.atoms.now self.now }
+        ensures { IfErr result (StopsIn source.now.atoms.now) }
     {
-        let remedy = match self.name()?.words() {
-            ["be" | "le" | "network"] => Remedy::Conversion,
+        let remedy = match self.name()?.only() {
+            Some("be" | "le" | "network") => Remedy::Conversion,
             _ => Remedy::Nothing,
         };
-        self.judge_among(alloc, words, remedy)
+        self.judge_among(source, words, remedy)
     }
 
-    fn judge_among(&self, alloc: Global, words: &[&str], remedy: Remedy) -> Result<(), Stop>
-        ensures { IfErr result StopsInside }
+    #[tactic(auto, using(crate::proofs::Stops::anywhere))]
+    fn judge_among(&self, source: &Source, words: &[&str], remedy: Remedy) -> Result<(), Stop>
+        requires { IsValueAt source.now.atoms.now self.now }
+        ensures { IfErr result (StopsIn source.now.atoms.now) }
     {
         let name = self.name()?;
         match name.only() {
             Some(word) if words.iter().any(|w| *w == word) => Ok(()),
-            _ => Err(name.unsupported(alloc, remedy)),
+            _ => Err(name.unsupported(source.alloc, remedy)),
         }
     }
 }

@@ -12,6 +12,7 @@ use Rattle.tsdl_grammar.specs.Tokens.{HasMagicLine, Tokenizes, StopsAt}
 use Rattle.tsdl_grammar.specs.Atoms.{atoms_of}
 use Rattle.tsdl_grammar.specs.Spelling.{text_toks}
 use Rattle.tsdl_grammar.specs.Denotes.{is_read, text_meta, Denotes}
+use Rattle.tsdl_fault.specs.Faults.{FaultStands}
 
 -- the atoms of a text mean the metadata: the part of `Denotes` behind the tokens
 abbrev pub Means : List Atom → Metadata → Type 0
@@ -38,23 +39,28 @@ abbrev pub start_of : Option Token → ℕ → ℕ
 start_of (Some token) end = token.span.start
 start_of None end = end
 
--- the text has tokens, and the place is where one of them begins or the end of the text; the text denotes nothing
-pub record IsRefused (text : List ℕ) (at : ℕ) : Type 0 where
+-- a fault is where a token begins or at the end of the text, and such a fault stands there among the atoms
+abbrev pub IsPlaced : List Token → List Atom → ℕ → MetaFault → Type 0
+IsPlaced tokens meant end fault = (index : ℕ) × (fault.place ≡ start_of (slice_get tokens index) end) × FaultStands meant index fault.kind
+
+-- the text has tokens, and the place is where one of them begins or the end of the text, where a fault of this kind stands; the text denotes nothing
+pub record IsRefused (text : List ℕ) (at : ℕ) (kind : MetaFaultKind) : Type 0 where
   pub magic : HasMagicLine text
   pub tokens : List Token
   pub split : Tokenizes text tokens
   pub index : ℕ
   pub place : at ≡ start_of (slice_get tokens index) (length text)
+  pub fault : FaultStands (atoms_of text tokens) index kind
   pub nothing : (m : Metadata) → Denotes text m → ⊥
 
 -- what a fault says of the text, by its kind and place: the sizes of a stream's packets are missed where the text ends
 abbrev pub FaultHolds : List ℕ → MetaFaultKind → ℕ → Type 0
 FaultHolds text faults.NoMagicLine at = (at ≡ 0) × (HasMagicLine text → ⊥)
 FaultHolds text faults.Token at = HasMagicLine text × StopsAt text at
-FaultHolds text faults.Syntax at = IsRefused text at
-FaultHolds text (faults.Unsupported name) at = IsRefused text at
-FaultHolds text faults.Duplicate at = IsRefused text at
-FaultHolds text faults.NoPacketSize at = IsRefused text at × (at ≡ length text)
-FaultHolds text faults.BadLength at = IsRefused text at
-FaultHolds text faults.Limit at = IsRefused text at
+FaultHolds text faults.Syntax at = IsRefused text at faults.Syntax
+FaultHolds text (faults.Unsupported name) at = IsRefused text at (faults.Unsupported name)
+FaultHolds text faults.Duplicate at = IsRefused text at faults.Duplicate
+FaultHolds text faults.NoPacketSize at = IsRefused text at faults.NoPacketSize × (at ≡ length text)
+FaultHolds text faults.BadLength at = IsRefused text at faults.BadLength
+FaultHolds text faults.Limit at = IsRefused text at faults.Limit
 FaultHolds text faults.OutOfMemory at = Unit {0}

@@ -1,12 +1,11 @@
 //! Reads a metadata text.
 
-ghost use Rattle.std.specs.Prelude.{◌≡◌, ℕ, ◌≤◌, length, slice_get, IfOk, IfErr, IfSome, IfNone};
+ghost use Rattle.std.specs.Prelude.{◌≡◌, ℕ, slice_get, IfOk, IfErr, IfSome, IfNone};
 ghost use Rattle.ctf_types.specs.declared.Metadata.{Metadata};
 ghost use Rattle.ctf_types.specs.Allowed.{IsMetadata};
 ghost use Rattle.tsdl_grammar.specs.Tokens.{HasMagicLine, StopsAt};
 ghost use Rattle.tsdl_grammar.specs.Denotes.{Denotes};
-ghost use Rattle.tsdl_fault.specs.Faults.{IsOfAtoms, LacksSizesAt};
-ghost use Rattle.tsdl_reader.specs.Reading.{Means, GivesMetadata, GivesKind, HasAtoms, FaultHolds, start_of};
+ghost use Rattle.tsdl_reader.specs.Reading.{Means, GivesMetadata, GivesKind, HasAtoms, IsPlaced, FaultHolds, start_of};
 
 use ctf_types::Metadata;
 use std::alloc::{AllocError, Global};
@@ -22,6 +21,8 @@ use tsdl_parser::{are_read, blocks_are_unique, parse};
 /// Where the text denotes none, the fault is the first one, at its byte: `NoMagicLine` at 0 where the text doesn't
 /// begin with its magic line, `Token` at the first byte at which no token starts, and else the first fault of its
 /// grammar or its meaning, at the token where it stands or at the end of the text, `NoPacketSize` only there.
+/// `Unsupported` names what is spelled at its place, or the version's part whose number is there; `BadLength` is at a
+/// word behind a bracket.
 pub fn read_metadata(alloc: Global, text: &[u8]) -> Result<Metadata, MetaFault>
     ensures found { IfOk result (λ m. Denotes text.now m × IsMetadata m) }
     ensures only { (m : Metadata) → Denotes text.now m → GivesMetadata result m }
@@ -77,9 +78,7 @@ fn refusal(
     tokens: &[Token],
     atoms: &[Atom],
 ) -> Result<MetaFault, AllocError>
-    ensures place { IfOk result (λ f. (index : ℕ) × (f.place ≡ start_of (slice_get tokens.now index) end)) }
-    ensures kind { IfOk result (λ f. IsOfAtoms f.kind) }
-    ensures sizes { length atoms.now ≡ length tokens.now → IfOk result (λ f. LacksSizesAt end f.place f.kind) }
+    ensures { IfOk result (IsPlaced tokens.now atoms.now end) }
 {
     let (index, kind) = first_fault(alloc, atoms)?;
     Ok(MetaFault {

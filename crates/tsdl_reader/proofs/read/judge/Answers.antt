@@ -1,4 +1,4 @@
-use Rattle.tsdl_reader.proofs.Reading.{denotes, means, one_metadata, refused, holds, as_many}
+use Rattle.tsdl_reader.proofs.Reading.{denotes, means, one_metadata, refused, holds}
 use Rattle.tsdl_reader.proofs.read.judge.Goals as goal
 
 pub returns-in-Some-clause-found : goal.returns-in-Some-clause-found
@@ -15,6 +15,5 @@ returns-in_ok-refusal-in-None-clause-only c = λ m d. absurd ((rw c.in-None.is a
 pub returns-in_ok-refusal-in-None-clause-fault : goal.returns-in_ok-refusal-in-None-clause-fault
 returns-in_ok-refusal-in-None-clause-fault c =
     let f = c.in_ok-refusal-in-None.field-0 in
-    holds c.args.text.now f.place f.kind c.in_ok-refusal-in-None.ensures.kind
-    (c.in_ok-refusal-in-None.ensures.sizes (as_many c.args.text.now c.args.tokens.now c.args.atoms.now c.requires))
-    (refused c.tokens_are_unique.ensures c.args.text.now c.args.tokens.now c.args.atoms.now f.place c.requires (rw c.in-None.is at c.in_ok-metadata.ensures.none) c.in_ok-refusal-in-None.ensures.place)
+    holds c.args.text.now f.place f.kind
+    (refused c.tokens_are_unique.ensures c.args.text.now c.args.tokens.now c.args.atoms.now f c.requires (rw c.in-None.is at c.in_ok-metadata.ensures.none) c.in_ok-refusal-in-None.ensures)
