@@ -5,7 +5,7 @@ ghost use Rattle.std.specs.List.{All};
 ghost use Rattle.ctf_types.specs.AllowedConfig.{IsConfig};
 
 use crate::fault::BenchFault;
-use crate::made::{args, quota_of, seat_of, workers};
+use crate::made::{args, quota_of, seat_at, workers};
 use crate::plan::{Kind, Plan};
 use crate::tally::accepted_of;
 use conf_check::configure;
@@ -106,7 +106,7 @@ fn add_stream(alloc: Global, session: &mut Listed, plan: Plan) -> Result<(), Ben
 {
     let quota = quota_of(plan);
     let mut clock = TickClock::new(alloc, 0, quota)?;
-    let seat = seat_of(alloc, &mut clock, plan.kind, quota)?;
+    let seat = seat_at(alloc, &mut clock, quota)?;
     let back_end = ListBackEnd::new(alloc, 4, 4096)?;
     let sink = MemorySink::new(alloc);
     match session.add_stream("s", "s", seat, back_end, sink, Values::new(alloc)) {

@@ -6,7 +6,7 @@ use thiserror::Error;
 /// Why nothing was measured.
 #[derive(Clone, Copy, Debug, PartialEq, Eq, Error)]
 pub enum BenchFault {
-    #[error("wanted: THREADS (0 to 64) CALLS (0 to 1000000) own|shared|made")]
+    #[error("wanted: THREADS (0 to 64) CALLS (0 to 1000000) shared|made")]
     Words,
     #[error("the configuration was refused")]
     Configuration,

@@ -2,11 +2,12 @@
 
 ghost use Rattle.std.specs.Prelude.{◌≡◌, ◌≤◌, IfOk};
 ghost use Rattle.std.specs.List.{All};
-ghost use Rattle.trace_stack.specs.Workers.{IsWorker};
+ghost use Rattle.trace_clock.specs.Seats.{clock_of, rest};
+ghost use Rattle.trace_stack.specs.Workers.{IsWorker, OfOneClock};
 ghost use Rattle.trace_stack.specs.Working.{IsOfStream};
 
 use crate::fault::BenchFault;
-use crate::plan::{Kind, Plan};
+use crate::plan::Plan;
 use ctf_types::{Args, Text, Value, Values};
 use packet_ring::ring;
 use std::alloc::{AllocError, Global};
@@ -22,13 +23,14 @@ const PACKET_BYTES: usize = 4096;
 /// The workers of a plan.
 pub fn workers(alloc: Global, plan: Plan) -> Result<Vec<Worker<MemorySink>>, BenchFault>
     requires { (plan.threads ≤ 64) × (plan.calls ≤ 1000000) }
-    ensures { IfOk result (λ workers. All IsWorker workers.items) }
+    ensures workers { IfOk result (λ workers. All IsWorker workers.items) }
+    ensures clock { IfOk result (λ workers. OfOneClock workers.items) }
 {
     let quota = quota_of(plan);
     let mut clock = TickClock::new(alloc, 0, 64 * quota)?;
     let mut workers = Vec::new(alloc);
     for _ in 0..plan.threads {
-        let seat = seat_of(alloc, &mut clock, plan.kind, quota)?;
+        let seat = seat_at(alloc, &mut clock, quota)?;
         let worker = worker(alloc, seat, plan.calls)?;
         if workers.push(worker).is_err() {
             return Err(BenchFault::OutOfMemory);
@@ -45,27 +47,17 @@ pub fn quota_of(plan: Plan) -> u64
     3 * plan.calls as u64 + 8
 }
 
-/// A seat at the one clock, or at one of its own.
-pub fn seat_of(
-    alloc: Global,
-    clock: &mut TickClock,
-    kind: Kind,
-    quota: u64,
-) -> Result<TickSeat, BenchFault>
-    requires { quota ≤ 3000008 }
+/// A seat at the clock.
+pub fn seat_at(alloc: Global, clock: &mut TickClock, quota: u64) -> Result<TickSeat, BenchFault>
+    ensures seat { IfOk result (λ s. clock_of s ≡ clock_of (rest clock.old)) }
+    ensures same { clock_of (rest clock.new) ≡ clock_of (rest clock.old) }
 {
-    match kind {
-        Kind::Own => seat_at(alloc, &mut TickClock::new(alloc, 0, quota)?, quota),
-        Kind::Shared | Kind::Made => seat_at(alloc, clock, quota),
-    }
-}
-
-fn seat_at(alloc: Global, clock: &mut TickClock, quota: u64) -> Result<TickSeat, BenchFault> {
     clock.seat(alloc, quota).map_err(|_fault| BenchFault::Clock)
 }
 
 fn worker(alloc: Global, seat: TickSeat, calls: usize) -> Result<Worker<MemorySink>, BenchFault>
-    ensures { IfOk result (λ worker. IsWorker worker) }
+    ensures worker { IfOk result (λ worker. IsWorker worker) }
+    ensures clock { IfOk result (λ worker. clock_of worker.seat ≡ clock_of seat) }
 {
     let (back_end, ring_end) = ring(alloc, PLACES, PACKET_BYTES)?;
     let type_name = Text::from_str(alloc, "s")?;

@@ -12,12 +12,10 @@ pub struct Plan {
     pub kind: Kind,
 }
 
-/// What the threads share, or that nothing is run.
+/// Whether anything is run.
 #[derive(Clone, Copy, Debug, PartialEq, Eq)]
 pub enum Kind {
-    /// Each stream has a clock of its own.
-    Own,
-    /// All streams have one clock.
+    /// All streams trace, by one clock.
     Shared,
     /// The calls are made ready and not run.
     Made,
@@ -42,7 +40,6 @@ pub fn plan_of(words: &[String]) -> Option<Plan>
 
 fn kind_of(word: &str) -> Option<Kind> {
     match word {
-        "own" => Some(Kind::Own),
         "shared" => Some(Kind::Shared),
         "made" => Some(Kind::Made),
         _ => None,

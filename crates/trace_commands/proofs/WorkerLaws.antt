@@ -23,9 +23,10 @@ use Rattle.trace_stack.specs.declared.event.Event.{Event}
 use Rattle.trace_stack.specs.declared.names.NameFault.TheVariants.{BadName, SameName, TooMany}
 use Rattle.trace_stack.specs.declared.worker.Worker.{Worker}
 use Rattle.trace_stack.specs.StreamNames.{name_fault, is_stream_name, is_taken}
-use Rattle.trace_stack.specs.Workers.{IsWorker, first_fault}
+use Rattle.trace_stack.specs.Workers.{IsWorker, OfOneClock, first_fault}
 use Rattle.trace_stack.specs.Working.{IsOfStream}
 use Rattle.trace_stack.proofs.Fronts.{take-more}
+use Rattle.trace_stack.proofs.OneClock.{IsAt, at_one_clock}
 use Rattle.trace_text.specs.declared.script.Script.{Script}
 use Rattle.trace_text.specs.declared.script.ScriptStream.{ScriptStream}
 use Rattle.trace_text.specs.Names.{first_refused}
@@ -158,6 +159,18 @@ module _ {File : Type 0} where
   can_work clock q z es n (s ∷ ss) [] h = absurd h
   can_work clock q z es n (s ∷ ss) (w ∷ ws) h =
       All-cons IsWorker w ws (h.1.unused, subst (All IsOfStream) (sym h.1.acts) (acts_alone n es)) (can_work clock q z es (suc n) ss ws h.2)
+
+  at_clock : (clock : TickSeat) (q : ℕ) (z : Sizes) (es : List Event) (n : ℕ) (ss : List ScriptStream) (ws : List (Worker (WriterSink File)))
+      → AreWorkers clock q z es n ss ws → All (λ (w : Worker (WriterSink File)). IsAt clock w.seat) ws
+  at_clock clock q z es n [] [] h = All-nil (λ (w : Worker (WriterSink File)). IsAt clock w.seat)
+  at_clock clock q z es n [] (w ∷ ws) h = absurd h
+  at_clock clock q z es n (s ∷ ss) [] h = absurd h
+  at_clock clock q z es n (s ∷ ss) (w ∷ ws) h = All-cons (λ (k : Worker (WriterSink File)). IsAt clock k.seat) w ws h.0.0.0 (at_clock clock q z es (suc n) ss ws h.2)
+
+  -- and their seats are of one clock
+  pub of_one_clock : (clock : TickSeat) (q : ℕ) (z : Sizes) (es : List Event) (n : ℕ) (ss : List ScriptStream) (ws : List (Worker (WriterSink File)))
+      → AreWorkers clock q z es n ss ws → OfOneClock ws
+  of_one_clock clock q z es n ss ws h = at_one_clock clock ws (at_clock clock q z es n ss ws h)
 
   -- ---- refusals
 

@@ -1,12 +1,11 @@
-//! Two streams over rings at one clock, each in a thread of its own, of which the second is told what the first traced.
+//! Two streams over rings at one clock, of which the second is told what the first traced: in one thread, and in two.
 
 ghost use Rattle.std.specs.Prelude.{◌≡◌, IfSome};
 ghost use Rattle.ctf_types.specs.AllowedConfig.{IsConfig};
 ghost use Rattle.thread_stream.specs.Telling.{HasHistory};
 ghost use Rattle.trace_clock.specs.Seats.{clock_of};
 
-use crate::tests::small::{CLOCKED, Datum, changed, payload};
-use conf_check::configure;
+use crate::tests::small::{CLOCKED, Datum, changed, config_of, payload};
 use ctf_types::{Args, Config, Values};
 use packet_collector::collect_into;
 use packet_ring::{RingBackEnd, RingEnd, ring};
@@ -29,10 +28,7 @@ fn clocked(alloc: Global) -> Option<Config>
     ensures { IfSome result (λ c. IsConfig c) }
 {
     let text = changed(alloc, CLOCKED, &[]).ok()?;
-    match configure(alloc, text.as_bytes(), None) {
-        Ok(config) => Some(config),
-        Err(_) => None,
-    }
+    config_of(alloc, text.as_str())
 }
 
 fn begun<B: BackEnd + Drop>(
@@ -83,6 +79,98 @@ fn read_back(alloc: Global, first: Vec<u8>, second: Vec<u8>) -> Result<ReadTrace
     files.push((String::from_str(alloc, "t0")?, first))?;
     files.push((String::from_str(alloc, "t1")?, second))?;
     Ok(read_trace(alloc, metadata.as_bytes(), &files)?)
+}
+
+/// Two streams at one clock, and the other ends of their rings.
+#[derive(Drop)]
+struct Two {
+    first: Seated,
+    first_end: RingEnd,
+    second: Seated,
+    second_end: RingEnd,
+}
+
+/// Two seats of one clock, of three readings each.
+fn seats(alloc: Global) -> Option<(TickSeat, TickSeat)>
+    ensures { IfSome result (λ p. clock_of p.0 ≡ clock_of p.1) }
+{
+    let mut clock = TickClock::new(alloc, 0, 6).ok()?;
+    let first = clock.seat(alloc, 3).ok()?;
+    let second = clock.seat(alloc, 3).ok()?;
+    Some((first, second))
+}
+
+fn both(alloc: Global) -> Option<Two>
+    ensures history { IfSome result (λ t. HasHistory ⟦<RingBackEnd as BackEnd>⟧ t.first) }
+    ensures clock { IfSome result (λ t. clock_of t.first.clock ≡ clock_of t.second.clock) }
+{
+    let (first_seat, second_seat) = seats(alloc)?;
+    let (first_back_end, first_end) = ring(alloc, 1, 64).ok()?;
+    let (second_back_end, second_end) = ring(alloc, 1, 64).ok()?;
+    let first = begun(alloc, first_seat, first_back_end)?;
+    let second = begun(alloc, second_seat, second_back_end)?;
+    Some(Two {
+        first,
+        first_end,
+        second,
+        second_end,
+    })
+}
+
+/// The first traces 5 and tells, the second traces 6 after that, and then the first traces 7: what each was answered.
+fn in_turn(alloc: Global, first: &mut Seated, second: &mut Seated) -> Option<[Verdict; 3]>
+    requires history { HasHistory ⟦<RingBackEnd as BackEnd>⟧ first.old }
+    requires clock { clock_of first.old.clock ≡ clock_of second.old.clock }
+{
+    let five = number(alloc, 5)?;
+    let six = number(alloc, 6)?;
+    let seven = number(alloc, 7)?;
+    let before = traced(first, &five);
+    let told = first.tell(alloc).ok()?;
+    let after = second.trace_after(told, 0, &six);
+    let last = first.trace(0, &seven);
+    Some([before, after, last])
+}
+
+/// What both are answered, and the bytes of both.
+fn in_one_thread(alloc: Global) -> Option<([Verdict; 3], Vec<u8>, Vec<u8>)> {
+    let Two {
+        mut first,
+        first_end,
+        mut second,
+        second_end,
+    } = both(alloc)?;
+    let answers = in_turn(alloc, &mut first, &mut second)?;
+    let first_bytes = collected(alloc, first, first_end);
+    let second_bytes = collected(alloc, second, second_end);
+    Some((answers, first_bytes, second_bytes))
+}
+
+const ANSWERS: [Verdict; 3] = [
+    Verdict::Accepted(Some(0)),
+    Verdict::Accepted(Some(1)),
+    Verdict::Accepted(Some(2)),
+];
+
+/// A stream, a reading, and the index of its record in the order.
+static PLACES: &[(usize, u64, Option<usize>)] = &[
+    (0, 0, Some(0)),
+    (1, 1, Some(1)),
+    (0, 2, Some(2)),
+    (1, 2, None),
+];
+
+#[test]
+fn stands_between_what_was_told_and_what_came_after(rt: HostRuntime) -> Result<(), Fail> {
+    let alloc = rt.alloc();
+    let (answers, first, second) = in_one_thread(alloc).ok_or("a stream failed")?;
+    assert_eq!(rt; answers, ANSWERS);
+    let trace = read_back(alloc, first, second)?;
+    assert_eq!(rt; trace.order.len(), 3);
+    for (stream, value, want) in PLACES {
+        assert_eq!(rt; position(&trace, *stream, *value), *want);
+    }
+    Ok(())
 }
 
 /// Traces, tells through the channel, and traces again.

@@ -2,6 +2,7 @@
 
 ghost use Rattle.std.specs.Prelude.{◌≡◌, IfOk};
 ghost use Rattle.std.specs.List.{All};
+ghost use Rattle.trace_clock.specs.Seats.{clock_of};
 ghost use Rattle.trace_stack.specs.Workers.{IsWorker};
 ghost use Rattle.trace_stack.specs.Working.{IsOfStream};
 
@@ -32,7 +33,8 @@ pub fn worker<W: Drop>(
     task: &Task,
     sink: W,
 ) -> Result<Worker<W>, Fail>
-    ensures { IfOk result (λ w. IsWorker w) }
+    ensures worker { IfOk result (λ w. IsWorker w) }
+    ensures clock { IfOk result (λ w. clock_of w.seat ≡ clock_of seat) }
 {
     let bytes = task.bytes;
     if bytes == 0 || bytes > 1 << 20 {

@@ -2,7 +2,8 @@
 
 ghost use Rattle.std.specs.Prelude.{◌≡◌, IfOk};
 ghost use Rattle.std.specs.List.{All};
-ghost use Rattle.trace_stack.specs.Workers.{IsWorker};
+ghost use Rattle.trace_clock.specs.Seats.{clock_of};
+ghost use Rattle.trace_stack.specs.Workers.{IsWorker, OfOneClock};
 
 use crate::tests::shown_trace::shown;
 use crate::tests::small::{CLOCKED, SMALL, bytes_of, changed, configured};
@@ -45,13 +46,29 @@ const READINGS: &[u64] = &[0, 1, 2, 3, 4, 5];
 
 /// Two workers whose seats at one clock have three readings each.
 fn two_workers(alloc: Global, first: &Task, second: &Task) -> Result<Vec<Worker<MemorySink>>, Fail>
-    ensures { IfOk result (λ ws. All IsWorker ws.items) }
+    ensures workers { IfOk result (λ ws. All IsWorker ws.items) }
+    ensures clock { IfOk result (λ ws. OfOneClock ws.items) }
 {
     let mut clock = TickClock::new(alloc, 0, 6)?;
     let first_seat = clock.seat(alloc, 3)?;
     let second_seat = clock.seat(alloc, 3)?;
     let first = worker(alloc, first_seat, first, MemorySink::new(alloc))?;
     let second = worker(alloc, second_seat, second, MemorySink::new(alloc))?;
+    in_one_list(alloc, first, second)
+}
+
+/// Two workers at one clock.
+#[tactic(auto, using(trace_stack::proofs::OneClock::two_at_one_clock))]
+fn in_one_list(
+    alloc: Global,
+    first: Worker<MemorySink>,
+    second: Worker<MemorySink>,
+) -> Result<Vec<Worker<MemorySink>>, Fail>
+    requires workers { IsWorker first × IsWorker second }
+    requires clock { clock_of second.seat ≡ clock_of first.seat }
+    ensures workers { IfOk result (λ ws. All IsWorker ws.items) }
+    ensures clock { IfOk result (λ ws. OfOneClock ws.items) }
+{
     Ok(vec![in alloc; first, second]?)
 }
 
@@ -63,7 +80,8 @@ fn run<R: Threads + Wait, W: Sink + Drop, G: Gate + Sync>(
     workers: Vec<Worker<W>>,
     gate: &G,
 ) -> Result<Result<ThreadsRun<W>, NotRun<W>>, Fail>
-    requires { All IsWorker workers.items }
+    requires workers { All IsWorker workers.items }
+    requires clock { OfOneClock workers.items }
 {
     let text = changed(alloc, text, &[])?;
     let config = configured(alloc, text.as_str(), None)?;
@@ -195,7 +213,8 @@ fn flagging<'f>(
     seat: TickSeat,
     flag: &'f Flag,
 ) -> Result<Vec<Worker<FlaggingSink<'f>>>, Fail>
-    ensures { IfOk result (λ ws. All IsWorker ws.items) }
+    ensures workers { IfOk result (λ ws. All IsWorker ws.items) }
+    ensures clock { IfOk result (λ ws. OfOneClock ws.items) }
 {
     let sink = FlaggingSink {
         sink: MemorySink::new(alloc),
