@@ -38,5 +38,4 @@ mod telling;
 mod thread_gates;
 mod thread_steps;
 mod threads;
-mod traces_from_readers;
 mod whole_traces;

@@ -16,37 +16,12 @@ const CUT: &str = "c11ffcc1 80000000 70000000 01020000 c11ffcc1";
 
 /// A reader of these bytes that gives so many by one read. It ends, or fails, once it has given `room` of them.
 #[derive(Drop)]
-pub struct Pieces {
+struct Pieces {
     bytes: Vec<u8>,
     given: usize,
     piece: usize,
     room: usize,
     fails: bool,
-}
-
-impl Pieces {
-    /// A reader that gives all of these bytes.
-    pub fn of(bytes: Vec<u8>, piece: usize) -> Pieces {
-        let room = bytes.len();
-        Pieces {
-            bytes,
-            given: 0,
-            piece,
-            room,
-            fails: false,
-        }
-    }
-
-    /// One that fails once it has given `room` of them.
-    pub fn failing(bytes: Vec<u8>, piece: usize, room: usize) -> Pieces {
-        Pieces {
-            bytes,
-            given: 0,
-            piece,
-            room,
-            fails: true,
-        }
-    }
 }
 
 impl Read for Pieces {

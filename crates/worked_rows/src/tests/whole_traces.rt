@@ -8,7 +8,7 @@ use trace_stack::{ReadTrace, TraceFault, read_trace};
 use tsdl_writer::write_metadata;
 
 /// `SMALL` or `CLOCKED`, the stream files of a trace, a line each with a file's name and its bytes in hexadecimal, and what is read of them.
-pub static TRACES: &[(&str, &str, &str)] = &[
+static TRACES: &[(&str, &str, &str)] = &[
     (
         SMALL,
         r#"
@@ -65,7 +65,7 @@ pub fn read_files(alloc: Global, metadata: &str, files: &str) -> Result<ReadTrac
 }
 
 /// Texts that denote no metadata, and the fault in words.
-pub static REFUSED: &[(&str, &str)] = &[
+static REFUSED: &[(&str, &str)] = &[
     ("", "NoMagicLine"),
     (
         "/* CTF 1.8 */ trace{floating_point}",
