@@ -1,5 +1,6 @@
 /* Preloaded before a program: refuses its request for memory number REFUSE, counted from 1, and grants all others.
-   Where it refused one, it makes the file that REFUSED names. At the end it writes the number of requests into the file that COUNTED names. */
+   Where it refused one, it makes the file that REFUSED names. At the end it writes into the file that COUNTED names how many requests there were, and for how many
+   bytes in all. */
 #define _GNU_SOURCE
 #include <dlfcn.h>
 #include <errno.h>
@@ -11,6 +12,7 @@
 #include <unistd.h>
 
 static long requests;
+static long bytes;
 static long refused_request;
 static const char *refused_file;
 
@@ -20,6 +22,7 @@ __attribute__((constructor)) static void read_number(void)
     refused_request = number ? atol(number) : 0;
     refused_file = getenv("REFUSED");
     requests = 0;
+    bytes = 0;
 }
 
 __attribute__((destructor)) static void write_count(void)
@@ -27,14 +30,15 @@ __attribute__((destructor)) static void write_count(void)
     const char *counted_file = getenv("COUNTED");
     if (counted_file) {
         int file = open(counted_file, O_CREAT | O_WRONLY | O_TRUNC, 0600);
-        dprintf(file, "%ld\n", requests);
+        dprintf(file, "%ld %ld\n", requests, bytes);
         close(file);
     }
 }
 
 /* A program may ask for memory in several threads. */
-static int is_refused(void)
+static int is_refused(size_t size)
 {
+    __atomic_add_fetch(&bytes, (long)size, __ATOMIC_SEQ_CST);
     long request = __atomic_add_fetch(&requests, 1, __ATOMIC_SEQ_CST);
     if (refused_request == 0 || request != refused_request)
         return 0;
@@ -49,7 +53,7 @@ void *malloc(size_t size)
     static void *(*real)(size_t);
     if (!real)
         real = (void *(*)(size_t))dlsym(RTLD_NEXT, "malloc");
-    return is_refused() ? NULL : real(size);
+    return is_refused(size) ? NULL : real(size);
 }
 
 void *realloc(void *old, size_t size)
@@ -57,7 +61,7 @@ void *realloc(void *old, size_t size)
     static void *(*real)(void *, size_t);
     if (!real)
         real = (void *(*)(void *, size_t))dlsym(RTLD_NEXT, "realloc");
-    return is_refused() ? NULL : real(old, size);
+    return is_refused(size) ? NULL : real(old, size);
 }
 
 void *aligned_alloc(size_t alignment, size_t size)
@@ -65,7 +69,7 @@ void *aligned_alloc(size_t alignment, size_t size)
     static void *(*real)(size_t, size_t);
     if (!real)
         real = (void *(*)(size_t, size_t))dlsym(RTLD_NEXT, "aligned_alloc");
-    return is_refused() ? NULL : real(alignment, size);
+    return is_refused(size) ? NULL : real(alignment, size);
 }
 
 /* A program that may start threads ends by this, without its destructors. */
