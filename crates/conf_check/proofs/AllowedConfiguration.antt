@@ -10,7 +10,7 @@ use Rattle.conf_tree.specs.Flaw.{Flaw, key}
 use Rattle.conf_objects.specs.declared.draft.Draft.{Draft}
 use Rattle.conf_objects.specs.declared.limits.Part.TheVariants as part
 use Rattle.conf_check.specs.declared.stream_rule.StreamRule.{StreamRule}
-use Rattle.conf_check.specs.declared.stream_rule.StreamRule.TheVariants.{NumbersFit, RecordsHaveBits, ClocksAreThere, TimestampsAreWide}
+use Rattle.conf_check.specs.declared.stream_rule.StreamRule.TheVariants.{NumbersFit, RecordsHaveBits, ClocksAreThere, TimestampsAreSized}
 use Rattle.conf_check.specs.Judgement.{stream_number_fits, number_given, identifier_given, one_order, sizes_and_bits, clocks_and_identifier, limits_and_orders, whole, check_reading}
 use Rattle.conf_objects.specs.Limits.{limits}
 use Rattle.conf_fields.specs.Order.{Ascends}
@@ -39,7 +39,7 @@ record Passed (d : Data) (draft : Draft) : Type 0 where
   clocks : streams_judged ClocksAreThere draft.config ≡ Ok tt
   identifier : identifier_given draft.config ≡ Ok tt
   within : limits part.Root d ≡ Ok tt
-  wide : streams_judged TimestampsAreWide draft.config ≡ Ok tt
+  sizes : streams_judged TimestampsAreSized draft.config ≡ Ok tt
 
 passed : (d : Data) (draft : Draft) → whole d draft ≡ Ok tt → Passed d draft
 unfolding whole sizes_and_bits clocks_and_identifier limits_and_orders
@@ -52,7 +52,7 @@ passed d draft e =
     let n = both_read (number_given draft) _ tt c.2 in
     let l = both_read (limits part.Root d) _ tt second.2 in
     let o = both_read (one_order draft) _ tt l.2 in
-    record { stream_number = a.1; numbers = b.1; bits = b.2; clocks = c.1; identifier = n.2; within = l.1; wide = o.2 }
+    record { stream_number = a.1; numbers = b.1; bits = b.2; clocks = c.1; identifier = n.2; within = l.1; sizes = o.2 }
 
 number_holds : (c : Config) → stream_number_fits c ≡ Ok tt → HoldsUpTo (length c.streams - 1) c.header.stream_id
 unfolding stream_number_fits
@@ -78,7 +78,7 @@ draft_allowed d draft good rules =
       uuid_is_there = identifier_there c rules.identifier;
       stream_id = good.header.stream_id;
       stream_id_holds = number_holds c rules.stream_number;
-      streams = streams_are c.clocks c.streams (recursion_from_All IsGoodStream c.streams good.streams.each) (judged_streams NumbersFit c rules.numbers) (judged_streams RecordsHaveBits c rules.bits) (judged_streams ClocksAreThere c rules.clocks) (judged_streams TimestampsAreWide c rules.wide);
+      streams = streams_are c.clocks c.streams (recursion_from_All IsGoodStream c.streams good.streams.each) (judged_streams NumbersFit c rules.numbers) (judged_streams RecordsHaveBits c rules.bits) (judged_streams ClocksAreThere c rules.clocks) (judged_streams TimestampsAreSized c rules.sizes);
       streams_in_order = good.streams.in_order;
       streams_few = good.streams.few;
     }

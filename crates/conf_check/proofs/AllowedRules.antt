@@ -1,11 +1,11 @@
 -- What the rules over the whole of a configuration say of its data stream types.
-use Rattle.std.proofs.Common.{◌≡◌, ℕ, suc, ◌-◌, ◌<◌, ◌^◌, ◌&&◌, ◌||◌, ◌⊎◌, inl, inr, Bool, true, false, List, [], ◌∷◌, length, map, All, Contains, IsSome, Option, Some, None, is_some, Result, Ok, refl, subst, arith, bytes_eq}
-use Rattle.std.specs.Prelude.{codes, nat_lt}
+use Rattle.std.proofs.Common.{◌≡◌, ℕ, suc, ◌-◌, ◌<◌, ◌≤◌, ◌^◌, ◌&&◌, ◌||◌, ◌⊎◌, inl, inr, Bool, true, false, List, [], ◌∷◌, length, map, All, Contains, IsSome, Option, Some, None, is_some, Result, Ok, refl, subst, arith, bytes_eq}
+use Rattle.std.specs.Prelude.{codes, nat_le, nat_lt, ◌==◌}
 use Rattle.std.specs.List.{AllByRecursion, list_all, list_any}
-use Rattle.std.proofs.lemmas.Bool.{eqb-true, ltb-true}
+use Rattle.std.proofs.lemmas.Bool.{and_parts, eqb-true, leb-true, ltb-true}
 use Rattle.std.proofs.lemmas.List.Elements.{All-from_recursion, recursion_from_All}
 use Rattle.std.proofs.lemmas.Slice.Eq.{bytes_eq-Decides}
-use Rattle.ctf_types.specs.AllowedConfig.{HoldsUpTo, OnlyIf, IsTimestamp, MemberHasBits, StructHasBits, IsEventType, IsStreamType}
+use Rattle.ctf_types.specs.AllowedConfig.{HoldsUpTo, OnlyIf, IsTimestamp, IsRecordTimestamp, MemberHasBits, StructHasBits, IsEventType, IsStreamType}
 use Rattle.ctf_types.specs.FieldTypes.{chain_of}
 use Rattle.ctf_types.specs.declared.ClockType.{ClockType}
 use Rattle.ctf_types.specs.declared.EventType.{EventType}
@@ -18,8 +18,8 @@ use Rattle.conf_tree.specs.Flaw.{Flaw, key, here}
 use Rattle.conf_tree.specs.declared.fault_kind.FaultKind.TheVariants.{ZeroSizeRecord}
 use Rattle.conf_tree.specs.Reading.{at}
 use Rattle.conf_check.specs.declared.stream_rule.StreamRule.{StreamRule}
-use Rattle.conf_check.specs.declared.stream_rule.StreamRule.TheVariants.{NumbersFit, RecordsHaveBits, ClocksAreThere, TimestampsAreWide}
-use Rattle.conf_check.specs.StreamRules.{unless, holds, numbers_fit, member_has_bits, struct_has_bits, header_has_bits, event_has_bits, event_bits, events_bits, records_have_bits, has_clock, clock_is_there, is_clocked, timestamp_clocked, record_clocked, begin_clocked, end_clocked, timestamps_clocked, clocks_are_there, is_wide, timestamp_wide, record_is_wide, begin_is_wide, end_is_wide, timestamps_are_wide, judged, judged_by_name, all_judged}
+use Rattle.conf_check.specs.declared.stream_rule.StreamRule.TheVariants.{NumbersFit, RecordsHaveBits, ClocksAreThere, TimestampsAreSized}
+use Rattle.conf_check.specs.StreamRules.{unless, holds, numbers_fit, member_has_bits, struct_has_bits, header_has_bits, event_has_bits, event_bits, events_bits, records_have_bits, has_clock, clock_is_there, is_clocked, timestamp_clocked, record_clocked, begin_clocked, end_clocked, timestamps_clocked, clocks_are_there, is_whole, has_record_size, packet_sized, record_sized, begin_sized, end_sized, timestamps_sized, judged, judged_by_name, all_judged}
 use Rattle.conf_objects.proofs.AllowedEvents.{IsGoodEvent, AreGoodEvents}
 use Rattle.conf_objects.proofs.AllowedFeatures.{IsOfClock}
 use Rattle.conf_objects.proofs.AllowedStreams.{IsGoodStream}
@@ -136,21 +136,40 @@ default_named clocks (Some name) e c is = let same : name ≡ c = cc in subst (C
 
 -- ---- timestamps
 
-wide_is : (o : Option IntType) (t : IntType) → is_wide o ≡ true → o ≡ Some t → t.size ≡ 64
-unfolding is_wide
-wide_is None t e is = absurd cc
-wide_is (Some x) t e is = let same : x ≡ t = cc in subst (λ (y : IntType). y.size ≡ 64) same (eqb-true x.size 64 e)
+whole_is : (o : Option IntType) (t : IntType) → is_whole o ≡ true → o ≡ Some t → t.size ≡ 64
+unfolding is_whole
+whole_is None t e is = absurd cc
+whole_is (Some x) t e is = let same : x ≡ t = cc in subst (λ (y : IntType). y.size ≡ 64) same (eqb-true x.size 64 e)
+
+abbrev HasRecordSize : Option IntType → IntType → Type 0
+HasRecordSize begin t = (8 ≤ t.size) × ((t.size ≡ 64) ⊎ IsSome begin)
+
+record_size_is : (begin o : Option IntType) (t : IntType) → has_record_size begin o ≡ true → o ≡ Some t → HasRecordSize begin t
+unfolding has_record_size
+record_size_is begin None t e is = absurd cc
+record_size_is begin (Some x) t e is =
+    let same : x ≡ t = cc in
+    let b = and_parts (nat_le 8 x.size) (x.size == 64 || is_some begin) e in
+    let whole_or_counted : (x.size ≡ 64) ⊎ IsSome begin = elim (either (x.size == 64) (is_some begin) b.1) [ inl w ↦ inl (eqb-true x.size 64 w) | inr there ↦ inr there ] in
+    subst (HasRecordSize begin) same (leb-true 8 x.size b.0, whole_or_counted)
 
 clocked_is : (clock : Option (List ℕ)) (o : Option IntType) (t : IntType) → is_clocked clock o ≡ true → o ≡ Some t → IsSome clock
 clocked_is (Some c) o t e is = refl
 clocked_is None (Some x) t e is = absurd cc
 clocked_is None None t e is = absurd cc
 
-timestamp_is : (clock : Option (List ℕ)) (o : Option IntType) (group name : List ℕ) → OnlyIf o (IsOfClock clock) → timestamp_clocked clock o group name ≡ Ok tt → timestamp_wide o group name ≡ Ok tt → OnlyIf o (IsTimestamp clock)
-unfolding timestamp_clocked timestamp_wide
-timestamp_is clock o group name of_clock clocked wide = λ t is.
+timestamp_is : (clock : Option (List ℕ)) (o : Option IntType) (name : List ℕ) → OnlyIf o (IsOfClock clock) → timestamp_clocked clock o (codes "packet") name ≡ Ok tt → packet_sized o name ≡ Ok tt → OnlyIf o (IsTimestamp clock)
+unfolding timestamp_clocked packet_sized
+timestamp_is clock o name of_clock clocked sized = λ t is.
     let good = of_clock t is in
-    (good.0, wide_is o t (unless_passed (is_wide o) _ wide) is, clocked_is clock o t (unless_passed (is_clocked clock o) _ clocked) is, good.1)
+    (good.0, whole_is o t (unless_passed (is_whole o) _ sized) is, clocked_is clock o t (unless_passed (is_clocked clock o) _ clocked) is, good.1)
+
+record_timestamp_is : (s : StreamType) → OnlyIf s.event_header.timestamp (IsOfClock s.default_clock) → record_clocked s ≡ Ok tt → record_sized s ≡ Ok tt → OnlyIf s.event_header.timestamp (IsRecordTimestamp s.default_clock s.context.timestamp_begin)
+unfolding record_clocked timestamp_clocked record_sized
+record_timestamp_is s of_clock clocked sized = λ t is.
+    let good = of_clock t is in
+    let size = record_size_is s.context.timestamp_begin s.event_header.timestamp t (unless_passed (has_record_size s.context.timestamp_begin s.event_header.timestamp) _ sized) is in
+    (good.0, size.0, size.1, clocked_is s.default_clock s.event_header.timestamp t (unless_passed (is_clocked s.default_clock s.event_header.timestamp) _ clocked) is, good.1)
 
 -- ---- one data stream type
 
@@ -158,7 +177,7 @@ pub record KeepsRules (clocks : List ClockType) (s : StreamType) : Type 0 where
   pub numbers : numbers_fit s ≡ Ok tt
   pub bits : records_have_bits s ≡ Ok tt
   pub clocks_there : clocks_are_there clocks s ≡ Ok tt
-  pub wide : timestamps_are_wide s ≡ Ok tt
+  pub sizes : timestamps_sized s ≡ Ok tt
 
 record Clocked (clocks : List ClockType) (s : StreamType) : Type 0 where
   default_there : clock_is_there clocks s.default_clock ≡ true
@@ -174,30 +193,30 @@ clocked clocks s e =
     let begin = both_read (begin_clocked s) _ tt rec.2 in
     record { default_there = unless_passed (clock_is_there clocks s.default_clock) _ first.1; of_record = rec.1; of_begin = begin.1; of_end = begin.2 }
 
-record Wide (s : StreamType) : Type 0 where
-  of_record : record_is_wide s ≡ Ok tt
-  of_begin : begin_is_wide s ≡ Ok tt
-  of_end : end_is_wide s ≡ Ok tt
+record Sized (s : StreamType) : Type 0 where
+  of_record : record_sized s ≡ Ok tt
+  of_begin : begin_sized s ≡ Ok tt
+  of_end : end_sized s ≡ Ok tt
 
-wide : (s : StreamType) → timestamps_are_wide s ≡ Ok tt → Wide s
-unfolding timestamps_are_wide
-wide s e =
-    let rec = both_read (record_is_wide s) _ tt e in
-    let begin = both_read (begin_is_wide s) _ tt rec.2 in
+sized : (s : StreamType) → timestamps_sized s ≡ Ok tt → Sized s
+unfolding timestamps_sized
+sized s e =
+    let rec = both_read (record_sized s) _ tt e in
+    let begin = both_read (begin_sized s) _ tt rec.2 in
     record { of_record = rec.1; of_begin = begin.1; of_end = begin.2 }
 
 pub stream_is : (clocks : List ClockType) (s : StreamType) → IsGoodStream s → KeepsRules clocks s → IsStreamType (map (λ c. c.name) clocks) s
-unfolding record_clocked begin_clocked end_clocked record_is_wide begin_is_wide end_is_wide
+unfolding begin_clocked end_clocked begin_sized end_sized
 stream_is clocks s good rules =
     let c = clocked clocks s rules.clocks_there in
-    let w = wide s rules.wide in
+    let z = sized s rules.sizes in
     record {
       name = good.name;
       default_clock = default_named clocks s.default_clock c.default_there;
       packet_size = good.context.packet_size;
       content_size = good.context.content_size;
-      timestamp_begin = timestamp_is s.default_clock s.context.timestamp_begin _ _ good.context.timestamp_begin c.of_begin w.of_begin;
-      timestamp_end = timestamp_is s.default_clock s.context.timestamp_end _ _ good.context.timestamp_end c.of_end w.of_end;
+      timestamp_begin = timestamp_is s.default_clock s.context.timestamp_begin _ good.context.timestamp_begin c.of_begin z.of_begin;
+      timestamp_end = timestamp_is s.default_clock s.context.timestamp_end _ good.context.timestamp_end c.of_end z.of_end;
       events_discarded = good.context.events_discarded;
       packet_seq_num = good.context.packet_seq_num;
       extras = good.extras.members;
@@ -205,7 +224,7 @@ stream_is clocks s good rules =
       no_own_name = good.extras.no_own_name;
       id = good.event_header.id;
       id_holds = fits s rules.numbers;
-      timestamp = timestamp_is s.default_clock s.event_header.timestamp _ _ good.event_header.timestamp c.of_record w.of_record;
+      timestamp = record_timestamp_is s good.event_header.timestamp c.of_record z.of_record;
       common = good.common;
       events = records_are s good.events rules.bits;
       events_in_order = good.events.in_order;
@@ -224,17 +243,17 @@ judged_each rule clocks (s ∷ ss) e =
     let first = both_read (judged_at_names rule clocks s) _ tt e in
     (read_there (key s.name) (judged rule clocks s) tt first.1, judged_each rule clocks ss first.2)
 
-keep_rules : (clocks : List ClockType) (s : StreamType) → judged NumbersFit clocks s ≡ Ok tt → judged RecordsHaveBits clocks s ≡ Ok tt → judged ClocksAreThere clocks s ≡ Ok tt → judged TimestampsAreWide clocks s ≡ Ok tt → KeepsRules clocks s
+keep_rules : (clocks : List ClockType) (s : StreamType) → judged NumbersFit clocks s ≡ Ok tt → judged RecordsHaveBits clocks s ≡ Ok tt → judged ClocksAreThere clocks s ≡ Ok tt → judged TimestampsAreSized clocks s ≡ Ok tt → KeepsRules clocks s
 unfolding judged
-keep_rules clocks s a b c d = record { numbers = a; bits = b; clocks_there = c; wide = d }
+keep_rules clocks s a b c d = record { numbers = a; bits = b; clocks_there = c; sizes = d }
 
 streams_from : (clocks : List ClockType) (ss : List StreamType) → AllByRecursion IsGoodStream ss → AllByRecursion (λ s. judged NumbersFit clocks s ≡ Ok tt) ss → AllByRecursion (λ s. judged RecordsHaveBits clocks s ≡ Ok tt) ss
-    → AllByRecursion (λ s. judged ClocksAreThere clocks s ≡ Ok tt) ss → AllByRecursion (λ s. judged TimestampsAreWide clocks s ≡ Ok tt) ss → AllByRecursion (IsStreamType (map (λ c. c.name) clocks)) ss
+    → AllByRecursion (λ s. judged ClocksAreThere clocks s ≡ Ok tt) ss → AllByRecursion (λ s. judged TimestampsAreSized clocks s ≡ Ok tt) ss → AllByRecursion (IsStreamType (map (λ c. c.name) clocks)) ss
 streams_from clocks [] good a b c d = tt
 streams_from clocks (s ∷ ss) good a b c d = (stream_is clocks s good.0 (keep_rules clocks s a.0 b.0 c.0 d.0), streams_from clocks ss good.1 a.1 b.1 c.1 d.1)
 
 pub streams_are : (clocks : List ClockType) (ss : List StreamType) → AllByRecursion IsGoodStream ss → all_judged NumbersFit clocks ss ≡ Ok tt → all_judged RecordsHaveBits clocks ss ≡ Ok tt → all_judged ClocksAreThere clocks ss ≡ Ok tt
-    → all_judged TimestampsAreWide clocks ss ≡ Ok tt → All (IsStreamType (map (λ c. c.name) clocks)) ss
+    → all_judged TimestampsAreSized clocks ss ≡ Ok tt → All (IsStreamType (map (λ c. c.name) clocks)) ss
 streams_are clocks ss good a b c d =
     All-from_recursion (IsStreamType (map (λ x. x.name) clocks)) ss
-    (streams_from clocks ss good (judged_each NumbersFit clocks ss a) (judged_each RecordsHaveBits clocks ss b) (judged_each ClocksAreThere clocks ss c) (judged_each TimestampsAreWide clocks ss d))
+    (streams_from clocks ss good (judged_each NumbersFit clocks ss a) (judged_each RecordsHaveBits clocks ss b) (judged_each ClocksAreThere clocks ss c) (judged_each TimestampsAreSized clocks ss d))

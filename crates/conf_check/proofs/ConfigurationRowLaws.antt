@@ -57,7 +57,7 @@ rules_kept d draft e =
       identifier = n.2;
       within_limits = l.1;
       one_order = order_once draft o.1;
-      timestamps_are_wide = o.2;
+      timestamps_are_sized = o.2;
     }
 
 sizes_read : (d : Data) (draft : Draft) → KeepsAllRules d draft → sizes_and_bits draft.config ≡ Ok tt
@@ -70,7 +70,7 @@ clocks_read d draft h = then_read (streams_judged ClocksAreThere draft.config) _
 
 limits_read : (d : Data) (draft : Draft) → KeepsAllRules d draft → limits_and_orders d draft ≡ Ok tt
 unfolding limits_and_orders
-limits_read d draft h = then_read (limits Root d) _ tt tt h.within_limits (then_read (one_order draft) _ tt tt (order_fine draft h.one_order) h.timestamps_are_wide)
+limits_read d draft h = then_read (limits Root d) _ tt tt h.within_limits (then_read (one_order draft) _ tt tt (order_fine draft h.one_order) h.timestamps_are_sized)
 
 rules_read : (d : Data) (draft : Draft) → KeepsAllRules d draft → whole d draft ≡ Ok tt
 unfolding whole

@@ -2,7 +2,8 @@
 use Rattle.std.proofs.Common.{◌≡◌, ◌≢◌, ◌⊎◌, inl, inr, ℕ, suc, ◌<◌, ◌-◌, ◌&&◌, ◌||◌, Bool, true, false, List, [], ◌∷◌, length, Contains, IsSome, Option, Some, None, is_some, is_none, Ok, Err, refl, sym, ap, subst, ◌∙◌, arith, bytes_eq, get_or}
 use Rattle.std.specs.Prelude.{codes, nat_le, nat_lt, ◌^◌, ◌==◌}
 use Rattle.std.specs.List.{AllByRecursion, list_all}
-use Rattle.std.proofs.lemmas.Bool.{eqb-false, leb-false, lt-ltb, false≢true, and_from, and_parts, or_parts}
+use Rattle.std.proofs.lemmas.Bool.{eqb-false, leb-false, lt-ltb, false≢true, and_cases, and_from, and_parts, or_parts}
+use Rattle.std.proofs.Math.Numerals.{lt_of_le_of_ne}
 use Rattle.std.proofs.lemmas.List.Elements.{recursion_from_All}
 use Rattle.std.proofs.lemmas.List.Folds.{list_any_at}
 use Rattle.std.proofs.lemmas.Slice.Eq.{bytes_eq-Decides}
@@ -26,11 +27,11 @@ use Rattle.conf_objects.specs.declared.draft.Draft.{Draft}
 use Rattle.conf_objects.specs.declared.limits.Part.{Part}
 use Rattle.conf_objects.specs.declared.limits.Part.TheVariants.{Root, Feature, Structure, Extras, Words}
 use Rattle.conf_check.specs.declared.stream_rule.StreamRule.{StreamRule}
-use Rattle.conf_check.specs.declared.stream_rule.StreamRule.TheVariants.{NumbersFit, RecordsHaveBits, ClocksAreThere, TimestampsAreWide}
+use Rattle.conf_check.specs.declared.stream_rule.StreamRule.TheVariants.{NumbersFit, RecordsHaveBits, ClocksAreThere, TimestampsAreSized}
 use Rattle.conf_check.specs.Judgement.{in_type, header_flaw, stream_number_fits, number_given, identifier_given, one_order, sizes_and_bits, clocks_and_identifier, limits_and_orders, whole}
 use Rattle.conf_objects.specs.Limits.{part_under, most_entries, at_most, entries_limit, text_limit, list_limits, type_limits, limits, member_limits}
-use Rattle.conf_check.specs.StreamRules.{unless, feature_flaw, holds, numbers_fit, member_has_bits, struct_has_bits, header_has_bits, event_has_bits, event_bits, events_bits, records_have_bits, has_clock, clock_is_there, is_clocked, timestamp_clocked, record_clocked, begin_clocked, end_clocked, timestamps_clocked, clocks_are_there, is_wide, timestamp_wide, record_is_wide, begin_is_wide, end_is_wide, timestamps_are_wide, judged, judged_by_name, all_judged, streams_judged}
-use Rattle.conf_check.specs.WholeFlaws.{in_stream, IsTimestampOf, of_record, of_beginning, of_end, RecordHasBits, BreaksRule, stream_number, event_number, no_bits, no_such_clock, no_clock, no_number, no_identifier, two_orders, narrow, PassesLimit, too_many, too_long, in_feature, in_structure, in_extras, inside}
+use Rattle.conf_check.specs.StreamRules.{unless, feature_flaw, holds, numbers_fit, member_has_bits, struct_has_bits, header_has_bits, event_has_bits, event_bits, events_bits, records_have_bits, has_clock, clock_is_there, is_clocked, timestamp_clocked, record_clocked, begin_clocked, end_clocked, timestamps_clocked, clocks_are_there, is_whole, has_record_size, packet_sized, record_sized, begin_sized, end_sized, timestamps_sized, judged, judged_by_name, all_judged, streams_judged}
+use Rattle.conf_check.specs.WholeFlaws.{in_stream, IsTimestampOf, of_record, of_beginning, of_end, RecordHasBits, BreaksRule, stream_number, event_number, no_bits, no_such_clock, no_clock, no_number, no_identifier, two_orders, packet_timestamp, record_timestamp, no_beginning, PassesLimit, too_many, too_long, in_feature, in_structure, in_extras, inside}
 use Rattle.conf_fields.proofs.FieldLimitFlawLaws.{field_limits_refused, members_limits_refused, struct_limits_refused}
 use Rattle.conf_values.proofs.LeafFlawLaws.{refused_here_or_next, refused_there, refused_test, refused_where}
 
@@ -289,27 +290,39 @@ module _ (draft : Draft) where
 
   -- ---- timestamps
 
-  wide_refused : (s : StreamType) (group name : List ℕ) (flaw : Flaw) → Contains draft.config.streams s → (o : Option IntType) → IsTimestampOf s group name o → timestamp_wide o group name ≡ Err flaw → BreaksRule draft (in_stream s flaw)
-  unfolding timestamp_wide is_wide
-  wide_refused s group name flaw is None of e = absurd cc
-  wide_refused s group name flaw is (Some t) of e =
-      let r = refused_test (t.size == 64) tt (feature_flaw group name TimestampSize) flaw e in
-      breaks_as _ (in_stream s flaw) (ap (in_stream s) r.1) (narrow s group name (Some t) t is of refl (eqb-false t.size 64 r.0))
+  packet_refused : (s : StreamType) (name : List ℕ) (flaw : Flaw) → Contains draft.config.streams s → (o : Option IntType) → IsTimestampOf s (codes "packet") name o → packet_sized o name ≡ Err flaw → BreaksRule draft (in_stream s flaw)
+  unfolding packet_sized is_whole
+  packet_refused s name flaw is None of e = absurd cc
+  packet_refused s name flaw is (Some t) of e =
+      let r = refused_test (t.size == 64) tt (feature_flaw (codes "packet") name TimestampSize) flaw e in
+      breaks_as _ (in_stream s flaw) (ap (in_stream s) r.1) (packet_timestamp s name (Some t) t is of refl (eqb-false t.size 64 r.0))
 
-  narrow_refused : (s : StreamType) (flaw : Flaw) → Contains draft.config.streams s → timestamps_are_wide s ≡ Err flaw → BreaksRule draft (in_stream s flaw)
-  unfolding timestamps_are_wide record_is_wide begin_is_wide end_is_wide
-  narrow_refused s flaw is e =
-      elim (refused_here_or_next (record_is_wide s) (λ _. begin_is_wide s >>= (λ _. end_is_wide s)) flaw e) [
-        | inl first ↦ wide_refused s _ _ flaw is s.event_header.timestamp of_record first
-        | inr rest ↦ elim (refused_here_or_next (begin_is_wide s) (λ _. end_is_wide s) flaw rest.2) [
-          | inl first ↦ wide_refused s _ _ flaw is s.context.timestamp_begin of_beginning first
-          | inr last ↦ wide_refused s _ _ flaw is s.context.timestamp_end of_end last.2
+  record_refused : (s : StreamType) (flaw : Flaw) → Contains draft.config.streams s → (o : Option IntType) → s.event_header.timestamp ≡ o
+      → unless (has_record_size s.context.timestamp_begin o) (feature_flaw (codes "event-record") (codes "timestamp-field-type") TimestampSize) ≡ Err flaw → BreaksRule draft (in_stream s flaw)
+  unfolding has_record_size
+  record_refused s flaw is None on e = absurd cc
+  record_refused s flaw is (Some t) on e =
+      let r = refused_test (nat_le 8 t.size && (t.size == 64 || is_some s.context.timestamp_begin)) tt (feature_flaw (codes "event-record") (codes "timestamp-field-type") TimestampSize) flaw e in
+      elim (and_cases (nat_le 8 t.size) (t.size == 64 || is_some s.context.timestamp_begin) r.0) [
+        | inl small ↦ breaks_as _ (in_stream s flaw) (ap (in_stream s) r.1) (record_timestamp s t is on (leb-false 8 t.size small))
+        | inr short ↦ (let b = or_parts (t.size == 64) (is_some s.context.timestamp_begin) short in
+            breaks_as _ (in_stream s flaw) (ap (in_stream s) r.1) (no_beginning s t is on (lt_of_le_of_ne t.at_most_64 (eqb-false t.size 64 b.0)) (nothing_there s.context.timestamp_begin b.1)))
+      ]
+
+  sizes_of_refused : (s : StreamType) (flaw : Flaw) → Contains draft.config.streams s → timestamps_sized s ≡ Err flaw → BreaksRule draft (in_stream s flaw)
+  unfolding timestamps_sized record_sized begin_sized end_sized
+  sizes_of_refused s flaw is e =
+      elim (refused_here_or_next (record_sized s) (λ _. begin_sized s >>= (λ _. end_sized s)) flaw e) [
+        | inl first ↦ record_refused s flaw is s.event_header.timestamp refl first
+        | inr rest ↦ elim (refused_here_or_next (begin_sized s) (λ _. end_sized s) flaw rest.2) [
+          | inl first ↦ packet_refused s _ flaw is s.context.timestamp_begin of_beginning first
+          | inr last ↦ packet_refused s _ flaw is s.context.timestamp_end of_end last.2
         ]
       ]
 
-  timestamps_refused : (flaw : Flaw) → streams_judged TimestampsAreWide draft.config ≡ Err flaw → BreaksRule draft flaw
+  timestamps_refused : (flaw : Flaw) → streams_judged TimestampsAreSized draft.config ≡ Err flaw → BreaksRule draft flaw
   unfolding judged
-  timestamps_refused flaw e = let r = stream_refused TimestampsAreWide draft.config flaw e in breaks_as _ flaw r.4 (narrow_refused r.0 r.1 r.2 r.3)
+  timestamps_refused flaw e = let r = stream_refused TimestampsAreSized draft.config flaw e in breaks_as _ flaw r.4 (sizes_of_refused r.0 r.1 r.2 r.3)
 
   -- ---- one rule after the other
 
@@ -338,9 +351,9 @@ module _ (draft : Draft) where
   last_refused : (d : Data) (flaw : Flaw) → limits_and_orders d draft ≡ Err flaw → BreaksRule draft flaw ⊎ PassesLimit Root d flaw
   unfolding limits_and_orders
   last_refused d flaw e =
-      elim (refused_here_or_next (limits Root d) (λ _. one_order draft >>= (λ _. streams_judged TimestampsAreWide draft.config)) flaw e) [
+      elim (refused_here_or_next (limits Root d) (λ _. one_order draft >>= (λ _. streams_judged TimestampsAreSized draft.config)) flaw e) [
         | inl first ↦ inr (limit_refused d Root flaw first)
-        | inr rest ↦ elim (refused_here_or_next (one_order draft) (λ _. streams_judged TimestampsAreWide draft.config) flaw rest.2) [
+        | inr rest ↦ elim (refused_here_or_next (one_order draft) (λ _. streams_judged TimestampsAreSized draft.config) flaw rest.2) [
           | inl first ↦ inl (orders_refused flaw first)
           | inr last ↦ inl (timestamps_refused flaw last.2)
         ]

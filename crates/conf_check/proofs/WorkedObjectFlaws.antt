@@ -1,14 +1,15 @@
 -- The flaws of a few objects, and of a few configurations as a whole: each has the flaw that its case tells of, at the path that
 -- is printed, and an empty object has none.
-use Rattle.std.proofs.Common.{◌≡◌, ◌<◌, [], ◌∷◌, List, Contains, true, false, None, IsSome, inl, inr, refl}
+use Rattle.std.proofs.Common.{◌≡◌, ◌<◌, [], ◌∷◌, List, Contains, true, false, Some, None, IsSome, arith, inl, inr, refl}
 use Rattle.std.specs.Prelude.{codes}
 use Rattle.serde_json.specs.Data.{Data, Members, null, boolean, string, object, no_members, member}
 use Rattle.serde_json.specs.Events.{members_len}
 use Rattle.ctf_types.specs.declared.EventType.{EventType}
 use Rattle.ctf_types.specs.declared.StreamType.{StreamType}
+use Rattle.ctf_types.specs.declared.IntType.{IntType}
 use Rattle.conf_tree.specs.Flaw.{Flaw, Place, key, here}
 use Rattle.conf_tree.specs.declared.fault_kind.FaultKind.{FaultKind}
-use Rattle.conf_tree.specs.declared.fault_kind.FaultKind.TheVariants.{WrongKind, Missing, Unknown, NoSuchAlias, OutOfRange, ZeroSizeRecord, NoClock, NoUuid, Limit, TwoOrders}
+use Rattle.conf_tree.specs.declared.fault_kind.FaultKind.TheVariants.{WrongKind, Missing, Unknown, NoSuchAlias, OutOfRange, ZeroSizeRecord, NoClock, NoUuid, Limit, TwoOrders, TimestampSize}
 use Rattle.conf_objects.specs.declared.draft.Draft.{Draft}
 use Rattle.conf_objects.specs.declared.limits.Part.TheVariants.{Root}
 use Rattle.conf_check.specs.Judgement.{header_flaw}
@@ -85,6 +86,24 @@ no_clock : (draft : Draft) (s : StreamType) → Contains draft.config.streams s 
     → BreaksRule draft (flaw_at (key (codes "trace") ∷ key (codes "type") ∷ key (codes "data-stream-types") ∷ key s.name ∷ key (codes "$features") ∷ key (codes "packet") ∷ key (codes "end-timestamp-field-type") ∷ []) NoClock)
 unfolding feature_flaw
 no_clock draft s is on none = BreaksRule.no_clock s _ _ s.context.timestamp_end is IsTimestampOf.of_end on none
+
+-- an event record's timestamp of 7 bits: at the feature
+seven_bits : (draft : Draft) (s : StreamType) (t : IntType) → Contains draft.config.streams s → s.event_header.timestamp ≡ Some t → t.size ≡ 7
+    → BreaksRule draft (flaw_at (key (codes "trace") ∷ key (codes "type") ∷ key (codes "data-stream-types") ∷ key s.name ∷ key (codes "$features") ∷ key (codes "event-record") ∷ key (codes "timestamp-field-type") ∷ []) TimestampSize)
+unfolding feature_flaw
+seven_bits draft s t is on size = BreaksRule.record_timestamp s t is on (omega (arith, size))
+
+-- one of 8 bits in packets that do not say the clock value at which they begin: there too
+no_beginning : (draft : Draft) (s : StreamType) (t : IntType) → Contains draft.config.streams s → s.event_header.timestamp ≡ Some t → t.size ≡ 8 → s.context.timestamp_begin ≡ None
+    → BreaksRule draft (flaw_at (key (codes "trace") ∷ key (codes "type") ∷ key (codes "data-stream-types") ∷ key s.name ∷ key (codes "$features") ∷ key (codes "event-record") ∷ key (codes "timestamp-field-type") ∷ []) TimestampSize)
+unfolding feature_flaw
+no_beginning draft s t is on size none = BreaksRule.no_beginning s t is on (omega (arith, size)) none
+
+-- an end of a packet of 63 bits: at its own feature
+an_end_of_63_bits : (draft : Draft) (s : StreamType) (t : IntType) → Contains draft.config.streams s → s.context.timestamp_end ≡ Some t → t.size ≡ 63
+    → BreaksRule draft (flaw_at (key (codes "trace") ∷ key (codes "type") ∷ key (codes "data-stream-types") ∷ key s.name ∷ key (codes "$features") ∷ key (codes "packet") ∷ key (codes "end-timestamp-field-type") ∷ []) TimestampSize)
+unfolding feature_flaw
+an_end_of_63_bits draft s t is on size = BreaksRule.packet_timestamp s _ s.context.timestamp_end t is IsTimestampOf.of_end on (λ e. absurd (omega (arith, size, e)))
 
 -- ---- limits
 

@@ -5,7 +5,7 @@ use Rattle.ctf_types.specs.declared.Config.{Config}
 use Rattle.conf_tree.specs.Reading.{object_of}
 use Rattle.conf_objects.specs.declared.draft.Draft.{Draft}
 use Rattle.conf_objects.specs.declared.limits.Part.TheVariants.{Root}
-use Rattle.conf_check.specs.declared.stream_rule.StreamRule.TheVariants.{NumbersFit, RecordsHaveBits, ClocksAreThere, TimestampsAreWide}
+use Rattle.conf_check.specs.declared.stream_rule.StreamRule.TheVariants.{NumbersFit, RecordsHaveBits, ClocksAreThere, TimestampsAreSized}
 use Rattle.conf_check.specs.Judgement.{stream_number_fits, identifier_given}
 use Rattle.conf_objects.specs.Limits.{limits}
 use Rattle.conf_check.specs.StreamRules.{streams_judged}
@@ -21,7 +21,7 @@ pub record KeepsAllRules (d : Data) (draft : Draft) : Type 0 where
   pub identifier : identifier_given draft.config ≡ Ok tt
   pub within_limits : limits Root d ≡ Ok tt
   pub one_order : draft.two_orders ≡ false
-  pub timestamps_are_wide : streams_judged TimestampsAreWide draft.config ≡ Ok tt
+  pub timestamps_are_sized : streams_judged TimestampsAreSized draft.config ≡ Ok tt
 
 -- c is what the resolved tree d says
 pub record IsConfigurationOf (d : Data) (number : Option (List ℕ)) (c : Config) : Type 0 where

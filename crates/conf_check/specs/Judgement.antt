@@ -9,7 +9,7 @@ use Rattle.conf_tree.specs.Flaw.{Flaw, key, here, within}
 use Rattle.conf_tree.specs.Reading.{◌>>=◌}
 use Rattle.conf_objects.specs.declared.draft.Draft.{Draft}
 use Rattle.conf_objects.specs.declared.limits.Part.TheVariants.{Root}
-use Rattle.conf_check.specs.declared.stream_rule.StreamRule.TheVariants.{NumbersFit, RecordsHaveBits, ClocksAreThere, TimestampsAreWide}
+use Rattle.conf_check.specs.declared.stream_rule.StreamRule.TheVariants.{NumbersFit, RecordsHaveBits, ClocksAreThere, TimestampsAreSized}
 use Rattle.conf_objects.specs.Limits.{limits}
 use Rattle.conf_check.specs.StreamRules.{holds, streams_judged, unless}
 use Rattle.conf_objects.specs.Trace.{draft_reading}
@@ -54,7 +54,7 @@ unfoldable pub limits_and_orders : Data → Draft → Result ⊤ Flaw
 limits_and_orders d draft = do
   _ ← limits Root d
   _ ← one_order draft
-  streams_judged TimestampsAreWide draft.config
+  streams_judged TimestampsAreSized draft.config
 
 unfoldable pub whole : Data → Draft → Result ⊤ Flaw
 whole d draft = do

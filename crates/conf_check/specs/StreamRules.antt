@@ -1,6 +1,6 @@
 -- What the parts of a configuration have to be together, stream type by stream type: numbers fit their fields, records have
--- bits, clocks are there, and timestamps tell all times (barectf 3.1, "Data stream type object").
-use Rattle.std.specs.Prelude.{ℕ, ◌-◌, ◌^◌, ◌||◌, ◌==◌, nat_lt, List, [], ◌∷◌, Bool, true, Option, None, Some, is_some, is_none, length, Result, Ok, Err, codes, if◌then◌else◌, ⊤}
+-- bits, clocks are there, and timestamps tell the clock values (barectf 3.1, "Data stream type object"; CTF 1.8.3, section 8).
+use Rattle.std.specs.Prelude.{ℕ, ◌-◌, ◌^◌, ◌||◌, ◌&&◌, ◌==◌, nat_le, nat_lt, List, [], ◌∷◌, Bool, true, Option, None, Some, is_some, is_none, length, Result, Ok, Err, codes, if◌then◌else◌, ⊤}
 use Rattle.std.specs.List.{list_all, list_any}
 use Rattle.std.specs.Str.{bytes_eq}
 use Rattle.ctf_types.specs.declared.ClockType.{ClockType}
@@ -17,7 +17,7 @@ use Rattle.conf_tree.specs.declared.fault_kind.FaultKind.TheVariants.{FieldTooSm
 use Rattle.conf_tree.specs.Flaw.{Flaw, key, here, within}
 use Rattle.conf_tree.specs.Reading.{at, ◌>>=◌}
 use Rattle.conf_check.specs.declared.stream_rule.StreamRule.{StreamRule}
-use Rattle.conf_check.specs.declared.stream_rule.StreamRule.TheVariants.{NumbersFit, RecordsHaveBits, ClocksAreThere, TimestampsAreWide}
+use Rattle.conf_check.specs.declared.stream_rule.StreamRule.TheVariants.{NumbersFit, RecordsHaveBits, ClocksAreThere, TimestampsAreSized}
 
 -- a flaw of a feature, seen from its data stream type
 unfoldable pub feature_flaw : List ℕ → List ℕ → FaultKind → Flaw
@@ -98,29 +98,35 @@ clocks_are_there clocks s = do
   _ ← unless (clock_is_there clocks s.default_clock) (within (key (codes "$default-clock-type-name")) (here NoClock))
   timestamps_clocked s
 
--- ---- timestamps tell all times of 64 bits
+-- ---- timestamps have their sizes
 
-unfoldable pub is_wide : Option IntType → Bool
-is_wide None = true
-is_wide (Some t) = t.size == 64
+-- a clock value has 64 bits
+unfoldable pub is_whole : Option IntType → Bool
+is_whole None = true
+is_whole (Some t) = t.size == 64
 
-unfoldable pub timestamp_wide : Option IntType → List ℕ → List ℕ → Result ⊤ Flaw
-timestamp_wide feature group name = unless (is_wide feature) (feature_flaw group name TimestampSize)
+-- an event record's timestamp has 8 bits or more, and all of them where the packet does not say the clock value at which it begins
+unfoldable pub has_record_size : Option IntType → Option IntType → Bool
+has_record_size begin None = true
+has_record_size begin (Some t) = nat_le 8 t.size && (t.size == 64 || is_some begin)
 
-unfoldable pub begin_is_wide : StreamType → Result ⊤ Flaw
-begin_is_wide s = timestamp_wide s.context.timestamp_begin (codes "packet") (codes "beginning-timestamp-field-type")
+unfoldable pub packet_sized : Option IntType → List ℕ → Result ⊤ Flaw
+packet_sized feature name = unless (is_whole feature) (feature_flaw (codes "packet") name TimestampSize)
 
-unfoldable pub end_is_wide : StreamType → Result ⊤ Flaw
-end_is_wide s = timestamp_wide s.context.timestamp_end (codes "packet") (codes "end-timestamp-field-type")
+unfoldable pub begin_sized : StreamType → Result ⊤ Flaw
+begin_sized s = packet_sized s.context.timestamp_begin (codes "beginning-timestamp-field-type")
 
-unfoldable pub record_is_wide : StreamType → Result ⊤ Flaw
-record_is_wide s = timestamp_wide s.event_header.timestamp (codes "event-record") (codes "timestamp-field-type")
+unfoldable pub end_sized : StreamType → Result ⊤ Flaw
+end_sized s = packet_sized s.context.timestamp_end (codes "end-timestamp-field-type")
 
-unfoldable pub timestamps_are_wide : StreamType → Result ⊤ Flaw
-timestamps_are_wide s = do
-  _ ← record_is_wide s
-  _ ← begin_is_wide s
-  end_is_wide s
+unfoldable pub record_sized : StreamType → Result ⊤ Flaw
+record_sized s = unless (has_record_size s.context.timestamp_begin s.event_header.timestamp) (feature_flaw (codes "event-record") (codes "timestamp-field-type") TimestampSize)
+
+unfoldable pub timestamps_sized : StreamType → Result ⊤ Flaw
+timestamps_sized s = do
+  _ ← record_sized s
+  _ ← begin_sized s
+  end_sized s
 
 -- ---- all stream types under one rule
 
@@ -128,7 +134,7 @@ unfoldable pub judged : StreamRule → List ClockType → StreamType → Result 
 judged NumbersFit clocks s = numbers_fit s
 judged RecordsHaveBits clocks s = records_have_bits s
 judged ClocksAreThere clocks s = clocks_are_there clocks s
-judged TimestampsAreWide clocks s = timestamps_are_wide s
+judged TimestampsAreSized clocks s = timestamps_sized s
 
 unfoldable pub judged_by_name : StreamRule → List ClockType → StreamType → Result ⊤ Flaw
 judged_by_name rule clocks s = at (key s.name) (judged rule clocks s)

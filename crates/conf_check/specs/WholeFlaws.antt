@@ -57,9 +57,15 @@ pub data BreaksRule (draft : Draft) : Flaw → Type 0 where
   no_identifier : IsSome draft.config.header.uuid → draft.config.uuid ≡ None → BreaksRule draft (header_flaw (codes "uuid-field-type") NoUuid)
   -- both properties of a byte order are there
   two_orders : draft.two_orders ≡ true → BreaksRule draft (in_type (here TwoOrders))
-  -- a timestamp that has not 64 bits
-  narrow : (s : StreamType) (group name : List ℕ) (field : Option IntType) (t : IntType) → Contains draft.config.streams s → IsTimestampOf s group name field → field ≡ Some t → t.size ≢ 64
-      → BreaksRule draft (in_stream s (feature_flaw group name TimestampSize))
+  -- a timestamp of a packet that has not 64 bits
+  packet_timestamp : (s : StreamType) (name : List ℕ) (field : Option IntType) (t : IntType) → Contains draft.config.streams s → IsTimestampOf s (codes "packet") name field → field ≡ Some t → t.size ≢ 64
+      → BreaksRule draft (in_stream s (feature_flaw (codes "packet") name TimestampSize))
+  -- a timestamp of an event record that has fewer than 8 bits
+  record_timestamp : (s : StreamType) (t : IntType) → Contains draft.config.streams s → s.event_header.timestamp ≡ Some t → t.size < 8
+      → BreaksRule draft (in_stream s (feature_flaw (codes "event-record") (codes "timestamp-field-type") TimestampSize))
+  -- or fewer than 64, where a packet does not say the clock value at which it begins
+  no_beginning : (s : StreamType) (t : IntType) → Contains draft.config.streams s → s.event_header.timestamp ≡ Some t → t.size < 64 → s.context.timestamp_begin ≡ None
+      → BreaksRule draft (in_stream s (feature_flaw (codes "event-record") (codes "timestamp-field-type") TimestampSize))
 
 -- ---- limits
 

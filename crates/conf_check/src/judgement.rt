@@ -130,7 +130,7 @@ fn limits_and_orders(alloc: Global, value: &Value, draft: &Draft) -> Result<(), 
 {
     check_limits(alloc, value, Part::Root)?;
     one_order(alloc, draft)?;
-    check_streams(alloc, StreamRule::TimestampsAreWide, &draft.config)?;
+    check_streams(alloc, StreamRule::TimestampsAreSized, &draft.config)?;
     Ok(())
 }
 

@@ -5,7 +5,7 @@ ghost use Rattle.arrayvec.specs.ArrayVec.{array_vec_len};
 ghost use Rattle.ctf_types.specs.FieldTypes.{chain_of};
 ghost use Rattle.conf_tree.specs.Flaw.{flaw_of, IsMemory};
 ghost use Rattle.conf_tree.specs.Reading.{Gives};
-ghost use Rattle.conf_check.specs.StreamRules.{feature_flaw, timestamp_clocked as timestamp_clocked_is, timestamp_wide as timestamp_wide_is, holds as holds_is, numbers_fit as numbers_fit_is, member_has_bits as member_has_bits_is, struct_has_bits as struct_has_bits_is, header_has_bits as header_has_bits_is, event_has_bits as event_has_bits_is, event_bits as event_bits_is, events_bits as events_bits_is, records_have_bits as records_have_bits_is, has_clock as has_clock_is, clock_is_there as clock_is_there_is, record_clocked as record_clocked_is, begin_clocked as begin_clocked_is, end_clocked as end_clocked_is, record_is_wide as record_is_wide_is, begin_is_wide as begin_is_wide_is, end_is_wide as end_is_wide_is, timestamps_clocked as timestamps_clocked_is, clocks_are_there as clocks_are_there_is, is_wide as is_wide_is, timestamps_are_wide as timestamps_are_wide_is, judged as judged_is, judged_by_name as judged_by_name_is, all_judged as all_judged_is, streams_judged as streams_judged_is};
+ghost use Rattle.conf_check.specs.StreamRules.{feature_flaw, timestamp_clocked as timestamp_clocked_is, holds as holds_is, numbers_fit as numbers_fit_is, member_has_bits as member_has_bits_is, struct_has_bits as struct_has_bits_is, header_has_bits as header_has_bits_is, event_has_bits as event_has_bits_is, event_bits as event_bits_is, events_bits as events_bits_is, records_have_bits as records_have_bits_is, has_clock as has_clock_is, clock_is_there as clock_is_there_is, record_clocked as record_clocked_is, begin_clocked as begin_clocked_is, end_clocked as end_clocked_is, record_sized as record_sized_is, begin_sized as begin_sized_is, end_sized as end_sized_is, packet_sized as packet_sized_is, timestamps_clocked as timestamps_clocked_is, clocks_are_there as clocks_are_there_is, is_whole as is_whole_is, has_record_size as has_record_size_is, timestamps_sized as timestamps_sized_is, judged as judged_is, judged_by_name as judged_by_name_is, all_judged as all_judged_is, streams_judged as streams_judged_is};
 
 use conf_tree::{At, ConfFault, FaultKind};
 use ctf_types::{
@@ -23,8 +23,8 @@ pub(crate) enum StreamRule {
     RecordsHaveBits,
     /// The default clock is a clock type, and each timestamp has a clock.
     ClocksAreThere,
-    /// A timestamp has 64 bits.
-    TimestampsAreWide,
+    /// A timestamp has 64 bits. An event record's may have fewer, 8 at least, where its packet has a beginning timestamp.
+    TimestampsAreSized,
 }
 
 /// The fault of a feature, seen from its data stream type.
@@ -270,9 +270,10 @@ fn clocks_are_there(
     timestamps_clocked(alloc, stream)
 }
 
-#[tactic(auto, unfolding(crate::specs::StreamRules::is_wide))]
-fn is_wide(feature: &Option<IntType>) -> bool
-    ensures { result ≡ is_wide_is feature.now }
+/// Whether a timestamp that is on has 64 bits.
+#[tactic(auto, unfolding(crate::specs::StreamRules::is_whole))]
+fn is_whole(feature: &Option<IntType>) -> bool
+    ensures { result ≡ is_whole_is feature.now }
 {
     match feature {
         None => true,
@@ -280,60 +281,76 @@ fn is_wide(feature: &Option<IntType>) -> bool
     }
 }
 
-/// Refuses the timestamp `name` of the group `group`, if it is on and has not 64 bits.
-#[tactic(auto, unfolding(crate::specs::StreamRules::timestamp_wide))]
-fn timestamp_wide(
-    alloc: Global,
-    feature: &Option<IntType>,
-    group: &str,
-    name: &str,
-) -> Result<(), ConfFault>
-    ensures reading { Gives (λ _. tt) result
-        (timestamp_wide_is feature.now group.now name.now) }
-    ensures steps { IfErr result (λ fault. array_vec_len fault.path ≤ 3) }
+/// Whether an event record's timestamp, if it is on, has a size that tells clock values beside this beginning timestamp.
+#[tactic(auto, unfolding(crate::specs::StreamRules::has_record_size))]
+fn has_record_size(begin: &Option<IntType>, feature: &Option<IntType>) -> bool
+    ensures { result ≡ has_record_size_is begin.now feature.now }
 {
-    if is_wide(feature) {
-        Ok(())
-    } else {
-        Err(feature_fault(alloc, group, name, FaultKind::TimestampSize))
+    match feature {
+        None => true,
+        Some(int) => int.size() >= 8 && (int.size() == 64 || begin.is_some()),
     }
 }
 
-#[tactic(auto, unfolding(crate::specs::StreamRules::record_is_wide))]
-fn record_is_wide(alloc: Global, stream: &StreamType) -> Result<(), ConfFault>
-    ensures reading { Gives (λ _. tt) result (record_is_wide_is stream.now) }
+/// Refuses the timestamp `name` of packets, if it is on and has not 64 bits.
+#[tactic(auto, unfolding(crate::specs::StreamRules::packet_sized))]
+fn packet_sized(alloc: Global, feature: &Option<IntType>, name: &str) -> Result<(), ConfFault>
+    ensures reading { Gives (λ _. tt) result (packet_sized_is feature.now name.now) }
     ensures steps { IfErr result (λ fault. array_vec_len fault.path ≤ 3) }
 {
-    let feature = &stream.event_header.timestamp;
-    timestamp_wide(alloc, feature, "event-record", "timestamp-field-type")
+    if is_whole(feature) {
+        Ok(())
+    } else {
+        Err(feature_fault(alloc, "packet", name, FaultKind::TimestampSize))
+    }
 }
 
-#[tactic(auto, unfolding(crate::specs::StreamRules::begin_is_wide))]
-fn begin_is_wide(alloc: Global, stream: &StreamType) -> Result<(), ConfFault>
-    ensures reading { Gives (λ _. tt) result (begin_is_wide_is stream.now) }
+#[tactic(auto, unfolding(crate::specs::StreamRules::record_sized))]
+fn record_sized(alloc: Global, stream: &StreamType) -> Result<(), ConfFault>
+    ensures reading { Gives (λ _. tt) result (record_sized_is stream.now) }
+    ensures steps { IfErr result (λ fault. array_vec_len fault.path ≤ 3) }
+{
+    if has_record_size(
+        &stream.context.timestamp_begin,
+        &stream.event_header.timestamp,
+    ) {
+        Ok(())
+    } else {
+        Err(feature_fault(
+            alloc,
+            "event-record",
+            "timestamp-field-type",
+            FaultKind::TimestampSize,
+        ))
+    }
+}
+
+#[tactic(auto, unfolding(crate::specs::StreamRules::begin_sized))]
+fn begin_sized(alloc: Global, stream: &StreamType) -> Result<(), ConfFault>
+    ensures reading { Gives (λ _. tt) result (begin_sized_is stream.now) }
     ensures steps { IfErr result (λ fault. array_vec_len fault.path ≤ 3) }
 {
     let feature = &stream.context.timestamp_begin;
-    timestamp_wide(alloc, feature, "packet", "beginning-timestamp-field-type")
+    packet_sized(alloc, feature, "beginning-timestamp-field-type")
 }
 
-#[tactic(auto, unfolding(crate::specs::StreamRules::end_is_wide))]
-fn end_is_wide(alloc: Global, stream: &StreamType) -> Result<(), ConfFault>
-    ensures reading { Gives (λ _. tt) result (end_is_wide_is stream.now) }
+#[tactic(auto, unfolding(crate::specs::StreamRules::end_sized))]
+fn end_sized(alloc: Global, stream: &StreamType) -> Result<(), ConfFault>
+    ensures reading { Gives (λ _. tt) result (end_sized_is stream.now) }
     ensures steps { IfErr result (λ fault. array_vec_len fault.path ≤ 3) }
 {
     let feature = &stream.context.timestamp_end;
-    timestamp_wide(alloc, feature, "packet", "end-timestamp-field-type")
+    packet_sized(alloc, feature, "end-timestamp-field-type")
 }
 
-#[tactic(auto, unfolding(crate::specs::StreamRules::timestamps_are_wide))]
-fn timestamps_are_wide(alloc: Global, stream: &StreamType) -> Result<(), ConfFault>
-    ensures reading { Gives (λ _. tt) result (timestamps_are_wide_is stream.now) }
+#[tactic(auto, unfolding(crate::specs::StreamRules::timestamps_sized))]
+fn timestamps_sized(alloc: Global, stream: &StreamType) -> Result<(), ConfFault>
+    ensures reading { Gives (λ _. tt) result (timestamps_sized_is stream.now) }
     ensures steps { IfErr result (λ fault. array_vec_len fault.path ≤ 3) }
 {
-    record_is_wide(alloc, stream)?;
-    begin_is_wide(alloc, stream)?;
-    end_is_wide(alloc, stream)?;
+    record_sized(alloc, stream)?;
+    begin_sized(alloc, stream)?;
+    end_sized(alloc, stream)?;
     Ok(())
 }
 
@@ -351,7 +368,7 @@ fn judged(
         StreamRule::NumbersFit => numbers_fit(alloc, stream),
         StreamRule::RecordsHaveBits => records_have_bits(alloc, stream),
         StreamRule::ClocksAreThere => clocks_are_there(alloc, clocks, stream),
-        StreamRule::TimestampsAreWide => timestamps_are_wide(alloc, stream),
+        StreamRule::TimestampsAreSized => timestamps_sized(alloc, stream),
     }
 }
 

@@ -39,6 +39,7 @@ pub(crate) fn push_wanted(
         FaultKind::NoClock => push_clock(source, said, found, name),
         FaultKind::FieldTooSmall => push_largest_number(source, said, path),
         FaultKind::Limit => push_limit(source, said, found),
+        FaultKind::TimestampSize => push_timestamp(said, name),
         _ => said.push_str(of_kind(fault.kind)),
     }
 }
@@ -54,7 +55,6 @@ fn of_kind(kind: FaultKind) -> &'static str {
             "an integer, an enumeration or a string in its contexts or its payload",
         FaultKind::NoUuid => "a UUID of the trace type, or with `auto` one from the caller",
         FaultKind::TwoOrders => "only one of `trace-byte-order` and `native-byte-order`",
-        FaultKind::TimestampSize => "a field of 64 bits, or the feature off",
         FaultKind::OutOfMemory => "more memory",
         FaultKind::WrongKind
         | FaultKind::NotWhole
@@ -66,7 +66,8 @@ fn of_kind(kind: FaultKind) -> &'static str {
         | FaultKind::NameClash
         | FaultKind::FieldTooSmall
         | FaultKind::NoClock
-        | FaultKind::Limit => "what this place allows",
+        | FaultKind::Limit
+        | FaultKind::TimestampSize => "what this place allows",
     }
 }
 
@@ -169,6 +170,16 @@ fn push_clock(
         return push_clocks(source, said, found.layer().at);
     }
     said.push_str("a `$default-clock-type-name` in this data stream type, or the feature off")
+}
+
+/// Adds what size a timestamp has: an event record's, or a packet's.
+fn push_timestamp(said: &mut String, name: &str) -> Result<(), AllocError> {
+    if name == "timestamp-field-type" {
+        return said.push_str(
+            "a field of 8 to 64 bits, fewer than 64 only beside the packet's beginning timestamp, or the feature off",
+        );
+    }
+    said.push_str("a field of 64 bits, or the feature off")
 }
 
 fn push_limit(source: Source<'_>, said: &mut String, found: &Found) -> Result<(), AllocError> {

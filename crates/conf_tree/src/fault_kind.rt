@@ -42,7 +42,7 @@ pub enum FaultKind {
     Limit,
     #[error("two byte orders: expected only one of `trace-byte-order` and `native-byte-order`")]
     TwoOrders,
-    #[error("timestamp field of a wrong size: expected one that can tell the times of this stream")]
+    #[error("timestamp field of a wrong size: expected 64 bits, or in event records 8 to 64 where the packet has its beginning timestamp")]
     TimestampSize,
     #[error("out of memory")]
     OutOfMemory,

@@ -500,7 +500,7 @@ module _ (clocks : List (List ℕ)) (s : StreamType) (h : IsStreamType clocks s)
   event_header_own : All (IsOwnMember clocks) (event_header_members s.event_header)
   event_header_own =
       all_event_header (IsOwnMember clocks) s.event_header (λ t e. number_is_own clocks (codes "id") t id_named (mapped_without_clock clocks t (h.id t e).1))
-      (λ t e. number_is_own clocks (codes "timestamp") t timestamp_named (mapped_to_default t (h.timestamp t e).3))
+      (λ t e. number_is_own clocks (codes "timestamp") t timestamp_named (mapped_to_default t (h.timestamp t e).4))
 
   event_header_is_allowed : IsStruct clocks (event_header_of s)
   unfolding event_header_of

@@ -3,6 +3,7 @@ pub use Rattle.data_types.proofs.MembersLemmas
 pub mod AllowedMembers
 pub mod AllowedMetadata
 pub mod BitsOfBytes
+pub mod ClockValues
 pub mod Ends
 pub mod FittingLemmas
 pub mod FrontsOfFiles

@@ -21,7 +21,7 @@ use Rattle.ctf_types.specs.Bits.{bit_of, number_of, number_at, AreZero}
 use Rattle.data_types.specs.Datum.{Unsigned}
 use Rattle.ctf_types.specs.Layout.{largest_align, leaf_end, field_end, member_end, members_end, struct_end, structs_end, IntLies, LeafLies, FieldLies, MemberLies, MembersLie, StructLies, StructsLie}
 use Rattle.ctf_types.specs.MetadataOf.{header_of, context_of, event_header_of, event_of, events_of, stream_of, streams_of, metadata_of}
-use Rattle.ctf_types.specs.Packets.{value_named, number_named, extras_in, stream_with, event_with, RecordLies, RecordsLie, PacketLies, PacketsLie, LieClean}
+use Rattle.ctf_types.specs.Packets.{value_named, number_named, extras_in, stream_with, event_with, at_begin, short_timestamp, unsigned_named, ClockIs, RecordLies, RecordsLie, PacketLies, PacketsLie, LieClean}
 use Rattle.ctf_types.specs.Shown.{shown_members}
 
 -- ---- the configuration and its metadata
@@ -129,8 +129,8 @@ nothing : (p : ℕ) → AreZero (bit_of Little bytes) p p
 unfolding AreZero
 nothing p k low high = absurd (omega arith)
 
-first_record : RecordLies Little (bit_of Little bytes) (AreZero (bit_of Little bytes)) stream 96 (record_of 1) 104
-unfolding StructsLie StructLies MembersLie MemberLies FieldLies LeafLies IntLies struct_end structs_end members_end largest_align member_end field_end leaf_end up bit_of number_of number_at event_with number_named
+first_record : RecordLies Little (bit_of Little bytes) (AreZero (bit_of Little bytes)) stream None 96 (record_of 1) 104
+unfolding StructsLie StructLies MembersLie MemberLies FieldLies LeafLies IntLies struct_end structs_end members_end largest_align member_end field_end leaf_end up bit_of number_of number_at event_with number_named ClockIs
 first_record = record {
   header = [];
   event = event;
@@ -141,8 +141,8 @@ first_record = record {
   has_bits = lit< tt;
 }
 
-second_record : RecordLies Little (bit_of Little bytes) (AreZero (bit_of Little bytes)) stream 104 (record_of 2) 112
-unfolding StructsLie StructLies MembersLie MemberLies FieldLies LeafLies IntLies struct_end structs_end members_end largest_align member_end field_end leaf_end up bit_of number_of number_at event_with number_named
+second_record : RecordLies Little (bit_of Little bytes) (AreZero (bit_of Little bytes)) stream None 104 (record_of 2) 112
+unfolding StructsLie StructLies MembersLie MemberLies FieldLies LeafLies IntLies struct_end structs_end members_end largest_align member_end field_end leaf_end up bit_of number_of number_at event_with number_named ClockIs
 second_record = record {
   header = [];
   event = event;
@@ -154,7 +154,7 @@ second_record = record {
 }
 
 packet_lies : PacketLies Little (bit_of Little bytes) (AreZero (bit_of Little bytes)) metadata 128 packet
-unfolding StructsLie StructLies MembersLie MemberLies FieldLies LeafLies IntLies RecordsLie struct_end structs_end members_end largest_align member_end field_end leaf_end up bit_of number_of number_at value_named number_named extras_in stream_with
+unfolding StructsLie StructLies MembersLie MemberLies FieldLies LeafLies IntLies RecordsLie struct_end structs_end members_end largest_align member_end field_end leaf_end up bit_of number_of number_at value_named number_named extras_in stream_with at_begin short_timestamp unsigned_named
 packet_lies = record {
   header = Unsigned 0xc1fc1fc1 ∷ [];
   context = Unsigned 128 ∷ Unsigned 112 ∷ [];

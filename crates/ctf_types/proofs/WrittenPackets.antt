@@ -11,7 +11,7 @@ use Rattle.ctf_types.specs.AllowedConfig.{IsStreamType}
 use Rattle.data_types.specs.Datum.{Datum}
 use Rattle.ctf_types.specs.Layout.{struct_end, structs_end, StructLies, StructsLie}
 use Rattle.ctf_types.specs.MetadataOf.{context_numbers, struct_with, header_of, context_of, stream_of, streams_of, metadata_of}
-use Rattle.ctf_types.specs.Packets.{own_names, stream_with, number_named, number_or_zero, HeaderMeans, RecordsLie, PacketLies}
+use Rattle.ctf_types.specs.Packets.{own_names, stream_with, number_named, number_or_zero, at_begin, short_timestamp, HeaderMeans, RecordsLie, PacketLies}
 use Rattle.ctf_types.specs.Shown.{shown}
 use Rattle.ctf_types.proofs.Numbered.{stream_with-streams_of}
 use Rattle.ctf_types.proofs.WrittenContexts.{context_lies_shown, context_end_shown, context_number, context_extras}
@@ -50,7 +50,7 @@ pub record PartsLie (o : ByteOrder) (b : ℕ → ℕ) (pad : ℕ → ℕ → Typ
   pub content_is : number_named (codes "content_size") (context_numbers s.context) ns ≡ Some content
   pub whole_bytes : size % 8 ≡ 0
   pub within : content ≤ size
-  pub records_lie : RecordsLie o b pad (stream_of i s) (written_start c s header (ns ++ xs)) rs content
+  pub records_lie : RecordsLie o b pad (stream_of i s) (at_begin (short_timestamp (stream_of i s)) (packet_of s i ns xs rs).begin) (written_start c s header (ns ++ xs)) rs content
   pub padding : pad content size
 
 pub packet_lies_of_parts : (o : ByteOrder) (b : ℕ → ℕ) (pad : ℕ → ℕ → Type 0) (c : Config) (s : StreamType) (i size content : ℕ) (header ns xs : List Datum) (rs : List Record) →
@@ -82,6 +82,6 @@ packet_lies_of_parts o b pad c s i size content header ns xs rs clocks allowed x
       discarded_is = sym (named (codes "events_discarded") refl);
       sequence_is = sym (named (codes "packet_seq_num") refl);
       extras_are = sym (context_extras s ns xs x.as_many_numbers clocks allowed x.as_many_extras);
-      records = subst (λ (q : ℕ). RecordsLie o b pad (stream_of i s) q rs content) (sym end) x.records_lie;
+      records = subst (λ (q : ℕ). RecordsLie o b pad (stream_of i s) (at_begin (short_timestamp (stream_of i s)) (packet_of s i ns xs rs).begin) q rs content) (sym end) x.records_lie;
       padding = x.padding;
     }

@@ -20,7 +20,7 @@ use Rattle.data_types.specs.FieldTypes.{chain_of}
 use Rattle.ctf_types.specs.Laws.{IsAutomatic, AreAutomatic}
 use Rattle.ctf_types.specs.Layout.{leaf_align, elements_in, end_all, field_end, member_end, members_end, members_start, struct_end, structs_end, EachLies, ArrayLies, FieldLies, MemberLies, MembersLie, StructLies, StructsLie}
 use Rattle.ctf_types.specs.MetadataOf.{number_member, struct_with, event_header_of, event_of, events_of, stream_of}
-use Rattle.ctf_types.specs.Packets.{event_with, number_named, number_or_zero, RecordLies}
+use Rattle.ctf_types.specs.Packets.{event_with, number_named, number_or_zero, Before, ClockIs, RecordLies}
 use Rattle.ctf_types.specs.Shown.{shown}
 use Rattle.ctf_types.proofs.Ends.{le-up, leaf_is_aligned, lt-leaf_end, le-end_all, le-field_end, le-member_end, le-members_end, le-members_start, le-struct_end}
 use Rattle.ctf_types.proofs.Numbered.{event_with-events_of}
@@ -172,14 +172,14 @@ module _ (o : ByteOrder) (b : ℕ → ℕ) (pad : ℕ → ℕ → Type 0) (clock
           let k : p3 < p4 = struct_has_bits o b pad e.payload p3 payload (all_automatic_of_config e.payload.members event.payload.members) h (((x.1).1).1).0 in omega (arith, a1, a2, a3)
 
   -- the record that such values are, with its place among the event record types, its clock value and its shown values
-  pub record_lies_shown : (n i p : ℕ) (clock : Option ℕ) (header common specific payload : List Datum) → slice_get s.events i ≡ Some e →
-      number_or_zero (codes "id") (event_header_of s).members header ≡ i → clock ≡ number_named (codes "timestamp") (event_header_of s).members header →
+  pub record_lies_shown : (n i p : ℕ) (before : Before) (clock : Option ℕ) (header common specific payload : List Datum) → slice_get s.events i ≡ Some e →
+      number_or_zero (codes "id") (event_header_of s).members header ≡ i → ClockIs before (number_named (codes "timestamp") (event_header_of s).members header) clock →
       StructsLie o b pad (record_structs s e) p (header ∷ common ∷ specific ∷ payload ∷ []) →
-      RecordLies o b pad (stream_of n s) p
+      RecordLies o b pad (stream_of n s) before p
       (record { event = i; clock = clock; common = shown s.common.members common; specific = shown e.specific.members specific; payload = shown e.payload.members payload })
       (structs_end (record_structs s e) p (header ∷ common ∷ specific ∷ payload ∷ []))
   unfolding stream_of event_of StructsLie structs_end shown_each
-  record_lies_shown n i p clock header common specific payload at id time x =
+  record_lies_shown n i p before clock header common specific payload at id time x =
       let q : ℕ = struct_end (event_header_of s) p header in
       let ss : List StructType = s.common ∷ e.specific ∷ e.payload ∷ [] in
       let P : StructType → Type 0 = λ t. AreAutomatic t.members in

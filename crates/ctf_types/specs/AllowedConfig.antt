@@ -104,6 +104,10 @@ IsPlainUnsigned t = (t.signed ≡ false) × (t.clock ≡ None)
 abbrev pub IsTimestamp : Option (List ℕ) → IntType → Type 0
 IsTimestamp default_clock t = (t.signed ≡ false) × (t.size ≡ 64) × IsSome default_clock × (t.clock ≡ default_clock)
 
+-- an event record's: of 8 bits or more. Where it has fewer than 64, a packet says the clock value at which it begins, and its records count from there
+abbrev pub IsRecordTimestamp : Option (List ℕ) → Option IntType → IntType → Type 0
+IsRecordTimestamp default_clock begin t = (t.signed ≡ false) × (8 ≤ t.size) × ((t.size ≡ 64) ⊎ IsSome begin) × IsSome default_clock × (t.clock ≡ default_clock)
+
 -- ---- event record types
 
 -- a field with bits: an integer, an enumeration or a string that is in no empty array. A dynamic array has its length
@@ -139,7 +143,7 @@ pub record IsStreamType (clocks : List (List ℕ)) (s : StreamType) : Type 0 whe
   pub no_own_name : All (λ name. list_any (bytes_eq name) own_names ≡ false) (names_in (shown_members 0 s.extras.members))
   pub id : OnlyIf s.event_header.id IsPlainUnsigned
   pub id_holds : HoldsUpTo (length s.events - 1) s.event_header.id
-  pub timestamp : OnlyIf s.event_header.timestamp (IsTimestamp s.default_clock)
+  pub timestamp : OnlyIf s.event_header.timestamp (IsRecordTimestamp s.default_clock s.context.timestamp_begin)
   pub common : IsConfigStruct s.common
   pub events : All (IsEventType s) s.events
   pub events_in_order : InByteOrder (map (λ e. e.name) s.events)

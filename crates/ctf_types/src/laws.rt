@@ -1,6 +1,6 @@
 //! Laws of the layout: what holds of all values, structures and bits. The functions do nothing; their contracts are the laws.
 
-ghost use Rattle.ctf_types.specs.Laws.{OneFieldEnd, OneStructEnd, OneRecord, OneFieldValue, OneValue, OnePacket, OnePacketList, FrontOfFile, LyingFits, OwnBits, OwnZeros, OwnPacketBits, CleanIsLying, ShownLies, ShownLieClean, ShownEnd, AllowedStaysAllowed};
+ghost use Rattle.ctf_types.specs.Laws.{OneFieldEnd, OneStructEnd, OneRecord, ToldByLowBits, OneClockValue, ToldWithinACycle, OneFieldValue, OneValue, OnePacket, OnePacketList, FrontOfFile, LyingFits, OwnBits, OwnZeros, OwnPacketBits, CleanIsLying, ShownLies, ShownLieClean, ShownEnd, AllowedStaysAllowed};
 ghost use Rattle.ctf_types.specs.PacketRuns.{RunsJoin, RunsJoinClean, FilesJoin, FilesJoinClean, PiecesJoin, PiecesJoinClean, FrontLies, FrontLiesClean, FrontIsOfOneStream, FrontNeverFalls, FrontOfStream, CleanStructLies, CleanPacketLies, CleanStreamLies};
 
 /// In given bits a field has at most one value at a place, and a structure one list of values: what a reader finds there is what was written.
@@ -16,6 +16,14 @@ pub fn one_end()
     ensures of_a_field { OneFieldEnd }
     ensures of_a_structure { OneStructEnd }
     ensures of_a_record { OneRecord }
+{}
+
+/// A short timestamp loses no clock value: one that is less than a cycle of its bits behind the value before it is the one that a reader finds
+/// (CTF 1.8.3, section 8).
+pub fn short_timestamps()
+    ensures told { ToldByLowBits }
+    ensures one { OneClockValue }
+    ensures within { ToldWithinACycle }
 {}
 
 /// The bytes of a stream file are at most one list of packets. A file that is cut off holds the first of them.

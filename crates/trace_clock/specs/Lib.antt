@@ -1,3 +1,4 @@
+pub mod Floors
 pub mod History
 pub mod SeatLaws
 pub mod Seats

@@ -5,6 +5,7 @@ mod bounds;
 mod clock_fault;
 mod clock_steps;
 mod clock_table;
+mod floor_clock;
 mod joining;
 mod known;
 mod message;
@@ -15,6 +16,7 @@ mod view;
 
 pub use bounds::Bounds;
 pub use clock_fault::ClockFault;
+pub use floor_clock::FloorClock;
 pub use joining::join_all;
 pub use known::Known;
 pub use message::{Clocked, Message};

@@ -17,7 +17,7 @@ use Rattle.ctf_types.specs.declared.StreamType.{StreamType}
 use Rattle.ctf_types.specs.declared.Config.{Config}
 use Rattle.ctf_types.specs.declared.Metadata.{Metadata}
 use Rattle.ctf_types.specs.Allowed.{IsMappedTo, IsNest, elements_of, IsMember, AreMembers, IsStruct, IsUnsigned, IsMagic, IsIdentity, IsEvent, IsStream, IsMetadata}
-use Rattle.ctf_types.specs.AllowedConfig.{IsConfig, IsConfigMember, IsConfigStruct, IsEventType, IsStreamType, OnlyIf, IsPlainUnsigned, IsTimestamp, IsClockType, IsEnvironmentValue, StructHasBits}
+use Rattle.ctf_types.specs.AllowedConfig.{IsConfig, IsConfigMember, IsConfigStruct, IsEventType, IsStreamType, OnlyIf, IsPlainUnsigned, IsTimestamp, IsRecordTimestamp, IsClockType, IsEnvironmentValue, StructHasBits}
 use Rattle.ctf_types.specs.MetadataOf.{metadata_of, header_of, streams_of, stream_of, context_of, event_header_of, events_of, event_of}
 use Rattle.ctf_types.specs.Names.{IsMetadataName, IsConfigName, IsPlainName, is_identifier}
 use Rattle.ctf_types.specs.Shown.{shown_members}
@@ -203,7 +203,7 @@ stream_configured = record {
   no_own_name = All-nil (λ (name : List ℕ). list_any (bytes_eq name) own_names ≡ false);
   id = nothing_if IsPlainUnsigned;
   id_holds = refl;
-  timestamp = nothing_if (IsTimestamp None);
+  timestamp = nothing_if (IsRecordTimestamp None None);
   common = no_struct_configured;
   events = all_one (IsEventType small_stream_type) small_event_type event_configured;
   events_in_order = (tt, tt);

@@ -1,5 +1,6 @@
 //! A module a crate.
 
+mod again;
 mod bits;
 mod clocks;
 mod codec;

@@ -1,4 +1,4 @@
-//! Worked rows that cross the crates: tables of tests, and nothing else.
+//! Worked rows of sessions, of scripts, and of whole traces: tables of tests, and nothing else.
 #![tactic(auto)]
 
 #[cfg(test)]

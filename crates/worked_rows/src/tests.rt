@@ -1,41 +1,13 @@
-//! Worked rows over the public calls.
+//! Worked rows over sessions, scripts and whole traces.
 
 mod added_streams;
-mod alignments;
-mod changed_bytes;
-mod clock_values;
-mod configurations;
-mod context_faults;
-mod damaged_files;
-mod declined_ends;
-mod ended_threads;
 mod example;
-mod gaps;
-mod header_faults;
-mod judging;
-mod limits;
+mod failing_readers;
 mod memory;
-mod packet_by_packet;
-mod packet_layouts;
 mod positions;
 mod printed_traces;
-mod reading;
-mod record_faults;
-mod recycled_buffers;
-mod reserved_words;
-mod rings;
 mod scripts;
 mod session_calls;
 mod session_steps;
 mod sessions;
-mod shown_trace;
-mod small;
-mod stream_files;
-mod stream_steps;
-mod streams;
-mod tables;
-mod telling;
-mod thread_gates;
-mod thread_steps;
-mod threads;
 mod whole_traces;

@@ -1,5 +1,6 @@
 //! A module a crate.
 
+mod again;
 mod conf_faults;
 mod configured;
 mod copies;

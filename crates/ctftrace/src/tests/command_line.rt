@@ -37,6 +37,14 @@ static ROWS: &[(&[&str], &str)] = &[
         "Trace(TraceCommand { config: \"c\", script: \"s\", folder: \"d\", packet_bytes: 16, buffers: 1024, uuid: None, is_quiet: true, workers: None })",
     ),
     (
+        &["trace", "c", "s", "d", "--packet", "1", "--buffers=1"],
+        "Trace(TraceCommand { config: \"c\", script: \"s\", folder: \"d\", packet_bytes: 1, buffers: 1, uuid: None, is_quiet: false, workers: None })",
+    ),
+    (
+        &["trace", "c", "s", "d", "--packet=1048576"],
+        "Trace(TraceCommand { config: \"c\", script: \"s\", folder: \"d\", packet_bytes: 1048576, buffers: 4, uuid: None, is_quiet: false, workers: None })",
+    ),
+    (
         &["trace", "c", "s", "d", "--workers"],
         "Trace(TraceCommand { config: \"c\", script: \"s\", folder: \"d\", packet_bytes: 4096, buffers: 4, uuid: None, is_quiet: false, workers: Some(Quota { readings: 1000000 }) })",
     ),

@@ -132,6 +132,7 @@ static LINES: &[(&[&str], u8)] = &[
     (&["metadata", "a", "--uuid", "b"], 2),
     (&["trace", "c", "s"], 2),
     (&["trace", "c", "s", "d", "--packet", "0"], 2),
+    (&["trace", "c", "s", "d", "--buffers", "0"], 2),
     (&["trace", "c", "s", "d", "--packet=1048577"], 2),
     (&["trace", "c", "s", "d", "--packet", "-1"], 2),
     (

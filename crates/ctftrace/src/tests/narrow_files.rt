@@ -11,20 +11,22 @@ use std::test::Fail;
 use std::thread::Threads;
 use trace_commands::{Progress, run};
 
-/// The files of a runtime, of which the one at this path has room for so many bytes.
+/// The files of a runtime, which take at most `piece` bytes by one write, and of which the one at this path has room for so many bytes.
 #[derive(Clone, Copy)]
-struct NarrowFiles<'a, R> {
-    rt: &'a R,
-    path: &'a str,
-    room: usize,
+pub struct NarrowFiles<'a, R> {
+    pub rt: &'a R,
+    pub path: &'a str,
+    pub room: usize,
+    pub piece: usize,
     /// Whether it was to say how far a command is.
-    is_asked: &'a Cell<bool>,
+    pub is_asked: &'a Cell<bool>,
 }
 
 #[derive(Drop)]
-struct NarrowFile<F> {
+pub struct NarrowFile<F> {
     file: F,
     room: usize,
+    piece: usize,
 }
 
 impl<F: Read> Read for NarrowFile<F> {
@@ -35,7 +37,7 @@ impl<F: Read> Read for NarrowFile<F> {
 
 impl<F: Write> Write for NarrowFile<F> {
     fn write(&mut self, bytes: &[u8]) -> IoResult<usize> {
-        let most = bytes.len().min(self.room);
+        let most = bytes.len().min(self.room).min(self.piece);
         if most == 0 {
             return Err(Error::from(ErrorKind::StorageFull));
         }
@@ -105,7 +107,11 @@ impl<R: Files> Files for NarrowFiles<'_, R> {
         } else {
             usize::MAX
         };
-        Ok(NarrowFile { file, room })
+        Ok(NarrowFile {
+            file,
+            room,
+            piece: self.piece,
+        })
     }
 
     fn open_dir(&self, path: &str) -> IoResult<R::Dir> {
@@ -167,6 +173,7 @@ fn traced<R: Files + AllocGlobal + Clone + Threads + Wait>(
         rt,
         path,
         room,
+        piece: usize::MAX,
         is_asked: &is_asked,
     };
     let mut input = b"".as_slice();
@@ -272,6 +279,7 @@ fn asks_for_progress<R: Files + AllocGlobal + Clone + Threads + Wait>(
         rt,
         path: "",
         room: 0,
+        piece: usize::MAX,
         is_asked: &is_asked,
     };
     let mut input = b"".as_slice();

@@ -10,7 +10,7 @@ use std::test::Fail;
 use std::thread::Threads;
 
 /// One stream type with one event record type of a byte.
-const SMALL: &str =
+pub const SMALL: &str =
     r#"{"trace":{"type":{"trace-byte-order":"le","$features":{"data-stream-type-id-field-type":false},"data-stream-types":{"s":{"$features":{"packet":{"total-size-field-type":{"class":"uint","size":32},"content-size-field-type":{"class":"uint","size":32},"discarded-event-records-counter-snapshot-field-type":false},"event-record":{"type-id-field-type":false}},"event-record-types":{"e":{"payload-field-type":{"class":"struct","members":[{"v":{"field-type":{"class":"uint","size":8}}}]}}}}}}}}"#;
 
 /// One stream type with a clock and two event record types, in big-endian order.

@@ -1,4 +1,4 @@
-//! One clock for many threads: its readings are given once each, up to the quota of each seat.
+//! One clock for many threads: its readings are given once each, up to the quota of each seat. A clock with a floor.
 
 ghost use Rattle.std.specs.Prelude.{◌≡◌};
 ghost use Rattle.trace_clock.specs.Seats.{SameClock, clock_of, told_clock};
@@ -6,8 +6,8 @@ ghost use Rattle.trace_clock.specs.Seats.{SameClock, clock_of, told_clock};
 use std::alloc::{AllocError, Global};
 use std::test::Fail;
 use std::thread;
-use trace_clock::{ClockFault, TickClock, TickSeat, Told, join_all};
-use trace_platform::{Clock, ClockSpent};
+use trace_clock::{ClockFault, FloorClock, TickClock, TickSeat, Told, join_all};
+use trace_platform::{Clock, ClockSpent, ListClock};
 
 #[test]
 fn gives_no_more_readings_than_its_total(rt: HostRuntime) -> Result<(), Fail> {
@@ -136,5 +136,17 @@ fn all_seats_join_the_first(rt: HostRuntime) -> Result<(), Fail> {
     assert!(rt; all.read() == Ok(1));
     assert!(rt; all.read() == Ok(2));
     assert!(rt; all.read() == Err(ClockSpent));
+    Ok(())
+}
+
+#[test]
+fn a_floor_clock_begins_at_its_floor(rt: HostRuntime) -> Result<(), Fail> {
+    let readings = vec![in rt.alloc(); 3, 9]?;
+    let clock = ListClock::new(readings).ok_or("these never fall")?;
+    let mut clock = FloorClock::new(clock, 5);
+    assert!(rt; clock.read() == Ok(5));
+    assert!(rt; clock.read() == Ok(9));
+    assert!(rt; clock.read() == Err(ClockSpent));
+    assert!(rt; clock.spent_count() == 1);
     Ok(())
 }

@@ -1,9 +1,9 @@
 //! Streams that a session takes, and those that it refuses.
 
 use crate::tests::session_steps::{Prepared, SOURCE, Source, with, with_name, without_streams};
-use crate::tests::small::small;
 use std::alloc::Global;
 use std::test::Fail;
+use worked_fixtures::small;
 
 /// A session of the small configuration, without streams.
 fn small_session(alloc: Global) -> Result<Prepared, Fail> {

@@ -1,205 +1,97 @@
-//! Calls that take memory, each answering want of memory in the words `out of memory` wherever a request is refused, and tracing, which takes none:
-//! the script beside the gate refuses each request of these tests in turn, and counts those of tracing.
+//! A session from its beginning on, and its trace read back: each of its calls that takes memory.
 
-mod session;
+ghost use Rattle.std.specs.Prelude.{◌≡◌, [], IfOk};
 
-ghost use Rattle.std.specs.Prelude.{IfOk};
-ghost use Rattle.ctf_types.specs.Allowed.{IsMetadata};
-ghost use Rattle.ctf_types.specs.AllowedConfig.{IsConfig};
-
-use crate::tests::recycled_buffers::opens_and_closes;
-use crate::tests::small::{Datum, SMALL, changed, payload};
-use conf_check::configure;
-use ctf_types::{Args, Config, Metadata, Text, Values};
-use packet_collector::{Collected, collect_into};
-use packet_reader::{ReadStream, StreamEnding, read_stream};
-use packet_ring::ring;
-use std::alloc::{AllocError, Global};
-use std::process::Abort;
+use packet_collector::FinishAnswer;
+use std::alloc::Global;
 use std::test::Fail;
-use thread_stream::{Stream, Verdict};
-use trace_platform::{BackEnd, ListBackEnd, ListClock, MemorySink, PacketSource};
-use tsdl_reader::read_metadata;
-use tsdl_writer::write_metadata;
+use trace_platform::{ListBackEnd, ListClock, MemorySink};
+use trace_stack::{Act, Event, FinishedSession, Session, read_trace, run_events};
+use worked_fixtures::{Datum, SMALL, changed, configuration, granted, payload, values};
 
-/// Clocks, features with types of their own, enumerations, arrays, extra members, an environment, and aliases that inherit from others.
-const RICH: &str =
-    r#"{"trace":{"environment":{"host":"a\"b\n","version":-3},"type":{"native-byte-order":"be","uuid":"79e49040-21b5-42d4-a83b-646f78666b62","clock-types":{"clk":{"frequency":1000,"description":"since boot","uuid":"79e49040-21b5-42d4-a83b-646f78666b63","precision":5,"offset":{"seconds":-1,"cycles":2},"origin-is-unix-epoch":false},"other":{}},"$log-level-aliases":{"LOUD":7,"QUIET":1},"$field-type-aliases":{"u8":{"class":"uint","size":8},"u16":{"$inherit":"u8","size":16},"state":{"class":"uenum","size":8,"mappings":{"OFF":[0],"ON":[[1,3],9]}},"more":{"$inherit":"state","mappings":{"ON":[12]}},"point":{"class":"struct","members":[{"x":"u8"},{"y":"u16"}]},"space":{"$inherit":"point","members":[{"z":{"field-type":"more"}}]}},"$features":{"magic-field-type":{"class":"uint","size":32,"alignment":32},"uuid-field-type":{"class":"static-array","length":16,"element-field-type":"u8"},"data-stream-type-id-field-type":"u8"},"data-stream-types":{"s":{"$default-clock-type-name":"clk","$features":{"packet":{"total-size-field-type":"u16","content-size-field-type":"u16","sequence-number-field-type":"u8"},"event-record":{"type-id-field-type":"u8"}},"packet-context-field-type-extra-members":[{"cpu":"u8"},{"names":{"field-type":{"class":"dynamic-array","element-field-type":{"class":"str"}}}}],"event-record-common-context-field-type":{"class":"struct","members":[{"pid":{"field-type":"u16"}}]},"event-record-types":{"a":{"log-level":"LOUD","specific-context-field-type":"point","payload-field-type":"space"},"b":{"log-level":4,"payload-field-type":{"class":"struct","members":[{"s":{"field-type":{"class":"str"}}},{"grid":{"field-type":{"class":"static-array","length":2,"element-field-type":{"class":"static-array","length":3,"element-field-type":"u8"}}}},{"list":{"field-type":{"class":"dynamic-array","element-field-type":"u16"}}}]}}}},"t":{}}}}}"#;
+/// Each packet says a number of its own.
+const EXTRAS: &str = r#"[{"cpu":{"field-type":{"class":"uint","size":8}}}]"#;
 
-/// A string, a list and an array of strings.
-const LISTS: &str =
-    r#"[{"s":{"field-type":{"class":"str"}}},{"a":{"field-type":{"class":"dynamic-array","element-field-type":{"class":"uint","size":8}}}},{"t":{"field-type":{"class":"static-array","length":2,"element-field-type":{"class":"str"}}}}]"#;
+type Listed = Session<ListClock, ListBackEnd, MemorySink>;
 
-/// A packet of 24 bytes with the record `"Hi"`, `[5, 6]`, `["x", ""]`.
-const FILE: &[u8] = &[
-    0xc1, 0x1f, 0xfc, 0xc1, 0xc0, 0, 0, 0, 0xc0, 0, 0, 0, 0x48, 0x69, 0, 2, 0, 0, 0, 5, 6, 0x78, 0,
-    0,
-];
-
-/// What was made, or want of memory in the words that each call's own fault has for it.
-fn granted<T>(answer: Result<T, AllocError>) -> Result<T, Fail> {
-    match answer {
-        Ok(value) => Ok(value),
-        Err(_) => Err(Fail::new("out of memory")),
-    }
-}
-
-fn configuration(alloc: Global, text: &str) -> Result<Config, Fail>
-    ensures { IfOk result (λ c. IsConfig c) }
-{
-    match configure(alloc, text.as_bytes(), None) {
-        Ok(config) => Ok(config),
+#[test]
+fn records_a_session_and_reads_it(rt: HostRuntime) -> Result<(), Fail> {
+    let alloc = rt.alloc();
+    let mut session = started(alloc)?;
+    let metadata = granted(session.metadata())?;
+    run(alloc, &mut session)?;
+    let files = files_of(alloc, session)?;
+    match read_trace(alloc, metadata.as_bytes(), &files) {
+        Ok(trace) => {
+            assert_eq!(rt; trace.streams.len(), 1);
+            assert_eq!(rt; trace.order.len(), 2);
+            Ok(())
+        }
         Err(fault) => Err(Fail::new(fault)),
     }
 }
 
-/// The metadata that is read from the configuration's text.
-fn read_back(alloc: Global, config: &Config) -> Result<Metadata, Fail>
-    ensures { IfOk result (λ m. IsMetadata m) }
-{
-    let text = granted(write_metadata(alloc, config))?;
-    match read_metadata(alloc, text.as_bytes()) {
-        Ok(metadata) => Ok(metadata),
-        Err(fault) => Err(Fail::new(fault.kind)),
-    }
+/// A session with one stream.
+fn started(alloc: Global) -> Result<Listed, Fail> {
+    let text = granted(changed(alloc, SMALL, &[("EXTRAS", EXTRAS)]))?;
+    let mut session = Session::new(alloc, configuration(alloc, text.as_str())?);
+    add_stream(alloc, &mut session)?;
+    Ok(session)
 }
 
-fn read(alloc: Global, metadata: &Metadata, bytes: &[u8]) -> Result<ReadStream, Fail>
-    requires { IsMetadata metadata.now }
-{
-    let name = granted(Text::from_str(alloc, "a"))?;
-    granted(read_stream(alloc, metadata, name, bytes))
-}
-
-#[test]
-fn makes_a_configuration(rt: HostRuntime) -> Result<(), Fail> {
-    let config = configuration(rt.alloc(), RICH)?;
-    assert_eq!(rt; config.streams.len(), 2);
-    Ok(())
-}
-
-/// Its last fault, two byte orders, is found behind all readings of its objects.
-#[test]
-fn refuses_a_configuration(rt: HostRuntime) -> Result<(), Fail> {
-    let alloc = rt.alloc();
-    let both = r#""trace-byte-order":"be","native-byte-order""#;
-    let text = granted(RICH.replace(alloc, r#""native-byte-order""#, both))?;
-    match configure(alloc, text.as_str().as_bytes(), None) {
-        Ok(_) => Err(Fail::new("two byte orders")),
-        Err(fault) => {
-            if fault.is_memory() {
-                return Err(Fail::new(fault));
-            }
-            assert!(rt; fault.path.len() == 2);
-            Ok(())
-        }
-    }
-}
-
-#[test]
-fn writes_and_reads_metadata(rt: HostRuntime) -> Result<(), Fail> {
-    let alloc = rt.alloc();
-    let metadata = read_back(alloc, &configuration(alloc, RICH)?)?;
-    assert_eq!(rt; metadata.streams.len(), 2);
-    Ok(())
-}
-
-#[test]
-fn reads_strings_and_lists(rt: HostRuntime) -> Result<(), Fail> {
-    let read = lists_read(rt.alloc())?;
-    assert_eq!(rt; read.packets.len(), 1);
-    assert!(rt; matches!(read.end, StreamEnding::Whole));
-    Ok(())
-}
-
-/// What is read of `FILE` by the metadata of the small configuration with `LISTS`.
-fn lists_read(alloc: Global) -> Result<ReadStream, Fail> {
-    let text = granted(changed(alloc, SMALL, &[("PAYLOAD", LISTS)]))?;
-    let metadata = read_back(alloc, &configuration(alloc, text.as_str())?)?;
-    read(alloc, &metadata, FILE)
-}
-
-#[test]
-fn traces_one_record(rt: HostRuntime) -> Result<(), Fail> {
-    traces(&rt, rt.alloc(), 1)
-}
-
-#[test]
-fn traces_a_thousand_records(rt: HostRuntime) -> Result<(), Fail> {
-    traces(&rt, rt.alloc(), 1000)
-}
-
-/// Traces so many records with one list of arguments, and takes each packet as it is closed.
-fn traces(rt: &impl Abort, alloc: Global, records: u32) -> Result<(), Fail> {
-    let args = granted(payload(alloc, &[Datum::Unsigned(7)]))?;
-    let back_end = granted(ListBackEnd::new(alloc, 2, 16))?;
-    let mut stream = stream_over(alloc, back_end)?;
-    for _ in 0..records {
-        traces_and_takes(rt, &mut stream, &args);
-    }
-    Ok(())
-}
-
-/// A stream of the small configuration over this back end.
-fn stream_over<B: BackEnd + Drop>(
-    alloc: Global,
-    back_end: B,
-) -> Result<Stream<ListClock, B>, Fail> {
-    let text = granted(changed(alloc, SMALL, &[]))?;
-    let config = configuration(alloc, text.as_str())?;
+fn add_stream(alloc: Global, session: &mut Listed) -> Result<(), Fail> {
     let clock = ListClock::new(Vec::new(alloc)).ok_or("readings that fall")?;
-    match Stream::new(alloc, &config, "s", clock, back_end, Values::new(alloc)) {
-        Ok(stream) => Ok(stream),
+    let back_end = two_buffers(alloc)?;
+    let extras = granted(values(alloc, &[Datum::Unsigned(1)]))?;
+    match session.add_stream("a", "s", clock, back_end, MemorySink::new(alloc), extras) {
+        Ok(_) => Ok(()),
         Err(refused) => Err(Fail::new(refused.fault)),
     }
 }
 
-fn traces_and_takes(rt: &impl Abort, stream: &mut Stream<ListClock, ListBackEnd>, args: &Args) {
-    let answer = stream.trace(0, args);
-    assert_eq!(rt; answer, Verdict::Accepted(None));
-    if let Some(packet) = stream.take() {
-        stream.give_back(packet.into_buf());
+fn two_buffers(alloc: Global) -> Result<ListBackEnd, Fail>
+    ensures { IfOk result (λ b. b.waiting ≡ []) }
+{
+    match ListBackEnd::new(alloc, 2, 20) {
+        Ok(back_end) => Ok(back_end),
+        Err(_) => Err(Fail::new("out of memory")),
     }
 }
 
-#[test]
-fn traces_one_record_over_a_ring(rt: HostRuntime) -> Result<(), Fail> {
-    traces_over_a_ring(&rt, rt.alloc(), 1)
+/// Traces a call into each of two packets, which have different extra members.
+fn run(alloc: Global, session: &mut Listed) -> Result<(), Fail> {
+    let extras = granted(values(alloc, &[Datum::Unsigned(2)]))?;
+    let first = granted(payload(alloc, &[Datum::Unsigned(7)]))?;
+    let second = granted(payload(alloc, &[Datum::Unsigned(8)]))?;
+    act(session, Act::Trace(0, first))?;
+    act(session, Act::ClosePacket)?;
+    act(session, Act::Extras(extras))?;
+    act(session, Act::Trace(0, second))
 }
 
-#[test]
-fn traces_a_thousand_records_over_a_ring(rt: HostRuntime) -> Result<(), Fail> {
-    traces_over_a_ring(&rt, rt.alloc(), 1000)
+fn act(session: &mut Listed, act: Act) -> Result<(), Fail> {
+    if session.stream_count() == 0 {
+        return Err("no stream".into());
+    }
+    granted(run_events(session, &[Event { stream: 0, act }]))?;
+    Ok(())
 }
 
-/// Traces so many records over a ring of one place, and takes each packet as it is closed.
-fn traces_over_a_ring(rt: &impl Abort, alloc: Global, records: u32) -> Result<(), Fail> {
-    let args = granted(payload(alloc, &[Datum::Unsigned(7)]))?;
-    let (back_end, mut ring_end) = granted(ring(alloc, 1, 16))?;
-    let mut stream = stream_over(alloc, back_end)?;
-    for _ in 0..records {
-        let answer = stream.trace(0, &args);
-        assert_eq!(rt; answer, Verdict::Accepted(None));
-        if let Some(packet) = ring_end.take() {
-            ring_end.give_back(packet.into_buf());
+/// The stream files of a session, once it is finished. A sink in memory faults where its memory is refused, and nowhere else.
+fn files_of(alloc: Global, session: Listed) -> Result<Vec<(String, Vec<u8>)>, Fail> {
+    let Ok(finished) = session.finish_all() else {
+        return Err("out of memory".into());
+    };
+    let FinishedSession { sinks, answers } = finished;
+    if !answers.as_slice().contains(&FinishAnswer::Settled) {
+        return Err("out of memory".into());
+    }
+    let mut files = Vec::new(alloc);
+    for sink in sinks {
+        let name = granted(String::from_str(alloc, "a"))?;
+        if files.push((name, sink.into_bytes())).is_err() {
+            return Err("out of memory".into());
         }
     }
-    Ok(())
-}
-
-/// Opens, closes and collects 300 packets over a ring of one place, into a sink with room for their bytes. Each answer is the ample one once all is
-/// made, whichever request is refused: there is none.
-#[test]
-fn collects_300_packets_over_a_ring(rt: HostRuntime) -> Result<(), Fail> {
-    let alloc = rt.alloc();
-    let (back_end, mut ring_end) = granted(ring(alloc, 1, 16))?;
-    let mut stream = stream_over(alloc, back_end)?;
-    let mut sink = granted(MemorySink::with_capacity(alloc, 300 * 16))?;
-    let mut faulted = false;
-    for number in 0..300 {
-        opens_and_closes(&rt, &mut stream);
-        let answer = collect_into(&mut sink, &mut faulted, &mut ring_end);
-        assert_eq!(rt; answer, Collected::Took(number));
-    }
-    Ok(())
+    Ok(files)
 }

@@ -1,10 +1,10 @@
 //! Where a record stands in the order of a whole trace.
 
-use crate::tests::small::{CLOCKED, changed, configured};
 use crate::tests::whole_traces::read_files;
 use std::test::Fail;
 use trace_stack::position;
 use tsdl_writer::write_metadata;
+use worked_fixtures::{CLOCKED, changed, configured};
 
 /// Two streams of `CLOCKED`: one with event records at 10 and 11 that ends at 12, and one with an event record at 10 that ends at 11.
 const FILES: &str = r#"

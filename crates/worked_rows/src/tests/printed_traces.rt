@@ -1,12 +1,12 @@
 //! Traces that were read, printed.
 
-use crate::tests::small::{CLOCKED, Changes, SMALL, bytes_of, changed, configured};
 use std::alloc::Global;
 use std::test::Fail;
 use trace_platform::StoppingWriter;
 use trace_stack::{ReadTrace, read_trace};
 use trace_text::{PrintFault, print_trace};
 use tsdl_writer::write_metadata;
+use worked_fixtures::{CLOCKED, Changes, SMALL, bytes_of, changed, configured};
 
 /// `SMALL` or `CLOCKED` with changes, the stream files of a trace, a line each with a file's name and its bytes in hexadecimal, and the printed text.
 type Row = (&'static str, Changes, &'static str, &'static str);

@@ -1,12 +1,12 @@
 //! Scripts: what their texts say of the configuration with a clock, and the first fault of those that say none.
 
-use crate::tests::small::{CLOCKED, Changes, WITH_BITS, changed, configured, small};
 use ctf_types::Config;
 use std::alloc::{AllocError, Global};
 use std::process::Abort;
 use std::test::Fail;
 use trace_stack::{Act, Event, NameFault};
 use trace_text::{Script, names_fault, read_script};
+use worked_fixtures::{CLOCKED, Changes, WITH_BITS, changed, configured, small};
 
 /// One stream with a clock of three readings, two event records, and its packet closed and collected.
 const WHOLE: &str =

@@ -4,9 +4,7 @@ ghost use Rattle.std.specs.Prelude.{◌≡◌, [], IfOk, nat_lt};
 ghost use Rattle.std.specs.List.{list_all};
 ghost use Rattle.ctf_types.specs.AllowedConfig.{IsConfig};
 
-use crate::tests::session_calls::{act, values};
-use crate::tests::small::{Changes, SMALL, changed, configured};
-use crate::tests::stream_steps::clock;
+use crate::tests::session_calls::act;
 use ctf_types::Config;
 use std::alloc::{AllocError, Global};
 use std::process::Abort;
@@ -15,6 +13,7 @@ use trace_platform::{ListBackEnd, ListClock, MemorySink, Script, ScriptedSink, T
 use trace_stack::{
     AddFault, Answer, Event, FinishedSession, ReadTrace, Session, read_trace, run_events,
 };
+use worked_fixtures::{Changes, SMALL, changed, configured, values_in_words};
 
 /// What a stream is made from. Its sink faults at the first packet where `faults` says so, and takes none of that packet's bytes.
 #[derive(Clone, Copy)]
@@ -118,9 +117,10 @@ fn added(
     name: &str,
     source: &Source,
 ) -> Result<(Prepared, Option<AddFault>), Fail> {
-    let clock = clock(alloc, source.readings)?;
+    let readings = Vec::from_slice(alloc, source.readings)?;
+    let clock = ListClock::new(readings).ok_or("readings that fall")?;
     let back_end = back_end(alloc, source.buffers, source.bytes)?;
-    let extras = values(alloc, source.extras)?;
+    let extras = values_in_words(alloc, source.extras)?;
     let sink = sink(alloc, source.faults)?;
     let mut session = prepared;
     match session.add_stream(name, source.type_name, clock, back_end, sink, extras) {

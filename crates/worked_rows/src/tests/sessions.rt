@@ -1,15 +1,20 @@
 //! Sessions: what a list of events answers, what the sinks hold in the end, and what is read of it by the session's own metadata.
 
 use crate::tests::session_steps::{Ended, RUN, Run, SOURCE, Source, run_to_end};
-use crate::tests::shown_trace::shown;
-use crate::tests::small::{CLOCKED, NARROW, bytes_of};
 use packet_reader::gaps;
 use std::alloc::Global;
 use std::process::Abort;
 use std::test::Fail;
+use worked_fixtures::{CLOCKED, Changes, NARROW, bytes_of, shown_streams};
 
 /// A run, its stream files in hexadecimal, and what is read of them.
 type Row = (Run, &'static [&'static str], &'static str);
+
+/// `CLOCKED` with event records' timestamps of 8 bits.
+const BYTE: Changes = &[(
+    r#""event-record":{"#,
+    r#""event-record":{"timestamp-field-type":"u8","#,
+)];
 
 /// Sessions of one stream of the small configuration.
 static PLAIN: &[Row] = &[
@@ -164,6 +169,75 @@ t0: clock clk, gaps Some(0), end Whole
     event 1: clock Some(11), [] [] [Text(Bytes { bytes: [111, 107] })]
 "#,
     ),
+    (
+        Run {
+            shows: "timestamps of 8 bits and a pause of more than 255",
+            text: CLOCKED,
+            changes: BYTE,
+            streams: &[Source {
+                name: "t0",
+                readings: &[10, 265, 600, 601],
+                bytes: 64,
+                ..SOURCE
+            }],
+            rounds: &[(
+                1,
+                r#"
+0 trace 0 -2 -> Traced(Accepted(Some(10)))
+0 trace 0 +1 -> Traced(Accepted(Some(265)))
+0 trace 0 +2 -> Traced(Accepted(Some(600)))
+0 close -> Packet(Done)
+0 collect -> Collected(Took(0))
+0 collect -> Collected(Took(1))
+"#,
+            )],
+            ..RUN
+        },
+        &[
+            "c1fc1fc1 0200 0110 000000000000000a 0000000000000258 00 00 00 0a fffe 00 09 0001 000000000000000000000000000000000000000000000000000000000000 c1fc1fc1 0200 00f0 0000000000000258 0000000000000259 00 01 00 58 0002 00000000000000000000000000000000000000000000000000000000000000000000",
+        ],
+        r#"
+t0: clock clk, gaps Some(0), end Whole
+  packet of 0: begin Some(10), end Some(600), number Some(0), discarded Some(0), extras []
+    event 0: clock Some(10), [] [] [Signed(-2)]
+    event 0: clock Some(265), [] [] [Signed(1)]
+  packet of 0: begin Some(600), end Some(601), number Some(1), discarded Some(0), extras []
+    event 0: clock Some(600), [] [] [Signed(2)]
+"#,
+    ),
+    (
+        Run {
+            shows: "timestamps of 8 bits and a pause behind an opening",
+            text: CLOCKED,
+            changes: BYTE,
+            streams: &[Source {
+                name: "t0",
+                readings: &[10, 600, 601],
+                bytes: 64,
+                ..SOURCE
+            }],
+            rounds: &[(
+                1,
+                r#"
+0 open -> Packet(Done)
+0 trace 0 +2 -> Traced(Accepted(Some(600)))
+0 close -> Packet(Done)
+0 collect -> Collected(Took(0))
+0 collect -> Collected(Took(1))
+"#,
+            )],
+            ..RUN
+        },
+        &[
+            "c1fc1fc1 0200 00d0 000000000000000a 0000000000000258 00 00 0000000000000000000000000000000000000000000000000000000000000000000000000000 c1fc1fc1 0200 00f0 0000000000000258 0000000000000259 00 01 00 58 0002 00000000000000000000000000000000000000000000000000000000000000000000",
+        ],
+        r#"
+t0: clock clk, gaps Some(0), end Whole
+  packet of 0: begin Some(10), end Some(600), number Some(0), discarded Some(0), extras []
+  packet of 0: begin Some(600), end Some(601), number Some(1), discarded Some(0), extras []
+    event 0: clock Some(600), [] [] [Signed(2)]
+"#,
+    ),
 ];
 
 #[test]
@@ -297,7 +371,7 @@ fn all_run(rt: &impl Abort, alloc: Global, rows: &[Row]) -> Result<(), Fail> {
 fn ends_so(rt: &impl Abort, alloc: Global, ended: &Ended, row: &Row) -> Result<(), Fail> {
     let (run, files, read) = row;
     has_files(rt, alloc, ended, files, run.shows)?;
-    let found = shown(alloc, &ended.trace)?;
+    let found = shown_streams(alloc, &ended.trace.metadata, ended.trace.streams.as_slice())?;
     assert_eq!(rt; found.trim(), read.trim(), "{}", run.shows);
     Ok(())
 }

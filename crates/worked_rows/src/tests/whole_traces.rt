@@ -1,11 +1,10 @@
 //! Whole traces, read from a metadata text and stream files alone.
 
-use crate::tests::shown_trace::shown;
-use crate::tests::small::{CLOCKED, SMALL, bytes_of, changed, configured};
 use std::alloc::Global;
 use std::test::Fail;
 use trace_stack::{ReadTrace, TraceFault, read_trace};
 use tsdl_writer::write_metadata;
+use worked_fixtures::{CLOCKED, SMALL, bytes_of, changed, configured, shown_streams};
 
 /// `SMALL` or `CLOCKED`, the stream files of a trace, a line each with a file's name and its bytes in hexadecimal, and what is read of them.
 static TRACES: &[(&str, &str, &str)] = &[
@@ -49,7 +48,7 @@ fn reads_each_file_as_far_as_its_packets_lie(rt: HostRuntime) -> Result<(), Fail
         let config = configured(rt.alloc(), text.as_str(), None)?;
         let metadata = write_metadata(rt.alloc(), &config)?;
         let trace = read_files(rt.alloc(), metadata.as_str(), files)?;
-        let found = shown(rt.alloc(), &trace)?;
+        let found = shown_streams(rt.alloc(), &trace.metadata, trace.streams.as_slice())?;
         assert_eq!(rt; found.trim(), want.trim());
     }
     Ok(())

@@ -195,9 +195,14 @@ static RULES: &[Row] = &[
         r#"1:18: trace/type: {"native-byte-order":"le","trace-byte-order":"le"}: expected only one of `trace-byte-order` and `native-byte-order`"#,
     ),
     (
-        "a short timestamp",
+        "a packet's short timestamp",
         r#"{"trace":{"type":{"native-byte-order":"le","clock-types":{"c":{}},"data-stream-types":{"s":{"$default-clock-type-name":"c","$features":{"packet":{"beginning-timestamp-field-type":{"class":"uint","size":32}}}}}}}}"#,
         r#"1:180: trace/type/data-stream-types/s/$features/packet/beginning-timestamp-field-type: {"class":"uint","size":32}: expected a field of 64 bits, or the feature off"#,
+    ),
+    (
+        "an event record's short timestamp",
+        r#"{"trace":{"type":{"native-byte-order":"le","clock-types":{"c":{}},"data-stream-types":{"s":{"$default-clock-type-name":"c","$features":{"event-record":{"timestamp-field-type":{"class":"uint","size":7}}}}}}}}"#,
+        r#"1:176: trace/type/data-stream-types/s/$features/event-record/timestamp-field-type: {"class":"uint","size":7}: expected a field of 8 to 64 bits, fewer than 64 only beside the packet's beginning timestamp, or the feature off"#,
     ),
 ];
 

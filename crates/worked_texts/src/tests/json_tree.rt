@@ -308,7 +308,7 @@ static KINDS: &[(FaultKind, &str)] = &[
     ),
     (
         FaultKind::TimestampSize,
-        "members/12: timestamp field of a wrong size: expected one that can tell the times of this stream",
+        "members/12: timestamp field of a wrong size: expected 64 bits, or in event records 8 to 64 where the packet has its beginning timestamp",
     ),
     // the place of want of memory says nothing
     (FaultKind::OutOfMemory, "out of memory"),

@@ -7,5 +7,5 @@ pub returns : goal.returns
 returns c = record {
   of_a_field = λ o o' b d t p v q q' x y. x.1 ∙ sym y.1;
   of_a_structure = λ o o' b d s p vs q q' x y. x.1 ∙ sym y.1;
-  of_a_record = λ o b s p r r' q q' x y. record_one o b AnyBits AnyBits s p r r' q q' x y;
+  of_a_record = λ o b s before p r r' q q' x y. record_one o b AnyBits AnyBits s before p r r' q q' x y;
 }

@@ -1,0 +1,315 @@
+//! Calls that are made once more where memory was wanting: they answer as with ample memory, since the refused call left all as it was. A test passes then;
+//! where another request is refused it answers that it is out of memory. The script beside the gate refuses each request of these tests in turn.
+
+ghost use Rattle.std.specs.Prelude.{IfOk};
+ghost use Rattle.ctf_types.specs.AllowedConfig.{IsConfig};
+
+use crate::tests::fixtures::configured;
+use ctf_types::{ByteOrder, Bytes, Config, Duplicate, StructType, Value, Values};
+use packet_collector::Collector;
+use packet_writer::PacketBuf;
+use std::alloc::{AllocError, Global};
+use std::test::Fail;
+use thread_stream::{NotMade, PacketAnswer, Stream, StreamFault};
+use trace_clock::{TickClock, TickSeat};
+use trace_platform::{BackEnd, Clock, ListBackEnd, ListClock, MemorySink, PacketSource, Sink};
+use tsdl_reader::read_metadata;
+use value_codec::{ReadFault, read_member, read_struct};
+
+/// One stream type with one event record type of a byte.
+const SMALL: &str =
+    r#"{"trace":{"type":{"trace-byte-order":"le","$features":{"data-stream-type-id-field-type":false},"data-stream-types":{"s":{"$features":{"packet":{"total-size-field-type":{"class":"uint","size":32},"content-size-field-type":{"class":"uint","size":32},"discarded-event-records-counter-snapshot-field-type":false},"event-record":{"type-id-field-type":false}},"event-record-types":{"e":{"payload-field-type":{"class":"struct","members":[{"v":{"field-type":{"class":"uint","size":8}}}]}}}}}}}}"#;
+
+/// The answer to a call that was made once more.
+const REFUSED: &str = "a second refusal";
+
+/// What the second call answers.
+fn at_last<T, E: Drop>(answer: Result<T, E>) -> Result<T, Fail> {
+    match answer {
+        Ok(value) => Ok(value),
+        Err(_) => Err(REFUSED.into()),
+    }
+}
+
+/// A number, a text and a list of a number.
+fn some_values(alloc: Global) -> Result<Values, AllocError> {
+    let mut inner = Values::new(alloc);
+    inner.push(Value::Signed(-2))?;
+    let mut values = Values::new(alloc);
+    values.push(Value::Unsigned(1))?;
+    values.push(Value::Text(Bytes::from_slice(alloc, b"a")?))?;
+    values.push(Value::List(inner))?;
+    Ok(values)
+}
+
+fn shown(alloc: Global, values: &[Value]) -> Result<String, Fail> {
+    Ok(format!(in alloc; "{values:?}")?)
+}
+
+fn copied_value(alloc: Global, value: &Value) -> Result<Value, Fail> {
+    match value.copy(alloc) {
+        Ok(copied) => Ok(copied),
+        Err(_) => at_last(value.copy(alloc)),
+    }
+}
+
+fn copied_values(alloc: Global, values: &Values) -> Result<Values, Fail> {
+    match values.copy(alloc) {
+        Ok(copied) => Ok(copied),
+        Err(_) => at_last(values.copy(alloc)),
+    }
+}
+
+#[test]
+fn copies_values(rt: HostRuntime) -> Result<(), Fail> {
+    let alloc = rt.alloc();
+    let values = some_values(alloc)?;
+    let copied = copied_values(alloc, &values)?;
+    let want = shown(alloc, values.as_slice())?;
+    assert_eq!(rt; shown(alloc, copied.as_slice())?.as_str(), want.as_str());
+    let one = copied_value(alloc, &Value::List(copied))?;
+    let found = format!(in alloc; "{one:?}")?;
+    assert_eq!(rt;
+        found.as_str(),
+        "List(Values { items: [Unsigned(1), Text(Bytes { bytes: [97] }), List(Values { items: [Signed(-2)] })] })"
+    );
+    Ok(())
+}
+
+/// A value is put at the end of a list. A refused one is handed back, and the list is as it was.
+fn put(values: &mut Values, value: Value) -> Result<(), Fail> {
+    match values.push(value) {
+        Ok(()) => Ok(()),
+        Err(refused) => at_last(values.push(refused.value)),
+    }
+}
+
+/// Bytes are put at the end of others.
+fn extended(bytes: &mut Bytes, more: &[u8]) -> Result<(), Fail> {
+    match bytes.extend_from_slice(more) {
+        Ok(()) => Ok(()),
+        Err(_) => at_last(bytes.extend_from_slice(more)),
+    }
+}
+
+#[test]
+fn lists_grow(rt: HostRuntime) -> Result<(), Fail> {
+    let alloc = rt.alloc();
+    let mut bytes = Bytes::from_vec(Vec::new(alloc));
+    let mut values = Values::new(alloc);
+    for number in 0..20 {
+        put(&mut values, Value::Unsigned(number))?;
+        extended(&mut bytes, b"abc")?;
+        assert_eq!(rt;
+            (values.len() as u64, bytes.as_slice().len()),
+            (number + 1, values.len().saturating_mul(3))
+        );
+    }
+    Ok(())
+}
+
+/// A structure of a number, a string and a list.
+fn structure(alloc: Global) -> Result<StructType, Fail> {
+    let text =
+        b"/* CTF 1.8 */ trace{byte_order=le;major=1;minor=8;packet.header:=struct{integer{size=8;}n;string s;integer{size=8;}l[n];};};";
+    let metadata = read_metadata(alloc, text.as_slice())?;
+    Ok(metadata.header)
+}
+
+/// A list of two numbers behind the text `Hi`.
+const STRUCTURE: &[u8] = &[2, 0x48, 0x69, 0, 5, 6];
+
+const READ: &str =
+    "(Values { items: [Unsigned(2), Text(Bytes { bytes: [72, 105] }), List(Values { items: [Unsigned(5), Unsigned(6)] })] }, 48)";
+
+fn struct_of(alloc: Global, bytes: &[u8], s: &StructType) -> Result<(Values, u64), Fail> {
+    if bytes.len() != 6 {
+        return Err("another length".into());
+    }
+    let order = ByteOrder::Little;
+    match read_struct(alloc, bytes, 0, 48, order, s) {
+        Ok(read) => Ok(read),
+        Err(ReadFault::OutOfMemory) => at_last(read_struct(alloc, bytes, 0, 48, order, s)),
+        Err(fault) => Err(Fail::new(fault)),
+    }
+}
+
+/// The third member.
+fn list_of(
+    alloc: Global,
+    bytes: &[u8],
+    s: &StructType,
+    before: &[Value],
+) -> Result<(Value, u64), Fail> {
+    if bytes.len() != 6 || s.members.len() <= 2 {
+        return Err("another length".into());
+    }
+    let order = ByteOrder::Little;
+    match read_member(alloc, bytes, 32, 48, order, s, 2, before) {
+        Ok(read) => Ok(read),
+        Err(ReadFault::OutOfMemory) => {
+            at_last(read_member(alloc, bytes, 32, 48, order, s, 2, before))
+        }
+        Err(fault) => Err(Fail::new(fault)),
+    }
+}
+
+#[test]
+fn reads_structures(rt: HostRuntime) -> Result<(), Fail> {
+    let alloc = rt.alloc();
+    let s = structure(alloc)?;
+    let read = struct_of(alloc, STRUCTURE, &s)?;
+    assert_eq!(rt; format!(in alloc; "{read:?}")?.as_str(), READ);
+    let before = [Value::Unsigned(2), Value::Unsigned(0)];
+    let read = list_of(alloc, STRUCTURE, &s, &before)?;
+    assert_eq!(rt;
+        format!(in alloc; "{read:?}")?.as_str(),
+        "(List(Values { items: [Unsigned(5), Unsigned(6)] }), 48)"
+    );
+    Ok(())
+}
+
+fn buffer(alloc: Global) -> Result<PacketBuf, Fail> {
+    match PacketBuf::new(alloc, 16) {
+        Ok(buffer) => Ok(buffer),
+        Err(_) => at_last(PacketBuf::new(alloc, 16)),
+    }
+}
+
+fn back_end(alloc: Global) -> Result<ListBackEnd, Fail> {
+    match ListBackEnd::new(alloc, 2, 16) {
+        Ok(back_end) => Ok(back_end),
+        Err(_) => at_last(ListBackEnd::new(alloc, 2, 16)),
+    }
+}
+
+fn sink(alloc: Global) -> Result<MemorySink, Fail> {
+    match MemorySink::with_capacity(alloc, 16) {
+        Ok(sink) => Ok(sink),
+        Err(_) => at_last(MemorySink::with_capacity(alloc, 16)),
+    }
+}
+
+/// A clock with a seat for two readings.
+fn seat(alloc: Global) -> Result<TickSeat, Fail> {
+    let mut clock = match TickClock::new(alloc, 3, 2) {
+        Ok(clock) => clock,
+        Err(_) => at_last(TickClock::new(alloc, 3, 2))?,
+    };
+    match clock.seat(alloc, 2) {
+        Ok(seat) => Ok(seat),
+        Err(_) => at_last(clock.seat(alloc, 2)),
+    }
+}
+
+#[test]
+fn makes_platforms(rt: HostRuntime) -> Result<(), Fail> {
+    let alloc = rt.alloc();
+    let buffer = buffer(alloc)?;
+    assert_eq!(rt; buffer.len(), 16);
+    let back_end = back_end(alloc)?;
+    assert_eq!(rt; back_end.full_count(), 0);
+    let sink = sink(alloc)?;
+    assert!(rt; sink.bytes().is_empty());
+    let mut seat = seat(alloc)?;
+    assert_eq!(rt; (seat.read(), seat.read()), (Ok(3), Ok(4)));
+    Ok(())
+}
+
+/// A sink that grows: one that faulted has what it had.
+#[test]
+fn appends_what_was_refused(rt: HostRuntime) -> Result<(), Fail> {
+    let mut sink = MemorySink::new(rt.alloc());
+    for count in 0..20 {
+        if sink.append(b"abcdef").is_err() {
+            assert_eq!(rt; (sink.bytes().len(), sink.fault_count()), (count * 6, 1));
+            assert_eq!(rt; sink.append(b"abcdef"), Ok(()));
+        }
+        assert_eq!(rt; sink.bytes().len(), count * 6 + 6);
+    }
+    assert!(rt; sink.bytes().starts_with(b"abcdefabcdef"));
+    Ok(())
+}
+
+/// A stream of what was handed back.
+fn begun_again(
+    alloc: Global,
+    config: &Config,
+    refused: NotMade<ListClock, ListBackEnd>,
+) -> Result<Stream<ListClock, ListBackEnd>, Fail>
+    requires { IsConfig config.now }
+{
+    let NotMade {
+        fault,
+        clock,
+        back_end,
+        extras,
+    } = refused;
+    if fault != StreamFault::OutOfMemory {
+        return Err(Fail::new(fault));
+    }
+    match Stream::new(alloc, config, "s", clock, back_end, extras) {
+        Ok(stream) => Ok(stream),
+        Err(_) => Err(REFUSED.into()),
+    }
+}
+
+fn begun(
+    alloc: Global,
+    config: &Config,
+    clock: ListClock,
+    back_end: ListBackEnd,
+) -> Result<Stream<ListClock, ListBackEnd>, Fail>
+    requires { IsConfig config.now }
+{
+    match Stream::new(alloc, config, "s", clock, back_end, Values::new(alloc)) {
+        Ok(stream) => Ok(stream),
+        Err(refused) => begun_again(alloc, config, refused),
+    }
+}
+
+fn copied(alloc: Global, config: &Config) -> Result<Config, Fail>
+    requires { IsConfig config.now }
+    ensures { IfOk result (λ c. IsConfig c) }
+{
+    match config.copy(alloc) {
+        Ok(copied) => Ok(copied),
+        Err(_) => match config.copy(alloc) {
+            Ok(copied) => Ok(copied),
+            Err(_) => Err(REFUSED.into()),
+        },
+    }
+}
+
+#[test]
+fn makes_a_stream_of_a_copy(rt: HostRuntime) -> Result<(), Fail> {
+    let alloc = rt.alloc();
+    let config = configured(alloc, SMALL)?;
+    let copied = copied(alloc, &config)?;
+    let clock = ListClock::new(Vec::new(alloc)).ok_or("readings that fall")?;
+    let back_end = back_end(alloc)?;
+    let mut stream = begun(alloc, &copied, clock, back_end)?;
+    assert_eq!(rt; stream.open_packet(), PacketAnswer::Done);
+    assert_eq!(rt; stream.close_packet(), PacketAnswer::Done);
+    assert!(rt; stream.take().is_some());
+    Ok(())
+}
+
+/// A sink is added. A refused one is handed back, and the collector is as it was.
+fn added(collector: &mut Collector<MemorySink>, sink: MemorySink) -> Result<usize, Fail> {
+    match collector.add(sink) {
+        Ok(place) => Ok(place),
+        Err(sink) => at_last(collector.add(sink)),
+    }
+}
+
+#[test]
+fn adds_sinks(rt: HostRuntime) -> Result<(), Fail> {
+    let mut collector = Collector::new(rt.alloc());
+    for place in 0..10 {
+        let sink = MemorySink::new(rt.alloc());
+        assert_eq!(rt; added(&mut collector, sink)?, place);
+    }
+    assert_eq!(rt; collector.into_sinks().len(), 10);
+    Ok(())
+}

@@ -1,0 +1,74 @@
+//! Whole traces, read from readers of which one fails on the way: the first one in the list is answered, and nothing is given.
+
+use packet_reader::ReadStop;
+use std::alloc::Global;
+use std::io::{Error, ErrorKind, Read, Result as ReadResult};
+use std::test::Fail;
+use trace_stack::{TraceFault, read_trace_from};
+use tsdl_writer::write_metadata;
+use worked_fixtures::{bytes_of, small};
+
+/// A packet of 16 bytes with two records, and the front of a second.
+const CUT: &str = "c11ffcc1 80000000 70000000 01020000 c11ffcc1";
+
+/// A reader that gives at most 7 bytes by one read, and fails once it has given `room` of them.
+#[derive(Drop)]
+struct Failing {
+    bytes: Vec<u8>,
+    given: usize,
+    room: usize,
+}
+
+impl Read for Failing {
+    fn read(&mut self, buffer: &mut [u8]) -> ReadResult<usize> {
+        if self.given >= self.room {
+            return Err(Error::from(ErrorKind::BrokenPipe));
+        }
+        let left = self.bytes.get(self.given..).unwrap_or(&[]);
+        let count = left
+            .len()
+            .min(7)
+            .min(buffer.len())
+            .min(self.room - self.given);
+        buffer[..count].copy_from_slice(&left[..count]);
+        self.given += count;
+        Ok(count)
+    }
+}
+
+/// How many bytes each reader gives before it fails, and which of them is answered.
+static ROWS: &[(&[usize], Option<usize>)] = &[
+    (&[16], Some(0)),
+    (&[0], Some(0)),
+    (&[100, 16], Some(1)),
+    (&[100, 3, 0], Some(1)),
+    (&[100, 100], None),
+    (&[], None),
+];
+
+/// The fault of a trace whose readers give so many bytes of `CUT` before they fail; None where it is read.
+fn fault_of(alloc: Global, rooms: &[usize]) -> Result<Option<TraceFault>, Fail> {
+    let metadata = write_metadata(alloc, &small(alloc, &[])?)?;
+    let mut streams = Vec::new(alloc);
+    for room in rooms {
+        let input = Failing {
+            bytes: bytes_of(alloc, CUT)?,
+            given: 0,
+            room: *room,
+        };
+        streams.push((String::from_str(alloc, "a")?, input))?;
+    }
+    match read_trace_from(alloc, metadata.as_bytes(), streams) {
+        Ok(_) => Ok(None),
+        Err(fault) => Ok(Some(fault)),
+    }
+}
+
+#[test]
+fn answers_the_first_reader_that_fails(rt: HostRuntime) -> Result<(), Fail> {
+    for (rooms, place) in ROWS {
+        let want = place.map(|place| TraceFault::Reader(place, ReadStop::ReaderFault));
+        assert_eq!(rt; fault_of(rt.alloc(), rooms)?, want, "{rooms:?}");
+    }
+    Ok(())
+}

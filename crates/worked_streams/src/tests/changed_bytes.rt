@@ -1,0 +1,109 @@
+//! Every cut of a stream file, and every file that differs from it in one byte: a reader ends with the packets before the fault.
+
+ghost use Rattle.std.specs.Prelude.{◌≡◌, ◌<◌, length};
+ghost use Rattle.ctf_types.specs.Allowed.{IsMetadata};
+
+use crate::tests::reading::metadata_of;
+use ctf_types::{Metadata, Text};
+use packet_reader::{StreamEnding, read_stream};
+use std::alloc::{AllocError, Global};
+use std::process::Abort;
+use std::test::Fail;
+use worked_fixtures::{CLOCKED, Changes, SMALL, bytes_of};
+
+const SEQUENCE: Changes = &[(
+    "PAYLOAD",
+    r#"[{"x":{"field-type":{"class":"uint","size":8}}},{"a":{"field-type":{"class":"dynamic-array","element-field-type":{"class":"uint","size":32,"alignment":32}}}},{"b":{"field-type":{"class":"uint","size":8}}}]"#,
+)];
+
+const TEXT: Changes = &[("PAYLOAD", r#"[{"s":{"field-type":{"class":"str"}}}]"#)];
+
+/// A configuration, what is changed in it, and a file of one packet.
+static FILES: &[(&str, Changes, &str)] = &[
+    (SMALL, &[], "c11ffcc1 80000000 70000000 01020000"),
+    (
+        SMALL,
+        SEQUENCE,
+        "c11ffcc1 c0000000 a8000000 01000000 00000000 02000000",
+    ),
+    (SMALL, TEXT, "c11ffcc1 80000000 80000000 00486900"),
+    (
+        CLOCKED,
+        &[],
+        "c1fc1fc1 0200 0188 000000000000000a 000000000000000c 00 00 00 000000000000000a fffe 01 000000000000000b 6f6b00 000000000000000000000000000000",
+    ),
+];
+
+/// How many packets a reader finds in these bytes, and whether they are all.
+fn found(alloc: Global, metadata: &Metadata, bytes: &[u8]) -> Result<(usize, bool), AllocError>
+    requires { IsMetadata metadata.now }
+{
+    let found = read_stream(alloc, metadata, Text::from_str(alloc, "a")?, bytes)?;
+    Ok((found.packets.len(), found.end == StreamEnding::Whole))
+}
+
+/// A front of the file has no packet, and only the empty one is whole.
+fn reads_each_cut(
+    rt: &impl Abort,
+    alloc: Global,
+    metadata: &Metadata,
+    file: &[u8],
+) -> Result<(), Fail>
+    requires { IsMetadata metadata.now }
+{
+    for end in 0..file.len() {
+        let (packets, is_whole) = found(alloc, metadata, &file[..end])?;
+        assert_eq!(rt; packets, 0, "{end} bytes");
+        assert_eq!(rt; is_whole, end == 0, "{end} bytes");
+    }
+    Ok(())
+}
+
+/// With another byte at a place the file has its packet or none; where it has none it is not whole.
+fn reads_each_byte(
+    rt: &impl Abort,
+    alloc: Global,
+    metadata: &Metadata,
+    file: &mut [u8],
+    place: usize,
+) -> Result<(), Fail>
+    requires place { place < length file.old }
+    requires metadata { IsMetadata metadata.now }
+    ensures { length file.new ≡ length file.old }
+{
+    let own = file[place];
+    for byte in 0..=255 {
+        file[place] = byte;
+        let (packets, is_whole) = found(alloc, metadata, file)?;
+        assert!(rt; packets <= 1, "{byte} at {place}");
+        assert!(rt; packets == 1 || !is_whole, "{byte} at {place}");
+    }
+    file[place] = own;
+    Ok(())
+}
+
+#[test]
+fn reads_files_that_are_cut_or_changed(rt: HostRuntime) -> Result<(), Fail> {
+    let alloc = rt.alloc();
+    for (text, changes, digits) in FILES {
+        let metadata = metadata_of(alloc, text, *changes, None)?;
+        let mut file = bytes_of(alloc, digits)?;
+        reads_each_cut(&rt, alloc, &metadata, file.as_slice())?;
+        reads_each_place(&rt, alloc, &metadata, file.as_mut_slice())?;
+    }
+    Ok(())
+}
+
+fn reads_each_place(
+    rt: &impl Abort,
+    alloc: Global,
+    metadata: &Metadata,
+    file: &mut [u8],
+) -> Result<(), Fail>
+    requires { IsMetadata metadata.now }
+{
+    for place in 0..file.len() {
+        reads_each_byte(rt, alloc, metadata, file, place)?;
+    }
+    Ok(())
+}

@@ -1,0 +1,104 @@
+//! Stream files with bytes that nobody wrote, and files whose writer stopped.
+
+use crate::tests::reading::{read, read_back};
+use crate::tests::rings::stream;
+use crate::tests::stream_files::{Table, all_end};
+use packet_collector::{Collected, collect_into};
+use packet_reader::StreamEnding;
+use std::alloc::Global;
+use std::process::Abort;
+use std::test::Fail;
+use thread_stream::{PacketAnswer, Stream, Verdict};
+use trace_platform::{ListBackEnd, ListClock, StoppingWriter, WriterSink};
+use worked_fixtures::{Changes, Datum, bytes_of, payload, small};
+
+/// A header of 4 bytes, a context of 8, and records of a byte each.
+const BYTES: &str = r#"
+sizes that are zero: c11ffcc1 00000000 00000000 -> [] Faulty(Sizes, 0)
+a packet that is longer than any file: c11ffcc1 f8ffffff 70000000 0102 -> [] Torn(0)
+a context that is cut: c11ffcc1 80000000 700000 -> [] Torn(0)
+"#;
+
+const SEQUENCE: Changes = &[(
+    "FIELDS",
+    "U8 x; U32 __a_len; integer { size = 32; align = 32; } a[__a_len]; U8 b;",
+)];
+
+const SEQUENCES: &str = r#"
+an empty array: c11ffcc1 c0000000 a8000000 01000000 00000000 02000000 -> [1] Whole
+a length that lies: c11ffcc1 c0000000 a8000000 01ffffff ff000000 02000000 -> [] Faulty(Record, 0)
+"#;
+
+const TEXT: Changes = &[("FIELDS", "string s;")];
+
+const TEXTS: &str = r#"
+texts that end: c11ffcc1 80000000 80000000 00486900 -> [2] Whole
+a text whose zero byte lies behind the content: c11ffcc1 80000000 78000000 00486900 -> [] Faulty(Record, 0)
+"#;
+
+const NO_FIELDS: Changes = &[("FIELDS", "")];
+
+const NOTHING: &str = r#"
+content for records without bits: c11ffcc1 80000000 70000000 01020000 -> [] Faulty(Record, 0)
+no content: c11ffcc1 80000000 60000000 00000000 -> [0] Whole
+"#;
+
+static DAMAGED: &[Table] = &[
+    (&[&[]], BYTES),
+    (&[SEQUENCE], SEQUENCES),
+    (&[TEXT], TEXTS),
+    (&[NO_FIELDS], NOTHING),
+];
+
+#[test]
+fn reads_damaged_packets(rt: HostRuntime) -> Result<(), Fail> {
+    all_end(&rt, rt.alloc(), DAMAGED)
+}
+
+/// How many bytes a writer takes, and how the file then ends, of which the first packet is whole.
+static STOPPED: &[(usize, StreamEnding)] = &[
+    (20, StreamEnding::Torn(16)),
+    (16, StreamEnding::Whole),
+];
+
+const TWO_PACKETS: &str = "c11ffcc1 80000000 70000000 01020000 c11ffcc1 80000000 70000000 01020000";
+
+/// A stream with two packets of two records each, both closed.
+fn two_packets(rt: &impl Abort, alloc: Global) -> Result<Stream<ListClock, ListBackEnd>, Fail> {
+    let mut stream = stream(alloc, ListBackEnd::new(alloc, 2, 16)?)?;
+    for number in [1, 2, 1, 2] {
+        let args = payload(alloc, &[Datum::Unsigned(number)])?;
+        assert_eq!(rt; stream.trace(0, &args), Verdict::Accepted(None));
+        if number == 2 {
+            assert_eq!(rt; stream.close_packet(), PacketAnswer::Done);
+        }
+    }
+    Ok(stream)
+}
+
+/// What a writer has of both packets that takes 5 bytes at a time, and no more than there is room for.
+fn collected(rt: &impl Abort, alloc: Global, room: usize) -> Result<Vec<u8>, Fail> {
+    let mut stream = two_packets(rt, alloc)?;
+    let mut sink = WriterSink::new(StoppingWriter::new(alloc, room, 5));
+    let mut faulted = false;
+    for answer in [Collected::Took(0), Collected::Faulted, Collected::Faulted] {
+        assert_eq!(rt; collect_into(&mut sink, &mut faulted, &mut stream), answer);
+    }
+    Ok(sink.into_writer().bytes)
+}
+
+#[test]
+fn reads_the_front_that_a_stopped_writer_took(rt: HostRuntime) -> Result<(), Fail> {
+    let alloc = rt.alloc();
+    let metadata = read_back(alloc, &small(alloc, &[])?)?;
+    let all = bytes_of(alloc, TWO_PACKETS)?;
+    for (room, end) in STOPPED {
+        let written = collected(&rt, alloc, *room)?;
+        assert_eq!(rt; written.as_slice(), &all[..(*room).min(all.len())]);
+        let digits = hex::encode(alloc, written.as_slice())?;
+        let found = read(alloc, &metadata, digits.as_str())?;
+        assert_eq!(rt; found.packets.len(), 1);
+        assert_eq!(rt; found.end, *end);
+    }
+    Ok(())
+}

@@ -1,0 +1,98 @@
+//! The calls that make a stream over a ring, and the sinks of a collector.
+
+ghost use Rattle.std.specs.Prelude.{◌<◌, length, IfOk};
+ghost use Rattle.ctf_types.specs.AllowedConfig.{IsConfig};
+
+use super::super::OUT_OF_MEMORY;
+use ctf_types::{Config, Values};
+use packet_collector::{Collected, Collector};
+use packet_ring::{RingBackEnd, RingEnd, ring};
+use std::alloc::Global;
+use std::test::Fail;
+use thread_stream::{NotMade, PacketAnswer, Stream, StreamFault};
+use trace_platform::{ListClock, MemorySink};
+use worked_fixtures::{SMALL, changed, configuration, granted};
+
+type RingStream = Stream<ListClock, RingBackEnd>;
+
+fn both_ends(alloc: Global) -> Result<(RingBackEnd, RingEnd), Fail> {
+    match ring(alloc, 1, 16) {
+        Ok(ends) => Ok(ends),
+        Err(_) => match ring(alloc, 1, 16) {
+            Ok(ends) => Ok(ends),
+            Err(_) => Err("a second refusal".into()),
+        },
+    }
+}
+
+/// A stream of what was handed back.
+fn begun_again(
+    alloc: Global,
+    config: &Config,
+    refused: NotMade<ListClock, RingBackEnd>,
+) -> Result<RingStream, Fail>
+    requires { IsConfig config.now }
+{
+    if refused.fault != StreamFault::OutOfMemory {
+        return Err("another refusal".into());
+    }
+    let NotMade {
+        fault: _,
+        clock,
+        back_end,
+        extras,
+    } = refused;
+    match Stream::new(alloc, config, "s", clock, back_end, extras) {
+        Ok(stream) => Ok(stream),
+        Err(_) => Err("a second refusal".into()),
+    }
+}
+
+fn begun(alloc: Global, config: &Config, back_end: RingBackEnd) -> Result<RingStream, Fail>
+    requires { IsConfig config.now }
+{
+    let clock = ListClock::new(Vec::new(alloc)).ok_or("readings that fall")?;
+    match Stream::new(alloc, config, "s", clock, back_end, Values::new(alloc)) {
+        Ok(stream) => Ok(stream),
+        Err(refused) => begun_again(alloc, config, refused),
+    }
+}
+
+/// A collector with one sink, which has room for a packet.
+fn collector(alloc: Global) -> Result<Collector<MemorySink>, Fail>
+    ensures { IfOk result (λ c. 0 < length c) }
+{
+    let Ok(sink) = MemorySink::with_capacity(alloc, 16) else {
+        return Err(Fail::new(OUT_OF_MEMORY));
+    };
+    let mut collector = Collector::new(alloc);
+    let Err(sink) = collector.add(sink) else {
+        return Ok(collector);
+    };
+    match collector.add(sink) {
+        Ok(_) => Ok(collector),
+        Err(_) => Err("a second refusal".into()),
+    }
+}
+
+/// A packet goes from the stream to the sink.
+fn collected(collector: &mut Collector<MemorySink>, ring_end: &mut RingEnd) -> Collected
+    requires { 0 < length collector.old }
+{
+    collector.collect(0, ring_end)
+}
+
+#[test]
+fn collects_a_packet_over_a_ring(rt: HostRuntime) -> Result<(), Fail> {
+    let alloc = rt.alloc();
+    let text = granted(changed(alloc, SMALL, &[]))?;
+    let config = configuration(alloc, text.as_str())?;
+    let (back_end, mut ring_end) = both_ends(alloc)?;
+    let mut stream = begun(alloc, &config, back_end)?;
+    let mut collector = collector(alloc)?;
+    assert_eq!(rt; stream.open_packet(), PacketAnswer::Done);
+    assert_eq!(rt; stream.close_packet(), PacketAnswer::Done);
+    let answer = collected(&mut collector, &mut ring_end);
+    assert_eq!(rt; answer, Collected::Took(0));
+    Ok(())
+}

@@ -1,0 +1,86 @@
+//! Workers over rings, made from words.
+
+ghost use Rattle.std.specs.Prelude.{◌≡◌, IfOk};
+ghost use Rattle.std.specs.List.{All};
+ghost use Rattle.trace_clock.specs.Seats.{clock_of};
+ghost use Rattle.trace_stack.specs.Workers.{IsWorker};
+ghost use Rattle.trace_stack.specs.Working.{IsOfStream};
+
+use ctf_types::Text;
+use packet_ring::ring;
+use std::alloc::Global;
+use std::test::Fail;
+use trace_clock::TickSeat;
+use trace_stack::{Act, Worker};
+use worked_fixtures::{call_in_words, values_in_words};
+
+/// What a worker is told, over a ring of one place.
+#[derive(Clone, Copy)]
+pub struct Task {
+    pub type_name: &'static str,
+    /// The length of a packet.
+    pub bytes: usize,
+    /// The values of the extra members, with blanks between them.
+    pub extras: &'static str,
+    /// Its calls, a line each.
+    pub calls: &'static str,
+}
+
+/// A worker over a ring that nobody used.
+pub fn worker<W: Drop>(
+    alloc: Global,
+    seat: TickSeat,
+    task: &Task,
+    sink: W,
+) -> Result<Worker<W>, Fail>
+    ensures worker { IfOk result (λ w. IsWorker w) }
+    ensures clock { IfOk result (λ w. clock_of w.seat ≡ clock_of seat) }
+{
+    let bytes = task.bytes;
+    if bytes == 0 || bytes > 1 << 20 {
+        return Err("no such ring".into());
+    }
+    let (back_end, ring_end) = ring(alloc, 1, bytes)?;
+    let type_name = Text::from_str(alloc, task.type_name)?;
+    let extras = values_in_words(alloc, task.extras)?;
+    let acts = acts(alloc, task.calls)?;
+    Ok(Worker {
+        type_name,
+        seat,
+        back_end,
+        ring_end,
+        extras,
+        sink,
+        acts,
+    })
+}
+
+fn acts(alloc: Global, calls: &str) -> Result<Vec<Act>, Fail>
+    ensures { IfOk result (λ acts. All IsOfStream acts.items) }
+{
+    let mut acts = Vec::new(alloc);
+    for line in calls.trim().lines() {
+        acts.push(own_act(alloc, line)?)?;
+    }
+    Ok(acts)
+}
+
+/// A call of a worker's stream: `trace` with the number of an event record type and the values of its payload, `open` or `close`.
+fn own_act(alloc: Global, line: &str) -> Result<Act, Fail>
+    ensures { IfOk result (λ act. IsOfStream act) }
+{
+    let (word, data) = line.split_once(" ").unwrap_or((line, ""));
+    match word {
+        "trace" => traced(alloc, data),
+        "open" => Ok(Act::OpenPacket),
+        "close" => Ok(Act::ClosePacket),
+        _ => Err("no such call".into()),
+    }
+}
+
+fn traced(alloc: Global, data: &str) -> Result<Act, Fail>
+    ensures { IfOk result (λ act. IsOfStream act) }
+{
+    let (event, args) = call_in_words(alloc, data)?;
+    Ok(Act::Trace(event, args))
+}
