@@ -285,20 +285,21 @@ fn check_left<X: Files + Clock + Eprint + AllocGlobal + Clone + Drop + Abort + T
         assert!(rt; !fs::exists(rt, "new")?, "{}: makes no folder", row.shows);
         return Ok(());
     };
-    check_files(rt, row.shows, files)?;
+    check_files(rt, "new", row.shows, files)?;
     check_metadata(rt, row)?;
     fs::remove_dir_all(rt, "new")?;
     Ok(())
 }
 
 /// The folder has these files and one more.
-fn check_files<X: Files + AllocGlobal + Clone + Drop + Abort>(
+pub fn check_files<X: Files + AllocGlobal + Clone + Drop + Abort>(
     rt: &X,
+    folder: &str,
     shows: &str,
     files: &[(&'static str, &'static str)],
 ) -> Result<(), Fail> {
     let mut count = 0usize;
-    for entry in fs::read_dir(rt, "new")? {
+    for entry in fs::read_dir(rt, folder)? {
         let _entry = entry?;
         count = count.saturating_add(1);
     }
@@ -308,7 +309,7 @@ fn check_files<X: Files + AllocGlobal + Clone + Drop + Abort>(
         "{shows}: makes files"
     );
     for (name, digits) in files {
-        let path = format!(in rt.alloc(); "new/{name}")?;
+        let path = format!(in rt.alloc(); "{folder}/{name}")?;
         let bytes = fs::read(rt, path.as_str())?;
         let found = hex::encode(rt.alloc(), bytes.as_slice())?;
         assert_eq!(rt; found.as_str(), *digits, "{shows}: writes {name}");

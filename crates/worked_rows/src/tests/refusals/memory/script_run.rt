@@ -1,0 +1,125 @@
+//! A script that is read, run, read back and printed.
+
+ghost use Rattle.std.specs.Prelude.{◌≡◌, IfOk, nat_lt};
+ghost use Rattle.std.specs.List.{list_all};
+
+use super::super::{
+    ANSWERS, FAULTED, FILE, OUT_OF_MEMORY, PRINTED, SCRIPT, clock, clocked, two_buffers,
+};
+use ctf_types::{Config, Values};
+use packet_collector::FinishAnswer;
+use std::alloc::Global;
+use std::process::Abort;
+use std::test::Fail;
+use trace_platform::{ListBackEnd, ListClock, MemorySink};
+use trace_stack::{Event, FinishedSession, Session, read_trace, run_events};
+use trace_text::{PrintFault, print_trace, read_script};
+use worked_fixtures::{bytes_of, granted};
+
+type Listed = Session<ListClock, ListBackEnd, MemorySink>;
+
+/// The events of the script.
+fn events(alloc: Global, config: &Config) -> Result<Vec<Event>, Fail> {
+    match read_script(alloc, config, SCRIPT.as_bytes()) {
+        Ok(script) => Ok(script.events.into_vec()),
+        Err(fault) => Err(Fail::new(fault.kind)),
+    }
+}
+
+/// A session with the script's stream.
+fn started(alloc: Global) -> Result<Listed, Fail> {
+    let mut session = Session::new(alloc, clocked(alloc)?);
+    let clock = clock(alloc, &[10, 11, 12])?;
+    let back_end = two_buffers(alloc)?;
+    let extras = Values::new(alloc);
+    match session.add_stream("t0", "s", clock, back_end, MemorySink::new(alloc), extras) {
+        Ok(_) => Ok(session),
+        Err(refused) => Err(Fail::new(refused.fault)),
+    }
+}
+
+/// Whether each event is of one of so many streams.
+fn are_below(events: &[Event], streams: usize) -> bool
+    ensures { result ≡ list_all (λ e. nat_lt e.stream streams) events.now }
+{
+    for event in events {
+        if event.stream >= streams {
+            return false;
+        }
+    }
+    true
+}
+
+/// Whether the sink had no memory: else each event is answered as ever.
+fn runs(
+    rt: &impl Abort,
+    alloc: Global,
+    session: &mut Listed,
+    events: &[Event],
+) -> Result<bool, Fail> {
+    if !are_below(events, session.stream_count()) {
+        return Err("no such stream".into());
+    }
+    let answers = granted(run_events(session, events))?;
+    let found = granted(format!(in alloc; "{:?}", answers.as_slice()))?;
+    let faulted = found.as_str() == FAULTED;
+    assert!(rt; faulted || found.as_str() == ANSWERS, "{found}");
+    Ok(faulted)
+}
+
+/// The stream's file, once the session is finished. It has the packet, or nothing where the sink had no memory.
+fn file_of(rt: &impl Abort, session: Listed, faulted: bool) -> Result<Vec<u8>, Fail> {
+    let Ok(finished) = session.finish_all() else {
+        return Err(Fail::new(OUT_OF_MEMORY));
+    };
+    let FinishedSession { sinks, answers } = finished;
+    let end = if faulted {
+        FinishAnswer::Faulted
+    } else {
+        FinishAnswer::Settled
+    };
+    assert_eq!(rt; answers.as_slice(), [end].as_slice());
+    let sink = sinks.into_iter().next().ok_or("no sink")?;
+    assert!(rt; !faulted || sink.bytes().is_empty());
+    if faulted {
+        return Err(Fail::new(OUT_OF_MEMORY));
+    }
+    Ok(sink.into_bytes())
+}
+
+/// What is printed of the trace of this file. Where memory is wanting, a front of it is.
+fn prints(rt: &impl Abort, alloc: Global, metadata: &str, file: Vec<u8>) -> Result<(), Fail> {
+    let mut files = Vec::new(alloc);
+    let name = granted(String::from_str(alloc, "t0"))?;
+    if files.push((name, file)).is_err() {
+        return Err(Fail::new(OUT_OF_MEMORY));
+    }
+    let trace = match read_trace(alloc, metadata.as_bytes(), &files) {
+        Ok(trace) => trace,
+        Err(fault) => return Err(Fail::new(fault)),
+    };
+    let mut printed = granted(Vec::with_capacity(alloc, PRINTED.len()))?;
+    let answer = print_trace(alloc, &trace, &mut printed);
+    assert!(rt; PRINTED.as_bytes().starts_with(printed.as_slice()));
+    match answer {
+        Ok(()) => {
+            assert_eq!(rt; printed.as_slice(), PRINTED.as_bytes());
+            Ok(())
+        }
+        Err(PrintFault::OutOfMemory) => Err(Fail::new(OUT_OF_MEMORY)),
+        Err(PrintFault::Writer) => Err("a list that takes no more".into()),
+    }
+}
+
+#[test]
+fn runs_a_script_and_prints_its_trace(rt: HostRuntime) -> Result<(), Fail> {
+    let alloc = rt.alloc();
+    let mut session = started(alloc)?;
+    let metadata = granted(session.metadata())?;
+    let events = events(alloc, &clocked(alloc)?)?;
+    let want = bytes_of(alloc, FILE)?;
+    let faulted = runs(&rt, alloc, &mut session, events.as_slice())?;
+    let file = file_of(&rt, session, faulted)?;
+    assert_eq!(rt; file.as_slice(), want.as_slice());
+    prints(&rt, alloc, metadata.as_str(), file)
+}
