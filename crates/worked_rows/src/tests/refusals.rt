@@ -11,6 +11,8 @@ use ctf_types::Config;
 use std::alloc::Global;
 use std::test::Fail;
 use trace_platform::{ListBackEnd, ListClock};
+use trace_stack::Event;
+use trace_text::read_script;
 use worked_fixtures::{CLOCKED, configuration, granted};
 
 /// What a call says that is out of memory, whatever it has for that itself.
@@ -52,4 +54,12 @@ fn two_buffers(alloc: Global) -> Result<ListBackEnd, Fail>
     ensures { IfOk result (λ b. b.waiting ≡ []) }
 {
     Ok(ListBackEnd::new(alloc, 2, 64)?)
+}
+
+/// The events of the script.
+fn events(alloc: Global, config: &Config) -> Result<Vec<Event>, Fail> {
+    match read_script(alloc, config, SCRIPT.as_bytes()) {
+        Ok(script) => Ok(script.events.into_vec()),
+        Err(fault) => Err(Fail::new(fault.kind)),
+    }
 }

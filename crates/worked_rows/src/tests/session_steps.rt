@@ -227,7 +227,7 @@ fn event(alloc: Global, line: &str) -> Result<Event, Fail> {
 }
 
 /// Whether each event is of one of so many streams.
-fn are_below(events: &[Event], streams: usize) -> bool
+pub fn are_below(events: &[Event], streams: usize) -> bool
     ensures { result ≡ list_all (λ e. nat_lt e.stream streams) events.now }
 {
     for event in events {

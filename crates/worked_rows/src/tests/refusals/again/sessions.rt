@@ -1,10 +1,10 @@
 //! The calls of a session.
 
-ghost use Rattle.std.specs.Prelude.{◌≡◌, [], nat_lt};
-ghost use Rattle.std.specs.List.{list_all};
+ghost use Rattle.std.specs.Prelude.{◌≡◌, []};
 
-use super::super::{ANSWERS, FILE, SCRIPT, clock, clocked, two_buffers};
-use ctf_types::{Config, Values};
+use super::super::{ANSWERS, FILE, clock, clocked, events, two_buffers};
+use crate::tests::session_steps::are_below;
+use ctf_types::Values;
 use packet_collector::FinishAnswer;
 use std::alloc::Global;
 use std::process::Abort;
@@ -12,7 +12,6 @@ use std::test::Fail;
 use thread_stream::StreamFault;
 use trace_platform::{ListBackEnd, ListClock, MemorySink};
 use trace_stack::{AddFault, Answer, Event, FinishedSession, NotAdded, Session, run_events};
-use trace_text::read_script;
 use worked_fixtures::{bytes_of, granted};
 
 type Listed = Session<ListClock, ListBackEnd, MemorySink>;
@@ -50,26 +49,6 @@ fn adds(alloc: Global, session: &mut Listed) -> Result<(), Fail> {
         Ok(_) => Err("another number".into()),
         Err(refused) => added_again(session, refused),
     }
-}
-
-/// The events of the script.
-fn events(alloc: Global, config: &Config) -> Result<Vec<Event>, Fail> {
-    match read_script(alloc, config, SCRIPT.as_bytes()) {
-        Ok(script) => Ok(script.events.into_vec()),
-        Err(fault) => Err(Fail::new(fault.kind)),
-    }
-}
-
-/// Whether each event is of one of so many streams.
-fn are_below(events: &[Event], streams: usize) -> bool
-    ensures { result ≡ list_all (λ e. nat_lt e.stream streams) events.now }
-{
-    for event in events {
-        if event.stream >= streams {
-            return false;
-        }
-    }
-    true
 }
 
 /// What the events answer.

@@ -1,30 +1,20 @@
 //! A script that is read, run, read back and printed.
 
-ghost use Rattle.std.specs.Prelude.{◌≡◌, IfOk, nat_lt};
-ghost use Rattle.std.specs.List.{list_all};
-
 use super::super::{
-    ANSWERS, FAULTED, FILE, OUT_OF_MEMORY, PRINTED, SCRIPT, clock, clocked, two_buffers,
+    ANSWERS, FAULTED, FILE, OUT_OF_MEMORY, PRINTED, clock, clocked, events, two_buffers,
 };
-use ctf_types::{Config, Values};
+use crate::tests::session_steps::are_below;
+use ctf_types::Values;
 use packet_collector::FinishAnswer;
 use std::alloc::Global;
 use std::process::Abort;
 use std::test::Fail;
 use trace_platform::{ListBackEnd, ListClock, MemorySink};
 use trace_stack::{Event, FinishedSession, Session, read_trace, run_events};
-use trace_text::{PrintFault, print_trace, read_script};
+use trace_text::{PrintFault, print_trace};
 use worked_fixtures::{bytes_of, granted};
 
 type Listed = Session<ListClock, ListBackEnd, MemorySink>;
-
-/// The events of the script.
-fn events(alloc: Global, config: &Config) -> Result<Vec<Event>, Fail> {
-    match read_script(alloc, config, SCRIPT.as_bytes()) {
-        Ok(script) => Ok(script.events.into_vec()),
-        Err(fault) => Err(Fail::new(fault.kind)),
-    }
-}
 
 /// A session with the script's stream.
 fn started(alloc: Global) -> Result<Listed, Fail> {
@@ -36,18 +26,6 @@ fn started(alloc: Global) -> Result<Listed, Fail> {
         Ok(_) => Ok(session),
         Err(refused) => Err(Fail::new(refused.fault)),
     }
-}
-
-/// Whether each event is of one of so many streams.
-fn are_below(events: &[Event], streams: usize) -> bool
-    ensures { result ≡ list_all (λ e. nat_lt e.stream streams) events.now }
-{
-    for event in events {
-        if event.stream >= streams {
-            return false;
-        }
-    }
-    true
 }
 
 /// Whether the sink had no memory: else each event is answered as ever.
