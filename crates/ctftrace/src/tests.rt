@@ -8,6 +8,8 @@ mod faults;
 mod narrow_files;
 mod progress;
 mod read_command;
+mod resume;
+mod resume_refusals;
 mod short_timestamps;
 mod stopped_files;
 mod stopped_output;

@@ -22,6 +22,7 @@ const CONFIGURATION: &str =
     r#"{"trace":{"type":{"trace-byte-order":"le","clock-types":{"ticks":{}},"$features":{"data-stream-type-id-field-type":false},"data-stream-types":{"s":{"$default-clock-type-name":"ticks","$features":{"packet":{"beginning-timestamp-field-type":false,"end-timestamp-field-type":false,"total-size-field-type":{"class":"uint","size":16},"content-size-field-type":{"class":"uint","size":16}},"event-record":{"type-id-field-type":{"class":"uint","size":8},"timestamp-field-type":{"class":"uint","size":64,"alignment":8}}},"event-record-types":{"e":{"payload-field-type":{"class":"struct","members":[{"v":{"field-type":{"class":"uint","size":8}}}]}}}}}}}}"#;
 
 /// Does what the plan says, and tells how many calls were accepted and how many bytes the sinks got.
+#[tactic(auto, using(trace_stack::proofs::Anew::all_begin_anew))]
 pub fn bench<R: Threads + Wait>(rt: &R, alloc: Global, plan: Plan) -> Result<String, BenchFault>
     requires { (plan.threads ≤ 64) × (plan.calls ≤ 1000000) }
 {

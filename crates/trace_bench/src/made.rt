@@ -1,6 +1,6 @@
 //! The workers, with their calls, made ready.
 
-ghost use Rattle.std.specs.Prelude.{◌≡◌, ◌≤◌, IfOk};
+ghost use Rattle.std.specs.Prelude.{◌≡◌, ◌≤◌, None, IfOk};
 ghost use Rattle.std.specs.List.{All};
 ghost use Rattle.trace_clock.specs.Seats.{clock_of, rest};
 ghost use Rattle.trace_stack.specs.Workers.{IsWorker, OfOneClock};
@@ -25,6 +25,7 @@ pub fn workers(alloc: Global, plan: Plan) -> Result<Vec<Worker<MemorySink>>, Ben
     requires { (plan.threads ≤ 64) × (plan.calls ≤ 1000000) }
     ensures workers { IfOk result (λ workers. All IsWorker workers.items) }
     ensures clock { IfOk result (λ workers. OfOneClock workers.items) }
+    ensures anew { IfOk result (λ workers. All (λ w. w.start ≡ None) workers.items) }
 {
     let quota = quota_of(plan);
     let mut clock = TickClock::new(alloc, 0, 64 * quota)?;
@@ -58,6 +59,7 @@ pub fn seat_at(alloc: Global, clock: &mut TickClock, quota: u64) -> Result<TickS
 fn worker(alloc: Global, seat: TickSeat, calls: usize) -> Result<Worker<MemorySink>, BenchFault>
     ensures worker { IfOk result (λ worker. IsWorker worker) }
     ensures clock { IfOk result (λ worker. clock_of worker.seat ≡ clock_of seat) }
+    ensures anew { IfOk result (λ worker. worker.start ≡ None) }
 {
     let (back_end, ring_end) = ring(alloc, PLACES, PACKET_BYTES)?;
     let type_name = Text::from_str(alloc, "s")?;
@@ -70,6 +72,7 @@ fn worker(alloc: Global, seat: TickSeat, calls: usize) -> Result<Worker<MemorySi
         extras: Values::new(alloc),
         sink: MemorySink::new(alloc),
         acts,
+        start: None,
     })
 }
 

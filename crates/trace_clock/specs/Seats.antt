@@ -47,9 +47,9 @@ Reads a (Ok n) b = SameClock a b × (quota_of a ≡ quota_of b + 1) × (drawn b 
     × Happens (bounds_of a) (view_of a) n (view_of b) × (refused_of b ≡ refused_of a)
 Reads a (Err e) b = SameClock a b × (quota_of a ≡ 0) × (view_of b ≡ view_of a) × (refused_of b ≡ next_count (refused_of a))
 
--- a number that no later reading is below: the largest drawn
+-- a number that no later reading is below: the largest drawn, and the clock's first number where none was
 abbrev pub floor_of : TickSeat → ℕ
-floor_of s = fold max 0 (drawn s)
+floor_of s = fold max (bounds_of s).start (drawn s)
 
 -- the seat that holds what the clock gave to no other
 abbrev pub rest : TickClock → TickSeat

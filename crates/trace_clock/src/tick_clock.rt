@@ -15,7 +15,7 @@ pub struct TickClock {
 }
 
 impl TickClock {
-    ghost use Rattle.trace_clock.specs.Seats.{IsNew, SameClock, bounds_of, drawn, left, rest};
+    ghost use Rattle.trace_clock.specs.Seats.{IsNew, SameClock, bounds_of, drawn, floor_of, left, rest};
     ghost use Rattle.trace_clock.specs.declared.clock_fault.ClockFault.TheVariants as fault;
 
     /// A clock whose first reading is `start`, and which gives `total` readings in all. Their sum is at most 2^64 - 1.
@@ -38,6 +38,7 @@ impl TickClock {
     /// A seat for `quota` readings. `QuotaSpent` exactly where the clock has fewer left for new seats; a fault leaves the clock as it was.
     pub fn seat(&mut self, _alloc: Global, quota: u64) -> Result<TickSeat, ClockFault>
         ensures ok { IfOk result (λ s. IsNew (rest self.old) quota s × (left self.new + quota ≡ left self.old)) }
+        ensures floor { IfOk result (λ s. floor_of s ≡ (bounds_of (rest self.old)).start) }
         ensures quota_spent { (result ≡ Err fault.QuotaSpent) ↔ (left self.old < quota) }
         ensures err { OnErr result (left self.new ≡ left self.old) }
         ensures same { SameClock (rest self.old) (rest self.new) × (drawn (rest self.new) ≡ drawn (rest self.old)) }

@@ -12,7 +12,9 @@ use Rattle.trace_commands.specs.declared.commands.Command.{Command}
 use Rattle.trace_commands.specs.declared.line_fault.LineFault.{LineFault}
 use Rattle.trace_commands.specs.ProgramWords.{program}
 use Rattle.trace_commands.specs.declared.quota.Quota.{Quota}
-use Rattle.trace_commands.specs.CommandLine.{IsMemory, Asks, AsksBy, AsksCommand, HasFlag, HasWorkers, SaysQuota, uuid_said}
+use Rattle.trace_commands.specs.CommandLine.{IsMemory, Asks, AsksBy, AsksCommand, HasFlag, HasResuming, HasWorkers, SaysQuota, uuid_said}
+use Rattle.trace_commands.specs.declared.commands.Resuming.{Resuming}
+use Rattle.trace_commands.specs.declared.commands.Resuming.TheVariants.{Anew, Behind}
 use Rattle.trace_commands.specs.LineFaults.{FitsKind, IsFaultOfWords}
 
 -- memory ran out, or nothing has the property
@@ -110,3 +112,9 @@ workers_quota rows said (Some q) e has h = (q.readings, subst (λ (o : Option Te
 pub no_workers : (rows : List Row) (text : Text) (q : Option Quota) → HasFlag rows (codes "workers") false → first_of (codes "quota") rows ≡ Some text → HasWorkers rows q → ⊥
 no_workers rows text None has said h = none-some text (sym h.1 ∙ said)
 no_workers rows text (Some q) has said h = not_both rows (codes "workers") h.0 has
+
+-- ---- going on
+
+pub resuming_flag : (rows : List Row) (r : Resuming) → HasResuming rows r → (b : Bool) × HasFlag rows (codes "resume") b
+resuming_flag rows Anew h = (false, h)
+resuming_flag rows Behind h = (true, h)

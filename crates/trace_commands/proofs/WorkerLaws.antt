@@ -1,20 +1,20 @@
 -- The workers of a script's streams: their clock, their acts, and the lines of what they were told.
-use Rattle.std.proofs.Common.{◌≡◌, ◌<◌, ◌≤◌, ◌+◌, ◌*◌, ◌^◌, ℕ, zero, suc, Bool, true, false, ◌&&◌, if◌then◌else◌, List, [], ◌∷◌, ◌++◌, Option, None, Some, length, take, nat_eq, nat_lt, refl, sym, subst, ap, ap₂, ◌∙◌, append_assoc, append-nil, add-one, arith}
+use Rattle.std.proofs.Common.{◌≡◌, ◌<◌, ◌≤◌, ◌+◌, ◌*◌, ◌^◌, ℕ, zero, suc, Bool, true, false, ◌&&◌, if◌then◌else◌, List, [], ◌∷◌, ◌++◌, Option, None, Some, length, take, take_all, nat_eq, nat_lt, refl, sym, subst, ap, ap₂, ◌∙◌, append_assoc, append-nil, add-one, arith}
 use Rattle.std.proofs.Math.Nat.{mul-suc, mul-le-mul, mul-le-mul_left}
 use Rattle.std.proofs.lemmas.Bool.Decides.{nat_tests}
 use Rattle.std.proofs.lemmas.Option.{same_Some}
-use Rattle.std.proofs.lemmas.List.Elements.{All-nil, All-cons}
-use Rattle.std.specs.Prelude.{slice_get}
+use Rattle.std.proofs.lemmas.List.Elements.{All-nil, All-cons, All-head, All-tail}
+use Rattle.std.specs.Prelude.{fold, max, slice_get, zip}
 use Rattle.std.specs.Global.{Vec}
 use Rattle.std.specs.List.{All}
-use Rattle.std.specs.Option.{option_or, unwrap_or}
+use Rattle.std.specs.Option.{unwrap_or}
 use Rattle.ctf_types.specs.declared.Config.{Config}
-use Rattle.packet_ring.specs.Handing.{bytes_of}
-use Rattle.thread_stream.specs.declared.stream_fault.StreamFault.{StreamFault}
-use Rattle.thread_stream.specs.declared.stream_fault.StreamFault.TheVariants.{OutOfMemory}
-use Rattle.thread_stream.specs.Starting.{start_fault}
+use Rattle.ctf_types.specs.declared.StreamType.{StreamType}
+use Rattle.packet_reader.specs.declared.resuming.ResumePoint.{ResumePoint}
+use Rattle.thread_stream.specs.Starting.{stream_named}
+use Rattle.trace_clock.specs.declared.bounds.Bounds.{Bounds}
 use Rattle.trace_clock.specs.declared.tick_seat.TickSeat.{TickSeat}
-use Rattle.trace_clock.specs.Seats.{IsNew, SameClock}
+use Rattle.trace_clock.specs.Seats.{IsNew, SameClock, bounds_of, floor_of}
 use Rattle.trace_platform.specs.declared.writer_sink.WriterSink.{WriterSink}
 use Rattle.trace_stack.specs.declared.answer.Answer.{Answer}
 use Rattle.trace_stack.specs.declared.event.Act.{Act}
@@ -23,7 +23,8 @@ use Rattle.trace_stack.specs.declared.event.Event.{Event}
 use Rattle.trace_stack.specs.declared.names.NameFault.TheVariants.{BadName, SameName, TooMany}
 use Rattle.trace_stack.specs.declared.worker.Worker.{Worker}
 use Rattle.trace_stack.specs.StreamNames.{name_fault, is_stream_name, is_taken}
-use Rattle.trace_stack.specs.Workers.{IsWorker, OfOneClock, first_fault}
+use Rattle.trace_stack.specs.Points.{IsOf, no_point}
+use Rattle.trace_stack.specs.Workers.{CanGoOn, IsWorker, OfOneClock}
 use Rattle.trace_stack.specs.Working.{IsOfStream}
 use Rattle.trace_stack.proofs.Fronts.{take-more}
 use Rattle.trace_stack.proofs.OneClock.{IsAt, at_one_clock}
@@ -32,8 +33,10 @@ use Rattle.trace_text.specs.declared.script.ScriptStream.{ScriptStream}
 use Rattle.trace_text.specs.Names.{first_refused}
 use Rattle.std.proofs.lemmas.List.{length-map}
 use Rattle.trace_commands.specs.declared.recording.Sizes.{Sizes}
-use Rattle.trace_commands.specs.Tracing.{AreFree, IsBadStream, stream_names}
+use Rattle.trace_commands.specs.Begun.{AreRight, Begun, HasRoom, fault_of, floor_at}
+use Rattle.trace_commands.specs.Tracing.{AreFree, stream_names}
 use Rattle.trace_commands.specs.Workers.{AreWorkers, IsWorkerOf, acts_of, answers_at, is_of_stream, named_line, named_lines, stream_lines}
+use Rattle.trace_commands.proofs.BegunLaws.{AreAbove, begun_at, floor_of_point, length_begun, of_its_type}
 use Rattle.trace_commands.proofs.SessionLaws.{free_first}
 
 -- ---- few streams
@@ -124,7 +127,7 @@ acts_alone n (e ∷ es) = go (nat_eq e.stream n && is_of_stream e.act) refl (act
 -- ---- one worker more
 
 module _ {File : Type 0} where
-  one_more : (clock : TickSeat) (q : ℕ) (z : Sizes) (es : List Event) (n : ℕ) (ss : List ScriptStream) (ws : List (Worker (WriterSink File))) (s : ScriptStream)
+  one_more : (clock : TickSeat) (q : ℕ) (z : Sizes) (es : List Event) (n : ℕ) (ss : List Begun) (ws : List (Worker (WriterSink File))) (s : Begun)
       (w : Worker (WriterSink File)) → AreWorkers clock q z es n ss ws → IsNew clock q w.seat → IsWorkerOf z es (n + length ss) s w
       → AreWorkers clock q z es n (ss ++ s ∷ []) (ws ++ w ∷ [])
   one_more clock q z es n [] [] s w h new is = (new, subst (λ m. IsWorkerOf z es m s w) (let e : n + 0 ≡ n = omega arith in e) is, tt)
@@ -134,25 +137,33 @@ module _ {File : Type 0} where
       (h.0, h.1, one_more clock q z es (suc n) ss ws s w h.2 new (subst (λ m. IsWorkerOf z es m s w) (let e : n + suc (length ss) ≡ suc n + length ss = omega arith in e) is))
 
   -- all of the first i streams have their workers, and the clock has a quota for each of the others
-  pub record Standing (first clock : TickSeat) (left : ℕ) (q : ℕ) (z : Sizes) (es : List Event) (ss : List ScriptStream) (i : ℕ) (ws : List (Worker (WriterSink File))) : Type 0 where
+  pub record Standing (first clock : TickSeat) (left : ℕ) (q : ℕ) (z : Sizes) (es : List Event) (ss : List ScriptStream) (ps : List (Option ResumePoint)) (i : ℕ) (ws : List (Worker (WriterSink File))) : Type 0 where
     pub same : SameClock first clock
     pub shares : left + q * i ≡ q * length ss
-    pub workers : AreWorkers first q z es 0 (take i ss) ws
+    pub workers : AreWorkers first q z es 0 (take i (zip ss ps)) ws
 
-  pub standing_one : (first clock after : TickSeat) (left less : ℕ) (q : ℕ) (z : Sizes) (es : List Event) (ss : List ScriptStream) (i : ℕ) (ws : List (Worker (WriterSink File)))
-      (s : ScriptStream) (w : Worker (WriterSink File)) → Standing first clock left q z es ss i ws → slice_get ss i ≡ Some s → SameClock clock after → less + q ≡ left
-      → IsNew clock q w.seat → IsWorkerOf z es i s w → Standing first after less q z es ss (i + 1) (ws ++ w ∷ [])
-  standing_one first clock after left less q z es ss i ws s w h at same step new is = record {
-    same = same_clock first clock after h.same same;
-    shares = share_taken q i (length ss) left less h.shares step;
-    workers = subst (λ l. AreWorkers first q z es 0 l (ws ++ w ∷ [])) (sym (take-more ss i s at))
-        (one_more first q z es 0 (take i ss) ws s w h.workers (new_of_same first clock q w.seat h.same new)
-        (subst (λ m. IsWorkerOf z es m s w) (let e : i ≡ 0 + length (take i ss) = (let taken = length_take ss i s at in omega (arith, taken)) in e) is));
-  }
+  pub standing_one : (first clock after : TickSeat) (left less : ℕ) (q : ℕ) (z : Sizes) (es : List Event) (ss : List ScriptStream) (ps : List (Option ResumePoint)) (i : ℕ) (ws : List (Worker (WriterSink File)))
+      (s : ScriptStream) (p : Option ResumePoint) (w : Worker (WriterSink File)) → Standing first clock left q z es ss ps i ws → slice_get ss i ≡ Some s → slice_get ps i ≡ Some p
+      → SameClock clock after → less + q ≡ left → IsNew clock q w.seat → IsWorkerOf z es i (s, p) w → Standing first after less q z es ss ps (i + 1) (ws ++ w ∷ [])
+  standing_one first clock after left less q z es ss ps i ws s p w h at point same step new is =
+      let both = begun_at ss ps i s p at point in
+      record {
+        same = same_clock first clock after h.same same;
+        shares = share_taken q i (length ss) left less h.shares step;
+        workers = subst (λ l. AreWorkers first q z es 0 l (ws ++ w ∷ [])) (sym (take-more (zip ss ps) i (s, p) both))
+            (one_more first q z es 0 (take i (zip ss ps)) ws (s, p) w h.workers (new_of_same first clock q w.seat h.same new)
+            (subst (λ m. IsWorkerOf z es m (s, p) w) (let e : i ≡ 0 + length (take i (zip ss ps)) = (let taken = length_take (zip ss ps) i (s, p) both in omega (arith, taken)) in e) is));
+      }
+
+  pub standing_all : (first clock : TickSeat) (left : ℕ) (q : ℕ) (z : Sizes) (es : List Event) (ss : List ScriptStream) (ps : List (Option ResumePoint)) (i : ℕ) (ws : List (Worker (WriterSink File)))
+      → length ps ≡ length ss → length ss ≤ i → Standing first clock left q z es ss ps i ws → AreWorkers first q z es 0 (zip ss ps) ws
+  standing_all first clock left q z es ss ps i ws e past h =
+      let long = length_begun ss ps e in
+      subst (λ l. AreWorkers first q z es 0 l ws) (take_all i (zip ss ps) (omega (arith, long, past))) h.workers
 
   -- ---- what the threads want
 
-  pub can_work : (clock : TickSeat) (q : ℕ) (z : Sizes) (es : List Event) (n : ℕ) (ss : List ScriptStream) (ws : List (Worker (WriterSink File)))
+  pub can_work : (clock : TickSeat) (q : ℕ) (z : Sizes) (es : List Event) (n : ℕ) (ss : List Begun) (ws : List (Worker (WriterSink File)))
       → AreWorkers clock q z es n ss ws → All IsWorker ws
   can_work clock q z es n [] [] h = All-nil IsWorker
   can_work clock q z es n [] (w ∷ ws) h = absurd h
@@ -160,7 +171,7 @@ module _ {File : Type 0} where
   can_work clock q z es n (s ∷ ss) (w ∷ ws) h =
       All-cons IsWorker w ws (h.1.unused, subst (All IsOfStream) (sym h.1.acts) (acts_alone n es)) (can_work clock q z es (suc n) ss ws h.2)
 
-  at_clock : (clock : TickSeat) (q : ℕ) (z : Sizes) (es : List Event) (n : ℕ) (ss : List ScriptStream) (ws : List (Worker (WriterSink File)))
+  at_clock : (clock : TickSeat) (q : ℕ) (z : Sizes) (es : List Event) (n : ℕ) (ss : List Begun) (ws : List (Worker (WriterSink File)))
       → AreWorkers clock q z es n ss ws → All (λ (w : Worker (WriterSink File)). IsAt clock w.seat) ws
   at_clock clock q z es n [] [] h = All-nil (λ (w : Worker (WriterSink File)). IsAt clock w.seat)
   at_clock clock q z es n [] (w ∷ ws) h = absurd h
@@ -168,58 +179,28 @@ module _ {File : Type 0} where
   at_clock clock q z es n (s ∷ ss) (w ∷ ws) h = All-cons (λ (k : Worker (WriterSink File)). IsAt clock k.seat) w ws h.0.0.0 (at_clock clock q z es (suc n) ss ws h.2)
 
   -- and their seats are of one clock
-  pub of_one_clock : (clock : TickSeat) (q : ℕ) (z : Sizes) (es : List Event) (n : ℕ) (ss : List ScriptStream) (ws : List (Worker (WriterSink File)))
+  pub of_one_clock : (clock : TickSeat) (q : ℕ) (z : Sizes) (es : List Event) (n : ℕ) (ss : List Begun) (ws : List (Worker (WriterSink File)))
       → AreWorkers clock q z es n ss ws → OfOneClock ws
   of_one_clock clock q z es n ss ws h = at_one_clock clock ws (at_clock clock q z es n ss ws h)
 
-  -- ---- refusals
-
-  fault_at : (c : Config) (z : Sizes) (es : List Event) (n : ℕ) (s : ScriptStream) (w : Worker (WriterSink File)) → IsWorkerOf z es n s w
-      → start_fault c w.type_name (bytes_of w.back_end) w.extras ≡ start_fault c s.type_name z.bytes s.extras
-  fault_at c z es n s w is =
-      subst (λ x. start_fault c w.type_name (bytes_of w.back_end) w.extras ≡ start_fault c x z.bytes s.extras) is.type_name
-      (subst (λ x. start_fault c w.type_name (bytes_of w.back_end) w.extras ≡ start_fault c w.type_name x s.extras) is.places.2
-      (ap (λ x. start_fault c w.type_name (bytes_of w.back_end) x) is.extras))
-
-  refused : (c : Config) (clock : TickSeat) (q : ℕ) (z : Sizes) (es : List Event) (n : ℕ) (ss : List ScriptStream) (ws : List (Worker (WriterSink File))) (fault : StreamFault)
-      → AreWorkers clock q z es n ss ws → first_fault c ws ≡ Some fault → IsBadStream c z.bytes ss
-  refused c clock q z es n [] [] fault h e = absurd (let k : None ≡ Some fault = e in cc)
-  refused c clock q z es n [] (w ∷ ws) fault h e = absurd h
-  refused c clock q z es n (s ∷ ss) [] fault h e = absurd h
-  refused c clock q z es n (s ∷ ss) (w ∷ ws) fault h e = go (start_fault c s.type_name z.bytes s.extras) refl (subst (λ o. option_or o (first_fault c ws) ≡ Some fault) (fault_at c z es n s w h.1) e)
-      (λ later. refused c clock q z es (suc n) ss ws fault h.2 later)
-    where
-      go : (o : Option StreamFault) → start_fault c s.type_name z.bytes s.extras ≡ o → option_or o (first_fault c ws) ≡ Some fault
-          → (first_fault c ws ≡ Some fault → IsBadStream c z.bytes ss) → IsBadStream c z.bytes (s ∷ ss)
-      go (Some f) is e rest = record {
-        before = [];
-        stream = s;
-        behind = ss;
-        there = refl;
-        fault = f;
-        none_before = All-nil (λ (x : ScriptStream). start_fault c x.type_name z.bytes x.extras ≡ None);
-        first = is;
-      }
-      go None is e rest =
-          let later = rest e in
-          record {
-            before = s ∷ later.before;
-            stream = later.stream;
-            behind = later.behind;
-            there = ap (λ l. s ∷ l) later.there;
-            fault = later.fault;
-            none_before = All-cons (λ (x : ScriptStream). start_fault c x.type_name z.bytes x.extras ≡ None) s later.before is later.none_before;
-            first = later.first;
-          }
-
-  -- a fault that is no want of memory is the first stream's that has one
-  pub bad_stream : (c : Config) (clock : TickSeat) (q : ℕ) (z : Sizes) (es : List Event) (ss : List ScriptStream) (ws : List (Worker (WriterSink File))) (fault : StreamFault)
-      → AreWorkers clock q z es 0 ss ws → fault ≡ unwrap_or (first_fault c ws) OutOfMemory → (fault ≡ OutOfMemory → ⊥) → IsBadStream c z.bytes ss
-  bad_stream c clock q z es ss ws fault h e innocent = go (first_fault c ws) refl e
-    where
-      go : (o : Option StreamFault) → first_fault c ws ≡ o → fault ≡ unwrap_or o OutOfMemory → IsBadStream c z.bytes ss
-      go None is e = absurd (innocent e)
-      go (Some f) is e = refused c clock q z es 0 ss ws f h is
+  -- they go on from their points
+  pub can_go_on : (c : Config) (clock : TickSeat) (q : ℕ) (z : Sizes) (es : List Event) (n : ℕ) (ss : List Begun) (ws : List (Worker (WriterSink File)))
+      → AreAbove (bounds_of clock).start ss → AreRight c z.bytes ss → AreWorkers clock q z es n ss ws → All (CanGoOn c) ws
+  can_go_on c clock q z es n [] [] above right h = All-nil (CanGoOn c)
+  can_go_on c clock q z es n [] (w ∷ ws) above right h = absurd h
+  can_go_on c clock q z es n (s ∷ ss) [] above right h = absurd h
+  can_go_on c clock q z es n (s ∷ ss) (w ∷ ws) above right h =
+      let start = ap (λ (b : Bounds). b.start) h.0.0.1 in
+      let drew = ap (λ (l : List ℕ). fold max (bounds_of w.seat).start l) h.0.1 in
+      let point = ap (λ (p : Option ResumePoint). unwrap_or p no_point) h.1.start in
+      let low = All-head (λ (x : Begun). floor_at x.1 ≤ (bounds_of clock).start) s ss above in
+      All-cons (CanGoOn c) w ws (record {
+        floor = subst (λ (p : ResumePoint). p.floor ≤ floor_of w.seat) (sym point) (let is = floor_of_point s.1 in omega (arith, start, drew, is, low));
+        of_stream = λ number type found. subst (λ (p : ResumePoint). IsOf p.stream number) (sym point)
+            (of_its_type c z.bytes s number type (All-head (λ (x : Begun). fault_of c z.bytes x ≡ None) s ss right)
+            (subst (λ (name : List ℕ). stream_named name 0 c.streams ≡ Some (number, type)) h.1.type_name found));
+      }) (can_go_on c clock q z es (suc n) ss ws (All-tail (λ (x : Begun). floor_at x.1 ≤ (bounds_of clock).start) s ss above)
+      (All-tail (λ (x : Begun). fault_of c z.bytes x ≡ None) s ss right) h.2)
 
 -- ---- lines
 

@@ -8,6 +8,8 @@ use Rattle.trace_commands.specs.declared.commands.Command.{Command}
 use Rattle.trace_commands.specs.declared.commands.Command.TheVariants.{FirstPath, Check, Metadata, Trace, Read}
 use Rattle.trace_commands.specs.declared.commands.MetadataCommand.{MetadataCommand}
 use Rattle.trace_commands.specs.declared.commands.TraceCommand.{TraceCommand}
+use Rattle.trace_commands.specs.declared.commands.Resuming.{Resuming}
+use Rattle.trace_commands.specs.declared.commands.Resuming.TheVariants.{Anew, Behind}
 use Rattle.trace_commands.specs.declared.commands.ReadCommand.{ReadCommand}
 use Rattle.trace_commands.specs.declared.line_fault.LineFault.{LineFault}
 use Rattle.trace_commands.specs.declared.quota.Quota.{Quota}
@@ -62,6 +64,11 @@ abbrev pub HasWorkers : List Row → Option Quota → Type 0
 HasWorkers rows None = HasFlag rows (codes "workers") false × (first_of (codes "quota") rows ≡ None)
 HasWorkers rows (Some quota) = HasFlag rows (codes "workers") true × SaysQuota (first_of (codes "quota") rows) quota.readings
 
+-- the trace is to go on, or it is not
+abbrev pub HasResuming : List Row → Resuming → Type 0
+HasResuming rows Anew = HasFlag rows (codes "resume") false
+HasResuming rows Behind = HasFlag rows (codes "resume") true
+
 pub record AsksMetadata (rows : List Row) (m : MetadataCommand) : Type 0 where
   pub config : HasWord rows (codes "config") m.config
   pub uuid : HasUuid rows m.uuid
@@ -75,6 +82,7 @@ pub record AsksTrace (rows : List Row) (t : TraceCommand) : Type 0 where
   pub uuid : HasUuid rows t.uuid
   pub quiet : HasFlag rows (codes "quiet") t.is_quiet
   pub workers : HasWorkers rows t.workers
+  pub resume : HasResuming rows t.resume
 
 pub record AsksRead (rows : List Row) (r : ReadCommand) : Type 0 where
   pub folder : HasWord rows (codes "folder") r.folder

@@ -1,4 +1,5 @@
 pub mod AnswerLines
+pub mod Begun
 pub mod Checking
 pub mod CommandLine
 pub mod FirstPath
@@ -8,6 +9,7 @@ pub mod ListSessions
 pub mod Printed
 pub mod ProgramWords
 pub mod Reading
+pub mod Resuming
 pub mod Running
 pub mod Shown
 pub mod SmallConfiguration

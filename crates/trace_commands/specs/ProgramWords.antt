@@ -40,6 +40,9 @@ workers = record (new_rule (codes "workers")) { long = Some (codes "workers"); a
 abbrev pub quota : Rule
 quota = valued (codes "quota")
 
+abbrev pub resume : Rule
+resume = record (new_rule (codes "resume")) { long = Some (codes "resume"); action = Some SetTrue }
+
 abbrev pub shape_with : Text → List Rule → Shape
 shape_with name rules = record (new_shape name) { rules = rules }
 
@@ -59,7 +62,7 @@ abbrev pub trace_wishes : Shape
 trace_wishes = shape_with (codes "trace") (config ∷ script ∷ folder ∷ packet ∷ buffers ∷ uuid ∷ quiet ∷ [])
 
 abbrev pub trace : Shape
-trace = shape_with (codes "trace") (config ∷ script ∷ folder ∷ packet ∷ buffers ∷ uuid ∷ quiet ∷ workers ∷ quota ∷ [])
+trace = shape_with (codes "trace") (config ∷ script ∷ folder ∷ packet ∷ buffers ∷ uuid ∷ quiet ∷ workers ∷ quota ∷ resume ∷ [])
 
 abbrev pub read : Shape
 read = shape_with (codes "read") (folder ∷ quiet ∷ [])

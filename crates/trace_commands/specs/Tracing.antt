@@ -1,6 +1,9 @@
 -- What `trace` answers to the texts of a configuration's and of a script's file. The configuration is judged before the script is read, the script before the
 -- names of its streams, and these before the folder of the trace is made. Then there is the metadata, whole, in its file, and a file for each stream;
 -- the streams are added in the order of the script, and its events are run. Files are known by what their writers took.
+-- Where the trace is to go on in a folder, its metadata is read in place of that, and then, in the order of the script, each file that is there of the script's
+-- streams; these are known by what their readers had to give. Which path a file was opened under, that no file is there, and what becomes of a file
+-- that is not opened, no reader and no writer tells.
 use Rattle.std.specs.Prelude.{◌≡◌, ◌⊎◌, ℕ, true, List, [], ◌∷◌, ◌++◌, Option, None, Some, length, map}
 use Rattle.std.specs.Global.{Vec}
 use Rattle.std.specs.List.{All}
@@ -10,12 +13,12 @@ use Rattle.ctf_types.specs.MetadataOf.{metadata_of}
 use Rattle.conf_check.specs.Configuration.{Configures}
 use Rattle.packet_collector.specs.declared.finish_answer.FinishAnswer.{FinishAnswer}
 use Rattle.packet_collector.specs.declared.finish_answer.FinishAnswer.TheVariants.{Settled}
-use Rattle.thread_stream.specs.declared.stream_fault.StreamFault.{StreamFault}
-use Rattle.thread_stream.specs.Starting.{start_fault}
+use Rattle.packet_reader.specs.declared.resuming.ResumePoint.{ResumePoint}
 use Rattle.trace_clock.specs.declared.tick_clock.TickClock.{TickClock}
 use Rattle.trace_clock.specs.Seats.{rest}
 use Rattle.trace_platform.specs.declared.writer_sink.WriterSink.{WriterSink}
 use Rattle.trace_platform.specs.Appending.{Writes}
+use Rattle.trace_stack.specs.declared.adding.AddFault.{AddFault}
 use Rattle.trace_stack.specs.declared.answer.Answer.{Answer}
 use Rattle.trace_stack.specs.declared.names.NameFault.{NameFault}
 use Rattle.trace_stack.specs.declared.worker.ThreadsRun.{ThreadsRun}
@@ -29,14 +32,18 @@ use Rattle.trace_text.specs.Script.{IsScriptOf}
 use Rattle.trace_text.specs.ScriptFaults.{IsFirstFault}
 use Rattle.tsdl_grammar.specs.Denotes.{Denotes}
 use Rattle.tsdl_writer.specs.Written.{written}
+use Rattle.trace_commands.specs.declared.commands.Resuming.{Resuming}
+use Rattle.trace_commands.specs.declared.commands.Resuming.TheVariants.{Anew, Behind}
 use Rattle.trace_commands.specs.declared.commands.TraceCommand.{TraceCommand}
 use Rattle.trace_commands.specs.declared.quota.Quota.{Quota}
 use Rattle.trace_commands.specs.declared.recording.NotRecorded.{NotRecorded}
 use Rattle.trace_commands.specs.declared.recording.NotRecorded.TheVariants.{Stream, OutOfMemory}
 use Rattle.trace_commands.specs.declared.recording.Sizes.{Sizes}
 use Rattle.trace_commands.specs.AnswerLines.{answer_lines}
+use Rattle.trace_commands.specs.Begun.{AreRight, Begun, HasRoom, all_anew, begun, fault_of, largest_floor}
 use Rattle.trace_commands.specs.Checking.{IsFaultOf}
 use Rattle.trace_commands.specs.ListSessions.{IsRecording}
+use Rattle.trace_commands.specs.Resuming.{HasBroken, HasMetadata, HasOtherMetadata, HasPoint}
 use Rattle.trace_commands.specs.Shown.{IsFaultLine}
 use Rattle.trace_commands.specs.Telling.{WasGiven}
 use Rattle.trace_commands.specs.Workers.{AreWorkers, IsSharedBy, stream_lines}
@@ -67,23 +74,26 @@ pub record IsBadName (s : Script) : Type 0 where
   pub fault : NameFault
   pub first : first_refused [] 0 (stream_names s) ≡ Some (index, fault)
 
--- this stream of the script is the first of which none is made, by its type, its extra members or the size of packets
-pub record IsBadStream (c : Config) (bytes : ℕ) (streams : List ScriptStream) : Type 0 where
-  pub before : List ScriptStream
-  pub stream : ScriptStream
-  pub behind : List ScriptStream
+-- this stream of the script is the first of which none is begun, by its type, its extra members, the size of packets, or earlier packets of another type
+pub record IsBadStream (c : Config) (bytes : ℕ) (streams : List Begun) : Type 0 where
+  pub before : List Begun
+  pub stream : Begun
+  pub behind : List Begun
   pub there : streams ≡ before ++ stream ∷ behind
-  pub fault : StreamFault
-  pub none_before : All (λ (s : ScriptStream). start_fault c s.type_name bytes s.extras ≡ None) before
-  pub first : start_fault c stream.type_name bytes stream.extras ≡ Some fault
+  pub fault : AddFault
+  pub none_before : AreRight c bytes before
+  pub first : fault_of c bytes stream ≡ Some fault
 
--- for a session the stream has this fault, or memory was wanting
-abbrev pub Refuses : Config → ℕ → ScriptStream → NotRecorded → Type 0
-Refuses c bytes s (Stream number fault) = start_fault c s.type_name bytes s.extras ≡ Some fault
-Refuses c bytes s OutOfMemory = Unit {0}
+-- for a session a stream has this fault, or memory was wanting
+abbrev pub IsRefusal : Option AddFault → NotRecorded → Type 0
+IsRefusal first (Stream number fault) = first ≡ Some fault
+IsRefusal first OutOfMemory = Unit {0}
+
+abbrev pub Refuses : Config → ℕ → Begun → NotRecorded → Type 0
+Refuses c bytes s r = IsRefusal (fault_of c bytes s) r
 
 -- one of these streams, the first of them, has a fault, or memory was wanting
-abbrev pub RefusesOne : Config → ℕ → List ScriptStream → NotRecorded → Type 0
+abbrev pub RefusesOne : Config → ℕ → List Begun → NotRecorded → Type 0
 RefusesOne c bytes streams (Stream number fault) = IsBadStream c bytes streams
 RefusesOne c bytes streams OutOfMemory = Unit {0}
 
@@ -128,25 +138,25 @@ module _ {File : Type 0} (contents : File → Option (List ℕ)) where
   HoldsMetadata c = WereTaken (written c) × Denotes (written c) (metadata_of c)
 
   -- the session ran, and this is told of it
-  pub record IsRun (t : TraceCommand) (c : Config) (s : Script) (output errors : List ℕ) (status : ℕ) : Type 0 where
+  pub record IsRun (t : TraceCommand) (c : Config) (s : Script) (points : List (Option ResumePoint)) (output errors : List ℕ) (status : ℕ) : Type 0 where
     pub answers : List Answer
     pub ends : List FinishAnswer
-    pub recording : IsRecording contents c (sizes_of t) s answers ends
+    pub recording : IsRecording contents c (sizes_of t) s points answers ends
     pub printed : output ≡ answer_lines 0 answers
     pub ended : EndsTold ends errors status
 
   -- a stream is refused, or the session ran
-  abbrev pub TellsSession : TraceCommand → Config → Script → List ℕ → List ℕ → ℕ → Type 0
-  TellsSession t c s output errors status =
-      (IsBadStream c t.packet_bytes s.streams × IsSaid t.script.now output errors status)
-      ⊎ IsRun t c s output errors status
+  abbrev pub TellsSession : TraceCommand → Config → Script → List (Option ResumePoint) → List ℕ → List ℕ → ℕ → Type 0
+  TellsSession t c s points output errors status =
+      (IsBadStream c t.packet_bytes (begun s points) × IsSaid t.script.now output errors status)
+      ⊎ IsRun t c s points output errors status
 
   -- a worker for each stream ran, all by one clock, and this is told of them: each has its answers under its stream's name
-  pub record IsWorkersRun (quota : Quota) (t : TraceCommand) (c : Config) (s : Script) (output errors : List ℕ) (status : ℕ) : Type 0 where
+  pub record IsWorkersRun (quota : Quota) (t : TraceCommand) (c : Config) (s : Script) (points : List (Option ResumePoint)) (output errors : List ℕ) (status : ℕ) : Type 0 where
     pub clock : TickClock
-    pub shared : IsSharedBy quota (length s.streams) clock
+    pub shared : IsSharedBy quota (length s.streams) (largest_floor points) clock
     pub workers : List (Worker (WriterSink File))
-    pub each : AreWorkers (rest clock) quota.readings (sizes_of t) s.events 0 s.streams workers
+    pub each : AreWorkers (rest clock) quota.readings (sizes_of t) s.events 0 (begun s points) workers
     pub run : ThreadsRun (WriterSink File)
     pub ran : ThreadsRan (λ (a : WriterSink File) (bytes : List ℕ) answer (b : WriterSink File). Writes (contents a.writer) a.faults bytes answer (contents b.writer) b.faults)
         (λ (k : WriterSink File). contents k.writer) (λ (k : WriterSink File). k.faults) true c workers run
@@ -154,36 +164,59 @@ module _ {File : Type 0} (contents : File → Option (List ℕ)) where
     pub ended : RunTold run errors status
 
   -- a stream is refused, or the workers ran
-  abbrev pub TellsWorkers : Quota → TraceCommand → Config → Script → List ℕ → List ℕ → ℕ → Type 0
-  TellsWorkers quota t c s output errors status =
-      (IsBadStream c t.packet_bytes s.streams × IsSaid t.script.now output errors status)
-      ⊎ IsWorkersRun quota t c s output errors status
+  abbrev pub TellsWorkers : Quota → TraceCommand → Config → Script → List (Option ResumePoint) → List ℕ → List ℕ → ℕ → Type 0
+  TellsWorkers quota t c s points output errors status =
+      (IsBadStream c t.packet_bytes (begun s points) × IsSaid t.script.now output errors status)
+      ⊎ IsWorkersRun quota t c s points output errors status
 
   -- by workers where they are asked for, else by a session
-  abbrev pub TellsStreams : Option Quota → TraceCommand → Config → Script → List ℕ → List ℕ → ℕ → Type 0
-  TellsStreams None t c s output errors status = TellsSession t c s output errors status
-  TellsStreams (Some quota) t c s output errors status = TellsWorkers quota t c s output errors status
+  abbrev pub TellsStreams : Option Quota → TraceCommand → Config → Script → List (Option ResumePoint) → List ℕ → List ℕ → ℕ → Type 0
+  TellsStreams None t c s points output errors status = TellsSession t c s points output errors status
+  TellsStreams (Some quota) t c s points output errors status = TellsWorkers quota t c s points output errors status
 
   -- the folder is made, and its metadata is written
   pub record IsTraced (t : TraceCommand) (c : Config) (s : Script) (output errors : List ℕ) (status : ℕ) : Type 0 where
     pub metadata : HoldsMetadata c
-    pub streams : TellsStreams t.workers t c s output errors status
-
-  -- ---- in their order
-
-  -- of a script: its names, and then its session
-  abbrev pub TellsScript : TraceCommand → Config → Script → List ℕ → List ℕ → ℕ → Type 0
-  TellsScript t c s output errors status =
-      (IsBadName s × IsSaid t.script.now output errors status)
-      ⊎ (AreFree s × IsTraced t c s output errors status)
-
-  -- of the text of a script's file
-  abbrev pub TellsText : TraceCommand → Config → List ℕ → List ℕ → List ℕ → ℕ → Type 0
-  TellsText t c text output errors status =
-      (IsBadScript c text × IsSaid t.script.now output errors status)
-      ⊎ ((s : Script) × IsScriptOf c text s × TellsScript t c s output errors status)
+    pub streams : TellsStreams t.workers t c s (all_anew s) output errors status
 
   module _ (remaining : File → Option (List ℕ)) where
+    -- ---- in a folder that is there
+
+    -- the trace does not go on, which a line says: by its metadata, or by one of its files
+    abbrev pub IsNotResumed : Config → Script → List ℕ → List ℕ → Type 0
+    IsNotResumed c s folder errors =
+        HasOtherMetadata remaining folder (written c) errors ⊎ HasBroken remaining (metadata_of c) s.streams folder errors
+
+    -- it has the configuration's metadata, and a point behind each file that is there; the workers' clock would pass its last number, or the streams are begun,
+    -- those with points behind them
+    pub record IsResumed (t : TraceCommand) (c : Config) (s : Script) (output errors : List ℕ) (status : ℕ) : Type 0 where
+      pub metadata : HasMetadata remaining c
+      pub points : List (Option ResumePoint)
+      pub one_each : length points ≡ length s.streams
+      pub each : All (HasPoint remaining (metadata_of c)) points
+      pub streams : ((HasRoom t.workers (length s.streams) (largest_floor points) → ⊥) × IsSaid t.folder.now output errors status)
+          ⊎ TellsStreams t.workers t c s points output errors status
+
+    abbrev pub TellsFolder : Resuming → TraceCommand → Config → Script → List ℕ → List ℕ → ℕ → Type 0
+    TellsFolder Anew t c s output errors status = IsTraced t c s output errors status
+    TellsFolder Behind t c s output errors status =
+        (IsNotResumed c s t.folder.now errors × (output ≡ []) × (status ≡ 1))
+        ⊎ IsResumed t c s output errors status
+
+    -- ---- in their order
+
+    -- of a script: its names, and then its folder and its streams
+    abbrev pub TellsScript : TraceCommand → Config → Script → List ℕ → List ℕ → ℕ → Type 0
+    TellsScript t c s output errors status =
+        (IsBadName s × IsSaid t.script.now output errors status)
+        ⊎ (AreFree s × TellsFolder t.resume t c s output errors status)
+
+    -- of the text of a script's file
+    abbrev pub TellsText : TraceCommand → Config → List ℕ → List ℕ → List ℕ → ℕ → Type 0
+    TellsText t c text output errors status =
+        (IsBadScript c text × IsSaid t.script.now output errors status)
+        ⊎ ((s : Script) × IsScriptOf c text s × TellsScript t c s output errors status)
+
     -- of a configuration: the script's file is read
     abbrev pub TellsConfig : TraceCommand → Config → List ℕ → List ℕ → ℕ → Type 0
     TellsConfig t c output errors status = (text : List ℕ) × WasGiven remaining text × TellsText t c text output errors status

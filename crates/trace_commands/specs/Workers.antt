@@ -1,6 +1,7 @@
 -- What `trace --workers` runs: a worker for each stream of the script, in a thread of its own, with the acts of its stream but for collections, since the
--- calling thread collects all the time. All workers read one clock, whose numbers begin at 0 and which has a quota for each of them; the readings of the
--- script are not used. Each worker has a ring of as many places as a stream keeps packets, and a sink over its file.
+-- calling thread collects all the time. All workers read one clock, which has a quota for each of them, and whose numbers begin at 0, or, where a trace goes
+-- on, at the largest floor of its points; the readings of the script are not used. Each worker has a ring of as many places as a stream keeps packets, and
+-- a sink over its file.
 use Rattle.std.specs.Prelude.{◌≡◌, ◌+◌, ◌*◌, ℕ, suc, Bool, true, false, ◌&&◌, nat_eq, if◌then◌else◌, List, [], ◌∷◌, ◌++◌, Option, None, Some, codes}
 use Rattle.std.specs.Global.{Vec}
 use Rattle.packet_ring.specs.Opening.{HasBuffers, HasPlaces, IsUnused}
@@ -18,6 +19,7 @@ use Rattle.trace_commands.specs.declared.quota.Quota.{Quota}
 use Rattle.trace_commands.specs.declared.recording.Sizes.{Sizes}
 use Rattle.trace_commands.specs.declared.shared_clock.SharedClock.{SharedClock}
 use Rattle.trace_commands.specs.AnswerLines.{answer_line}
+use Rattle.trace_commands.specs.Begun.{Begun}
 
 -- ---- what a worker does
 
@@ -36,22 +38,23 @@ acts_of number (e ∷ es) = if nat_eq e.stream number && is_of_stream e.act then
 
 -- ---- the clock
 
--- a clock that nobody read, which has numbers from 0 on, the quota for each of so many workers
-pub record IsSharedBy (quota : Quota) (workers : ℕ) (clock : TickClock) : Type 0 where
-  pub numbers : bounds_of (rest clock) ≡ record { start = 0; total = quota.readings * workers }
+-- a clock that nobody read, which has numbers from the start on, the quota for each of so many workers
+pub record IsSharedBy (quota : Quota) (workers start : ℕ) (clock : TickClock) : Type 0 where
+  pub numbers : bounds_of (rest clock) ≡ record { start = start; total = quota.readings * workers }
   pub all_left : left clock ≡ quota.readings * workers
 
 -- where workers are asked for, there is one for them
-abbrev pub HasClock : Option Quota → ℕ → Option SharedClock → Type 0
-HasClock asked workers None = asked ≡ None
-HasClock asked workers (Some shared) = (asked ≡ Some shared.quota) × IsSharedBy shared.quota workers shared.clock
+abbrev pub HasClock : Option Quota → ℕ → ℕ → Option SharedClock → Type 0
+HasClock asked workers start None = asked ≡ None
+HasClock asked workers start (Some shared) = (asked ≡ Some shared.quota) × IsSharedBy shared.quota workers start shared.clock
 
 -- ---- workers
 
--- the worker of this stream of the script, which is its stream of this number
-pub record IsWorkerOf {File : Type 0} (z : Sizes) (events : List Event) (number : ℕ) (s : ScriptStream) (w : Worker (WriterSink File)) : Type 0 where
-  pub type_name : w.type_name ≡ s.type_name
-  pub extras : w.extras ≡ s.extras
+-- the worker of this stream of the script, which is its stream of this number, behind its point
+pub record IsWorkerOf {File : Type 0} (z : Sizes) (events : List Event) (number : ℕ) (s : Begun) (w : Worker (WriterSink File)) : Type 0 where
+  pub type_name : w.type_name ≡ s.0.type_name
+  pub start : w.start ≡ s.1
+  pub extras : w.extras ≡ s.0.extras
   pub acts : w.acts.items ≡ acts_of number events
   pub unused : IsUnused w.back_end w.ring_end
   pub places : HasPlaces z.buffers z.bytes w.back_end w.ring_end
@@ -59,7 +62,7 @@ pub record IsWorkerOf {File : Type 0} (z : Sizes) (events : List Event) (number 
   pub no_faults : w.sink.faults ≡ 0
 
 -- one for each of these streams, the first of which has this number; each has a new seat of the one clock
-abbrev pub AreWorkers : {File : Type 0} → TickSeat → ℕ → Sizes → List Event → ℕ → List ScriptStream → List (Worker (WriterSink File)) → Type 0
+abbrev pub AreWorkers : {File : Type 0} → TickSeat → ℕ → Sizes → List Event → ℕ → List Begun → List (Worker (WriterSink File)) → Type 0
 AreWorkers clock quota z events number [] [] = Unit {0}
 AreWorkers clock quota z events number [] (w ∷ ws) = ⊥
 AreWorkers clock quota z events number (s ∷ ss) [] = ⊥

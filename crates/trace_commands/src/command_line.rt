@@ -3,15 +3,16 @@
 ghost use Rattle.std.specs.Prelude.{◌≡◌, ◌⊎◌, ℕ, Bool, List, Option, map, IfOk, IfErr};
 ghost use Rattle.std.specs.Borrow.{Bor};
 ghost use Rattle.clap.specs.Words.{rows_of, found_of};
-ghost use Rattle.trace_commands.specs.CommandLine.{Asks, AsksBy, AsksTrace, AsksMetadata, AsksRead, HasWord, HasNumber, HasUuid, HasFlag, IsMemory};
+ghost use Rattle.trace_commands.specs.CommandLine.{Asks, AsksBy, AsksTrace, AsksMetadata, AsksRead, HasWord, HasNumber, HasUuid, HasFlag, HasResuming, IsMemory};
 ghost use Rattle.trace_commands.specs.LineFaults.{IsFaultOfWords, IsNoHelp};
 ghost use Rattle.trace_commands.specs.declared.commands.Command.{Command as Wanted};
 ghost use Rattle.trace_commands.specs.declared.commands.TraceCommand.{TraceCommand as WantedTrace};
 ghost use Rattle.trace_commands.specs.declared.commands.MetadataCommand.{MetadataCommand as WantedMetadata};
 ghost use Rattle.trace_commands.specs.declared.commands.ReadCommand.{ReadCommand as WantedRead};
+ghost use Rattle.trace_commands.specs.declared.commands.Resuming.{Resuming as WantedResuming};
 
 use crate::commands::{
-    self, MOST_BUFFERS, MOST_PACKET_BYTES, MetadataCommand, ReadCommand, TraceCommand,
+    self, MOST_BUFFERS, MOST_PACKET_BYTES, MetadataCommand, ReadCommand, Resuming, TraceCommand,
 };
 use crate::line_fault::{LineFault, line_fault};
 use crate::program_words::program;
@@ -85,6 +86,7 @@ fn trace_command<'a>(alloc: Global, found: &ArgMatches<'a>) -> Result<TraceComma
     let uuid = identifier(alloc, found.get_str("uuid"))?;
     let is_quiet = flag(alloc, found, "quiet")?;
     let workers = workers(alloc, found)?;
+    let resume = resuming(alloc, found)?;
     Ok(TraceCommand {
         config,
         script,
@@ -94,6 +96,7 @@ fn trace_command<'a>(alloc: Global, found: &ArgMatches<'a>) -> Result<TraceComma
         uuid,
         is_quiet,
         workers,
+        resume,
     })
 }
 
@@ -105,6 +108,18 @@ fn read_command<'a>(alloc: Global, found: &ArgMatches<'a>) -> Result<ReadCommand
     let folder = needed(alloc, found, "folder")?;
     let is_quiet = flag(alloc, found, "quiet")?;
     Ok(ReadCommand { folder, is_quiet })
+}
+
+/// Whether a trace is to go on in its folder.
+fn resuming(alloc: Global, found: &ArgMatches<'_>) -> Result<Resuming, LineFault>
+    ensures has { IfOk result (HasResuming (rows_of (found_of found.now))) }
+    ensures refused { IfErr result (λ fault. IsMemory fault ⊎ ((r : WantedResuming) → HasResuming (rows_of (found_of found.now)) r → ⊥)) }
+    ensures told { IfErr result IsNoHelp }
+{
+    if flag(alloc, found, "resume")? {
+        return Ok(Resuming::Behind);
+    }
+    Ok(Resuming::Anew)
 }
 
 /// The word that was found for a place.

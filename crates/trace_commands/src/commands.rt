@@ -24,14 +24,14 @@ pub struct MetadataCommand<'a> {
     pub uuid: Option<Uuid>,
 }
 
-/// Traces the events of a script into a new folder.
+/// Traces the events of a script into a new folder, or behind the trace that is in a folder.
 #[derive(Clone, Copy, Debug)]
 pub struct TraceCommand<'a> {
     /// The path of the configuration's file.
     pub config: &'a str,
     /// The path of the script's file.
     pub script: &'a str,
-    /// The path of the folder that is made.
+    /// The path of the folder that is made, or in which the trace goes on.
     pub folder: &'a str,
     /// The bytes of a packet, from 1 to `MOST_PACKET_BYTES`.
     pub packet_bytes: u32,
@@ -43,6 +43,16 @@ pub struct TraceCommand<'a> {
     pub is_quiet: bool,
     /// Where each stream is traced in a thread of its own, how many readings each may make of the clock that they share.
     pub workers: Option<Quota>,
+    pub resume: Resuming,
+}
+
+/// Where a trace begins.
+#[derive(Clone, Copy, Debug)]
+pub enum Resuming {
+    /// In a folder that is made for it.
+    Anew,
+    /// Behind the trace in a folder that is there.
+    Behind,
 }
 
 /// Prints the trace in a folder.

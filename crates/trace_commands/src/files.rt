@@ -12,13 +12,17 @@ use std::io::{ErrorKind, Write};
 use std::rt::Files;
 use thiserror::Error;
 
-/// Why a file was not read, or not written, or a folder not listed.
+/// Why a file was not read, or not written, or a folder not found or not listed.
 #[derive(Debug, Drop, Error)]
 pub enum FileFault {
     #[error("cannot open: {0}")]
     NotOpened(ErrorKind),
     #[error("cannot read: {0}")]
     NotRead(InputFault),
+    #[error("cannot find: {0}")]
+    NotFound(ErrorKind),
+    #[error("not a folder")]
+    NoFolder,
     #[error("cannot list: {0}")]
     NotListed(ErrorKind),
     #[error("cannot make: {0}")]

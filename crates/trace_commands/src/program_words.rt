@@ -77,7 +77,8 @@ fn trace_words<'a>(alloc: Global) -> Result<Command<'a>, AllocError>
 {
     trace_wishes(alloc)?
         .arg(workers_word(alloc))?
-        .arg(quota_word(alloc))
+        .arg(quota_word(alloc))?
+        .arg(resume_word(alloc))
 }
 
 fn trace_wishes<'a>(alloc: Global) -> Result<Command<'a>, AllocError>
@@ -105,8 +106,8 @@ fn trace_places<'a>(alloc: Global) -> Result<Command<'a>, AllocError>
     titled(
         alloc,
         "trace",
-        "Traces the events of a script into a new folder, and prints the answer to each",
-        "Examples: ctftrace trace conf.json script.json trace\n          ctftrace trace conf.json script.json threads --workers --quota 1000\n\nStatus: 0; 1 the configuration or the script has a fault; 2 a bad command line; 3 a file, a thread or memory failed",
+        "Traces the events of a script into a new folder, or goes on in one, and prints the answer to each",
+        "Examples: ctftrace trace conf.json script.json trace\n          ctftrace trace conf.json script.json threads --workers --quota 1000\n          ctftrace trace conf.json more.json trace --resume\n\nStatus: 0; 1 the configuration or the script has a fault, or the trace in DIR does not go on; 2 a bad command line; 3 a file, a thread or memory failed",
     )
     .arg(config_word(alloc))?
     .arg(script_word(alloc))?
@@ -160,7 +161,7 @@ fn new_folder_word<'a>(alloc: Global) -> Arg<'a>
 {
     Arg::new(alloc, "folder")
         .value_name("DIR")
-        .help("The folder that is made for the trace")
+        .help("The folder that is made for the trace, or with --resume that of the trace")
         .required(true)
 }
 
@@ -234,4 +235,14 @@ fn quota_word<'a>(alloc: Global) -> Arg<'a>
     Arg::new(alloc, "quota").long("quota").value_name("Q").help(
         "With --workers: the readings of each stream, from 0 to 288230376151711743 [default: 1000000]",
     )
+}
+
+fn resume_word<'a>(alloc: Global) -> Arg<'a>
+    ensures rule { rule_of result ≡ words.resume }
+    ensures local { result.global ≡ false }
+{
+    Arg::new(alloc, "resume")
+        .long("resume")
+        .help("Goes on behind the trace in DIR, which has this configuration's metadata")
+        .action(ArgAction::SetTrue)
 }

@@ -7,8 +7,7 @@ use crate::fault_lines::{fault_line, push_name, push_position};
 use crate::script_entry::push_fault;
 use ctf_types::Config;
 use std::alloc::{AllocError, Global};
-use thread_stream::StreamFault;
-use trace_stack::NameFault;
+use trace_stack::{AddFault, NameFault};
 use trace_text::{Script, ScriptFault, ScriptFaultKind};
 
 /// The line of a text that is no script of the configuration. Where it is no JSON, the place is a line and a column, else an entry.
@@ -46,13 +45,13 @@ pub fn name_line(
     stream_line(alloc, file, script, number, why.as_str())
 }
 
-/// The line of a stream of the script that a session refuses by what it is made from.
+/// The line of a stream of the script that a session refuses by what it is made from, or by the packets that are there.
 pub fn refusal_line(
     alloc: Global,
     file: &[u8],
     script: &Script,
     number: usize,
-    fault: StreamFault,
+    fault: AddFault,
 ) -> Result<Vec<u8>, AllocError>
     ensures { IfOk result (λ line. IsFaultLine file.now line.items) }
 {

@@ -1,13 +1,16 @@
 //! The workers of a script's streams.
 
 ghost use Rattle.std.specs.Prelude.{◌≡◌, ◌*◌, IfOk, length};
+ghost use Rattle.trace_commands.specs.Begun.{begun};
 ghost use Rattle.trace_clock.specs.Seats.{left, rest};
 ghost use Rattle.trace_commands.specs.ListSessions.{AreSizes};
 ghost use Rattle.trace_commands.specs.Workers.{AreWorkers, IsWorkerOf, acts_of as acts_of_stream, is_of_stream as is_of_stream_of};
 
+use crate::points::point_at;
 use crate::quota::Quota;
 use crate::recording::Sizes;
 use crate::shared_clock::seat_for;
+use packet_reader::ResumePoint;
 use packet_ring::ring;
 use plain_lists::Duplicate;
 use std::alloc::{AllocError, Global};
@@ -20,10 +23,11 @@ use trace_text::{Script, ScriptStream};
 
 type FileWorker<F> = Worker<WriterSink<F>>;
 
-/// A worker for each stream of the script, over its file.
+/// A worker for each stream of the script, over its file and behind its point.
 pub fn script_workers<F: Write + Drop>(
     alloc: Global,
     script: &Script,
+    points: &[Option<ResumePoint>],
     sizes: Sizes,
     clock: &mut TickClock,
     quota: Quota,
@@ -32,7 +36,8 @@ pub fn script_workers<F: Write + Drop>(
     requires sizes { AreSizes sizes }
     requires clock { left clock.old ≡ quota.readings * length script.now.streams }
     requires files { length files.items ≡ length script.now.streams }
-    ensures { IfOk result (λ ws. AreWorkers (rest clock.old) quota.readings sizes script.now.events 0 script.now.streams ws.items) }
+    requires points { length points.now ≡ length script.now.streams }
+    ensures { IfOk result (λ ws. AreWorkers (rest clock.old) quota.readings sizes script.now.events 0 (begun script.now points.now) ws.items) }
 {
     let mut files = files;
     let mut workers = Vec::new(alloc);
@@ -42,24 +47,26 @@ pub fn script_workers<F: Write + Drop>(
             unreachable!()
         };
         let seat = seat_for(alloc, clock, quota)?;
-        workers.push(worker_of(alloc, events, number, stream, sizes, seat, file)?)?;
+        let start = point_at(points, number);
+        workers.push(worker_of(alloc, events, number, stream, start, sizes, seat, file)?)?;
     }
     Ok(workers)
 }
 
-/// The worker of the stream of this number in the script.
+/// The worker of the stream of this number in the script, which begins behind this point.
 fn worker_of<F: Write + Drop>(
     alloc: Global,
     events: &[Event],
     number: usize,
     stream: &ScriptStream,
+    start: Option<ResumePoint>,
     sizes: Sizes,
     seat: TickSeat,
     file: F,
 ) -> Result<FileWorker<F>, AllocError>
     requires { AreSizes sizes }
     ensures seat { IfOk result (λ w. w.seat ≡ seat) }
-    ensures worker { IfOk result (IsWorkerOf sizes events.now number stream.now) }
+    ensures worker { IfOk result (IsWorkerOf sizes events.now number (stream.now, start)) }
 {
     let (back_end, ring_end) = ring(alloc, sizes.buffers, sizes.bytes)?;
     let type_name = stream.type_name.copy(alloc)?;
@@ -67,6 +74,7 @@ fn worker_of<F: Write + Drop>(
     let acts = acts_of(alloc, events, number)?;
     Ok(Worker {
         type_name,
+        start,
         seat,
         back_end,
         ring_end,

@@ -1,7 +1,8 @@
 //! The clock that all workers read.
 
-ghost use Rattle.std.specs.Prelude.{◌≡◌, ◌≤◌, ◌+◌, ◌*◌, IfOk, length};
+ghost use Rattle.std.specs.Prelude.{◌≡◌, ◌↔◌, ◌≤◌, ◌<◌, ◌+◌, ◌*◌, ◌^◌, IfOk, IsTrue, length};
 ghost use Rattle.trace_clock.specs.Seats.{IsNew, SameClock, left, rest};
+ghost use Rattle.trace_commands.specs.Begun.{HasRoom};
 ghost use Rattle.trace_commands.specs.Tracing.{AreFree};
 ghost use Rattle.trace_commands.specs.Workers.{HasClock, IsSharedBy};
 
@@ -17,30 +18,55 @@ pub struct SharedClock {
     pub quota: Quota,
 }
 
-/// The clock of the workers of the script's streams, where workers are asked for.
+/// Whether the workers of the script's streams, where they are asked for, have room at a clock that begins at this reading.
+pub fn has_room(asked: Option<Quota>, script: &Script, start: u64) -> bool
+    requires { AreFree script.now }
+    ensures { IsTrue result ↔ HasRoom asked (length script.now.streams) start }
+{
+    match asked {
+        None => true,
+        Some(quota) => start.checked_add(readings_of_all(quota, script)).is_some(),
+    }
+}
+
+/// How many readings all workers together may make.
+fn readings_of_all(quota: Quota, script: &Script) -> u64
+    requires { quota.readings * length script.now.streams < 2 ^ 64 }
+    ensures { result ≡ quota.readings * length script.now.streams }
+{
+    let workers = script.streams.as_slice().len() as u64;
+    quota.readings * workers
+}
+
+/// The clock of the workers of the script's streams, where workers are asked for. It begins at this reading.
 pub fn shared_clock(
     alloc: Global,
     asked: Option<Quota>,
     script: &Script,
+    start: u64,
 ) -> Result<Option<SharedClock>, AllocError>
-    requires { AreFree script.now }
-    ensures { IfOk result (HasClock asked (length script.now.streams)) }
+    requires { HasRoom asked (length script.now.streams) start }
+    ensures { IfOk result (HasClock asked (length script.now.streams) start) }
 {
     match asked {
         None => Ok(None),
         Some(quota) => {
-            let clock = clock_for(alloc, quota, script)?;
+            let clock = clock_for(alloc, quota, script, start)?;
             Ok(Some(SharedClock { clock, quota }))
         }
     }
 }
 
-fn clock_for(alloc: Global, quota: Quota, script: &Script) -> Result<TickClock, AllocError>
-    requires { AreFree script.now }
-    ensures { IfOk result (IsSharedBy quota (length script.now.streams)) }
+fn clock_for(
+    alloc: Global,
+    quota: Quota,
+    script: &Script,
+    start: u64,
+) -> Result<TickClock, AllocError>
+    requires { start + quota.readings * length script.now.streams < 2 ^ 64 }
+    ensures { IfOk result (IsSharedBy quota (length script.now.streams) start) }
 {
-    let workers = script.streams.as_slice().len() as u64;
-    TickClock::new(alloc, 0, quota.readings * workers)
+    TickClock::new(alloc, start, readings_of_all(quota, script))
 }
 
 /// A seat for one worker.

@@ -8,6 +8,7 @@ mod name_limits;
 mod positions;
 mod printed_traces;
 mod refusals;
+mod resumed_sessions;
 mod scripts;
 mod session_calls;
 mod session_steps;

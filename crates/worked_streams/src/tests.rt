@@ -17,6 +17,7 @@ mod reading;
 mod record_faults;
 mod recycled_buffers;
 mod refusals;
+mod resuming;
 mod rings;
 mod short_timestamps;
 mod stream_files;

@@ -21,7 +21,7 @@ static ROWS: &[(&[&str], &str)] = &[
     ),
     (
         &["trace", "c", "s", "d"],
-        "Trace(TraceCommand { config: \"c\", script: \"s\", folder: \"d\", packet_bytes: 4096, buffers: 4, uuid: None, is_quiet: false, workers: None })",
+        "Trace(TraceCommand { config: \"c\", script: \"s\", folder: \"d\", packet_bytes: 4096, buffers: 4, uuid: None, is_quiet: false, workers: None, resume: Anew })",
     ),
     (
         &[
@@ -34,19 +34,19 @@ static ROWS: &[(&[&str], &str)] = &[
             "+1024",
             "d",
         ],
-        "Trace(TraceCommand { config: \"c\", script: \"s\", folder: \"d\", packet_bytes: 16, buffers: 1024, uuid: None, is_quiet: true, workers: None })",
+        "Trace(TraceCommand { config: \"c\", script: \"s\", folder: \"d\", packet_bytes: 16, buffers: 1024, uuid: None, is_quiet: true, workers: None, resume: Anew })",
     ),
     (
         &["trace", "c", "s", "d", "--packet", "1", "--buffers=1"],
-        "Trace(TraceCommand { config: \"c\", script: \"s\", folder: \"d\", packet_bytes: 1, buffers: 1, uuid: None, is_quiet: false, workers: None })",
+        "Trace(TraceCommand { config: \"c\", script: \"s\", folder: \"d\", packet_bytes: 1, buffers: 1, uuid: None, is_quiet: false, workers: None, resume: Anew })",
     ),
     (
         &["trace", "c", "s", "d", "--packet=1048576"],
-        "Trace(TraceCommand { config: \"c\", script: \"s\", folder: \"d\", packet_bytes: 1048576, buffers: 4, uuid: None, is_quiet: false, workers: None })",
+        "Trace(TraceCommand { config: \"c\", script: \"s\", folder: \"d\", packet_bytes: 1048576, buffers: 4, uuid: None, is_quiet: false, workers: None, resume: Anew })",
     ),
     (
         &["trace", "c", "s", "d", "--workers"],
-        "Trace(TraceCommand { config: \"c\", script: \"s\", folder: \"d\", packet_bytes: 4096, buffers: 4, uuid: None, is_quiet: false, workers: Some(Quota { readings: 1000000 }) })",
+        "Trace(TraceCommand { config: \"c\", script: \"s\", folder: \"d\", packet_bytes: 4096, buffers: 4, uuid: None, is_quiet: false, workers: Some(Quota { readings: 1000000 }), resume: Anew })",
     ),
     (
         &[
@@ -57,11 +57,19 @@ static ROWS: &[(&[&str], &str)] = &[
             "--workers",
             "d",
         ],
-        "Trace(TraceCommand { config: \"c\", script: \"s\", folder: \"d\", packet_bytes: 4096, buffers: 4, uuid: None, is_quiet: false, workers: Some(Quota { readings: 288230376151711743 }) })",
+        "Trace(TraceCommand { config: \"c\", script: \"s\", folder: \"d\", packet_bytes: 4096, buffers: 4, uuid: None, is_quiet: false, workers: Some(Quota { readings: 288230376151711743 }), resume: Anew })",
     ),
     (
         &["trace", "c", "s", "d", "--quota", "0", "--workers"],
-        "Trace(TraceCommand { config: \"c\", script: \"s\", folder: \"d\", packet_bytes: 4096, buffers: 4, uuid: None, is_quiet: false, workers: Some(Quota { readings: 0 }) })",
+        "Trace(TraceCommand { config: \"c\", script: \"s\", folder: \"d\", packet_bytes: 4096, buffers: 4, uuid: None, is_quiet: false, workers: Some(Quota { readings: 0 }), resume: Anew })",
+    ),
+    (
+        &["trace", "--resume", "c", "s", "d"],
+        "Trace(TraceCommand { config: \"c\", script: \"s\", folder: \"d\", packet_bytes: 4096, buffers: 4, uuid: None, is_quiet: false, workers: None, resume: Behind })",
+    ),
+    (
+        &["trace", "c", "s", "d", "--workers", "--resume", "--quota=1"],
+        "Trace(TraceCommand { config: \"c\", script: \"s\", folder: \"d\", packet_bytes: 4096, buffers: 4, uuid: None, is_quiet: false, workers: Some(Quota { readings: 1 }), resume: Behind })",
     ),
     (
         &["read", "d", "--quiet"],

@@ -141,6 +141,9 @@ static LINES: &[(&[&str], u8)] = &[
     ),
     (&["trace", "c", "s", "d", "--buffers", "1025"], 2),
     (&["trace", "c", "s", "d", "--quota", "1"], 2),
+    (&["trace", "c", "s", "d", "--resume", "--resume"], 2),
+    (&["trace", "c", "s", "d", "--resume=yes"], 2),
+    (&["read", "d", "--resume"], 2),
 ];
 
 #[test]

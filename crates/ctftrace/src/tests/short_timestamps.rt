@@ -11,7 +11,7 @@ use std::test::Fail;
 use std::thread::Threads;
 
 /// One stream type with a clock and two event record types, in big-endian order, whose event records' timestamps have 8 bits.
-const BYTE: &str =
+pub const BYTE: &str =
     r#"{"trace":{"type":{"native-byte-order":"be","clock-types":{"clk":{}},"$features":{"data-stream-type-id-field-type":false},"data-stream-types":{"s":{"$default-clock-type-name":"clk","$features":{"packet":{"total-size-field-type":"u16","content-size-field-type":"u16","discarded-event-records-counter-snapshot-field-type":"u8","sequence-number-field-type":"u8"},"event-record":{"type-id-field-type":"u8","timestamp-field-type":"u8"}},"event-record-types":{"a":{"payload-field-type":{"class":"struct","members":[{"n":{"field-type":{"class":"sint","size":16}}}]}},"b":{"payload-field-type":{"class":"struct","members":[{"s":{"field-type":{"class":"str"}}}]}}}}},"$field-type-aliases":{"u8":{"class":"uint","size":8},"u16":{"class":"uint","size":16}}}}}"#;
 
 /// The same without the beginning timestamp of a packet.
@@ -93,7 +93,7 @@ fn refuses_timestamps_of_other_sizes(rt: HostRuntime) -> Result<(), Fail> {
 }
 
 /// The program answers so, and with this status.
-fn answers<X: Files + Clock + Eprint + AllocGlobal + Clone + Drop + Abort + Threads + Wait>(
+pub fn answers<X: Files + Clock + Eprint + AllocGlobal + Clone + Drop + Abort + Threads + Wait>(
     rt: &X,
     shows: &str,
     words: &[&str],

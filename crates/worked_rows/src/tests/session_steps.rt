@@ -6,6 +6,7 @@ ghost use Rattle.ctf_types.specs.AllowedConfig.{IsConfig};
 
 use crate::tests::session_calls::act;
 use ctf_types::Config;
+use packet_reader::{ResumePoint, resume_point};
 use std::alloc::{AllocError, Global};
 use std::process::Abort;
 use std::test::Fail;
@@ -13,7 +14,7 @@ use trace_platform::{ListBackEnd, ListClock, MemorySink, Script, ScriptedSink, T
 use trace_stack::{
     AddFault, Answer, Event, FinishedSession, ReadTrace, Session, read_trace, run_events,
 };
-use worked_fixtures::{Changes, SMALL, changed, configured, values_in_words};
+use worked_fixtures::{Changes, SMALL, bytes_of, changed, configured, values_in_words};
 
 /// What a stream is made from. Its sink faults at the first packet where `faults` says so, and takes none of that packet's bytes.
 #[derive(Clone, Copy)]
@@ -26,6 +27,8 @@ pub struct Source {
     /// The values of the extra members, with blanks between them.
     pub extras: &'static str,
     pub faults: bool,
+    /// What its file has, in hexadecimal: the stream goes on behind these packets. It begins anew where there are none.
+    pub earlier: &'static str,
 }
 
 /// A stream of the small configuration over two buffers of 16 bytes.
@@ -37,6 +40,7 @@ pub const SOURCE: Source = Source {
     bytes: 16,
     extras: "",
     faults: false,
+    earlier: "",
 };
 
 /// Calls, a line each, that are run as one list of events, so many times. A line has the stream's number, the call, and what it answers, as
@@ -66,7 +70,7 @@ pub const RUN: Run = Run {
     ends: "[Settled]",
 };
 
-/// A session that ended: the stream files by their names, and what is read from them.
+/// A session that ended: the stream files by their names, with what they had before, and what is read from them.
 #[derive(Drop)]
 pub struct Ended {
     pub files: Vec<(String, Vec<u8>)>,
@@ -122,11 +126,34 @@ fn added(
     let back_end = back_end(alloc, source.buffers, source.bytes)?;
     let extras = values_in_words(alloc, source.extras)?;
     let sink = sink(alloc, source.faults)?;
+    let type_name = source.type_name;
     let mut session = prepared;
-    match session.add_stream(name, source.type_name, clock, back_end, sink, extras) {
+    let added = if source.earlier.is_empty() {
+        session.add_stream(name, type_name, clock, back_end, sink, extras)
+    } else {
+        let point = point_behind(alloc, &session, source)?;
+        session.resume_stream(name, type_name, clock, back_end, sink, extras, point)
+    };
+    match added {
         Ok(_number) => Ok((session, None)),
         Err(refused) => Ok((session, Some(refused.fault))),
     }
+}
+
+/// The point behind what the stream's file has, which has no clock values.
+fn point_behind(alloc: Global, prepared: &Prepared, source: &Source) -> Result<ResumePoint, Fail>
+    ensures { IfOk result (λ p. p.floor ≡ 0) }
+{
+    let metadata = prepared.metadata()?;
+    let name = String::from_str(alloc, source.name)?;
+    let files = vec![in alloc; (name, bytes_of(alloc, source.earlier)?)]?;
+    let trace = read_trace(alloc, metadata.as_bytes(), &files)?;
+    let stream = trace.streams.get(0).ok_or("no stream file")?;
+    let point = resume_point(&trace.metadata, stream).ok_or("a file that does not end whole")?;
+    if point.floor != 0 {
+        return Err("a file with clock values".into());
+    }
+    Ok(point)
 }
 
 fn back_end(alloc: Global, buffers: usize, bytes: usize) -> Result<ListBackEnd, Fail>
@@ -280,7 +307,9 @@ fn named(
     let mut files = Vec::new(alloc);
     for (source, sink) in run.streams.iter().zip(finished.sinks) {
         let name = String::from_str(alloc, source.name)?;
-        files.push((name, sink.sink.into_bytes()))?;
+        let mut bytes = bytes_of(alloc, source.earlier)?;
+        bytes.extend_from_slice(sink.sink.bytes())?;
+        files.push((name, bytes))?;
     }
     Ok(files)
 }

@@ -8,7 +8,7 @@ use std::test::Fail;
 use worked_fixtures::{CLOCKED, Changes, NARROW, bytes_of, shown_streams};
 
 /// A run, its stream files in hexadecimal, and what is read of them.
-type Row = (Run, &'static [&'static str], &'static str);
+pub type Row = (Run, &'static [&'static str], &'static str);
 
 /// `CLOCKED` with event records' timestamps of 8 bits.
 const BYTE: Changes = &[(
@@ -246,7 +246,7 @@ fn runs_streams_with_a_discard_count_or_a_clock(rt: HostRuntime) -> Result<(), F
 }
 
 /// Two data stream types: `plain` without a clock and with an extra member, and `timed` with a clock.
-const TWO_TYPES: &str =
+pub const TWO_TYPES: &str =
     r#"{"trace":{"type":{"trace-byte-order":"le","clock-types":{"clk":{}},"$features":{"data-stream-type-id-field-type":"u8"},"data-stream-types":{"plain":{"$features":{"packet":{"total-size-field-type":"u32","content-size-field-type":"u32","discarded-event-records-counter-snapshot-field-type":"u8"},"event-record":{"type-id-field-type":false}},"packet-context-field-type-extra-members":[{"cpu":{"field-type":"u8"}}],"event-record-types":{"e":{"payload-field-type":{"class":"struct","members":[{"v":{"field-type":"u8"}}]}}}},"timed":{"$default-clock-type-name":"clk","$features":{"packet":{"total-size-field-type":"u32","content-size-field-type":"u32","discarded-event-records-counter-snapshot-field-type":"u8","sequence-number-field-type":"u8"},"event-record":{"type-id-field-type":"u8"}},"event-record-types":{"a":{"payload-field-type":{"class":"struct","members":[{"n":{"field-type":{"class":"sint","size":16}}}]}},"b":{"payload-field-type":{"class":"struct","members":[{"s":{"field-type":{"class":"str"}}}]}}}}},"$field-type-aliases":{"u8":{"class":"uint","size":8},"u32":{"class":"uint","size":32}}}}}"#;
 
 /// Two streams by turns.
@@ -360,7 +360,7 @@ fn runs_two_streams_by_turns(rt: HostRuntime) -> Result<(), Fail> {
     all_run(&rt, rt.alloc(), TWO_STREAMS)
 }
 
-fn all_run(rt: &impl Abort, alloc: Global, rows: &[Row]) -> Result<(), Fail> {
+pub fn all_run(rt: &impl Abort, alloc: Global, rows: &[Row]) -> Result<(), Fail> {
     for row in rows {
         let ended = run_to_end(rt, alloc, &row.0)?;
         ends_so(rt, alloc, &ended, row)?;

@@ -118,7 +118,8 @@ fn finds_no_gap_in_300_packets(rt: HostRuntime) -> Result<(), Fail> {
     Ok(())
 }
 
-fn packets_of_300(alloc: Global) -> Result<String, AllocError> {
+/// Their counts are 0 in the first and then 257, and their numbers 0 to 299, as far as fields of 8 bits hold them.
+pub fn packets_of_300(alloc: Global) -> Result<String, AllocError> {
     let mut digits = String::from_str(alloc, "c11ffcc1 80000000 70000000 00000000")?;
     for number in 1..300_u32 {
         let number = number % 256;

@@ -16,13 +16,13 @@ use thread_stream::{PacketAnswer, Verdict, Why};
 use worked_fixtures::{CLOCKED, Changes, Datum, changed, configured};
 
 /// `CLOCKED` with event records' timestamps of 8 bits.
-const BYTE: Changes = &[(
+pub const BYTE: Changes = &[(
     r#""event-record":{"#,
     r#""event-record":{"timestamp-field-type":"u8","#,
 )];
 
 /// Packets of 64 bytes, of which header and context have 26, and each record of the number `n` has 4.
-const SHORT: Start = Start {
+pub const SHORT: Start = Start {
     text: CLOCKED,
     changes: BYTE,
     bytes: 64,
@@ -37,10 +37,10 @@ const TOO_LARGE: Step = Step::Trace(
 );
 
 /// From 10 to 600 with records at 10 and 265, and from 600 to 601 with one at 600.
-const PAUSED_FIRST: &str =
+pub const PAUSED_FIRST: &str =
     "c1fc1fc1 0200 0110 000000000000000a 0000000000000258 00 00 00 0a fffe 00 09 0001 000000000000000000000000000000000000000000000000000000000000";
 
-const PAUSED_SECOND: &str =
+pub const PAUSED_SECOND: &str =
     "c1fc1fc1 0200 00f0 0000000000000258 0000000000000259 00 01 00 58 0002 00000000000000000000000000000000000000000000000000000000000000000000";
 
 /// 265 is 255 behind 10, and 600 is 335 behind 265.
@@ -364,7 +364,7 @@ const WITH_AN_END: Changes = &[
 ];
 
 /// A packet's begin of 64 bits, and a timestamp of 1.
-const ONE_BIT: Changes = &[
+pub const ONE_BIT: Changes = &[
     ("CONTEXT", "SIZES U64 timestamp_begin;"),
     ("RECORD", "integer { size = 1; } timestamp;"),
     ("U64", WIDE),

@@ -106,7 +106,8 @@ fn repeats<B: OwnBackEnd>(
     Ok(())
 }
 
-fn takes_steps<B: OwnBackEnd>(
+/// Each step answers what it says.
+pub fn takes_steps<B: OwnBackEnd>(
     rt: &impl Abort,
     alloc: Global,
     stream: &mut Stream<ListClock, B>,
@@ -226,12 +227,12 @@ pub fn made<B: OwnBackEnd + Drop>(
 }
 
 /// A clock of these readings.
-fn clock(alloc: Global, readings: &[u64]) -> Result<ListClock, Fail> {
+pub fn clock(alloc: Global, readings: &[u64]) -> Result<ListClock, Fail> {
     let clock = ListClock::new(Vec::from_slice(alloc, readings)?).ok_or("readings that fall")?;
     Ok(clock)
 }
 
-fn configuration(alloc: Global, start: &Start) -> Result<Config, Fail>
+pub fn configuration(alloc: Global, start: &Start) -> Result<Config, Fail>
     ensures { IfOk result (λ c. IsConfig c) }
 {
     let text = changed(alloc, start.text, start.changes)?;

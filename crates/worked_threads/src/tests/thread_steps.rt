@@ -1,6 +1,6 @@
 //! Workers over rings, made from words.
 
-ghost use Rattle.std.specs.Prelude.{◌≡◌, IfOk};
+ghost use Rattle.std.specs.Prelude.{◌≡◌, None, IfOk};
 ghost use Rattle.std.specs.List.{All};
 ghost use Rattle.trace_clock.specs.Seats.{clock_of};
 ghost use Rattle.trace_stack.specs.Workers.{IsWorker};
@@ -35,6 +35,7 @@ pub fn worker<W: Drop>(
 ) -> Result<Worker<W>, Fail>
     ensures worker { IfOk result (λ w. IsWorker w) }
     ensures clock { IfOk result (λ w. clock_of w.seat ≡ clock_of seat) }
+    ensures anew { IfOk result (λ w. w.start ≡ None) }
 {
     let bytes = task.bytes;
     if bytes == 0 || bytes > 1 << 20 {
@@ -52,6 +53,7 @@ pub fn worker<W: Drop>(
         extras,
         sink,
         acts,
+        start: None,
     })
 }
 

@@ -1,6 +1,6 @@
 //! Workers in threads of their own, over rings and one clock, while the calling thread collects.
 
-ghost use Rattle.std.specs.Prelude.{◌≡◌, IfOk};
+ghost use Rattle.std.specs.Prelude.{◌≡◌, None, IfOk};
 ghost use Rattle.std.specs.List.{All};
 ghost use Rattle.trace_clock.specs.Seats.{clock_of};
 ghost use Rattle.trace_stack.specs.Workers.{IsWorker, OfOneClock};
@@ -44,9 +44,14 @@ const BOTH_SETTLED: &[FinishAnswer] = &[FinishAnswer::Settled, FinishAnswer::Set
 const READINGS: &[u64] = &[0, 1, 2, 3, 4, 5];
 
 /// Two workers whose seats at one clock have three readings each.
-fn two_workers(alloc: Global, first: &Task, second: &Task) -> Result<Vec<Worker<MemorySink>>, Fail>
+pub fn two_workers(
+    alloc: Global,
+    first: &Task,
+    second: &Task,
+) -> Result<Vec<Worker<MemorySink>>, Fail>
     ensures workers { IfOk result (λ ws. All IsWorker ws.items) }
     ensures clock { IfOk result (λ ws. OfOneClock ws.items) }
+    ensures anew { IfOk result (λ ws. All (λ w. w.start ≡ None) ws.items) }
 {
     let mut clock = TickClock::new(alloc, 0, 6)?;
     let first_seat = clock.seat(alloc, 3)?;
@@ -65,13 +70,16 @@ fn in_one_list(
 ) -> Result<Vec<Worker<MemorySink>>, Fail>
     requires workers { IsWorker first × IsWorker second }
     requires clock { clock_of second.seat ≡ clock_of first.seat }
+    requires anew { (first.start ≡ None) × (second.start ≡ None) }
     ensures workers { IfOk result (λ ws. All IsWorker ws.items) }
     ensures clock { IfOk result (λ ws. OfOneClock ws.items) }
+    ensures anew { IfOk result (λ ws. All (λ w. w.start ≡ None) ws.items) }
 {
     Ok(vec![in alloc; first, second]?)
 }
 
 /// What is left of the workers, for streams of `CLOCKED` or of `SMALL`.
+#[tactic(auto, using(trace_stack::proofs::Anew::all_begin_anew))]
 fn run<R: Threads + Wait, W: Sink + Drop, G: Gate + Sync>(
     rt: &R,
     alloc: Global,
@@ -81,6 +89,7 @@ fn run<R: Threads + Wait, W: Sink + Drop, G: Gate + Sync>(
 ) -> Result<Result<ThreadsRun<W>, NotRun<W>>, Fail>
     requires workers { All IsWorker workers.items }
     requires clock { OfOneClock workers.items }
+    requires anew { All (λ w. w.start ≡ None) workers.items }
 {
     let text = changed(alloc, text, &[])?;
     let config = configured(alloc, text.as_str(), None)?;
@@ -214,12 +223,27 @@ fn flagging<'f>(
 ) -> Result<Vec<Worker<FlaggingSink<'f>>>, Fail>
     ensures workers { IfOk result (λ ws. All IsWorker ws.items) }
     ensures clock { IfOk result (λ ws. OfOneClock ws.items) }
+    ensures anew { IfOk result (λ ws. All (λ w. w.start ≡ None) ws.items) }
 {
     let sink = FlaggingSink {
         sink: MemorySink::new(alloc),
         flag,
     };
     let worker = worker(alloc, seat, &TWO_PACKETS, sink)?;
+    alone(alloc, worker)
+}
+
+/// One worker.
+fn alone<'f>(
+    alloc: Global,
+    worker: Worker<FlaggingSink<'f>>,
+) -> Result<Vec<Worker<FlaggingSink<'f>>>, Fail>
+    requires worker { IsWorker worker }
+    requires anew { worker.start ≡ None }
+    ensures workers { IfOk result (λ ws. All IsWorker ws.items) }
+    ensures clock { IfOk result (λ ws. OfOneClock ws.items) }
+    ensures anew { IfOk result (λ ws. All (λ w. w.start ≡ None) ws.items) }
+{
     Ok(vec![in alloc; worker]?)
 }
 

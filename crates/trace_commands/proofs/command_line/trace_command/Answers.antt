@@ -1,7 +1,7 @@
 use Rattle.std.proofs.Common.{◌≡◌, ◌∙◌, ◌^◌, ℕ, List, Option, Some, option_map, ap, sym, codes}
 use Rattle.clap.specs.Words.{found_of, rows_of}
 use Rattle.clap.proofs.WalkLemmas.{first_value-rows}
-use Rattle.trace_commands.specs.CommandLine.{HasWord, HasNumber, HasFlag, HasWorkers, uuid_said, AsksTrace}
+use Rattle.trace_commands.specs.CommandLine.{HasWord, HasNumber, HasFlag, HasResuming, HasWorkers, uuid_said, AsksTrace}
 use Rattle.trace_commands.proofs.CommandLineLaws.{handed_on}
 use Rattle.trace_commands.proofs.command_line.trace_command.Goals as goal
 
@@ -53,6 +53,12 @@ returns-in_err-workers-clause-refused c =
     handed_on c.from_residual-in_err-workers.result c.in_err-workers.field-0.0 (HasWorkers rows) (AsksTrace rows)
     c.from_residual-in_err-workers.ensures.1 c.in_err-workers.ensures.refused (λ x a. (x.workers, a.workers))
 
+pub returns-in_err-resume-clause-refused : goal.returns-in_err-resume-clause-refused
+returns-in_err-resume-clause-refused c =
+    let rows = rows_of (found_of c.args.found.now) in
+    handed_on c.from_residual-in_err-resume.result c.in_err-resume.field-0.0 (HasResuming rows) (AsksTrace rows)
+    c.from_residual-in_err-resume.ensures.1 c.in_err-resume.ensures.refused (λ x a. (x.resume, a.resume))
+
 pub returns-clause-asks : goal.returns-clause-asks
 returns-clause-asks c = record {
   config = c.in_ok-config.ensures.has;
@@ -63,4 +69,5 @@ returns-clause-asks c = record {
   uuid = sym (ap uuid_said (c.get_str.ensures ∙ first_value-rows (found_of c.args.found.now) (codes "uuid"))) ∙ c.in_ok-uuid.ensures.says;
   quiet = c.in_ok-is_quiet.ensures.has;
   workers = c.in_ok-workers.ensures.has;
+  resume = c.in_ok-resume.ensures.has;
 }

@@ -8,5 +8,5 @@ abbrev pub invariant-loop-number : goal.invariant-loop-number
 invariant-loop-number g l = record {
   files : length l.files.items + l.number ≡ length l.script.streams;
   events : l.events ≡ l.script.events;
-  standing : Standing (rest l.initial.clock) (rest l.clock) (left l.clock) l.quota.readings l.sizes l.script.events l.script.streams l.number l.workers.items;
+  standing : Standing (rest l.initial.clock) (rest l.clock) (left l.clock) l.quota.readings l.sizes l.script.events l.script.streams l.points l.number l.workers.items;
 }

@@ -1,6 +1,6 @@
 //! Workers that are refused for want of memory, and handed back, run.
 
-ghost use Rattle.std.specs.Prelude.{IfErr};
+ghost use Rattle.std.specs.Prelude.{◌≡◌, None, IfErr};
 ghost use Rattle.std.specs.List.{All};
 ghost use Rattle.ctf_types.specs.AllowedConfig.{IsConfig};
 ghost use Rattle.trace_stack.specs.Workers.{IsWorker, OfOneClock};
@@ -18,6 +18,7 @@ use trace_platform::MemorySink;
 use trace_stack::{OpenGate, ThreadsRun, Worker, run_threads};
 
 /// What is left of workers of which none is refused.
+#[tactic(auto, using(trace_stack::proofs::Anew::all_begin_anew))]
 fn run_again<R: Threads + Wait>(
     rt: &R,
     alloc: Global,
@@ -27,6 +28,7 @@ fn run_again<R: Threads + Wait>(
     requires config { IsConfig config.now }
     requires workers { All IsWorker workers.items }
     requires clock { OfOneClock workers.items }
+    requires anew { All (λ w. w.start ≡ None) workers.items }
 {
     match run_threads(rt, alloc, config, workers, &OpenGate) {
         Ok(run) => Ok(run),
@@ -35,6 +37,7 @@ fn run_again<R: Threads + Wait>(
 }
 
 /// What is left of two workers.
+#[tactic(auto, using(trace_stack::proofs::Anew::all_begin_anew))]
 fn run<R: Threads + Wait + Abort>(rt: &R, alloc: Global) -> Result<ThreadsRun<MemorySink>, Fail> {
     let config = clocked(alloc)?;
     let workers = two_workers(alloc)?;

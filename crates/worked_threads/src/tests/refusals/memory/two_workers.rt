@@ -1,12 +1,12 @@
 //! Two workers over rings and one clock. Where a sink has no memory, or a thread none to start, all else is answered as with ample memory.
 
-ghost use Rattle.std.specs.Prelude.{◌≡◌, IfOk};
+ghost use Rattle.std.specs.Prelude.{◌≡◌, None, IfOk};
 ghost use Rattle.std.specs.List.{All};
-ghost use Rattle.trace_clock.specs.Seats.{clock_of};
 ghost use Rattle.trace_stack.specs.Workers.{IsWorker, OfOneClock};
 
 use super::super::{OUT_OF_MEMORY, clocked};
-use crate::tests::thread_steps::{Task, worker};
+use crate::tests::thread_steps::Task;
+use crate::tests::threads;
 use packet_collector::FinishAnswer;
 use std::alloc::Global;
 use std::process::Abort;
@@ -14,7 +14,6 @@ use std::sync::Wait;
 use std::test::Fail;
 use std::thread::Threads;
 use thread_stream::{PacketAnswer, StreamFault, Verdict, Why};
-use trace_clock::{TickClock, TickSeat};
 use trace_platform::MemorySink;
 use trace_stack::{Answer, NotRun, OpenGate, ThreadsFault, ThreadsRun, Worker, run_threads};
 
@@ -31,43 +30,17 @@ trace 0 +1
 "#,
 };
 
-/// A worker with this seat.
-fn one(alloc: Global, seat: TickSeat) -> Result<Worker<MemorySink>, Fail>
-    ensures worker { IfOk result (λ w. IsWorker w) }
-    ensures clock { IfOk result (λ w. clock_of w.seat ≡ clock_of seat) }
-{
-    worker(alloc, seat, &TASK, MemorySink::new(alloc))
-}
-
-/// Two workers at one clock.
-#[tactic(auto, using(trace_stack::proofs::OneClock::two_at_one_clock))]
-fn in_one_list(
-    alloc: Global,
-    first: Worker<MemorySink>,
-    second: Worker<MemorySink>,
-) -> Result<Vec<Worker<MemorySink>>, Fail>
-    requires workers { IsWorker first × IsWorker second }
-    requires clock { clock_of second.seat ≡ clock_of first.seat }
-    ensures workers { IfOk result (λ ws. All IsWorker ws.items) }
-    ensures clock { IfOk result (λ ws. OfOneClock ws.items) }
-{
-    Ok(vec![in alloc; first, second]?)
-}
-
 /// Two workers whose seats at one clock have three readings each.
 pub fn two_workers(alloc: Global) -> Result<Vec<Worker<MemorySink>>, Fail>
     ensures workers { IfOk result (λ ws. All IsWorker ws.items) }
     ensures clock { IfOk result (λ ws. OfOneClock ws.items) }
+    ensures anew { IfOk result (λ ws. All (λ w. w.start ≡ None) ws.items) }
 {
-    let mut clock = TickClock::new(alloc, 0, 6)?;
-    let first_seat = clock.seat(alloc, 3)?;
-    let second_seat = clock.seat(alloc, 3)?;
-    let first = one(alloc, first_seat)?;
-    let second = one(alloc, second_seat)?;
-    in_one_list(alloc, first, second)
+    threads::two_workers(alloc, &TASK, &TASK)
 }
 
 /// What is left of the workers.
+#[tactic(auto, using(trace_stack::proofs::Anew::all_begin_anew))]
 fn run<R: Threads + Wait>(
     rt: &R,
     alloc: Global,

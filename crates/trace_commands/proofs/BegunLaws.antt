@@ -1,0 +1,172 @@
+-- The streams of a script, each with its point, and their faults.
+use Rattle.std.proofs.Common.{◌≡◌, ◌≤◌, ℕ, ◌+◌, zero, suc, Bool, true, false, List, [], ◌∷◌, ◌++◌, Option, None, Some, map, length, take, drop, take_all, refl, sym, subst, ap, ap₂, ◌∙◌, add-one, arith}
+use Rattle.std.proofs.lemmas.Bool.{eqb-true}
+use Rattle.std.proofs.lemmas.Bool.Decides.{nat_tests}
+use Rattle.std.proofs.lemmas.List.{length-map}
+use Rattle.std.proofs.lemmas.List.Elements.{All-cons, All-nil, All-push}
+use Rattle.std.proofs.lemmas.Option.{same_Some}
+use Rattle.std.proofs.lemmas.Slice.Zip.{firsts-zip}
+use Rattle.std.specs.List.{All}
+use Rattle.std.proofs.lemmas.List.Sums.{fold_push}
+use Rattle.std.specs.Prelude.{fold, max, replicate, slice_get, not, nat_eq, option_map, unwrap_or, zip}
+use Rattle.ctf_types.specs.declared.Config.{Config}
+use Rattle.ctf_types.specs.declared.StreamType.{StreamType}
+use Rattle.ctf_types.specs.Datum.{Datum}
+use Rattle.packet_reader.specs.declared.resuming.ResumePoint.{ResumePoint}
+use Rattle.thread_stream.specs.declared.stream_fault.StreamFault.{StreamFault}
+use Rattle.thread_stream.specs.declared.stream_fault.StreamFault.TheVariants.{OutOfMemory as NoMemory}
+use Rattle.thread_stream.specs.Starting.{start_fault, stream_named}
+use Rattle.trace_stack.specs.declared.adding.AddFault.{AddFault}
+use Rattle.trace_stack.specs.declared.adding.AddFault.TheVariants as add_fault
+use Rattle.trace_stack.specs.declared.names.NameFault.{NameFault}
+use Rattle.trace_stack.specs.Adding.{first_fault, known_fault}
+use Rattle.trace_stack.specs.StreamNames.{name_fault}
+use Rattle.trace_stack.specs.Points.{IsOf, is_other, no_point, type_number}
+use Rattle.trace_stack.proofs.Fronts.{map-take-more, take-more}
+use Rattle.trace_text.specs.declared.script.ScriptStream.{ScriptStream}
+use Rattle.trace_commands.specs.Begun.{AreRight, Begun, fault_of, floor_at, stream_at}
+use Rattle.trace_commands.specs.Tracing.{IsBadStream}
+
+-- ---- faults
+
+same_number : (n m : ℕ) → n ≡ m → not (nat_eq n m) ≡ false
+same_number n m e = let test : nat_eq n m ≡ true = grind (arith, nat_tests) in ap not test
+
+pub of_one : (earlier : Option ℕ) (number : ℕ) → IsOf earlier number → is_other earlier (Some number) ≡ false
+of_one None number h = refl
+of_one (Some n) number h = same_number n number h
+
+-- a stream that is begun has none
+pub no_fault : (start : Option StreamFault) (other : Bool) → start ≡ None → other ≡ false → known_fault None start other ≡ None
+no_fault start other none is = subst (λ (o : Option StreamFault). known_fault None o other ≡ None) (sym none) (subst (λ (b : Bool). known_fault None None b ≡ None) (sym is) refl)
+
+-- without earlier packets it is the stream's own, or want of memory
+own_fault : (start : Option StreamFault) → add_fault.Stream (unwrap_or start NoMemory) ≡ unwrap_or (known_fault None start false) (add_fault.Stream NoMemory)
+own_fault None = refl
+own_fault (Some f) = refl
+
+pub adding_fault : (name : Option NameFault) (c : Config) (bytes : ℕ) (s : ScriptStream) → name ≡ None
+    → first_fault name c s.type_name bytes s.extras ≡ unwrap_or (fault_of c bytes (s, None)) (add_fault.Stream NoMemory)
+adding_fault name c bytes s free =
+    ap (λ (o : Option NameFault). first_fault o c s.type_name bytes s.extras) free ∙ own_fault (start_fault c s.type_name bytes s.extras)
+
+-- so is what a session that was handed equal parts answers
+pub adding_refused : (c : Config) (bytes : ℕ) (s : ScriptStream) (names : List (List ℕ)) (f : AddFault) {n t : List ℕ} {b : ℕ} {x : List Datum}
+    → n ≡ s.name → t ≡ s.type_name → b ≡ bytes → x ≡ s.extras → name_fault names s.name ≡ None → f ≡ first_fault (name_fault names n) c t b x
+    → f ≡ unwrap_or (fault_of c bytes (s, None)) (add_fault.Stream NoMemory)
+adding_refused c bytes s names f {n} {t} {b} {x} name type size extras free is =
+    let same : first_fault (name_fault names n) c t b x ≡ first_fault (name_fault names s.name) c s.type_name bytes s.extras =
+    subst (λ v. first_fault (name_fault names n) c t b x ≡ first_fault (name_fault names v) c s.type_name bytes s.extras) name
+    (subst (λ v. first_fault (name_fault names n) c t b x ≡ first_fault (name_fault names n) c v bytes s.extras) type
+    (subst (λ v. first_fault (name_fault names n) c t b x ≡ first_fault (name_fault names n) c t v s.extras) size
+    (subst (λ v. first_fault (name_fault names n) c t b x ≡ first_fault (name_fault names n) c t b v) extras refl))) in
+    is ∙ same ∙ adding_fault (name_fault names s.name) c bytes s free
+
+pub resuming_fault : (name : Option NameFault) (c : Config) (bytes : ℕ) (s : ScriptStream) (p : ResumePoint) → name ≡ None
+    → unwrap_or (known_fault name (start_fault c s.type_name bytes s.extras) (is_other p.stream (type_number c s.type_name))) (add_fault.Stream NoMemory)
+    ≡ unwrap_or (fault_of c bytes (s, Some p)) (add_fault.Stream NoMemory)
+resuming_fault name c bytes s p free =
+    ap (λ (o : Option NameFault). unwrap_or (known_fault o (start_fault c s.type_name bytes s.extras) (is_other p.stream (type_number c s.type_name))) (add_fault.Stream NoMemory)) free
+
+-- and one without has earlier packets of its own type
+right_type : (start : Option StreamFault) (other : Bool) → known_fault None start other ≡ None → other ≡ false
+right_type (Some f) other h = absurd (let k : Some (add_fault.Stream f) ≡ None = h in cc)
+right_type None true h = absurd (let k : Some add_fault.WrongStream ≡ None = h in cc)
+right_type None false h = refl
+
+not_false : (b : Bool) → not b ≡ false → b ≡ true
+not_false true e = refl
+not_false false e = absurd (let k : true ≡ false = e in cc)
+
+of_same : (n m : ℕ) → not (nat_eq n m) ≡ false → n ≡ m
+of_same n m h = eqb-true n m (not_false (nat_eq n m) h)
+
+is_of : (p : Option ResumePoint) (number : ℕ) → is_other (stream_at p) (Some number) ≡ false → IsOf (unwrap_or p no_point).stream number
+is_of None number h = tt
+is_of (Some p) number h = go p.stream h
+  where
+    go : (o : Option ℕ) → is_other o (Some number) ≡ false → IsOf o number
+    go None e = tt
+    go (Some n) e = of_same n number e
+
+pub of_its_type : (c : Config) (bytes : ℕ) (s : Begun) (number : ℕ) (type : StreamType) → fault_of c bytes s ≡ None → stream_named s.0.type_name 0 c.streams ≡ Some (number, type)
+    → IsOf (unwrap_or s.1 no_point).stream number
+of_its_type c bytes s number type right found =
+    let same = right_type (start_fault c s.0.type_name bytes s.0.extras) (is_other (stream_at s.1) (type_number c s.0.type_name)) right in
+    is_of s.1 number (subst (λ (o : Option (ℕ × StreamType)). is_other (stream_at s.1) (option_map (λ t. t.0) o) ≡ false) found same)
+
+-- ---- the streams of a script, each with its point
+
+pub begun_at : (ss : List ScriptStream) (ps : List (Option ResumePoint)) (i : ℕ) (s : ScriptStream) (p : Option ResumePoint) → slice_get ss i ≡ Some s → slice_get ps i ≡ Some p
+    → slice_get (zip ss ps) i ≡ Some (s, p)
+begun_at [] ps i s p at point = absurd (let k : None ≡ Some s = at in cc)
+begun_at (x ∷ ss) [] i s p at point = absurd (let k : None ≡ Some p = point in cc)
+begun_at (x ∷ ss) (y ∷ ps) zero s p at point = ap₂ (λ (a : ScriptStream) (b : Option ResumePoint). Some (a, b)) (same_Some x s at) (same_Some y p point)
+begun_at (x ∷ ss) (y ∷ ps) (suc i) s p at point = begun_at ss ps i s p at point
+
+pub length_begun : (ss : List ScriptStream) (ps : List (Option ResumePoint)) → length ps ≡ length ss → length (zip ss ps) ≡ length ss
+length_begun ss ps e = sym (length-map (zip ss ps) (λ (b : Begun). b.0)) ∙ ap (λ (l : List ScriptStream). length l) (firsts-zip ss ps e)
+
+pub names_begun : (ss : List ScriptStream) (ps : List (Option ResumePoint)) → length ps ≡ length ss → map (λ (b : Begun). b.0.name) (zip ss ps) ≡ map (λ (s : ScriptStream). s.name) ss
+names_begun [] ps e = refl
+names_begun (s ∷ ss) [] e = absurd (omega (arith, e))
+names_begun (s ∷ ss) (p ∷ ps) e = ap (λ (l : List (List ℕ)). s.name ∷ l) (names_begun ss ps (omega (arith, e)))
+
+-- ---- the first that has a fault
+
+parted : {X : Type 0} (xs : List X) (i : ℕ) (x : X) → slice_get xs i ≡ Some x → xs ≡ take i xs ++ x ∷ drop (suc i) xs
+parted [] i x at = absurd (let k : None ≡ Some x = at in cc)
+parted (y ∷ xs) zero x at = ap (λ w. w ∷ xs) (let k : Some y ≡ Some x = at in cc)
+parted (y ∷ xs) (suc i) x at = ap (λ l. y ∷ l) (parted xs i x at)
+
+pub bad_one : (c : Config) (bytes : ℕ) (ss : List Begun) (i : ℕ) (s : Begun) (fault : AddFault) → AreRight c bytes (take i ss) → slice_get ss i ≡ Some s
+    → fault_of c bytes s ≡ Some fault → IsBadStream c bytes ss
+bad_one c bytes ss i s fault right at bad = record {
+  before = take i ss;
+  stream = s;
+  behind = drop (suc i) ss;
+  there = parted ss i s at;
+  fault = fault;
+  none_before = right;
+  first = bad;
+}
+
+pub right_more : (c : Config) (bytes : ℕ) (ss : List Begun) (i : ℕ) (s : Begun) → AreRight c bytes (take i ss) → slice_get ss i ≡ Some s → fault_of c bytes s ≡ None
+    → AreRight c bytes (take (i + 1) ss)
+right_more c bytes ss i s right at none =
+    subst (AreRight c bytes) (sym (take-more ss i s at)) (All-push (λ (x : Begun). fault_of c bytes x ≡ None) (take i ss) s right none)
+
+pub right_all : (c : Config) (bytes : ℕ) (ss : List ScriptStream) (ps : List (Option ResumePoint)) (i : ℕ) → length ps ≡ length ss → AreRight c bytes (take i (zip ss ps))
+    → length ss ≤ i → AreRight c bytes (zip ss ps)
+right_all c bytes ss ps i e right past =
+    let long = length_begun ss ps e in
+    subst (AreRight c bytes) (take_all i (zip ss ps) (omega (arith, long, past))) right
+
+-- ---- floors
+
+fold_least : (a : ℕ) (xs : List ℕ) → a ≤ fold max a xs
+fold_least a [] = omega arith
+fold_least a (x ∷ xs) = let more = fold_least (max a x) xs in omega (arith, more)
+
+abbrev pub AreAbove : ℕ → List Begun → Type 0
+AreAbove start ss = All (λ (s : Begun). floor_at s.1 ≤ start) ss
+
+pub above_all : (a start : ℕ) (ss : List ScriptStream) (ps : List (Option ResumePoint)) → fold max a (map floor_at ps) ≤ start → AreAbove start (zip ss ps)
+above_all a start [] ps h = All-nil (λ (s : Begun). floor_at s.1 ≤ start)
+above_all a start (s ∷ ss) [] h = All-nil (λ (s : Begun). floor_at s.1 ≤ start)
+above_all a start (s ∷ ss) (p ∷ ps) h =
+    let least = fold_least (max a (floor_at p)) (map floor_at ps) in
+    All-cons (λ (s : Begun). floor_at s.1 ≤ start) (s, p) (zip ss ps) (omega (arith, least, h)) (above_all (max a (floor_at p)) start ss ps h)
+
+pub floor_of_point : (p : Option ResumePoint) → (unwrap_or p no_point).floor ≡ floor_at p
+floor_of_point None = refl
+floor_of_point (Some p) = refl
+
+pub none_above : (n : ℕ) → fold max 0 (map floor_at (replicate n None)) ≡ 0
+none_above zero = refl
+none_above (suc n) = none_above n
+
+pub floors_more : (ps : List (Option ResumePoint)) (i : ℕ) (p : Option ResumePoint) → slice_get ps i ≡ Some p
+    → fold max 0 (map floor_at (take (i + 1) ps)) ≡ max (fold max 0 (map floor_at (take i ps))) (floor_at p)
+floors_more ps i p at =
+    ap (λ (l : List ℕ). fold max 0 l) (map-take-more floor_at ps i p at) ∙ fold_push max 0 (map floor_at (take i ps)) (floor_at p)

@@ -1,0 +1,84 @@
+-- A folder in which a trace is to go on: what its metadata and the files of a script's streams have to be, by what the readers of the files that were opened
+-- had to give. Which path a file was opened under, and that no file is there, no reader tells.
+use Rattle.std.specs.Prelude.{◌≡◌, ◌≢◌, ◌⊎◌, ℕ, false, List, Option, None, Some, length, slice_get}
+use Rattle.std.specs.List.{All}
+use Rattle.ctf_types.specs.declared.Config.{Config}
+use Rattle.ctf_types.specs.declared.Metadata.{Metadata}
+use Rattle.ctf_types.specs.MetadataOf.{metadata_of}
+use Rattle.ctf_types.specs.declared.ReadPacket.{ReadPacket}
+use Rattle.packet_reader.specs.declared.read_streams.ReadStream.{ReadStream}
+use Rattle.packet_reader.specs.declared.resuming.ResumePoint.{ResumePoint}
+use Rattle.trace_stack.specs.GoneOn.{IsBefore}
+use Rattle.trace_stack.specs.Reading.{FileRead}
+use Rattle.trace_text.specs.declared.script.ScriptStream.{ScriptStream}
+use Rattle.tsdl_grammar.specs.Denotes.{Denotes}
+use Rattle.tsdl_writer.specs.Written.{written}
+use Rattle.trace_commands.specs.declared.found_folder.NotResumed.{NotResumed}
+use Rattle.trace_commands.specs.declared.found_folder.NotResumed.TheVariants.{Refused, Failed}
+use Rattle.trace_commands.specs.Reading.{IsEndLine, is_whole, metadata_name, path_in}
+use Rattle.trace_commands.specs.Shown.{IsFaultLine}
+use Rattle.trace_commands.specs.Telling.{WasGiven}
+
+-- a line of this path is said, or what failed
+abbrev pub RefusesAt : List ℕ → NotResumed → Type 0
+RefusesAt path (Refused line) = IsFaultLine path line.items
+RefusesAt path (Failed failure) = Unit {0}
+
+module _ {File : Type 0} (remaining : File → Option (List ℕ)) where
+  -- ---- metadata
+
+  -- the metadata that is there is the configuration's
+  abbrev pub HasMetadata : Config → Type 0
+  HasMetadata c = WasGiven remaining (written c) × Denotes (written c) (metadata_of c)
+
+  -- another text is there, or no file
+  abbrev pub IsOther : List ℕ → Option (List ℕ) → Type 0
+  IsOther wanted None = Unit {0}
+  IsOther wanted (Some text) = WasGiven remaining text × (text ≢ wanted)
+
+  -- which a line of its file says
+  abbrev pub HasOtherMetadata : List ℕ → List ℕ → List ℕ → Type 0
+  HasOtherMetadata folder wanted line = (text : Option (List ℕ)) × IsOther wanted text × IsFaultLine (path_in folder metadata_name) line
+
+  -- ---- stream files
+
+  -- by what was read of a file that is there, this is the point behind it
+  abbrev pub HasPoint : Metadata → Option ResumePoint → Type 0
+  HasPoint m None = Unit {0}
+  HasPoint m (Some p) = (earlier : List ℕ) × (packets : List ReadPacket) × WasGiven remaining earlier × IsBefore m earlier packets p
+
+  -- by what was read of the file of this name, it does not end whole, and this line says it
+  pub record IsBroken (m : Metadata) (name folder line : List ℕ) : Type 0 where
+    pub bytes : List ℕ
+    pub given : WasGiven remaining bytes
+    pub found : ReadStream
+    pub read : FileRead m name bytes found
+    pub not_whole : is_whole found.end ≡ false
+    pub said : IsEndLine folder found found.end line
+
+  -- the files of the streams before this one are not there, or have points, and its own is broken
+  pub record HasBroken (m : Metadata) (streams : List ScriptStream) (folder line : List ℕ) : Type 0 where
+    pub points : List (Option ResumePoint)
+    pub before : All (HasPoint m) points
+    pub stream : ScriptStream
+    pub there : slice_get streams (length points) ≡ Some stream
+    pub broken : IsBroken m stream.name folder line
+
+  -- ---- refusals
+
+  abbrev pub RefusesMetadata : List ℕ → List ℕ → NotResumed → Type 0
+  RefusesMetadata folder wanted (Refused line) = HasOtherMetadata folder wanted line.items
+  RefusesMetadata folder wanted (Failed failure) = Unit {0}
+
+  abbrev pub RefusesFile : Metadata → List ℕ → List ℕ → NotResumed → Type 0
+  RefusesFile m name folder (Refused line) = IsBroken m name folder line.items
+  RefusesFile m name folder (Failed failure) = Unit {0}
+
+  abbrev pub RefusesFiles : Metadata → List ScriptStream → List ℕ → NotResumed → Type 0
+  RefusesFiles m streams folder (Refused line) = HasBroken m streams folder line.items
+  RefusesFiles m streams folder (Failed failure) = Unit {0}
+
+  -- the trace does not go on in the folder
+  abbrev pub RefusesFolder : Metadata → List ScriptStream → List ℕ → List ℕ → NotResumed → Type 0
+  RefusesFolder m streams folder wanted (Refused line) = HasOtherMetadata folder wanted line.items ⊎ HasBroken m streams folder line.items
+  RefusesFolder m streams folder wanted (Failed failure) = Unit {0}
