@@ -1,11 +1,15 @@
-//! Traces calls in threads of their own, or on one thread, so that the time of a call can be measured: `tools/bench` runs it with large counts.
+//! Traces calls on the calling thread or in threads of their own, and reads what was traced, so that the time of a call and of a record can be measured: `tools/bench` runs it with large counts.
 #![tactic(auto)]
 
 mod bench;
+mod decoding;
 mod fault;
 mod made;
 mod plan;
+mod record;
+mod session;
 mod tally;
+mod tracing;
 
 use bench::bench;
 use fault::BenchFault;
@@ -19,7 +23,7 @@ fn main(rt: HostRuntime) -> IoResult<ExitCode> {
     let alloc = rt.alloc();
     let words: Vec<String> = env::args(&rt)?.collect(alloc)?;
     let told = match plan_of(words.as_slice()) {
-        Some(plan) => bench(&rt, alloc, plan),
+        Some(plan) => bench(&rt, alloc, plan, rt.stdin(), rt.stdout()),
         None => Err(BenchFault::Words),
     };
     let (text, status) = match told {

@@ -1,7 +1,7 @@
 use Rattle.std.proofs.Common.{◌≡◌}
 use Rattle.std.specs.List.{All}
 use Rattle.trace_stack.specs.declared.event.Event.{Event}
-use Rattle.trace_bench.proofs.bench.events.Given as goal
+use Rattle.trace_bench.proofs.session.events.Given as goal
 
 -- so far each event is of the one stream
 abbrev pub invariant-loop-call : goal.invariant-loop-call
