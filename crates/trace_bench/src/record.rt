@@ -20,7 +20,7 @@ pub enum Record {
 }
 
 const HEAD: &str =
-    r#"{"trace":{"type":{"native-byte-order":"le","clock-types":{"ticks":{}},"$features":{"data-stream-type-id-field-type":false},"data-stream-types":{"s":{"#;
+    r#"{"trace":{"type":{"native-byte-order":"le","clock-types":{"ticks":{}},"data-stream-types":{"s":{"#;
 
 const WITHOUT_HEADER: &str = r#""$features":{"event-record":{"type-id-field-type":false}}"#;
 
