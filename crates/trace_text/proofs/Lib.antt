@@ -1,9 +1,22 @@
+pub mod Assembly
+pub mod Closing
+pub mod Counting
 mod DoingLaws
 mod EventLaws
+pub mod Faults
+pub mod FirstHeads
+pub mod Fronts
+pub mod GivenLists
+pub mod HeadOrders
 pub mod Listing
+pub mod Opening
 pub mod Placing
+pub mod Reading
 pub mod Saying
 mod ScriptLaws
+pub mod SideBySide
 mod StepLaws
 mod StreamLaws
+pub mod Telling
+pub mod Turns
 mod WorkedTrace

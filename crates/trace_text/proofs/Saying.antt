@@ -30,7 +30,7 @@ front_more a b c x left p q =
     let both = Advances-trans a b c x left (drop q.0 left) p next in
     (both.count, both.within, both.written)
 
-front_longer : (a b : Option (List ℕ)) (x u : List ℕ) → AppendsFront a b x → AppendsFront a b (x ++ u)
+pub front_longer : (a b : Option (List ℕ)) (x u : List ℕ) → AppendsFront a b x → AppendsFront a b (x ++ u)
 front_longer a b x u p =
     (p.0, omega (arith, p.1, length-append x u), subst (λ (l : List ℕ). Appends a b l) (sym (take-append-le p.0 x u p.1)) p.2)
 

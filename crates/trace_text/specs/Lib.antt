@@ -1,10 +1,16 @@
+pub mod ClosedFiles
+pub mod FileCounts
+pub mod HeadOrder
 pub mod Names
+pub mod OpenFiles
+pub mod PrintedFromReaders
 pub mod PrintedNumbers
 pub mod PrintedPages
 pub mod PrintedStreams
 pub mod PrintedTexts
 pub mod PrintedTrace
 pub mod PrintedValues
+pub mod ReadingFaults
 pub mod Script
 pub mod ScriptEntries
 pub mod ScriptFaults

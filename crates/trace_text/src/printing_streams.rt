@@ -53,7 +53,7 @@ fn last_discarded(packets: &[ReadPacket]) -> Option<u64>
     packets.get(packets.len().saturating_sub(1))?.discarded
 }
 
-fn say_end<W: Write>(writer: &mut W, page: &mut Page, end: StreamEnding)
+pub(crate) fn say_end<W: Write>(writer: &mut W, page: &mut Page, end: StreamEnding)
     ensures { Says (W.contents writer.old) page.old (W.contents writer.new) page.new (end_text end) }
 {
     match end {

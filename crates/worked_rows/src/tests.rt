@@ -6,6 +6,7 @@ mod failing_readers;
 mod memory;
 mod name_limits;
 mod positions;
+mod printed_from_readers;
 mod printed_traces;
 mod refusals;
 mod resumed_sessions;

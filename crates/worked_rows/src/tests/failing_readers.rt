@@ -13,10 +13,10 @@ const CUT: &str = "c11ffcc1 80000000 70000000 01020000 c11ffcc1";
 
 /// A reader that gives at most 7 bytes by one read, and fails once it has given `room` of them.
 #[derive(Drop)]
-struct Failing {
-    bytes: Vec<u8>,
-    given: usize,
-    room: usize,
+pub struct Failing {
+    pub bytes: Vec<u8>,
+    pub given: usize,
+    pub room: usize,
 }
 
 impl Read for Failing {

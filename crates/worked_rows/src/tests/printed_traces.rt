@@ -9,9 +9,9 @@ use tsdl_writer::write_metadata;
 use worked_fixtures::{CLOCKED, Changes, SMALL, bytes_of, changed, configured};
 
 /// `SMALL` or `CLOCKED` with changes, the stream files of a trace, a line each with a file's name and its bytes in hexadecimal, and the printed text.
-type Row = (&'static str, Changes, &'static str, &'static str);
+pub type Row = (&'static str, Changes, &'static str, &'static str);
 
-static TRACES: &[Row] = &[
+pub static TRACES: &[Row] = &[
     (
         CLOCKED,
         &[],
@@ -133,7 +133,12 @@ fn a_writer_that_stops_has_a_front_of_the_text(rt: HostRuntime) -> Result<(), Fa
     Ok(())
 }
 
-fn trace_of(alloc: Global, text: &str, changes: Changes, files: &str) -> Result<ReadTrace, Fail> {
+pub fn trace_of(
+    alloc: Global,
+    text: &str,
+    changes: Changes,
+    files: &str,
+) -> Result<ReadTrace, Fail> {
     let text = changed(alloc, text, changes)?;
     let config = configured(alloc, text.as_str(), None)?;
     let metadata = write_metadata(alloc, &config)?;

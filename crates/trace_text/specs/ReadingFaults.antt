@@ -1,0 +1,19 @@
+-- Why a trace is not printed to its end while it is read: one of its readers stopped, the writer failed, memory was wanting, or there was no end.
+use Rattle.std.specs.Prelude.{◌≢◌, ℕ, ◌<◌}
+use Rattle.packet_reader.specs.declared.read_stop.ReadStop.TheVariants as stops
+use Rattle.trace_text.specs.declared.printing_fault.PrintFault.{PrintFault}
+use Rattle.trace_text.specs.declared.printing_fault.PrintFault.TheVariants as prints
+use Rattle.trace_text.specs.declared.reading_fault.ReadingFault.{ReadingFault}
+use Rattle.trace_text.specs.declared.reading_fault.ReadingFault.TheVariants.{Reader, Writer, TooManyRecords, OutOfMemory}
+
+-- what a fault says of so many readers: the one that it names is one of them, and did not stop for want of memory
+abbrev pub ReadingFaultHolds : ℕ → ReadingFault → Type 0
+ReadingFaultHolds readers (Reader place stop) = (place < readers) × (stop ≢ stops.OutOfMemory)
+ReadingFaultHolds readers Writer = Unit {0}
+ReadingFaultHolds readers TooManyRecords = Unit {0}
+ReadingFaultHolds readers OutOfMemory = Unit {0}
+
+-- a fault of the printing is the same here
+abbrev pub of_print_fault : PrintFault → ReadingFault
+of_print_fault prints.Writer = Writer
+of_print_fault prints.OutOfMemory = OutOfMemory
