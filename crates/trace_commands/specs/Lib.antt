@@ -2,6 +2,7 @@ pub mod AnswerLines
 pub mod Begun
 pub mod Checking
 pub mod CommandLine
+pub mod Ends
 pub mod FirstPath
 pub mod LineFaults
 pub mod Lines

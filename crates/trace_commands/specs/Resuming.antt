@@ -15,7 +15,8 @@ use Rattle.tsdl_grammar.specs.Denotes.{Denotes}
 use Rattle.tsdl_writer.specs.Written.{written}
 use Rattle.trace_commands.specs.declared.found_folder.NotResumed.{NotResumed}
 use Rattle.trace_commands.specs.declared.found_folder.NotResumed.TheVariants.{Refused, Failed}
-use Rattle.trace_commands.specs.Reading.{IsEndLine, is_whole, metadata_name, path_in}
+use Rattle.trace_commands.specs.Ends.{IsEndLine, is_whole, path_in}
+use Rattle.trace_commands.specs.Reading.{metadata_name}
 use Rattle.trace_commands.specs.Shown.{IsFaultLine}
 use Rattle.trace_commands.specs.Telling.{WasGiven}
 
@@ -54,7 +55,7 @@ module _ {File : Type 0} (remaining : File → Option (List ℕ)) where
     pub found : ReadStream
     pub read : FileRead m name bytes found
     pub not_whole : is_whole found.end ≡ false
-    pub said : IsEndLine folder found found.end line
+    pub said : IsEndLine folder found.name (length found.packets) found.end line
 
   -- the files of the streams before this one are not there, or have points, and its own is broken
   pub record HasBroken (m : Metadata) (streams : List ScriptStream) (folder line : List ℕ) : Type 0 where

@@ -6,6 +6,7 @@ mod answer_lines;
 mod check_command;
 mod command_line;
 mod commands;
+mod end_lines;
 mod failure;
 mod fault_lines;
 mod files;

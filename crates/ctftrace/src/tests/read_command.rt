@@ -23,6 +23,8 @@ type Row = (
 
 const TWO_PACKETS: &str = "c11ffcc1800000007000000001020000c11ffcc1800000006800000003000000";
 
+const BAD_TOKEN: &[u8] = b"/* CTF 1.8 */ trace { major = @; };";
+
 static ROWS: &[Row] = &[
     (&[], &[], "", "", 0),
     (
@@ -120,11 +122,7 @@ fn prints_folders(rt: HostRuntime) -> Result<(), Fail> {
 #[test]
 fn refuses_metadata(rt: HostRuntime) -> Result<(), Fail> {
     make_folder(&rt, "refused", &[("s", TWO_PACKETS)])?;
-    fs::write(
-        &rt,
-        "refused/metadata",
-        b"/* CTF 1.8 */ trace { major = @; };",
-    )?;
+    fs::write(&rt, "refused/metadata", BAD_TOKEN)?;
     answers(
         &rt,
         &["read", "refused"],
@@ -146,7 +144,6 @@ fn fails_where_a_file_is_not_read(rt: HostRuntime) -> Result<(), Fail> {
         3,
     )?;
     make_folder(&rt, "unread", &[("s", TWO_PACKETS)])?;
-    fs::write(&rt, "unread/metadata", b"no metadata")?;
     fs::create_dir(&rt, "unread/below")?;
     answers(
         &rt,
@@ -154,6 +151,14 @@ fn fails_where_a_file_is_not_read(rt: HostRuntime) -> Result<(), Fail> {
         "",
         "ctftrace: unread/below: cannot read: a read failed\n",
         3,
+    )?;
+    fs::write(&rt, "unread/metadata", BAD_TOKEN)?;
+    answers(
+        &rt,
+        &["read", "unread"],
+        "",
+        "ctftrace: unread/metadata: byte 30, line 1, column 31: found \"@\": no token of TSDL starts here\n",
+        1,
     )?;
     fs::remove_dir_all(&rt, "unread")?;
     Ok(())
