@@ -1,8 +1,4 @@
-pub mod Standing
 pub mod Writable
-pub mod LayoutStands
-pub mod Appending
-pub mod Pieces
 pub mod FieldMeanings
 pub mod StructureMeanings
 pub mod BlockMeanings
@@ -12,5 +8,7 @@ pub mod StreamMeanings
 pub mod TextMeaning
 pub mod TreesWritable
 pub mod BlocksWritable
-pub mod TextDenotes
 pub mod Walks
+pub mod LaidStands
+pub mod TextDenotes
+pub mod Printing

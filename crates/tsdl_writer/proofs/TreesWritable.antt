@@ -1,8 +1,7 @@
--- The trees of an allowed configuration's members can be written: their names are identifiers, their numbers have 64 bits, and their labels are texts.
+-- The tokens of an allowed configuration's members can be written: their names are identifiers, and their numbers have 64 bits.
 use Rattle.std.proofs.Common.{◌≡◌, ℕ, ◌+◌, ◌-◌, ◌*◌, ◌%◌, ◌<◌, ◌≤◌, ◌^◌, ℤ, pos, negsuc, ◌≤ℤ◌, Bool, true, false, max, List, [], ◌∷◌, ◌++◌, map, Option, Some, None, refl, subst, arith, inl, inr, All}
 use Rattle.std.specs.Prelude.{codes, int_le}
-use Rattle.std.specs.List.{flat_map, list_any, AllByRecursion}
-use Rattle.std.specs.Str.{bytes_eq, IsUtf8}
+use Rattle.std.specs.List.{flat_map}
 use Rattle.std.proofs.lemmas.Int.{ints}
 use Rattle.std.proofs.lemmas.Bool.{cases_Bool, cases_lt}
 use Rattle.std.proofs.lemmas.List.Elements.{All-head, All-tail, All-contains}
@@ -17,20 +16,17 @@ use Rattle.ctf_types.specs.declared.Length.TheVariants.{Auto, At}
 use Rattle.ctf_types.specs.Chain.{Leaf, Number, Labelled, ByteString}
 use Rattle.ctf_types.specs.FieldTypes.{chain_of}
 use Rattle.ctf_types.specs.Members.{names_in}
-use Rattle.ctf_types.specs.Names.{is_identifier, unused_keywords, IsMetadataName}
+use Rattle.ctf_types.specs.Names.{is_identifier, IsMetadataName}
 use Rattle.ctf_types.specs.Allowed.{IsMappedTo, IsRange, IsLeaf, elements_of, AreMembers}
 use Rattle.ctf_types.specs.Shown.{length_name, length_type, shown_members}
-use Rattle.tsdl_writer.specs.FieldTrees.{whole_number, flag_word, base_number, mapping_attributes, integer_attributes, high_number, entry_tree, entry_trees, kind_tree, count_bracket, member_trees}
-use Rattle.tsdl_writer.specs.Held.{AreHeldLabels, IsHeldLeaf, IsHeldMember}
-use Rattle.tsdl_writer.proofs.Writable.{IsNumber, IsAttribute, IsHigh, IsEntry, AreEntries, IsKind, IsBracket, IsMemberTree}
+use Rattle.tsdl_grammar.specs.declared.token.Mark.TheVariants as marks
+use Rattle.tsdl_grammar.specs.Spelling.{attr_toks, int_toks, high_toks, entry_toks, next_entry_toks, entries_toks, kind_toks, bracket_toks, member_toks}
+use Rattle.tsdl_writer.specs.FieldTrees.{flag_word, base_number, mapping_attributes, integer_attributes, high_number, entry_tree, entry_trees, kind_tree, count_bracket, member_trees}
+use Rattle.tsdl_writer.proofs.Writable.{Can, nothing, mark, word, keyword, number, string, both, ended, in_braces, whole, natural_value, word_value}
 use Rattle.tsdl_writer.proofs.FieldMeanings.{Members}
 use Rattle.tsdl_writer.proofs.StructuresRead.{AreAutomatic}
 
 -- ---- words and numbers
-
--- a word of the grammar
-pub named : (w : List ℕ) → is_identifier w ≡ true → list_any (bytes_eq w) unused_keywords ≡ false → IsMetadataName w
-named w h k = record { identifier = h; no_keyword = k }
 
 -- an alignment is at most 4,096
 pub align_fits : (a : ℕ) → 0 < a → 4096 % a ≡ 0 → a < 2 ^ 64
@@ -38,8 +34,8 @@ align_fits a h e = elim (cases_lt 4096 a) [ inl lt ↦ absurd (omega (arith, e, 
 
 pub flag_named : (b : Bool) → IsMetadataName (flag_word b)
 unfolding is_identifier
-flag_named true = named (codes "true") refl refl
-flag_named false = named (codes "false") refl refl
+flag_named true = record { identifier = refl; no_keyword = refl }
+flag_named false = record { identifier = refl; no_keyword = refl }
 
 base_fits : (b : Base) → base_number b < 2 ^ 64
 base_fits Bin = omega arith
@@ -49,46 +45,37 @@ base_fits Hex = omega arith
 
 -- ---- integers
 
-mapping_writable : (clock : Option (List ℕ)) → ((name : List ℕ) → clock ≡ Some name → IsMetadataName name) → AllByRecursion IsAttribute (mapping_attributes clock)
+mapping_writable : (clock : Option (List ℕ)) → ((name : List ℕ) → clock ≡ Some name → IsMetadataName name) → Can (flat_map attr_toks (mapping_attributes clock))
 unfolding is_identifier
-mapping_writable None h = tt
-mapping_writable (Some name) h = (((named (codes "map") refl refl, tt), (named (codes "clock") refl refl, (h name refl, (named (codes "value") refl refl, tt)))), tt)
+mapping_writable None h = nothing
+mapping_writable (Some name) h =
+    keyword (codes "map") refl refl (mark marks.Equals (keyword (codes "clock") refl refl (mark marks.Dot (word name (h name refl) (mark marks.Dot (keyword (codes "value") refl refl (mark marks.Semicolon nothing)))))))
 
-pub integer_writable : (t : IntType) → ((name : List ℕ) → t.clock ≡ Some name → IsMetadataName name) → AllByRecursion IsAttribute (integer_attributes t)
+pub integer_writable : (t : IntType) → ((name : List ℕ) → t.clock ≡ Some name → IsMetadataName name) → Can (int_toks (integer_attributes t))
 unfolding is_identifier
-integer_writable t h = (
-  ((named (codes "size") refl refl, tt), (let l : t.size < 2 ^ 64 = omega (arith, t.at_most_64) in l)),
-  (
-    ((named (codes "align") refl refl, tt), align_fits t.align t.positive t.power_of_two),
-    (
-      ((named (codes "signed") refl refl, tt), (flag_named t.signed, tt)),
-      (((named (codes "base") refl refl, tt), base_fits t.base), mapping_writable t.clock h),
-    ),
-  ),
-)
+integer_writable t h =
+    let size : t.size < 2 ^ 64 = omega (arith, t.at_most_64) in
+    keyword (codes "integer") refl refl (in_braces (both (natural_value (codes "size") t.size refl refl size) (both (natural_value (codes "align") t.align refl refl (align_fits t.align t.positive t.power_of_two))
+    (both (word_value (codes "signed") (flag_word t.signed) refl refl (flag_named t.signed)) (both (natural_value (codes "base") (base_number t.base) refl refl (base_fits t.base)) (mapping_writable t.clock h))))))
 
 -- ---- enumerations
 
-whole_fits : (z : ℤ) → negsuc (2 ^ 64 - 2) ≤ℤ z → z ≤ℤ pos (2 ^ 64 - 1) → IsNumber (whole_number z)
-whole_fits (pos n) low high = omega (arith, ints)
-whole_fits (negsuc n) low high = omega (arith, ints)
+high_writable : (low high : ℤ) → negsuc (2 ^ 64 - 2) ≤ℤ high → high ≤ℤ pos (2 ^ 64 - 1) → Can (high_toks (high_number low high))
+high_writable low high a b = elim (cases_Bool (int_le high low)) [ inl e ↦ rw e nothing | inr e ↦ rw e (mark marks.Ellipsis (whole high a b)) ]
 
-high_fits : (low high : ℤ) → negsuc (2 ^ 64 - 2) ≤ℤ high → high ≤ℤ pos (2 ^ 64 - 1) → IsHigh (high_number low high)
-high_fits low high a b = elim (cases_Bool (int_le high low)) [ inl e ↦ rw e tt | inr e ↦ rw e (whole_fits high a b) ]
-
-entry_writable : (m : Mapping) → IsUtf8 m.label → IsRange m → IsEntry (entry_tree m)
-entry_writable m u h =
+entry_writable : (m : Mapping) → IsRange m → Can (entry_toks (entry_tree m))
+entry_writable m h =
     let ordered : m.low ≤ℤ m.high = h.ordered in let above : negsuc (2 ^ 64 - 2) ≤ℤ m.low = h.above in let below : m.high ≤ℤ pos (2 ^ 64 - 1) = h.below in
     let low_below : m.low ≤ℤ pos (2 ^ 64 - 1) = omega (arith, ints) in let high_above : negsuc (2 ^ 64 - 2) ≤ℤ m.high = omega (arith, ints) in
-    (u, whole_fits m.low above low_below, high_fits m.low m.high high_above below)
+    both (string m.label (mark marks.Equals (whole m.low above low_below))) (high_writable m.low m.high high_above below)
 
-each_writable : (ms : List Mapping) → AreHeldLabels ms → All IsRange ms → AllByRecursion IsEntry (map entry_tree ms)
-each_writable [] u h = tt
-each_writable (m ∷ ms) u h = (entry_writable m (All-head (λ (k : Mapping). IsUtf8 k.label) m ms u) (All-head IsRange m ms h), each_writable ms (All-tail (λ (k : Mapping). IsUtf8 k.label) m ms u) (All-tail IsRange m ms h))
+others_writable : (ms : List Mapping) → All IsRange ms → Can (flat_map next_entry_toks (map entry_tree ms))
+others_writable [] h = nothing
+others_writable (m ∷ ms) h = both (mark marks.Comma (entry_writable m (All-head IsRange m ms h))) (others_writable ms (All-tail IsRange m ms h))
 
-entries_writable : (ms : List Mapping) → AreHeldLabels ms → All IsRange ms → AreEntries (entry_trees ms)
-entries_writable [] u h = tt
-entries_writable (m ∷ ms) u h = (entry_writable m (All-head (λ (k : Mapping). IsUtf8 k.label) m ms u) (All-head IsRange m ms h), each_writable ms (All-tail (λ (k : Mapping). IsUtf8 k.label) m ms u) (All-tail IsRange m ms h))
+entries_writable : (ms : List Mapping) → All IsRange ms → Can (entries_toks (entry_trees ms))
+entries_writable [] h = nothing
+entries_writable (m ∷ ms) h = both (both (entry_writable m (All-head IsRange m ms h)) (others_writable ms (All-tail IsRange m ms h))) nothing
 
 -- ---- kinds and members
 
@@ -98,11 +85,12 @@ clock_named clocks t names h name e = All-contains IsMetadataName clocks name na
 no_clock : (k : List ℕ) → length_type.clock ≡ Some k → ⊥
 no_clock k e = cc
 
-kind_writable : (clocks : List (List ℕ)) (leaf : Leaf) → All IsMetadataName clocks → IsLeaf clocks leaf → IsHeldLeaf leaf → IsKind (kind_tree leaf)
+kind_writable : (clocks : List (List ℕ)) (leaf : Leaf) → All IsMetadataName clocks → IsLeaf clocks leaf → Can (kind_toks (kind_tree leaf))
 unfolding is_identifier
-kind_writable clocks (Number t) names h held = integer_writable t (clock_named clocks t names h)
-kind_writable clocks (Labelled t) names h held = (integer_writable t.int (clock_named clocks t.int names h.0), entries_writable t.mappings held h.1)
-kind_writable clocks ByteString names h held = (((named (codes "encoding") refl refl, tt), (named (codes "UTF8") refl refl, tt)), tt)
+kind_writable clocks (Number t) names h = integer_writable t (clock_named clocks t names h)
+kind_writable clocks (Labelled t) names h =
+    keyword (codes "enum") refl refl (mark marks.Colon (both (integer_writable t.int (clock_named clocks t.int names h.0)) (in_braces (entries_writable t.mappings h.1))))
+kind_writable clocks ByteString names h = keyword (codes "string") refl refl (in_braces (both (word_value (codes "encoding") (codes "UTF8") refl refl (record { identifier = refl; no_keyword = refl })) nothing))
 
 mul_at_least : (m p : ℕ) → 0 < p → m ≤ m * p
 mul_at_least m p h = omega (arith, mul-le-mul_left m h)
@@ -118,28 +106,27 @@ unfolding elements_of
 some_elements [] = omega arith
 some_elements (n ∷ ns) = let p : elements_of ns ≤ max 1 n * elements_of ns = subst (λ (q : ℕ). elements_of ns ≤ q) (mul_comm (elements_of ns) (max 1 n)) (mul_at_least (elements_of ns) (max 1 n) (omega arith)) in omega (arith, some_elements ns)
 
-counts_writable : (ns : List ℕ) → elements_of ns ≤ 2 ^ 20 → AllByRecursion IsBracket (map count_bracket ns)
+counts_writable : (ns : List ℕ) → elements_of ns ≤ 2 ^ 20 → Can (flat_map bracket_toks (map count_bracket ns))
 unfolding elements_of
-counts_writable [] h = tt
-counts_writable (n ∷ ns) h = let b = product_bounds n (2 ^ 20) (elements_of ns) (some_elements ns) h in ((let l : n < 2 ^ 64 = omega (arith, b.0) in l), counts_writable ns b.1)
+counts_writable [] h = nothing
+counts_writable (n ∷ ns) h =
+    let b = product_bounds n (2 ^ 20) (elements_of ns) (some_elements ns) h in
+    mark marks.OpenBracket (number n (omega (arith, b.0)) (mark marks.CloseBracket (counts_writable ns b.1)))
 
 pub members_writable : (clocks : List (List ℕ)) (n : ℕ) (before ms : Members) → All IsMetadataName clocks → AreAutomatic ms → AreMembers clocks before (shown_members n ms)
-    → All IsMetadataName (names_in (shown_members n ms)) → AllByRecursion (λ m. IsHeldMember m.1) ms → AllByRecursion IsMemberTree (flat_map member_trees ms)
+    → All IsMetadataName (names_in (shown_members n ms)) → Can (flat_map member_toks (flat_map member_trees ms))
 unfolding AreMembers shown_members
-members_writable clocks n before [] names a h w held = tt
-members_writable clocks n before ((name, Plain t) ∷ ms) names a h w held =
-    let rest = names_in (shown_members (n + 1) ms) in (
-      (kind_writable clocks (chain_of t).leaf names h.0.0 held.0, All-head IsMetadataName name rest w, counts_writable (chain_of t).lengths h.0.1.size),
-      members_writable clocks (n + 1) (before ++ (name, Plain t) ∷ []) ms names a.1 h.1 (All-tail IsMetadataName name rest w) held.1,
-    )
-members_writable clocks n before ((name, Dyn t Auto) ∷ ms) names a h w held =
+members_writable clocks n before [] names a h w = nothing
+members_writable clocks n before ((name, Plain t) ∷ ms) names a h w =
+    let rest = names_in (shown_members (n + 1) ms) in
+    both (ended marks.Semicolon (both (kind_writable clocks (chain_of t).leaf names h.0.0) (word name (All-head IsMetadataName name rest w) (counts_writable (chain_of t).lengths h.0.1.size))))
+    (members_writable clocks (n + 1) (before ++ (name, Plain t) ∷ []) ms names a.1 h.1 (All-tail IsMetadataName name rest w))
+members_writable clocks n before ((name, Dyn t Auto) ∷ ms) names a h w =
     let rest = names_in (shown_members (n + 2) ms) in
     let length_named = All-head IsMetadataName (length_name name) (name ∷ rest) w in
-    let w2 = All-tail IsMetadataName (length_name name) (name ∷ rest) w in (
-      (integer_writable length_type (λ k e. absurd (no_clock k e)), length_named, tt),
-      (
-        (kind_writable clocks (chain_of t).leaf names h.1.0.0.0 held.0, All-head IsMetadataName name rest w2, (length_named, counts_writable (chain_of t).lengths h.1.0.0.1.size)),
-        members_writable clocks (n + 2) (before ++ (length_name name, Plain (Int length_type)) ∷ [] ++ (name, Dyn t (At n)) ∷ []) ms names a.1 h.1.1 (All-tail IsMetadataName name rest w2) held.1,
-      ),
-    )
-members_writable clocks n before ((name, Dyn t (At i)) ∷ ms) names a h w held = absurd a.0
+    let w2 = All-tail IsMetadataName (length_name name) (name ∷ rest) w in
+    both (ended marks.Semicolon (both (integer_writable length_type (λ k e. absurd (no_clock k e))) (word (length_name name) length_named nothing)))
+    (both (ended marks.Semicolon (both (kind_writable clocks (chain_of t).leaf names h.1.0.0.0)
+    (word name (All-head IsMetadataName name rest w2) (mark marks.OpenBracket (word (length_name name) length_named (mark marks.CloseBracket (counts_writable (chain_of t).lengths h.1.0.0.1.size)))))))
+    (members_writable clocks (n + 2) (before ++ (length_name name, Plain (Int length_type)) ∷ [] ++ (name, Dyn t (At n)) ∷ []) ms names a.1 h.1.1 (All-tail IsMetadataName name rest w2)))
+members_writable clocks n before ((name, Dyn t (At i)) ∷ ms) names a h w = absurd a.0

@@ -1,91 +1,77 @@
--- Trees that can be written as they are: names are identifiers that are read, numbers are below 2^64, and texts are UTF-8.
-use Rattle.std.proofs.Common.{◌^◌, ◌<◌, Option, Some, None}
-use Rattle.std.specs.List.{AllByRecursion}
-use Rattle.std.specs.Str.{IsUtf8}
-use Rattle.ctf_types.specs.Names.{IsMetadataName}
-use Rattle.tsdl_grammar.specs.declared.tree.Number.{Number}
-use Rattle.tsdl_grammar.specs.declared.tree.Name.{Name}
-use Rattle.tsdl_grammar.specs.declared.tree.Value.{Value}
-use Rattle.tsdl_grammar.specs.declared.tree.Value.TheVariants as values
-use Rattle.tsdl_grammar.specs.declared.tree.Attribute.{Attribute}
-use Rattle.tsdl_grammar.specs.declared.tree.Label.{Label}
-use Rattle.tsdl_grammar.specs.declared.tree.Label.TheVariants.{Quoted, Bare}
-use Rattle.tsdl_grammar.specs.declared.tree.Entry.{Entry}
-use Rattle.tsdl_grammar.specs.declared.tree.Entries.{Entries}
-use Rattle.tsdl_grammar.specs.declared.tree.Entries.TheVariants as entries
-use Rattle.tsdl_grammar.specs.declared.tree.Kind.{Kind}
-use Rattle.tsdl_grammar.specs.declared.tree.Kind.TheVariants as kinds
-use Rattle.tsdl_grammar.specs.declared.tree.Bracket.{Bracket}
-use Rattle.tsdl_grammar.specs.declared.tree.Bracket.TheVariants as brackets
-use Rattle.tsdl_grammar.specs.declared.tree.MemberTree.{MemberTree}
-use Rattle.tsdl_grammar.specs.declared.tree.Structure.{Structure}
-use Rattle.tsdl_grammar.specs.declared.tree.Item.{Item}
-use Rattle.tsdl_grammar.specs.declared.tree.Item.TheVariants as items
-use Rattle.tsdl_grammar.specs.declared.tree.Fact.{Fact}
-use Rattle.tsdl_grammar.specs.declared.tree.Fact.TheVariants as facts
-use Rattle.tsdl_grammar.specs.declared.tree.NamedFact.{NamedFact}
-use Rattle.tsdl_grammar.specs.declared.tree.Block.{Block}
-use Rattle.tsdl_grammar.specs.declared.tree.Block.TheVariants as blocks
+-- Tokens that can be written as they are: words are identifiers that are read, and numbers are below 2^64.
+use Rattle.std.proofs.Common.{◌≡◌, ℕ, ℤ, pos, negsuc, suc, ◌-◌, ◌^◌, ◌<◌, ◌≤ℤ◌, true, false, List, [], ◌∷◌, ◌++◌, arith, refl, subst, sym}
+use Rattle.std.specs.List.{flat_map, list_any, AllByRecursion}
+use Rattle.std.specs.Str.{bytes_eq}
+use Rattle.std.proofs.lemmas.Int.{ints}
+use Rattle.std.proofs.lemmas.List.Concat.{flat_map-append}
+use Rattle.ctf_types.specs.Names.{is_identifier, unused_keywords, IsMetadataName}
+use Rattle.tsdl_grammar.specs.declared.token.Mark.{Mark}
+use Rattle.tsdl_grammar.specs.declared.token.Mark.TheVariants as marks
+use Rattle.tsdl_grammar.specs.declared.atom.Atom.{Atom}
+use Rattle.tsdl_grammar.specs.declared.atom.Atom.TheVariants as atoms
+use Rattle.tsdl_grammar.specs.Spelling.{number_toks, attr_toks, braced}
+use Rattle.tsdl_writer.specs.FieldTrees.{whole_number, natural_attribute, word_attribute, text_attribute}
 
-abbrev pub IsNumber : Number → Type 0
-IsNumber n = n.literal < 2 ^ 64
+abbrev pub IsWritable : Atom → Type 0
+IsWritable (atoms.Word w) = IsMetadataName w
+IsWritable (atoms.Number n) = n < 2 ^ 64
+IsWritable (atoms.Text s) = Unit {0}
+IsWritable (atoms.Mark m) = Unit {0}
+IsWritable atoms.TooLarge = ⊥
 
-abbrev pub IsNamed : Name → Type 0
-IsNamed n = IsMetadataName n.first × AllByRecursion IsMetadataName n.rest
+pub record Can (meant : List Atom) : Type 0 where
+  pub all : AllByRecursion IsWritable meant
 
-abbrev pub IsValue : Value → Type 0
-IsValue (values.Number n) = IsNumber n
-IsValue (values.Text s) = IsUtf8 s
-IsValue (values.Name n) = IsNamed n
+-- ---- one behind the other
 
-abbrev pub IsAttribute : Attribute → Type 0
-IsAttribute a = IsNamed a.name × IsValue a.value
+pub nothing : Can []
+nothing = record { all = tt }
 
-abbrev pub IsLabel : Label → Type 0
-IsLabel (Quoted s) = IsUtf8 s
-IsLabel (Bare w) = IsMetadataName w
+pub mark : {rest : List Atom} (m : Mark) → Can rest → Can (atoms.Mark m ∷ rest)
+mark m r = record { all = (tt, r.all) }
 
-abbrev pub IsHigh : Option Number → Type 0
-IsHigh None = Unit {0}
-IsHigh (Some n) = IsNumber n
+pub word : {rest : List Atom} (w : List ℕ) → IsMetadataName w → Can rest → Can (atoms.Word w ∷ rest)
+word w h r = record { all = (h, r.all) }
 
-abbrev pub IsEntry : Entry → Type 0
-IsEntry e = IsLabel e.label × IsNumber e.low × IsHigh e.high
+-- a word of the grammar
+pub keyword : {rest : List Atom} (w : List ℕ) → is_identifier w ≡ true → list_any (bytes_eq w) unused_keywords ≡ false → Can rest → Can (atoms.Word w ∷ rest)
+keyword w h k r = word w (record { identifier = h; no_keyword = k }) r
 
-abbrev pub AreEntries : Entries → Type 0
-AreEntries entries.Empty = Unit {0}
-AreEntries (entries.Listed e es closing) = IsEntry e × AllByRecursion IsEntry es
+pub number : {rest : List Atom} (n : ℕ) → n < 2 ^ 64 → Can rest → Can (atoms.Number n ∷ rest)
+number n h r = record { all = (h, r.all) }
 
-abbrev pub IsKind : Kind → Type 0
-IsKind (kinds.Integer attrs) = AllByRecursion IsAttribute attrs
-IsKind (kinds.Enumeration attrs es) = AllByRecursion IsAttribute attrs × AreEntries es
-IsKind (kinds.Text None) = Unit {0}
-IsKind (kinds.Text (Some attrs)) = AllByRecursion IsAttribute attrs
+pub string : {rest : List Atom} (s : List ℕ) → Can rest → Can (atoms.Text s ∷ rest)
+string s r = record { all = (tt, r.all) }
 
-abbrev pub IsBracket : Bracket → Type 0
-IsBracket (brackets.Count n) = IsNumber n
-IsBracket (brackets.Member w) = IsMetadataName w
+append : (m n : List Atom) → AllByRecursion IsWritable m → AllByRecursion IsWritable n → AllByRecursion IsWritable (m ++ n)
+append [] n a b = b
+append (x ∷ m) n a b = (a.0, append m n a.1 b)
 
-abbrev pub IsMemberTree : MemberTree → Type 0
-IsMemberTree m = IsKind m.kind × IsMetadataName m.name × AllByRecursion IsBracket m.brackets
+pub both : {m n : List Atom} → Can m → Can n → Can (m ++ n)
+both {m} {n} a b = record { all = append m n a.all b.all }
 
-abbrev pub IsStructure : Structure → Type 0
-IsStructure s = AllByRecursion IsMemberTree s.members × IsHigh s.align
+-- and then a mark
+pub ended : {meant : List Atom} (m : Mark) → Can meant → Can (meant ++ atoms.Mark m ∷ [])
+ended m a = both a (mark m nothing)
 
-abbrev pub IsItem : Item → Type 0
-IsItem (items.Attribute a) = IsAttribute a
-IsItem (items.Scope s) = IsNamed s.name × IsStructure s.structure
+pub in_braces : {meant : List Atom} → Can meant → Can (braced meant)
+in_braces a = mark marks.OpenBrace (ended marks.CloseBrace a)
 
-abbrev pub IsFact : Fact → Type 0
-IsFact (facts.Number n) = IsNumber n
-IsFact (facts.Text s) = IsUtf8 s
+-- trees of two lists
+pub joined : {A : Type 0} (toks : A → List Atom) (xs ys : List A) → Can (flat_map toks xs) → Can (flat_map toks ys) → Can (flat_map toks (xs ++ ys))
+joined toks xs ys a b = subst Can (sym (flat_map-append toks xs ys)) (both a b)
 
-abbrev pub IsNamedFact : NamedFact → Type 0
-IsNamedFact f = IsMetadataName f.name × IsFact f.fact
+-- ---- numbers and attributes
 
-abbrev pub IsBlock : Block → Type 0
-IsBlock (blocks.Trace is) = AllByRecursion IsItem is
-IsBlock (blocks.Stream is) = AllByRecursion IsItem is
-IsBlock (blocks.Event is) = AllByRecursion IsItem is
-IsBlock (blocks.Clock is) = AllByRecursion IsItem is
-IsBlock (blocks.Environment fs) = AllByRecursion IsNamedFact fs
+pub whole : (z : ℤ) → negsuc (2 ^ 64 - 2) ≤ℤ z → z ≤ℤ pos (2 ^ 64 - 1) → Can (number_toks (whole_number z))
+whole (pos n) low high = number n (omega (arith, ints)) nothing
+whole (negsuc n) low high = mark marks.Minus (number (suc n) (omega (arith, ints)) nothing)
+
+pub natural_value : (w : List ℕ) (n : ℕ) → is_identifier w ≡ true → list_any (bytes_eq w) unused_keywords ≡ false → n < 2 ^ 64 → Can (attr_toks (natural_attribute w n))
+natural_value w n h k l = keyword w h k (mark marks.Equals (number n l (mark marks.Semicolon nothing)))
+
+pub word_value : (w v : List ℕ) → is_identifier w ≡ true → list_any (bytes_eq w) unused_keywords ≡ false → IsMetadataName v → Can (attr_toks (word_attribute w v))
+word_value w v h k n = keyword w h k (mark marks.Equals (word v n (mark marks.Semicolon nothing)))
+
+pub text_value : (w s : List ℕ) → is_identifier w ≡ true → list_any (bytes_eq w) unused_keywords ≡ false → Can (attr_toks (text_attribute w s))
+text_value w s h k = keyword w h k (mark marks.Equals (string s (mark marks.Semicolon nothing)))

@@ -1,8 +1,6 @@
 -- The blocks of the metadata text of a configuration: the trace's, the environment where it is not empty, the clocks', the streams' by number,
 -- and the events' by the number of their stream and their own. A structure without members is left out (CTF 1.8.3, section 7).
 use Rattle.std.specs.Prelude.{ℕ, ◌+◌, List, [], ◌∷◌, ◌++◌, map, Option, Some, None, ℤ, codes}
-use Rattle.std.specs.List.{flat_map}
-use Rattle.std.specs.Fmt.{decimal}
 use Rattle.uuid.specs.Text.{hyphenated_text, lower}
 use Rattle.ctf_types.specs.declared.ByteOrder.{ByteOrder}
 use Rattle.ctf_types.specs.declared.ByteOrder.TheVariants.{Little, Big}
@@ -15,6 +13,9 @@ use Rattle.ctf_types.specs.declared.Config.{Config}
 use Rattle.ctf_types.specs.declared.StreamType.{StreamType}
 use Rattle.ctf_types.specs.declared.EventType.{EventType}
 use Rattle.ctf_types.specs.MetadataOf.{header_members, context_numbers, event_header_members}
+use Rattle.tsdl_grammar.specs.declared.token.Mark.TheVariants as marks
+use Rattle.tsdl_grammar.specs.declared.atom.Atom.{Atom}
+use Rattle.tsdl_grammar.specs.declared.atom.Atom.TheVariants as atoms
 use Rattle.tsdl_grammar.specs.declared.tree.Name.{Name}
 use Rattle.tsdl_grammar.specs.declared.tree.Value.TheVariants as values
 use Rattle.tsdl_grammar.specs.declared.tree.Item.{Item}
@@ -24,7 +25,7 @@ use Rattle.tsdl_grammar.specs.declared.tree.Fact.TheVariants as facts
 use Rattle.tsdl_grammar.specs.declared.tree.NamedFact.{NamedFact}
 use Rattle.tsdl_grammar.specs.declared.tree.Block.{Block}
 use Rattle.tsdl_grammar.specs.declared.tree.Block.TheVariants as blocks
-use Rattle.tsdl_writer.specs.FieldTrees.{whole_number, one_word, attribute, natural_attribute, word_attribute, text_attribute, flag_word, structure_tree, member_lines}
+use Rattle.tsdl_writer.specs.FieldTrees.{whole_number, one_word, attribute, natural_attribute, word_attribute, text_attribute, flag_word, structure_tree}
 
 -- ---- what stands in a block
 
@@ -54,16 +55,15 @@ abbrev pub scope_items : Name → List (List ℕ × MemberType) → ℕ → List
 scope_items name [] align = []
 scope_items name (m ∷ ms) align = items.Scope (record { name = name; structure = structure_tree (m ∷ ms) align }) ∷ []
 
--- the lines of a structure of this name, where it has members
-abbrev pub opening : List ℕ → List ℕ
-opening name = codes "\t" ++ name ++ codes " := struct {\n"
+-- how a structure's line begins, behind the words in front of the name's last
+abbrev pub opening : List ℕ → List Atom
+opening name = atoms.Word name ∷ atoms.Mark marks.Assign ∷ atoms.Word (codes "struct") ∷ atoms.Mark marks.OpenBrace ∷ []
 
-abbrev pub closing : ℕ → List ℕ
-closing align = codes "\t} align(" ++ decimal align ++ codes ");\n"
-
-abbrev pub scope_lines : List ℕ → List (List ℕ × MemberType) → ℕ → List ℕ
-scope_lines name [] align = []
-scope_lines name (m ∷ ms) align = opening name ++ flat_map member_lines (m ∷ ms) ++ closing align
+-- and how it ends
+abbrev pub closing : ℕ → List Atom
+closing align =
+    atoms.Mark marks.CloseBrace ∷ atoms.Word (codes "align") ∷ atoms.Mark marks.OpenParenthesis ∷ atoms.Number align ∷ atoms.Mark marks.CloseParenthesis
+    ∷ atoms.Mark marks.Semicolon ∷ []
 
 -- a name of two words
 abbrev pub two_words : List ℕ → List ℕ → Name

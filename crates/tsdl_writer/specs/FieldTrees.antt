@@ -14,6 +14,7 @@ use Rattle.ctf_types.specs.declared.MemberType.TheVariants.{Plain, Dyn}
 use Rattle.ctf_types.specs.Chain.{Leaf, Chain, Number, Labelled, ByteString}
 use Rattle.ctf_types.specs.FieldTypes.{chain_of}
 use Rattle.ctf_types.specs.Shown.{length_name, length_type}
+use Rattle.tsdl_grammar.specs.declared.atom.Atom.{Atom}
 use Rattle.tsdl_grammar.specs.declared.tree.Sign.TheVariants.{Minus}
 use Rattle.tsdl_grammar.specs.declared.tree.Number as numbers
 use Rattle.tsdl_grammar.specs.declared.tree.Name.{Name}
@@ -31,7 +32,7 @@ use Rattle.tsdl_grammar.specs.declared.tree.Bracket.{Bracket}
 use Rattle.tsdl_grammar.specs.declared.tree.Bracket.TheVariants as brackets
 use Rattle.tsdl_grammar.specs.declared.tree.MemberTree.{MemberTree}
 use Rattle.tsdl_grammar.specs.declared.tree.Structure.{Structure}
-use Rattle.tsdl_writer.specs.Layout.{member_text}
+use Rattle.tsdl_grammar.specs.Spelling.{member_toks}
 
 -- ---- attributes
 
@@ -130,6 +131,6 @@ member_trees (name, Dyn t (At i)) = []
 abbrev pub structure_tree : List (List ℕ × MemberType) → ℕ → Structure
 structure_tree members align = record { members = flat_map member_trees members; align = Some (natural_number align) }
 
--- the lines of a member
-abbrev pub member_lines : List ℕ × MemberType → List ℕ
-member_lines m = flat_map member_text (member_trees m)
+-- how the members for one of a configuration are spelled
+abbrev pub member_toks_of : List ℕ × MemberType → List Atom
+member_toks_of m = flat_map member_toks (member_trees m)

@@ -1,155 +1,134 @@
--- How the trees of metadata are laid out as a text. A block begins a line, tabs indent what stands in it, and each of its attributes,
--- members and environment entries has a line of its own; the type of a member stands on the member's line. An empty line stands after the first
--- line and between blocks.
-use Rattle.std.specs.Prelude.{ℕ, List, [], ◌++◌, Option, Some, None, codes}
-use Rattle.std.specs.List.{flat_map}
+-- How the tokens of metadata are laid out as a text. A block begins a line behind an empty one, tabs indent what stands in it, and each of its
+-- attributes, members and environment entries has a line of its own; the type of a member stands on the member's line.
+-- The gap in front of a token is known from the innermost brace that is open, from the token before and from the token itself.
+use Rattle.std.specs.Prelude.{ℕ, List, [], ◌∷◌, ◌++◌, codes}
 use Rattle.std.specs.Fmt.{decimal}
-use Rattle.tsdl_grammar.specs.declared.tree.Sign.{Sign}
-use Rattle.tsdl_grammar.specs.declared.tree.Sign.TheVariants.{Plus, Minus}
-use Rattle.tsdl_grammar.specs.declared.tree.Number.{Number}
-use Rattle.tsdl_grammar.specs.declared.tree.Name.{Name}
-use Rattle.tsdl_grammar.specs.declared.tree.Value.{Value}
-use Rattle.tsdl_grammar.specs.declared.tree.Value.TheVariants as values
-use Rattle.tsdl_grammar.specs.declared.tree.Attribute.{Attribute}
-use Rattle.tsdl_grammar.specs.declared.tree.Label.{Label}
-use Rattle.tsdl_grammar.specs.declared.tree.Label.TheVariants.{Quoted, Bare}
-use Rattle.tsdl_grammar.specs.declared.tree.Entry.{Entry}
-use Rattle.tsdl_grammar.specs.declared.tree.Closing.{Closing}
-use Rattle.tsdl_grammar.specs.declared.tree.Closing.TheVariants as closings
-use Rattle.tsdl_grammar.specs.declared.tree.Entries.{Entries}
-use Rattle.tsdl_grammar.specs.declared.tree.Entries.TheVariants as entries
-use Rattle.tsdl_grammar.specs.declared.tree.Kind.{Kind}
-use Rattle.tsdl_grammar.specs.declared.tree.Kind.TheVariants as kinds
-use Rattle.tsdl_grammar.specs.declared.tree.Bracket.{Bracket}
-use Rattle.tsdl_grammar.specs.declared.tree.Bracket.TheVariants as brackets
-use Rattle.tsdl_grammar.specs.declared.tree.MemberTree.{MemberTree}
-use Rattle.tsdl_grammar.specs.declared.tree.Structure.{Structure}
-use Rattle.tsdl_grammar.specs.declared.tree.Item.{Item}
-use Rattle.tsdl_grammar.specs.declared.tree.Item.TheVariants as items
-use Rattle.tsdl_grammar.specs.declared.tree.Fact.{Fact}
-use Rattle.tsdl_grammar.specs.declared.tree.Fact.TheVariants as facts
-use Rattle.tsdl_grammar.specs.declared.tree.NamedFact.{NamedFact}
+use Rattle.tsdl_grammar.specs.declared.token.Mark.{Mark}
+use Rattle.tsdl_grammar.specs.declared.token.Mark.TheVariants as marks
+use Rattle.tsdl_grammar.specs.declared.atom.Atom.{Atom}
+use Rattle.tsdl_grammar.specs.declared.atom.Atom.TheVariants as atoms
 use Rattle.tsdl_grammar.specs.declared.tree.Block.{Block}
-use Rattle.tsdl_grammar.specs.declared.tree.Block.TheVariants as blocks
 use Rattle.tsdl_grammar.specs.Escapes.{escaped}
+use Rattle.tsdl_grammar.specs.Spelling.{text_toks}
 use Rattle.tsdl_grammar.specs.Tokens.{magic_line}
+use Rattle.tsdl_writer.specs.declared.layout.Depth.{Depth}
+use Rattle.tsdl_writer.specs.declared.layout.Depth.TheVariants as depths
+use Rattle.tsdl_writer.specs.declared.layout.Place.{Place}
+use Rattle.tsdl_writer.specs.declared.layout.Place.TheVariants as places
+use Rattle.tsdl_writer.specs.declared.layout.Next.{Next}
+use Rattle.tsdl_writer.specs.declared.layout.Next.TheVariants as nexts
 
--- ---- numbers, names and strings
-
-abbrev pub sign_text : Option Sign → List ℕ
-sign_text None = []
-sign_text (Some Plus) = codes "+"
-sign_text (Some Minus) = codes "-"
-
-abbrev pub number_text : Number → List ℕ
-number_text n = sign_text n.sign ++ decimal n.literal
-
-abbrev pub dotted_text : List ℕ → List ℕ
-dotted_text w = codes "." ++ w
-
-abbrev pub name_text : Name → List ℕ
-name_text n = n.first ++ flat_map dotted_text n.rest
+-- ---- a token
 
 -- a text between its quotes
 abbrev pub quoted : List ℕ → List ℕ
 quoted text = codes "\"" ++ escaped text ++ codes "\""
 
-abbrev pub value_text : Value → List ℕ
-value_text (values.Number n) = number_text n
-value_text (values.Text s) = quoted s
-value_text (values.Name n) = name_text n
+abbrev pub mark_text : Mark → List ℕ
+mark_text marks.OpenBrace = codes "{"
+mark_text marks.CloseBrace = codes "}"
+mark_text marks.OpenBracket = codes "["
+mark_text marks.CloseBracket = codes "]"
+mark_text marks.OpenParenthesis = codes "("
+mark_text marks.CloseParenthesis = codes ")"
+mark_text marks.Semicolon = codes ";"
+mark_text marks.Comma = codes ","
+mark_text marks.Colon = codes ":"
+mark_text marks.Equals = codes "="
+mark_text marks.Minus = codes "-"
+mark_text marks.Plus = codes "+"
+mark_text marks.Dot = codes "."
+mark_text marks.Assign = codes ":="
+mark_text marks.Ellipsis = codes "..."
 
--- `name = value;`
-abbrev pub attr_text : Attribute → List ℕ
-attr_text a = name_text a.name ++ (codes " = " ++ value_text a.value) ++ codes ";"
+-- nothing spells a literal that is too large
+abbrev pub atom_text : Atom → List ℕ
+atom_text (atoms.Word w) = w
+atom_text (atoms.Number n) = decimal n
+atom_text (atoms.Text s) = quoted s
+atom_text (atoms.Mark m) = mark_text m
+atom_text atoms.TooLarge = []
 
--- ---- the types of members
+-- ---- what stands behind a token
 
-abbrev pub attr_and_space : Attribute → List ℕ
-attr_and_space a = attr_text a ++ codes " "
+-- a block's braces hold attributes and structures, a structure's hold types
+abbrev pub depth_behind : Mark → Depth → Depth
+depth_behind marks.OpenBrace depths.Top = depths.Block
+depth_behind marks.OpenBrace depths.Block = depths.Structure
+depth_behind marks.OpenBrace d = depths.Type
+depth_behind marks.CloseBrace depths.Type = depths.Structure
+depth_behind marks.CloseBrace depths.Structure = depths.Block
+depth_behind marks.CloseBrace d = depths.Top
+depth_behind m d = d
 
--- `{ name = value; name = value; }`
-abbrev pub attrs_text : List Attribute → List ℕ
-attrs_text attrs = codes "{ " ++ flat_map attr_and_space attrs ++ codes "}"
+abbrev pub place_behind : Mark → Depth → Place
+place_behind marks.OpenBrace depths.Top = places.Line
+place_behind marks.OpenBrace depths.Block = places.Line
+place_behind marks.OpenBrace d = places.Inside
+place_behind marks.Semicolon depths.Type = places.Apart
+place_behind marks.Semicolon d = places.Line
+place_behind marks.OpenBracket d = places.Joined
+place_behind marks.OpenParenthesis d = places.Joined
+place_behind marks.Minus d = places.Joined
+place_behind marks.Plus d = places.Joined
+place_behind marks.Dot d = places.Dotted
+place_behind m d = places.Apart
 
-abbrev pub int_text : List Attribute → List ℕ
-int_text attrs = codes "integer " ++ attrs_text attrs
+abbrev pub atom_depth : Depth → Atom → Depth
+atom_depth d (atoms.Mark m) = depth_behind m d
+atom_depth d a = d
 
-abbrev pub label_text : Label → List ℕ
-label_text (Quoted s) = quoted s
-label_text (Bare w) = w
+abbrev pub atom_place : Depth → Atom → Place
+atom_place d (atoms.Mark m) = place_behind m d
+atom_place d a = places.Apart
 
-abbrev pub high_text : Option Number → List ℕ
-high_text None = []
-high_text (Some n) = codes " ... " ++ number_text n
+-- ---- the gap in front of a token
 
--- `label = low ... high`
-abbrev pub entry_text : Entry → List ℕ
-entry_text e = label_text e.label ++ (codes " = " ++ number_text e.low) ++ high_text e.high
+abbrev pub mark_next : Mark → Next
+mark_next marks.CloseBrace = nexts.Close
+mark_next marks.OpenBracket = nexts.Leaning
+mark_next marks.CloseBracket = nexts.Leaning
+mark_next marks.OpenParenthesis = nexts.Leaning
+mark_next marks.CloseParenthesis = nexts.Leaning
+mark_next marks.Semicolon = nexts.Leaning
+mark_next marks.Comma = nexts.Leaning
+mark_next marks.Dot = nexts.Leaning
+mark_next m = nexts.Other
 
-abbrev pub next_entry_text : Entry → List ℕ
-next_entry_text e = codes ", " ++ entry_text e
+abbrev pub next_of : Atom → Next
+next_of (atoms.Word w) = nexts.Word
+next_of (atoms.Mark m) = mark_next m
+next_of a = nexts.Other
 
-abbrev pub closing_text : Closing → List ℕ
-closing_text closings.Plain = []
-closing_text closings.Comma = codes ","
+-- a new line
+abbrev pub line : Depth → List ℕ
+line depths.Top = codes "\n\n"
+line depths.Block = codes "\n\t"
+line d = codes "\n\t\t"
 
-abbrev pub entries_text : Entries → List ℕ
-entries_text entries.Empty = []
-entries_text (entries.Listed e es closing) = entry_text e ++ flat_map next_entry_text es ++ closing_text closing
+-- a new line for the brace that closes
+abbrev pub closing_line : Depth → List ℕ
+closing_line depths.Block = codes "\n"
+closing_line depths.Structure = codes "\n\t"
+closing_line d = line d
 
-abbrev pub kind_text : Kind → List ℕ
-kind_text (kinds.Integer attrs) = int_text attrs
-kind_text (kinds.Enumeration attrs es) = codes "enum : " ++ int_text attrs ++ (codes " { " ++ entries_text es ++ codes " }")
-kind_text (kinds.Text None) = codes "string"
-kind_text (kinds.Text (Some attrs)) = codes "string " ++ attrs_text attrs
+-- in a type's braces a space stands behind the first and in front of the last
+abbrev pub gap : Place → Next → Depth → List ℕ
+gap places.Line nexts.Close d = closing_line d
+gap places.Line n d = line d
+gap places.Inside nexts.Close d = codes "  "
+gap places.Joined n d = []
+gap places.Dotted nexts.Word d = []
+gap places.Apart nexts.Leaning d = []
+gap p n d = codes " "
 
--- ---- members and structures
+-- ---- the whole
 
-abbrev pub bracket_text : Bracket → List ℕ
-bracket_text (brackets.Count n) = codes "[" ++ number_text n ++ codes "]"
-bracket_text (brackets.Member w) = codes "[" ++ w ++ codes "]"
-
--- a line, two tabs in
-abbrev pub member_text : MemberTree → List ℕ
-member_text m = codes "\t\t" ++ kind_text m.kind ++ (codes " " ++ m.name ++ flat_map bracket_text m.brackets) ++ codes ";\n"
-
-abbrev pub align_text : Option Number → List ℕ
-align_text None = []
-align_text (Some n) = codes " align(" ++ number_text n ++ codes ")"
-
-abbrev pub struct_text : Structure → List ℕ
-struct_text s = codes "struct {\n" ++ flat_map member_text s.members ++ codes "\t}" ++ align_text s.align
-
--- ---- blocks
-
--- an attribute or a scope, one tab in
-abbrev pub item_text : Item → List ℕ
-item_text (items.Attribute a) = codes "\t" ++ attr_text a ++ codes "\n"
-item_text (items.Scope s) = codes "\t" ++ name_text s.name ++ (codes " := " ++ struct_text s.structure) ++ codes ";\n"
-
-abbrev pub items_text : List Item → List ℕ
-items_text is = codes " {\n" ++ flat_map item_text is ++ codes "}"
-
-abbrev pub fact_text : Fact → List ℕ
-fact_text (facts.Number n) = number_text n
-fact_text (facts.Text s) = quoted s
-
--- an entry of the environment, one tab in
-abbrev pub named_fact_text : NamedFact → List ℕ
-named_fact_text f = codes "\t" ++ f.name ++ codes " = " ++ fact_text f.fact ++ codes ";\n"
-
-abbrev pub block_text : Block → List ℕ
-block_text (blocks.Trace is) = codes "trace" ++ items_text is
-block_text (blocks.Stream is) = codes "stream" ++ items_text is
-block_text (blocks.Event is) = codes "event" ++ items_text is
-block_text (blocks.Clock is) = codes "clock" ++ items_text is
-block_text (blocks.Environment fs) = codes "env" ++ codes " {\n" ++ flat_map named_fact_text fs ++ codes "}"
-
--- a block behind an empty line
-abbrev pub spaced_block : Block → List ℕ
-spaced_block b = codes "\n" ++ block_text b ++ codes ";\n"
+-- the tokens, and the end of the last line
+abbrev pub laid : Depth → Place → List Atom → List ℕ
+laid d p [] = codes "\n"
+laid d p (a ∷ rest) = gap p (next_of a) d ++ (atom_text a ++ laid (atom_depth d a) (atom_place d a) rest)
 
 -- the magic line, and the blocks
 abbrev pub text_of : List Block → List ℕ
-text_of bs = magic_line ++ codes "\n" ++ flat_map spaced_block bs
+text_of bs = magic_line ++ laid depths.Top places.Line (text_toks bs)

@@ -2,5 +2,5 @@ pub mod Layout
 pub mod FieldTrees
 pub mod BlockTrees
 pub mod Written
-pub mod Appends
+pub mod Prints
 pub mod Held

@@ -1,13 +1,14 @@
 //! Writes the TSDL metadata text of a configuration.
 #![tactic(auto)]
 
-mod attribute_text;
-mod block_text;
-mod enumeration_text;
+mod attributes;
+mod blocks;
 mod held;
-mod integer_text;
-mod member_text;
-mod metadata_text;
-mod scope_text;
+mod layout;
+mod members;
+mod metadata;
+mod printer;
+mod scopes;
+mod types;
 
-pub use metadata_text::write_metadata;
+pub use metadata::write_metadata;

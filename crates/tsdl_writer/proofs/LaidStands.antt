@@ -1,0 +1,148 @@
+-- What is laid out spells its tokens again, whatever they are, where each of them can be written.
+use Rattle.std.proofs.Common.{◌≡◌, ℕ, true, false, eqb, List, [], ◌∷◌, ◌++◌, get_or, arith, refl, ap, ◌∙◌}
+use Rattle.std.specs.Prelude.{not, ◌||◌, codes}
+use Rattle.std.specs.List.{list_all, list_any, prefix_len, AllByRecursion}
+use Rattle.std.specs.Str.{bytes_eq}
+use Rattle.std.proofs.lemmas.Bool.Decides.{nat_tests}
+use Rattle.ctf_types.specs.Names.{is_letter, is_digit, is_identifier, unused_keywords, IsMetadataName}
+use Rattle.tsdl_grammar.specs.declared.token.Mark.{Mark}
+use Rattle.tsdl_grammar.specs.declared.token.Mark.TheVariants as marks
+use Rattle.tsdl_grammar.specs.declared.atom.Atom.{Atom}
+use Rattle.tsdl_grammar.specs.declared.atom.Atom.TheVariants as atoms
+use Rattle.tsdl_grammar.specs.declared.tree.Block.{Block}
+use Rattle.tsdl_grammar.specs.Bytes.{is_blank, is_name_start, is_name_byte}
+use Rattle.tsdl_grammar.specs.Spelling.{text_toks}
+use Rattle.tsdl_grammar.specs.Tokens.{HasMagicLine}
+use Rattle.tsdl_grammar.specs.Atoms.{Spells, Reads}
+use Rattle.tsdl_grammar.specs.Denotes.{is_read}
+use Rattle.tsdl_grammar.proofs.Runs.{and_true}
+use Rattle.tsdl_grammar.proofs.Continuation as continuation
+use Rattle.tsdl_grammar.proofs.WordStands as words
+use Rattle.tsdl_grammar.proofs.WordStands.{IsName}
+use Rattle.tsdl_grammar.proofs.NumberStands as numbers
+use Rattle.tsdl_grammar.proofs.TextStands as texts
+use Rattle.tsdl_grammar.proofs.MarkStands as mark_steps
+use Rattle.tsdl_grammar.proofs.ListStands as lists
+use Rattle.tsdl_writer.specs.declared.layout.Depth.{Depth}
+use Rattle.tsdl_writer.specs.declared.layout.Depth.TheVariants as depths
+use Rattle.tsdl_writer.specs.declared.layout.Place.{Place}
+use Rattle.tsdl_writer.specs.declared.layout.Place.TheVariants as places
+use Rattle.tsdl_writer.specs.declared.layout.Next.{Next}
+use Rattle.tsdl_writer.specs.declared.layout.Next.TheVariants as nexts
+use Rattle.tsdl_writer.specs.Layout.{mark_text, atom_text, depth_behind, place_behind, atom_depth, atom_place, next_of, line, closing_line, gap, laid, text_of}
+use Rattle.tsdl_writer.specs.Prints.{IsString}
+use Rattle.tsdl_writer.proofs.Writable.{IsWritable}
+
+abbrev AreWritable : List Atom → Type 0
+AreWritable meant = AllByRecursion IsWritable meant
+
+-- ---- names
+
+letter_starts : (b : ℕ) → is_letter b ≡ true → is_name_start b ≡ true
+letter_starts b h = grind (arith, nat_tests)
+
+goes_on : (b : ℕ) → (is_letter b || is_digit b) ≡ true → is_name_byte b ≡ true
+goes_on b h = grind (arith, nat_tests)
+
+all_go_on : (bs : List ℕ) → list_all (λ d. is_letter d || is_digit d) bs ≡ true → list_all is_name_byte bs ≡ true
+all_go_on [] h = refl
+all_go_on (b ∷ bs) h =
+    let both = and_true (is_letter b || is_digit b) (list_all (λ d. is_letter d || is_digit d) bs) h in
+    rw (goes_on b both.0, all_go_on bs both.1) refl
+
+is_name : (w : List ℕ) → is_identifier w ≡ true → IsName w
+unfolding is_identifier
+is_name [] h = absurd cc
+is_name (c ∷ w) h =
+    let both = and_true (is_letter c) (list_all (λ d. is_letter d || is_digit d) w) h in
+    record { first = c; others = w; parts = refl; starts = letter_starts c both.0; goes_on = all_go_on w both.1 }
+
+starts_no_dot : (b : ℕ) → is_name_start b ≡ true → eqb b 46 ≡ false
+starts_no_dot b h = grind (arith, nat_tests)
+
+first_byte : (w rest : List ℕ) → (n : IsName w) → get_or (w ++ rest) 0 0 ≡ n.first
+first_byte w rest n = rw n.parts refl
+
+-- ---- what stands behind a token
+
+line_blank : (d : Depth) → list_all is_blank (line d) ≡ true
+line_blank depths.Top = refl
+line_blank d = refl
+
+closing_blank : (d : Depth) → list_all is_blank (closing_line d) ≡ true
+closing_blank depths.Top = refl
+closing_blank d = refl
+
+gap_blank : (p : Place) (n : Next) (d : Depth) → list_all is_blank (gap p n d) ≡ true
+gap_blank places.Line nexts.Close d = closing_blank d
+gap_blank places.Line n d = line_blank d
+gap_blank places.Inside nexts.Close d = refl
+gap_blank places.Dotted nexts.Word d = refl
+gap_blank places.Apart nexts.Leaning d = refl
+gap_blank p n d = refl
+
+-- no byte of a name, and no `=`
+record Behind (bytes : List ℕ) : Type 0 where
+  no_name : prefix_len is_name_byte bytes ≡ 0
+  no_equals : eqb (get_or bytes 0 0) 61 ≡ false
+
+apart : (d : Depth) (rest : List Atom) → Behind (laid d places.Apart rest)
+apart d [] = record { no_name = refl; no_equals = refl }
+apart d (atoms.Mark marks.CloseBrace ∷ rest) = record { no_name = refl; no_equals = refl }
+apart d (a ∷ rest) = record { no_name = refl; no_equals = refl }
+
+-- no second dot behind a dot
+no_dot : (d : Depth) (rest : List Atom) → AreWritable rest → eqb (get_or (laid d places.Dotted rest) 0 0) 46 ≡ false
+no_dot d [] h = refl
+no_dot d (atoms.Word w ∷ rest) h =
+    let n = is_name w h.0.identifier in
+    ap (λ (b : ℕ). eqb b 46) (first_byte w (laid d places.Apart rest) n) ∙ starts_no_dot n.first n.starts
+no_dot d (atoms.Mark marks.CloseBrace ∷ rest) h = refl
+no_dot d (a ∷ rest) h = refl
+
+-- ---- tokens
+
+mark_stands : (m : Mark) (d : Depth) (rest : List Atom) → AreWritable rest → Spells (laid (depth_behind m d) (place_behind m d) rest) rest
+    → Spells (mark_text m ++ laid (depth_behind m d) (place_behind m d) rest) (atoms.Mark m ∷ rest)
+mark_stands marks.OpenBrace d rest h s = mark_steps.open_brace _ _ s
+mark_stands marks.CloseBrace d rest h s = mark_steps.close_brace _ _ s
+mark_stands marks.OpenBracket d rest h s = mark_steps.open_bracket _ _ s
+mark_stands marks.CloseBracket d rest h s = mark_steps.close_bracket _ _ s
+mark_stands marks.OpenParenthesis d rest h s = mark_steps.open_parenthesis _ _ s
+mark_stands marks.CloseParenthesis d rest h s = mark_steps.close_parenthesis _ _ s
+mark_stands marks.Semicolon d rest h s = mark_steps.semicolon _ _ s
+mark_stands marks.Comma d rest h s = mark_steps.comma _ _ s
+mark_stands marks.Colon d rest h s = mark_steps.colon _ _ (apart d rest).no_equals s
+mark_stands marks.Equals d rest h s = mark_steps.equals _ _ s
+mark_stands marks.Minus d rest h s = mark_steps.minus _ _ s
+mark_stands marks.Plus d rest h s = mark_steps.plus _ _ s
+mark_stands marks.Dot d rest h s = mark_steps.dot _ _ (no_dot d rest h) s
+mark_stands marks.Assign d rest h s = mark_steps.assign _ _ s
+mark_stands marks.Ellipsis d rest h s = mark_steps.ellipsis _ _ s
+
+atom_stands : (a : Atom) (d : Depth) (rest : List Atom) → IsWritable a → IsString a → AreWritable rest → Spells (laid (atom_depth d a) (atom_place d a) rest) rest
+    → Spells (atom_text a ++ laid (atom_depth d a) (atom_place d a) rest) (a ∷ rest)
+atom_stands (atoms.Word w) d rest h t k s = words.word w (laid d places.Apart rest) rest (is_name w h.identifier) (apart d rest).no_name s
+atom_stands (atoms.Number n) d rest h t k s = numbers.number n (laid d places.Apart rest) rest h (apart d rest).no_name s
+atom_stands (atoms.Text x) d rest h t k s = texts.string x (laid d places.Apart rest) rest t s
+atom_stands (atoms.Mark m) d rest h t k s = mark_stands m d rest k s
+atom_stands atoms.TooLarge d rest h t k s = absurd h
+
+stands : (d : Depth) (p : Place) (meant : List Atom) → AreWritable meant → AllByRecursion IsString meant → Spells (laid d p meant) meant
+stands d p [] h t = lists.blanks (codes "\n") [] [] refl continuation.nothing
+stands d p (a ∷ rest) h t =
+    let s = stands (atom_depth d a) (atom_place d a) rest h.1 t.1 in
+    lists.blanks (gap p (next_of a) d) (atom_text a ++ laid (atom_depth d a) (atom_place d a) rest) (a ∷ rest) (gap_blank p (next_of a) d) (atom_stands a d rest h.0 t.0 h.1 s)
+
+are_read : (meant : List Atom) → AreWritable meant → list_all is_read meant ≡ true
+are_read [] h = refl
+are_read (atoms.Word w ∷ rest) h = let no_keyword : is_read (atoms.Word w) ≡ true = ap not h.0.no_keyword in rw (no_keyword, are_read rest h.1) refl
+are_read (a ∷ rest) h = are_read rest h.1
+
+-- ---- the text
+
+-- the text of blocks has its magic line, reads as the blocks, and has no word that the grammar lacks
+pub text_reads : (bs : List Block) → AreWritable (text_toks bs) → AllByRecursion IsString (text_toks bs) → HasMagicLine (text_of bs) × Reads (text_of bs) (text_toks bs) × (list_all is_read (text_toks bs) ≡ true)
+text_reads bs h t =
+    let behind = laid depths.Top places.Line (text_toks bs) in
+    ((behind, refl), continuation.reads (text_of bs) (text_toks bs) (lists.magic behind (text_toks bs) (stands depths.Top places.Line (text_toks bs) h t)), are_read (text_toks bs) h)

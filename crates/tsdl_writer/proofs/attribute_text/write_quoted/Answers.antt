@@ -1,8 +1,0 @@
-use Rattle.std.proofs.Common.{sym, subst, ◌∙◌}
-use Rattle.std.specs.Str.{IsUtf8}
-use Rattle.tsdl_grammar.proofs.EscapesUtf8.{IsUtf8-escaped}
-use Rattle.tsdl_writer.proofs.attribute_text.write_quoted.Goals as goal
-
-pub unreachable-requires : goal.unreachable-requires
-unreachable-requires c =
-    c.in-Err.ensures.cases.0 (subst IsUtf8 (sym (c.deref.ensures.value ∙ c.in_ok-escaped.ensures)) (IsUtf8-escaped c.as_bytes.result.now c.as_bytes.ensures.utf8))

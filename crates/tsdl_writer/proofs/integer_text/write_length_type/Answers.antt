@@ -1,9 +1,0 @@
-use Rattle.tsdl_writer.proofs.Pieces.{length_pieces}
-use Rattle.tsdl_writer.proofs.Appending.{more, last}
-use Rattle.tsdl_writer.proofs.integer_text.write_length_type.Goals as goal
-
-pub returns : goal.returns
-returns c =
-    last _ _ _ _ _ _ c.push-2.result
-    (more (more (more (more c.in_ok-push.ensures c.in_ok-write_count.ensures) c.in_ok-write_count-2.ensures) c.in_ok-write_sign.ensures) c.in_ok-write_count-3.ensures)
-    c.push-2.ensures (length_pieces)

@@ -1,0 +1,9 @@
+use Rattle.std.proofs.Common.{drop}
+use Rattle.std.specs.Prelude.{map}
+use Rattle.tsdl_grammar.specs.Spelling.{text_toks}
+use Rattle.tsdl_writer.specs.BlockTrees.{clock_block}
+use Rattle.tsdl_writer.proofs.Printing.{Leaves}
+use Rattle.tsdl_writer.proofs.metadata.clocks.Given as goal
+
+abbrev pub invariant-loop-one : goal.invariant-loop-one
+invariant-loop-one l = Leaves l.initial.out l.out (text_toks (map clock_block l.clocks)) (text_toks (map clock_block (drop l.one-index l.clocks)))

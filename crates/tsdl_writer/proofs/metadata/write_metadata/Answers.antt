@@ -1,0 +1,44 @@
+use Rattle.std.proofs.Common.{◌≡◌, ℕ, List, [], ◌∷◌, ◌++◌, map, sym, subst}
+use Rattle.std.specs.Prelude.{string_bytes}
+use Rattle.std.specs.List.{AllByRecursion}
+use Rattle.std.proofs.lemmas.List.{append-nil}
+use Rattle.ctf_types.specs.declared.Config.{Config}
+use Rattle.ctf_types.specs.declared.ClockType.{ClockType}
+use Rattle.ctf_types.specs.declared.EnvironmentEntry.{EnvironmentEntry}
+use Rattle.ctf_types.specs.declared.StreamType.{StreamType}
+use Rattle.ctf_types.specs.MetadataOf.{metadata_of}
+use Rattle.tsdl_grammar.specs.declared.atom.Atom.{Atom}
+use Rattle.tsdl_grammar.specs.Denotes.{Denotes}
+use Rattle.tsdl_grammar.specs.Spelling.{block_and_semicolon, text_toks}
+use Rattle.tsdl_writer.specs.declared.printer.Printer.{Printer}
+use Rattle.tsdl_writer.specs.BlockTrees.{trace_block, environment_blocks, clock_block, stream_blocks, all_event_blocks, blocks_of}
+use Rattle.tsdl_writer.specs.Prints.{IsString, Ends, Begins}
+use Rattle.tsdl_writer.specs.Written.{written}
+use Rattle.tsdl_writer.proofs.Printing.{regroup, pair}
+use Rattle.tsdl_writer.proofs.TextDenotes.{written_denotes}
+use Rattle.tsdl_writer.proofs.metadata.write_metadata.Goals as goal
+
+-- the blocks one after the other
+all_blocks : {p : Printer} {text : List ℕ} (c : Config) (entries : List EnvironmentEntry) (clocks : List ClockType) (streams again : List StreamType)
+    → entries ≡ c.environment → clocks ≡ c.clocks → streams ≡ c.streams → again ≡ c.streams
+    → Ends p (block_and_semicolon (trace_block c) ++ (text_toks (environment_blocks entries) ++ (text_toks (map clock_block clocks) ++ (text_toks (stream_blocks 0 streams) ++ (text_toks (all_event_blocks 0 again) ++ []))))) text
+    → Ends p (text_toks (blocks_of c)) text
+all_blocks {p} {text} c entries clocks streams again e k s v printed =
+    let t = trace_block c in let env = environment_blocks c.environment in let ks = map clock_block c.clocks in let ss = stream_blocks 0 c.streams in let es = all_event_blocks 0 c.streams in
+    let same = rw (e, k, s, v) at printed in
+    subst (λ (w : List Atom). Ends p w text) (append-nil (text_toks (blocks_of c))) (pair block_and_semicolon (t ∷ env ++ ks ++ ss) es [] (pair block_and_semicolon (t ∷ env ++ ks) ss _
+    (pair block_and_semicolon (t ∷ env) ks _ (regroup (block_and_semicolon t) (text_toks env) _ same))))
+
+-- what is printed behind the magic line alone is the text
+is_written : {p : Printer} {text : List ℕ} (c : Config) → Begins p → Ends p (text_toks (blocks_of c)) text → text ≡ written c
+unfolding written
+is_written c b ends = sym (rw (b.text, b.depth, b.place) at ends.whole)
+
+pub returns : goal.returns
+returns c =
+    let config = c.args.config.now in
+    let ends : Ends c.all_events.new.out [] _ = record { whole = sym c.in_ok-text.ensures; strings = tt } in
+    let printed = c.in_ok-trace.ensures _ _ (c.in_ok-environment.ensures _ _ (c.in_ok-clocks.ensures _ _ (c.in_ok-streams.ensures _ _ (c.in_ok-all_events.ensures [] _ ends)))) in
+    let blocks = all_blocks config _ _ _ _ c.as_slice.ensures c.as_slice-2.ensures c.as_slice-3.ensures c.as_slice-4.ensures printed in
+    let text = is_written config c.in_ok-out.ensures blocks in
+    record { text = text; denotes = λ h. subst (λ (bytes : List ℕ). Denotes bytes (metadata_of config)) (sym text) (written_denotes config h c.config_is_held.ensures blocks.strings) }

@@ -1,0 +1,4 @@
+use Rattle.tsdl_writer.proofs.scopes.begin.Goals as goal
+
+pub returns : goal.returns
+returns c rest text e = c.in_ok-word.ensures _ text (c.in_ok-mark.ensures rest text e)

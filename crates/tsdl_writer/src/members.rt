@@ -1,0 +1,135 @@
+//! Members of structures, each on a line of its own.
+
+ghost use Rattle.std.specs.Prelude.{◌≡◌, ◌++◌, [], map, Some, OnOk};
+ghost use Rattle.std.specs.List.{flat_map};
+ghost use Rattle.ctf_types.specs.declared.IntType.{IntType};
+ghost use Rattle.ctf_types.specs.declared.MemberType.TheVariants.{Plain, Dyn};
+ghost use Rattle.ctf_types.specs.declared.Length.TheVariants.{Auto};
+ghost use Rattle.ctf_types.specs.declared.FieldType.TheVariants.{Int};
+ghost use Rattle.ctf_types.specs.FieldTypes.{chain_of};
+ghost use Rattle.ctf_types.specs.MetadataOf.{number_member, uuid_member};
+ghost use Rattle.tsdl_grammar.specs.declared.tree.Bracket.TheVariants as brackets;
+ghost use Rattle.tsdl_grammar.specs.Spelling.{bracket_toks, member_toks};
+ghost use Rattle.tsdl_writer.specs.FieldTrees.{count_bracket, length_member, array_member, member_toks_of};
+ghost use Rattle.tsdl_writer.specs.Prints.{Prints};
+
+use crate::printer::Printer;
+use crate::types::{integer, kind, length_type};
+use ctf_types::{FieldType, IntType, Length, MemberType, Members};
+use std::alloc::AllocError;
+use tsdl_grammar::Mark;
+
+/// The members of a structure. A dynamic array has its length in a member before it.
+pub(crate) fn members(out: &mut Printer, members: &Members) -> Result<(), AllocError>
+    ensures { OnOk result (Prints out.old out.new (flat_map member_toks_of members.now)) }
+{
+    for index in 0..members.len() {
+        member(out, members.name_at(index), members.member_at(index))?;
+    }
+    Ok(())
+}
+
+/// The members for one of a configuration. None has a length in a listed member.
+fn member(out: &mut Printer, name: &str, member: &MemberType) -> Result<(), AllocError>
+    ensures { OnOk result (Prints out.old out.new (member_toks_of (name.now, member.now))) }
+{
+    match member {
+        MemberType::Plain(field) => plain(out, name, field),
+        MemberType::Dyn(element, Length::Auto) => sequence(out, name, element),
+        MemberType::Dyn(_, Length::At(_)) => Ok(()),
+    }
+}
+
+fn plain(out: &mut Printer, name: &str, field: &FieldType) -> Result<(), AllocError>
+    ensures { OnOk result (Prints out.old out.new (member_toks_of (name.now, Plain field.now))) }
+{
+    kind(out, field)?;
+    out.word(name)?;
+    lengths(out, field)?;
+    out.mark(Mark::Semicolon)?;
+    Ok(())
+}
+
+/// The length's member, and the array's: the length's name stands in its first brackets.
+fn sequence(out: &mut Printer, name: &str, element: &FieldType) -> Result<(), AllocError>
+    ensures { OnOk result (Prints out.old out.new (member_toks_of (name.now, Dyn element.now Auto))) }
+{
+    length_type(out)?;
+    out.length_word(name)?;
+    out.mark(Mark::Semicolon)?;
+    kind(out, element)?;
+    out.word(name)?;
+    out.mark(Mark::OpenBracket)?;
+    out.length_word(name)?;
+    out.mark(Mark::CloseBracket)?;
+    lengths(out, element)?;
+    out.mark(Mark::Semicolon)?;
+    Ok(())
+}
+
+/// The lengths of the static arrays, the outermost first.
+fn lengths(out: &mut Printer, field: &FieldType) -> Result<(), AllocError>
+    ensures { OnOk result (Prints out.old out.new (flat_map bracket_toks (map count_bracket (chain_of field.now).lengths))) }
+{
+    match field {
+        FieldType::Int(_) | FieldType::Enum(_) | FieldType::Str => Ok(()),
+        FieldType::Static(element, length) => {
+            count(out, *length)?;
+            lengths(out, element.field_type())
+        }
+    }
+}
+
+/// `[n]`.
+fn count(out: &mut Printer, n: u32) -> Result<(), AllocError>
+    ensures { OnOk result (Prints out.old out.new (bracket_toks (count_bracket n))) }
+{
+    out.mark(Mark::OpenBracket)?;
+    out.number(u64::from(n))?;
+    out.mark(Mark::CloseBracket)?;
+    Ok(())
+}
+
+/// The member of a feature, where that is on.
+pub(crate) fn feature(
+    out: &mut Printer,
+    name: &str,
+    feature: &Option<IntType>,
+) -> Result<(), AllocError>
+    ensures { OnOk result (Prints out.old out.new (flat_map member_toks_of (number_member name.now feature.now))) }
+{
+    match feature {
+        None => Ok(()),
+        Some(int) => number(out, name, int),
+    }
+}
+
+/// An integer member.
+pub(crate) fn number(out: &mut Printer, name: &str, int: &IntType) -> Result<(), AllocError>
+    ensures { OnOk result (Prints out.old out.new (flat_map member_toks_of (number_member name.now (Some int.now)))) }
+{
+    integer(out, int)?;
+    out.word(name)?;
+    out.mark(Mark::Semicolon)?;
+    Ok(())
+}
+
+/// The member of the trace's identifier, where the feature is on: an array of 16 such integers.
+pub(crate) fn identifier(out: &mut Printer, feature: &Option<IntType>) -> Result<(), AllocError>
+    ensures { OnOk result (Prints out.old out.new (flat_map member_toks_of (uuid_member feature.now))) }
+{
+    match feature {
+        None => Ok(()),
+        Some(int) => identifier_of(out, int),
+    }
+}
+
+fn identifier_of(out: &mut Printer, int: &IntType) -> Result<(), AllocError>
+    ensures { OnOk result (Prints out.old out.new (flat_map member_toks_of (uuid_member (Some int.now)))) }
+{
+    integer(out, int)?;
+    out.word("uuid")?;
+    count(out, 16)?;
+    out.mark(Mark::Semicolon)?;
+    Ok(())
+}

@@ -1,0 +1,76 @@
+//! The metadata text of a configuration.
+
+ghost use Rattle.std.specs.Prelude.{◌≡◌, ◌++◌, map, IfOk, OnOk, string_bytes};
+ghost use Rattle.std.specs.List.{flat_map};
+ghost use Rattle.ctf_types.specs.AllowedConfig.{IsConfig};
+ghost use Rattle.ctf_types.specs.MetadataOf.{metadata_of};
+ghost use Rattle.tsdl_grammar.specs.Denotes.{Denotes};
+ghost use Rattle.tsdl_grammar.specs.Spelling.{text_toks};
+ghost use Rattle.tsdl_writer.specs.BlockTrees.{clock_block, stream_blocks, event_blocks, all_event_blocks};
+ghost use Rattle.tsdl_writer.specs.Prints.{Prints};
+ghost use Rattle.tsdl_writer.specs.Written.{written};
+
+use crate::blocks::{clock, environment, event, stream, trace};
+use crate::held::config_is_held;
+use crate::printer::Printer;
+use ctf_types::{ClockType, Config, EventType, StreamType};
+use std::alloc::{AllocError, Global};
+
+/// The metadata text of a configuration (CTF 1.8.3, section 7): its trace block, the environment, clocks, streams and events, in the
+/// configuration's order, which is by name. The last line ends with a newline. The only refusal is want of memory.
+pub fn write_metadata(alloc: Global, config: &Config) -> Result<String, AllocError>
+    ensures text { IfOk result (λ t. string_bytes t ≡ written config.now) }
+    ensures denotes { IsConfig config.now → IfOk result (λ t. Denotes (string_bytes t) (metadata_of config.now)) }
+{
+    config_is_held(config);
+    let mut out = Printer::new(alloc)?;
+    trace(&mut out, config)?;
+    environment(&mut out, config.environment.as_slice())?;
+    clocks(&mut out, config.clocks.as_slice())?;
+    streams(&mut out, config.streams.as_slice())?;
+    all_events(&mut out, config.streams.as_slice())?;
+    let text = out.finish()?;
+    Ok(text)
+}
+
+fn clocks(out: &mut Printer, clocks: &[ClockType]) -> Result<(), AllocError>
+    ensures { OnOk result (Prints out.old out.new (text_toks (map clock_block clocks.now))) }
+{
+    for one in clocks {
+        clock(out, one)?;
+    }
+    Ok(())
+}
+
+fn streams(out: &mut Printer, streams: &[StreamType]) -> Result<(), AllocError>
+    ensures { OnOk result (Prints out.old out.new (text_toks (stream_blocks 0 streams.now))) }
+{
+    let mut id = 0;
+    for one in streams {
+        stream(out, id, one)?;
+        id += 1;
+    }
+    Ok(())
+}
+
+fn all_events(out: &mut Printer, streams: &[StreamType]) -> Result<(), AllocError>
+    ensures { OnOk result (Prints out.old out.new (text_toks (all_event_blocks 0 streams.now))) }
+{
+    let mut id = 0;
+    for stream in streams {
+        events(out, id, stream.events.as_slice())?;
+        id += 1;
+    }
+    Ok(())
+}
+
+fn events(out: &mut Printer, stream_id: u64, events: &[EventType]) -> Result<(), AllocError>
+    ensures { OnOk result (Prints out.old out.new (text_toks (event_blocks stream_id 0 events.now))) }
+{
+    let mut id = 0;
+    for one in events {
+        event(out, stream_id, id, one)?;
+        id += 1;
+    }
+    Ok(())
+}

@@ -1,0 +1,152 @@
+//! Structures of blocks, each under its name. One without members is left out.
+
+ghost use Rattle.std.specs.Prelude.{◌≡◌, ◌↔◌, ◌++◌, [], ◌∷◌, OnOk, IsTrue, codes};
+ghost use Rattle.std.specs.List.{flat_map};
+ghost use Rattle.ctf_types.specs.MetadataOf.{header_members, context_numbers, event_header_members};
+ghost use Rattle.tsdl_grammar.specs.declared.atom.Atom.TheVariants as atoms;
+ghost use Rattle.tsdl_grammar.specs.declared.token.Mark.TheVariants as marks;
+ghost use Rattle.tsdl_grammar.specs.Spelling.{item_toks};
+ghost use Rattle.tsdl_writer.specs.FieldTrees.{one_word, member_toks_of};
+ghost use Rattle.tsdl_writer.specs.BlockTrees.{two_words, scope_items, opening, closing};
+ghost use Rattle.tsdl_writer.specs.Prints.{Prints};
+
+use crate::members::{feature, identifier, members, number};
+use crate::printer::Printer;
+use ctf_types::{ContextFeatures, EventFeatures, HeaderFeatures, StreamType, StructType};
+use std::alloc::AllocError;
+use tsdl_grammar::Mark;
+
+/// A structure under a name of one word.
+pub(crate) fn structure(
+    out: &mut Printer,
+    name: &str,
+    structure: &StructType,
+) -> Result<(), AllocError>
+    ensures { OnOk result (Prints out.old out.new (flat_map item_toks (scope_items (one_word name.now) structure.now.members structure.now.min_align))) }
+{
+    if structure.members.is_empty() {
+        return Ok(());
+    }
+    open(out, name)?;
+    members(out, &structure.members)?;
+    close(out, structure.min_align)?;
+    Ok(())
+}
+
+/// The structure of all event records of a stream.
+pub(crate) fn event_context(out: &mut Printer, common: &StructType) -> Result<(), AllocError>
+    ensures { OnOk result (Prints out.old out.new (flat_map item_toks (scope_items (two_words (codes "event") (codes "context")) common.now.members common.now.min_align))) }
+{
+    if common.members.is_empty() {
+        return Ok(());
+    }
+    begin(out, "event")?;
+    structure(out, "context", common)?;
+    Ok(())
+}
+
+/// The packet header: a member for each feature that is on.
+pub(crate) fn header(out: &mut Printer, features: &HeaderFeatures) -> Result<(), AllocError>
+    ensures { OnOk result (Prints out.old out.new (flat_map item_toks (scope_items (two_words (codes "packet") (codes "header")) (header_members features.now) 8))) }
+{
+    if no_header(features) {
+        return Ok(());
+    }
+    begin(out, "packet")?;
+    open(out, "header")?;
+    feature(out, "magic", &features.magic)?;
+    identifier(out, &features.uuid)?;
+    feature(out, "stream_id", &features.stream_id)?;
+    close(out, 8)?;
+    Ok(())
+}
+
+fn no_header(features: &HeaderFeatures) -> bool
+    ensures { IsTrue result ↔ (header_members features.now ≡ []) }
+{
+    match (&features.magic, &features.uuid, &features.stream_id) {
+        (None, None, None) => true,
+        _ => false,
+    }
+}
+
+/// The packet context: the tracer's own members, and then the extra ones.
+pub(crate) fn context(out: &mut Printer, stream: &StreamType) -> Result<(), AllocError>
+    ensures { OnOk result (Prints out.old out.new (flat_map item_toks (scope_items (two_words (codes "packet") (codes "context")) (context_numbers stream.now.context ++ stream.now.extras.members) 8))) }
+{
+    begin(out, "packet")?;
+    open(out, "context")?;
+    context_numbers(out, &stream.context)?;
+    members(out, &stream.extras.members)?;
+    close(out, 8)?;
+    Ok(())
+}
+
+fn context_numbers(out: &mut Printer, features: &ContextFeatures) -> Result<(), AllocError>
+    ensures { OnOk result (Prints out.old out.new (flat_map member_toks_of (context_numbers features.now))) }
+{
+    number(out, "packet_size", &features.packet_size)?;
+    number(out, "content_size", &features.content_size)?;
+    feature(out, "timestamp_begin", &features.timestamp_begin)?;
+    feature(out, "timestamp_end", &features.timestamp_end)?;
+    feature(out, "events_discarded", &features.events_discarded)?;
+    feature(out, "packet_seq_num", &features.packet_seq_num)?;
+    Ok(())
+}
+
+/// The header of event records: a member for each feature that is on.
+pub(crate) fn event_header(out: &mut Printer, features: &EventFeatures) -> Result<(), AllocError>
+    ensures { OnOk result (Prints out.old out.new (flat_map item_toks (scope_items (two_words (codes "event") (codes "header")) (event_header_members features.now) 8))) }
+{
+    if no_event_header(features) {
+        return Ok(());
+    }
+    begin(out, "event")?;
+    open(out, "header")?;
+    feature(out, "id", &features.id)?;
+    feature(out, "timestamp", &features.timestamp)?;
+    close(out, 8)?;
+    Ok(())
+}
+
+fn no_event_header(features: &EventFeatures) -> bool
+    ensures { IsTrue result ↔ (event_header_members features.now ≡ []) }
+{
+    match (&features.id, &features.timestamp) {
+        (None, None) => true,
+        _ => false,
+    }
+}
+
+/// The first word of a name of two.
+fn begin(out: &mut Printer, word: &str) -> Result<(), AllocError>
+    ensures { OnOk result (Prints out.old out.new (atoms.Word word.now ∷ atoms.Mark marks.Dot ∷ [])) }
+{
+    out.word(word)?;
+    out.mark(Mark::Dot)?;
+    Ok(())
+}
+
+/// `name := struct {`.
+fn open(out: &mut Printer, name: &str) -> Result<(), AllocError>
+    ensures { OnOk result (Prints out.old out.new (opening name.now)) }
+{
+    out.word(name)?;
+    out.mark(Mark::Assign)?;
+    out.word("struct")?;
+    out.mark(Mark::OpenBrace)?;
+    Ok(())
+}
+
+/// `} align(n);`.
+fn close(out: &mut Printer, align: u32) -> Result<(), AllocError>
+    ensures { OnOk result (Prints out.old out.new (closing align)) }
+{
+    out.mark(Mark::CloseBrace)?;
+    out.word("align")?;
+    out.mark(Mark::OpenParenthesis)?;
+    out.number(u64::from(align))?;
+    out.mark(Mark::CloseParenthesis)?;
+    out.mark(Mark::Semicolon)?;
+    Ok(())
+}
