@@ -1,5 +1,5 @@
 -- The tokens of an allowed configuration's blocks can be written.
-use Rattle.std.proofs.Common.{◌≡◌, ℕ, suc, ◌+◌, ◌-◌, ◌<◌, ◌^◌, ℤ, pos, negsuc, ◌≤ℤ◌, SFits, w64, List, [], ◌∷◌, ◌++◌, map, length, Option, Some, None, refl, subst, ◌∙◌, arith, All}
+use Rattle.std.proofs.Common.{◌≡◌, ℕ, ◌+◌, ◌-◌, ◌<◌, ◌^◌, ℤ, pos, negsuc, ◌≤ℤ◌, SFits, w64, List, [], ◌∷◌, ◌++◌, map, length, Option, Some, None, refl, subst, ◌∙◌, arith, All}
 use Rattle.std.specs.Prelude.{codes}
 use Rattle.std.specs.List.{flat_map, AllByRecursion}
 use Rattle.std.proofs.lemmas.Int.{ints}
@@ -24,9 +24,9 @@ use Rattle.ctf_types.proofs.AllowedMembers.{metadata_name_of_plain, struct_is_al
 use Rattle.ctf_types.proofs.AllowedMetadata.{struct_with-members, metadata_is_allowed}
 use Rattle.tsdl_grammar.specs.declared.token.Mark.TheVariants as marks
 use Rattle.tsdl_grammar.specs.declared.tree.Name.{Name}
-use Rattle.tsdl_grammar.specs.Spelling.{name_toks, attr_toks, item_toks, fact_toks, named_fact_toks, block_and_semicolon, text_toks}
+use Rattle.tsdl_grammar.specs.Spelling.{name_toks, item_toks, fact_toks, named_fact_toks, block_and_semicolon, text_toks}
 use Rattle.tsdl_writer.specs.FieldTrees.{one_word, flag_word}
-use Rattle.tsdl_writer.specs.BlockTrees.{natural_item, whole_item, word_item, text_item, optional_items, uuid_item, scope_items, two_words, order_word, trace_items, trace_block, clock_numbers, fact_tree, named_fact_tree, environment_blocks, clock_items, clock_block, stream_items, event_items, stream_block, event_block, stream_blocks, event_blocks, all_event_blocks, blocks_of}
+use Rattle.tsdl_writer.specs.BlockTrees.{natural_item, word_item, text_item, optional_items, uuid_item, scope_items, two_words, order_word, trace_block, clock_numbers, fact_tree, named_fact_tree, environment_blocks, clock_block, stream_block, event_block, stream_blocks, event_blocks, all_event_blocks, blocks_of}
 use Rattle.tsdl_writer.specs.Held.{IsHeldClock, IsHeldValue, IsHeld}
 use Rattle.tsdl_writer.proofs.Writable.{Can, nothing, mark, word, keyword, number, string, both, ended, in_braces, joined, whole, natural_value, word_value, text_value}
 use Rattle.tsdl_writer.proofs.FieldMeanings.{Members}

@@ -1,10 +1,9 @@
 -- What is laid out spells its tokens again, whatever they are, where each of them can be written.
 use Rattle.std.proofs.Common.{◌≡◌, ℕ, true, false, eqb, List, [], ◌∷◌, ◌++◌, get_or, arith, refl, ap, ◌∙◌}
 use Rattle.std.specs.Prelude.{not, ◌||◌, codes}
-use Rattle.std.specs.List.{list_all, list_any, prefix_len, AllByRecursion}
-use Rattle.std.specs.Str.{bytes_eq}
+use Rattle.std.specs.List.{list_all, prefix_len, AllByRecursion}
 use Rattle.std.proofs.lemmas.Bool.Decides.{nat_tests}
-use Rattle.ctf_types.specs.Names.{is_letter, is_digit, is_identifier, unused_keywords, IsMetadataName}
+use Rattle.ctf_types.specs.Names.{is_letter, is_digit, is_identifier}
 use Rattle.tsdl_grammar.specs.declared.token.Mark.{Mark}
 use Rattle.tsdl_grammar.specs.declared.token.Mark.TheVariants as marks
 use Rattle.tsdl_grammar.specs.declared.atom.Atom.{Atom}

@@ -4,7 +4,6 @@ use Rattle.std.specs.List.{flat_map, list_any}
 use Rattle.std.proofs.lemmas.Bool.{lt-ltb, cases_lt, cases_Bool}
 use Rattle.std.proofs.lemmas.Bool.Decides.{nat_tests}
 use Rattle.std.proofs.lemmas.List.{append-nil}
-use Rattle.std.proofs.lemmas.List.Concat.{flat_map-append}
 use Rattle.std.proofs.lemmas.List.Folds.{list_all-append}
 use Rattle.ctf_types.specs.declared.StreamType.{StreamType}
 use Rattle.ctf_types.specs.declared.EventType.{EventType}
@@ -17,7 +16,6 @@ use Rattle.tsdl_grammar.specs.Laws.{NumbersRise}
 use Rattle.tsdl_grammar.specs.Denotes as denotes
 use Rattle.tsdl_grammar.specs.Denotes.{with_events, have_streams}
 use Rattle.tsdl_grammar.proofs.Inversion.{bind_some}
-use Rattle.tsdl_writer.specs.BlockTrees.{numbered}
 
 -- ---- lists
 

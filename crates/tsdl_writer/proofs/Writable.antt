@@ -1,5 +1,5 @@
 -- Tokens that can be written as they are: words are identifiers that are read, and numbers are below 2^64.
-use Rattle.std.proofs.Common.{◌≡◌, ℕ, ℤ, pos, negsuc, suc, ◌-◌, ◌^◌, ◌<◌, ◌≤ℤ◌, true, false, List, [], ◌∷◌, ◌++◌, arith, refl, subst, sym}
+use Rattle.std.proofs.Common.{◌≡◌, ℕ, ℤ, pos, negsuc, suc, ◌-◌, ◌^◌, ◌<◌, ◌≤ℤ◌, true, false, List, [], ◌∷◌, ◌++◌, arith, subst, sym}
 use Rattle.std.specs.List.{flat_map, list_any, AllByRecursion}
 use Rattle.std.specs.Str.{bytes_eq}
 use Rattle.std.proofs.lemmas.Int.{ints}

@@ -1,7 +1,6 @@
-use Rattle.std.proofs.Common.{ℕ, ◌+◌, List, ap, drop, length, ◌≤◌, arith}
+use Rattle.std.proofs.Common.{◌+◌, ap, drop, length, ◌≤◌, arith}
 use Rattle.std.specs.List.{flat_map}
 use Rattle.std.proofs.lemmas.List.{drop_all}
-use Rattle.ctf_types.specs.declared.MemberType.{MemberType}
 use Rattle.tsdl_writer.specs.FieldTrees.{member_toks_of}
 use Rattle.tsdl_writer.proofs.Printing.{begun, one_more, all_printed, member_at}
 use Rattle.tsdl_writer.proofs.members.members.Goals as goal

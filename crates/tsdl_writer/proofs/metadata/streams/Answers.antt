@@ -1,4 +1,4 @@
-use Rattle.std.proofs.Common.{ℕ, ◌+◌, List, drop, refl, sym, ap, subst, ◌∙◌, arith}
+use Rattle.std.proofs.Common.{◌+◌, List, drop, refl, ap, arith}
 use Rattle.std.proofs.lemmas.List.{drop_all}
 use Rattle.ctf_types.specs.declared.StreamType.{StreamType}
 use Rattle.tsdl_grammar.specs.Spelling.{text_toks, block_and_semicolon}

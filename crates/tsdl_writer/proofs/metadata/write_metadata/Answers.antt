@@ -1,6 +1,4 @@
 use Rattle.std.proofs.Common.{◌≡◌, ℕ, List, [], ◌∷◌, ◌++◌, map, sym, subst}
-use Rattle.std.specs.Prelude.{string_bytes}
-use Rattle.std.specs.List.{AllByRecursion}
 use Rattle.std.proofs.lemmas.List.{append-nil}
 use Rattle.ctf_types.specs.declared.Config.{Config}
 use Rattle.ctf_types.specs.declared.ClockType.{ClockType}
@@ -12,7 +10,7 @@ use Rattle.tsdl_grammar.specs.Denotes.{Denotes}
 use Rattle.tsdl_grammar.specs.Spelling.{block_and_semicolon, text_toks}
 use Rattle.tsdl_writer.specs.declared.printer.Printer.{Printer}
 use Rattle.tsdl_writer.specs.BlockTrees.{trace_block, environment_blocks, clock_block, stream_blocks, all_event_blocks, blocks_of}
-use Rattle.tsdl_writer.specs.Prints.{IsString, Ends, Begins}
+use Rattle.tsdl_writer.specs.Prints.{Ends, Begins}
 use Rattle.tsdl_writer.specs.Written.{written}
 use Rattle.tsdl_writer.proofs.Printing.{regroup, pair}
 use Rattle.tsdl_writer.proofs.TextDenotes.{written_denotes}
