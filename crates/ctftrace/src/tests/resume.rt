@@ -318,23 +318,27 @@ fn packets_of_300<X: AllocGlobal>(rt: &X) -> Result<Vec<u8>, Fail> {
     Ok(bytes)
 }
 
-/// Parts of a script: the readings and the events of each run.
-static PARTS: &[(&str, &str)] = &[
+/// Parts of a script: the readings and the events of each run, and what follows the folder in the words.
+static PARTS: &[(&str, &str, &[&str])] = &[
     (
         "10,200,300,301",
         r#"{"open":"t0"},{"trace":"t0","event":"a","payload":[-2]},{"trace":"t0","event":"a","payload":[2]},{"close":"t0"},{"collect":"t0"},{"collect":"t0"}"#,
+        &[],
     ),
     (
         "400,900,901",
         r#"{"trace":"t0","event":"a","payload":[3]},{"trace":"t0","event":"b","payload":["ok"]},{"close":"t0"},{"collect":"t0"},{"collect":"t0"}"#,
+        &["--resume"],
     ),
     (
         "901,902,903",
         r#"{"trace":"t0","event":"b","payload":[""]},{"trace":"t0","event":"b","payload":["a text that no packet of this length has room for, not one"]},{"close":"t0"},{"collect":"t0"}"#,
+        &["--resume"],
     ),
     (
         "1000,1001",
         r#"{"open":"t0"},{"close":"t0"},{"collect":"t0"},{"collect":"t0"}"#,
+        &["--resume"],
     ),
 ];
 
@@ -343,20 +347,7 @@ static PARTS: &[(&str, &str)] = &[
 fn reads_like_one_trace(rt: HostRuntime) -> Result<(), Fail> {
     for config in [CLOCKED, BYTE] {
         fs::write(&rt, "conf.json", config)?;
-        let mut clock = String::new(rt.alloc());
-        let mut events = String::new(rt.alloc());
-        let mut first = true;
-        for (readings, part) in PARTS {
-            if !first {
-                clock.push(',')?;
-                events.push(',')?;
-            }
-            clock.push_str(readings)?;
-            events.push_str(part)?;
-            let more: &[&str] = if first { &[] } else { &["--resume"] };
-            traces(&rt, readings, part, "parts", more)?;
-            first = false;
-        }
+        let (clock, events) = traces_parts(&rt)?;
         traces(&rt, clock.as_str(), events.as_str(), "whole", &[])?;
         let parts = fs::read(&rt, "parts/t0")?;
         let whole = fs::read(&rt, "whole/t0")?;
@@ -371,6 +362,24 @@ fn reads_like_one_trace(rt: HostRuntime) -> Result<(), Fail> {
         fs::remove_dir_all(&rt, "whole")?;
     }
     Ok(())
+}
+
+/// Traces the parts into one folder, one behind the other, and gives the readings and the events of all.
+fn traces_parts<X: Files + Clock + Eprint + AllocGlobal + Clone + Drop + Abort + Threads + Wait>(
+    rt: &X,
+) -> Result<(String, String), Fail> {
+    let mut clock = String::new(rt.alloc());
+    let mut events = String::new(rt.alloc());
+    for (readings, part, more) in PARTS {
+        if !clock.is_empty() {
+            clock.push(',')?;
+            events.push(',')?;
+        }
+        clock.push_str(readings)?;
+        events.push_str(part)?;
+        traces(rt, readings, part, "parts", more)?;
+    }
+    Ok((clock, events))
 }
 
 /// Traces these events by these readings into the folder.
