@@ -2,7 +2,6 @@
 
 mod ended_threads;
 mod refusals;
-mod resumed_worker;
 mod telling;
 mod thread_gates;
 mod thread_steps;
