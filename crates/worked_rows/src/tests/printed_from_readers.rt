@@ -1,13 +1,19 @@
 //! Traces that are printed while they are read: the text is that of the trace that was read, and a reader that fails on the way leaves a front of it.
 
+ghost use Rattle.std.specs.Prelude.{IfOk};
+ghost use Rattle.ctf_types.specs.Allowed.{IsMetadata};
+
 use crate::tests::failing_readers::Failing;
 use crate::tests::printed_traces::{Row, TRACES, trace_of};
+use ctf_types::Metadata;
 use packet_reader::ReadStop;
 use std::alloc::Global;
 use std::test::Fail;
 use trace_platform::StoppingWriter;
 use trace_text::{PrintedFile, ReadingFault, print_trace, print_trace_from};
-use worked_fixtures::{CLOCKED, bytes_of};
+use tsdl_reader::read_metadata;
+use tsdl_writer::write_metadata;
+use worked_fixtures::{CLOCKED, Changes, bytes_of, changed, configured};
 
 /// Two files of two packets each, whose records are told in turns.
 static IN_TURNS: Row = (
@@ -39,7 +45,7 @@ fn printed(
     room: usize,
 ) -> Result<Printed, Fail> {
     let (text, changes, files, _) = row;
-    let trace = trace_of(alloc, text, changes, files)?;
+    let metadata = known(alloc, text, changes)?;
     let mut streams = Vec::new(alloc);
     for line in files.trim_start().lines() {
         let (name, digits) = line.split_once(": ").ok_or("a line without a file")?;
@@ -55,9 +61,19 @@ fn printed(
         streams.push((String::from_str(alloc, name)?, input))?;
     }
     let mut writer = StoppingWriter::new(alloc, room, 7);
-    let answer = print_trace_from(alloc, &trace.metadata, streams, &mut writer);
+    let answer = print_trace_from(alloc, &metadata, streams, &mut writer);
     let said = String::from_str(alloc, std::str::from_utf8(&writer.bytes)?)?;
     Ok((said, answer))
+}
+
+/// The metadata that a reader finds in the text of a row's configuration.
+fn known(alloc: Global, text: &str, changes: Changes) -> Result<Metadata, Fail>
+    ensures { IfOk result (λ m. IsMetadata m) }
+{
+    let text = changed(alloc, text, changes)?;
+    let config = configured(alloc, text.as_str(), None)?;
+    let text = write_metadata(alloc, &config)?;
+    Ok(read_metadata(alloc, text.as_bytes())?)
 }
 
 #[test]
