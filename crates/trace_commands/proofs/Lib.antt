@@ -1,15 +1,10 @@
 pub mod BegunLaws
 pub mod CheckingLaws
-pub mod CommandLineLaws
-pub mod FirstPathLaws
 pub mod FolderLaws
-pub mod LineLemmas
 pub mod ReadingLaws
 pub mod ResumingLaws
 pub mod ScriptsRun
 pub mod SessionLaws
-pub mod SmallConfigurationLaws
-pub mod SmallPacketLaws
 pub mod TellingLaws
 pub mod TracingLaws
 pub mod WorkerLaws

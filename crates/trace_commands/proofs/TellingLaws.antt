@@ -4,7 +4,7 @@ use Rattle.std.specs.Io.KnownBytes.{Appends}
 use Rattle.std.proofs.KnownBytes.{Appends-nil, Appends-trans}
 use Rattle.std.proofs.lemmas.List.{take_all}
 use Rattle.trace_platform.specs.Fronts.{AppendsFront}
-use Rattle.trace_commands.specs.FirstPath.{IsAnswer, Answers}
+use Rattle.number_packets.specs.FirstPath.{IsAnswer, Answers}
 use Rattle.trace_commands.specs.declared.answer.Answer.{Answer}
 use Rattle.trace_commands.specs.Telling.{Answering, Tells, Told, ToldOrFails, SaysFailure, SaysMore}
 

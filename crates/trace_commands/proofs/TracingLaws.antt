@@ -3,10 +3,10 @@ use Rattle.std.proofs.Common.{◌≡◌, ℕ, zero, suc, ◌+◌, List, [], ◌�
 use Rattle.std.proofs.lemmas.Option.{same_Some}
 use Rattle.std.specs.Prelude.{slice_get}
 use Rattle.trace_stack.specs.declared.answer.Answer.{Answer}
-use Rattle.trace_commands.specs.declared.commands.Command.{Command}
-use Rattle.trace_commands.specs.declared.commands.Command.TheVariants.{FirstPath, Check, Metadata, Trace, Read}
+use Rattle.command_words.specs.declared.commands.Command.{Command}
+use Rattle.command_words.specs.declared.commands.Command.TheVariants.{FirstPath, Check, Metadata, Trace, Read}
 use Rattle.trace_commands.specs.AnswerLines.{answer_line, answer_lines}
-use Rattle.trace_commands.specs.CommandLine.{Asks, AsksBy}
+use Rattle.command_words.specs.CommandLine.{Asks, AsksBy}
 use Rattle.trace_commands.specs.Running.{HasSizes}
 
 -- one line more

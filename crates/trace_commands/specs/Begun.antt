@@ -9,7 +9,7 @@ use Rattle.trace_stack.specs.Adding.{known_fault}
 use Rattle.trace_stack.specs.Points.{is_other, type_number}
 use Rattle.trace_text.specs.declared.script.Script.{Script}
 use Rattle.trace_text.specs.declared.script.ScriptStream.{ScriptStream}
-use Rattle.trace_commands.specs.declared.quota.Quota.{Quota}
+use Rattle.command_words.specs.declared.quota.Quota.{Quota}
 
 -- a stream, and the point behind the packets of its file, if one is there
 abbrev pub Begun : Type 0

@@ -1,10 +1,10 @@
 -- What the program does for the words of its command line, by what the readers had to give and what the writers took.
 use Rattle.std.specs.Prelude.{◌≡◌, ◌⊎◌, ℕ, List, Option, Some}
-use Rattle.trace_commands.specs.declared.commands.Command.{Command}
-use Rattle.trace_commands.specs.declared.commands.Command.TheVariants.{FirstPath, Check, Metadata, Trace, Read}
-use Rattle.trace_commands.specs.CommandLine.{Asks, HasNoCommand}
-use Rattle.trace_commands.specs.LineFaults.{IsFaultOfWords}
-use Rattle.trace_commands.specs.FirstPath.{IsAnswer}
+use Rattle.command_words.specs.declared.commands.Command.{Command}
+use Rattle.command_words.specs.declared.commands.Command.TheVariants.{FirstPath, Check, Metadata, Trace, Read}
+use Rattle.command_words.specs.CommandLine.{Asks, HasNoCommand}
+use Rattle.command_words.specs.LineFaults.{IsFaultOfWords}
+use Rattle.number_packets.specs.FirstPath.{IsAnswer}
 use Rattle.trace_commands.specs.Checking.{IsChecked, IsMetadata}
 use Rattle.trace_commands.specs.ListSessions.{AreSizes}
 use Rattle.trace_commands.specs.Reading.{ReadsFolder}

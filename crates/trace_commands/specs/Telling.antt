@@ -5,8 +5,8 @@ use Rattle.trace_platform.specs.Fronts.{AppendsFront}
 use Rattle.trace_commands.specs.declared.answer.Answer.{Answer}
 use Rattle.trace_commands.specs.declared.failure.Failure.{Failure}
 use Rattle.trace_commands.specs.declared.failure.Failure.TheVariants.{File as FileFailed, OutOfMemory as NoMemory}
-use Rattle.trace_commands.specs.declared.line_fault.LineFault.{LineFault}
-use Rattle.trace_commands.specs.declared.line_fault.LineFault.TheVariants.{Help, Bad, OutOfMemory}
+use Rattle.command_words.specs.declared.line_fault.LineFault.{LineFault}
+use Rattle.command_words.specs.declared.line_fault.LineFault.TheVariants.{Help, Bad, OutOfMemory}
 use Rattle.trace_commands.specs.Shown.{IsFaultLine}
 
 -- what may be answered, by its output, its errors and its status

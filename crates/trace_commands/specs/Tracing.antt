@@ -32,10 +32,10 @@ use Rattle.trace_text.specs.Script.{IsScriptOf}
 use Rattle.trace_text.specs.ScriptFaults.{IsFirstFault}
 use Rattle.tsdl_grammar.specs.Denotes.{Denotes}
 use Rattle.tsdl_writer.specs.Written.{written}
-use Rattle.trace_commands.specs.declared.commands.Resuming.{Resuming}
-use Rattle.trace_commands.specs.declared.commands.Resuming.TheVariants.{Anew, Behind}
-use Rattle.trace_commands.specs.declared.commands.TraceCommand.{TraceCommand}
-use Rattle.trace_commands.specs.declared.quota.Quota.{Quota}
+use Rattle.command_words.specs.declared.commands.Resuming.{Resuming}
+use Rattle.command_words.specs.declared.commands.Resuming.TheVariants.{Anew, Behind}
+use Rattle.command_words.specs.declared.commands.TraceCommand.{TraceCommand}
+use Rattle.command_words.specs.declared.quota.Quota.{Quota}
 use Rattle.trace_commands.specs.declared.recording.NotRecorded.{NotRecorded}
 use Rattle.trace_commands.specs.declared.recording.NotRecorded.TheVariants.{Stream, OutOfMemory}
 use Rattle.trace_commands.specs.declared.recording.Sizes.{Sizes}

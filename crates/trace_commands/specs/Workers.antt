@@ -15,7 +15,7 @@ use Rattle.trace_stack.specs.declared.event.Act.TheVariants.{Trace, OpenPacket, 
 use Rattle.trace_stack.specs.declared.event.Event.{Event}
 use Rattle.trace_stack.specs.declared.worker.Worker.{Worker}
 use Rattle.trace_text.specs.declared.script.ScriptStream.{ScriptStream}
-use Rattle.trace_commands.specs.declared.quota.Quota.{Quota}
+use Rattle.command_words.specs.declared.quota.Quota.{Quota}
 use Rattle.trace_commands.specs.declared.recording.Sizes.{Sizes}
 use Rattle.trace_commands.specs.declared.shared_clock.SharedClock.{SharedClock}
 use Rattle.trace_commands.specs.AnswerLines.{answer_line}

@@ -5,7 +5,7 @@ ghost use Rattle.trace_commands.specs.Telling.{IsFileLine, SaysLine, SaysMore, W
 
 use crate::answer::{OUT_OF_MEMORY, fail};
 use crate::fault_lines::fault_line;
-use crate::read_all::{InputFault, read_all};
+use number_packets::{InputFault, read_all};
 use std::alloc::Global;
 use std::fs;
 use std::io::{ErrorKind, Write};

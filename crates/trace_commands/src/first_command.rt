@@ -1,11 +1,11 @@
 //! The program without words: the first path, and a line where it fails.
 
 ghost use Rattle.std.specs.Prelude.{◌≡◌, ℕ, List, Some};
-ghost use Rattle.trace_commands.specs.FirstPath.{IsAnswer};
+ghost use Rattle.number_packets.specs.FirstPath.{IsAnswer};
 ghost use Rattle.trace_commands.specs.Telling.{ToldOrFails};
 
 use crate::answer::{FAILED, fail};
-use crate::first_path::first_path;
+use number_packets::first_path;
 use std::alloc::Global;
 use std::io::{Read, Write};
 

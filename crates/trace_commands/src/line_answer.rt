@@ -3,7 +3,7 @@
 ghost use Rattle.trace_commands.specs.Telling.{TellsLineFault};
 
 use crate::answer::{Answer, OUT_OF_MEMORY, fail, tell};
-use crate::line_fault::LineFault;
+use command_words::LineFault;
 use std::alloc::Global;
 use std::io::Write;
 

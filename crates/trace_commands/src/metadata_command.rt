@@ -5,9 +5,9 @@ ghost use Rattle.trace_commands.specs.Checking.{IsMetadata};
 ghost use Rattle.trace_commands.specs.Telling.{AnswersFile};
 
 use crate::answer::{Answer, OUT_OF_MEMORY, fail, tell};
-use crate::commands::MetadataCommand;
 use crate::fault_lines::configuration_line;
 use crate::files::{fail_at, read_file};
+use command_words::MetadataCommand;
 use conf_check::configure;
 use std::alloc::{AllocError, Global};
 use std::io::Write;

@@ -4,14 +4,13 @@ ghost use Rattle.std.specs.Prelude.{map};
 ghost use Rattle.trace_commands.specs.Running.{Does, HasSizes, Runs};
 
 use crate::check_command::check;
-use crate::command_line::command;
-use crate::commands::Command as Wanted;
 use crate::first_command::trace_numbers;
 use crate::line_answer::tell_line_fault;
 use crate::metadata_command::metadata;
 use crate::progress::Progress;
 use crate::read_command::read;
 use crate::trace_command::trace;
+use command_words::{Command as Wanted, command};
 use std::io::{Read, Write};
 use std::rt::Files;
 use std::sync::Wait;

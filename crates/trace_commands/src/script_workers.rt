@@ -7,9 +7,9 @@ ghost use Rattle.trace_commands.specs.ListSessions.{AreSizes};
 ghost use Rattle.trace_commands.specs.Workers.{AreWorkers, IsWorkerOf, acts_of as acts_of_stream, is_of_stream as is_of_stream_of};
 
 use crate::points::point_at;
-use crate::quota::Quota;
 use crate::recording::Sizes;
 use crate::shared_clock::seat_for;
+use command_words::Quota;
 use packet_reader::ResumePoint;
 use packet_ring::ring;
 use plain_lists::Duplicate;

@@ -6,7 +6,7 @@ ghost use Rattle.trace_commands.specs.Begun.{HasRoom};
 ghost use Rattle.trace_commands.specs.Tracing.{AreFree};
 ghost use Rattle.trace_commands.specs.Workers.{HasClock, IsSharedBy};
 
-use crate::quota::Quota;
+use command_words::Quota;
 use std::alloc::{AllocError, Global};
 use trace_clock::{ClockFault, TickClock, TickSeat};
 use trace_text::Script;

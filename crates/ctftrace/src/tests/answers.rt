@@ -1,7 +1,7 @@
 //! The rows of the first path.
 
 use std::test::Fail;
-use trace_commands::first_path::first_path;
+use number_packets::first_path;
 
 /// Input, output, errors and status.
 const ROWS: [(&str, &str, &str, u8); 4] = [

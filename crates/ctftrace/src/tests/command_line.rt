@@ -1,7 +1,7 @@
 //! The parts of commands, defaults filled in.
 
 use std::test::Fail;
-use trace_commands::command;
+use command_words::command;
 
 /// Words, and the command that they ask for.
 static ROWS: &[(&[&str], &str)] = &[

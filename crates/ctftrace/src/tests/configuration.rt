@@ -2,7 +2,7 @@
 
 use conf_check::configure;
 use std::test::Fail;
-use trace_commands::small_config;
+use number_packets::small_config;
 use tsdl_writer::write_metadata;
 
 /// One stream type `s` with one event record type `e`, whose payload is the number `v` of 8 bits.

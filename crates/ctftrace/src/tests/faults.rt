@@ -2,7 +2,7 @@
 
 use std::io::{Error, ErrorKind, Read, Result as IoResult, Write};
 use std::test::Fail;
-use trace_commands::first_path::first_path;
+use number_packets::first_path;
 
 /// The answer to the lines `1` and `2`.
 const OUTPUT: &str = "c11ffcc1800000007000000001020000\nread: 1 2\n";

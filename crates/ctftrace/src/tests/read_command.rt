@@ -8,7 +8,7 @@ use std::rt::{Clock, Files};
 use std::sync::Wait;
 use std::test::Fail;
 use std::thread::Threads;
-use trace_commands::small_config;
+use number_packets::small_config;
 use trace_platform::StoppingWriter;
 use tsdl_writer::write_metadata;
 

@@ -3,8 +3,8 @@
 use std::alloc::Global;
 use std::process::Abort;
 use std::test::Fail;
-use trace_commands::first_path::read_bytes;
-use trace_commands::{small_config, trace_packet};
+use number_packets::read_bytes;
+use number_packets::{small_config, trace_packet};
 
 /// What the row shows, the file in hexadecimal, how many records each packet has, and how the file ends.
 const ROWS: [(&str, &str, &str, &str); 7] = [

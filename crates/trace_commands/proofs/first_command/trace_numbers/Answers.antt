@@ -1,5 +1,5 @@
 use Rattle.std.proofs.Common.{ℕ, subst, sym}
-use Rattle.trace_commands.specs.FirstPath.{IsAnswer}
+use Rattle.number_packets.specs.FirstPath.{IsAnswer}
 use Rattle.trace_commands.specs.Telling.{ToldOrFails}
 use Rattle.trace_commands.proofs.TellingLaws.{first_failed, first_told}
 use Rattle.trace_commands.proofs.first_command.trace_numbers.Goals as goal

@@ -1,0 +1,17 @@
+use Rattle.std.proofs.Common.{Bool, subst, codes}
+use Rattle.clap.specs.Words.{found_of, rows_of}
+use Rattle.command_words.specs.CommandLine.{HasFlag, HasResuming}
+use Rattle.command_words.proofs.CommandLineLaws.{handed_on, resuming_flag}
+use Rattle.command_words.proofs.command_line.resuming.Goals as goal
+
+pub returns-in_err-flag-clause-refused : goal.returns-in_err-flag-clause-refused
+returns-in_err-flag-clause-refused c =
+    let rows = rows_of (found_of c.args.found.now) in
+    handed_on c.from_residual.result c.in_err-flag.field-0.0 (HasFlag rows (codes "resume")) (HasResuming rows)
+    c.from_residual.ensures.1 c.in_err-flag.ensures.refused (resuming_flag rows)
+
+pub returns-then-branch-clause-has : goal.returns-then-branch-clause-has
+returns-then-branch-clause-has c = subst (λ (b : Bool). HasFlag (rows_of (found_of c.args.found.now)) (codes "resume") b) c.if-branch.true c.in_ok-flag.ensures.has
+
+pub returns-clause-has : goal.returns-clause-has
+returns-clause-has c = subst (λ (b : Bool). HasFlag (rows_of (found_of c.args.found.now)) (codes "resume") b) c.if-branch.false c.in_ok-flag.ensures.has

@@ -1,0 +1,9 @@
+use Rattle.std.proofs.Common.{◌≡◌, inr, false, true}
+use Rattle.command_words.proofs.CommandLineLaws.{bad_uuid}
+use Rattle.command_words.proofs.word_values.identifier.Goals as goal
+
+pub returns-in-Err-clause-refused : goal.returns-in-Err-clause-refused
+returns-in-Err-clause-refused c = inr (λ u h. bad_uuid c.args.value c.in-Some.text u c.in-Some.is (λ v p. never (c.in-Err.ensures.ok.1 (v, p))) h)
+  where
+    never : false ≡ true → ⊥
+    never e = cc

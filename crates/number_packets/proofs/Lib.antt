@@ -1,0 +1,4 @@
+pub mod FirstPathLaws
+pub mod LineLemmas
+pub mod SmallConfigurationLaws
+pub mod SmallPacketLaws

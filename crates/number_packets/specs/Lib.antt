@@ -1,0 +1,4 @@
+pub mod FirstPath
+pub mod Lines
+pub mod Printed
+pub mod SmallConfiguration

@@ -1,6 +1,0 @@
-use Rattle.std.proofs.Common.{rules}
-use Rattle.trace_commands.proofs.SmallConfigurationLaws.{allowed_metadata}
-use Rattle.trace_commands.proofs.small_configuration.small_metadata.Goals as goal
-
-pub returns-clause-allowed : goal.returns-clause-allowed
-returns-clause-allowed c = allowed_metadata _ (search rules)
