@@ -40,7 +40,7 @@ blocked_member p k d ms s (inl e) f g = let (m, x, h) = f e in (m, inl x, h)
 blocked_member p k d ms s (inr e) f g = let (m, x, h) = g e in (m, inr x, h)
 
 mutual
-  blocked : (p : List ℕ → Bool) (v : Data) (s : Spot) → all_named p s v ≡ false → Blocks p s v
+  pub blocked : (p : List ℕ → Bool) (v : Data) (s : Spot) → all_named p s v ≡ false → Blocks p s v
   blocked p null s h = absurd (true≢false h)
   blocked p (boolean b) s h = absurd (true≢false h)
   blocked p (number n) s h = absurd (true≢false h)

@@ -35,7 +35,7 @@ module _ (done more : Members) (kept : (n : List ℕ) → has done n ≡ true �
       go false a false b = rw (a, b) refl
 
   mutual
-    kept_lay : (v : Data) (s : Spot) (base : Option Data) → IsNamed s v → lay more s v base ≡ lay done s v base
+    pub kept_lay : (v : Data) (s : Spot) (base : Option Data) → IsNamed s v → lay more s v base ≡ lay done s v base
     kept_lay null s base h = refl
     kept_lay (boolean b) s base h = refl
     kept_lay (number n) s base h = refl
@@ -134,7 +134,7 @@ module _ (done more : Members) (kept : (n : List ℕ) → has done n ≡ true �
 
   module _ (al : Members) where
     mutual
-      kept_inner : (v : Data) (s : Spot) (seen : Members) → IsNamed s v → inner_flaws al (Some more) s seen v ≡ inner_flaws al (Some done) s seen v
+      pub kept_inner : (v : Data) (s : Spot) (seen : Members) → IsNamed s v → inner_flaws al (Some more) s seen v ≡ inner_flaws al (Some done) s seen v
       kept_inner null s seen h = refl
       kept_inner (boolean b) s seen h = refl
       kept_inner (number n) s seen h = refl

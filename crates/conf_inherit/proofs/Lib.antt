@@ -12,6 +12,7 @@ pub mod ReadyLemmas
 pub mod NamedLemmas
 pub mod KeptLemmas
 pub mod FaultLemmas
+pub mod NestingLemmas
 pub mod LimitLemmas
 pub mod RoundLemmas
 pub mod PlaceLemmas
@@ -20,4 +21,5 @@ pub mod ResolveLemmas
 pub mod CircleLemmas
 pub mod WalkLemmas
 pub mod RefusalLemmas
+pub mod TurnLemmas
 pub mod WorkedRows

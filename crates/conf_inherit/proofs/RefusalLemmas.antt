@@ -9,7 +9,7 @@ use Rattle.conf_tree.specs.Flaw.{Flaw, key, index, here, within}
 use Rattle.conf_tree.specs.Reading.{◌>>=◌}
 use Rattle.conf_tree.specs.Walk.{HasMember, refusal}
 use Rattle.conf_tree.specs.declared.fault_kind.FaultKind.{FaultKind}
-use Rattle.conf_tree.specs.declared.fault_kind.FaultKind.TheVariants.{InheritCycle, Limit, TooDeep}
+use Rattle.conf_tree.specs.declared.fault_kind.FaultKind.TheVariants.{InheritCycle, Limit}
 use Rattle.conf_inherit.specs.declared.spot.Spot.{Spot}
 use Rattle.conf_inherit.specs.declared.spot.Spot.TheVariants.{Root, Trace, TraceType, Aliases, FieldType}
 use Rattle.conf_inherit.specs.Spot.{spot_under, spot_in_trace_type, spot_of_items, names_alias, names_member_type, is_base_name, lists_extra_members, leads_on}
@@ -23,8 +23,9 @@ use Rattle.conf_inherit.specs.Ready.{Names}
 use Rattle.conf_inherit.specs.Places.{too_many, place_flaws, inner_places, item_places, member_places, max_extra_members}
 use Rattle.conf_inherit.specs.Laying.{lay}
 use Rattle.conf_inherit.specs.Names.{NoClash}
-use Rattle.conf_inherit.specs.Resolution.{members_or_none, trace_name, type_name, aliases_name, max_aliases, aliases_of, in_aliases, from_aliases, if_shallow, few_aliases, resolution_under, resolution, Resolves}
-use Rattle.conf_inherit.specs.Nesting.{nests}
+use Rattle.conf_inherit.specs.Resolution.{members_or_none, trace_name, type_name, aliases_name, aliases_of, in_aliases, from_aliases, if_shallow, resolution, Resolves}
+use Rattle.conf_inherit.specs.Nesting.{deep_flaws, PassesDepth}
+use Rattle.conf_inherit.proofs.NestingLemmas.{deep_holds}
 use Rattle.conf_inherit.proofs.PlaceLemmas.{place_of_type, place_of_member, place_of_list, place_of_other}
 use Rattle.conf_inherit.proofs.ResolveLemmas.{laid_resolves, resolution_sound}
 use Rattle.conf_inherit.proofs.RoundLemmas.{rounds_resolved}
@@ -148,7 +149,7 @@ module _ (al : Members) where
         only g (inr x) = absurd x
 
         go : (t : Bool) → nat_lt max_extra_members (items_len es) ≡ t → FlawHolds al s (array es) f
-        go true e = along s (array es) f (here Limit) (only (here Limit) (rw e at h)) (inl (s, array es, (refl, refl), inl (inl (es, refl, is, past e))))
+        go true e = along s (array es) f (here Limit) (only (here Limit) (rw e at h)) (inl (s, array es, (refl, refl), inl (es, refl, is, past e)))
         go false e = absurd (rw e at h)
     many_here s (object ms) f is h = absurd h
     many_here s null f is h = absurd h
@@ -265,36 +266,8 @@ err_then (Err g) k f h = inl (let e : g ≡ f = cc in ap (λ x. Err x) e)
 no_err : (x : Data) (f : Flaw) → (let o : Result Data Flaw = Ok x in o ≡ Err f) → ⊥
 no_err x f h = cc
 
-one_err : (f : Flaw) → (let o : Result Data Flaw = Err (here TooDeep) in o ≡ Err f) → f ≡ here TooDeep
-one_err f h = cc
-
-err_shallow : (x : Data) (f : Flaw) → if_shallow x ≡ Err f → (f ≡ here TooDeep) × (nests x 32 ≡ false)
-err_shallow x f h = go (nests x 32) refl
-  where
-    go : (t : Bool) → nests x 32 ≡ t → (f ≡ here TooDeep) × (nests x 32 ≡ false)
-    go true is = absurd (no_err x f (rw is at h))
-    go false is = (one_err f (rw is at h), is)
-
--- ---- too many aliases
-
-one_number : (f : Flaw) → (let o : Result ⊤ Flaw = Err (in_aliases (here Limit)) in o ≡ Err f) → f ≡ in_aliases (here Limit)
-one_number f h = cc
-
-no_number : (f : Flaw) → (let o : Result ⊤ Flaw = Ok tt in o ≡ Err f) → ⊥
-no_number f h = cc
-
--- the refusal of too many aliases holds at the object that holds them
-pub number_holds : (t : Data) (f : Flaw) → few_aliases (aliases_of t) ≡ Err f → RefusalHolds t f
-number_holds t f h = go (nat_lt max_aliases (members_len (aliases_of t))) refl
-  where
-    lifted : max_aliases < members_len (aliases_of t) → FlawHolds (aliases_of t) Root t (in_aliases (here Limit))
-    lifted past =
-        lift_aliases (aliases_of t) t (here Limit) (get trace_name t) (option_and_then (get type_name) (get trace_name t)) (option_and_then (get aliases_name) (option_and_then (get type_name) (get trace_name t))) refl refl refl (aliases_of t) refl
-        (inl (inl (Aliases, object (aliases_of t), (refl, refl), inl (inr (aliases_of t, refl, refl, past))))) (λ none. let bad : max_aliases < members_len no_members = subst (λ x. max_aliases < members_len x) none past in omega (arith, bad))
-
-    go : (b : Bool) → nat_lt max_aliases (members_len (aliases_of t)) ≡ b → RefusalHolds t f
-    go true e = inl (subst (FlawHolds (aliases_of t) Root t) (sym (one_number f (rw e at h))) (lifted (ltb-true max_aliases (members_len (aliases_of t)) e)))
-    go false e = absurd (no_number f (rw e at h))
+err_shallow : (x : Data) (f : Flaw) → if_shallow x ≡ Err f → PassesDepth 32 x f
+err_shallow x f h = elim (err_then (refusal (deep_flaws x 32)) (λ a. Ok x) f h) [ inl e ↦ deep_holds x 32 f (refused_among (deep_flaws x 32) f e) | inr e ↦ absurd (no_err x f e.1) ]
 
 module _ (t : Data) (f : Flaw) (apart : NoClash (aliases_of t)) where
   abbrev al_of : Members
@@ -314,8 +287,7 @@ module _ (t : Data) (f : Flaw) (apart : NoClash (aliases_of t)) where
 
   laid_deep : refusal (all_alias_flaws al_of st_of al_of) ≡ Ok tt → refusal (flaws al_of None Root false no_members t) ≡ Ok tt → if_shallow (lay st_of.done Root t None) ≡ Err f → RefusalHolds t f
   laid_deep a b h =
-      let deep = err_shallow (lay st_of.done Root t None) f h in
-      inr (deep.0, (lay st_of.done Root t None, laid_resolves t al_of (members_len al_of) st_of refl apart refl a b, deep.1))
+      inr (lay st_of.done Root t None, laid_resolves t al_of (members_len al_of) st_of refl apart refl a b, err_shallow (lay st_of.done Root t None) f h)
 
   after_places : refusal (all_alias_flaws al_of st_of al_of) ≡ Ok tt → (refusal (flaws al_of None Root false no_members t) ≡ Err f) ⊎ ((refusal (flaws al_of None Root false no_members t) ≡ Ok tt) × (if_shallow (lay st_of.done Root t None) ≡ Err f)) → RefusalHolds t f
   after_places a (inl h) = inl (flaw_holds al_of None (no_bases al_of) Root t f (refused_among (flaws al_of None Root false no_members t) f h))
@@ -329,13 +301,9 @@ module _ (t : Data) (f : Flaw) (apart : NoClash (aliases_of t)) where
   from_first (inl (g, h, e)) = inl (subst (FlawHolds al_of Root t) (sym e) (alias_refused g h))
   from_first (inr (a, h)) = after_aliases a (err_then (refusal (inner_places al_of st_of.done Root t)) (λ b. refusal (flaws al_of None Root false no_members t) >>= (λ c. if_shallow (lay st_of.done Root t None))) f h)
 
-  from_number : (few_aliases al_of ≡ Err f) ⊎ ((few_aliases al_of ≡ Ok tt) × (resolution_under al_of t ≡ Err f)) → RefusalHolds t f
-  from_number (inl h) = number_holds t f h
-  from_number (inr (few, h)) = from_first (err_aliases (refusal (all_alias_flaws al_of st_of al_of)) (λ a. refusal (inner_places al_of st_of.done Root t) >>= (λ b. refusal (flaws al_of None Root false no_members t) >>= (λ c. if_shallow (lay st_of.done Root t None)))) f h)
-
   -- the kind of a refusal holds at its path
   pub refusal_holds : resolution t ≡ Err f → RefusalHolds t f
-  refusal_holds h = from_number (err_then (few_aliases al_of) (λ a. resolution_under al_of t) f h)
+  refusal_holds h = from_first (err_aliases (refusal (all_alias_flaws al_of st_of al_of)) (λ a. refusal (inner_places al_of st_of.done Root t) >>= (λ b. refusal (flaws al_of None Root false no_members t) >>= (λ c. if_shallow (lay st_of.done Root t None)))) f h)
 
 -- a configuration has a resolution, or a fault that holds
 pub resolved_or_refused : (t : Data) → NoClash (aliases_of t) → ((r : Data) × Resolves t r) ⊎ ((f : Flaw) × RefusalHolds t f)

@@ -1,6 +1,5 @@
 -- The parts of a resolution together.
-use Rattle.std.proofs.Common.{◌≡◌, ◌<◌, ◌≤◌, ℕ, zero, suc, max, List, [], ◌∷◌, Option, Some, None, option_and_then, Result, Ok, Err, String, Global, length, nat_lt, Bool, true, false, true≢false, Less, refl, sym, ap, ◌∙◌, subst, string_cmp, string_bytes, arith}
-use Rattle.std.proofs.lemmas.Bool.Decides.{nat_tests}
+use Rattle.std.proofs.Common.{◌≡◌, ◌<◌, ◌≤◌, ℕ, zero, suc, max, List, [], ◌∷◌, Option, Some, None, option_and_then, Result, Ok, Err, String, Global, true, false, true≢false, Less, refl, sym, ap, ◌∙◌, subst, string_cmp, string_bytes, arith}
 use Rattle.std.specs.List.{AllByRecursion}
 use Rattle.std.specs.List.Sorted.{IsStrictlySortedBy}
 use Rattle.std.specs.Map.{keys_of}
@@ -8,18 +7,17 @@ use Rattle.serde_json.specs.Data.{Data, null, boolean, number, string, array, ob
 use Rattle.serde_json.specs.Find.{get, get_member, as_object}
 use Rattle.serde_json.specs.View.{members_view}
 use Rattle.serde_json.specs.Written.{has_float, members_have_float}
-use Rattle.serde_json.proofs.Views.{Entry, members_len-members_view}
-use Rattle.conf_tree.specs.Flaw.{Flaw, here}
+use Rattle.serde_json.proofs.Views.{Entry}
+use Rattle.conf_tree.specs.Flaw.{Flaw}
 use Rattle.conf_tree.specs.Walk.{refusal}
-use Rattle.conf_tree.specs.declared.fault_kind.FaultKind.TheVariants.{Limit}
 use Rattle.conf_inherit.specs.declared.spot.Spot.TheVariants.{Root}
 use Rattle.conf_inherit.specs.AliasFlaws.{all_alias_flaws}
 use Rattle.conf_inherit.specs.Flaws.{flaws, own_flaws, inner_flaws}
 use Rattle.conf_inherit.specs.Laying.{lay}
 use Rattle.conf_inherit.specs.Looks.{Looks, AreResolved}
 use Rattle.conf_inherit.specs.Names.{AllAbove, NoClash}
-use Rattle.conf_inherit.specs.Nesting.{nests, items_nest, members_nest}
-use Rattle.conf_inherit.specs.Resolution.{members_or_none, trace_name, type_name, aliases_name, aliases_of, Resolves, in_aliases, from_aliases, if_shallow, few_aliases, resolution_after, resolution_under, resolution}
+use Rattle.conf_inherit.specs.Nesting.{nests, items_nest, members_nest, deep_flaws}
+use Rattle.conf_inherit.specs.Resolution.{members_or_none, trace_name, type_name, aliases_name, aliases_of, Resolves, from_aliases, if_shallow, resolution_after, resolution_under, resolution}
 use Rattle.std.specs.Prelude.{⊤}
 use Rattle.conf_tree.specs.Reading.{◌>>=◌}
 use Rattle.serde_json.specs.Events.{members_len}
@@ -31,6 +29,7 @@ use Rattle.conf_inherit.proofs.LayingLemmas.{Meets, same, other, meets, get_othe
 use Rattle.conf_inherit.proofs.LaysOver.{lays}
 use Rattle.conf_inherit.proofs.ListLemmas.{found_each}
 use Rattle.conf_inherit.proofs.NamedLemmas.{named}
+use Rattle.conf_inherit.proofs.NestingLemmas.{shallow_nests}
 use Rattle.conf_inherit.proofs.ReadyLemmas.{ready, front_empty, back_empty, and_left, and_right}
 use Rattle.conf_inherit.proofs.RoundLemmas.{HasRoot, rounds_resolved, rounds_root, all_done}
 use Rattle.conf_inherit.proofs.WholeNumbers.{IsWhole, looks_whole, member_whole}
@@ -90,7 +89,7 @@ member_below_at k l d e ms (same f) h later =
     subst (λ x. depth x ≤ members_depth (member l d ms)) one (let small : depth d ≤ max (depth d) (members_depth ms) = omega arith in small)
 member_below_at k l d e ms (other apart) h later = let rest : depth e ≤ members_depth ms = later (sym (get_other k l d ms apart) ∙ h) in omega arith
 
-member_below : (k : List ℕ) (e : Data) (ms : Members) → get_member k ms ≡ Some e → depth e ≤ members_depth ms
+pub member_below : (k : List ℕ) (e : Data) (ms : Members) → get_member k ms ≡ Some e → depth e ≤ members_depth ms
 member_below k e no_members h = cc
 member_below k e (member l d ms) h = member_below_at k l d e ms (meets k l) h (member_below k e ms)
 
@@ -171,20 +170,6 @@ members_missing (Some (number n)) h = refl
 members_missing (Some (string n)) h = refl
 members_missing (Some (array es)) h = refl
 
--- ---- how many aliases there are
-
-many : (n : ℕ) → 1024 < n → nat_lt 1024 n ≡ true
-many n h = grind (arith, nat_tests)
-
-few : (n : ℕ) → n ≤ 1024 → nat_lt 1024 n ≡ false
-few n h = grind (arith, nat_tests)
-
-pub aliases_past : (es : List Entry) → 1024 < length es → few_aliases (members_view es) ≡ Err (in_aliases (here Limit))
-aliases_past es h = rw (members_len-members_view es, many (length es) h) refl
-
-pub aliases_within : (es : List Entry) → length es ≤ 1024 → few_aliases (members_view es) ≡ Ok tt
-aliases_within es h = rw (members_len-members_view es, few (length es) h) refl
-
 -- ---- the answer
 
 ok_aliases : (a : Result ⊤ Flaw) (k : ⊤ → Result Data Flaw) (r : Data) → (from_aliases a >>= k) ≡ Ok r → (a ≡ Ok tt) × (k tt ≡ Ok r)
@@ -199,50 +184,29 @@ same_ok : (x r : Data) → (let o : Result Data Flaw = Ok x in o ≡ Ok r) → x
 same_ok x r h = cc
 
 ok_shallow : (x r : Data) → if_shallow x ≡ Ok r → (x ≡ r) × (nests r 32 ≡ true)
-ok_shallow x r h = go (nests x 32) refl
-  where
-    value : nests x 32 ≡ true → x ≡ r
-    value is = same_ok x r (rw is at h)
-
-    go : (t : Bool) → nests x 32 ≡ t → (x ≡ r) × (nests r 32 ≡ true)
-    go true is = (value is, ap (λ y. nests y 32) (sym (value is)) ∙ is)
-    go false is = let e = rw is at h in cc
-
--- where there is an answer, there are not too many aliases
-ok_few : (t r : Data) → resolution t ≡ Ok r → resolution_under (aliases_of t) t ≡ Ok r
-ok_few t r h = (ok_then (few_aliases (aliases_of t)) (λ a. resolution_under (aliases_of t) t) r h).1
+ok_shallow x r h =
+    let parts = ok_then (refusal (deep_flaws x 32)) (λ a. Ok x) r h in
+    let value : x ≡ r = same_ok x r parts.1 in
+    (value, ap (λ y. nests y 32) (sym value) ∙ shallow_nests x 32 (no_flaws (deep_flaws x 32) parts.0))
 
 -- where there is an answer, the aliases have no flaw
 pub aliases_sound : (t r : Data) → resolution t ≡ Ok r → refusal (all_alias_flaws (aliases_of t) (rounds (aliases_of t) (members_len (aliases_of t)) no_outcomes) (aliases_of t)) ≡ Ok tt
 aliases_sound t r h =
     let al = aliases_of t in
     let st = rounds al (members_len al) no_outcomes in
-    (ok_aliases (refusal (all_alias_flaws al st al)) (λ a. refusal (inner_places al st.done Root t) >>= (λ b. refusal (flaws al None Root false no_members t) >>= (λ c. if_shallow (lay st.done Root t None)))) r (ok_few t r h)).0
+    (ok_aliases (refusal (all_alias_flaws al st al)) (λ a. refusal (inner_places al st.done Root t) >>= (λ b. refusal (flaws al None Root false no_members t) >>= (λ c. if_shallow (lay st.done Root t None)))) r h).0
 
 -- what is answered is the resolution, and nests at most 32 deep
 pub resolution_sound : (t r : Data) → NoClash (aliases_of t) → resolution t ≡ Ok r → Resolves t r × (nests r 32 ≡ true)
 resolution_sound t r apart h =
     let al = aliases_of t in
     let st = rounds al (members_len al) no_outcomes in
-    let first = ok_aliases (refusal (all_alias_flaws al st al)) (λ a. refusal (inner_places al st.done Root t) >>= (λ b. refusal (flaws al None Root false no_members t) >>= (λ c. if_shallow (lay st.done Root t None)))) r (ok_few t r h) in
+    let first = ok_aliases (refusal (all_alias_flaws al st al)) (λ a. refusal (inner_places al st.done Root t) >>= (λ b. refusal (flaws al None Root false no_members t) >>= (λ c. if_shallow (lay st.done Root t None)))) r h in
     let second = ok_then (refusal (inner_places al st.done Root t)) (λ b. refusal (flaws al None Root false no_members t) >>= (λ c. if_shallow (lay st.done Root t None))) r first.1 in
     let third = ok_then (refusal (flaws al None Root false no_members t)) (λ c. if_shallow (lay st.done Root t None)) r second.1 in
     let last = ok_shallow (lay st.done Root t None) r third.1 in
     (subst (Resolves t) last.0 (laid_resolves t al (members_len al) st refl apart refl first.0 third.0), last.1)
 
-past_few : (a : Result ⊤ Flaw) (x : Result Data Flaw) → a ≡ Ok tt → (a >>= (λ y. x)) ≡ x
-past_few (Ok y) x h = refl
-past_few (Err f) x h = cc
-
--- the aliases are too many
-pub refused_number : (t : Data) (al : Members) (f : Flaw) → al ≡ aliases_of t → few_aliases al ≡ Err f → resolution t ≡ Err f
-refused_number t al f own many = go (few_aliases (aliases_of t)) (resolution_under (aliases_of t) t) (ap few_aliases (sym own) ∙ many)
-  where
-    go : (a : Result ⊤ Flaw) (x : Result Data Flaw) → a ≡ Err f → (a >>= (λ y. x)) ≡ Err f
-    go (Ok y) x h = cc
-    go (Err g) x h = let e : g ≡ f = cc in ap (λ y. Err y) e
-
-pub resolution_is : (t : Data) (al : Members) (n : ℕ) (st : Outcomes) → al ≡ aliases_of t → few_aliases al ≡ Ok tt → members_len al ≡ n → st ≡ rounds al n no_outcomes → resolution t ≡ resolution_after al st t
-resolution_is t al n st own few count turned =
-    past_few (few_aliases (aliases_of t)) (resolution_under (aliases_of t) t) (ap few_aliases (sym own) ∙ few)
-    ∙ ap (λ x. resolution_under x t) (sym own) ∙ ap (λ x. resolution_after al x t) (ap (λ m. rounds al m no_outcomes) count ∙ sym turned)
+pub resolution_is : (t : Data) (al : Members) (n : ℕ) (st : Outcomes) → al ≡ aliases_of t → members_len al ≡ n → st ≡ rounds al n no_outcomes → resolution t ≡ resolution_after al st t
+resolution_is t al n st own count turned =
+    ap (λ x. resolution_under x t) (sym own) ∙ ap (λ x. resolution_after al x t) (ap (λ m. rounds al m no_outcomes) count ∙ sym turned)

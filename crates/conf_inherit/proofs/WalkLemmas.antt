@@ -32,7 +32,7 @@ passes_text p s n (inr is) h = go (names_alias s) refl
     go false e = rw (e, is) at h
 
 mutual
-  mentioned : (p : List ℕ → Bool) (m : List ℕ) (v : Data) (s : Spot) → all_named p s v ≡ true → Mentions m s v → p m ≡ true
+  pub mentioned : (p : List ℕ → Bool) (m : List ℕ) (v : Data) (s : Spot) → all_named p s v ≡ true → Mentions m s v → p m ≡ true
   mentioned p m null s h x = absurd x
   mentioned p m (boolean b) s h x = absurd x
   mentioned p m (number n) s h x = absurd x
@@ -52,11 +52,11 @@ mutual
 
 -- ---- how many names pass a test
 
-abbrev count : (List ℕ → Bool) → Members → ℕ
+abbrev pub count : (List ℕ → Bool) → Members → ℕ
 count p no_members = 0
 count p (member k d ms) = if p k then suc (count p ms) else count p ms
 
-count_all : (p : List ℕ → Bool) (ms : Members) → count p ms ≤ members_len ms
+pub count_all : (p : List ℕ → Bool) (ms : Members) → count p ms ≤ members_len ms
 count_all p no_members = omega arith
 count_all p (member k d ms) = go (p k) refl (count_all p ms)
   where
@@ -65,7 +65,7 @@ count_all p (member k d ms) = go (p k) refl (count_all p ms)
     go false e rest = rw e (omega arith)
 
 module _ (p q : List ℕ → Bool) (more : (n : List ℕ) → p n ≡ true → q n ≡ true) where
-  count_more : (ms : Members) → count p ms ≤ count q ms
+  pub count_more : (ms : Members) → count p ms ≤ count q ms
   count_more no_members = omega arith
   count_more (member k d ms) = go (p k) refl (q k) refl (count_more ms)
     where
@@ -76,7 +76,7 @@ module _ (p q : List ℕ → Bool) (more : (n : List ℕ) → p n ≡ true → q
       go false a false b rest = rw (a, b) rest
 
   -- one that passes now, and did not before, counts
-  count_new : (k : List ℕ) (w : Data) (ms : Members) → get_member k ms ≡ Some w → p k ≡ false → q k ≡ true → count p ms < count q ms
+  pub count_new : (k : List ℕ) (w : Data) (ms : Members) → get_member k ms ≡ Some w → p k ≡ false → q k ≡ true → count p ms < count q ms
   count_new k w no_members is before after = cc
   count_new k w (member l d ms) is before after = at (meets k l) (λ e. count_new k w ms e before after)
     where

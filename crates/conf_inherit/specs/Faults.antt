@@ -1,12 +1,12 @@
 -- What a refusal says: its kind holds at its path, over the configuration as it was given.
-use Rattle.std.specs.Prelude.{◌≡◌, ◌<◌, ◌++◌, ◌⊎◌, ℕ, List, [], ◌∷◌, Some, None, true, false}
+use Rattle.std.specs.Prelude.{◌≡◌, ◌<◌, ◌++◌, ◌⊎◌, ℕ, List, [], ◌∷◌, Some, None, true}
 use Rattle.serde_json.specs.Data.{Data, array, object, Items, Members}
 use Rattle.serde_json.specs.Events.{items_len, members_len}
 use Rattle.serde_json.specs.Find.{get_item}
-use Rattle.conf_tree.specs.Flaw.{Flaw, Place, key, index, here}
+use Rattle.conf_tree.specs.Flaw.{Flaw, Place, key, index}
 use Rattle.conf_tree.specs.Walk.{HasMember}
 use Rattle.conf_tree.specs.declared.fault_kind.FaultKind.{FaultKind}
-use Rattle.conf_tree.specs.declared.fault_kind.FaultKind.TheVariants.{TooDeep, WrongKind, NoSuchAlias, InheritCycle, NameClash, Limit}
+use Rattle.conf_tree.specs.declared.fault_kind.FaultKind.TheVariants.{WrongKind, NoSuchAlias, InheritCycle, NameClash, Limit}
 use Rattle.conf_inherit.specs.declared.spot.Spot.{Spot}
 use Rattle.conf_inherit.specs.Spot.{spot_under, spot_of_items, lists_members, lists_extra_members}
 use Rattle.conf_inherit.specs.Circle.{Walks}
@@ -14,8 +14,8 @@ use Rattle.conf_inherit.specs.Flaws.{is_wrong, is_unknown}
 use Rattle.conf_inherit.specs.Looks.{AreResolved}
 use Rattle.conf_inherit.specs.Places.{max_extra_members}
 use Rattle.conf_inherit.specs.Ready.{Names}
-use Rattle.conf_inherit.specs.Nesting.{nests}
-use Rattle.conf_inherit.specs.Resolution.{max_aliases, aliases_of, Resolves}
+use Rattle.conf_inherit.specs.Nesting.{PassesDepth}
+use Rattle.conf_inherit.specs.Resolution.{aliases_of, Resolves}
 use Rattle.conf_inherit.specs.Laying.{lay}
 use Rattle.conf_inherit.specs.Limits.{Exceeds}
 use Rattle.conf_inherit.specs.Named.{all_named, has}
@@ -49,15 +49,11 @@ Passes al kind t w = Names t × ((done : Members) × AreResolved al done × (all
 abbrev pub ListsTooMany : Spot → Data → Type 0
 ListsTooMany t w = (es : Items) × (w ≡ array es) × (lists_extra_members t ≡ true) × (max_extra_members < items_len es)
 
--- a configuration has too many field type aliases
-abbrev pub HoldsTooMany : Spot → Data → Type 0
-HoldsTooMany t w = (ms : Members) × (w ≡ object ms) × (t ≡ Aliases) × (max_aliases < members_len ms)
-
 -- what a kind tells of the value w that a path leads to
 abbrev pub Tells : Members → FaultKind → Spot → Data → Type 0
 Tells al WrongKind t w = is_wrong t w ≡ true
 Tells al NoSuchAlias t w = is_unknown al t w ≡ true
-Tells al Limit t w = ListsTooMany t w ⊎ HoldsTooMany t w
+Tells al Limit t w = ListsTooMany t w
 Tells al _ t w = ⊥
 
 abbrev pub SaysOf : Members → FaultKind → Spot → Data → Type 0
@@ -69,6 +65,6 @@ FlawHolds al s v flaw =
     ((t : Spot) × (w : Data) × Leads s v flaw.path t w × SaysOf al flaw.kind t w)
     ⊎ (((flaw.kind ≡ NameClash) × Clashes s v flaw.path) ⊎ ((flaw.kind ≡ InheritCycle) × Circles al s v flaw.path))
 
--- the kind of a refusal holds at its path, or the whole resolved configuration nests too deep
+-- the kind of a refusal holds at its path, or the whole resolved configuration nests too deep there
 abbrev pub RefusalHolds : Data → Flaw → Type 0
-RefusalHolds t flaw = FlawHolds (aliases_of t) Root t flaw ⊎ ((flaw ≡ here TooDeep) × ((r : Data) × Resolves t r × (nests r 32 ≡ false)))
+RefusalHolds t flaw = FlawHolds (aliases_of t) Root t flaw ⊎ ((r : Data) × Resolves t r × PassesDepth 32 r flaw)

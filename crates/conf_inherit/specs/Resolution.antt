@@ -1,17 +1,16 @@
 -- The resolution of a configuration: its aliases, and the tree in which each property has the value that is
 -- looked up for it.
-use Rattle.std.specs.Prelude.{ℕ, List, [], ◌∷◌, Option, None, Some, option_and_then, codes, false, Result, Ok, Err, ⊤, nat_lt, if◌then◌else◌}
+use Rattle.std.specs.Prelude.{ℕ, List, [], ◌∷◌, Option, None, Some, option_and_then, codes, false, Result, Ok, Err, ⊤}
 use Rattle.serde_json.specs.Data.{Data, object, Members, no_members}
 use Rattle.serde_json.specs.Find.{get}
 use Rattle.serde_json.specs.Events.{members_len}
-use Rattle.conf_tree.specs.Flaw.{Flaw, key, here, within}
+use Rattle.conf_tree.specs.Flaw.{Flaw, key, within}
 use Rattle.conf_tree.specs.Reading.{◌>>=◌}
 use Rattle.conf_tree.specs.Walk.{refusal}
-use Rattle.conf_tree.specs.declared.fault_kind.FaultKind.TheVariants.{TooDeep, Limit}
 use Rattle.conf_inherit.specs.AliasFlaws.{all_alias_flaws}
 use Rattle.conf_inherit.specs.Flaws.{flaws}
 use Rattle.conf_inherit.specs.Laying.{lay}
-use Rattle.conf_inherit.specs.Nesting.{nests}
+use Rattle.conf_inherit.specs.Nesting.{deep_flaws}
 use Rattle.conf_inherit.specs.Places.{inner_places}
 use Rattle.conf_inherit.specs.Rounds.{Outcomes, rounds, no_outcomes}
 use Rattle.conf_inherit.specs.declared.spot.Spot.TheVariants.{Root}
@@ -34,16 +33,11 @@ aliases_name = codes "$field-type-aliases"
 abbrev pub aliases_of : Data → Members
 aliases_of t = members_or_none (option_and_then (get aliases_name) (option_and_then (get type_name) (get trace_name t)))
 
--- the most field type aliases of a configuration
-abbrev pub max_aliases : ℕ
-max_aliases = 1024
-
 -- r is t with every inheritance resolved
 abbrev pub Resolves : Data → Data → Type 0
 Resolves t r = Looks (aliases_of t) Root (t ∷ []) r
 
--- ---- what `resolve` answers: too many aliases, or the first fault in walk order, the aliases before all else, or
--- the resolved tree
+-- ---- what `resolve` answers: the first fault in walk order, the aliases before all else, or the resolved tree
 
 -- a fault of the aliases, seen from the configuration
 abbrev pub in_aliases : Flaw → Flaw
@@ -53,8 +47,9 @@ abbrev pub from_aliases : Result ⊤ Flaw → Result ⊤ Flaw
 from_aliases (Ok x) = Ok x
 from_aliases (Err flaw) = Err (in_aliases flaw)
 
+-- the whole resolved tree, unless an object or a list in it stands inside 32 others
 abbrev pub if_shallow : Data → Result Data Flaw
-if_shallow r = if nests r 32 then Ok r else Err (here TooDeep)
+if_shallow r = refusal (deep_flaws r 32) >>= (λ a. Ok r)
 
 -- the limits are judged at the places, so that the pass over the whole leaves them out
 abbrev pub resolution_after : Members → Outcomes → Data → Result Data Flaw
@@ -64,10 +59,5 @@ resolution_after al st t =
 abbrev pub resolution_under : Members → Data → Result Data Flaw
 resolution_under al t = resolution_after al (rounds al (members_len al) no_outcomes) t
 
--- more aliases than a configuration may have are refused at the object that holds them
-abbrev pub few_aliases : Members → Result ⊤ Flaw
-few_aliases al = if nat_lt max_aliases (members_len al) then Err (in_aliases (here Limit)) else Ok tt
-
--- the number of the aliases is judged before all else
 abbrev pub resolution : Data → Result Data Flaw
-resolution t = few_aliases (aliases_of t) >>= (λ a. resolution_under (aliases_of t) t)
+resolution t = resolution_under (aliases_of t) t

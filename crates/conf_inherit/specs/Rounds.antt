@@ -1,7 +1,8 @@
 -- The aliases are resolved in rounds: each whose names all have an outcome gets its own. What has none after as
 -- many rounds as there are aliases inherits in a circle.
-use Rattle.std.specs.Prelude.{◌&&◌, ◌||◌, ℕ, zero, suc, List, [], ◌∷◌, Option, Some, None, Result, Ok, Err, Bool, true, false, not, if◌then◌else◌}
+use Rattle.std.specs.Prelude.{◌≡◌, ◌&&◌, ◌||◌, ℕ, zero, suc, List, [], ◌∷◌, Option, Some, None, Result, Ok, Err, Bool, true, false, not, if◌then◌else◌}
 use Rattle.serde_json.specs.Data.{Data, null, Members, no_members, member, put}
+use Rattle.serde_json.specs.Find.{get_member}
 use Rattle.conf_tree.specs.Flaw.{Flaw}
 use Rattle.conf_tree.specs.declared.fault_kind.FaultKind.{FaultKind}
 use Rattle.conf_inherit.specs.declared.spot.Spot.TheVariants.{FieldType}
@@ -67,3 +68,18 @@ rounds al (suc n) st = next_round al (rounds al n st)
 
 abbrev pub no_outcomes : Outcomes
 no_outcomes = record { done = no_members; refused = no_members }
+
+-- ---- turns in another order than that of the rounds
+
+-- the outcomes that the turns of some aliases lead to, one after the other
+pub data Reached (al : Members) : Outcomes → Type 0 where
+  at_first : Reached al no_outcomes
+  turned : (k : List ℕ) (w : Data) (st : Outcomes) → get_member k al ≡ Some w → Reached al st → Reached al (step al k w st)
+
+-- an alias has an outcome, or it names one that has none
+abbrev pub is_settled : Members → Outcomes → List ℕ → Data → Bool
+is_settled al st k w = has_outcome st k || not (all_named (is_over al st) FieldType w)
+
+abbrev pub all_settled : Members → Members → Outcomes → Bool
+all_settled al no_members st = true
+all_settled al (member k w ms) st = is_settled al st k w && all_settled al ms st

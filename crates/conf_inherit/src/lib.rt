@@ -10,6 +10,7 @@ mod laying;
 mod limits;
 mod named;
 mod nesting;
+mod order;
 mod outcomes;
 mod places;
 mod property;

@@ -7,6 +7,7 @@ ghost use Rattle.conf_inherit.specs.Named.{all_named, all_named_in_items, all_na
 use crate::Spot;
 use crate::asked::Asked;
 use serde_json::{Map, Value};
+use std::alloc::AllocError;
 
 /// Whether every text of a value that names an alias passes the test.
 #[cycle(named)]
@@ -45,4 +46,48 @@ fn all_named_in_members(members: &Map<String, Value>, spot: Spot, asked: Asked) 
         }
     }
     true
+}
+
+/// Adds the texts of a value that name an alias.
+#[cycle(naming)]
+pub(crate) fn push_named(
+    value: &Value,
+    spot: Spot,
+    names: &mut Vec<String>,
+) -> Result<(), AllocError> {
+    match value {
+        Value::Null | Value::Bool(_) | Value::Number(_) => Ok(()),
+        Value::String(name) => {
+            if spot.names_alias() || spot.names_member_type() {
+                names.push(name.clone()?)?;
+            }
+            Ok(())
+        }
+        Value::Array(items) => push_named_in_items(items, spot.of_items(), names),
+        Value::Object(members) => push_named_in_members(members, spot, names),
+    }
+}
+
+#[cycle(naming)]
+fn push_named_in_items(
+    items: &Vec<Value>,
+    spot: Spot,
+    names: &mut Vec<String>,
+) -> Result<(), AllocError> {
+    for item in items {
+        push_named(item, spot, names)?;
+    }
+    Ok(())
+}
+
+#[cycle(naming)]
+fn push_named_in_members(
+    members: &Map<String, Value>,
+    spot: Spot,
+    names: &mut Vec<String>,
+) -> Result<(), AllocError> {
+    for (name, member) in members.iter() {
+        push_named(member, spot.under(name.as_str()), names)?;
+    }
+    Ok(())
 }

@@ -1,9 +1,14 @@
 //! How deep objects and lists nest.
-ghost use Rattle.std.specs.Prelude.{◌≡◌};
+ghost use Rattle.std.specs.Prelude.{◌≡◌, ◌≤◌, ◌<◌, ◌+◌, IfErr};
+ghost use Rattle.arrayvec.specs.ArrayVec.{array_vec_len};
 ghost use Rattle.serde_json.specs.View.{view, items_view, members_view};
-ghost use Rattle.conf_inherit.specs.Nesting.{nests, items_nest, members_nest};
+ghost use Rattle.conf_tree.specs.Reading.{Gives};
+ghost use Rattle.conf_tree.specs.Walk.{refusal};
+ghost use Rattle.conf_inherit.specs.Nesting.{nests, items_nest, members_nest, deep_flaws, deep_item_flaws, deep_member_flaws};
 
+use conf_tree::{ConfFault, FaultKind};
 use serde_json::{Map, Value};
+use std::alloc::Global;
 
 /// Whether objects and lists nest at most so many levels deep.
 #[cycle(nesting)]
@@ -39,4 +44,60 @@ fn members_nest(members: &Map<String, Value>, levels: usize) -> bool
         }
     }
     true
+}
+
+/// Refuses the first object or list that stands inside so many others, in walk order.
+#[cycle(deepness)]
+pub(crate) fn check_nesting(alloc: Global, value: &Value, levels: usize) -> Result<(), ConfFault>
+    requires { levels ≤ 32 }
+    ensures first { Gives (λ _. tt) result (refusal (deep_flaws (view value.now) levels)) }
+    ensures short { IfErr result (λ fault. array_vec_len fault.path ≤ levels) }
+{
+    match value {
+        Value::Null | Value::Bool(_) | Value::Number(_) | Value::String(_) => Ok(()),
+        Value::Array(items) => {
+            if levels == 0 {
+                return Err(ConfFault::here(FaultKind::TooDeep));
+            }
+            check_items_nesting(alloc, items, levels - 1)
+        }
+        Value::Object(members) => {
+            if levels == 0 {
+                return Err(ConfFault::here(FaultKind::TooDeep));
+            }
+            check_members_nesting(alloc, members, levels - 1)
+        }
+    }
+}
+
+#[cycle(deepness)]
+fn check_items_nesting(alloc: Global, items: &Vec<Value>, levels: usize) -> Result<(), ConfFault>
+    requires { levels < 32 }
+    ensures first { Gives (λ _. tt) result (refusal (deep_item_flaws 0 (items_view items.now.items) levels)) }
+    ensures short { IfErr result (λ fault. array_vec_len fault.path ≤ levels + 1) }
+{
+    for (index, item) in items.iter().enumerate() {
+        if let Err(fault) = check_nesting(alloc, item, levels) {
+            return Err(fault.inside(index));
+        }
+    }
+    Ok(())
+}
+
+#[cycle(deepness)]
+fn check_members_nesting(
+    alloc: Global,
+    members: &Map<String, Value>,
+    levels: usize,
+) -> Result<(), ConfFault>
+    requires { levels < 32 }
+    ensures first { Gives (λ _. tt) result (refusal (deep_member_flaws (members_view members.now.entries) levels)) }
+    ensures short { IfErr result (λ fault. array_vec_len fault.path ≤ levels + 1) }
+{
+    for (name, member) in members.iter() {
+        if let Err(fault) = check_nesting(alloc, member, levels) {
+            return Err(fault.in_property(alloc, name.as_str()));
+        }
+    }
+    Ok(())
 }

@@ -1,7 +1,7 @@
 //! What became of the aliases so far.
 use crate::property::has;
 use serde_json::{Map, Value};
-use std::alloc::AllocError;
+use std::alloc::{AllocError, Global};
 
 /// The aliases that are resolved, and those that can't be.
 #[derive(Drop)]
@@ -16,7 +16,17 @@ impl AliasOutcomes {
     ghost use Rattle.std.specs.Prelude.{◌≡◌, OnOk, string_bytes, None, Some};
     ghost use Rattle.serde_json.specs.View.{view};
     ghost use Rattle.conf_inherit.specs.AliasOutcomes.{outcomes_of};
-    ghost use Rattle.conf_inherit.specs.Rounds.{has_outcome, concluded};
+    ghost use Rattle.conf_inherit.specs.Rounds.{has_outcome, concluded, no_outcomes};
+
+    /// No alias has an outcome yet.
+    pub(crate) fn new(alloc: Global) -> AliasOutcomes
+        ensures { outcomes_of result ≡ no_outcomes }
+    {
+        AliasOutcomes {
+            resolved: Map::new(alloc),
+            refused: Map::new(alloc),
+        }
+    }
 
     /// Whether the alias has an outcome.
     pub(crate) fn has_outcome(&self, name: &str) -> bool

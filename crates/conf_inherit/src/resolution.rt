@@ -12,13 +12,13 @@ ghost use Rattle.conf_inherit.specs.Laying.{lay};
 ghost use Rattle.serde_json.specs.Find.{get, as_object};
 ghost use Rattle.serde_json.specs.View.{view, members_view};
 ghost use Rattle.serde_json.specs.Written.{has_float};
-ghost use Rattle.conf_inherit.specs.Resolution.{trace_name, type_name, aliases_name, aliases_of, Resolves, in_aliases, from_aliases, if_shallow, few_aliases, resolution_after, resolution};
+ghost use Rattle.conf_inherit.specs.Resolution.{trace_name, type_name, aliases_name, aliases_of, Resolves, in_aliases, from_aliases, if_shallow, resolution_after, resolution};
 
 use crate::Spot;
 use crate::alias_check::check_aliases;
 use crate::flaws::check_value;
 use crate::laying::lay;
-use crate::nesting::nests;
+use crate::nesting::check_nesting;
 use crate::outcomes::AliasOutcomes;
 use crate::places::check_places;
 use crate::rounds::settle_aliases;
@@ -26,9 +26,6 @@ use crate::size::Stop;
 use conf_tree::{ConfFault, FaultKind, Tree};
 use serde_json::{Map, Value};
 use std::alloc::Global;
-
-/// The most field type aliases of a configuration.
-const MAX_ALIASES: usize = 1024;
 
 /// The value of the field type aliases.
 #[tactic(auto, unfolding(crate::specs::Resolution::trace_name, crate::specs::Resolution::type_name, crate::specs::Resolution::aliases_name))]
@@ -69,18 +66,6 @@ fn in_aliases(alloc: Global, fault: ConfFault) -> ConfFault
         .in_property(alloc, "trace")
 }
 
-/// Refuses more field type aliases than a configuration may have. It comes before any of them is resolved: each takes
-/// up to one round over all of them, and up to 4,096 JSON values, which is far more than its text.
-#[tactic(auto, using(crate::proofs::ResolveLemmas::aliases_past, crate::proofs::ResolveLemmas::aliases_within))]
-fn check_number(alloc: Global, aliases: &Map<String, Value>) -> Result<(), ConfFault>
-    ensures first { Gives (λ _. tt) result (few_aliases (members_view aliases.now.entries)) }
-{
-    if aliases.len() > MAX_ALIASES {
-        return Err(in_aliases(alloc, ConfFault::here(FaultKind::Limit)));
-    }
-    Ok(())
-}
-
 /// Refuses the first fault of the aliases.
 fn check_all_aliases(
     alloc: Global,
@@ -103,8 +88,8 @@ fn lay_all(alloc: Global, value: &Value, outcomes: &AliasOutcomes) -> Result<Val
 {
     match lay(alloc, Spot::Root, value, None, &outcomes.resolved, None) {
         Ok(resolved) => {
-            if !nests(&resolved, 32) {
-                return Err(ConfFault::here(FaultKind::TooDeep));
+            if let Err(fault) = check_nesting(alloc, &resolved, 32) {
+                return Err(fault);
             }
             Ok(resolved)
         }
@@ -150,9 +135,6 @@ fn resolve_under(
     ensures refused { IfErr result (λ fault. IsMemory fault ⊎ RefusalHolds (view value.now) (flaw_of fault)) }
     ensures first { Gives (λ tree. view tree.value) result (resolution (view value.now)) }
 {
-    if let Err(fault) = check_number(alloc, aliases) {
-        return Err(fault);
-    }
     let outcomes = settle_aliases(alloc, aliases)?;
     match resolve_after(alloc, value, aliases, &outcomes) {
         Ok(value) => Ok(Tree { value }),
@@ -162,9 +144,9 @@ fn resolve_under(
 
 /// The configuration with every inheritance resolved: each property has the value that is looked up along what its
 /// object inherits from (barectf 3.1, "Field type inheritance"). The tree is spent on a refusal, which names the first
-/// fault: more than 1,024 aliases, then those of the aliases in byte order of their names, then those of the other
-/// places in walk order. The number of the aliases comes first because to resolve more could take far more time and
-/// memory than their text.
+/// fault: those of the aliases in byte order of their names, then those of the other places in walk order, and last
+/// the first place in the resolved tree that stands inside 32 objects and lists. It takes as long as the text and what
+/// is laid over it.
 pub fn resolve(alloc: Global, tree: Tree) -> Result<Tree, ConfFault>
     ensures resolved { IfOk result (λ made. Resolves (view tree.value) (view made.value)) }
     ensures refused { IfErr result (λ fault. IsMemory fault ⊎ RefusalHolds (view tree.value) (flaw_of fault)) }

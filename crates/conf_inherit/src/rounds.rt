@@ -1,4 +1,4 @@
-//! Resolves the aliases in rounds.
+//! Resolves the aliases in the order in which they depend on one another.
 ghost use Rattle.std.specs.Prelude.{◌≡◌, ◌≤◌, false, Some, OnOk, IfOk, IfErr, option_map, string_bytes};
 ghost use Rattle.serde_json.specs.Data.{depth, members_depth, no_members};
 ghost use Rattle.serde_json.specs.View.{view, members_view};
@@ -8,14 +8,16 @@ ghost use Rattle.conf_inherit.specs.AliasOutcomes.{outcomes_of};
 ghost use Rattle.conf_inherit.specs.Flaws.{flaws};
 ghost use Rattle.conf_inherit.specs.Names.{NoClash};
 ghost use Rattle.conf_inherit.specs.Named.{all_named};
-ghost use Rattle.conf_inherit.specs.Rounds.{is_over, is_empty, outcome, step, round, all_over, rounds, no_outcomes};
+ghost use Rattle.conf_inherit.specs.Rounds.{is_over, is_empty, outcome, step, round, all_settled, rounds, no_outcomes, Reached};
 
 use crate::Spot;
 use crate::asked::Asked;
 use crate::flaws::check_value;
 use crate::limits::fit;
 use crate::named::all_named;
+use crate::order::dependency_order;
 use crate::outcomes::AliasOutcomes;
+use crate::property::property;
 use conf_tree::{ConfFault, FaultKind};
 use serde_json::{Map, Value};
 use std::alloc::Global;
@@ -119,19 +121,62 @@ fn round(
     Ok(())
 }
 
-/// Whether every alias has an outcome.
-fn all_over(aliases: &Map<String, Value>, outcomes: &AliasOutcomes) -> bool
-    ensures { result ≡ all_over (members_view aliases.now.entries) (outcomes_of outcomes.now) }
+/// Whether each alias has an outcome, or names one that has none.
+fn all_settled(aliases: &Map<String, Value>, outcomes: &AliasOutcomes) -> bool
+    ensures { result ≡ all_settled (members_view aliases.now.entries) (members_view aliases.now.entries) (outcomes_of outcomes.now) }
 {
-    for (name, _value) in aliases.iter() {
-        if !outcomes.has_outcome(name.as_str()) {
+    for (name, value) in aliases.iter() {
+        if !outcomes.has_outcome(name.as_str()) && is_due(value, aliases, outcomes) {
             return false;
         }
     }
     true
 }
 
-/// What becomes of the aliases in as many rounds as there are aliases.
+/// Gives the aliases their turns, each behind those that it names.
+fn take_turns(
+    alloc: Global,
+    aliases: &Map<String, Value>,
+    outcomes: &mut AliasOutcomes,
+) -> Result<(), ConfFault>
+    requires { members_depth (members_view aliases.now.entries) ≤ 32 }
+    ensures reached { OnOk result (Reached (members_view aliases.now.entries) (outcomes_of outcomes.old) → Reached (members_view aliases.now.entries) (outcomes_of outcomes.new)) }
+    ensures memory { IfErr result IsMemory }
+{
+    let Ok(order) = dependency_order(alloc, aliases) else {
+        return Err(ConfFault::here(FaultKind::OutOfMemory));
+    };
+    for name in &order {
+        if let Some(value) = property(aliases, name.as_str()) {
+            step(alloc, name, value, aliases, outcomes)?;
+        }
+    }
+    Ok(())
+}
+
+/// One round more over the aliases. It answers whether there was no need of it: each had an outcome, or named one that
+/// has none.
+#[tactic(auto, using(crate::proofs::TurnLemmas::settled_round))]
+fn round_if_due(
+    alloc: Global,
+    aliases: &Map<String, Value>,
+    outcomes: &mut AliasOutcomes,
+) -> Result<bool, ConfFault>
+    requires { members_depth (members_view aliases.now.entries) ≤ 32 }
+    ensures settled { IfOk result (λ settled. settled ≡ all_settled (members_view aliases.now.entries) (members_view aliases.now.entries) (outcomes_of outcomes.old)) }
+    ensures turned { OnOk result (outcomes_of outcomes.new
+        ≡ round (members_view aliases.now.entries) (members_view aliases.now.entries) (outcomes_of outcomes.old)) }
+    ensures memory { IfErr result IsMemory }
+{
+    if all_settled(aliases, outcomes) {
+        return Ok(true);
+    }
+    round(alloc, aliases, outcomes)?;
+    Ok(false)
+}
+
+/// What becomes of the aliases. Each has its turn behind those that it names, and rounds over all follow until none is
+/// due: those that are left lead into a circle. What the aliases come to is the same in whatever order.
 #[tactic(auto, using(crate::proofs::ResolveLemmas::apart_of))]
 pub(crate) fn settle_aliases(
     alloc: Global,
@@ -143,18 +188,13 @@ pub(crate) fn settle_aliases(
         ≡ rounds (members_view aliases.now.entries) (btree_map_len aliases.now) no_outcomes) }
     ensures memory { IfErr result IsMemory }
 {
-    let mut outcomes = AliasOutcomes {
-        resolved: Map::new(alloc),
-        refused: Map::new(alloc),
-    };
     let count = aliases.len();
-    let mut over = false;
+    let mut outcomes = AliasOutcomes::new(alloc);
+    take_turns(alloc, aliases, &mut outcomes)?;
+    let mut settled = false;
     for _turn in 0..count {
-        if !over {
-            over = all_over(aliases, &outcomes);
-        }
-        if !over {
-            round(alloc, aliases, &mut outcomes)?;
+        if !settled {
+            settled = round_if_due(alloc, aliases, &mut outcomes)?;
         }
     }
     Ok(outcomes)

@@ -162,6 +162,30 @@ static MANY: &[Many] = &[
         ("NoUuid", "uuid"),
     ),
     (
+        Slot::Type,
+        r#"{"trace-byte-order":"le","$field-type-aliases":{@},"more":1}"#,
+        r#""n@":{}"#,
+        1024,
+        ("Unknown", "more"),
+        ("Unknown", "more"),
+    ),
+    (
+        Slot::Type,
+        r#"{"trace-byte-order":"le","uuid":"auto","$field-type-aliases":{@}}"#,
+        r#""n@":{}"#,
+        1024,
+        ("NoUuid", "uuid"),
+        ("NoUuid", "uuid"),
+    ),
+    (
+        Slot::Type,
+        r#"{"trace-byte-order":"le","$field-type-aliases":{@,"x":"nope"}}"#,
+        r#""n@":{}"#,
+        1023,
+        ("NoSuchAlias", "$field-type-aliases/x"),
+        ("NoSuchAlias", "$field-type-aliases/x"),
+    ),
+    (
         Slot::Root,
         r#"{"trace":{"type":{"trace-byte-order":"le","uuid":"auto"},"environment":{@}}}"#,
         r#""n@":1"#,
@@ -347,7 +371,10 @@ static DEEP: &[Deep] = &[
         "}",
         27,
         NONE,
-        ("TooDeep", "/"),
+        (
+            "TooDeep",
+            "one/element-field-type/element-field-type/element-field-type/element-field-type/element-field-type/element-field-type/element-field-type/element-field-type/element-field-type/element-field-type/element-field-type/element-field-type/element-field-type/element-field-type/element-field-type/element-field-type/element-field-type/element-field-type/element-field-type/element-field-type/element-field-type/element-field-type/element-field-type/element-field-type/element-field-type/element-field-type/element-field-type/element-field-type",
+        ),
     ),
     (
         Slot::Aliases,
@@ -356,7 +383,10 @@ static DEEP: &[Deep] = &[
         r#""c""#,
         "}",
         24,
-        ("TooDeep", "/"),
+        (
+            "TooDeep",
+            "d/element-field-type/element-field-type/element-field-type/element-field-type/element-field-type/element-field-type/element-field-type/element-field-type/element-field-type/element-field-type/element-field-type/element-field-type/element-field-type/element-field-type/element-field-type/element-field-type/element-field-type/element-field-type/element-field-type/element-field-type/element-field-type/element-field-type/element-field-type/element-field-type/x/x/x/x",
+        ),
         ("TooDeep", "d"),
     ),
 ];

@@ -58,12 +58,41 @@ static WORDS: &[(&str, &str, (u32, u32), &str, &str)] = &[
         r#""a1024":{"class":"uint","size":8}"#,
     ),
     (
-        "<a chain of 7,000 aliases>",
+        "<a chain of 1,100 aliases>",
         "",
-        (1, 7000),
+        (1, 1100),
         r##""a#":"a@","##,
-        r#""a7000":{"class":"uint","size":8}"#,
+        r#""a1100":{"class":"uint","size":8}"#,
     ),
+    (
+        "<a chain of 1,100 aliases from its end>",
+        r#""a0":{"class":"uint","size":8}"#,
+        (0, 1100),
+        r##","a@":"a#""##,
+        "",
+    ),
+    (
+        "<a circle of 1,100 aliases>",
+        "",
+        (0, 1100),
+        r##""a#":"a@","##,
+        r#""a1100":"a0""#,
+    ),
+    (
+        "<a chain that grows>",
+        r#""g0":{"list":[0<99 zeros>]}"#,
+        (0, 99),
+        r##","g@":{"$inherit":"g#","list":[0<99 zeros>]}"##,
+        "",
+    ),
+    (
+        "<a chain that grows from its end>",
+        "",
+        (0, 99),
+        r##""h#":{"$inherit":"h@","list":[0<99 zeros>]},"##,
+        r#""h99":{"list":[0<99 zeros>]}"#,
+    ),
+    ("<99 zeros>", "", (0, 99), ",0", ""),
     // types and their members
     (
         "<17 heavy layers, each replaced>",
@@ -308,6 +337,16 @@ fn limits_the_extra_members_alone(rt: HostRuntime) -> Result<(), Fail> {
 }
 
 #[test]
-fn limits_the_aliases(rt: HostRuntime) -> Result<(), Fail> {
+fn resolves_any_number_of_aliases(rt: HostRuntime) -> Result<(), Fail> {
     are_said(&rt, rt.alloc(), OF_PAYLOAD, NOTHING, rows::MANY_ALIASES)
+}
+
+#[test]
+fn resolves_chains_in_their_order(rt: HostRuntime) -> Result<(), Fail> {
+    are_said(&rt, rt.alloc(), OF_PAYLOAD, NOTHING, rows::LONG_CHAINS)
+}
+
+#[test]
+fn refuses_a_chain_as_soon_as_it_passes(rt: HostRuntime) -> Result<(), Fail> {
+    are_said(&rt, rt.alloc(), OF_PAYLOAD, NOTHING, rows::GROWING)
 }

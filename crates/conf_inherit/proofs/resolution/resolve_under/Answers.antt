@@ -1,4 +1,4 @@
-use Rattle.std.proofs.Common.{◌≤◌, ap, sym, ◌∙◌, subst, arith}
+use Rattle.std.proofs.Common.{◌≤◌, sym, ◌∙◌, subst, arith}
 use Rattle.serde_json.specs.Data.{members_depth}
 use Rattle.serde_json.specs.View.{view, members_view}
 use Rattle.std.proofs.Common.{inl, inr}
@@ -6,10 +6,9 @@ use Rattle.std.specs.BTreeMap.{btree_map_len}
 use Rattle.serde_json.proofs.Views.{members_len-members_view}
 use Rattle.conf_inherit.specs.AliasOutcomes.{outcomes_of}
 use Rattle.conf_inherit.specs.Names.{NoClash}
-use Rattle.conf_inherit.specs.Resolution.{few_aliases}
 use Rattle.conf_tree.specs.Flaw.{flaw_of}
-use Rattle.conf_inherit.proofs.RefusalLemmas.{number_holds, refusal_holds}
-use Rattle.conf_inherit.proofs.ResolveLemmas.{aliases_part, refused_number, resolution_is, resolution_sound, depth-nests, resolved_whole}
+use Rattle.conf_inherit.proofs.RefusalLemmas.{refusal_holds}
+use Rattle.conf_inherit.proofs.ResolveLemmas.{aliases_part, resolution_is, resolution_sound, depth-nests, resolved_whole}
 use Rattle.conf_inherit.proofs.resolution.resolve_under.Goals as goal
 
 pub settle_aliases-requires : goal.settle_aliases-requires
@@ -22,17 +21,17 @@ resolve_after-requires-clause-shallow c = subst (λ m. members_depth m ≤ 28) (
 
 pub returns-in-Ok-clause-first : goal.returns-in-Ok-clause-first
 returns-in-Ok-clause-first c =
-    resolution_is (view c.args.value.now) (members_view c.args.aliases.now.entries) (btree_map_len c.args.aliases.now) (outcomes_of c.in_ok-outcomes.outcomes) c.requires.own c.in_default.ensures.first (members_len-members_view c.args.aliases.now.entries) c.in_ok-outcomes.ensures.settled
+    resolution_is (view c.args.value.now) (members_view c.args.aliases.now.entries) (btree_map_len c.args.aliases.now) (outcomes_of c.in_ok-outcomes.outcomes) c.requires.own (members_len-members_view c.args.aliases.now.entries) c.in_ok-outcomes.ensures.settled
     ∙ c.in-Ok.ensures.first
 
 pub returns-in-Ok-clause-resolved : goal.returns-in-Ok-clause-resolved
 returns-in-Ok-clause-resolved c =
-    let is = resolution_is (view c.args.value.now) (members_view c.args.aliases.now.entries) (btree_map_len c.args.aliases.now) (outcomes_of c.in_ok-outcomes.outcomes) c.requires.own c.in_default.ensures.first (members_len-members_view c.args.aliases.now.entries) c.in_ok-outcomes.ensures.settled in
+    let is = resolution_is (view c.args.value.now) (members_view c.args.aliases.now.entries) (btree_map_len c.args.aliases.now) (outcomes_of c.in_ok-outcomes.outcomes) c.requires.own (members_len-members_view c.args.aliases.now.entries) c.in_ok-outcomes.ensures.settled in
     (resolution_sound (view c.args.value.now) (view c.in-Ok.value) (subst NoClash c.requires.own c.in_ok-outcomes.ensures.apart) (is ∙ c.in-Ok.ensures.first)).0
 
 pub invariant_of-result : goal.invariant_of-result
 invariant_of-result c =
-    let is = resolution_is (view c.args.value.now) (members_view c.args.aliases.now.entries) (btree_map_len c.args.aliases.now) (outcomes_of c.in_ok-outcomes.outcomes) c.requires.own c.in_default.ensures.first (members_len-members_view c.args.aliases.now.entries) c.in_ok-outcomes.ensures.settled in
+    let is = resolution_is (view c.args.value.now) (members_view c.args.aliases.now.entries) (btree_map_len c.args.aliases.now) (outcomes_of c.in_ok-outcomes.outcomes) c.requires.own (members_len-members_view c.args.aliases.now.entries) c.in_ok-outcomes.ensures.settled in
     let sound = resolution_sound (view c.args.value.now) (view c.in-Ok.value) (subst NoClash c.requires.own c.in_ok-outcomes.ensures.apart) (is ∙ c.in-Ok.ensures.first) in
     record {
       nested = depth-nests (view c.in-Ok.value) 32 sound.1;
@@ -41,18 +40,10 @@ invariant_of-result c =
 
 pub returns-clause-first : goal.returns-clause-first
 returns-clause-first c =
-    let is = resolution_is (view c.args.value.now) (members_view c.args.aliases.now.entries) (btree_map_len c.args.aliases.now) (outcomes_of c.in_ok-outcomes.outcomes) c.requires.own c.in_default.ensures.first (members_len-members_view c.args.aliases.now.entries) c.in_ok-outcomes.ensures.settled in
-    elim c.in-Err-resolve_after.ensures.first [ inl memory ↦ inl memory | inr flawed ↦ inr (is ∙ flawed) ]
+    let is = resolution_is (view c.args.value.now) (members_view c.args.aliases.now.entries) (btree_map_len c.args.aliases.now) (outcomes_of c.in_ok-outcomes.outcomes) c.requires.own (members_len-members_view c.args.aliases.now.entries) c.in_ok-outcomes.ensures.settled in
+    elim c.in-Err.ensures.first [ inl memory ↦ inl memory | inr flawed ↦ inr (is ∙ flawed) ]
 
 pub returns-clause-refused : goal.returns-clause-refused
 returns-clause-refused c =
-    let is = resolution_is (view c.args.value.now) (members_view c.args.aliases.now.entries) (btree_map_len c.args.aliases.now) (outcomes_of c.in_ok-outcomes.outcomes) c.requires.own c.in_default.ensures.first (members_len-members_view c.args.aliases.now.entries) c.in_ok-outcomes.ensures.settled in
-    elim c.in-Err-resolve_after.ensures.first [ inl memory ↦ inl memory | inr flawed ↦ inr (refusal_holds (view c.args.value.now) (flaw_of c.in-Err-resolve_after.fault) (subst NoClash c.requires.own c.in_ok-outcomes.ensures.apart) (is ∙ flawed)) ]
-
-pub returns-in-Err-clause-first : goal.returns-in-Err-clause-first
-returns-in-Err-clause-first c =
-    elim c.in-Err.ensures.first [ inl memory ↦ inl memory | inr flawed ↦ inr (refused_number (view c.args.value.now) (members_view c.args.aliases.now.entries) (flaw_of c.in-Err.fault) c.requires.own flawed) ]
-
-pub returns-in-Err-clause-refused : goal.returns-in-Err-clause-refused
-returns-in-Err-clause-refused c =
-    elim c.in-Err.ensures.first [ inl memory ↦ inl memory | inr flawed ↦ inr (number_holds (view c.args.value.now) (flaw_of c.in-Err.fault) (ap few_aliases (sym c.requires.own) ∙ flawed)) ]
+    let is = resolution_is (view c.args.value.now) (members_view c.args.aliases.now.entries) (btree_map_len c.args.aliases.now) (outcomes_of c.in_ok-outcomes.outcomes) c.requires.own (members_len-members_view c.args.aliases.now.entries) c.in_ok-outcomes.ensures.settled in
+    elim c.in-Err.ensures.first [ inl memory ↦ inl memory | inr flawed ↦ inr (refusal_holds (view c.args.value.now) (flaw_of c.in-Err.fault) (subst NoClash c.requires.own c.in_ok-outcomes.ensures.apart) (is ∙ flawed)) ]

@@ -290,16 +290,44 @@ pub static MANY_MEMBERS: &[Row] = &[
     ),
 ];
 
-/// More than 1,024 aliases are refused before any of them is judged.
+/// More aliases than a configuration may have are resolved like fewer.
 pub static MANY_ALIASES: &[Row] = &[
     ("<1,024 aliases>", r#""a1""#, "ok"),
-    ("<1,025 aliases>", r#""a1""#, "<aliases>: <past>"),
-    ("<1,025 names of no alias>", r#""a1""#, "<aliases>: <past>"),
+    ("<1,025 aliases>", r#""a1""#, "ok"),
+    (
+        "<1,025 names of no alias>",
+        r#""a1""#,
+        "<aliases>/a0: <unknown>",
+    ),
     (
         r#"<1,024 aliases>,"b":"nope""#,
         r#""a1""#,
-        "<aliases>: <past>",
+        "<aliases>/b: <unknown>",
     ),
+];
+
+/// Chains of more aliases than a configuration may have, in either direction of their names.
+pub static LONG_CHAINS: &[Row] = &[
     ("<a chain of 1,024 aliases>", r#""a1""#, "ok"),
-    ("<a chain of 7,000 aliases>", r#""a1""#, "<aliases>: <past>"),
+    (
+        r#"<a chain of 1,100 aliases>,"b":"nope""#,
+        r#""a1""#,
+        "<aliases>/b: <unknown>",
+    ),
+    ("<a chain of 1,100 aliases from its end>", r#""a1""#, "ok"),
+    (
+        "<a circle of 1,100 aliases>",
+        r#""a1""#,
+        "<aliases>/a0: <circle>",
+    ),
+];
+
+/// In a chain of heirs the first that passes a limit is refused, and none of its own heirs for it.
+pub static GROWING: &[Row] = &[
+    ("<a chain that grows>", r#""g0""#, "<aliases>/g40: <past>"),
+    (
+        "<a chain that grows from its end>",
+        r#""h99""#,
+        "<aliases>/h59: <past>",
+    ),
 ];

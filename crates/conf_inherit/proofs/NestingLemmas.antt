@@ -1,0 +1,72 @@
+-- What stands too deep in a value: nothing where it nests at most so deep, and else what its path leads to.
+use Rattle.std.proofs.Common.{◌≡◌, ◌+◌, inl, inr, ℕ, zero, suc, List, [], ◌∷◌, map, Some, true, refl, sym, ap, subst, arith}
+use Rattle.serde_json.specs.Data.{Data, null, boolean, number, string, array, object, Items, no_items, item, Members, no_members, member}
+use Rattle.serde_json.specs.Find.{get_item}
+use Rattle.conf_tree.specs.Flaw.{Flaw, key, index, here, within}
+use Rattle.conf_tree.specs.Walk.{HasMember}
+use Rattle.conf_tree.specs.declared.fault_kind.FaultKind.TheVariants.{TooDeep}
+use Rattle.conf_inherit.specs.Nesting.{nests, items_nest, members_nest, deep_flaws, deep_item_flaws, deep_member_flaws, PassesDepth}
+use Rattle.conf_inherit.proofs.FaultLemmas.{Among, among_within, first_or_rest, Aligned, aligned_here, aligned_next}
+use Rattle.conf_inherit.proofs.NamedLemmas.{both}
+use Rattle.conf_inherit.proofs.ReadyLemmas.{part_empty, rest_empty}
+
+mutual
+  pub shallow_nests : (d : Data) (levels : ℕ) → deep_flaws d levels ≡ [] → nests d levels ≡ true
+  shallow_nests null levels h = refl
+  shallow_nests (boolean b) levels h = refl
+  shallow_nests (number n) levels h = refl
+  shallow_nests (string s) levels h = refl
+  shallow_nests (array ds) zero h = cc
+  shallow_nests (array ds) (suc levels) h = shallow_items 0 ds levels h
+  shallow_nests (object ms) zero h = cc
+  shallow_nests (object ms) (suc levels) h = shallow_members ms levels h
+
+  shallow_items : (i : ℕ) (ds : Items) (levels : ℕ) → deep_item_flaws i ds levels ≡ [] → items_nest ds levels ≡ true
+  shallow_items i no_items levels h = refl
+  shallow_items i (item d ds) levels h = both (nests d levels) (items_nest ds levels)
+      (shallow_nests d levels (part_empty (within (index i)) (deep_flaws d levels) (deep_item_flaws (suc i) ds levels) h))
+      (shallow_items (suc i) ds levels (rest_empty (within (index i)) (deep_flaws d levels) (deep_item_flaws (suc i) ds levels) h))
+
+  shallow_members : (ms : Members) (levels : ℕ) → deep_member_flaws ms levels ≡ [] → members_nest ms levels ≡ true
+  shallow_members no_members levels h = refl
+  shallow_members (member k d ms) levels h = both (nests d levels) (members_nest ms levels)
+      (shallow_nests d levels (part_empty (within (key k)) (deep_flaws d levels) (deep_member_flaws ms levels) h))
+      (shallow_members ms levels (rest_empty (within (key k)) (deep_flaws d levels) (deep_member_flaws ms levels) h))
+
+-- what is too deep in a part is too deep in the whole
+in_list : (es : Items) (i : ℕ) (e : Data) (levels : ℕ) (f : Flaw) → get_item i es ≡ Some e → (g : Flaw) × (f ≡ within (index i) g) × PassesDepth levels e g → PassesDepth (suc levels) (array es) f
+in_list es i e levels f there (g, is, (kind, (found, leads, nested, steps))) =
+    subst (PassesDepth (suc levels) (array es)) (sym is) (let out : PassesDepth (suc levels) (array es) (within (index i) g) = (kind, (found, (es, e, refl, there, leads), nested, ap suc steps)) in out)
+
+in_object : (ms : Members) (k : List ℕ) (e : Data) (levels : ℕ) (f : Flaw) → HasMember k e ms → (g : Flaw) × (f ≡ within (key k) g) × PassesDepth levels e g → PassesDepth (suc levels) (object ms) f
+in_object ms k e levels f there (g, is, (kind, (found, leads, nested, steps))) =
+    subst (PassesDepth (suc levels) (object ms)) (sym is) (let out : PassesDepth (suc levels) (object ms) (within (key k) g) = (kind, (found, (ms, e, refl, there, leads), nested, ap suc steps)) in out)
+
+only : (f g : Flaw) → Among f (g ∷ []) → f ≡ g
+only f g (inl e) = e
+only f g (inr x) = absurd x
+
+mutual
+  pub deep_holds : (d : Data) (levels : ℕ) (f : Flaw) → Among f (deep_flaws d levels) → PassesDepth levels d f
+  deep_holds null levels f h = absurd h
+  deep_holds (boolean b) levels f h = absurd h
+  deep_holds (number n) levels f h = absurd h
+  deep_holds (string s) levels f h = absurd h
+  deep_holds (array ds) zero f h = subst (PassesDepth 0 (array ds)) (sym (only f (here TooDeep) h)) (let out : PassesDepth 0 (array ds) (here TooDeep) = (refl, (array ds, refl, tt, refl)) in out)
+  deep_holds (array ds) (suc levels) f h = deep_items_hold ds ds 0 levels f (λ j d g. let same : j ≡ 0 + j = omega arith in subst (λ x. get_item x ds ≡ Some d) same g) h
+  deep_holds (object ms) zero f h = subst (PassesDepth 0 (object ms)) (sym (only f (here TooDeep) h)) (let out : PassesDepth 0 (object ms) (here TooDeep) = (refl, (object ms, refl, tt, refl)) in out)
+  deep_holds (object ms) (suc levels) f h = deep_members_hold ms ms levels f (λ k d m. m) h
+
+  deep_items_hold : (rest es : Items) (i levels : ℕ) (f : Flaw) → Aligned es i rest → Among f (deep_item_flaws i rest levels) → PassesDepth (suc levels) (array es) f
+  deep_items_hold no_items es i levels f al h = absurd h
+  deep_items_hold (item e rest) es i levels f al h =
+      first_or_rest f (map (within (index i)) (deep_flaws e levels)) (deep_item_flaws (suc i) rest levels) h
+      (λ a. let (g, is, b) = among_within (index i) f (deep_flaws e levels) a in in_list es i e levels f (aligned_here es i e rest al) (g, is, deep_holds e levels g b))
+      (λ a. deep_items_hold rest es (suc i) levels f (aligned_next es i e rest al) a)
+
+  deep_members_hold : (rest ms : Members) (levels : ℕ) (f : Flaw) → ((k : List ℕ) (d : Data) → HasMember k d rest → HasMember k d ms) → Among f (deep_member_flaws rest levels) → PassesDepth (suc levels) (object ms) f
+  deep_members_hold no_members ms levels f sub h = absurd h
+  deep_members_hold (member k e rest) ms levels f sub h =
+      first_or_rest f (map (within (key k)) (deep_flaws e levels)) (deep_member_flaws rest levels) h
+      (λ a. let (g, is, b) = among_within (key k) f (deep_flaws e levels) a in in_object ms k e levels f (sub k e (inl (refl, refl))) (g, is, deep_holds e levels g b))
+      (λ a. deep_members_hold rest ms levels f (λ q d m. sub q d (inr m)) a)
