@@ -1,10 +1,10 @@
 //! Alignments of structures, in a configuration and in the metadata that is read from its text.
 
-use crate::tests::reading::read_back;
+use crate::tests::stream_files::{Source, metadata_of};
 use ctf_types::{Config, Metadata, align_of};
 use std::alloc::Global;
 use std::test::Fail;
-use worked_fixtures::{Changes, small};
+use worked_fixtures::{Changes, SMALL, small};
 
 /// What a row shows, the small configuration's payload, and the payload's alignment in bits. The length of a dynamic array is a number of 32 bits, aligned to 8.
 static PAYLOADS: &[(&str, Changes, u32)] = &[
@@ -77,10 +77,9 @@ static PAYLOADS: &[(&str, Changes, u32)] = &[
 #[test]
 fn aligns_structures(rt: HostRuntime) -> Result<(), Fail> {
     for (shows, changes, align) in PAYLOADS {
-        let found = configured_align(rt.alloc(), *changes)?;
-        assert_eq!(rt; found, Some(*align), "{shows}");
-        let found = read_align(rt.alloc(), *changes)?;
-        assert_eq!(rt; found, Some(*align), "metadata of {shows}");
+        let configured = configured_align(rt.alloc(), *changes)?;
+        let read = read_align(rt.alloc(), *changes)?;
+        assert_eq!(rt; (configured, read), (Some(*align), Some(*align)), "{shows}");
     }
     Ok(())
 }
@@ -99,7 +98,7 @@ fn payload_align(config: &Config) -> Option<u32> {
 
 /// The alignment of the fields of the first event record type of the metadata that is read from the configuration's text.
 fn read_align(alloc: Global, changes: Changes) -> Result<Option<u32>, Fail> {
-    let metadata = read_back(alloc, &small(alloc, changes)?)?;
+    let metadata = metadata_of(alloc, Source::Written(SMALL, changes, None))?;
     Ok(fields_align(&metadata))
 }
 

@@ -3,10 +3,10 @@
 ghost use Rattle.std.specs.Prelude.{◌≡◌, ◌<◌, length};
 ghost use Rattle.ctf_types.specs.Allowed.{IsMetadata};
 
-use crate::tests::reading::metadata_of;
-use ctf_types::{Metadata, Text};
-use packet_reader::{StreamEnding, read_stream};
-use std::alloc::{AllocError, Global};
+use crate::tests::stream_files::{Source, ending, metadata_of};
+use ctf_types::Metadata;
+use packet_reader::StreamEnding;
+use std::alloc::Global;
 use std::process::Abort;
 use std::test::Fail;
 use worked_fixtures::{CLOCKED, Changes, SMALL, bytes_of};
@@ -34,14 +34,6 @@ static FILES: &[(&str, Changes, &str)] = &[
     ),
 ];
 
-/// How many packets a reader finds in these bytes, and whether they are all.
-fn found(alloc: Global, metadata: &Metadata, bytes: &[u8]) -> Result<(usize, bool), AllocError>
-    requires { IsMetadata metadata.now }
-{
-    let found = read_stream(alloc, metadata, Text::from_str(alloc, "a")?, bytes)?;
-    Ok((found.packets.len(), found.end == StreamEnding::Whole))
-}
-
 /// A front of the file has no packet, and only the empty one is whole.
 fn reads_each_cut(
     rt: &impl Abort,
@@ -52,9 +44,9 @@ fn reads_each_cut(
     requires { IsMetadata metadata.now }
 {
     for end in 0..file.len() {
-        let (packets, is_whole) = found(alloc, metadata, &file[..end])?;
-        assert_eq!(rt; packets, 0, "{end} bytes");
-        assert_eq!(rt; is_whole, end == 0, "{end} bytes");
+        let (packets, ending) = ending(alloc, metadata, &file[..end])?;
+        let is_whole = ending == StreamEnding::Whole;
+        assert_eq!(rt; (packets, is_whole), (0, end == 0), "{end} bytes");
     }
     Ok(())
 }
@@ -74,9 +66,12 @@ fn reads_each_byte(
     let own = file[place];
     for byte in 0..=255 {
         file[place] = byte;
-        let (packets, is_whole) = found(alloc, metadata, file)?;
-        assert!(rt; packets <= 1, "{byte} at {place}");
-        assert!(rt; packets == 1 || !is_whole, "{byte} at {place}");
+        let (packets, ending) = ending(alloc, metadata, file)?;
+        let is_whole = ending == StreamEnding::Whole;
+        assert!(rt;
+            packets == 1 || packets == 0 && !is_whole,
+            "{byte} at {place}"
+        );
     }
     file[place] = own;
     Ok(())
@@ -86,7 +81,7 @@ fn reads_each_byte(
 fn reads_files_that_are_cut_or_changed(rt: HostRuntime) -> Result<(), Fail> {
     let alloc = rt.alloc();
     for (text, changes, digits) in FILES {
-        let metadata = metadata_of(alloc, text, *changes, None)?;
+        let metadata = metadata_of(alloc, Source::Written(text, *changes, None))?;
         let mut file = bytes_of(alloc, digits)?;
         reads_each_cut(&rt, alloc, &metadata, file.as_slice())?;
         reads_each_place(&rt, alloc, &metadata, file.as_mut_slice())?;

@@ -1,7 +1,7 @@
 //! Clock values that a reader finds in a stream file: which ones it compares, and when.
 
-use crate::tests::reading::{is_of_clock, reads};
-use crate::tests::stream_files::{Table, all_end, metadata_of, metadata_text};
+use crate::tests::found_in_files::Told;
+use crate::tests::stream_files::{Source, Table, all_tell, metadata_text};
 use std::alloc::Global;
 use std::test::Fail;
 use tsdl_reader::read_metadata;
@@ -142,72 +142,82 @@ const UNSIGNED: Changes = &[
 /// Files with clock values that fall or do not fall.
 static TIMED_FILES: &[Table] = &[
     // the values of a packet in their order
-    (&[TIMED], PACKETS),
+    (Source::Words(TIMED), Told::Counts, PACKETS),
     // a packet's begin behind its sizes and before its records
-    (&[TIMED], SECOND_PACKETS),
+    (Source::Words(TIMED), Told::Counts, SECOND_PACKETS),
     // a record's faults in the order of its fields
-    (&[TIME_FIRST], TIME_FIRST_RECORDS),
+    (Source::Words(TIME_FIRST), Told::Counts, TIME_FIRST_RECORDS),
     // an event record without an id behind its header
-    (&[NO_ID], RECORDS_WITHOUT_AN_ID),
+    (Source::Words(NO_ID), Told::Counts, RECORDS_WITHOUT_AN_ID),
     // values of several clocks
-    (&[OF_SEVERAL_CLOCKS], VALUES_OF_SEVERAL_CLOCKS),
+    (
+        Source::Words(OF_SEVERAL_CLOCKS),
+        Told::Counts,
+        VALUES_OF_SEVERAL_CLOCKS,
+    ),
     // short times, by the numbers that stand in their fields
-    (&[SHORT_TIMES], FILES_WITH_SHORT_TIMES),
-    (&[SHORT_TIMES_ALONE], FILES_WITH_SHORT_TIMES_ALONE),
+    (
+        Source::Words(SHORT_TIMES),
+        Told::Counts,
+        FILES_WITH_SHORT_TIMES,
+    ),
+    (
+        Source::Words(SHORT_TIMES_ALONE),
+        Told::Counts,
+        FILES_WITH_SHORT_TIMES_ALONE,
+    ),
 ];
 
 #[test]
 fn compares_clock_values(rt: HostRuntime) -> Result<(), Fail> {
-    all_end(&rt, rt.alloc(), TIMED_FILES)
+    all_tell(&rt, rt.alloc(), TIMED_FILES)
 }
 
-/// A packet from 5 to 7, whose records have the times 4 and 3.
-const FALLING: &str = "c11ffcc1 90000000 90000000 0507 0401 0302";
+/// The packet of the files of `PASSED_TIMES`, where its records' times are not compared, is
+/// a packet from 5 to 7, whose records have the times 4 and 3. The other file's is the same from 5 to 4.
+const PASSED_TIMES: &str = r#"
+times that fall, and are not compared: c11ffcc1 90000000 90000000 0507 0401 0302 -> [ReadPacket { stream: 0, begin: Some(5), end: Some(7), sequence: None, discarded: None, extras: Values { items: [] }, records: ListOf { items: [Record { event: 0, clock: None, common: Values { items: [] }, specific: Values { items: [] }, payload: Values { items: [Unsigned(1)] } }, Record { event: 0, clock: None, common: Values { items: [] }, specific: Values { items: [] }, payload: Values { items: [Unsigned(2)] } }] } }] Whole
+a begin and an end that are compared: c11ffcc1 90000000 90000000 0504 0401 0302 -> [] Faulty(Clock, 0)
+"#;
 
-/// The same from 5 to 4.
-const BACKWARDS: &str = "c11ffcc1 90000000 90000000 0504 0401 0302";
+const COMPARED_TIMES: &str = r#"
+times that fall: c11ffcc1 90000000 90000000 0507 0401 0302 -> [] Faulty(Clock, 0)
+"#;
 
-/// The packet of `FALLING`, where its records' times are not compared.
-const PACKET: &str =
-    "[ReadPacket { stream: 0, begin: Some(5), end: Some(7), sequence: None, discarded: None, extras: Values { items: [] }, records: ListOf { items: [Record { event: 0, clock: None, common: Values { items: [] }, specific: Values { items: [] }, payload: Values { items: [Unsigned(1)] } }, Record { event: 0, clock: None, common: Values { items: [] }, specific: Values { items: [] }, payload: Values { items: [Unsigned(2)] } }] } }]";
-
-/// Metadata, a file, its packets, and how it ends. Times that are signed or an enumeration are no clock values, and not compared; the packet's
-/// begin and end are.
-static TIMES: &[(Changes, &str, &str, &str)] = &[
-    (SIGNED, FALLING, PACKET, "Whole"),
-    (SIGNED, BACKWARDS, "[]", "Faulty(Clock, 0)"),
-    (LABELLED, FALLING, PACKET, "Whole"),
-    (LABELLED, BACKWARDS, "[]", "Faulty(Clock, 0)"),
-    (UNSIGNED, FALLING, "[]", "Faulty(Clock, 0)"),
+/// Times that are signed or an enumeration are no clock values, and not compared; the packet's begin and end are.
+static TIMES: &[Table] = &[
+    (Source::Words(SIGNED), Told::Packets, PASSED_TIMES),
+    (Source::Words(LABELLED), Told::Packets, PASSED_TIMES),
+    (Source::Words(UNSIGNED), Told::Packets, COMPARED_TIMES),
 ];
 
 #[test]
 fn compares_times_that_are_unsigned_integers(rt: HostRuntime) -> Result<(), Fail> {
-    for (changes, digits, packets, end) in TIMES {
-        let metadata = metadata_of(rt.alloc(), *changes)?;
-        reads(&rt, rt.alloc(), &metadata, digits, packets, end)?;
-    }
-    Ok(())
+    all_tell(&rt, rt.alloc(), TIMES)
 }
 
-/// Metadata, a file and its clock, which is its records', and none where their times are no clock values.
-static CLOCKS: &[(Changes, &str, &str)] = &[
+const CLOCK_OF_THE_RECORDS: &str = r#"
+several clocks: c11ffcc1 90000000 90000000 0507 0501 0702 -> [two]
+"#;
+
+const NO_CLOCK: &str = r#"
+times that are no clock values: c11ffcc1 90000000 90000000 0507 0401 0302 -> []
+"#;
+
+/// The clock of a file is its records', and none where their times are no clock values.
+static CLOCKS: &[Table] = &[
     (
-        OF_SEVERAL_CLOCKS,
-        "c11ffcc1 90000000 90000000 0507 0501 0702",
-        "two",
+        Source::Words(OF_SEVERAL_CLOCKS),
+        Told::Clock,
+        CLOCK_OF_THE_RECORDS,
     ),
-    (SIGNED, FALLING, ""),
-    (LABELLED, FALLING, ""),
+    (Source::Words(SIGNED), Told::Clock, NO_CLOCK),
+    (Source::Words(LABELLED), Told::Clock, NO_CLOCK),
 ];
 
 #[test]
 fn takes_the_clock_of_the_records(rt: HostRuntime) -> Result<(), Fail> {
-    for (changes, digits, clock) in CLOCKS {
-        let metadata = metadata_of(rt.alloc(), *changes)?;
-        is_of_clock(&rt, rt.alloc(), &metadata, digits, clock)?;
-    }
-    Ok(())
+    all_tell(&rt, rt.alloc(), CLOCKS)
 }
 
 /// Packet contexts whose begin or end is no unsigned integer, and what is not supported in them.
@@ -246,14 +256,14 @@ static OTHER_CONTEXTS: &[(Changes, &str)] = &[
 fn refuses_packets_whose_times_are_no_unsigned_integers(rt: HostRuntime) -> Result<(), Fail> {
     for (changes, kind) in OTHER_CONTEXTS {
         let found = refusal(rt.alloc(), *changes)?;
-        assert_eq!(rt; found.as_str(), *kind);
+        assert_eq!(rt; found.as_str(), *kind, "{changes:?}");
     }
     Ok(())
 }
 
 /// The kind of the fault of the metadata text with these words.
 fn refusal(alloc: Global, changes: Changes) -> Result<String, Fail> {
-    let text = metadata_text(alloc, changes)?;
+    let text = metadata_text(alloc, Source::Words(changes))?;
     match read_metadata(alloc, text.as_bytes()) {
         Ok(_) => Err("metadata with such packets was read".into()),
         Err(fault) => Ok(format!(in alloc; "{:?}", fault.kind)?),

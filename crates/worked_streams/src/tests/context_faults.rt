@@ -1,6 +1,7 @@
 //! Faults of a packet context stand behind all its fields.
 
-use crate::tests::stream_files::{Table, all_end};
+use crate::tests::found_in_files::Told;
+use crate::tests::stream_files::{Source, Table, all_tell};
 use std::test::Fail;
 use worked_fixtures::Changes;
 
@@ -46,14 +47,18 @@ a string without its zero byte in the second packet's context: c11ffcc1 80000000
 /// Faults of packet contexts.
 static IN_CONTEXTS: &[Table] = &[
     // sizes, behind the context and before a torn packet
-    (&[&[]], SIZES),
+    (Source::Words(&[]), Told::Counts, SIZES),
     // an empty array behind the file's end, which tears its packet
-    (&[CONTEXT_WITH_AN_ARRAY], CONTEXTS_WITH_AN_ARRAY),
+    (
+        Source::Words(CONTEXT_WITH_AN_ARRAY),
+        Told::Counts,
+        CONTEXTS_WITH_AN_ARRAY,
+    ),
     // a string without its zero byte, which tears its packet
-    (&[NAMED_CONTEXT], NAMED_CONTEXTS),
+    (Source::Words(NAMED_CONTEXT), Told::Counts, NAMED_CONTEXTS),
 ];
 
 #[test]
 fn answers_a_contexts_fault_behind_its_fields(rt: HostRuntime) -> Result<(), Fail> {
-    all_end(&rt, rt.alloc(), IN_CONTEXTS)
+    all_tell(&rt, rt.alloc(), IN_CONTEXTS)
 }

@@ -1,16 +1,15 @@
 //! Stream files with bytes that nobody wrote, and files whose writer stopped.
 
-use crate::tests::reading::{read, read_back};
+use crate::tests::found_in_files::Told;
 use crate::tests::rings::stream;
-use crate::tests::stream_files::{Table, all_end};
+use crate::tests::stream_files::{Source, Table, all_tell, told_of};
 use packet_collector::{Collected, collect_into};
-use packet_reader::StreamEnding;
 use std::alloc::Global;
 use std::process::Abort;
 use std::test::Fail;
 use thread_stream::{PacketAnswer, Stream, Verdict};
 use trace_platform::{ListBackEnd, ListClock, StoppingWriter, WriterSink};
-use worked_fixtures::{Changes, Datum, bytes_of, payload, small};
+use worked_fixtures::{Changes, Datum, SMALL, bytes_of, payload};
 
 /// A header of 4 bytes, a context of 8, and records of a byte each.
 const BYTES: &str = r#"
@@ -44,36 +43,43 @@ no content: c11ffcc1 80000000 60000000 00000000 -> [0] Whole
 "#;
 
 static DAMAGED: &[Table] = &[
-    (&[&[]], BYTES),
-    (&[SEQUENCE], SEQUENCES),
-    (&[TEXT], TEXTS),
-    (&[NO_FIELDS], NOTHING),
+    (Source::Words(&[]), Told::Counts, BYTES),
+    (Source::Words(SEQUENCE), Told::Counts, SEQUENCES),
+    (Source::Words(TEXT), Told::Counts, TEXTS),
+    (Source::Words(NO_FIELDS), Told::Counts, NOTHING),
 ];
 
 #[test]
 fn reads_damaged_packets(rt: HostRuntime) -> Result<(), Fail> {
-    all_end(&rt, rt.alloc(), DAMAGED)
+    all_tell(&rt, rt.alloc(), DAMAGED)
 }
 
-/// How many bytes a writer takes, and how the file then ends, of which the first packet is whole.
-static STOPPED: &[(usize, StreamEnding)] = &[
-    (20, StreamEnding::Torn(16)),
-    (16, StreamEnding::Whole),
-];
+/// How many bytes a writer takes, and what a reader finds in them, of which the first packet is whole.
+static STOPPED: &[(usize, &str)] = &[(20, "[2] Torn(16)"), (16, "[2] Whole")];
 
 const TWO_PACKETS: &str = "c11ffcc1 80000000 70000000 01020000 c11ffcc1 80000000 70000000 01020000";
 
 /// A stream with two packets of two records each, both closed.
 fn two_packets(rt: &impl Abort, alloc: Global) -> Result<Stream<ListClock, ListBackEnd>, Fail> {
     let mut stream = stream(alloc, ListBackEnd::new(alloc, 2, 16)?)?;
-    for number in [1, 2, 1, 2] {
-        let args = payload(alloc, &[Datum::Unsigned(number)])?;
-        assert_eq!(rt; stream.trace(0, &args), Verdict::Accepted(None));
-        if number == 2 {
-            assert_eq!(rt; stream.close_packet(), PacketAnswer::Done);
-        }
+    for _ in 0..2 {
+        assert!(rt; closes_a_packet(alloc, &mut stream)?);
     }
     Ok(stream)
+}
+
+/// Whether a packet of the records 1 and 2 is closed.
+pub fn closes_a_packet(
+    alloc: Global,
+    stream: &mut Stream<ListClock, ListBackEnd>,
+) -> Result<bool, Fail> {
+    let first = payload(alloc, &[Datum::Unsigned(1)])?;
+    let second = payload(alloc, &[Datum::Unsigned(2)])?;
+    Ok(
+        stream.trace(0, &first) == Verdict::Accepted(None)
+            && stream.trace(0, &second) == Verdict::Accepted(None)
+            && stream.close_packet() == PacketAnswer::Done,
+    )
 }
 
 /// What a writer has of both packets that takes 5 bytes at a time, and no more than there is room for.
@@ -89,16 +95,19 @@ fn collected(rt: &impl Abort, alloc: Global, room: usize) -> Result<Vec<u8>, Fai
 
 #[test]
 fn reads_the_front_that_a_stopped_writer_took(rt: HostRuntime) -> Result<(), Fail> {
-    let alloc = rt.alloc();
-    let metadata = read_back(alloc, &small(alloc, &[])?)?;
-    let all = bytes_of(alloc, TWO_PACKETS)?;
-    for (room, end) in STOPPED {
-        let written = collected(&rt, alloc, *room)?;
-        assert_eq!(rt; written.as_slice(), &all[..(*room).min(all.len())]);
-        let digits = hex::encode(alloc, written.as_slice())?;
-        let found = read(alloc, &metadata, digits.as_str())?;
-        assert_eq!(rt; found.packets.len(), 1);
-        assert_eq!(rt; found.end, *end);
+    for (room, want) in STOPPED {
+        let found = front_found(&rt, rt.alloc(), *room)?;
+        assert_eq!(rt; found.as_str(), *want, "room for {room} bytes");
     }
     Ok(())
+}
+
+/// What a reader finds in the front of both packets for which a writer had room.
+fn front_found(rt: &impl Abort, alloc: Global, room: usize) -> Result<String, Fail> {
+    let written = collected(rt, alloc, room)?;
+    let all = bytes_of(alloc, TWO_PACKETS)?;
+    assert!(rt; written.len() == room && all.starts_with(written.as_slice()));
+    let digits = hex::encode(alloc, written.as_slice())?;
+    let source = Source::Written(SMALL, &[], None);
+    told_of(alloc, source, Told::Counts, digits.as_str())
 }

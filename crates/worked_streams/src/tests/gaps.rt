@@ -1,16 +1,10 @@
 //! Packets that are missing from a stream file, as far as their sequence numbers tell.
 
-use crate::tests::reading::read;
-use crate::tests::stream_files::{file_line, metadata_of};
-use packet_reader::gaps;
+use crate::tests::found_in_files::Told;
+use crate::tests::stream_files::{Source, Table, all_tell, told_of};
 use std::alloc::{AllocError, Global};
-use std::process::Abort;
 use std::test::Fail;
 use worked_fixtures::Changes;
-
-/// The words of a metadata text, and its files, a line each: what the file shows, its bytes in hexadecimal, and how many packets have not the number
-/// after that of the packet before them.
-type Table = (Changes, &'static str);
 
 const NUMBERED: Changes = &[("CONTEXT", "SIZES U8 packet_seq_num;")];
 
@@ -72,39 +66,22 @@ packets of the first stream: c11ffcc1 00 70000000 70000000 00 c11ffcc1 00 700000
 packets of the second stream: c11ffcc1 01 68000000 68000000 c11ffcc1 01 68000000 68000000 -> None
 "#;
 
+/// How many packets of each file have not the number after that of the packet before them.
 static FILES: &[Table] = &[
-    (NUMBERED, NUMBERED_PACKETS),
-    (SHORT, SHORT_NUMBERS),
-    (LONG, LONG_NUMBERS),
-    (&[], UNNUMBERED_PACKETS),
-    (TWO_STREAMS, PACKETS_OF_TWO_STREAMS),
+    (Source::Words(NUMBERED), Told::Gaps, NUMBERED_PACKETS),
+    (Source::Words(SHORT), Told::Gaps, SHORT_NUMBERS),
+    (Source::Words(LONG), Told::Gaps, LONG_NUMBERS),
+    (Source::Words(&[]), Told::Gaps, UNNUMBERED_PACKETS),
+    (
+        Source::Words(TWO_STREAMS),
+        Told::Gaps,
+        PACKETS_OF_TWO_STREAMS,
+    ),
 ];
 
 #[test]
 fn counts_packets_that_do_not_follow_the_one_before(rt: HostRuntime) -> Result<(), Fail> {
-    for (changes, files) in FILES {
-        have_gaps(&rt, rt.alloc(), *changes, files)?;
-    }
-    Ok(())
-}
-
-fn have_gaps(rt: &impl Abort, alloc: Global, changes: Changes, files: &str) -> Result<(), Fail> {
-    for line in files.trim().lines() {
-        let (shows, digits, want) = file_line(line).ok_or("a line without a file or an answer")?;
-        let found = shown_gaps(alloc, gaps_of(alloc, changes, digits)?)?;
-        assert_eq!(rt; found.as_str(), want, "{shows}");
-    }
-    Ok(())
-}
-
-fn shown_gaps(alloc: Global, gaps: Option<u64>) -> Result<String, AllocError> {
-    format!(in alloc; "{gaps:?}")
-}
-
-fn gaps_of(alloc: Global, changes: Changes, digits: &str) -> Result<Option<u64>, Fail> {
-    let metadata = metadata_of(alloc, changes)?;
-    let read = read(alloc, &metadata, digits)?;
-    Ok(gaps(&metadata, &read))
+    all_tell(&rt, rt.alloc(), FILES)
 }
 
 /// A count and a number of 8 bits each. 257 event records are discarded before the second packet, and the last packet's number is 299.
@@ -113,8 +90,13 @@ const COUNTED: Changes = &[("CONTEXT", "SIZES U8 events_discarded; U8 packet_seq
 #[test]
 fn finds_no_gap_in_300_packets(rt: HostRuntime) -> Result<(), Fail> {
     let digits = packets_of_300(rt.alloc())?;
-    let found = gaps_of(rt.alloc(), COUNTED, digits.as_str())?;
-    assert_eq!(rt; found, Some(0));
+    let found = told_of(
+        rt.alloc(),
+        Source::Words(COUNTED),
+        Told::Gaps,
+        digits.as_str(),
+    )?;
+    assert_eq!(rt; found.as_str(), "Some(0)");
     Ok(())
 }
 

@@ -1,6 +1,7 @@
 //! Of the faults of a packet header a reader answers the one that it meets first: each stands as its field is read.
 
-use crate::tests::stream_files::{Table, all_end};
+use crate::tests::found_in_files::Told;
+use crate::tests::stream_files::{Source, Table, all_tell};
 use std::test::Fail;
 use worked_fixtures::Changes;
 
@@ -80,20 +81,28 @@ a string without its zero byte in the second packet's header: c11ffcc1 616200 80
 /// Faults of packet headers.
 static IN_HEADERS: &[Table] = &[
     // as their field is read
-    (&[NUMBERED], HEADERS),
+    (Source::Words(NUMBERED), Told::Counts, HEADERS),
     // in the order of the fields
-    (&[NUMBER_FIRST], NUMBER_FIRST_HEADERS),
+    (
+        Source::Words(NUMBER_FIRST),
+        Told::Counts,
+        NUMBER_FIRST_HEADERS,
+    ),
     // another trace's identifier, as it is read
-    (&[IDENTIFIED], IDENTIFIED_HEADERS),
+    (Source::Words(IDENTIFIED), Told::Counts, IDENTIFIED_HEADERS),
     // another stream than the first packet's
-    (&[TWO_STREAMS], STREAMS),
+    (Source::Words(TWO_STREAMS), Told::Counts, STREAMS),
     // a stream without a number, behind the header
-    (&[OTHER_NUMBER], UNNUMBERED_HEADERS),
+    (
+        Source::Words(OTHER_NUMBER),
+        Told::Counts,
+        UNNUMBERED_HEADERS,
+    ),
     // a string without its zero byte, which tears its packet
-    (&[NAMED], NAMED_HEADERS),
+    (Source::Words(NAMED), Told::Counts, NAMED_HEADERS),
 ];
 
 #[test]
 fn answers_a_headers_fault_as_its_field_is_read(rt: HostRuntime) -> Result<(), Fail> {
-    all_end(&rt, rt.alloc(), IN_HEADERS)
+    all_tell(&rt, rt.alloc(), IN_HEADERS)
 }

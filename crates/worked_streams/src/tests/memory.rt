@@ -1,56 +1,36 @@
 //! Calls that take memory, each answering want of memory in the words `out of memory` wherever a request is refused, and tracing, which takes none:
 //! the script beside the gate refuses each request of these tests in turn, and counts those of tracing.
 
-ghost use Rattle.std.specs.Prelude.{IfOk};
-ghost use Rattle.ctf_types.specs.Allowed.{IsMetadata};
-ghost use Rattle.ctf_types.specs.AllowedConfig.{IsConfig};
-
-use crate::tests::rings::makes_empty;
+use crate::tests::rings::{RingStream, makes_empty, stream};
+use crate::tests::stream_files::{Source, ending, metadata_of};
+use crate::tests::stream_steps::collects_any;
 use conf_check::configure;
-use ctf_types::{Args, Config, Metadata, Text, Values};
+use ctf_types::Args;
 use packet_collector::{Collected, collect_into};
-use packet_reader::{ReadStream, StreamEnding, read_stream};
-use packet_ring::ring;
-use std::alloc::{AllocError, Global};
+use packet_reader::StreamEnding;
+use packet_ring::{RingEnd, ring};
+use std::alloc::Global;
 use std::process::Abort;
 use std::test::Fail;
 use thread_stream::{Stream, Verdict};
-use trace_platform::{BackEnd, ListBackEnd, ListClock, MemorySink, PacketSource};
-use tsdl_reader::read_metadata;
-use tsdl_writer::write_metadata;
-use worked_fixtures::{Datum, SMALL, changed, configuration, granted, payload};
+use trace_platform::{ListBackEnd, ListClock, MemorySink, PacketSource};
+use worked_fixtures::{Changes, Datum, SMALL, configuration, granted, payload};
 
 /// Clocks, features with types of their own, enumerations, arrays, extra members, an environment, and aliases that inherit from others.
 const RICH: &str =
     r#"{"trace":{"environment":{"host":"a\"b\n","version":-3},"type":{"native-byte-order":"be","uuid":"79e49040-21b5-42d4-a83b-646f78666b62","clock-types":{"clk":{"frequency":1000,"description":"since boot","uuid":"79e49040-21b5-42d4-a83b-646f78666b63","precision":5,"offset":{"seconds":-1,"cycles":2},"origin-is-unix-epoch":false},"other":{}},"$log-level-aliases":{"LOUD":7,"QUIET":1},"$field-type-aliases":{"u8":{"class":"uint","size":8},"u16":{"$inherit":"u8","size":16},"state":{"class":"uenum","size":8,"mappings":{"OFF":[0],"ON":[[1,3],9]}},"more":{"$inherit":"state","mappings":{"ON":[12]}},"point":{"class":"struct","members":[{"x":"u8"},{"y":"u16"}]},"space":{"$inherit":"point","members":[{"z":{"field-type":"more"}}]}},"$features":{"magic-field-type":{"class":"uint","size":32,"alignment":32},"uuid-field-type":{"class":"static-array","length":16,"element-field-type":"u8"},"data-stream-type-id-field-type":"u8"},"data-stream-types":{"s":{"$default-clock-type-name":"clk","$features":{"packet":{"total-size-field-type":"u16","content-size-field-type":"u16","sequence-number-field-type":"u8"},"event-record":{"type-id-field-type":"u8"}},"packet-context-field-type-extra-members":[{"cpu":"u8"},{"names":{"field-type":{"class":"dynamic-array","element-field-type":{"class":"str"}}}}],"event-record-common-context-field-type":{"class":"struct","members":[{"pid":{"field-type":"u16"}}]},"event-record-types":{"a":{"log-level":"LOUD","specific-context-field-type":"point","payload-field-type":"space"},"b":{"log-level":4,"payload-field-type":{"class":"struct","members":[{"s":{"field-type":{"class":"str"}}},{"grid":{"field-type":{"class":"static-array","length":2,"element-field-type":{"class":"static-array","length":3,"element-field-type":"u8"}}}},{"list":{"field-type":{"class":"dynamic-array","element-field-type":"u16"}}}]}}}},"t":{}}}}}"#;
 
 /// A string, a list and an array of strings.
-const LISTS: &str =
-    r#"[{"s":{"field-type":{"class":"str"}}},{"a":{"field-type":{"class":"dynamic-array","element-field-type":{"class":"uint","size":8}}}},{"t":{"field-type":{"class":"static-array","length":2,"element-field-type":{"class":"str"}}}}]"#;
+const WITH_LISTS: Changes = &[(
+    "PAYLOAD",
+    r#"[{"s":{"field-type":{"class":"str"}}},{"a":{"field-type":{"class":"dynamic-array","element-field-type":{"class":"uint","size":8}}}},{"t":{"field-type":{"class":"static-array","length":2,"element-field-type":{"class":"str"}}}}]"#,
+)];
 
 /// A packet of 24 bytes with the record `"Hi"`, `[5, 6]`, `["x", ""]`.
 const FILE: &[u8] = &[
     0xc1, 0x1f, 0xfc, 0xc1, 0xc0, 0, 0, 0, 0xc0, 0, 0, 0, 0x48, 0x69, 0, 2, 0, 0, 0, 5, 6, 0x78, 0,
     0,
 ];
-
-/// The metadata that is read from the configuration's text.
-fn read_back(alloc: Global, config: &Config) -> Result<Metadata, Fail>
-    ensures { IfOk result (λ m. IsMetadata m) }
-{
-    let text = granted(write_metadata(alloc, config))?;
-    match read_metadata(alloc, text.as_bytes()) {
-        Ok(metadata) => Ok(metadata),
-        Err(fault) => Err(Fail::new(fault.kind)),
-    }
-}
-
-fn read(alloc: Global, metadata: &Metadata, bytes: &[u8]) -> Result<ReadStream, Fail>
-    requires { IsMetadata metadata.now }
-{
-    let name = granted(Text::from_str(alloc, "a"))?;
-    granted(read_stream(alloc, metadata, name, bytes))
-}
 
 #[test]
 fn makes_a_configuration(rt: HostRuntime) -> Result<(), Fail> {
@@ -79,25 +59,17 @@ fn refuses_a_configuration(rt: HostRuntime) -> Result<(), Fail> {
 
 #[test]
 fn writes_and_reads_metadata(rt: HostRuntime) -> Result<(), Fail> {
-    let alloc = rt.alloc();
-    let metadata = read_back(alloc, &configuration(alloc, RICH)?)?;
+    let metadata = metadata_of(rt.alloc(), Source::Written(RICH, &[], None))?;
     assert_eq!(rt; metadata.streams.len(), 2);
     Ok(())
 }
 
 #[test]
 fn reads_strings_and_lists(rt: HostRuntime) -> Result<(), Fail> {
-    let read = lists_read(rt.alloc())?;
-    assert_eq!(rt; read.packets.len(), 1);
-    assert!(rt; matches!(read.end, StreamEnding::Whole));
+    let metadata = metadata_of(rt.alloc(), Source::Written(SMALL, WITH_LISTS, None))?;
+    let found = ending(rt.alloc(), &metadata, FILE)?;
+    assert_eq!(rt; found, (1, StreamEnding::Whole));
     Ok(())
-}
-
-/// What is read of `FILE` by the metadata of the small configuration with `LISTS`.
-fn lists_read(alloc: Global) -> Result<ReadStream, Fail> {
-    let text = granted(changed(alloc, SMALL, &[("PAYLOAD", LISTS)]))?;
-    let metadata = read_back(alloc, &configuration(alloc, text.as_str())?)?;
-    read(alloc, &metadata, FILE)
 }
 
 #[test]
@@ -112,35 +84,19 @@ fn traces_a_thousand_records(rt: HostRuntime) -> Result<(), Fail> {
 
 /// Traces so many records with one list of arguments, and takes each packet as it is closed.
 fn traces(rt: &impl Abort, alloc: Global, records: u32) -> Result<(), Fail> {
-    let args = granted(payload(alloc, &[Datum::Unsigned(7)]))?;
-    let back_end = granted(ListBackEnd::new(alloc, 2, 16))?;
-    let mut stream = stream_over(alloc, back_end)?;
+    let args = payload(alloc, &[Datum::Unsigned(7)])?;
+    let mut stream = stream(alloc, ListBackEnd::new(alloc, 2, 16)?)?;
     for _ in 0..records {
-        traces_and_takes(rt, &mut stream, &args);
+        assert_eq!(rt; traced(&mut stream, &args), Verdict::Accepted(None));
     }
     Ok(())
 }
 
-/// A stream of the small configuration over this back end.
-fn stream_over<B: BackEnd + Drop>(
-    alloc: Global,
-    back_end: B,
-) -> Result<Stream<ListClock, B>, Fail> {
-    let text = granted(changed(alloc, SMALL, &[]))?;
-    let config = configuration(alloc, text.as_str())?;
-    let clock = ListClock::new(Vec::new(alloc)).ok_or("readings that fall")?;
-    match Stream::new(alloc, &config, "s", clock, back_end, Values::new(alloc)) {
-        Ok(stream) => Ok(stream),
-        Err(refused) => Err(Fail::new(refused.fault)),
-    }
-}
-
-fn traces_and_takes(rt: &impl Abort, stream: &mut Stream<ListClock, ListBackEnd>, args: &Args) {
+/// What is answered to a call; a packet that it closed is taken, and its buffer goes back.
+fn traced(stream: &mut Stream<ListClock, ListBackEnd>, args: &Args) -> Verdict {
     let answer = stream.trace(0, args);
-    assert_eq!(rt; answer, Verdict::Accepted(None));
-    if let Some(packet) = stream.take() {
-        stream.give_back(packet.into_buf());
-    }
+    collects_any(stream);
+    answer
 }
 
 #[test]
@@ -155,17 +111,22 @@ fn traces_a_thousand_records_over_a_ring(rt: HostRuntime) -> Result<(), Fail> {
 
 /// Traces so many records over a ring of one place, and takes each packet as it is closed.
 fn traces_over_a_ring(rt: &impl Abort, alloc: Global, records: u32) -> Result<(), Fail> {
-    let args = granted(payload(alloc, &[Datum::Unsigned(7)]))?;
-    let (back_end, mut ring_end) = granted(ring(alloc, 1, 16))?;
-    let mut stream = stream_over(alloc, back_end)?;
+    let args = payload(alloc, &[Datum::Unsigned(7)])?;
+    let (back_end, mut ring_end) = ring(alloc, 1, 16)?;
+    let mut stream = stream(alloc, back_end)?;
     for _ in 0..records {
-        let answer = stream.trace(0, &args);
+        let answer = traced_over_a_ring(&mut stream, &mut ring_end, &args);
         assert_eq!(rt; answer, Verdict::Accepted(None));
-        if let Some(packet) = ring_end.take() {
-            ring_end.give_back(packet.into_buf());
-        }
     }
     Ok(())
+}
+
+fn traced_over_a_ring(stream: &mut RingStream, ring_end: &mut RingEnd, args: &Args) -> Verdict {
+    let answer = stream.trace(0, args);
+    if let Some(packet) = ring_end.take() {
+        ring_end.give_back(packet.into_buf());
+    }
+    answer
 }
 
 /// Opens, closes and collects 300 packets over a ring of one place, into a sink with room for their bytes. Each answer is the ample one once all is
@@ -173,14 +134,14 @@ fn traces_over_a_ring(rt: &impl Abort, alloc: Global, records: u32) -> Result<()
 #[test]
 fn collects_300_packets_over_a_ring(rt: HostRuntime) -> Result<(), Fail> {
     let alloc = rt.alloc();
-    let (back_end, mut ring_end) = granted(ring(alloc, 1, 16))?;
-    let mut stream = stream_over(alloc, back_end)?;
-    let mut sink = granted(MemorySink::with_capacity(alloc, 300 * 16))?;
+    let mut sink = MemorySink::with_capacity(alloc, 300 * 16)?;
+    let (back_end, mut ring_end) = ring(alloc, 1, 16)?;
+    let mut stream = stream(alloc, back_end)?;
     let mut faulted = false;
     for number in 0..300 {
-        assert!(rt; makes_empty(&mut stream));
+        let made = makes_empty(&mut stream);
         let answer = collect_into(&mut sink, &mut faulted, &mut ring_end);
-        assert_eq!(rt; answer, Collected::Took(number));
+        assert_eq!(rt; (made, answer), (true, Collected::Took(number)));
     }
     Ok(())
 }

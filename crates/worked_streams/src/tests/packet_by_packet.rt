@@ -1,15 +1,12 @@
 //! A stream file read packet by packet, from a reader that gives few bytes at a time or fails on the way.
 
-ghost use Rattle.ctf_types.specs.Allowed.{IsMetadata};
-
-use crate::tests::reading::read_back;
+use crate::tests::stream_files::{Source, metadata_of};
 use ctf_types::{ListOf, Metadata, ReadPacket, Text, Values};
 use packet_reader::{ReadStop, StreamEnding, StreamReader};
 use std::alloc::Global;
 use std::io::{Error, ErrorKind, Read, Result as ReadResult};
-use std::process::Abort;
 use std::test::Fail;
-use worked_fixtures::{bytes_of, small};
+use worked_fixtures::{SMALL, bytes_of};
 
 /// Two packets of 16 bytes with two records each, of which the second is cut.
 const CUT: &str = "c11ffcc1 80000000 70000000 01020000 c11ffcc1";
@@ -52,66 +49,74 @@ fn reader_of(alloc: Global, piece: usize, room: usize, fails: bool) -> Result<Pi
 }
 
 /// The number of records in the next packet; None where no packet is left.
-fn next_records<R: Read>(reader: &mut StreamReader<'_, R>) -> Result<Option<usize>, ReadStop> {
+pub fn next_records<R: Read>(reader: &mut StreamReader<'_, R>) -> Result<Option<usize>, ReadStop> {
     match reader.next_packet()? {
         Some(packet) => Ok(Some(packet.records.len())),
         None => Ok(None),
     }
 }
 
-/// Each call answers so many records, no packet or a stop, and then the file ends so.
-fn answers(
-    rt: &impl Abort,
-    alloc: Global,
-    metadata: &Metadata,
-    input: Pieces,
-    calls: [Result<Option<usize>, ReadStop>; 3],
-    end: Option<StreamEnding>,
-) -> Result<(), Fail>
-    requires { IsMetadata metadata.now }
-{
+/// What three calls of a reader answer: each so many records, no packet or a stop, and then how the file ends.
+type Answers = ([Result<Option<usize>, ReadStop>; 3], Option<StreamEnding>);
+
+fn answers(alloc: Global, input: Pieces) -> Result<Answers, Fail> {
+    let metadata = metadata_of(alloc, Source::Written(SMALL, &[], None))?;
     let name = Text::from_str(alloc, "a")?;
-    let mut reader = StreamReader::new(alloc, metadata, name, input);
-    for call in calls {
-        assert_eq!(rt; next_records(&mut reader), call);
-    }
-    assert_eq!(rt; reader.end(), end);
-    Ok(())
+    let mut reader = StreamReader::new(alloc, &metadata, name, input);
+    let first = next_records(&mut reader);
+    let second = next_records(&mut reader);
+    let third = next_records(&mut reader);
+    Ok(([first, second, third], reader.end()))
 }
 
 #[test]
 fn reads_few_bytes_at_a_time(rt: HostRuntime) -> Result<(), Fail> {
-    let metadata = read_back(rt.alloc(), &small(rt.alloc(), &[])?)?;
     for piece in [1, 7] {
-        let input = reader_of(rt.alloc(), piece, 20, false)?;
+        let found = answers(rt.alloc(), reader_of(rt.alloc(), piece, 20, false)?)?;
         let calls = [Ok(Some(2)), Ok(None), Ok(None)];
-        let end = Some(StreamEnding::Torn(16));
-        answers(&rt, rt.alloc(), &metadata, input, calls, end)?;
+        assert_eq!(rt;
+            found,
+            (calls, Some(StreamEnding::Torn(16))),
+            "{piece} bytes"
+        );
     }
     Ok(())
 }
 
 #[test]
 fn keeps_a_fault_of_the_reader(rt: HostRuntime) -> Result<(), Fail> {
-    let metadata = read_back(rt.alloc(), &small(rt.alloc(), &[])?)?;
     let fault = ReadStop::ReaderFault;
-    let input = reader_of(rt.alloc(), 20, 16, true)?;
-    let calls = [Ok(Some(2)), Err(fault), Err(fault)];
-    answers(&rt, rt.alloc(), &metadata, input, calls, None)
+    let found = answers(rt.alloc(), reader_of(rt.alloc(), 20, 16, true)?)?;
+    assert_eq!(rt; found, ([Ok(Some(2)), Err(fault), Err(fault)], None));
+    Ok(())
 }
 
 #[test]
 fn refills_the_packet_in_hand(rt: HostRuntime) -> Result<(), Fail> {
-    let metadata = read_back(rt.alloc(), &small(rt.alloc(), &[])?)?;
-    let name = Text::from_str(rt.alloc(), "a")?;
-    let input = reader_of(rt.alloc(), 7, 20, false)?;
-    let mut packet = no_packet(rt.alloc());
-    let mut reader = StreamReader::new(rt.alloc(), &metadata, name, input);
-    for (given, records) in [(true, 2), (false, 0), (false, 0)] {
-        assert_eq!(rt; reader.next_packet_into(&mut packet)?, given);
-        assert_eq!(rt; packet.records.len(), records);
-    }
+    let found = refills(rt.alloc())?;
+    assert_eq!(rt; found, [(true, 2), (false, 0), (false, 0)]);
     Ok(())
+}
+
+/// Whether each of three calls fills the packet, and how many records it has then.
+fn refills(alloc: Global) -> Result<[(bool, usize); 3], Fail> {
+    let metadata = metadata_of(alloc, Source::Written(SMALL, &[], None))?;
+    let name = Text::from_str(alloc, "a")?;
+    let input = reader_of(alloc, 7, 20, false)?;
+    let mut packet = no_packet(alloc);
+    let mut reader = StreamReader::new(alloc, &metadata, name, input);
+    let first = refilled(&mut reader, &mut packet)?;
+    let second = refilled(&mut reader, &mut packet)?;
+    let third = refilled(&mut reader, &mut packet)?;
+    Ok([first, second, third])
+}
+
+fn refilled<R: Read>(
+    reader: &mut StreamReader<'_, R>,
+    packet: &mut ReadPacket,
+) -> Result<(bool, usize), ReadStop> {
+    let given = reader.next_packet_into(packet)?;
+    Ok((given, packet.records.len()))
 }
 
 fn no_packet(alloc: Global) -> ReadPacket {

@@ -1,6 +1,7 @@
 //! Faults of event records: each stands as its field is read.
 
-use crate::tests::stream_files::{Table, all_end};
+use crate::tests::found_in_files::Told;
+use crate::tests::stream_files::{Source, Table, all_tell};
 use std::test::Fail;
 use worked_fixtures::Changes;
 
@@ -17,12 +18,13 @@ an empty array whose alignment passes the content, which ends behind the member 
 "#;
 
 /// A string before the number `v`, in each structure of a record.
-const STRINGS: &[Changes] = &[
-    &[("RECORD", "string s;")],
-    &[("COMMON", "string s;")],
-    &[("SPECIFIC", "string s;")],
-    &[("FIELDS", "string s; U8 v;")],
-];
+const IN_THE_HEADER: Changes = &[("RECORD", "string s;")];
+
+const IN_THE_STREAMS_CONTEXT: Changes = &[("COMMON", "string s;")];
+
+const IN_THE_OWN_CONTEXT: Changes = &[("SPECIFIC", "string s;")];
+
+const IN_THE_FIELDS: Changes = &[("FIELDS", "string s; U8 v;")];
 
 /// A record begins at bit 96.
 const RECORDS: &str = r#"
@@ -52,15 +54,19 @@ content for a record without bits: c11ffcc1 68000000 68000000 00 -> [] Faulty(Re
 /// Faults of event records.
 static IN_RECORDS: &[Table] = &[
     // an empty array whose alignment passes the content
-    (&[SEQUENCE, ARRAY], ARRAYS),
+    (Source::Words(SEQUENCE), Told::Counts, ARRAYS),
+    (Source::Words(ARRAY), Told::Counts, ARRAYS),
     // a string without its zero byte, in each structure of a record
-    (STRINGS, RECORDS),
-    (&[STRING_ALONE], STRINGS_ALONE),
+    (Source::Words(IN_THE_HEADER), Told::Counts, RECORDS),
+    (Source::Words(IN_THE_STREAMS_CONTEXT), Told::Counts, RECORDS),
+    (Source::Words(IN_THE_OWN_CONTEXT), Told::Counts, RECORDS),
+    (Source::Words(IN_THE_FIELDS), Told::Counts, RECORDS),
+    (Source::Words(STRING_ALONE), Told::Counts, STRINGS_ALONE),
     // a record that ends where it began
-    (&[NO_FIELDS], EMPTY_RECORDS),
+    (Source::Words(NO_FIELDS), Told::Counts, EMPTY_RECORDS),
 ];
 
 #[test]
 fn answers_a_records_fault_as_its_field_is_read(rt: HostRuntime) -> Result<(), Fail> {
-    all_end(&rt, rt.alloc(), IN_RECORDS)
+    all_tell(&rt, rt.alloc(), IN_RECORDS)
 }

@@ -1,12 +1,13 @@
 //! Buffers that go round between a stream and a collector over a ring.
 
+use crate::tests::damaged_files::closes_a_packet;
 use crate::tests::rings::{makes_empty, opened, stream};
+use crate::tests::stream_steps::collects as takes;
 use packet_collector::{Collected, collect_into};
 use packet_ring::{RingEnd, ring};
 use std::test::Fail;
-use thread_stream::{PacketAnswer, Verdict};
-use trace_platform::{ListBackEnd, MemorySink, PacketSource, Script, ScriptedSink, Turn};
-use worked_fixtures::{Datum, bytes_of, payload};
+use thread_stream::PacketAnswer;
+use trace_platform::{ListBackEnd, MemorySink, Script, ScriptedSink, Turn};
 
 fn collects(sink: &mut ScriptedSink, faulted: &mut bool, ring_end: &mut RingEnd) -> Collected {
     collect_into(sink, faulted, ring_end)
@@ -28,9 +29,9 @@ fn gives_back_the_buffer_at_a_fault_of_the_sink(rt: HostRuntime) -> Result<(), F
         assert!(rt; makes_empty(&mut stream));
     }
     for _ in 0..2 {
-        assert_eq!(rt; opened(&mut stream), PacketAnswer::Full);
+        let full = opened(&mut stream);
         let answer = collects(&mut sink, &mut faulted, &mut ring_end);
-        assert_eq!(rt; answer, Collected::Faulted);
+        assert_eq!(rt; (full, answer), (PacketAnswer::Full, Collected::Faulted));
     }
     Ok(())
 }
@@ -38,15 +39,15 @@ fn gives_back_the_buffer_at_a_fault_of_the_sink(rt: HostRuntime) -> Result<(), F
 /// What stood in a buffer is in no packet.
 #[test]
 fn shows_nothing_of_what_stood_in_a_buffer(rt: HostRuntime) -> Result<(), Fail> {
-    let alloc = rt.alloc();
-    let mut stream = stream(alloc, ListBackEnd::filled(alloc, 1, 16, 0xff)?)?;
-    for number in 1..3 {
-        let args = payload(alloc, &[Datum::Unsigned(number)])?;
-        assert_eq!(rt; stream.trace(0, &args), Verdict::Accepted(None));
-    }
-    assert_eq!(rt; stream.close_packet(), PacketAnswer::Done);
-    let packet = stream.take().ok_or("no packet")?;
-    let want = bytes_of(alloc, "c11ffcc1 80000000 70000000 01020000")?;
-    assert_eq!(rt; packet.bytes(), want.as_slice());
+    let back_end = ListBackEnd::filled(rt.alloc(), 1, 16, 0xff)?;
+    let mut stream = stream(rt.alloc(), back_end)?;
+    assert!(rt; closes_a_packet(rt.alloc(), &mut stream)?);
+    assert!(rt;
+        takes(
+            rt.alloc(),
+            &mut stream,
+            "c11ffcc1 80000000 70000000 01020000"
+        )?
+    );
     Ok(())
 }

@@ -1,22 +1,16 @@
 //! Where a trace goes on behind a stream file, and what a stream that goes on there adds to the file.
 
-ghost use Rattle.ctf_types.specs.Allowed.{IsMetadata};
-
+use crate::tests::found_in_files::Told;
 use crate::tests::gaps::packets_of_300;
-use crate::tests::reading::{metadata_of, read};
-use crate::tests::short_timestamps::{BYTE, ONE_BIT, PAUSED_FIRST, PAUSED_SECOND, SHORT};
-use crate::tests::stream_files;
-use crate::tests::stream_steps::{
-    START, Start, Step, clock, configuration, list_back_end, takes_steps,
-};
-use ctf_types::Metadata;
+use crate::tests::short_timestamps::{ONE_BIT, PAUSED_FIRST, PAUSED_SECOND, SHORT};
+use crate::tests::stream_files::{Source, Table, all_tell, metadata_of, read};
+use crate::tests::stream_steps::{Round, START, Start, Step, list_back_end, runs};
 use packet_reader::{ResumePoint, gaps, resume_point};
 use std::alloc::Global;
 use std::process::Abort;
 use std::test::Fail;
-use thread_stream::{PacketAnswer, Stream, Verdict};
-use trace_platform::{ListBackEnd, ListClock};
-use worked_fixtures::{Changes, Datum, NARROW, SMALL, values};
+use thread_stream::{PacketAnswer, Verdict};
+use worked_fixtures::{Datum, NARROW, SMALL, bytes_of};
 
 /// A stream that goes on behind a file.
 #[derive(Clone, Copy)]
@@ -26,7 +20,7 @@ struct Row {
     start: Start,
     /// The point behind the file.
     point: ResumePoint,
-    steps: &'static [Step],
+    steps: &'static [Round],
     /// The bytes that the steps add to the file, in hexadecimal.
     more: &'static str,
     /// The point behind the file with these bytes, and how many of its packets have not the number after that of the packet before them.
@@ -57,14 +51,17 @@ static BEHIND_A_DISCARDED_CALL: Row = Row {
         discarded: 1,
         floor: 0,
     },
-    steps: &[
-        Step::Sequence(2),
-        Step::Discarded(1),
-        Step::Trace(0, &[Datum::Unsigned(7)], Verdict::Accepted(None)),
-        Step::Close(PacketAnswer::Done),
-        Step::Collect(THIRD),
-        Step::CollectNothing,
-    ],
+    steps: &[(
+        1,
+        &[
+            Step::Sequence(2),
+            Step::Discarded(1),
+            Step::Trace(0, &[Datum::Unsigned(7)], Verdict::Accepted(None)),
+            Step::Close(PacketAnswer::Done),
+            Step::Collect(THIRD),
+            Step::CollectNothing,
+        ],
+    )],
     more: THIRD,
     behind: ResumePoint {
         stream: Some(0),
@@ -86,12 +83,15 @@ static BEHIND_NO_PACKET: Row = Row {
         discarded: 0,
         floor: 0,
     },
-    steps: &[
-        Step::Trace(0, &[Datum::Unsigned(1)], Verdict::Accepted(None)),
-        Step::Trace(0, &[Datum::Unsigned(2)], Verdict::Accepted(None)),
-        Step::Close(PacketAnswer::Done),
-        Step::Collect(FIRST),
-    ],
+    steps: &[(
+        1,
+        &[
+            Step::Trace(0, &[Datum::Unsigned(1)], Verdict::Accepted(None)),
+            Step::Trace(0, &[Datum::Unsigned(2)], Verdict::Accepted(None)),
+            Step::Close(PacketAnswer::Done),
+            Step::Collect(FIRST),
+        ],
+    )],
     more: FIRST,
     behind: ResumePoint {
         stream: Some(0),
@@ -119,12 +119,15 @@ static BEHIND_SHORT_TIMESTAMPS: Row = Row {
         discarded: 0,
         floor: 601,
     },
-    steps: &[
-        Step::Trace(0, &[Datum::Signed(-2)], Verdict::Accepted(Some(601))),
-        Step::Trace(0, &[Datum::Signed(1)], Verdict::Accepted(Some(700))),
-        Step::Close(PacketAnswer::Done),
-        Step::Collect(TIMED_THIRD),
-    ],
+    steps: &[(
+        1,
+        &[
+            Step::Trace(0, &[Datum::Signed(-2)], Verdict::Accepted(Some(601))),
+            Step::Trace(0, &[Datum::Signed(1)], Verdict::Accepted(Some(700))),
+            Step::Close(PacketAnswer::Done),
+            Step::Collect(TIMED_THIRD),
+        ],
+    )],
     more: TIMED_THIRD,
     behind: ResumePoint {
         stream: Some(0),
@@ -153,11 +156,14 @@ static BEHIND_300_PACKETS: Row = Row {
         discarded: 1,
         floor: 0,
     },
-    steps: &[
-        Step::Open(PacketAnswer::Done),
-        Step::Close(PacketAnswer::Done),
-        Step::Collect(NUMBER_44),
-    ],
+    steps: &[(
+        1,
+        &[
+            Step::Open(PacketAnswer::Done),
+            Step::Close(PacketAnswer::Done),
+            Step::Collect(NUMBER_44),
+        ],
+    )],
     more: NUMBER_44,
     behind: ResumePoint {
         stream: Some(0),
@@ -185,77 +191,59 @@ fn goes_on_where_numbers_went_round(rt: HostRuntime) -> Result<(), Fail> {
 
 /// Behind the file, in hexadecimal, stands the row's point, and a stream that goes on there adds what the row says.
 fn goes_on(rt: &impl Abort, alloc: Global, row: &Row, file: &str) -> Result<(), Fail> {
-    let start = &row.start;
-    let metadata = metadata_of(alloc, start.text, start.changes, start.number)?;
-    let point = point_behind(alloc, &metadata, file)?;
+    let (point, _) = behind(alloc, &row.start, file)?;
     assert_eq!(rt; point, Some(row.point), "{}", row.shows);
-    let mut stream = resumed(alloc, start, row.point)?;
-    takes_steps(rt, alloc, &mut stream, row.shows, row.steps)?;
+    adds(rt, alloc, row)?;
     let whole = format!(in alloc; "{file} {}", row.more)?;
-    let behind = point_behind(alloc, &metadata, whole.as_str())?;
-    assert_eq!(rt; behind, Some(row.behind), "{}", row.shows);
-    let gaps = gaps(&metadata, &read(alloc, &metadata, whole.as_str())?);
-    assert_eq!(rt; gaps, row.gaps, "{}", row.shows);
+    let found = behind(alloc, &row.start, whole.as_str())?;
+    assert_eq!(rt; found, (Some(row.behind), row.gaps), "{}", row.shows);
     Ok(())
 }
 
-fn point_behind(alloc: Global, metadata: &Metadata, file: &str) -> Result<Option<ResumePoint>, Fail>
-    requires { IsMetadata metadata.now }
-{
-    let stream = read(alloc, metadata, file)?;
-    Ok(resume_point(metadata, &stream))
-}
-
-/// A stream that goes on at this point.
-fn resumed(
+/// The point behind a file, and how many of its packets have not the number after that of the packet before them.
+fn behind(
     alloc: Global,
     start: &Start,
-    point: ResumePoint,
-) -> Result<Stream<ListClock, ListBackEnd>, Fail> {
-    let clock = clock(alloc, start.readings)?;
-    let back_end = list_back_end(alloc, start)?;
-    let extras = values(alloc, start.extras)?;
-    let config = configuration(alloc, start)?;
-    let stream = Stream::resume(
-        alloc,
-        &config,
-        start.type_name,
-        clock,
-        back_end,
-        extras,
-        point.sequence,
-        point.discarded,
-    );
-    Ok(stream.map_err(|refused| refused.fault)?)
+    file: &str,
+) -> Result<(Option<ResumePoint>, Option<u64>), Fail> {
+    let source = Source::Written(start.text, start.changes, start.number);
+    let metadata = metadata_of(alloc, source)?;
+    let bytes = bytes_of(alloc, file)?;
+    let read = read(alloc, &metadata, bytes.as_slice())?;
+    Ok((resume_point(&metadata, &read), gaps(&metadata, &read)))
 }
+
+/// A stream that goes on at the row's point answers its steps.
+fn adds(rt: &impl Abort, alloc: Global, row: &Row) -> Result<(), Fail> {
+    let start = Start {
+        goes_on: Some((row.point.sequence, row.point.discarded)),
+        ..row.start
+    };
+    let back_end = list_back_end(alloc, &start)?;
+    runs(rt, alloc, back_end, &(row.shows, start, row.steps))?;
+    Ok(())
+}
+
+const TORN_FILE: &str = r#"
+a second packet that is torn: c11ffcc1 80000000 70000000 01020000 c11ffcc1 -> None
+"#;
+
+static TORN: &[Table] = &[(Source::Written(SMALL, &[], None), Told::Point, TORN_FILE)];
 
 #[test]
 fn goes_on_behind_no_torn_file(rt: HostRuntime) -> Result<(), Fail> {
-    let metadata = metadata_of(rt.alloc(), SMALL, &[], None)?;
-    let torn = "c11ffcc1 80000000 70000000 01020000 c11ffcc1";
-    let point = point_behind(rt.alloc(), &metadata, torn)?;
-    assert_eq!(rt; point, None);
-    Ok(())
+    all_tell(&rt, rt.alloc(), TORN)
 }
 
-/// Metadata from elsewhere, a file in hexadecimal, and the last clock value in it.
-static LAST_CLOCKS: &[(Changes, &str, u64)] = &[
-    // from 4 on: 4, 5, 5 and 6 by their last bits
-    (
-        ONE_BIT,
-        "c11ffcc1 e0000000 e0000000 0400000000000000 0001 0102 0103 0004",
-        6,
-    ),
-    // a packet without a record
-    (ONE_BIT, "c11ffcc1 a0000000 a0000000 0400000000000000", 4),
-];
+const FILES_OF_ONE_BIT: &str = r#"
+from 4 on at 4, 5, 5 and 6 by their last bits: c11ffcc1 e0000000 e0000000 0400000000000000 0001 0102 0103 0004 -> Some(ResumePoint { stream: Some(0), sequence: 1, discarded: 0, floor: 6 })
+a packet from 4 on without a record: c11ffcc1 a0000000 a0000000 0400000000000000 -> Some(ResumePoint { stream: Some(0), sequence: 1, discarded: 0, floor: 4 })
+"#;
+
+/// The last clock value in a file is the point's, by metadata from elsewhere.
+static LAST_CLOCKS: &[Table] = &[(Source::Words(ONE_BIT), Told::Point, FILES_OF_ONE_BIT)];
 
 #[test]
 fn goes_on_from_the_last_clock_value(rt: HostRuntime) -> Result<(), Fail> {
-    for (changes, file, floor) in LAST_CLOCKS {
-        let metadata = stream_files::metadata_of(rt.alloc(), *changes)?;
-        let point = point_behind(rt.alloc(), &metadata, file)?;
-        assert_eq!(rt; point.map(|point| point.floor), Some(*floor), "{file}");
-    }
-    Ok(())
+    all_tell(&rt, rt.alloc(), LAST_CLOCKS)
 }

@@ -1,14 +1,14 @@
 //! A ring of packets, with both its ends in one thread: what comes back and what goes round.
 
-ghost use Rattle.std.specs.Prelude.{◌≡◌, OnOk};
+ghost use Rattle.std.specs.Prelude.{◌≡◌};
 ghost use Rattle.packet_ring.specs.Taking.{SameRing};
 
 use ctf_types::{Args, Values};
-use packet_ring::{RingBackEnd, RingDone, RingEnd, ring};
+use packet_ring::{RingBackEnd, RingEnd, ring};
 use packet_writer::Packet;
 use std::alloc::Global;
 use std::test::Fail;
-use thread_stream::{PacketAnswer, Stream, StreamEnd, Verdict, Why};
+use thread_stream::{PacketAnswer, Stream, Verdict, Why};
 use trace_platform::{BackEnd, ListBackEnd, ListClock, PacketSource};
 use worked_fixtures::{Datum, bytes_of, payload, small};
 
@@ -27,22 +27,21 @@ pub fn stream<B: BackEnd + Drop>(alloc: Global, back_end: B) -> Result<Stream<Li
 }
 
 /// Whether the next packet is these bytes; its buffer goes back.
-fn takes(alloc: Global, source: &mut RingEnd, digits: &str) -> Result<bool, Fail>
-    ensures { OnOk result (SameRing source.old source.new × (source.new.settled ≡ source.old.settled)) }
+fn takes(source: &mut RingEnd, want: &[u8]) -> bool
+    ensures { SameRing source.old source.new × (source.new.settled ≡ source.old.settled) }
 {
-    let want = bytes_of(alloc, digits)?;
-    let packet = source.take().ok_or("no packet")?;
-    let same = packet.bytes() == want.as_slice();
-    source.give_back(packet.into_buf());
-    Ok(same)
+    match source.take() {
+        None => false,
+        Some(packet) => {
+            let same = packet.bytes() == want;
+            source.give_back(packet.into_buf());
+            same
+        }
+    }
 }
 
 pub fn opened(stream: &mut RingStream) -> PacketAnswer {
     stream.open_packet()
-}
-
-fn closed(stream: &mut RingStream) -> PacketAnswer {
-    stream.close_packet()
 }
 
 fn traced(stream: &mut RingStream, args: &Args) -> Verdict {
@@ -51,51 +50,64 @@ fn traced(stream: &mut RingStream, args: &Args) -> Verdict {
 
 /// Whether a packet without event records is opened and closed.
 pub fn makes_empty(stream: &mut RingStream) -> bool {
-    let first = opened(stream);
-    let second = closed(stream);
-    first == PacketAnswer::Done && second == PacketAnswer::Done
-}
-
-fn ended(stream: RingStream) -> StreamEnd<RingDone> {
-    let (end, _clock) = stream.finish();
-    end
+    stream.open_packet() == PacketAnswer::Done && stream.close_packet() == PacketAnswer::Done
 }
 
 /// Whether the stream leaves a packet of these bytes behind.
-fn leaves(alloc: Global, end: &StreamEnd<RingDone>, digits: &str) -> Result<bool, Fail> {
-    let want = bytes_of(alloc, digits)?;
-    let left = end.left.as_ref().ok_or("the ring took the last packet")?;
-    Ok(left.bytes() == want.as_slice())
+fn leaves(stream: RingStream, want: &[u8]) -> bool {
+    let (end, _clock) = stream.finish();
+    match end.left {
+        None => false,
+        Some(packet) => packet.bytes() == want,
+    }
+}
+
+/// Whether the other end is ended, and the last packet is these bytes.
+fn ends(source: &mut RingEnd, want: &[u8]) -> bool {
+    source.is_ended() && takes(source, want) && source.take().is_none()
 }
 
 const NINE: &str = "c11ffcc1 80000000 68000000 09000000";
+
+/// What is answered over a full ring to an opening and to a call, whether a packet of these bytes is taken, and what is answered to a call then.
+fn answers(
+    stream: &mut RingStream,
+    source: &mut RingEnd,
+    want: &[u8],
+    args: &Args,
+) -> (PacketAnswer, Verdict, bool, Verdict) {
+    let full = opened(stream);
+    let lost = traced(stream, args);
+    let taken = takes(source, want);
+    let held = traced(stream, args);
+    (full, lost, taken, held)
+}
 
 #[test]
 fn holds_the_packet_that_a_ring_hands_back(rt: HostRuntime) -> Result<(), Fail> {
     let alloc = rt.alloc();
     let args = payload(alloc, &[Datum::Unsigned(9)])?;
+    let empty = bytes_of(alloc, EMPTY)?;
+    let nine = bytes_of(alloc, NINE)?;
     let (back_end, mut ring_end) = ring(alloc, 1, 16)?;
     let mut stream = stream(alloc, back_end)?;
-    for _ in 0..2 {
-        assert!(rt; makes_empty(&mut stream));
-    }
-    assert_eq!(rt; opened(&mut stream), PacketAnswer::Full);
-    let lost = traced(&mut stream, &args);
-    assert_eq!(rt; lost, Verdict::Discarded(Why::BackEndFull));
-    assert!(rt; takes(alloc, &mut ring_end, EMPTY)?);
-    assert_eq!(rt; traced(&mut stream, &args), Verdict::Accepted(None));
-    let end = ended(stream);
-    assert!(rt; leaves(alloc, &end, NINE)?);
-    assert!(rt; ring_end.is_ended());
-    assert!(rt; takes(alloc, &mut ring_end, EMPTY)?);
-    assert!(rt; ring_end.take().is_none());
+    assert!(rt; makes_empty(&mut stream));
+    assert!(rt; makes_empty(&mut stream));
+    let answers = answers(&mut stream, &mut ring_end, empty.as_slice(), &args);
+    let lost = Verdict::Discarded(Why::BackEndFull);
+    assert_eq!(rt;
+        answers,
+        (PacketAnswer::Full, lost, true, Verdict::Accepted(None))
+    );
+    assert!(rt; leaves(stream, nine.as_slice()));
+    assert!(rt; ends(&mut ring_end, empty.as_slice()));
     Ok(())
 }
 
 /// A closed packet of 16 bytes with this number.
 pub fn packet(alloc: Global, number: u64) -> Result<Packet, Fail> {
-    let mut stream = stream(alloc, ListBackEnd::new(alloc, 1, 16)?)?;
     let args = payload(alloc, &[Datum::Unsigned(number)])?;
+    let mut stream = stream(alloc, ListBackEnd::new(alloc, 1, 16)?)?;
     stream.trace(0, &args);
     stream.close_packet();
     Ok(stream.take().ok_or("no packet")?)
@@ -105,33 +117,63 @@ pub const FIRST: &str = "c11ffcc1 80000000 68000000 01000000";
 
 pub const SECOND: &str = "c11ffcc1 80000000 68000000 02000000";
 
+/// A ring of one place: whether it takes the first packet, hands the second back, counts that, gives the first, takes the second then, settles, and gives
+/// the second and no more.
+fn hands_over(alloc: Global, first: Packet, second: Packet) -> Result<[bool; 8], Fail> {
+    let first_bytes = bytes_of(alloc, FIRST)?;
+    let second_bytes = bytes_of(alloc, SECOND)?;
+    let (mut back_end, mut ring_end) = ring(alloc, 1, 16)?;
+    let takes_first = back_end.hand_over(first).is_ok();
+    let Err(second) = back_end.hand_over(second) else {
+        return Err("a place too many".into());
+    };
+    let counts = back_end.full_count() == 1;
+    let gives_first = takes(&mut ring_end, first_bytes.as_slice());
+    let takes_second = back_end.hand_over(second).is_ok();
+    let settles = ring_end.settle(back_end.end());
+    let gives_second = takes(&mut ring_end, second_bytes.as_slice());
+    let gives_no_more = ring_end.take().is_none();
+    Ok([
+        takes_first,
+        true,
+        counts,
+        gives_first,
+        takes_second,
+        settles,
+        gives_second,
+        gives_no_more,
+    ])
+}
+
 #[test]
 fn hands_over_in_order_and_settles(rt: HostRuntime) -> Result<(), Fail> {
-    let alloc = rt.alloc();
-    let (mut back_end, mut ring_end) = ring(alloc, 1, 16)?;
-    let second = packet(alloc, 2)?;
-    assert!(rt; back_end.hand_over(packet(alloc, 1)?).is_ok());
-    let Err(second) = back_end.hand_over(second) else {
-        return Err(Fail::new("a place too many"));
-    };
-    assert_eq!(rt; back_end.full_count(), 1);
-    assert!(rt; takes(alloc, &mut ring_end, FIRST)?);
-    assert!(rt; back_end.hand_over(second).is_ok());
-    assert!(rt; ring_end.settle(back_end.end()));
-    assert!(rt; takes(alloc, &mut ring_end, SECOND)?);
-    assert!(rt; ring_end.take().is_none());
+    let first = packet(rt.alloc(), 1)?;
+    let second = packet(rt.alloc(), 2)?;
+    let answers = hands_over(rt.alloc(), first, second)?;
+    assert_eq!(rt; answers, [true; 8]);
     Ok(())
+}
+
+fn hands(alloc: Global, back_end: &mut RingBackEnd, number: u64) -> Result<bool, Fail> {
+    let packet = packet(alloc, number)?;
+    Ok(back_end.hand_over(packet).is_ok())
 }
 
 #[test]
 fn hands_back_a_packet_while_its_places_are_taken(rt: HostRuntime) -> Result<(), Fail> {
     let alloc = rt.alloc();
+    let first = bytes_of(alloc, FIRST)?;
+    let second = bytes_of(alloc, SECOND)?;
     let (mut back_end, mut ring_end) = ring(alloc, 2, 16)?;
-    assert!(rt; back_end.hand_over(packet(alloc, 1)?).is_ok());
-    assert!(rt; back_end.hand_over(packet(alloc, 2)?).is_ok());
-    assert!(rt; back_end.hand_over(packet(alloc, 3)?).is_err());
-    assert!(rt; takes(alloc, &mut ring_end, FIRST)?);
-    assert!(rt; takes(alloc, &mut ring_end, SECOND)?);
+    for (number, want) in [(1, true), (2, true), (3, false)] {
+        assert_eq!(rt;
+            hands(alloc, &mut back_end, number)?,
+            want,
+            "packet {number}"
+        );
+    }
+    assert!(rt; takes(&mut ring_end, first.as_slice()));
+    assert!(rt; takes(&mut ring_end, second.as_slice()));
     assert!(rt; ring_end.take().is_none());
     Ok(())
 }

@@ -1,19 +1,12 @@
 //! Event records whose timestamps have fewer than 64 bits: when a stream closes a packet for a pause, the bytes, and the clock values that a reader
 //! finds.
 
-ghost use Rattle.std.specs.Prelude.{IfOk};
-ghost use Rattle.ctf_types.specs.Allowed.{IsMetadata};
-
-use crate::tests::reading::{read, read_back};
-use crate::tests::stream_files::metadata_of;
+use crate::tests::found_in_files::Told;
+use crate::tests::stream_files::{Source, Table, all_tell};
 use crate::tests::stream_steps::{Row, START, Start, Step, all_run};
-use ctf_types::{Metadata, ReadPacket};
-use packet_reader::ReadStream;
-use std::alloc::{AllocError, Global};
-use std::process::Abort;
 use std::test::Fail;
 use thread_stream::{PacketAnswer, Verdict, Why};
-use worked_fixtures::{CLOCKED, Changes, Datum, changed, configured};
+use worked_fixtures::{CLOCKED, Changes, Datum};
 
 /// `CLOCKED` with event records' timestamps of 8 bits.
 pub const BYTE: Changes = &[(
@@ -254,104 +247,45 @@ fn closes_packets_for_a_pause(rt: HostRuntime) -> Result<(), Fail> {
     all_run(&rt, rt.alloc(), STREAMS)
 }
 
-/// What is changed in `CLOCKED`, packets in hexadecimal, and the clock values of their records.
-static WRITTEN: &[(Changes, &[&str], &str)] = &[
-    (BYTE, &[PAUSED_FIRST, PAUSED_SECOND], "[[10, 265], [600]]"),
-    (BYTE, &[OPENED_EARLY_FIRST, PAUSED_SECOND], "[[], [600]]"),
+/// The packets that are written with times of 8 bits, of 16 and of 12, and the clock values of their records.
+const BYTES_WRITTEN: &str = r#"
+a pause: c1fc1fc1 0200 0110 000000000000000a 0000000000000258 00 00 00 0a fffe 00 09 0001 000000000000000000000000000000000000000000000000000000000000 c1fc1fc1 0200 00f0 0000000000000258 0000000000000259 00 01 00 58 0002 00000000000000000000000000000000000000000000000000000000000000000000 -> [[10, 265], [600]] Whole
+a pause in an empty packet: c1fc1fc1 0200 00d0 000000000000000a 0000000000000258 00 00 0000000000000000000000000000000000000000000000000000000000000000000000000000 c1fc1fc1 0200 00f0 0000000000000258 0000000000000259 00 01 00 58 0002 00000000000000000000000000000000000000000000000000000000000000000000 -> [[], [600]] Whole
+a discarded call behind a record: c1fc1fc1 0200 00f0 000000000000000a 000000000000012c 01 00 00 0a fffe 00000000000000000000000000000000000000000000000000000000000000000000 c1fc1fc1 0200 00f0 000000000000012c 000000000000012d 01 01 00 2c 0001 00000000000000000000000000000000000000000000000000000000000000000000 -> [[10], [300]] Whole
+a discarded call behind an opening: c1fc1fc1 0200 00d0 000000000000000a 000000000000010a 01 00 0000000000000000000000000000000000000000000000000000000000000000000000000000 c1fc1fc1 0200 00f0 000000000000010a 000000000000010b 01 01 00 0a 0001 00000000000000000000000000000000000000000000000000000000000000000000 -> [[], [266]] Whole
+no pause: c1fc1fc1 0200 0150 000000000000000a 0000000000000191 00 00 00 0a fffe 00 c8 0001 00 c8 0002 00 90 0003 00000000000000000000000000000000000000000000 -> [[10, 200, 200, 400]] Whole
+a discarded call behind a pause: c1fc1fc1 0200 00f0 000000000000000a 0000000000000258 00 00 00 0a fffe 00000000000000000000000000000000000000000000000000000000000000000000 c1fc1fc1 0200 00f0 0000000000000259 000000000000025a 01 01 00 59 0002 00000000000000000000000000000000000000000000000000000000000000000000 -> [[10], [601]] Whole
+"#;
+
+const TWO_BYTES_WRITTEN: &str = r#"
+a pause of 16 bits: c1fc1fc1 0200 0120 000000000000000a 0000000000020009 00 00 00 000a fffe 00 0009 0001 00000000000000000000000000000000000000000000000000000000 c1fc1fc1 0200 00f8 0000000000020009 000000000002000a 00 01 00 0009 0002 000000000000000000000000000000000000000000000000000000000000000000 -> [[10, 65545], [131081]] Whole
+"#;
+
+const TWELVE_BITS_WRITTEN: &str = r#"
+a pause of 12 bits: c1fc1fc1 0200 0120 000000000000000a 0000000000002009 00 00 00 00a0 fffe 00 0090 0001 00000000000000000000000000000000000000000000000000000000 c1fc1fc1 0200 00f8 0000000000002009 000000000000200a 00 01 00 0090 0002 000000000000000000000000000000000000000000000000000000000000000000 -> [[10, 4105], [8201]] Whole
+"#;
+
+static WRITTEN: &[Table] = &[
     (
-        BYTE,
-        &[PAUSED_BEHIND_A_RECORD_FIRST, PAUSED_BEHIND_A_RECORD_SECOND],
-        "[[10], [300]]",
+        Source::Written(CLOCKED, BYTE, None),
+        Told::Clocks,
+        BYTES_WRITTEN,
     ),
     (
-        BYTE,
-        &[
-            PAUSED_BEHIND_AN_OPENING_FIRST,
-            PAUSED_BEHIND_AN_OPENING_SECOND,
-        ],
-        "[[], [266]]",
-    ),
-    (BYTE, &[WITHOUT_A_PAUSE], "[[10, 200, 200, 400]]"),
-    (
-        BYTE,
-        &[
-            PAUSED_WITHOUT_A_BUFFER_FIRST,
-            PAUSED_WITHOUT_A_BUFFER_SECOND,
-        ],
-        "[[10], [601]]",
+        Source::Written(CLOCKED, TWO_BYTES, None),
+        Told::Clocks,
+        TWO_BYTES_WRITTEN,
     ),
     (
-        TWO_BYTES,
-        &[PAUSED_FOR_16_BITS_FIRST, PAUSED_FOR_16_BITS_SECOND],
-        "[[10, 65545], [131081]]",
-    ),
-    (
-        TWELVE_BITS,
-        &[PAUSED_FOR_12_BITS_FIRST, PAUSED_FOR_12_BITS_SECOND],
-        "[[10, 4105], [8201]]",
+        Source::Written(CLOCKED, TWELVE_BITS, None),
+        Told::Clocks,
+        TWELVE_BITS_WRITTEN,
     ),
 ];
 
 #[test]
 fn reads_short_timestamps_back(rt: HostRuntime) -> Result<(), Fail> {
-    let alloc = rt.alloc();
-    for (changes, packets, clocks) in WRITTEN {
-        let metadata = clocked_metadata(alloc, *changes)?;
-        let digits = joined(alloc, packets)?;
-        let want = format!(in alloc; "{clocks} Whole")?;
-        has_clocks(&rt, alloc, &metadata, digits.as_str(), want.as_str())?;
-    }
-    Ok(())
-}
-
-/// The metadata that is read from the text of `CLOCKED` with these changes.
-fn clocked_metadata(alloc: Global, changes: Changes) -> Result<Metadata, Fail>
-    ensures { IfOk result (λ m. IsMetadata m) }
-{
-    let text = changed(alloc, CLOCKED, changes)?;
-    read_back(alloc, &configured(alloc, text.as_str(), None)?)
-}
-
-fn joined(alloc: Global, packets: &[&str]) -> Result<String, AllocError> {
-    let mut digits = String::new(alloc);
-    for packet in packets {
-        digits.push_str(packet)?;
-    }
-    Ok(digits)
-}
-
-/// A reader finds these clock values of the records in each packet, and that the file ends so.
-fn has_clocks(
-    rt: &impl Abort,
-    alloc: Global,
-    metadata: &Metadata,
-    digits: &str,
-    want: &str,
-) -> Result<(), Fail>
-    requires { IsMetadata metadata.now }
-{
-    let found = clocks_shown(alloc, &read(alloc, metadata, digits)?)?;
-    assert_eq!(rt; found.as_str(), want, "{digits}");
-    Ok(())
-}
-
-fn clocks_shown(alloc: Global, read: &ReadStream) -> Result<String, AllocError> {
-    let mut packets = Vec::new(alloc);
-    for packet in read.packets.as_slice() {
-        packets.push(clocks_in(alloc, packet)?)?;
-    }
-    format!(in alloc; "{:?} {:?}", packets.as_slice(), read.end)
-}
-
-/// The clock values of a packet's records, as far as they have some.
-fn clocks_in(alloc: Global, packet: &ReadPacket) -> Result<Vec<u64>, AllocError> {
-    let mut clocks = Vec::new(alloc);
-    for record in packet.records.as_slice() {
-        if let Some(clock) = record.clock {
-            clocks.push(clock)?;
-        }
-    }
-    Ok(clocks)
+    all_tell(&rt, rt.alloc(), WRITTEN)
 }
 
 const WIDE: &str = "integer { size = 64; }";
@@ -392,84 +326,47 @@ const LABELLED: Changes = &[
     ("U64", WIDE),
 ];
 
-/// Metadata from elsewhere, a file of little-endian packets in hexadecimal, the clock values of their records, and how it ends. A record is its
-/// timestamp and the number `v`.
-static ELSEWHERE: &[(Changes, &str, &str)] = &[
-    // from 255 on: 255, the same again, and 260
+/// Files of little-endian packets by metadata from elsewhere. A record is its timestamp and the number `v`.
+const FILES_WITH_AN_END: &str = r#"
+from 255 on at 255, the same again, and 260: c11ffcc1 10010000 10010000 ff00000000000000 0401000000000000 ff01 ff02 0403 -> [[255, 255, 260]] Whole
+an end at 255 behind a record at 260, whose low bits are 4: c11ffcc1 10010000 10010000 ff00000000000000 ff00000000000000 ff01 ff02 0403 -> [] Faulty(Clock, 0)
+a second packet from 260 on: c11ffcc1 f0000000 f0000000 ff00000000000000 0401000000000000 0401 c11ffcc1 f0000000 f0000000 0401000000000000 0401000000000000 0401 -> [[260], [260]] Whole
+a second packet from 259 on: c11ffcc1 f0000000 f0000000 ff00000000000000 0401000000000000 0401 c11ffcc1 f0000000 f0000000 0301000000000000 0401000000000000 0401 -> [[260]] Faulty(Clock, 30)
+each packet counts from its own begin, 260, and behind it 1,024: c11ffcc1 f0000000 f0000000 ff00000000000000 0401000000000000 0401 c11ffcc1 f0000000 f0000000 ff03000000000000 0004000000000000 0001 -> [[260], [1024]] Whole
+the largest clock value: c11ffcc1 f0000000 f0000000 ffffffffffffffff ffffffffffffffff ff01 -> [[18446744073709551615]] Whole
+none behind the largest clock value: c11ffcc1 f0000000 f0000000 ffffffffffffffff ffffffffffffffff 0001 -> [] Faulty(Clock, 0)
+"#;
+
+const FILES_OF_ONE_BIT: &str = r#"
+from 4 on at 4, 5, 5 and 6 by their last bits: c11ffcc1 e0000000 e0000000 0400000000000000 0001 0102 0103 0004 -> [[4, 5, 5, 6]] Whole
+"#;
+
+const FILES_OF_63_BITS: &str = r#"
+a begin of fewer bits, and the numbers themselves: c11ffcc1 b0000000 b0000000 0a00000000000000 0a01 -> [[10]] Whole
+a begin of fewer bits, and a number below it: c11ffcc1 b0000000 b0000000 0a00000000000000 0901 -> [] Faulty(Clock, 0)
+"#;
+
+const SIGNED_FILES: &str = r#"
+signed times, which are no clock values: c11ffcc1 c0000000 c0000000 0a00000000000000 0901 0801 -> [[]] Whole
+"#;
+
+const LABELLED_FILES: &str = r#"
+labelled times, which are no clock values: c11ffcc1 c0000000 c0000000 0a00000000000000 0901 0801 -> [[]] Whole
+"#;
+
+static ELSEWHERE: &[Table] = &[
+    (Source::Words(WITH_AN_END), Told::Clocks, FILES_WITH_AN_END),
+    (Source::Words(ONE_BIT), Told::Clocks, FILES_OF_ONE_BIT),
     (
-        WITH_AN_END,
-        "c11ffcc1 10010000 10010000 ff00000000000000 0401000000000000 ff01 ff02 0403",
-        "[[255, 255, 260]] Whole",
+        Source::Words(BEGIN_OF_63_BITS),
+        Told::Clocks,
+        FILES_OF_63_BITS,
     ),
-    // an end at 255 behind a record at 260, whose low bits are 4
-    (
-        WITH_AN_END,
-        "c11ffcc1 10010000 10010000 ff00000000000000 ff00000000000000 ff01 ff02 0403",
-        "[] Faulty(Clock, 0)",
-    ),
-    // a second packet from 260 on, and one from 259 on
-    (
-        WITH_AN_END,
-        "c11ffcc1 f0000000 f0000000 ff00000000000000 0401000000000000 0401 c11ffcc1 f0000000 f0000000 0401000000000000 0401000000000000 0401",
-        "[[260], [260]] Whole",
-    ),
-    (
-        WITH_AN_END,
-        "c11ffcc1 f0000000 f0000000 ff00000000000000 0401000000000000 0401 c11ffcc1 f0000000 f0000000 0301000000000000 0401000000000000 0401",
-        "[[260]] Faulty(Clock, 30)",
-    ),
-    // each packet counts from its own begin: 260, and behind it 1,024
-    (
-        WITH_AN_END,
-        "c11ffcc1 f0000000 f0000000 ff00000000000000 0401000000000000 0401 c11ffcc1 f0000000 f0000000 ff03000000000000 0004000000000000 0001",
-        "[[260], [1024]] Whole",
-    ),
-    // the largest clock value, and none behind it
-    (
-        WITH_AN_END,
-        "c11ffcc1 f0000000 f0000000 ffffffffffffffff ffffffffffffffff ff01",
-        "[[18446744073709551615]] Whole",
-    ),
-    (
-        WITH_AN_END,
-        "c11ffcc1 f0000000 f0000000 ffffffffffffffff ffffffffffffffff 0001",
-        "[] Faulty(Clock, 0)",
-    ),
-    // from 4 on: 4, 5, 5 and 6 by their last bits
-    (
-        ONE_BIT,
-        "c11ffcc1 e0000000 e0000000 0400000000000000 0001 0102 0103 0004",
-        "[[4, 5, 5, 6]] Whole",
-    ),
-    // a begin of fewer bits: the numbers themselves
-    (
-        BEGIN_OF_63_BITS,
-        "c11ffcc1 b0000000 b0000000 0a00000000000000 0a01",
-        "[[10]] Whole",
-    ),
-    (
-        BEGIN_OF_63_BITS,
-        "c11ffcc1 b0000000 b0000000 0a00000000000000 0901",
-        "[] Faulty(Clock, 0)",
-    ),
-    // no clock values
-    (
-        SIGNED,
-        "c11ffcc1 c0000000 c0000000 0a00000000000000 0901 0801",
-        "[[]] Whole",
-    ),
-    (
-        LABELLED,
-        "c11ffcc1 c0000000 c0000000 0a00000000000000 0901 0801",
-        "[[]] Whole",
-    ),
+    (Source::Words(SIGNED), Told::Clocks, SIGNED_FILES),
+    (Source::Words(LABELLED), Told::Clocks, LABELLED_FILES),
 ];
 
 #[test]
 fn reads_short_timestamps_from_elsewhere(rt: HostRuntime) -> Result<(), Fail> {
-    for (changes, digits, want) in ELSEWHERE {
-        let metadata = metadata_of(rt.alloc(), *changes)?;
-        has_clocks(&rt, rt.alloc(), &metadata, digits, want)?;
-    }
-    Ok(())
+    all_tell(&rt, rt.alloc(), ELSEWHERE)
 }

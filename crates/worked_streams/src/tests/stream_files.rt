@@ -1,16 +1,17 @@
-//! Stream files by a small metadata text, and how they end.
+//! Stream files in lines, and what a reader finds in them.
 
 ghost use Rattle.std.specs.Prelude.{IfOk};
 ghost use Rattle.ctf_types.specs.Allowed.{IsMetadata};
 
-use crate::tests::reading::read;
-use ctf_types::Metadata;
-use packet_reader::ReadStream;
+use crate::tests::found_in_files::{Told, shown};
+use ctf_types::{Metadata, Text};
+use packet_reader::{ReadStream, StreamEnding, read_stream};
 use std::alloc::{AllocError, Global};
 use std::process::Abort;
 use std::test::Fail;
 use tsdl_reader::read_metadata;
-use worked_fixtures::Changes;
+use tsdl_writer::write_metadata;
+use worked_fixtures::{Changes, bytes_of, changed, configured};
 
 /// One stream with one kind of event record; the words in capitals are put in by each table.
 const SMALL_METADATA: &str =
@@ -33,8 +34,24 @@ static PLAIN: &[(&str, &str)] = &[
     ("U32", "integer { size = 32; }"),
 ];
 
-/// `SMALL_METADATA` with these words in the place of its own.
-pub fn metadata_text(alloc: Global, changes: Changes) -> Result<String, AllocError> {
+/// What metadata is read from.
+#[derive(Clone, Copy, Debug)]
+pub enum Source {
+    /// `SMALL_METADATA` with these words in the place of its own.
+    Words(Changes),
+    /// The text that is written of `SMALL` or `CLOCKED` with these changes, and with this identifier where one is handed in.
+    Written(&'static str, Changes, Option<u128>),
+}
+
+/// The metadata text of this source.
+pub fn metadata_text(alloc: Global, source: Source) -> Result<String, Fail> {
+    match source {
+        Source::Words(changes) => Ok(replaced(alloc, changes)?),
+        Source::Written(text, changes, number) => written(alloc, text, changes, number),
+    }
+}
+
+fn replaced(alloc: Global, changes: Changes) -> Result<String, AllocError> {
     let mut text = String::from_str(alloc, SMALL_METADATA)?;
     for (word, meaning) in changes {
         text = text.replace(alloc, *word, meaning)?;
@@ -50,61 +67,77 @@ fn plain(alloc: Global, text: String) -> Result<String, AllocError> {
     Ok(text)
 }
 
-/// The metadata that `SMALL_METADATA` with these words denotes.
-pub fn metadata_of(alloc: Global, changes: Changes) -> Result<Metadata, Fail>
+fn written(
+    alloc: Global,
+    text: &str,
+    changes: Changes,
+    number: Option<u128>,
+) -> Result<String, Fail> {
+    let text = changed(alloc, text, changes)?;
+    let config = configured(alloc, text.as_str(), number)?;
+    Ok(write_metadata(alloc, &config)?)
+}
+
+/// The metadata that is read from this source.
+pub fn metadata_of(alloc: Global, source: Source) -> Result<Metadata, Fail>
     ensures { IfOk result (λ m. IsMetadata m) }
 {
-    let text = metadata_text(alloc, changes)?;
+    let text = metadata_text(alloc, source)?;
     let metadata = read_metadata(alloc, text.as_bytes())?;
     Ok(metadata)
 }
 
-/// Words of a metadata text and of others, and the files that are read by each of them, a line each: what the file shows, its bytes in hexadecimal,
-/// how many records each of its packets has, and how it ends, as `a packet of one record: c11ffcc1 .. -> [1] Whole`.
-pub type Table = (&'static [Changes], &'static str);
+/// What a reader finds in these bytes.
+pub fn read(alloc: Global, metadata: &Metadata, bytes: &[u8]) -> Result<ReadStream, AllocError>
+    requires { IsMetadata metadata.now }
+{
+    read_stream(alloc, metadata, Text::from_str(alloc, "a")?, bytes)
+}
 
-/// The files of each table end as their lines say.
-pub fn all_end(rt: &impl Abort, alloc: Global, tables: &[Table]) -> Result<(), Fail> {
-    for (texts, files) in tables {
-        end_by_each(rt, alloc, texts, files)?;
+/// How many packets a reader finds in these bytes, and how they end.
+pub fn ending(
+    alloc: Global,
+    metadata: &Metadata,
+    bytes: &[u8],
+) -> Result<(usize, StreamEnding), AllocError>
+    requires { IsMetadata metadata.now }
+{
+    let read = read(alloc, metadata, bytes)?;
+    Ok((read.packets.len(), read.end))
+}
+
+/// Metadata, what is told of each file by it, and the files, a line each: what the file shows, its bytes in hexadecimal, and what is told, as
+/// `a packet of one record: c11ffcc1 .. -> [1] Whole`.
+pub type Table = (Source, Told, &'static str);
+
+/// Of the files of each table is told what their lines say.
+pub fn all_tell(rt: &impl Abort, alloc: Global, tables: &[Table]) -> Result<(), Fail> {
+    for table in tables {
+        files_tell(rt, alloc, table)?;
     }
     Ok(())
 }
 
-fn end_by_each(rt: &impl Abort, alloc: Global, texts: &[Changes], files: &str) -> Result<(), Fail> {
-    for changes in texts {
-        files_end(rt, alloc, *changes, files)?;
-    }
-    Ok(())
-}
-
-fn files_end(rt: &impl Abort, alloc: Global, changes: Changes, files: &str) -> Result<(), Fail> {
-    for line in files.trim().lines() {
+fn files_tell(rt: &impl Abort, alloc: Global, table: &Table) -> Result<(), Fail> {
+    for line in table.2.trim().lines() {
         let (shows, digits, want) = file_line(line).ok_or("a line without a file or an answer")?;
-        let found = ending(alloc, changes, digits)?;
+        let found = told_of(alloc, table.0, table.1, digits)?;
         assert_eq!(rt; found.as_str(), want, "{shows}");
     }
     Ok(())
 }
 
-/// What a file shows, its bytes in hexadecimal, and what is found in it.
-pub fn file_line(line: &str) -> Option<(&str, &str, &str)> {
+/// What a file shows, its bytes in hexadecimal, and what is told of it.
+fn file_line(line: &str) -> Option<(&str, &str, &str)> {
     let (shows, file) = line.split_once(": ")?;
     let (digits, found) = file.split_once(" -> ")?;
     Some((shows, digits, found))
 }
 
-/// How many records each packet of a file has, and how it ends.
-fn ending(alloc: Global, changes: Changes, digits: &str) -> Result<String, Fail> {
-    let metadata = metadata_of(alloc, changes)?;
-    let read = read(alloc, &metadata, digits)?;
-    Ok(shown_ending(alloc, &read)?)
-}
-
-fn shown_ending(alloc: Global, read: &ReadStream) -> Result<String, AllocError> {
-    let mut counts = Vec::new(alloc);
-    for packet in read.packets.as_slice() {
-        counts.push(packet.records.len())?;
-    }
-    format!(in alloc; "{:?} {:?}", counts.as_slice(), read.end)
+/// What is told of a file in hexadecimal.
+pub fn told_of(alloc: Global, source: Source, what: Told, digits: &str) -> Result<String, Fail> {
+    let metadata = metadata_of(alloc, source)?;
+    let bytes = bytes_of(alloc, digits)?;
+    let read = read(alloc, &metadata, bytes.as_slice())?;
+    Ok(shown(alloc, what, &metadata, &read)?)
 }

@@ -3,7 +3,7 @@
 ghost use Rattle.std.specs.Prelude.{IfOk};
 ghost use Rattle.ctf_types.specs.AllowedConfig.{IsConfig};
 
-use ctf_types::Config;
+use ctf_types::{Config, Values};
 use std::alloc::Global;
 use std::process::Abort;
 use std::test::Fail;
@@ -24,6 +24,8 @@ pub struct Start {
     pub bytes: usize,
     pub readings: &'static [u64],
     pub extras: &'static [Datum],
+    /// The number of the first packet, and how many event records count as discarded before it, where the stream goes on from an earlier one.
+    pub goes_on: Option<(u64, u64)>,
 }
 
 /// The small configuration over two buffers of 16 bytes.
@@ -36,6 +38,7 @@ pub const START: Start = Start {
     bytes: 16,
     readings: &[],
     extras: &[],
+    goes_on: None,
 };
 
 /// A call, and what it answers.
@@ -84,10 +87,9 @@ pub fn runs<B: OwnBackEnd + Drop>(
     back_end: B,
     row: &Row,
 ) -> Result<Stream<ListClock, B>, Fail> {
-    let (shows, start, rounds) = row;
-    let mut stream = started(alloc, start, back_end)?;
-    for (times, steps) in *rounds {
-        repeats(rt, alloc, &mut stream, shows, *times, steps)?;
+    let mut stream = made(alloc, &row.1, back_end)??;
+    for (times, steps) in row.2 {
+        repeats(rt, alloc, &mut stream, row.0, *times, steps)?;
     }
     Ok(stream)
 }
@@ -106,8 +108,7 @@ fn repeats<B: OwnBackEnd>(
     Ok(())
 }
 
-/// Each step answers what it says.
-pub fn takes_steps<B: OwnBackEnd>(
+fn takes_steps<B: OwnBackEnd>(
     rt: &impl Abort,
     alloc: Global,
     stream: &mut Stream<ListClock, B>,
@@ -135,7 +136,7 @@ fn answers<B: OwnBackEnd>(
             stream.set_enabled(*enabled);
             Ok(true)
         }
-        Step::Extras(data, want) => takes_extras(alloc, stream, data, *want),
+        Step::Extras(data, want) => Ok(extras_fault(stream, values(alloc, data)?) == *want),
         Step::Collect(digits) => collects(alloc, stream, digits),
         Step::CollectAny => Ok(collects_any(stream)),
         Step::CollectNothing => Ok(!collects_any(stream)),
@@ -156,15 +157,15 @@ fn traces<B: OwnBackEnd>(
     Ok(stream.trace(event, &args) == want)
 }
 
-fn takes_extras<B: OwnBackEnd>(
-    alloc: Global,
+/// The fault that these extra members are refused with, where there is one.
+fn extras_fault<B: OwnBackEnd>(
     stream: &mut Stream<ListClock, B>,
-    data: &[Datum],
-    want: Option<StreamFault>,
-) -> Result<bool, Fail> {
-    let extras = values(alloc, data)?;
-    let answer = stream.set_extras(extras).err().map(|refused| refused.fault);
-    Ok(answer == want)
+    extras: Values,
+) -> Option<StreamFault> {
+    match stream.set_extras(extras) {
+        Ok(()) => None,
+        Err(refused) => Some(refused.fault),
+    }
 }
 
 /// Whether a packet is open, whether it has no event record, and whether it is full.
@@ -180,20 +181,28 @@ fn is_so<B: OwnBackEnd>(
 }
 
 /// Whether the next packet is these bytes; its buffer goes back.
-fn collects<B: OwnBackEnd>(
+pub fn collects<B: OwnBackEnd>(
     alloc: Global,
     stream: &mut Stream<ListClock, B>,
     digits: &str,
 ) -> Result<bool, Fail> {
     let want = bytes_of(alloc, digits)?;
-    let packet = stream.take().ok_or("no packet")?;
-    let same = packet.bytes() == want.as_slice();
-    stream.give_back(packet.into_buf());
-    Ok(same)
+    Ok(collects_bytes(stream, want.as_slice()))
+}
+
+fn collects_bytes<B: OwnBackEnd>(stream: &mut Stream<ListClock, B>, want: &[u8]) -> bool {
+    match stream.take() {
+        None => false,
+        Some(packet) => {
+            let same = packet.bytes() == want;
+            stream.give_back(packet.into_buf());
+            same
+        }
+    }
 }
 
 /// Whether there is a packet; its buffer goes back.
-fn collects_any<B: OwnBackEnd>(stream: &mut Stream<ListClock, B>) -> bool {
+pub fn collects_any<B: OwnBackEnd>(stream: &mut Stream<ListClock, B>) -> bool {
     match stream.take() {
         None => false,
         Some(packet) => {
@@ -203,36 +212,49 @@ fn collects_any<B: OwnBackEnd>(stream: &mut Stream<ListClock, B>) -> bool {
     }
 }
 
-/// The stream, or the fault as an error.
-fn started<B: OwnBackEnd + Drop>(
-    alloc: Global,
-    start: &Start,
-    back_end: B,
-) -> Result<Stream<ListClock, B>, Fail> {
-    let stream = made(alloc, start, back_end)??;
-    Ok(stream)
-}
-
 /// The stream, or why none is made.
 pub fn made<B: OwnBackEnd + Drop>(
     alloc: Global,
     start: &Start,
     back_end: B,
 ) -> Result<Result<Stream<ListClock, B>, StreamFault>, Fail> {
-    let clock = clock(alloc, start.readings)?;
-    let extras = values(alloc, start.extras)?;
     let config = configuration(alloc, start)?;
-    let made = Stream::new(alloc, &config, start.type_name, clock, back_end, extras);
-    Ok(made.map_err(|refused| refused.fault))
+    let (clock, extras) = parts(alloc, start)?;
+    Ok(begun(alloc, start, &config, clock, back_end, extras))
 }
 
-/// A clock of these readings.
-pub fn clock(alloc: Global, readings: &[u64]) -> Result<ListClock, Fail> {
-    let clock = ListClock::new(Vec::from_slice(alloc, readings)?).ok_or("readings that fall")?;
-    Ok(clock)
+/// A clock of the readings, and the extra members.
+fn parts(alloc: Global, start: &Start) -> Result<(ListClock, Values), Fail> {
+    let readings = Vec::from_slice(alloc, start.readings)?;
+    let clock = ListClock::new(readings).ok_or("readings that fall")?;
+    let extras = values(alloc, start.extras)?;
+    Ok((clock, extras))
 }
 
-pub fn configuration(alloc: Global, start: &Start) -> Result<Config, Fail>
+fn begun<B: OwnBackEnd + Drop>(
+    alloc: Global,
+    start: &Start,
+    config: &Config,
+    clock: ListClock,
+    back_end: B,
+    extras: Values,
+) -> Result<Stream<ListClock, B>, StreamFault>
+    requires { IsConfig config.now }
+{
+    let name = start.type_name;
+    let made = match start.goes_on {
+        None => Stream::new(alloc, config, name, clock, back_end, extras),
+        Some((sequence, discarded)) => Stream::resume(
+            alloc, config, name, clock, back_end, extras, sequence, discarded,
+        ),
+    };
+    match made {
+        Ok(stream) => Ok(stream),
+        Err(refused) => Err(refused.fault),
+    }
+}
+
+fn configuration(alloc: Global, start: &Start) -> Result<Config, Fail>
     ensures { IfOk result (λ c. IsConfig c) }
 {
     let text = changed(alloc, start.text, start.changes)?;

@@ -1,107 +1,98 @@
 //! Calls that write and read metadata, and read stream files.
 
-ghost use Rattle.std.specs.Prelude.{IfOk};
 ghost use Rattle.ctf_types.specs.Allowed.{IsMetadata};
 
-use super::super::{FILE, OUT_OF_MEMORY, clocked, metadata_of as read_back, text_of};
-use ctf_types::{Config, Metadata};
-use packet_reader::{ReadStop, ReadStream, StreamEnding, read_stream, read_stream_from};
+use super::super::{FILE, METADATA, OUT_OF_MEMORY};
+use super::at_last;
+use crate::tests::stream_files::{metadata_of as read_back, read};
+use ctf_types::{Config, Metadata, Text};
+use packet_reader::{ReadStop, ReadStream, StreamEnding, read_stream_from};
 use std::alloc::Global;
-use std::process::Abort;
 use std::test::Fail;
 use tsdl_reader::read_metadata;
 use tsdl_writer::write_metadata;
-use worked_fixtures::bytes_of;
-
-/// A call was refused for want of memory twice.
-const REFUSED: &str = "a second refusal";
+use worked_fixtures::{CLOCKED, bytes_of, configuration};
 
 fn written(alloc: Global, config: &Config) -> Result<String, Fail> {
     match write_metadata(alloc, config) {
         Ok(text) => Ok(text),
-        Err(_) => match write_metadata(alloc, config) {
-            Ok(text) => Ok(text),
-            Err(_) => Err(REFUSED.into()),
-        },
+        Err(_) => at_last(write_metadata(alloc, config)),
     }
 }
 
-fn metadata_of(alloc: Global, text: &str) -> Result<Metadata, Fail>
-    ensures { IfOk result (λ m. IsMetadata m) }
-{
+/// How many streams and clocks the metadata has.
+fn counts(alloc: Global, text: &str) -> Result<(usize, usize), Fail> {
     match read_metadata(alloc, text.as_bytes()) {
-        Ok(metadata) => Ok(metadata),
+        Ok(metadata) => Ok(counted(&metadata)),
         Err(fault) => {
             let said = format!(in alloc; "{}", fault.kind)?;
             if said.as_str() != OUT_OF_MEMORY {
                 return Err(Fail::new(fault.kind));
             }
-            match read_metadata(alloc, text.as_bytes()) {
-                Ok(metadata) => Ok(metadata),
-                Err(_) => Err(REFUSED.into()),
-            }
+            Ok(counted(&at_last(read_metadata(alloc, text.as_bytes()))?))
         }
     }
 }
 
+fn counted(metadata: &Metadata) -> (usize, usize) {
+    (metadata.streams.len(), metadata.clocks.len())
+}
+
 #[test]
 fn writes_and_reads_metadata(rt: HostRuntime) -> Result<(), Fail> {
-    let config = clocked(rt.alloc())?;
+    let config = configuration(rt.alloc(), CLOCKED)?;
     let written = written(rt.alloc(), &config)?;
-    let metadata = metadata_of(rt.alloc(), written.as_str())?;
-    assert_eq!(rt; (metadata.streams.len(), metadata.clocks.len()), (1, 1));
+    let counts = counts(rt.alloc(), written.as_str())?;
+    assert_eq!(rt; counts, (1, 1));
     Ok(())
 }
 
-/// The stream file of these bytes has one packet, and ends so.
-fn is_read(rt: &impl Abort, read: &ReadStream, end: StreamEnding) {
-    assert_eq!(rt; read.packets.len(), 1);
-    assert_eq!(rt; read.end, end);
+/// How many packets the stream file has, how it ends, and whether its clock is `clk`.
+fn seen(read: &ReadStream) -> (usize, StreamEnding, bool) {
     let clock = read.clock.as_ref().map_or("", |name| name.as_str());
-    assert_eq!(rt; clock, "clk");
+    (read.packets.len(), read.end, clock == "clk")
 }
 
 fn stream_of(alloc: Global, metadata: &Metadata, bytes: &[u8]) -> Result<ReadStream, Fail>
     requires { IsMetadata metadata.now }
 {
-    let first = text_of(alloc, "t0")?;
-    let second = text_of(alloc, "t0")?;
-    match read_stream(alloc, metadata, first, bytes) {
+    match read(alloc, metadata, bytes) {
         Ok(read) => Ok(read),
-        Err(_) => match read_stream(alloc, metadata, second, bytes) {
-            Ok(read) => Ok(read),
-            Err(_) => Err(REFUSED.into()),
-        },
+        Err(_) => at_last(read(alloc, metadata, bytes)),
     }
+}
+
+fn read_from(alloc: Global, metadata: &Metadata, bytes: &[u8]) -> Result<ReadStream, ReadStop>
+    requires { IsMetadata metadata.now }
+{
+    read_stream_from(alloc, metadata, Text::from_str(alloc, "t0")?, bytes)
 }
 
 /// The same from a reader, which is made anew.
 fn stream_from(alloc: Global, metadata: &Metadata, bytes: &[u8]) -> Result<ReadStream, Fail>
     requires { IsMetadata metadata.now }
 {
-    let first = text_of(alloc, "t0")?;
-    let second = text_of(alloc, "t0")?;
-    match read_stream_from(alloc, metadata, first, bytes) {
+    match read_from(alloc, metadata, bytes) {
         Ok(read) => Ok(read),
-        Err(ReadStop::OutOfMemory) => match read_stream_from(alloc, metadata, second, bytes) {
-            Ok(read) => Ok(read),
-            Err(_) => Err(REFUSED.into()),
-        },
+        Err(ReadStop::OutOfMemory) => at_last(read_from(alloc, metadata, bytes)),
         Err(ReadStop::ReaderFault | ReadStop::TooManyReads) => Err("a reader failed".into()),
     }
 }
 
+/// A torn packet begins behind the first.
+fn bytes(alloc: Global) -> Result<Vec<u8>, Fail> {
+    let mut bytes = bytes_of(alloc, FILE)?;
+    bytes.push(0xc1)?;
+    Ok(bytes)
+}
+
 #[test]
 fn reads_a_stream_file(rt: HostRuntime) -> Result<(), Fail> {
-    let alloc = rt.alloc();
-    let metadata = read_back(alloc, &clocked(alloc)?)?;
-    let mut bytes = bytes_of(alloc, FILE)?;
-    if bytes.push(0xc1).is_err() {
-        return Err(Fail::new(OUT_OF_MEMORY));
-    }
-    let read = stream_of(alloc, &metadata, bytes.as_slice())?;
-    is_read(&rt, &read, StreamEnding::Torn(64));
-    let read = stream_from(alloc, &metadata, bytes.as_slice())?;
-    is_read(&rt, &read, StreamEnding::Torn(64));
+    let metadata = read_back(rt.alloc(), METADATA)?;
+    let bytes = bytes(rt.alloc())?;
+    let first = seen(&stream_of(rt.alloc(), &metadata, bytes.as_slice())?);
+    let second = seen(&stream_from(rt.alloc(), &metadata, bytes.as_slice())?);
+    let want = (1, StreamEnding::Torn(64), true);
+    assert_eq!(rt; (first, second), (want, want));
     Ok(())
 }

@@ -3,25 +3,21 @@
 ghost use Rattle.std.specs.Prelude.{◌<◌, length, IfOk};
 ghost use Rattle.ctf_types.specs.AllowedConfig.{IsConfig};
 
-use super::super::OUT_OF_MEMORY;
+use super::at_last;
+use crate::tests::rings::{RingStream, makes_empty};
 use ctf_types::{Config, Values};
 use packet_collector::{Collected, Collector};
 use packet_ring::{RingBackEnd, RingEnd, ring};
 use std::alloc::Global;
 use std::test::Fail;
-use thread_stream::{NotMade, PacketAnswer, Stream, StreamFault};
+use thread_stream::{NotMade, Stream, StreamFault};
 use trace_platform::{ListClock, MemorySink};
-use worked_fixtures::{SMALL, changed, configuration, granted};
-
-type RingStream = Stream<ListClock, RingBackEnd>;
+use worked_fixtures::{SMALL, changed, configuration};
 
 fn both_ends(alloc: Global) -> Result<(RingBackEnd, RingEnd), Fail> {
     match ring(alloc, 1, 16) {
         Ok(ends) => Ok(ends),
-        Err(_) => match ring(alloc, 1, 16) {
-            Ok(ends) => Ok(ends),
-            Err(_) => Err("a second refusal".into()),
-        },
+        Err(_) => at_last(ring(alloc, 1, 16)),
     }
 }
 
@@ -33,19 +29,16 @@ fn begun_again(
 ) -> Result<RingStream, Fail>
     requires { IsConfig config.now }
 {
-    if refused.fault != StreamFault::OutOfMemory {
-        return Err("another refusal".into());
-    }
     let NotMade {
-        fault: _,
+        fault,
         clock,
         back_end,
         extras,
     } = refused;
-    match Stream::new(alloc, config, "s", clock, back_end, extras) {
-        Ok(stream) => Ok(stream),
-        Err(_) => Err("a second refusal".into()),
+    if fault != StreamFault::OutOfMemory {
+        return Err("another refusal".into());
     }
+    at_last(Stream::new(alloc, config, "s", clock, back_end, extras))
 }
 
 fn begun(alloc: Global, config: &Config, back_end: RingBackEnd) -> Result<RingStream, Fail>
@@ -62,9 +55,7 @@ fn begun(alloc: Global, config: &Config, back_end: RingBackEnd) -> Result<RingSt
 fn collector(alloc: Global) -> Result<Collector<MemorySink>, Fail>
     ensures { IfOk result (λ c. 0 < length c) }
 {
-    let Ok(sink) = MemorySink::with_capacity(alloc, 16) else {
-        return Err(Fail::new(OUT_OF_MEMORY));
-    };
+    let sink = MemorySink::with_capacity(alloc, 16)?;
     let mut collector = Collector::new(alloc);
     let Err(sink) = collector.add(sink) else {
         return Ok(collector);
@@ -85,14 +76,13 @@ fn collected(collector: &mut Collector<MemorySink>, ring_end: &mut RingEnd) -> C
 #[test]
 fn collects_a_packet_over_a_ring(rt: HostRuntime) -> Result<(), Fail> {
     let alloc = rt.alloc();
-    let text = granted(changed(alloc, SMALL, &[]))?;
+    let text = changed(alloc, SMALL, &[])?;
     let config = configuration(alloc, text.as_str())?;
+    let mut collector = collector(alloc)?;
     let (back_end, mut ring_end) = both_ends(alloc)?;
     let mut stream = begun(alloc, &config, back_end)?;
-    let mut collector = collector(alloc)?;
-    assert_eq!(rt; stream.open_packet(), PacketAnswer::Done);
-    assert_eq!(rt; stream.close_packet(), PacketAnswer::Done);
+    let made = makes_empty(&mut stream);
     let answer = collected(&mut collector, &mut ring_end);
-    assert_eq!(rt; answer, Collected::Took(0));
+    assert_eq!(rt; (made, answer), (true, Collected::Took(0)));
     Ok(())
 }

@@ -1,19 +1,14 @@
 //! Readers of stream files. A reader that stopped for want of memory answers the same from then on.
 
-use super::super::{FILE, OUT_OF_MEMORY, clocked, metadata_of, text_of};
+use super::super::{FILE, METADATA, OUT_OF_MEMORY};
+use crate::tests::packet_by_packet::next_records;
+use crate::tests::stream_files::metadata_of;
+use ctf_types::Text;
 use packet_reader::{ReadStop, StreamEnding, StreamReader};
 use std::io::Read;
 use std::process::Abort;
 use std::test::Fail;
 use worked_fixtures::bytes_of;
-
-/// The number of records of the next packet, or None.
-fn next_records<R: Read>(reader: &mut StreamReader<'_, R>) -> Result<Option<usize>, ReadStop> {
-    match reader.next_packet()? {
-        Some(packet) => Ok(Some(packet.records.len())),
-        None => Ok(None),
-    }
-}
 
 /// The next packet, or None; where memory is wanting each later call says so too, and no end is told.
 fn goes_on<R: Read>(
@@ -36,9 +31,9 @@ fn goes_on<R: Read>(
 #[test]
 fn reads_packet_by_packet(rt: HostRuntime) -> Result<(), Fail> {
     let alloc = rt.alloc();
-    let metadata = metadata_of(alloc, &clocked(alloc)?)?;
+    let metadata = metadata_of(alloc, METADATA)?;
     let bytes = bytes_of(alloc, FILE)?;
-    let name = text_of(alloc, "t0")?;
+    let name = Text::from_str(alloc, "t0")?;
     let mut reader = StreamReader::new(alloc, &metadata, name, bytes.as_slice());
     for want in [Some(2), None, None] {
         goes_on(&rt, &mut reader, want)?;
