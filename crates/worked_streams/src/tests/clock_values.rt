@@ -173,8 +173,7 @@ fn compares_clock_values(rt: HostRuntime) -> Result<(), Fail> {
     all_tell(&rt, rt.alloc(), TIMED_FILES)
 }
 
-/// The packet of the files of `PASSED_TIMES`, where its records' times are not compared, is
-/// a packet from 5 to 7, whose records have the times 4 and 3. The other file's is the same from 5 to 4.
+/// A packet from 5 to 7, whose records have the times 4 and 3, and the same from 5 to 4.
 const PASSED_TIMES: &str = r#"
 times that fall, and are not compared: c11ffcc1 90000000 90000000 0507 0401 0302 -> [ReadPacket { stream: 0, begin: Some(5), end: Some(7), sequence: None, discarded: None, extras: Values { items: [] }, records: ListOf { items: [Record { event: 0, clock: None, common: Values { items: [] }, specific: Values { items: [] }, payload: Values { items: [Unsigned(1)] } }, Record { event: 0, clock: None, common: Values { items: [] }, specific: Values { items: [] }, payload: Values { items: [Unsigned(2)] } }] } }] Whole
 a begin and an end that are compared: c11ffcc1 90000000 90000000 0504 0401 0302 -> [] Faulty(Clock, 0)

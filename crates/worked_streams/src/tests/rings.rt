@@ -56,7 +56,7 @@ pub fn makes_empty(stream: &mut RingStream) -> bool {
 /// Whether the stream leaves a packet of these bytes behind.
 fn leaves(stream: RingStream, want: &[u8]) -> bool {
     let (end, _clock) = stream.finish();
-    match end.left {
+    match &end.left {
         None => false,
         Some(packet) => packet.bytes() == want,
     }
