@@ -5,6 +5,7 @@ mod conf_faults;
 mod configured;
 mod copies;
 mod described;
+mod expected;
 mod inheritance;
 mod json_tree;
 mod metadata;

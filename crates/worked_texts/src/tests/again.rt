@@ -1,10 +1,7 @@
 //! Calls that are made once more where memory was wanting: they answer as with ample memory. A test passes then; where another request is refused it answers that
 //! it is out of memory. The script beside the gate refuses each request of these tests in turn.
 
-ghost use Rattle.std.specs.Prelude.{IfOk};
-ghost use Rattle.ctf_types.specs.Allowed.{IsMetadata};
-ghost use Rattle.ctf_types.specs.AllowedConfig.{IsConfig};
-
+use crate::tests::expected::same;
 use conf_check::{check, configure};
 use conf_inherit::resolve;
 use conf_tree::{At, ConfFault, Tree, needed, object, read_tree, whole};
@@ -62,17 +59,12 @@ fn resolved(alloc: Global, json: &str) -> Result<Tree, Fail> {
 }
 
 /// The configuration, whose tree is made anew where it was spent.
-fn checked(alloc: Global, json: &str) -> Result<Config, Fail>
-    ensures { IfOk result (λ c. IsConfig c) }
-{
+fn checked(alloc: Global, json: &str) -> Result<Config, Fail> {
     match check(alloc, resolved(alloc, json)?, None) {
         Ok(config) => Ok(config),
         Err(fault) => {
             is_memory(fault)?;
-            match check(alloc, resolved(alloc, json)?, None) {
-                Ok(config) => Ok(config),
-                Err(_) => Err(REFUSED.into()),
-            }
+            at_last(check(alloc, resolved(alloc, json)?, None))
         }
     }
 }
@@ -80,22 +72,28 @@ fn checked(alloc: Global, json: &str) -> Result<Config, Fail>
 #[test]
 fn judges_a_configuration(rt: HostRuntime) -> Result<(), Fail> {
     let config = checked(rt.alloc(), TEXT)?;
-    assert_eq!(rt; (config.streams.len(), config.clocks.len()), (1, 1));
+    same(&rt, config.streams.len(), 1, "stream types");
+    same(&rt, config.clocks.len(), 1, "clock types");
     Ok(())
 }
 
 /// A look-up's fault, whose path copies a name.
-fn fault_of(alloc: Global, value: &Value) -> Result<ConfFault, Fail> {
-    let Err(fault) = looked_up(alloc, value) else {
-        return Err("a number in place of a text".into());
-    };
-    if !fault.is_memory() {
-        return Ok(fault);
+fn fault_of(alloc: Global, value: &Value) -> Option<ConfFault> {
+    let fault = looked_up(alloc, value).err()?;
+    if fault.is_memory() {
+        looked_up(alloc, value).err()
+    } else {
+        Some(fault)
     }
-    let Err(fault) = looked_up(alloc, value) else {
-        return Err("a number in place of a text".into());
-    };
-    Ok(fault)
+}
+
+/// What is wrong with a tree, as it prints.
+fn said_of(alloc: Global, json: &str) -> Result<String, Fail> {
+    let tree = tree(alloc, json)?;
+    match fault_of(alloc, &tree.value) {
+        Some(fault) => Ok(format!(in alloc; "{fault}")?),
+        None => Err("a number in place of a text".into()),
+    }
 }
 
 /// The number behind the property `a`.
@@ -105,27 +103,27 @@ fn looked_up(alloc: Global, value: &Value) -> Result<i128, ConfFault> {
     whole(alloc, At::Property("a"), inner, 0, 9)
 }
 
+/// Trees, and what is wrong with each.
+static WRONG: &[(&str, &str)] = &[
+    (
+        r#"{"a":"x"}"#,
+        "a: wrong kind of value: expected the kind that this place asks for",
+    ),
+    (
+        r#"{"b":1}"#,
+        "a: property is missing: expected a value here",
+    ),
+    (
+        r#"{"a":10}"#,
+        "a: value out of range: expected one that this place allows",
+    ),
+];
+
 #[test]
 fn looks_up_what_is_wrong(rt: HostRuntime) -> Result<(), Fail> {
-    let alloc = rt.alloc();
-    for (json, want) in [
-        (
-            r#"{"a":"x"}"#,
-            "a: wrong kind of value: expected the kind that this place asks for",
-        ),
-        (
-            r#"{"b":1}"#,
-            "a: property is missing: expected a value here",
-        ),
-        (
-            r#"{"a":10}"#,
-            "a: value out of range: expected one that this place allows",
-        ),
-    ] {
-        let tree = tree(alloc, json)?;
-        let fault = fault_of(alloc, &tree.value)?;
-        let said = format!(in alloc; "{fault}")?;
-        assert_eq!(rt; said.as_str(), want);
+    for (json, want) in WRONG {
+        let said = said_of(rt.alloc(), json)?;
+        same(&rt, said.as_str(), *want, *json);
     }
     Ok(())
 }
@@ -146,67 +144,56 @@ fn is_want(kind: MetaFaultKind) -> Result<(), Fail> {
     }
 }
 
-fn read(alloc: Global, metadata: &str) -> Result<Metadata, Fail>
-    ensures { IfOk result (λ m. IsMetadata m) }
-{
+fn read(alloc: Global, metadata: &str) -> Result<Metadata, Fail> {
     match read_metadata(alloc, metadata.as_bytes()) {
         Ok(metadata) => Ok(metadata),
         Err(fault) => {
             is_want(fault.kind)?;
-            match read_metadata(alloc, metadata.as_bytes()) {
-                Ok(metadata) => Ok(metadata),
-                Err(_) => Err(REFUSED.into()),
-            }
+            at_last(read_metadata(alloc, metadata.as_bytes()))
         }
     }
 }
 
-fn configured(alloc: Global) -> Result<Config, Fail>
-    ensures { IfOk result (λ c. IsConfig c) }
-{
+fn configured(alloc: Global) -> Result<Config, Fail> {
     Ok(configure(alloc, TEXT.as_bytes(), None)?)
 }
 
 #[test]
 fn writes_and_reads_metadata(rt: HostRuntime) -> Result<(), Fail> {
-    let alloc = rt.alloc();
-    let text = written(alloc, &configured(alloc)?)?;
-    let metadata = read(alloc, text.as_str())?;
-    assert_eq!(rt;
-        (
-            metadata.streams.len(),
-            metadata.clocks.len(),
-            metadata.environment.len()
-        ),
-        (1, 1, 1)
-    );
+    let text = written(rt.alloc(), &configured(rt.alloc())?)?;
+    let metadata = read(rt.alloc(), text.as_str())?;
+    same(&rt, metadata.streams.len(), 1, "streams");
+    same(&rt, metadata.clocks.len(), 1, "clocks");
+    same(&rt, metadata.environment.len(), 1, "environment");
     Ok(())
 }
 
-fn copied_config(alloc: Global, config: &Config) -> Result<Config, Fail> {
-    match config.copy(alloc) {
-        Ok(copied) => Ok(copied),
-        Err(_) => at_last(config.copy(alloc)),
-    }
+/// How many stream types the copy of the configuration has, and its metadata.
+fn copied_config(alloc: Global) -> Result<(usize, String), Fail> {
+    let config = configured(alloc)?;
+    let copied = match config.copy(alloc) {
+        Ok(copied) => copied,
+        Err(_) => at_last(config.copy(alloc))?,
+    };
+    Ok((copied.streams.len(), write_metadata(alloc, &config)?))
 }
 
-fn copied_metadata(alloc: Global, metadata: &Metadata) -> Result<Metadata, Fail> {
-    match metadata.copy(alloc) {
-        Ok(copied) => Ok(copied),
-        Err(_) => at_last(metadata.copy(alloc)),
-    }
+/// How many streams the copy of the metadata has.
+fn copied_metadata(alloc: Global, text: &str) -> Result<usize, Fail> {
+    let metadata = read_metadata(alloc, text.as_bytes())?;
+    let copied = match metadata.copy(alloc) {
+        Ok(copied) => copied,
+        Err(_) => at_last(metadata.copy(alloc))?,
+    };
+    Ok(copied.streams.len())
 }
 
 #[test]
 fn copies_both(rt: HostRuntime) -> Result<(), Fail> {
-    let alloc = rt.alloc();
-    let config = configured(alloc)?;
-    let copied = copied_config(alloc, &config)?;
-    assert_eq!(rt; copied.streams.len(), config.streams.len());
-    let text = write_metadata(alloc, &config)?;
-    let metadata = read_metadata(alloc, text.as_bytes())?;
-    let copied = copied_metadata(alloc, &metadata)?;
-    assert_eq!(rt; copied.streams.len(), 1);
+    let (stream_types, text) = copied_config(rt.alloc())?;
+    same(&rt, stream_types, 1, "the configuration");
+    let streams = copied_metadata(rt.alloc(), text.as_str())?;
+    same(&rt, streams, 1, "the metadata");
     Ok(())
 }
 
@@ -224,17 +211,13 @@ fn cut(alloc: Global, metadata: &[u8]) -> Result<Vec<Token>, Fail> {
 }
 
 /// The first fault of a text, whose kind may copy a name.
-fn first_fault(alloc: Global, metadata: &[u8]) -> Result<MetaFault, Fail> {
-    let Err(fault) = read_metadata(alloc, metadata) else {
-        return Err("version 2 was read".into());
-    };
-    if fault.kind != MetaFaultKind::OutOfMemory {
-        return Ok(fault);
+fn first_fault(alloc: Global, metadata: &[u8]) -> Option<MetaFault> {
+    let fault = read_metadata(alloc, metadata).err()?;
+    if fault.kind == MetaFaultKind::OutOfMemory {
+        read_metadata(alloc, metadata).err()
+    } else {
+        Some(fault)
     }
-    let Err(fault) = read_metadata(alloc, metadata) else {
-        return Err("version 2 was read".into());
-    };
-    Ok(fault)
 }
 
 fn explained(alloc: Global, metadata: &[u8], fault: &MetaFault) -> Result<String, Fail> {
@@ -244,18 +227,22 @@ fn explained(alloc: Global, metadata: &[u8], fault: &MetaFault) -> Result<String
     }
 }
 
+/// The first fault of a text, and what is said of it.
+fn told(alloc: Global, metadata: &[u8]) -> Result<String, Fail> {
+    let fault = first_fault(alloc, metadata).ok_or("version 2 was read")?;
+    let said = explained(alloc, metadata, &fault)?;
+    Ok(format!(in alloc; "{:?} at {}\n{said}", fault.kind, fault.place)?)
+}
+
 #[test]
 fn finds_the_first_fault_of_a_text(rt: HostRuntime) -> Result<(), Fail> {
-    let alloc = rt.alloc();
-    let found = cut(alloc, MISSPELT)?;
-    assert_eq!(rt; found.len(), 20);
-    let fault = first_fault(alloc, MISSPELT)?;
-    let said = format!(in alloc; "{:?} at {}", fault.kind, fault.place)?;
-    assert_eq!(rt; said.as_str(), "Unsupported(\"major\") at 60");
-    let said = explained(alloc, MISSPELT, &fault)?;
-    assert_eq!(rt;
+    same(&rt, cut(rt.alloc(), MISSPELT)?.len(), 20, "tokens");
+    let said = told(rt.alloc(), MISSPELT)?;
+    same(
+        &rt,
         said.as_str(),
-        "byte 60, line 1, column 61: found \"2\": `major` is not supported here"
+        "Unsupported(\"major\") at 60\nbyte 60, line 1, column 61: found \"2\": `major` is not supported here",
+        "the fault",
     );
     Ok(())
 }
@@ -279,8 +266,9 @@ fn unescaped(alloc: Global, text: &[u8]) -> Result<Vec<u8>, Fail> {
 fn escapes_and_reads_back(rt: HostRuntime) -> Result<(), Fail> {
     let plain = b"a\"b\nc\\d".as_slice();
     let text = escaped(rt.alloc(), plain)?;
-    assert_eq!(rt; text.as_slice(), b"a\\\"b\\nc\\\\d".as_slice());
+    let expected = b"a\\\"b\\nc\\\\d".as_slice();
+    same(&rt, text.as_slice(), expected, "escaped");
     let back = unescaped(rt.alloc(), text.as_slice())?;
-    assert_eq!(rt; back.as_slice(), plain);
+    same(&rt, back.as_slice(), plain, "unescaped");
     Ok(())
 }

@@ -1,8 +1,9 @@
 //! What a fault of a configuration says to the one who wrote it: the line and the column, the path, what stands there, what was expected.
 
+use crate::tests::expected::same;
 use conf_check::configure;
 use conf_fault::explain_fault;
-use std::alloc::Global;
+use std::alloc::{AllocError, Global};
 use std::process::Abort;
 use std::test::Fail;
 
@@ -206,16 +207,19 @@ static RULES: &[Row] = &[
     ),
 ];
 
+/// What is said of the fault for which a configuration of this text is refused.
+fn explained(alloc: Global, text: &[u8]) -> Result<String, AllocError> {
+    match configure(alloc, text, None) {
+        Ok(_) => String::from_str(alloc, "accepted"),
+        Err(fault) => explain_fault(alloc, text, &fault),
+    }
+}
+
 /// A configuration of each text is refused, and of its fault this is said.
 fn are_explained(rt: &impl Abort, alloc: Global, rows: &[Row]) -> Result<(), Fail> {
     for (what, text, said) in rows {
-        match configure(alloc, text.as_bytes(), None) {
-            Ok(_) => assert!(rt; false, "{what}: accepted"),
-            Err(fault) => {
-                let explained = explain_fault(alloc, text.as_bytes(), &fault)?;
-                assert_eq!(rt; explained.as_str(), *said, "{what}");
-            }
-        }
+        let found = explained(alloc, text.as_bytes())?;
+        same(rt, found.as_str(), *said, *what);
     }
     Ok(())
 }

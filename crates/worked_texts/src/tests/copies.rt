@@ -2,6 +2,7 @@
 
 use crate::tests::configured::configured;
 use crate::tests::described::described;
+use crate::tests::expected::same;
 use ctf_types::Duplicate;
 use std::alloc::Global;
 use std::process::Abort;
@@ -40,14 +41,24 @@ event {
 };
 ";
 
+/// The metadata of a configuration's copy, and the name of its first stream type.
+fn copied(alloc: Global, text: &str) -> Result<String, Fail> {
+    let copied = configured(alloc, text)?.copy(alloc)?;
+    let text = write_metadata(alloc, &copied)?;
+    let stream = copied.streams.get(0).ok_or("no stream type")?;
+    Ok(format!(in alloc; "{text}{}", stream.name.as_str())?)
+}
+
 #[test]
 fn copies_a_configuration(rt: HostRuntime) -> Result<(), Fail> {
-    let alloc = rt.alloc();
-    let copied = configured(alloc, SMALL)?.copy(alloc)?;
-    let text = write_metadata(alloc, &copied)?;
-    assert_eq!(rt; text.as_str(), SMALL_TEXT);
-    let stream = copied.streams.get(0).ok_or("no stream type")?;
-    assert_eq!(rt; stream.name.as_str(), "s");
+    let found = copied(rt.alloc(), SMALL)?;
+    let expected = format!(in rt.alloc(); "{SMALL_TEXT}s")?;
+    same(
+        &rt,
+        found.as_str(),
+        expected.as_str(),
+        "the small configuration",
+    );
     Ok(())
 }
 
@@ -55,7 +66,7 @@ fn copies_a_configuration(rt: HostRuntime) -> Result<(), Fail> {
 fn is_copied(rt: &impl Abort, alloc: Global, text: &str, expected: &str) -> Result<(), Fail> {
     let given = read_metadata(alloc, text.as_bytes())?;
     let shown = described(alloc, &given.copy(alloc)?)?;
-    assert_eq!(rt; shown.as_str(), expected);
+    same(rt, shown.as_str(), expected, text);
     Ok(())
 }
 

@@ -1,5 +1,6 @@
 mod rows;
 
+use crate::tests::expected::same;
 use conf_inherit::resolve;
 use conf_tree::{ConfFault, Tree, read_tree};
 use rows::Row;
@@ -211,14 +212,18 @@ fn repeated(
 ) -> Result<String, AllocError> {
     let mut text = String::from_str(alloc, first)?;
     for i in from..to {
-        let number = format!(in alloc; "{i}")?;
-        let next = format!(in alloc; "{}", i + 1)?;
-        let piece = each.replace(alloc, "#", number.as_str())?;
-        let piece = piece.replace(alloc, "@", next.as_str())?;
+        let piece = with_number(alloc, each, "#", i)?;
+        let piece = with_number(alloc, piece.as_str(), "@", i + 1)?;
         text.push_str(piece.as_str())?;
     }
     text.push_str(last)?;
     Ok(text)
+}
+
+/// The text with a number in the place of this mark.
+fn with_number(alloc: Global, text: &str, mark: &str, number: u32) -> Result<String, AllocError> {
+    let digits = format!(in alloc; "{number}")?;
+    text.replace(alloc, mark, digits.as_str())
 }
 
 /// What stands before the aliases of a configuration, between them and its other place, and behind that.
@@ -245,28 +250,42 @@ fn resolved(alloc: Global, text: &str) -> Result<Tree, ConfFault> {
 /// What is said of a configuration: the place that is refused and why, or what is shown of it once it is resolved, or `ok` where that is not there.
 fn said(alloc: Global, text: &str, shown: &str) -> Result<String, AllocError> {
     match resolved(alloc, text) {
-        Ok(tree) => match tree.value.pointer(shown) {
-            Some(part) => part.to_string(alloc),
-            None => String::from_str(alloc, "ok"),
-        },
+        Ok(tree) => part_of(alloc, &tree, shown),
         Err(fault) => format!(in alloc; "{fault}"),
     }
+}
+
+fn part_of(alloc: Global, tree: &Tree, shown: &str) -> Result<String, AllocError> {
+    match tree.value.pointer(shown) {
+        Some(part) => part.to_string(alloc),
+        None => String::from_str(alloc, "ok"),
+    }
+}
+
+/// The text of a row in its shell.
+fn text_of(
+    alloc: Global,
+    (before, between, behind): Shell,
+    aliases: &str,
+    part: &str,
+) -> Result<String, AllocError> {
+    let text = format!(in alloc; "{before}{aliases}{between}{part}{behind}")?;
+    spelled(alloc, text.as_str())
 }
 
 /// Of each row in its shell is said what it expects.
 fn are_said(
     rt: &impl Abort,
     alloc: Global,
-    (before, between, behind): Shell,
+    shell: Shell,
     shown: &str,
     rows: &[Row],
 ) -> Result<(), Fail> {
     for (aliases, part, expected) in rows {
-        let text = format!(in alloc; "{before}{aliases}{between}{part}{behind}")?;
-        let text = spelled(alloc, text.as_str())?;
+        let text = text_of(alloc, shell, aliases, part)?;
         let found = said(alloc, text.as_str(), shown)?;
         let expected = spelled(alloc, expected)?;
-        assert_eq!(rt; found.as_str(), expected.as_str(), "{aliases} {part}");
+        same(rt, found.as_str(), expected.as_str(), (*aliases, *part));
     }
     Ok(())
 }

@@ -1,5 +1,6 @@
 //! Worked rows of reading a tree and looking values up in it.
 
+use crate::tests::expected::same;
 use conf_tree::{
     At, ConfFault, FaultKind, flag, list, needed, object, optional_flag, optional_text,
     optional_whole, read_tree, whole,
@@ -95,7 +96,7 @@ fn are_read(
 ) -> Result<(), Fail> {
     for (text, expected) in rows {
         let found = read(alloc, look, text)?;
-        assert_eq!(rt; found.as_str(), *expected, "{text:?}");
+        same(rt, found.as_str(), *expected, *text);
     }
     Ok(())
 }
@@ -110,13 +111,18 @@ static LEVELS: &[(usize, &str)] = &[
     (128, "not JSON: expected one JSON value in UTF-8"),
 ];
 
+fn nested(alloc: Global, levels: usize) -> Result<String, AllocError> {
+    let opened = "[".repeat(alloc, levels)?;
+    let closed = "]".repeat(alloc, levels)?;
+    format!(in alloc; "{opened}{closed}")
+}
+
 #[test]
 fn nests_32_levels(rt: HostRuntime) -> Result<(), Fail> {
     for (levels, expected) in LEVELS {
-        let mut text = "[".repeat(rt.alloc(), *levels)?;
-        text.push_str("]".repeat(rt.alloc(), *levels)?.as_str())?;
+        let text = nested(rt.alloc(), *levels)?;
         let found = read(rt.alloc(), Look::Tree, text.as_str().as_bytes())?;
-        assert_eq!(rt; found.as_str(), *expected, "{levels} levels");
+        same(&rt, found.as_str(), *expected, *levels);
     }
     Ok(())
 }
@@ -314,15 +320,18 @@ static KINDS: &[(FaultKind, &str)] = &[
     (FaultKind::OutOfMemory, "out of memory"),
 ];
 
+/// A fault of this kind at a place in two steps, as it prints.
+fn printed_fault(alloc: Global, kind: FaultKind) -> Result<String, AllocError> {
+    let fault = ConfFault::here(kind).inside(12);
+    let fault = fault.in_property(alloc, "members");
+    format!(in alloc; "{fault}")
+}
+
 #[test]
 fn prints_each_kind_at_its_place(rt: HostRuntime) -> Result<(), Fail> {
-    let alloc = rt.alloc();
     for (kind, expected) in KINDS {
-        let fault = ConfFault::here(*kind)
-            .inside(12)
-            .in_property(alloc, "members");
-        let found = format!(in alloc; "{fault}")?;
-        assert_eq!(rt; found.as_str(), *expected);
+        let found = printed_fault(rt.alloc(), *kind)?;
+        same(&rt, found.as_str(), *expected, "a kind");
     }
     Ok(())
 }

@@ -3,6 +3,7 @@ mod reading;
 mod smallest;
 mod syntax;
 
+use crate::tests::expected::same;
 use faults::{
     BAD_LENGTH, BAD_LENGTH_IN_LINES, DUPLICATE, LIMIT, LIMITS, NO_PACKET_SIZE, PACKETS,
     UNSUPPORTED, WORDS,
@@ -37,13 +38,24 @@ fn unmarked(alloc: Global, row: &[u8]) -> Result<(Vec<u8>, usize), AllocError> {
     Ok((text, place))
 }
 
+/// The kind of the fault that a text is refused with, and its place.
+fn told_of(alloc: Global, text: &[u8]) -> Result<String, Fail> {
+    let fault = fault_of(alloc, text)?;
+    Ok(format!(in alloc; "{:?} at {}", fault.kind, fault.place)?)
+}
+
+/// What is said of the fault that a text is refused with.
+fn explained(alloc: Global, text: &[u8]) -> Result<String, Fail> {
+    let fault = fault_of(alloc, text)?;
+    Ok(explain_fault(alloc, text, &fault)?)
+}
+
 /// The first fault of a row is of this kind, and stands at its caret.
 fn is_refused(rt: &impl Abort, alloc: Global, row: &str, kind: &str) -> Result<(), Fail> {
     let (text, place) = unmarked(alloc, row.as_bytes())?;
-    let fault = fault_of(alloc, &text)?;
-    let found = format!(in alloc; "{:?} at {}", fault.kind, fault.place)?;
+    let found = told_of(alloc, &text)?;
     let expected = format!(in alloc; "{kind} at {place}")?;
-    assert_eq!(rt; found.as_str(), expected.as_str(), "{row}");
+    same(rt, found.as_str(), expected.as_str(), row);
     Ok(())
 }
 
@@ -132,24 +144,18 @@ fn counts_up_to_each_limit(rt: HostRuntime) -> Result<(), Fail> {
 #[test]
 fn says_what_was_expected(rt: HostRuntime) -> Result<(), Fail> {
     for (text, words) in WORDS {
-        let fault = fault_of(rt.alloc(), text.as_bytes())?;
-        let said = explain_fault(rt.alloc(), text.as_bytes(), &fault)?;
-        assert_eq!(rt; said.as_str(), *words, "{text}");
+        let said = explained(rt.alloc(), text.as_bytes())?;
+        same(&rt, said.as_str(), *words, *text);
     }
     Ok(())
 }
 
 #[test]
 fn names_metadata_in_packets(rt: HostRuntime) -> Result<(), Fail> {
+    let end = ": metadata in packets is not read here (`babeltrace2 -o ctf` converts such a trace)";
     for text in PACKETS {
-        let fault = fault_of(rt.alloc(), text)?;
-        let said = explain_fault(rt.alloc(), text, &fault)?;
-        assert!(rt;
-            said.as_str().ends_with(
-                ": metadata in packets is not read here (`babeltrace2 -o ctf` converts such a trace)"
-            ),
-            "{said}"
-        );
+        let said = explained(rt.alloc(), text)?;
+        same(&rt, said.as_str().ends_with(end), true, said.as_str());
     }
     Ok(())
 }

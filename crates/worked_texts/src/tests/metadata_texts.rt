@@ -1,6 +1,7 @@
 //! The texts of two configurations, word for word.
 
 use crate::tests::configured::configured;
+use crate::tests::expected::same;
 use std::alloc::Global;
 use std::process::Abort;
 use std::test::Fail;
@@ -14,7 +15,7 @@ fn is_written(
     expected: &str,
 ) -> Result<(), Fail> {
     let text = write_metadata(alloc, &configured(alloc, configuration)?)?;
-    assert_eq!(rt; text.as_str(), expected);
+    same(rt, text.as_str(), expected, configuration);
     Ok(())
 }
 

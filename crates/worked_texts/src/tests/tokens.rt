@@ -1,5 +1,6 @@
 //! Worked rows of tokens, and what they stand for.
 
+use crate::tests::expected::same;
 use std::alloc::Global;
 use std::process::Abort;
 use std::test::*;
@@ -11,7 +12,7 @@ type Row = (&'static [u8], &'static str);
 fn are_cut(rt: &impl Abort, alloc: Global, rows: &[Row]) -> Result<(), Fail> {
     for (text, expected) in rows {
         let found = format!(in alloc; "{:?}", tokens(alloc, text))?;
-        assert_eq!(rt; found.as_str(), *expected, "{text:?}");
+        same(rt, found.as_str(), *expected, *text);
     }
     Ok(())
 }
@@ -99,7 +100,7 @@ fn where_tokens_end(rt: HostRuntime) -> Result<(), Fail> {
     let text = b"/* CTF 1.8 */0x1F 08 0x 0X8 1ul 5llLu a//b\n/**/...:=:";
     let found = pieces(rt.alloc(), text)?;
     let expected = b"0x1F 0 8 0 x 0 X8 1ul 5llL u a ... := : ";
-    assert_eq!(rt; found.as_slice(), expected.as_slice());
+    same(&rt, found.as_slice(), expected.as_slice(), "pieces");
     Ok(())
 }
 
@@ -115,32 +116,33 @@ static LITERALS: &[(&[u8], Option<u64>)] = &[
 #[test]
 fn values_of_literals(rt: HostRuntime) {
     for (literal, value) in LITERALS {
-        assert_eq!(rt; literal_value(literal), *value, "{literal:?}");
+        same(&rt, literal_value(literal), *value, *literal);
     }
 }
 
 #[test]
 fn escapes_of_strings(rt: HostRuntime) -> Result<(), Fail> {
     let read = unescape(rt.alloc(), b"\\\\\\\"\\'\\?\\a\\b\\f\\n\\r\\t\\vz")?;
-    assert_eq!(rt;
-        read.as_slice(),
-        [92, 34, 39, 63, 7, 8, 12, 10, 13, 9, 11, 122].as_slice()
-    );
+    let expected = [92, 34, 39, 63, 7, 8, 12, 10, 13, 9, 11, 122];
+    same(&rt, read.as_slice(), expected.as_slice(), "each escape");
     let written = escape(rt.alloc(), b"a\"\\\n\tb")?;
-    assert_eq!(rt; written.as_slice(), b"a\\\"\\\\\\n\\tb".as_slice());
+    let expected = b"a\\\"\\\\\\n\\tb";
+    same(&rt, written.as_slice(), expected.as_slice(), "a text");
     Ok(())
+}
+
+fn shown_atoms(alloc: Global, text: &[u8]) -> Result<String, Fail> {
+    let atoms = atoms(alloc, text, &tokens(alloc, text)?)?;
+    Ok(format!(in alloc; "{atoms:?}")?)
 }
 
 #[test]
 fn atoms_of_tokens(rt: HostRuntime) -> Result<(), Fail> {
     let text = b"/* CTF 1.8 */ size = 0x10; \"a\\n\" 18446744073709551616".as_slice();
-    let found = tokens(rt.alloc(), text)?;
-    let atoms = atoms(rt.alloc(), text, &found)?;
-    let shown = format!(in rt.alloc(); "{atoms:?}")?;
-    assert_eq!(rt;
-        shown.as_str(),
-        r#"[Word(Text { text: "size" }), Mark(Equals), Number(16), Mark(Semicolon), Text(Text { text: "a\n" }), TooLarge]"#
-    );
+    let shown = shown_atoms(rt.alloc(), text)?;
+    let expected =
+        r#"[Word(Text { text: "size" }), Mark(Equals), Number(16), Mark(Semicolon), Text(Text { text: "a\n" }), TooLarge]"#;
+    same(&rt, shown.as_str(), expected, text);
     Ok(())
 }
 
@@ -153,7 +155,7 @@ fn is_explained(
     words: &str,
 ) -> Result<(), Fail> {
     let said = explain(alloc, b"/* CTF 1.8 */\na @", &MetaFault { place, kind })?;
-    assert_eq!(rt; said.as_str(), words);
+    same(rt, said.as_str(), words, place);
     Ok(())
 }
 

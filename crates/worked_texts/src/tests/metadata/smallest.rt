@@ -1,6 +1,7 @@
 //! The smallest text: one stream of one kind of event record, whose payload is one byte.
 
 use crate::tests::described::described;
+use crate::tests::expected::same;
 use std::test::Fail;
 use tsdl_reader::read_metadata;
 
@@ -26,6 +27,6 @@ Some(("v", Plain(Int(IntType { size: 8, align: 8, signed: false, base: Dec, cloc
 fn reads_the_smallest_text(rt: HostRuntime) -> Result<(), Fail> {
     let metadata = read_metadata(rt.alloc(), TEXT.as_bytes())?;
     let shown = described(rt.alloc(), &metadata)?;
-    assert_eq!(rt; shown.as_str(), METADATA);
+    same(&rt, shown.as_str(), METADATA, "the smallest text");
     Ok(())
 }
