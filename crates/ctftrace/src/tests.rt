@@ -1,15 +1,18 @@
 //! The rows of the program: what it and its commands answer, its configuration, what a reader finds in bytes that were changed, and reads and writes that fail.
 
+mod answered;
 mod answers;
 mod command_line;
 mod commands;
 mod configuration;
+mod expected;
 mod faults;
 mod narrow_files;
 mod progress;
 mod read_command;
 mod resume;
 mod resume_refusals;
+mod row_files;
 mod short_timestamps;
 mod stopped_files;
 mod stopped_output;

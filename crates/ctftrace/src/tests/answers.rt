@@ -1,10 +1,13 @@
 //! The rows of the first path.
 
-use std::test::Fail;
+use crate::tests::expected::same;
 use number_packets::first_path;
+use std::alloc::Global;
+use std::process::Abort;
+use std::test::Fail;
 
 /// Input, output, errors and status.
-const ROWS: [(&str, &str, &str, u8); 4] = [
+static ROWS: &[(&str, &str, &str, u8)] = &[
     (
         "1\n2\n",
         "c11ffcc1800000007000000001020000\nread: 1 2\n",
@@ -23,14 +26,22 @@ const ROWS: [(&str, &str, &str, u8); 4] = [
 
 #[test]
 fn answers_to_numbers(rt: HostRuntime) -> Result<(), Fail> {
-    for (text, output, errors, status) in ROWS {
-        let mut input = text.as_bytes();
-        let mut printed = Vec::new(rt.alloc());
-        let mut said = Vec::new(rt.alloc());
-        let answered = first_path(rt.alloc(), &mut input, &mut printed, &mut said);
-        assert_eq!(rt; answered, status, "the status");
-        assert_eq!(rt; printed.as_slice(), output.as_bytes(), "the output");
-        assert_eq!(rt; said.as_slice(), errors.as_bytes(), "the errors");
+    for row in ROWS {
+        answers_so(&rt, rt.alloc(), row)?;
     }
+    Ok(())
+}
+
+fn answers_so(
+    rt: &impl Abort,
+    alloc: Global,
+    (text, output, errors, status): &(&str, &str, &str, u8),
+) -> Result<(), Fail> {
+    let mut printed = Vec::new(alloc);
+    let mut said = Vec::new(alloc);
+    let answered = first_path(alloc, &mut text.as_bytes(), &mut printed, &mut said);
+    same(rt, answered, *status, *text, "ends with");
+    same(rt, std::str::from_utf8(&printed)?, *output, *text, "prints");
+    same(rt, std::str::from_utf8(&said)?, *errors, *text, "says");
     Ok(())
 }

@@ -1,7 +1,9 @@
 //! The parts of commands, defaults filled in.
 
-use std::test::Fail;
+use crate::tests::expected::same;
 use command_words::command;
+use std::alloc::Global;
+use std::test::Fail;
 
 /// Words, and the command that they ask for.
 static ROWS: &[(&[&str], &str)] = &[
@@ -80,11 +82,16 @@ static ROWS: &[(&[&str], &str)] = &[
 #[test]
 fn asks_for_commands(rt: HostRuntime) -> Result<(), Fail> {
     for (words, asked) in ROWS {
-        let Ok(found) = command(rt.alloc(), words) else {
-            return Err(Fail::new("no command"));
-        };
-        let text = format!(in rt.alloc(); "{found:?}")?;
-        assert_eq!(rt; text.as_str(), *asked);
+        let found = asked_for(rt.alloc(), words)?;
+        same(&rt, found.as_str(), *asked, *words, "ask for");
     }
     Ok(())
+}
+
+/// The command that the words ask for.
+fn asked_for(alloc: Global, words: &[&str]) -> Result<String, Fail> {
+    let Ok(found) = command(alloc, words) else {
+        return Err(Fail::new("no command"));
+    };
+    Ok(format!(in alloc; "{found:?}")?)
 }

@@ -1,7 +1,8 @@
 //! The rows of the commands: what is printed, what is said of faults, and the status.
 
-use crate::tests::run_quietly;
-use std::fs;
+use crate::tests::answered::{answers, tells};
+use crate::tests::expected::same;
+use crate::tests::row_files::{remove, write};
 use std::test::Fail;
 
 /// One stream type with one event record type, without the number of its stream.
@@ -83,36 +84,19 @@ static ROWS: &[Row] = &[
 #[test]
 fn answers_commands(rt: HostRuntime) -> Result<(), Fail> {
     for (words, text, output, errors, status) in ROWS {
-        fs::write(&rt, "conf.json", *text)?;
-        let mut input = b"".as_slice();
-        let mut printed = Vec::new(rt.alloc());
-        let mut said = Vec::new(rt.alloc());
-        let answered = run_quietly(&rt, words, &mut input, &mut printed, &mut said);
-        fs::remove_file(&rt, "conf.json")?;
-        assert_eq!(rt; printed.as_slice(), output.as_bytes(), "{words:?} prints");
-        assert_eq!(rt; said.as_slice(), errors.as_bytes(), "{words:?} says");
-        assert_eq!(rt; answered, *status, "{words:?} ends with");
+        write(&rt, "conf.json", text)?;
+        answers(&rt, *words, words, (output, errors, *status))?;
+        remove(&rt, &["conf.json"])?;
     }
     Ok(())
 }
 
 #[test]
 fn prints_metadata(rt: HostRuntime) -> Result<(), Fail> {
-    fs::write(&rt, "small.json", SMALL)?;
-    let mut input = b"".as_slice();
-    let mut printed = Vec::new(rt.alloc());
-    let mut said = Vec::new(rt.alloc());
-    let answered = run_quietly(
-        &rt,
-        &["metadata", "small.json"],
-        &mut input,
-        &mut printed,
-        &mut said,
-    );
-    fs::remove_file(&rt, "small.json")?;
-    assert_eq!(rt; answered, 0);
-    assert!(rt; said.is_empty());
-    assert_eq!(rt; printed.as_slice(), METADATA.as_bytes());
+    write(&rt, "small.json", SMALL)?;
+    let words = &["metadata", "small.json"];
+    answers(&rt, "the small one", words, (METADATA, "", 0))?;
+    remove(&rt, &["small.json"])?;
     Ok(())
 }
 
@@ -147,15 +131,15 @@ static LINES: &[(&[&str], u8)] = &[
 ];
 
 #[test]
-fn judges_the_command_line(rt: HostRuntime) -> Result<(), Fail> {
+fn judges_the_command_line(rt: HostRuntime) {
     for (words, status) in LINES {
-        let mut input = b"".as_slice();
-        let mut printed = Vec::new(rt.alloc());
-        let mut said = Vec::new(rt.alloc());
-        let answered = run_quietly(&rt, words, &mut input, &mut printed, &mut said);
-        assert_eq!(rt; answered, *status, "{words:?} ends with");
-        assert_eq!(rt; printed.is_empty(), *status != 0, "{words:?} prints");
-        assert_eq!(rt; said.is_empty(), *status == 0, "{words:?} says");
+        let expected = (*status == 0, *status != 0, *status);
+        same(
+            &rt,
+            tells(&rt, words),
+            expected,
+            *words,
+            "print, say, end with",
+        );
     }
-    Ok(())
 }

@@ -1,32 +1,45 @@
 //! The program's own configuration is what its JSON configures.
 
+use crate::tests::expected::same;
 use conf_check::configure;
-use std::test::Fail;
+use ctf_types::Config;
 use number_packets::small_config;
+use std::alloc::{AllocError, Global};
+use std::test::Fail;
 use tsdl_writer::write_metadata;
 
 /// One stream type `s` with one event record type `e`, whose payload is the number `v` of 8 bits.
 const JSON: &str =
     r#"{"trace":{"type":{"trace-byte-order":"le","$features":{"data-stream-type-id-field-type":false},"data-stream-types":{"s":{"$features":{"packet":{"total-size-field-type":{"class":"uint","size":32},"content-size-field-type":{"class":"uint","size":32},"discarded-event-records-counter-snapshot-field-type":false},"event-record":{"type-id-field-type":false}},"event-record-types":{"e":{"payload-field-type":{"class":"struct","members":[{"v":{"field-type":{"class":"uint","size":8}}}]}}}}}}}}"#;
 
+/// The metadata text of a configuration, and a line for each stream type: its name, and whether it has no default clock and no extra members, with their alignment.
+fn described(alloc: Global, config: &Config) -> Result<String, AllocError> {
+    let mut text = write_metadata(alloc, config)?;
+    for stream in config.streams.as_slice() {
+        let name = stream.name.as_str();
+        let is_plain = stream.default_clock.is_none() && stream.extras.members.is_empty();
+        writeln!(text, "{name} {is_plain} {}", stream.extras.min_align)?;
+    }
+    Ok(text)
+}
+
+fn configured(alloc: Global) -> Result<String, Fail> {
+    match configure(alloc, JSON.as_bytes(), None) {
+        Ok(config) => Ok(described(alloc, &config)?),
+        Err(fault) => Err(Fail::new(fault)),
+    }
+}
+
+fn own_text(alloc: Global) -> Result<String, AllocError> {
+    write_metadata(alloc, &small_config(alloc)?)
+}
+
 /// They have the same metadata text, which says all of a configuration but the names of the stream types and of their default clocks, and these are the same.
 #[test]
 fn is_configured_by_its_json(rt: HostRuntime) -> Result<(), Fail> {
-    let alloc = rt.alloc();
-    let own = small_config(alloc)?;
-    let configured = match configure(alloc, JSON.as_bytes(), None) {
-        Ok(config) => config,
-        Err(fault) => {
-            let why = format!(in alloc; "{fault}")?;
-            return Err(why.as_str().into());
-        }
-    };
-    let text = write_metadata(alloc, &configured)?;
-    assert_eq!(rt; text.as_str(), write_metadata(alloc, &own)?.as_str());
-    assert_eq!(rt; configured.streams.len(), 1);
-    let stream = configured.streams.get(0).ok_or("no stream type")?;
-    assert_eq!(rt; stream.name.as_str(), "s");
-    assert!(rt; stream.default_clock.is_none() && stream.extras.members.is_empty());
-    assert_eq!(rt; stream.extras.min_align, 1);
+    let found = configured(rt.alloc())?;
+    let text = own_text(rt.alloc())?;
+    let expected = format!(in rt.alloc(); "{text}s true 1\n")?;
+    same(&rt, found.as_str(), expected.as_str(), JSON, "configures");
     Ok(())
 }

@@ -1,8 +1,11 @@
 //! Reads and writes that fail in mid-stream: the status is 3, and what was written is a front of the answer.
 
+use crate::tests::expected::same;
+use crate::tests::stopped_output::front_of;
+use number_packets::first_path;
+use std::alloc::Global;
 use std::io::{Error, ErrorKind, Read, Result as IoResult, Write};
 use std::test::Fail;
-use number_packets::first_path;
 
 /// The answer to the lines `1` and `2`.
 const OUTPUT: &str = "c11ffcc1800000007000000001020000\nread: 1 2\n";
@@ -52,44 +55,67 @@ impl Write for NarrowWriter {
 #[test]
 fn prints_nothing_where_a_read_fails(rt: HostRuntime) -> Result<(), Fail> {
     let mut input = BrokenReader { text: b"1\n2\n" };
-    let mut output = Vec::new(rt.alloc());
-    let mut errors = Vec::new(rt.alloc());
-    let status = first_path(rt.alloc(), &mut input, &mut output, &mut errors);
-    assert_eq!(rt; status, 3);
-    assert!(rt; output.is_empty() && errors.is_empty());
+    let (output, errors, status) = answer(rt.alloc(), &mut input, OUTPUT.len());
+    same(&rt, status, 3, "a read that fails", "ends with");
+    same(
+        &rt,
+        output.as_slice(),
+        b"".as_slice(),
+        "a read that fails",
+        "prints",
+    );
+    same(
+        &rt,
+        errors.as_slice(),
+        b"".as_slice(),
+        "a read that fails",
+        "says",
+    );
     Ok(())
+}
+
+/// What is printed where there is room for so many bytes, what is said, and the status.
+fn answer<R: Read>(alloc: Global, input: &mut R, room: usize) -> (Vec<u8>, Vec<u8>, u8) {
+    let taken = Vec::new(alloc);
+    let mut output = NarrowWriter { taken, room };
+    let mut errors = Vec::new(alloc);
+    let status = first_path(alloc, input, &mut output, &mut errors);
+    (output.taken, errors, status)
 }
 
 #[test]
 fn prints_a_front_where_a_write_fails(rt: HostRuntime) -> Result<(), Fail> {
     for room in 0..OUTPUT.len() + 2 {
-        let mut input = b"1\n2\n".as_slice();
-        let mut output = NarrowWriter {
-            taken: Vec::new(rt.alloc()),
+        let (output, errors, status) = answer(rt.alloc(), &mut b"1\n2\n".as_slice(), room);
+        let ends = if room >= OUTPUT.len() { 0 } else { 3 };
+        same(&rt, status, ends, room, "bytes of room end with");
+        same(
+            &rt,
+            output.as_slice(),
+            front_of(OUTPUT.as_bytes(), room),
             room,
-        };
-        let mut errors = Vec::new(rt.alloc());
-        let status = first_path(rt.alloc(), &mut input, &mut output, &mut errors);
-        let all = room >= OUTPUT.len();
-        assert_eq!(rt; status, if all { 0 } else { 3 }, "room for {room} bytes");
-        let front = &OUTPUT.as_bytes()[..room.min(OUTPUT.len())];
-        assert_eq!(rt; output.taken.as_slice(), front, "room for {room} bytes");
-        assert!(rt; errors.is_empty());
+            "bytes of room",
+        );
+        same(&rt, errors.len(), 0, room, "bytes of room: what is said");
     }
     Ok(())
 }
 
 #[test]
 fn says_nothing_of_a_bad_line_that_cannot_be_written(rt: HostRuntime) -> Result<(), Fail> {
-    let mut input = b"x\n".as_slice();
     let mut output = Vec::new(rt.alloc());
-    let mut errors = NarrowWriter {
-        taken: Vec::new(rt.alloc()),
-        room: 4,
-    };
-    let status = first_path(rt.alloc(), &mut input, &mut output, &mut errors);
-    assert_eq!(rt; status, 3);
-    assert!(rt; output.is_empty());
-    assert_eq!(rt; errors.taken.as_slice(), b"bad ".as_slice());
+    let taken = Vec::new(rt.alloc());
+    let mut errors = NarrowWriter { taken, room: 4 };
+    let input = &mut b"x\n".as_slice();
+    let status = first_path(rt.alloc(), input, &mut output, &mut errors);
+    same(&rt, status, 3, "a bad line", "ends with");
+    same(&rt, output.len(), 0, "a bad line", "prints so many bytes");
+    same(
+        &rt,
+        errors.taken.as_slice(),
+        b"bad ".as_slice(),
+        "a bad line",
+        "says",
+    );
     Ok(())
 }

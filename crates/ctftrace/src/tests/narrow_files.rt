@@ -1,10 +1,15 @@
 //! A write that fails while `trace` runs: the status is 3, a line names the file, and the file has a front of what it was to have.
 
+use crate::tests::answered::Answer;
+use crate::tests::expected::same;
+use crate::tests::row_files::{remove_all, write_both};
+use crate::tests::stopped_output::front_of;
 use crate::tests::trace_command::{CLOCKED, CLOCKED_BYTES, CLOCKED_SCRIPT};
 use std::alloc::{Alloc, Allocator, Global};
 use std::cell::Cell;
 use std::fs::{self, FileTimes, Metadata, OpenFile, OpenOptions, Permissions};
 use std::io::{Error, ErrorKind, Read, Result as IoResult, Seek, SeekFrom, Write};
+use std::process::Abort;
 use std::rt::Files;
 use std::sync::Wait;
 use std::test::Fail;
@@ -151,8 +156,75 @@ impl<R: Files> Files for NarrowFiles<'_, R> {
     }
 }
 
-/// The words of the command, behind which more may stand.
-const WORDS: [&str; 6] = [
+/// What was printed, what was said, the status, and the bytes of a file.
+#[derive(Drop)]
+pub struct Outcome {
+    pub printed: Vec<u8>,
+    pub said: Vec<u8>,
+    pub status: u8,
+    pub bytes: Vec<u8>,
+}
+
+/// Runs the words where the file at this path has room for so many bytes, and each takes so many by one write.
+pub fn traced<R: Files + AllocGlobal + Clone + Threads + Wait>(
+    rt: &R,
+    words: &[&str],
+    path: &str,
+    (room, piece): (usize, usize),
+) -> IoResult<Outcome> {
+    let is_asked = Cell::new(false);
+    let files = NarrowFiles {
+        rt,
+        path,
+        room,
+        piece,
+        is_asked: &is_asked,
+    };
+    let (printed, said, status) = run_over(rt.alloc(), &files, words);
+    match fs::read(rt, path) {
+        Ok(bytes) => Ok(Outcome {
+            printed,
+            said,
+            status,
+            bytes,
+        }),
+        Err(fault) => Err(fault),
+    }
+}
+
+/// What the words print and say over these files, and the status.
+fn run_over<R: Files + AllocGlobal + Clone + Threads + Wait>(
+    alloc: Global,
+    files: &NarrowFiles<'_, R>,
+    words: &[&str],
+) -> (Vec<u8>, Vec<u8>, u8) {
+    let mut printed = Vec::new(alloc);
+    let mut said = Vec::new(alloc);
+    let status = run(files, words, &mut b"".as_slice(), &mut printed, &mut said);
+    (printed, said, status)
+}
+
+/// This was printed and said, with this status, and the file has these bytes.
+pub fn is_told(
+    rt: &impl Abort,
+    traced: &Outcome,
+    (output, errors, status): Answer<'_>,
+    bytes: &[u8],
+    row: (usize, &[&str]),
+) {
+    same(rt, traced.status, status, row, "end with");
+    same(
+        rt,
+        traced.printed.as_slice(),
+        output.as_bytes(),
+        row,
+        "print",
+    );
+    same(rt, traced.said.as_slice(), errors.as_bytes(), row, "say");
+    same(rt, traced.bytes.as_slice(), bytes, row, "leave");
+}
+
+const WORDS: &[&str] = &[
     "trace",
     "narrow.json",
     "narrow_script.json",
@@ -161,38 +233,15 @@ const WORDS: [&str; 6] = [
     "64",
 ];
 
-/// Traces with these words too where the file at this path has room for so many bytes: what is printed, what is said, the status, and the bytes of the file.
-fn traced<R: Files + AllocGlobal + Clone + Threads + Wait>(
-    rt: &R,
-    more: &[&str],
-    path: &str,
-    room: usize,
-) -> Result<(Vec<u8>, Vec<u8>, u8, Vec<u8>), Fail> {
-    let is_asked = Cell::new(false);
-    let files = NarrowFiles {
-        rt,
-        path,
-        room,
-        piece: usize::MAX,
-        is_asked: &is_asked,
-    };
-    let mut input = b"".as_slice();
-    let mut printed = Vec::new(rt.alloc());
-    let mut said = Vec::new(rt.alloc());
-    let mut words = Vec::new(rt.alloc());
-    words.extend_from_slice(WORDS.as_slice())?;
-    words.extend_from_slice(more)?;
-    let status = run(
-        &files,
-        words.as_slice(),
-        &mut input,
-        &mut printed,
-        &mut said,
-    );
-    let bytes = fs::read(rt, path)?;
-    fs::remove_dir_all(rt, "narrow")?;
-    Ok((printed, said, status, bytes))
-}
+const WITH_WORKERS: &[&str] = &[
+    "trace",
+    "narrow.json",
+    "narrow_script.json",
+    "narrow",
+    "--packet",
+    "64",
+    "--workers",
+];
 
 /// What is printed, said and written where the file of the stream has room for so many bytes of these.
 struct Row {
@@ -206,13 +255,13 @@ struct Row {
 
 static ROWS: &[Row] = &[
     Row {
-        words: &[],
+        words: WORDS,
         whole: "0 Accepted 10\n1 Accepted 11\n2 Done\n3 Took 0\n",
         torn: "0 Accepted 10\n1 Accepted 11\n2 Done\n3 Faulted\n",
         bytes: CLOCKED_BYTES,
     },
     Row {
-        words: &["--workers"],
+        words: WITH_WORKERS,
         whole: "t0 0 Accepted 0\nt0 1 Accepted 1\nt0 2 Done\n",
         torn: "t0 0 Accepted 0\nt0 1 Accepted 1\nt0 2 Done\n",
         bytes: "c1fc1fc102000188000000000000000000000000000000020000000000000000000000fffe0100000000000000016f6b00000000000000000000000000000000",
@@ -221,51 +270,46 @@ static ROWS: &[Row] = &[
 
 #[test]
 fn says_which_file_takes_no_more(rt: HostRuntime) -> Result<(), Fail> {
-    fs::write(&rt, "narrow.json", CLOCKED)?;
-    fs::write(&rt, "narrow_script.json", CLOCKED_SCRIPT)?;
+    write_both(
+        &rt,
+        ("narrow.json", CLOCKED),
+        ("narrow_script.json", CLOCKED_SCRIPT),
+    )?;
     for row in ROWS {
-        let whole = hex::decode(rt.alloc(), row.bytes)?;
-        for room in [0, 1, 17, 63, 64] {
-            let (printed, said, status, bytes) = traced(&rt, row.words, "narrow/t0", room)?;
-            let (output, errors, ends) = if room < whole.len() {
-                (row.torn, "ctftrace: narrow/t0: a write failed\n", 3)
-            } else {
-                (row.whole, "", 0)
-            };
-            let words = row.words;
-            assert_eq!(rt; status, ends, "room for {room} bytes, {words:?}");
-            assert_eq!(rt;
-                printed.as_slice(),
-                output.as_bytes(),
-                "room for {room} bytes, {words:?}"
-            );
-            assert_eq!(rt;
-                said.as_slice(),
-                errors.as_bytes(),
-                "room for {room} bytes, {words:?}"
-            );
-            assert_eq!(rt;
-                bytes.as_slice(),
-                &whole.as_slice()[..room.min(whole.len())],
-                "room for {room} bytes, {words:?}"
-            );
-        }
+        stops_in_each_room(&rt, row)?;
+    }
+    Ok(())
+}
+
+fn stops_in_each_room<R: Files + AllocGlobal + Clone + Threads + Wait + Abort>(
+    rt: &R,
+    row: &Row,
+) -> Result<(), Fail> {
+    let whole = hex::decode(rt.alloc(), row.bytes)?;
+    for room in [0, 1, 17, 63, 64] {
+        let traced = traced(rt, row.words, "narrow/t0", (room, usize::MAX))?;
+        remove_all(rt, &[], "narrow")?;
+        let answer = if room < whole.len() {
+            (row.torn, "ctftrace: narrow/t0: a write failed\n", 3)
+        } else {
+            (row.whole, "", 0)
+        };
+        let front = front_of(whole.as_slice(), room);
+        is_told(rt, &traced, answer, front, (room, row.words));
     }
     Ok(())
 }
 
 #[test]
 fn says_that_the_metadata_takes_no_more(rt: HostRuntime) -> Result<(), Fail> {
-    fs::write(&rt, "narrow.json", CLOCKED)?;
-    fs::write(&rt, "narrow_script.json", CLOCKED_SCRIPT)?;
-    let (printed, said, status, bytes) = traced(&rt, &[], "narrow/metadata", 12)?;
-    assert_eq!(rt; status, 3);
-    assert!(rt; printed.is_empty());
-    assert_eq!(rt;
-        said.as_slice(),
-        b"ctftrace: narrow/metadata: a write failed\n".as_slice()
-    );
-    assert_eq!(rt; bytes.as_slice(), b"/* CTF 1.8 *".as_slice());
+    write_both(
+        &rt,
+        ("narrow.json", CLOCKED),
+        ("narrow_script.json", CLOCKED_SCRIPT),
+    )?;
+    let traced = traced(&rt, WORDS, "narrow/metadata", (12, usize::MAX))?;
+    let answer = ("", "ctftrace: narrow/metadata: a write failed\n", 3);
+    is_told(&rt, &traced, answer, b"/* CTF 1.8 *", (12, WORDS));
     Ok(())
 }
 
@@ -282,38 +326,41 @@ fn asks_for_progress<R: Files + AllocGlobal + Clone + Threads + Wait>(
         piece: usize::MAX,
         is_asked: &is_asked,
     };
-    let mut input = b"".as_slice();
-    let mut printed = Vec::new(rt.alloc());
-    let mut said = Vec::new(rt.alloc());
-    let status = run(&files, words, &mut input, &mut printed, &mut said);
+    let (_, _, status) = run_over(rt.alloc(), &files, words);
     (is_asked.get(), status)
 }
 
+/// Words, and whether they ask for progress.
+static ASKING: &[(&[&str], bool)] = &[
+    (&["check", "quiet.json"], false),
+    (&["trace", "quiet.json", "quiet_script.json", "said"], true),
+    (
+        &[
+            "trace",
+            "quiet.json",
+            "quiet_script.json",
+            "unsaid",
+            "--quiet",
+        ],
+        false,
+    ),
+    (&["read", "said"], true),
+    (&["read", "said", "--quiet"], false),
+];
+
 #[test]
 fn says_no_progress_where_it_is_to_be_quiet(rt: HostRuntime) -> Result<(), Fail> {
-    fs::write(&rt, "quiet.json", CLOCKED)?;
-    fs::write(&rt, "quiet_script.json", CLOCKED_SCRIPT)?;
-    let rows: [(&[&str], bool); 5] = [
-        (&["check", "quiet.json"], false),
-        (&["trace", "quiet.json", "quiet_script.json", "said"], true),
-        (
-            &[
-                "trace",
-                "quiet.json",
-                "quiet_script.json",
-                "unsaid",
-                "--quiet",
-            ],
-            false,
-        ),
-        (&["read", "said"], true),
-        (&["read", "said", "--quiet"], false),
-    ];
-    for (words, is_said) in rows.as_slice() {
-        let found = asks_for_progress(&rt, words);
-        assert_eq!(rt; found, (*is_said, 0), "{words:?}");
+    write_both(
+        &rt,
+        ("quiet.json", CLOCKED),
+        ("quiet_script.json", CLOCKED_SCRIPT),
+    )?;
+    for (words, is_said) in ASKING {
+        let (is_asked, status) = asks_for_progress(&rt, words);
+        same(&rt, is_asked, *is_said, *words, "ask for progress");
+        same(&rt, status, 0, *words, "end with");
     }
-    fs::remove_dir_all(&rt, "said")?;
-    fs::remove_dir_all(&rt, "unsaid")?;
+    remove_all(&rt, &[], "said")?;
+    remove_all(&rt, &[], "unsaid")?;
     Ok(())
 }

@@ -1,5 +1,6 @@
 //! What is said to people at a terminal: of the bytes that went through files a line once a second, and what is to be typed.
 
+use crate::tests::expected::same;
 use std::alloc::Global;
 use std::cell::Cell;
 use std::fmt::Display;
@@ -42,60 +43,84 @@ impl Eprint for Ticking {
     }
 }
 
-/// What is said where so many bytes are written five times, and three read.
-fn said(rt: &HostRuntime, is_watched: bool, is_wanted: bool) -> Result<String, Fail> {
-    let ticking = Ticking {
-        alloc: rt.alloc(),
+fn unread(alloc: Global) -> Ticking {
+    Ticking {
+        alloc,
         readings: Cell::new(0),
-        said: Cell::new(String::new(rt.alloc())),
-    };
+        said: Cell::new(String::new(alloc)),
+    }
+}
+
+/// What is said where so many bytes are written five times, and three read.
+fn said(alloc: Global, is_watched: bool, is_wanted: bool) -> IoResult<String> {
+    let ticking = unread(alloc);
     let tally = Tally::new(is_watched, true);
     let files = CountedFiles::new(&ticking, &tally);
     if is_wanted {
         files.say_progress();
     }
-    let mut output = files.counted(Vec::new(rt.alloc()));
+    write_and_read(alloc, &files)?;
+    Ok(ticking.said.replace(String::new(alloc)))
+}
+
+fn write_and_read(alloc: Global, files: &CountedFiles<'_, Ticking>) -> IoResult<()> {
+    let mut output = files.counted(Vec::new(alloc));
     for _ in 0..5 {
         output.write(b"four")?;
     }
     let mut input = files.counted(b"abc".as_slice());
-    let mut piece = [0u8; 8];
-    input.read(&mut piece)?;
-    Ok(ticking.said.replace(String::new(rt.alloc())))
+    input.read(&mut [0u8; 8])?;
+    Ok(())
 }
+
+/// Whether standard error is watched, whether progress is wanted, and what is said.
+static SAID: &[(bool, bool, &str)] = &[
+    (
+        true,
+        true,
+        "ctftrace: 0 bytes read, 8 written\nctftrace: 0 bytes read, 16 written\nctftrace: 3 bytes read, 20 written\n",
+    ),
+    (false, true, ""),
+    (true, false, ""),
+    (false, false, ""),
+];
 
 #[test]
 fn says_once_a_second_how_many_bytes_there_were(rt: HostRuntime) -> Result<(), Fail> {
-    let found = said(&rt, true, true)?;
-    assert_eq!(rt;
-        found.as_str(),
-        "ctftrace: 0 bytes read, 8 written\nctftrace: 0 bytes read, 16 written\nctftrace: 3 bytes read, 20 written\n"
-    );
-    for (is_watched, is_wanted) in [(false, true), (true, false), (false, false)] {
-        let found = said(&rt, is_watched, is_wanted)?;
-        assert_eq!(rt; found.as_str(), "");
+    for (is_watched, is_wanted, want) in SAID {
+        let found = said(rt.alloc(), *is_watched, *is_wanted)?;
+        same(
+            &rt,
+            found.as_str(),
+            *want,
+            (*is_watched, *is_wanted),
+            "says",
+        );
     }
     Ok(())
 }
 
 /// What is said of the input that is wanted.
-fn wanted(rt: &HostRuntime, is_typed: bool) -> String {
-    let ticking = Ticking {
-        alloc: rt.alloc(),
-        readings: Cell::new(0),
-        said: Cell::new(String::new(rt.alloc())),
-    };
+fn wanted(alloc: Global, is_typed: bool) -> String {
+    let ticking = unread(alloc);
     let tally = Tally::new(true, is_typed);
     CountedFiles::new(&ticking, &tally).say_wanted();
-    ticking.said.replace(String::new(rt.alloc()))
+    ticking.said.replace(String::new(alloc))
 }
 
+/// Whether standard input is typed, and what is said.
+static WANTED: &[(bool, &str)] = &[
+    (
+        true,
+        "ctftrace: waiting for whole numbers from 0 to 255, one a line, up to the end of the input; `ctftrace help` says what else it does\n",
+    ),
+    (false, ""),
+];
+
 #[test]
-fn says_what_is_to_be_typed(rt: HostRuntime) -> Result<(), Fail> {
-    assert_eq!(rt;
-        wanted(&rt, true).as_str(),
-        "ctftrace: waiting for whole numbers from 0 to 255, one a line, up to the end of the input; `ctftrace help` says what else it does\n"
-    );
-    assert_eq!(rt; wanted(&rt, false).as_str(), "");
-    Ok(())
+fn says_what_is_to_be_typed(rt: HostRuntime) {
+    for (is_typed, want) in WANTED {
+        let found = wanted(rt.alloc(), *is_typed);
+        same(&rt, found.as_str(), *want, *is_typed, "says");
+    }
 }

@@ -1,14 +1,18 @@
 //! The rows of `read`: what is printed of a folder, what is said of faults, and the status.
 
+use crate::tests::answered::{answers, answers_to_all};
+use crate::tests::expected::same;
+use crate::tests::row_files::{write, write_digits};
 use crate::tests::run_quietly;
+use crate::tests::stopped_output::front_of;
+use number_packets::small_config;
+use std::alloc::{AllocError, Global};
 use std::fs;
 use std::io::Eprint;
-use std::process::Abort;
 use std::rt::{Clock, Files};
 use std::sync::Wait;
 use std::test::Fail;
 use std::thread::Threads;
-use number_packets::small_config;
 use trace_platform::StoppingWriter;
 use tsdl_writer::write_metadata;
 
@@ -23,7 +27,7 @@ type Row = (
 
 const TWO_PACKETS: &str = "c11ffcc1800000007000000001020000c11ffcc1800000006800000003000000";
 
-const BAD_TOKEN: &[u8] = b"/* CTF 1.8 */ trace { major = @; };";
+const BAD_TOKEN: &str = "/* CTF 1.8 */ trace { major = @; };";
 
 static ROWS: &[Row] = &[
     (&[], &[], "", "", 0),
@@ -65,55 +69,27 @@ fn make_folder(
     folder: &str,
     files: &[(&'static str, &'static str)],
 ) -> Result<(), Fail> {
-    let alloc = rt.alloc();
-    let metadata = write_metadata(alloc, &small_config(alloc)?)?;
     fs::create_dir(rt, folder)?;
-    fs::write(
-        rt,
-        format!(in alloc; "{folder}/metadata")?.as_str(),
-        metadata.as_bytes(),
-    )?;
+    let path = format!(in rt.alloc(); "{folder}/metadata")?;
+    write(rt, path.as_str(), small_text(rt.alloc())?.as_str())?;
     for (name, digits) in files {
-        let bytes = hex::decode(alloc, digits)?;
-        fs::write(
-            rt,
-            format!(in alloc; "{folder}/{name}")?.as_str(),
-            bytes.as_slice(),
-        )?;
+        let path = format!(in rt.alloc(); "{folder}/{name}")?;
+        write_digits(rt, path.as_str(), digits)?;
     }
     Ok(())
 }
 
-/// What the program says of words that ask for a folder, and its status.
-fn answers<X: Files + Clock + Eprint + AllocGlobal + Clone + Drop + Abort + Threads + Wait>(
-    rt: &X,
-    words: &[&str],
-    output: &str,
-    errors: &str,
-    status: u8,
-) -> Result<(), Fail> {
-    let mut input = b"".as_slice();
-    let mut printed = Vec::new(rt.alloc());
-    let mut said = Vec::new(rt.alloc());
-    let answered = run_quietly(rt, words, &mut input, &mut printed, &mut said);
-    assert_eq!(rt;
-        String::from_utf8(printed)?.as_str(),
-        output,
-        "{words:?} prints"
-    );
-    assert_eq!(rt; String::from_utf8(said)?.as_str(), errors, "{words:?} says");
-    assert_eq!(rt; answered, status, "{words:?} ends with");
-    Ok(())
+/// The small configuration's metadata.
+fn small_text(alloc: Global) -> Result<String, AllocError> {
+    write_metadata(alloc, &small_config(alloc)?)
 }
 
 #[test]
 fn prints_folders(rt: HostRuntime) -> Result<(), Fail> {
     for (files, options, output, errors, status) in ROWS {
         make_folder(&rt, "rows", files)?;
-        let mut words = Vec::new(rt.alloc());
-        words.extend_from_slice(&["read", "rows"])?;
-        words.extend_from_slice(options)?;
-        answers(&rt, words.as_slice(), output, errors, *status)?;
+        let words = (["read", "rows"].as_slice(), *options);
+        answers_to_all(&rt, "the folder", words, (output, errors, *status))?;
         fs::remove_dir_all(&rt, "rows")?;
     }
     Ok(())
@@ -122,44 +98,26 @@ fn prints_folders(rt: HostRuntime) -> Result<(), Fail> {
 #[test]
 fn refuses_metadata(rt: HostRuntime) -> Result<(), Fail> {
     make_folder(&rt, "refused", &[("s", TWO_PACKETS)])?;
-    fs::write(&rt, "refused/metadata", BAD_TOKEN)?;
-    answers(
-        &rt,
-        &["read", "refused"],
-        "",
-        "ctftrace: refused/metadata: byte 30, line 1, column 31: found \"@\": no token of TSDL starts here\n",
-        1,
-    )?;
+    write(&rt, "refused/metadata", BAD_TOKEN)?;
+    let errors =
+        "ctftrace: refused/metadata: byte 30, line 1, column 31: found \"@\": no token of TSDL starts here\n";
+    answers(&rt, "a bad token", &["read", "refused"], ("", errors, 1))?;
     fs::remove_dir_all(&rt, "refused")?;
     Ok(())
 }
 
 #[test]
 fn fails_where_a_file_is_not_read(rt: HostRuntime) -> Result<(), Fail> {
-    answers(
-        &rt,
-        &["read", "nowhere"],
-        "",
-        "ctftrace: nowhere/metadata: cannot open: entity not found\n",
-        3,
-    )?;
+    let errors = "ctftrace: nowhere/metadata: cannot open: entity not found\n";
+    answers(&rt, "no folder", &["read", "nowhere"], ("", errors, 3))?;
     make_folder(&rt, "unread", &[("s", TWO_PACKETS)])?;
     fs::create_dir(&rt, "unread/below")?;
-    answers(
-        &rt,
-        &["read", "unread"],
-        "",
-        "ctftrace: unread/below: cannot read: a read failed\n",
-        3,
-    )?;
-    fs::write(&rt, "unread/metadata", BAD_TOKEN)?;
-    answers(
-        &rt,
-        &["read", "unread"],
-        "",
-        "ctftrace: unread/metadata: byte 30, line 1, column 31: found \"@\": no token of TSDL starts here\n",
-        1,
-    )?;
+    let errors = "ctftrace: unread/below: cannot read: a read failed\n";
+    answers(&rt, "a folder in it", &["read", "unread"], ("", errors, 3))?;
+    write(&rt, "unread/metadata", BAD_TOKEN)?;
+    let errors =
+        "ctftrace: unread/metadata: byte 30, line 1, column 31: found \"@\": no token of TSDL starts here\n";
+    answers(&rt, "a bad token", &["read", "unread"], ("", errors, 1))?;
     fs::remove_dir_all(&rt, "unread")?;
     Ok(())
 }
@@ -170,16 +128,31 @@ fn prints_a_front_where_a_write_fails(rt: HostRuntime) -> Result<(), Fail> {
     let whole =
         "- s e fields{v=3}\nstream s: packets 1, records 1, discarded -, gaps -, end Whole\n";
     for room in 0..whole.len() + 2 {
-        let mut input = b"".as_slice();
-        let mut printed = StoppingWriter::new(rt.alloc(), room, 7);
-        let mut said = Vec::new(rt.alloc());
-        let answered = run_quietly(&rt, &["read", "front"], &mut input, &mut printed, &mut said);
+        let (printed, is_quiet, status) = front_read(&rt, room);
         let all = room >= whole.len();
-        assert_eq!(rt; answered, if all { 0 } else { 3 }, "room for {room} bytes");
-        let front = &whole.as_bytes()[..room.min(whole.len())];
-        assert_eq!(rt; printed.bytes.as_slice(), front, "room for {room} bytes");
-        assert_eq!(rt; said.is_empty(), all, "room for {room} bytes");
+        same(
+            &rt,
+            status,
+            if all { 0 } else { 3 },
+            room,
+            "bytes of room end with",
+        );
+        let front = front_of(whole.as_bytes(), room);
+        same(&rt, printed.as_slice(), front, room, "bytes of room");
+        same(&rt, is_quiet, all, room, "bytes of room: says nothing");
     }
     fs::remove_dir_all(&rt, "front")?;
     Ok(())
+}
+
+/// What is printed of the folder where there is room for so many bytes, whether nothing is said, and the status.
+fn front_read<X: Files + Clock + Eprint + AllocGlobal + Clone + Threads + Wait>(
+    rt: &X,
+    room: usize,
+) -> (Vec<u8>, bool, u8) {
+    let mut printed = StoppingWriter::new(rt.alloc(), room, 7);
+    let mut said = Vec::new(rt.alloc());
+    let words = &["read", "front"];
+    let status = run_quietly(rt, words, &mut b"".as_slice(), &mut printed, &mut said);
+    (printed.bytes, said.is_empty(), status)
 }

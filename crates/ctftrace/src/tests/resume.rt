@@ -1,9 +1,14 @@
 //! Traces that go on in their folder: what `trace --resume` answers, what then stands in the folder, and what `read` prints of it.
 
+use crate::tests::answered::{answers, answers_to_all, tells};
+use crate::tests::expected::same;
+use crate::tests::row_files::{
+    check_files, digits_of, remove_all, write, write_both, write_digits,
+};
 use crate::tests::run_quietly;
-use crate::tests::short_timestamps::{BYTE, answers};
-use crate::tests::trace_command::{CLOCKED, CLOCKED_BYTES, CLOCKED_SCRIPT, check_files};
-use std::fs;
+use crate::tests::short_timestamps::BYTE;
+use crate::tests::trace_command::{CLOCKED, CLOCKED_BYTES, CLOCKED_SCRIPT};
+use std::alloc::{AllocError, Global};
 use std::io::Eprint;
 use std::process::Abort;
 use std::rt::{Clock, Files};
@@ -232,13 +237,21 @@ const FILES: [&str; 4] = ["trace", "conf.json", "script.json", "again"];
 #[test]
 fn goes_on_in_a_folder(rt: HostRuntime) -> Result<(), Fail> {
     for row in ROWS {
-        fs::write(&rt, "conf.json", row.config)?;
-        for run in row.runs {
-            run_once(&rt, row.shows, run)?;
-        }
-        answers(&rt, row.shows, &["read", "again"], row.text, "", 0)?;
-        fs::remove_file(&rt, "conf.json")?;
-        fs::remove_dir_all(&rt, "again")?;
+        run_all(&rt, row)?;
+        answers(&rt, row.shows, &["read", "again"], (row.text, "", 0))?;
+        remove_all(&rt, &["conf.json", "script.json"], "again")?;
+    }
+    Ok(())
+}
+
+/// All runs of a row, one after the other.
+fn run_all<X: Files + Clock + Eprint + AllocGlobal + Clone + Drop + Abort + Threads + Wait>(
+    rt: &X,
+    row: &Row,
+) -> Result<(), Fail> {
+    for run in row.runs {
+        write_both(rt, ("conf.json", row.config), ("script.json", run.script))?;
+        run_once(rt, row.shows, run)?;
     }
     Ok(())
 }
@@ -249,73 +262,70 @@ fn run_once<X: Files + Clock + Eprint + AllocGlobal + Clone + Drop + Abort + Thr
     shows: &str,
     run: &Run,
 ) -> Result<(), Fail> {
-    fs::write(rt, "script.json", run.script)?;
-    let mut words = Vec::new(rt.alloc());
-    words.extend_from_slice(FILES.as_slice())?;
-    words.extend_from_slice(run.words)?;
-    answers(
-        rt,
-        shows,
-        words.as_slice(),
-        run.output,
-        run.errors,
-        run.status,
-    )?;
-    check_files(rt, "again", shows, run.left)?;
-    fs::remove_file(rt, "script.json")?;
-    Ok(())
+    let words = (FILES.as_slice(), run.words);
+    answers_to_all(rt, shows, words, (run.output, run.errors, run.status))?;
+    check_files(rt, "again", shows, run.left)
 }
 
 /// Numbers of 8 bits go round: the packet behind 300 has number 44, and the reader finds no gap.
 #[test]
 fn numbers_go_round(rt: HostRuntime) -> Result<(), Fail> {
-    fs::write(&rt, "conf.json", NARROW)?;
-    fs::write(&rt, "script.json", r#"{"streams":[],"events":[]}"#)?;
-    let made = &["trace", "conf.json", "script.json", "round"];
-    answers(&rt, "an empty folder", made, "", "", 0)?;
-    let mut bytes = packets_of_300(&rt)?;
-    fs::write(&rt, "round/a", bytes.as_slice())?;
-    fs::write(
+    makes_300_packets(&rt)?;
+    write(
         &rt,
         "script.json",
         r#"{"streams":[{"name":"a","type":"s"}],"events":[{"open":"a"},{"close":"a"},{"collect":"a"}]}"#,
     )?;
-    let goes_on = &[
-        "trace",
-        "conf.json",
-        "script.json",
-        "round",
-        "--resume",
-        "--packet=16",
-    ];
-    answers(
-        &rt,
-        "goes on",
-        goes_on,
-        "0 Done\n1 Done\n2 Took 44\n",
-        "",
-        0,
-    )?;
-    bytes.extend_from_slice(&hex::decode(rt.alloc(), "c11ffcc18000000070000000012c0000")?)?;
-    let found = fs::read(&rt, "round/a")?;
-    assert_eq!(rt; found.as_slice(), bytes.as_slice());
+    let more = ["--resume", "--packet=16"].as_slice();
+    let answer = ("0 Done\n1 Done\n2 Took 44\n", "", 0);
+    answers_to_all(&rt, "goes on", (ROUND.as_slice(), more), answer)?;
+    has_301_packets(&rt)?;
     let text = "stream a: packets 301, records 0, discarded 1, gaps 0, end Whole\n";
-    answers(&rt, "reads", &["read", "round"], text, "", 0)?;
-    fs::remove_file(&rt, "conf.json")?;
-    fs::remove_file(&rt, "script.json")?;
-    fs::remove_dir_all(&rt, "round")?;
+    answers(&rt, "reads", &["read", "round"], (text, "", 0))?;
+    remove_all(&rt, &["conf.json", "script.json"], "round")?;
     Ok(())
 }
 
-/// 300 packets of 16 bytes without event records, numbered from 0; one event record was lost behind the first.
-fn packets_of_300<X: AllocGlobal>(rt: &X) -> Result<Vec<u8>, Fail> {
-    let mut bytes = Vec::new(rt.alloc());
+const ROUND: [&str; 4] = ["trace", "conf.json", "script.json", "round"];
+
+/// Makes a folder, and in it a file of 300 packets.
+fn makes_300_packets<
+    X: Files + Clock + Eprint + AllocGlobal + Clone + Drop + Abort + Threads + Wait,
+>(rt: &X) -> Result<(), Fail> {
+    let script = r#"{"streams":[],"events":[]}"#;
+    write_both(rt, ("conf.json", NARROW), ("script.json", script))?;
+    answers(rt, "an empty folder", ROUND.as_slice(), ("", "", 0))?;
+    let digits = packets_of_300(rt.alloc())?;
+    write_digits(rt, "round/a", digits.as_str())
+}
+
+/// The file has one packet more.
+fn has_301_packets<X: Files + AllocGlobal + Abort>(rt: &X) -> Result<(), Fail> {
+    let found = digits_of(rt, "round/a")?;
+    let mut digits = packets_of_300(rt.alloc())?;
+    digits.push_str("c11ffcc18000000070000000012c0000")?;
+    same(
+        rt,
+        found.as_str(),
+        digits.as_str(),
+        "goes on",
+        "has the bytes",
+    );
+    Ok(())
+}
+
+/// 300 packets of 16 bytes without event records, numbered from 0, in hexadecimal; one event record was lost behind the first.
+fn packets_of_300(alloc: Global) -> Result<String, AllocError> {
+    let mut digits = String::new(alloc);
     for number in 0..300u32 {
         let lost = if number == 0 { 0 } else { 1 };
-        bytes.extend_from_slice(b"\xc1\x1f\xfc\xc1\x80\0\0\0\x70\0\0\0".as_slice())?;
-        bytes.extend_from_slice(&[lost, (number % 256) as u8, 0, 0])?;
+        write!(
+            digits,
+            "c11ffcc18000000070000000{lost:02x}{:02x}0000",
+            number % 256
+        )?;
     }
-    Ok(bytes)
+    Ok(digits)
 }
 
 /// Parts of a script: the readings and the events of each run, and what follows the folder in the words.
@@ -346,22 +356,33 @@ static PARTS: &[(&str, &str, &[&str])] = &[
 #[test]
 fn reads_like_one_trace(rt: HostRuntime) -> Result<(), Fail> {
     for config in [CLOCKED, BYTE] {
-        fs::write(&rt, "conf.json", config)?;
-        let (clock, events) = traces_parts(&rt)?;
-        traces(&rt, clock.as_str(), events.as_str(), "whole", &[])?;
-        let parts = fs::read(&rt, "parts/t0")?;
-        let whole = fs::read(&rt, "whole/t0")?;
-        assert_eq!(rt; parts.as_slice(), whole.as_slice());
-        assert!(rt; !whole.is_empty());
-        assert_eq!(rt;
-            text_of(&rt, "parts")?.as_slice(),
-            text_of(&rt, "whole")?.as_slice()
-        );
-        fs::remove_file(&rt, "conf.json")?;
-        fs::remove_dir_all(&rt, "parts")?;
-        fs::remove_dir_all(&rt, "whole")?;
+        write(&rt, "conf.json", config)?;
+        traces_parts_and_whole(&rt)?;
+        parts_are_the_whole(&rt, config)?;
+        remove_all(&rt, &["conf.json"], "parts")?;
+        remove_all(&rt, &["script.json"], "whole")?;
     }
     Ok(())
+}
+
+/// Traces the parts one behind the other, and all at once.
+fn traces_parts_and_whole<
+    X: Files + Clock + Eprint + AllocGlobal + Clone + Drop + Abort + Threads + Wait,
+>(rt: &X) -> Result<(), Fail> {
+    let (clock, events) = traces_parts(rt)?;
+    traces(rt, (clock.as_str(), events.as_str()), "whole", &[])
+}
+
+/// Both folders have the same bytes, of which there are some, and read alike.
+fn parts_are_the_whole<
+    X: Files + Clock + Eprint + AllocGlobal + Clone + Drop + Abort + Threads + Wait,
+>(rt: &X, config: &str) -> Result<(), Fail> {
+    let parts = digits_of(rt, "parts/t0")?;
+    let whole = digits_of(rt, "whole/t0")?;
+    same(rt, parts.as_str(), whole.as_str(), config, "has the bytes");
+    same(rt, whole.is_empty(), false, config, "has no bytes");
+    let text = text_of(rt, "parts")?;
+    answers(rt, config, &["read", "whole"], (text.as_str(), "", 0))
 }
 
 /// Traces the parts into one folder, one behind the other, and gives the readings and the events of all.
@@ -377,7 +398,7 @@ fn traces_parts<X: Files + Clock + Eprint + AllocGlobal + Clone + Drop + Abort +
         }
         clock.push_str(readings)?;
         events.push_str(part)?;
-        traces(rt, readings, part, "parts", more)?;
+        traces(rt, (readings, part), "parts", more)?;
     }
     Ok((clock, events))
 }
@@ -385,25 +406,19 @@ fn traces_parts<X: Files + Clock + Eprint + AllocGlobal + Clone + Drop + Abort +
 /// Traces these events by these readings into the folder.
 fn traces<X: Files + Clock + Eprint + AllocGlobal + Clone + Drop + Abort + Threads + Wait>(
     rt: &X,
-    readings: &str,
-    events: &str,
+    (readings, events): (&str, &str),
     folder: &str,
     more: &[&str],
 ) -> Result<(), Fail> {
     let script = format!(in rt.alloc();
         "{{\"streams\":[{{\"name\":\"t0\",\"type\":\"s\",\"clock\":[{readings}]}}],\"events\":[{events}]}}"
     )?;
-    fs::write(rt, "script.json", script.as_str())?;
+    write(rt, "script.json", script.as_str())?;
     let mut words = Vec::new(rt.alloc());
     words.extend_from_slice(&["trace", "conf.json", "script.json", folder, "--packet=64"])?;
     words.extend_from_slice(more)?;
-    let mut input = b"".as_slice();
-    let mut printed = Vec::new(rt.alloc());
-    let mut said = Vec::new(rt.alloc());
-    let status = run_quietly(rt, words.as_slice(), &mut input, &mut printed, &mut said);
-    assert_eq!(rt; String::from_utf8(said)?.as_str(), "", "{folder}: says");
-    assert_eq!(rt; status, 0, "{folder}: ends with");
-    fs::remove_file(rt, "script.json")?;
+    let (_, is_told, status) = tells(rt, words.as_slice());
+    same(rt, (is_told, status), (false, 0), folder, "says, ends with");
     Ok(())
 }
 
@@ -411,11 +426,11 @@ fn traces<X: Files + Clock + Eprint + AllocGlobal + Clone + Drop + Abort + Threa
 fn text_of<X: Files + Clock + Eprint + AllocGlobal + Clone + Drop + Abort + Threads + Wait>(
     rt: &X,
     folder: &str,
-) -> Result<Vec<u8>, Fail> {
-    let mut input = b"".as_slice();
+) -> Result<String, Fail> {
     let mut printed = Vec::new(rt.alloc());
     let mut said = Vec::new(rt.alloc());
-    let status = run_quietly(rt, &["read", folder], &mut input, &mut printed, &mut said);
-    assert_eq!(rt; status, 0, "{folder}: is read");
-    Ok(printed)
+    let words = &["read", folder];
+    let status = run_quietly(rt, words, &mut b"".as_slice(), &mut printed, &mut said);
+    same(rt, status, 0, folder, "is read");
+    Ok(String::from_utf8(printed)?)
 }

@@ -1,10 +1,12 @@
 //! Folders in which a trace does not go on: what `trace --resume` says of them, and that it leaves each byte.
 
-use crate::tests::run_quietly;
-use crate::tests::short_timestamps::answers;
+use crate::tests::answered::{answers, answers_to_all};
+use crate::tests::expected::same;
+use crate::tests::row_files::{digits_of, remove, remove_all, write, write_both, write_digits};
 use crate::tests::trace_command::SMALL;
+use std::alloc::AllocError;
 use std::fs;
-use std::io::Eprint;
+use std::io::{Eprint, Result as IoResult};
 use std::process::Abort;
 use std::rt::{Clock, Files};
 use std::sync::Wait;
@@ -82,6 +84,10 @@ static REFUSALS: &[Refusal] = &[
     },
 ];
 
+/// The script of the trace that is there.
+const TWO: &str =
+    r#"{"streams":[{"name":"a","type":"s"},{"name":"b","type":"s"}],"events":[{"trace":"a","event":"e","payload":[1]}]}"#;
+
 /// The script of two streams, of which one has no file yet.
 const THREE: &str =
     r#"{"streams":[{"name":"a","type":"s"},{"name":"c","type":"s"},{"name":"b","type":"s"}],"events":[{"trace":"a","event":"e","payload":[9]}]}"#;
@@ -90,96 +96,95 @@ const THREE: &str =
 #[test]
 fn leaves_what_is_there(rt: HostRuntime) -> Result<(), Fail> {
     for refusal in REFUSALS {
-        fs::write(&rt, "conf.json", SMALL)?;
-        fs::write(
-            &rt,
-            "script.json",
-            r#"{"streams":[{"name":"a","type":"s"},{"name":"b","type":"s"}],"events":[{"trace":"a","event":"e","payload":[1]}]}"#,
-        )?;
-        let made = &["trace", "conf.json", "script.json", "kept", "--packet=16"];
-        answers(&rt, refusal.shows, made, "0 Accepted\n", "", 0)?;
-        change(&rt, &refusal.found)?;
+        make(&rt, refusal)?;
         let before = contents(&rt)?;
-        fs::write(&rt, "script.json", THREE)?;
-        for more in [
-            &["--resume"].as_slice(),
-            &["--resume", "--workers"].as_slice(),
-        ] {
-            refuses(&rt, refusal, *more)?;
-            assert_eq!(rt;
-                contents(&rt)?.as_str(),
-                before.as_str(),
-                "{}: leaves",
-                refusal.shows
-            );
-        }
-        fs::remove_file(&rt, "conf.json")?;
-        fs::remove_file(&rt, "script.json")?;
-        match refusal.found {
-            Found::Nothing => {}
-            Found::PlainFile => fs::remove_file(&rt, "kept")?,
-            Found::Changed(_, _) | Found::Folder(_) => fs::remove_dir_all(&rt, "kept")?,
-        }
+        write(&rt, "script.json", THREE)?;
+        refuses(&rt, refusal, &["--resume"], before.as_str())?;
+        refuses(&rt, refusal, &["--resume", "--workers"], before.as_str())?;
+        remove_found(&rt, &refusal.found)?;
     }
     Ok(())
 }
 
-/// Changes what the trace left.
-fn change<X: Files + AllocGlobal + Clone + Drop + Abort>(
+/// Traces into the folder, and changes what is there.
+fn make<X: Files + Clock + Eprint + AllocGlobal + Clone + Drop + Abort + Threads + Wait>(
     rt: &X,
-    found: &Found,
+    refusal: &Refusal,
 ) -> Result<(), Fail> {
-    match found {
-        Found::Nothing => fs::remove_dir_all(rt, "kept")?,
+    write_both(rt, ("conf.json", SMALL), ("script.json", TWO))?;
+    let made = &["trace", "conf.json", "script.json", "kept", "--packet=16"];
+    answers(rt, refusal.shows, made, ("0 Accepted\n", "", 0))?;
+    match refusal.found {
+        Found::Nothing => Ok(remove_all(rt, &[], "kept")?),
         Found::PlainFile => {
-            fs::remove_dir_all(rt, "kept")?;
-            fs::write(rt, "kept", "a file")?;
+            remove_all(rt, &[], "kept")?;
+            Ok(write(rt, "kept", "a file")?)
         }
-        Found::Changed(name, bytes) => {
-            let path = format!(in rt.alloc(); "kept/{name}")?;
-            fs::remove_file(rt, path.as_str())?;
-            if let Some(digits) = bytes {
-                fs::write(rt, path.as_str(), hex::decode(rt.alloc(), *digits)?)?;
-            }
-        }
-        Found::Folder(name) => {
-            let path = format!(in rt.alloc(); "kept/{name}")?;
-            fs::remove_file(rt, path.as_str())?;
-            fs::create_dir(rt, path.as_str())?;
-        }
+        Found::Changed(name, bytes) => change(rt, name, bytes),
+        Found::Folder(name) => Ok(put_folder(rt, name)?),
     }
-    Ok(())
+}
+
+/// Puts these bytes in the place of a file's, or nothing.
+fn change<X: Files + AllocGlobal>(
+    rt: &X,
+    name: &str,
+    bytes: Option<&'static str>,
+) -> Result<(), Fail> {
+    let path = format!(in rt.alloc(); "kept/{name}")?;
+    remove(rt, &[path.as_str()])?;
+    match bytes {
+        Some(digits) => write_digits(rt, path.as_str(), digits),
+        None => Ok(()),
+    }
+}
+
+/// Puts a folder in the place of a file.
+fn put_folder<X: Files + AllocGlobal>(rt: &X, name: &str) -> IoResult<()> {
+    let path = format!(in rt.alloc(); "kept/{name}")?;
+    remove(rt, &[path.as_str()])?;
+    fs::create_dir(rt, path.as_str())
+}
+
+fn remove_found<X: Files + AllocGlobal>(rt: &X, found: &Found) -> IoResult<()> {
+    remove(rt, &["conf.json", "script.json"])?;
+    match found {
+        Found::Nothing => Ok(()),
+        Found::PlainFile => remove(rt, &["kept"]),
+        Found::Changed(_, _) | Found::Folder(_) => remove_all(rt, &[], "kept"),
+    }
 }
 
 /// What stands under each name, in hexadecimal.
-fn contents<X: Files + AllocGlobal + Clone + Drop>(rt: &X) -> Result<String, Fail> {
+fn contents<X: Files + AllocGlobal>(rt: &X) -> Result<String, AllocError> {
     let mut text = String::new(rt.alloc());
     for path in ["kept", "kept/metadata", "kept/a", "kept/b", "kept/c"] {
-        let line = match fs::read(rt, path) {
-            Ok(bytes) => hex::encode(rt.alloc(), bytes.as_slice())?,
-            Err(fault) => format!(in rt.alloc(); "{:?}", fault.kind())?,
-        };
-        text.push_str(line.as_str())?;
-        text.push('\n')?;
+        writeln!(text, "{}", content(rt, path)?)?;
     }
     Ok(text)
 }
 
-/// The trace does not go on, and the row's line says so.
+/// What stands under a name, or why it is not read.
+fn content<X: Files + AllocGlobal>(rt: &X, path: &str) -> Result<String, AllocError> {
+    match digits_of(rt, path) {
+        Ok(digits) => Ok(digits),
+        Err(fault) => format!(in rt.alloc(); "{:?}", fault.kind()),
+    }
+}
+
+/// The words of the command, behind which more stand.
+const AGAIN: [&str; 4] = ["trace", "conf.json", "script.json", "kept"];
+
+/// The trace does not go on, the row's line says so, and all that was there stays.
 fn refuses<X: Files + Clock + Eprint + AllocGlobal + Clone + Drop + Abort + Threads + Wait>(
     rt: &X,
     refusal: &Refusal,
     more: &[&str],
+    before: &str,
 ) -> Result<(), Fail> {
-    let mut words = Vec::new(rt.alloc());
-    words.extend_from_slice(&["trace", "conf.json", "script.json", "kept"])?;
-    words.extend_from_slice(more)?;
-    answers(
-        rt,
-        refusal.shows,
-        words.as_slice(),
-        "",
-        refusal.errors,
-        refusal.status,
-    )
+    let answer = ("", refusal.errors, refusal.status);
+    answers_to_all(rt, refusal.shows, (AGAIN.as_slice(), more), answer)?;
+    let behind = contents(rt)?;
+    same(rt, behind.as_str(), before, refusal.shows, "leaves");
+    Ok(())
 }

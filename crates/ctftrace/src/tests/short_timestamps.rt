@@ -1,14 +1,8 @@
 //! Event records with timestamps of 8 bits, by the commands: what `trace` answers and writes, what `read` prints of it, and what `check` refuses.
 
-use crate::tests::run_quietly;
-use crate::tests::trace_command::check_files;
-use std::fs;
-use std::io::Eprint;
-use std::process::Abort;
-use std::rt::{Clock, Files};
-use std::sync::Wait;
+use crate::tests::answered::answers;
+use crate::tests::row_files::{check_files, remove, remove_all, write, write_both};
 use std::test::Fail;
-use std::thread::Threads;
 
 /// One stream type with a clock and two event record types, in big-endian order, whose event records' timestamps have 8 bits.
 pub const BYTE: &str =
@@ -57,15 +51,12 @@ static ROWS: &[Row] = &[
 #[test]
 fn traces_and_reads_short_timestamps(rt: HostRuntime) -> Result<(), Fail> {
     for row in ROWS {
-        fs::write(&rt, "byte.json", BYTE)?;
-        fs::write(&rt, "script.json", row.script)?;
+        write_both(&rt, ("byte.json", BYTE), ("script.json", row.script))?;
         let traced = &["trace", "byte.json", "script.json", "short", "--packet=64"];
-        answers(&rt, row.shows, traced, row.answers, "", 0)?;
+        answers(&rt, row.shows, traced, (row.answers, "", 0))?;
         check_files(&rt, "short", row.shows, &[("t0", row.bytes)])?;
-        answers(&rt, row.shows, &["read", "short"], row.text, "", 0)?;
-        fs::remove_file(&rt, "byte.json")?;
-        fs::remove_file(&rt, "script.json")?;
-        fs::remove_dir_all(&rt, "short")?;
+        answers(&rt, row.shows, &["read", "short"], (row.text, "", 0))?;
+        remove_all(&rt, &["byte.json", "script.json"], "short")?;
     }
     Ok(())
 }
@@ -85,32 +76,9 @@ static REFUSED: &[(&str, &str)] = &[
 #[test]
 fn refuses_timestamps_of_other_sizes(rt: HostRuntime) -> Result<(), Fail> {
     for (config, errors) in REFUSED {
-        fs::write(&rt, "sized.json", *config)?;
-        answers(&rt, config, &["check", "sized.json"], "", errors, 1)?;
-        fs::remove_file(&rt, "sized.json")?;
+        write(&rt, "sized.json", config)?;
+        answers(&rt, *config, &["check", "sized.json"], ("", errors, 1))?;
+        remove(&rt, &["sized.json"])?;
     }
-    Ok(())
-}
-
-/// The program answers so, and with this status.
-pub fn answers<X: Files + Clock + Eprint + AllocGlobal + Clone + Drop + Abort + Threads + Wait>(
-    rt: &X,
-    shows: &str,
-    words: &[&str],
-    output: &str,
-    errors: &str,
-    status: u8,
-) -> Result<(), Fail> {
-    let mut input = b"".as_slice();
-    let mut printed = Vec::new(rt.alloc());
-    let mut said = Vec::new(rt.alloc());
-    let answered = run_quietly(rt, words, &mut input, &mut printed, &mut said);
-    assert_eq!(rt; String::from_utf8(said)?.as_str(), errors, "{shows}: says");
-    assert_eq!(rt;
-        String::from_utf8(printed)?.as_str(),
-        output,
-        "{shows}: prints"
-    );
-    assert_eq!(rt; answered, status, "{shows}: ends with");
     Ok(())
 }

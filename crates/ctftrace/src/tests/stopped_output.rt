@@ -1,10 +1,12 @@
 //! Each command with an output that takes 5 bytes a call and stops at each byte in turn: the status is 3, a front of what is printed else was written, and one
 //! line says so. The same with the stream of errors, which nobody is told of.
 
+use crate::tests::expected::same;
+use crate::tests::row_files::{remove_all, write_both, write_digits};
 use crate::tests::run_quietly;
 use crate::tests::trace_command::{CLOCKED, CLOCKED_BYTES, CLOCKED_SCRIPT};
 use std::fs;
-use std::io::Eprint;
+use std::io::{Eprint, Result as IoResult};
 use std::process::Abort;
 use std::rt::{Clock, Files};
 use std::sync::Wait;
@@ -86,38 +88,33 @@ struct Told {
 fn make_files<X: Files + Clock + Eprint + AllocGlobal + Clone + Threads + Wait>(
     rt: &X,
 ) -> Result<(), Fail> {
-    fs::write(rt, "out.json", NUMBERED)?;
-    fs::write(rt, "out_clocked.json", CLOCKED)?;
-    fs::write(rt, "out_script.json", CLOCKED_SCRIPT)?;
-    fs::write(rt, "out_bad.json", b"{")?;
-    fs::create_dir(rt, "out_bad")?;
-    fs::write(rt, "out_bad/metadata", b"no metadata")?;
-    fs::create_dir(rt, "out_trace")?;
-    let metadata = answered(
+    write_both(rt, ("out.json", NUMBERED), ("out_clocked.json", CLOCKED))?;
+    write_both(
         rt,
-        &["metadata", "out_clocked.json"],
-        "",
-        usize::MAX,
-        usize::MAX,
+        ("out_script.json", CLOCKED_SCRIPT),
+        ("out_bad.json", "{"),
     )?;
-    fs::write(rt, "out_trace/metadata", metadata.printed.as_slice())?;
-    let bytes = hex::decode(rt.alloc(), CLOCKED_BYTES)?;
-    fs::write(rt, "out_trace/t0", bytes.as_slice())?;
-    Ok(())
+    make_folder(rt, "out_bad", "out_bad/metadata", b"no metadata")?;
+    let words = &["metadata", "out_clocked.json"];
+    let metadata = answered(rt, words, "", usize::MAX, usize::MAX)?;
+    make_folder(
+        rt,
+        "out_trace",
+        "out_trace/metadata",
+        metadata.printed.as_slice(),
+    )?;
+    write_digits(rt, "out_trace/t0", CLOCKED_BYTES)
 }
 
-fn remove_files<X: Files + AllocGlobal + Clone>(rt: &X) -> Result<(), Fail> {
-    for path in [
-        "out.json",
-        "out_clocked.json",
-        "out_script.json",
-        "out_bad.json",
-    ] {
-        fs::remove_file(rt, path)?;
-    }
-    fs::remove_dir_all(rt, "out_bad")?;
-    fs::remove_dir_all(rt, "out_trace")?;
-    Ok(())
+/// Makes a folder with one file.
+fn make_folder<X: Files>(rt: &X, folder: &str, path: &str, bytes: &[u8]) -> IoResult<()> {
+    fs::create_dir(rt, folder)?;
+    fs::write(rt, path, bytes)
+}
+
+fn remove_files<X: Files + AllocGlobal>(rt: &X) -> IoResult<()> {
+    remove_all(rt, &["out.json", "out_clocked.json"], "out_bad")?;
+    remove_all(rt, &["out_script.json", "out_bad.json"], "out_trace")
 }
 
 /// Runs the words where the output has room for so many bytes, and the stream of errors too. The folder that they make is removed.
@@ -127,22 +124,23 @@ fn answered<X: Files + Clock + Eprint + AllocGlobal + Clone + Threads + Wait>(
     made: &str,
     room: usize,
     room_of_errors: usize,
-) -> Result<Told, Fail> {
-    let mut input = b"".as_slice();
+) -> IoResult<Told> {
     let mut output = StoppingWriter::new(rt.alloc(), room, PIECE);
     let mut errors = StoppingWriter::new(rt.alloc(), room_of_errors, PIECE);
-    let status = run_quietly(rt, words, &mut input, &mut output, &mut errors);
-    let bytes = made_bytes(rt, made)?;
-    Ok(Told {
-        printed: output.bytes,
-        said: errors.bytes,
-        status,
-        made: bytes,
-    })
+    let status = run_quietly(rt, words, &mut b"".as_slice(), &mut output, &mut errors);
+    match made_bytes(rt, made) {
+        Ok(made) => Ok(Told {
+            printed: output.bytes,
+            said: errors.bytes,
+            status,
+            made,
+        }),
+        Err(fault) => Err(fault),
+    }
 }
 
 /// The bytes of a file in the folder that was made.
-fn made_bytes<X: Files + AllocGlobal + Clone>(rt: &X, made: &str) -> Result<Vec<u8>, Fail> {
+fn made_bytes<X: Files + AllocGlobal>(rt: &X, made: &str) -> IoResult<Vec<u8>> {
     if made.is_empty() {
         return Ok(Vec::new(rt.alloc()));
     }
@@ -156,13 +154,26 @@ fn prints_a_front_where_the_output_stops(rt: HostRuntime) -> Result<(), Fail> {
     make_files(&rt)?;
     for (words, made) in ROWS {
         let whole = answered(&rt, words, made, usize::MAX, usize::MAX)?;
-        assert_eq!(rt; (whole.status, whole.said.len()), (0, 0), "{words:?}");
-        for room in 0..whole.printed.len() {
-            let front = answered(&rt, words, made, room, usize::MAX)?;
-            is_a_front(&rt, &whole, &front, room, words);
-        }
+        same(&rt, whole.status, 0, *words, "end with");
+        same(&rt, whole.said.len(), 0, *words, "say so many bytes");
+        print_fronts(&rt, words, made, &whole)?;
     }
-    remove_files(&rt)
+    remove_files(&rt)?;
+    Ok(())
+}
+
+/// Each room that is too small has a front of the whole.
+fn print_fronts<X: Files + Clock + Eprint + AllocGlobal + Clone + Drop + Abort + Threads + Wait>(
+    rt: &X,
+    words: &[&str],
+    made: &str,
+    whole: &Told,
+) -> IoResult<()> {
+    for room in 0..whole.printed.len() {
+        let front = answered(rt, words, made, room, usize::MAX)?;
+        is_a_front(rt, whole, &front, (room, words));
+    }
+    Ok(())
 }
 
 /// So many of these bytes, or all where there are fewer.
@@ -171,22 +182,18 @@ pub fn front_of(bytes: &[u8], room: usize) -> &[u8] {
 }
 
 /// The output had room for so many bytes. The file that was made is the same.
-fn is_a_front(rt: &impl Abort, whole: &Told, front: &Told, room: usize, words: &[&str]) {
-    assert_eq!(rt; front.status, 3, "room for {room} bytes, {words:?}");
-    assert_eq!(rt;
-        front.printed.as_slice(),
-        front_of(whole.printed.as_slice(), room),
-        "room for {room} bytes, {words:?}"
-    );
-    assert_eq!(rt;
-        front.said.as_slice(),
-        b"ctftrace: standard output: a write failed\n".as_slice(),
-        "room for {room} bytes, {words:?}"
-    );
-    assert_eq!(rt;
+fn is_a_front(rt: &impl Abort, whole: &Told, front: &Told, row: (usize, &[&str])) {
+    let printed = front_of(whole.printed.as_slice(), row.0);
+    let said = b"ctftrace: standard output: a write failed\n".as_slice();
+    same(rt, front.status, 3, row, "end with");
+    same(rt, front.printed.as_slice(), printed, row, "print");
+    same(rt, front.said.as_slice(), said, row, "say");
+    same(
+        rt,
         front.made.as_slice(),
         whole.made.as_slice(),
-        "room for {room} bytes, {words:?}"
+        row,
+        "make",
     );
 }
 
@@ -195,24 +202,26 @@ fn says_a_front_where_the_errors_stop(rt: HostRuntime) -> Result<(), Fail> {
     make_files(&rt)?;
     for (words, status) in FAULTS {
         let whole = answered(&rt, words, "", usize::MAX, usize::MAX)?;
-        assert_eq!(rt;
-            (whole.status, whole.printed.len()),
-            (*status, 0),
-            "{words:?}"
-        );
-        for room in 0..whole.said.len() {
-            let front = answered(&rt, words, "", usize::MAX, room)?;
-            assert_eq!(rt; front.status, 3, "room for {room} bytes, {words:?}");
-            assert!(rt;
-                front.printed.is_empty(),
-                "room for {room} bytes, {words:?}"
-            );
-            assert_eq!(rt;
-                front.said.as_slice(),
-                front_of(whole.said.as_slice(), room),
-                "room for {room} bytes, {words:?}"
-            );
-        }
+        same(&rt, whole.status, *status, *words, "end with");
+        same(&rt, whole.printed.len(), 0, *words, "print so many bytes");
+        say_fronts(&rt, words, whole.said.as_slice())?;
     }
-    remove_files(&rt)
+    remove_files(&rt)?;
+    Ok(())
+}
+
+/// Each room that is too small has a front of what is said.
+fn say_fronts<X: Files + Clock + Eprint + AllocGlobal + Clone + Drop + Abort + Threads + Wait>(
+    rt: &X,
+    words: &[&str],
+    whole: &[u8],
+) -> IoResult<()> {
+    for room in 0..whole.len() {
+        let front = answered(rt, words, "", usize::MAX, room)?;
+        let row = (room, words);
+        same(rt, front.status, 3, row, "end with");
+        same(rt, front.printed.len(), 0, row, "print so many bytes");
+        same(rt, front.said.as_slice(), front_of(whole, room), row, "say");
+    }
+    Ok(())
 }

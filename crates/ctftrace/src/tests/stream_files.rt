@@ -1,13 +1,13 @@
 //! What a reader finds in bytes that a tracer did not write so.
 
-use std::alloc::Global;
-use std::process::Abort;
+use crate::tests::expected::same;
+use number_packets::{read_bytes, small_config, trace_packet};
+use packet_reader::ReadStream;
+use std::alloc::{AllocError, Global};
 use std::test::Fail;
-use number_packets::read_bytes;
-use number_packets::{small_config, trace_packet};
 
 /// What the row shows, the file in hexadecimal, how many records each packet has, and how the file ends.
-const ROWS: [(&str, &str, &str, &str); 7] = [
+static ROWS: &[(&str, &str, &str, &str)] = &[
     ("no bytes", "", "[]", "Whole"),
     (
         "a packet without records",
@@ -50,39 +50,48 @@ const ROWS: [(&str, &str, &str, &str); 7] = [
 #[test]
 fn reads_stream_files(rt: HostRuntime) -> Result<(), Fail> {
     for (name, digits, records, end) in ROWS {
-        let bytes = hex::decode(rt.alloc(), digits)?;
-        reads(&rt, rt.alloc(), name, bytes.as_slice(), records, end)?;
+        let (counts, found) = read(rt.alloc(), digits)?;
+        same(&rt, counts.as_str(), *records, *name, "has the records");
+        same(&rt, found.as_str(), *end, *name, "ends");
     }
     Ok(())
 }
 
-/// A reader finds packets with so many records each in these bytes, and that they end so.
-fn reads(
-    rt: &impl Abort,
-    alloc: Global,
-    name: &str,
-    bytes: &[u8],
-    records: &str,
-    end: &str,
-) -> Result<(), Fail> {
-    let read = read_bytes(alloc, bytes)?;
+/// How many records each packet has that a reader finds in these bytes, and how they end.
+fn read(alloc: Global, digits: &str) -> Result<(String, String), Fail> {
+    let bytes = hex::decode(alloc, digits)?;
+    let read = read_bytes(alloc, bytes.as_slice())?;
+    let counts = record_counts(alloc, &read)?;
+    let end = format!(in alloc; "{:?}", read.end)?;
+    Ok((counts, end))
+}
+
+fn record_counts(alloc: Global, read: &ReadStream) -> Result<String, AllocError> {
     let mut counts = Vec::new(alloc);
     for packet in read.packets.as_slice() {
         counts.push(packet.records.len())?;
     }
-    let found = format!(in alloc; "{:?}", counts.as_slice())?;
-    assert_eq!(rt; found.as_str(), records, "records of {name}");
-    let found = format!(in alloc; "{:?}", read.end)?;
-    assert_eq!(rt; found.as_str(), end, "end of {name}");
-    Ok(())
+    format!(in alloc; "{:?}", counts.as_slice())
 }
 
 #[test]
 fn closes_a_packet_without_records(rt: HostRuntime) -> Result<(), Fail> {
-    let config = small_config(rt.alloc())?;
-    let packet = trace_packet(rt.alloc(), &config, 7, &[])?;
-    assert_eq!(rt; packet.sequence(), 7);
-    let digits = hex::encode(rt.alloc(), packet.bytes())?;
-    assert_eq!(rt; digits.as_str(), "c11ffcc1800000006000000000000000");
+    let (sequence, digits) = closed(rt.alloc())?;
+    same(&rt, sequence, 7, "the packet", "has the number");
+    let expected = "c11ffcc1800000006000000000000000";
+    same(
+        &rt,
+        digits.as_str(),
+        expected,
+        "the packet",
+        "has the bytes",
+    );
     Ok(())
+}
+
+/// The number and the bytes of a packet without records.
+fn closed(alloc: Global) -> Result<(u64, String), Fail> {
+    let config = small_config(alloc)?;
+    let packet = trace_packet(alloc, &config, 7, &[])?;
+    Ok((packet.sequence(), hex::encode(alloc, packet.bytes())?))
 }

@@ -1,6 +1,8 @@
 //! The rows of `trace`: what is printed, what is said of faults, the status, and what then stands in the folder.
 
-use crate::tests::run_quietly;
+use crate::tests::answered::{answers, answers_to_all};
+use crate::tests::expected::same;
+use crate::tests::row_files::{check_files, remove, remove_all, write_both};
 use std::fs;
 use std::io::Eprint;
 use std::process::Abort;
@@ -247,31 +249,11 @@ const FILES: [&str; 4] = ["trace", "conf.json", "script.json", "new"];
 #[test]
 fn traces(rt: HostRuntime) -> Result<(), Fail> {
     for row in ROWS {
-        fs::write(&rt, "conf.json", row.config)?;
-        fs::write(&rt, "script.json", row.script)?;
-        let mut words = Vec::new(rt.alloc());
-        words.extend_from_slice(FILES.as_slice())?;
-        words.extend_from_slice(row.words)?;
-        let mut input = b"".as_slice();
-        let mut printed = Vec::new(rt.alloc());
-        let mut said = Vec::new(rt.alloc());
-        let status = run_quietly(&rt, words.as_slice(), &mut input, &mut printed, &mut said);
-        assert_eq!(rt;
-            printed.as_slice(),
-            row.output.as_bytes(),
-            "{}: prints",
-            row.shows
-        );
-        assert_eq!(rt;
-            said.as_slice(),
-            row.errors.as_bytes(),
-            "{}: says",
-            row.shows
-        );
-        assert_eq!(rt; status, row.status, "{}: ends with", row.shows);
+        write_both(&rt, ("conf.json", row.config), ("script.json", row.script))?;
+        let words = (FILES.as_slice(), row.words);
+        answers_to_all(&rt, row.shows, words, (row.output, row.errors, row.status))?;
         check_left(&rt, row)?;
-        fs::remove_file(&rt, "conf.json")?;
-        fs::remove_file(&rt, "script.json")?;
+        remove(&rt, &["conf.json", "script.json"])?;
     }
     Ok(())
 }
@@ -281,64 +263,31 @@ fn check_left<X: Files + Clock + Eprint + AllocGlobal + Clone + Drop + Abort + T
     rt: &X,
     row: &Row,
 ) -> Result<(), Fail> {
-    let Left::Files(files) = row.left else {
-        assert!(rt; !fs::exists(rt, "new")?, "{}: makes no folder", row.shows);
-        return Ok(());
-    };
-    check_files(rt, "new", row.shows, files)?;
-    check_metadata(rt, row)?;
-    fs::remove_dir_all(rt, "new")?;
-    Ok(())
-}
-
-/// The folder has these files and one more.
-pub fn check_files<X: Files + AllocGlobal + Clone + Drop + Abort>(
-    rt: &X,
-    folder: &str,
-    shows: &str,
-    files: &[(&'static str, &'static str)],
-) -> Result<(), Fail> {
-    let mut count = 0usize;
-    for entry in fs::read_dir(rt, folder)? {
-        let _entry = entry?;
-        count = count.saturating_add(1);
+    match row.left {
+        Left::Nothing => {
+            same(
+                rt,
+                fs::exists(rt, "new")?,
+                false,
+                row.shows,
+                "makes a folder",
+            );
+            Ok(())
+        }
+        Left::Files(files) => {
+            check_files(rt, "new", row.shows, files)?;
+            check_metadata(rt, row.shows)?;
+            Ok(remove_all(rt, &[], "new")?)
+        }
     }
-    assert_eq!(rt;
-        count,
-        files.len().saturating_add(1),
-        "{shows}: makes files"
-    );
-    for (name, digits) in files {
-        let path = format!(in rt.alloc(); "{folder}/{name}")?;
-        let bytes = fs::read(rt, path.as_str())?;
-        let found = hex::encode(rt.alloc(), bytes.as_slice())?;
-        assert_eq!(rt; found.as_str(), *digits, "{shows}: writes {name}");
-    }
-    Ok(())
 }
 
 /// The metadata is what the command that prints it prints.
 fn check_metadata<X: Files + Clock + Eprint + AllocGlobal + Clone + Drop + Abort + Threads + Wait>(
     rt: &X,
-    row: &Row,
+    row: &str,
 ) -> Result<(), Fail> {
-    let mut input = b"".as_slice();
-    let mut printed = Vec::new(rt.alloc());
-    let mut said = Vec::new(rt.alloc());
-    let status = run_quietly(
-        rt,
-        &["metadata", "conf.json"],
-        &mut input,
-        &mut printed,
-        &mut said,
-    );
-    assert_eq!(rt; status, 0);
     let written = fs::read(rt, "new/metadata")?;
-    assert_eq!(rt;
-        written.as_slice(),
-        printed.as_slice(),
-        "{}: writes metadata",
-        row.shows
-    );
-    Ok(())
+    let text = std::str::from_utf8(&written)?;
+    answers(rt, row, &["metadata", "conf.json"], (text, "", 0))
 }

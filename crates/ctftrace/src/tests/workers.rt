@@ -1,6 +1,8 @@
 //! The rows of `trace --workers`: what is printed, what is said of faults, the status, and what `read` then prints of the folder.
 
-use crate::tests::run_quietly;
+use crate::tests::answered::{answers, answers_to_all, tells};
+use crate::tests::expected::same;
+use crate::tests::row_files::{remove, remove_all, write_both};
 use std::fs;
 use std::io::Eprint;
 use std::process::Abort;
@@ -111,51 +113,27 @@ const FILES: [&str; 5] = ["trace", "conf.json", "script.json", "new", "--workers
 #[test]
 fn traces_by_workers(rt: HostRuntime) -> Result<(), Fail> {
     for row in ROWS {
-        fs::write(&rt, "conf.json", row.config)?;
-        fs::write(&rt, "script.json", row.script)?;
-        let mut words = Vec::new(rt.alloc());
-        words.extend_from_slice(FILES.as_slice())?;
-        words.extend_from_slice(row.words)?;
-        check(
-            &rt,
-            row.shows,
-            words.as_slice(),
-            row.output,
-            row.errors,
-            row.status,
-        )?;
-        if fs::exists(&rt, "new")? {
-            check(&rt, row.shows, &["read", "new"], row.read, "", 0)?;
-            fs::remove_dir_all(&rt, "new")?;
-        } else {
-            assert_eq!(rt; row.read, "", "{}: makes no folder", row.shows);
-        }
-        fs::remove_file(&rt, "conf.json")?;
-        fs::remove_file(&rt, "script.json")?;
+        write_both(&rt, ("conf.json", row.config), ("script.json", row.script))?;
+        let words = (FILES.as_slice(), row.words);
+        answers_to_all(&rt, row.shows, words, (row.output, row.errors, row.status))?;
+        reads(&rt, row)?;
     }
     Ok(())
 }
 
-/// What the words print and say of faults, and the status.
-fn check<X: Files + Clock + Eprint + AllocGlobal + Clone + Drop + Abort + Threads + Wait>(
+/// What is read of the folder is what the row says. All files are removed.
+fn reads<X: Files + Clock + Eprint + AllocGlobal + Clone + Drop + Abort + Threads + Wait>(
     rt: &X,
-    shows: &str,
-    words: &[&str],
-    output: &str,
-    errors: &str,
-    status: u8,
+    row: &Row,
 ) -> Result<(), Fail> {
-    let mut input = b"".as_slice();
-    let mut printed = Vec::new(rt.alloc());
-    let mut said = Vec::new(rt.alloc());
-    let answered = run_quietly(rt, words, &mut input, &mut printed, &mut said);
-    assert_eq!(rt;
-        String::from_utf8(printed)?.as_str(),
-        output,
-        "{shows}: prints"
-    );
-    assert_eq!(rt; String::from_utf8(said)?.as_str(), errors, "{shows}: says");
-    assert_eq!(rt; answered, status, "{shows}: ends with");
+    let files = &["conf.json", "script.json"];
+    if fs::exists(rt, "new")? {
+        answers(rt, row.shows, &["read", "new"], (row.read, "", 0))?;
+        remove_all(rt, files, "new")?;
+    } else {
+        same(rt, row.read, "", row.shows, "makes no folder");
+        remove(rt, files)?;
+    }
     Ok(())
 }
 
@@ -176,14 +154,15 @@ static BAD: &[&[&str]] = &[
 ];
 
 #[test]
-fn refuses_quotas(rt: HostRuntime) -> Result<(), Fail> {
+fn refuses_quotas(rt: HostRuntime) {
     for words in BAD {
-        let mut input = b"".as_slice();
-        let mut printed = Vec::new(rt.alloc());
-        let mut said = Vec::new(rt.alloc());
-        let status = run_quietly(&rt, words, &mut input, &mut printed, &mut said);
-        assert_eq!(rt; status, 2, "{words:?}");
-        assert!(rt; printed.is_empty() && !said.is_empty(), "{words:?}");
+        let expected = (false, true, 2);
+        same(
+            &rt,
+            tells(&rt, words),
+            expected,
+            *words,
+            "print, say, end with",
+        );
     }
-    Ok(())
 }
