@@ -2,6 +2,7 @@
 
 mod added_streams;
 mod example;
+mod expected;
 mod failing_readers;
 mod memory;
 mod name_limits;

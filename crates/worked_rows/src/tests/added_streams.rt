@@ -1,7 +1,9 @@
 //! Streams that a session takes, and those that it refuses.
 
+use crate::tests::expected::same;
 use crate::tests::session_steps::{Prepared, SOURCE, Source, with, with_name, without_streams};
 use std::alloc::Global;
+use std::process::Abort;
 use std::test::Fail;
 use worked_fixtures::small;
 
@@ -41,9 +43,8 @@ fn refuses_streams_by_their_first_fault(rt: HostRuntime) -> Result<(), Fail> {
             type_name: *type_name,
             ..SOURCE
         };
-        let (next, fault) = with(rt.alloc(), session, &source)?;
-        assert_eq!(rt; fault.as_str(), *want, "{shows}");
-        session = next;
+        let fault = with(rt.alloc(), &mut session, &source)?;
+        same(&rt, fault.as_str(), *want, *shows);
     }
     Ok(())
 }
@@ -53,18 +54,29 @@ fn takes_64_streams(rt: HostRuntime) -> Result<(), Fail> {
     let mut session = small_session(rt.alloc())?;
     for number in 0..64 {
         let name = format!(in rt.alloc(); "s{number}")?;
-        let (next, fault) = with_name(rt.alloc(), session, name.as_str(), &SOURCE)?;
-        assert_eq!(rt; fault.len(), 0, "{name}");
-        session = next;
+        is_added(&rt, rt.alloc(), &mut session, (name.as_str(), ""))?;
     }
-    for (name, want) in [
-        ("s64", "Name(TooMany)"),
-        ("s0", "Name(SameName)"),
-        ("9", "Name(BadName)"),
-    ] {
-        let (next, fault) = with_name(rt.alloc(), session, name, &SOURCE)?;
-        assert_eq!(rt; fault.as_str(), want, "{name}");
-        session = next;
+    for row in BEHIND_64 {
+        is_added(&rt, rt.alloc(), &mut session, *row)?;
     }
+    Ok(())
+}
+
+/// Names behind 64 streams, and why each is not added.
+static BEHIND_64: &[(&str, &str)] = &[
+    ("s64", "Name(TooMany)"),
+    ("s0", "Name(SameName)"),
+    ("9", "Name(BadName)"),
+];
+
+/// A stream of this name is added, or refused as these words say.
+fn is_added(
+    rt: &impl Abort,
+    alloc: Global,
+    session: &mut Prepared,
+    (name, want): (&str, &str),
+) -> Result<(), Fail> {
+    let fault = with_name(alloc, session, name, &SOURCE)?;
+    same(rt, fault.as_str(), want, name);
     Ok(())
 }

@@ -1,5 +1,6 @@
 //! Whole traces, read from readers of which one fails on the way: the first one in the list is answered, and nothing is given.
 
+use crate::tests::expected::same;
 use packet_reader::ReadStop;
 use std::alloc::Global;
 use std::io::{Error, ErrorKind, Read, Result as ReadResult};
@@ -46,17 +47,33 @@ static ROWS: &[(&[usize], Option<usize>)] = &[
     (&[], None),
 ];
 
+/// A reader of the bytes in hexadecimal that fails once it gave so many, under a name.
+pub fn named_input(
+    alloc: Global,
+    name: &str,
+    digits: &str,
+    room: usize,
+) -> Result<(String, Failing), Fail> {
+    let name = String::from_str(alloc, name)?;
+    match bytes_of(alloc, digits) {
+        Ok(bytes) => Ok((
+            name,
+            Failing {
+                bytes,
+                given: 0,
+                room,
+            },
+        )),
+        Err(fault) => Err(fault),
+    }
+}
+
 /// The fault of a trace whose readers give so many bytes of `CUT` before they fail; None where it is read.
 fn fault_of(alloc: Global, rooms: &[usize]) -> Result<Option<TraceFault>, Fail> {
     let metadata = write_metadata(alloc, &small(alloc, &[])?)?;
     let mut streams = Vec::new(alloc);
     for room in rooms {
-        let input = Failing {
-            bytes: bytes_of(alloc, CUT)?,
-            given: 0,
-            room: *room,
-        };
-        streams.push((String::from_str(alloc, "a")?, input))?;
+        streams.push(named_input(alloc, "a", CUT, *room)?)?;
     }
     match read_trace_from(alloc, metadata.as_bytes(), streams) {
         Ok(_) => Ok(None),
@@ -68,7 +85,7 @@ fn fault_of(alloc: Global, rooms: &[usize]) -> Result<Option<TraceFault>, Fail> 
 fn answers_the_first_reader_that_fails(rt: HostRuntime) -> Result<(), Fail> {
     for (rooms, place) in ROWS {
         let want = place.map(|place| TraceFault::Reader(place, ReadStop::ReaderFault));
-        assert_eq!(rt; fault_of(rt.alloc(), rooms)?, want, "{rooms:?}");
+        same(&rt, fault_of(rt.alloc(), rooms)?, want, *rooms);
     }
     Ok(())
 }

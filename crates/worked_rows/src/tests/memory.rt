@@ -2,6 +2,7 @@
 
 ghost use Rattle.std.specs.Prelude.{◌≡◌, [], IfOk};
 
+use crate::tests::expected::same;
 use packet_collector::FinishAnswer;
 use std::alloc::Global;
 use std::test::Fail;
@@ -23,8 +24,8 @@ fn records_a_session_and_reads_it(rt: HostRuntime) -> Result<(), Fail> {
     let files = files_of(alloc, session)?;
     match read_trace(alloc, metadata.as_bytes(), &files) {
         Ok(trace) => {
-            assert_eq!(rt; trace.streams.len(), 1);
-            assert_eq!(rt; trace.order.len(), 2);
+            same(&rt, trace.streams.len(), 1, "streams");
+            same(&rt, trace.order.len(), 2, "records");
             Ok(())
         }
         Err(fault) => Err(Fail::new(fault)),

@@ -1,10 +1,10 @@
 //! Where a record stands in the order of a whole trace.
 
-use crate::tests::whole_traces::read_files;
+use crate::tests::expected::same;
+use crate::tests::printed_traces::trace_of;
 use std::test::Fail;
 use trace_stack::position;
-use tsdl_writer::write_metadata;
-use worked_fixtures::{CLOCKED, changed, configured};
+use worked_fixtures::CLOCKED;
 
 /// Two streams of `CLOCKED`: one with event records at 10 and 11 that ends at 12, and one with an event record at 10 that ends at 11.
 const FILES: &str = r#"
@@ -34,13 +34,9 @@ static ROWS: &[(&str, usize, u64, Option<usize>)] = &[
 
 #[test]
 fn finds_the_record_of_a_reading(rt: HostRuntime) -> Result<(), Fail> {
-    let alloc = rt.alloc();
-    let text = changed(alloc, CLOCKED, &[])?;
-    let config = configured(alloc, text.as_str(), None)?;
-    let metadata = write_metadata(alloc, &config)?;
-    let trace = read_files(alloc, metadata.as_str(), FILES)?;
+    let trace = trace_of(rt.alloc(), CLOCKED, &[], FILES)?;
     for (shows, stream, value, want) in ROWS {
-        assert_eq!(rt; position(&trace, *stream, *value), *want, "{shows}");
+        same(&rt, position(&trace, *stream, *value), *want, *shows);
     }
     Ok(())
 }

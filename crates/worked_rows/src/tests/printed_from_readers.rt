@@ -3,17 +3,19 @@
 ghost use Rattle.std.specs.Prelude.{IfOk};
 ghost use Rattle.ctf_types.specs.Allowed.{IsMetadata};
 
-use crate::tests::failing_readers::Failing;
-use crate::tests::printed_traces::{Row, TRACES, trace_of};
+use crate::tests::expected::same;
+use crate::tests::failing_readers::{Failing, named_input};
+use crate::tests::printed_traces;
+use crate::tests::printed_traces::{Row, TRACES, metadata_of, trace_of};
 use ctf_types::Metadata;
 use packet_reader::ReadStop;
-use std::alloc::Global;
+use std::alloc::{AllocError, Global};
 use std::test::Fail;
 use trace_platform::StoppingWriter;
-use trace_text::{PrintedFile, ReadingFault, print_trace, print_trace_from};
+use trace_stack::ReadTrace;
+use trace_text::{PrintedFile, ReadingFault, print_trace_from};
 use tsdl_reader::read_metadata;
-use tsdl_writer::write_metadata;
-use worked_fixtures::{CLOCKED, Changes, bytes_of, changed, configured};
+use worked_fixtures::{CLOCKED, Changes};
 
 /// Two files of two packets each, whose records are told in turns.
 static IN_TURNS: Row = (
@@ -46,6 +48,21 @@ fn printed(
 ) -> Result<Printed, Fail> {
     let (text, changes, files, _) = row;
     let metadata = known(alloc, text, changes)?;
+    let streams = inputs(alloc, files, fails)?;
+    let mut writer = StoppingWriter::new(alloc, room, 7);
+    let answer = print_trace_from(alloc, &metadata, streams, &mut writer);
+    match String::from_utf8(writer.bytes) {
+        Ok(said) => Ok((said, answer)),
+        Err(fault) => Err(Fail::new(fault)),
+    }
+}
+
+/// Readers of these files, of which one at a place fails once it gave so many bytes.
+fn inputs(
+    alloc: Global,
+    files: &str,
+    fails: Option<(usize, usize)>,
+) -> Result<Vec<(String, Failing)>, Fail> {
     let mut streams = Vec::new(alloc);
     for line in files.trim_start().lines() {
         let (name, digits) = line.split_once(": ").ok_or("a line without a file")?;
@@ -53,80 +70,103 @@ fn printed(
             Some((place, room)) if place == streams.len() => room,
             Some(_) | None => usize::MAX,
         };
-        let input = Failing {
-            bytes: bytes_of(alloc, digits)?,
-            given: 0,
-            room,
-        };
-        streams.push((String::from_str(alloc, name)?, input))?;
+        streams.push(named_input(alloc, name, digits, room)?)?;
     }
-    let mut writer = StoppingWriter::new(alloc, room, 7);
-    let answer = print_trace_from(alloc, &metadata, streams, &mut writer);
-    let said = String::from_str(alloc, std::str::from_utf8(&writer.bytes)?)?;
-    Ok((said, answer))
+    Ok(streams)
 }
 
 /// The metadata that a reader finds in the text of a row's configuration.
 fn known(alloc: Global, text: &str, changes: Changes) -> Result<Metadata, Fail>
     ensures { IfOk result (λ m. IsMetadata m) }
 {
-    let text = changed(alloc, text, changes)?;
-    let config = configured(alloc, text.as_str(), None)?;
-    let text = write_metadata(alloc, &config)?;
+    let text = metadata_of(alloc, text, changes)?;
     Ok(read_metadata(alloc, text.as_bytes())?)
 }
 
 #[test]
 fn prints_what_is_printed_of_the_trace(rt: HostRuntime) -> Result<(), Fail> {
     for row in TRACES {
-        let (said, answer) = printed(rt.alloc(), *row, None, usize::MAX)?;
+        let (said, files) = all_printed(rt.alloc(), *row)?;
         let trace = trace_of(rt.alloc(), row.0, row.1, row.2)?;
-        let files = answer?;
-        assert_eq!(rt; files.len(), trace.streams.as_slice().len());
-        for (file, stream) in files.iter().zip(trace.streams.as_slice()) {
-            assert_eq!(rt; file.name.as_str(), stream.name.as_str());
-            assert_eq!(rt; file.packets, stream.packets.as_slice().len() as u64);
-            assert_eq!(rt; file.end, stream.end);
-        }
-        assert_eq!(rt; said.trim(), row.3.trim());
+        let expected = shown_trace(rt.alloc(), &trace)?;
+        same(&rt, files.as_str(), expected.as_str(), row.2);
+        same(&rt, said.as_str().trim(), row.3.trim(), row.2);
     }
     Ok(())
+}
+
+/// What is printed of a row's files, and what is answered of each.
+fn all_printed(alloc: Global, row: Row) -> Result<(String, String), Fail> {
+    let (said, answer) = printed(alloc, row, None, usize::MAX)?;
+    let files = shown_files(alloc, answer?.as_slice())?;
+    Ok((said, files))
+}
+
+/// A line for each file: its name, how many packets it has, and how it ends.
+fn shown_files(alloc: Global, files: &[PrintedFile]) -> Result<String, AllocError> {
+    let mut text = String::new(alloc);
+    for file in files {
+        writeln!(
+            text,
+            "{} {} {:?}",
+            file.name.as_str(),
+            file.packets,
+            file.end
+        )?;
+    }
+    Ok(text)
+}
+
+fn shown_trace(alloc: Global, trace: &ReadTrace) -> Result<String, AllocError> {
+    let mut text = String::new(alloc);
+    for stream in trace.streams.as_slice() {
+        let packets = stream.packets.as_slice().len();
+        writeln!(text, "{} {packets} {:?}", stream.name.as_str(), stream.end)?;
+    }
+    Ok(text)
 }
 
 #[test]
 fn tells_files_in_turns(rt: HostRuntime) -> Result<(), Fail> {
     let (text, changes, files, want) = IN_TURNS;
     let trace = trace_of(rt.alloc(), text, changes, files)?;
-    let mut writer = StoppingWriter::new(rt.alloc(), usize::MAX, 7);
-    print_trace(rt.alloc(), &trace, &mut writer)?;
-    let (said, answer) = printed(rt.alloc(), IN_TURNS, None, usize::MAX)?;
-    assert!(rt; answer.is_ok());
-    assert_eq!(rt; said.as_str(), std::str::from_utf8(&writer.bytes)?);
-    assert_eq!(rt; said.trim(), want.trim());
+    let expected = printed_traces::printed(rt.alloc(), &trace)?;
+    let (said, _files) = all_printed(rt.alloc(), IN_TURNS)?;
+    same(&rt, said.as_str(), expected.as_str(), files);
+    same(&rt, said.as_str().trim(), want.trim(), files);
     Ok(())
+}
+
+/// How many lines and bytes are printed, whether they are a front of the whole text, and why no more are.
+type Front = (usize, usize, bool, Option<ReadingFault>);
+
+/// What is printed of the files in turns, where one at a place fails once it gave so many bytes, into so much room.
+fn front(alloc: Global, fails: Option<(usize, usize)>, room: usize) -> Result<Front, Fail> {
+    let (said, answer) = printed(alloc, IN_TURNS, fails, room)?;
+    let text = said.as_str();
+    let is_front = IN_TURNS.3.trim_start().starts_with(text);
+    Ok((text.lines().count(), text.len(), is_front, answer.err()))
 }
 
 #[test]
 fn a_reader_that_fails_leaves_a_front(rt: HostRuntime) -> Result<(), Fail> {
-    let (_, _, _, want) = IN_TURNS;
     for (place, room, lines) in [(0, 0, 0), (0, 64, 3), (1, 100, 4), (1, 64, 4)] {
-        let (said, answer) = printed(rt.alloc(), IN_TURNS, Some((place, room)), usize::MAX)?;
-        let fault = ReadingFault::Reader(place, ReadStop::ReaderFault);
-        assert_eq!(rt; answer.err(), Some(fault));
-        assert!(rt; want.trim_start().starts_with(said.as_str()));
-        assert_eq!(rt; said.as_str().lines().count(), lines, "{place} {room}");
+        let (found, _, is_front, fault) = front(rt.alloc(), Some((place, room)), usize::MAX)?;
+        let expected = ReadingFault::Reader(place, ReadStop::ReaderFault);
+        same(&rt, fault, Some(expected), (place, room));
+        same(&rt, is_front, true, (place, room));
+        same(&rt, found, lines, (place, room));
     }
     Ok(())
 }
 
 #[test]
 fn a_writer_that_fails_leaves_a_front(rt: HostRuntime) -> Result<(), Fail> {
-    let (_, _, _, want) = IN_TURNS;
     for room in [0, 1, 24, 25, 300] {
-        let (said, answer) = printed(rt.alloc(), IN_TURNS, None, room)?;
-        assert_eq!(rt; answer.err(), Some(ReadingFault::Writer));
-        assert!(rt; want.trim_start().starts_with(said.as_str()));
-        assert_eq!(rt; said.as_str().len(), room);
+        let (_, bytes, is_front, fault) = front(rt.alloc(), None, room)?;
+        same(&rt, fault, Some(ReadingFault::Writer), room);
+        same(&rt, is_front, true, room);
+        same(&rt, bytes, room, room);
     }
     Ok(())
 }

@@ -1,5 +1,6 @@
 //! Traces that were read, printed.
 
+use crate::tests::expected::same;
 use std::alloc::Global;
 use std::test::Fail;
 use trace_platform::StoppingWriter;
@@ -110,12 +111,17 @@ stream a: packets 1, records 2, discarded -, gaps -, end Whole
 fn prints_what_was_read(rt: HostRuntime) -> Result<(), Fail> {
     for (text, changes, files, want) in TRACES {
         let trace = trace_of(rt.alloc(), text, changes, files)?;
-        let mut writer = StoppingWriter::new(rt.alloc(), usize::MAX, 7);
-        print_trace(rt.alloc(), &trace, &mut writer)?;
-        let printed = std::str::from_utf8(&writer.bytes)?;
-        assert_eq!(rt; printed.trim(), want.trim());
+        let printed = printed(rt.alloc(), &trace)?;
+        same(&rt, printed.as_str().trim(), want.trim(), *files);
     }
     Ok(())
+}
+
+/// What is printed of a trace.
+pub fn printed(alloc: Global, trace: &ReadTrace) -> Result<String, Fail> {
+    let mut writer = StoppingWriter::new(alloc, usize::MAX, 7);
+    print_trace(alloc, trace, &mut writer)?;
+    Ok(String::from_utf8(writer.bytes)?)
 }
 
 #[test]
@@ -125,10 +131,9 @@ fn a_writer_that_stops_has_a_front_of_the_text(rt: HostRuntime) -> Result<(), Fa
     for room in [0, 1, 17, 18, 101] {
         let mut writer = StoppingWriter::new(rt.alloc(), room, 16);
         let answer = print_trace(rt.alloc(), &trace, &mut writer);
-        assert_eq!(rt; answer, Err(PrintFault::Writer));
+        same(&rt, answer.err(), Some(PrintFault::Writer), room);
         let front = want.trim_start().as_bytes().get(..room);
-        let front = front.ok_or("a text shorter than the room")?;
-        assert_eq!(rt; writer.bytes.as_slice(), front);
+        same(&rt, Some(writer.bytes.as_slice()), front, room);
     }
     Ok(())
 }
@@ -139,13 +144,32 @@ pub fn trace_of(
     changes: Changes,
     files: &str,
 ) -> Result<ReadTrace, Fail> {
+    let metadata = metadata_of(alloc, text, changes)?;
+    let streams = files_of(alloc, files)?;
+    Ok(read_trace(alloc, metadata.as_bytes(), &streams)?)
+}
+
+/// The metadata of a configuration's text with changes.
+pub fn metadata_of(alloc: Global, text: &str, changes: Changes) -> Result<String, Fail> {
     let text = changed(alloc, text, changes)?;
     let config = configured(alloc, text.as_str(), None)?;
-    let metadata = write_metadata(alloc, &config)?;
+    Ok(write_metadata(alloc, &config)?)
+}
+
+/// The stream files of a trace, a line each.
+fn files_of(alloc: Global, files: &str) -> Result<Vec<(String, Vec<u8>)>, Fail> {
     let mut streams = Vec::new(alloc);
     for line in files.trim_start().lines() {
-        let (name, digits) = line.split_once(": ").ok_or("a line without a file")?;
-        streams.push((String::from_str(alloc, name)?, bytes_of(alloc, digits)?))?;
+        streams.push(file_of(alloc, line)?)?;
     }
-    Ok(read_trace(alloc, metadata.as_bytes(), &streams)?)
+    Ok(streams)
+}
+
+fn file_of(alloc: Global, line: &str) -> Result<(String, Vec<u8>), Fail> {
+    let (name, digits) = line.split_once(": ").ok_or("a line without a file")?;
+    let name = String::from_str(alloc, name)?;
+    match bytes_of(alloc, digits) {
+        Ok(bytes) => Ok((name, bytes)),
+        Err(fault) => Err(fault),
+    }
 }

@@ -1,5 +1,6 @@
 //! Sessions whose streams go on behind the packets that their files have, and streams that are refused there.
 
+use crate::tests::expected::same;
 use crate::tests::session_steps::{RUN, Run, SOURCE, Source, with, without_streams};
 use crate::tests::sessions::{Row, TWO_TYPES, all_run};
 use std::test::Fail;
@@ -109,9 +110,8 @@ fn refuses_streams_behind_packets_of_others(rt: HostRuntime) -> Result<(), Fail>
     let config = configured(rt.alloc(), TWO_TYPES, None)?;
     let mut session = without_streams(rt.alloc(), config);
     for (shows, source, want) in ADDED {
-        let (next, fault) = with(rt.alloc(), session, source)?;
-        assert_eq!(rt; fault.as_str(), *want, "{shows}");
-        session = next;
+        let fault = with(rt.alloc(), &mut session, source)?;
+        same(&rt, fault.as_str(), *want, *shows);
     }
     Ok(())
 }

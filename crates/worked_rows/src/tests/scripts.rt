@@ -1,5 +1,6 @@
 //! Scripts: what their texts say of the configuration with a clock, and the first fault of those that say none.
 
+use crate::tests::expected::same;
 use ctf_types::Config;
 use std::alloc::{AllocError, Global};
 use std::process::Abort;
@@ -187,26 +188,42 @@ fn tells_the_first_fault(rt: HostRuntime) -> Result<(), Fail> {
         let text = changed(alloc, WHOLE, *changes)?;
         refuses(&rt, alloc, &config, text.as_bytes(), want)?;
     }
-    refuses(&rt, alloc, &config, b"{", "0 NotJson")?;
-    refuses(&rt, alloc, &config, br#"{"streams":3}"#, "0 Shape")?;
-    refuses(&rt, alloc, &config, b"[]", "0 Shape")?;
-    refuses(&rt, alloc, &config, b"\xff", "0 NotJson")
+    for (text, want) in NO_SCRIPTS {
+        refuses(&rt, alloc, &config, text, want)?;
+    }
+    Ok(())
 }
+
+/// Texts that are no script, and the fault of each.
+static NO_SCRIPTS: &[(&[u8], &str)] = &[
+    (b"{", "0 NotJson"),
+    (br#"{"streams":3}"#, "0 Shape"),
+    (b"[]", "0 Shape"),
+    (b"\xff", "0 NotJson"),
+];
 
 #[test]
 fn names_the_first_refused_stream(rt: HostRuntime) -> Result<(), Fail> {
-    let alloc = rt.alloc();
-    let config = configured(alloc, CLOCKED, None)?;
+    let config = configured(rt.alloc(), CLOCKED, None)?;
     for (names, want) in NAMES {
-        let entries = String::from_str(alloc, names)?;
-        let entries = entries.replace(alloc, " ", r#"","type":"s"},{"name":""#)?;
-        let text = format!(in alloc;
-            r#"{{"events":[],"streams":[{{"name":"{entries}","type":"s"}}]}}"#
-        )?;
-        let script = read_script(alloc, &config, text.as_bytes())?;
-        assert_eq!(rt; names_fault(&script), *want, "{names}");
+        let found = fault_of_names(rt.alloc(), &config, names)?;
+        same(&rt, found, *want, *names);
     }
     Ok(())
+}
+
+/// The first refused stream of a script with these names.
+fn fault_of_names(
+    alloc: Global,
+    config: &Config,
+    names: &str,
+) -> Result<Option<(usize, NameFault)>, Fail> {
+    let entries = names.replace(alloc, " ", r#"","type":"s"},{"name":""#)?;
+    let text = format!(in alloc;
+        r#"{{"events":[],"streams":[{{"name":"{entries}","type":"s"}}]}}"#
+    )?;
+    let script = read_script(alloc, config, text.as_bytes())?;
+    Ok(names_fault(&script))
 }
 
 /// Names of streams, and the first that is refused.
@@ -235,9 +252,8 @@ fn says(
     text: &str,
     want: &str,
 ) -> Result<(), Fail> {
-    let script = read_script(alloc, config, text.as_bytes())?;
-    let found = shown(alloc, &script)?;
-    assert_eq!(rt; found.as_str(), want, "{text}");
+    let found = told(alloc, config, text.as_bytes())?;
+    same(rt, found.as_str(), want, text);
     Ok(())
 }
 
@@ -249,47 +265,58 @@ fn refuses(
     text: &[u8],
     want: &str,
 ) -> Result<(), Fail> {
-    let found = match read_script(alloc, config, text) {
-        Ok(script) => shown(alloc, &script)?,
-        Err(fault) => format!(in alloc; "{} {:?}", fault.at, fault.kind)?,
-    };
-    assert_eq!(rt; found.as_str(), want, "{text:?}");
+    let found = told(alloc, config, text)?;
+    same(rt, found.as_str(), want, text);
     Ok(())
+}
+
+/// What a text says, or its first fault.
+fn told(alloc: Global, config: &Config, text: &[u8]) -> Result<String, AllocError> {
+    match read_script(alloc, config, text) {
+        Ok(script) => shown(alloc, &script),
+        Err(fault) => format!(in alloc; "{} {:?}", fault.at, fault.kind),
+    }
 }
 
 /// A line for each stream, and one for each event.
 fn shown(alloc: Global, script: &Script) -> Result<String, AllocError> {
     let mut text = String::new(alloc);
     for stream in script.streams.as_slice() {
-        let line = format!(in alloc;
-            "{} {} {:?} {:?}\n",
+        writeln!(
+            text,
+            "{} {} {:?} {:?}",
             stream.name.as_str(),
             stream.type_name.as_str(),
             stream.clock.as_slice(),
             stream.extras.as_slice()
         )?;
-        text.push_str(line.as_str())?;
     }
-    for event in script.events.as_slice() {
-        text.push_str(shown_event(alloc, event)?.as_str())?;
-    }
+    show_events(&mut text, script.events.as_slice())?;
     Ok(text)
 }
 
-fn shown_event(alloc: Global, event: &Event) -> Result<String, AllocError> {
-    let number = event.stream;
-    match &event.act {
-        Act::Trace(event_type, args) => format!(in alloc;
-            "{number} trace {event_type} {:?} {:?} {:?}\n",
+fn show_events(text: &mut String, events: &[Event]) -> Result<(), AllocError> {
+    for event in events {
+        write!(text, "{} ", event.stream)?;
+        show_act(text, &event.act)?;
+    }
+    Ok(())
+}
+
+fn show_act(text: &mut String, act: &Act) -> Result<(), AllocError> {
+    match act {
+        Act::Trace(event_type, args) => writeln!(
+            text,
+            "trace {event_type} {:?} {:?} {:?}",
             args.common.as_slice(),
             args.specific.as_slice(),
             args.payload.as_slice()
         ),
-        Act::OpenPacket => format!(in alloc; "{number} open\n"),
-        Act::ClosePacket => format!(in alloc; "{number} close\n"),
-        Act::Collect => format!(in alloc; "{number} collect\n"),
-        Act::Enable(true) => format!(in alloc; "{number} enable\n"),
-        Act::Enable(false) => format!(in alloc; "{number} disable\n"),
-        Act::Extras(values) => format!(in alloc; "{number} extras {:?}\n", values.as_slice()),
+        Act::OpenPacket => text.push_str("open\n"),
+        Act::ClosePacket => text.push_str("close\n"),
+        Act::Collect => text.push_str("collect\n"),
+        Act::Enable(true) => text.push_str("enable\n"),
+        Act::Enable(false) => text.push_str("disable\n"),
+        Act::Extras(values) => writeln!(text, "extras {:?}", values.as_slice()),
     }
 }

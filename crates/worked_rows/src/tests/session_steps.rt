@@ -4,8 +4,9 @@ ghost use Rattle.std.specs.Prelude.{◌≡◌, [], IfOk, nat_lt};
 ghost use Rattle.std.specs.List.{list_all};
 ghost use Rattle.ctf_types.specs.AllowedConfig.{IsConfig};
 
+use crate::tests::expected::same;
 use crate::tests::session_calls::act;
-use ctf_types::Config;
+use ctf_types::{Config, Values};
 use packet_reader::{ResumePoint, resume_point};
 use std::alloc::{AllocError, Global};
 use std::process::Abort;
@@ -87,56 +88,86 @@ pub fn without_streams(alloc: Global, config: Config) -> Prepared
     Session::new(alloc, config)
 }
 
-/// The session with one stream more, or as it was and why: the text is empty where the stream was added.
-pub fn with(
-    alloc: Global,
-    prepared: Prepared,
-    source: &Source,
-) -> Result<(Prepared, String), Fail> {
-    with_name(alloc, prepared, source.name, source)
+/// Adds one stream more to the session, or says why not: the text is empty where the stream was added.
+pub fn with(alloc: Global, session: &mut Prepared, source: &Source) -> Result<String, Fail> {
+    with_name(alloc, session, source.name, source)
 }
 
 /// The same under another name.
 pub fn with_name(
     alloc: Global,
-    prepared: Prepared,
+    session: &mut Prepared,
     name: &str,
     source: &Source,
-) -> Result<(Prepared, String), Fail> {
-    let (prepared, fault) = added(alloc, prepared, name, source)?;
-    let fault = fault_text(alloc, fault)?;
-    Ok((prepared, fault))
-}
-
-fn fault_text(alloc: Global, fault: Option<AddFault>) -> Result<String, AllocError> {
-    match fault {
+) -> Result<String, Fail> {
+    match added(alloc, session, name, source)? {
         None => Ok(String::new(alloc)),
-        Some(fault) => format!(in alloc; "{fault:?}"),
+        Some(fault) => Ok(format!(in alloc; "{fault:?}")?),
     }
 }
 
 fn added(
     alloc: Global,
-    prepared: Prepared,
+    session: &mut Prepared,
     name: &str,
     source: &Source,
-) -> Result<(Prepared, Option<AddFault>), Fail> {
+) -> Result<Option<AddFault>, Fail> {
+    if source.earlier.is_empty() {
+        begun(alloc, session, name, source)
+    } else {
+        resumed(alloc, session, name, source)
+    }
+}
+
+/// Adds a stream that begins anew.
+fn begun(
+    alloc: Global,
+    session: &mut Prepared,
+    name: &str,
+    source: &Source,
+) -> Result<Option<AddFault>, Fail> {
+    let (clock, back_end) = platform(alloc, source)?;
+    let (sink, extras) = sink_and_extras(alloc, source)?;
+    match session.add_stream(name, source.type_name, clock, back_end, sink, extras) {
+        Ok(_number) => Ok(None),
+        Err(refused) => Ok(Some(refused.fault)),
+    }
+}
+
+/// Adds a stream that goes on behind what its file has.
+fn resumed(
+    alloc: Global,
+    session: &mut Prepared,
+    name: &str,
+    source: &Source,
+) -> Result<Option<AddFault>, Fail> {
+    let point = point_behind(alloc, session, source)?;
+    let (clock, back_end) = platform(alloc, source)?;
+    let (sink, extras) = sink_and_extras(alloc, source)?;
+    let type_name = source.type_name;
+    match session.resume_stream(name, type_name, clock, back_end, sink, extras, point) {
+        Ok(_number) => Ok(None),
+        Err(refused) => Ok(Some(refused.fault)),
+    }
+}
+
+/// The clock and the back end of a stream.
+fn platform(alloc: Global, source: &Source) -> Result<(ListClock, ListBackEnd), Fail>
+    ensures { IfOk result (λ p. p.1.waiting ≡ []) }
+{
     let readings = Vec::from_slice(alloc, source.readings)?;
     let clock = ListClock::new(readings).ok_or("readings that fall")?;
-    let back_end = back_end(alloc, source.buffers, source.bytes)?;
-    let extras = values_in_words(alloc, source.extras)?;
+    match back_end(alloc, source.buffers, source.bytes) {
+        Ok(back_end) => Ok((clock, back_end)),
+        Err(fault) => Err(fault),
+    }
+}
+
+fn sink_and_extras(alloc: Global, source: &Source) -> Result<(ScriptedSink, Values), Fail> {
     let sink = sink(alloc, source.faults)?;
-    let type_name = source.type_name;
-    let mut session = prepared;
-    let added = if source.earlier.is_empty() {
-        session.add_stream(name, type_name, clock, back_end, sink, extras)
-    } else {
-        let point = point_behind(alloc, &session, source)?;
-        session.resume_stream(name, type_name, clock, back_end, sink, extras, point)
-    };
-    match added {
-        Ok(_number) => Ok((session, None)),
-        Err(refused) => Ok((session, Some(refused.fault))),
+    match values_in_words(alloc, source.extras) {
+        Ok(extras) => Ok((sink, extras)),
+        Err(fault) => Err(fault),
     }
 }
 
@@ -144,16 +175,21 @@ fn added(
 fn point_behind(alloc: Global, prepared: &Prepared, source: &Source) -> Result<ResumePoint, Fail>
     ensures { IfOk result (λ p. p.floor ≡ 0) }
 {
-    let metadata = prepared.metadata()?;
-    let name = String::from_str(alloc, source.name)?;
-    let files = vec![in alloc; (name, bytes_of(alloc, source.earlier)?)]?;
-    let trace = read_trace(alloc, metadata.as_bytes(), &files)?;
+    let trace = trace_behind(alloc, prepared, source)?;
     let stream = trace.streams.get(0).ok_or("no stream file")?;
     let point = resume_point(&trace.metadata, stream).ok_or("a file that does not end whole")?;
     if point.floor != 0 {
         return Err("a file with clock values".into());
     }
     Ok(point)
+}
+
+/// What is read of the stream's file.
+fn trace_behind(alloc: Global, prepared: &Prepared, source: &Source) -> Result<ReadTrace, Fail> {
+    let metadata = prepared.metadata()?;
+    let name = String::from_str(alloc, source.name)?;
+    let files = vec![in alloc; (name, bytes_of(alloc, source.earlier)?)]?;
+    Ok(read_trace(alloc, metadata.as_bytes(), &files)?)
 }
 
 fn back_end(alloc: Global, buffers: usize, bytes: usize) -> Result<ListBackEnd, Fail>
@@ -183,23 +219,18 @@ pub fn run_to_end(rt: &impl Abort, alloc: Global, run: &Run) -> Result<Ended, Fa
 fn started(rt: &impl Abort, alloc: Global, run: &Run) -> Result<Prepared, Fail> {
     let text = changed(alloc, run.text, run.changes)?;
     let config = configured(alloc, text.as_str(), None)?;
-    with_all(rt, alloc, without_streams(alloc, config), run.streams)
+    let mut session = without_streams(alloc, config);
+    add_all(rt, alloc, &mut session, run)?;
+    Ok(session)
 }
 
-/// The session with all these streams.
-fn with_all(
-    rt: &impl Abort,
-    alloc: Global,
-    prepared: Prepared,
-    sources: &[Source],
-) -> Result<Prepared, Fail> {
-    let mut prepared = prepared;
-    for source in sources {
-        let (next, fault) = added(alloc, prepared, source.name, source)?;
-        assert_eq!(rt; fault, None);
-        prepared = next;
+/// Adds all streams of a run.
+fn add_all(rt: &impl Abort, alloc: Global, session: &mut Prepared, run: &Run) -> Result<(), Fail> {
+    for source in run.streams {
+        let fault = added(alloc, session, source.name, source)?;
+        same(rt, fault, None, run.shows);
     }
-    Ok(prepared)
+    Ok(())
 }
 
 fn repeats(
@@ -229,7 +260,7 @@ fn runs(
         return Err("no such stream".into());
     }
     let answers = run_events(prepared, &events)?;
-    assert_eq!(rt; answers.len(), events.len());
+    same(rt, answers.len(), events.len(), shows);
     for (line, answer) in calls.trim().lines().zip(answers.as_slice()) {
         answers_so(rt, alloc, line, answer, shows)?;
     }
@@ -274,7 +305,7 @@ fn answers_so(
 ) -> Result<(), Fail> {
     if let Some((_, want)) = line.split_once(" -> ") {
         let found = format!(in alloc; "{answer:?}")?;
-        assert_eq!(rt; found.as_str(), want, "{shows}: {line}");
+        same(rt, found.as_str(), want, (shows, line));
     }
     Ok(())
 }
@@ -303,13 +334,20 @@ fn named(
     run: &Run,
 ) -> Result<Vec<(String, Vec<u8>)>, Fail> {
     let ends = format!(in alloc; "{:?}", finished.answers.as_slice())?;
-    assert_eq!(rt; ends.as_str(), run.ends, "ends of {}", run.shows);
+    same(rt, ends.as_str(), run.ends, ("ends", run.shows));
     let mut files = Vec::new(alloc);
     for (source, sink) in run.streams.iter().zip(finished.sinks) {
-        let name = String::from_str(alloc, source.name)?;
-        let mut bytes = bytes_of(alloc, source.earlier)?;
-        bytes.extend_from_slice(sink.sink.bytes())?;
-        files.push((name, bytes))?;
+        files.push(file_of(alloc, source, sink.sink.bytes())?)?;
     }
     Ok(files)
+}
+
+/// The stream's file: what it had, and behind it what the sink has.
+fn file_of(alloc: Global, source: &Source, behind: &[u8]) -> Result<(String, Vec<u8>), Fail> {
+    let mut bytes = bytes_of(alloc, source.earlier)?;
+    bytes.extend_from_slice(behind)?;
+    match String::from_str(alloc, source.name) {
+        Ok(name) => Ok((name, bytes)),
+        Err(_) => Err("out of memory".into()),
+    }
 }

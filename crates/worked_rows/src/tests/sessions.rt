@@ -1,5 +1,6 @@
 //! Sessions: what a list of events answers, what the sinks hold in the end, and what is read of it by the session's own metadata.
 
+use crate::tests::expected::same;
 use crate::tests::session_steps::{Ended, RUN, Run, SOURCE, Source, run_to_end};
 use packet_reader::gaps;
 use std::alloc::Global;
@@ -372,7 +373,7 @@ fn ends_so(rt: &impl Abort, alloc: Global, ended: &Ended, row: &Row) -> Result<(
     let (run, files, read) = row;
     has_files(rt, alloc, ended, files, run.shows)?;
     let found = shown_streams(alloc, &ended.trace.metadata, ended.trace.streams.as_slice())?;
-    assert_eq!(rt; found.trim(), read.trim(), "{}", run.shows);
+    same(rt, found.as_str().trim(), read.trim(), run.shows);
     Ok(())
 }
 
@@ -383,10 +384,15 @@ fn has_files(
     files: &[&str],
     shows: &str,
 ) -> Result<(), Fail> {
-    assert_eq!(rt; ended.files.len(), files.len(), "{shows}");
+    same(rt, ended.files.len(), files.len(), shows);
     for ((name, bytes), digits) in ended.files.iter().zip(files) {
         let want = bytes_of(alloc, digits)?;
-        assert_eq!(rt; bytes.as_slice(), want.as_slice(), "file {name} of {shows}");
+        same(
+            rt,
+            bytes.as_slice(),
+            want.as_slice(),
+            (name.as_str(), shows),
+        );
     }
     Ok(())
 }
@@ -419,15 +425,21 @@ fn finds_no_gap_in_300_packets_of_a_session(rt: HostRuntime) -> Result<(), Fail>
 
 fn has_300_packets(rt: &impl Abort, alloc: Global, ended: &Ended) -> Result<(), Fail> {
     let (_, file) = ended.files.first().ok_or("no file")?;
+    same(rt, file.len(), 4800, "bytes");
+    begins_and_ends(rt, alloc, file.as_slice())?;
+    let stream = ended.trace.streams.as_slice().first().ok_or("no stream")?;
+    same(rt, stream.packets.len(), 300, "packets");
+    same(rt, gaps(&ended.trace.metadata, stream), Some(0), "gaps");
+    Ok(())
+}
+
+fn begins_and_ends(rt: &impl Abort, alloc: Global, file: &[u8]) -> Result<(), Fail> {
     let first = bytes_of(
         alloc,
         "c11ffcc1 80000000 70000000 00000000 c11ffcc1 80000000 70000000 01010000",
     )?;
+    same(rt, file.starts_with(&first), true, "the first packets");
     let last = bytes_of(alloc, "c11ffcc1 80000000 70000000 012b0000")?;
-    assert_eq!(rt; file.len(), 4800);
-    assert!(rt; file.starts_with(&first) && file.ends_with(&last));
-    let stream = ended.trace.streams.as_slice().first().ok_or("no stream")?;
-    assert_eq!(rt; stream.packets.len(), 300);
-    assert_eq!(rt; gaps(&ended.trace.metadata, stream), Some(0));
+    same(rt, file.ends_with(&last), true, "the last packet");
     Ok(())
 }

@@ -1,10 +1,11 @@
 //! Whole traces, read from a metadata text and stream files alone.
 
+use crate::tests::expected::same;
+use crate::tests::printed_traces::trace_of;
 use std::alloc::Global;
 use std::test::Fail;
-use trace_stack::{ReadTrace, TraceFault, read_trace};
-use tsdl_writer::write_metadata;
-use worked_fixtures::{CLOCKED, SMALL, bytes_of, changed, configured, shown_streams};
+use trace_stack::{TraceFault, read_trace};
+use worked_fixtures::{CLOCKED, SMALL, shown_streams};
 
 /// `SMALL` or `CLOCKED`, the stream files of a trace, a line each with a file's name and its bytes in hexadecimal, and what is read of them.
 static TRACES: &[(&str, &str, &str)] = &[
@@ -44,23 +45,15 @@ falling: clock -, gaps None, end Faulty(Clock, 0)
 #[test]
 fn reads_each_file_as_far_as_its_packets_lie(rt: HostRuntime) -> Result<(), Fail> {
     for (text, files, want) in TRACES {
-        let text = changed(rt.alloc(), text, &[])?;
-        let config = configured(rt.alloc(), text.as_str(), None)?;
-        let metadata = write_metadata(rt.alloc(), &config)?;
-        let trace = read_files(rt.alloc(), metadata.as_str(), files)?;
-        let found = shown_streams(rt.alloc(), &trace.metadata, trace.streams.as_slice())?;
-        assert_eq!(rt; found.trim(), want.trim());
+        let found = shown_trace(rt.alloc(), text, files)?;
+        same(&rt, found.trim(), want.trim(), *files);
     }
     Ok(())
 }
 
-pub fn read_files(alloc: Global, metadata: &str, files: &str) -> Result<ReadTrace, Fail> {
-    let mut streams = Vec::new(alloc);
-    for line in files.trim_start().lines() {
-        let (name, digits) = line.split_once(": ").ok_or("a line without a file")?;
-        streams.push((String::from_str(alloc, name)?, bytes_of(alloc, digits)?))?;
-    }
-    Ok(read_trace(alloc, metadata.as_bytes(), &streams)?)
+fn shown_trace(alloc: Global, text: &'static str, files: &str) -> Result<String, Fail> {
+    let trace = trace_of(alloc, text, &[], files)?;
+    Ok(shown_streams(alloc, &trace.metadata, trace.streams.as_slice())?)
 }
 
 /// Texts that denote no metadata, and the fault in words.
@@ -77,7 +70,7 @@ static REFUSED: &[(&str, &str)] = &[
 fn refuses_a_text_that_denotes_no_metadata(rt: HostRuntime) -> Result<(), Fail> {
     for (text, want) in REFUSED {
         let found = refusal(rt.alloc(), text)?;
-        assert_eq!(rt; found.as_str(), *want, "{text}");
+        same(&rt, found.as_str(), *want, *text);
     }
     Ok(())
 }

@@ -1,9 +1,7 @@
 //! Calls that read scripts and whole traces, and print them.
 
-ghost use Rattle.std.specs.Prelude.{IfOk};
-ghost use Rattle.ctf_types.specs.AllowedConfig.{IsConfig};
-
 use super::super::{FILE, OUT_OF_MEMORY, PRINTED, SCRIPT, clocked};
+use crate::tests::expected::same;
 use conf_check::configure;
 use ctf_types::Config;
 use std::alloc::Global;
@@ -17,35 +15,29 @@ use worked_fixtures::{CLOCKED, bytes_of, granted};
 /// A call was refused for want of memory twice.
 const REFUSED: &str = "a second refusal";
 
-fn config_of(alloc: Global, text: &str) -> Result<Config, Fail>
-    ensures { IfOk result (λ c. IsConfig c) }
-{
+/// What the second call answers.
+fn at_last<T, E: Drop>(answer: Result<T, E>) -> Result<T, Fail> {
+    match answer {
+        Ok(value) => Ok(value),
+        Err(_) => Err(REFUSED.into()),
+    }
+}
+
+fn config_of(alloc: Global, text: &str) -> Result<Config, Fail> {
     match configure(alloc, text.as_bytes(), None) {
         Ok(config) => Ok(config),
-        Err(fault) => {
-            if !fault.is_memory() {
-                return Err(Fail::new(fault));
-            }
-            match configure(alloc, text.as_bytes(), None) {
-                Ok(config) => Ok(config),
-                Err(_) => Err(REFUSED.into()),
-            }
-        }
+        Err(fault) if fault.is_memory() => at_last(configure(alloc, text.as_bytes(), None)),
+        Err(fault) => Err(Fail::new(fault)),
     }
 }
 
 fn script_of(alloc: Global, config: &Config) -> Result<Script, Fail> {
     match read_script(alloc, config, SCRIPT.as_bytes()) {
         Ok(script) => Ok(script),
-        Err(fault) => {
-            if fault.kind != ScriptFaultKind::OutOfMemory {
-                return Err(Fail::new(fault.kind));
-            }
-            match read_script(alloc, config, SCRIPT.as_bytes()) {
-                Ok(script) => Ok(script),
-                Err(_) => Err(REFUSED.into()),
-            }
-        }
+        Err(fault) => match fault.kind {
+            ScriptFaultKind::OutOfMemory => at_last(read_script(alloc, config, SCRIPT.as_bytes())),
+            kind => Err(Fail::new(kind)),
+        },
     }
 }
 
@@ -53,17 +45,15 @@ fn script_of(alloc: Global, config: &Config) -> Result<Script, Fail> {
 fn reads_a_configuration_and_a_script(rt: HostRuntime) -> Result<(), Fail> {
     let config = config_of(rt.alloc(), CLOCKED)?;
     let script = script_of(rt.alloc(), &config)?;
-    assert_eq!(rt; (script.streams.len(), script.events.len()), (1, 4));
+    same(&rt, script.streams.len(), 1, "streams");
+    same(&rt, script.events.len(), 4, "events");
     Ok(())
 }
 
 fn trace_of(alloc: Global, metadata: &str, files: &[(String, Vec<u8>)]) -> Result<ReadTrace, Fail> {
     match read_trace(alloc, metadata.as_bytes(), files) {
         Ok(trace) => Ok(trace),
-        Err(TraceFault::OutOfMemory) => match read_trace(alloc, metadata.as_bytes(), files) {
-            Ok(trace) => Ok(trace),
-            Err(_) => Err(REFUSED.into()),
-        },
+        Err(TraceFault::OutOfMemory) => at_last(read_trace(alloc, metadata.as_bytes(), files)),
         Err(fault) => Err(Fail::new(fault)),
     }
 }
@@ -74,10 +64,9 @@ fn trace_from(alloc: Global, metadata: &str, bytes: &[u8]) -> Result<ReadTrace, 
     let second = one_reader(alloc, bytes)?;
     match read_trace_from(alloc, metadata.as_bytes(), first) {
         Ok(trace) => Ok(trace),
-        Err(TraceFault::OutOfMemory) => match read_trace_from(alloc, metadata.as_bytes(), second) {
-            Ok(trace) => Ok(trace),
-            Err(_) => Err(REFUSED.into()),
-        },
+        Err(TraceFault::OutOfMemory) => {
+            at_last(read_trace_from(alloc, metadata.as_bytes(), second))
+        }
         Err(fault) => Err(Fail::new(fault)),
     }
 }
@@ -98,31 +87,44 @@ fn printed(rt: &impl Abort, alloc: Global, trace: &ReadTrace) -> Result<Vec<u8>,
         Ok(()) => Ok(text),
         Err(PrintFault::Writer) => Err("a list that takes no more".into()),
         Err(PrintFault::OutOfMemory) => {
-            assert!(rt; PRINTED.as_bytes().starts_with(text.as_slice()));
+            let front = PRINTED.as_bytes().get(..text.len());
+            same(rt, Some(text.as_slice()), front, "a front of the text");
             text.clear();
-            match print_trace(alloc, trace, &mut text) {
-                Ok(()) => Ok(text),
-                Err(_) => Err(REFUSED.into()),
-            }
+            at_last(print_trace(alloc, trace, &mut text))?;
+            Ok(text)
         }
     }
 }
 
 #[test]
 fn reads_and_prints_a_trace(rt: HostRuntime) -> Result<(), Fail> {
-    let alloc = rt.alloc();
-    let metadata = granted(write_metadata(alloc, &clocked(alloc)?))?;
+    let metadata = granted(write_metadata(rt.alloc(), &clocked(rt.alloc())?))?;
+    prints_from_a_reader(&rt, rt.alloc(), metadata.as_str())?;
+    prints_from_bytes(&rt, rt.alloc(), metadata.as_str())
+}
+
+fn prints_from_a_reader(rt: &impl Abort, alloc: Global, metadata: &str) -> Result<(), Fail> {
     let bytes = bytes_of(alloc, FILE)?;
-    let from = trace_from(alloc, metadata.as_str(), bytes.as_slice())?;
-    let text = printed(&rt, alloc, &from)?;
-    assert_eq!(rt; text.as_slice(), PRINTED.as_bytes());
+    let trace = trace_from(alloc, metadata, bytes.as_slice())?;
+    let text = printed(rt, alloc, &trace)?;
+    same(rt, text.as_slice(), PRINTED.as_bytes(), "from a reader");
+    Ok(())
+}
+
+fn prints_from_bytes(rt: &impl Abort, alloc: Global, metadata: &str) -> Result<(), Fail> {
+    let files = one_file(alloc)?;
+    let trace = trace_of(alloc, metadata, &files)?;
+    let text = printed(rt, alloc, &trace)?;
+    same(rt, text.as_slice(), PRINTED.as_bytes(), "from bytes");
+    Ok(())
+}
+
+fn one_file(alloc: Global) -> Result<Vec<(String, Vec<u8>)>, Fail> {
+    let bytes = bytes_of(alloc, FILE)?;
     let name = granted(String::from_str(alloc, "t0"))?;
     let mut files = Vec::new(alloc);
     if files.push((name, bytes)).is_err() {
         return Err(Fail::new(OUT_OF_MEMORY));
     }
-    let trace = trace_of(alloc, metadata.as_str(), &files)?;
-    let text = printed(&rt, alloc, &trace)?;
-    assert_eq!(rt; text.as_slice(), PRINTED.as_bytes());
-    Ok(())
+    Ok(files)
 }

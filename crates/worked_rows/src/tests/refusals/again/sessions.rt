@@ -3,6 +3,7 @@
 ghost use Rattle.std.specs.Prelude.{◌≡◌, []};
 
 use super::super::{ANSWERS, FILE, clock, clocked, events, two_buffers};
+use crate::tests::expected::same;
 use crate::tests::session_steps::are_below;
 use ctf_types::Values;
 use packet_collector::FinishAnswer;
@@ -67,8 +68,13 @@ fn ran_again(session: &mut Listed, events: &[Event]) -> Result<Vec<Answer>, Fail
     if !are_below(events, session.stream_count()) {
         return Err("no such stream".into());
     }
-    match run_events(session, events) {
-        Ok(answers) => Ok(answers),
+    at_last(run_events(session, events))
+}
+
+/// What the second call answers.
+fn at_last<T, E: Drop>(answer: Result<T, E>) -> Result<T, Fail> {
+    match answer {
+        Ok(value) => Ok(value),
         Err(_) => Err("a second refusal".into()),
     }
 }
@@ -76,20 +82,14 @@ fn ran_again(session: &mut Listed, events: &[Event]) -> Result<Vec<Answer>, Fail
 fn metadata(session: &Listed) -> Result<String, Fail> {
     match session.metadata() {
         Ok(text) => Ok(text),
-        Err(_) => match session.metadata() {
-            Ok(text) => Ok(text),
-            Err(_) => Err("a second refusal".into()),
-        },
+        Err(_) => at_last(session.metadata()),
     }
 }
 
 fn finished(session: Listed) -> Result<FinishedSession<MemorySink>, Fail> {
     match session.finish_all() {
         Ok(finished) => Ok(finished),
-        Err(session) => match session.finish_all() {
-            Ok(finished) => Ok(finished),
-            Err(_) => Err("a second refusal".into()),
-        },
+        Err(session) => at_last(session.finish_all()),
     }
 }
 
@@ -100,25 +100,40 @@ fn has_all(
     file: &[u8],
 ) -> Result<(), Fail> {
     let FinishedSession { sinks, answers } = finished;
-    assert_eq!(rt; answers.as_slice(), [FinishAnswer::Settled].as_slice());
+    same(
+        rt,
+        answers.as_slice(),
+        [FinishAnswer::Settled].as_slice(),
+        "ends",
+    );
     let sink = sinks.into_iter().next().ok_or("no sink")?;
-    assert_eq!(rt; sink.bytes(), file);
+    same(rt, sink.bytes(), file, "the file");
     Ok(())
 }
 
 #[test]
 fn records_a_session(rt: HostRuntime) -> Result<(), Fail> {
-    let alloc = rt.alloc();
+    let file = bytes_of(rt.alloc(), FILE)?;
+    let finished = finished(ran(&rt, rt.alloc())?)?;
+    has_all(&rt, finished, file.as_slice())
+}
+
+/// The session behind the events.
+fn ran(rt: &impl Abort, alloc: Global) -> Result<Listed, Fail> {
     let config = clocked(alloc)?;
-    let file = bytes_of(alloc, FILE)?;
     let events = events(alloc, &config)?;
     let mut session = Session::new(alloc, config);
     adds(alloc, &mut session)?;
-    let text = metadata(&session)?;
-    assert!(rt; text.as_str().starts_with("/* CTF 1.8 */\n\ntrace {\n"));
+    has_metadata(rt, &session)?;
     let answers = runs(&mut session, events.as_slice())?;
     let found = granted(format!(in alloc; "{:?}", answers.as_slice()))?;
-    assert_eq!(rt; found.as_str(), ANSWERS);
-    let finished = finished(session)?;
-    has_all(&rt, finished, file.as_slice())
+    same(rt, found.as_str(), ANSWERS, "answers");
+    Ok(session)
+}
+
+fn has_metadata(rt: &impl Abort, session: &Listed) -> Result<(), Fail> {
+    let text = metadata(session)?;
+    let is_a_trace = text.as_str().starts_with("/* CTF 1.8 */\n\ntrace {\n");
+    same(rt, is_a_trace, true, text.as_str());
+    Ok(())
 }

@@ -3,6 +3,7 @@
 use super::super::{
     ANSWERS, FAULTED, FILE, OUT_OF_MEMORY, PRINTED, clock, clocked, events, two_buffers,
 };
+use crate::tests::expected::same;
 use crate::tests::session_steps::are_below;
 use ctf_types::Values;
 use packet_collector::FinishAnswer;
@@ -10,7 +11,7 @@ use std::alloc::Global;
 use std::process::Abort;
 use std::test::Fail;
 use trace_platform::{ListBackEnd, ListClock, MemorySink};
-use trace_stack::{Event, FinishedSession, Session, read_trace, run_events};
+use trace_stack::{Event, FinishedSession, ReadTrace, Session, read_trace, run_events};
 use trace_text::{PrintFault, print_trace};
 use worked_fixtures::{bytes_of, granted};
 
@@ -41,7 +42,8 @@ fn runs(
     let answers = granted(run_events(session, events))?;
     let found = granted(format!(in alloc; "{:?}", answers.as_slice()))?;
     let faulted = found.as_str() == FAULTED;
-    assert!(rt; faulted || found.as_str() == ANSWERS, "{found}");
+    let expected = if faulted { FAULTED } else { ANSWERS };
+    same(rt, found.as_str(), expected, "answers");
     Ok(faulted)
 }
 
@@ -56,13 +58,14 @@ fn file_of(rt: &impl Abort, session: Listed, faulted: bool) -> Result<Vec<u8>, F
     } else {
         FinishAnswer::Settled
     };
-    assert_eq!(rt; answers.as_slice(), [end].as_slice());
+    same(rt, answers.as_slice(), [end].as_slice(), "ends");
     let sink = sinks.into_iter().next().ok_or("no sink")?;
-    assert!(rt; !faulted || sink.bytes().is_empty());
     if faulted {
-        return Err(Fail::new(OUT_OF_MEMORY));
+        same(rt, sink.bytes().len(), 0, "a sink without memory");
+        Err(Fail::new(OUT_OF_MEMORY))
+    } else {
+        Ok(sink.into_bytes())
     }
-    Ok(sink.into_bytes())
 }
 
 /// What is printed of the trace of this file. Where memory is wanting, a front of it is.
@@ -76,12 +79,17 @@ fn prints(rt: &impl Abort, alloc: Global, metadata: &str, file: Vec<u8>) -> Resu
         Ok(trace) => trace,
         Err(fault) => return Err(Fail::new(fault)),
     };
+    is_printed(rt, alloc, &trace)
+}
+
+fn is_printed(rt: &impl Abort, alloc: Global, trace: &ReadTrace) -> Result<(), Fail> {
     let mut printed = granted(Vec::with_capacity(alloc, PRINTED.len()))?;
-    let answer = print_trace(alloc, &trace, &mut printed);
-    assert!(rt; PRINTED.as_bytes().starts_with(printed.as_slice()));
+    let answer = print_trace(alloc, trace, &mut printed);
+    let front = PRINTED.as_bytes().get(..printed.len());
+    same(rt, Some(printed.as_slice()), front, "a front of the text");
     match answer {
         Ok(()) => {
-            assert_eq!(rt; printed.as_slice(), PRINTED.as_bytes());
+            same(rt, printed.len(), PRINTED.len(), "the whole text");
             Ok(())
         }
         Err(PrintFault::OutOfMemory) => Err(Fail::new(OUT_OF_MEMORY)),
@@ -98,6 +106,6 @@ fn runs_a_script_and_prints_its_trace(rt: HostRuntime) -> Result<(), Fail> {
     let want = bytes_of(alloc, FILE)?;
     let faulted = runs(&rt, alloc, &mut session, events.as_slice())?;
     let file = file_of(&rt, session, faulted)?;
-    assert_eq!(rt; file.as_slice(), want.as_slice());
+    same(&rt, file.as_slice(), want.as_slice(), "the file");
     prints(&rt, alloc, metadata.as_str(), file)
 }

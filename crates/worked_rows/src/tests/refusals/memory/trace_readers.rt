@@ -1,6 +1,7 @@
 //! A trace that is read from readers.
 
 use super::super::{FILE, OUT_OF_MEMORY, clocked};
+use crate::tests::expected::same;
 use std::test::Fail;
 use trace_stack::{TraceFault, read_trace_from};
 use tsdl_writer::write_metadata;
@@ -18,11 +19,13 @@ fn reads_a_trace_from_readers(rt: HostRuntime) -> Result<(), Fail> {
     }
     match read_trace_from(alloc, text.as_bytes(), streams) {
         Ok(trace) => {
-            assert_eq!(rt; (trace.streams.len(), trace.order.len()), (1, 2));
+            same(&rt, trace.streams.len(), 1, "streams");
+            same(&rt, trace.order.len(), 2, "records");
             Ok(())
         }
         Err(fault) => {
-            assert!(rt; !matches!(fault, TraceFault::Reader(_, _)));
+            let is_a_reader = matches!(fault, TraceFault::Reader(_, _));
+            same(&rt, is_a_reader, false, "the fault of a reader");
             Err(Fail::new(fault))
         }
     }
