@@ -14,10 +14,9 @@ fn gives_no_more_readings_than_its_total(rt: HostRuntime) -> Result<(), Fail> {
     let mut clock = TickClock::new(rt.alloc(), 0, 3)?;
     let mut seat = clock.seat(rt.alloc(), 2)?;
     assert!(rt; matches!(clock.seat(rt.alloc(), 2), Err(ClockFault::QuotaSpent)));
-    assert!(rt; seat.read() == Ok(0));
-    assert!(rt; seat.read() == Ok(1));
-    assert!(rt; seat.read() == Err(ClockSpent));
-    assert!(rt; seat.spent_count() == 1);
+    let readings = [seat.read(), seat.read(), seat.read()];
+    assert_eq!(rt; readings, [Ok(0), Ok(1), Err(ClockSpent)]);
+    assert_eq!(rt; seat.spent_count(), 1);
     Ok(())
 }
 
@@ -27,12 +26,10 @@ fn gives_each_reading_to_one_seat(rt: HostRuntime) -> Result<(), Fail> {
     let mut first = clock.seat(rt.alloc(), 2)?;
     let mut second = clock.seat(rt.alloc(), 2)?;
     drop(clock);
-    assert!(rt; first.read() == Ok(10));
-    assert!(rt; second.read() == Ok(11));
-    assert!(rt; second.read() == Ok(12));
-    assert!(rt; first.read() == Ok(13));
-    assert!(rt; first.read() == Err(ClockSpent));
-    assert!(rt; second.read() == Err(ClockSpent));
+    let readings = [first.read(), second.read(), second.read(), first.read()];
+    assert_eq!(rt; readings, [Ok(10), Ok(11), Ok(12), Ok(13)]);
+    let spent = [first.read(), second.read()];
+    assert_eq!(rt; spent, [Err(ClockSpent), Err(ClockSpent)]);
     Ok(())
 }
 
@@ -88,10 +85,10 @@ fn reads_after_what_was_told(rt: HostRuntime) -> Result<(), Fail> {
     let mut clock = TickClock::new(alloc, 0, 6)?;
     let mut first = clock.seat(alloc, 3)?;
     let mut second = clock.seat(alloc, 3)?;
-    assert!(rt; reading(&mut first) == Ok(0));
+    let before = reading(&mut first);
     let told = first.tell(alloc)?;
-    assert!(rt; second.read_after(told) == Ok(1));
-    assert!(rt; first.read() == Ok(2));
+    let readings = [before, second.read_after(told), first.read()];
+    assert_eq!(rt; readings, [Ok(0), Ok(1), Ok(2)]);
     Ok(())
 }
 
@@ -102,9 +99,9 @@ fn refuses_after_being_told_where_the_quota_is_spent(rt: HostRuntime) -> Result<
     let mut first = clock.seat(alloc, 1)?;
     let mut second = clock.seat(alloc, 0)?;
     let told = first.tell(alloc)?;
-    assert!(rt; second.read_after(told) == Err(ClockSpent));
-    assert!(rt; second.spent_count() == 1);
-    assert!(rt; first.read() == Ok(0));
+    let spent = second.read_after(told);
+    assert_eq!(rt; (spent, second.spent_count()), (Err(ClockSpent), 1));
+    assert_eq!(rt; first.read(), Ok(0));
     Ok(())
 }
 
@@ -114,12 +111,12 @@ fn a_seat_that_joins_brings_its_quota(rt: HostRuntime) -> Result<(), Fail> {
     let mut clock = TickClock::new(alloc, 0, 3)?;
     let mut first = clock.seat(alloc, 2)?;
     let mut second = clock.seat(alloc, 1)?;
-    assert!(rt; reading(&mut first) == Ok(0));
+    let before = reading(&mut first);
     let told = first.tell(alloc)?;
-    assert!(rt; reading_after(&mut second, told) == Ok(1));
+    let after = reading_after(&mut second, told);
     second.join(first);
-    assert!(rt; second.read() == Ok(2));
-    assert!(rt; second.read() == Err(ClockSpent));
+    let readings = [before, after, second.read(), second.read()];
+    assert_eq!(rt; readings, [Ok(0), Ok(1), Ok(2), Err(ClockSpent)]);
     Ok(())
 }
 
@@ -132,10 +129,8 @@ fn all_seats_join_the_first(rt: HostRuntime) -> Result<(), Fail> {
     let third = clock.seat(alloc, 1)?;
     let others = vec![in alloc; second, third]?;
     let mut all = join_all(first, others);
-    assert!(rt; all.read() == Ok(0));
-    assert!(rt; all.read() == Ok(1));
-    assert!(rt; all.read() == Ok(2));
-    assert!(rt; all.read() == Err(ClockSpent));
+    let readings = [all.read(), all.read(), all.read(), all.read()];
+    assert_eq!(rt; readings, [Ok(0), Ok(1), Ok(2), Err(ClockSpent)]);
     Ok(())
 }
 
@@ -144,9 +139,8 @@ fn a_floor_clock_begins_at_its_floor(rt: HostRuntime) -> Result<(), Fail> {
     let readings = vec![in rt.alloc(); 3, 9]?;
     let clock = ListClock::new(readings).ok_or("these never fall")?;
     let mut clock = FloorClock::new(clock, 5);
-    assert!(rt; clock.read() == Ok(5));
-    assert!(rt; clock.read() == Ok(9));
-    assert!(rt; clock.read() == Err(ClockSpent));
-    assert!(rt; clock.spent_count() == 1);
+    let readings = [clock.read(), clock.read(), clock.read()];
+    assert_eq!(rt; readings, [Ok(5), Ok(9), Err(ClockSpent)]);
+    assert_eq!(rt; clock.spent_count(), 1);
     Ok(())
 }

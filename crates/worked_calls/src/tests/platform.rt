@@ -47,25 +47,25 @@ fn scripted_clock_refuses_at_its_turns(rt: HostRuntime) -> Result<(), Fail> {
 #[test]
 fn back_end_of_one_buffer(rt: HostRuntime) -> Result<(), Fail> {
     let mut back_end = ListBackEnd::new(rt.alloc(), 1, 16)?;
-    assert_eq!(rt; back_end.packet_bytes(), 16);
-    assert!(rt; !back_end.is_full());
-    let buffer = back_end.take_buffer().ok_or("a buffer is spare")?;
-    assert_eq!(rt; buffer.len(), 16);
-    assert!(rt; back_end.is_full());
-    assert!(rt; back_end.take_buffer().is_none());
+    assert_eq!(rt; (back_end.packet_bytes(), back_end.is_full()), (16, false));
+    assert_eq!(rt; lent(&mut back_end), Some(16));
+    assert_eq!(rt; (back_end.is_full(), lent(&mut back_end)), (true, None));
     back_end.give_back(PacketBuf::new(rt.alloc(), 15)?);
-    assert!(rt; back_end.is_full(), "a buffer of another length is dropped");
+    let is_full = back_end.is_full();
+    assert!(rt; is_full, "a buffer of another length is dropped");
     assert_eq!(rt; back_end.full_count(), 2);
-    back_end.give_back(buffer);
     back_end.give_back(PacketBuf::new(rt.alloc(), 16)?);
-    assert!(rt; back_end.take_buffer().is_some());
-    assert!(rt;
-        back_end.take_buffer().is_none(),
-        "one buffer is spare at most"
-    );
-    assert!(rt; back_end.take().is_none());
-    assert!(rt; back_end.settle(()));
+    back_end.give_back(PacketBuf::new(rt.alloc(), 16)?);
+    let both = (lent(&mut back_end), lent(&mut back_end));
+    assert_eq!(rt; both, (Some(16), None), "one buffer is spare at most");
+    let is_none = back_end.take().is_none();
+    assert!(rt; is_none && back_end.settle(()));
     Ok(())
+}
+
+/// How long the buffer is that is lent, where there is one.
+fn lent(back_end: &mut ListBackEnd) -> Option<usize> {
+    Some(back_end.take_buffer()?.len())
 }
 
 #[test]
@@ -74,9 +74,12 @@ fn scripted_back_end_is_full_at_its_turns(rt: HostRuntime) -> Result<(), Fail> {
     let looking = script(rt.alloc(), &[Turn::Fails])?;
     let handing = script(rt.alloc(), &[])?;
     let mut back_end = ScriptedBackEnd::new(list, looking, handing);
-    assert!(rt; back_end.is_full());
-    assert!(rt; !back_end.is_full());
-    assert_eq!(rt; back_end.full_count(), 1);
+    let answers = (
+        back_end.is_full(),
+        back_end.is_full(),
+        back_end.full_count(),
+    );
+    assert_eq!(rt; answers, (true, false, 1));
     Ok(())
 }
 

@@ -345,14 +345,19 @@ fn ends(rt: &impl Abort, stream: Traced, collector: Collector<Sink>)
 {
     let mut stream = stream;
     let mut collector = collector;
-    assert_eq!(rt; open(&mut stream), PacketAnswer::Done);
-    assert_eq!(rt; close(&mut stream), PacketAnswer::Done);
-    assert_eq!(rt; collect(&mut collector, &mut stream), Collected::Took(0));
-    assert_eq!(rt; collect(&mut collector, &mut stream), Collected::Nothing);
-    assert_eq!(rt; open(&mut stream), PacketAnswer::Done);
+    let opened = open(&mut stream);
+    let closed = close(&mut stream);
+    let first = collect(&mut collector, &mut stream);
+    let second = collect(&mut collector, &mut stream);
+    let again = open(&mut stream);
+    assert_eq!(rt; [opened, closed, again], [PacketAnswer::Done; 3]);
+    assert_eq!(rt; [first, second], [Collected::Took(0), Collected::Nothing]);
     let end = end_of(stream);
-    assert!(rt; end.left.is_none());
-    assert_eq!(rt; finish(collector, end), FinishAnswer::Faulted);
+    let leaves_none = end.left.is_none();
+    assert_eq!(rt;
+        (leaves_none, finish(collector, end)),
+        (true, FinishAnswer::Faulted)
+    );
 }
 
 fn gives_its_parts_back(stream: Traced) {
@@ -376,16 +381,7 @@ fn each_ends(rt: &impl Abort, streams: Ending, collector: Collector<Sink>)
 
 #[test]
 fn makes_streams(rt: HostRuntime) -> Result<(), Fail> {
-    let Made {
-        needs,
-        stream,
-        ending,
-        collector,
-    } = all_made(rt.alloc())?;
-    drop(needs);
-    drop(stream);
-    drop(ending);
-    drop(collector);
+    drop(all_made(rt.alloc())?);
     Ok(())
 }
 

@@ -115,8 +115,8 @@ fn answering(alloc: Global, answers: &'static [Answer]) -> WriterSink<AnsweringW
 fn faults_where_a_write_fails_or_takes_nothing(rt: HostRuntime) -> Result<(), Fail> {
     for (shows, answers, want, taken) in ROWS {
         let mut sink = answering(rt.alloc(), answers);
-        assert_eq!(rt; sink.append(b"abcdef"), *want, "{shows}");
-        assert_eq!(rt; sink.fault_count(), u64::from(want.is_err()), "{shows}");
+        let answer = (sink.append(b"abcdef"), sink.fault_count());
+        assert_eq!(rt; answer, (*want, u64::from(want.is_err())), "{shows}");
         assert_eq!(rt; sink.into_writer().taken.as_slice(), *taken, "{shows}");
     }
     Ok(())
@@ -125,13 +125,9 @@ fn faults_where_a_write_fails_or_takes_nothing(rt: HostRuntime) -> Result<(), Fa
 #[test]
 fn writes_nothing_where_there_are_no_bytes(rt: HostRuntime) -> Result<(), Fail> {
     let mut sink = answering(rt.alloc(), &[Answer::Fails(ErrorKind::BrokenPipe)]);
-    assert_eq!(rt; sink.append(b""), Ok(()));
-    assert_eq!(rt; sink.append(b"a"), Err(SinkFault));
-    assert_eq!(rt;
-        sink.append(b"b"),
-        Ok(()),
-        "a sink that faulted is not closed"
-    );
+    let answers = [sink.append(b""), sink.append(b"a"), sink.append(b"b")];
+    let want = [Ok(()), Err(SinkFault), Ok(())];
+    assert_eq!(rt; answers, want, "a sink that faulted is not closed");
     Ok(())
 }
 

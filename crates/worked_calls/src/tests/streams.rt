@@ -3,7 +3,6 @@
 use crate::tests::fixtures::{Datum, values};
 use crate::tests::traced::{Traced, Turns, traced};
 use std::alloc::Global;
-use std::process::Abort;
 use std::test::Fail;
 use thread_stream::PacketAnswer;
 use trace_platform::{BackEnd, Clock, PacketSource, Turn};
@@ -15,49 +14,69 @@ static COMES_BACK: Turns = Turns {
     handing: &[Turn::Fails],
 };
 
-/// Opens and closes a packet that comes back, and another, and takes both.
-fn goes_round(rt: &impl Abort, stream: &mut Traced) {
-    assert_eq!(rt; stream.open_packet(), PacketAnswer::Done);
-    assert!(rt; !stream.is_idle(), "a packet is open");
-    assert_eq!(rt; stream.close_packet(), PacketAnswer::Done);
-    assert!(rt; !stream.is_idle(), "a packet came back");
-    assert_eq!(rt; stream.open_packet(), PacketAnswer::Done);
-    assert_eq!(rt; stream.close_packet(), PacketAnswer::Done);
-    assert!(rt; stream.is_idle(), "both are handed over");
-    assert!(rt; stream.take().is_some() && stream.take().is_some() && stream.take().is_none());
+/// What openings and closings of two packets answer, of which the first comes back; whether the stream is idle with a packet open, with one that came
+/// back, and with both handed over; and which of three takings give a packet.
+type Round = ([PacketAnswer; 4], [bool; 3], [bool; 3]);
+
+fn goes_round(stream: &mut Traced) -> Round {
+    let first_opens = stream.open_packet();
+    let with_one_open = stream.is_idle();
+    let first_closes = stream.close_packet();
+    let with_one_back = stream.is_idle();
+    let second_opens = stream.open_packet();
+    let second_closes = stream.close_packet();
+    let answers = [first_opens, first_closes, second_opens, second_closes];
+    let idle = [with_one_open, with_one_back, stream.is_idle()];
+    let taken = [gives(stream), gives(stream), gives(stream)];
+    (answers, idle, taken)
 }
 
-/// Enables and disables tracing, and sets other extra members.
-fn is_set(rt: &impl Abort, alloc: Global, stream: &mut Traced) -> Result<(), Fail> {
-    assert!(rt; stream.is_enabled());
+fn gives(stream: &mut Traced) -> bool {
+    stream.take().is_some()
+}
+
+/// Whether tracing is enabled, at first, once it is disabled, and once it is enabled again.
+fn enabled(stream: &mut Traced) -> [bool; 3] {
+    let first = stream.is_enabled();
     stream.set_enabled(false);
-    assert!(rt; !stream.is_enabled());
+    let second = stream.is_enabled();
     stream.set_enabled(true);
-    assert!(rt; stream.is_enabled());
-    let extras = values(alloc, &[Datum::Unsigned(2), Datum::Text(b"yz")])?;
-    assert!(rt; stream.set_extras(extras).is_ok());
-    Ok(())
+    [first, second, stream.is_enabled()]
+}
+
+/// What an idle stream gives back: a reading of its clock, how often its back end was full, and its extra members.
+fn parts(alloc: Global, stream: Traced) -> Result<String, Fail> {
+    if !stream.is_idle() {
+        return Err("a packet is in hand".into());
+    }
+    let (mut clock, back_end, extras) = stream.into_parts();
+    let reading = clock.read();
+    let shown = format!(in alloc;
+        "{reading:?} {} {:?}",
+        back_end.full_count(),
+        extras.as_slice()
+    )?;
+    Ok(shown)
 }
 
 #[test]
 fn gives_its_parts_back(rt: HostRuntime) -> Result<(), Fail> {
-    let alloc = rt.alloc();
-    let mut stream = traced(alloc, &COMES_BACK)?;
-    assert_eq!(rt; stream.packet_bits(), 512);
-    assert!(rt; stream.is_idle());
-    is_set(&rt, alloc, &mut stream)?;
-    goes_round(&rt, &mut stream);
-    if !stream.is_idle() {
-        return Err(Fail::new("a packet is in hand"));
-    }
-    let (mut clock, back_end, extras) = stream.into_parts();
-    assert_eq!(rt; clock.read(), Ok(5));
-    assert_eq!(rt; back_end.full_count(), 1);
-    let shown = format!(in alloc; "{:?}", extras.as_slice())?;
-    let set = values(alloc, &[Datum::Unsigned(2), Datum::Text(b"yz")])?;
+    let extras = values(rt.alloc(), &[Datum::Unsigned(2), Datum::Text(b"yz")])?;
+    let mut stream = traced(rt.alloc(), &COMES_BACK)?;
+    assert_eq!(rt; (stream.packet_bits(), stream.is_idle()), (512, true));
+    assert_eq!(rt; enabled(&mut stream), [true, false, true]);
+    assert!(rt; stream.set_extras(extras).is_ok());
+    let round = goes_round(&mut stream);
+    let want = (
+        [PacketAnswer::Done; 4],
+        [false, false, true],
+        [true, true, false],
+    );
+    assert_eq!(rt; round, want);
+    let parts = parts(rt.alloc(), stream)?;
     assert_eq!(rt;
-        shown.as_str(),
-        format!(in alloc; "{:?}", set.as_slice())?.as_str()
+        parts.as_str(),
+        "Ok(5) 1 [Unsigned(2), Text(Bytes { bytes: [121, 122] })]"
     );
     Ok(())
 }

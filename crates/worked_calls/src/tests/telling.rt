@@ -82,42 +82,55 @@ fn traced<B: BackEnd>(stream: &mut Stream<TickSeat, B>, args: &Args) -> Verdict
 #[test]
 fn makes_two_streams_at_one_clock(rt: HostRuntime) -> Result<(), Fail> {
     let alloc = rt.alloc();
-    let back_ends = back_ends(alloc)?;
-    let streams = both(alloc, back_ends, (3, 3))?;
     let args = number(alloc, 5)?;
+    let streams = both(alloc, back_ends(alloc)?, (3, 3))?;
     assert!(rt; !streams.0.packet_is_open() && !streams.1.packet_is_open());
     drop(args);
     Ok(())
 }
 
+/// What the second stream answers to a call after what the first told.
+fn traced_after<B: BackEnd>(
+    alloc: Global,
+    first: &mut Stream<TickSeat, B>,
+    second: &mut Stream<TickSeat, B>,
+    args: &Args,
+) -> Result<Verdict, Fail>
+    requires { clock_of first.old.clock ≡ clock_of second.old.clock }
+{
+    let told = first.tell(alloc)?;
+    Ok(second.trace_after(told, 0, args))
+}
+
 #[test]
 fn traces_after_what_was_told(rt: HostRuntime) -> Result<(), Fail> {
     let alloc = rt.alloc();
-    let back_ends = back_ends(alloc)?;
-    let (mut first, mut second) = both(alloc, back_ends, (3, 3))?;
     let args = number(alloc, 5)?;
-    assert_eq!(rt; traced(&mut first, &args), Verdict::Accepted(Some(0)));
-    let told = first.tell(alloc)?;
+    let (mut first, mut second) = both(alloc, back_ends(alloc)?, (3, 3))?;
+    let before = traced(&mut first, &args);
+    let after = traced_after(alloc, &mut first, &mut second, &args)?;
+    let behind = first.trace(0, &args);
     assert_eq!(rt;
-        second.trace_after(told, 0, &args),
-        Verdict::Accepted(Some(1))
+        [before, after, behind],
+        [
+            Verdict::Accepted(Some(0)),
+            Verdict::Accepted(Some(1)),
+            Verdict::Accepted(Some(2)),
+        ]
     );
-    assert_eq!(rt; first.trace(0, &args), Verdict::Accepted(Some(2)));
     Ok(())
 }
 
 #[test]
 fn spends_what_was_told_where_the_clock_is_spent(rt: HostRuntime) -> Result<(), Fail> {
     let alloc = rt.alloc();
-    let back_ends = back_ends(alloc)?;
-    let (mut first, mut second) = both(alloc, back_ends, (1, 0))?;
     let args = number(alloc, 5)?;
-    let told = first.tell(alloc)?;
+    let (mut first, mut second) = both(alloc, back_ends(alloc)?, (1, 0))?;
+    let after = traced_after(alloc, &mut first, &mut second, &args)?;
     assert_eq!(rt;
-        second.trace_after(told, 0, &args),
-        Verdict::Discarded(Why::ClockSpent)
+        (after, second.discarded_count()),
+        (Verdict::Discarded(Why::ClockSpent), 1)
     );
-    assert_eq!(rt; second.discarded_count(), 1);
     assert_eq!(rt; first.trace(0, &args), Verdict::Accepted(Some(0)));
     Ok(())
 }
@@ -125,17 +138,17 @@ fn spends_what_was_told_where_the_clock_is_spent(rt: HostRuntime) -> Result<(), 
 #[test]
 fn reads_nothing_for_a_call_that_is_refused_before_the_clock(rt: HostRuntime) -> Result<(), Fail> {
     let alloc = rt.alloc();
-    let back_ends = back_ends(alloc)?;
-    let (mut first, mut second) = both(alloc, back_ends, (1, 1))?;
-    let args = number(alloc, 40000)?;
-    let told = first.tell(alloc)?;
+    let large = number(alloc, 40000)?;
+    let small = number(alloc, 5)?;
+    let (mut first, mut second) = both(alloc, back_ends(alloc)?, (1, 1))?;
+    let refused = traced_after(alloc, &mut first, &mut second, &large)?;
+    let behind = second.trace(0, &small);
     assert_eq!(rt;
-        second.trace_after(told, 0, &args),
-        Verdict::Misuse(ArgFault::Range)
-    );
-    assert_eq!(rt;
-        second.trace(0, &number(alloc, 5)?),
-        Verdict::Accepted(Some(0))
+        [refused, behind],
+        [
+            Verdict::Misuse(ArgFault::Range),
+            Verdict::Accepted(Some(0)),
+        ]
     );
     Ok(())
 }
