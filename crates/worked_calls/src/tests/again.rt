@@ -17,7 +17,7 @@ use tsdl_reader::read_metadata;
 use value_codec::{ReadFault, read_member, read_struct};
 
 /// One stream type with one event record type of a byte.
-const SMALL: &str =
+static SMALL: &str =
     r#"{"trace":{"type":{"trace-byte-order":"le","$features":{"data-stream-type-id-field-type":false},"data-stream-types":{"s":{"$features":{"packet":{"total-size-field-type":{"class":"uint","size":32},"content-size-field-type":{"class":"uint","size":32},"discarded-event-records-counter-snapshot-field-type":false},"event-record":{"type-id-field-type":false}},"event-record-types":{"e":{"payload-field-type":{"class":"struct","members":[{"v":{"field-type":{"class":"uint","size":8}}}]}}}}}}}}"#;
 
 /// The answer to a call that was made once more.
@@ -56,6 +56,10 @@ fn copied_values(alloc: Global, values: &Values) -> Result<Values, Fail> {
     }
 }
 
+/// The values, and the list of their copies.
+static COPIED: &str =
+    "Values { items: [Unsigned(1), Text(Bytes { bytes: [97] }), List(Values { items: [Signed(-2)] })] } List(Values { items: [Unsigned(1), Text(Bytes { bytes: [97] }), List(Values { items: [Signed(-2)] })] })";
+
 #[test]
 fn copies_values(rt: HostRuntime) -> Result<(), Fail> {
     let alloc = rt.alloc();
@@ -63,10 +67,7 @@ fn copies_values(rt: HostRuntime) -> Result<(), Fail> {
     let copied = copied_values(alloc, &values)?;
     let one = copied_value(alloc, &Value::List(copied))?;
     let found = format!(in alloc; "{values:?} {one:?}")?;
-    assert_eq!(rt;
-        found.as_str(),
-        "Values { items: [Unsigned(1), Text(Bytes { bytes: [97] }), List(Values { items: [Signed(-2)] })] } List(Values { items: [Unsigned(1), Text(Bytes { bytes: [97] }), List(Values { items: [Signed(-2)] })] })"
-    );
+    assert_eq!(rt; found.as_str(), COPIED);
     Ok(())
 }
 
@@ -102,18 +103,19 @@ fn lists_grow(rt: HostRuntime) -> Result<(), Fail> {
     Ok(())
 }
 
+static MEMBERS: &[u8] =
+    b"/* CTF 1.8 */ trace{byte_order=le;major=1;minor=8;packet.header:=struct{integer{size=8;}n;string s;integer{size=8;}l[n];};};";
+
 /// A structure of a number, a string and a list.
 fn structure(alloc: Global) -> Result<StructType, Fail> {
-    let text =
-        b"/* CTF 1.8 */ trace{byte_order=le;major=1;minor=8;packet.header:=struct{integer{size=8;}n;string s;integer{size=8;}l[n];};};";
-    let metadata = read_metadata(alloc, text.as_slice())?;
+    let metadata = read_metadata(alloc, MEMBERS)?;
     Ok(metadata.header)
 }
 
 /// A list of two numbers behind the text `Hi`.
 const STRUCTURE: &[u8] = &[2, 0x48, 0x69, 0, 5, 6];
 
-const READ: &str =
+static READ: &str =
     "(Values { items: [Unsigned(2), Text(Bytes { bytes: [72, 105] }), List(Values { items: [Unsigned(5), Unsigned(6)] })] }, 48)";
 
 fn struct_of(alloc: Global, bytes: &[u8], s: &StructType) -> Result<(Values, u64), Fail> {

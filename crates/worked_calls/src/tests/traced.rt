@@ -11,7 +11,7 @@ use trace_platform::{ListBackEnd, ListClock, Script, ScriptedBackEnd, ScriptedCl
 
 /// Event record types: 0 has a signed number of 16 bits, 1 has a string. Header and context take 28 bytes and the bytes of the string `name`;
 /// a record of type 1 takes 9 bytes and those of its string.
-pub const TRACED: &str =
+pub static TRACED: &str =
     r#"{"trace":{"type":{"native-byte-order":"be","clock-types":{"clk":{}},"$features":{"data-stream-type-id-field-type":"u8"},"data-stream-types":{"s":{"$default-clock-type-name":"clk","$features":{"packet":{"total-size-field-type":"u16","content-size-field-type":"u16","discarded-event-records-counter-snapshot-field-type":"u8","sequence-number-field-type":"u8"},"event-record":{"type-id-field-type":"u8"}},"packet-context-field-type-extra-members":[{"cpu":"u8"},{"name":{"field-type":{"class":"str"}}}],"event-record-types":{"a":{"payload-field-type":{"class":"struct","members":[{"n":{"field-type":{"class":"sint","size":16}}}]}},"b":{"payload-field-type":{"class":"struct","members":[{"s":{"field-type":{"class":"str"}}}]}}}}},"$field-type-aliases":{"u8":{"class":"uint","size":8},"u16":{"class":"uint","size":16}}}}}"#;
 
 /// The readings of every clock.

@@ -92,7 +92,7 @@ fn sizes_up_to_the_longest_packet(rt: HostRuntime) -> Result<(), Fail> {
 }
 
 /// A stream type with one event record type, whose payload is one byte.
-const SMALL: &str =
+static SMALL: &str =
     r#"{"trace":{"type":{"trace-byte-order":"le","$features":{"magic-field-type":false,"data-stream-type-id-field-type":false},"data-stream-types":{"s":{"$features":{"packet":{"total-size-field-type":{"class":"uint","size":32},"content-size-field-type":{"class":"uint","size":32},"discarded-event-records-counter-snapshot-field-type":false},"event-record":{"type-id-field-type":false}},"event-record-types":{"e":{"payload-field-type":{"class":"struct","members":[{"x":{"field-type":{"class":"uint","size":8}}}]}}}}}}}}"#;
 
 /// The number of an event record type, the values of a payload, and their first fault.
