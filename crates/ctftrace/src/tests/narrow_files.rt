@@ -308,6 +308,7 @@ fn says_that_the_metadata_takes_no_more(rt: HostRuntime) -> Result<(), Fail> {
         ("narrow_script.json", CLOCKED_SCRIPT),
     )?;
     let traced = traced(&rt, WORDS, "narrow/metadata", (12, usize::MAX))?;
+    remove_all(&rt, &[], "narrow")?;
     let answer = ("", "ctftrace: narrow/metadata: a write failed\n", 3);
     is_told(&rt, &traced, answer, b"/* CTF 1.8 *", (12, WORDS));
     Ok(())
