@@ -10,3 +10,10 @@ pub mod ClockNames
 pub mod Numbers
 pub mod Groups
 pub mod TextParts
+pub mod Judged
+pub mod NamesBefore
+pub mod Ledgers
+pub mod Blocks
+pub mod Judging
+pub mod BracketLengths
+pub mod MembersBefore

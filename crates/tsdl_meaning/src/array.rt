@@ -12,10 +12,10 @@ use std::alloc::{AllocError, Global};
 use tsdl_grammar::Bracket;
 
 /// The most static arrays in one another.
-const MAX_DEPTH: usize = 8;
+pub(crate) const MAX_DEPTH: usize = 8;
 
 /// The most elements of static arrays in one another.
-const MAX_ELEMENTS: u64 = 1 << 20;
+pub(crate) const MAX_ELEMENTS: u64 = 1 << 20;
 
 /// Arrays of these lengths.
 pub(crate) fn arrays_of(

@@ -11,7 +11,7 @@ use std::alloc::{AllocError, Global};
 use tsdl_grammar::{Entries, Entry, Label, Number};
 
 /// The most ranges that an enumeration has.
-const MAX_RANGES: usize = 65536;
+pub(crate) const MAX_RANGES: usize = 65536;
 
 /// The enumeration over an integer type, of at most 65,536 ranges.
 #[tactic(auto, unfolding(tsdl_grammar::specs::MemberMeaning::enum_meaning))]

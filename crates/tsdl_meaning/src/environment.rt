@@ -13,7 +13,7 @@ use std::alloc::{AllocError, Global};
 use tsdl_grammar::{Fact, NamedFact};
 
 /// The most names of an environment.
-const MAX_NAMES: usize = 256;
+pub(crate) const MAX_NAMES: usize = 256;
 
 /// The environment of at most 256 names, of which none stands twice.
 #[tactic(auto, unfolding(tsdl_grammar::specs::BlockMeaning::environment_meaning))]
@@ -43,7 +43,7 @@ fn are_distinct(facts: &[NamedFact]) -> bool
     true
 }
 
-fn has_fact(name: &Text, facts: &[NamedFact]) -> bool
+pub(crate) fn has_fact(name: &Text, facts: &[NamedFact]) -> bool
     ensures { result ≡ list_any (bytes_eq name.now) (map (λ f. f.name) facts.now) }
 {
     let mut rest = facts;

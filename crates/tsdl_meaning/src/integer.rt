@@ -118,7 +118,7 @@ fn order_or_own(order: ByteOrder, value: Option<&Value>) -> Option<ByteOrder>
 
 /// `native`, or the trace's own order.
 #[tactic(auto, unfolding(tsdl_grammar::specs::IntegerMeaning::order_value))]
-fn order_value(order: ByteOrder, value: &Value) -> Option<ByteOrder>
+pub(crate) fn order_value(order: ByteOrder, value: &Value) -> Option<ByteOrder>
     ensures { result ≡ order_value order value.now }
 {
     let word = word_value(value)?.as_str();
@@ -139,7 +139,7 @@ fn base_or_decimal(value: Option<&Value>) -> Option<Base>
 }
 
 #[tactic(auto, unfolding(tsdl_grammar::specs::IntegerMeaning::base_value))]
-fn base_value(value: &Value) -> Option<Base>
+pub(crate) fn base_value(value: &Value) -> Option<Base>
     ensures { result ≡ base_value value.now }
 {
     match value {

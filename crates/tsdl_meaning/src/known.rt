@@ -38,15 +38,29 @@ impl Known {
     ) -> Result<Known, AllocError>
         ensures { IfOk result (λ k. k ≡ known_of order clocks.now) }
     {
-        let mut listed = ListOf::new(alloc);
-        let mut names = BTreeSet::new(alloc);
+        let mut names = ListOf::new(alloc);
         for clock in clocks {
-            let _is_new = names.insert(String::from_str(alloc, clock.name.as_str())?)?;
-            listed.push(clock.name.copy(alloc)?)?;
+            names.push(clock.name.copy(alloc)?)?;
+        }
+        Known::with_names(alloc, order, names)
+    }
+
+    /// What integers have to know of a text whose clocks have these names.
+    pub(crate) fn with_names(
+        alloc: Global,
+        order: ByteOrder,
+        clocks: ListOf<Text>,
+    ) -> Result<Known, AllocError>
+        ensures { IfOk result (λ k. k ≡ record { order = order; clocks = clocks }) }
+    {
+        let mut names = BTreeSet::new(alloc);
+        let listed = clocks.as_slice();
+        for clock in listed {
+            let _is_new = names.insert(String::from_str(alloc, clock.as_str())?)?;
         }
         Ok(Known {
             order,
-            clocks: listed,
+            clocks,
             names,
         })
     }

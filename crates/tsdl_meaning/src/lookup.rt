@@ -65,7 +65,7 @@ fn are_words(texts: &[Text], words: &[&str]) -> bool
 }
 
 /// Whether a name has these words.
-fn has_words(name: &Name, words: &[&str]) -> bool
+pub(crate) fn has_words(name: &Name, words: &[&str]) -> bool
     ensures { result ≡ same_words (words_of name.now) (texts_of words.now) }
 {
     match words {

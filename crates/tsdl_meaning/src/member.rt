@@ -82,7 +82,7 @@ fn is_text(attributes: &Option<ListOf<Attribute>>) -> bool
     }
 }
 
-fn encoding_or_any(value: Option<&Value>) -> Option<bool>
+pub(crate) fn encoding_or_any(value: Option<&Value>) -> Option<bool>
     ensures { result ≡ with_default true encoding_value (option_map (λ v. v.now) value.entry) }
 {
     match value {
@@ -139,7 +139,7 @@ fn bracketed(
 }
 
 /// The place of the unsigned integer member of this name among those before.
-fn length_place(before: &Members, name: &str) -> Option<usize>
+pub(crate) fn length_place(before: &Members, name: &str) -> Option<usize>
     ensures { result ≡ length_place before.now name.now }
 {
     for index in 0..before.len() {

@@ -53,7 +53,7 @@ fn suits_at(rule: ScopeRule, members: &Members, index: usize) -> bool
     suits_rule(rule, members.name_at(index), members.member_at(index))
 }
 
-fn suits_rule(rule: ScopeRule, name: &str, member: &MemberType) -> bool
+pub(crate) fn suits_rule(rule: ScopeRule, name: &str, member: &MemberType) -> bool
     ensures { result ≡ suits_rule rule (name.now, member.now) }
 {
     match rule {
@@ -87,7 +87,7 @@ fn suits(names: &[&str], name: &str, member: &MemberType) -> bool
 }
 
 /// Whether a word is among these.
-fn has_word(word: &str, words: &[&str]) -> bool
+pub(crate) fn has_word(word: &str, words: &[&str]) -> bool
     ensures { result ≡ list_any (bytes_eq word.now) (texts_of words.now) }
 {
     let mut rest = words;

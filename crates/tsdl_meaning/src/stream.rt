@@ -16,15 +16,15 @@ use ctf_types::{Event, ListOf, Stream, StructType, Text};
 use std::alloc::{AllocError, Global};
 use tsdl_grammar::Item;
 
-const PACKET_CONTEXT: [&str; 2] = ["packet", "context"];
+pub(crate) const PACKET_CONTEXT: [&str; 2] = ["packet", "context"];
 
-const EVENT_HEADER: [&str; 2] = ["event", "header"];
+pub(crate) const EVENT_HEADER: [&str; 2] = ["event", "header"];
 
-const EVENT_CONTEXT: [&str; 2] = ["event", "context"];
+pub(crate) const EVENT_CONTEXT: [&str; 2] = ["event", "context"];
 
-const SPECIFIC_CONTEXT: [&str; 1] = ["context"];
+pub(crate) const SPECIFIC_CONTEXT: [&str; 1] = ["context"];
 
-const FIELDS: [&str; 1] = ["fields"];
+pub(crate) const FIELDS: [&str; 1] = ["fields"];
 
 /// What the attributes of an event say.
 #[derive(Drop)]

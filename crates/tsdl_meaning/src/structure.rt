@@ -19,7 +19,7 @@ use std::alloc::{AllocError, Global};
 use tsdl_grammar::{Item, MemberTree, Number, Structure};
 
 /// The most members of a structure.
-const MAX_MEMBERS: usize = 1024;
+pub(crate) const MAX_MEMBERS: usize = 1024;
 
 /// The structure of the scope of this name in a block, without members where the scope is not there.
 pub(crate) fn scope_meaning(

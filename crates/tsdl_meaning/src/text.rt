@@ -32,7 +32,7 @@ struct TextParts<'a> {
 
 /// The metadata that the blocks of a text mean, if they mean any.
 #[tactic(auto, unfolding(tsdl_grammar::specs::Denotes::text_meta))]
-pub fn metadata_of(alloc: Global, blocks: &[Block]) -> Result<Option<Metadata>, AllocError>
+pub(crate) fn text_meaning(alloc: Global, blocks: &[Block]) -> Result<Option<Metadata>, AllocError>
     ensures { IfOk result (λ m. m ≡ text_meta blocks.now) }
 {
     let Some(trace) = only_trace(blocks) else {

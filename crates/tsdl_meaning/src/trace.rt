@@ -15,7 +15,7 @@ use tsdl_grammar::Item;
 use uuid::Uuid;
 
 /// The scope of a trace block.
-const PACKET_HEADER: [&str; 2] = ["packet", "header"];
+pub(crate) const PACKET_HEADER: [&str; 2] = ["packet", "header"];
 
 /// `byte_order = le` or `be`.
 pub(crate) fn trace_order(items: &[Item]) -> Option<ByteOrder>
@@ -24,7 +24,7 @@ pub(crate) fn trace_order(items: &[Item]) -> Option<ByteOrder>
     order_word(word_value(attr_in("byte_order", items)?)?.as_str())
 }
 
-fn order_word(word: &str) -> Option<ByteOrder>
+pub(crate) fn order_word(word: &str) -> Option<ByteOrder>
     ensures { result ≡ meant_by order_table word.now }
 {
     match word {

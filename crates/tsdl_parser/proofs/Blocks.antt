@@ -17,10 +17,13 @@ use Rattle.tsdl_grammar.specs.declared.tree.NamedFact.{NamedFact}
 use Rattle.tsdl_grammar.specs.declared.tree.Block.{Block}
 use Rattle.tsdl_grammar.specs.declared.tree.Block.TheVariants as blocks
 use Rattle.tsdl_grammar.specs.Spelling.{mark, word, number_toks, braced, name_toks, struct_toks, scope_toks, item_toks, items_toks, fact_toks, named_fact_toks, block_toks, block_and_semicolon, text_toks}
-use Rattle.tsdl_parser.specs.Parsing.{begins, mark_at, word_at, names, keyword_at, number_at, is_open}
+use Rattle.tsdl_parser.specs.declared.stop.Unread.{Unread}
+use Rattle.tsdl_parser.specs.declared.stop.Unread.TheVariants as unread
+use Rattle.tsdl_parser.specs.Stopping.{IfStopped}
+use Rattle.tsdl_parser.specs.Parsing.{Fails, begins, mark_at, word_at, names, keyword_at, number_at, is_open}
 use Rattle.tsdl_parser.specs.ParsingAttributes.{name_at, attr_behind}
 use Rattle.tsdl_parser.specs.ParsingMembers.{struct_at}
-use Rattle.tsdl_parser.specs.ParsingBlocks.{scope_behind, item_at, all_items_at, items_at, fact_at, named_fact_at, all_facts_at, environment_at, block_at, ended_block_at, has_more, all_blocks_at, parse_all}
+use Rattle.tsdl_parser.specs.ParsingBlocks.{scope_behind, item_at, all_items_at, items_at, fact_at, named_fact_at, all_facts_at, environment_at, block_at, ended_block_at, has_more, all_blocks_at}
 use Rattle.tsdl_parser.proofs.Steps.{along, first_of_two, chosen, splice, some_is}
 use Rattle.tsdl_parser.proofs.Words.{mark_takes, word_takes, keyword_takes, number_takes}
 use Rattle.tsdl_parser.proofs.Repeated.{Spells, Shortens, shortens, many_take, many_again}
@@ -270,23 +273,24 @@ no_more [] e = refl
 no_more (a ∷ ts) e = absurd cc
 
 -- what is read was spelled so
-pub parse_takes : (ts : List Atom) (bs : List Block) → parse_all ts ≡ Some bs → ts ≡ text_toks bs
-unfolding parse_all
-parse_takes ts bs e =
-    let a = first_of_two (all_blocks_at ts) (λ x. Some x.0) bs e in
-    let all = many_take has_more ended_block_at block_and_semicolon Anything block_spells (length ts) ts a.0 a.1 in
-    along (λ (found : List Block). ts ≡ text_toks found) a.0.0 bs a.2
-    (all.0 ∙ ap (λ (us : List Atom). text_toks a.0.0 ++ us) (no_more a.0.1 all.1) ∙ append-nil (text_toks a.0.0))
+pub blocks_take : (ts : List Atom) (x : List Block × List Atom) → all_blocks_at ts ≡ Some x → ts ≡ text_toks x.0
+blocks_take ts x e =
+    let all = many_take has_more ended_block_at block_and_semicolon Anything block_spells (length ts) ts x e in
+    all.0 ∙ ap (λ (us : List Atom). text_toks x.0 ++ us) (no_more x.1 all.1) ∙ append-nil (text_toks x.0)
 
 -- what is spelled so is read
-pub parse_again : (bs : List Block) → parse_all (text_toks bs) ≡ Some bs
-unfolding parse_all
-parse_again bs =
-    ap parse_all (sym (append-nil (text_toks bs))) ∙ rw (many_again has_more ended_block_at block_and_semicolon Anything block_spells bs [] refl tt) refl
+blocks_again : (bs : List Block) → all_blocks_at (text_toks bs) ≡ Some (bs, [])
+blocks_again bs =
+    ap all_blocks_at (sym (append-nil (text_toks bs))) ∙ many_again has_more ended_block_at block_and_semicolon Anything block_spells bs [] refl tt
 
 -- so no other blocks are spelled so
 pub one_reading : (bs cs : List Block) → text_toks bs ≡ text_toks cs → bs ≡ cs
-one_reading bs cs e = some_is bs cs (sym (parse_again bs) ∙ ap parse_all e ∙ parse_again cs)
+one_reading bs cs e = ap (λ (x : List Block × List Atom). x.0) (some_is (bs, []) (cs, []) (sym (blocks_again bs) ∙ ap all_blocks_at e ∙ blocks_again cs))
 
-pub no_blocks : (ts : List Atom) → parse_all ts ≡ None → (bs : List Block) → ts ≡ text_toks bs → ⊥
-no_blocks ts e bs h = let read : parse_all ts ≡ Some bs = ap parse_all h ∙ parse_again bs in cc
+no_blocks : (ts : List Atom) → all_blocks_at ts ≡ None → (bs : List Block) → ts ≡ text_toks bs → ⊥
+no_blocks ts e bs h = let read : all_blocks_at ts ≡ Some (bs, []) = ap all_blocks_at h ∙ blocks_again bs in cc
+
+-- and where none are read, none are spelled
+pub unread_blocks : (e : Unread) (ts : List Atom) → Fails e (all_blocks_at ts) → IfStopped e ((bs : List Block) → ts ≡ text_toks bs → ⊥)
+unread_blocks unread.Memory ts h = tt
+unread_blocks (unread.Stopped s) ts h = no_blocks ts h

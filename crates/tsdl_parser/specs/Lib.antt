@@ -1,3 +1,5 @@
+pub mod Keywords
+pub mod Stopping
 pub mod Parsing
 pub mod ParsingAttributes
 pub mod ParsingEntries

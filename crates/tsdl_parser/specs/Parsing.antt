@@ -8,13 +8,12 @@ use Rattle.tsdl_grammar.specs.declared.atom.Atom.TheVariants as atoms
 use Rattle.tsdl_grammar.specs.declared.tree.Sign.TheVariants.{Plus, Minus}
 use Rattle.tsdl_grammar.specs.declared.tree.Number.{Number}
 use Rattle.tsdl_grammar.specs.Steps.{◌>>=◌}
-use Rattle.tsdl_parser.specs.declared.parsing.Unread.{Unread}
-use Rattle.tsdl_parser.specs.declared.parsing.Unread.TheVariants as unread
+use Rattle.tsdl_parser.specs.declared.stop.Unread.{Unread}
+use Rattle.tsdl_parser.specs.Stopping.{IfStopped}
 
 -- what a function returned, seen by view, is what a rule reads, unless memory ran out
 abbrev pub Fails : {Y : Type 0} → Unread → Option Y → Type 0
-Fails unread.NoTree read = read ≡ None
-Fails unread.Memory read = Unit {0}
+Fails e read = IfStopped e (read ≡ None)
 
 abbrev pub Gives : {X Y : Type 0} → (X → Y) → Result X Unread → Option Y → Type 0
 Gives view (Ok x) read = read ≡ Some (view x)

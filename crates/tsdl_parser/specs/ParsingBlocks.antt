@@ -99,7 +99,3 @@ has_more (a ∷ ts) = true
 -- { block ";" }, up to the end
 abbrev pub all_blocks_at : List Atom → Option (List Block × List Atom)
 all_blocks_at ts = many has_more ended_block_at ts
-
--- the blocks of a whole text
-unfoldable pub parse_all : List Atom → Option (List Block)
-parse_all ts = all_blocks_at ts >>= λ x. Some x.0

@@ -3,7 +3,10 @@
 ghost use Rattle.tsdl_parser.specs.Parsing.{Gives};
 ghost use Rattle.tsdl_parser.specs.ParsingAttributes.{dotted_at, all_dotted_at, name_at, value_at, attr_behind, attr_at, all_attrs_at, attrs_at};
 
-use crate::parsing::{Unread, begins, is_open, mark_at, number_at, word_at};
+use crate::expected::Expected;
+use crate::parsing::{begins, is_open, mark_at, no_number, number_at, word_at};
+use crate::piece::{CLOSE_BRACE, SEMICOLON, ZERO};
+use crate::stop::{Unread, back_to, going_on};
 use ctf_types::{ListOf, Text};
 use std::alloc::Global;
 use tsdl_grammar::{Atom, Attribute, Mark, Name, Value};
@@ -12,7 +15,7 @@ use tsdl_grammar::{Atom, Attribute, Mark, Name, Value};
 fn dotted_at(alloc: Global, atoms: &[Atom]) -> Result<(Text, &[Atom]), Unread>
     ensures { Gives (λ x. (x.0, x.1.now)) result (dotted_at atoms.now) }
 {
-    word_at(alloc, mark_at(Mark::Dot, atoms)?)
+    word_at(alloc, mark_at(Mark::Dot, atoms)?, Expected::Identifier)
 }
 
 fn all_dotted_at(alloc: Global, atoms: &[Atom]) -> Result<(ListOf<Text>, &[Atom]), Unread>
@@ -29,11 +32,15 @@ fn all_dotted_at(alloc: Global, atoms: &[Atom]) -> Result<(ListOf<Text>, &[Atom]
 }
 
 #[tactic(auto, unfolding(crate::specs::ParsingAttributes::name_at))]
-pub(crate) fn name_at(alloc: Global, atoms: &[Atom]) -> Result<(Name, &[Atom]), Unread>
+pub(crate) fn name_at(
+    alloc: Global,
+    atoms: &[Atom],
+    expected: Expected,
+) -> Result<(Name, &[Atom]), Unread>
     ensures { Gives (λ x. (x.0, x.1.now)) result (name_at atoms.now) }
 {
-    let (first, rest) = word_at(alloc, atoms)?;
-    let (others, rest) = all_dotted_at(alloc, rest)?;
+    let (first, rest) = word_at(alloc, atoms, expected)?;
+    let (others, rest) = back_to(all_dotted_at(alloc, rest), atoms)?;
     Ok((
         Name {
             first,
@@ -50,14 +57,14 @@ fn value_at(alloc: Global, atoms: &[Atom]) -> Result<(Value, &[Atom]), Unread>
     match atoms {
         [Atom::Text(text), rest @ ..] => Ok((Value::Text(text.copy(alloc)?), rest)),
         [Atom::Word(_), ..] => {
-            let (name, rest) = name_at(alloc, atoms)?;
+            let (name, rest) = going_on(name_at(alloc, atoms, Expected::Value), &[ZERO])?;
             Ok((Value::Name(name), rest))
         }
         [Atom::Number(_) | Atom::Mark(_), ..] => {
-            let (number, rest) = number_at(atoms)?;
+            let (number, rest) = number_at(atoms, Expected::Value)?;
             Ok((Value::Number(number), rest))
         }
-        [] | [Atom::TooLarge, ..] => Err(Unread::NoTree),
+        [] | [Atom::TooLarge, ..] => Err(Unread::Stopped(no_number(atoms, Expected::Value))),
     }
 }
 
@@ -70,8 +77,8 @@ pub(crate) fn attr_behind(
 ) -> Result<(Attribute, &[Atom]), Unread>
     ensures { Gives (λ x. (x.0, x.1.now)) result (attr_behind name atoms.now) }
 {
-    let rest = mark_at(Mark::Equals, atoms)?;
-    let (value, rest) = value_at(alloc, rest)?;
+    let rest = going_on(mark_at(Mark::Equals, atoms), &[ZERO, SEMICOLON])?;
+    let (value, rest) = going_on(value_at(alloc, rest), &[SEMICOLON])?;
     let rest = mark_at(Mark::Semicolon, rest)?;
     Ok((Attribute { name, value }, rest))
 }
@@ -80,7 +87,7 @@ pub(crate) fn attr_behind(
 fn attr_at(alloc: Global, atoms: &[Atom]) -> Result<(Attribute, &[Atom]), Unread>
     ensures { Gives (λ x. (x.0, x.1.now)) result (attr_at atoms.now) }
 {
-    let (name, rest) = name_at(alloc, atoms)?;
+    let (name, rest) = name_at(alloc, atoms, Expected::Attribute)?;
     attr_behind(alloc, name, rest)
 }
 
@@ -105,8 +112,8 @@ pub(crate) fn attrs_at(
 ) -> Result<(ListOf<Attribute>, &[Atom]), Unread>
     ensures { Gives (λ x. (x.0, x.1.now)) result (attrs_at atoms.now) }
 {
-    let inside = mark_at(Mark::OpenBrace, atoms)?;
-    let (attrs, rest) = all_attrs_at(alloc, inside)?;
+    let inside = going_on(mark_at(Mark::OpenBrace, atoms), &[CLOSE_BRACE])?;
+    let (attrs, rest) = going_on(all_attrs_at(alloc, inside), &[CLOSE_BRACE])?;
     let rest = mark_at(Mark::CloseBrace, rest)?;
     Ok((attrs, rest))
 }

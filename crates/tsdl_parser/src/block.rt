@@ -1,25 +1,35 @@
 //! Reads blocks, and what stands in them.
 
-ghost use Rattle.std.specs.Prelude.{◌≡◌, List, IfOk, IfSome, IfNone};
+ghost use Rattle.std.specs.Prelude.{◌≡◌, List, IfOk, IfErr};
 ghost use Rattle.tsdl_grammar.specs.declared.tree.Block.{Block};
 ghost use Rattle.tsdl_grammar.specs.Spelling.{text_toks};
+ghost use Rattle.tsdl_parser.specs.Stopping.{IfStopped};
 ghost use Rattle.tsdl_parser.specs.Parsing.{Gives};
-ghost use Rattle.tsdl_parser.specs.ParsingBlocks.{scope_behind, item_at, all_items_at, items_at, fact_at, named_fact_at, all_facts_at, environment_at, block_at, ended_block_at, has_more, all_blocks_at, parse_all};
+ghost use Rattle.tsdl_parser.specs.ParsingBlocks.{scope_behind, item_at, all_items_at, items_at, fact_at, named_fact_at, all_facts_at, environment_at, block_at, ended_block_at, has_more, all_blocks_at};
 
 use crate::attribute::{attr_behind, name_at};
+use crate::expected::Expected;
 use crate::member::struct_at;
-use crate::parsing::{Unread, begins, is_open, keyword_at, mark_at, names, number_at, word_at};
+use crate::parsing::{begins, is_open, keyword_at, mark_at, names, no_number, number_at, word_at};
+use crate::piece::{CLOSE_BRACE, SEMICOLON, ZERO};
+use crate::stop::{Unread, back_to, expecting, going_on};
 use ctf_types::ListOf;
-use std::alloc::{AllocError, Global};
+use std::alloc::Global;
 use tsdl_grammar::{Atom, Block, Fact, Item, Mark, Name, NamedFact, Scope};
 
-/// The rest of a scope behind its name.
+/// The rest of a scope behind its name, with which the item begins.
 #[tactic(auto, unfolding(crate::specs::ParsingBlocks::scope_behind))]
-fn scope_behind(alloc: Global, name: Name, atoms: &[Atom]) -> Result<(Scope, &[Atom]), Unread>
+fn scope_behind<'a>(
+    alloc: Global,
+    name: Name,
+    atoms: &'a [Atom],
+    item: &'a [Atom],
+) -> Result<(Scope, &'a [Atom]), Unread>
     ensures { Gives (λ x. (x.0, x.1.now)) result (scope_behind name atoms.now) }
 {
-    let rest = mark_at(Mark::Assign, atoms)?;
-    let (structure, rest) = struct_at(alloc, rest)?;
+    let rest = expecting(mark_at(Mark::Assign, atoms), Expected::ItemMark);
+    let rest = back_to(rest, item)?;
+    let (structure, rest) = going_on(struct_at(alloc, rest), &[SEMICOLON])?;
     let rest = mark_at(Mark::Semicolon, rest)?;
     Ok((Scope { name, structure }, rest))
 }
@@ -28,12 +38,12 @@ fn scope_behind(alloc: Global, name: Name, atoms: &[Atom]) -> Result<(Scope, &[A
 fn item_at(alloc: Global, atoms: &[Atom]) -> Result<(Item, &[Atom]), Unread>
     ensures { Gives (λ x. (x.0, x.1.now)) result (item_at atoms.now) }
 {
-    let (name, rest) = name_at(alloc, atoms)?;
+    let (name, rest) = name_at(alloc, atoms, Expected::Item)?;
     if begins(Mark::Equals, rest) {
         let (attr, rest) = attr_behind(alloc, name, rest)?;
         Ok((Item::Attribute(attr), rest))
     } else {
-        let (scope, rest) = scope_behind(alloc, name, rest)?;
+        let (scope, rest) = scope_behind(alloc, name, rest, atoms)?;
         Ok((Item::Scope(scope), rest))
     }
 }
@@ -60,9 +70,9 @@ fn items_at<'a>(
 ) -> Result<(ListOf<Item>, &'a [Atom]), Unread>
     ensures { Gives (λ x. (x.0, x.1.now)) result (items_at keyword.now atoms.now) }
 {
-    let rest = keyword_at(keyword, atoms)?;
-    let inside = mark_at(Mark::OpenBrace, rest)?;
-    let (items, rest) = all_items_at(alloc, inside)?;
+    let rest = keyword_at(keyword, atoms, Expected::Block)?;
+    let inside = going_on(mark_at(Mark::OpenBrace, rest), &[CLOSE_BRACE, SEMICOLON])?;
+    let (items, rest) = going_on(all_items_at(alloc, inside), &[CLOSE_BRACE, SEMICOLON])?;
     let rest = mark_at(Mark::CloseBrace, rest)?;
     Ok((items, rest))
 }
@@ -74,10 +84,12 @@ fn fact_at(alloc: Global, atoms: &[Atom]) -> Result<(Fact, &[Atom]), Unread>
     match atoms {
         [Atom::Text(text), rest @ ..] => Ok((Fact::Text(text.copy(alloc)?), rest)),
         [Atom::Number(_) | Atom::Mark(_), ..] => {
-            let (number, rest) = number_at(atoms)?;
+            let (number, rest) = number_at(atoms, Expected::Fact)?;
             Ok((Fact::Number(number), rest))
         }
-        [] | [Atom::Word(_) | Atom::TooLarge, ..] => Err(Unread::NoTree),
+        [] | [Atom::Word(_) | Atom::TooLarge, ..] => {
+            Err(Unread::Stopped(no_number(atoms, Expected::Fact)))
+        }
     }
 }
 
@@ -85,9 +97,9 @@ fn fact_at(alloc: Global, atoms: &[Atom]) -> Result<(Fact, &[Atom]), Unread>
 fn named_fact_at(alloc: Global, atoms: &[Atom]) -> Result<(NamedFact, &[Atom]), Unread>
     ensures { Gives (λ x. (x.0, x.1.now)) result (named_fact_at atoms.now) }
 {
-    let (name, rest) = word_at(alloc, atoms)?;
-    let rest = mark_at(Mark::Equals, rest)?;
-    let (fact, rest) = fact_at(alloc, rest)?;
+    let (name, rest) = word_at(alloc, atoms, Expected::FactName)?;
+    let rest = going_on(mark_at(Mark::Equals, rest), &[ZERO, SEMICOLON])?;
+    let (fact, rest) = going_on(fact_at(alloc, rest), &[SEMICOLON])?;
     let rest = mark_at(Mark::Semicolon, rest)?;
     Ok((NamedFact { name, fact }, rest))
 }
@@ -109,9 +121,9 @@ fn all_facts_at(alloc: Global, atoms: &[Atom]) -> Result<(ListOf<NamedFact>, &[A
 fn environment_at(alloc: Global, atoms: &[Atom]) -> Result<(Block, &[Atom]), Unread>
     ensures { Gives (λ x. (x.0, x.1.now)) result (environment_at atoms.now) }
 {
-    let rest = keyword_at("env", atoms)?;
-    let inside = mark_at(Mark::OpenBrace, rest)?;
-    let (facts, rest) = all_facts_at(alloc, inside)?;
+    let rest = keyword_at("env", atoms, Expected::Block)?;
+    let inside = going_on(mark_at(Mark::OpenBrace, rest), &[CLOSE_BRACE, SEMICOLON])?;
+    let (facts, rest) = going_on(all_facts_at(alloc, inside), &[CLOSE_BRACE, SEMICOLON])?;
     let rest = mark_at(Mark::CloseBrace, rest)?;
     Ok((Block::Environment(facts), rest))
 }
@@ -168,23 +180,11 @@ fn all_blocks_at(alloc: Global, atoms: &[Atom]) -> Result<(ListOf<Block>, &[Atom
     Ok((found, rest))
 }
 
-/// The blocks of a whole text.
-#[tactic(auto, unfolding(crate::specs::ParsingBlocks::parse_all))]
-fn blocks_of(alloc: Global, atoms: &[Atom]) -> Result<Vec<Block>, Unread>
-    ensures { Gives (λ v. v.items) result (parse_all atoms.now) }
+/// The blocks that the atoms of a text spell, or how far the atoms spell any.
+pub fn parse(alloc: Global, atoms: &[Atom]) -> Result<Vec<Block>, Unread>
+    ensures found { IfOk result (λ bs. atoms.now ≡ text_toks bs.items) }
+    ensures none { IfErr result (λ e. IfStopped e ((bs : List Block) → atoms.now ≡ text_toks bs → ⊥)) }
 {
     let (found, _) = all_blocks_at(alloc, atoms)?;
     Ok(found.into_vec())
-}
-
-/// The blocks that the atoms of a text spell, None where they spell none.
-pub fn parse(alloc: Global, atoms: &[Atom]) -> Result<Option<Vec<Block>>, AllocError>
-    ensures found { IfOk result (λ o. IfSome o (λ bs. atoms.now ≡ text_toks bs.items)) }
-    ensures none { IfOk result (λ o. IfNone o ((bs : List Block) → atoms.now ≡ text_toks bs → ⊥)) }
-{
-    match blocks_of(alloc, atoms) {
-        Ok(found) => Ok(Some(found)),
-        Err(Unread::NoTree) => Ok(None),
-        Err(Unread::Memory) => Err(AllocError),
-    }
 }

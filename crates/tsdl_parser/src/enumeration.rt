@@ -4,7 +4,10 @@ ghost use Rattle.std.specs.Prelude.{◌≡◌};
 ghost use Rattle.tsdl_parser.specs.Parsing.{Gives};
 ghost use Rattle.tsdl_parser.specs.ParsingEntries.{label_at, high_at, entry_at, is_labelled, is_next, next_entry_at, all_next_at, closing_at, listed_at, entries_at};
 
-use crate::parsing::{Unread, begins, is_mark, mark_at, number_at};
+use crate::expected::Expected;
+use crate::parsing::{begins, is_mark, mark_at, number_at};
+use crate::piece::ZERO;
+use crate::stop::{Stop, Unread, expecting, going_on};
 use ctf_types::ListOf;
 use std::alloc::Global;
 use tsdl_grammar::{Atom, Closing, Entries, Entry, Label, Mark, Number};
@@ -16,7 +19,9 @@ fn label_at(alloc: Global, atoms: &[Atom]) -> Result<(Label, &[Atom]), Unread>
     match atoms {
         [Atom::Text(text), rest @ ..] => Ok((Label::Quoted(text.copy(alloc)?), rest)),
         [Atom::Word(word), rest @ ..] => Ok((Label::Bare(word.copy(alloc)?), rest)),
-        [] | [Atom::Number(_) | Atom::Mark(_) | Atom::TooLarge, ..] => Err(Unread::NoTree),
+        [] | [Atom::Number(_) | Atom::Mark(_) | Atom::TooLarge, ..] => {
+            Err(Unread::Stopped(Stop::before(atoms, Expected::Label, &[])))
+        }
     }
 }
 
@@ -27,7 +32,7 @@ fn high_at(atoms: &[Atom]) -> Result<(Option<Number>, &[Atom]), Unread>
 {
     if begins(Mark::Ellipsis, atoms) {
         let behind = mark_at(Mark::Ellipsis, atoms)?;
-        let (high, rest) = number_at(behind)?;
+        let (high, rest) = number_at(behind, Expected::Number)?;
         Ok((Some(high), rest))
     } else {
         Ok((None, atoms))
@@ -39,8 +44,8 @@ fn entry_at(alloc: Global, atoms: &[Atom]) -> Result<(Entry, &[Atom]), Unread>
     ensures { Gives (λ x. (x.0, x.1.now)) result (entry_at atoms.now) }
 {
     let (label, rest) = label_at(alloc, atoms)?;
-    let rest = mark_at(Mark::Equals, rest)?;
-    let (low, rest) = number_at(rest)?;
+    let rest = expecting(mark_at(Mark::Equals, rest), Expected::LabelMark);
+    let (low, rest) = number_at(going_on(rest, &[ZERO])?, Expected::Number)?;
     let (high, rest) = high_at(rest)?;
     Ok((Entry { label, low, high }, rest))
 }
@@ -117,5 +122,13 @@ pub(crate) fn entries_at(alloc: Global, atoms: &[Atom]) -> Result<(Entries, &[At
         listed_at(alloc, atoms)
     } else {
         Ok((Entries::Empty, atoms))
+    }
+}
+
+/// What is expected behind some entries before the closing brace.
+pub(crate) fn expected_behind(entries: &Entries) -> Expected {
+    match entries {
+        Entries::Empty | Entries::Listed(_, _, Closing::Comma) => Expected::Label,
+        Entries::Listed(_, _, Closing::Plain) => Expected::Mark(Mark::CloseBrace),
     }
 }

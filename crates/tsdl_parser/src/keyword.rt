@@ -1,9 +1,10 @@
 //! The keywords of TSDL that this project doesn't read.
 
-ghost use Rattle.std.specs.Prelude.{◌≡◌, not};
+ghost use Rattle.std.specs.Prelude.{◌≡◌, ◌<◌, ◌↔◌, not, true, length, take, slice_get, IsNone, IfSome};
 ghost use Rattle.std.specs.List.{list_any, list_all};
 ghost use Rattle.std.specs.Str.{bytes_eq};
 ghost use Rattle.tsdl_grammar.specs.Denotes.{unread_words, is_read};
+ghost use Rattle.tsdl_parser.specs.Keywords.{IsUnreadAt};
 
 use tsdl_grammar::Atom;
 
@@ -43,16 +44,12 @@ fn is_read(atom: &Atom) -> bool
     }
 }
 
-/// Whether no keyword that this project doesn't read is among the atoms.
-pub fn are_read(atoms: &[Atom]) -> bool
-    ensures { result ≡ list_all is_read atoms.now }
+/// The index of the first atom that is a keyword which this project doesn't read.
+pub fn first_unread(atoms: &[Atom]) -> Option<usize>
+    ensures none { IsNone result ↔ (list_all is_read atoms.now ≡ true) }
+    ensures within { IfSome result (λ i. i < length atoms.now) }
+    ensures unread { IfSome result (λ i. IsUnreadAt atoms.now i) }
+    ensures before { IfSome result (λ i. list_all is_read (take i atoms.now) ≡ true) }
 {
-    let mut rest = atoms;
-    while let [atom, behind @ ..] = rest {
-        if !is_read(atom) {
-            return false;
-        }
-        rest = behind;
-    }
-    true
+    atoms.iter().position(|atom| !is_read(atom))
 }

@@ -4,29 +4,46 @@ ghost use Rattle.tsdl_parser.specs.Parsing.{Gives};
 ghost use Rattle.tsdl_parser.specs.ParsingMembers.{int_at, enum_at, string_at, kind_at, count_at, bracket_at, all_brackets_at, member_at, all_members_at, align_at, struct_at};
 
 use crate::attribute::attrs_at;
-use crate::enumeration::entries_at;
-use crate::parsing::{Unread, begins, is_open, keyword_at, mark_at, names, number_at, word_at};
+use crate::enumeration::{entries_at, expected_behind};
+use crate::expected::Expected;
+use crate::parsing::{begins, is_open, keyword_at, mark_at, names, no_number, number_at, word_at};
+use crate::piece::{
+    CLOSE_BRACE, CLOSE_BRACKET, CLOSE_PARENTHESIS, INTEGER, NAME, OPEN_BRACE, SEMICOLON, STRUCT,
+    ZERO,
+};
+use crate::stop::{Unread, expecting, going_on};
 use ctf_types::ListOf;
 use std::alloc::Global;
 use tsdl_grammar::{Atom, Attribute, Bracket, Kind, Mark, MemberTree, Number, Structure};
 
 #[tactic(auto, unfolding(crate::specs::ParsingMembers::int_at))]
-fn int_at(alloc: Global, atoms: &[Atom]) -> Result<(ListOf<Attribute>, &[Atom]), Unread>
+fn int_at(
+    alloc: Global,
+    atoms: &[Atom],
+    expected: Expected,
+) -> Result<(ListOf<Attribute>, &[Atom]), Unread>
     ensures { Gives (λ x. (x.0, x.1.now)) result (int_at atoms.now) }
 {
-    attrs_at(alloc, keyword_at("integer", atoms)?)
+    let rest = keyword_at("integer", atoms, expected);
+    let rest = going_on(rest, &[INTEGER, OPEN_BRACE, CLOSE_BRACE])?;
+    attrs_at(alloc, rest)
 }
 
 #[tactic(auto, unfolding(crate::specs::ParsingMembers::enum_at))]
 fn enum_at(alloc: Global, atoms: &[Atom]) -> Result<(Kind, &[Atom]), Unread>
     ensures { Gives (λ x. (x.0, x.1.now)) result (enum_at atoms.now) }
 {
-    let rest = keyword_at("enum", atoms)?;
-    let rest = mark_at(Mark::Colon, rest)?;
-    let (attrs, rest) = int_at(alloc, rest)?;
-    let inside = mark_at(Mark::OpenBrace, rest)?;
-    let (entries, rest) = entries_at(alloc, inside)?;
-    let rest = mark_at(Mark::CloseBrace, rest)?;
+    let rest = keyword_at("enum", atoms, Expected::Member)?;
+    let rest = expecting(mark_at(Mark::Colon, rest), Expected::EnumColon);
+    let rest = going_on(
+        rest,
+        &[INTEGER, OPEN_BRACE, CLOSE_BRACE, OPEN_BRACE, CLOSE_BRACE],
+    )?;
+    let attrs = int_at(alloc, rest, Expected::EnumInteger);
+    let (attrs, rest) = going_on(attrs, &[OPEN_BRACE, CLOSE_BRACE])?;
+    let inside = going_on(mark_at(Mark::OpenBrace, rest), &[CLOSE_BRACE])?;
+    let (entries, rest) = going_on(entries_at(alloc, inside), &[CLOSE_BRACE])?;
+    let rest = expecting(mark_at(Mark::CloseBrace, rest), expected_behind(&entries))?;
     Ok((Kind::Enumeration(attrs, entries), rest))
 }
 
@@ -34,9 +51,9 @@ fn enum_at(alloc: Global, atoms: &[Atom]) -> Result<(Kind, &[Atom]), Unread>
 fn string_at(alloc: Global, atoms: &[Atom]) -> Result<(Kind, &[Atom]), Unread>
     ensures { Gives (λ x. (x.0, x.1.now)) result (string_at atoms.now) }
 {
-    let rest = keyword_at("string", atoms)?;
+    let rest = keyword_at("string", atoms, Expected::Member)?;
     if begins(Mark::OpenBrace, rest) {
-        let (attrs, rest) = attrs_at(alloc, rest)?;
+        let (attrs, rest) = going_on(attrs_at(alloc, rest), &[NAME, SEMICOLON])?;
         Ok((Kind::Text(Some(attrs)), rest))
     } else {
         Ok((Kind::Text(None), rest))
@@ -48,10 +65,11 @@ fn kind_at(alloc: Global, atoms: &[Atom]) -> Result<(Kind, &[Atom]), Unread>
     ensures { Gives (λ x. (x.0, x.1.now)) result (kind_at atoms.now) }
 {
     if names("integer", atoms) {
-        let (attrs, rest) = int_at(alloc, atoms)?;
+        let attrs = int_at(alloc, atoms, Expected::Member);
+        let (attrs, rest) = going_on(attrs, &[NAME, SEMICOLON])?;
         Ok((Kind::Integer(attrs), rest))
     } else if names("enum", atoms) {
-        enum_at(alloc, atoms)
+        going_on(enum_at(alloc, atoms), &[NAME, SEMICOLON])
     } else {
         string_at(alloc, atoms)
     }
@@ -65,10 +83,12 @@ fn count_at(alloc: Global, atoms: &[Atom]) -> Result<(Bracket, &[Atom]), Unread>
     match atoms {
         [Atom::Word(name), rest @ ..] => Ok((Bracket::Member(name.copy(alloc)?), rest)),
         [Atom::Number(_) | Atom::Mark(_), ..] => {
-            let (count, rest) = number_at(atoms)?;
+            let (count, rest) = number_at(atoms, Expected::Length)?;
             Ok((Bracket::Count(count), rest))
         }
-        [] | [Atom::Text(_) | Atom::TooLarge, ..] => Err(Unread::NoTree),
+        [] | [Atom::Text(_) | Atom::TooLarge, ..] => {
+            Err(Unread::Stopped(no_number(atoms, Expected::Length)))
+        }
     }
 }
 
@@ -77,7 +97,7 @@ fn bracket_at(alloc: Global, atoms: &[Atom]) -> Result<(Bracket, &[Atom]), Unrea
     ensures { Gives (λ x. (x.0, x.1.now)) result (bracket_at atoms.now) }
 {
     let inside = mark_at(Mark::OpenBracket, atoms)?;
-    let (count, rest) = count_at(alloc, inside)?;
+    let (count, rest) = going_on(count_at(alloc, inside), &[CLOSE_BRACKET])?;
     let rest = mark_at(Mark::CloseBracket, rest)?;
     Ok((count, rest))
 }
@@ -100,8 +120,9 @@ fn member_at(alloc: Global, atoms: &[Atom]) -> Result<(MemberTree, &[Atom]), Unr
     ensures { Gives (λ x. (x.0, x.1.now)) result (member_at atoms.now) }
 {
     let (kind, rest) = kind_at(alloc, atoms)?;
-    let (name, rest) = word_at(alloc, rest)?;
-    let (brackets, rest) = all_brackets_at(alloc, rest)?;
+    let name = word_at(alloc, rest, Expected::MemberName);
+    let (name, rest) = going_on(name, &[NAME, SEMICOLON])?;
+    let (brackets, rest) = going_on(all_brackets_at(alloc, rest), &[SEMICOLON])?;
     let rest = mark_at(Mark::Semicolon, rest)?;
     Ok((
         MemberTree {
@@ -132,9 +153,11 @@ fn align_at(atoms: &[Atom]) -> Result<(Option<Number>, &[Atom]), Unread>
     ensures { Gives (λ x. (x.0, x.1.now)) result (align_at atoms.now) }
 {
     if names("align", atoms) {
-        let rest = keyword_at("align", atoms)?;
-        let inside = mark_at(Mark::OpenParenthesis, rest)?;
-        let (align, rest) = number_at(inside)?;
+        let rest = keyword_at("align", atoms, Expected::Mark(Mark::Semicolon))?;
+        let inside = mark_at(Mark::OpenParenthesis, rest);
+        let inside = going_on(inside, &[ZERO, CLOSE_PARENTHESIS])?;
+        let align = number_at(inside, Expected::Number);
+        let (align, rest) = going_on(align, &[CLOSE_PARENTHESIS])?;
         let rest = mark_at(Mark::CloseParenthesis, rest)?;
         Ok((Some(align), rest))
     } else {
@@ -146,9 +169,11 @@ fn align_at(atoms: &[Atom]) -> Result<(Option<Number>, &[Atom]), Unread>
 pub(crate) fn struct_at(alloc: Global, atoms: &[Atom]) -> Result<(Structure, &[Atom]), Unread>
     ensures { Gives (λ x. (x.0, x.1.now)) result (struct_at atoms.now) }
 {
-    let rest = keyword_at("struct", atoms)?;
-    let inside = mark_at(Mark::OpenBrace, rest)?;
-    let (members, rest) = all_members_at(alloc, inside)?;
+    let rest = keyword_at("struct", atoms, Expected::Structure);
+    let rest = going_on(rest, &[STRUCT, OPEN_BRACE, CLOSE_BRACE])?;
+    let inside = expecting(mark_at(Mark::OpenBrace, rest), Expected::StructureBrace);
+    let inside = going_on(inside, &[CLOSE_BRACE])?;
+    let (members, rest) = going_on(all_members_at(alloc, inside), &[CLOSE_BRACE])?;
     let rest = mark_at(Mark::CloseBrace, rest)?;
     let (align, rest) = align_at(rest)?;
     Ok((Structure { members, align }, rest))

@@ -2,36 +2,13 @@
 
 ghost use Rattle.std.specs.Prelude.{◌≡◌};
 ghost use Rattle.tsdl_parser.specs.Parsing.{Gives, number_of, is_mark, begins, mark_at, word_at, is_word, names, keyword_at, number_at, is_open};
-ghost use Rattle.tsdl_parser.specs.declared.parsing.Unread.TheVariants.{Memory};
 
+use crate::expected::Expected;
+use crate::piece::Piece;
+use crate::stop::{Stop, Unread};
 use ctf_types::Text;
-use std::alloc::{AllocError, AllocFailed, Global};
+use std::alloc::Global;
 use tsdl_grammar::{Atom, Mark, Number, Sign};
-
-/// Why no tree was read.
-#[derive(Debug, Drop)]
-pub(crate) enum Unread {
-    /// Memory ran out.
-    Memory,
-    /// The atoms begin with none.
-    NoTree,
-}
-
-impl From<AllocError> for Unread {
-    ghost from_gives = { λ _ e. e ≡ Memory };
-
-    fn from(_e: AllocError) -> Unread {
-        Unread::Memory
-    }
-}
-
-impl<T: Drop> From<AllocFailed<T>> for Unread {
-    ghost from_gives = { λ _ e. e ≡ Memory };
-
-    fn from(_e: AllocFailed<T>) -> Unread {
-        Unread::Memory
-    }
-}
 
 fn number_of(mark: Mark) -> u8
     ensures { result ≡ number_of mark }
@@ -65,20 +42,22 @@ pub(crate) fn mark_at(mark: Mark, atoms: &[Atom]) -> Result<&[Atom], Unread>
     ensures { Gives (λ x. x.now) result (mark_at mark atoms.now) }
 {
     match atoms {
-        [] => Err(Unread::NoTree),
-        [atom, rest @ ..] => {
-            if is_mark(mark, atom) {
-                Ok(rest)
-            } else {
-                Err(Unread::NoTree)
-            }
-        }
+        [atom, rest @ ..] if is_mark(mark, atom) => Ok(rest),
+        [] | [_, ..] => Err(Unread::Stopped(Stop::before(
+            atoms,
+            Expected::Mark(mark),
+            &[Piece::Mark(mark)],
+        ))),
     }
 }
 
 /// A word.
 #[tactic(auto, unfolding(crate::specs::Parsing::word_at))]
-pub(crate) fn word_at(alloc: Global, atoms: &[Atom]) -> Result<(Text, &[Atom]), Unread>
+pub(crate) fn word_at(
+    alloc: Global,
+    atoms: &[Atom],
+    expected: Expected,
+) -> Result<(Text, &[Atom]), Unread>
     ensures { Gives (λ x. (x.0, x.1.now)) result (word_at atoms.now) }
 {
     match atoms {
@@ -87,7 +66,7 @@ pub(crate) fn word_at(alloc: Global, atoms: &[Atom]) -> Result<(Text, &[Atom]), 
         | [
             Atom::Number(_) | Atom::Text(_) | Atom::Mark(_) | Atom::TooLarge,
             ..
-        ] => Err(Unread::NoTree),
+        ] => Err(Unread::Stopped(Stop::before(atoms, expected, &[]))),
     }
 }
 
@@ -113,18 +92,16 @@ pub(crate) fn names(keyword: &str, atoms: &[Atom]) -> bool
 
 /// What stands behind this word.
 #[tactic(auto, unfolding(crate::specs::Parsing::keyword_at))]
-pub(crate) fn keyword_at<'a>(keyword: &str, atoms: &'a [Atom]) -> Result<&'a [Atom], Unread>
+pub(crate) fn keyword_at<'a>(
+    keyword: &str,
+    atoms: &'a [Atom],
+    expected: Expected,
+) -> Result<&'a [Atom], Unread>
     ensures { Gives (λ x. x.now) result (keyword_at keyword.now atoms.now) }
 {
     match atoms {
-        [] => Err(Unread::NoTree),
-        [atom, rest @ ..] => {
-            if is_word(keyword, atom) {
-                Ok(rest)
-            } else {
-                Err(Unread::NoTree)
-            }
-        }
+        [atom, rest @ ..] if is_word(keyword, atom) => Ok(rest),
+        [] | [_, ..] => Err(Unread::Stopped(Stop::before(atoms, expected, &[]))),
     }
 }
 
@@ -137,7 +114,7 @@ pub(crate) fn is_open(atoms: &[Atom]) -> bool
 
 /// A number with its sign.
 #[tactic(auto, unfolding(crate::specs::Parsing::number_at))]
-pub(crate) fn number_at(atoms: &[Atom]) -> Result<(Number, &[Atom]), Unread>
+pub(crate) fn number_at(atoms: &[Atom], expected: Expected) -> Result<(Number, &[Atom]), Unread>
     ensures { Gives (λ x. (x.0, x.1.now)) result (number_at atoms.now) }
 {
     match atoms {
@@ -148,8 +125,27 @@ pub(crate) fn number_at(atoms: &[Atom]) -> Result<(Number, &[Atom]), Unread>
         [Atom::Mark(Mark::Minus), Atom::Number(literal), rest @ ..] => {
             Ok((signed(Sign::Minus, *literal), rest))
         }
-        _ => Err(Unread::NoTree),
+        _ => Err(Unread::Stopped(no_number(atoms, expected))),
     }
+}
+
+/// The stop where a number is expected. A sign without a literal does not stand.
+pub(crate) fn no_number(atoms: &[Atom], expected: Expected) -> Stop {
+    match atoms {
+        [Atom::Mark(Mark::Plus | Mark::Minus), rest @ ..] => Stop {
+            dropped: 1,
+            ..no_literal(rest, expected)
+        },
+        _ => no_literal(atoms, expected),
+    }
+}
+
+fn no_literal(atoms: &[Atom], expected: Expected) -> Stop {
+    let expected = match atoms {
+        [Atom::TooLarge, ..] => Expected::SmallerNumber,
+        _ => expected,
+    };
+    Stop::before(atoms, expected, &[Piece::Zero])
 }
 
 fn unsigned(literal: u64) -> Number

@@ -12,7 +12,7 @@ use Rattle.tsdl_grammar.specs.declared.fault.MetaFaultKind.TheVariants as faults
 use Rattle.tsdl_grammar.specs.Tokens.{Tokenizes}
 use Rattle.tsdl_grammar.specs.Atoms.{atom_of, atoms_of}
 use Rattle.tsdl_grammar.specs.Denotes.{is_read, text_meta, Denotes}
-use Rattle.tsdl_fault.specs.Faults.{FaultStands}
+use Rattle.tsdl_flaw.specs.Flaws.{FaultStands}
 use Rattle.tsdl_reader.specs.Reading.{Means, HasAtoms, start_of, IsPlaced, IsRefused, FaultHolds}
 use Rattle.tsdl_parser.proofs.Steps.{some_is}
 use Rattle.tsdl_parser.proofs.Blocks.{one_reading}

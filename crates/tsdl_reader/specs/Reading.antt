@@ -1,9 +1,10 @@
 -- What a reader of metadata answers: the metadata that the text denotes, or a fault that says why it denotes none.
-use Rattle.std.specs.Prelude.{◌≡◌, ℕ, true, ◌⊎◌, List, length, Option, Some, None, slice_get, Result, Ok, Err}
+use Rattle.std.specs.Prelude.{◌≡◌, ℕ, true, ◌⊎◌, List, length, Option, Some, None, slice_get, string_bytes, Result, Ok, Err}
 use Rattle.std.specs.List.{list_all}
 use Rattle.ctf_types.specs.declared.Metadata.{Metadata}
 use Rattle.tsdl_grammar.specs.declared.token.Token.{Token}
 use Rattle.tsdl_grammar.specs.declared.atom.Atom.{Atom}
+use Rattle.tsdl_grammar.specs.declared.atom.Atom.TheVariants as atoms
 use Rattle.tsdl_grammar.specs.declared.tree.Block.{Block}
 use Rattle.tsdl_grammar.specs.declared.fault.MetaFault.{MetaFault}
 use Rattle.tsdl_grammar.specs.declared.fault.MetaFaultKind.{MetaFaultKind}
@@ -12,7 +13,12 @@ use Rattle.tsdl_grammar.specs.Tokens.{HasMagicLine, Tokenizes, StopsAt}
 use Rattle.tsdl_grammar.specs.Atoms.{atoms_of}
 use Rattle.tsdl_grammar.specs.Spelling.{text_toks}
 use Rattle.tsdl_grammar.specs.Denotes.{is_read, text_meta, Denotes}
-use Rattle.tsdl_fault.specs.Faults.{FaultStands}
+use Rattle.tsdl_flaw.specs.declared.flaw.Flaw.{Flaw}
+use Rattle.tsdl_flaw.specs.declared.flaw.Flaw.TheVariants as flaws
+use Rattle.tsdl_flaw.specs.declared.flaw.Stop.{Stop}
+use Rattle.tsdl_flaw.specs.declared.flaw.Stop.TheVariants as stops
+use Rattle.tsdl_flaw.specs.Flaws.{FaultStands}
+use Rattle.tsdl_flaw.specs.Stopping.{kind_of}
 
 -- the atoms of a text mean the metadata: the part of `Denotes` behind the tokens
 abbrev pub Means : List Atom → Metadata → Type 0
@@ -38,6 +44,27 @@ GivesKind (Err fault) kind = (fault.kind ≡ kind) ⊎ (fault.kind ≡ faults.Ou
 abbrev pub start_of : Option Token → ℕ → ℕ
 start_of (Some token) end = token.span.start
 start_of None end = end
+
+-- the atoms of a text mean nothing
+abbrev pub MeansNothing : List Atom → Type 0
+MeansNothing meant = (m : Metadata) → Means meant m → ⊥
+
+-- a fault stands among the atoms of a text
+abbrev pub IsFaultOf : List Atom → Stop → Type 0
+IsFaultOf meant (stops.Fault fault) = FaultStands meant fault.at (kind_of fault.flaw)
+IsFaultOf meant stops.NoMemory = Unit {0}
+
+-- a flaw of one atom, or of the end of the text: a construct that is not read is named by the word that stands there
+abbrev pub IsFlawOf : Option Atom → Flaw → Type 0
+IsFlawOf found (flaws.Syntax expected) = Unit {0}
+IsFlawOf found flaws.NamedType = Unit {0}
+IsFlawOf found flaws.LabelWithoutValue = Unit {0}
+IsFlawOf found (flaws.NoStream orphan) = ⊥
+IsFlawOf found (flaws.Unsupported name remedy) = found ≡ Some (atoms.Word (string_bytes name))
+IsFlawOf found flaws.Duplicate = ⊥
+IsFlawOf found flaws.NoPacketSize = ⊥
+IsFlawOf found flaws.BadLength = ⊥
+IsFlawOf found (flaws.Limit expected) = ⊥
 
 -- a fault is where a token begins or at the end of the text, and such a fault stands there among the atoms
 abbrev pub IsPlaced : List Token → List Atom → ℕ → MetaFault → Type 0

@@ -2,8 +2,10 @@
 #![tactic(auto)]
 
 mod laws;
+mod meaning;
 mod read;
 mod token_words;
+mod unexpected;
 mod words;
 
 pub use laws::denoted_is_unique;

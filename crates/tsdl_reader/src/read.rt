@@ -1,20 +1,20 @@
 //! Reads a metadata text.
 
-ghost use Rattle.std.specs.Prelude.{◌≡◌, ℕ, slice_get, IfOk, IfErr, IfSome, IfNone};
+ghost use Rattle.std.specs.Prelude.{◌≡◌, ℕ, slice_get, IfOk, IfErr};
 ghost use Rattle.ctf_types.specs.declared.Metadata.{Metadata};
 ghost use Rattle.ctf_types.specs.Allowed.{IsMetadata};
 ghost use Rattle.tsdl_grammar.specs.Tokens.{HasMagicLine, StopsAt};
 ghost use Rattle.tsdl_grammar.specs.Denotes.{Denotes};
-ghost use Rattle.tsdl_reader.specs.Reading.{Means, GivesMetadata, GivesKind, HasAtoms, IsPlaced, FaultHolds, start_of};
+ghost use Rattle.tsdl_reader.specs.Reading.{GivesMetadata, GivesKind, HasAtoms, FaultHolds, start_of};
 
+use crate::meaning::meaning;
 use ctf_types::Metadata;
 use std::alloc::{AllocError, Global};
-use tsdl_fault::first_fault;
+use tsdl_flaw::Stop;
 use tsdl_grammar::{
     Atom, MetaFault, MetaFaultKind, Token, atoms, tokens, tokens_are_unique, tokens_or_a_stop,
 };
-use tsdl_meaning::{denoted_is_allowed, metadata_of};
-use tsdl_parser::{are_read, blocks_are_unique, parse};
+use tsdl_meaning::denoted_is_allowed;
 
 /// The metadata that a text denotes (CTF 1.8.3, section 7 and appendix C, narrowed to what this project reads).
 ///
@@ -33,7 +33,7 @@ pub fn read_metadata(alloc: Global, text: &[u8]) -> Result<Metadata, MetaFault>
     tokens_or_a_stop();
     let tokens = tokens(alloc, text)?;
     let atoms = atoms(alloc, text, &tokens)?;
-    judge(alloc, text, &tokens, &atoms)
+    judge(alloc, text, &tokens, atoms)
 }
 
 /// The metadata that a text of these tokens denotes.
@@ -41,50 +41,23 @@ fn judge(
     alloc: Global,
     text: &[u8],
     tokens: &[Token],
-    atoms: &[Atom],
+    atoms: Vec<Atom>,
 ) -> Result<Metadata, MetaFault>
-    requires { HasAtoms text.now tokens.now atoms.now }
+    requires { HasAtoms text.now tokens.now atoms.items }
     ensures found { IfOk result (λ m. Denotes text.now m × IsMetadata m) }
     ensures only { (m : Metadata) → Denotes text.now m → GivesMetadata result m }
     ensures fault { IfErr result (λ f. FaultHolds text.now f.kind f.place) }
 {
     tokens_are_unique();
     denoted_is_allowed();
-    match meaning(alloc, atoms)? {
-        Some(metadata) => Ok(metadata),
-        None => Err(refusal(alloc, text.len(), tokens, atoms)?),
+    match meaning(alloc, atoms) {
+        Ok(metadata) => Ok(metadata),
+        Err(Stop::Fault(fault)) => Err(MetaFault {
+            place: place_of(tokens, fault.at, text.len()),
+            kind: fault.flaw.into_kind(),
+        }),
+        Err(Stop::NoMemory) => Err(MetaFault::from(AllocError)),
     }
-}
-
-/// The metadata that the atoms of a text mean, None where they mean none.
-fn meaning(alloc: Global, atoms: &[Atom]) -> Result<Option<Metadata>, AllocError>
-    ensures found { IfOk result (λ o. IfSome o (Means atoms.now)) }
-    ensures none { IfOk result (λ o. IfNone o ((m : Metadata) → Means atoms.now m → ⊥)) }
-{
-    blocks_are_unique();
-    if !are_read(atoms) {
-        return Ok(None);
-    }
-    match parse(alloc, atoms)? {
-        Some(blocks) => metadata_of(alloc, &blocks),
-        None => Ok(None),
-    }
-}
-
-/// The first fault of a text that has tokens and denotes nothing.
-fn refusal(
-    alloc: Global,
-    end: usize,
-    tokens: &[Token],
-    atoms: &[Atom],
-) -> Result<MetaFault, AllocError>
-    ensures { IfOk result (IsPlaced tokens.now atoms.now end) }
-{
-    let (index, kind) = first_fault(alloc, atoms)?;
-    Ok(MetaFault {
-        place: place_of(tokens, index, end),
-        kind,
-    })
 }
 
 /// Where a token begins, the end of the text behind the last one.

@@ -1,8 +1,9 @@
 //! Faults of a metadata text as people read them.
 
+use crate::meaning::meaning;
 use crate::token_words::token_words;
 use std::alloc::{AllocError, Global};
-use tsdl_fault::{CONVERTED, first_words};
+use tsdl_flaw::{CONVERTED, Stop};
 use tsdl_grammar::{MetaFault, MetaFaultKind, atoms, found_at, tokens};
 
 /// What packets of metadata begin with, as numbers in both byte orders.
@@ -45,14 +46,19 @@ fn packets_words(alloc: Global, text: &[u8]) -> Result<Option<String>, AllocErro
 
 /// What is wrong with the atoms of a text.
 fn atoms_words(alloc: Global, text: &[u8]) -> Result<Option<String>, AllocError> {
-    match tokens(alloc, text) {
-        Ok(tokens) => first_words(alloc, &atoms(alloc, text, &tokens)?),
+    let tokens = match tokens(alloc, text) {
+        Ok(tokens) => tokens,
         Err(
             MetaFault {
                 kind: MetaFaultKind::OutOfMemory,
                 ..
             },
-        ) => Err(AllocError),
-        Err(_) => Ok(None),
+        ) => return Err(AllocError),
+        Err(_) => return Ok(None),
+    };
+    match meaning(alloc, atoms(alloc, text, &tokens)?) {
+        Err(Stop::Fault(fault)) => fault.flaw.words(alloc),
+        Err(Stop::NoMemory) => Err(AllocError),
+        Ok(_) => Ok(None),
     }
 }

@@ -1,8 +1,11 @@
-use Rattle.tsdl_parser.proofs.Blocks.{parse_takes, no_blocks}
+use Rattle.std.proofs.lemmas.Result.{err_from_is_err_and}
+use Rattle.tsdl_parser.proofs.Blocks.{blocks_take, unread_blocks}
 use Rattle.tsdl_parser.proofs.block.parse.Goals as goal
 
-pub returns-in-Ok-clause-found : goal.returns-in-Ok-clause-found
-returns-in-Ok-clause-found c = parse_takes c.args.atoms.now c.in-Ok.found.items c.in-Ok.ensures
+pub returns-in_err-found : goal.returns-in_err-found
+returns-in_err-found c =
+    let p = err_from_is_err_and c.from_residual.result c.from_residual.ensures.1 in
+    rw (p.1, p.2) (record { found = tt; none = unread_blocks c.in_err-found.field-0.0 c.args.atoms.now c.in_err-found.ensures })
 
-pub returns-in-Err-NoTree-clause-none : goal.returns-in-Err-NoTree-clause-none
-returns-in-Err-NoTree-clause-none c = no_blocks c.args.atoms.now (rw c.in-Err-NoTree.field-0-is at c.in-Err-NoTree.ensures)
+pub returns : goal.returns
+returns c = record { found = rw c.into_vec.ensures (blocks_take c.args.atoms.now (c.in_ok-found.found, c.in_ok-found.field-0-1.now) c.in_ok-found.ensures); none = tt }

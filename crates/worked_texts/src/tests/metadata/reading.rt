@@ -6,8 +6,10 @@ use crate::tests::expected::same;
 use std::alloc::Global;
 use std::process::Abort;
 use std::test::Fail;
-use tsdl_fault::first_fault;
-use tsdl_grammar::{MetaFaultKind, atoms, tokens};
+use tsdl_flaw::Stop;
+use tsdl_grammar::{atoms, tokens};
+use tsdl_meaning::{Survey, first_flaw};
+use tsdl_parser::parse;
 use tsdl_reader::read_metadata;
 
 /// Two texts behind the magic line that denote the same metadata.
@@ -97,7 +99,7 @@ static PAIRS: &[(&str, &str)] = &[
     ),
 ];
 
-/// The metadata that a row denotes, as it prints. The search for a first fault passes over all of it.
+/// The metadata that a row denotes, as it prints. The search for a first flaw passes over all of it.
 fn read(rt: &impl Abort, alloc: Global, row: &str) -> Result<String, Fail> {
     let (text, _place) = unmarked(alloc, row.as_bytes())?;
     same(rt, is_passed_over(alloc, &text)?, true, row);
@@ -105,11 +107,16 @@ fn read(rt: &impl Abort, alloc: Global, row: &str) -> Result<String, Fail> {
     Ok(described(alloc, &metadata)?)
 }
 
-/// Whether the search for a first fault comes to the end of the text.
+/// Whether the search for a first flaw comes to the end of the text.
 fn is_passed_over(alloc: Global, text: &[u8]) -> Result<bool, Fail> {
-    let tokens = tokens(alloc, text)?;
-    let (place, kind) = first_fault(alloc, &atoms(alloc, text, &tokens)?)?;
-    Ok(place == tokens.len() && kind == MetaFaultKind::Syntax)
+    let atoms = atoms(alloc, text, &tokens(alloc, text)?)?;
+    let Ok(blocks) = parse(alloc, &atoms) else {
+        return Ok(false);
+    };
+    match first_flaw(alloc, &Survey::of(alloc, &atoms)?, &blocks) {
+        Stop::Fault(fault) => Ok(fault.at == atoms.len()),
+        Stop::NoMemory => Ok(false),
+    }
 }
 
 #[test]

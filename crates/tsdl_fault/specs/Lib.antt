@@ -1,4 +1,0 @@
-pub mod Standing
-pub mod Names
-pub mod Faults
-pub mod Stopping

@@ -1,0 +1,5 @@
+pub mod Lengths
+pub mod Parts
+pub mod Stops
+pub mod Texts
+pub mod TextStops

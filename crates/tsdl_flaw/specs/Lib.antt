@@ -1,0 +1,9 @@
+pub mod Lengths
+pub mod Written
+pub mod Fronts
+pub mod Twice
+pub mod Limits
+pub mod Flaws
+pub mod Stopping
+pub mod TextStops
+pub mod Places

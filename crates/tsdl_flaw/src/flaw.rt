@@ -1,0 +1,170 @@
+//! What is wrong with the atoms of a text, and where judging them stops.
+
+ghost use Rattle.std.specs.Prelude.{◌≡◌, ◌++◌, ◌∷◌, [], List};
+ghost use Rattle.tsdl_grammar.specs.declared.atom.Atom.{Atom};
+ghost use Rattle.tsdl_grammar.specs.Spelling.{name_toks};
+ghost use Rattle.tsdl_flaw.specs.Flaws.{IsWrong};
+ghost use Rattle.tsdl_flaw.specs.Stopping.{kind_of, StopsIn};
+ghost use Rattle.tsdl_flaw.specs.declared.flaw.Stop.TheVariants as stops;
+
+use crate::name::dotted;
+use crate::spelled::Spelled;
+use std::alloc::{AllocError, AllocFailed, Global};
+use tsdl_grammar::{MetaFaultKind, Name};
+
+/// What can be done about a construct that `babeltrace2 -o ctf` writes in other words.
+pub const CONVERTED: &str = " (`babeltrace2 -o ctf` converts such a trace)";
+
+/// What is wrong at an atom.
+#[derive(Debug, Drop)]
+pub enum Flaw {
+    /// Something else than these words expect.
+    Syntax(&'static str),
+    /// A type by its name.
+    NamedType,
+    /// A label of an enumeration without a value.
+    LabelWithoutValue,
+    /// No stream has the number of an event's stream.
+    NoStream(Orphan),
+    /// A construct that is not read, by its name.
+    Unsupported(String, Remedy),
+    Duplicate,
+    NoPacketSize,
+    BadLength,
+    /// More than these words allow.
+    Limit(&'static str),
+}
+
+impl Flaw {
+    pub fn into_kind(self) -> MetaFaultKind
+        ensures { result ≡ kind_of self }
+    {
+        match self {
+            Flaw::Syntax(_) | Flaw::NamedType | Flaw::LabelWithoutValue | Flaw::NoStream(_) => {
+                MetaFaultKind::Syntax
+            }
+            Flaw::Unsupported(name, _) => MetaFaultKind::Unsupported(name),
+            Flaw::Duplicate => MetaFaultKind::Duplicate,
+            Flaw::NoPacketSize => MetaFaultKind::NoPacketSize,
+            Flaw::BadLength => MetaFaultKind::BadLength,
+            Flaw::Limit(_) => MetaFaultKind::Limit,
+        }
+    }
+
+    /// What is wrong, in words, where the kind of the fault does not say all of it.
+    pub fn words(&self, alloc: Global) -> Result<Option<String>, AllocError> {
+        let words = match self {
+            Flaw::Syntax(expected) => {
+                format!(in alloc; "{}: expected {expected}", MetaFaultKind::Syntax)?
+            }
+            Flaw::Limit(expected) => {
+                format!(in alloc; "{}: expected {expected}", MetaFaultKind::Limit)?
+            }
+            Flaw::NamedType => {
+                format!(in alloc; "a type by its name is TSDL that is not read here{CONVERTED}")?
+            }
+            Flaw::LabelWithoutValue => {
+                format!(in alloc;
+                    "a label without a value is TSDL that is not read here{CONVERTED}"
+                )?
+            }
+            Flaw::NoStream(Orphan { stream, event }) => {
+                format!(in alloc; "no stream block with number {stream} for event {event:?}")?
+            }
+            Flaw::Unsupported(name, remedy) => {
+                format!(in alloc; "`{name}` is not supported here{}", remedy.words())?
+            }
+            Flaw::Duplicate | Flaw::NoPacketSize | Flaw::BadLength => return Ok(None),
+        };
+        Ok(Some(words))
+    }
+}
+
+/// An event of no stream: its name, and the number of the stream that is not there.
+#[derive(Debug, Drop)]
+pub struct Orphan {
+    pub stream: u64,
+    pub event: String,
+}
+
+/// What `babeltrace2 -o ctf` makes of a construct that is not read: it writes some in words that are, and keeps the others.
+#[derive(Clone, Copy, Debug)]
+pub enum Remedy {
+    Conversion,
+    Nothing,
+}
+
+impl Remedy {
+    pub fn words(self) -> &'static str {
+        match self {
+            Remedy::Conversion => CONVERTED,
+            Remedy::Nothing => "",
+        }
+    }
+}
+
+/// A flaw, the index of the atom at which it stands, and the index behind what it speaks of. The end of the text has the index behind the last atom.
+#[derive(Debug, Drop)]
+pub struct Fault {
+    pub at: usize,
+    pub end: usize,
+    pub flaw: Flaw,
+}
+
+/// Why judging the atoms of a text stops.
+#[derive(Debug, Drop)]
+pub enum Stop {
+    Fault(Fault),
+    NoMemory,
+}
+
+impl Stop {
+    /// A flaw of a tree that begins at an atom.
+    pub fn at<T: Spelled>(at: usize, tree: &T, flaw: Flaw) -> Stop
+        ensures { (front behind : List Atom) → IsWrong front (T.toks tree.now) (kind_of flaw) → StopsIn front at (T.toks tree.now ++ behind) result }
+    {
+        let end = at.saturating_add(tree.length());
+        Stop::Fault(Fault { at, end, flaw })
+    }
+
+    /// A flaw at one atom.
+    pub fn at_atom(at: usize, flaw: Flaw) -> Stop
+        ensures { (front behind : List Atom) → (a : Atom) → IsWrong front (a ∷ []) (kind_of flaw) → StopsIn front at (a ∷ behind) result }
+    {
+        let end = at.saturating_add(1);
+        Stop::Fault(Fault { at, end, flaw })
+    }
+
+    /// Something else than these words expect, where a tree begins at an atom.
+    pub fn expected<T: Spelled>(at: usize, tree: &T, words: &'static str) -> Stop
+        ensures { (front behind : List Atom) → StopsIn front at (T.toks tree.now ++ behind) result }
+    {
+        Stop::at(at, tree, Flaw::Syntax(words))
+    }
+
+    /// A name that begins at an atom and stands for a construct that is not read.
+    pub fn unsupported(alloc: Global, at: usize, name: &Name, remedy: Remedy) -> Stop
+        ensures { (front behind : List Atom) → StopsIn front at (name_toks name.now ++ behind) result }
+    {
+        match dotted(alloc, name) {
+            Ok(written) => Stop::at(at, name, Flaw::Unsupported(written, remedy)),
+            Err(_) => Stop::NoMemory,
+        }
+    }
+}
+
+impl From<AllocError> for Stop {
+    ghost from_gives = { λ _ e. e ≡ stops.NoMemory };
+
+    fn from(_e: AllocError) -> Stop {
+        Stop::NoMemory
+    }
+}
+
+impl<T: Drop> From<AllocFailed<T>> for Stop {
+    ghost from_gives = { λ _ e. e ≡ stops.NoMemory };
+
+    fn from(_e: AllocFailed<T>) -> Stop {
+        Stop::NoMemory
+    }
+}

@@ -1,0 +1,10 @@
+//! What is wrong at an atom of a TSDL metadata text, and how many atoms spell a tree.
+#![tactic(auto)]
+
+mod flaw;
+mod name;
+mod spelled;
+
+pub use flaw::{CONVERTED, Fault, Flaw, Orphan, Remedy, Stop};
+pub use name::dotted;
+pub use spelled::Spelled;

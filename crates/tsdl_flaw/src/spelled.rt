@@ -1,0 +1,269 @@
+//! How many atoms spell a tree. Its rules stand in the same order in the grammar.
+
+ghost use Rattle.std.specs.Prelude.{◌≡◌, List};
+ghost use Rattle.tsdl_grammar.specs.declared.atom.Atom.{Atom};
+ghost use Rattle.std.specs.List.{flat_map};
+ghost use Rattle.tsdl_grammar.specs.Spelling.{next_entry_toks};
+ghost use Rattle.tsdl_flaw.specs.Lengths.{HasLength};
+
+use ctf_types::ListOf;
+use tsdl_grammar::{
+    Attribute, Block, Bracket, Closing, Entries, Entry, Fact, Item, Kind, Label, MemberTree, Name,
+    NamedFact, Number, Scope, Structure, Value,
+};
+
+/// What atoms spell.
+pub trait Spelled {
+    ghost toks: { Self → List Atom };
+
+    /// How many atoms spell it, at most 2^64 - 1.
+    fn length(&self) -> usize
+        ensures { HasLength (toks self.now) result };
+}
+
+impl Spelled for Number {
+    ghost use Rattle.tsdl_grammar.specs.Spelling.{number_toks};
+
+    ghost toks = { number_toks };
+
+    fn length(&self) -> usize {
+        match self.sign {
+            None => 1,
+            Some(_) => 2,
+        }
+    }
+}
+
+impl Spelled for Name {
+    ghost use Rattle.tsdl_grammar.specs.Spelling.{name_toks};
+
+    ghost toks = { name_toks };
+
+    #[tactic(auto, using(crate::proofs::Lengths::dotted_length))]
+    fn length(&self) -> usize {
+        self.rest.len().saturating_mul(2).saturating_add(1)
+    }
+}
+
+impl Spelled for Value {
+    ghost use Rattle.tsdl_grammar.specs.Spelling.{value_toks};
+
+    ghost toks = { value_toks };
+
+    fn length(&self) -> usize {
+        match self {
+            Value::Number(number) => number.length(),
+            Value::Text(_) => 1,
+            Value::Name(name) => name.length(),
+        }
+    }
+}
+
+impl Spelled for Attribute {
+    ghost use Rattle.tsdl_grammar.specs.Spelling.{attr_toks};
+
+    ghost toks = { attr_toks };
+
+    fn length(&self) -> usize {
+        self.name
+            .length()
+            .saturating_add(self.value.length())
+            .saturating_add(2)
+    }
+}
+
+impl<T: Spelled + Drop> Spelled for ListOf<T> {
+    ghost use Rattle.std.specs.List.{flat_map};
+
+    ghost toks = { flat_map T.toks };
+
+    fn length(&self) -> usize {
+        let items = self.as_slice();
+        let mut count = 0usize;
+        for item in items {
+            count = count.saturating_add(item.length());
+        }
+        count
+    }
+}
+
+impl Spelled for Label {
+    ghost use Rattle.tsdl_grammar.specs.Spelling.{label_toks};
+
+    ghost toks = { label_toks };
+
+    fn length(&self) -> usize {
+        match self {
+            Label::Quoted(_) | Label::Bare(_) => 1,
+        }
+    }
+}
+
+impl Spelled for Entry {
+    ghost use Rattle.tsdl_grammar.specs.Spelling.{entry_toks};
+
+    ghost toks = { entry_toks };
+
+    fn length(&self) -> usize {
+        let high = match self.high {
+            None => 0,
+            Some(number) => number.length().saturating_add(1),
+        };
+        self.low.length().saturating_add(high).saturating_add(2)
+    }
+}
+
+impl Spelled for Closing {
+    ghost use Rattle.tsdl_grammar.specs.Spelling.{closing_toks};
+
+    ghost toks = { closing_toks };
+
+    fn length(&self) -> usize {
+        match self {
+            Closing::Plain => 0,
+            Closing::Comma => 1,
+        }
+    }
+}
+
+impl Spelled for Entries {
+    ghost use Rattle.tsdl_grammar.specs.Spelling.{entries_toks};
+
+    ghost toks = { entries_toks };
+
+    fn length(&self) -> usize {
+        match self {
+            Entries::Empty => 0,
+            Entries::Listed(first, others, closing) => first
+                .length()
+                .saturating_add(behind_first(others))
+                .saturating_add(closing.length()),
+        }
+    }
+}
+
+/// How many atoms spell the entries behind the first one, each with its comma.
+#[tactic(auto, using(crate::proofs::Lengths::next_entries_length))]
+fn behind_first(entries: &ListOf<Entry>) -> usize
+    ensures { HasLength (flat_map next_entry_toks entries.now) result }
+{
+    entries.length().saturating_add(entries.len())
+}
+
+impl Spelled for Bracket {
+    ghost use Rattle.tsdl_grammar.specs.Spelling.{bracket_toks};
+
+    ghost toks = { bracket_toks };
+
+    fn length(&self) -> usize {
+        match self {
+            Bracket::Count(number) => number.length().saturating_add(2),
+            Bracket::Member(_) => 3,
+        }
+    }
+}
+
+impl Spelled for Kind {
+    ghost use Rattle.tsdl_grammar.specs.Spelling.{kind_toks};
+
+    ghost toks = { kind_toks };
+
+    fn length(&self) -> usize {
+        match self {
+            Kind::Integer(attributes) => attributes.length().saturating_add(3),
+            Kind::Enumeration(attributes, entries) => attributes
+                .length()
+                .saturating_add(entries.length())
+                .saturating_add(7),
+            Kind::Text(None) => 1,
+            Kind::Text(Some(attributes)) => attributes.length().saturating_add(3),
+        }
+    }
+}
+
+impl Spelled for MemberTree {
+    ghost use Rattle.tsdl_grammar.specs.Spelling.{member_toks};
+
+    ghost toks = { member_toks };
+
+    fn length(&self) -> usize {
+        self.kind
+            .length()
+            .saturating_add(self.brackets.length())
+            .saturating_add(2)
+    }
+}
+
+impl Spelled for Structure {
+    ghost use Rattle.tsdl_grammar.specs.Spelling.{struct_toks};
+
+    ghost toks = { struct_toks };
+
+    fn length(&self) -> usize {
+        let align = match self.align {
+            None => 0,
+            Some(number) => number.length().saturating_add(3),
+        };
+        self.members
+            .length()
+            .saturating_add(align)
+            .saturating_add(3)
+    }
+}
+
+impl Spelled for Scope {
+    ghost use Rattle.tsdl_grammar.specs.Spelling.{scope_toks};
+
+    ghost toks = { scope_toks };
+
+    fn length(&self) -> usize {
+        self.name
+            .length()
+            .saturating_add(self.structure.length())
+            .saturating_add(2)
+    }
+}
+
+impl Spelled for Item {
+    ghost use Rattle.tsdl_grammar.specs.Spelling.{item_toks};
+
+    ghost toks = { item_toks };
+
+    fn length(&self) -> usize {
+        match self {
+            Item::Attribute(attribute) => attribute.length(),
+            Item::Scope(scope) => scope.length(),
+        }
+    }
+}
+
+impl Spelled for NamedFact {
+    ghost use Rattle.tsdl_grammar.specs.Spelling.{named_fact_toks};
+
+    ghost toks = { named_fact_toks };
+
+    fn length(&self) -> usize {
+        let fact = match &self.fact {
+            Fact::Number(number) => number.length(),
+            Fact::Text(_) => 1,
+        };
+        fact.saturating_add(3)
+    }
+}
+
+impl Spelled for Block {
+    ghost use Rattle.tsdl_grammar.specs.Spelling.{block_toks};
+
+    ghost toks = { block_toks };
+
+    fn length(&self) -> usize {
+        let inside = match self {
+            Block::Trace(items)
+            | Block::Stream(items)
+            | Block::Event(items)
+            | Block::Clock(items) => items.length(),
+            Block::Environment(facts) => facts.length(),
+        };
+        inside.saturating_add(3)
+    }
+}

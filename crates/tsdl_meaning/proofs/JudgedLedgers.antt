@@ -1,0 +1,54 @@
+-- What a ledger has of the blocks before a place.
+use Rattle.std.proofs.Common.{◌≡◌, ℕ, Bool, true, cond, List, ◌++◌, Option, Some, sym, ap, ◌∙◌, subst, inl, inr, bytes_eq}
+use Rattle.std.proofs.lemmas.Bool.{cases_Bool}
+use Rattle.std.proofs.lemmas.Slice.Eq.{bytes_eq-Decides}
+use Rattle.std.proofs.lemmas.Map.Lookups.{exact_unsigned, exact_pairs}
+use Rattle.std.specs.Ordering.{nat_cmp, is_eq}
+use Rattle.std.specs.Cmp.{Equal-is}
+use Rattle.std.specs.BTreeMap.{BTreeMap, get, ContainsKey}
+use Rattle.std.specs.BTreeSet.{BTreeSet, contains_text}
+use Rattle.std.specs.Option.{IsSome}
+use Rattle.std.specs.declared.string.String.{String}
+use Rattle.std.specs.declared.alloc.Global.{Global}
+use Rattle.tsdl_grammar.specs.declared.atom.Atom.{Atom}
+use Rattle.tsdl_grammar.specs.declared.tree.Item.{Item}
+use Rattle.tsdl_grammar.specs.declared.tree.Block.TheVariants as blocks
+use Rattle.tsdl_grammar.specs.Spelling.{block_toks}
+use Rattle.tsdl_flaw.specs.Fronts.{Holds}
+use Rattle.tsdl_flaw.specs.Twice.{clock_name, HasNumbers}
+use Rattle.tsdl_meaning.specs.declared.judge.ledger.Ledger.{Ledger}
+use Rattle.tsdl_meaning.specs.Ledgers.{AreNoted, HasClock, HasEvent, pair_cmp}
+use Rattle.tsdl_meaning.proofs.JudgedParts.{holds_more}
+
+-- what stands before a place stands before a later one
+pub noted_more : (front more : List Atom) (ledger : Ledger) → AreNoted front ledger → AreNoted (front ++ more) ledger
+noted_more front more ledger n = record {
+  trace = λ h. let t = n.trace h in (t.0, holds_more front more (block_toks (blocks.Trace t.0)) t.1);
+  environment = λ h. let t = n.environment h in (t.0, holds_more front more (block_toks (blocks.Environment t.0)) t.1);
+  clocks = λ name h. let t = n.clocks name h in (t.0, holds_more front more (block_toks (blocks.Clock t.0)) t.1, t.2);
+  streams = λ id h. let t = n.streams id h in (t.0, holds_more front more (block_toks (blocks.Stream t.0)) t.1, t.2);
+  events = λ key h. let t = n.events key h in (t.0, holds_more front more (block_toks (blocks.Event t.0)) t.1, t.2);
+}
+
+-- one more clock
+pub clock_more : (front : List Atom) (old new : BTreeSet (String Global)) (items : List Item) (name : List ℕ) → ((w : List ℕ) → contains_text old w ≡ true → HasClock front w)
+    → ((w : List ℕ) → contains_text new w ≡ cond (bytes_eq name w) true (contains_text old w)) → Holds front (block_toks (blocks.Clock items)) → clock_name items ≡ Some name
+    → (w : List ℕ) → contains_text new w ≡ true → HasClock front w
+clock_more front old new items name known u here is w h = elim (cases_Bool (bytes_eq name w)) [
+  | inl e ↦ let same : name ≡ w = (bytes_eq-Decides name w).0 e in (items, here, is ∙ ap (λ (n : List ℕ). Some n) same)
+  | inr e ↦ known w (ap (λ (b : Bool). cond b true (contains_text old w)) (sym e) ∙ sym (u w) ∙ h)
+]
+
+-- one more event
+pub event_more : (front : List Atom) (old new : BTreeMap (ℕ × ℕ) (String Global)) (items : List Item) (key : ℕ × ℕ) (name : Option (String Global))
+    → ((k : ℕ × ℕ) → ContainsKey pair_cmp old k → HasEvent front k)
+    → ((k : ℕ × ℕ) → get pair_cmp new k ≡ cond (is_eq (pair_cmp key k)) name (get pair_cmp old k)) → Holds front (block_toks (blocks.Event items)) → HasNumbers items key.0 key.1
+    → (k : ℕ × ℕ) → ContainsKey pair_cmp new k → HasEvent front k
+event_more front old new items key name known u here is k h = elim (cases_Bool (is_eq (pair_cmp key k))) [
+  | inl e ↦
+      let same : key ≡ k = exact_pairs nat_cmp nat_cmp exact_unsigned exact_unsigned key k ((Equal-is (pair_cmp key k)).0 e) in
+      (items, here, subst (λ (n : ℕ × ℕ). HasNumbers items n.0 n.1) same is)
+  | inr e ↦
+      let there : get pair_cmp new k ≡ get pair_cmp old k = u k ∙ ap (λ (b : Bool). cond b name (get pair_cmp old k)) e in
+      known k (subst (λ (o : Option (String Global)). IsSome o) there h)
+]

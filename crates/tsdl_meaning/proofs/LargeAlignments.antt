@@ -1,0 +1,28 @@
+-- Numbers that pass a limit.
+use Rattle.std.proofs.Common.{◌≡◌, ℕ, ◌<◌, ◌==◌, Bool, true, false, List, Some, refl, inl, inr, arith}
+use Rattle.std.specs.Prelude.{if◌then◌else◌}
+use Rattle.tsdl_grammar.specs.declared.atom.Atom.{Atom}
+use Rattle.tsdl_grammar.specs.declared.tree.Number.{Number}
+use Rattle.tsdl_grammar.specs.Spelling.{number_toks}
+use Rattle.tsdl_grammar.specs.Steps.{provided}
+use Rattle.tsdl_grammar.specs.AttributeValues.{natural, is_negative}
+use Rattle.tsdl_flaw.specs.Limits.{IsLargeAlignment, IsPassed}
+use Rattle.tsdl_meaning.specs.Judging.{IsBehindAlign}
+
+-- a number that is not 0 has no sign of its own
+literal : (negative : Bool) (l v : ℕ) → 0 < v → (if negative then provided (l == 0) (Some 0) else Some l) ≡ Some v → l ≡ v
+literal false l v some e = cc
+literal true l v some e = by (l == 0) e
+  where
+    by : (b : Bool) → provided b (Some 0) ≡ Some v → l ≡ v
+    by true h = let z : 0 ≡ v = cc in absurd (omega arith)
+    by false h = absurd (cc)
+
+pub literal_is : (n : Number) (v : ℕ) → 0 < v → natural n ≡ Some v → n.literal ≡ v
+literal_is n v some e = literal (is_negative n.sign) n.literal v some e
+
+pub large_align : (front : List Atom) (n : Number) (v : ℕ) → IsBehindAlign front → natural n ≡ Some v → 4096 < v → IsPassed front (number_toks n)
+large_align front n v ends e large =
+    let l : n.literal ≡ v = literal_is n v (omega arith) e in
+    let it : IsLargeAlignment front (number_toks n) = record { number = n; ends = ends; large = omega arith; here = refl } in
+    inr (inr (inr (inl it)))

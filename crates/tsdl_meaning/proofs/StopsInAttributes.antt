@@ -1,0 +1,113 @@
+-- A stop in a part of an attribute.
+use Rattle.std.proofs.Common.{◌≡◌, ℕ, ◌+◌, List, [], ◌∷◌, ◌++◌, length, take, drop, get_or, suc, ◌<◌, min, sym, ap, ◌∙◌, subst, inl, arith, append_assoc, length-append}
+use Rattle.std.specs.List.{flat_map}
+use Rattle.std.specs.BTreeSet.{BTreeSet}
+use Rattle.std.specs.declared.string.String.{String}
+use Rattle.std.specs.declared.alloc.Global.{Global}
+use Rattle.tsdl_grammar.specs.declared.token.Mark.TheVariants as marks
+use Rattle.tsdl_grammar.specs.declared.atom.Atom.{Atom}
+use Rattle.tsdl_grammar.specs.declared.tree.Name.{Name}
+use Rattle.tsdl_grammar.specs.declared.tree.Attribute.{Attribute}
+use Rattle.tsdl_grammar.specs.Spelling.{mark, word, name_toks, value_toks, attr_toks, attrs_toks}
+use Rattle.tsdl_flaw.specs.declared.flaw.Stop.{Stop}
+use Rattle.tsdl_flaw.specs.Lengths.{most, HasLength}
+use Rattle.tsdl_flaw.specs.Places.{StandsBehind}
+use Rattle.tsdl_meaning.specs.Judged.{StopsAmong, StopsWhere}
+use Rattle.tsdl_flaw.specs.Stopping.{StopsIn}
+use Rattle.tsdl_flaw.proofs.Parts.{stops_after, stops_item, flat_next}
+use Rattle.tsdl_meaning.specs.Judging.{IsBehindOwn, IsOf}
+use Rattle.tsdl_meaning.specs.NamesBefore.{AreNamed}
+use Rattle.tsdl_meaning.proofs.Fronts.{whole}
+use Rattle.tsdl_meaning.proofs.StopsInNames.{still_named}
+use Rattle.tsdl_meaning.specs.declared.judge.integer.IntegerAttribute.{IntegerAttribute}
+use Rattle.tsdl_meaning.specs.declared.judge.integer.IntegerAttribute.TheVariants.{Size, Align, Signed, ByteOrder, Base, Map, Encoding}
+
+-- what stands before the value of an attribute
+abbrev pub opening : Name → List Atom
+opening n = name_toks n ++ mark marks.Equals ∷ []
+
+-- an attribute is its opening, its value and a semicolon
+pub attr_parts : (a : Attribute) (behind : List Atom) → attr_toks a ++ behind ≡ opening a.name ++ (value_toks a.value ++ mark marks.Semicolon ∷ behind)
+attr_parts a behind = simp append_assoc
+
+attr_name : (a : Attribute) (behind : List Atom) → attr_toks a ++ behind ≡ name_toks a.name ++ (mark marks.Equals ∷ (value_toks a.value ++ mark marks.Semicolon ∷ behind))
+attr_name a behind = simp append_assoc
+
+-- a stop in the name
+pub in_name : (a : Attribute) (front behind : List Atom) (at : ℕ) (stop : Stop) → StopsAmong at (name_toks a.name) stop → StopsIn front at (attr_toks a ++ behind) stop
+in_name a front behind at stop s =
+    subst (λ (l : List Atom). StopsIn front at l stop) (sym (attr_name a behind)) (s front (mark marks.Equals ∷ (value_toks a.value ++ mark marks.Semicolon ∷ behind)))
+
+-- a stop in the name and its mark
+pub in_opening : (P : List Atom → Type 0) (a : Attribute) (front behind : List Atom) (at : ℕ) (stop : Stop) → P front → StopsWhere P at (opening a.name) stop → StopsIn front at (attr_toks a ++ behind) stop
+in_opening P a front behind at stop p s =
+    subst (λ (l : List Atom). StopsIn front at l stop) (sym (attr_parts a behind)) (s front (value_toks a.value ++ mark marks.Semicolon ∷ behind) p)
+
+-- the place behind the opening
+opening_passed : (n : Name) (at counted before place : ℕ) → HasLength (name_toks n) counted → before ≡ min (at + counted) most → place ≡ min (before + 1) most → StandsBehind at (opening n) place
+opening_passed n at counted before place counts passes ends = λ h.
+    let l = length-append (name_toks n) (mark marks.Equals ∷ []) in
+    let c : counted ≡ length (name_toks n) = counts (omega arith) in
+    omega arith
+
+-- a stop in the value
+pub in_value : (P : List Atom → Type 0) (a : Attribute) (front behind : List Atom) (at counted before place : ℕ) (stop : Stop) → HasLength (name_toks a.name) counted → before ≡ min (at + counted) most
+    → place ≡ min (before + 1) most → P (front ++ opening a.name) → StopsWhere P place (value_toks a.value) stop → StopsIn front at (attr_toks a ++ behind) stop
+in_value P a front behind at counted before place stop counts passes ends p s =
+    stops_after front (attr_toks a ++ behind) (opening a.name) (value_toks a.value ++ mark marks.Semicolon ∷ behind) at place stop (attr_parts a behind)
+    (opening_passed a.name at counted before place counts passes ends) (s (front ++ opening a.name) (mark marks.Semicolon ∷ behind) p)
+
+-- an alignment stands behind its name and `=`
+pub behind_own : (k : IntegerAttribute) (n : Name) (front : List Atom) → IsOf n k → IsBehindOwn k (front ++ opening n)
+behind_own Align n front e = inl (front, ap (λ (l : List Atom). front ++ (l ++ mark marks.Equals ∷ [])) e)
+behind_own Size n front e = tt
+behind_own Signed n front e = tt
+behind_own ByteOrder n front e = tt
+behind_own Base n front e = tt
+behind_own Map n front e = tt
+behind_own Encoding n front e = tt
+
+-- the names of the attributes before and of this one
+pub attr_named : (a : Attribute) (front : List Atom) (names : BTreeSet (String Global)) → AreNamed (front ++ opening a.name) marks.Equals names → AreNamed (front ++ attr_toks a) marks.Equals names
+attr_named a front names h =
+    let e : (front ++ opening a.name) ++ (value_toks a.value ++ mark marks.Semicolon ∷ []) ≡ front ++ attr_toks a = simp append_assoc in
+    subst (λ (l : List Atom). AreNamed l marks.Equals names) e (still_named (front ++ opening a.name) (value_toks a.value ++ mark marks.Semicolon ∷ []) marks.Equals names h)
+
+-- ---- a list of attributes, behind a word
+
+abbrev pub list_opening : List ℕ → List Atom
+list_opening w = word w ∷ mark marks.OpenBrace ∷ []
+
+-- what stands before an attribute
+abbrev pub list_before : List ℕ → List Attribute → ℕ → List Atom
+list_before w attrs i = list_opening w ++ flat_map attr_toks (take i attrs)
+
+list_parts : (w : List ℕ) (attrs : List Attribute) (behind : List Atom) → (word w ∷ attrs_toks attrs) ++ behind ≡ list_opening w ++ flat_map attr_toks attrs ++ (mark marks.CloseBrace ∷ behind)
+list_parts w attrs behind = ap (λ (l : List Atom). list_opening w ++ l) (append_assoc (flat_map attr_toks attrs) (mark marks.CloseBrace ∷ []) behind)
+
+-- a stop in an attribute
+pub in_attribute : (w : List ℕ) (attrs : List Attribute) (i : ℕ) (a : Attribute) (names : BTreeSet (String Global)) (front behind : List Atom) (at place : ℕ) (stop : Stop) → i < length attrs → a ≡ get_or attrs i a
+    → StandsBehind at (list_before w attrs i) place → ((f : List Atom) → AreNamed (f ++ list_before w attrs i) marks.Equals names)
+    → StopsWhere (λ f. AreNamed f marks.Equals names) place (attr_toks a) stop → StopsIn front at ((word w ∷ attrs_toks attrs) ++ behind) stop
+in_attribute w attrs i a names front behind at place stop h is stands named s =
+    subst (λ (l : List Atom). StopsIn front at l stop) (sym (list_parts w attrs behind))
+    (stops_item attr_toks attrs i a (list_opening w) (mark marks.CloseBrace ∷ behind) front at place stop h is stands
+    (s (front ++ list_before w attrs i) (flat_map attr_toks (drop (suc i) attrs) ++ (mark marks.CloseBrace ∷ behind)) (named front)))
+
+-- the names with those of one more attribute
+pub next_named : (w : List ℕ) (attrs : List Attribute) (i : ℕ) (a : Attribute) (names : BTreeSet (String Global)) (front : List Atom) → i < length attrs → a ≡ get_or attrs i a
+    → AreNamed ((front ++ list_before w attrs i) ++ attr_toks a) marks.Equals names → AreNamed (front ++ list_before w attrs (i + 1)) marks.Equals names
+next_named w attrs i a names front h is named =
+    let e : (front ++ list_before w attrs i) ++ attr_toks a ≡ front ++ list_before w attrs (i + 1) =
+    append_assoc front (list_before w attrs i) (attr_toks a)
+    ∙ ap (λ (l : List Atom). front ++ l) (append_assoc (list_opening w) (flat_map attr_toks (take i attrs)) (attr_toks a) ∙ ap (λ (l : List Atom). list_opening w ++ l) (sym (flat_next attr_toks attrs i a h is)))
+    in
+    subst (λ (l : List Atom). AreNamed l marks.Equals names) e named
+
+-- a stop at the closing brace
+pub at_close : (w : List ℕ) (attrs : List Attribute) (i : ℕ) (front behind : List Atom) (at place : ℕ) (stop : Stop) → i ≡ length attrs → StandsBehind at (list_before w attrs i) place
+    → ((f after : List Atom) (a : Atom) → StopsIn f place (a ∷ after) stop) → StopsIn front at ((word w ∷ attrs_toks attrs) ++ behind) stop
+at_close w attrs i front behind at place stop all stands s =
+    let e : list_before w attrs i ≡ list_opening w ++ flat_map attr_toks attrs = ap (λ (l : List Attribute). list_opening w ++ flat_map attr_toks l) (whole attrs i all) in
+    stops_after front ((word w ∷ attrs_toks attrs) ++ behind) (list_opening w ++ flat_map attr_toks attrs) (mark marks.CloseBrace ∷ behind) at place stop (list_parts w attrs behind)
+    (subst (λ (l : List Atom). StandsBehind at l place) e stands) (s (front ++ (list_opening w ++ flat_map attr_toks attrs)) behind (mark marks.CloseBrace))

@@ -1,0 +1,36 @@
+use Rattle.std.proofs.Common.{List, [], ◌∷◌, ◌++◌}
+use Rattle.tsdl_grammar.specs.declared.atom.Atom.{Atom}
+use Rattle.tsdl_grammar.specs.declared.token.Mark.TheVariants as marks
+use Rattle.tsdl_grammar.specs.Spelling.{mark, name_toks, value_toks, attr_toks}
+use Rattle.tsdl_meaning.specs.Judged.{StopsWhere}
+use Rattle.tsdl_meaning.specs.NamesBefore.{AreNamed}
+use Rattle.tsdl_meaning.specs.Blocks.{IsBegun}
+use Rattle.tsdl_meaning.proofs.JudgedParts.{handed, err_from, ok_from, stops_same}
+use Rattle.tsdl_meaning.proofs.BlockAttributes.{attr_opening, attr_rest}
+use Rattle.tsdl_meaning.proofs.NamesBefore.{named_behind}
+use Rattle.tsdl_meaning.proofs.judge.attribute.judge_attribute.Goals as goal
+
+pub returns-in_err-add-clause-fault : goal.returns-in_err-add-clause-fault
+returns-in_err-add-clause-fault c = λ items.
+    let a = c.args.attribute.now in
+    let stop = c.in_err-add.field-0.0 in
+    let P = λ (front : List Atom). IsBegun c.args.judging.now items front × AreNamed front marks.Equals c.args.names.now.names in
+    handed c.from_residual.result stop (StopsWhere P c.args.at (attr_toks a)) c.from_residual.ensures.1
+    (λ front behind p.
+    let rest = (value_toks a.value ++ (mark marks.Semicolon ∷ [])) ++ behind in
+    let opening = name_toks a.name ++ (mark marks.Equals ∷ []) in
+    stops_same front (attr_toks a ++ behind) (opening ++ rest) c.args.at stop (attr_opening a behind) (c.in_err-add.ensures.fault marks.Equals front rest p.1))
+
+pub returns-clause-fault : goal.returns-clause-fault
+returns-clause-fault c = λ items.
+    let a = c.args.attribute.now in
+    let P = λ (front : List Atom). IsBegun c.args.judging.now items front × AreNamed front marks.Equals c.args.names.now.names in
+    err_from c.judge_value.result (StopsWhere (IsBegun c.args.judging.now items) c.args.at (attr_toks a)) (StopsWhere P c.args.at (attr_toks a)) (λ stop h front behind p. h front behind p.0)
+    (c.judge_value.ensures items)
+
+pub returns-clause-named : goal.returns-clause-named
+returns-clause-named c =
+    let a = c.args.attribute.now in
+    ok_from c.judge_value.result (λ x. (front : List Atom) → AreNamed front marks.Equals c.args.names.now.names → AreNamed (front ++ attr_toks a) marks.Equals c.add.new.self.names)
+    (λ x front named.
+    named_behind front (attr_toks a) (name_toks a.name) (value_toks a.value ++ (mark marks.Semicolon ∷ [])) marks.Equals c.add.new.self.names (attr_rest a) (c.in_ok-add.ensures.added front marks.Equals named))

@@ -1,0 +1,48 @@
+use Rattle.std.proofs.Common.{List, ◌++◌, sym, subst}
+use Rattle.tsdl_grammar.specs.declared.atom.Atom.{Atom}
+use Rattle.tsdl_grammar.specs.declared.token.Mark.TheVariants as marks
+use Rattle.tsdl_grammar.specs.declared.tree.Item.{Item}
+use Rattle.tsdl_grammar.specs.Spelling.{attr_toks, scope_toks, item_toks}
+use Rattle.tsdl_flaw.specs.Stopping.{StopsIn}
+use Rattle.tsdl_meaning.specs.Judged.{StopsWhere}
+use Rattle.tsdl_meaning.specs.NamesBefore.{AreNamed}
+use Rattle.tsdl_meaning.specs.Blocks.{IsBegun, AreKept}
+use Rattle.tsdl_meaning.proofs.JudgedParts.{err_from, ok_map}
+use Rattle.tsdl_meaning.proofs.NamesBefore.{still_named}
+use Rattle.tsdl_meaning.proofs.judge.block.judge_item.Goals as goal
+
+pub returns-in-Attribute-clause-fault : goal.returns-in-Attribute-clause-fault
+returns-in-Attribute-clause-fault c = λ items.
+    let judging = c.args.judging.now in
+    let names = c.args.names.now in
+    err_from c.judge_attribute.result
+    (StopsWhere (λ (front : List Atom). IsBegun judging items front × AreNamed front marks.Equals names.attributes.names) c.args.at (attr_toks c.in-Attribute.attribute))
+    (StopsWhere (λ (front : List Atom). IsBegun judging items front × AreKept names front) c.args.at (item_toks c.args.item.now))
+    (λ stop h front behind p. subst (λ (i : Item). StopsIn front c.args.at (item_toks i ++ behind) stop) (sym c.in-Attribute.is) (h front behind (p.0, p.1.attributes)))
+    (c.judge_attribute.ensures.fault items)
+
+pub returns-in-Attribute-clause-named : goal.returns-in-Attribute-clause-named
+returns-in-Attribute-clause-named c =
+    let names = c.args.names.now in
+    let new = c.judge_attribute.new.names in
+    let toks = attr_toks c.in-Attribute.attribute in
+    ok_map c.judge_attribute.result (λ x. (front : List Atom) → AreNamed front marks.Equals names.attributes.names → AreNamed (front ++ toks) marks.Equals new.names)
+    (λ x. (front : List Atom) → AreKept names front → AreKept (record { attributes = new; scopes = names.scopes }) (front ++ item_toks c.args.item.now))
+    (λ x h front k. record {
+      attributes = subst (λ (i : Item). AreNamed (front ++ item_toks i) marks.Equals new.names) (sym c.in-Attribute.is) (h front k.attributes);
+      scopes = still_named front (item_toks c.args.item.now) marks.Assign names.scopes.names k.scopes;
+    })
+    c.judge_attribute.ensures.named
+
+pub returns-in-Scope-clause-named : goal.returns-in-Scope-clause-named
+returns-in-Scope-clause-named c =
+    let names = c.args.names.now in
+    let new = c.judge_scope.new.names in
+    let toks = scope_toks c.in-Scope.scope in
+    ok_map c.judge_scope.result (λ x. (front : List Atom) → AreNamed front marks.Assign names.scopes.names → AreNamed (front ++ toks) marks.Assign new.names)
+    (λ x. (front : List Atom) → AreKept names front → AreKept (record { attributes = names.attributes; scopes = new }) (front ++ item_toks c.args.item.now))
+    (λ x h front k. record {
+      attributes = still_named front (item_toks c.args.item.now) marks.Equals names.attributes.names k.attributes;
+      scopes = subst (λ (i : Item). AreNamed (front ++ item_toks i) marks.Assign new.names) (sym c.in-Scope.is) (h front k.scopes);
+    })
+    c.judge_scope.ensures.named

@@ -1,0 +1,68 @@
+use Rattle.std.proofs.Common.{arith, List, [], ◌∷◌, ◌++◌, take, refl, sym, ap, ◌∙◌, subst, append_assoc}
+use Rattle.std.proofs.lemmas.List.{take_all}
+use Rattle.tsdl_grammar.specs.declared.atom.Atom.{Atom}
+use Rattle.tsdl_grammar.specs.declared.token.Mark.TheVariants as marks
+use Rattle.tsdl_grammar.specs.declared.tree.Item.{Item}
+use Rattle.tsdl_grammar.specs.Spelling.{mark, word, item_toks, items_toks}
+use Rattle.tsdl_flaw.specs.Twice.{begun}
+use Rattle.tsdl_meaning.specs.Judged.{StopsWhere}
+use Rattle.tsdl_meaning.specs.Ledgers.{AreNoted}
+use Rattle.tsdl_meaning.specs.Blocks.{word_of, IsBegun, AreKept}
+use Rattle.tsdl_meaning.proofs.JudgedParts.{IsAfter, handed, err_from, stops_after, stops_item, after_item, flat_next}
+use Rattle.tsdl_meaning.proofs.JudgedLedgers.{noted_more}
+use Rattle.tsdl_meaning.proofs.judge.block.judge_items.Goals as goal
+
+pub returns-in_err-judge_item : goal.returns-in_err-judge_item
+returns-in_err-judge_item c =
+    let judging = c.args.judging.now in
+    let w = word_of judging.kind in
+    let items = c.args.items.now in
+    let i = c.loop-item.item-index in
+    let toks = word w ∷ items_toks items in
+    let opening = word w ∷ mark marks.OpenBrace ∷ [] in
+    let before = begun w (take i items) in
+    let stop = c.in_err-judge_item.field-0.0 in
+    handed c.from_residual.result stop (StopsWhere (λ (front : List Atom). AreNoted front judging.ledger.now) c.args.at toks) c.from_residual.ensures.1
+    (λ front behind n.
+    stops_item item_toks items i c.item-item.result front (toks ++ behind) opening (mark marks.CloseBrace ∷ behind) c.args.at c.loop-item.next stop (omega arith) c.item-item.is
+    (append_assoc (begun w items) (mark marks.CloseBrace ∷ []) behind) c.loop-item.invariant.place
+    (λ after.
+    c.in_err-judge_item.ensures.fault (take i items) (front ++ before) after
+    (record { noted = noted_more front before judging.ledger.now n; ends = (front, refl) }, c.loop-item.invariant.kept front)))
+
+pub loop-item-init : goal.loop-item-init
+loop-item-init c = record { place = λ fits. omega (arith, c.saturating_add-next.ensures); kept = λ front. c.new-names.ensures (front ++ begun (word_of c.args.judging.now.kind) []) }
+
+pub loop-item-preserved : goal.loop-item-preserved
+loop-item-preserved c =
+    let w = word_of c.args.judging.now.kind in
+    let items = c.args.items.now in
+    let i = c.loop-item.item-index in
+    let x = c.item-item.result in
+    let opening = word w ∷ mark marks.OpenBrace ∷ [] in
+    let before = begun w (take i items) in
+    record {
+      place =
+          after_item item_toks items i x opening c.args.at c.loop-item.next c.length.result _ (omega arith) c.item-item.is c.loop-item.invariant.place c.length.ensures
+          c.saturating_add-next-in-loop-item.ensures;
+      kept = λ front.
+          subst (λ (l : List Atom). AreKept c.judge_item.new.names l)
+          (append_assoc front before (item_toks x) ∙ ap (λ (l : List Atom). front ++ (opening ++ l)) (sym (flat_next item_toks items i x (omega arith) c.item-item.is)))
+          (c.in_ok-judge_item.ensures.named (front ++ before) (c.loop-item.invariant.kept front));
+    }
+
+pub returns : goal.returns
+returns c =
+    let judging = c.args.judging.now in
+    let w = word_of judging.kind in
+    let items = c.args.items.now in
+    let toks = word w ∷ items_toks items in
+    let next = c.loop-item.next in
+    let place : IsAfter c.args.at (begun w items) next =
+    subst (λ (is : List Item). IsAfter c.args.at (begun w is) next) (take_all c.loop-item.item-index items (omega arith)) c.loop-item.invariant.place
+    in
+    err_from c.judge_end.result (StopsWhere (IsBegun judging items) next (mark marks.CloseBrace ∷ [])) (StopsWhere (λ (front : List Atom). AreNoted front judging.ledger.now) c.args.at toks)
+    (λ stop h front behind n.
+    stops_after front (toks ++ behind) (begun w items) (mark marks.CloseBrace ∷ behind) c.args.at next stop (append_assoc (begun w items) (mark marks.CloseBrace ∷ []) behind) place
+    (h (front ++ begun w items) behind (record { noted = noted_more front (begun w items) judging.ledger.now n; ends = (front, refl) })))
+    c.judge_end.ensures

@@ -1,0 +1,47 @@
+use Rattle.std.proofs.Common.{arith, List, [], ◌∷◌, ◌++◌, length-append}
+use Rattle.tsdl_grammar.specs.declared.atom.Atom.{Atom}
+use Rattle.tsdl_grammar.specs.declared.token.Mark.TheVariants as marks
+use Rattle.tsdl_grammar.specs.Spelling.{mark, name_toks, struct_toks, scope_toks}
+use Rattle.tsdl_meaning.specs.Judged.{StopsWhere}
+use Rattle.tsdl_meaning.specs.NamesBefore.{AreNamed}
+use Rattle.tsdl_meaning.proofs.JudgedParts.{handed, stops_same, stops_after}
+use Rattle.tsdl_meaning.proofs.NamesBefore.{named_behind}
+use Rattle.tsdl_meaning.proofs.JudgedScopes.{scope_parts, scope_opening, scope_rest}
+use Rattle.tsdl_meaning.proofs.judge.block.judge_scope.Goals as goal
+
+pub returns-in_default-clause-fault : goal.returns-in_default-clause-fault
+returns-in_default-clause-fault c = λ front behind named.
+    let s = c.args.scope.now in
+    let rest = mark marks.Assign ∷ (struct_toks s.structure ++ (mark marks.Semicolon ∷ behind)) in
+    stops_same front (scope_toks s ++ behind) (name_toks s.name ++ rest) c.args.at c.unsupported.result (scope_parts s behind) (c.unsupported.ensures front rest)
+
+pub returns-in_err-add-clause-fault : goal.returns-in_err-add-clause-fault
+returns-in_err-add-clause-fault c =
+    let s = c.args.scope.now in
+    let stop = c.in_err-add.field-0.0 in
+    let P = λ (front : List Atom). AreNamed front marks.Assign c.args.names.now.names in
+    handed c.from_residual.result stop (StopsWhere P c.args.at (scope_toks s)) c.from_residual.ensures.1
+    (λ front behind named.
+    let opening = name_toks s.name ++ (mark marks.Assign ∷ []) in
+    let rest = struct_toks s.structure ++ (mark marks.Semicolon ∷ behind) in
+    stops_same front (scope_toks s ++ behind) (opening ++ rest) c.args.at stop (scope_opening s behind) (c.in_err-add.ensures.fault marks.Assign front rest named))
+
+pub returns-in_err-judge_structure-clause-fault : goal.returns-in_err-judge_structure-clause-fault
+returns-in_err-judge_structure-clause-fault c =
+    let s = c.args.scope.now in
+    let stop = c.in_err-judge_structure.field-0.0 in
+    let P = λ (front : List Atom). AreNamed front marks.Assign c.args.names.now.names in
+    handed c.from_residual-in_err-judge_structure.result stop (StopsWhere P c.args.at (scope_toks s)) c.from_residual-in_err-judge_structure.ensures.1
+    (λ front behind named.
+    let opening = name_toks s.name ++ (mark marks.Assign ∷ []) in
+    let rest = struct_toks s.structure ++ (mark marks.Semicolon ∷ behind) in
+    let l = length-append (name_toks s.name) (mark marks.Assign ∷ []) in
+    stops_after front (scope_toks s ++ behind) opening rest c.args.at c.saturating_add-behind.result stop (scope_opening s behind)
+    (λ fits. let m = c.length.ensures (omega (arith, l)) in omega (arith, l, m))
+    (c.in_err-judge_structure.ensures (front ++ opening) (mark marks.Semicolon ∷ behind)))
+
+pub returns-clause-named : goal.returns-clause-named
+returns-clause-named c = λ front named.
+    let s = c.args.scope.now in
+    named_behind front (scope_toks s) (name_toks s.name) (struct_toks s.structure ++ (mark marks.Semicolon ∷ [])) marks.Assign c.add.new.self.names (scope_rest s)
+    (c.in_ok-add.ensures.added front marks.Assign named)

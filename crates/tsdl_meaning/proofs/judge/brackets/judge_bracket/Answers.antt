@@ -1,0 +1,30 @@
+use Rattle.std.proofs.Common.{List, [], ◌∷◌}
+use Rattle.tsdl_grammar.specs.declared.tree.Bracket.{Bracket}
+use Rattle.tsdl_grammar.specs.declared.tree.Bracket.TheVariants as brackets
+use Rattle.tsdl_grammar.specs.Spelling.{word, number_toks, bracket_toks}
+use Rattle.tsdl_flaw.specs.declared.flaw.Stop.{Stop}
+use Rattle.tsdl_meaning.specs.Judged.{StopsWhere}
+use Rattle.tsdl_meaning.specs.BracketLengths.{HasLengths, IsBehindBrackets, IsInBrackets, IsInBracket}
+use Rattle.tsdl_meaning.proofs.HandedOn.{err_weaker}
+use Rattle.tsdl_meaning.proofs.StopsInBrackets.{in_count, in_member}
+use Rattle.tsdl_meaning.proofs.judge.brackets.judge_bracket.Goals as goal
+
+pub returns-in-Count-clause-fault : goal.returns-in-Count-clause-fault
+returns-in-Count-clause-fault c =
+    let old = c.args.lengths.now in
+    let n = c.in-Count.number in
+    let place = c.saturating_add-place.result in
+    rw c.in-Count.is
+    (err_weaker c.judge_count.result (λ (s : Stop). (done : List Bracket) → HasLengths old done → StopsWhere (IsInBrackets done) place (number_toks n) s)
+    (λ (s : Stop). (done : List Bracket) → HasLengths old done → StopsWhere (IsBehindBrackets done) c.args.at (bracket_toks (brackets.Count n)) s)
+    (λ s f done h. in_count done n c.args.at place s c.saturating_add-place.ensures (f done h)) c.judge_count.ensures.fault)
+
+pub returns-in-Member-clause-fault : goal.returns-in-Member-clause-fault
+returns-in-Member-clause-fault c =
+    let old = c.args.lengths.now in
+    let w = c.in-Member.name in
+    let place = c.saturating_add-place.result in
+    rw c.in-Member.is
+    (err_weaker c.judge_name.result (StopsWhere IsInBracket place (word w ∷ []))
+    (λ (s : Stop). (done : List Bracket) → HasLengths old done → StopsWhere (IsBehindBrackets done) c.args.at (bracket_toks (brackets.Member w)) s)
+    (λ s f done h. in_member (IsBehindBrackets done) w c.args.at place s c.saturating_add-place.ensures f) c.judge_name.ensures.fault)

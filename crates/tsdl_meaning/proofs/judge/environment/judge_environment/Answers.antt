@@ -1,0 +1,28 @@
+use Rattle.std.proofs.Common.{arith, List, [], ◌∷◌, ◌++◌, take, ap, sym, append_assoc, codes}
+use Rattle.std.specs.List.{flat_map}
+use Rattle.tsdl_grammar.specs.declared.atom.Atom.{Atom}
+use Rattle.tsdl_grammar.specs.declared.token.Mark.TheVariants as marks
+use Rattle.tsdl_grammar.specs.Spelling.{mark, word, braced, named_fact_toks}
+use Rattle.tsdl_meaning.specs.Judged.{StopsAmong}
+use Rattle.tsdl_meaning.proofs.JudgedParts.{handed, stops_item, after_item}
+use Rattle.tsdl_meaning.proofs.judge.environment.judge_environment.Goals as goal
+
+pub returns-in_err-judge_entry : goal.returns-in_err-judge_entry
+returns-in_err-judge_entry c =
+    let facts = c.args.facts.now in
+    let i = c.loop-index.index in
+    let toks = word (codes "env") ∷ braced (flat_map named_fact_toks facts) in
+    let opening = word (codes "env") ∷ mark marks.OpenBrace ∷ [] in
+    let before = flat_map named_fact_toks (take i facts) in
+    let stop = c.in_err-judge_entry.field-0.0 in
+    handed c.from_residual.result stop (StopsAmong c.args.at toks) c.from_residual.ensures.1
+    (λ front behind.
+    stops_item named_fact_toks facts i c.index-facts-index.result front (toks ++ behind) opening (mark marks.CloseBrace ∷ behind) c.args.at c.loop-index.next stop (omega arith) c.index-facts-index.is
+    (ap (λ (l : List Atom). opening ++ l) (append_assoc (flat_map named_fact_toks facts) (mark marks.CloseBrace ∷ []) behind)) c.loop-index.invariant
+    (λ after. c.in_err-judge_entry.ensures (front ++ (opening ++ before)) after (front ++ word (codes "env") ∷ [], sym (append_assoc front (word (codes "env") ∷ []) (mark marks.OpenBrace ∷ before)))))
+
+pub loop-index-preserved : goal.loop-index-preserved
+loop-index-preserved c =
+    let opening = word (codes "env") ∷ mark marks.OpenBrace ∷ [] in
+    after_item named_fact_toks c.args.facts.now c.loop-index.index c.index-facts-index.result opening c.args.at c.loop-index.next c.length.result _ (omega arith) c.index-facts-index.is
+    c.loop-index.invariant c.length.ensures c.saturating_add-next-in-loop-index.ensures

@@ -1,0 +1,39 @@
+use Rattle.std.proofs.Common.{List, ◌++◌}
+use Rattle.tsdl_grammar.specs.declared.token.Mark.TheVariants as marks
+use Rattle.tsdl_grammar.specs.declared.atom.Atom.{Atom}
+use Rattle.tsdl_grammar.specs.Spelling.{attr_toks, value_toks}
+use Rattle.tsdl_meaning.specs.Judged.{StopsWhere}
+use Rattle.tsdl_meaning.specs.Judging.{IsBehindOwn}
+use Rattle.tsdl_meaning.specs.NamesBefore.{AreNamed}
+use Rattle.tsdl_meaning.proofs.HandedOn.{handed_on, err_weaker, ok_always}
+use Rattle.tsdl_meaning.proofs.StopsInAttributes.{in_name, in_opening, in_value, behind_own, attr_named}
+use Rattle.tsdl_meaning.proofs.judge.integer.judge_attribute.Goals as goal
+
+pub returns-in_default-clause-fault : goal.returns-in_default-clause-fault
+returns-in_default-clause-fault c = λ front behind named. in_name c.args.attribute.now front behind c.args.at c.unsupported.result c.unsupported.ensures
+
+pub returns-in_err-add-clause-fault : goal.returns-in_err-add-clause-fault
+returns-in_err-add-clause-fault c =
+    let P = λ (f : List Atom). AreNamed f marks.Equals c.args.names.now.names in
+    handed_on c.from_residual.result c.in_err-add.field-0.0 (StopsWhere P c.args.at (attr_toks c.args.attribute.now)) c.from_residual.ensures.1
+    (λ front behind named. in_opening P c.args.attribute.now front behind c.args.at c.in_err-add.field-0.0 named (c.in_err-add.ensures.fault marks.Equals))
+
+pub returns-clause-fault : goal.returns-clause-fault
+returns-clause-fault c =
+    let a = c.args.attribute.now in
+    let P = λ (f : List Atom). AreNamed f marks.Equals c.args.names.now.names in
+    let Own = IsBehindOwn c.in-Some.kind in
+    let place = c.saturating_add-behind.result in
+    err_weaker c.judge_value.result (StopsWhere Own place (value_toks a.value)) (StopsWhere P c.args.at (attr_toks a))
+    (λ s h front behind named.
+    in_value Own a front behind c.args.at c.length.result c.saturating_add.result place s c.length.ensures c.saturating_add.ensures c.saturating_add-behind.ensures
+    (behind_own c.in-Some.kind a.name front c.in-Some.ensures) h)
+    c.judge_value.ensures
+
+pub returns-clause-named : goal.returns-clause-named
+returns-clause-named c =
+    let a = c.args.attribute.now in
+    let old = c.args.names.now.names in
+    let new = c.add.new.self.names in
+    ok_always c.judge_value.result (λ x. (front : List Atom) → AreNamed front marks.Equals old → AreNamed (front ++ attr_toks a) marks.Equals new)
+    (λ x front named. attr_named a front new (c.in_ok-add.ensures.added front marks.Equals named))

@@ -1,0 +1,7 @@
+use Rattle.tsdl_flaw.specs.Places.{StandsBehind}
+use Rattle.tsdl_meaning.proofs.StopsInKinds.{range_before}
+use Rattle.tsdl_meaning.proofs.judge.kind.judge_ranges.Given as goal
+
+-- the ranges so far stand before the place
+abbrev pub invariant-loop-index : goal.invariant-loop-index
+invariant-loop-index l = StandsBehind l.at (range_before l.first l.others l.index) l.next

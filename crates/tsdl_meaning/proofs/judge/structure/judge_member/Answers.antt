@@ -1,0 +1,52 @@
+use Rattle.std.proofs.Common.{ℕ, List, Contains, subst}
+use Rattle.std.specs.List.{flat_map}
+use Rattle.ctf_types.specs.Members.{names_in}
+use Rattle.tsdl_grammar.specs.declared.tree.Bracket.{Bracket}
+use Rattle.tsdl_grammar.specs.declared.tree.MemberTree.{MemberTree}
+use Rattle.tsdl_grammar.specs.Spelling.{bracket_toks, member_toks}
+use Rattle.tsdl_flaw.specs.declared.flaw.Stop.{Stop}
+use Rattle.tsdl_meaning.specs.Judged.{StopsAmong, StopsWhere}
+use Rattle.tsdl_meaning.specs.MembersBefore.{AreMembers, IsBehindMembers}
+use Rattle.tsdl_meaning.proofs.HandedOn.{handed_on}
+use Rattle.tsdl_meaning.proofs.StopsInMembers.{in_kind, at_name, in_brackets, at_name_and_brackets}
+use Rattle.tsdl_meaning.proofs.judge.structure.judge_member.Goals as goal
+
+pub returns-in_err-judge_kind-clause-fault : goal.returns-in_err-judge_kind-clause-fault
+returns-in_err-judge_kind-clause-fault c =
+    let t = c.args.tree.now in
+    let stop = c.in_err-judge_kind.field-0.0 in
+    handed_on c.from_residual.result stop (λ (s : Stop). (done : List MemberTree) → AreMembers done c.args.members.now → StopsWhere (IsBehindMembers done) c.args.at (member_toks t) s)
+    c.from_residual.ensures.1 (λ done same front behind ends. in_kind t front behind c.args.at stop c.in_err-judge_kind.ensures)
+
+pub returns-in_err-judge_member_name-clause-fault : goal.returns-in_err-judge_member_name-clause-fault
+returns-in_err-judge_member_name-clause-fault c =
+    let t = c.args.tree.now in
+    let stop = c.in_err-judge_member_name.field-0.0 in
+    handed_on c.from_residual-in_err-judge_member_name.result stop
+    (λ (s : Stop). (done : List MemberTree) → AreMembers done c.args.members.now → StopsWhere (IsBehindMembers done) c.args.at (member_toks t) s)
+    c.from_residual-in_err-judge_member_name.ensures.1
+    (λ done same front behind ends.
+    at_name t done front behind c.args.at c.length.result c.saturating_add-place.result stop c.length.ensures c.saturating_add-place.ensures ends
+    (c.in_err-judge_member_name.ensures.fault done t.kind same))
+
+pub returns-in_err-judge_brackets-clause-fault : goal.returns-in_err-judge_brackets-clause-fault
+returns-in_err-judge_brackets-clause-fault c =
+    let t = c.args.tree.now in
+    let stop = c.in_err-judge_brackets.field-0.0 in
+    let next = c.saturating_add-behind.result in
+    handed_on c.from_residual-in_err-judge_brackets.result stop
+    (λ (s : Stop). (done : List MemberTree) → AreMembers done c.args.members.now → StopsWhere (IsBehindMembers done) c.args.at (member_toks t) s)
+    c.from_residual-in_err-judge_brackets.ensures.1
+    (λ done same front behind ends.
+    in_brackets t front behind c.args.at c.length.result c.saturating_add-place.result next stop c.length.ensures c.saturating_add-place.ensures c.saturating_add-behind.ensures
+    (subst (λ (l : List Bracket). StopsAmong next (flat_map bracket_toks l) stop) c.as_slice.ensures c.in_err-judge_brackets.ensures))
+
+pub returns-in_default-clause-fault : goal.returns-in_default-clause-fault
+returns-in_default-clause-fault c = λ done same front behind ends. in_kind c.args.tree.now front behind c.args.at c.expected.result c.expected.ensures
+
+pub returns-then-not-suits_rule-clause-fault : goal.returns-then-not-suits_rule-clause-fault
+returns-then-not-suits_rule-clause-fault c = λ done same front behind ends.
+    at_name_and_brackets c.args.tree.now front behind c.args.at c.length.result c.saturating_add-place.result c.unsuited.result c.length.ensures c.saturating_add-place.ensures c.unsuited.ensures
+
+pub push-requires : goal.push-requires
+push-requires c = λ there. c.in_ok-judge_member_name.ensures.fresh (subst (λ (w : List ℕ). Contains (names_in c.args.members.now) w) c.in_ok-copy.ensures there)

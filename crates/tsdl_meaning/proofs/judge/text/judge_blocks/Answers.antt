@@ -1,0 +1,58 @@
+use Rattle.std.proofs.Common.{arith, List, [], ◌∷◌, ◌++◌, take, refl, sym, ◌∙◌, subst, append_assoc}
+use Rattle.std.proofs.lemmas.List.{append-nil, take_all}
+use Rattle.tsdl_grammar.specs.declared.atom.Atom.{Atom}
+use Rattle.tsdl_grammar.specs.declared.token.Mark.TheVariants as marks
+use Rattle.tsdl_grammar.specs.declared.tree.Block.{Block}
+use Rattle.tsdl_grammar.specs.Spelling.{mark, block_toks, block_and_semicolon, text_toks}
+use Rattle.tsdl_flaw.specs.TextStops.{StopsText}
+use Rattle.tsdl_meaning.specs.Ledgers.{AreNoted}
+use Rattle.tsdl_meaning.proofs.JudgedParts.{IsAfter, handed, stops_same, stops_item, after_more, flat_next}
+use Rattle.tsdl_meaning.proofs.JudgedLedgers.{noted_more}
+use Rattle.tsdl_meaning.proofs.JudgedEnds.{text_stop}
+use Rattle.tsdl_meaning.proofs.judge.text.judge_blocks.Goals as goal
+
+pub returns-in_err-judge_block-clause-fault : goal.returns-in_err-judge_block-clause-fault
+returns-in_err-judge_block-clause-fault c =
+    let blocks = c.args.blocks.now in
+    let i = c.loop-block.block-index in
+    let b = c.block-item.result in
+    let toks = text_toks blocks in
+    let before = text_toks (take i blocks) in
+    let next = c.loop-block.next in
+    let stop = c.in_err-judge_block.field-0.0 in
+    handed c.from_residual.result stop (StopsText toks) c.from_residual.ensures.1
+    (text_stop toks stop
+    (stops_item block_and_semicolon blocks i b [] toks [] [] 0 next stop (omega arith) c.block-item.is (sym (append-nil toks)) c.loop-block.invariant.place
+    (λ after.
+    stops_same before (block_and_semicolon b ++ after) (block_toks b ++ (mark marks.Semicolon ∷ after)) next stop (append_assoc (block_toks b) (mark marks.Semicolon ∷ []) after)
+    (c.in_err-judge_block.ensures.fault before (mark marks.Semicolon ∷ after) c.loop-block.invariant.noted))))
+
+pub loop-block-preserved : goal.loop-block-preserved
+loop-block-preserved c =
+    let blocks = c.args.blocks.now in
+    let i = c.loop-block.block-index in
+    let b = c.block-item.result in
+    let before = text_toks (take i blocks) in
+    let closing = mark marks.Semicolon ∷ [] in
+    let more = (before ++ block_toks b) ++ closing in
+    let e = append_assoc before (block_toks b) closing ∙ sym (flat_next block_and_semicolon blocks i b (omega arith) c.block-item.is) in
+    record {
+      place =
+          subst (λ (l : List Atom). IsAfter 0 l c.saturating_add-next.result) e
+          (after_more (before ++ block_toks b) closing 0 c.saturating_add.result 1 c.saturating_add-next.result
+          (after_more before (block_toks b) 0 c.loop-block.next c.length.result c.saturating_add.result c.loop-block.invariant.place c.length.ensures c.saturating_add.ensures)
+          (λ h. refl) c.saturating_add-next.ensures);
+      noted =
+          subst (λ (l : List Atom). AreNoted l c.judge_block.new.ledger) e
+          (noted_more (before ++ block_toks b) closing c.judge_block.new.ledger (c.in_ok-judge_block.ensures.noted before c.loop-block.invariant.noted));
+    }
+
+pub returns-clause-end : goal.returns-clause-end
+returns-clause-end c =
+    let blocks = c.args.blocks.now in
+    let toks = text_toks blocks in
+    let next = c.loop-block.next in
+    let place : IsAfter 0 toks next =
+    subst (λ (bs : List Block). IsAfter 0 (text_toks bs) next) (take_all c.loop-block.block-index blocks (omega arith)) c.loop-block.invariant.place
+    in
+    c.stop_at_end.ensures toks (λ bound. let e = place (omega arith) in omega arith)

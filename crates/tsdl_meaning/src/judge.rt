@@ -1,0 +1,17 @@
+//! Judges the trees of a metadata text that has no meaning: finds the first flaw in the order of the text.
+
+mod attribute;
+mod block;
+mod brackets;
+mod environment;
+mod integer;
+mod kind;
+mod ledger;
+mod names;
+mod structure;
+mod survey;
+mod text;
+mod value;
+
+pub use survey::Survey;
+pub use text::first_flaw;

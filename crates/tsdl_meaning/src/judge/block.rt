@@ -1,0 +1,185 @@
+//! The first flaw of a block with attributes and scopes: a trace, a stream, an event or a clock.
+
+ghost use Rattle.std.specs.Prelude.{List, [], ◌∷◌, ◌++◌, IfOk, IfErr, IsTrue};
+ghost use Rattle.tsdl_grammar.specs.declared.atom.Atom.{Atom};
+ghost use Rattle.tsdl_grammar.specs.declared.token.Mark.TheVariants as marks;
+ghost use Rattle.tsdl_grammar.specs.declared.tree.Item.{Item};
+ghost use Rattle.tsdl_grammar.specs.Spelling.{mark, word, scope_toks, item_toks, items_toks};
+ghost use Rattle.tsdl_flaw.specs.Twice.{IsTwice};
+ghost use Rattle.tsdl_meaning.specs.Judged.{StopsWhere};
+ghost use Rattle.tsdl_meaning.specs.Ledgers.{AreNoted};
+ghost use Rattle.tsdl_meaning.specs.NamesBefore.{AreNamed};
+ghost use Rattle.tsdl_meaning.specs.Blocks.{word_of, IsBegun, AreKept};
+
+use crate::judge::attribute::judge_attribute;
+use crate::judge::ledger::{Ledger, event_numbers};
+use crate::judge::names::Names;
+use crate::judge::structure::judge_structure;
+use crate::judge::survey::Survey;
+use crate::lookup::{attr_in, has_words};
+use crate::scope_rule::ScopeRule;
+use crate::stream::{EVENT_CONTEXT, EVENT_HEADER, FIELDS, PACKET_CONTEXT, SPECIFIC_CONTEXT};
+use crate::trace::PACKET_HEADER;
+use std::alloc::Global;
+use tsdl_flaw::{Flaw, Remedy, Spelled, Stop};
+use tsdl_grammar::{Item, Name, Scope};
+
+#[derive(Clone, Copy)]
+pub(crate) enum BlockKind {
+    Trace,
+    Stream,
+    Event,
+    Clock,
+}
+
+/// A block that is judged, and what of its text it is judged by.
+#[derive(Drop)]
+pub(crate) struct Judging<'a> {
+    pub alloc: Global,
+    pub survey: &'a Survey,
+    pub ledger: &'a Ledger,
+    pub kind: BlockKind,
+}
+
+/// The names of a block so far.
+#[derive(Drop)]
+struct BlockNames {
+    attributes: Names,
+    scopes: Names,
+}
+
+impl BlockNames {
+    fn new(alloc: Global) -> BlockNames
+        ensures { (front : List Atom) → AreKept result front }
+    {
+        BlockNames {
+            attributes: Names::new(alloc),
+            scopes: Names::new(alloc),
+        }
+    }
+}
+
+/// Judges a block of these items, whose word stands at an atom.
+pub(crate) fn judge_items(judging: &Judging, items: &[Item], at: usize) -> Result<(), Stop>
+    ensures { IfErr result (StopsWhere (λ front. AreNoted front judging.now.ledger.now) at (word (word_of judging.now.kind) ∷ items_toks items.now)) }
+{
+    let mut names = BlockNames::new(judging.alloc);
+    let mut next = at.saturating_add(2);
+    for item in items {
+        judge_item(judging, &mut names, item, next)?;
+        next = next.saturating_add(item.length());
+    }
+    judge_end(judging, items, next)
+}
+
+fn judge_item(judging: &Judging, names: &mut BlockNames, item: &Item, at: usize) -> Result<(), Stop>
+    ensures fault { (items : List Item) → IfErr result (StopsWhere (λ front. IsBegun judging.now items front × AreKept names.old front) at (item_toks item.now)) }
+    ensures named { IfOk result (λ _. (front : List Atom) → AreKept names.old front → AreKept names.new (front ++ item_toks item.now)) }
+{
+    match item {
+        Item::Attribute(attribute) => {
+            judge_attribute(judging, &mut names.attributes, attribute, at)
+        }
+        Item::Scope(scope) => judge_scope(judging, &mut names.scopes, scope, at),
+    }
+}
+
+/// Judges a scope of a block behind the names of others.
+fn judge_scope(judging: &Judging, names: &mut Names, scope: &Scope, at: usize) -> Result<(), Stop>
+    ensures fault { IfErr result (StopsWhere (λ front. AreNamed front marks.Assign names.old.names) at (scope_toks scope.now)) }
+    ensures named { IfOk result (λ _. (front : List Atom) → AreNamed front marks.Assign names.old.names → AreNamed (front ++ scope_toks scope.now) marks.Assign names.new.names) }
+{
+    let Some(rule) = rule_of(judging.kind, &scope.name) else {
+        return Err(Stop::unsupported(judging.alloc, at, &scope.name, Remedy::Nothing));
+    };
+    names.add(judging.alloc, &scope.name, at)?;
+    let behind = at.saturating_add(scope.name.length()).saturating_add(1);
+    judge_structure(
+        judging.alloc,
+        judging.survey,
+        rule,
+        &scope.structure,
+        behind,
+    )?;
+    Ok(())
+}
+
+/// What the scope of this name asks of its members, if the block may have it.
+fn rule_of(kind: BlockKind, name: &Name) -> Option<ScopeRule> {
+    for (words, rule) in scopes_of(kind) {
+        if has_words(name, *words) {
+            return Some(*rule);
+        }
+    }
+    None
+}
+
+/// The scopes that a block may have, and what each one asks of its members.
+fn scopes_of(kind: BlockKind) -> &'static [(&'static [&'static str], ScopeRule)] {
+    match kind {
+        BlockKind::Trace => &[(&PACKET_HEADER, ScopeRule::PacketHeader)],
+        BlockKind::Stream => &[
+            (&PACKET_CONTEXT, ScopeRule::PacketContext),
+            (&EVENT_HEADER, ScopeRule::EventHeader),
+            (&EVENT_CONTEXT, ScopeRule::AnyMembers),
+        ],
+        BlockKind::Event => &[
+            (&SPECIFIC_CONTEXT, ScopeRule::AnyMembers),
+            (&FIELDS, ScopeRule::AnyMembers),
+        ],
+        BlockKind::Clock => &[],
+    }
+}
+
+/// Judges a block at its closing brace, an atom: what it has to have, and its numbers.
+fn judge_end(judging: &Judging, items: &[Item], at: usize) -> Result<(), Stop>
+    ensures { IfErr result (StopsWhere (IsBegun judging.now items.now) at (mark marks.CloseBrace ∷ [])) }
+{
+    if let Some(expected) = missing(judging.kind, items) {
+        return Err(Stop::at_atom(at, Flaw::Syntax(expected)));
+    }
+    if is_numbered_twice(judging, items) {
+        return Err(Stop::at_atom(at, Flaw::Duplicate));
+    }
+    Ok(())
+}
+
+/// Whether another stream has the number 0 of a stream without one, or another event the numbers of an event.
+fn is_numbered_twice(judging: &Judging, items: &[Item]) -> bool
+    ensures { (front : List Atom) → IsTrue result → IsBegun judging.now items.now front → IsTwice front (mark marks.CloseBrace ∷ []) }
+{
+    match judging.kind {
+        BlockKind::Trace | BlockKind::Clock => false,
+        BlockKind::Stream => match attr_in("id", items) {
+            Some(_) => false,
+            None => judging.ledger.has_stream(0),
+        },
+        BlockKind::Event => match event_numbers(items) {
+            Some(numbers) => judging.ledger.has_event(numbers),
+            None => false,
+        },
+    }
+}
+
+/// What a block lacks of what it has to have, in words.
+fn missing(kind: BlockKind, items: &[Item]) -> Option<&'static str> {
+    for (name, quoted) in needed(kind) {
+        if attr_in(*name, items).is_none() {
+            return Some(*quoted);
+        }
+    }
+    None
+}
+
+/// The attributes that a block has to have, and what is expected in words.
+fn needed(kind: BlockKind) -> &'static [(&'static str, &'static str)] {
+    match kind {
+        BlockKind::Trace => &[
+            ("major", "a `major`"),
+            ("minor", "a `minor`"),
+            ("byte_order", "a `byte_order`"),
+        ],
+        BlockKind::Stream => &[],
+        BlockKind::Event | BlockKind::Clock => &[("name", "a `name`")],
+    }
+}

@@ -1,0 +1,131 @@
+//! The first flaw of a member's brackets: how many there are, how long they are, and which members they name.
+
+ghost use Rattle.std.specs.Prelude.{List, [], ◌∷◌, ◌++◌, IfOk, IfErr, MatchOption};
+ghost use Rattle.std.specs.List.{flat_map};
+ghost use Rattle.tsdl_grammar.specs.declared.tree.Bracket.{Bracket};
+ghost use Rattle.tsdl_grammar.specs.declared.tree.Bracket.TheVariants as brackets;
+ghost use Rattle.tsdl_grammar.specs.Spelling.{word, number_toks, bracket_toks};
+ghost use Rattle.tsdl_meaning.specs.Judged.{StopsAmong, StopsWhere};
+ghost use Rattle.tsdl_meaning.specs.BracketLengths.{HasLengths, IsBehindBrackets, IsInBrackets, IsInBracket, Adds, PassesLimit};
+
+use crate::array::{MAX_DEPTH, MAX_ELEMENTS};
+use crate::judge::value::judge_number;
+use crate::member::length_place;
+use ctf_types::{Members, Text};
+use std::alloc::Global;
+use tsdl_flaw::{Flaw, Remedy, Spelled, Stop};
+use tsdl_grammar::{Bracket, Number};
+
+/// The brackets so far.
+#[derive(Clone, Copy)]
+struct Lengths {
+    is_sequence: bool,
+    /// How many numbers stand in brackets.
+    count: usize,
+    /// How many elements they make, a length of 0 counted as 1.
+    elements: u64,
+}
+
+impl Lengths {
+    /// Adds a length. Answers the limit that it passes, if there is one.
+    fn add(&mut self, length: u64) -> Option<&'static str>
+        ensures { MatchOption result (Adds self.old length self.new) (λ _. PassesLimit self.old length) }
+    {
+        let elements = self.elements.saturating_mul(length.max(1));
+        if self.is_sequence && length == 0 {
+            return Some("a sequence of elements with bits");
+        }
+        if self.count >= MAX_DEPTH {
+            return Some("at most 8 arrays in one another");
+        }
+        if elements > MAX_ELEMENTS {
+            return Some("at most 1048576 elements");
+        }
+        self.count += 1;
+        self.elements = elements;
+        None
+    }
+}
+
+/// `{ "[" (number | identifier) "]" }`, behind these members.
+pub(crate) fn judge_brackets(
+    alloc: Global,
+    before: &Members,
+    brackets: &[Bracket],
+    at: usize,
+) -> Result<(), Stop>
+    ensures { IfErr result (StopsAmong at (flat_map bracket_toks brackets.now)) }
+{
+    let mut lengths = Lengths {
+        is_sequence: false,
+        count: 0,
+        elements: 1,
+    };
+    let mut next = at;
+    for bracket in brackets {
+        judge_bracket(alloc, before, &mut lengths, bracket, next)?;
+        next = next.saturating_add(bracket.length());
+    }
+    Ok(())
+}
+
+/// `"[" (number | identifier) "]"`.
+fn judge_bracket(
+    alloc: Global,
+    before: &Members,
+    lengths: &mut Lengths,
+    bracket: &Bracket,
+    at: usize,
+) -> Result<(), Stop>
+    ensures fault { IfErr result (λ s. (done : List Bracket) → HasLengths lengths.old done → StopsWhere (IsBehindBrackets done) at (bracket_toks bracket.now) s) }
+    ensures added { IfOk result (λ _. (done : List Bracket) → HasLengths lengths.old done → HasLengths lengths.new (done ++ bracket.now ∷ [])) }
+{
+    let place = at.saturating_add(1);
+    match bracket {
+        Bracket::Count(number) => judge_count(lengths, number, place),
+        Bracket::Member(name) => judge_name(alloc, before, lengths, name, place),
+    }
+}
+
+/// A number in a bracket.
+fn judge_count(lengths: &mut Lengths, number: &Number, at: usize) -> Result<(), Stop>
+    ensures fault { IfErr result (λ s. (done : List Bracket) → HasLengths lengths.old done → StopsWhere (IsInBrackets done) at (number_toks number.now) s) }
+    ensures added { IfOk result (λ _. (done : List Bracket) → HasLengths lengths.old done → HasLengths lengths.new (done ++ brackets.Count number.now ∷ [])) }
+{
+    let length = judge_number(number, at)?;
+    match lengths.add(length) {
+        None => Ok(()),
+        Some(limit) => Err(Stop::at(at, number, Flaw::Limit(limit))),
+    }
+}
+
+/// A name in a bracket, which is the first one: an unsigned integer member before.
+fn judge_name(
+    alloc: Global,
+    before: &Members,
+    lengths: &mut Lengths,
+    name: &Text,
+    at: usize,
+) -> Result<(), Stop>
+    ensures fault { IfErr result (StopsWhere IsInBracket at (word name.now ∷ [])) }
+    ensures added { IfOk result (λ _. (done : List Bracket) → HasLengths lengths.old done → HasLengths lengths.new (done ++ brackets.Member name.now ∷ [])) }
+{
+    if lengths.is_sequence || lengths.count > 0 {
+        return Err(unsupported_word(alloc, at, name));
+    }
+    if length_place(before, name.as_str()).is_none() {
+        return Err(Stop::at_atom(at, Flaw::BadLength));
+    }
+    lengths.is_sequence = true;
+    Ok(())
+}
+
+/// A word at an atom that stands for a construct that is not read.
+fn unsupported_word(alloc: Global, at: usize, name: &Text) -> Stop
+    ensures { StopsAmong at (word name.now ∷ []) result }
+{
+    match String::from_str(alloc, name.as_str()) {
+        Ok(name) => Stop::at_atom(at, Flaw::Unsupported(name, Remedy::Nothing)),
+        Err(_) => Stop::NoMemory,
+    }
+}

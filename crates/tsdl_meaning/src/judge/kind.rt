@@ -1,0 +1,123 @@
+//! The first flaw of a member's kind: an integer, an enumeration or a string.
+
+ghost use Rattle.std.specs.Prelude.{List, [], ◌∷◌, ◌++◌, IfOk, IfErr, codes};
+ghost use Rattle.std.specs.List.{flat_map};
+ghost use Rattle.tsdl_grammar.specs.declared.token.Mark.TheVariants as marks;
+ghost use Rattle.tsdl_grammar.specs.declared.atom.Atom.{Atom};
+ghost use Rattle.tsdl_grammar.specs.declared.tree.Kind.TheVariants as kinds;
+ghost use Rattle.tsdl_grammar.specs.Spelling.{word, kind_toks, attr_toks, attrs_toks, braced, entries_toks, entry_toks, next_entry_toks};
+ghost use Rattle.tsdl_meaning.specs.Judged.{StopsAmong, StopsWhere};
+ghost use Rattle.tsdl_meaning.specs.Judging.{IsBehindBrace};
+ghost use Rattle.tsdl_meaning.specs.NamesBefore.{AreNamed};
+
+use crate::enumeration::MAX_RANGES;
+use crate::judge::integer::judge_integer;
+use crate::judge::names::Names;
+use crate::judge::survey::Survey;
+use crate::judge::value::unread;
+use crate::lookup::is_word;
+use crate::member::encoding_or_any;
+use crate::value::signed_of;
+use ctf_types::ListOf;
+use std::alloc::Global;
+use tsdl_flaw::{Flaw, Remedy, Spelled, Stop};
+use tsdl_grammar::{Attribute, Entries, Entry, Kind};
+
+/// `integer { .. }`, `enum : integer { .. } { .. }` or `string { .. }`.
+pub(crate) fn judge_kind(alloc: Global, survey: &Survey, kind: &Kind, at: usize) -> Result<(), Stop>
+    ensures { IfErr result (StopsAmong at (kind_toks kind.now)) }
+{
+    match kind {
+        Kind::Integer(attributes) => judge_integer(alloc, survey, attributes.as_slice(), at),
+        Kind::Enumeration(attributes, entries) => {
+            judge_enumeration(alloc, survey, attributes, entries, at)
+        }
+        Kind::Text(Some(attributes)) => judge_string(alloc, attributes.as_slice(), at),
+        Kind::Text(None) => Ok(()),
+    }
+}
+
+/// `"enum" ":" integer "{" entries "}"`.
+fn judge_enumeration(
+    alloc: Global,
+    survey: &Survey,
+    attributes: &ListOf<Attribute>,
+    entries: &Entries,
+    at: usize,
+) -> Result<(), Stop>
+    ensures { IfErr result (StopsAmong at (kind_toks (kinds.Enumeration attributes.now entries.now))) }
+{
+    let integer = at.saturating_add(2);
+    judge_integer(alloc, survey, attributes.as_slice(), integer)?;
+    let passed = integer.saturating_add(attributes.length());
+    let ranges = passed.saturating_add(4);
+    match entries {
+        Entries::Empty => Ok(()),
+        Entries::Listed(first, others, _) => judge_ranges(first, others.as_slice(), ranges),
+    }
+}
+
+/// `range { "," range }`, behind an opening brace.
+fn judge_ranges(first: &Entry, others: &[Entry], at: usize) -> Result<(), Stop>
+    ensures { IfErr result (StopsWhere IsBehindBrace at (entry_toks first.now ++ flat_map next_entry_toks others.now)) }
+{
+    judge_range(first, at)?;
+    let mut next = at.saturating_add(first.length());
+    for (index, entry) in others.iter().enumerate() {
+        let place = next.saturating_add(1);
+        if index.saturating_add(1) >= MAX_RANGES {
+            return Err(Stop::at(place, &entry.label, Flaw::Limit("at most 65536 ranges")));
+        }
+        judge_range(entry, place)?;
+        next = place.saturating_add(entry.length());
+    }
+    Ok(())
+}
+
+/// `label "=" number [ "..." number ]`, where the range does not fall.
+fn judge_range(entry: &Entry, at: usize) -> Result<(), Stop>
+    ensures { IfErr result (StopsAmong at (entry_toks entry.now)) }
+{
+    let Some(high) = entry.high else {
+        return Ok(());
+    };
+    if signed_of(high) >= signed_of(entry.low) {
+        return Ok(());
+    }
+    let place = at.saturating_add(entry.low.length()).saturating_add(3);
+    Err(Stop::expected(place, &high, "a number that is not below the range's first"))
+}
+
+/// `"string" "{" { attribute } "}"`.
+fn judge_string(alloc: Global, attributes: &[Attribute], at: usize) -> Result<(), Stop>
+    ensures { IfErr result (StopsAmong at (word (codes "string") ∷ attrs_toks attributes.now)) }
+{
+    let mut names = Names::new(alloc);
+    let mut next = at.saturating_add(2);
+    for attribute in attributes {
+        judge_encoding(alloc, &mut names, attribute, next)?;
+        next = next.saturating_add(attribute.length());
+    }
+    Ok(())
+}
+
+/// The only attribute of a string.
+fn judge_encoding(
+    alloc: Global,
+    names: &mut Names,
+    attribute: &Attribute,
+    at: usize,
+) -> Result<(), Stop>
+    ensures fault { IfErr result (StopsWhere (λ front. AreNamed front marks.Equals names.old.names) at (attr_toks attribute.now)) }
+    ensures named { IfOk result (λ _. (front : List Atom) → AreNamed front marks.Equals names.old.names → AreNamed (front ++ attr_toks attribute.now) marks.Equals names.new.names) }
+{
+    if !is_word("encoding", &attribute.name) {
+        return Err(Stop::unsupported(alloc, at, &attribute.name, Remedy::Nothing));
+    }
+    names.add(alloc, &attribute.name, at)?;
+    if encoding_or_any(Some(&attribute.value)).is_none() {
+        let behind = at.saturating_add(attribute.name.length()).saturating_add(1);
+        return Err(unread(alloc, &attribute.value, behind, Remedy::Nothing));
+    }
+    Ok(())
+}

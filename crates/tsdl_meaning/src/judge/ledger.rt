@@ -1,0 +1,181 @@
+//! What the blocks of a text so far say: what may stand once only, and what the end of the text is judged by.
+
+ghost use Rattle.std.specs.Prelude.{◌≡◌, ◌⊎◌, List, [], ◌∷◌, option_map, OnOk, IfOk, IfErr, IsTrue, IfSome, codes};
+ghost use Rattle.tsdl_grammar.specs.declared.atom.Atom.{Atom};
+ghost use Rattle.tsdl_grammar.specs.Spelling.{word, block_toks};
+ghost use Rattle.tsdl_flaw.specs.Fronts.{Holds};
+ghost use Rattle.tsdl_flaw.specs.Lengths.{HasLength};
+ghost use Rattle.tsdl_grammar.specs.declared.fault.MetaFaultKind.TheVariants as faults;
+ghost use Rattle.tsdl_flaw.specs.Stopping.{kind_of};
+ghost use Rattle.tsdl_flaw.specs.TextStops.{StopsText};
+ghost use Rattle.tsdl_meaning.specs.Judged.{StopsWhere};
+ghost use Rattle.tsdl_flaw.specs.Twice.{clock_name, HasNumbers};
+ghost use Rattle.tsdl_meaning.specs.Ledgers.{AreNoted, HasClock, HasStream, HasEvent};
+
+use crate::lookup::attr_in;
+use crate::value::{name_value, natural_or_zero};
+use ctf_types::Text;
+use std::alloc::{AllocError, Global};
+use std::collections::{BTreeMap, BTreeSet};
+use tsdl_flaw::{Fault, Flaw, Orphan, Stop};
+use tsdl_grammar::{Block, Item};
+
+/// The blocks so far.
+#[derive(Drop)]
+pub(crate) struct Ledger {
+    has_trace: bool,
+    has_environment: bool,
+    clocks: BTreeSet<String>,
+    streams: BTreeSet<u64>,
+    /// The name of each event, by its stream and its number.
+    events: BTreeMap<(u64, u64), String>,
+}
+
+impl Ledger {
+    pub(crate) fn new(alloc: Global) -> Ledger
+        ensures { (front : List Atom) → AreNoted front result }
+    {
+        Ledger {
+            has_trace: false,
+            has_environment: false,
+            clocks: BTreeSet::new(alloc),
+            streams: BTreeSet::new(alloc),
+            events: BTreeMap::new(alloc),
+        }
+    }
+
+    /// Judges whether a trace block may begin at an atom.
+    pub(crate) fn judge_trace(&self, at: usize) -> Result<(), Stop>
+        ensures { IfErr result (StopsWhere (λ front. AreNoted front self.now) at (word (codes "trace") ∷ [])) }
+    {
+        if self.has_trace {
+            return Err(Stop::at_atom(at, Flaw::Duplicate));
+        }
+        Ok(())
+    }
+
+    /// Judges whether an environment block may begin at an atom.
+    pub(crate) fn judge_environment(&self, at: usize) -> Result<(), Stop>
+        ensures { IfErr result (StopsWhere (λ front. AreNoted front self.now) at (word (codes "env") ∷ [])) }
+    {
+        if self.has_environment {
+            return Err(Stop::at_atom(at, Flaw::Duplicate));
+        }
+        Ok(())
+    }
+
+    /// Whether a clock has this name.
+    pub(crate) fn has_clock(&self, name: &Text) -> bool
+        ensures { (front : List Atom) → AreNoted front self.now → IsTrue result → HasClock front name.now }
+    {
+        self.clocks.contains(name.as_str())
+    }
+
+    /// Whether a stream has this number.
+    pub(crate) fn has_stream(&self, id: u64) -> bool
+        ensures { (front : List Atom) → AreNoted front self.now → IsTrue result → HasStream front id }
+    {
+        self.streams.contains(&id)
+    }
+
+    /// Whether an event has these numbers, of its stream and its own.
+    pub(crate) fn has_event(&self, numbers: (u64, u64)) -> bool
+        ensures { (front : List Atom) → AreNoted front self.now → IsTrue result → HasEvent front numbers }
+    {
+        self.events.contains_key(&numbers)
+    }
+
+    /// Adds a block that has been judged.
+    pub(crate) fn add(&mut self, alloc: Global, block: &Block) -> Result<(), AllocError>
+        ensures { (front : List Atom) → AreNoted front self.old → Holds front (block_toks block.now) → OnOk result (AreNoted front self.new) }
+    {
+        match block {
+            Block::Trace(_) => self.has_trace = true,
+            Block::Environment(_) => self.has_environment = true,
+            Block::Clock(items) => self.add_clock(alloc, items.as_slice())?,
+            Block::Stream(items) => self.add_stream(items.as_slice())?,
+            Block::Event(items) => self.add_event(alloc, items.as_slice())?,
+        }
+        Ok(())
+    }
+
+    fn add_clock(&mut self, alloc: Global, items: &[Item]) -> Result<(), AllocError>
+        ensures { (front : List Atom) → AreNoted front self.old → Holds front (block_toks (Block.Clock items.now)) → OnOk result (AreNoted front self.new) }
+    {
+        if let Some(name) = name_in(items) {
+            let _is_new = self.clocks.insert(String::from_str(alloc, name.as_str())?)?;
+        }
+        Ok(())
+    }
+
+    fn add_stream(&mut self, items: &[Item]) -> Result<(), AllocError>
+        ensures { (front : List Atom) → AreNoted front self.old → Holds front (block_toks (Block.Stream items.now)) → OnOk result (AreNoted front self.new) }
+    {
+        if let Some(id) = natural_or_zero(attr_in("id", items)) {
+            let _is_new = self.streams.insert(id)?;
+        }
+        Ok(())
+    }
+
+    fn add_event(&mut self, alloc: Global, items: &[Item]) -> Result<(), AllocError>
+        ensures { (front : List Atom) → AreNoted front self.old → Holds front (block_toks (Block.Event items.now)) → OnOk result (AreNoted front self.new) }
+    {
+        let (Some(name), Some(numbers)) = (name_in(items), event_numbers(items)) else {
+            return Ok(());
+        };
+        let name = String::from_str(alloc, name.as_str())?;
+        drop(self.events.insert(numbers, name)?);
+        Ok(())
+    }
+
+    /// Where judging a text stops that has no flaw before its end.
+    pub(crate) fn stop_at_end(&self, alloc: Global, at: usize) -> Stop
+        ensures { (toks : List Atom) → HasLength toks at → StopsText toks result }
+    {
+        match self.flaw_at_end(alloc) {
+            Err(error) => Stop::from(error),
+            Ok(flaw) => Stop::Fault(Fault { at, end: at, flaw }),
+        }
+    }
+
+    fn flaw_at_end(&self, alloc: Global) -> Result<Flaw, AllocError>
+        ensures { IfOk result (λ flaw. (kind_of flaw ≡ faults.Syntax) ⊎ (kind_of flaw ≡ faults.NoPacketSize)) }
+    {
+        if !self.has_trace {
+            return Ok(Flaw::Syntax("a trace block"));
+        }
+        match self.first_orphan(alloc)? {
+            Some(orphan) => Ok(Flaw::NoStream(orphan)),
+            None => Ok(Flaw::NoPacketSize),
+        }
+    }
+
+    /// The first event by number whose stream is not there.
+    fn first_orphan(&self, alloc: Global) -> Result<Option<Orphan>, AllocError> {
+        for ((stream, _), name) in &self.events {
+            if !self.streams.contains(stream) {
+                return Ok(Some(Orphan {
+                    stream: *stream,
+                    event: String::from_str(alloc, name.as_str())?,
+                }));
+            }
+        }
+        Ok(None)
+    }
+}
+
+/// The name that a clock or an event has.
+fn name_in(items: &[Item]) -> Option<&Text>
+    ensures { option_map (λ t. t.now) result ≡ clock_name items.now }
+{
+    name_value(attr_in("name", items)?)
+}
+
+/// The numbers of an event, of its stream and its own.
+pub(crate) fn event_numbers(items: &[Item]) -> Option<(u64, u64)>
+    ensures { IfSome result (λ numbers. HasNumbers items.now numbers.0 numbers.1) }
+{
+    let stream = natural_or_zero(attr_in("stream_id", items))?;
+    let id = natural_or_zero(attr_in("id", items))?;
+    Some((stream, id))
+}

@@ -1,0 +1,44 @@
+//! The names that have stood so far.
+
+ghost use Rattle.std.specs.Prelude.{List, [], ◌∷◌, ◌++◌, IfOk, IfErr};
+ghost use Rattle.tsdl_grammar.specs.declared.token.Mark.{Mark};
+ghost use Rattle.tsdl_grammar.specs.declared.atom.Atom.{Atom};
+ghost use Rattle.tsdl_grammar.specs.Spelling.{mark, name_toks};
+ghost use Rattle.tsdl_meaning.specs.Judged.{StopsWhere};
+ghost use Rattle.tsdl_meaning.specs.NamesBefore.{AreNamed};
+
+use std::alloc::Global;
+use std::collections::BTreeSet;
+use tsdl_flaw::{Fault, Flaw, Spelled, Stop, dotted};
+use tsdl_grammar::Name;
+
+/// Names as they are written, of which none stands twice.
+#[derive(Drop)]
+pub(crate) struct Names {
+    names: BTreeSet<String>,
+}
+
+impl Names {
+    pub(crate) fn new(alloc: Global) -> Names
+        ensures { (front : List Atom) (sign : Mark) → AreNamed front sign result.names }
+    {
+        Names {
+            names: BTreeSet::new(alloc),
+        }
+    }
+
+    /// Adds a name, of which the first word has this index, and its mark stands behind it.
+    pub(crate) fn add(&mut self, alloc: Global, name: &Name, at: usize) -> Result<(), Stop>
+        ensures fault { IfErr result (λ s. (sign : Mark) → StopsWhere (λ front. AreNamed front sign self.old.names) at (name_toks name.now ++ mark sign ∷ []) s) }
+        ensures added { IfOk result (λ _. (front : List Atom) (sign : Mark) → AreNamed front sign self.old.names → AreNamed (front ++ (name_toks name.now ++ mark sign ∷ [])) sign self.new.names) }
+    {
+        let written = dotted(alloc, name)?;
+        if self.names.contains(written.as_str()) {
+            let end = at.saturating_add(name.length()).saturating_add(1);
+            let flaw = Flaw::Duplicate;
+            return Err(Stop::Fault(Fault { at, end, flaw }));
+        }
+        let _is_new = self.names.insert(written)?;
+        Ok(())
+    }
+}

@@ -1,0 +1,100 @@
+//! The first flaw of a scope's structure: its members in order, then its alignment.
+
+ghost use Rattle.std.specs.Prelude.{List, [], ◌∷◌, ◌++◌, IfOk, IfErr};
+ghost use Rattle.std.specs.List.{Contains, flat_map};
+ghost use Rattle.ctf_types.specs.Members.{names_in};
+ghost use Rattle.tsdl_grammar.specs.declared.tree.Kind.{Kind};
+ghost use Rattle.tsdl_grammar.specs.declared.tree.MemberTree.{MemberTree};
+ghost use Rattle.tsdl_grammar.specs.Spelling.{word, bracket_toks, member_toks, struct_toks};
+ghost use Rattle.tsdl_meaning.specs.Judged.{StopsAmong, StopsWhere};
+ghost use Rattle.tsdl_meaning.specs.MembersBefore.{AreMembers, IsBehindMembers, IsBehindKind};
+
+use crate::judge::brackets::judge_brackets;
+use crate::judge::kind::judge_kind;
+use crate::judge::survey::Survey;
+use crate::judge::value::judge_align;
+use crate::member::member_meaning;
+use crate::scope_rule::{ScopeRule, suits_rule};
+use crate::structure::{MAX_MEMBERS, has_member};
+use ctf_types::{Members, Text};
+use std::alloc::Global;
+use tsdl_flaw::{Fault, Flaw, Remedy, Spelled, Stop};
+use tsdl_grammar::{MemberTree, Structure};
+
+/// `"struct" "{" { member } "}" [ "align" "(" number ")" ]`. Answers the members.
+pub(crate) fn judge_structure(
+    alloc: Global,
+    survey: &Survey,
+    rule: ScopeRule,
+    structure: &Structure,
+    at: usize,
+) -> Result<Members, Stop>
+    ensures { IfErr result (StopsAmong at (struct_toks structure.now)) }
+{
+    let mut members = Members::new(alloc);
+    let mut next = at.saturating_add(2);
+    let trees = structure.members.as_slice();
+    for tree in trees {
+        judge_member(alloc, survey, rule, &mut members, tree, next)?;
+        next = next.saturating_add(tree.length());
+    }
+    if let Some(number) = structure.align {
+        judge_align(&number, next.saturating_add(3))?;
+    }
+    Ok(members)
+}
+
+/// `kind identifier { bracket } ";"`, a member behind these.
+fn judge_member(
+    alloc: Global,
+    survey: &Survey,
+    rule: ScopeRule,
+    members: &mut Members,
+    tree: &MemberTree,
+    at: usize,
+) -> Result<(), Stop>
+    ensures fault { IfErr result (λ s. (done : List MemberTree) → AreMembers done members.old → StopsWhere (IsBehindMembers done) at (member_toks tree.now) s) }
+    ensures added { IfOk result (λ _. (done : List MemberTree) → AreMembers done members.old → AreMembers (done ++ tree.now ∷ []) members.new) }
+{
+    judge_kind(alloc, survey, &tree.kind, at)?;
+    let place = at.saturating_add(tree.kind.length());
+    judge_member_name(members, &tree.name, place)?;
+    let behind = place.saturating_add(1);
+    judge_brackets(alloc, members, tree.brackets.as_slice(), behind)?;
+    let Some(member) = member_meaning(alloc, &survey.known, members, tree)? else {
+        return Err(Stop::expected(at, &tree.kind, "a type that is read here"));
+    };
+    if !suits_rule(rule, tree.name.as_str(), &member) {
+        return Err(unsuited(alloc, tree, place));
+    }
+    members.push(tree.name.copy(alloc)?, member)?;
+    Ok(())
+}
+
+/// The name of a member behind these, which is new.
+fn judge_member_name(members: &Members, name: &Text, at: usize) -> Result<(), Stop>
+    ensures fault { IfErr result (λ s. (done : List MemberTree) (kind : Kind) → AreMembers done members.now → StopsWhere (IsBehindKind done kind) at (word name.now ∷ []) s) }
+    ensures fresh { IfOk result (λ _. Contains (names_in members.now) name.now → ⊥) }
+{
+    if has_member(members, name.as_str()) {
+        return Err(Stop::at_atom(at, Flaw::Duplicate));
+    }
+    if members.len() >= MAX_MEMBERS {
+        return Err(Stop::at_atom(at, Flaw::Limit("at most 1024 members")));
+    }
+    Ok(())
+}
+
+/// A member that has another type than its name asks for in its scope.
+fn unsuited(alloc: Global, tree: &MemberTree, at: usize) -> Stop
+    ensures { StopsAmong at (word tree.now.name ∷ flat_map bracket_toks tree.now.brackets) result }
+{
+    let end = at.saturating_add(tree.brackets.length()).saturating_add(1);
+    match String::from_str(alloc, tree.name.as_str()) {
+        Ok(name) => {
+            let flaw = Flaw::Unsupported(name, Remedy::Nothing);
+            Stop::Fault(Fault { at, end, flaw })
+        }
+        Err(_) => Stop::NoMemory,
+    }
+}

@@ -1,0 +1,105 @@
+//! A first look over the atoms of a text: what integers have to know of the whole text.
+
+use crate::known::Known;
+use crate::trace::order_word;
+use ctf_types::{ByteOrder, ListOf, Text};
+use std::alloc::{AllocError, Global};
+use tsdl_grammar::{Atom, Mark};
+
+/// The trace's byte order, where it is given, and what integers have to know. Blocks stand in any order.
+#[derive(Drop)]
+pub struct Survey {
+    pub(crate) order: Option<ByteOrder>,
+    pub(crate) known: Known,
+}
+
+impl Survey {
+    /// What is found among the atoms of a text.
+    pub fn of(alloc: Global, atoms: &[Atom]) -> Result<Survey, AllocError> {
+        let mut found = Found {
+            order: None,
+            clocks: ListOf::new(alloc),
+        };
+        let mut around = Around::Nothing;
+        let mut depth = 0usize;
+        for next in atoms.windows(5) {
+            around = around.behind(depth, next);
+            depth = depth_behind(depth, next);
+            if depth == 1 {
+                found.note(alloc, around, next)?;
+            }
+        }
+        let Found { order, clocks } = found;
+        let known = Known::with_names(alloc, order.unwrap_or(ByteOrder::Little), clocks)?;
+        Ok(Survey { order, known })
+    }
+}
+
+/// The trace's byte order and the clocks' names, as far as they are found.
+#[derive(Drop)]
+struct Found {
+    order: Option<ByteOrder>,
+    clocks: ListOf<Text>,
+}
+
+impl Found {
+    /// Notes the attribute that stands behind the first atom, if it is one that integers have to know.
+    fn note(&mut self, alloc: Global, around: Around, next: &[Atom]) -> Result<(), AllocError> {
+        let [
+            Atom::Mark(Mark::OpenBrace | Mark::Semicolon),
+            Atom::Word(name),
+            Atom::Mark(Mark::Equals),
+            value,
+            Atom::Mark(Mark::Semicolon),
+        ] = next
+        else {
+            return Ok(());
+        };
+        match (around, name.as_str(), value) {
+            (Around::Trace, "byte_order", Atom::Word(order)) => self.note_order(order),
+            (Around::Clock, "name", Atom::Word(clock) | Atom::Text(clock)) => {
+                self.clocks.push(clock.copy(alloc)?)?;
+            }
+            _ => {}
+        }
+        Ok(())
+    }
+
+    fn note_order(&mut self, order: &Text) {
+        if self.order.is_none() {
+            self.order = order_word(order.as_str());
+        }
+    }
+}
+
+/// The block that an attribute stands in.
+#[derive(Clone, Copy)]
+enum Around {
+    Trace,
+    Clock,
+    Nothing,
+}
+
+impl Around {
+    /// The block behind the first of some atoms, which stand in so many braces.
+    fn behind(self, depth: usize, next: &[Atom]) -> Around {
+        let [Atom::Word(word), Atom::Mark(Mark::OpenBrace), ..] = next else {
+            return self;
+        };
+        match (depth, word.as_str()) {
+            (0, "trace") => Around::Trace,
+            (0, "clock") => Around::Clock,
+            (0, _) => Around::Nothing,
+            _ => self,
+        }
+    }
+}
+
+/// How many braces are open behind the first of some atoms.
+fn depth_behind(depth: usize, next: &[Atom]) -> usize {
+    match next {
+        [Atom::Mark(Mark::OpenBrace), ..] => depth.saturating_add(1),
+        [Atom::Mark(Mark::CloseBrace), ..] => depth.saturating_sub(1),
+        _ => depth,
+    }
+}

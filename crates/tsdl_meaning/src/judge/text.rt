@@ -1,0 +1,90 @@
+//! The first flaw of a text that means nothing, by one pass over its blocks.
+
+ghost use Rattle.std.specs.Prelude.{List, ◌++◌, OnOk, IfOk, IfErr};
+ghost use Rattle.tsdl_grammar.specs.declared.atom.Atom.{Atom};
+ghost use Rattle.tsdl_grammar.specs.Spelling.{block_toks, text_toks};
+ghost use Rattle.tsdl_flaw.specs.TextStops.{StopsText};
+ghost use Rattle.tsdl_meaning.specs.Judged.{StopsWhere};
+ghost use Rattle.tsdl_meaning.specs.Ledgers.{AreNoted};
+
+use crate::judge::block::{BlockKind, Judging, judge_items};
+use crate::judge::environment::judge_environment;
+use crate::judge::ledger::Ledger;
+use crate::judge::survey::Survey;
+use std::alloc::Global;
+use tsdl_flaw::{Spelled, Stop};
+use tsdl_grammar::Block;
+
+/// Where judging the blocks of a text stops that means nothing.
+///
+/// Faults come in the order of the text. The end of the text lacks a trace block, the stream of an event or the sizes
+/// of a stream's packets, in this order.
+pub fn first_flaw(alloc: Global, survey: &Survey, blocks: &[Block]) -> Stop
+    ensures { StopsText (text_toks blocks.now) result }
+{
+    match judge_blocks(alloc, survey, blocks) {
+        Ok(stop) => stop,
+        Err(stop) => stop,
+    }
+}
+
+/// Judges the blocks in their order. Answers where judging stops that finds nothing wrong with any of them.
+fn judge_blocks(alloc: Global, survey: &Survey, blocks: &[Block]) -> Result<Stop, Stop>
+    ensures end { IfOk result (StopsText (text_toks blocks.now)) }
+    ensures fault { IfErr result (StopsText (text_toks blocks.now)) }
+{
+    let mut ledger = Ledger::new(alloc);
+    let mut next = 0usize;
+    for block in blocks {
+        judge_block(alloc, survey, &mut ledger, block, next)?;
+        next = next.saturating_add(block.length()).saturating_add(1);
+    }
+    Ok(ledger.stop_at_end(alloc, next))
+}
+
+/// Judges a block, whose word stands at an atom, and adds it to the others.
+fn judge_block(
+    alloc: Global,
+    survey: &Survey,
+    ledger: &mut Ledger,
+    block: &Block,
+    at: usize,
+) -> Result<(), Stop>
+    ensures fault { IfErr result (StopsWhere (λ front. AreNoted front ledger.old) at (block_toks block.now)) }
+    ensures noted { (front : List Atom) → AreNoted front ledger.old → OnOk result (AreNoted (front ++ block_toks block.now) ledger.new) }
+{
+    judge_parts(alloc, survey, ledger, block, at)?;
+    ledger.add(alloc, block)?;
+    Ok(())
+}
+
+fn judge_parts(
+    alloc: Global,
+    survey: &Survey,
+    ledger: &Ledger,
+    block: &Block,
+    at: usize,
+) -> Result<(), Stop>
+    ensures { IfErr result (StopsWhere (λ front. AreNoted front ledger.now) at (block_toks block.now)) }
+{
+    let (kind, items) = match block {
+        Block::Trace(items) => {
+            ledger.judge_trace(at)?;
+            (BlockKind::Trace, items)
+        }
+        Block::Stream(items) => (BlockKind::Stream, items),
+        Block::Event(items) => (BlockKind::Event, items),
+        Block::Clock(items) => (BlockKind::Clock, items),
+        Block::Environment(facts) => {
+            ledger.judge_environment(at)?;
+            return judge_environment(facts.as_slice(), at);
+        }
+    };
+    let judging = Judging {
+        alloc,
+        survey,
+        ledger,
+        kind,
+    };
+    judge_items(&judging, items.as_slice(), at)
+}

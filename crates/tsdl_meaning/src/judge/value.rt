@@ -1,0 +1,157 @@
+//! What attributes have, judged by what each one may have. A flaw of a value stands at its first atom.
+
+ghost use Rattle.std.specs.Prelude.{◌≡◌, Some, IfOk, IfErr};
+ghost use Rattle.tsdl_grammar.specs.Spelling.{value_toks, number_toks};
+ghost use Rattle.tsdl_grammar.specs.AttributeValues.{natural, natural_value, name_value};
+ghost use Rattle.tsdl_meaning.specs.Judged.{StopsAmong, StopsWhere};
+ghost use Rattle.tsdl_meaning.specs.Judging.{IsBehindAlign};
+
+use crate::scope_rule::has_word;
+use crate::value::{flag_value, name_value, natural, text_value, uuid_value, whole, word_value};
+use ctf_types::Text;
+use std::alloc::Global;
+use tsdl_flaw::{Flaw, Remedy, Stop};
+use tsdl_grammar::{Number, Value};
+
+/// The largest alignment in bits.
+const LARGEST_ALIGN: u64 = 4096;
+
+/// The number of a value that has to be one.
+fn number(value: &Value, at: usize) -> Result<&Number, Stop>
+    ensures fault { IfErr result (StopsAmong at (value_toks value.now)) }
+    ensures number { IfOk result (λ n. value.now ≡ Value.Number n.now) }
+{
+    match value {
+        Value::Number(number) => Ok(number),
+        Value::Text(_) | Value::Name(_) => Err(Stop::expected(at, value, "a number")),
+    }
+}
+
+/// A number that is not below 0.
+pub(crate) fn judge_number(number: &Number, at: usize) -> Result<u64, Stop>
+    ensures fault { IfErr result (StopsAmong at (number_toks number.now)) }
+    ensures value { IfOk result (λ n. natural number.now ≡ Some n) }
+{
+    match natural(*number) {
+        Some(natural) => Ok(natural),
+        None => Err(Stop::expected(at, number, "a number that is not negative")),
+    }
+}
+
+/// A number that is not below 0.
+pub(crate) fn judge_natural(value: &Value, at: usize) -> Result<u64, Stop>
+    ensures fault { IfErr result (StopsAmong at (value_toks value.now)) }
+    ensures value { IfOk result (λ n. natural_value value.now ≡ Some n) }
+{
+    judge_number(number(value, at)?, at)
+}
+
+/// Judges whether this is a number from -2^63 to 2^63 - 1.
+pub(crate) fn judge_whole(value: &Value, at: usize) -> Result<(), Stop>
+    ensures { IfErr result (StopsAmong at (value_toks value.now)) }
+{
+    match whole(*number(value, at)?) {
+        Some(_) => Ok(()),
+        None => Err(Stop::expected(at, value, "a number from -2^63 to 2^63 - 1")),
+    }
+}
+
+/// Judges an alignment in bits, a power of two.
+pub(crate) fn judge_align(number: &Number, at: usize) -> Result<(), Stop>
+    ensures { IfErr result (StopsWhere IsBehindAlign at (number_toks number.now)) }
+{
+    let align = judge_number(number, at)?;
+    if !align.is_power_of_two() {
+        return Err(Stop::expected(at, number, "a power of two"));
+    }
+    if align > LARGEST_ALIGN {
+        return Err(Stop::at(at, number, Flaw::Limit("an alignment of at most 4096 bits")));
+    }
+    Ok(())
+}
+
+/// Judges the alignment that an attribute has.
+pub(crate) fn judge_align_value(value: &Value, at: usize) -> Result<(), Stop>
+    ensures { IfErr result (StopsWhere IsBehindAlign at (value_toks value.now)) }
+{
+    judge_align(number(value, at)?, at)
+}
+
+/// A string.
+pub(crate) fn judge_text(value: &Value, at: usize) -> Result<(), Stop>
+    ensures { IfErr result (StopsAmong at (value_toks value.now)) }
+{
+    match text_value(value) {
+        Some(_) => Ok(()),
+        None => Err(Stop::expected(at, value, "a string")),
+    }
+}
+
+/// Judges whether this is a string that an identifier of a trace or a clock parses from.
+pub(crate) fn judge_uuid(value: &Value, at: usize) -> Result<(), Stop>
+    ensures { IfErr result (StopsAmong at (value_toks value.now)) }
+{
+    judge_text(value, at)?;
+    match uuid_value(value) {
+        Some(_) => Ok(()),
+        None => Err(Stop::expected(at, value, "a string with a UUID")),
+    }
+}
+
+/// The name of a clock or an event: an identifier or a string.
+pub(crate) fn judge_label(value: &Value, at: usize) -> Result<&Text, Stop>
+    ensures fault { IfErr result (StopsAmong at (value_toks value.now)) }
+    ensures value { IfOk result (λ t. name_value value.now ≡ Some t.now) }
+{
+    match name_value(value) {
+        Some(label) => Ok(label),
+        None => Err(Stop::expected(at, value, "an identifier or a string")),
+    }
+}
+
+/// Judges a flag, by one of its words or as 1 or 0.
+pub(crate) fn judge_flag(value: &Value, at: usize) -> Result<(), Stop>
+    ensures { IfErr result (StopsAmong at (value_toks value.now)) }
+{
+    if let Value::Number(_) = value {
+        judge_natural(value, at)?;
+    }
+    match flag_value(value) {
+        Some(_) => Ok(()),
+        None => Err(Stop::expected(at, value, "`true`, `TRUE`, `1`, `false`, `FALSE` or `0`")),
+    }
+}
+
+/// The flaw of a value that is none of the words that may stand here. Another name is not supported.
+pub(crate) fn unread(alloc: Global, value: &Value, at: usize, remedy: Remedy) -> Stop
+    ensures { StopsAmong at (value_toks value.now) result }
+{
+    match value {
+        Value::Name(name) => Stop::unsupported(alloc, at, name, remedy),
+        Value::Number(_) | Value::Text(_) => Stop::expected(at, value, "a name"),
+    }
+}
+
+/// Judges whether this is one of these words. Another name is not supported.
+pub(crate) fn judge_words(
+    alloc: Global,
+    value: &Value,
+    at: usize,
+    words: &[&str],
+    remedy: Remedy,
+) -> Result<(), Stop>
+    ensures { IfErr result (StopsAmong at (value_toks value.now)) }
+{
+    match word_value(value) {
+        Some(word) if has_word(word.as_str(), words) => Ok(()),
+        _ => Err(unread(alloc, value, at, remedy)),
+    }
+}
+
+/// What can be done about a value that is no byte order here: another byte order is converted.
+pub(crate) fn order_remedy(value: &Value) -> Remedy {
+    match word_value(value) {
+        Some(word) if has_word(word.as_str(), &["be", "le", "network"]) => Remedy::Conversion,
+        _ => Remedy::Nothing,
+    }
+}

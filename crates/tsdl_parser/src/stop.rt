@@ -1,0 +1,126 @@
+//! Where a text stops spelling blocks, what was expected there, and how the text could go on. The rule that stops says what
+//! it lacks, and each rule around it adds what closes it.
+
+ghost use Rattle.std.specs.Prelude.{◌≡◌, ◌-◌, ◌≤◌};
+ghost use Rattle.tsdl_parser.specs.Stopping.{Alike};
+ghost use Rattle.tsdl_parser.specs.declared.stop.Unread.TheVariants.{Memory};
+
+use crate::expected::Expected;
+use crate::piece::Piece;
+use arrayvec::ArrayVec;
+use std::alloc::{AllocError, AllocFailed};
+use tsdl_grammar::Atom;
+
+/// More pieces than any text lacks, which are at most 12.
+const MOST_PIECES: usize = 16;
+
+/// Why no blocks were read.
+#[derive(Debug, Drop)]
+pub enum Unread {
+    /// Memory ran out.
+    Memory,
+    /// The atoms spell none.
+    Stopped(Stop),
+}
+
+impl From<AllocError> for Unread {
+    ghost from_gives = { λ _ e. e ≡ Memory };
+
+    fn from(_e: AllocError) -> Unread {
+        Unread::Memory
+    }
+}
+
+impl<T: Drop> From<AllocFailed<T>> for Unread {
+    ghost from_gives = { λ _ e. e ≡ Memory };
+
+    fn from(_e: AllocFailed<T>) -> Unread {
+        Unread::Memory
+    }
+}
+
+/// A place where the atoms of a text stop spelling blocks, and a text that goes on from there: the atoms that are
+/// kept and then the rest spell blocks.
+#[derive(Debug, Drop)]
+pub struct Stop {
+    /// How many atoms are left from the place on: none at the end of the text.
+    pub left: usize,
+    /// How many atoms before the place begin something that is not whole there, and are not kept.
+    pub dropped: usize,
+    /// What was expected at the place.
+    pub expected: Expected,
+    /// What the kept atoms go on with, up to the end of a text.
+    pub rest: ArrayVec<Piece, MOST_PIECES>,
+}
+
+impl Stop {
+    /// The stop in front of these atoms, from where a text could go on with these pieces.
+    pub(crate) fn before(atoms: &[Atom], expected: Expected, pieces: &[Piece]) -> Stop {
+        let nothing = Stop {
+            left: atoms.len(),
+            dropped: 0,
+            expected,
+            rest: ArrayVec::new(),
+        };
+        nothing.going_on(pieces)
+    }
+
+    /// The index of the place among so many atoms of a text, which is their number at the end.
+    pub fn at(&self, count: usize) -> usize
+        ensures place { result ≡ count - self.now.left }
+        ensures within { result ≤ count }
+    {
+        count.saturating_sub(self.left)
+    }
+
+    /// How many atoms are kept, of a text of so many atoms.
+    pub fn kept(&self, count: usize) -> usize
+        ensures before { result ≡ count - self.now.left - self.now.dropped }
+        ensures within { result ≤ count }
+    {
+        self.at(count).saturating_sub(self.dropped)
+    }
+
+    /// The same stop, with these pieces behind its rest.
+    fn going_on(mut self, pieces: &[Piece]) -> Stop {
+        let _fits = self.rest.try_extend_from_slice(pieces);
+        self
+    }
+}
+
+/// What was found, or the same stop with these pieces behind its rest.
+pub(crate) fn going_on<T>(found: Result<T, Unread>, pieces: &[Piece]) -> Result<T, Unread>
+    ensures { Alike found result }
+{
+    match found {
+        Ok(found) => Ok(found),
+        Err(Unread::Memory) => Err(Unread::Memory),
+        Err(Unread::Stopped(stop)) => Err(Unread::Stopped(stop.going_on(pieces))),
+    }
+}
+
+/// What was found, or the same stop with this expected.
+pub(crate) fn expecting<T>(found: Result<T, Unread>, expected: Expected) -> Result<T, Unread>
+    ensures { Alike found result }
+{
+    match found {
+        Ok(found) => Ok(found),
+        Err(Unread::Memory) => Err(Unread::Memory),
+        Err(Unread::Stopped(stop)) => Err(Unread::Stopped(Stop { expected, ..stop })),
+    }
+}
+
+/// What was found, or the same stop with none of these atoms kept.
+pub(crate) fn back_to<T>(found: Result<T, Unread>, atoms: &[Atom]) -> Result<T, Unread>
+    ensures { Alike found result }
+{
+    match found {
+        Ok(found) => Ok(found),
+        Err(Unread::Memory) => Err(Unread::Memory),
+        Err(Unread::Stopped(stop)) => Err(Unread::Stopped(Stop {
+            dropped: atoms.len().saturating_sub(stop.left),
+            rest: ArrayVec::new(),
+            ..stop
+        })),
+    }
+}

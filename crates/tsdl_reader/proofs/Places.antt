@@ -1,0 +1,35 @@
+-- A fault where something else is expected.
+use Rattle.std.proofs.Common.{◌≡◌, ℕ, List, [], slice_get, Result, Ok, Err, IfErr, ◌≤◌, length, refl, inl, sym, subst}
+use Rattle.std.proofs.lemmas.List.{append-nil}
+use Rattle.tsdl_grammar.specs.declared.atom.Atom.{Atom}
+use Rattle.tsdl_grammar.specs.declared.fault.MetaFaultKind.TheVariants as faults
+use Rattle.tsdl_flaw.specs.declared.flaw.Flaw.{Flaw}
+use Rattle.tsdl_flaw.specs.declared.flaw.Flaw.TheVariants as flaws
+use Rattle.tsdl_flaw.specs.declared.flaw.Stop.{Stop}
+use Rattle.tsdl_flaw.specs.declared.flaw.Stop.TheVariants as stops
+use Rattle.tsdl_flaw.specs.Lengths.{most}
+use Rattle.tsdl_flaw.specs.TextStops.{IsTextFault, StopsText}
+use Rattle.tsdl_flaw.specs.Flaws.{FaultStands}
+use Rattle.tsdl_flaw.specs.Stopping.{kind_of}
+use Rattle.tsdl_flaw.proofs.Texts.{word_stands}
+use Rattle.tsdl_flaw.proofs.TextStops.{text_stands}
+use Rattle.tsdl_reader.specs.Reading.{IsFlawOf, IsFaultOf}
+
+-- the flaw of what stands at a place
+pub placed : (text : List Atom) (at : ℕ) (flaw : Flaw) → IsFlawOf (slice_get text at) flaw → FaultStands text at (kind_of flaw)
+placed text at (flaws.Syntax expected) h = tt
+placed text at flaws.NamedType h = tt
+placed text at flaws.LabelWithoutValue h = tt
+placed text at (flaws.NoStream orphan) h = absurd h
+placed text at (flaws.Unsupported name remedy) h =
+    word_stands text at _ (faults.Unsupported name) h (λ front. inl (record { words = record { first = _; rest = [] }; behind = []; here = refl; same = sym (append-nil _) }))
+placed text at flaws.Duplicate h = absurd h
+placed text at flaws.NoPacketSize h = absurd h
+placed text at flaws.BadLength h = absurd h
+placed text at (flaws.Limit expected) h = absurd h
+
+-- a fault of a whole text, wherever it is answered
+pub whole_stands : {A : Type 0} (text whole : List Atom) (answer : Result A Stop) → whole ≡ text → length text ≤ most → IfErr answer (StopsText whole) → IfErr answer (IsFaultOf text)
+whole_stands text whole (Ok x) same bound h = tt
+whole_stands text whole (Err (stops.Fault fault)) same bound h = text_stands text fault (subst (λ (l : List Atom). length l ≤ most → IsTextFault l fault) same h bound)
+whole_stands text whole (Err stops.NoMemory) same bound h = tt
