@@ -5,4 +5,8 @@ pub mod ConfigurationRowLaws
 pub mod ConfigurationSteps
 pub mod WholeFlawLaws
 pub mod ConfigurationFlawLaws
+pub mod ExcludedLeaves
+pub mod ExcludedIntegers
+pub mod ExcludedFields
+pub mod ExcludedMembers
 mod WorkedObjectFlaws
