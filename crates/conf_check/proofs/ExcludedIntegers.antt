@@ -19,13 +19,12 @@ use Rattle.conf_values.specs.declared.properties.ObjectKind.TheVariants as objec
 use Rattle.conf_values.specs.LeafFlaws.{IsNoNatural, IsNoWordOf, words_of}
 use Rattle.conf_values.specs.Scalar.{natural_of, is_printable}
 use Rattle.conf_values.specs.Words.{base_words}
-use Rattle.conf_fields.specs.declared.enum_type.Span.{Span}
 use Rattle.conf_fields.specs.IntType.{is_power_of_two, power_or_not, alignment_of, base_of, size_of}
 use Rattle.conf_fields.specs.EnumType.{end_of, pair_of, range_of, is_inside, numbers_of, size_in, numbers_in, mappings_of}
 use Rattle.conf_fields.specs.FieldFlaws.{IsPowerOfTwo, IsNoAlignment, IsNoInteger, IsWhole, IsNoEnd, IsRange, IsNoRange, IsNoRangeIn, IsNoLabel, IsNoMappings, IsNoEnumeration}
 use Rattle.conf_fields.specs.FieldRows.{IsIntegerObject, IsEnumerationObject}
 use Rattle.conf_fields.specs.MappingRows.{IsRange as IsMappingRange, AreRanges, IsLabel, AreLabels, AreMappings}
-use Rattle.conf_values.proofs.Steps.{both_read, read_there, is_passed, same_value}
+use Rattle.conf_values.proofs.Steps.{both_read, read_there, is_passed, ok_same}
 use Rattle.conf_values.proofs.LeafFlawLaws.{wanted_found}
 use Rattle.conf_fields.proofs.IntegerFlawLaws.{natural_there, alignment_there}
 use Rattle.conf_fields.proofs.MappingRowLaws.{mappings_say}
@@ -115,28 +114,22 @@ integer_excluded signed ms t flaw h (IsNoInteger.wrong_base wrong) = may_say_exc
 -- ---- ranges
 
 -- a list of two numbers that was read
-record PairRead (ds : Items) (range : Span) : Type 0 where
+record PairRead (ds : Items) (least most : ℤ) : Type 0 where
   first : Data
   second : Data
   is : ds ≡ item first (item second no_items)
-  low : end_of first ≡ Ok range.low
-  high : end_of second ≡ Ok range.high
+  low : end_of first ≡ Ok least
+  high : end_of second ≡ Ok most
 
-pair_read : (ds : Items) (range : Span) → pair_of ds ≡ Ok range → PairRead ds range
+pair_read : (ds : Items) (range : _) → pair_of ds ≡ Ok range → PairRead ds range.low range.high
 unfolding pair_of
 pair_read no_items range e = absurd cc
 pair_read (item a no_items) range e = absurd cc
 pair_read (item a (item b no_items)) range e =
     let x = both_read (at (index 0) (end_of a)) _ range e in
     let y = both_read (at (index 1) (end_of b)) _ range x.2 in
-    let same : record { low = x.0; high = y.0 } ≡ range = same_value (record { low = x.0; high = y.0 }) range _ refl y.2 in
-    record {
-      first = a;
-      second = b;
-      is = refl;
-      low = read_there (index 0) (end_of a) x.0 x.1 ∙ ap (λ (r : Span). Ok r.low) same;
-      high = read_there (index 1) (end_of b) y.0 y.1 ∙ ap (λ (r : Span). Ok r.high) same;
-    }
+    let made : PairRead (item a (item b no_items)) x.0 y.0 = record { first = a; second = b; is = refl; low = read_there (index 0) (end_of a) x.0 x.1; high = read_there (index 1) (end_of b) y.0 y.1 } in
+    subst (λ r. PairRead (item a (item b no_items)) r.low r.high) (ok_same (record { low = x.0; high = y.0 }) range y.2) made
 pair_read (item a (item b (item c ds))) range e = absurd cc
 
 end_excluded : (d : Data) (z : ℤ) (flaw : Flaw) → end_of d ≡ Ok z → ¬ IsNoEnd d flaw
@@ -162,56 +155,55 @@ pair_firsts ds a b c d p q = (cc, cc)
 listed : (ds es : Items) → as_array (array ds) ≡ Some es → ds ≡ es
 listed ds es e = cc
 
-pair_excluded : (ds : Items) (range : Span) (flaw : Flaw) → PairRead ds range → ¬ IsNoRange (array ds) flaw
-pair_excluded ds range flaw h (IsNoRange.no_number_or_list none other) = absurd cc
-pair_excluded ds range flaw h (IsNoRange.wrong_number m there wrong) = absurd cc
-pair_excluded ds range flaw h (IsNoRange.no_pair es there other) = other (ap items_len (sym (listed ds es there)) ∙ ap items_len h.is)
-pair_excluded ds range flaw h (IsNoRange.wrong_low a b f pair wrong) =
+pair_excluded : (ds : Items) (least most : ℤ) (flaw : Flaw) → PairRead ds least most → ¬ IsNoRange (array ds) flaw
+pair_excluded ds least most flaw h (IsNoRange.no_number_or_list none other) = absurd cc
+pair_excluded ds least most flaw h (IsNoRange.wrong_number m there wrong) = absurd cc
+pair_excluded ds least most flaw h (IsNoRange.no_pair es there other) = other (ap items_len (sym (listed ds es there)) ∙ ap items_len h.is)
+pair_excluded ds least most flaw h (IsNoRange.wrong_low a b f pair wrong) =
     let same = pair_firsts ds h.first h.second a b h.is (ap array (listed ds (item a (item b no_items)) pair)) in
-    end_excluded a range.low f (subst (λ x. end_of x ≡ Ok range.low) same.0 h.low) wrong
-pair_excluded ds range flaw h (IsNoRange.wrong_high a b f pair wrong) =
+    end_excluded a least f (subst (λ x. end_of x ≡ Ok least) same.0 h.low) wrong
+pair_excluded ds least most flaw h (IsNoRange.wrong_high a b f pair wrong) =
     let same = pair_firsts ds h.first h.second a b h.is (ap array (listed ds (item a (item b no_items)) pair)) in
-    end_excluded b range.high f (subst (λ x. end_of x ≡ Ok range.high) same.1 h.high) wrong
+    end_excluded b most f (subst (λ x. end_of x ≡ Ok most) same.1 h.high) wrong
 
-range_excluded : (d : Data) (range : Span) (flaw : Flaw) → range_of d ≡ Ok range → ¬ IsNoRange d flaw
+range_excluded : (d : Data) (range : _) (flaw : Flaw) → range_of d ≡ Ok range → ¬ IsNoRange d flaw
 unfolding range_of
 range_excluded null range flaw e = absurd cc
 range_excluded (boolean b) range flaw e = absurd cc
 range_excluded (number n) range flaw e = let x = both_read (end_of (number n)) _ range e in number_excluded n x.0 flaw x.1
 range_excluded (string s) range flaw e = absurd cc
-range_excluded (array ds) range flaw e = pair_excluded ds range flaw (pair_read ds range e)
+range_excluded (array ds) range flaw e = pair_excluded ds range.low range.high flaw (pair_read ds range e)
 range_excluded (object ms) range flaw e = absurd cc
 
 number_same : (n : Num) (x low high : ℤ) → end_of (number n) ≡ Ok x → IsRange (number n) low high → (x ≡ low) × (x ≡ high)
 number_same n x low high e (IsRange.one_number z whole) = (end_same (number n) x z e whole, end_same (number n) x z e whole)
 number_same n x low high e (IsRange.two_numbers a b l h pair first second) = absurd cc
 
-pair_same : (ds : Items) (range : Span) (low high : ℤ) → PairRead ds range → IsRange (array ds) low high → (range.low ≡ low) × (range.high ≡ high)
-pair_same ds range low high h (IsRange.one_number z (m, is, whole)) = absurd cc
-pair_same ds range low high h (IsRange.two_numbers a b l g pair first second) =
+pair_same : (ds : Items) (least most low high : ℤ) → PairRead ds least most → IsRange (array ds) low high → (least ≡ low) × (most ≡ high)
+pair_same ds least most low high h (IsRange.one_number z (m, is, whole)) = absurd cc
+pair_same ds least most low high h (IsRange.two_numbers a b l g pair first second) =
     let same = pair_firsts ds h.first h.second a b h.is (ap array (listed ds (item a (item b no_items)) pair)) in
-    (end_same a range.low low (subst (λ x. end_of x ≡ Ok range.low) same.0 h.low) first, end_same b range.high high (subst (λ x. end_of x ≡ Ok range.high) same.1 h.high) second)
+    (end_same a least low (subst (λ x. end_of x ≡ Ok least) same.0 h.low) first, end_same b most high (subst (λ x. end_of x ≡ Ok most) same.1 h.high) second)
 
 -- a range that was read is the one that the value is
-range_same : (d : Data) (range : Span) (low high : ℤ) → range_of d ≡ Ok range → IsRange d low high → (range.low ≡ low) × (range.high ≡ high)
+range_same : (d : Data) (range : _) (low high : ℤ) → range_of d ≡ Ok range → IsRange d low high → (range.low ≡ low) × (range.high ≡ high)
 unfolding range_of
 range_same null range low high e is = absurd cc
 range_same (boolean b) range low high e is = absurd cc
 range_same (number n) range low high e is =
     let x = both_read (end_of (number n)) _ range e in
-    let same : record { low = x.0; high = x.0 } ≡ range = same_value (record { low = x.0; high = x.0 }) range _ refl x.2 in
-    let ends = number_same n x.0 low high x.1 is in
-    (sym (ap (λ (r : Span). r.low) same) ∙ ends.0, sym (ap (λ (r : Span). r.high) same) ∙ ends.1)
+    subst (λ r. (r.low ≡ low) × (r.high ≡ high)) (ok_same (record { low = x.0; high = x.0 }) range x.2) (number_same n x.0 low high x.1 is)
 range_same (string s) range low high e is = absurd cc
-range_same (array ds) range low high e is = pair_same ds range low high (pair_read ds range e) is
+range_same (array ds) range low high e is = pair_same ds range.low range.high low high (pair_read ds range e) is
 range_same (object ms) range low high e is = absurd cc
 
-record Inside (numbers range : Span) : Type 0 where
-  ascends : int_le range.low range.high ≡ true
-  above : int_le numbers.low range.low ≡ true
-  below : int_le range.high numbers.high ≡ true
+-- a range from low to high, inside the numbers from least to most
+record Inside (least most low high : ℤ) : Type 0 where
+  ascends : int_le low high ≡ true
+  above : int_le least low ≡ true
+  below : int_le high most ≡ true
 
-inside : (numbers range : Span) → is_inside numbers range ≡ true → Inside numbers range
+inside : (numbers range : _) → is_inside numbers range ≡ true → Inside numbers.low numbers.high range.low range.high
 unfolding is_inside
 inside numbers range e =
     let p = and_parts (int_le range.low range.high && int_le numbers.low range.low) (int_le range.high numbers.high) e in
@@ -241,13 +233,13 @@ module _ (signed : Bool) (ms : Members) where
 
 -- ---- labels
 
-range_at : (numbers : Span) (label : List ℕ) (ds : Items) (ms : List Mapping) (i : ℕ) (e : Data) → AreRanges numbers label ds ms → get_item i ds ≡ Some e → (m : Mapping) × IsMappingRange numbers label e m
+range_at : (numbers : _) (label : List ℕ) (ds : Items) (ms : List Mapping) (i : ℕ) (e : Data) → AreRanges numbers label ds ms → get_item i ds ≡ Some e → (m : Mapping) × IsMappingRange numbers label e m
 range_at numbers label no_items ms i e h there = absurd cc
 range_at numbers label (item d ds) [] i e h there = absurd h
 range_at numbers label (item d ds) (m ∷ ms) zero e h there = let same : d ≡ e = cc in (m, subst (λ x. IsMappingRange numbers label x m) same h.0)
 range_at numbers label (item d ds) (m ∷ ms) (suc i) e h there = range_at numbers label ds ms i e h.1 there
 
-label_at : (numbers : Span) (labels : Members) (ms : List Mapping) (k : List ℕ) (v : Data) → AreLabels numbers labels ms → HasMember k v labels → (own : List Mapping) × IsLabel numbers k v own
+label_at : (numbers : _) (labels : Members) (ms : List Mapping) (k : List ℕ) (v : Data) → AreLabels numbers labels ms → HasMember k v labels → (own : List Mapping) × IsLabel numbers k v own
 label_at numbers no_members ms k v h there = absurd there
 label_at numbers (member l e labels) ms k v (own, rest, is, more, all) (inl (name, value)) = (own, subst (λ x. IsLabel numbers x v own) (sym name) (subst (λ x. IsLabel numbers l x own) (sym value) is))
 label_at numbers (member l e labels) ms k v (own, rest, is, more, all) (inr later) = label_at numbers labels rest k v more later

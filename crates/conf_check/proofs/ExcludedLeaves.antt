@@ -23,7 +23,7 @@ use Rattle.conf_values.specs.Name.{name_of, is_reserved, plain_name_of}
 use Rattle.conf_values.specs.Words.{word_in}
 use Rattle.conf_values.specs.Broken.{HasUnknown, SaysNot, MaySayNot}
 use Rattle.conf_values.specs.LeafFlaws.{IsNoObject, IsNoList, IsNoText, IsNoFlag, IsNoNatural, IsNoSigned, IsNoWhole, IsControl, IsNoConfigText, IsNoUuid, IsNoWordOf, words_of, IsNoName, IsReserved, IsNoPlainName}
-use Rattle.conf_values.proofs.Steps.{both_read, read_there, is_one_of, is_passed, needed_read}
+use Rattle.conf_values.proofs.Steps.{both_read, read_there, is_one_of, is_passed, needed_read, ok_same}
 use Rattle.conf_values.proofs.Numbers.{natural_low, natural_high}
 use Rattle.conf_values.proofs.LeafFlawLaws.{wanted_found, found_there}
 use Rattle.conf_fields.proofs.IntegerFlawLaws.{natural_there}
@@ -63,24 +63,32 @@ known_alone kind ms flaw known (k, d, has, other, is) = each_known kind ms k d k
 
 -- ---- properties that are read
 
+some_given : {A : Type 0} (found : Option Data) (name : List ℕ) (reads : Data → Result A Flaw) (o : Option A) (d : Data) → some_read (λ v. at (key name) (reads v)) found ≡ Ok o → found ≡ Some d → (x : A) × (o ≡ Some x) × (reads d ≡ Ok x)
+some_given None name reads o d e is = absurd cc
+some_given (Some v) name reads o d e is =
+    let y = both_read (at (key name) (reads v)) _ o e in
+    let same : v ≡ d = cc in
+    (y.0, sym (ok_same (Some y.0) o y.2), subst (λ w. reads w ≡ Ok y.0) same (read_there (key name) (reads v) y.0 y.1))
+
+-- what an optional property that is there was read as
+pub given_as : {A : Type 0} (name : List ℕ) (reads : Data → Result A Flaw) (ms : Members) (o : Option A) (d : Data) → optional_as name reads ms ≡ Ok o → optional name ms ≡ Some d → (x : A) × (o ≡ Some x) × (reads d ≡ Ok x)
+unfolding optional_as
+given_as name reads ms o d e is = some_given (optional name ms) name reads o d e is
+
+-- what a needed property was read as
+pub needed_as_is : {A : Type 0} (name : List ℕ) (reads : Data → Result A Flaw) (ms : Members) (x : A) (d : Data) → needed_as name reads ms ≡ Ok x → get_member name ms ≡ Some d → reads d ≡ Ok x
+needed_as_is name reads ms x d e there =
+    let r = needed_read name reads ms x e in
+    let same : r.0 ≡ d = same_found (get_member name ms) r.0 d (found_there name ms r.0 r.1) there in
+    subst (λ v. reads v ≡ Ok x) same r.2
+
 module _ {A : Type 0} (name : List ℕ) (reads : Data → Result A Flaw) (wrong : Data → Flaw → Type 0) (ms : Members) (flaw : Flaw) (h : Excludes reads wrong) where
   pub says_excluded : (x : A) → needed_as name reads ms ≡ Ok x → ¬ SaysNot name wrong ms flaw
   says_excluded x e (inl (none, is)) = let r = needed_read name reads ms x e in some_is_none (get_member name ms) r.0 (found_there name ms r.0 r.1) none
-  says_excluded x e (inr (d, f, there, is_wrong, is)) =
-      let r = needed_read name reads ms x e in
-      let same : r.0 ≡ d = same_found (get_member name ms) r.0 d (found_there name ms r.0 r.1) there in
-      h d x f (subst (λ v. reads v ≡ Ok x) same r.2) is_wrong
-
-  given_excluded : (found : Option Data) (d : Data) (f : Flaw) (o : Option A) → some_read (λ v. at (key name) (reads v)) found ≡ Ok o → found ≡ Some d → ¬ wrong d f
-  given_excluded None d f o e is is_wrong = some_is_none (Some d) d refl (sym is)
-  given_excluded (Some v) d f o e is is_wrong =
-      let y = both_read (at (key name) (reads v)) _ o e in
-      let same : v ≡ d = cc in
-      h d y.0 f (subst (λ w. reads w ≡ Ok y.0) same (read_there (key name) (reads v) y.0 y.1)) is_wrong
+  says_excluded x e (inr (d, f, there, is_wrong, is)) = h d x f (needed_as_is name reads ms x d e there) is_wrong
 
   pub may_say_excluded : (o : Option A) → optional_as name reads ms ≡ Ok o → ¬ MaySayNot name wrong ms flaw
-  unfolding optional_as
-  may_say_excluded o e (d, f, there, is_wrong, is) = given_excluded (optional name ms) d f o e there is_wrong
+  may_say_excluded o e (d, f, there, is_wrong, is) = let r = given_as name reads ms o d e there in h d r.0 f r.2 is_wrong
 
 -- ---- values of another kind
 

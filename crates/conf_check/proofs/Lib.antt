@@ -9,4 +9,10 @@ pub mod ExcludedLeaves
 pub mod ExcludedIntegers
 pub mod ExcludedFields
 pub mod ExcludedMembers
+pub mod ExcludedFeatures
+pub mod ExcludedObjects
+pub mod ExcludedTraces
+pub mod ExcludedLimits
+pub mod ExcludedParts
+pub mod ExcludedTexts
 mod WorkedObjectFlaws
