@@ -23,7 +23,7 @@ use Rattle.conf_objects.proofs.AllowedStreams.{IsGoodStream}
 
 -- ---- the rules
 
-judged_streams : (rule : StreamRule) (c : Config) → streams_judged rule c ≡ Ok tt → all_judged rule c.clocks c.streams ≡ Ok tt
+pub judged_streams : (rule : StreamRule) (c : Config) → streams_judged rule c ≡ Ok tt → all_judged rule c.clocks c.streams ≡ Ok tt
 unfolding streams_judged
 judged_streams rule c e = read_there (key (codes "data-stream-types")) _ tt (read_there (key (codes "type")) _ tt (read_there (key (codes "trace")) _ tt e))
 
@@ -54,11 +54,11 @@ passed d draft e =
     let o = both_read (one_order draft) _ tt l.2 in
     record { stream_number = a.1; numbers = b.1; bits = b.2; clocks = c.1; identifier = n.2; within = l.1; sizes = o.2 }
 
-number_holds : (c : Config) → stream_number_fits c ≡ Ok tt → HoldsUpTo (length c.streams - 1) c.header.stream_id
+pub number_holds : (c : Config) → stream_number_fits c ≡ Ok tt → HoldsUpTo (length c.streams - 1) c.header.stream_id
 unfolding stream_number_fits
 number_holds c e = holds_up_to (length c.streams - 1) c.header.stream_id (unless_passed _ _ e)
 
-identifier_there : (c : Config) → identifier_given c ≡ Ok tt → IsSome c.header.uuid → IsSome c.uuid
+pub identifier_there : (c : Config) → identifier_given c ≡ Ok tt → IsSome c.header.uuid → IsSome c.uuid
 unfolding identifier_given
 identifier_there c e is = uuid_given c.header.uuid c.uuid _ tt e is
 

@@ -36,7 +36,7 @@ unfolding holds
 holds_up_to n None e = eqb-true n 0 e
 holds_up_to n (Some t) e = ltb-true n (2 ^ t.size) e
 
-fits : (s : StreamType) → numbers_fit s ≡ Ok tt → HoldsUpTo (length s.events - 1) s.event_header.id
+pub fits : (s : StreamType) → numbers_fit s ≡ Ok tt → HoldsUpTo (length s.events - 1) s.event_header.id
 unfolding numbers_fit
 fits s e = holds_up_to (length s.events - 1) s.event_header.id (unless_passed _ _ e)
 
@@ -77,10 +77,10 @@ either : (a b : Bool) → (a || b) ≡ true → (a ≡ true) ⊎ (b ≡ true)
 either true b e = inl refl
 either false b e = inr e
 
-abbrev HasBitsIn : StreamType → EventType → Type 0
+abbrev pub HasBitsIn : StreamType → EventType → Type 0
 HasBitsIn s e = IsSome s.event_header.id ⊎ (IsSome s.event_header.timestamp ⊎ (StructHasBits s.common ⊎ (StructHasBits e.specific ⊎ StructHasBits e.payload)))
 
-record_bits : (s : StreamType) (e : EventType) → (header_has_bits s || event_has_bits e) ≡ true → HasBitsIn s e
+pub record_bits : (s : StreamType) (e : EventType) → (header_has_bits s || event_has_bits e) ≡ true → HasBitsIn s e
 unfolding header_has_bits event_has_bits
 record_bits s e is =
     elim (either (header_has_bits s) (event_has_bits e) is) [
@@ -129,22 +129,22 @@ clock_named (c ∷ cs) name e = go (bytes_eq c.name name) refl (clock_named cs n
     go true is others rest = (0, omega arith, (bytes_eq-Decides c.name name).0 is)
     go false is others rest = later_name c.name (map (λ x. x.name) cs) name (others rest)
 
-default_named : (clocks : List ClockType) (clock : Option (List ℕ)) → clock_is_there clocks clock ≡ true → (c : List ℕ) → clock ≡ Some c → Contains (map (λ x. x.name) clocks) c
+pub default_named : (clocks : List ClockType) (clock : Option (List ℕ)) → clock_is_there clocks clock ≡ true → (c : List ℕ) → clock ≡ Some c → Contains (map (λ x. x.name) clocks) c
 unfolding clock_is_there
 default_named clocks None e c is = absurd cc
 default_named clocks (Some name) e c is = let same : name ≡ c = cc in subst (Contains (map (λ x. x.name) clocks)) same (clock_named clocks name e)
 
 -- ---- timestamps
 
-whole_is : (o : Option IntType) (t : IntType) → is_whole o ≡ true → o ≡ Some t → t.size ≡ 64
+pub whole_is : (o : Option IntType) (t : IntType) → is_whole o ≡ true → o ≡ Some t → t.size ≡ 64
 unfolding is_whole
 whole_is None t e is = absurd cc
 whole_is (Some x) t e is = let same : x ≡ t = cc in subst (λ (y : IntType). y.size ≡ 64) same (eqb-true x.size 64 e)
 
-abbrev HasRecordSize : Option IntType → IntType → Type 0
+abbrev pub HasRecordSize : Option IntType → IntType → Type 0
 HasRecordSize begin t = (8 ≤ t.size) × ((t.size ≡ 64) ⊎ IsSome begin)
 
-record_size_is : (begin o : Option IntType) (t : IntType) → has_record_size begin o ≡ true → o ≡ Some t → HasRecordSize begin t
+pub record_size_is : (begin o : Option IntType) (t : IntType) → has_record_size begin o ≡ true → o ≡ Some t → HasRecordSize begin t
 unfolding has_record_size
 record_size_is begin None t e is = absurd cc
 record_size_is begin (Some x) t e is =
@@ -153,7 +153,7 @@ record_size_is begin (Some x) t e is =
     let whole_or_counted : (x.size ≡ 64) ⊎ IsSome begin = elim (either (x.size == 64) (is_some begin) b.1) [ inl w ↦ inl (eqb-true x.size 64 w) | inr there ↦ inr there ] in
     subst (HasRecordSize begin) same (leb-true 8 x.size b.0, whole_or_counted)
 
-clocked_is : (clock : Option (List ℕ)) (o : Option IntType) (t : IntType) → is_clocked clock o ≡ true → o ≡ Some t → IsSome clock
+pub clocked_is : (clock : Option (List ℕ)) (o : Option IntType) (t : IntType) → is_clocked clock o ≡ true → o ≡ Some t → IsSome clock
 clocked_is (Some c) o t e is = refl
 clocked_is None (Some x) t e is = absurd cc
 clocked_is None None t e is = absurd cc
@@ -179,13 +179,13 @@ pub record KeepsRules (clocks : List ClockType) (s : StreamType) : Type 0 where
   pub clocks_there : clocks_are_there clocks s ≡ Ok tt
   pub sizes : timestamps_sized s ≡ Ok tt
 
-record Clocked (clocks : List ClockType) (s : StreamType) : Type 0 where
-  default_there : clock_is_there clocks s.default_clock ≡ true
-  of_record : record_clocked s ≡ Ok tt
-  of_begin : begin_clocked s ≡ Ok tt
-  of_end : end_clocked s ≡ Ok tt
+pub record Clocked (clocks : List ClockType) (s : StreamType) : Type 0 where
+  pub default_there : clock_is_there clocks s.default_clock ≡ true
+  pub of_record : record_clocked s ≡ Ok tt
+  pub of_begin : begin_clocked s ≡ Ok tt
+  pub of_end : end_clocked s ≡ Ok tt
 
-clocked : (clocks : List ClockType) (s : StreamType) → clocks_are_there clocks s ≡ Ok tt → Clocked clocks s
+pub clocked : (clocks : List ClockType) (s : StreamType) → clocks_are_there clocks s ≡ Ok tt → Clocked clocks s
 unfolding clocks_are_there timestamps_clocked
 clocked clocks s e =
     let first = both_read (unless (clock_is_there clocks s.default_clock) _) _ tt e in
@@ -193,12 +193,12 @@ clocked clocks s e =
     let begin = both_read (begin_clocked s) _ tt rec.2 in
     record { default_there = unless_passed (clock_is_there clocks s.default_clock) _ first.1; of_record = rec.1; of_begin = begin.1; of_end = begin.2 }
 
-record Sized (s : StreamType) : Type 0 where
-  of_record : record_sized s ≡ Ok tt
-  of_begin : begin_sized s ≡ Ok tt
-  of_end : end_sized s ≡ Ok tt
+pub record Sized (s : StreamType) : Type 0 where
+  pub of_record : record_sized s ≡ Ok tt
+  pub of_begin : begin_sized s ≡ Ok tt
+  pub of_end : end_sized s ≡ Ok tt
 
-sized : (s : StreamType) → timestamps_sized s ≡ Ok tt → Sized s
+pub sized : (s : StreamType) → timestamps_sized s ≡ Ok tt → Sized s
 unfolding timestamps_sized
 sized s e =
     let rec = both_read (record_sized s) _ tt e in
@@ -236,14 +236,14 @@ stream_is clocks s good rules =
 abbrev judged_at_names : StreamRule → List ClockType → StreamType → Result (Unit {0}) Flaw
 judged_at_names rule clocks s = at (key s.name) (judged rule clocks s)
 
-judged_each : (rule : StreamRule) (clocks : List ClockType) (ss : List StreamType) → all_judged rule clocks ss ≡ Ok tt → AllByRecursion (λ s. judged rule clocks s ≡ Ok tt) ss
+pub judged_each : (rule : StreamRule) (clocks : List ClockType) (ss : List StreamType) → all_judged rule clocks ss ≡ Ok tt → AllByRecursion (λ s. judged rule clocks s ≡ Ok tt) ss
 unfolding judged_by_name
 judged_each rule clocks [] e = tt
 judged_each rule clocks (s ∷ ss) e =
     let first = both_read (judged_at_names rule clocks s) _ tt e in
     (read_there (key s.name) (judged rule clocks s) tt first.1, judged_each rule clocks ss first.2)
 
-keep_rules : (clocks : List ClockType) (s : StreamType) → judged NumbersFit clocks s ≡ Ok tt → judged RecordsHaveBits clocks s ≡ Ok tt → judged ClocksAreThere clocks s ≡ Ok tt → judged TimestampsAreSized clocks s ≡ Ok tt → KeepsRules clocks s
+pub keep_rules : (clocks : List ClockType) (s : StreamType) → judged NumbersFit clocks s ≡ Ok tt → judged RecordsHaveBits clocks s ≡ Ok tt → judged ClocksAreThere clocks s ≡ Ok tt → judged TimestampsAreSized clocks s ≡ Ok tt → KeepsRules clocks s
 unfolding judged
 keep_rules clocks s a b c d = record { numbers = a; bits = b; clocks_there = c; sizes = d }
 

@@ -1,5 +1,5 @@
 -- What reads as a feature, or as the features of an object, excludes each flaw of them.
-use Rattle.std.proofs.Common.{◌≡◌, ◌≢◌, ◌⊎◌, ℕ, Bool, true, false, List, [], ◌∷◌, Option, Some, None, Result, Ok, inl, inr, refl, sym, ap, subst, ◌∙◌}
+use Rattle.std.proofs.Common.{◌≡◌, ◌≢◌, ℕ, Bool, true, false, List, [], ◌∷◌, Option, Some, Ok, inl, inr, refl, sym, ap, subst, ◌∙◌}
 use Rattle.std.specs.Prelude.{codes}
 use Rattle.serde_json.specs.Data.{Data, null, boolean, number, string, array, object, Members, no_members, member}
 use Rattle.serde_json.specs.Find.{as_object, as_bool}
@@ -18,7 +18,7 @@ use Rattle.conf_values.specs.Broken.{MaySayNot}
 use Rattle.conf_values.specs.declared.words.FieldClass.TheVariants as classes
 use Rattle.conf_fields.specs.FieldFlaws.{IsOfClass}
 use Rattle.conf_fields.specs.FieldRows.{MaySay}
-use Rattle.conf_fields.specs.FieldType.{class_in, field_of, unsigned_of, unsigned_field_of}
+use Rattle.conf_fields.specs.FieldType.{field_of, unsigned_field_of}
 use Rattle.conf_objects.specs.declared.feature.Choice.{Choice}
 use Rattle.conf_objects.specs.declared.feature.FeatureRule.{FeatureRule}
 use Rattle.conf_objects.specs.declared.feature.FeatureRule.TheVariants.{Plain, Size, Magic, Identifier}
@@ -27,8 +27,8 @@ use Rattle.conf_objects.specs.EntryRows.{EachEntry, EachEntryIs}
 use Rattle.conf_objects.specs.Feature.{choice_of}
 use Rattle.conf_objects.specs.FeatureRows.{IsByte, IsChoice}
 use Rattle.conf_objects.specs.Features.{header_of, event_header_of, context_of, stream_fields_of}
-use Rattle.conf_objects.specs.ObjectFlaws.{IsNoSuch, HasWrongEntry, IsIdentifierField, IsNoFeature, IsNoHeaderObject, IsNoHeader, IsNoEventHeaderObject, IsNoEventHeader, IsNoPacketObject, IsNoPacketFeatures, IsNoStreamFeaturesObject, IsNoStreamFeatures}
-use Rattle.conf_objects.specs.ObjectRows.{IsFeature, IsSize, IsTimestampFeature, IsHeaderObject, IsEventHeaderObject, IsContextObject, IsStreamFieldsObject}
+use Rattle.conf_objects.specs.ObjectFlaws.{IsNoSuch, HasWrongEntry, IsNoFeature, IsNoHeaderObject, IsNoHeader, IsNoEventHeaderObject, IsNoEventHeader, IsNoPacketObject, IsNoPacketFeatures, IsNoStreamFeaturesObject, IsNoStreamFeatures}
+use Rattle.conf_objects.specs.ObjectRows.{IsHeaderObject, IsEventHeaderObject, IsContextObject, IsStreamFieldsObject}
 use Rattle.conf_values.proofs.Steps.{both_read, same_value}
 use Rattle.conf_values.proofs.LeafFlawLaws.{wanted_found}
 use Rattle.conf_fields.proofs.FieldFlawLaws.{same_class}

@@ -1,12 +1,11 @@
 -- What reads as a field type, or as the type of a member, excludes each flaw of one.
-use Rattle.std.proofs.Common.{◌≡◌, ◌≢◌, ℕ, zero, suc, Bool, true, false, cond, List, Contains, Option, Some, None, Result, Ok, Err, inl, inr, refl, sym, ap, subst, ◌∙◌, arith, get_or}
+use Rattle.std.proofs.Common.{◌≡◌, ℕ, zero, suc, Bool, true, false, cond, List, Contains, Some, Result, Ok, refl, sym, ap, subst, ◌∙◌}
 use Rattle.std.specs.Prelude.{codes, nat_lt}
 use Rattle.std.specs.List.{list_all}
 use Rattle.std.proofs.lemmas.Bool.{true≢false}
 use Rattle.std.proofs.lemmas.List.Folds.{list_all_at}
 use Rattle.serde_json.specs.Data.{Data, Members}
 use Rattle.serde_json.specs.Find.{get_member, as_object}
-use Rattle.ctf_types.specs.declared.EnumType.{EnumType}
 use Rattle.ctf_types.specs.declared.FieldType.{FieldType}
 use Rattle.ctf_types.specs.declared.FieldType.TheVariants as fields
 use Rattle.ctf_types.specs.declared.IntType.{IntType}
@@ -26,14 +25,14 @@ use Rattle.conf_fields.specs.IntType.{int_of}
 use Rattle.conf_fields.specs.FieldType.{class_of, class_in, field_in, field_of, unsigned_of, unsigned_field_of}
 use Rattle.conf_fields.specs.MemberType.{is_dynamic, has_bits, element_of, dynamic_of, member_type_of}
 use Rattle.conf_fields.specs.FieldFlaws.{IsNoClass, IsOfClass, IsNoInteger, IsNoEnumeration, integer_class, enumeration_class, IsNoStaticArray, IsNoFieldWithin, IsNoField, IsNoUnsignedField, IsNoElement, IsNoDynamicArray, IsNoMemberType}
-use Rattle.conf_fields.specs.FieldRows.{Says, IsStaticArrayObject, IsDynamicArrayObject}
-use Rattle.conf_fields.specs.InnerRows.{IsFieldOf, IsFieldWithin}
+use Rattle.conf_fields.specs.FieldRows.{IsStaticArrayObject, IsDynamicArrayObject}
+use Rattle.conf_fields.specs.InnerRows.{IsFieldOf}
 use Rattle.conf_values.proofs.Steps.{both_read, is_passed, same_value, needed_read}
 use Rattle.conf_values.proofs.LeafFlawLaws.{wanted_found, found_there}
 use Rattle.conf_fields.proofs.FieldFlawLaws.{dynamic_only, same_class}
 use Rattle.conf_fields.proofs.FieldRowLaws.{integer_says, dynamic_says}
 use Rattle.conf_fields.proofs.InnerRowLaws.{field_says}
-use Rattle.conf_check.proofs.ExcludedLeaves.{some_is_none, same_found, known_alone, says_excluded, object_excluded, natural_excluded, word_excluded}
+use Rattle.conf_check.proofs.ExcludedLeaves.{some_is_none, same_found, known_alone, says_excluded, natural_excluded, word_excluded}
 use Rattle.conf_check.proofs.ExcludedIntegers.{integer_excluded, enumeration_excluded}
 
 -- ---- classes

@@ -1,5 +1,5 @@
 -- What reads as an alignment, an integer or an enumeration excludes each flaw of one.
-use Rattle.std.proofs.Common.{◌≡◌, ◌≢◌, ◌⊎◌, ◌<◌, ◌≤◌, ◌^◌, ◌*◌, ◌/◌, ◌+◌, ◌%◌, ◌==◌, ◌&&◌, ℕ, zero, suc, ℤ, ◌<ℤ◌, Bool, true, cond, List, [], ◌∷◌, Contains, Option, Some, None, Result, Ok, Err, inl, inr, refl, sym, ap, subst, ◌∙◌, arith}
+use Rattle.std.proofs.Common.{◌≡◌, ◌⊎◌, ◌<◌, ◌≤◌, ◌^◌, ◌*◌, ◌/◌, ◌+◌, ◌%◌, ◌==◌, ◌&&◌, ℕ, zero, suc, ℤ, Bool, true, List, [], ◌∷◌, Some, Ok, inl, inr, refl, sym, ap, subst, ◌∙◌, arith}
 use Rattle.std.specs.Prelude.{codes, int_le}
 use Rattle.std.proofs.lemmas.Bool.{and_parts, ltb-true, eqb-true}
 use Rattle.std.proofs.Math.Nat.{mul-zero, zero-mul, suc-mul, add-mul, mul-add, two-pow-succ, one-le-mul}
@@ -13,11 +13,11 @@ use Rattle.ctf_types.specs.declared.IntType.{IntType}
 use Rattle.ctf_types.specs.declared.Mapping.{Mapping}
 use Rattle.conf_tree.specs.declared.fault_kind.FaultKind.TheVariants.{OutOfRange}
 use Rattle.conf_tree.specs.Flaw.{Flaw, index, here}
-use Rattle.conf_tree.specs.Reading.{at, object_of, list_of}
+use Rattle.conf_tree.specs.Reading.{at}
 use Rattle.conf_tree.specs.Walk.{HasMember}
 use Rattle.conf_values.specs.declared.properties.ObjectKind.TheVariants as objects
 use Rattle.conf_values.specs.LeafFlaws.{IsNoNatural, IsNoWordOf, words_of}
-use Rattle.conf_values.specs.Scalar.{natural_of, is_printable}
+use Rattle.conf_values.specs.Scalar.{natural_of}
 use Rattle.conf_values.specs.Words.{base_words}
 use Rattle.conf_fields.specs.IntType.{is_power_of_two, power_or_not, alignment_of, base_of, size_of}
 use Rattle.conf_fields.specs.EnumType.{end_of, pair_of, range_of, is_inside, numbers_of, size_in, numbers_in, mappings_of}
@@ -28,7 +28,7 @@ use Rattle.conf_values.proofs.Steps.{both_read, read_there, is_passed, ok_same}
 use Rattle.conf_values.proofs.LeafFlawLaws.{wanted_found}
 use Rattle.conf_fields.proofs.IntegerFlawLaws.{natural_there, alignment_there}
 use Rattle.conf_fields.proofs.MappingRowLaws.{mappings_say}
-use Rattle.conf_check.proofs.ExcludedLeaves.{some_is_none, same_found, known_alone, says_excluded, may_say_excluded, object_excluded, list_excluded, natural_excluded, not_both_ways, whole_read, whole_excluded, shown_character, word_excluded}
+use Rattle.conf_check.proofs.ExcludedLeaves.{same_found, known_alone, says_excluded, may_say_excluded, object_excluded, list_excluded, natural_excluded, not_both_ways, whole_read, whole_excluded, shown_character, word_excluded}
 
 -- ---- the divisors of a power of two are powers of two
 

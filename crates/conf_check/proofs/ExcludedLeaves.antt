@@ -1,17 +1,17 @@
 -- What a value reads as excludes each of its flaws: the steps that all readings are made of, and the readings of single values.
 use Rattle.std.proofs.Common.{◌≡◌, ◌⊎◌, ◌≤◌, ◌<◌, ◌^◌, ℕ, ℤ, ◌<ℤ◌, pos, Bool, true, false, cond, suc, ◌&&◌, ◌||◌, List, [], ◌∷◌, length, Contains, Option, Some, None, Result, Ok, Err, inl, inr, refl, sym, ap, subst, ◌∙◌, arith, get_or}
 use Rattle.std.specs.Prelude.{nat_le, nat_lt, nat_eq, int_le}
-use Rattle.std.specs.List.{list_any, list_all}
+use Rattle.std.specs.List.{list_any}
 use Rattle.std.specs.Str.{bytes_eq}
 use Rattle.std.proofs.lemmas.Bool.{true≢false, false≢true, and_parts, or_parts, or_from, leb-true, ltb-true, lt-leb, ne_eqb}
 use Rattle.std.proofs.lemmas.List.Folds.{list_any_at, list_all_at}
 use Rattle.std.proofs.lemmas.Slice.Eq.{bytes_eq-Decides}
 use borrow.Author.Differences.{le-true, lt_out}
-use Rattle.serde_json.specs.Data.{Data, Num, unsigned, negative, float, Items, Members, no_members, member}
+use Rattle.serde_json.specs.Data.{Data, Num, unsigned, float, Items, Members, no_members, member}
 use Rattle.serde_json.specs.Find.{get_member, as_object, as_array, as_str, as_bool, as_number, as_integer}
 use Rattle.uuid.specs.Text.{parsed}
 use Rattle.ctf_types.specs.Names.{is_identifier, unused_keywords, used_keywords}
-use Rattle.conf_tree.specs.declared.fault_kind.FaultKind.TheVariants.{WrongKind, NotWhole, OutOfRange, BadName, ReservedName}
+use Rattle.conf_tree.specs.declared.fault_kind.FaultKind.TheVariants.{OutOfRange, BadName, ReservedName}
 use Rattle.conf_tree.specs.Flaw.{Flaw, key, here}
 use Rattle.conf_tree.specs.Reading.{◌>>=◌, at, wanted, object_of, list_of, text_of, flag_of, whole_or_not, whole_of, needed_as, optional, optional_as, some_read}
 use Rattle.conf_tree.specs.Walk.{HasMember}

@@ -1,12 +1,12 @@
 -- What was read as a field type, a members list or a structure, and keeps its limits, passes none of them.
-use Rattle.std.proofs.Common.{◌≡◌, ◌≢◌, ◌⊎◌, ◌<◌, ◌≤◌, ◌+◌, ◌++◌, ◌%◌, ◌==◌, ◌&&◌, ◌^◌, ℕ, zero, suc, Bool, true, false, cond, List, [], ◌∷◌, length, Option, Some, None, Result, Ok, Err, inl, inr, refl, sym, ap, subst, ◌∙◌, arith}
+use Rattle.std.proofs.Common.{◌≡◌, ◌⊎◌, ◌<◌, ◌≤◌, ◌%◌, ◌==◌, ◌^◌, ℕ, zero, suc, Bool, true, false, cond, List, [], ◌∷◌, length, Option, Some, Result, Ok, Err, inl, inr, refl, sym, ap, subst, ◌∙◌, arith}
 use Rattle.std.specs.Prelude.{codes, nat_le}
 use Rattle.std.proofs.lemmas.Bool.{and_parts, leb-true, eqb-true, true≢false}
 use Rattle.std.proofs.lemmas.List.{length-append}
 use Rattle.std.proofs.Math.Nat.{mod-eq_of_lt}
-use Rattle.serde_json.specs.Data.{Data, null, boolean, number, string, array, object, unsigned, Items, no_items, item, Members, no_members, member}
+use Rattle.serde_json.specs.Data.{Data, null, boolean, number, string, array, object, Items, no_items, item, Members, no_members, member}
 use Rattle.serde_json.specs.Events.{items_len}
-use Rattle.serde_json.specs.Find.{get_member, get_item, as_object, as_array, as_number}
+use Rattle.serde_json.specs.Find.{get_member, get_item, as_object, as_array}
 use Rattle.ctf_types.specs.Allowed.{elements_of}
 use Rattle.ctf_types.specs.FieldTypes.{chain_of}
 use Rattle.ctf_types.specs.declared.FieldType.{FieldType}
@@ -27,7 +27,7 @@ use Rattle.conf_fields.specs.MemberType.{is_dynamic, member_type_of, member_type
 use Rattle.conf_fields.specs.Member.{single_of, value_limits, entry_limits}
 use Rattle.conf_fields.specs.Members.{members_of, entry_limits_from, count_limit as member_count_limit, members_limits}
 use Rattle.conf_fields.specs.StructType.{struct_of, listed_limits, struct_limits}
-use Rattle.conf_fields.specs.FieldFlaws.{IsOfClass, IsNoAlignment, IsNoEntry, IsEntry, integer_class, enumeration_class, ranges_in, ranges_of, PassesAlignmentLimit, PassesMappingsLimit, PassesInnerLimit, PassesFieldLimit, PassesMemberTypeLimit, PassesEntryLimit, PassesMembersLimit, PassesStructLimit}
+use Rattle.conf_fields.specs.FieldFlaws.{IsOfClass, IsNoAlignment, integer_class, enumeration_class, ranges_in, ranges_of, PassesAlignmentLimit, PassesMappingsLimit, PassesInnerLimit, PassesFieldLimit, PassesMemberTypeLimit, PassesEntryLimit, PassesMembersLimit, PassesStructLimit}
 use Rattle.conf_fields.specs.FieldRows.{IsMemberObject, IsStructureObject}
 use Rattle.conf_fields.specs.InnerRows.{IsFieldOf, IsEntryObject}
 use Rattle.conf_fields.specs.MappingRows.{AreRanges, AreLabels}
@@ -38,7 +38,7 @@ use Rattle.conf_fields.proofs.FieldRowLaws.{structure_says}
 use Rattle.conf_fields.proofs.InnerRowLaws.{field_says}
 use Rattle.conf_fields.proofs.IntegerFlawLaws.{natural_there, alignment_there}
 use Rattle.conf_fields.proofs.MappingRowLaws.{mappings_say}
-use Rattle.conf_check.proofs.ExcludedLeaves.{some_is_none, same_found, found_read, given_as, needed_as_is, says_excluded, may_say_excluded, object_excluded, list_excluded}
+use Rattle.conf_check.proofs.ExcludedLeaves.{same_found, found_read, given_as, needed_as_is, says_excluded, may_say_excluded, object_excluded, list_excluded}
 use Rattle.conf_check.proofs.ExcludedIntegers.{alignment_excluded}
 use Rattle.conf_check.proofs.ExcludedFields.{OfClass, of_class, same_object, class_is, field_excluded, member_type_excluded}
 use Rattle.conf_check.proofs.ExcludedMembers.{entry_excluded, entries_read, EntriesRead}

@@ -1,8 +1,6 @@
 -- What reads as a member, a members list or a structure excludes each flaw of one.
-use Rattle.std.proofs.Common.{◌≡◌, ◌≢◌, ◌⊎◌, ◌<◌, ◌+◌, ◌++◌, ℕ, zero, suc, Bool, true, false, cond, List, [], ◌∷◌, Contains, Option, Some, None, Result, Ok, Err, inl, inr, refl, sym, ap, subst, ◌∙◌, arith}
+use Rattle.std.proofs.Common.{◌≡◌, ◌+◌, ◌++◌, ℕ, zero, suc, Bool, true, false, cond, List, [], ◌∷◌, Contains, Some, Ok, inl, inr, refl, sym, ap, subst, ◌∙◌, arith}
 use Rattle.std.specs.Prelude.{codes}
-use Rattle.std.specs.List.{list_any}
-use Rattle.std.specs.Str.{bytes_eq}
 use Rattle.std.proofs.lemmas.Bool.{false≢true, cases_order}
 use Rattle.std.proofs.lemmas.List.Elements.{Contains-append_left, Contains-append_right}
 use Rattle.serde_json.specs.Data.{Data, Items, no_items, item, Members, no_members, member}
@@ -15,11 +13,10 @@ use Rattle.ctf_types.specs.declared.MemberType.TheVariants.{Plain, Dyn}
 use Rattle.ctf_types.specs.declared.StructType.{StructType}
 use Rattle.conf_tree.specs.declared.fault_kind.FaultKind.TheVariants.{NameClash}
 use Rattle.conf_tree.specs.Flaw.{Flaw, here}
-use Rattle.conf_tree.specs.Reading.{◌>>=◌, object_of, list_of, needed, needed_as}
+use Rattle.conf_tree.specs.Reading.{◌>>=◌, object_of, needed, needed_as}
 use Rattle.conf_values.specs.declared.properties.ObjectKind.TheVariants as objects
 use Rattle.conf_values.specs.declared.words.FieldClass.{FieldClass}
 use Rattle.conf_values.specs.declared.words.FieldClass.TheVariants.{DynamicArray, Structure}
-use Rattle.conf_values.specs.LeafFlaws.{IsNoObject}
 use Rattle.conf_values.specs.Broken.{HasUnknown, MaySayNot}
 use Rattle.conf_values.specs.Name.{plain_name_of}
 use Rattle.conf_fields.specs.IntType.{alignment_of}
@@ -31,12 +28,12 @@ use Rattle.conf_fields.specs.StructType.{struct_of}
 use Rattle.conf_fields.specs.FieldFlaws.{IsNoAlignment, IsNoClass, IsOfClass, IsNoMemberType, IsEntry, IsMemberOf, TakesName, IsTakenBefore, IsNoMember, IsNoEntry, IsNoMembersList, IsNoStructure}
 use Rattle.conf_fields.specs.FieldRows.{IsMemberObject, IsStructureObject}
 use Rattle.conf_fields.specs.InnerRows.{IsEntryObject, AreEntries, AreMembers}
-use Rattle.conf_values.proofs.Steps.{both_read, same_value, needed_read}
+use Rattle.conf_values.proofs.Steps.{both_read, needed_read}
 use Rattle.conf_values.proofs.LeafFlawLaws.{wanted_found, found_there}
 use Rattle.conf_fields.proofs.EnumerationFlawLaws.{Follows, follows_itself, first_follows, rest_follows}
 use Rattle.conf_fields.proofs.FieldRowLaws.{dynamic_says, structure_says}
 use Rattle.conf_fields.proofs.InnerRowLaws.{members_list_says}
-use Rattle.conf_check.proofs.ExcludedLeaves.{some_is_none, same_found, found_read, known_alone, says_excluded, may_say_excluded, object_excluded, list_excluded, has_by_bytes, failed_test, plain_name_excluded}
+use Rattle.conf_check.proofs.ExcludedLeaves.{same_found, found_read, known_alone, says_excluded, may_say_excluded, object_excluded, list_excluded, has_by_bytes, failed_test, plain_name_excluded}
 use Rattle.conf_check.proofs.ExcludedIntegers.{alignment_excluded}
 use Rattle.conf_check.proofs.ExcludedFields.{OfClass, of_class, same_object, class_is, no_class_excluded, member_type_excluded}
 

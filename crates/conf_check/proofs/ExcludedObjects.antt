@@ -1,9 +1,9 @@
 -- What reads as a clock type, an environment, aliases, event record types or data stream types excludes each flaw of them.
-use Rattle.std.proofs.Common.{◌≡◌, ◌≢◌, ◌⊎◌, ◌||◌, ◌&&◌, ℕ, ℤ, Bool, true, false, cond, IsSome, List, [], ◌∷◌, Option, Some, None, Ok, Err, inl, inr, refl, sym, ap, subst, ◌∙◌}
+use Rattle.std.proofs.Common.{◌≡◌, ◌||◌, ◌&&◌, ℕ, ℤ, Bool, true, false, cond, IsSome, List, [], ◌∷◌, Option, Some, None, Ok, Err, inl, inr, refl, sym, ap, subst, ◌∙◌}
 use Rattle.std.specs.Prelude.{codes, unwrap_or}
-use Rattle.std.proofs.lemmas.Bool.{true≢false, false≢true, or_left, or_right}
+use Rattle.std.proofs.lemmas.Bool.{false≢true, or_left, or_right}
 use Rattle.serde_json.specs.Data.{Data, null, boolean, number, string, array, object, Num, Members, no_members, member}
-use Rattle.serde_json.specs.Find.{get_member, as_object, as_str, as_bool, as_number}
+use Rattle.serde_json.specs.Find.{get_member, as_str, as_bool, as_number}
 use Rattle.ctf_types.specs.Packets.{own_names}
 use Rattle.ctf_types.specs.declared.ClockType.{ClockType}
 use Rattle.ctf_types.specs.declared.EnvironmentEntry.{EnvironmentEntry}
@@ -23,16 +23,16 @@ use Rattle.conf_fields.specs.StructType.{struct_of}
 use Rattle.conf_objects.specs.declared.stream_type.Listed.{Listed}
 use Rattle.conf_objects.specs.Alias.{aliases_of}
 use Rattle.conf_objects.specs.ClockType.{Offset, max_u64, offset_of, clock_types_of}
-use Rattle.conf_objects.specs.EntryRows.{IsMapOf, IsMapTo, IsEnvironmentValue, IsEnvironmentEntry, IsAliasObject, IsLogLevelAlias, IsLogLevel}
+use Rattle.conf_objects.specs.EntryRows.{IsEnvironmentValue, IsEnvironmentEntry, IsAliasObject, IsLogLevelAlias, IsLogLevel}
 use Rattle.conf_objects.specs.Environment.{environment_of}
 use Rattle.conf_objects.specs.EventType.{event_types_of}
 use Rattle.conf_objects.specs.Features.{stream_fields_of}
 use Rattle.conf_objects.specs.LogLevel.{max_level, level_of, log_level_of, level_aliases_of}
-use Rattle.conf_objects.specs.MapRows.{IsObject, AreClocks, AreEvents, AreStreamEntries, AreStreams}
+use Rattle.conf_objects.specs.MapRows.{IsObject, AreStreamEntries}
 use Rattle.conf_objects.specs.ObjectFlaws.{IsNoSuch, IsNoOffsetObject, IsNoOffset, IsNoClockObject, IsNoClock, IsNoClockTypes, IsNoEnvironmentEntry, IsNoEnvironment, IsNoAlias, IsNoAliases, IsNoLogLevelAlias, IsNoLogLevelAliases, IsNoLogLevel, IsNoEventObject, IsNoEventType, IsNoEventTypes, IsNoStreamFeatures, IsNoDefault, IsNoStreamObject, IsNoStreamType, SaysDefault, IsBehindDefault, HasNoStreamTypes, IsNoStreamTypes, HasWrongEntry}
 use Rattle.conf_objects.specs.ObjectRows.{IsOffsetObject, IsClockObject, IsEventObject, IsStreamObject}
 use Rattle.conf_objects.specs.StreamType.{default_of, stream_types_of}
-use Rattle.conf_values.proofs.Steps.{both_read, is_passed, same_value, given_read}
+use Rattle.conf_values.proofs.Steps.{both_read, same_value}
 use Rattle.conf_values.proofs.LeafFlawLaws.{wanted_found}
 use Rattle.conf_fields.proofs.IntegerFlawLaws.{natural_there}
 use Rattle.conf_objects.proofs.EntryRowLaws.{environment_says, aliases_say, level_aliases_say, log_level_says}

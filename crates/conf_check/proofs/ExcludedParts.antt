@@ -1,5 +1,5 @@
 -- A configuration that was read, and keeps its limits, passes none of them, at any of its parts.
-use Rattle.std.proofs.Common.{◌≡◌, ◌⊎◌, ◌<◌, ◌≤◌, ◌||◌, ℕ, Bool, true, false, cond, List, [], ◌∷◌, length, Option, Some, None, Result, Ok, Err, Less, Greater, inl, inr, refl, sym, ap, subst, ◌∙◌, arith, bytes_eq}
+use Rattle.std.proofs.Common.{◌≡◌, ◌⊎◌, ◌≤◌, ◌||◌, ℕ, Bool, true, false, cond, List, [], ◌∷◌, length, Option, Some, None, Result, Ok, Less, Greater, inl, inr, refl, sym, ap, subst, ◌∙◌, arith, bytes_eq}
 use Rattle.std.specs.Prelude.{codes, nat_le}
 use Rattle.std.specs.Ordering.{nat_cmp, ordering_reverse}
 use Rattle.std.specs.Cmp.Lexicographic.{slice_cmp}
@@ -17,7 +17,7 @@ use Rattle.ctf_types.specs.declared.StreamType.{StreamType}
 use Rattle.ctf_types.specs.declared.StructType.{StructType}
 use Rattle.conf_tree.specs.declared.fault_kind.FaultKind.TheVariants.{Limit}
 use Rattle.conf_tree.specs.Flaw.{Flaw, key, here}
-use Rattle.conf_tree.specs.Reading.{◌>>=◌, at, object_of, given, optional, optional_as}
+use Rattle.conf_tree.specs.Reading.{at, object_of, given, optional, optional_as}
 use Rattle.conf_tree.specs.Walk.{HasMember}
 use Rattle.conf_inherit.specs.Looks.{Looks, Shows}
 use Rattle.conf_inherit.specs.Names.{AllAbove, IsInOrder}

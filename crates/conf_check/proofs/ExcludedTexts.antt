@@ -1,12 +1,12 @@
 -- A text whose value is a tree has none of the flaws of a text.
-use Rattle.std.proofs.Common.{◌≡◌, ◌⊎◌, ◌≤◌, ◌<◌, ◌+◌, ◌++◌, ℕ, zero, suc, Bool, true, false, cond, List, [], ◌∷◌, map, length, Option, Some, None, option_map, option_and_then, inl, inr, refl, sym, ap, subst, ◌∙◌, arith}
+use Rattle.std.proofs.Common.{◌≡◌, ◌+◌, ℕ, zero, suc, cond, List, [], ◌∷◌, map, length, Some, inl, inr, refl, sym, ap, subst, ◌∙◌, arith}
 use Rattle.serde_json.specs.Data.{Data, null, boolean, number, string, array, object, Items, no_items, item, Members, no_members, member}
 use Rattle.serde_json.specs.Find.{get_item}
 use Rattle.serde_json.specs.Read.{read}
 use Rattle.conf_tree.specs.declared.fault_kind.FaultKind.{FaultKind}
-use Rattle.conf_tree.specs.declared.fault_kind.FaultKind.TheVariants.{NotJson, TooDeep, NotWhole}
+use Rattle.conf_tree.specs.declared.fault_kind.FaultKind.TheVariants.{TooDeep, NotWhole}
 use Rattle.conf_tree.specs.Flaw.{Flaw, Place, key, index, here, within}
-use Rattle.conf_tree.specs.Walk.{flaws, item_flaws, member_flaws, max_levels, Reads, IsTreeOf, HasMember, LeadsTo, IsNested, IsFloat, KindHolds, FlawHolds}
+use Rattle.conf_tree.specs.Walk.{flaws, item_flaws, member_flaws, max_levels, IsTreeOf, HasMember, LeadsTo, IsNested, IsFloat, KindHolds, FlawHolds}
 use Rattle.conf_inherit.proofs.ReadyLemmas.{front_empty, back_empty}
 use Rattle.conf_check.specs.Configuration.{IsNoTree}
 

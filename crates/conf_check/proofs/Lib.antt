@@ -13,6 +13,9 @@ pub mod ExcludedFeatures
 pub mod ExcludedObjects
 pub mod ExcludedTraces
 pub mod ExcludedLimits
+pub mod ExcludedRules
 pub mod ExcludedParts
 pub mod ExcludedTexts
+pub mod ExcludedInheritance
+pub mod ExcludedConfigurations
 mod WorkedObjectFlaws

@@ -4,9 +4,11 @@ ghost use Rattle.std.specs.Prelude.{◌≡◌, ◌↔◌, ◌⊎◌, ℕ, List, 
 ghost use Rattle.serde_json.specs.Data.{Data};
 ghost use Rattle.ctf_types.specs.declared.Config.{Config as Configuration};
 ghost use Rattle.conf_tree.specs.Flaw.{Flaw};
+ghost use Rattle.conf_tree.specs.Walk.{IsTreeOf};
 ghost use Rattle.conf_objects.specs.declared.draft.Draft.{Draft};
 ghost use Rattle.conf_objects.specs.declared.limits.Part.TheVariants.{Root};
-ghost use Rattle.conf_check.specs.Configuration.{IsNoConfiguration};
+ghost use Rattle.conf_inherit.specs.Resolution.{resolution, Resolves};
+ghost use Rattle.conf_check.specs.Configuration.{HasNoOtherFault, IsNoConfiguration};
 ghost use Rattle.conf_check.specs.ConfigurationRows.{IsConfigurationOf};
 ghost use Rattle.conf_check.specs.Judgement.{whole, check_reading};
 ghost use Rattle.conf_check.specs.WholeFlaws.{BreaksRule, PassesLimit};
@@ -25,4 +27,17 @@ pub fn rules_refused()
 /// A resolved tree that is refused has an object with a row that does not hold, breaks a rule over the whole or passes a limit.
 pub fn configurations_refused()
     ensures { (d : Data) (number : Option (List ℕ)) (flaw : Flaw) → check_reading d number ≡ Err flaw → IsNoConfiguration d number flaw }
+{}
+
+/// A resolved tree of which all rows and all rules hold has no row that does not hold, breaks no rule and passes no limit.
+pub fn configurations_faultless()
+    ensures { (t d : Data) (number : Option (List ℕ)) (c : Configuration) (flaw : Flaw)
+        → Resolves t d → IsConfigurationOf d number c → IsNoConfiguration d number flaw → ⊥ }
+{}
+
+/// A text whose tree is resolved to a configuration has none of the faults, unless it is one of its inheritance: a limit that is
+/// passed, or a circle where two aliases have one name.
+pub fn texts_faultless()
+    ensures { (text : List ℕ) (number : Option (List ℕ)) (c : Configuration) (t r : Data)
+        → IsTreeOf text t → resolution t ≡ Ok r → Resolves t r → IsConfigurationOf r number c → HasNoOtherFault text number }
 {}

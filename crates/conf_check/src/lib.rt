@@ -8,4 +8,7 @@ mod stream_rule;
 
 pub use configuration::configure;
 pub use judgement::check;
-pub use laws::{configurations_by_rows, configurations_refused, rules_refused};
+pub use laws::{
+    configurations_by_rows, configurations_faultless, configurations_refused, rules_refused,
+    texts_faultless,
+};

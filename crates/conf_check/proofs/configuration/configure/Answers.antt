@@ -1,6 +1,7 @@
 use Rattle.std.proofs.Common.{inl, inr}
 use Rattle.serde_json.specs.View.{view}
 use Rattle.conf_check.proofs.ConfigurationSteps.{no_tree, memory_alone, refused_for_memory, innocent_by_look_up, answered_by_look_up}
+use Rattle.conf_check.proofs.ExcludedConfigurations.{text_excluded}
 use Rattle.conf_check.proofs.configuration.configure.Goals as goal
 
 pub returns-in-Err-check-clause-only : goal.returns-in-Err-check-clause-only
@@ -22,3 +23,7 @@ returns-in-Ok-check-clause-exact c =
 pub returns-in-Err-clause-holds : goal.returns-in-Err-clause-holds
 returns-in-Err-clause-holds c =
     elim (no_tree c.args.text.now c.in-Err.fault c.in-Err.ensures.first c.in-Err.ensures.holds) [ inl memory ↦ inl memory | inr none ↦ inr (inl none) ]
+
+pub returns-in-Ok-check-clause-faultless : goal.returns-in-Ok-check-clause-faultless
+returns-in-Ok-check-clause-faultless c =
+    text_excluded c.args.text.now c.args.number c.in-Ok-check.config (view c.in-Ok.tree.value) (view c.in-Ok-resolve.resolved.value) c.in-Ok.ensures.tree c.in-Ok-resolve.ensures.first c.in-Ok-resolve.ensures.resolved c.in-Ok-check.ensures.rows

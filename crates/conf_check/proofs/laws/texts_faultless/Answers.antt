@@ -1,0 +1,5 @@
+use Rattle.conf_check.proofs.ExcludedConfigurations.{text_excluded}
+use Rattle.conf_check.proofs.laws.texts_faultless.Goals as goal
+
+pub returns : goal.returns
+returns c = λ text number x t r. text_excluded text number x t r
