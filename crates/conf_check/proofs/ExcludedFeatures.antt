@@ -1,5 +1,5 @@
 -- What reads as a feature, or as the features of an object, excludes each flaw of them.
-use Rattle.std.proofs.Common.{◌≡◌, ◌≢◌, ℕ, Bool, true, false, List, [], ◌∷◌, Option, Some, Ok, inl, inr, refl, sym, ap, subst, ◌∙◌}
+use Rattle.std.proofs.Common.{◌≡◌, ℕ, Bool, true, false, List, [], ◌∷◌, Option, Some, Ok, inl, inr, sym, ap, subst, ◌∙◌}
 use Rattle.std.specs.Prelude.{codes}
 use Rattle.serde_json.specs.Data.{Data, null, boolean, number, string, array, object, Members, no_members, member}
 use Rattle.serde_json.specs.Find.{as_object, as_bool}
@@ -16,16 +16,11 @@ use Rattle.conf_tree.specs.Walk.{HasMember}
 use Rattle.conf_values.specs.declared.properties.ObjectKind.TheVariants as objects
 use Rattle.conf_values.specs.Broken.{MaySayNot}
 use Rattle.conf_values.specs.declared.words.FieldClass.TheVariants as classes
-use Rattle.conf_fields.specs.FieldFlaws.{IsOfClass}
 use Rattle.conf_fields.specs.FieldRows.{MaySay}
 use Rattle.conf_fields.specs.FieldType.{field_of, unsigned_field_of}
-use Rattle.conf_objects.specs.declared.feature.Choice.{Choice}
-use Rattle.conf_objects.specs.declared.feature.FeatureRule.{FeatureRule}
-use Rattle.conf_objects.specs.declared.feature.FeatureRule.TheVariants.{Plain, Size, Magic, Identifier}
-use Rattle.conf_objects.specs.declared.features.StreamFields.{StreamFields}
 use Rattle.conf_objects.specs.EntryRows.{EachEntry, EachEntryIs}
 use Rattle.conf_objects.specs.Feature.{choice_of}
-use Rattle.conf_objects.specs.FeatureRows.{IsByte, IsChoice}
+use Rattle.conf_objects.specs.FeatureRows.{IsChoice}
 use Rattle.conf_objects.specs.Features.{header_of, event_header_of, context_of, stream_fields_of}
 use Rattle.conf_objects.specs.ObjectFlaws.{IsNoSuch, HasWrongEntry, IsNoFeature, IsNoHeaderObject, IsNoHeader, IsNoEventHeaderObject, IsNoEventHeader, IsNoPacketObject, IsNoPacketFeatures, IsNoStreamFeaturesObject, IsNoStreamFeatures}
 use Rattle.conf_objects.specs.ObjectRows.{IsHeaderObject, IsEventHeaderObject, IsContextObject, IsStreamFieldsObject}
@@ -77,80 +72,77 @@ unsigned_object d t e = let ms = both_read (object_of d) _ t e in (ms.0, wanted_
 field_object : (d : Data) (t : FieldType) → field_of d ≡ Ok t → (ms : Members) × (as_object d ≡ Some ms)
 field_object d t e = let row = whole_field_says d t e in (row.1, wanted_found (as_object d) row.1 row.2)
 
-flag_case : (rule : FeatureRule) (d : Data) (b : Bool) (flaw : Flaw) → as_bool d ≡ Some b → (rule ≡ Size → b ≡ true) → ¬ IsNoFeature rule d flaw
-flag_case rule d b flaw is on (IsNoFeature.no_number other none wrong) = some_is_none (as_bool d) b is none
-flag_case rule d b flaw is on (IsNoFeature.a_size_that_is_off size off) = let yes : b ≡ true = on size in cc
-flag_case rule d b flaw is on (IsNoFeature.no_32_bits t magic read narrow) = let o = unsigned_object d t read in flag_or_object d b o.0 is o.1
-flag_case rule d b flaw is on (IsNoFeature.no_field identifier none class wrong) = some_is_none (as_bool d) b is none
-flag_case rule d b flaw is on (IsNoFeature.another_class class ms identifier of differs) = flag_or_object d b ms is of.0
-flag_case rule d b flaw is on (IsNoFeature.no_identifier t identifier read other) = let o = field_object d t read in flag_or_object d b o.0 is o.1
-
-number_case : (rule : FeatureRule) (d : Data) (t : IntType) (flaw : Flaw) → rule ≢ Identifier → unsigned_field_of d ≡ Ok t → (rule ≡ Magic → t.size ≡ 32) → ¬ IsNoFeature rule d flaw
-number_case rule d t flaw other e wide (IsNoFeature.no_number rules none wrong) = unsigned_field_excluded d t flaw e wrong
-number_case rule d t flaw other e wide (IsNoFeature.a_size_that_is_off size off) = let o = unsigned_object d t e in flag_or_object d false o.0 off o.1
-number_case rule d t flaw other e wide (IsNoFeature.no_32_bits s magic read narrow) = narrow (ap (λ (x : IntType). x.size) (same_value s t (unsigned_field_of d) read e) ∙ wide magic)
-number_case rule d t flaw other e wide (IsNoFeature.no_field identifier none class wrong) = other identifier
-number_case rule d t flaw other e wide (IsNoFeature.another_class class ms identifier of differs) = other identifier
-number_case rule d t flaw other e wide (IsNoFeature.no_identifier s identifier read another) = other identifier
-
 abbrev sixteen : IntType → FieldType
 sixteen byte = Static (record { lengths = []; leaf = Number byte }) 16
 
-identifier_case : (rule : FeatureRule) (d : Data) (ms : Members) (byte : IntType) (flaw : Flaw) → rule ≡ Identifier → IsOfClass classes.StaticArray d ms → field_of d ≡ Ok (sixteen byte) → IsByte byte → ¬ IsNoFeature rule d flaw
-identifier_case rule d ms byte flaw identifier of e is (IsNoFeature.no_number other none wrong) = other identifier
-identifier_case rule d ms byte flaw identifier of e is (IsNoFeature.a_size_that_is_off size off) = flag_or_object d false ms off of.0
-identifier_case rule d ms byte flaw identifier of e is (IsNoFeature.no_32_bits t magic read narrow) = cc
-identifier_case rule d ms byte flaw identifier of e is (IsNoFeature.no_field same none class wrong) = field_excluded d (sixteen byte) flaw e wrong
-identifier_case rule d ms byte flaw identifier of e is (IsNoFeature.another_class class ns same of_other differs) = differs (same_class class classes.StaticArray d ns ms of_other of)
-identifier_case rule d ms byte flaw identifier of e is (IsNoFeature.no_identifier t same read other) = other (byte, same_value t (sixteen byte) (field_of d) read e, is.sign, is.size, is.alignment)
+-- a choice and a way in which the feature is none
+choice_excluded : (rule : _) (d : Data) (c : _) (flaw : Flaw) → IsChoice rule d c → ¬ IsNoFeature rule d flaw
+choice_excluded rule d c flaw (IsChoice.on is) (IsNoFeature.no_number none_other none wrong) = some_is_none (as_bool d) true is none
+choice_excluded rule d c flaw (IsChoice.on is) (IsNoFeature.a_size_that_is_off size off) = absurd cc
+choice_excluded rule d c flaw (IsChoice.on is) (IsNoFeature.no_32_bits t magic read narrow) = let o = unsigned_object d t read in flag_or_object d true o.0 is o.1
+choice_excluded rule d c flaw (IsChoice.on is) (IsNoFeature.no_field identifier none class wrong) = some_is_none (as_bool d) true is none
+choice_excluded rule d c flaw (IsChoice.on is) (IsNoFeature.another_class class ms identifier of differs) = flag_or_object d true ms is of.0
+choice_excluded rule d c flaw (IsChoice.on is) (IsNoFeature.no_identifier t identifier read another) = let o = field_object d t read in flag_or_object d true o.0 is o.1
+choice_excluded rule d c flaw (IsChoice.off other is) (IsNoFeature.no_number none_other none wrong) = some_is_none (as_bool d) false is none
+choice_excluded rule d c flaw (IsChoice.off other is) (IsNoFeature.a_size_that_is_off size off) = other size
+choice_excluded rule d c flaw (IsChoice.off other is) (IsNoFeature.no_32_bits t magic read narrow) = let o = unsigned_object d t read in flag_or_object d false o.0 is o.1
+choice_excluded rule d c flaw (IsChoice.off other is) (IsNoFeature.no_field identifier none class wrong) = some_is_none (as_bool d) false is none
+choice_excluded rule d c flaw (IsChoice.off other is) (IsNoFeature.another_class class ms identifier of differs) = flag_or_object d false ms is of.0
+choice_excluded rule d c flaw (IsChoice.off other is) (IsNoFeature.no_identifier t identifier read another) = let o = field_object d t read in flag_or_object d false o.0 is o.1
+choice_excluded rule d c flaw (IsChoice.number t other e wide) (IsNoFeature.no_number rules none wrong) = unsigned_field_excluded d t flaw e wrong
+choice_excluded rule d c flaw (IsChoice.number t other e wide) (IsNoFeature.a_size_that_is_off size off) = let o = unsigned_object d t e in flag_or_object d false o.0 off o.1
+choice_excluded rule d c flaw (IsChoice.number t other e wide) (IsNoFeature.no_32_bits s magic read narrow) = narrow (ap (λ (x : IntType). x.size) (same_value s t (unsigned_field_of d) read e) ∙ wide magic)
+choice_excluded rule d c flaw (IsChoice.number t other e wide) (IsNoFeature.no_field identifier none class wrong) = other identifier
+choice_excluded rule d c flaw (IsChoice.number t other e wide) (IsNoFeature.another_class class ms identifier of differs) = other identifier
+choice_excluded rule d c flaw (IsChoice.number t other e wide) (IsNoFeature.no_identifier s identifier read another) = other identifier
+choice_excluded rule d c flaw (IsChoice.identifier ms byte identifier of e is) (IsNoFeature.no_number other none wrong) = other identifier
+choice_excluded rule d c flaw (IsChoice.identifier ms byte identifier of e is) (IsNoFeature.a_size_that_is_off size off) = flag_or_object d false ms off of.0
+choice_excluded rule d c flaw (IsChoice.identifier ms byte identifier of e is) (IsNoFeature.no_32_bits t magic read narrow) = cc
+choice_excluded rule d c flaw (IsChoice.identifier ms byte identifier of e is) (IsNoFeature.no_field same none class wrong) = field_excluded d (sixteen byte) flaw e wrong
+choice_excluded rule d c flaw (IsChoice.identifier ms byte identifier of e is) (IsNoFeature.another_class class ns same of_other differs) = differs (same_class class classes.StaticArray d ns ms of_other of)
+choice_excluded rule d c flaw (IsChoice.identifier ms byte identifier of e is) (IsNoFeature.no_identifier t same read other) = other (byte, same_value t (sixteen byte) (field_of d) read e, is.sign, is.size, is.alignment)
 
-choice_case : (rule : FeatureRule) (d : Data) (c : Choice) (flaw : Flaw) → IsChoice rule d c → ¬ IsNoFeature rule d flaw
-choice_case rule d c flaw (IsChoice.on is) = flag_case rule d true flaw is (λ size. refl)
-choice_case rule d c flaw (IsChoice.off other is) = flag_case rule d false flaw is (λ size. absurd (other size))
-choice_case rule d c flaw (IsChoice.number t other e wide) = number_case rule d t flaw other e wide
-choice_case rule d c flaw (IsChoice.identifier ms byte identifier of e is) = identifier_case rule d ms byte flaw identifier of e is
-
-pub feature_excluded : (rule : FeatureRule) (d : Data) (c : Choice) (flaw : Flaw) → choice_of rule d ≡ Ok c → ¬ IsNoFeature rule d flaw
-feature_excluded rule d c flaw e = choice_case rule d c flaw (choice_says rule d c e)
+pub feature_excluded : (rule : _) (d : Data) (c : _) (flaw : Flaw) → choice_of rule d ≡ Ok c → ¬ IsNoFeature rule d flaw
+feature_excluded rule d c flaw e = choice_excluded rule d c flaw (choice_says rule d c e)
 
 -- ---- the features of an object
 
-said_excluded : (rule : FeatureRule) (name : List ℕ) (ms : Members) (o : Option Choice) (flaw : Flaw) → MaySay name (choice_of rule) ms o → ¬ MaySayNot name (IsNoFeature rule) ms flaw
+said_excluded : (rule : _) (name : List ℕ) (ms : Members) (o : Option _) (flaw : Flaw) → MaySay name (choice_of rule) ms o → ¬ MaySayNot name (IsNoFeature rule) ms flaw
 said_excluded rule name ms o flaw says = may_say_excluded name (choice_of rule) (IsNoFeature rule) ms flaw (feature_excluded rule) o says
 
 header_rows : (has : Bool) (ms : Members) (f : HeaderFeatures) (flaw : Flaw) → IsHeaderObject has ms f → ¬ IsNoHeaderObject ms flaw
 header_rows has ms f flaw h (IsNoHeaderObject.unknown unknown) = known_alone objects.TraceFeatures ms flaw h.known unknown
-header_rows has ms f flaw h (IsNoHeaderObject.stream_id wrong) = said_excluded Plain _ ms h.stream_id.0 flaw h.stream_id.1 wrong
-header_rows has ms f flaw h (IsNoHeaderObject.magic wrong) = said_excluded Magic _ ms h.magic.0 flaw h.magic.1 wrong
-header_rows has ms f flaw h (IsNoHeaderObject.uuid wrong) = said_excluded Identifier _ ms h.uuid.0 flaw h.uuid.1 wrong
+header_rows has ms f flaw h (IsNoHeaderObject.stream_id wrong) = said_excluded _ _ ms h.stream_id.0 flaw h.stream_id.1 wrong
+header_rows has ms f flaw h (IsNoHeaderObject.magic wrong) = said_excluded _ _ ms h.magic.0 flaw h.magic.1 wrong
+header_rows has ms f flaw h (IsNoHeaderObject.uuid wrong) = said_excluded _ _ ms h.uuid.0 flaw h.uuid.1 wrong
 
 pub header_excluded : (has : Bool) (d : Data) (f : HeaderFeatures) (flaw : Flaw) → header_of has d ≡ Ok f → ¬ IsNoHeader d flaw
 header_excluded has d f flaw e = let row = header_says has d f e in such_excluded IsNoHeaderObject d row.0 flaw row.1 (header_rows has row.0 f flaw row.2)
 
 event_header_rows : (clock : Option (List ℕ)) (ms : Members) (f : EventFeatures) (flaw : Flaw) → IsEventHeaderObject clock ms f → ¬ IsNoEventHeaderObject ms flaw
 event_header_rows clock ms f flaw h (IsNoEventHeaderObject.unknown unknown) = known_alone objects.EventFeatures ms flaw h.known unknown
-event_header_rows clock ms f flaw h (IsNoEventHeaderObject.timestamp wrong) = said_excluded Plain _ ms h.timestamp.1.0 flaw h.timestamp.1.1 wrong
-event_header_rows clock ms f flaw h (IsNoEventHeaderObject.id wrong) = said_excluded Plain _ ms h.id.0 flaw h.id.1 wrong
+event_header_rows clock ms f flaw h (IsNoEventHeaderObject.timestamp wrong) = said_excluded _ _ ms h.timestamp.1.0 flaw h.timestamp.1.1 wrong
+event_header_rows clock ms f flaw h (IsNoEventHeaderObject.id wrong) = said_excluded _ _ ms h.id.0 flaw h.id.1 wrong
 
 event_header_excluded : (clock : Option (List ℕ)) (d : Data) (f : EventFeatures) (flaw : Flaw) → event_header_of clock d ≡ Ok f → ¬ IsNoEventHeader d flaw
 event_header_excluded clock d f flaw e = let row = event_header_says clock d f e in such_excluded IsNoEventHeaderObject d row.0 flaw row.1 (event_header_rows clock row.0 f flaw row.2)
 
 context_rows : (clock : Option (List ℕ)) (ms : Members) (f : ContextFeatures) (flaw : Flaw) → IsContextObject clock ms f → ¬ IsNoPacketObject ms flaw
 context_rows clock ms f flaw h (IsNoPacketObject.unknown unknown) = known_alone objects.PacketFeatures ms flaw h.known unknown
-context_rows clock ms f flaw h (IsNoPacketObject.packet_size wrong) = said_excluded Size _ ms h.packet_size.0 flaw h.packet_size.1 wrong
-context_rows clock ms f flaw h (IsNoPacketObject.content_size wrong) = said_excluded Size _ ms h.content_size.0 flaw h.content_size.1 wrong
-context_rows clock ms f flaw h (IsNoPacketObject.timestamp_begin wrong) = said_excluded Plain _ ms h.timestamp_begin.1.0 flaw h.timestamp_begin.1.1 wrong
-context_rows clock ms f flaw h (IsNoPacketObject.timestamp_end wrong) = said_excluded Plain _ ms h.timestamp_end.1.0 flaw h.timestamp_end.1.1 wrong
-context_rows clock ms f flaw h (IsNoPacketObject.events_discarded wrong) = said_excluded Plain _ ms h.events_discarded.0 flaw h.events_discarded.1 wrong
-context_rows clock ms f flaw h (IsNoPacketObject.packet_seq_num wrong) = said_excluded Plain _ ms h.packet_seq_num.0 flaw h.packet_seq_num.1 wrong
+context_rows clock ms f flaw h (IsNoPacketObject.packet_size wrong) = said_excluded _ _ ms h.packet_size.0 flaw h.packet_size.1 wrong
+context_rows clock ms f flaw h (IsNoPacketObject.content_size wrong) = said_excluded _ _ ms h.content_size.0 flaw h.content_size.1 wrong
+context_rows clock ms f flaw h (IsNoPacketObject.timestamp_begin wrong) = said_excluded _ _ ms h.timestamp_begin.1.0 flaw h.timestamp_begin.1.1 wrong
+context_rows clock ms f flaw h (IsNoPacketObject.timestamp_end wrong) = said_excluded _ _ ms h.timestamp_end.1.0 flaw h.timestamp_end.1.1 wrong
+context_rows clock ms f flaw h (IsNoPacketObject.events_discarded wrong) = said_excluded _ _ ms h.events_discarded.0 flaw h.events_discarded.1 wrong
+context_rows clock ms f flaw h (IsNoPacketObject.packet_seq_num wrong) = said_excluded _ _ ms h.packet_seq_num.0 flaw h.packet_seq_num.1 wrong
 
 context_excluded : (clock : Option (List ℕ)) (d : Data) (f : ContextFeatures) (flaw : Flaw) → context_of clock d ≡ Ok f → ¬ IsNoPacketFeatures d flaw
 context_excluded clock d f flaw e = let row = context_says clock d f e in such_excluded IsNoPacketObject d row.0 flaw row.1 (context_rows clock row.0 f flaw row.2)
 
-stream_fields_rows : (clock : Option (List ℕ)) (ms : Members) (f : StreamFields) (flaw : Flaw) → IsStreamFieldsObject clock ms f → ¬ IsNoStreamFeaturesObject ms flaw
+stream_fields_rows : (clock : Option (List ℕ)) (ms : Members) (f : _) (flaw : Flaw) → IsStreamFieldsObject clock ms f → ¬ IsNoStreamFeaturesObject ms flaw
 stream_fields_rows clock ms f flaw h (IsNoStreamFeaturesObject.unknown unknown) = known_alone objects.StreamFeatures ms flaw h.known unknown
 stream_fields_rows clock ms f flaw h (IsNoStreamFeaturesObject.packet wrong) = may_say_excluded (codes "packet") (context_of clock) IsNoPacketFeatures ms flaw (context_excluded clock) h.packet.0 h.packet.1 wrong
 stream_fields_rows clock ms f flaw h (IsNoStreamFeaturesObject.event_record wrong) = may_say_excluded (codes "event-record") (event_header_of clock) IsNoEventHeader ms flaw (event_header_excluded clock) h.event_record.0 h.event_record.1 wrong
 
-pub stream_fields_excluded : (clock : Option (List ℕ)) (d : Data) (f : StreamFields) (flaw : Flaw) → stream_fields_of clock d ≡ Ok f → ¬ IsNoStreamFeatures d flaw
+pub stream_fields_excluded : (clock : Option (List ℕ)) (d : Data) (f : _) (flaw : Flaw) → stream_fields_of clock d ≡ Ok f → ¬ IsNoStreamFeatures d flaw
 stream_fields_excluded clock d f flaw e = let row = stream_fields_says clock d f e in such_excluded IsNoStreamFeaturesObject d row.0 flaw row.1 (stream_fields_rows clock row.0 f flaw row.2)

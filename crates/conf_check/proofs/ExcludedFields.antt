@@ -7,7 +7,6 @@ use Rattle.std.proofs.lemmas.List.Folds.{list_all_at}
 use Rattle.serde_json.specs.Data.{Data, Members}
 use Rattle.serde_json.specs.Find.{get_member, as_object}
 use Rattle.ctf_types.specs.declared.FieldType.{FieldType}
-use Rattle.ctf_types.specs.declared.FieldType.TheVariants as fields
 use Rattle.ctf_types.specs.declared.IntType.{IntType}
 use Rattle.ctf_types.specs.declared.MemberType.{MemberType}
 use Rattle.ctf_types.specs.declared.MemberType.TheVariants.{Plain}

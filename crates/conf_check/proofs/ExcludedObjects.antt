@@ -20,7 +20,6 @@ use Rattle.conf_values.specs.Scalar.{natural_of, signed_of, signed_in, config_te
 use Rattle.conf_fields.specs.FieldFlaws.{IsNoStructure, IsNoMembersList}
 use Rattle.conf_fields.specs.Members.{members_of}
 use Rattle.conf_fields.specs.StructType.{struct_of}
-use Rattle.conf_objects.specs.declared.stream_type.Listed.{Listed}
 use Rattle.conf_objects.specs.Alias.{aliases_of}
 use Rattle.conf_objects.specs.ClockType.{Offset, max_u64, offset_of, clock_types_of}
 use Rattle.conf_objects.specs.EntryRows.{IsEnvironmentValue, IsEnvironmentEntry, IsAliasObject, IsLogLevelAlias, IsLogLevel}
@@ -203,7 +202,7 @@ default_excluded taken said h d b flaw e (IsNoDefault.a_second is on) =
     default_test taken f.0 b f.2 (h is) (same_found (as_bool d) f.0 true (wanted_found (as_bool d) f.0 f.1) on)
 
 module _ (aliases : Members) where
-  stream_rows : (taken said : Bool) → (said ≡ true → taken ≡ true) → (name : List ℕ) (ms : Members) (l : Listed) (flaw : Flaw) → IsStreamObject aliases taken name ms l → ¬ IsNoStreamObject aliases said name ms flaw
+  stream_rows : (taken said : Bool) → (said ≡ true → taken ≡ true) → (name : List ℕ) (ms : Members) (l : _) (flaw : Flaw) → IsStreamObject aliases taken name ms l → ¬ IsNoStreamObject aliases said name ms flaw
   stream_rows taken said among name ms l flaw h (IsNoStreamObject.bad_name wrong) = name_excluded name tt flaw h.named wrong
   stream_rows taken said among name ms l flaw h (IsNoStreamObject.unknown unknown) = known_alone objects.StreamType ms flaw h.known unknown
   stream_rows taken said among name ms l flaw h (IsNoStreamObject.is_default wrong) = may_say_excluded (codes "$is-default") (default_of taken) (IsNoDefault said) ms flaw (default_excluded taken said among) h.is_default.0 h.is_default.1 wrong
@@ -213,7 +212,7 @@ module _ (aliases : Members) where
   stream_rows taken said among name ms l flaw h (IsNoStreamObject.common wrong) = may_say_excluded (codes "event-record-common-context-field-type") struct_of IsNoStructure ms flaw structure_excluded h.common.0 h.common.1 wrong
   stream_rows taken said among name ms l flaw h (IsNoStreamObject.events wrong) = may_say_excluded (codes "event-record-types") (event_types_of aliases) (IsNoEventTypes aliases) ms flaw (event_types_excluded aliases) h.events.0 h.events.1 wrong
 
-  stream_entry : (taken said : Bool) → (said ≡ true → taken ≡ true) → (k : List ℕ) (d : Data) (l : Listed) (flaw : Flaw) → IsObject (λ os. IsStreamObject aliases taken k os l) d → ¬ IsNoStreamType aliases said k d flaw
+  stream_entry : (taken said : Bool) → (said ≡ true → taken ≡ true) → (k : List ℕ) (d : Data) (l : _) (flaw : Flaw) → IsObject (λ os. IsStreamObject aliases taken k os l) d → ¬ IsNoStreamType aliases said k d flaw
   stream_entry taken said among k d l flaw h = object_such (λ os. IsStreamObject aliases taken k os l) (IsNoStreamObject aliases said k) d flaw (λ ms row. stream_rows taken said among k ms l flaw row) h
 
   -- an entry by itself
@@ -247,7 +246,7 @@ module _ (aliases : Members) where
       read_as_said false a x f = cc
 
   -- what says that it is the default is read so
-  is_the_default : (taken : Bool) (k : List ℕ) (e : Data) (l : Listed) → IsObject (λ os. IsStreamObject aliases taken k os l) e → SaysDefault e → l.is_default ≡ true
+  is_the_default : (taken : Bool) (k : List ℕ) (e : Data) (l : _) → IsObject (λ os. IsStreamObject aliases taken k os l) e → SaysDefault e → l.is_default ≡ true
   is_the_default taken k e l (ms, read, row) (ns, flag, is, there, on) =
       let same : ns ≡ ms = same_value ns ms (object_of e) is read in
       let flag_read = given_as (codes "$is-default") (default_of taken) ms row.is_default.0 flag row.is_default.1 (subst (λ m. optional (codes "$is-default") m ≡ Some flag) same there) in

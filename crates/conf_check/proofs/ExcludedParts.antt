@@ -28,7 +28,6 @@ use Rattle.conf_fields.specs.StructType.{struct_of, struct_limits}
 use Rattle.conf_objects.specs.declared.draft.Draft.{Draft}
 use Rattle.conf_objects.specs.declared.limits.Part.{Part}
 use Rattle.conf_objects.specs.declared.limits.Part.TheVariants.{Root, Trace, TraceType, Environment, Aliases, LogLevels, ClockTypes, ClockType, StreamTypes, StreamType as StreamPart, EventTypes, EventType as EventPart, FeatureGroups, Features, Feature, Structure, Extras, Words, Plain}
-use Rattle.conf_objects.specs.declared.stream_type.Listed.{Listed}
 use Rattle.conf_objects.specs.EventType.{event_types_of, listed}
 use Rattle.conf_objects.specs.Limits.{part_in_trace_type, part_in_stream_type, part_in_trace, part_in_event_type, part_in_clock_type, part_in_root, part_under, most_entries, at_most, entries_limit, text_limit, list_limits, type_limits, limits, member_limits}
 use Rattle.conf_objects.specs.MapRows.{IsObject, AreStreamEntries}
@@ -100,7 +99,7 @@ IsRead Root d = (uuid : Option (List ℕ)) × (ms : Members) × (draft : Draft) 
 IsRead Trace d = (uuid : Option (List ℕ)) × (draft : Draft) × (trace_of uuid d ≡ Ok draft)
 IsRead TraceType d = (uuid : Option (List ℕ)) × (environment : List EnvironmentEntry) × (draft : Draft) × (trace_type_of uuid environment d ≡ Ok draft)
 IsRead StreamTypes d = (aliases : Members) × (ss : List StreamType) × (stream_types_of aliases d ≡ Ok ss)
-IsRead StreamPart d = (aliases : Members) × (taken : Bool) × (name : List ℕ) × (l : Listed) × IsObject (λ ms. IsStreamObject aliases taken name ms l) d
+IsRead StreamPart d = (aliases : Members) × (taken : Bool) × (name : List ℕ) × (l : _) × IsObject (λ ms. IsStreamObject aliases taken name ms l) d
 IsRead EventTypes d = (aliases : Members) × (es : List EventType) × (event_types_of aliases d ≡ Ok es)
 IsRead EventPart d = (aliases : Members) × (name : List ℕ) × (e : EventType) × IsObject (λ ms. IsEventObject aliases name ms e) d
 IsRead Structure d = (s : StructType) × (struct_of d ≡ Ok s)
