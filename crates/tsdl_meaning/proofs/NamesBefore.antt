@@ -1,4 +1,4 @@
--- Names that stand before a place. A stand-in.
+-- Names that stand before a place, each with a mark behind it, and one more of them.
 use Rattle.std.proofs.Common.{◌≡◌, List, [], ◌∷◌, ◌++◌, sym, ap, ◌∙◌, subst, append_assoc}
 use Rattle.std.specs.BTreeSet.{BTreeSet}
 use Rattle.std.specs.declared.string.String.{String}
