@@ -17,9 +17,9 @@ use Rattle.tsdl_grammar.specs.declared.tree.NamedFact.{NamedFact}
 use Rattle.tsdl_grammar.specs.declared.tree.Block.{Block}
 use Rattle.tsdl_grammar.specs.declared.tree.Block.TheVariants as blocks
 use Rattle.tsdl_grammar.specs.Spelling.{mark, word, number_toks, braced, name_toks, struct_toks, scope_toks, item_toks, items_toks, fact_toks, named_fact_toks, block_toks, block_and_semicolon, text_toks}
-use Rattle.tsdl_parser.specs.declared.stop.Unread.{Unread}
-use Rattle.tsdl_parser.specs.declared.stop.Unread.TheVariants as unread
-use Rattle.tsdl_parser.specs.Stopping.{IfStopped}
+use Rattle.tsdl_parser.specs.declared.halt.Unread.{Unread}
+use Rattle.tsdl_parser.specs.declared.halt.Unread.TheVariants as unread
+use Rattle.tsdl_parser.specs.Halting.{IfHalted}
 use Rattle.tsdl_parser.specs.Parsing.{Fails, begins, mark_at, word_at, names, keyword_at, number_at, is_open}
 use Rattle.tsdl_parser.specs.ParsingAttributes.{name_at, attr_behind}
 use Rattle.tsdl_parser.specs.ParsingMembers.{struct_at}
@@ -291,6 +291,6 @@ no_blocks : (ts : List Atom) → all_blocks_at ts ≡ None → (bs : List Block)
 no_blocks ts e bs h = let read : all_blocks_at ts ≡ Some (bs, []) = ap all_blocks_at h ∙ blocks_again bs in cc
 
 -- and where none are read, none are spelled
-pub unread_blocks : (e : Unread) (ts : List Atom) → Fails e (all_blocks_at ts) → IfStopped e ((bs : List Block) → ts ≡ text_toks bs → ⊥)
+pub unread_blocks : (e : Unread) (ts : List Atom) → Fails e (all_blocks_at ts) → IfHalted e ((bs : List Block) → ts ≡ text_toks bs → ⊥)
 unread_blocks unread.Memory ts h = tt
-unread_blocks (unread.Stopped s) ts h = no_blocks ts h
+unread_blocks (unread.Halted s) ts h = no_blocks ts h

@@ -6,8 +6,8 @@ use Rattle.std.proofs.lemmas.List.{append-nil, length-append}
 use Rattle.std.proofs.lemmas.List.Concat.{flat_map-cons}
 use Rattle.tsdl_grammar.specs.declared.atom.Atom.{Atom}
 use Rattle.tsdl_grammar.specs.Steps.{◌>>=◌}
-use Rattle.tsdl_parser.specs.declared.stop.Unread.{Unread}
-use Rattle.tsdl_parser.specs.declared.stop.Unread.TheVariants as unread
+use Rattle.tsdl_parser.specs.declared.halt.Unread.{Unread}
+use Rattle.tsdl_parser.specs.declared.halt.Unread.TheVariants as unread
 use Rattle.tsdl_parser.specs.Parsing.{Fails, many_at, many}
 use Rattle.tsdl_parser.proofs.Steps.{along, first_of_two, chosen, same_steps}
 
@@ -83,8 +83,8 @@ pub gives_up : {A : Type 0} (starts : List Atom → Bool) (item : List Atom → 
     → (total : Option (List A × List Atom)) (front : List A) (ts : List Atom) (e : Unread) → with_front front (many starts item ts) ≡ total → starts ts ≡ true → Fails e (item ts) → Fails e total
 unfolding many_at
 gives_up starts item total front ts unread.Memory so_far go e = tt
-gives_up starts item total front [] (unread.Stopped s) so_far go e = sym so_far ∙ rw go refl
-gives_up starts item total front (t ∷ ts) (unread.Stopped s) so_far go e = sym so_far ∙ rw (go, e) refl
+gives_up starts item total front [] (unread.Halted s) so_far go e = sym so_far ∙ rw go refl
+gives_up starts item total front (t ∷ ts) (unread.Halted s) so_far go e = sym so_far ∙ rw (go, e) refl
 
 -- ---- both laws for all items
 

@@ -1,5 +1,5 @@
 pub mod Keywords
-pub mod Stopping
+pub mod Halting
 pub mod Parsing
 pub mod ParsingAttributes
 pub mod ParsingEntries

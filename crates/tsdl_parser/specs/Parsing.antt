@@ -8,12 +8,12 @@ use Rattle.tsdl_grammar.specs.declared.atom.Atom.TheVariants as atoms
 use Rattle.tsdl_grammar.specs.declared.tree.Sign.TheVariants.{Plus, Minus}
 use Rattle.tsdl_grammar.specs.declared.tree.Number.{Number}
 use Rattle.tsdl_grammar.specs.Steps.{◌>>=◌}
-use Rattle.tsdl_parser.specs.declared.stop.Unread.{Unread}
-use Rattle.tsdl_parser.specs.Stopping.{IfStopped}
+use Rattle.tsdl_parser.specs.declared.halt.Unread.{Unread}
+use Rattle.tsdl_parser.specs.Halting.{IfHalted}
 
 -- what a function returned, seen by view, is what a rule reads, unless memory ran out
 abbrev pub Fails : {Y : Type 0} → Unread → Option Y → Type 0
-Fails e read = IfStopped e (read ≡ None)
+Fails e read = IfHalted e (read ≡ None)
 
 abbrev pub Gives : {X Y : Type 0} → (X → Y) → Result X Unread → Option Y → Type 0
 Gives view (Ok x) read = read ≡ Some (view x)

@@ -4,9 +4,9 @@ ghost use Rattle.tsdl_parser.specs.Parsing.{Gives};
 ghost use Rattle.tsdl_parser.specs.ParsingAttributes.{dotted_at, all_dotted_at, name_at, value_at, attr_behind, attr_at, all_attrs_at, attrs_at};
 
 use crate::expected::Expected;
+use crate::halt::{Unread, back_to, going_on};
+use crate::missing::{CLOSE_BRACE, SEMICOLON, ZERO};
 use crate::parsing::{begins, is_open, mark_at, no_number, number_at, word_at};
-use crate::piece::{CLOSE_BRACE, SEMICOLON, ZERO};
-use crate::stop::{Unread, back_to, going_on};
 use ctf_types::{ListOf, Text};
 use std::alloc::Global;
 use tsdl_grammar::{Atom, Attribute, Mark, Name, Value};
@@ -64,7 +64,7 @@ fn value_at(alloc: Global, atoms: &[Atom]) -> Result<(Value, &[Atom]), Unread>
             let (number, rest) = number_at(atoms, Expected::Value)?;
             Ok((Value::Number(number), rest))
         }
-        [] | [Atom::TooLarge, ..] => Err(Unread::Stopped(no_number(atoms, Expected::Value))),
+        [] | [Atom::TooLarge, ..] => Err(Unread::Halted(no_number(atoms, Expected::Value))),
     }
 }
 

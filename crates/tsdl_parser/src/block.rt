@@ -3,16 +3,16 @@
 ghost use Rattle.std.specs.Prelude.{◌≡◌, List, IfOk, IfErr};
 ghost use Rattle.tsdl_grammar.specs.declared.tree.Block.{Block};
 ghost use Rattle.tsdl_grammar.specs.Spelling.{text_toks};
-ghost use Rattle.tsdl_parser.specs.Stopping.{IfStopped};
+ghost use Rattle.tsdl_parser.specs.Halting.{IfHalted};
 ghost use Rattle.tsdl_parser.specs.Parsing.{Gives};
 ghost use Rattle.tsdl_parser.specs.ParsingBlocks.{scope_behind, item_at, all_items_at, items_at, fact_at, named_fact_at, all_facts_at, environment_at, block_at, ended_block_at, has_more, all_blocks_at};
 
 use crate::attribute::{attr_behind, name_at};
 use crate::expected::Expected;
+use crate::halt::{Unread, back_to, expecting, going_on};
 use crate::member::struct_at;
+use crate::missing::{CLOSE_BRACE, SEMICOLON, ZERO};
 use crate::parsing::{begins, is_open, keyword_at, mark_at, names, no_number, number_at, word_at};
-use crate::piece::{CLOSE_BRACE, SEMICOLON, ZERO};
-use crate::stop::{Unread, back_to, expecting, going_on};
 use ctf_types::ListOf;
 use std::alloc::Global;
 use tsdl_grammar::{Atom, Block, Fact, Item, Mark, Name, NamedFact, Scope};
@@ -88,7 +88,7 @@ fn fact_at(alloc: Global, atoms: &[Atom]) -> Result<(Fact, &[Atom]), Unread>
             Ok((Fact::Number(number), rest))
         }
         [] | [Atom::Word(_) | Atom::TooLarge, ..] => {
-            Err(Unread::Stopped(no_number(atoms, Expected::Fact)))
+            Err(Unread::Halted(no_number(atoms, Expected::Fact)))
         }
     }
 }
@@ -183,7 +183,7 @@ fn all_blocks_at(alloc: Global, atoms: &[Atom]) -> Result<(ListOf<Block>, &[Atom
 /// The blocks that the atoms of a text spell, or how far the atoms spell any.
 pub fn parse(alloc: Global, atoms: &[Atom]) -> Result<Vec<Block>, Unread>
     ensures found { IfOk result (λ bs. atoms.now ≡ text_toks bs.items) }
-    ensures none { IfErr result (λ e. IfStopped e ((bs : List Block) → atoms.now ≡ text_toks bs → ⊥)) }
+    ensures none { IfErr result (λ e. IfHalted e ((bs : List Block) → atoms.now ≡ text_toks bs → ⊥)) }
 {
     let (found, _) = all_blocks_at(alloc, atoms)?;
     Ok(found.into_vec())

@@ -5,9 +5,9 @@ ghost use Rattle.tsdl_parser.specs.Parsing.{Gives};
 ghost use Rattle.tsdl_parser.specs.ParsingEntries.{label_at, high_at, entry_at, is_labelled, is_next, next_entry_at, all_next_at, closing_at, listed_at, entries_at};
 
 use crate::expected::Expected;
+use crate::halt::{Halt, Unread, expecting, going_on};
+use crate::missing::ZERO;
 use crate::parsing::{begins, is_mark, mark_at, number_at};
-use crate::piece::ZERO;
-use crate::stop::{Stop, Unread, expecting, going_on};
 use ctf_types::ListOf;
 use std::alloc::Global;
 use tsdl_grammar::{Atom, Closing, Entries, Entry, Label, Mark, Number};
@@ -20,7 +20,7 @@ fn label_at(alloc: Global, atoms: &[Atom]) -> Result<(Label, &[Atom]), Unread>
         [Atom::Text(text), rest @ ..] => Ok((Label::Quoted(text.copy(alloc)?), rest)),
         [Atom::Word(word), rest @ ..] => Ok((Label::Bare(word.copy(alloc)?), rest)),
         [] | [Atom::Number(_) | Atom::Mark(_) | Atom::TooLarge, ..] => {
-            Err(Unread::Stopped(Stop::before(atoms, Expected::Label, &[])))
+            Err(Unread::Halted(Halt::before(atoms, Expected::Label, &[])))
         }
     }
 }

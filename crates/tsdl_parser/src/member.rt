@@ -6,12 +6,12 @@ ghost use Rattle.tsdl_parser.specs.ParsingMembers.{int_at, enum_at, string_at, k
 use crate::attribute::attrs_at;
 use crate::enumeration::{entries_at, expected_behind};
 use crate::expected::Expected;
-use crate::parsing::{begins, is_open, keyword_at, mark_at, names, no_number, number_at, word_at};
-use crate::piece::{
+use crate::halt::{Unread, expecting, going_on};
+use crate::missing::{
     CLOSE_BRACE, CLOSE_BRACKET, CLOSE_PARENTHESIS, INTEGER, NAME, OPEN_BRACE, SEMICOLON, STRUCT,
     ZERO,
 };
-use crate::stop::{Unread, expecting, going_on};
+use crate::parsing::{begins, is_open, keyword_at, mark_at, names, no_number, number_at, word_at};
 use ctf_types::ListOf;
 use std::alloc::Global;
 use tsdl_grammar::{Atom, Attribute, Bracket, Kind, Mark, MemberTree, Number, Structure};
@@ -87,7 +87,7 @@ fn count_at(alloc: Global, atoms: &[Atom]) -> Result<(Bracket, &[Atom]), Unread>
             Ok((Bracket::Count(count), rest))
         }
         [] | [Atom::Text(_) | Atom::TooLarge, ..] => {
-            Err(Unread::Stopped(no_number(atoms, Expected::Length)))
+            Err(Unread::Halted(no_number(atoms, Expected::Length)))
         }
     }
 }

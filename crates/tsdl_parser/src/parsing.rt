@@ -4,8 +4,8 @@ ghost use Rattle.std.specs.Prelude.{◌≡◌};
 ghost use Rattle.tsdl_parser.specs.Parsing.{Gives, number_of, is_mark, begins, mark_at, word_at, is_word, names, keyword_at, number_at, is_open};
 
 use crate::expected::Expected;
-use crate::piece::Piece;
-use crate::stop::{Stop, Unread};
+use crate::halt::{Halt, Unread};
+use crate::missing::Missing;
 use ctf_types::Text;
 use std::alloc::Global;
 use tsdl_grammar::{Atom, Mark, Number, Sign};
@@ -43,10 +43,10 @@ pub(crate) fn mark_at(mark: Mark, atoms: &[Atom]) -> Result<&[Atom], Unread>
 {
     match atoms {
         [atom, rest @ ..] if is_mark(mark, atom) => Ok(rest),
-        [] | [_, ..] => Err(Unread::Stopped(Stop::before(
+        [] | [_, ..] => Err(Unread::Halted(Halt::before(
             atoms,
             Expected::Mark(mark),
-            &[Piece::Mark(mark)],
+            &[Missing::Mark(mark)],
         ))),
     }
 }
@@ -66,7 +66,7 @@ pub(crate) fn word_at(
         | [
             Atom::Number(_) | Atom::Text(_) | Atom::Mark(_) | Atom::TooLarge,
             ..
-        ] => Err(Unread::Stopped(Stop::before(atoms, expected, &[]))),
+        ] => Err(Unread::Halted(Halt::before(atoms, expected, &[]))),
     }
 }
 
@@ -101,7 +101,7 @@ pub(crate) fn keyword_at<'a>(
 {
     match atoms {
         [atom, rest @ ..] if is_word(keyword, atom) => Ok(rest),
-        [] | [_, ..] => Err(Unread::Stopped(Stop::before(atoms, expected, &[]))),
+        [] | [_, ..] => Err(Unread::Halted(Halt::before(atoms, expected, &[]))),
     }
 }
 
@@ -125,14 +125,14 @@ pub(crate) fn number_at(atoms: &[Atom], expected: Expected) -> Result<(Number, &
         [Atom::Mark(Mark::Minus), Atom::Number(literal), rest @ ..] => {
             Ok((signed(Sign::Minus, *literal), rest))
         }
-        _ => Err(Unread::Stopped(no_number(atoms, expected))),
+        _ => Err(Unread::Halted(no_number(atoms, expected))),
     }
 }
 
-/// The stop where a number is expected. A sign without a literal does not stand.
-pub(crate) fn no_number(atoms: &[Atom], expected: Expected) -> Stop {
+/// The halt where a number is expected. A sign without a literal does not stand.
+pub(crate) fn no_number(atoms: &[Atom], expected: Expected) -> Halt {
     match atoms {
-        [Atom::Mark(Mark::Plus | Mark::Minus), rest @ ..] => Stop {
+        [Atom::Mark(Mark::Plus | Mark::Minus), rest @ ..] => Halt {
             dropped: 1,
             ..no_literal(rest, expected)
         },
@@ -140,12 +140,12 @@ pub(crate) fn no_number(atoms: &[Atom], expected: Expected) -> Stop {
     }
 }
 
-fn no_literal(atoms: &[Atom], expected: Expected) -> Stop {
+fn no_literal(atoms: &[Atom], expected: Expected) -> Halt {
     let expected = match atoms {
         [Atom::TooLarge, ..] => Expected::SmallerNumber,
         _ => expected,
     };
-    Stop::before(atoms, expected, &[Piece::Zero])
+    Halt::before(atoms, expected, &[Missing::Zero])
 }
 
 fn unsigned(literal: u64) -> Number

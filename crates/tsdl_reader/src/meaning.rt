@@ -14,7 +14,7 @@ use std::alloc::{AllocError, Global};
 use tsdl_flaw::{Fault, Stop};
 use tsdl_grammar::Atom;
 use tsdl_meaning::{Survey, first_flaw, metadata_of};
-use tsdl_parser::{Expected, Piece, Unread, blocks_are_unique, first_unread, parse};
+use tsdl_parser::{Expected, Missing, Unread, blocks_are_unique, first_unread, parse};
 
 /// The metadata that the atoms of a text mean, or the first fault of their grammar or their meaning.
 pub(crate) fn meaning(alloc: Global, atoms: Vec<Atom>) -> Result<Metadata, Stop>
@@ -27,27 +27,27 @@ pub(crate) fn meaning(alloc: Global, atoms: Vec<Atom>) -> Result<Metadata, Stop>
     match parse(alloc, &atoms[..end]) {
         Ok(blocks) if end == atoms.len() => metadata_of(alloc, &atoms, &blocks),
         Ok(_) => Err(first_fault(alloc, atoms, end, end, Expected::Block, &[])),
-        Err(Unread::Stopped(stop)) => Err(first_fault(
+        Err(Unread::Halted(halt)) => Err(first_fault(
             alloc,
             atoms,
-            stop.at(end),
-            stop.kept(end),
-            stop.expected,
-            &stop.rest,
+            halt.at(end),
+            halt.kept(end),
+            halt.expected,
+            &halt.rest,
         )),
         Err(Unread::Memory) => Err(Stop::NoMemory),
     }
 }
 
 /// The first fault of atoms of which something else was expected at a place, where the first ones can be kept and go on
-/// with these pieces: a flaw of the meaning of what is kept, or what stands at the place.
+/// with what is missing: a flaw of the meaning of what is kept, or what stands at the place.
 fn first_fault(
     alloc: Global,
     atoms: Vec<Atom>,
     at: usize,
     kept: usize,
     expected: Expected,
-    rest: &[Piece],
+    rest: &[Missing],
 ) -> Stop
     requires { kept ≤ length atoms.items }
     ensures { IsFaultOf atoms.items result }
@@ -65,7 +65,7 @@ fn flaw_before(
     alloc: Global,
     atoms: Vec<Atom>,
     kept: usize,
-    rest: &[Piece],
+    rest: &[Missing],
 ) -> Result<Option<Fault>, AllocError>
     requires { kept ≤ length atoms.items }
     ensures { IfOk result (λ found. IfSome found (λ fault. FaultStands atoms.items fault.at (kind_of fault.flaw))) }
@@ -74,7 +74,7 @@ fn flaw_before(
     let whole = gone_on(alloc, atoms, kept, rest)?;
     let blocks = match parse(alloc, &whole) {
         Ok(blocks) => blocks,
-        Err(Unread::Stopped(_)) => return Ok(None),
+        Err(Unread::Halted(_)) => return Ok(None),
         Err(Unread::Memory) => return Err(AllocError),
     };
     match first_flaw(alloc, &survey, &blocks) {
@@ -84,27 +84,27 @@ fn flaw_before(
     }
 }
 
-/// The first atoms, going on with these pieces.
+/// The first atoms, going on with what is missing.
 fn gone_on(
     alloc: Global,
     atoms: Vec<Atom>,
     kept: usize,
-    rest: &[Piece],
+    rest: &[Missing],
 ) -> Result<Vec<Atom>, AllocError>
     ensures { IfOk result (λ whole. (more : List Atom) × (whole.items ≡ take kept atoms.items ++ more)) }
 {
     let mut whole = atoms;
     whole.truncate(kept);
-    for piece in rest {
-        whole.push(atom_of(alloc, *piece)?)?;
+    for missing in rest {
+        whole.push(atom_of(alloc, *missing)?)?;
     }
     Ok(whole)
 }
 
-fn atom_of(alloc: Global, piece: Piece) -> Result<Atom, AllocError> {
-    match piece {
-        Piece::Mark(mark) => Ok(Atom::Mark(mark)),
-        Piece::Word(word) => Ok(Atom::Word(Text::from_str(alloc, word)?)),
-        Piece::Zero => Ok(Atom::Number(0)),
+fn atom_of(alloc: Global, missing: Missing) -> Result<Atom, AllocError> {
+    match missing {
+        Missing::Mark(mark) => Ok(Atom::Mark(mark)),
+        Missing::Word(word) => Ok(Atom::Word(Text::from_str(alloc, word)?)),
+        Missing::Zero => Ok(Atom::Number(0)),
     }
 }

@@ -2,17 +2,17 @@
 //! it lacks, and each rule around it adds what closes it.
 
 ghost use Rattle.std.specs.Prelude.{◌≡◌, ◌-◌, ◌≤◌};
-ghost use Rattle.tsdl_parser.specs.Stopping.{Alike};
-ghost use Rattle.tsdl_parser.specs.declared.stop.Unread.TheVariants.{Memory};
+ghost use Rattle.tsdl_parser.specs.Halting.{Alike};
+ghost use Rattle.tsdl_parser.specs.declared.halt.Unread.TheVariants.{Memory};
 
 use crate::expected::Expected;
-use crate::piece::Piece;
+use crate::missing::Missing;
 use arrayvec::ArrayVec;
 use std::alloc::{AllocError, AllocFailed};
 use tsdl_grammar::Atom;
 
-/// More pieces than any text lacks, which are at most 12.
-const MOST_PIECES: usize = 16;
+/// More than any text lacks, which is at most 12 atoms.
+const MOST_MISSING: usize = 16;
 
 /// Why no blocks were read.
 #[derive(Debug, Drop)]
@@ -20,7 +20,7 @@ pub enum Unread {
     /// Memory ran out.
     Memory,
     /// The atoms spell none.
-    Stopped(Stop),
+    Halted(Halt),
 }
 
 impl From<AllocError> for Unread {
@@ -42,7 +42,7 @@ impl<T: Drop> From<AllocFailed<T>> for Unread {
 /// A place where the atoms of a text stop spelling blocks, and a text that goes on from there: the atoms that are
 /// kept and then the rest spell blocks.
 #[derive(Debug, Drop)]
-pub struct Stop {
+pub struct Halt {
     /// How many atoms are left from the place on: none at the end of the text.
     pub left: usize,
     /// How many atoms before the place begin something that is not whole there, and are not kept.
@@ -50,19 +50,19 @@ pub struct Stop {
     /// What was expected at the place.
     pub expected: Expected,
     /// What the kept atoms go on with, up to the end of a text.
-    pub rest: ArrayVec<Piece, MOST_PIECES>,
+    pub rest: ArrayVec<Missing, MOST_MISSING>,
 }
 
-impl Stop {
-    /// The stop in front of these atoms, from where a text could go on with these pieces.
-    pub(crate) fn before(atoms: &[Atom], expected: Expected, pieces: &[Piece]) -> Stop {
-        let nothing = Stop {
+impl Halt {
+    /// The halt in front of these atoms, from where a text could go on with what is missing.
+    pub(crate) fn before(atoms: &[Atom], expected: Expected, missing: &[Missing]) -> Halt {
+        let nothing = Halt {
             left: atoms.len(),
             dropped: 0,
             expected,
             rest: ArrayVec::new(),
         };
-        nothing.going_on(pieces)
+        nothing.going_on(missing)
     }
 
     /// The index of the place among so many atoms of a text, which is their number at the end.
@@ -81,46 +81,46 @@ impl Stop {
         self.at(count).saturating_sub(self.dropped)
     }
 
-    /// The same stop, with these pieces behind its rest.
-    fn going_on(mut self, pieces: &[Piece]) -> Stop {
-        let _fits = self.rest.try_extend_from_slice(pieces);
+    /// The same halt, with what is missing here behind its rest.
+    fn going_on(mut self, missing: &[Missing]) -> Halt {
+        let _fits = self.rest.try_extend_from_slice(missing);
         self
     }
 }
 
-/// What was found, or the same stop with these pieces behind its rest.
-pub(crate) fn going_on<T>(found: Result<T, Unread>, pieces: &[Piece]) -> Result<T, Unread>
+/// What was found, or the same halt with what is missing here behind its rest.
+pub(crate) fn going_on<T>(found: Result<T, Unread>, missing: &[Missing]) -> Result<T, Unread>
     ensures { Alike found result }
 {
     match found {
         Ok(found) => Ok(found),
         Err(Unread::Memory) => Err(Unread::Memory),
-        Err(Unread::Stopped(stop)) => Err(Unread::Stopped(stop.going_on(pieces))),
+        Err(Unread::Halted(halt)) => Err(Unread::Halted(halt.going_on(missing))),
     }
 }
 
-/// What was found, or the same stop with this expected.
+/// What was found, or the same halt with this expected.
 pub(crate) fn expecting<T>(found: Result<T, Unread>, expected: Expected) -> Result<T, Unread>
     ensures { Alike found result }
 {
     match found {
         Ok(found) => Ok(found),
         Err(Unread::Memory) => Err(Unread::Memory),
-        Err(Unread::Stopped(stop)) => Err(Unread::Stopped(Stop { expected, ..stop })),
+        Err(Unread::Halted(halt)) => Err(Unread::Halted(Halt { expected, ..halt })),
     }
 }
 
-/// What was found, or the same stop with none of these atoms kept.
+/// What was found, or the same halt with none of these atoms kept.
 pub(crate) fn back_to<T>(found: Result<T, Unread>, atoms: &[Atom]) -> Result<T, Unread>
     ensures { Alike found result }
 {
     match found {
         Ok(found) => Ok(found),
         Err(Unread::Memory) => Err(Unread::Memory),
-        Err(Unread::Stopped(stop)) => Err(Unread::Stopped(Stop {
-            dropped: atoms.len().saturating_sub(stop.left),
+        Err(Unread::Halted(halt)) => Err(Unread::Halted(Halt {
+            dropped: atoms.len().saturating_sub(halt.left),
             rest: ArrayVec::new(),
-            ..stop
+            ..halt
         })),
     }
 }
