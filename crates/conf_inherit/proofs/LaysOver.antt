@@ -44,7 +44,7 @@ module _ (al : Members) where
   values_at-other : (s : Spot) (k : List ℕ) (cs : List Data) → is_base_name s k ≡ false → values_at s k cs ≡ values_in k cs
   values_at-other s k cs is = rw is refl
 
-  no_ground : (s : Spot) → Ground al s [] no_members
+  pub no_ground : (s : Spot) → Ground al s [] no_members
   no_ground s = record { in_order = tt; found = λ k r e. cc; absent = λ k e. no_values_at s k }
 
   ground_scalar : (s : Spot) (v : Data) → IsPlain s v → Ground al s (if_objects (v ∷ [])) (properties_of v)
@@ -55,18 +55,18 @@ module _ (al : Members) where
   ground_scalar s (array es) p = absurd p
   ground_scalar s (object ms) p = absurd p
 
-  ground_shown : {s : Spot} {cs : List Data} {b : Data} → Shows al s cs b → Ground al s (if_objects cs) (properties_of b)
+  pub ground_shown : {s : Spot} {cs : List Data} {b : Data} → Shows al s cs b → Ground al s (if_objects cs) (properties_of b)
   ground_shown {s} (a_scalar {v = v} p) = ground_scalar s v p
   ground_shown (an_object o f g) = record { in_order = o; found = f; absent = g }
   ground_shown {s} (the_members m e) = no_ground s
   ground_shown {s} (a_join m) = no_ground s
 
   -- the chain of what a base stands for, and what its objects show
-  ground_below : (s : Spot) (vs : List Data) (base : Option Data) → StandsFor al s vs base → (cs : List Data) × Chain al s vs cs × Ground al s (if_objects cs) (members_below base)
+  pub ground_below : (s : Spot) (vs : List Data) (base : Option Data) → StandsFor al s vs base → (cs : List Data) × Chain al s vs cs × Ground al s (if_objects cs) (members_below base)
   ground_below s vs None e = ([], subst (λ x. Chain al s x []) (sym e) nothing, no_ground s)
   ground_below s vs (Some b) (looks {cs = cs} c h) = (cs, c, ground_shown h)
 
-  ground_along : (s : Spot) (cs : List Data) (acc : Members) → SameSpot s → Ground al FieldType cs acc → Ground al s cs acc
+  pub ground_along : (s : Spot) (cs : List Data) (acc : Members) → SameSpot s → Ground al FieldType cs acc → Ground al s cs acc
   ground_along s cs acc alike g = record {
     in_order = g.in_order;
     found = λ k r e. subst (λ x. Looks al x (values_at s k cs) r) (sym (alike.under k)) (subst (λ b. Looks al (spot_under FieldType k) (if b then [] else values_in k cs) r) (sym (alike.base k)) (g.found k r e));
@@ -186,7 +186,7 @@ module _ (al done : Members) where
   items_joined single (a_join m) = refl
 
   -- the entries of a base, at a members list
-  base_entries : {s : Spot} {cs : List Data} {b : Data} → lists_members s ≡ true → Shows al s cs b → Entries al (if_lists cs) (member_names (if_lists cs)) (items_in b)
+  pub base_entries : {s : Spot} {cs : List Data} {b : Data} → lists_members s ≡ true → Shows al s cs b → Entries al (if_lists cs) (member_names (if_lists cs)) (items_in b)
   base_entries {s} named (a_scalar {v = v} p) = plain_entries v p
     where
       plain_entries : (v : Data) → IsPlain s v → Entries al (if_lists (v ∷ [])) (member_names (if_lists (v ∷ []))) (items_in v)
@@ -315,7 +315,7 @@ module _ (al done : Members) where
       lays_each no_members s ready k d e = cc
       lays_each (member l v ms) s ready k d e = lays_each_at al done s k l v d ms (meets k l) e (lays v (spot_under s l) ready.0) (lays_each ms s ready.1 k d)
 
-      lays_from : (ms : Members) (s : Spot) → HasReady done s ms → (b : Data) → base_of s ms ≡ Some b → Looks al FieldType (b ∷ []) (lay done FieldType b None)
+      pub lays_from : (ms : Members) (s : Spot) → HasReady done s ms → (b : Data) → base_of s ms ≡ Some b → Looks al FieldType (b ∷ []) (lay done FieldType b None)
       lays_from no_members s ready b e = cc
       lays_from (member l v ms) s ready b e = lays_from_at al done s l v b ms (is_base_name s l) refl e (lays v (spot_under s l) ready.0) (lays_from ms s ready.1 b)
 

@@ -22,4 +22,12 @@ pub mod CircleLemmas
 pub mod WalkLemmas
 pub mod RefusalLemmas
 pub mod TurnLemmas
+pub mod ReadInOrder
+pub mod NoLarger
+pub mod LayingGrows
+pub mod SoundParts
+pub mod PartsFit
+pub mod ExcludedPlaces
+pub mod PlacesFit
+pub mod ExcludedInheritance
 pub mod WorkedRows

@@ -37,7 +37,7 @@ judged r = go (nat_lt max_values (size r)) refl (nests r max_levels) refl
     go false is false deep = rw (is, deep) (exceeds TooDeep deep)
 
 -- no type fits that is past a limit
-apart_fits : (kind : FaultKind) (r : Data) → Fits r → Exceeds kind r → ⊥
+pub apart_fits : (kind : FaultKind) (r : Data) → Fits r → Exceeds kind r → ⊥
 apart_fits Limit r (few, flat) past = omega arith
 apart_fits TooDeep r (few, flat) deep = true≢false (sym flat ∙ deep)
 apart_fits _ r f h = h
@@ -116,7 +116,7 @@ module _ (done : Members) where
   abbrev EachFits : (Data → Type 0) → Type 0
   EachFits In = (d : Data) → In d → FitsAlone FieldType d
 
-  alike_limit : (s : Spot) (v : Data) → Alike (limit_flaws done s v) [] (FitsAlone s v)
+  pub alike_limit : (s : Spot) (v : Data) → Alike (limit_flaws done s v) [] (FitsAlone s v)
   alike_limit s v = go (all_named (has done) s v) refl (fits_at (lay done s v None) (fitting (lay done s v None)) (judged (lay done s v None)))
     where
       go : (t : Bool) → all_named (has done) s v ≡ t → (passed (fitting (lay done s v None)) ≡ [] → Fits (lay done s v None)) × (Fits (lay done s v None) → passed (fitting (lay done s v None)) ≡ []) → Alike (limit_flaws done s v) [] (FitsAlone s v)
@@ -147,7 +147,7 @@ module _ (done : Members) where
 
   module _ (al : Members) where
     mutual
-      alike_inner : (v : Data) (s : Spot) (seen : Members) → Alike (inner_flaws al (Some done) s seen v) (inner_flaws al None s seen v) (EachFits (λ d. Inherits d s v))
+      pub alike_inner : (v : Data) (s : Spot) (seen : Members) → Alike (inner_flaws al (Some done) s seen v) (inner_flaws al None s seen v) (EachFits (λ d. Inherits d s v))
       alike_inner null s seen = ((λ e. (refl, λ d h. absurd h)), (λ h. refl))
       alike_inner (boolean b) s seen = ((λ e. (refl, λ d h. absurd h)), (λ h. refl))
       alike_inner (number n) s seen = ((λ e. (refl, λ d h. absurd h)), (λ h. refl))

@@ -80,7 +80,7 @@ unfolding lists_members
 entry_lists = refl
 
 -- an entry without a flaw is an object of one property
-single_entry : (v : Data) → is_wrong Entry v ≡ false → is_no_entry v ≡ false
+pub single_entry : (v : Data) → is_wrong Entry v ≡ false → is_no_entry v ≡ false
 single_entry v h = or_left (is_no_entry v) (names_member_type Entry && is_no_member v) (rw (entry_lists, entry_is) at h)
 
 -- the entries of a members list without a flaw have names of their own, which none before them has

@@ -93,7 +93,7 @@ member_size_at k l d e ms (same f) h later =
     subst (λ x. size x ≤ members_size (member l d ms)) one (let small : size d ≤ size d + members_size ms = omega arith in small)
 member_size_at k l d e ms (other apart) h later = let rest : size e ≤ members_size ms = later (sym (get_other k l d ms apart) ∙ h) in omega arith
 
-member_size : (k : List ℕ) (e : Data) (ms : Members) → get_member k ms ≡ Some e → size e ≤ members_size ms
+pub member_size : (k : List ℕ) (e : Data) (ms : Members) → get_member k ms ≡ Some e → size e ≤ members_size ms
 member_size k e no_members h = cc
 member_size k e (member l d ms) h = member_size_at k l d e ms (meets k l) h (member_size k e ms)
 

@@ -3,7 +3,7 @@ ghost use Rattle.std.specs.Prelude.{◌≡◌, ◌↔◌, ◌⊎◌, ℕ, List, 
 ghost use Rattle.serde_json.specs.Data.{Data, Members, no_members};
 ghost use Rattle.serde_json.specs.Events.{members_len};
 ghost use Rattle.conf_tree.specs.Flaw.{Flaw};
-ghost use Rattle.conf_tree.specs.Walk.{refusal};
+ghost use Rattle.conf_tree.specs.Walk.{IsTreeOf, refusal};
 ghost use Rattle.conf_tree.specs.declared.fault_kind.FaultKind.{FaultKind};
 ghost use Rattle.conf_inherit.specs.declared.spot.Spot.{Spot};
 ghost use Rattle.conf_inherit.specs.Circle.{Walks};
@@ -34,6 +34,11 @@ pub fn refusal_holds()
 pub fn resolution_or_fault()
     ensures { (t : Data) → NoClash (aliases_of t)
         → ((r : Data) × Resolves t r) ⊎ ((flaw : Flaw) × RefusalHolds t flaw) }
+{}
+
+/// A configuration that is the tree of a text and is resolved has no fault of inheritance.
+pub fn resolutions_faultless()
+    ensures { (text : List ℕ) (t r : Data) (flaw : Flaw) → IsTreeOf text t → resolution t ≡ Ok r → RefusalHolds t flaw → ⊥ }
 {}
 
 /// No configuration is resolved in which an alias leads into a circle: one from which there are as many steps as

@@ -22,7 +22,7 @@ mod spot;
 
 pub use law::{
     circle_is_refused, limit_is_passed, one_resolution, refusal_holds, resolution_exists,
-    resolution_or_fault, type_fits,
+    resolution_or_fault, resolutions_faultless, type_fits,
 };
 pub use resolution::resolve;
 pub(crate) use spot::Spot;

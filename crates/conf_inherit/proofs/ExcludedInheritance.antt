@@ -1,0 +1,203 @@
+-- A tree that was read and has a resolution has no fault of inheritance.
+use Rattle.std.proofs.Common.{◌≡◌, ◌<◌, ◌+◌, ◌&&◌, ℕ, zero, suc, Bool, true, false, List, [], ◌∷◌, length, Some, None, is_some, Result, Ok, Err, inl, inr, refl, sym, ap, subst, ◌∙◌, arith}
+use Rattle.std.specs.Prelude.{⊤}
+use Rattle.std.proofs.lemmas.Bool.{true≢false, and_from, and_parts}
+use Rattle.serde_json.specs.Data.{Data, null, boolean, number, string, array, object, Items, no_items, item, Members, no_members, member}
+use Rattle.serde_json.specs.Events.{members_len}
+use Rattle.serde_json.specs.Find.{get_item, get_member}
+use Rattle.conf_tree.specs.declared.fault_kind.FaultKind.{FaultKind}
+use Rattle.conf_tree.specs.declared.fault_kind.FaultKind.TheVariants.{WrongKind, NoSuchAlias, Limit}
+use Rattle.conf_tree.specs.Flaw.{Flaw, Place, key, index}
+use Rattle.conf_tree.specs.Reading.{◌>>=◌}
+use Rattle.conf_tree.specs.Walk.{HasMember, IsTreeOf, LeadsTo, IsNested, refusal}
+use Rattle.conf_inherit.specs.declared.spot.Spot.{Spot}
+use Rattle.conf_inherit.specs.declared.spot.Spot.TheVariants.{Root}
+use Rattle.conf_inherit.specs.Spot.{spot_under, spot_of_items, lists_members, is_entry}
+use Rattle.conf_inherit.specs.AliasFlaws.{all_alias_flaws}
+use Rattle.conf_inherit.specs.Faults.{Leads, HasEntry, Clashes, Passes, ListsTooMany, Tells, FlawHolds, RefusalHolds}
+use Rattle.conf_inherit.specs.Flaws.{flaws}
+use Rattle.conf_inherit.specs.Laying.{lay}
+use Rattle.conf_inherit.specs.Limits.{Exceeds}
+use Rattle.conf_inherit.specs.Looks.{Looks, AreResolved}
+use Rattle.conf_inherit.specs.Named.{all_named, has}
+use Rattle.conf_inherit.specs.Names.{NoClash}
+use Rattle.conf_inherit.specs.Nesting.{nests, items_nest, members_nest, deep_flaws, PassesDepth}
+use Rattle.conf_inherit.specs.Places.{inner_places}
+use Rattle.conf_inherit.specs.Resolution.{aliases_of, Resolves, from_aliases, if_shallow, resolution}
+use Rattle.conf_inherit.specs.Rounds.{Outcomes, rounds, no_outcomes}
+use Rattle.conf_inherit.proofs.ExcludedPlaces.{too_many_excluded}
+use Rattle.conf_inherit.proofs.LaysOver.{lays}
+use Rattle.conf_inherit.proofs.LimitLemmas.{apart_fits}
+use Rattle.conf_inherit.proofs.ListLemmas.{found_each}
+use Rattle.conf_inherit.proofs.NestingLemmas.{shallow_nests}
+use Rattle.conf_inherit.proofs.OneReading.{one_look}
+use Rattle.conf_inherit.proofs.PartsFit.{sound_named}
+use Rattle.conf_inherit.proofs.PlacesFit.{all_fit}
+use Rattle.conf_inherit.proofs.ReadInOrder.{read_in_order, aliases_apart}
+use Rattle.conf_inherit.proofs.ReadyLemmas.{ready}
+use Rattle.conf_inherit.proofs.ResolveLemmas.{no_flaws, resolution_sound}
+use Rattle.conf_inherit.proofs.RoundLemmas.{rounds_resolved, rounds_root, all_done}
+use Rattle.conf_inherit.proofs.SoundParts.{PartSound, own_sound, part_sound, member_sound, item_sound, SoundAt, sound_along}
+use Rattle.conf_inherit.proofs.SpotLemmas.{list_spot}
+use Rattle.conf_inherit.proofs.WalkLemmas.{circle_refused}
+
+-- ---- what a resolution says of the tree
+
+then_went : {A B : Type 0} (r : Result A Flaw) (next_step : A → Result B Flaw) (y : B) → (r >>= next_step) ≡ Ok y → (x : A) × (r ≡ Ok x) × (next_step x ≡ Ok y)
+then_went (Ok x) next_step y e = (x, refl, e)
+then_went (Err flaw) next_step y e = absurd cc
+
+from_sound : (a : Result ⊤ Flaw) (x : ⊤) → from_aliases a ≡ Ok x → a ≡ Ok tt
+from_sound (Ok y) x e = refl
+from_sound (Err flaw) x e = absurd cc
+
+module _ (t r : Data) (h : resolution t ≡ Ok r) where
+  abbrev al : Members
+  al = aliases_of t
+
+  abbrev st : Outcomes
+  st = rounds al (members_len al) no_outcomes
+
+  -- nothing was found in its aliases, at its places or in it as a whole, and what it is laid to is shallow
+  record TreeSound : Type 0 where
+    outcomes : all_alias_flaws al st al ≡ []
+    places : inner_places al st.done Root t ≡ []
+    whole : flaws al None Root false no_members t ≡ []
+    shallow : nests r 32 ≡ true
+
+  laid_shallow : (x : Data) → if_shallow x ≡ Ok r → nests r 32 ≡ true
+  laid_shallow x e =
+      let deep = then_went (refusal (deep_flaws x 32)) _ r e in
+      let same : x ≡ r = cc in
+      subst (λ y. nests y 32 ≡ true) same (shallow_nests x 32 (no_flaws (deep_flaws x 32) deep.1))
+
+  tree_sound : TreeSound
+  tree_sound =
+      let first = then_went (from_aliases (refusal (all_alias_flaws al st al))) _ r h in
+      let second = then_went (refusal (inner_places al st.done Root t)) _ r first.2 in
+      let third = then_went (refusal (flaws al None Root false no_members t)) _ r second.2 in
+      record {
+        outcomes = no_flaws (all_alias_flaws al st al) (from_sound (refusal (all_alias_flaws al st al)) first.0 first.1);
+        places = no_flaws (inner_places al st.done Root t) second.1;
+        whole = no_flaws (flaws al None Root false no_members t) third.1;
+        shallow = laid_shallow (lay st.done Root t None) third.2;
+      }
+
+-- ---- depth
+
+items_shallow : (ds : Items) (levels i : ℕ) (e : Data) → items_nest ds levels ≡ true → get_item i ds ≡ Some e → nests e levels ≡ true
+items_shallow no_items levels i e h there = absurd cc
+items_shallow (item d ds) levels zero e h there = let same : d ≡ e = cc in subst (λ x. nests x levels ≡ true) same (and_parts (nests d levels) (items_nest ds levels) h).0
+items_shallow (item d ds) levels (suc i) e h there = items_shallow ds levels i e (and_parts (nests d levels) (items_nest ds levels) h).1 there
+
+members_shallow : (ms : Members) (levels : ℕ) (k : List ℕ) (e : Data) → members_nest ms levels ≡ true → HasMember k e ms → nests e levels ≡ true
+members_shallow no_members levels k e h there = absurd there
+members_shallow (member l d ms) levels k e h (inl same) = subst (λ x. nests x levels ≡ true) (sym same.1) (and_parts (nests d levels) (members_nest ms levels) h).0
+members_shallow (member l d ms) levels k e h (inr later) = members_shallow ms levels k e (and_parts (nests d levels) (members_nest ms levels) h).1 later
+
+record ShallowAt (found : Data) (levels steps : ℕ) : Type 0 where
+  left : ℕ
+  sum : levels ≡ left + steps
+  shallow : nests found left ≡ true
+
+further : (found : Data) (levels steps : ℕ) → ShallowAt found levels steps → ShallowAt found (suc levels) (suc steps)
+further found levels steps h = record { left = h.left; sum = (let same = h.sum in omega (arith, same)); shallow = h.shallow }
+
+led : (path : List Place) (d found : Data) (levels : ℕ) → nests d levels ≡ true → LeadsTo path d found → ShallowAt found levels (length path)
+led [] d found levels h is = record { left = levels; sum = omega arith; shallow = subst (λ x. nests x levels ≡ true) (sym is) h }
+led (index i ∷ path) d found zero h (ds, e, is, there, leads) = let bad : nests (array ds) zero ≡ true = subst (λ x. nests x zero ≡ true) is h in absurd cc
+led (index i ∷ path) d found (suc levels) h (ds, e, is, there, leads) =
+    let inner : items_nest ds levels ≡ true = subst (λ x. nests x (suc levels) ≡ true) is h in
+    further found levels (length path) (led path e found levels (items_shallow ds levels i e inner there) leads)
+led (key k ∷ path) d found zero h (ms, e, is, there, leads) = let bad : nests (object ms) zero ≡ true = subst (λ x. nests x zero ≡ true) is h in absurd cc
+led (key k ∷ path) d found (suc levels) h (ms, e, is, there, leads) =
+    let inner : members_nest ms levels ≡ true = subst (λ x. nests x (suc levels) ≡ true) is h in
+    further found levels (length path) (led path e found levels (members_shallow ms levels k e inner there) leads)
+
+none_left : (found : Data) (left : ℕ) → IsNested found → left ≡ 0 → nests found left ≡ true → ⊥
+none_left (array ds) zero nested none h = cc
+none_left (object ms) zero nested none h = cc
+none_left (array ds) (suc left) nested none h = omega (arith, none)
+none_left (object ms) (suc left) nested none h = omega (arith, none)
+none_left null left nested none h = nested
+none_left (boolean b) left nested none h = nested
+none_left (number n) left nested none h = nested
+none_left (string s) left nested none h = nested
+
+depth_excluded : (d : Data) (flaw : Flaw) → nests d 32 ≡ true → ¬ PassesDepth 32 d flaw
+depth_excluded d flaw h (kind, (found, leads, nested, steps)) =
+    let at = led flaw.path d found 32 h leads in
+    none_left found at.left nested (let sum = at.sum in omega (arith, sum, steps)) at.shallow
+
+-- ---- names that clash
+
+module _ (al : Members) where
+  -- no entry of a members list has the name of one before it
+  entry_of_list : (s : Spot) → lists_members s ≡ true → is_entry (spot_of_items s) ≡ true
+  unfolding is_entry
+  entry_of_list s lists = ap is_entry (list_spot s lists)
+
+  no_clash : (s : Spot) (es : Items) (taken : Bool) (seen : Members) (i j : ℕ) (n : List ℕ) → PartSound al s taken seen (array es) → lists_members s ≡ true → i < j → HasEntry i n es → HasEntry j n es → ⊥
+  no_clash s es taken seen i j n h lists before first (ms, d, there, has_it) =
+      let one = item_sound al s 0 no_members es j (object ms) h.inner there in
+      let mine = member_sound al (spot_of_items s) one.marks ms n d one.sound.inner has_it in
+      let free = (own_sound al (spot_under (spot_of_items s) n) (is_entry (spot_of_items s) && is_some (get_member n one.marks)) d mine.own).free in
+      true≢false (sym (and_from (is_entry (spot_of_items s)) (is_some (get_member n one.marks)) (entry_of_list s lists) (one.marked n i before first)) ∙ free)
+
+  clash_excluded : (s : Spot) (v : Data) (path : List Place) (taken : Bool) (seen : Members) → PartSound al s taken seen v → ¬ Clashes s v path
+  clash_excluded s v path taken seen h (front, t, es, i, j, n, is, leads, lists, before, first, second) =
+      let at = sound_along al front s v t (array es) taken seen h leads in
+      no_clash t es at.taken at.seen i j n at.sound lists before first second
+
+-- ---- all of a tree that has a resolution
+
+told_excluded : (aliases : Members) (kind : FaultKind) (s : Spot) (w : Data) → SoundAt aliases s w → ¬ ListsTooMany s w → ¬ Tells aliases kind s w
+told_excluded aliases WrongKind s w h few told = true≢false (sym told ∙ (own_sound aliases s h.taken w h.sound.own).right)
+told_excluded aliases NoSuchAlias s w h few told = true≢false (sym told ∙ (own_sound aliases s h.taken w h.sound.own).known)
+told_excluded aliases Limit s w h few told = few told
+told_excluded aliases _ s w h few told = absurd told
+
+module _ (text : List ℕ) (t r : Data) (tree : IsTreeOf text t) (h : resolution t ≡ Ok r) where
+  apart : NoClash (aliases_of t)
+  apart = aliases_apart text t tree
+
+  abbrev done : Members
+  done = (st t r h).done
+
+  resolves : Resolves t r
+  resolves = (resolution_sound t r apart h).0
+
+  root_sound : PartSound (aliases_of t) Root false no_members t
+  root_sound = part_sound (aliases_of t) Root false no_members t (tree_sound t r h).whole
+
+  known : AreResolved (aliases_of t) done
+  known = rounds_resolved (aliases_of t) (members_len (aliases_of t)) (found_each (aliases_of t) apart)
+
+  all_known : (n : List ℕ) → has (aliases_of t) n ≡ true → has done n ≡ true
+  all_known = all_done (aliases_of t) (st t r h) (tree_sound t r h).outcomes (rounds_root (aliases_of t) (members_len (aliases_of t)) (found_each (aliases_of t) apart))
+
+  -- what a value is laid to is what it is looked up as, under whatever resolved aliases
+  laid : (others : Members) (s : Spot) (w : Data) → AreResolved (aliases_of t) others → SoundAt (aliases_of t) s w → all_named (has others) s w ≡ true → Looks (aliases_of t) s (w ∷ []) (lay others s w None)
+  laid others s w resolved at named = lays (aliases_of t) others resolved w s (ready (aliases_of t) None others w s at.seen at.sound.inner named) [] None refl
+
+  -- each field type fits by itself
+  passes_excluded : (kind : FaultKind) (path : List Place) (s : Spot) (w : Data) → Leads Root t path s w → ¬ Passes (aliases_of t) kind s w
+  passes_excluded kind path s w leads (names, (others, resolved, named, past)) =
+      let at = sound_along (aliases_of t) path Root t s w false no_members root_sound leads in
+      let mine = laid done s w known at (sound_named (aliases_of t) done known all_known s w at.taken at.seen at.sound) in
+      let same = one_look (aliases_of t) (laid others s w resolved at named) mine in
+      let fits = all_fit (aliases_of t) done known all_known t path s w root_sound (read_in_order text t tree.0.1) (tree_sound t r h).places leads names in
+      apart_fits kind (lay done s w None) fits (subst (Exceeds kind) same past)
+
+  flaw_excluded : (flaw : Flaw) → ¬ FlawHolds (aliases_of t) Root t flaw
+  flaw_excluded flaw (inl (s, w, leads, inl told)) =
+      let at = sound_along (aliases_of t) flaw.path Root t s w false no_members root_sound leads in
+      told_excluded (aliases_of t) flaw.kind s w at (too_many_excluded (aliases_of t) done t flaw.path s w (tree_sound t r h).places leads) told
+  flaw_excluded flaw (inl (s, w, leads, inr past)) = passes_excluded flaw.kind flaw.path s w leads past
+  flaw_excluded flaw (inr (inl (kind, clash))) = clash_excluded (aliases_of t) Root t flaw.path false no_members root_sound clash
+  flaw_excluded flaw (inr (inr (kind, (front, k, is, leads, walks)))) = circle_refused t r k apart walks h
+
+  -- no fault of inheritance holds of it
+  pub refusal_excluded : (flaw : Flaw) → ¬ RefusalHolds t flaw
+  refusal_excluded flaw (inl holds) = flaw_excluded flaw holds
+  refusal_excluded flaw (inr (s, looked, deep)) = depth_excluded r flaw (tree_sound t r h).shallow (subst (λ x. PassesDepth 32 x flaw) (one_look (aliases_of t) looked resolves) deep)

@@ -1,0 +1,5 @@
+use Rattle.conf_inherit.proofs.ExcludedInheritance.{refusal_excluded}
+use Rattle.conf_inherit.proofs.law.resolutions_faultless.Goals as goal
+
+pub returns : goal.returns
+returns c = λ text t r flaw tree h. refusal_excluded text t r tree h flaw
