@@ -1,6 +1,5 @@
 -- A tree that was read and has a resolution has no fault of inheritance.
-use Rattle.std.proofs.Common.{◌≡◌, ◌<◌, ◌+◌, ◌&&◌, ℕ, zero, suc, Bool, true, false, List, [], ◌∷◌, length, Some, None, is_some, Result, Ok, Err, inl, inr, refl, sym, ap, subst, ◌∙◌, arith}
-use Rattle.std.specs.Prelude.{⊤}
+use Rattle.std.proofs.Common.{◌≡◌, ◌<◌, ◌+◌, ◌&&◌, ℕ, zero, suc, Bool, true, false, List, [], ◌∷◌, length, Some, None, is_some, Ok, inl, inr, refl, sym, ap, subst, ◌∙◌, arith}
 use Rattle.std.proofs.lemmas.Bool.{true≢false, and_from, and_parts}
 use Rattle.serde_json.specs.Data.{Data, null, boolean, number, string, array, object, Items, no_items, item, Members, no_members, member}
 use Rattle.serde_json.specs.Events.{members_len}
@@ -8,7 +7,6 @@ use Rattle.serde_json.specs.Find.{get_item, get_member}
 use Rattle.conf_tree.specs.declared.fault_kind.FaultKind.{FaultKind}
 use Rattle.conf_tree.specs.declared.fault_kind.FaultKind.TheVariants.{WrongKind, NoSuchAlias, Limit}
 use Rattle.conf_tree.specs.Flaw.{Flaw, Place, key, index}
-use Rattle.conf_tree.specs.Reading.{◌>>=◌}
 use Rattle.conf_tree.specs.Walk.{HasMember, IsTreeOf, LeadsTo, IsNested, refusal}
 use Rattle.conf_inherit.specs.declared.spot.Spot.{Spot}
 use Rattle.conf_inherit.specs.declared.spot.Spot.TheVariants.{Root}
@@ -21,35 +19,26 @@ use Rattle.conf_inherit.specs.Limits.{Exceeds}
 use Rattle.conf_inherit.specs.Looks.{Looks, AreResolved}
 use Rattle.conf_inherit.specs.Named.{all_named, has}
 use Rattle.conf_inherit.specs.Names.{NoClash}
-use Rattle.conf_inherit.specs.Nesting.{nests, items_nest, members_nest, deep_flaws, PassesDepth}
+use Rattle.conf_inherit.specs.Nesting.{nests, items_nest, members_nest, PassesDepth}
 use Rattle.conf_inherit.specs.Places.{inner_places}
-use Rattle.conf_inherit.specs.Resolution.{aliases_of, Resolves, from_aliases, if_shallow, resolution}
+use Rattle.conf_inherit.specs.Resolution.{aliases_of, Resolves, resolution}
 use Rattle.conf_inherit.specs.Rounds.{Outcomes, rounds, no_outcomes}
 use Rattle.conf_inherit.proofs.ExcludedPlaces.{too_many_excluded}
 use Rattle.conf_inherit.proofs.LaysOver.{lays}
 use Rattle.conf_inherit.proofs.LimitLemmas.{apart_fits}
 use Rattle.conf_inherit.proofs.ListLemmas.{found_each}
-use Rattle.conf_inherit.proofs.NestingLemmas.{shallow_nests}
 use Rattle.conf_inherit.proofs.OneReading.{one_look}
 use Rattle.conf_inherit.proofs.PartsFit.{sound_named}
 use Rattle.conf_inherit.proofs.PlacesFit.{all_fit}
 use Rattle.conf_inherit.proofs.ReadInOrder.{read_in_order, aliases_apart}
 use Rattle.conf_inherit.proofs.ReadyLemmas.{ready}
-use Rattle.conf_inherit.proofs.ResolveLemmas.{no_flaws, resolution_sound}
+use Rattle.conf_inherit.proofs.ResolveLemmas.{no_flaws, ok_aliases, ok_then, resolution_sound}
 use Rattle.conf_inherit.proofs.RoundLemmas.{rounds_resolved, rounds_root, all_done}
 use Rattle.conf_inherit.proofs.SoundParts.{PartSound, own_sound, part_sound, member_sound, item_sound, SoundAt, sound_along}
 use Rattle.conf_inherit.proofs.SpotLemmas.{list_spot}
 use Rattle.conf_inherit.proofs.WalkLemmas.{circle_refused}
 
 -- ---- what a resolution says of the tree
-
-then_went : {A B : Type 0} (r : Result A Flaw) (next_step : A → Result B Flaw) (y : B) → (r >>= next_step) ≡ Ok y → (x : A) × (r ≡ Ok x) × (next_step x ≡ Ok y)
-then_went (Ok x) next_step y e = (x, refl, e)
-then_went (Err flaw) next_step y e = absurd cc
-
-from_sound : (a : Result ⊤ Flaw) (x : ⊤) → from_aliases a ≡ Ok x → a ≡ Ok tt
-from_sound (Ok y) x e = refl
-from_sound (Err flaw) x e = absurd cc
 
 module _ (t r : Data) (h : resolution t ≡ Ok r) where
   abbrev al : Members
@@ -65,22 +54,16 @@ module _ (t r : Data) (h : resolution t ≡ Ok r) where
     whole : flaws al None Root false no_members t ≡ []
     shallow : nests r 32 ≡ true
 
-  laid_shallow : (x : Data) → if_shallow x ≡ Ok r → nests r 32 ≡ true
-  laid_shallow x e =
-      let deep = then_went (refusal (deep_flaws x 32)) _ r e in
-      let same : x ≡ r = cc in
-      subst (λ y. nests y 32 ≡ true) same (shallow_nests x 32 (no_flaws (deep_flaws x 32) deep.1))
-
-  tree_sound : TreeSound
-  tree_sound =
-      let first = then_went (from_aliases (refusal (all_alias_flaws al st al))) _ r h in
-      let second = then_went (refusal (inner_places al st.done Root t)) _ r first.2 in
-      let third = then_went (refusal (flaws al None Root false no_members t)) _ r second.2 in
+  tree_sound : NoClash al → TreeSound
+  tree_sound apart =
+      let first = ok_aliases (refusal (all_alias_flaws al st al)) _ r h in
+      let second = ok_then (refusal (inner_places al st.done Root t)) _ r first.1 in
+      let third = ok_then (refusal (flaws al None Root false no_members t)) _ r second.1 in
       record {
-        outcomes = no_flaws (all_alias_flaws al st al) (from_sound (refusal (all_alias_flaws al st al)) first.0 first.1);
-        places = no_flaws (inner_places al st.done Root t) second.1;
-        whole = no_flaws (flaws al None Root false no_members t) third.1;
-        shallow = laid_shallow (lay st.done Root t None) third.2;
+        outcomes = no_flaws (all_alias_flaws al st al) first.0;
+        places = no_flaws (inner_places al st.done Root t) second.0;
+        whole = no_flaws (flaws al None Root false no_members t) third.0;
+        shallow = (resolution_sound t r apart h).1;
       }
 
 -- ---- depth
@@ -161,6 +144,9 @@ module _ (text : List ℕ) (t r : Data) (tree : IsTreeOf text t) (h : resolution
   apart : NoClash (aliases_of t)
   apart = aliases_apart text t tree
 
+  sound : TreeSound t r h
+  sound = tree_sound t r h apart
+
   abbrev done : Members
   done = (st t r h).done
 
@@ -168,13 +154,13 @@ module _ (text : List ℕ) (t r : Data) (tree : IsTreeOf text t) (h : resolution
   resolves = (resolution_sound t r apart h).0
 
   root_sound : PartSound (aliases_of t) Root false no_members t
-  root_sound = part_sound (aliases_of t) Root false no_members t (tree_sound t r h).whole
+  root_sound = part_sound (aliases_of t) Root false no_members t sound.whole
 
   known : AreResolved (aliases_of t) done
   known = rounds_resolved (aliases_of t) (members_len (aliases_of t)) (found_each (aliases_of t) apart)
 
   all_known : (n : List ℕ) → has (aliases_of t) n ≡ true → has done n ≡ true
-  all_known = all_done (aliases_of t) (st t r h) (tree_sound t r h).outcomes (rounds_root (aliases_of t) (members_len (aliases_of t)) (found_each (aliases_of t) apart))
+  all_known = all_done (aliases_of t) (st t r h) sound.outcomes (rounds_root (aliases_of t) (members_len (aliases_of t)) (found_each (aliases_of t) apart))
 
   -- what a value is laid to is what it is looked up as, under whatever resolved aliases
   laid : (others : Members) (s : Spot) (w : Data) → AreResolved (aliases_of t) others → SoundAt (aliases_of t) s w → all_named (has others) s w ≡ true → Looks (aliases_of t) s (w ∷ []) (lay others s w None)
@@ -186,13 +172,13 @@ module _ (text : List ℕ) (t r : Data) (tree : IsTreeOf text t) (h : resolution
       let at = sound_along (aliases_of t) path Root t s w false no_members root_sound leads in
       let mine = laid done s w known at (sound_named (aliases_of t) done known all_known s w at.taken at.seen at.sound) in
       let same = one_look (aliases_of t) (laid others s w resolved at named) mine in
-      let fits = all_fit (aliases_of t) done known all_known t path s w root_sound (read_in_order text t tree.0.1) (tree_sound t r h).places leads names in
+      let fits = all_fit (aliases_of t) done known all_known t path s w root_sound (read_in_order text t tree.0.1) sound.places leads names in
       apart_fits kind (lay done s w None) fits (subst (Exceeds kind) same past)
 
   flaw_excluded : (flaw : Flaw) → ¬ FlawHolds (aliases_of t) Root t flaw
   flaw_excluded flaw (inl (s, w, leads, inl told)) =
       let at = sound_along (aliases_of t) flaw.path Root t s w false no_members root_sound leads in
-      told_excluded (aliases_of t) flaw.kind s w at (too_many_excluded (aliases_of t) done t flaw.path s w (tree_sound t r h).places leads) told
+      told_excluded (aliases_of t) flaw.kind s w at (too_many_excluded (aliases_of t) done t flaw.path s w sound.places leads) told
   flaw_excluded flaw (inl (s, w, leads, inr past)) = passes_excluded flaw.kind flaw.path s w leads past
   flaw_excluded flaw (inr (inl (kind, clash))) = clash_excluded (aliases_of t) Root t flaw.path false no_members root_sound clash
   flaw_excluded flaw (inr (inr (kind, (front, k, is, leads, walks)))) = circle_refused t r k apart walks h
@@ -200,4 +186,4 @@ module _ (text : List ℕ) (t r : Data) (tree : IsTreeOf text t) (h : resolution
   -- no fault of inheritance holds of it
   pub refusal_excluded : (flaw : Flaw) → ¬ RefusalHolds t flaw
   refusal_excluded flaw (inl holds) = flaw_excluded flaw holds
-  refusal_excluded flaw (inr (s, looked, deep)) = depth_excluded r flaw (tree_sound t r h).shallow (subst (λ x. PassesDepth 32 x flaw) (one_look (aliases_of t) looked resolves) deep)
+  refusal_excluded flaw (inr (s, looked, deep)) = depth_excluded r flaw sound.shallow (subst (λ x. PassesDepth 32 x flaw) (one_look (aliases_of t) looked resolves) deep)

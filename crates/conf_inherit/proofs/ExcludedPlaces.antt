@@ -1,6 +1,6 @@
 -- In a tree that has a resolution no packet context lists too many extra members.
-use Rattle.std.proofs.Common.{◌≡◌, ◌⊎◌, ◌<◌, ◌++◌, ℕ, Bool, true, false, cond, List, [], ◌∷◌, map, inl, inr, refl, sym, ap, subst, ◌∙◌, arith, bytes_eq}
-use Rattle.std.specs.Prelude.{nat_lt, codes}
+use Rattle.std.proofs.Common.{◌≡◌, ◌⊎◌, ◌<◌, ◌++◌, ℕ, Bool, true, false, cond, List, [], ◌∷◌, map, inl, inr, refl, sym, ap, subst, ◌∙◌, arith}
+use Rattle.std.specs.Prelude.{nat_lt}
 use Rattle.std.proofs.lemmas.Bool.{true≢false, ltb-false}
 use Rattle.serde_json.specs.Data.{Data, array, object, Items, Members, no_members, member}
 use Rattle.serde_json.specs.Events.{items_len}
@@ -9,13 +9,14 @@ use Rattle.conf_tree.specs.Flaw.{Place, key, index, here, within}
 use Rattle.conf_tree.specs.Walk.{HasMember}
 use Rattle.conf_inherit.specs.declared.spot.Spot.{Spot}
 use Rattle.conf_inherit.specs.declared.spot.Spot.TheVariants.{Root, Trace, TraceType, TraceFeatures, Aliases, StreamTypes, StreamType, StreamFeatures, PacketFeatures, EventRecordFeatures, EventTypes, EventType, FieldType, MemberList, ExtraMembers, Entry, MemberValue, Plain}
-use Rattle.conf_inherit.specs.Spot.{inherit_name, field_type_name, spot_in_event_type, spot_in_type, spot_in_stream_features, spot_in_trace_features, spot_in_packet_features, spot_in_event_record_features, spot_under, spot_of_items, names_alias, names_member_type, lists_extra_members, leads_on}
+use Rattle.conf_inherit.specs.Spot.{spot_in_type, spot_under, spot_of_items, names_alias, names_member_type, lists_extra_members, leads_on}
 use Rattle.conf_inherit.specs.Faults.{Leads, ListsTooMany}
 use Rattle.conf_inherit.specs.Flaws.{own_flaws}
 use Rattle.conf_inherit.specs.Places.{max_extra_members, too_many, place_flaws, inner_places, member_places}
 use Rattle.conf_inherit.proofs.PlaceLemmas.{place_of_list, place_of_other}
 use Rattle.conf_inherit.proofs.ReadyLemmas.{front_empty, back_empty}
 use Rattle.conf_inherit.proofs.SoundParts.{map_empty}
+use Rattle.conf_inherit.proofs.SpotsUnder.{in_type, in_event_type, in_stream_features, in_trace_features, in_packet_features, in_event_features}
 
 -- ---- where extra members stand
 
@@ -32,55 +33,8 @@ leads_to_extras _ = false
 abbrev LeadsElsewhere : Spot → Type 0
 LeadsElsewhere s = leads_to_extras s ≡ false
 
-two_types : (a b : Bool) → LeadsElsewhere (cond a FieldType (cond b FieldType Plain))
-two_types true b = refl
-two_types false true = refl
-two_types false false = refl
-
-three_types : (a b c : Bool) → LeadsElsewhere (cond a FieldType (cond b FieldType (cond c FieldType Plain)))
-three_types true b c = refl
-three_types false b c = two_types b c
-
-six_types : (a b c d e f : Bool) → LeadsElsewhere (cond a FieldType (cond b FieldType (cond c FieldType (cond d FieldType (cond e FieldType (cond f FieldType Plain))))))
-six_types true b c d e f = refl
-six_types false true c d e f = refl
-six_types false false true d e f = refl
-six_types false false false d e f = three_types d e f
-
-after_list : (a b c d : Bool) → LeadsElsewhere (cond a MemberList (cond b FieldType (cond c FieldType (cond d FieldType Plain))))
-after_list true b c d = refl
-after_list false b c d = three_types b c d
-
-two_groups : (a b : Bool) → LeadsElsewhere (cond a PacketFeatures (cond b EventRecordFeatures Plain))
-two_groups true b = refl
-two_groups false true = refl
-two_groups false false = refl
-
 in_type_elsewhere : (k : List ℕ) → LeadsElsewhere (spot_in_type k)
-unfolding spot_in_type
-in_type_elsewhere k = after_list (bytes_eq k (codes "members")) (bytes_eq k field_type_name) (bytes_eq k (codes "element-field-type")) (bytes_eq k inherit_name)
-
-in_event_elsewhere : (k : List ℕ) → LeadsElsewhere (spot_in_event_type k)
-unfolding spot_in_event_type
-in_event_elsewhere k = two_types (bytes_eq k (codes "specific-context-field-type")) (bytes_eq k (codes "payload-field-type"))
-
-in_stream_features_elsewhere : (k : List ℕ) → LeadsElsewhere (spot_in_stream_features k)
-unfolding spot_in_stream_features
-in_stream_features_elsewhere k = two_groups (bytes_eq k (codes "packet")) (bytes_eq k (codes "event-record"))
-
-in_trace_features_elsewhere : (k : List ℕ) → LeadsElsewhere (spot_in_trace_features k)
-unfolding spot_in_trace_features
-in_trace_features_elsewhere k = three_types (bytes_eq k (codes "magic-field-type")) (bytes_eq k (codes "uuid-field-type")) (bytes_eq k (codes "data-stream-type-id-field-type"))
-
-in_packet_features_elsewhere : (k : List ℕ) → LeadsElsewhere (spot_in_packet_features k)
-unfolding spot_in_packet_features
-in_packet_features_elsewhere k =
-    six_types (bytes_eq k (codes "total-size-field-type")) (bytes_eq k (codes "content-size-field-type")) (bytes_eq k (codes "beginning-timestamp-field-type")) (bytes_eq k (codes "end-timestamp-field-type"))
-    (bytes_eq k (codes "discarded-event-records-counter-snapshot-field-type")) (bytes_eq k (codes "sequence-number-field-type"))
-
-in_event_features_elsewhere : (k : List ℕ) → LeadsElsewhere (spot_in_event_record_features k)
-unfolding spot_in_event_record_features
-in_event_features_elsewhere k = two_types (bytes_eq k (codes "type-id-field-type")) (bytes_eq k (codes "timestamp-field-type"))
+in_type_elsewhere k = in_type LeadsElsewhere refl refl refl k
 
 under_elsewhere : (s : Spot) (k : List ℕ) → LeadsElsewhere s → LeadsElsewhere (spot_under s k)
 unfolding spot_under
@@ -90,13 +44,13 @@ under_elsewhere TraceType k h = absurd (true≢false h)
 under_elsewhere StreamTypes k h = absurd (true≢false h)
 under_elsewhere StreamType k h = absurd (true≢false h)
 under_elsewhere ExtraMembers k h = absurd (true≢false h)
-under_elsewhere TraceFeatures k h = in_trace_features_elsewhere k
+under_elsewhere TraceFeatures k h = in_trace_features LeadsElsewhere refl refl k
 under_elsewhere Aliases k h = refl
-under_elsewhere StreamFeatures k h = in_stream_features_elsewhere k
-under_elsewhere PacketFeatures k h = in_packet_features_elsewhere k
-under_elsewhere EventRecordFeatures k h = in_event_features_elsewhere k
+under_elsewhere StreamFeatures k h = in_stream_features LeadsElsewhere refl refl refl k
+under_elsewhere PacketFeatures k h = in_packet_features LeadsElsewhere refl refl k
+under_elsewhere EventRecordFeatures k h = in_event_features LeadsElsewhere refl refl k
 under_elsewhere EventTypes k h = refl
-under_elsewhere EventType k h = in_event_elsewhere k
+under_elsewhere EventType k h = in_event_type LeadsElsewhere refl refl k
 under_elsewhere FieldType k h = in_type_elsewhere k
 under_elsewhere MemberList k h = refl
 under_elsewhere Entry k h = refl

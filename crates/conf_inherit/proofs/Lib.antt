@@ -26,6 +26,7 @@ pub mod ReadInOrder
 pub mod NoLarger
 pub mod LayingGrows
 pub mod SoundParts
+pub mod SpotsUnder
 pub mod PartsFit
 pub mod ExcludedPlaces
 pub mod PlacesFit

@@ -1,5 +1,5 @@
 -- Where nothing is wrong at the places of a configuration, each field type in it fits by itself.
-use Rattle.std.proofs.Common.{if◌then◌else◌, ◌≡◌, ◌++◌, ◌⊎◌, inl, inr, ℕ, zero, suc, Bool, true, false, true≢false, List, [], ◌∷◌, Some, None, bytes_eq, refl, sym, ap, ◌∙◌, subst}
+use Rattle.std.proofs.Common.{◌≡◌, ◌++◌, ◌⊎◌, inl, inr, ℕ, zero, suc, Bool, true, false, true≢false, List, [], ◌∷◌, Some, None, bytes_eq, refl, sym, ap, ◌∙◌, subst}
 use Rattle.std.specs.Prelude.{codes}
 use Rattle.serde_json.specs.Data.{Data, array, object, Items, no_items, item, Members, no_members}
 use Rattle.serde_json.specs.Find.{get_item}
@@ -7,7 +7,7 @@ use Rattle.conf_tree.specs.Flaw.{Place, key, index, within}
 use Rattle.conf_tree.specs.Walk.{HasMember}
 use Rattle.conf_inherit.specs.declared.spot.Spot.{Spot}
 use Rattle.conf_inherit.specs.declared.spot.Spot.TheVariants.{Root, Trace, TraceType, TraceFeatures, Aliases, StreamTypes, StreamType, StreamFeatures, PacketFeatures, EventRecordFeatures, EventTypes, EventType, FieldType, MemberList, ExtraMembers, Entry, MemberValue, Plain}
-use Rattle.conf_inherit.specs.Spot.{spot_in_trace_type, spot_in_stream_type, spot_in_event_type, spot_in_stream_features, spot_in_trace_features, spot_in_packet_features, spot_in_event_record_features, spot_under, spot_of_items, names_alias, names_member_type, lists_extra_members, leads_on}
+use Rattle.conf_inherit.specs.Spot.{spot_under, spot_of_items, names_alias, names_member_type, lists_extra_members, leads_on}
 use Rattle.conf_inherit.specs.Faults.{Leads}
 use Rattle.conf_inherit.specs.Flaws.{own_flaws, inner_flaws, flaws, type_flaws, mark}
 use Rattle.conf_inherit.specs.Laying.{lay}
@@ -24,6 +24,7 @@ use Rattle.conf_inherit.proofs.PlaceLemmas.{place_of_type, place_of_member}
 use Rattle.conf_inherit.proofs.ReadInOrder.{AllInOrder}
 use Rattle.conf_inherit.proofs.ReadyLemmas.{front_empty, back_empty, part_empty, rest_empty}
 use Rattle.conf_inherit.proofs.SoundParts.{PartSound, member_sound, item_sound}
+use Rattle.conf_inherit.proofs.SpotsUnder.{either, in_trace_type, in_stream_type, in_event_type, in_stream_features, in_trace_features, in_packet_features, in_event_features}
 use Rattle.conf_inherit.proofs.SpotLemmas.{alias_spot, member_spot, no_alias_member, member_field}
 
 -- ---- the spots on the way to a field type
@@ -38,57 +39,20 @@ is_inside _ = false
 abbrev IsOutside : Spot → Type 0
 IsOutside s = is_inside s ≡ false
 
-either : (b : Bool) (s t : Spot) → IsOutside s → IsOutside t → IsOutside (if b then s else t)
-either true s t h i = h
-either false s t h i = i
-
-trace_type_outside : (k : List ℕ) → IsOutside (spot_in_trace_type k)
-unfolding spot_in_trace_type
-trace_type_outside k = either (bytes_eq k (codes "$features")) TraceFeatures _ refl (either (bytes_eq k (codes "$field-type-aliases")) Aliases _ refl (either (bytes_eq k (codes "data-stream-types")) StreamTypes Plain refl refl))
-
-stream_type_outside : (k : List ℕ) → IsOutside (spot_in_stream_type k)
-unfolding spot_in_stream_type
-stream_type_outside k =
-    either (bytes_eq k (codes "$features")) StreamFeatures _ refl (either (bytes_eq k (codes "packet-context-field-type-extra-members")) ExtraMembers _ refl
-    (either (bytes_eq k (codes "event-record-common-context-field-type")) FieldType _ refl (either (bytes_eq k (codes "event-record-types")) EventTypes Plain refl refl)))
-
-event_type_outside : (k : List ℕ) → IsOutside (spot_in_event_type k)
-unfolding spot_in_event_type
-event_type_outside k = either (bytes_eq k (codes "specific-context-field-type")) FieldType _ refl (either (bytes_eq k (codes "payload-field-type")) FieldType Plain refl refl)
-
-stream_features_outside : (k : List ℕ) → IsOutside (spot_in_stream_features k)
-unfolding spot_in_stream_features
-stream_features_outside k = either (bytes_eq k (codes "packet")) PacketFeatures _ refl (either (bytes_eq k (codes "event-record")) EventRecordFeatures Plain refl refl)
-
-trace_features_outside : (k : List ℕ) → IsOutside (spot_in_trace_features k)
-unfolding spot_in_trace_features
-trace_features_outside k = either (bytes_eq k (codes "magic-field-type")) FieldType _ refl (either (bytes_eq k (codes "uuid-field-type")) FieldType _ refl (either (bytes_eq k (codes "data-stream-type-id-field-type")) FieldType Plain refl refl))
-
-packet_features_outside : (k : List ℕ) → IsOutside (spot_in_packet_features k)
-unfolding spot_in_packet_features
-packet_features_outside k =
-    either (bytes_eq k (codes "total-size-field-type")) FieldType _ refl (either (bytes_eq k (codes "content-size-field-type")) FieldType _ refl
-    (either (bytes_eq k (codes "beginning-timestamp-field-type")) FieldType _ refl (either (bytes_eq k (codes "end-timestamp-field-type")) FieldType _ refl
-    (either (bytes_eq k (codes "discarded-event-records-counter-snapshot-field-type")) FieldType _ refl (either (bytes_eq k (codes "sequence-number-field-type")) FieldType Plain refl refl)))))
-
-event_features_outside : (k : List ℕ) → IsOutside (spot_in_event_record_features k)
-unfolding spot_in_event_record_features
-event_features_outside k = either (bytes_eq k (codes "type-id-field-type")) FieldType _ refl (either (bytes_eq k (codes "timestamp-field-type")) FieldType Plain refl refl)
-
 under_outside : (s : Spot) (k : List ℕ) → IsOutside s → leads_on s ≡ true → IsOutside (spot_under s k)
 unfolding spot_under leads_on
-under_outside Root k h on = either (bytes_eq k (codes "trace")) Trace Plain refl refl
-under_outside Trace k h on = either (bytes_eq k (codes "type")) TraceType Plain refl refl
-under_outside TraceType k h on = trace_type_outside k
-under_outside TraceFeatures k h on = trace_features_outside k
+under_outside Root k h on = either IsOutside (bytes_eq k (codes "trace")) Trace Plain refl refl
+under_outside Trace k h on = either IsOutside (bytes_eq k (codes "type")) TraceType Plain refl refl
+under_outside TraceType k h on = in_trace_type IsOutside refl refl refl refl k
+under_outside TraceFeatures k h on = in_trace_features IsOutside refl refl k
 under_outside Aliases k h on = refl
 under_outside StreamTypes k h on = refl
-under_outside StreamType k h on = stream_type_outside k
-under_outside StreamFeatures k h on = stream_features_outside k
-under_outside PacketFeatures k h on = packet_features_outside k
-under_outside EventRecordFeatures k h on = event_features_outside k
+under_outside StreamType k h on = in_stream_type IsOutside refl refl refl refl refl k
+under_outside StreamFeatures k h on = in_stream_features IsOutside refl refl refl k
+under_outside PacketFeatures k h on = in_packet_features IsOutside refl refl k
+under_outside EventRecordFeatures k h on = in_event_features IsOutside refl refl k
 under_outside EventTypes k h on = refl
-under_outside EventType k h on = event_type_outside k
+under_outside EventType k h on = in_event_type IsOutside refl refl k
 under_outside Entry k h on = absurd (true≢false h)
 under_outside FieldType k h on = absurd (true≢false (sym on))
 under_outside MemberList k h on = absurd (true≢false (sym on))

@@ -172,11 +172,11 @@ members_missing (Some (array es)) h = refl
 
 -- ---- the answer
 
-ok_aliases : (a : Result ⊤ Flaw) (k : ⊤ → Result Data Flaw) (r : Data) → (from_aliases a >>= k) ≡ Ok r → (a ≡ Ok tt) × (k tt ≡ Ok r)
+pub ok_aliases : (a : Result ⊤ Flaw) (k : ⊤ → Result Data Flaw) (r : Data) → (from_aliases a >>= k) ≡ Ok r → (a ≡ Ok tt) × (k tt ≡ Ok r)
 ok_aliases (Ok x) k r h = (refl, h)
 ok_aliases (Err f) k r h = cc
 
-ok_then : (a : Result ⊤ Flaw) (k : ⊤ → Result Data Flaw) (r : Data) → (a >>= k) ≡ Ok r → (a ≡ Ok tt) × (k tt ≡ Ok r)
+pub ok_then : (a : Result ⊤ Flaw) (k : ⊤ → Result Data Flaw) (r : Data) → (a >>= k) ≡ Ok r → (a ≡ Ok tt) × (k tt ≡ Ok r)
 ok_then (Ok x) k r h = (refl, h)
 ok_then (Err f) k r h = cc
 
