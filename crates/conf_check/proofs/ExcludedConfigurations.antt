@@ -11,13 +11,13 @@ use Rattle.conf_inherit.specs.Resolution.{aliases_of, resolution, Resolves}
 use Rattle.conf_objects.specs.declared.draft.Draft.{Draft}
 use Rattle.conf_objects.specs.Trace.{draft_reading}
 use Rattle.conf_objects.specs.TraceRows.{IsRootObject}
-use Rattle.conf_check.specs.Configuration.{IsNoConfiguration, RefusalIsTrue, MayHold, HasNoOtherFault}
+use Rattle.conf_check.specs.Configuration.{IsNoConfiguration, HasNoFault}
 use Rattle.conf_check.specs.ConfigurationRows.{IsConfigurationOf}
 use Rattle.conf_check.specs.WholeFlaws.{BreaksRule}
 use Rattle.conf_values.proofs.Steps.{same_value}
+use Rattle.conf_inherit.proofs.ExcludedInheritance.{refusal_excluded}
 use Rattle.conf_inherit.proofs.OneReading.{one_look}
 use Rattle.conf_objects.proofs.TraceRowLaws.{root_read}
-use Rattle.conf_check.proofs.ExcludedInheritance.{refusal_left}
 use Rattle.conf_check.proofs.ExcludedParts.{limits_excluded}
 use Rattle.conf_check.proofs.ExcludedRules.{rules_excluded}
 use Rattle.conf_check.proofs.ExcludedTexts.{tree_excluded}
@@ -36,16 +36,11 @@ configuration_excluded t d number c flaw resolves h (inr (ms, draft, is, objects
 same_tree : (text : List ℕ) (s t : Data) → read text ≡ Some s → read text ≡ Some t → s ≡ t
 same_tree text s t p q = cc
 
-pub text_excluded : (text : List ℕ) (number : Option (List ℕ)) (c : Config) (t r : Data) → IsTreeOf text t → resolution t ≡ Ok r → Resolves t r → IsConfigurationOf r number c → HasNoOtherFault text number
-text_excluded text number c t r tree resolved resolves is flaw holds = go holds
-  where
-    go : RefusalIsTrue text number flaw → (s : Data) × IsTreeOf text s × RefusalHolds s flaw × MayHold s flaw
-    go (inl none) = absurd (tree_excluded text t flaw tree none)
-    go (inr (inl (s, tree_too, refused))) =
-        let same : s ≡ t = same_tree text s t tree_too.0.1 tree.0.1 in
-        let of_tree : RefusalHolds t flaw = subst (λ x. RefusalHolds x flaw) same refused in
-        (t, tree, of_tree, refusal_left t r flaw resolved of_tree)
-    go (inr (inr (s, q, tree_too, looked, wrong))) =
-        let same : s ≡ t = same_tree text s t tree_too.0.1 tree.0.1 in
-        let equal : q ≡ r = one_look (aliases_of t) (subst (λ x. Resolves x q) same looked) resolves in
-        absurd (configuration_excluded t r number c flaw resolves is (subst (λ x. IsNoConfiguration x number flaw) equal wrong))
+pub text_excluded : (text : List ℕ) (number : Option (List ℕ)) (c : Config) (t r : Data) → IsTreeOf text t → resolution t ≡ Ok r → Resolves t r → IsConfigurationOf r number c → HasNoFault text number
+text_excluded text number c t r tree resolved resolves is flaw (inl none) = tree_excluded text t flaw tree none
+text_excluded text number c t r tree resolved resolves is flaw (inr (inl (s, tree_too, refused))) =
+    refusal_excluded text t r tree resolved flaw (subst (λ x. RefusalHolds x flaw) (same_tree text s t tree_too.0.1 tree.0.1) refused)
+text_excluded text number c t r tree resolved resolves is flaw (inr (inr (s, q, tree_too, looked, wrong))) =
+    let same : s ≡ t = same_tree text s t tree_too.0.1 tree.0.1 in
+    let equal : q ≡ r = one_look (aliases_of t) (subst (λ x. Resolves x q) same looked) resolves in
+    configuration_excluded t r number c flaw resolves is (subst (λ x. IsNoConfiguration x number flaw) equal wrong)

@@ -16,6 +16,5 @@ pub mod ExcludedLimits
 pub mod ExcludedRules
 pub mod ExcludedParts
 pub mod ExcludedTexts
-pub mod ExcludedInheritance
 pub mod ExcludedConfigurations
 mod WorkedObjectFlaws

@@ -4,13 +4,12 @@ use Rattle.std.specs.Prelude.{◌≡◌, ◌⊎◌, ℕ, List, Option, Result, O
 use Rattle.serde_json.specs.Data.{Data, Members}
 use Rattle.ctf_types.specs.declared.Config.{Config}
 use Rattle.conf_tree.specs.declared.fault.ConfFault.{ConfFault}
-use Rattle.conf_tree.specs.declared.fault_kind.FaultKind.TheVariants.{NotJson, TooDeep, InheritCycle, Limit}
+use Rattle.conf_tree.specs.declared.fault_kind.FaultKind.TheVariants.{NotJson}
 use Rattle.conf_tree.specs.Flaw.{Flaw, here, IsMemory}
 use Rattle.conf_tree.specs.Reading.{object_of}
 use Rattle.conf_tree.specs.Walk.{IsTreeOf, IsFirstFlaw, Reads, FlawHolds, max_levels}
 use Rattle.conf_inherit.specs.Faults.{RefusalHolds}
-use Rattle.conf_inherit.specs.Names.{NoClash}
-use Rattle.conf_inherit.specs.Resolution.{aliases_of, resolution, Resolves}
+use Rattle.conf_inherit.specs.Resolution.{resolution, Resolves}
 use Rattle.conf_objects.specs.declared.draft.Draft.{Draft}
 use Rattle.conf_objects.specs.declared.limits.Part.TheVariants.{Root}
 use Rattle.conf_check.specs.ConfigurationRows.{IsConfigurationOf}
@@ -68,13 +67,9 @@ RefusalIsTrue text number flaw =
     ⊎ ((t : Data) × IsTreeOf text t × RefusalHolds t flaw)
     ⊎ ((t : Data) × (r : Data) × IsTreeOf text t × Resolves t r × IsNoConfiguration r number flaw)
 
--- what may hold of a tree that has a resolution: a limit of inheritance that is passed, or a circle where two aliases have one name
-abbrev pub MayHold : Data → Flaw → Type 0
-MayHold t flaw = (flaw.kind ≡ Limit) ⊎ ((flaw.kind ≡ TooDeep) ⊎ ((flaw.kind ≡ InheritCycle) × ¬ NoClash (aliases_of t)))
-
--- no fault is true of the text, unless it is one of its inheritance, and of these kinds
-abbrev pub HasNoOtherFault : List ℕ → Option (List ℕ) → Type 0
-HasNoOtherFault text number = (flaw : Flaw) → RefusalIsTrue text number flaw → (t : Data) × IsTreeOf text t × RefusalHolds t flaw × MayHold t flaw
+-- no fault is true of the text
+abbrev pub HasNoFault : List ℕ → Option (List ℕ) → Type 0
+HasNoFault text number = (flaw : Flaw) → RefusalIsTrue text number flaw → ⊥
 
 -- where all rows hold, the fault is want of memory
 abbrev pub IsInnocent : Data → Option (List ℕ) → ConfFault → Type 0

@@ -3,7 +3,7 @@ ghost use Rattle.std.specs.Prelude.{◌⊎◌, IfOk, IfErr};
 ghost use Rattle.ctf_types.specs.declared.Config.{Config as Configuration};
 ghost use Rattle.ctf_types.specs.AllowedConfig.{IsConfig};
 ghost use Rattle.conf_tree.specs.Flaw.{flaw_of, IsMemory};
-ghost use Rattle.conf_check.specs.Configuration.{Configures, ConfiguresResolved, ConfiguresByLookUp, GivesThat, HasNoOtherFault, IsRefusal, RefusalIsTrue, RefusedForMemory};
+ghost use Rattle.conf_check.specs.Configuration.{Configures, ConfiguresResolved, ConfiguresByLookUp, GivesThat, HasNoFault, IsRefusal, RefusalIsTrue, RefusedForMemory};
 
 use crate::judgement::check;
 use conf_inherit::resolve;
@@ -19,8 +19,8 @@ pub fn configure(alloc: Global, text: &[u8], number: Option<Uuid>) -> Result<Con
     ensures resolved { IfOk result (λ c. ConfiguresResolved text.now number c) }
     ensures allowed { IfOk result (λ c. IsConfig c) }
 
-    // What is accepted has none of the faults, unless it is one of inheritance of the kinds that `MayHold` names.
-    ensures faultless { IfOk result (λ c. HasNoOtherFault text.now number) }
+    // What is accepted has none of the faults.
+    ensures faultless { IfOk result (λ c. HasNoFault text.now number) }
 
     ensures refused { IfErr result (λ fault. IsMemory fault ⊎ IsRefusal text.now number (flaw_of fault)) }
 

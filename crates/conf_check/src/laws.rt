@@ -8,7 +8,7 @@ ghost use Rattle.conf_tree.specs.Walk.{IsTreeOf};
 ghost use Rattle.conf_objects.specs.declared.draft.Draft.{Draft};
 ghost use Rattle.conf_objects.specs.declared.limits.Part.TheVariants.{Root};
 ghost use Rattle.conf_inherit.specs.Resolution.{resolution, Resolves};
-ghost use Rattle.conf_check.specs.Configuration.{HasNoOtherFault, IsNoConfiguration};
+ghost use Rattle.conf_check.specs.Configuration.{HasNoFault, IsNoConfiguration};
 ghost use Rattle.conf_check.specs.ConfigurationRows.{IsConfigurationOf};
 ghost use Rattle.conf_check.specs.Judgement.{whole, check_reading};
 ghost use Rattle.conf_check.specs.WholeFlaws.{BreaksRule, PassesLimit};
@@ -35,9 +35,8 @@ pub fn configurations_faultless()
         → Resolves t d → IsConfigurationOf d number c → IsNoConfiguration d number flaw → ⊥ }
 {}
 
-/// A text whose tree is resolved to a configuration has none of the faults, unless it is one of its inheritance: a limit that is
-/// passed, or a circle where two aliases have one name.
+/// A text whose tree is resolved to a configuration has none of the faults.
 pub fn texts_faultless()
     ensures { (text : List ℕ) (number : Option (List ℕ)) (c : Configuration) (t r : Data)
-        → IsTreeOf text t → resolution t ≡ Ok r → Resolves t r → IsConfigurationOf r number c → HasNoOtherFault text number }
+        → IsTreeOf text t → resolution t ≡ Ok r → Resolves t r → IsConfigurationOf r number c → HasNoFault text number }
 {}

@@ -25,11 +25,11 @@ use Rattle.conf_inherit.proofs.ReadInOrder.{AllInOrder}
 use Rattle.conf_inherit.proofs.ReadyLemmas.{front_empty, back_empty, part_empty, rest_empty}
 use Rattle.conf_inherit.proofs.SoundParts.{PartSound, member_sound, item_sound}
 use Rattle.conf_inherit.proofs.SpotsUnder.{either, in_trace_type, in_stream_type, in_event_type, in_stream_features, in_trace_features, in_packet_features, in_event_features}
-use Rattle.conf_inherit.proofs.SpotLemmas.{alias_spot, member_spot, no_alias_member, member_field}
+use Rattle.conf_inherit.proofs.SpotLemmas.{alias_spot, member_spot, entry_spot, no_alias_member, member_field}
 
 -- ---- the spots on the way to a field type
 
--- a spot that is in a field type, and is none
+-- a spot inside a field type, or inside a list of extra members
 abbrev is_inside : Spot → Bool
 is_inside MemberList = true
 is_inside Entry = true
@@ -94,10 +94,6 @@ entry_items : spot_of_items Entry ≡ Plain
 unfolding spot_of_items
 entry_items = refl
 
-entry_under : (k : List ℕ) → spot_under Entry k ≡ MemberValue
-unfolding spot_under
-entry_under k = refl
-
 extra_items : spot_of_items ExtraMembers ≡ Entry
 unfolding spot_of_items
 extra_items = refl
@@ -151,7 +147,7 @@ module _ (al done : Members) (known : AreResolved al done) (all : (n : List ℕ)
       let mine = member_sound al Entry marks ms k d part.inner there in
       let place = member_place al done Entry ms k d (object_places al done Entry ms entry_leads h.places) there in
       let none : limit_flaws done MemberValue d ≡ [] =
-      sym (place_of_member al done MemberValue d no_alias_member member_field) ∙ subst (λ t. place_flaws al done t d ≡ []) (entry_under k) place.own in
+      sym (place_of_member al done MemberValue d no_alias_member member_field) ∙ subst (λ t. place_flaws al done t d ≡ []) (entry_spot k) place.own in
       let whole = ((alike_limit done MemberValue d).0 none).1 in
       record {
         taken = _;
@@ -159,7 +155,7 @@ module _ (al done : Members) (known : AreResolved al done) (all : (n : List ℕ)
         sound = mine;
         in_order = member_in_order ms k d ordered.1 there;
         inherited = λ x within. extra_inherits (object ms) h x (inherits_under x Entry ms k d there within);
-        whole = subst (λ t. Fits (lay done t d None)) (sym (entry_under k)) (whole (subst (λ t. all_named (has done) t d ≡ true) (entry_under k) (sound_named al done known all (spot_under Entry k) d _ no_members mine)));
+        whole = subst (λ t. Fits (lay done t d None)) (sym (entry_spot k)) (whole (subst (λ t. all_named (has done) t d ≡ true) (entry_spot k) (sound_named al done known all (spot_under Entry k) d _ no_members mine)));
       }
 
   extra_along : (path : List Place) (e : Data) (t : Spot) (w : Data) (marks : Members) → PartSound al Entry false marks e → AllInOrder e → ExtraSound e → Leads Entry e path t w → Names t → Fits (lay done t w None)
