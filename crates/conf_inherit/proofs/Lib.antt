@@ -20,8 +20,6 @@ pub mod WholeNumbers
 pub mod ResolveLemmas
 pub mod CircleLemmas
 pub mod WalkLemmas
-pub mod RefusalLemmas
-pub mod TurnLemmas
 pub mod ReadInOrder
 pub mod NoLarger
 pub mod LayingGrows
@@ -31,4 +29,6 @@ pub mod PartsFit
 pub mod ExcludedPlaces
 pub mod PlacesFit
 pub mod ExcludedInheritance
+pub mod RefusalLemmas
+pub mod TurnLemmas
 pub mod WorkedRows
