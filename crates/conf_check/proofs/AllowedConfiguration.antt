@@ -8,12 +8,11 @@ use Rattle.ctf_types.specs.declared.Config.{Config}
 use Rattle.ctf_types.specs.declared.IntType.{IntType}
 use Rattle.conf_tree.specs.Flaw.{Flaw, key}
 use Rattle.conf_objects.specs.declared.draft.Draft.{Draft}
-use Rattle.conf_objects.specs.declared.limits.Part.TheVariants as part
 use Rattle.conf_check.specs.declared.stream_rule.StreamRule.{StreamRule}
 use Rattle.conf_check.specs.declared.stream_rule.StreamRule.TheVariants.{NumbersFit, RecordsHaveBits, ClocksAreThere, TimestampsAreSized}
 use Rattle.conf_check.specs.Judgement.{stream_number_fits, number_given, identifier_given, one_order, sizes_and_bits, clocks_and_identifier, limits_and_orders, whole, check_reading}
-use Rattle.conf_objects.specs.Limits.{limits}
-use Rattle.conf_fields.specs.Order.{Ascends}
+use Rattle.conf_objects.specs.Limits.{root, limits}
+use Rattle.conf_tree.specs.Order.{Ascends}
 use Rattle.conf_check.specs.StreamRules.{all_judged, streams_judged}
 use Rattle.conf_objects.specs.Trace.{draft_reading}
 use Rattle.conf_check.proofs.AllowedRules.{unless_passed, holds_up_to, streams_are}
@@ -38,7 +37,7 @@ record Passed (d : Data) (draft : Draft) : Type 0 where
   bits : streams_judged RecordsHaveBits draft.config ≡ Ok tt
   clocks : streams_judged ClocksAreThere draft.config ≡ Ok tt
   identifier : identifier_given draft.config ≡ Ok tt
-  within : limits part.Root d ≡ Ok tt
+  within : limits root d ≡ Ok tt
   sizes : streams_judged TimestampsAreSized draft.config ≡ Ok tt
 
 passed : (d : Data) (draft : Draft) → whole d draft ≡ Ok tt → Passed d draft
@@ -50,7 +49,7 @@ passed d draft e =
     let b = both_read (streams_judged NumbersFit draft.config) _ tt a.2 in
     let c = both_read (streams_judged ClocksAreThere draft.config) _ tt second.1 in
     let n = both_read (number_given draft) _ tt c.2 in
-    let l = both_read (limits part.Root d) _ tt second.2 in
+    let l = both_read (limits root d) _ tt second.2 in
     let o = both_read (one_order draft) _ tt l.2 in
     record { stream_number = a.1; numbers = b.1; bits = b.2; clocks = c.1; identifier = n.2; within = l.1; sizes = o.2 }
 

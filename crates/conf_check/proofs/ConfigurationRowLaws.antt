@@ -5,10 +5,9 @@ use Rattle.ctf_types.specs.declared.Config.{Config}
 use Rattle.conf_tree.specs.declared.fault.ConfFault.{ConfFault}
 use Rattle.conf_tree.specs.Flaw.{Flaw, flaw_of, IsMemory}
 use Rattle.conf_objects.specs.declared.draft.Draft.{Draft}
-use Rattle.conf_objects.specs.declared.limits.Part.TheVariants.{Root}
 use Rattle.conf_check.specs.declared.stream_rule.StreamRule.TheVariants.{NumbersFit, ClocksAreThere}
 use Rattle.conf_check.specs.Judgement.{stream_number_fits, number_given, one_order, sizes_and_bits, clocks_and_identifier, limits_and_orders, whole, check_reading}
-use Rattle.conf_objects.specs.Limits.{limits}
+use Rattle.conf_objects.specs.Limits.{root, limits}
 use Rattle.conf_check.specs.StreamRules.{streams_judged}
 use Rattle.conf_objects.specs.Trace.{draft_reading}
 use Rattle.conf_check.specs.ConfigurationRows.{KeepsAllRules, IsConfigurationOf}
@@ -46,7 +45,7 @@ rules_kept d draft e =
     let b = both_read (streams_judged NumbersFit draft.config) _ tt a.2 in
     let c = both_read (streams_judged ClocksAreThere draft.config) _ tt second.1 in
     let n = both_read (number_given draft) _ tt c.2 in
-    let l = both_read (limits Root d) _ tt second.2 in
+    let l = both_read (limits root d) _ tt second.2 in
     let o = both_read (one_order draft) _ tt l.2 in
     record {
       stream_number = a.1;
@@ -70,7 +69,7 @@ clocks_read d draft h = then_read (streams_judged ClocksAreThere draft.config) _
 
 limits_read : (d : Data) (draft : Draft) → KeepsAllRules d draft → limits_and_orders d draft ≡ Ok tt
 unfolding limits_and_orders
-limits_read d draft h = then_read (limits Root d) _ tt tt h.within_limits (then_read (one_order draft) _ tt tt (order_fine draft h.one_order) h.timestamps_are_sized)
+limits_read d draft h = then_read (limits root d) _ tt tt h.within_limits (then_read (one_order draft) _ tt tt (order_fine draft h.one_order) h.timestamps_are_sized)
 
 rules_read : (d : Data) (draft : Draft) → KeepsAllRules d draft → whole d draft ≡ Ok tt
 unfolding whole

@@ -12,6 +12,7 @@ use Rattle.conf_objects.specs.declared.draft.Draft.{Draft}
 use Rattle.conf_objects.specs.Trace.{draft_reading}
 use Rattle.conf_objects.specs.TraceRows.{IsRootObject}
 use Rattle.conf_check.specs.Configuration.{IsNoConfiguration, HasNoFault}
+use Rattle.conf_objects.specs.Limits.{root}
 use Rattle.conf_check.specs.ConfigurationRows.{IsConfigurationOf}
 use Rattle.conf_check.specs.WholeFlaws.{BreaksRule}
 use Rattle.conf_values.proofs.Steps.{same_value}
@@ -31,7 +32,7 @@ pub configuration_excluded : (t d : Data) (number : Option (List ℕ)) (c : Conf
 configuration_excluded t d number c flaw resolves h (inl no_root) = root_excluded number d h.members h.draft flaw h.object_is h.objects no_root
 configuration_excluded t d number c flaw resolves h (inr (ms, draft, is, objects, inl breaks)) =
     rules_excluded d h.draft h.rules flaw (subst (λ (x : Draft). BreaksRule x flaw) (same_draft number d ms h.members draft h.draft is objects h.object_is h.objects) breaks)
-configuration_excluded t d number c flaw resolves h (inr (ms, draft, is, objects, inr passes)) = limits_excluded number t d h.members h.draft flaw resolves h.object_is h.objects h.rules.within_limits passes
+configuration_excluded t d number c flaw resolves h (inr (ms, draft, is, objects, inr passes)) = limits_excluded root d flaw h.rules.within_limits passes
 
 same_tree : (text : List ℕ) (s t : Data) → read text ≡ Some s → read text ≡ Some t → s ≡ t
 same_tree text s t p q = cc

@@ -13,7 +13,7 @@ use Rattle.ctf_types.specs.declared.IntType.{IntType}
 use Rattle.conf_tree.specs.Flaw.{Flaw}
 use Rattle.conf_tree.specs.Reading.{object_of}
 use Rattle.conf_tree.specs.Walk.{HasMember}
-use Rattle.conf_values.specs.declared.properties.ObjectKind.TheVariants as objects
+use Rattle.conf_table.specs.declared.place.Place.TheVariants as places
 use Rattle.conf_values.specs.Broken.{MaySayNot}
 use Rattle.conf_values.specs.declared.words.FieldClass.TheVariants as classes
 use Rattle.conf_fields.specs.FieldRows.{MaySay}
@@ -111,7 +111,7 @@ said_excluded : (rule : _) (name : List ℕ) (ms : Members) (o : Option _) (flaw
 said_excluded rule name ms o flaw says = may_say_excluded name (choice_of rule) (IsNoFeature rule) ms flaw (feature_excluded rule) o says
 
 header_rows : (has : Bool) (ms : Members) (f : HeaderFeatures) (flaw : Flaw) → IsHeaderObject has ms f → ¬ IsNoHeaderObject ms flaw
-header_rows has ms f flaw h (IsNoHeaderObject.unknown unknown) = known_alone objects.TraceFeatures ms flaw h.known unknown
+header_rows has ms f flaw h (IsNoHeaderObject.unknown unknown) = known_alone places.TraceFeatures ms flaw h.known unknown
 header_rows has ms f flaw h (IsNoHeaderObject.stream_id wrong) = said_excluded _ _ ms h.stream_id.0 flaw h.stream_id.1 wrong
 header_rows has ms f flaw h (IsNoHeaderObject.magic wrong) = said_excluded _ _ ms h.magic.0 flaw h.magic.1 wrong
 header_rows has ms f flaw h (IsNoHeaderObject.uuid wrong) = said_excluded _ _ ms h.uuid.0 flaw h.uuid.1 wrong
@@ -120,7 +120,7 @@ pub header_excluded : (has : Bool) (d : Data) (f : HeaderFeatures) (flaw : Flaw)
 header_excluded has d f flaw e = let row = header_says has d f e in such_excluded IsNoHeaderObject d row.0 flaw row.1 (header_rows has row.0 f flaw row.2)
 
 event_header_rows : (clock : Option (List ℕ)) (ms : Members) (f : EventFeatures) (flaw : Flaw) → IsEventHeaderObject clock ms f → ¬ IsNoEventHeaderObject ms flaw
-event_header_rows clock ms f flaw h (IsNoEventHeaderObject.unknown unknown) = known_alone objects.EventFeatures ms flaw h.known unknown
+event_header_rows clock ms f flaw h (IsNoEventHeaderObject.unknown unknown) = known_alone places.EventRecordFeatures ms flaw h.known unknown
 event_header_rows clock ms f flaw h (IsNoEventHeaderObject.timestamp wrong) = said_excluded _ _ ms h.timestamp.1.0 flaw h.timestamp.1.1 wrong
 event_header_rows clock ms f flaw h (IsNoEventHeaderObject.id wrong) = said_excluded _ _ ms h.id.0 flaw h.id.1 wrong
 
@@ -128,7 +128,7 @@ event_header_excluded : (clock : Option (List ℕ)) (d : Data) (f : EventFeature
 event_header_excluded clock d f flaw e = let row = event_header_says clock d f e in such_excluded IsNoEventHeaderObject d row.0 flaw row.1 (event_header_rows clock row.0 f flaw row.2)
 
 context_rows : (clock : Option (List ℕ)) (ms : Members) (f : ContextFeatures) (flaw : Flaw) → IsContextObject clock ms f → ¬ IsNoPacketObject ms flaw
-context_rows clock ms f flaw h (IsNoPacketObject.unknown unknown) = known_alone objects.PacketFeatures ms flaw h.known unknown
+context_rows clock ms f flaw h (IsNoPacketObject.unknown unknown) = known_alone places.PacketFeatures ms flaw h.known unknown
 context_rows clock ms f flaw h (IsNoPacketObject.packet_size wrong) = said_excluded _ _ ms h.packet_size.0 flaw h.packet_size.1 wrong
 context_rows clock ms f flaw h (IsNoPacketObject.content_size wrong) = said_excluded _ _ ms h.content_size.0 flaw h.content_size.1 wrong
 context_rows clock ms f flaw h (IsNoPacketObject.timestamp_begin wrong) = said_excluded _ _ ms h.timestamp_begin.1.0 flaw h.timestamp_begin.1.1 wrong
@@ -140,7 +140,7 @@ context_excluded : (clock : Option (List ℕ)) (d : Data) (f : ContextFeatures) 
 context_excluded clock d f flaw e = let row = context_says clock d f e in such_excluded IsNoPacketObject d row.0 flaw row.1 (context_rows clock row.0 f flaw row.2)
 
 stream_fields_rows : (clock : Option (List ℕ)) (ms : Members) (f : _) (flaw : Flaw) → IsStreamFieldsObject clock ms f → ¬ IsNoStreamFeaturesObject ms flaw
-stream_fields_rows clock ms f flaw h (IsNoStreamFeaturesObject.unknown unknown) = known_alone objects.StreamFeatures ms flaw h.known unknown
+stream_fields_rows clock ms f flaw h (IsNoStreamFeaturesObject.unknown unknown) = known_alone places.StreamFeatures ms flaw h.known unknown
 stream_fields_rows clock ms f flaw h (IsNoStreamFeaturesObject.packet wrong) = may_say_excluded (codes "packet") (context_of clock) IsNoPacketFeatures ms flaw (context_excluded clock) h.packet.0 h.packet.1 wrong
 stream_fields_rows clock ms f flaw h (IsNoStreamFeaturesObject.event_record wrong) = may_say_excluded (codes "event-record") (event_header_of clock) IsNoEventHeader ms flaw (event_header_excluded clock) h.event_record.0 h.event_record.1 wrong
 

@@ -14,7 +14,7 @@ use Rattle.ctf_types.specs.FieldTypes.{chain_of}
 use Rattle.conf_tree.specs.declared.fault_kind.FaultKind.TheVariants.{OutOfRange}
 use Rattle.conf_tree.specs.Flaw.{Flaw, here}
 use Rattle.conf_tree.specs.Reading.{◌>>=◌, object_of}
-use Rattle.conf_values.specs.declared.properties.ObjectKind.TheVariants as objects
+use Rattle.conf_table.specs.declared.place.Place.TheVariants as places
 use Rattle.conf_values.specs.declared.words.FieldClass.{FieldClass}
 use Rattle.conf_values.specs.declared.words.FieldClass.TheVariants.{UnsignedInteger, SignedInteger, UnsignedEnumeration, SignedEnumeration, Text, StaticArray, DynamicArray, Structure}
 use Rattle.conf_values.specs.LeafFlaws.{IsNoObject, IsNoNatural, IsNoWordOf, words_of}
@@ -64,14 +64,14 @@ moved P d ms ns class other h is p = subst (λ c. P c ns) (class_is d ms ns clas
 -- ---- field types
 
 static_excluded : (reads : Data → Result FieldType Flaw) (ms : Members) (t : FieldType) (flaw : Flaw) → IsStaticArrayObject reads ms t → ¬ IsNoStaticArray ms flaw
-static_excluded reads ms t flaw h (IsNoStaticArray.unknown_property unknown) = known_alone objects.StaticArray ms flaw h.known unknown
+static_excluded reads ms t flaw h (IsNoStaticArray.unknown_property unknown) = known_alone places.StaticArray ms flaw h.known unknown
 static_excluded reads ms t flaw h (IsNoStaticArray.no_element (none, is)) =
     let r = needed_read (codes "element-field-type") reads ms h.element h.element_says in
     some_is_none (get_member (codes "element-field-type") ms) r.0 (found_there (codes "element-field-type") ms r.0 r.1) none
 static_excluded reads ms t flaw h (IsNoStaticArray.wrong_length wrong) = says_excluded (codes "length") (natural_of 0 1048576) (IsNoNatural 0 1048576) ms flaw (natural_excluded 0 1048576) h.count h.length_says wrong
 
 module _ (reads : Data → Result FieldType Flaw) (t : FieldType) where
-  integer_field : (signed : Bool) (ms : Members) (flaw : Flaw) → IsFieldOf reads (integer_class signed) ms t → ¬ IsNoInteger ms flaw
+  integer_field : (signed : Bool) (ms : Members) (flaw : Flaw) → IsFieldOf reads (integer_class signed) ms t → ¬ IsNoInteger signed ms flaw
   integer_field false ms flaw (i, is, h) = integer_excluded false ms i flaw h
   integer_field true ms flaw (i, is, h) = integer_excluded true ms i flaw h
 
@@ -96,7 +96,7 @@ module _ (levels : ℕ) (inner : (d : Data) (t : FieldType) (flaw : Flaw) → fi
   level_excluded d t flaw class ms h row (IsNoFieldWithin.no_enumeration signed ns is wrong) =
       enumeration_field (field_in levels) t signed ns flaw (moved (λ c l. IsFieldOf (field_in levels) c l t) d ms ns class (enumeration_class signed) h is row) wrong
   level_excluded d t flaw class ms h row (IsNoFieldWithin.no_string ns is wrong) =
-      known_alone objects.Str ns flaw (moved (λ c l. IsFieldOf (field_in levels) c l t) d ms ns class Text h is row).1 wrong
+      known_alone places.Str ns flaw (moved (λ c l. IsFieldOf (field_in levels) c l t) d ms ns class Text h is row).1 wrong
   level_excluded d t flaw class ms h row (IsNoFieldWithin.no_array ns is wrong) =
       static_excluded (field_in levels) ns t flaw (moved (λ c l. IsFieldOf (field_in levels) c l t) d ms ns class StaticArray h is row) wrong
   level_excluded d t flaw class ms h row (IsNoFieldWithin.wrong_element ns e f is there wrong) =
@@ -161,7 +161,7 @@ element_excluded d t flaw e =
     element_read_excluded d s.0 flaw s.1 p.0
 
 pub dynamic_excluded : (ms : Members) (m : MemberType) (flaw : Flaw) → IsDynamicArrayObject ms m → ¬ IsNoDynamicArray ms flaw
-dynamic_excluded ms m flaw h (IsNoDynamicArray.unknown_property unknown) = known_alone objects.DynamicArray ms flaw h.known unknown
+dynamic_excluded ms m flaw h (IsNoDynamicArray.unknown_property unknown) = known_alone places.DynamicArray ms flaw h.known unknown
 dynamic_excluded ms m flaw h (IsNoDynamicArray.wrong_element wrong) = says_excluded (codes "element-field-type") element_of IsNoElement ms flaw element_excluded h.element h.element_says wrong
 
 -- ---- the types of members

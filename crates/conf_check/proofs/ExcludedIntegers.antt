@@ -15,12 +15,11 @@ use Rattle.conf_tree.specs.declared.fault_kind.FaultKind.TheVariants.{OutOfRange
 use Rattle.conf_tree.specs.Flaw.{Flaw, index, here}
 use Rattle.conf_tree.specs.Reading.{at}
 use Rattle.conf_tree.specs.Walk.{HasMember}
-use Rattle.conf_values.specs.declared.properties.ObjectKind.TheVariants as objects
 use Rattle.conf_values.specs.LeafFlaws.{IsNoNatural, IsNoWordOf, words_of}
 use Rattle.conf_values.specs.Scalar.{natural_of}
 use Rattle.conf_values.specs.Words.{base_words}
-use Rattle.conf_fields.specs.IntType.{is_power_of_two, power_or_not, alignment_of, base_of, size_of}
-use Rattle.conf_fields.specs.EnumType.{end_of, pair_of, range_of, is_inside, numbers_of, size_in, numbers_in, mappings_of}
+use Rattle.conf_fields.specs.IntType.{integer_place, is_power_of_two, power_or_not, alignment_of, base_of, size_of}
+use Rattle.conf_fields.specs.EnumType.{enumeration_place, end_of, pair_of, range_of, is_inside, numbers_of, size_in, numbers_in, mappings_of}
 use Rattle.conf_fields.specs.FieldFlaws.{IsPowerOfTwo, IsNoAlignment, IsNoInteger, IsWhole, IsNoEnd, IsRange, IsNoRange, IsNoRangeIn, IsNoLabel, IsNoMappings, IsNoEnumeration}
 use Rattle.conf_fields.specs.FieldRows.{IsIntegerObject, IsEnumerationObject}
 use Rattle.conf_fields.specs.MappingRows.{IsRange as IsMappingRange, AreRanges, IsLabel, AreLabels, AreMappings}
@@ -105,8 +104,8 @@ pub base_excluded : (d : Data) (b : Base) (flaw : Flaw) → base_of d ≡ Ok b �
 unfolding base_of
 base_excluded d b flaw e = word_excluded base_words d b flaw e
 
-pub integer_excluded : (signed : Bool) (ms : Members) (t : IntType) (flaw : Flaw) → IsIntegerObject signed ms t → ¬ IsNoInteger ms flaw
-integer_excluded signed ms t flaw h (IsNoInteger.unknown_property unknown) = known_alone objects.Integer ms flaw h.known unknown
+pub integer_excluded : (signed : Bool) (ms : Members) (t : IntType) (flaw : Flaw) → IsIntegerObject signed ms t → ¬ IsNoInteger signed ms flaw
+integer_excluded signed ms t flaw h (IsNoInteger.unknown_property unknown) = known_alone (integer_place signed) ms flaw h.known unknown
 integer_excluded signed ms t flaw h (IsNoInteger.wrong_size wrong) = says_excluded (codes "size") size_of (IsNoNatural 1 64) ms flaw (natural_excluded 1 64) t.size h.size wrong
 integer_excluded signed ms t flaw h (IsNoInteger.wrong_alignment wrong) = may_say_excluded (codes "alignment") alignment_of IsNoAlignment ms flaw alignment_excluded h.alignment.0 h.alignment.1 wrong
 integer_excluded signed ms t flaw h (IsNoInteger.wrong_base wrong) = may_say_excluded (codes "preferred-display-base") base_of (IsNoWordOf (words_of base_words)) ms flaw base_excluded h.base.0 h.base.1 wrong
@@ -266,7 +265,7 @@ module _ (signed : Bool) (ms : Members) where
   mappings_excluded d all flaw e = mappings_rows_excluded d all flaw (mappings_say (numbers_in signed ms) d all e)
 
   pub enumeration_excluded : (t : EnumType) (flaw : Flaw) → IsEnumerationObject signed ms t → ¬ IsNoEnumeration signed ms flaw
-  enumeration_excluded t flaw h (IsNoEnumeration.unknown_property unknown) = known_alone objects.Enumeration ms flaw h.known unknown
+  enumeration_excluded t flaw h (IsNoEnumeration.unknown_property unknown) = known_alone (enumeration_place signed) ms flaw h.known unknown
   enumeration_excluded t flaw h (IsNoEnumeration.wrong_size wrong) = says_excluded (codes "size") size_of (IsNoNatural 1 64) ms flaw (natural_excluded 1 64) t.int.size h.size wrong
   enumeration_excluded t flaw h (IsNoEnumeration.wrong_alignment wrong) = may_say_excluded (codes "alignment") alignment_of IsNoAlignment ms flaw alignment_excluded h.alignment.0 h.alignment.1 wrong
   enumeration_excluded t flaw h (IsNoEnumeration.wrong_base wrong) = may_say_excluded (codes "preferred-display-base") base_of (IsNoWordOf (words_of base_words)) ms flaw base_excluded h.base.0 h.base.1 wrong

@@ -15,8 +15,9 @@ use Rattle.conf_tree.specs.declared.fault_kind.FaultKind.TheVariants.{OutOfRange
 use Rattle.conf_tree.specs.Flaw.{Flaw, key, here}
 use Rattle.conf_tree.specs.Reading.{◌>>=◌, at, wanted, object_of, list_of, text_of, flag_of, whole_or_not, whole_of, needed_as, optional, optional_as, some_read}
 use Rattle.conf_tree.specs.Walk.{HasMember}
-use Rattle.conf_values.specs.declared.properties.ObjectKind.{ObjectKind}
-use Rattle.conf_values.specs.Property.{has_property, first_unknown}
+use Rattle.conf_table.specs.declared.place.Place.{Place}
+use Rattle.conf_table.specs.Table.{has_property}
+use Rattle.conf_values.specs.Property.{first_unknown}
 use Rattle.conf_values.specs.Parts.{one_of}
 use Rattle.conf_values.specs.Scalar.{natural_of, signed_in, signed_of, is_printable, config_text_of, uuid_in, parsed_or_not, uuid_of}
 use Rattle.conf_values.specs.Name.{name_of, is_reserved, plain_name_of}
@@ -47,19 +48,19 @@ wanted_there o x e none = some_is_none o x (wanted_found o x e) none
 pub found_read : {A : Type 0} (o : Option A) (x : A) → o ≡ Some x → wanted o ≡ Ok x
 found_read o x is = ap wanted is
 
--- ---- properties that an object of the kind has not
+-- ---- properties that no object at the place has
 
-each_known : (kind : ObjectKind) (ms : Members) (k : List ℕ) (d : Data) → first_unknown kind ms ≡ None → HasMember k d ms → has_property kind k ≡ false → ⊥
-each_known kind no_members k d known has other = has
-each_known kind (member l e ms) k d known has other = go (has_property kind l) refl known has (each_known kind ms k d)
+each_known : (place : Place) (ms : Members) (k : List ℕ) (d : Data) → first_unknown place ms ≡ None → HasMember k d ms → has_property place k ≡ false → ⊥
+each_known place no_members k d known has other = has
+each_known place (member l e ms) k d known has other = go (has_property place l) refl known has (each_known place ms k d)
   where
-    go : (b : Bool) → has_property kind l ≡ b → cond b (first_unknown kind ms) (Some l) ≡ None → ((k ≡ l) × (d ≡ e)) ⊎ HasMember k d ms → (first_unknown kind ms ≡ None → HasMember k d ms → has_property kind k ≡ false → ⊥) → ⊥
-    go true is none (inl same) later = true≢false (sym is ∙ ap (has_property kind) (sym same.0) ∙ other)
+    go : (b : Bool) → has_property place l ≡ b → cond b (first_unknown place ms) (Some l) ≡ None → ((k ≡ l) × (d ≡ e)) ⊎ HasMember k d ms → (first_unknown place ms ≡ None → HasMember k d ms → has_property place k ≡ false → ⊥) → ⊥
+    go true is none (inl same) later = true≢false (sym is ∙ ap (has_property place) (sym same.0) ∙ other)
     go true is none (inr there) later = later none there other
     go false is none there later = some_is_none (Some l) l refl none
 
-pub known_alone : (kind : ObjectKind) (ms : Members) (flaw : Flaw) → first_unknown kind ms ≡ None → ¬ HasUnknown kind ms flaw
-known_alone kind ms flaw known (k, d, has, other, is) = each_known kind ms k d known has other
+pub known_alone : (place : Place) (ms : Members) (flaw : Flaw) → first_unknown place ms ≡ None → ¬ HasUnknown place ms flaw
+known_alone place ms flaw known (k, d, has, other, is) = each_known place ms k d known has other
 
 -- ---- properties that are read
 

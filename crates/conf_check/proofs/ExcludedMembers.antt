@@ -14,7 +14,7 @@ use Rattle.ctf_types.specs.declared.StructType.{StructType}
 use Rattle.conf_tree.specs.declared.fault_kind.FaultKind.TheVariants.{NameClash}
 use Rattle.conf_tree.specs.Flaw.{Flaw, here}
 use Rattle.conf_tree.specs.Reading.{◌>>=◌, object_of, needed, needed_as}
-use Rattle.conf_values.specs.declared.properties.ObjectKind.TheVariants as objects
+use Rattle.conf_table.specs.declared.place.Place.TheVariants as places
 use Rattle.conf_values.specs.declared.words.FieldClass.{FieldClass}
 use Rattle.conf_values.specs.declared.words.FieldClass.TheVariants.{DynamicArray, Structure}
 use Rattle.conf_values.specs.Broken.{HasUnknown, MaySayNot}
@@ -85,7 +85,7 @@ member_excluded now taken name v m flaw covers h (IsNoMember.length_clash dynami
     length_free now (dynamic_or_not (class_told h.members)) name tt (ap dynamic_or_not told) r.2 (covers (length_name name) there)
 member_excluded now taken name v m flaw covers h (IsNoMember.unknown_property ns is unknown) =
     let same : h.members ≡ ns = same_found (as_object v) h.members ns (wanted_found (as_object v) h.members h.object_is) is in
-    known_alone objects.Member h.members flaw h.known (subst (λ l. HasUnknown objects.Member l flaw) (sym same) unknown)
+    known_alone places.Member h.members flaw h.known (subst (λ l. HasUnknown places.Member l flaw) (sym same) unknown)
 member_excluded now taken name v m flaw covers h (IsNoMember.wrong_type ns is wrong) =
     let same : h.members ≡ ns = same_found (as_object v) h.members ns (wanted_found (as_object v) h.members h.object_is) is in
     says_excluded (codes "field-type") member_type_of IsNoMemberType ns flaw member_type_excluded m (subst (λ l. needed_as (codes "field-type") member_type_of l ≡ Ok m) same h.type_says) wrong
@@ -177,10 +177,6 @@ entry_at taken ds (item d rest) i now (m ∷ ms) follows covers h zero k e is th
 entry_at taken ds (item d rest) i now (m ∷ ms) follows covers h (suc j) k e is there =
     entry_at taken ds rest (suc i) (now ++ names_of m) ms (rest_follows d rest i ds follows) (covers_more taken ds i now d m covers (first_follows d rest i ds follows) h.0) h.1 j k e (omega (arith, is)) there
 
--- an item of a list whose entries were read
-pub record EntriesRead (ds : Items) : Type 0 where
-  pub at : (i : ℕ) (e : Data) → get_item i ds ≡ Some e → (now : List (List ℕ)) × (m : List ℕ × MemberType) × IsEntryObject now e m
-
 list_rows_excluded : (taken : List (List ℕ)) (d : Data) (ms : List Named) (flaw : Flaw) → AreMembers taken d ms → ¬ IsNoMembersList taken d flaw
 list_rows_excluded taken d ms flaw (ds, read, h) (IsNoMembersList.no_list wrong) = list_excluded d ds flaw read wrong
 list_rows_excluded taken d ms flaw (ds, read, h) (IsNoMembersList.wrong_entry es i e f is there wrong) =
@@ -190,14 +186,6 @@ list_rows_excluded taken d ms flaw (ds, read, h) (IsNoMembersList.wrong_entry es
 
 pub members_excluded : (taken : List (List ℕ)) (d : Data) (ms : List (List ℕ × MemberType)) (flaw : Flaw) → members_of taken d ≡ Ok ms → ¬ IsNoMembersList taken d flaw
 members_excluded taken d ms flaw e = list_rows_excluded taken d ms flaw (members_list_says taken d ms e)
-
--- each entry of a members list that was read, whatever names are taken
-pub entries_read : (taken : List (List ℕ)) (d : Data) (ds : Items) (ms : List (List ℕ × MemberType)) → members_of taken d ≡ Ok ms → as_array d ≡ Some ds → EntriesRead ds
-entries_read taken d ds ms e is =
-    let rows = members_list_says taken d ms e in
-    let same : rows.0 ≡ ds = same_found (as_array d) rows.0 ds (wanted_found (as_array d) rows.0 rows.1) is in
-    let h : AreEntries taken ds ms = subst (λ l. AreEntries taken l ms) same rows.2 in
-    record { at = λ i v there. let entry = entry_at taken ds ds 0 taken ms (follows_itself ds) (covers_first taken ds) h i i v (omega arith) there in (entry.now, entry.is, entry.read) }
 
 -- ---- structures
 
@@ -209,7 +197,7 @@ module _ (d : Data) (s : StructType) (h : IsStructureObject d s) where
   structure_rows_excluded flaw (IsNoStructure.no_object wrong) = object_excluded d h.members flaw h.object_is wrong
   structure_rows_excluded flaw (IsNoStructure.no_class ns is wrong) = no_class_excluded h.members Structure flaw h.class (subst (λ l. IsNoClass l flaw) (same_object d h.members ns Structure whole_class is) wrong)
   structure_rows_excluded flaw (IsNoStructure.another_class other ns is differs) = differs (sym (class_is d h.members ns Structure other whole_class is))
-  structure_rows_excluded flaw (IsNoStructure.unknown_property ns is unknown) = known_alone objects.Structure h.members flaw h.known (subst (λ l. HasUnknown objects.Structure l flaw) (same_object d h.members ns Structure whole_class is.0) unknown)
+  structure_rows_excluded flaw (IsNoStructure.unknown_property ns is unknown) = known_alone places.Structure h.members flaw h.known (subst (λ l. HasUnknown places.Structure l flaw) (same_object d h.members ns Structure whole_class is.0) unknown)
   structure_rows_excluded flaw (IsNoStructure.wrong_members ns is wrong) =
       may_say_excluded (codes "members") (members_of []) (IsNoMembersList []) h.members flaw (members_excluded []) h.listed.0 h.listed.1
       (subst (λ l. MaySayNot (codes "members") (IsNoMembersList []) l flaw) (same_object d h.members ns Structure whole_class is.0) wrong)

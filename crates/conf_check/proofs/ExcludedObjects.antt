@@ -13,7 +13,7 @@ use Rattle.conf_tree.specs.declared.fault_kind.FaultKind.TheVariants.{OutOfRange
 use Rattle.conf_tree.specs.Flaw.{Flaw, here}
 use Rattle.conf_tree.specs.Reading.{wanted, object_of, text_of, flag_of, optional}
 use Rattle.conf_tree.specs.Walk.{HasMember}
-use Rattle.conf_values.specs.declared.properties.ObjectKind.TheVariants as objects
+use Rattle.conf_table.specs.declared.place.Place.TheVariants as places
 use Rattle.conf_values.specs.LeafFlaws.{IsNoFlag, IsNoText, IsNoNatural, IsNoSigned, IsNoConfigText, IsNoUuid}
 use Rattle.conf_values.specs.Name.{plain_name_of}
 use Rattle.conf_values.specs.Scalar.{natural_of, signed_of, signed_in, config_text_of, uuid_of}
@@ -48,7 +48,7 @@ object_such is wrong d flaw h (ms, read, row) = such_excluded wrong d ms flaw re
 -- ---- clock types
 
 offset_rows : (ms : Members) (o : Offset) (flaw : Flaw) → IsOffsetObject ms o → ¬ IsNoOffsetObject ms flaw
-offset_rows ms o flaw h (IsNoOffsetObject.unknown unknown) = known_alone objects.ClockOffset ms flaw h.known unknown
+offset_rows ms o flaw h (IsNoOffsetObject.unknown unknown) = known_alone places.ClockOffset ms flaw h.known unknown
 offset_rows ms o flaw h (IsNoOffsetObject.cycles wrong) = may_say_excluded (codes "cycles") (natural_of 0 max_u64) (IsNoNatural 0 max_u64) ms flaw (natural_excluded 0 max_u64) h.cycles.0 h.cycles.1 wrong
 offset_rows ms o flaw h (IsNoOffsetObject.seconds wrong) = may_say_excluded (codes "seconds") signed_of IsNoSigned ms flaw signed_excluded h.seconds.0 h.seconds.1 wrong
 
@@ -57,7 +57,7 @@ offset_excluded d o flaw e = let row = offset_says d o e in such_excluded IsNoOf
 
 clock_rows : (name : List ℕ) (ms : Members) (c : ClockType) (flaw : Flaw) → IsClockObject name ms c → ¬ IsNoClockObject name ms flaw
 clock_rows name ms c flaw h (IsNoClockObject.bad_name wrong) = plain_name_excluded name tt flaw h.named wrong
-clock_rows name ms c flaw h (IsNoClockObject.unknown unknown) = known_alone objects.ClockType ms flaw h.known unknown
+clock_rows name ms c flaw h (IsNoClockObject.unknown unknown) = known_alone places.ClockType ms flaw h.known unknown
 clock_rows name ms c flaw h (IsNoClockObject.frequency wrong) = may_say_excluded (codes "frequency") (natural_of 1 max_u64) (IsNoNatural 1 max_u64) ms flaw (natural_excluded 1 max_u64) h.frequency.0 h.frequency.1 wrong
 clock_rows name ms c flaw h (IsNoClockObject.description wrong) = may_say_excluded (codes "description") config_text_of IsNoConfigText ms flaw config_text_excluded c.description h.description wrong
 clock_rows name ms c flaw h (IsNoClockObject.uuid wrong) = may_say_excluded (codes "uuid") uuid_of IsNoUuid ms flaw uuid_excluded c.uuid h.uuid wrong
@@ -175,7 +175,7 @@ module _ (aliases : Members) where
 
   event_rows : (name : List ℕ) (ms : Members) (e : EventType) (flaw : Flaw) → IsEventObject aliases name ms e → ¬ IsNoEventObject aliases name ms flaw
   event_rows name ms e flaw h (IsNoEventObject.bad_name wrong) = name_excluded name tt flaw h.named wrong
-  event_rows name ms e flaw h (IsNoEventObject.unknown unknown) = known_alone objects.EventType ms flaw h.known unknown
+  event_rows name ms e flaw h (IsNoEventObject.unknown unknown) = known_alone places.EventType ms flaw h.known unknown
   event_rows name ms e flaw h (IsNoEventObject.log_level wrong) = may_say_excluded (codes "log-level") (log_level_of aliases) (IsNoLogLevel aliases) ms flaw log_level_excluded e.log_level h.log_level wrong
   event_rows name ms e flaw h (IsNoEventObject.specific wrong) = may_say_excluded (codes "specific-context-field-type") struct_of IsNoStructure ms flaw structure_excluded h.specific.0 h.specific.1 wrong
   event_rows name ms e flaw h (IsNoEventObject.payload wrong) = may_say_excluded (codes "payload-field-type") struct_of IsNoStructure ms flaw structure_excluded h.payload.0 h.payload.1 wrong
@@ -204,7 +204,7 @@ default_excluded taken said h d b flaw e (IsNoDefault.a_second is on) =
 module _ (aliases : Members) where
   stream_rows : (taken said : Bool) → (said ≡ true → taken ≡ true) → (name : List ℕ) (ms : Members) (l : _) (flaw : Flaw) → IsStreamObject aliases taken name ms l → ¬ IsNoStreamObject aliases said name ms flaw
   stream_rows taken said among name ms l flaw h (IsNoStreamObject.bad_name wrong) = name_excluded name tt flaw h.named wrong
-  stream_rows taken said among name ms l flaw h (IsNoStreamObject.unknown unknown) = known_alone objects.StreamType ms flaw h.known unknown
+  stream_rows taken said among name ms l flaw h (IsNoStreamObject.unknown unknown) = known_alone places.StreamType ms flaw h.known unknown
   stream_rows taken said among name ms l flaw h (IsNoStreamObject.is_default wrong) = may_say_excluded (codes "$is-default") (default_of taken) (IsNoDefault said) ms flaw (default_excluded taken said among) h.is_default.0 h.is_default.1 wrong
   stream_rows taken said among name ms l flaw h (IsNoStreamObject.default_clock wrong) = may_say_excluded (codes "$default-clock-type-name") text_of IsNoText ms flaw text_excluded l.stream.default_clock h.default_clock wrong
   stream_rows taken said among name ms l flaw h (IsNoStreamObject.features wrong) = may_say_excluded (codes "$features") (stream_fields_of l.stream.default_clock) IsNoStreamFeatures ms flaw (stream_fields_excluded l.stream.default_clock) h.features.0 h.features.1 wrong

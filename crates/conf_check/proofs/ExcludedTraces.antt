@@ -11,7 +11,7 @@ use Rattle.ctf_types.specs.declared.EnvironmentEntry.{EnvironmentEntry}
 use Rattle.conf_tree.specs.declared.fault_kind.FaultKind.TheVariants.{Missing}
 use Rattle.conf_tree.specs.Flaw.{Flaw, key, here, within}
 use Rattle.conf_tree.specs.Reading.{object_of, text_of, optional}
-use Rattle.conf_values.specs.declared.properties.ObjectKind.TheVariants as objects
+use Rattle.conf_table.specs.declared.place.Place.TheVariants as places
 use Rattle.conf_values.specs.LeafFlaws.{IsNoUuid, IsNoWordOf, words_of}
 use Rattle.conf_values.specs.Scalar.{uuid_in}
 use Rattle.conf_values.specs.Words.{order_words}
@@ -71,7 +71,7 @@ no_order_excluded ms e trace native =
 
 module _ (number : Option (List ℕ)) where
   trace_type_rows : (environment : List EnvironmentEntry) (ms : Members) (draft : Draft) (flaw : Flaw) → IsTraceTypeObject number environment ms draft → ¬ IsNoTraceTypeObject ms flaw
-  trace_type_rows environment ms draft flaw h (IsNoTraceTypeObject.unknown unknown) = known_alone objects.TraceType ms flaw h.known unknown
+  trace_type_rows environment ms draft flaw h (IsNoTraceTypeObject.unknown unknown) = known_alone places.TraceType ms flaw h.known unknown
   trace_type_rows environment ms draft flaw h (IsNoTraceTypeObject.no_order trace native) = no_order_excluded ms h.order_is_there trace native
   trace_type_rows environment ms draft flaw h (IsNoTraceTypeObject.trace_byte_order wrong) = may_say_excluded (codes "trace-byte-order") order_of (IsNoWordOf (words_of order_words)) ms flaw order_excluded h.trace h.trace_byte_order wrong
   trace_type_rows environment ms draft flaw h (IsNoTraceTypeObject.native_byte_order wrong) = may_say_excluded (codes "native-byte-order") order_of (IsNoWordOf (words_of order_words)) ms flaw order_excluded h.native h.native_byte_order wrong
@@ -90,7 +90,7 @@ module _ (number : Option (List ℕ)) where
   -- ---- the trace and the configuration around it
 
   trace_rows : (ms : Members) (draft : Draft) (flaw : Flaw) → IsTraceObject number ms draft → ¬ IsNoTraceObject ms flaw
-  trace_rows ms draft flaw h (IsNoTraceObject.unknown unknown) = known_alone objects.Trace ms flaw h.known unknown
+  trace_rows ms draft flaw h (IsNoTraceObject.unknown unknown) = known_alone places.Trace ms flaw h.known unknown
   trace_rows ms draft flaw h (IsNoTraceObject.trace_type wrong) = says_excluded (codes "type") (trace_type_of number (listed h.entries)) IsNoTraceType ms flaw (trace_type_excluded (listed h.entries)) draft h.trace_type wrong
   trace_rows ms draft flaw h (IsNoTraceObject.environment wrong) = may_say_excluded (codes "environment") environment_of IsNoEnvironment ms flaw environment_excluded h.entries h.environment wrong
 
@@ -98,7 +98,7 @@ module _ (number : Option (List ℕ)) where
   trace_excluded d draft flaw e = let row = trace_says number d draft e in such_excluded IsNoTraceObject d row.0 flaw row.1 (trace_rows row.0 draft flaw row.2)
 
   root_rows : (ms : Members) (draft : Draft) (flaw : Flaw) → IsRootObject number ms draft → ¬ IsNoRootObject ms flaw
-  root_rows ms draft flaw h (IsNoRootObject.unknown unknown) = known_alone objects.Root ms flaw h.known unknown
+  root_rows ms draft flaw h (IsNoRootObject.unknown unknown) = known_alone places.Root ms flaw h.known unknown
   root_rows ms draft flaw h (IsNoRootObject.trace wrong) = says_excluded (codes "trace") (trace_of number) IsNoTrace ms flaw trace_excluded draft h.trace wrong
 
   pub root_excluded : (d : Data) (ms : Members) (draft : Draft) (flaw : Flaw) → object_of d ≡ Ok ms → IsRootObject number ms draft → ¬ IsNoRoot d flaw

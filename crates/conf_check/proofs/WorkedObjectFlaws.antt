@@ -11,12 +11,11 @@ use Rattle.conf_tree.specs.Flaw.{Flaw, Place, key, here}
 use Rattle.conf_tree.specs.declared.fault_kind.FaultKind.{FaultKind}
 use Rattle.conf_tree.specs.declared.fault_kind.FaultKind.TheVariants.{WrongKind, Missing, Unknown, NoSuchAlias, OutOfRange, ZeroSizeRecord, NoClock, NoUuid, Limit, TwoOrders, TimestampSize}
 use Rattle.conf_objects.specs.declared.draft.Draft.{Draft}
-use Rattle.conf_objects.specs.declared.limits.Part.TheVariants.{Root}
 use Rattle.conf_check.specs.Judgement.{header_flaw}
 use Rattle.conf_values.specs.LeafFlaws.{IsNoObject}
-use Rattle.conf_objects.specs.Limits.{part_in_root, part_in_trace, part_under, most_entries}
+use Rattle.conf_objects.specs.Limits.{root, part_under, most_entries}
 use Rattle.conf_objects.specs.ObjectFlaws.{IsNoFeature, IsNoPacketObject, IsNoPacketFeatures, IsNoOffsetObject, IsNoOffset, IsNoEnvironmentEntry, IsNoEnvironment, IsNoLogLevel, IsNoEventObject, IsNoEventType, IsNoDefault, IsNoStreamObject, IsNoStreamType, SaysDefault, IsBehindDefault, HasNoStreamTypes, IsNoStreamTypes, IsNoTraceTypeObject, IsNoTraceType, IsNoTraceObject, IsNoTrace, IsNoRootObject, IsNoRoot}
-use Rattle.conf_values.specs.Property.{has_property}
+use Rattle.conf_table.specs.Table.{rows_of, has_property, entries_of, place_in, content_under}
 use Rattle.conf_check.specs.StreamRules.{feature_flaw}
 use Rattle.conf_check.specs.WholeFlaws.{IsTimestampOf, RecordHasBits, BreaksRule, PassesLimit}
 
@@ -27,7 +26,7 @@ flaw_at path kind = record { path = path; kind = kind }
 
 -- a configuration with `tracer`: unknown, at `tracer`
 a_tracer : IsNoRoot (object (member (codes "tracer") null no_members)) (flaw_at (key (codes "tracer") ∷ []) Unknown)
-unfolding has_property
+unfolding has_property rows_of
 a_tracer = inr (_, refl, IsNoRootObject.unknown (codes "tracer", null, inl (refl, refl), refl, refl))
 
 -- a trace `{}`: missing, at `type`
@@ -109,8 +108,8 @@ an_end_of_63_bits draft s t is on size = BreaksRule.packet_timestamp s _ s.conte
 
 -- an environment of more than 256 entries: past a limit, at `environment`
 too_many_entries : (ms : Members) → 256 < members_len ms
-    → PassesLimit Root (object (member (codes "trace") (object (member (codes "environment") (object ms) no_members)) no_members)) (flaw_at (key (codes "trace") ∷ key (codes "environment") ∷ []) Limit)
-unfolding part_under part_in_root part_in_trace most_entries
+    → PassesLimit root (object (member (codes "trace") (object (member (codes "environment") (object ms) no_members)) no_members)) (flaw_at (key (codes "trace") ∷ key (codes "environment") ∷ []) Limit)
+unfolding part_under content_under rows_of entries_of place_in most_entries
 too_many_entries ms many =
     PassesLimit.inside _ (codes "trace") _ _ (inl (refl, refl)) (PassesLimit.inside _ (codes "environment") _ _ (inl (refl, refl)) (PassesLimit.too_many 256 ms refl many))
 

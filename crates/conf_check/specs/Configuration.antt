@@ -11,11 +11,11 @@ use Rattle.conf_tree.specs.Walk.{IsTreeOf, IsFirstFlaw, Reads, FlawHolds, max_le
 use Rattle.conf_inherit.specs.Faults.{RefusalHolds}
 use Rattle.conf_inherit.specs.Resolution.{resolution, Resolves}
 use Rattle.conf_objects.specs.declared.draft.Draft.{Draft}
-use Rattle.conf_objects.specs.declared.limits.Part.TheVariants.{Root}
 use Rattle.conf_check.specs.ConfigurationRows.{IsConfigurationOf}
 use Rattle.conf_objects.specs.TraceRows.{IsRootObject}
 use Rattle.conf_check.specs.Judgement.{check_reading}
 use Rattle.conf_objects.specs.ObjectFlaws.{IsNoRoot}
+use Rattle.conf_objects.specs.Limits.{root}
 use Rattle.conf_check.specs.WholeFlaws.{BreaksRule, PassesLimit}
 
 -- c is the configuration of the text, where `number` is the identifier that is handed in
@@ -54,7 +54,7 @@ IsRefusal text number flaw =
 abbrev pub IsNoConfiguration : Data → Option (List ℕ) → Flaw → Type 0
 IsNoConfiguration d number flaw =
     IsNoRoot d flaw
-    ⊎ ((ms : Members) × (draft : Draft) × (object_of d ≡ Ok ms) × IsRootObject number ms draft × (BreaksRule draft flaw ⊎ PassesLimit Root d flaw))
+    ⊎ ((ms : Members) × (draft : Draft) × (object_of d ≡ Ok ms) × IsRootObject number ms draft × (BreaksRule draft flaw ⊎ PassesLimit root d flaw))
 
 -- the text is no JSON, or the flaw's kind holds at its path in the value that it is
 abbrev pub IsNoTree : List ℕ → Flaw → Type 0

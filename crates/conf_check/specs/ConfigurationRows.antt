@@ -4,10 +4,9 @@ use Rattle.serde_json.specs.Data.{Data, Members}
 use Rattle.ctf_types.specs.declared.Config.{Config}
 use Rattle.conf_tree.specs.Reading.{object_of}
 use Rattle.conf_objects.specs.declared.draft.Draft.{Draft}
-use Rattle.conf_objects.specs.declared.limits.Part.TheVariants.{Root}
 use Rattle.conf_check.specs.declared.stream_rule.StreamRule.TheVariants.{NumbersFit, RecordsHaveBits, ClocksAreThere, TimestampsAreSized}
 use Rattle.conf_check.specs.Judgement.{stream_number_fits, identifier_given}
-use Rattle.conf_objects.specs.Limits.{limits}
+use Rattle.conf_objects.specs.Limits.{root, limits}
 use Rattle.conf_check.specs.StreamRules.{streams_judged}
 use Rattle.conf_objects.specs.TraceRows.{IsRootObject}
 
@@ -19,7 +18,7 @@ pub record KeepsAllRules (d : Data) (draft : Draft) : Type 0 where
   pub clocks_are_there : streams_judged ClocksAreThere draft.config ≡ Ok tt
   pub number_is_given : draft.lacks_number ≡ false
   pub identifier : identifier_given draft.config ≡ Ok tt
-  pub within_limits : limits Root d ≡ Ok tt
+  pub within_limits : limits root d ≡ Ok tt
   pub one_order : draft.two_orders ≡ false
   pub timestamps_are_sized : streams_judged TimestampsAreSized draft.config ≡ Ok tt
 

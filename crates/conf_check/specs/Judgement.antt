@@ -8,9 +8,8 @@ use Rattle.conf_tree.specs.declared.fault_kind.FaultKind.TheVariants.{FieldTooSm
 use Rattle.conf_tree.specs.Flaw.{Flaw, key, here, within}
 use Rattle.conf_tree.specs.Reading.{◌>>=◌}
 use Rattle.conf_objects.specs.declared.draft.Draft.{Draft}
-use Rattle.conf_objects.specs.declared.limits.Part.TheVariants.{Root}
 use Rattle.conf_check.specs.declared.stream_rule.StreamRule.TheVariants.{NumbersFit, RecordsHaveBits, ClocksAreThere, TimestampsAreSized}
-use Rattle.conf_objects.specs.Limits.{limits}
+use Rattle.conf_objects.specs.Limits.{root, limits}
 use Rattle.conf_check.specs.StreamRules.{holds, streams_judged, unless}
 use Rattle.conf_objects.specs.Trace.{draft_reading}
 
@@ -52,7 +51,7 @@ clocks_and_identifier draft = do
 
 unfoldable pub limits_and_orders : Data → Draft → Result ⊤ Flaw
 limits_and_orders d draft = do
-  _ ← limits Root d
+  _ ← limits root d
   _ ← one_order draft
   streams_judged TimestampsAreSized draft.config
 

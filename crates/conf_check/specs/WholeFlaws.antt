@@ -13,11 +13,10 @@ use Rattle.conf_tree.specs.declared.fault_kind.FaultKind.TheVariants.{FieldTooSm
 use Rattle.conf_tree.specs.Flaw.{Flaw, key, here, within}
 use Rattle.conf_tree.specs.Walk.{HasMember}
 use Rattle.conf_objects.specs.declared.draft.Draft.{Draft}
-use Rattle.conf_objects.specs.declared.limits.Part.{Part}
-use Rattle.conf_objects.specs.declared.limits.Part.TheVariants.{Feature, Structure, Extras, Words}
+use Rattle.conf_table.specs.declared.row.Content.{Content}
 use Rattle.conf_fields.specs.FieldFlaws.{PassesFieldLimit, PassesStructLimit, PassesMembersLimit}
 use Rattle.conf_check.specs.Judgement.{in_type, header_flaw}
-use Rattle.conf_objects.specs.Limits.{part_under, most_entries}
+use Rattle.conf_objects.specs.Limits.{part_under, most_bytes, most_entries, is_feature, is_structure_type, is_extra_members}
 use Rattle.conf_check.specs.StreamRules.{feature_flaw}
 
 -- ---- rules over the whole
@@ -69,14 +68,14 @@ pub data BreaksRule (draft : Draft) : Flaw → Type 0 where
 
 -- ---- limits
 
-pub data PassesLimit : Part → Data → Flaw → Type 0 where
-  -- a map with more entries than its part has at most
-  too_many : {part : Part} (most : ℕ) (ms : Members) → most_entries part ≡ Some most → most < members_len ms → PassesLimit part (object ms) (here Limit)
-  -- a text that people read, of more than 4,096 bytes
-  too_long : (s : List ℕ) → 4096 < length s → PassesLimit Words (string s) (here Limit)
+pub data PassesLimit : Content → Data → Flaw → Type 0 where
+  -- a map with more entries than the table has for it
+  too_many : {content : Content} (most : ℕ) (ms : Members) → most_entries content ≡ Some most → most < members_len ms → PassesLimit content (object ms) (here Limit)
+  -- a text of more bytes than the table has for it
+  too_long : {content : Content} (most : ℕ) (s : List ℕ) → most_bytes content ≡ Some most → most < length s → PassesLimit content (string s) (here Limit)
   -- a feature's own type, a structure, or the extra members of a packet context past a limit of field types
-  in_feature : {ms : Members} {flaw : Flaw} → PassesFieldLimit (object ms) flaw → PassesLimit Feature (object ms) flaw
-  in_structure : {ms : Members} {flaw : Flaw} → PassesStructLimit (object ms) flaw → PassesLimit Structure (object ms) flaw
-  in_extras : {ds : Items} {flaw : Flaw} → PassesMembersLimit (array ds) flaw → PassesLimit Extras (array ds) flaw
+  in_feature : {content : Content} {ms : Members} {flaw : Flaw} → is_feature content ≡ true → PassesFieldLimit (object ms) flaw → PassesLimit content (object ms) flaw
+  in_structure : {content : Content} {ms : Members} {flaw : Flaw} → is_structure_type content ≡ true → PassesStructLimit (object ms) flaw → PassesLimit content (object ms) flaw
+  in_extras : {content : Content} {ds : Items} {flaw : Flaw} → is_extra_members content ≡ true → PassesMembersLimit (array ds) flaw → PassesLimit content (array ds) flaw
   -- a property past a limit of its own
-  inside : {part : Part} (ms : Members) (k : List ℕ) (d : Data) (flaw : Flaw) → HasMember k d ms → PassesLimit (part_under part k) d flaw → PassesLimit part (object ms) (within (key k) flaw)
+  inside : {content : Content} (ms : Members) (k : List ℕ) (d : Data) (flaw : Flaw) → HasMember k d ms → PassesLimit (part_under content k) d flaw → PassesLimit content (object ms) (within (key k) flaw)

@@ -11,8 +11,8 @@ ghost use Rattle.conf_check.specs.ConfigurationRows.{IsConfigurationOf};
 ghost use Rattle.conf_check.specs.Judgement.{in_type as in_type_is, header_flaw, stream_number_fits as stream_number_fits_is, number_given as number_given_is, identifier_given as identifier_given_is, one_order as one_order_is, sizes_and_bits as sizes_and_bits_is, clocks_and_identifier as clocks_and_identifier_is, limits_and_orders as limits_and_orders_is, whole as whole_is, check_reading};
 
 use crate::stream_rule::{StreamRule, check_streams, holds};
-use conf_fields::walk_in_order;
-use conf_objects::{Draft, Part, check_limits, read_draft};
+use conf_objects::{Draft, check_limits, read_draft};
+use conf_table::{Content, Place};
 use conf_tree::{ConfFault, FaultKind, Tree};
 use ctf_types::Config;
 use serde_json::Value;
@@ -128,7 +128,7 @@ fn limits_and_orders(alloc: Global, value: &Value, draft: &Draft) -> Result<(), 
     requires { depth (view value.now) ≤ 32 }
     ensures reading { Gives (λ _. tt) result (limits_and_orders_is (view value.now) draft.now) }
 {
-    check_limits(alloc, value, Part::Root)?;
+    check_limits(alloc, value, Content::At(Place::Root))?;
     one_order(alloc, draft)?;
     check_streams(alloc, StreamRule::TimestampsAreSized, &draft.config)?;
     Ok(())
@@ -152,7 +152,6 @@ fn judge(alloc: Global, tree: Tree, number: Option<Uuid>) -> Result<Config, Conf
     ensures allowed { IfOk result (λ c. IsConfig c) }
 {
     let Tree { value } = tree;
-    walk_in_order(&value);
     let draft = read_draft(alloc, number, &value)?;
     whole(alloc, &value, &draft)?;
     Ok(draft.config)

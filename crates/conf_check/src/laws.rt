@@ -6,7 +6,7 @@ ghost use Rattle.ctf_types.specs.declared.Config.{Config as Configuration};
 ghost use Rattle.conf_tree.specs.Flaw.{Flaw};
 ghost use Rattle.conf_tree.specs.Walk.{IsTreeOf};
 ghost use Rattle.conf_objects.specs.declared.draft.Draft.{Draft};
-ghost use Rattle.conf_objects.specs.declared.limits.Part.TheVariants.{Root};
+ghost use Rattle.conf_objects.specs.Limits.{root};
 ghost use Rattle.conf_inherit.specs.Resolution.{resolution, Resolves};
 ghost use Rattle.conf_check.specs.Configuration.{HasNoFault, IsNoConfiguration};
 ghost use Rattle.conf_check.specs.ConfigurationRows.{IsConfigurationOf};
@@ -21,7 +21,7 @@ pub fn configurations_by_rows()
 
 /// A configuration whose objects are each as they should be is refused where it breaks a rule over the whole or passes a limit.
 pub fn rules_refused()
-    ensures { (d : Data) (draft : Draft) (flaw : Flaw) → whole d draft ≡ Err flaw → BreaksRule draft flaw ⊎ PassesLimit Root d flaw }
+    ensures { (d : Data) (draft : Draft) (flaw : Flaw) → whole d draft ≡ Err flaw → BreaksRule draft flaw ⊎ PassesLimit root d flaw }
 {}
 
 /// A resolved tree that is refused has an object with a row that does not hold, breaks a rule over the whole or passes a limit.

@@ -1,5 +1,5 @@
 -- An enumeration as its rows say, which passes no limit, is one that the rules allow.
-use Rattle.std.proofs.Common.{◌≡◌, ◌≢◌, ℕ, ◌<◌, ◌≤◌, Bool, true, false, cond, List, [], ◌∷◌, ◌++◌, length, All, Ok, Err, Ordering, Less, Equal, Greater, nat_cmp, refl, sym, ap, subst, ◌∙◌, arith, length-append}
+use Rattle.std.proofs.Common.{◌≡◌, ◌≢◌, ℕ, suc, ◌<◌, ◌≤◌, Bool, true, false, cond, List, [], ◌∷◌, ◌++◌, length, All, Ok, Err, Ordering, Less, Equal, Greater, nat_cmp, refl, sym, ap, subst, ◌∙◌, arith, length-append}
 use Rattle.std.specs.Prelude.{codes, nat_le, int_le, ◌&&◌}
 use Rattle.std.specs.List.{AllByRecursion}
 use Rattle.std.specs.Cmp.Lexicographic.{slice_cmp}
@@ -8,7 +8,9 @@ use Rattle.std.proofs.lemmas.Bool.{and_parts}
 use Rattle.std.proofs.lemmas.Float.{T_from_true}
 use Rattle.std.proofs.lemmas.Bool.Decides.{nat_tests}
 use Rattle.std.proofs.lemmas.List.Elements.{All-from_recursion, All-weaker}
-use Rattle.serde_json.specs.Data.{Data, Items, no_items, item, Members, no_members, member}
+use Rattle.serde_json.specs.Data.{Data, null, Items, no_items, item, Members, no_members, member}
+use Rattle.serde_json.specs.Events.{items_len}
+use Rattle.serde_json.specs.Find.{as_array}
 use Rattle.ctf_types.specs.declared.IntType.{IntType}
 use Rattle.ctf_types.specs.declared.Mapping.{Mapping}
 use Rattle.ctf_types.specs.declared.EnumType.{EnumType}
@@ -20,14 +22,16 @@ use Rattle.conf_tree.specs.Reading.{◌>>=◌, object_of}
 use Rattle.conf_inherit.specs.Names.{AllAbove, IsInOrder}
 use Rattle.conf_inherit.proofs.InOrder.{same_name}
 use Rattle.conf_fields.specs.declared.enum_type.Span.{Span}
-use Rattle.conf_fields.specs.Order.{Ascends, MembersAscend}
+use Rattle.conf_tree.specs.Order.{Ascends, MembersAscend}
 use Rattle.conf_fields.specs.IntType.{int_limits}
-use Rattle.conf_fields.specs.EnumType.{numbers_of, size_in, numbers_in, enum_limits, is_inside, mappings_of, count_limit, label_limits, mapping_limits}
+use Rattle.conf_fields.specs.EnumType.{numbers_of, size_in, numbers_in, enum_limits, is_inside, mappings_of, ranges_among, ranges_of, count_limit, label_limits, mapping_limits}
 use Rattle.conf_fields.specs.FieldRows.{IsEnumerationObject}
 use Rattle.conf_fields.specs.MappingRows.{AreRanges, AreLabels}
 use Rattle.conf_fields.proofs.Ascending.{ascends_needed, ascends_object}
 use Rattle.conf_fields.proofs.MappingRowLaws.{mappings_say}
-use Rattle.conf_values.proofs.Steps.{both_read, is_passed, same_value, needed_read}
+use Rattle.conf_fields.proofs.Judged.{where_kept, needed_kept}
+use Rattle.conf_values.proofs.LeafFlawLaws.{wanted_found}
+use Rattle.conf_values.proofs.Steps.{both_read, is_passed, needed_read}
 
 joined : (P : Mapping → Type 0) (xs ys : List Mapping) → AllByRecursion P xs → AllByRecursion P ys → AllByRecursion P (xs ++ ys)
 joined P [] ys h k = k
@@ -130,8 +134,27 @@ some_mapping numbers (member k d labels) ms some (own, rest, (ds, is, any, print
     let first = some_ranges numbers k ds own any ranges in
     subst (λ (l : List Mapping). 0 < length l) all (omega (arith, first, length-append own rest))
 
-few_enough : (ms : List Mapping) (x : Unit {0}) → count_limit ms ≡ Ok x → length ms ≤ 1024
-few_enough ms x e = let p = is_passed (nat_le (length ms) 1024) tt x _ e in let b : nat_le (length ms) 1024 ≡ true = p.0 in grind (arith, nat_tests)
+ranges_counted : (numbers : Span) (label : List ℕ) (ds : Items) (ms : List Mapping) → AreRanges numbers label ds ms → length ms ≡ items_len ds
+ranges_counted numbers label no_items [] h = refl
+ranges_counted numbers label no_items (m ∷ ms) h = absurd h
+ranges_counted numbers label (item d ds) [] h = absurd h
+ranges_counted numbers label (item d ds) (m ∷ ms) h = ap suc (ranges_counted numbers label ds ms h.1)
+
+labels_counted : (numbers : Span) (labels : Members) (ms : List Mapping) → AreLabels numbers labels ms → length ms ≡ ranges_of labels
+labels_counted numbers no_members ms none = ap length none
+labels_counted numbers (member k d labels) ms (own, rest, (ds, read, some, shown, ranges), more, all) =
+    let first = ranges_counted numbers k ds own ranges in
+    let is = ap ranges_among (wanted_found (as_array d) ds read) in
+    let others = labels_counted numbers labels rest more in
+    let whole = ap length all in
+    omega (arith, first, is, others, whole, length-append own rest)
+
+few_enough : (labels : Members) (ms : List Mapping) (x : Unit {0}) → count_limit labels ≡ Ok x → length ms ≡ ranges_of labels → length ms ≤ 1024
+few_enough labels ms x e counted =
+    let p = is_passed (nat_le (ranges_of labels) 1024) tt x _ e in
+    let b : nat_le (ranges_of labels) 1024 ≡ true = p.0 in
+    let few : ranges_of labels ≤ 1024 = grind (arith, nat_tests) in
+    subst (λ n. n ≤ 1024) (sym counted) few
 
 -- ---- the whole
 
@@ -142,20 +165,17 @@ record AreGood (numbers : Span) (ms : List Mapping) : Type 0 where
   some : 0 < length ms
   few : length ms ≤ 1024
 
-good_mappings : (numbers : Span) (d : Data) (ms : List Mapping) → Ascends d → mappings_of numbers d ≡ Ok ms → mapping_limits numbers d ≡ Ok tt → AreGood numbers ms
+good_mappings : (numbers : Span) (d : Data) (ms : List Mapping) → Ascends d → mappings_of numbers d ≡ Ok ms → mapping_limits d ≡ Ok tt → AreGood numbers ms
 unfolding mapping_limits
 good_mappings numbers d ms ascends e limits =
     let says = mappings_say numbers d ms e in
-    let counted = both_read (mappings_of numbers d >>= count_limit) _ tt limits in
-    let again = both_read (mappings_of numbers d) count_limit counted.0 counted.1 in
-    let same_mappings : again.0 ≡ ms = same_value again.0 ms _ again.1 e in
-    let labels = both_read (object_of d) label_limits tt counted.2 in
-    let same_labels : labels.0 ≡ says.0 = same_value labels.0 says.0 _ labels.1 says.1 in
+    let kept = where_kept (object_of d) (λ labels. count_limit labels >>= (λ _. label_limits labels)) says.0 (Ok tt) says.1 limits in
+    let counted = both_read (count_limit says.0) (λ _. label_limits says.0) tt kept in
     record {
-      each = All-from_recursion (IsGood numbers) ms (labels_good numbers says.0 ms (subst (λ l. label_limits l ≡ Ok tt) same_labels labels.2) says.3);
+      each = All-from_recursion (IsGood numbers) ms (labels_good numbers says.0 ms counted.2 says.3);
       in_order = labels_in_order numbers says.0 ms (ascends_object d says.0 says.1 ascends).0 says.3;
       some = some_mapping numbers says.0 ms says.2 says.3;
-      few = subst (λ (l : List Mapping). length l ≤ 1024) same_mappings (few_enough again.0 counted.0 again.2);
+      few = few_enough says.0 ms counted.0 counted.1 (labels_counted numbers says.0 ms says.3);
     }
 
 -- a range inside the numbers of an integer of this size and sign
@@ -171,14 +191,16 @@ numbers_are : (signed : Bool) (ms : Members) (t : IntType) → size_in ms ≡ Ok
 unfolding numbers_of
 numbers_are signed ms t size sign = ap (numbers_of signed) size ∙ ap (λ s. numbers_of s (Ok t.size)) (sym sign)
 
-pub allowed_enum : (signed : Bool) (ms : Members) (t : EnumType) → MembersAscend ms → IsEnumerationObject signed ms t → enum_limits signed ms ≡ Ok tt → IsEnumeration t
+null_kept : mapping_limits null ≡ Ok tt
+unfolding mapping_limits
+null_kept = refl
+
+pub allowed_enum : (signed : Bool) (ms : Members) (t : EnumType) → MembersAscend ms → IsEnumerationObject signed ms t → enum_limits ms ≡ Ok tt → IsEnumeration t
 unfolding enum_limits
 allowed_enum signed ms t ascends h limits =
     let read = needed_read (codes "mappings") (mappings_of (numbers_in signed ms)) ms t.mappings h.mappings in
     let int = both_read (int_limits ms) _ tt limits in
-    let found = needed_read (codes "mappings") (mapping_limits (numbers_in signed ms)) ms tt int.2 in
-    let same : found.0 ≡ read.0 = same_value found.0 read.0 _ found.1 read.1 in
-    let within_limits : mapping_limits (numbers_in signed ms) read.0 ≡ Ok tt = subst (λ d. mapping_limits (numbers_in signed ms) d ≡ Ok tt) same found.2 in
+    let within_limits = needed_kept (codes "mappings") mapping_limits ms read.0 tt null_kept int.2 read.1 in
     let mappings_are = good_mappings (numbers_in signed ms) read.0 t.mappings (ascends_needed (codes "mappings") ms read.0 ascends read.1) read.2 within_limits in
     record {
       no_clock = h.no_clock;

@@ -5,7 +5,7 @@ use Rattle.std.specs.List.{list_any, AllByRecursion}
 use Rattle.std.specs.Str.{bytes_eq}
 use Rattle.std.proofs.lemmas.Bool.{and_parts}
 use Rattle.std.proofs.lemmas.Bool.Decides.{nat_tests}
-use Rattle.serde_json.specs.Data.{Data, Items, no_items, item, Members, no_members, member}
+use Rattle.serde_json.specs.Data.{Data, null, Items, no_items, item, Members, no_members, member}
 use Rattle.serde_json.specs.Events.{items_len}
 use Rattle.ctf_types.specs.declared.MemberType.{MemberType}
 use Rattle.ctf_types.specs.declared.MemberType.TheVariants.{Plain}
@@ -15,15 +15,17 @@ use Rattle.conf_tree.specs.Flaw.{Flaw, key, index}
 use Rattle.conf_tree.specs.Reading.{◌>>=◌, at, needed, object_of}
 use Rattle.conf_values.specs.declared.words.FieldClass.{FieldClass}
 use Rattle.conf_values.specs.Name.{name_of, is_reserved, plain_name_of}
-use Rattle.conf_fields.specs.Order.{Ascends, ItemsAscend}
+use Rattle.conf_tree.specs.Order.{Ascends, ItemsAscend}
+use Rattle.conf_fields.specs.Judging.{judged_under}
 use Rattle.conf_fields.specs.FieldType.{class_in, field_of}
 use Rattle.conf_fields.specs.MemberType.{is_dynamic, dynamic_of, member_type_of, member_type_limits}
-use Rattle.conf_fields.specs.Member.{dynamic_or_not, type_class, class_told, names_for, none_taken, name_rules, single_of, names_of, value_limits, entry_limits}
+use Rattle.conf_fields.specs.Member.{dynamic_or_not, type_class, class_told, names_for, none_taken, name_rules, names_of, value_limits, single_limits, entry_limits}
 use Rattle.conf_fields.specs.FieldRows.{IsMemberObject}
 use Rattle.conf_fields.specs.InnerRows.{IsEntryObject, AreEntries}
 use Rattle.conf_fields.specs.Members.{entry_limits_from}
 use Rattle.conf_fields.proofs.Ascending.{ascends_object, ascends_needed}
 use Rattle.conf_values.proofs.Steps.{both_read, read_there, is_passed, same_value, needed_read}
+use Rattle.conf_fields.proofs.Judged.{where_kept, needed_kept}
 use Rattle.conf_fields.proofs.AllowedFields.{allowed_member_type}
 use Rattle.conf_fields.proofs.FieldRowLaws.{dynamic_says}
 
@@ -91,22 +93,20 @@ member_named_well taken name d m h =
 
 limits_of_value : (d : Data) (name : List ℕ) (value : Data) → object_of d ≡ Ok (member name value no_members) → entry_limits d ≡ Ok tt → value_limits value ≡ Ok tt
 unfolding entry_limits
-limits_of_value d name value is e =
-    let ms = both_read (object_of d) _ tt e in
-    let same : ms.0 ≡ member name value no_members = same_value ms.0 (member name value no_members) _ ms.1 is in
-    read_there (key name) (value_limits value) tt (subst (λ l. single_of (λ name value. value_limits value) l ≡ Ok tt) same ms.2)
+limits_of_value d name value is e = read_there (key name) (value_limits value) tt (where_kept (object_of d) single_limits (member name value no_members) (Ok tt) is e)
+
+null_type : member_type_limits null ≡ Ok tt
+unfolding member_type_limits
+null_type = refl
 
 entry_allowed : (taken : List (List ℕ)) (d : Data) (m : List ℕ × MemberType) → Ascends d → IsEntryObject taken d m → entry_limits d ≡ Ok tt → IsConfigMember m.1
 unfolding value_limits
 entry_allowed taken d m ascends (value, is, h) limits =
     let type = needed_read (codes "field-type") member_type_of h.members m.1 h.type_says in
-    let ms = both_read (object_of value) _ tt (limits_of_value d m.0 value is limits) in
-    let found = needed_read (codes "field-type") member_type_limits ms.0 tt ms.2 in
-    let same : ms.0 ≡ h.members = same_value ms.0 h.members _ ms.1 h.object_is in
-    let here : found.0 ≡ type.0 = same_value found.0 type.0 _ (subst (λ l. needed (codes "field-type") l ≡ Ok found.0) same found.1) type.1 in
+    let judged = where_kept (object_of value) (judged_under (codes "field-type") member_type_limits) h.members (Ok tt) h.object_is (limits_of_value d m.0 value is limits) in
     let value_ascends : Ascends value = (ascends_object d (member m.0 value no_members) is ascends).1.0 in
     let inner = (ascends_object value h.members h.object_is value_ascends).1 in
-    allowed_member_type type.0 m.1 (ascends_needed (codes "field-type") h.members type.0 inner type.1) type.2 (subst (λ v. member_type_limits v ≡ Ok tt) here found.2)
+    allowed_member_type type.0 m.1 (ascends_needed (codes "field-type") h.members type.0 inner type.1) type.2 (needed_kept (codes "field-type") member_type_limits h.members type.0 tt null_type judged type.1)
 
 pub types_allowed : (taken : List (List ℕ)) (i : ℕ) (ds : Items) (ms : List (List ℕ × MemberType)) → ItemsAscend ds → AreEntries taken ds ms → entry_limits_from i ds ≡ Ok tt → AllByRecursion (λ m. IsConfigMember m.1) ms
 types_allowed taken i no_items [] ascends h limits = tt

@@ -1,5 +1,5 @@
 -- A members list or a structure as its rows say, which passes no limit, is one that the rules allow.
-use Rattle.std.proofs.Common.{◌≡◌, ℕ, ◌≤◌, true, false, List, [], length, All, Option, Some, None, Result, Ok, sym, ap, subst, ◌∙◌, arith}
+use Rattle.std.proofs.Common.{◌≡◌, ℕ, ◌≤◌, true, false, List, [], length, All, Option, Some, None, Ok, sym, ap, subst, ◌∙◌, arith}
 use Rattle.std.specs.Prelude.{codes, nat_le}
 use Rattle.std.specs.List.{IsDistinct, list_any}
 use Rattle.std.specs.Str.{bytes_eq}
@@ -13,13 +13,15 @@ use Rattle.ctf_types.specs.AllowedConfig.{IsConfigMember, AreConfigMembers, IsCo
 use Rattle.ctf_types.specs.Members.{names_in}
 use Rattle.ctf_types.specs.Names.{IsPlainName}
 use Rattle.ctf_types.specs.Shown.{shown_members}
-use Rattle.conf_tree.specs.Flaw.{Flaw, key}
-use Rattle.conf_tree.specs.Reading.{at, optional, optional_as, some_read, object_of, list_of}
-use Rattle.conf_fields.specs.Order.{Ascends, MembersAscend}
+use Rattle.conf_tree.specs.Reading.{◌>>=◌, optional_as, object_of, list_of}
+use Rattle.conf_tree.specs.Order.{Ascends, MembersAscend}
+use Rattle.conf_fields.specs.Judging.{judged_under}
+use Rattle.conf_fields.specs.IntType.{alignment_limit}
 use Rattle.conf_fields.specs.Members.{members_of, entry_limits_from, count_limit, members_limits}
-use Rattle.conf_fields.specs.StructType.{or_none, min_align_for, struct_of, listed_limits, struct_limits}
+use Rattle.conf_fields.specs.StructType.{or_none, min_align_for, struct_of, struct_limits}
 use Rattle.conf_fields.proofs.Ascending.{ascends_object, ascends_list, ascends_given}
-use Rattle.conf_values.proofs.Steps.{both_read, read_there, is_passed, same_value, given_read}
+use Rattle.conf_values.proofs.Steps.{both_read, is_passed, given_read}
+use Rattle.conf_fields.proofs.Judged.{where_kept, under_kept}
 use Rattle.conf_fields.proofs.AllowedLists.{types_allowed, members_counted}
 use Rattle.conf_fields.proofs.DistinctNames.{list_read, list_first}
 use Rattle.conf_fields.proofs.FieldRowLaws.{structure_says}
@@ -39,15 +41,14 @@ unfolding members_limits
 allowed_members taken d ms ascends e limits =
     let row = members_list_says taken d ms e in
     let ds = row.0 in
-    let es = both_read (list_of d) _ tt limits in
-    let same : es.0 ≡ ds = same_value es.0 ds _ es.1 row.1 in
-    let count = both_read (count_limit es.0) _ tt es.2 in
+    let kept = where_kept (list_of d) (λ l. count_limit l >>= (λ _. entry_limits_from 0 l)) ds (Ok tt) row.1 limits in
+    let count = both_read (count_limit ds) (λ _. entry_limits_from 0 ds) tt kept in
     let read = list_read taken [] taken ds ms (list_first taken) row.2 in
     record {
-      types = All-from_recursion (λ (m : List ℕ × MemberType). IsConfigMember m.1) ms (types_allowed taken 0 ds ms (ascends_list d ds row.1 ascends) row.2 (subst (λ l. entry_limits_from 0 l ≡ Ok tt) same count.2));
+      types = All-from_recursion (λ (m : List ℕ × MemberType). IsConfigMember m.1) ms (types_allowed taken 0 ds ms (ascends_list d ds row.1 ascends) row.2 count.2);
       names = read.1.names;
       distinct = read.1.distinct;
-      few = few_enough ds ms count.0 (subst (λ l. count_limit l ≡ Ok count.0) same count.1) (members_counted taken ds ms row.2);
+      few = few_enough ds ms count.0 count.1 (members_counted taken ds ms row.2);
     }
 
 -- no member has, or takes for its length, a name that was taken before
@@ -63,32 +64,19 @@ no_members_allowed = record { types = All-nil (λ m. IsConfigMember m.1); names 
 
 -- ---- structures
 
--- a property that is there is within its limits
-limits_there : (found : Option Data) (judges : Data → Result (Unit {0}) Flaw) (d : Data) (x : Option (Unit {0})) → some_read judges found ≡ Ok x → found ≡ Some d → judges d ≡ Ok tt
-limits_there None judges d x e is = absurd cc
-limits_there (Some f) judges d x e is = let read = both_read (judges f) _ x e in let same : f ≡ d = cc in subst (λ v. judges v ≡ Ok tt) same read.1
-
-pub listed_within : (name : List ℕ) (ms : Members) (d : Data) (x : Unit {0}) → listed_limits name ms ≡ Ok x → optional name ms ≡ Some d → members_limits d ≡ Ok tt
-unfolding optional_as
-listed_within name ms d x e there =
-    let read = both_read (optional_as name members_limits ms) _ x e in
-    read_there (key name) (members_limits d) tt (limits_there (optional name ms) (λ v. at (key name) (members_limits v)) d read.0 read.1 there)
-
-listed_allowed : (o : Option (List (List ℕ × MemberType))) (ms : Members) → MembersAscend ms → optional_as (codes "members") (members_of []) ms ≡ Ok o → listed_limits (codes "members") ms ≡ Ok tt → AreConfigMembers (or_none o)
+listed_allowed : (o : Option (List (List ℕ × MemberType))) (ms : Members) → MembersAscend ms → optional_as (codes "members") (members_of []) ms ≡ Ok o → judged_under (codes "members") members_limits ms ≡ Ok tt → AreConfigMembers (or_none o)
 listed_allowed None ms ascends e limits = no_members_allowed
 listed_allowed (Some l) ms ascends e limits =
     let read = given_read (codes "members") (members_of []) ms l e in
-    allowed_members [] read.0 l (ascends_given (codes "members") ms read.0 ascends read.1) read.2 (listed_within (codes "members") ms read.0 tt limits read.1)
+    allowed_members [] read.0 l (ascends_given (codes "members") ms read.0 ascends read.1) read.2 (under_kept (codes "members") members_limits ms read.0 tt limits read.1)
 
 pub allowed_struct : (d : Data) (s : StructType) → Ascends d → struct_of d ≡ Ok s → struct_limits d ≡ Ok tt → IsConfigStruct s
 unfolding struct_limits
 allowed_struct d s ascends e limits =
     let h = structure_says d s e in
-    let ms = both_read (object_of d) _ tt limits in
-    let same : ms.0 ≡ h.members = same_value ms.0 h.members _ ms.1 h.object_is in
-    let listed = both_read (listed_limits (codes "members") ms.0) _ tt ms.2 in
-    let within : listed_limits (codes "members") h.members ≡ Ok listed.0 = subst (λ l. listed_limits (codes "members") l ≡ Ok listed.0) same listed.1 in
-    let allowed = listed_allowed h.listed.0 h.members (ascends_object d h.members h.object_is ascends).1 h.listed.1 within in
+    let inner = where_kept (object_of d) (λ l. judged_under (codes "members") members_limits l >>= (λ _. judged_under (codes "minimum-alignment") alignment_limit l)) h.members (Ok tt) h.object_is limits in
+    let within = both_read (judged_under (codes "members") members_limits h.members) _ tt inner in
+    let allowed = listed_allowed h.listed.0 h.members (ascends_object d h.members h.object_is ascends).1 h.listed.1 within.1 in
     record {
       members = subst (λ l. AreConfigMembers l) (sym h.listed.2) allowed;
       empty = λ none. h.alignment.2 ∙ ap (λ l. min_align_for l h.alignment.0) none;

@@ -1,30 +1,13 @@
--- The entries of a map ascend by their names, and so do the members that they are seen as; what is found in a value with ascending names
--- has them too.
-use Rattle.std.proofs.Common.{◌≡◌, ℕ, List, [], ◌∷◌, Option, Some, None, Ok, Ordering, Less, Equal, Greater, string_cmp, string_bytes, nat_cmp, subst}
-use Rattle.std.specs.List.{AllByRecursion}
-use Rattle.std.specs.List.Sorted.{IsStrictlySortedBy}
-use Rattle.std.specs.Map.{keys_of}
-use Rattle.serde_json.specs.View.{members_view}
-use Rattle.serde_json.proofs.Views.{Entry}
+-- What is found in a value in which the names of each object ascend is such a value too.
+use Rattle.std.proofs.Common.{◌≡◌, ℕ, List, Option, Some, None, Ok, Ordering, Less, Equal, Greater, nat_cmp, subst}
 use Rattle.serde_json.specs.Data.{Data, null, boolean, number, string, array, object, Items, Members, no_members, member}
 use Rattle.serde_json.specs.Find.{get_member}
 use Rattle.std.specs.Ordering.{match_ordering}
 use Rattle.std.specs.Cmp.Lexicographic.{slice_cmp}
 use Rattle.conf_tree.specs.Reading.{needed, given, optional, object_of, list_of}
-use Rattle.conf_inherit.specs.Names.{AllAbove, IsInOrder}
-use Rattle.conf_fields.specs.Order.{Ascends, ItemsAscend, MembersAscend}
+use Rattle.conf_inherit.specs.Names.{IsInOrder}
+use Rattle.conf_tree.specs.Order.{Ascends, ItemsAscend, MembersAscend}
 use Rattle.conf_values.proofs.LeafFlawLaws.{found_there}
-
-above : (e : Entry) (es : List Entry) → AllByRecursion (λ k. string_cmp e.0 k ≡ Less) (keys_of es) → AllAbove (string_bytes e.0) (members_view es)
-above e [] h = tt
-above e (f ∷ es) h = (h.0, above e es h.1)
-
-pub in_order : (es : List Entry) → IsStrictlySortedBy string_cmp (keys_of es) → IsInOrder (members_view es)
-unfolding IsStrictlySortedBy
-in_order [] h = tt
-in_order (e ∷ es) h = (above e es h.0, in_order es h.1)
-
--- ---- what is found
 
 found_ascends : (o : Ordering) (found : Option Data) (e d : Data) → ((x : Data) → found ≡ Some x → Ascends x) → match_ordering o found (Some e) found ≡ Some d → Ascends e → Ascends d
 found_ascends Less found e d later is here = later d is

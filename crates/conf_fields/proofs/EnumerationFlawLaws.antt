@@ -13,12 +13,11 @@ use Rattle.conf_tree.specs.Flaw.{Flaw, key, index, here, within}
 use Rattle.conf_tree.specs.Reading.{at, wanted, object_of, list_of, whole_or_not, whole_of, needed}
 use Rattle.conf_tree.specs.Walk.{HasMember}
 use Rattle.conf_fields.specs.declared.enum_type.Span.{Span}
-use Rattle.conf_values.specs.declared.properties.ObjectKind.TheVariants as objects
 use Rattle.conf_values.specs.Property.{first_unknown, next, next_needed, no_more}
 use Rattle.conf_values.specs.Scalar.{is_printable}
 use Rattle.conf_values.specs.Words.{base_words}
 use Rattle.conf_fields.specs.IntType.{alignment_of, base_of, integer_of, size_of}
-use Rattle.conf_fields.specs.EnumType.{all_numbers, numbers_of, end_of, pair_of, range_of, is_inside, mapping_of, ranges_from, some_ranges, label_rule, label_from, labels_from, some_labels, mappings_of, size_in, numbers_in, enumeration, enum_parts, enum_of}
+use Rattle.conf_fields.specs.EnumType.{enumeration_place, all_numbers, numbers_of, end_of, pair_of, range_of, is_inside, mapping_of, ranges_from, some_ranges, label_rule, label_from, labels_from, some_labels, mappings_of, size_in, numbers_in, enumeration, enum_parts, enum_of}
 use Rattle.conf_values.specs.LeafFlaws.{IsNoNatural, IsNoWordOf, words_of}
 use Rattle.conf_fields.specs.FieldFlaws.{IsNoAlignment, IsWhole, IsNoEnd, IsRange, IsNoRange, IsNoRangeIn, IsNoLabel, IsNoMappings, IsNoEnumeration}
 use Rattle.conf_values.proofs.Steps.{both_read, read_there, same_value, is_passed}
@@ -241,23 +240,23 @@ mappings_refused signed ms d flaw e =
 
 -- ---- enumerations
 
-enumeration_walk : (signed : Bool) (ms : Members) (flaw : Flaw) → enum_parts (first_unknown objects.Enumeration ms) signed ms ≡ Err flaw → IsNoEnumeration signed ms flaw
+enumeration_walk : (signed : Bool) (ms : Members) (flaw : Flaw) → enum_parts (first_unknown (enumeration_place signed) ms) signed ms ≡ Err flaw → IsNoEnumeration signed ms flaw
 unfolding enum_parts
 enumeration_walk signed ms flaw e =
-    let u = first_unknown objects.Enumeration ms in
+    let u = first_unknown (enumeration_place signed) ms in
     let reads = mappings_of (numbers_in signed ms) in
     elim (refused_here_or_next (next u (codes "alignment") alignment_of ms) _ flaw e) [
-      | inl refused ↦ elim (next_refused objects.Enumeration (codes "alignment") alignment_of IsNoAlignment ms flaw alignment_refused refused) [ inl unknown ↦ IsNoEnumeration.unknown_property unknown | inr wrong ↦ IsNoEnumeration.wrong_alignment wrong ]
+      | inl refused ↦ elim (next_refused (enumeration_place signed) (codes "alignment") alignment_of IsNoAlignment ms flaw alignment_refused refused) [ inl unknown ↦ IsNoEnumeration.unknown_property unknown | inr wrong ↦ IsNoEnumeration.wrong_alignment wrong ]
       | inr (align, aligned, rest) ↦ elim (refused_here_or_next (next_needed u (codes "mappings") reads ms) _ flaw rest) [
-        | inl refused ↦ elim (next_needed_refused objects.Enumeration (codes "mappings") reads (IsNoMappings signed ms) ms flaw (mappings_refused signed ms) refused) [ inl unknown ↦ IsNoEnumeration.unknown_property unknown | inr wrong ↦ IsNoEnumeration.wrong_mappings wrong ]
+        | inl refused ↦ elim (next_needed_refused (enumeration_place signed) (codes "mappings") reads (IsNoMappings signed ms) ms flaw (mappings_refused signed ms) refused) [ inl unknown ↦ IsNoEnumeration.unknown_property unknown | inr wrong ↦ IsNoEnumeration.wrong_mappings wrong ]
         | inr (mappings, mapped, rest) ↦ elim (refused_here_or_next (next u (codes "preferred-display-base") base_of ms) _ flaw rest) [
-          | inl refused ↦ elim (next_refused objects.Enumeration (codes "preferred-display-base") base_of (IsNoWordOf (words_of base_words)) ms flaw base_refused refused) [ inl unknown ↦ IsNoEnumeration.unknown_property unknown | inr wrong ↦ IsNoEnumeration.wrong_base wrong ]
+          | inl refused ↦ elim (next_refused (enumeration_place signed) (codes "preferred-display-base") base_of (IsNoWordOf (words_of base_words)) ms flaw base_refused refused) [ inl unknown ↦ IsNoEnumeration.unknown_property unknown | inr wrong ↦ IsNoEnumeration.wrong_base wrong ]
           | inr (base, shown, rest) ↦ elim (refused_here_or_next (next_needed u (codes "size") size_of ms) _ flaw rest) [
-            | inl refused ↦ elim (next_needed_refused objects.Enumeration (codes "size") size_of (IsNoNatural 1 64) ms flaw size_refused refused) [ inl unknown ↦ IsNoEnumeration.unknown_property unknown | inr wrong ↦ IsNoEnumeration.wrong_size wrong ]
+            | inl refused ↦ elim (next_needed_refused (enumeration_place signed) (codes "size") size_of (IsNoNatural 1 64) ms flaw size_refused refused) [ inl unknown ↦ IsNoEnumeration.unknown_property unknown | inr wrong ↦ IsNoEnumeration.wrong_size wrong ]
             | inr (size, sized, rest) ↦ elim (refused_here_or_next (no_more u) _ flaw rest) [
-              | inl unknown ↦ IsNoEnumeration.unknown_property (no_more_refused objects.Enumeration ms flaw unknown)
+              | inl unknown ↦ IsNoEnumeration.unknown_property (no_more_refused (enumeration_place signed) ms flaw unknown)
               | inr (x, known, rest) ↦ elim (refused_here_or_next (integer_of size align signed base) _ flaw rest) [
-                | inl refused ↦ integer_after objects.Enumeration ms signed flaw size align base aligned sized refused
+                | inl refused ↦ integer_after (enumeration_place signed) ms signed flaw size align base aligned sized refused
                 | inr (t, made, never) ↦ none_refused (enumeration mappings t) flaw never
               ]
             ]

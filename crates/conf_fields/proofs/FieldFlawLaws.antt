@@ -19,7 +19,7 @@ use Rattle.ctf_types.specs.Shown.{length_name}
 use Rattle.conf_tree.specs.declared.fault_kind.FaultKind.TheVariants.{WrongKind, OutOfRange, NameClash, TooDeep}
 use Rattle.conf_tree.specs.Flaw.{Flaw, key, index, here, within}
 use Rattle.conf_tree.specs.Reading.{◌>>=◌, at, object_of, list_of, needed}
-use Rattle.conf_values.specs.declared.properties.ObjectKind.TheVariants as objects
+use Rattle.conf_table.specs.declared.place.Place.TheVariants as places
 use Rattle.conf_values.specs.declared.words.FieldClass.{FieldClass}
 use Rattle.conf_values.specs.declared.words.FieldClass.TheVariants.{UnsignedInteger, SignedInteger, UnsignedEnumeration, SignedEnumeration, Text, StaticArray, DynamicArray, Structure}
 use Rattle.conf_values.specs.Property.{first_unknown, next, next_needed, no_more}
@@ -55,24 +55,24 @@ array_told : (levels : ℕ) (d : Data) (ms : Members) (flaw : Flaw) → ((e : Da
     → IsOfClass StaticArray d ms → static_of (field_in levels) ms ≡ Err flaw → IsNoFieldWithin (suc levels) d flaw
 unfolding static_of
 array_told levels d ms flaw h is e =
-    let u = first_unknown objects.StaticArray ms in
+    let u = first_unknown places.StaticArray ms in
     elim (refused_here_or_next (needed (codes "element-field-type") ms) _ flaw e) [
       | inl missing ↦ IsNoFieldWithin.no_array ms is (IsNoStaticArray.no_element (lacks_refused (codes "element-field-type") ms flaw missing))
       | inr (found, there, rest) ↦ elim (refused_here_or_next (needed (codes "length") ms) _ flaw rest) [
         | inl missing ↦ IsNoFieldWithin.no_array ms is (IsNoStaticArray.wrong_length (inl (lacks_refused (codes "length") ms flaw missing)))
         | inr (counted, there_too, rest) ↦ elim (refused_here_or_next (next_needed u (codes "element-field-type") (field_in levels) ms) _ flaw rest) [
-          | inl refused ↦ elim (next_needed_refused objects.StaticArray (codes "element-field-type") (field_in levels) (IsNoFieldWithin levels) ms flaw h refused) [
+          | inl refused ↦ elim (next_needed_refused places.StaticArray (codes "element-field-type") (field_in levels) (IsNoFieldWithin levels) ms flaw h refused) [
             | inl unknown ↦ IsNoFieldWithin.no_array ms is (IsNoStaticArray.unknown_property unknown)
             | inr (inl missing) ↦ IsNoFieldWithin.no_array ms is (IsNoStaticArray.no_element missing)
             | inr (inr (v, f, held, wrong, same)) ↦ holds_of (IsNoFieldWithin (suc levels) d) (within (key (codes "element-field-type")) f) flaw same (IsNoFieldWithin.wrong_element ms v f is held wrong)
           ]
           | inr (element, went, rest) ↦ elim (refused_here_or_next (next_needed u (codes "length") (natural_of 0 1048576) ms) _ flaw rest) [
-            | inl refused ↦ elim (next_needed_refused objects.StaticArray (codes "length") (natural_of 0 1048576) (IsNoNatural 0 1048576) ms flaw (natural_refused 0 1048576) refused) [
+            | inl refused ↦ elim (next_needed_refused places.StaticArray (codes "length") (natural_of 0 1048576) (IsNoNatural 0 1048576) ms flaw (natural_refused 0 1048576) refused) [
               | inl unknown ↦ IsNoFieldWithin.no_array ms is (IsNoStaticArray.unknown_property unknown)
               | inr wrong ↦ IsNoFieldWithin.no_array ms is (IsNoStaticArray.wrong_length wrong)
             ]
             | inr (count, counted_well, rest) ↦ elim (refused_here_or_next (no_more u) _ flaw rest) [
-              | inl unknown ↦ IsNoFieldWithin.no_array ms is (IsNoStaticArray.unknown_property (no_more_refused objects.StaticArray ms flaw unknown))
+              | inl unknown ↦ IsNoFieldWithin.no_array ms is (IsNoStaticArray.unknown_property (no_more_refused places.StaticArray ms flaw unknown))
               | inr (x, known, never) ↦ none_refused (fields.Static (chain_of element) count) flaw never
             ]
           ]
@@ -102,8 +102,8 @@ plain_refused levels SignedInteger d ms flaw h is e = integer_told levels true d
 plain_refused levels UnsignedEnumeration d ms flaw h is e = enumeration_told levels false d ms flaw is e
 plain_refused levels SignedEnumeration d ms flaw h is e = enumeration_told levels true d ms flaw is e
 plain_refused levels Text d ms flaw h is e =
-    elim (refused_here_or_next (no_more (first_unknown objects.Str ms)) _ flaw e) [
-      | inl unknown ↦ IsNoFieldWithin.no_string ms is (no_more_refused objects.Str ms flaw unknown)
+    elim (refused_here_or_next (no_more (first_unknown places.Str ms)) _ flaw e) [
+      | inl unknown ↦ IsNoFieldWithin.no_string ms is (no_more_refused places.Str ms flaw unknown)
       | inr (x, known, never) ↦ none_refused fields.Str flaw never
     ]
 plain_refused levels StaticArray d ms flaw h is e = array_told levels d ms flaw h is e
@@ -175,16 +175,16 @@ element_refused d flaw e =
 pub dynamic_refused : (ms : Members) (flaw : Flaw) → dynamic_of ms ≡ Err flaw → IsNoDynamicArray ms flaw
 unfolding dynamic_of
 dynamic_refused ms flaw e =
-    let u = first_unknown objects.DynamicArray ms in
+    let u = first_unknown places.DynamicArray ms in
     elim (refused_here_or_next (needed (codes "element-field-type") ms) _ flaw e) [
       | inl missing ↦ IsNoDynamicArray.wrong_element (inl (lacks_refused (codes "element-field-type") ms flaw missing))
       | inr (d, there, rest) ↦ elim (refused_here_or_next (next_needed u (codes "element-field-type") element_of ms) _ flaw rest) [
-        | inl refused ↦ elim (next_needed_refused objects.DynamicArray (codes "element-field-type") element_of IsNoElement ms flaw element_refused refused) [
+        | inl refused ↦ elim (next_needed_refused places.DynamicArray (codes "element-field-type") element_of IsNoElement ms flaw element_refused refused) [
           | inl unknown ↦ IsNoDynamicArray.unknown_property unknown
           | inr wrong ↦ IsNoDynamicArray.wrong_element wrong
         ]
         | inr (element, went, rest) ↦ elim (refused_here_or_next (no_more u) _ flaw rest) [
-          | inl unknown ↦ IsNoDynamicArray.unknown_property (no_more_refused objects.DynamicArray ms flaw unknown)
+          | inl unknown ↦ IsNoDynamicArray.unknown_property (no_more_refused places.DynamicArray ms flaw unknown)
           | inr (x, known, never) ↦ none_refused (Dyn element Auto) flaw never
         ]
       ]
@@ -306,13 +306,13 @@ member_refused now taken name v flaw h e =
         | inl refused ↦ rules_refused now taken name v ms flaw h is refused
         | inr (x, free, rest) ↦ elim (refused_here_or_next (needed (codes "field-type") ms) _ flaw rest) [
           | inl missing ↦ IsNoMember.wrong_type ms is (inl (lacks_refused (codes "field-type") ms flaw missing))
-          | inr (d, found, rest) ↦ elim (refused_here_or_next (next_needed (first_unknown objects.Member ms) (codes "field-type") member_type_of ms) _ flaw rest) [
-            | inl refused ↦ elim (next_needed_refused objects.Member (codes "field-type") member_type_of IsNoMemberType ms flaw member_type_refused refused) [
+          | inr (d, found, rest) ↦ elim (refused_here_or_next (next_needed (first_unknown places.Member ms) (codes "field-type") member_type_of ms) _ flaw rest) [
+            | inl refused ↦ elim (next_needed_refused places.Member (codes "field-type") member_type_of IsNoMemberType ms flaw member_type_refused refused) [
               | inl unknown ↦ IsNoMember.unknown_property ms is unknown
               | inr wrong ↦ IsNoMember.wrong_type ms is wrong
             ]
-            | inr (t, read, rest) ↦ elim (refused_here_or_next (no_more (first_unknown objects.Member ms)) _ flaw rest) [
-              | inl unknown ↦ IsNoMember.unknown_property ms is (no_more_refused objects.Member ms flaw unknown)
+            | inr (t, read, rest) ↦ elim (refused_here_or_next (no_more (first_unknown places.Member ms)) _ flaw rest) [
+              | inl unknown ↦ IsNoMember.unknown_property ms is (no_more_refused places.Member ms flaw unknown)
               | inr (y, known, never) ↦ none_refused t flaw never
             ]
           ]
@@ -453,22 +453,22 @@ structure_goes members align flaw h e =
     let made : structure_of members align ≡ Ok t = structure_of-gives t members align refl refl in
     none_refused t flaw (sym made ∙ e)
 
-structure_walk : (d : Data) (ms : Members) (flaw : Flaw) → IsOfClass Structure d ms → struct_parts (first_unknown objects.Structure ms) ms ≡ Err flaw → IsNoStructure d flaw
+structure_walk : (d : Data) (ms : Members) (flaw : Flaw) → IsOfClass Structure d ms → struct_parts (first_unknown places.Structure ms) ms ≡ Err flaw → IsNoStructure d flaw
 unfolding struct_parts
 structure_walk d ms flaw is e =
-    let u = first_unknown objects.Structure ms in
+    let u = first_unknown places.Structure ms in
     elim (refused_here_or_next (next u (codes "members") (members_of []) ms) _ flaw e) [
-      | inl refused ↦ elim (next_refused objects.Structure (codes "members") (members_of []) (IsNoMembersList []) ms flaw (members_refused []) refused) [
+      | inl refused ↦ elim (next_refused places.Structure (codes "members") (members_of []) (IsNoMembersList []) ms flaw (members_refused []) refused) [
         | inl unknown ↦ IsNoStructure.unknown_property ms is unknown
         | inr wrong ↦ IsNoStructure.wrong_members ms is wrong
       ]
       | inr (members, read, rest) ↦ elim (refused_here_or_next (next u (codes "minimum-alignment") alignment_of ms) _ flaw rest) [
-        | inl refused ↦ elim (next_refused objects.Structure (codes "minimum-alignment") alignment_of IsNoAlignment ms flaw alignment_refused refused) [
+        | inl refused ↦ elim (next_refused places.Structure (codes "minimum-alignment") alignment_of IsNoAlignment ms flaw alignment_refused refused) [
           | inl unknown ↦ IsNoStructure.unknown_property ms is unknown
           | inr wrong ↦ IsNoStructure.wrong_alignment ms is wrong
         ]
         | inr (align, aligned, rest) ↦ elim (refused_here_or_next (no_more u) _ flaw rest) [
-          | inl unknown ↦ IsNoStructure.unknown_property ms is (no_more_refused objects.Structure ms flaw unknown)
+          | inl unknown ↦ IsNoStructure.unknown_property ms is (no_more_refused places.Structure ms flaw unknown)
           | inr (x, known, never) ↦ absurd (structure_goes members align flaw (positive_read (codes "minimum-alignment") ms align (next_read_there u (codes "minimum-alignment") alignment_of ms align aligned)) never)
         ]
       ]

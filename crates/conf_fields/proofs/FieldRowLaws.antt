@@ -13,13 +13,13 @@ use Rattle.ctf_types.specs.declared.StructType.{StructType}
 use Rattle.ctf_types.specs.FieldTypes.{chain_of}
 use Rattle.conf_tree.specs.Flaw.{Flaw}
 use Rattle.conf_tree.specs.Reading.{◌>>=◌, needed, needed_as, optional_as, object_of}
-use Rattle.conf_values.specs.declared.properties.ObjectKind.TheVariants as objects
+use Rattle.conf_table.specs.declared.place.Place.TheVariants as places
 use Rattle.conf_values.specs.declared.words.FieldClass.{FieldClass}
 use Rattle.conf_values.specs.declared.words.FieldClass.TheVariants.{UnsignedInteger, SignedInteger, UnsignedEnumeration, SignedEnumeration, Text, StaticArray, DynamicArray, Structure}
 use Rattle.conf_values.specs.Property.{first_unknown, next, next_needed, no_more}
 use Rattle.conf_values.specs.Scalar.{natural_of}
-use Rattle.conf_fields.specs.IntType.{align_or_default, alignment_of, base_of, size_of, integer_of, int_parts, int_of}
-use Rattle.conf_fields.specs.EnumType.{mappings_of, numbers_in, enumeration, enum_parts, enum_of}
+use Rattle.conf_fields.specs.IntType.{integer_place, align_or_default, alignment_of, base_of, size_of, integer_of, int_parts, int_of}
+use Rattle.conf_fields.specs.EnumType.{enumeration_place, mappings_of, numbers_in, enumeration, enum_parts, enum_of}
 use Rattle.conf_fields.specs.FieldType.{class_in, static_of}
 use Rattle.conf_fields.specs.MemberType.{element_of, dynamic_of, member_type_of}
 use Rattle.conf_fields.specs.Member.{name_rules, member_of}
@@ -31,10 +31,10 @@ use Rattle.conf_fields.proofs.TypeParts.{integer_of-gives, integer_of-parts, str
 
 -- ---- integers
 
-int_parts_rows : (signed : Bool) (ms : Members) (t : IntType) → int_parts (first_unknown objects.Integer ms) signed ms ≡ Ok t → IsIntegerObject signed ms t
+int_parts_rows : (signed : Bool) (ms : Members) (t : IntType) → int_parts (first_unknown (integer_place signed) ms) signed ms ≡ Ok t → IsIntegerObject signed ms t
 unfolding int_parts
 int_parts_rows signed ms t e =
-    let u = first_unknown objects.Integer ms in
+    let u = first_unknown (integer_place signed) ms in
     let align = both_read (next u (codes "alignment") alignment_of ms) _ t e in
     let base = both_read (next u (codes "preferred-display-base") base_of ms) _ t align.2 in
     let size = both_read (next_needed u (codes "size") size_of ms) _ t base.2 in
@@ -69,10 +69,10 @@ integer_read signed ms t h =
 
 -- ---- enumerations
 
-enum_parts_rows : (signed : Bool) (ms : Members) (t : EnumType) → enum_parts (first_unknown objects.Enumeration ms) signed ms ≡ Ok t → IsEnumerationObject signed ms t
+enum_parts_rows : (signed : Bool) (ms : Members) (t : EnumType) → enum_parts (first_unknown (enumeration_place signed) ms) signed ms ≡ Ok t → IsEnumerationObject signed ms t
 unfolding enum_parts
 enum_parts_rows signed ms t e =
-    let u = first_unknown objects.Enumeration ms in
+    let u = first_unknown (enumeration_place signed) ms in
     let align = both_read (next u (codes "alignment") alignment_of ms) _ t e in
     let mappings = both_read (next_needed u (codes "mappings") (mappings_of (numbers_in signed ms)) ms) _ t align.2 in
     let base = both_read (next u (codes "preferred-display-base") base_of ms) _ t mappings.2 in
@@ -120,7 +120,7 @@ enumeration_read signed ms t h =
 pub static_says : (reads : Data → Result FieldType Flaw) (ms : Members) (t : FieldType) → static_of reads ms ≡ Ok t → IsStaticArrayObject reads ms t
 unfolding static_of
 static_says reads ms t e =
-    let u = first_unknown objects.StaticArray ms in
+    let u = first_unknown places.StaticArray ms in
     let a = both_read (needed (codes "element-field-type") ms) _ t e in
     let b = both_read (needed (codes "length") ms) _ t a.2 in
     let element = both_read (next_needed u (codes "element-field-type") reads ms) _ t b.2 in
@@ -156,7 +156,7 @@ static_read_of reads ms t h =
 pub dynamic_says : (ms : Members) (m : MemberType) → dynamic_of ms ≡ Ok m → IsDynamicArrayObject ms m
 unfolding dynamic_of
 dynamic_says ms m e =
-    let u = first_unknown objects.DynamicArray ms in
+    let u = first_unknown places.DynamicArray ms in
     let a = both_read (needed (codes "element-field-type") ms) _ m e in
     let element = both_read (next_needed u (codes "element-field-type") element_of ms) _ m a.2 in
     let known = both_read (no_more u) _ m element.2 in
@@ -188,7 +188,7 @@ member_says taken name d m e =
     let ms = both_read (object_of d) _ m e in
     let rules = both_read (name_rules taken name ms.0) _ m ms.2 in
     let there = both_read (needed (codes "field-type") ms.0) _ m rules.2 in
-    let u = first_unknown objects.Member ms.0 in
+    let u = first_unknown places.Member ms.0 in
     let type = both_read (next_needed u (codes "field-type") member_type_of ms.0) _ m there.2 in
     let known = both_read (no_more u) _ m type.2 in
     record { members = ms.0; object_is = ms.1; known = none_unknown u known.0 known.1; names = rules.1; type_says = next_needed_read u (codes "field-type") member_type_of ms.0 type.0 type.1 ∙ known.2 }
@@ -210,14 +210,14 @@ member_read_of taken name d m h =
 
 -- what a structure's own properties are read as
 record StructureParts (ms : Members) (s : StructType) : Type 0 where
-  known : first_unknown objects.Structure ms ≡ None
+  known : first_unknown places.Structure ms ≡ None
   listed : (l : Option (List (List ℕ × MemberType))) × (optional_as (codes "members") (members_of []) ms ≡ Ok l) × (s.members ≡ or_none l)
   alignment : (a : Option ℕ) × (optional_as (codes "minimum-alignment") alignment_of ms ≡ Ok a) × (s.min_align ≡ min_align_for s.members a)
 
-struct_parts_rows : (ms : Members) (s : StructType) → struct_parts (first_unknown objects.Structure ms) ms ≡ Ok s → StructureParts ms s
+struct_parts_rows : (ms : Members) (s : StructType) → struct_parts (first_unknown places.Structure ms) ms ≡ Ok s → StructureParts ms s
 unfolding struct_parts structure_of
 struct_parts_rows ms s e =
-    let u = first_unknown objects.Structure ms in
+    let u = first_unknown places.Structure ms in
     let listed = both_read (next u (codes "members") (members_of []) ms) _ s e in
     let align = both_read (next u (codes "minimum-alignment") alignment_of ms) _ s listed.2 in
     let known = both_read (no_more u) _ s align.2 in

@@ -7,7 +7,7 @@ use Rattle.ctf_types.specs.declared.FieldType.TheVariants as fields
 use Rattle.ctf_types.specs.declared.MemberType.{MemberType}
 use Rattle.conf_tree.specs.Flaw.{Flaw, key, index}
 use Rattle.conf_tree.specs.Reading.{◌>>=◌, at, object_of, list_of}
-use Rattle.conf_values.specs.declared.properties.ObjectKind.TheVariants as objects
+use Rattle.conf_table.specs.declared.place.Place.TheVariants as places
 use Rattle.conf_values.specs.declared.words.FieldClass.{FieldClass}
 use Rattle.conf_values.specs.declared.words.FieldClass.TheVariants.{UnsignedInteger, SignedInteger, UnsignedEnumeration, SignedEnumeration, Text, StaticArray, DynamicArray, Structure}
 use Rattle.conf_fields.specs.EnumType.{enum_of}
@@ -29,12 +29,12 @@ module _ (reads : Data → Result FieldType Flaw) where
   plain_says SignedInteger ms t e = let i = both_read (int_of true ms) _ t e in (i.0, sym (ok_same (fields.Int i.0) t i.2), integer_says true ms i.0 i.1)
   plain_says UnsignedEnumeration ms t e = let i = both_read (enum_of false ms) _ t e in (i.0, sym (ok_same (fields.Enum i.0) t i.2), enumeration_says false ms i.0 i.1)
   plain_says SignedEnumeration ms t e = let i = both_read (enum_of true ms) _ t e in (i.0, sym (ok_same (fields.Enum i.0) t i.2), enumeration_says true ms i.0 i.1)
-  plain_says Text ms t e = let known = both_read (no_more (first_unknown objects.Str ms)) _ t e in (sym (ok_same fields.Str t known.2), none_unknown (first_unknown objects.Str ms) known.0 known.1)
+  plain_says Text ms t e = let known = both_read (no_more (first_unknown places.Str ms)) _ t e in (sym (ok_same fields.Str t known.2), none_unknown (first_unknown places.Str ms) known.0 known.1)
   plain_says StaticArray ms t e = static_says reads ms t e
   plain_says DynamicArray ms t e = absurd cc
   plain_says Structure ms t e = absurd cc
 
-  string_read : (ms : Members) → first_unknown objects.Str ms ≡ None → (no_more (first_unknown objects.Str ms) >>= (λ _. Ok fields.Str)) ≡ Ok fields.Str
+  string_read : (ms : Members) → first_unknown places.Str ms ≡ None → (no_more (first_unknown places.Str ms) >>= (λ _. Ok fields.Str)) ≡ Ok fields.Str
   string_read ms known = ap (λ u. no_more u >>= (λ _. Ok fields.Str)) known
 
   plain_read : (class : FieldClass) (ms : Members) (t : FieldType) → IsFieldOf reads class ms t → plain_of reads class ms ≡ Ok t

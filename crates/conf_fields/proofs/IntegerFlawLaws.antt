@@ -11,12 +11,11 @@ use Rattle.ctf_types.specs.Alignment.{IsAlignment}
 use Rattle.conf_tree.specs.declared.fault_kind.FaultKind.TheVariants.{OutOfRange}
 use Rattle.conf_tree.specs.Flaw.{Flaw, here}
 use Rattle.conf_tree.specs.Reading.{wanted, needed, needed_as, optional_as}
-use Rattle.conf_values.specs.declared.properties.ObjectKind.{ObjectKind}
-use Rattle.conf_values.specs.declared.properties.ObjectKind.TheVariants as objects
+use Rattle.conf_table.specs.declared.place.Place.{Place}
 use Rattle.conf_values.specs.Property.{first_unknown, next, next_needed, no_more}
 use Rattle.conf_values.specs.Scalar.{natural_in, natural_of}
 use Rattle.conf_values.specs.Words.{base_words}
-use Rattle.conf_fields.specs.IntType.{is_power_of_two, power_or_not, alignment_of, up_to_limit, base_of, align_or_default, base_or_default, integer_of, size_of, int_parts, int_of}
+use Rattle.conf_fields.specs.IntType.{integer_place, is_power_of_two, power_or_not, alignment_of, up_to_limit, base_of, align_or_default, base_or_default, integer_of, size_of, int_parts, int_of}
 use Rattle.conf_values.specs.LeafFlaws.{IsNoNatural, IsNoWordOf, words_of}
 use Rattle.conf_fields.specs.FieldFlaws.{IsPowerOfTwo, IsNoAlignment, IsNoInteger}
 use Rattle.conf_values.proofs.Steps.{both_read, needed_read, next_needed_read, given_read, next_read_there}
@@ -123,32 +122,32 @@ size_goes : (ms : Members) (n : ℕ) → needed_as (codes "size") size_of ms ≡
 size_goes ms n e = let d = needed_read (codes "size") size_of ms n e in (natural_low 1 64 d.0 n d.2, natural_high 1 64 d.0 n d.2)
 
 -- after the parts have been read, the integer is made of them
-pub integer_after : {P : Type 0} (kind : ObjectKind) (ms : Members) (signed : Bool) (flaw : Flaw) (size : ℕ) (align : Option ℕ) (base : Option Base)
-    → next (first_unknown kind ms) (codes "alignment") alignment_of ms ≡ Ok align → next_needed (first_unknown kind ms) (codes "size") size_of ms ≡ Ok size → integer_of size align signed base ≡ Err flaw → P
-integer_after kind ms signed flaw size align base aligned sized e =
-    let u = first_unknown kind ms in
+pub integer_after : {P : Type 0} (place : Place) (ms : Members) (signed : Bool) (flaw : Flaw) (size : ℕ) (align : Option ℕ) (base : Option Base)
+    → next (first_unknown place ms) (codes "alignment") alignment_of ms ≡ Ok align → next_needed (first_unknown place ms) (codes "size") size_of ms ≡ Ok size → integer_of size align signed base ≡ Err flaw → P
+integer_after place ms signed flaw size align base aligned sized e =
+    let u = first_unknown place ms in
     let fits = size_goes ms size (next_needed_read u (codes "size") size_of ms size sized) in
     absurd (integer_goes size align signed base flaw fits.0 fits.1 (positive_read (codes "alignment") ms align (next_read_there u (codes "alignment") alignment_of ms align aligned)) e)
 
-integer_walk : (signed : Bool) (ms : Members) (flaw : Flaw) → int_parts (first_unknown objects.Integer ms) signed ms ≡ Err flaw → IsNoInteger ms flaw
+integer_walk : (signed : Bool) (ms : Members) (flaw : Flaw) → int_parts (first_unknown (integer_place signed) ms) signed ms ≡ Err flaw → IsNoInteger signed ms flaw
 unfolding int_parts
 integer_walk signed ms flaw e =
-    let u = first_unknown objects.Integer ms in
+    let u = first_unknown (integer_place signed) ms in
     elim (refused_here_or_next (next u (codes "alignment") alignment_of ms) _ flaw e) [
-      | inl refused ↦ elim (next_refused objects.Integer (codes "alignment") alignment_of IsNoAlignment ms flaw alignment_refused refused) [ inl unknown ↦ IsNoInteger.unknown_property unknown | inr wrong ↦ IsNoInteger.wrong_alignment wrong ]
+      | inl refused ↦ elim (next_refused (integer_place signed) (codes "alignment") alignment_of IsNoAlignment ms flaw alignment_refused refused) [ inl unknown ↦ IsNoInteger.unknown_property unknown | inr wrong ↦ IsNoInteger.wrong_alignment wrong ]
       | inr (align, aligned, rest) ↦ elim (refused_here_or_next (next u (codes "preferred-display-base") base_of ms) _ flaw rest) [
-        | inl refused ↦ elim (next_refused objects.Integer (codes "preferred-display-base") base_of (IsNoWordOf (words_of base_words)) ms flaw base_refused refused) [ inl unknown ↦ IsNoInteger.unknown_property unknown | inr wrong ↦ IsNoInteger.wrong_base wrong ]
+        | inl refused ↦ elim (next_refused (integer_place signed) (codes "preferred-display-base") base_of (IsNoWordOf (words_of base_words)) ms flaw base_refused refused) [ inl unknown ↦ IsNoInteger.unknown_property unknown | inr wrong ↦ IsNoInteger.wrong_base wrong ]
         | inr (base, shown, rest) ↦ elim (refused_here_or_next (next_needed u (codes "size") size_of ms) _ flaw rest) [
-          | inl refused ↦ elim (next_needed_refused objects.Integer (codes "size") size_of (IsNoNatural 1 64) ms flaw size_refused refused) [ inl unknown ↦ IsNoInteger.unknown_property unknown | inr wrong ↦ IsNoInteger.wrong_size wrong ]
+          | inl refused ↦ elim (next_needed_refused (integer_place signed) (codes "size") size_of (IsNoNatural 1 64) ms flaw size_refused refused) [ inl unknown ↦ IsNoInteger.unknown_property unknown | inr wrong ↦ IsNoInteger.wrong_size wrong ]
           | inr (size, sized, rest) ↦ elim (refused_here_or_next (no_more u) _ flaw rest) [
-            | inl unknown ↦ IsNoInteger.unknown_property (no_more_refused objects.Integer ms flaw unknown)
-            | inr (x, known, rest) ↦ integer_after objects.Integer ms signed flaw size align base aligned sized rest
+            | inl unknown ↦ IsNoInteger.unknown_property (no_more_refused (integer_place signed) ms flaw unknown)
+            | inr (x, known, rest) ↦ integer_after (integer_place signed) ms signed flaw size align base aligned sized rest
           ]
         ]
       ]
     ]
 
-pub integer_refused : (signed : Bool) (ms : Members) (flaw : Flaw) → int_of signed ms ≡ Err flaw → IsNoInteger ms flaw
+pub integer_refused : (signed : Bool) (ms : Members) (flaw : Flaw) → int_of signed ms ≡ Err flaw → IsNoInteger signed ms flaw
 unfolding int_of
 integer_refused signed ms flaw e =
     elim (refused_here_or_next (needed (codes "size") ms) _ flaw e) [

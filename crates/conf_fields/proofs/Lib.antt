@@ -7,6 +7,7 @@ pub mod AllowedLists
 pub mod AllowedStructs
 pub mod DistinctNames
 pub mod Sizes
+pub mod Judged
 pub mod Taken
 pub mod TypeParts
 pub mod FieldRowLaws

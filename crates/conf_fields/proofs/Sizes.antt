@@ -31,12 +31,12 @@ pub labels_there : (es : List (String Global × Value)) → 0 < length es → so
 labels_there [] h = absurd (omega arith)
 labels_there (e ∷ es) h = refl
 
-items_len-view : (vs : List Value) → items_len (items_view vs) ≡ length vs
-items_len-view [] = refl
-items_len-view (v ∷ vs) = ap suc (items_len-view vs)
+pub items_counted : (vs : List Value) → items_len (items_view vs) ≡ length vs
+items_counted [] = refl
+items_counted (v ∷ vs) = ap suc (items_counted vs)
 
 pub count_within : (vs : List Value) → length vs ≤ 256 → count_limit (items_view vs) ≡ Ok tt
-count_within vs h = let small : nat_le (length vs) 256 ≡ true = grind (arith, nat_tests) in rw (items_len-view vs, small) refl
+count_within vs h = let small : nat_le (length vs) 256 ≡ true = grind (arith, nat_tests) in rw (items_counted vs, small) refl
 
 pub count_past : (vs : List Value) → 256 < length vs → count_limit (items_view vs) ≡ Err (here Limit)
-count_past vs h = let large : nat_le (length vs) 256 ≡ false = grind (arith, nat_tests) in rw (items_len-view vs, large) refl
+count_past vs h = let large : nat_le (length vs) 256 ≡ false = grind (arith, nat_tests) in rw (items_counted vs, large) refl

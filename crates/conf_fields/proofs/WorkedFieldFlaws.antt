@@ -7,8 +7,8 @@ use Rattle.serde_json.specs.Data.{Data, Members, number, string, array, object, 
 use Rattle.conf_tree.specs.Flaw.{Flaw, key, index, here, within}
 use Rattle.conf_tree.specs.Walk.{HasMember}
 use Rattle.conf_tree.specs.declared.fault_kind.FaultKind.TheVariants.{Missing, Unknown, OutOfRange, NameClash}
-use Rattle.conf_values.specs.declared.properties.ObjectKind.TheVariants as objects
-use Rattle.conf_values.specs.Property.{has_property, in_integer}
+use Rattle.conf_table.specs.declared.place.Place.TheVariants as places
+use Rattle.conf_table.specs.Table.{rows_of, has_property}
 use Rattle.conf_values.specs.Scalar.{natural_of}
 use Rattle.conf_fields.specs.FieldType.{class_of}
 use Rattle.conf_values.specs.LeafFlaws.{IsNoNatural}
@@ -18,16 +18,16 @@ abbrev num : ℕ → Data
 num n = number (unsigned n)
 
 -- `{"size": 65}`: out of range, at `size`
-size_65 : IsNoInteger (member (codes "size") (num 65) no_members) (within (key (codes "size")) (here OutOfRange))
+size_65 : IsNoInteger false (member (codes "size") (num 65) no_members) (within (key (codes "size")) (here OutOfRange))
 size_65 = IsNoInteger.wrong_size (inr (num 65, here OutOfRange, refl, IsNoNatural.too_large 65 refl (omega arith), refl))
 
 -- `{"aaa": 1, "size": 8}`: unknown, at `aaa`
-unknown_property : IsNoInteger (member (codes "aaa") (num 1) (member (codes "size") (num 8) no_members)) (within (key (codes "aaa")) (here Unknown))
-unfolding has_property in_integer
+unknown_property : IsNoInteger false (member (codes "aaa") (num 1) (member (codes "size") (num 8) no_members)) (within (key (codes "aaa")) (here Unknown))
+unfolding has_property rows_of
 unknown_property = IsNoInteger.unknown_property (codes "aaa", num 1, inl (refl, refl), refl, refl)
 
 -- `{}`: missing, at `size`
-no_size : IsNoInteger no_members (within (key (codes "size")) (here Missing))
+no_size : IsNoInteger false no_members (within (key (codes "size")) (here Missing))
 no_size = IsNoInteger.wrong_size (inl (refl, refl))
 
 -- 256 in an unsigned integer of 8 bits: out of range, at the second range of `A`
@@ -64,9 +64,9 @@ length_clash =
 
 -- ---- `{"size": 8}` has no flaw of an integer
 
-only_size : (k : List ℕ) (d : Data) → HasMember k d one_byte → has_property objects.Integer k ≡ true
-unfolding has_property in_integer
-only_size k d (inl (is, same)) = ap (λ n. has_property objects.Integer n) is
+only_size : (k : List ℕ) (d : Data) → HasMember k d one_byte → has_property places.UnsignedInteger k ≡ true
+unfolding has_property rows_of
+only_size k d (inl (is, same)) = ap (λ n. has_property places.UnsignedInteger n) is
 only_size k d (inr never) = absurd never
 
 fits : (d : Data) (f : Flaw) → num 8 ≡ d → ¬ IsNoNatural 1 64 d f
@@ -76,7 +76,7 @@ fits d f is (IsNoNatural.below_zero z found) = absurd cc
 fits d f is (IsNoNatural.too_small n found small) = let same : 8 ≡ n = cc in omega (arith, same, small)
 fits d f is (IsNoNatural.too_large n found large) = let same : 8 ≡ n = cc in omega (arith, same, large)
 
-sound_integer : (flaw : Flaw) → ¬ IsNoInteger one_byte flaw
+sound_integer : (flaw : Flaw) → ¬ IsNoInteger false one_byte flaw
 sound_integer flaw (IsNoInteger.unknown_property (k, d, there, unknown, is)) = true≢false (sym (only_size k d there) ∙ unknown)
 sound_integer flaw (IsNoInteger.wrong_size (inl (missing, is))) = absurd cc
 sound_integer flaw (IsNoInteger.wrong_size (inr (d, f, there, wrong, is))) = let same : num 8 ≡ d = cc in fits d f same wrong

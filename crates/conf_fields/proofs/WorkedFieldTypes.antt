@@ -6,10 +6,12 @@ use Rattle.ctf_types.specs.declared.IntType.{IntType}
 use Rattle.conf_tree.specs.Flaw.{Flaw, key, index}
 use Rattle.conf_tree.specs.Reading.{whole_of, optional_as}
 use Rattle.conf_tree.specs.declared.fault_kind.FaultKind.TheVariants.{WrongKind, Missing, Unknown, OutOfRange, ReservedName, NameClash, Limit}
-use Rattle.conf_values.specs.Property.{has_property, in_integer, next, next_needed}
+use Rattle.conf_table.specs.Table.{rows_of, has_property}
+use Rattle.conf_values.specs.Property.{next, next_needed}
 use Rattle.conf_values.specs.Scalar.{natural_of}
 use Rattle.conf_values.specs.Name.{name_of, is_reserved, plain_name_of}
-use Rattle.conf_fields.specs.IntType.{is_power_of_two, alignment_of, up_to_limit, alignment_limit, align_or_default, integer, integer_of, int_parts, int_of, alignment_limits}
+use Rattle.conf_fields.specs.Judging.{judged_under}
+use Rattle.conf_fields.specs.IntType.{is_power_of_two, alignment_of, up_to_limit, alignment_limit, align_or_default, integer, integer_of, int_parts, int_of}
 use Rattle.conf_fields.specs.EnumType.{numbers_of, pair_of, range_of, is_inside, mapping_of, label_from, mappings_of}
 use Rattle.conf_fields.specs.FieldType.{class_of, plain_of, field_in, field_of}
 use Rattle.conf_fields.specs.MemberType.{element_of, dynamic_of, member_type_of}
@@ -34,22 +36,22 @@ flaw_at name (Err f) = Err f
 
 -- `{"size": 16}`
 a_multiple_of_8 : flaw_at [] (int_of false (member (codes "size") (num 16) no_members)) ≡ Ok (16 ∷ 8 ∷ [])
-unfolding int_of int_parts next next_needed optional_as natural_of integer_of integer align_or_default has_property in_integer
+unfolding int_of int_parts next next_needed optional_as natural_of integer_of integer align_or_default has_property rows_of
 a_multiple_of_8 = refl
 
 -- `{"size": 5}`
 no_multiple_of_8 : flaw_at [] (int_of true (member (codes "size") (num 5) no_members)) ≡ Ok (5 ∷ 1 ∷ [])
-unfolding int_of int_parts next next_needed optional_as natural_of integer_of integer align_or_default has_property in_integer
+unfolding int_of int_parts next next_needed optional_as natural_of integer_of integer align_or_default has_property rows_of
 no_multiple_of_8 = refl
 
 -- `{"aaa": 1, "alignment": 3, "size": 65}`: the unknown property comes first
 unknown_first : int_of false (member (codes "aaa") (num 1) (member (codes "alignment") (num 3) (member (codes "size") (num 65) no_members))) ≡ Err (record { path = key (codes "aaa") ∷ []; kind = Unknown })
-unfolding int_of int_parts next next_needed optional_as natural_of integer_of integer align_or_default has_property in_integer
+unfolding int_of int_parts next next_needed optional_as natural_of integer_of integer align_or_default has_property rows_of
 unknown_first = refl
 
 -- `{"alignment": 3, "bbb": 1, "size": 65}`: the alignment
 alignment_first : int_of false (member (codes "alignment") (num 3) (member (codes "bbb") (num 1) (member (codes "size") (num 65) no_members))) ≡ Err (record { path = key (codes "alignment") ∷ []; kind = OutOfRange })
-unfolding int_of int_parts next next_needed optional_as natural_of alignment_of is_power_of_two integer_of integer align_or_default has_property in_integer
+unfolding int_of int_parts next next_needed optional_as natural_of alignment_of is_power_of_two integer_of integer align_or_default has_property rows_of
 alignment_first = refl
 
 -- `{"alignment": 3}`: what is missing comes before the properties
@@ -59,11 +61,11 @@ missing_first = refl
 
 -- an alignment past 4,096 is read as 4,096, and is past a limit
 past_the_limit : flaw_at [] (int_of false (member (codes "alignment") (num 8192) (member (codes "size") (num 8) no_members))) ≡ Ok (8 ∷ 4096 ∷ [])
-unfolding int_of int_parts next next_needed optional_as natural_of alignment_of is_power_of_two up_to_limit integer_of integer align_or_default has_property in_integer
+unfolding int_of int_parts next next_needed optional_as natural_of alignment_of is_power_of_two up_to_limit integer_of integer align_or_default has_property rows_of
 past_the_limit = refl
 
-limit_told : alignment_limits (codes "alignment") (member (codes "alignment") (num 8192) no_members) ≡ Err (record { path = key (codes "alignment") ∷ []; kind = Limit })
-unfolding alignment_limits alignment_limit optional_as natural_of alignment_of is_power_of_two
+limit_told : judged_under (codes "alignment") alignment_limit (member (codes "alignment") (num 8192) no_members) ≡ Err (record { path = key (codes "alignment") ∷ []; kind = Limit })
+unfolding alignment_limit optional_as
 limit_told = refl
 
 -- `{"OFF": [0], "ON": [[1, 3], 9]}` in an unsigned integer of 8 bits
@@ -88,12 +90,12 @@ entry name type = object (member name (object (member (codes "field-type") type 
 
 -- a dynamic array x and a member `__x_len`
 length_clash : members_of [] (array (item (entry (codes "x") bytes_type) (item (entry (codes "__x_len") byte_type) no_items))) ≡ Err (record { path = index 1 ∷ key (codes "__x_len") ∷ []; kind = NameClash })
-unfolding members_of next_entry entry_of member_named member_of name_rules class_told type_class plain_name_of name_of is_reserved is_identifier member_type_of dynamic_of element_of field_of field_in plain_of class_of int_of int_parts next next_needed optional_as natural_of integer_of integer align_or_default has_property in_integer
+unfolding members_of next_entry entry_of member_named member_of name_rules class_told type_class plain_name_of name_of is_reserved is_identifier member_type_of dynamic_of element_of field_of field_in plain_of class_of int_of int_parts next next_needed optional_as natural_of integer_of integer align_or_default has_property rows_of
 length_clash = refl
 
 -- and the other way round
 name_clash : members_of [] (array (item (entry (codes "__x_len") byte_type) (item (entry (codes "x") bytes_type) no_items))) ≡ Err (record { path = index 1 ∷ key (codes "x") ∷ []; kind = NameClash })
-unfolding members_of next_entry entry_of member_named member_of name_rules class_told type_class plain_name_of name_of is_reserved is_identifier member_type_of dynamic_of element_of field_of field_in plain_of class_of int_of int_parts next next_needed optional_as natural_of integer_of integer align_or_default has_property in_integer
+unfolding members_of next_entry entry_of member_named member_of name_rules class_told type_class plain_name_of name_of is_reserved is_identifier member_type_of dynamic_of element_of field_of field_in plain_of class_of int_of int_parts next next_needed optional_as natural_of integer_of integer align_or_default has_property rows_of
 name_clash = refl
 
 -- a reserved word, and a structure where a field type stands

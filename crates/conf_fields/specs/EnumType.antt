@@ -1,8 +1,10 @@
 -- How enumeration field types are read (barectf 3.1, "Enumeration field type objects"): an integer, and labels with lists of
 -- ranges, each a number or a pair of numbers with both in the range. There is one label and one range of each label at
 -- least; a range is inside the integer's numbers, and ranges may overlap. The mappings stand in the byte order of the labels.
-use Rattle.std.specs.Prelude.{ℕ, suc, ℤ, pos, negsuc, int_le, ◌&&◌, Bool, nat_le, if◌then◌else◌, List, [], ◌∷◌, ◌++◌, length, Option, Result, Ok, Err, codes, ⊤}
+use Rattle.std.specs.Prelude.{ℕ, suc, ◌+◌, ℤ, pos, negsuc, int_le, ◌&&◌, Bool, true, false, nat_le, if◌then◌else◌, List, [], ◌∷◌, ◌++◌, length, Option, Some, None, Result, Ok, Err, codes, ⊤}
 use Rattle.serde_json.specs.Data.{Data, null, boolean, number, string, array, object, Items, no_items, item, Members, no_members, member}
+use Rattle.serde_json.specs.Events.{items_len}
+use Rattle.serde_json.specs.Find.{as_array}
 use Rattle.ctf_types.specs.declared.IntType.{IntType}
 use Rattle.ctf_types.specs.declared.Mapping.{Mapping}
 use Rattle.ctf_types.specs.declared.EnumType.{EnumType}
@@ -11,9 +13,11 @@ use Rattle.conf_tree.specs.declared.fault_kind.FaultKind.TheVariants.{WrongKind,
 use Rattle.conf_tree.specs.Flaw.{Flaw, key, index, here, within}
 use Rattle.conf_tree.specs.Reading.{◌>>=◌, at, needed, needed_as, object_of, list_of, whole_of}
 use Rattle.conf_fields.specs.declared.enum_type.Span.{Span}
-use Rattle.conf_values.specs.declared.properties.ObjectKind.TheVariants.{Enumeration}
+use Rattle.conf_table.specs.declared.place.Place.{Place}
+use Rattle.conf_table.specs.declared.place.Place.TheVariants as places
 use Rattle.conf_values.specs.Property.{first_unknown, next, next_needed, no_more}
 use Rattle.conf_values.specs.Scalar.{is_printable}
+use Rattle.conf_fields.specs.Judging.{where_read, judged_under}
 use Rattle.conf_fields.specs.IntType.{alignment_of, base_of, size_of, integer_of, int_limits}
 
 -- ---- ranges
@@ -86,6 +90,10 @@ mappings_of numbers d = object_of d >>= (λ ms. some_labels ms >>= (λ _. labels
 
 -- ---- an object of an enumeration class
 
+abbrev pub enumeration_place : Bool → Place
+enumeration_place false = places.UnsignedEnumeration
+enumeration_place true = places.SignedEnumeration
+
 abbrev pub size_in : Members → Result ℕ Flaw
 size_in ms = needed_as (codes "size") size_of ms
 
@@ -106,7 +114,7 @@ enum_parts u signed ms = do
   integer_of size align signed base >>= (λ t. Ok (enumeration mappings t))
 
 unfoldable pub enum_of : Bool → Members → Result EnumType Flaw
-enum_of signed ms = needed (codes "mappings") ms >>= (λ _. needed (codes "size") ms >>= (λ _. enum_parts (first_unknown Enumeration ms) signed ms))
+enum_of signed ms = needed (codes "mappings") ms >>= (λ _. needed (codes "size") ms >>= (λ _. enum_parts (first_unknown (enumeration_place signed) ms) signed ms))
 
 -- ---- limits: 1,024 ranges, and 4,096 bytes of a label
 
@@ -114,11 +122,23 @@ abbrev pub label_limits : Members → Result ⊤ Flaw
 label_limits no_members = Ok tt
 label_limits (member k d ms) = if nat_le (length k) 4096 then label_limits ms else Err (within (key k) (here Limit))
 
-abbrev pub count_limit : List Mapping → Result ⊤ Flaw
-count_limit mappings = if nat_le (length mappings) 1024 then Ok tt else Err (here Limit)
+-- how many ranges a label has, and all labels together
+abbrev pub ranges_among : Option Items → ℕ
+ranges_among None = 0
+ranges_among (Some ranges) = items_len ranges
 
-unfoldable pub mapping_limits : Span → Data → Result ⊤ Flaw
-mapping_limits numbers d = mappings_of numbers d >>= count_limit >>= (λ _. object_of d >>= label_limits)
+abbrev pub ranges_in : Data → ℕ
+ranges_in d = ranges_among (as_array d)
 
-unfoldable pub enum_limits : Bool → Members → Result ⊤ Flaw
-enum_limits signed ms = int_limits ms >>= (λ _. needed_as (codes "mappings") (mapping_limits (numbers_in signed ms)) ms)
+abbrev pub ranges_of : Members → ℕ
+ranges_of no_members = 0
+ranges_of (member k d ms) = ranges_in d + ranges_of ms
+
+abbrev pub count_limit : Members → Result ⊤ Flaw
+count_limit labels = if nat_le (ranges_of labels) 1024 then Ok tt else Err (here Limit)
+
+unfoldable pub mapping_limits : Data → Result ⊤ Flaw
+mapping_limits d = where_read (object_of d) (λ labels. count_limit labels >>= (λ _. label_limits labels))
+
+unfoldable pub enum_limits : Members → Result ⊤ Flaw
+enum_limits ms = int_limits ms >>= (λ _. judged_under (codes "mappings") mapping_limits ms)

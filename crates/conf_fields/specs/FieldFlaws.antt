@@ -1,8 +1,8 @@
 -- How the objects that are field types are not as the rows of their tables say, and the flaw that tells of it: which row does
 -- not hold, and where in the object (barectf 3.1, "Field type objects"). Whatever such an object is refused with is one of these
 -- flaws; which of several comes first, the readings say.
-use Rattle.std.specs.Prelude.{◌≡◌, ◌≢◌, ◌⊎◌, ℕ, suc, ◌<◌, ◌^◌, ◌+◌, ℤ, pos, negsuc, ◌<ℤ◌, Bool, true, false, List, [], length, Contains, Some, None, Ok, codes}
-use Rattle.serde_json.specs.Data.{Data, array, Num, unsigned, Items, no_items, item, Members, no_members, member}
+use Rattle.std.specs.Prelude.{◌≡◌, ◌≢◌, ◌⊎◌, ℕ, suc, ◌<◌, ◌^◌, ℤ, pos, negsuc, ◌<ℤ◌, Bool, true, false, List, [], length, Contains, Some, None, Ok, codes}
+use Rattle.serde_json.specs.Data.{Data, Num, unsigned, Items, no_items, item, Members, no_members, member}
 use Rattle.serde_json.specs.Events.{items_len, members_len}
 use Rattle.serde_json.specs.Find.{get_member, get_item, as_object, as_array, as_number, as_integer}
 use Rattle.ctf_types.specs.declared.FieldType.{FieldType}
@@ -12,15 +12,17 @@ use Rattle.ctf_types.specs.FieldTypes.{chain_of}
 use Rattle.ctf_types.specs.Shown.{length_name}
 use Rattle.conf_tree.specs.declared.fault_kind.FaultKind.TheVariants.{WrongKind, OutOfRange, NameClash, TooDeep, Limit}
 use Rattle.conf_tree.specs.Flaw.{Flaw, key, index, here, within}
+use Rattle.conf_tree.specs.Reading.{optional}
 use Rattle.conf_tree.specs.Walk.{HasMember}
-use Rattle.conf_values.specs.declared.properties.ObjectKind.TheVariants as objects
+use Rattle.conf_table.specs.declared.place.Place.TheVariants as places
 use Rattle.conf_values.specs.declared.words.FieldClass.{FieldClass}
 use Rattle.conf_values.specs.declared.words.FieldClass.TheVariants as classes
 use Rattle.conf_values.specs.Words.{class_words, base_words}
-use Rattle.conf_fields.specs.IntType.{size_of}
+use Rattle.conf_fields.specs.IntType.{integer_place, size_of}
+use Rattle.conf_fields.specs.EnumType.{enumeration_place, ranges_of}
 use Rattle.conf_fields.specs.FieldType.{class_of, field_of}
 use Rattle.conf_fields.specs.FieldRows.{Says}
-use Rattle.conf_values.specs.Broken.{HasUnknown, Lacks, HasWrong, SaysNot, MaySayNot}
+use Rattle.conf_values.specs.Broken.{HasUnknown, Lacks, SaysNot, MaySayNot}
 use Rattle.conf_values.specs.LeafFlaws.{IsNoObject, IsNoList, IsNoNatural, IsNoWhole, IsNoWordOf, words_of, IsControl, IsNoPlainName}
 
 -- ---- alignments and classes
@@ -44,11 +46,11 @@ IsOfClass class d ms = (as_object d ≡ Some ms) × Says (codes "class") class_o
 -- ---- integers
 
 -- an object of an integer class that is no integer field type
-pub data IsNoInteger (ms : Members) : Flaw → Type 0 where
-  unknown_property : {flaw : Flaw} → HasUnknown objects.Integer ms flaw → IsNoInteger ms flaw
-  wrong_size : {flaw : Flaw} → SaysNot (codes "size") (IsNoNatural 1 64) ms flaw → IsNoInteger ms flaw
-  wrong_alignment : {flaw : Flaw} → MaySayNot (codes "alignment") IsNoAlignment ms flaw → IsNoInteger ms flaw
-  wrong_base : {flaw : Flaw} → MaySayNot (codes "preferred-display-base") (IsNoWordOf (words_of base_words)) ms flaw → IsNoInteger ms flaw
+pub data IsNoInteger (signed : Bool) (ms : Members) : Flaw → Type 0 where
+  unknown_property : {flaw : Flaw} → HasUnknown (integer_place signed) ms flaw → IsNoInteger signed ms flaw
+  wrong_size : {flaw : Flaw} → SaysNot (codes "size") (IsNoNatural 1 64) ms flaw → IsNoInteger signed ms flaw
+  wrong_alignment : {flaw : Flaw} → MaySayNot (codes "alignment") IsNoAlignment ms flaw → IsNoInteger signed ms flaw
+  wrong_base : {flaw : Flaw} → MaySayNot (codes "preferred-display-base") (IsNoWordOf (words_of base_words)) ms flaw → IsNoInteger signed ms flaw
 
 -- ---- enumerations
 
@@ -99,7 +101,7 @@ pub data IsNoMappings (signed : Bool) (ms : Members) (d : Data) : Flaw → Type 
 
 -- an object of an enumeration class that is no enumeration field type
 pub data IsNoEnumeration (signed : Bool) (ms : Members) : Flaw → Type 0 where
-  unknown_property : {flaw : Flaw} → HasUnknown objects.Enumeration ms flaw → IsNoEnumeration signed ms flaw
+  unknown_property : {flaw : Flaw} → HasUnknown (enumeration_place signed) ms flaw → IsNoEnumeration signed ms flaw
   wrong_size : {flaw : Flaw} → SaysNot (codes "size") (IsNoNatural 1 64) ms flaw → IsNoEnumeration signed ms flaw
   wrong_alignment : {flaw : Flaw} → MaySayNot (codes "alignment") IsNoAlignment ms flaw → IsNoEnumeration signed ms flaw
   wrong_base : {flaw : Flaw} → MaySayNot (codes "preferred-display-base") (IsNoWordOf (words_of base_words)) ms flaw → IsNoEnumeration signed ms flaw
@@ -117,7 +119,7 @@ enumeration_class true = classes.SignedEnumeration
 
 -- a static array, but for what its elements are
 pub data IsNoStaticArray (ms : Members) : Flaw → Type 0 where
-  unknown_property : {flaw : Flaw} → HasUnknown objects.StaticArray ms flaw → IsNoStaticArray ms flaw
+  unknown_property : {flaw : Flaw} → HasUnknown places.StaticArray ms flaw → IsNoStaticArray ms flaw
   no_element : {flaw : Flaw} → Lacks (codes "element-field-type") ms flaw → IsNoStaticArray ms flaw
   wrong_length : {flaw : Flaw} → SaysNot (codes "length") (IsNoNatural 0 1048576) ms flaw → IsNoStaticArray ms flaw
 
@@ -126,9 +128,9 @@ pub data IsNoFieldWithin : ℕ → Data → Flaw → Type 0 where
   too_deep : {d : Data} → IsNoFieldWithin 0 d (here TooDeep)
   no_object : {levels : ℕ} {d : Data} {flaw : Flaw} → IsNoObject d flaw → IsNoFieldWithin (suc levels) d flaw
   no_class : {levels : ℕ} {d : Data} {flaw : Flaw} (ms : Members) → as_object d ≡ Some ms → IsNoClass ms flaw → IsNoFieldWithin (suc levels) d flaw
-  no_integer : {levels : ℕ} {d : Data} {flaw : Flaw} (signed : Bool) (ms : Members) → IsOfClass (integer_class signed) d ms → IsNoInteger ms flaw → IsNoFieldWithin (suc levels) d flaw
+  no_integer : {levels : ℕ} {d : Data} {flaw : Flaw} (signed : Bool) (ms : Members) → IsOfClass (integer_class signed) d ms → IsNoInteger signed ms flaw → IsNoFieldWithin (suc levels) d flaw
   no_enumeration : {levels : ℕ} {d : Data} {flaw : Flaw} (signed : Bool) (ms : Members) → IsOfClass (enumeration_class signed) d ms → IsNoEnumeration signed ms flaw → IsNoFieldWithin (suc levels) d flaw
-  no_string : {levels : ℕ} {d : Data} {flaw : Flaw} (ms : Members) → IsOfClass classes.Text d ms → HasUnknown objects.Str ms flaw → IsNoFieldWithin (suc levels) d flaw
+  no_string : {levels : ℕ} {d : Data} {flaw : Flaw} (ms : Members) → IsOfClass classes.Text d ms → HasUnknown places.Str ms flaw → IsNoFieldWithin (suc levels) d flaw
   no_array : {levels : ℕ} {d : Data} {flaw : Flaw} (ms : Members) → IsOfClass classes.StaticArray d ms → IsNoStaticArray ms flaw → IsNoFieldWithin (suc levels) d flaw
   wrong_element : {levels : ℕ} {d : Data} (ms : Members) (e : Data) (flaw : Flaw) → IsOfClass classes.StaticArray d ms → get_member (codes "element-field-type") ms ≡ Some e → IsNoFieldWithin levels e flaw → IsNoFieldWithin (suc levels) d (within (key (codes "element-field-type")) flaw)
   a_dynamic_array : {levels : ℕ} {d : Data} (ms : Members) → IsOfClass classes.DynamicArray d ms → IsNoFieldWithin (suc levels) d (here WrongKind)
@@ -143,7 +145,7 @@ pub data IsNoUnsignedField (d : Data) : Flaw → Type 0 where
   no_object : {flaw : Flaw} → IsNoObject d flaw → IsNoUnsignedField d flaw
   no_class : {flaw : Flaw} (ms : Members) → as_object d ≡ Some ms → IsNoClass ms flaw → IsNoUnsignedField d flaw
   another_class : (class : FieldClass) (ms : Members) → IsOfClass class d ms → class ≢ classes.UnsignedInteger → IsNoUnsignedField d (here WrongKind)
-  no_integer : {flaw : Flaw} (ms : Members) → IsOfClass classes.UnsignedInteger d ms → IsNoInteger ms flaw → IsNoUnsignedField d flaw
+  no_integer : {flaw : Flaw} (ms : Members) → IsOfClass classes.UnsignedInteger d ms → IsNoInteger false ms flaw → IsNoUnsignedField d flaw
 
 -- no field type that has bits: none of its arrays is empty
 pub data IsNoElement (d : Data) : Flaw → Type 0 where
@@ -152,7 +154,7 @@ pub data IsNoElement (d : Data) : Flaw → Type 0 where
 
 -- an object of the class that is no dynamic array
 pub data IsNoDynamicArray (ms : Members) : Flaw → Type 0 where
-  unknown_property : {flaw : Flaw} → HasUnknown objects.DynamicArray ms flaw → IsNoDynamicArray ms flaw
+  unknown_property : {flaw : Flaw} → HasUnknown places.DynamicArray ms flaw → IsNoDynamicArray ms flaw
   wrong_element : {flaw : Flaw} → SaysNot (codes "element-field-type") IsNoElement ms flaw → IsNoDynamicArray ms flaw
 
 -- neither a dynamic array nor a field type
@@ -185,7 +187,7 @@ pub data IsNoMember (taken : List ℕ → Type 0) (name : List ℕ) (v : Data) :
   no_name : {flaw : Flaw} → IsNoPlainName name flaw → IsNoMember taken name v flaw
   name_clash : taken name → IsNoMember taken name v (here NameClash)
   length_clash : IsMemberOf classes.DynamicArray v → taken (length_name name) → IsNoMember taken name v (here NameClash)
-  unknown_property : {flaw : Flaw} (ms : Members) → as_object v ≡ Some ms → HasUnknown objects.Member ms flaw → IsNoMember taken name v flaw
+  unknown_property : {flaw : Flaw} (ms : Members) → as_object v ≡ Some ms → HasUnknown places.Member ms flaw → IsNoMember taken name v flaw
   wrong_type : {flaw : Flaw} (ms : Members) → as_object v ≡ Some ms → SaysNot (codes "field-type") IsNoMemberType ms flaw → IsNoMember taken name v flaw
 
 -- no entry of a members list
@@ -206,64 +208,49 @@ pub data IsNoStructure (d : Data) : Flaw → Type 0 where
   no_object : {flaw : Flaw} → IsNoObject d flaw → IsNoStructure d flaw
   no_class : {flaw : Flaw} (ms : Members) → as_object d ≡ Some ms → IsNoClass ms flaw → IsNoStructure d flaw
   another_class : (class : FieldClass) (ms : Members) → IsOfClass class d ms → class ≢ classes.Structure → IsNoStructure d (here WrongKind)
-  unknown_property : {flaw : Flaw} (ms : Members) → IsOfClass classes.Structure d ms → HasUnknown objects.Structure ms flaw → IsNoStructure d flaw
+  unknown_property : {flaw : Flaw} (ms : Members) → IsOfClass classes.Structure d ms → HasUnknown places.Structure ms flaw → IsNoStructure d flaw
   wrong_members : {flaw : Flaw} (ms : Members) → IsOfClass classes.Structure d ms → MaySayNot (codes "members") (IsNoMembersList []) ms flaw → IsNoStructure d flaw
   wrong_alignment : {flaw : Flaw} (ms : Members) → IsOfClass classes.Structure d ms → MaySayNot (codes "minimum-alignment") IsNoAlignment ms flaw → IsNoStructure d flaw
 
--- ---- limits, behind the rows of the tables
+-- ---- limits, whatever the rows of the tables say
 
 -- an alignment above 4,096
 pub data PassesAlignmentLimit (d : Data) : Flaw → Type 0 where
   too_large : (n : ℕ) → as_number d ≡ Some (unsigned n) → 4096 < n → PassesAlignmentLimit d (here Limit)
-
--- how many ranges a label has, and all labels together
-abbrev pub ranges_in : Data → ℕ
-ranges_in (array ds) = items_len ds
-ranges_in _ = 0
-
-abbrev pub ranges_of : Members → ℕ
-ranges_of no_members = 0
-ranges_of (member k d ms) = ranges_in d + ranges_of ms
 
 -- more than 1,024 ranges, or a label of more than 4,096 bytes
 pub data PassesMappingsLimit (d : Data) : Flaw → Type 0 where
   too_many_ranges : (labels : Members) → as_object d ≡ Some labels → 1024 < ranges_of labels → PassesMappingsLimit d (here Limit)
   long_label : (labels : Members) (label : List ℕ) (v : Data) → as_object d ≡ Some labels → HasMember label v labels → 4096 < length label → PassesMappingsLimit d (within (key label) (here Limit))
 
--- a limit of something that stands in a field type
-pub data PassesInnerLimit : Data → Flaw → Type 0 where
-  in_integer : {d : Data} {flaw : Flaw} (signed : Bool) (ms : Members) → IsOfClass (integer_class signed) d ms → MaySayNot (codes "alignment") PassesAlignmentLimit ms flaw → PassesInnerLimit d flaw
-  in_enumeration : {d : Data} {flaw : Flaw} (signed : Bool) (ms : Members) → IsOfClass (enumeration_class signed) d ms → MaySayNot (codes "alignment") PassesAlignmentLimit ms flaw → PassesInnerLimit d flaw
-  in_mappings : {d : Data} {flaw : Flaw} (signed : Bool) (ms : Members) → IsOfClass (enumeration_class signed) d ms → HasWrong (codes "mappings") PassesMappingsLimit ms flaw → PassesInnerLimit d flaw
-  in_element : {d : Data} (ms : Members) (e : Data) (flaw : Flaw) → IsOfClass classes.StaticArray d ms → get_member (codes "element-field-type") ms ≡ Some e → PassesInnerLimit e flaw → PassesInnerLimit d (within (key (codes "element-field-type")) flaw)
+-- a limit of something that stands in a field type, in which so many levels of objects may nest
+pub data PassesInnerLimit : ℕ → Data → Flaw → Type 0 where
+  in_integer : {levels : ℕ} {d : Data} {flaw : Flaw} (signed : Bool) (ms : Members) → IsOfClass (integer_class signed) d ms → MaySayNot (codes "alignment") PassesAlignmentLimit ms flaw → PassesInnerLimit (suc levels) d flaw
+  in_enumeration : {levels : ℕ} {d : Data} {flaw : Flaw} (signed : Bool) (ms : Members) → IsOfClass (enumeration_class signed) d ms → MaySayNot (codes "alignment") PassesAlignmentLimit ms flaw → PassesInnerLimit (suc levels) d flaw
+  in_mappings : {levels : ℕ} {d : Data} {flaw : Flaw} (signed : Bool) (ms : Members) → IsOfClass (enumeration_class signed) d ms → MaySayNot (codes "mappings") PassesMappingsLimit ms flaw → PassesInnerLimit (suc levels) d flaw
+  in_element : {levels : ℕ} {d : Data} (ms : Members) (e : Data) (flaw : Flaw) → IsOfClass classes.StaticArray d ms → optional (codes "element-field-type") ms ≡ Some e → PassesInnerLimit levels e flaw → PassesInnerLimit (suc levels) d (within (key (codes "element-field-type")) flaw)
 
--- no field type, or more than 8 static arrays in one another, or more than 2^20 elements in all, or a limit inside
+-- more than 8 static arrays in one another, or more than 2^20 elements in all, or a limit inside. A tree has 32 levels at most
 pub data PassesFieldLimit (d : Data) : Flaw → Type 0 where
-  no_field : {flaw : Flaw} → IsNoField d flaw → PassesFieldLimit d flaw
   too_many_arrays : (t : FieldType) → field_of d ≡ Ok t → 8 < length (chain_of t).lengths → PassesFieldLimit d (here Limit)
   too_many_elements : (t : FieldType) → field_of d ≡ Ok t → 2 ^ 20 < elements_of (chain_of t).lengths → PassesFieldLimit d (here Limit)
-  inside : {flaw : Flaw} → PassesInnerLimit d flaw → PassesFieldLimit d flaw
+  inside : {flaw : Flaw} → PassesInnerLimit 32 d flaw → PassesFieldLimit d flaw
 
 -- the element of a dynamic array has limits of its own
 pub data PassesMemberTypeLimit (d : Data) : Flaw → Type 0 where
-  no_member_type : {flaw : Flaw} → IsNoMemberType d flaw → PassesMemberTypeLimit d flaw
-  in_element : {flaw : Flaw} (ms : Members) → IsOfClass classes.DynamicArray d ms → SaysNot (codes "element-field-type") PassesFieldLimit ms flaw → PassesMemberTypeLimit d flaw
+  in_element : {flaw : Flaw} (ms : Members) → IsOfClass classes.DynamicArray d ms → MaySayNot (codes "element-field-type") PassesFieldLimit ms flaw → PassesMemberTypeLimit d flaw
   in_field : {flaw : Flaw} → ((ms : Members) → ¬ IsOfClass classes.DynamicArray d ms) → PassesFieldLimit d flaw → PassesMemberTypeLimit d flaw
 
--- no entry of a members list, whatever names are taken, or the limits of its member's type
+-- an entry of a members list, whose member's type passes a limit
 pub data PassesEntryLimit (d : Data) : Flaw → Type 0 where
-  no_entry : {flaw : Flaw} → IsNoEntry (λ name. ⊥) d flaw → PassesEntryLimit d flaw
-  in_type : (name : List ℕ) (v : Data) (ms : Members) (flaw : Flaw) → IsEntry d name v → as_object v ≡ Some ms → SaysNot (codes "field-type") PassesMemberTypeLimit ms flaw → PassesEntryLimit d (within (key name) flaw)
+  in_type : (name : List ℕ) (v : Data) (ms : Members) (flaw : Flaw) → IsEntry d name v → as_object v ≡ Some ms → MaySayNot (codes "field-type") PassesMemberTypeLimit ms flaw → PassesEntryLimit d (within (key name) flaw)
 
--- no list, more than 256 members, or a limit of one of them
+-- more than 256 members, or a limit of one of them
 pub data PassesMembersLimit (d : Data) : Flaw → Type 0 where
-  no_list : {flaw : Flaw} → IsNoList d flaw → PassesMembersLimit d flaw
   too_many_members : (ds : Items) → as_array d ≡ Some ds → 256 < items_len ds → PassesMembersLimit d (here Limit)
   in_entry : (ds : Items) (i : ℕ) (e : Data) (flaw : Flaw) → as_array d ≡ Some ds → get_item i ds ≡ Some e → PassesEntryLimit e flaw → PassesMembersLimit d (within (index i) flaw)
 
--- no object, no alignment, or a limit of the members or of the alignment
+-- a limit of the members of a structure, or of its alignment
 pub data PassesStructLimit (d : Data) : Flaw → Type 0 where
-  no_object : {flaw : Flaw} → IsNoObject d flaw → PassesStructLimit d flaw
-  no_alignment : {flaw : Flaw} (ms : Members) → as_object d ≡ Some ms → MaySayNot (codes "minimum-alignment") IsNoAlignment ms flaw → PassesStructLimit d flaw
   in_members : {flaw : Flaw} (ms : Members) → as_object d ≡ Some ms → MaySayNot (codes "members") PassesMembersLimit ms flaw → PassesStructLimit d flaw
   in_alignment : {flaw : Flaw} (ms : Members) → as_object d ≡ Some ms → MaySayNot (codes "minimum-alignment") PassesAlignmentLimit ms flaw → PassesStructLimit d flaw

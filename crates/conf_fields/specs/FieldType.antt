@@ -11,13 +11,14 @@ use Rattle.ctf_types.specs.FieldTypes.{chain_of}
 use Rattle.conf_tree.specs.declared.fault_kind.FaultKind.TheVariants.{WrongKind, TooDeep, Limit}
 use Rattle.conf_tree.specs.Flaw.{Flaw, here}
 use Rattle.conf_tree.specs.Reading.{◌>>=◌, needed, needed_as, object_of, text_of}
-use Rattle.conf_values.specs.declared.properties.ObjectKind.TheVariants as objects
+use Rattle.conf_table.specs.declared.place.Place.TheVariants as places
 use Rattle.conf_values.specs.declared.words.FieldClass.{FieldClass}
 use Rattle.conf_values.specs.declared.words.FieldClass.TheVariants.{UnsignedInteger, SignedInteger, UnsignedEnumeration, SignedEnumeration, Text, StaticArray, DynamicArray, Structure}
 use Rattle.conf_values.specs.Property.{first_unknown, next_needed, no_more}
 use Rattle.conf_values.specs.Scalar.{natural_of}
 use Rattle.conf_values.specs.Words.{word_in, class_words}
 use Rattle.conf_values.specs.Parts.{one_of}
+use Rattle.conf_fields.specs.Judging.{where_read, judged_under}
 use Rattle.conf_fields.specs.IntType.{int_of, int_limits}
 use Rattle.conf_fields.specs.EnumType.{enum_of, enum_limits}
 
@@ -36,9 +37,9 @@ unfoldable pub static_of : (Data → Result FieldType Flaw) → Members → Resu
 static_of reads ms = do
   _ ← needed (codes "element-field-type") ms
   _ ← needed (codes "length") ms
-  element ← next_needed (first_unknown objects.StaticArray ms) (codes "element-field-type") reads ms
-  count ← next_needed (first_unknown objects.StaticArray ms) (codes "length") (natural_of 0 1048576) ms
-  _ ← no_more (first_unknown objects.StaticArray ms)
+  element ← next_needed (first_unknown places.StaticArray ms) (codes "element-field-type") reads ms
+  count ← next_needed (first_unknown places.StaticArray ms) (codes "length") (natural_of 0 1048576) ms
+  _ ← no_more (first_unknown places.StaticArray ms)
   Ok (fields.Static (chain_of element) count)
 
 -- an object of this class, which is no structure and no dynamic array
@@ -47,7 +48,7 @@ plain_of reads UnsignedInteger ms = int_of false ms >>= (λ t. Ok (fields.Int t)
 plain_of reads SignedInteger ms = int_of true ms >>= (λ t. Ok (fields.Int t))
 plain_of reads UnsignedEnumeration ms = enum_of false ms >>= (λ t. Ok (fields.Enum t))
 plain_of reads SignedEnumeration ms = enum_of true ms >>= (λ t. Ok (fields.Enum t))
-plain_of reads Text ms = no_more (first_unknown objects.Str ms) >>= (λ _. Ok fields.Str)
+plain_of reads Text ms = no_more (first_unknown places.Str ms) >>= (λ _. Ok fields.Str)
 plain_of reads StaticArray ms = static_of reads ms
 plain_of reads DynamicArray ms = Err (here WrongKind)
 plain_of reads Structure ms = Err (here WrongKind)
@@ -82,17 +83,17 @@ nest_limit t = if nests (chain_of t).lengths then Ok tt else Err (here Limit)
 unfoldable pub plain_limits : (Data → Result ⊤ Flaw) → FieldClass → Members → Result ⊤ Flaw
 plain_limits judges UnsignedInteger ms = int_limits ms
 plain_limits judges SignedInteger ms = int_limits ms
-plain_limits judges UnsignedEnumeration ms = enum_limits false ms
-plain_limits judges SignedEnumeration ms = enum_limits true ms
+plain_limits judges UnsignedEnumeration ms = enum_limits ms
+plain_limits judges SignedEnumeration ms = enum_limits ms
 plain_limits judges Text ms = Ok tt
-plain_limits judges StaticArray ms = needed_as (codes "element-field-type") judges ms
+plain_limits judges StaticArray ms = judged_under (codes "element-field-type") judges ms
 plain_limits judges DynamicArray ms = Ok tt
 plain_limits judges Structure ms = Ok tt
 
 unfoldable pub inner_limits : ℕ → Data → Result ⊤ Flaw
 inner_limits zero d = Ok tt
-inner_limits (suc levels) d = object_of d >>= (λ ms. class_in ms >>= (λ class. plain_limits (inner_limits levels) class ms))
+inner_limits (suc levels) d = where_read (object_of d) (λ ms. where_read (class_in ms) (λ class. plain_limits (inner_limits levels) class ms))
 
 -- the outermost array is past a limit as a whole, and then what is in it
 unfoldable pub field_limits : Data → Result ⊤ Flaw
-field_limits d = field_of d >>= nest_limit >>= (λ _. inner_limits 32 d)
+field_limits d = where_read (field_of d) nest_limit >>= (λ _. inner_limits 32 d)

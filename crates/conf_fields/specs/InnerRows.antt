@@ -9,7 +9,7 @@ use Rattle.ctf_types.specs.declared.FieldType.TheVariants as fields
 use Rattle.ctf_types.specs.declared.MemberType.{MemberType}
 use Rattle.conf_tree.specs.Flaw.{Flaw}
 use Rattle.conf_tree.specs.Reading.{object_of, list_of}
-use Rattle.conf_values.specs.declared.properties.ObjectKind.TheVariants as objects
+use Rattle.conf_table.specs.declared.place.Place.TheVariants as places
 use Rattle.conf_values.specs.declared.words.FieldClass.{FieldClass}
 use Rattle.conf_values.specs.declared.words.FieldClass.TheVariants.{UnsignedInteger, SignedInteger, UnsignedEnumeration, SignedEnumeration, Text, StaticArray, DynamicArray, Structure}
 use Rattle.conf_fields.specs.FieldRows.{HasOnly, Says, IsIntegerObject, IsEnumerationObject, IsStaticArrayObject, IsMemberObject}
@@ -24,7 +24,7 @@ IsFieldOf reads UnsignedInteger ms t = (i : IntType) × (t ≡ fields.Int i) × 
 IsFieldOf reads SignedInteger ms t = (i : IntType) × (t ≡ fields.Int i) × IsIntegerObject true ms i
 IsFieldOf reads UnsignedEnumeration ms t = (e : EnumType) × (t ≡ fields.Enum e) × IsEnumerationObject false ms e
 IsFieldOf reads SignedEnumeration ms t = (e : EnumType) × (t ≡ fields.Enum e) × IsEnumerationObject true ms e
-IsFieldOf reads Text ms t = (t ≡ fields.Str) × HasOnly objects.Str ms
+IsFieldOf reads Text ms t = (t ≡ fields.Str) × HasOnly places.Str ms
 IsFieldOf reads StaticArray ms t = IsStaticArrayObject reads ms t
 IsFieldOf reads DynamicArray ms t = ⊥
 IsFieldOf reads Structure ms t = ⊥

@@ -1,20 +1,23 @@
 -- How integer field types are read (barectf 3.1, "Integer field type objects"): the size is needed, from 1 to 64 bits; the
 -- alignment is a power of two, by default 8 where the size is a multiple of 8, else 1; the display base is decimal by default.
 -- An alignment past the limit of 4,096 bits is read as 4,096: the limit is a fault that comes behind these.
-use Rattle.std.specs.Prelude.{ℕ, ◌%◌, ◌&&◌, Bool, ◌==◌, nat_lt, nat_le, if◌then◌else◌, List, Option, Some, None, Result, Ok, Err, codes, ⊤}
+use Rattle.std.specs.Prelude.{ℕ, ◌%◌, ◌&&◌, Bool, true, false, ◌==◌, nat_lt, nat_le, if◌then◌else◌, List, Option, Some, None, Result, Ok, Err, codes, ⊤}
 use Rattle.std.proofs.lemmas.Bool.{ltb-true, leb-true, eqb-true}
-use Rattle.serde_json.specs.Data.{Data, Members}
+use Rattle.serde_json.specs.Data.{Data, Num, unsigned, Members}
+use Rattle.serde_json.specs.Find.{as_number}
 use Rattle.ctf_types.specs.declared.Base.{Base}
 use Rattle.ctf_types.specs.declared.Base.TheVariants.{Dec}
 use Rattle.ctf_types.specs.declared.IntType.{IntType}
 use Rattle.conf_tree.specs.declared.fault_kind.FaultKind.TheVariants.{OutOfRange, Limit}
 use Rattle.conf_tree.specs.Flaw.{Flaw, here}
-use Rattle.conf_tree.specs.Reading.{◌>>=◌, needed, optional_as, text_of}
-use Rattle.conf_values.specs.declared.properties.ObjectKind.TheVariants.{Integer}
+use Rattle.conf_tree.specs.Reading.{◌>>=◌, needed, text_of}
+use Rattle.conf_table.specs.declared.place.Place.{Place}
+use Rattle.conf_table.specs.declared.place.Place.TheVariants as places
 use Rattle.conf_values.specs.Property.{first_unknown, next, next_needed, no_more}
 use Rattle.conf_values.specs.Scalar.{natural_of}
 use Rattle.conf_values.specs.Words.{word_in, base_words}
 use Rattle.conf_values.specs.Parts.{one_of, proved}
+use Rattle.conf_fields.specs.Judging.{judged_under}
 
 -- ---- alignments
 
@@ -37,8 +40,13 @@ is_within_limit n = 4096 % n == 0
 unfoldable pub up_to_limit : ℕ → ℕ
 up_to_limit n = if is_within_limit n then n else 4096
 
+-- no number above 4,096
+abbrev pub number_limit : Option Num → Result ⊤ Flaw
+number_limit (Some (unsigned n)) = if nat_le n 4096 then Ok tt else Err (here Limit)
+number_limit _ = Ok tt
+
 unfoldable pub alignment_limit : Data → Result ⊤ Flaw
-alignment_limit d = alignment_of d >>= (λ n. if is_within_limit n then Ok tt else Err (here Limit))
+alignment_limit d = number_limit (as_number d)
 
 -- ---- the other parts
 
@@ -74,6 +82,10 @@ integer_of size align signed base = one_of (integer size (align_or_default align
 
 -- ---- an object of an integer class
 
+abbrev pub integer_place : Bool → Place
+integer_place false = places.UnsignedInteger
+integer_place true = places.SignedInteger
+
 abbrev pub size_of : Data → Result ℕ Flaw
 size_of d = natural_of 1 64 d
 
@@ -87,11 +99,7 @@ int_parts u signed ms = do
   integer_of size align signed base
 
 unfoldable pub int_of : Bool → Members → Result IntType Flaw
-int_of signed ms = needed (codes "size") ms >>= (λ _. int_parts (first_unknown Integer ms) signed ms)
-
--- the limit of the alignment that a property is
-unfoldable pub alignment_limits : List ℕ → Members → Result ⊤ Flaw
-alignment_limits name ms = optional_as name alignment_limit ms >>= (λ _. Ok tt)
+int_of signed ms = needed (codes "size") ms >>= (λ _. int_parts (first_unknown (integer_place signed) ms) signed ms)
 
 abbrev pub int_limits : Members → Result ⊤ Flaw
-int_limits ms = alignment_limits (codes "alignment") ms
+int_limits ms = judged_under (codes "alignment") alignment_limit ms

@@ -1,4 +1,4 @@
-pub mod Order
+pub mod Judging
 pub mod IntType
 pub mod EnumType
 pub mod FieldType

@@ -11,10 +11,11 @@ use Rattle.ctf_types.specs.Shown.{length_name}
 use Rattle.conf_tree.specs.declared.fault_kind.FaultKind.TheVariants.{WrongKind, NameClash}
 use Rattle.conf_tree.specs.Flaw.{Flaw, key, here}
 use Rattle.conf_tree.specs.Reading.{◌>>=◌, at, needed, needed_as, object_of}
-use Rattle.conf_values.specs.declared.properties.ObjectKind.TheVariants as objects
+use Rattle.conf_table.specs.declared.place.Place.TheVariants as places
 use Rattle.conf_values.specs.declared.words.FieldClass.{FieldClass}
 use Rattle.conf_values.specs.Property.{first_unknown, next_needed, no_more}
 use Rattle.conf_values.specs.Name.{plain_name_of}
+use Rattle.conf_fields.specs.Judging.{where_read, judged_under}
 use Rattle.conf_fields.specs.FieldType.{class_in}
 use Rattle.conf_fields.specs.MemberType.{is_dynamic, member_type_of, member_type_limits}
 
@@ -57,8 +58,8 @@ member_of taken name d = do
   ms ← object_of d
   _ ← name_rules taken name ms
   _ ← needed (codes "field-type") ms
-  t ← next_needed (first_unknown objects.Member ms) (codes "field-type") member_type_of ms
-  _ ← no_more (first_unknown objects.Member ms)
+  t ← next_needed (first_unknown places.Member ms) (codes "field-type") member_type_of ms
+  _ ← no_more (first_unknown places.Member ms)
   Ok t
 
 abbrev pub single_of : {A : Type 0} → (List ℕ → Data → Result A Flaw) → Members → Result A Flaw
@@ -86,7 +87,12 @@ names_of (name, Dyn t (At i)) = name ∷ []
 -- ---- limits
 
 unfoldable pub value_limits : Data → Result ⊤ Flaw
-value_limits d = object_of d >>= needed_as (codes "field-type") member_type_limits
+value_limits d = where_read (object_of d) (judged_under (codes "field-type") member_type_limits)
+
+abbrev pub single_limits : Members → Result ⊤ Flaw
+single_limits no_members = Ok tt
+single_limits (member k d no_members) = at (key k) (value_limits d)
+single_limits (member k d (member l e ms)) = Ok tt
 
 unfoldable pub entry_limits : Data → Result ⊤ Flaw
-entry_limits d = object_of d >>= single_of (λ name value. value_limits value)
+entry_limits d = where_read (object_of d) single_limits

@@ -10,11 +10,12 @@ use Rattle.ctf_types.specs.declared.MemberType.TheVariants.{Plain, Dyn}
 use Rattle.ctf_types.specs.FieldTypes.{chain_of}
 use Rattle.conf_tree.specs.declared.fault_kind.FaultKind.TheVariants.{OutOfRange}
 use Rattle.conf_tree.specs.Flaw.{Flaw, here}
-use Rattle.conf_tree.specs.Reading.{◌>>=◌, needed, needed_as, object_of}
-use Rattle.conf_values.specs.declared.properties.ObjectKind.TheVariants as objects
+use Rattle.conf_tree.specs.Reading.{◌>>=◌, needed, object_of}
+use Rattle.conf_table.specs.declared.place.Place.TheVariants as places
 use Rattle.conf_values.specs.declared.words.FieldClass.{FieldClass}
 use Rattle.conf_values.specs.declared.words.FieldClass.TheVariants.{DynamicArray}
 use Rattle.conf_values.specs.Property.{first_unknown, next_needed, no_more}
+use Rattle.conf_fields.specs.Judging.{where_read, judged_under}
 use Rattle.conf_fields.specs.FieldType.{class_in, field_of, field_limits}
 
 abbrev pub is_dynamic : FieldClass → Bool
@@ -32,8 +33,8 @@ element_of d = field_of d >>= (λ t. if has_bits t then Ok t else Err (here OutO
 unfoldable pub dynamic_of : Members → Result MemberType Flaw
 dynamic_of ms = do
   _ ← needed (codes "element-field-type") ms
-  element ← next_needed (first_unknown objects.DynamicArray ms) (codes "element-field-type") element_of ms
-  _ ← no_more (first_unknown objects.DynamicArray ms)
+  element ← next_needed (first_unknown places.DynamicArray ms) (codes "element-field-type") element_of ms
+  _ ← no_more (first_unknown places.DynamicArray ms)
   Ok (Dyn element Auto)
 
 -- the value of a member's `field-type`
@@ -45,5 +46,5 @@ member_type_of d =
 -- its limits; the element of a dynamic array is a place of its own
 unfoldable pub member_type_limits : Data → Result ⊤ Flaw
 member_type_limits d =
-    object_of d >>= (λ ms. class_in ms >>= (λ class.
-    if is_dynamic class then needed_as (codes "element-field-type") field_limits ms else field_limits d))
+    where_read (object_of d) (λ ms. where_read (class_in ms) (λ class.
+    if is_dynamic class then judged_under (codes "element-field-type") field_limits ms else field_limits d))

@@ -8,6 +8,7 @@ use Rattle.conf_tree.specs.declared.fault_kind.FaultKind.TheVariants.{Limit}
 use Rattle.conf_tree.specs.Flaw.{Flaw, index, here}
 use Rattle.conf_tree.specs.Reading.{◌>>=◌, at, list_of}
 use Rattle.ctf_types.specs.Members.{names_in}
+use Rattle.conf_fields.specs.Judging.{where_read}
 use Rattle.conf_fields.specs.Member.{is_taken, entry_of, names_of, entry_limits}
 
 -- the members so far, and the names that they and others have taken
@@ -44,4 +45,4 @@ abbrev pub count_limit : Items → Result ⊤ Flaw
 count_limit ds = if nat_le (items_len ds) 256 then Ok tt else Err (here Limit)
 
 unfoldable pub members_limits : Data → Result ⊤ Flaw
-members_limits d = list_of d >>= (λ ds. count_limit ds >>= (λ _. entry_limits_from 0 ds))
+members_limits d = where_read (list_of d) (λ ds. count_limit ds >>= (λ _. entry_limits_from 0 ds))

@@ -1,19 +1,20 @@
 -- How structure field types are read, which stand at the places of payloads and contexts alone (barectf 3.1, "Structure field
 -- type object"): members and a minimum alignment, a power of two, by default 1. A structure without members aligns nothing.
-use Rattle.std.specs.Prelude.{ℕ, ◌%◌, ◌==◌, nat_lt, List, [], ◌∷◌, Option, Some, None, Result, Ok, Err, codes, ⊤}
+use Rattle.std.specs.Prelude.{ℕ, ◌%◌, ◌==◌, nat_lt, List, [], ◌∷◌, Option, Some, None, Result, Err, codes, ⊤}
 use Rattle.std.proofs.lemmas.Bool.{ltb-true, eqb-true}
 use Rattle.serde_json.specs.Data.{Data, Members}
 use Rattle.ctf_types.specs.declared.MemberType.{MemberType}
 use Rattle.ctf_types.specs.declared.StructType.{StructType}
 use Rattle.conf_tree.specs.declared.fault_kind.FaultKind.TheVariants.{WrongKind}
 use Rattle.conf_tree.specs.Flaw.{Flaw, here}
-use Rattle.conf_tree.specs.Reading.{◌>>=◌, optional_as, object_of}
-use Rattle.conf_values.specs.declared.properties.ObjectKind.TheVariants as objects
+use Rattle.conf_tree.specs.Reading.{◌>>=◌, object_of}
+use Rattle.conf_table.specs.declared.place.Place.TheVariants as places
 use Rattle.conf_values.specs.declared.words.FieldClass.{FieldClass}
 use Rattle.conf_values.specs.declared.words.FieldClass.TheVariants.{Structure}
 use Rattle.conf_values.specs.Property.{first_unknown, next, no_more}
 use Rattle.conf_values.specs.Parts.{one_of, proved}
-use Rattle.conf_fields.specs.IntType.{alignment_of, alignment_limits, up_to_limit}
+use Rattle.conf_fields.specs.Judging.{where_read, judged_under}
+use Rattle.conf_fields.specs.IntType.{alignment_of, alignment_limit, up_to_limit}
 use Rattle.conf_fields.specs.FieldType.{class_in}
 use Rattle.conf_fields.specs.Members.{members_of, members_limits}
 
@@ -45,15 +46,12 @@ struct_parts u ms = do
   structure_of members align
 
 abbrev pub struct_of_class : FieldClass → Members → Result StructType Flaw
-struct_of_class Structure ms = struct_parts (first_unknown objects.Structure ms) ms
+struct_of_class Structure ms = struct_parts (first_unknown places.Structure ms) ms
 struct_of_class _ ms = Err (here WrongKind)
 
 -- a structure at the place of a payload or a context
 unfoldable pub struct_of : Data → Result StructType Flaw
 struct_of d = object_of d >>= (λ ms. class_in ms >>= (λ class. struct_of_class class ms))
 
-abbrev pub listed_limits : List ℕ → Members → Result ⊤ Flaw
-listed_limits name ms = optional_as name members_limits ms >>= (λ _. Ok tt)
-
 unfoldable pub struct_limits : Data → Result ⊤ Flaw
-struct_limits d = object_of d >>= (λ ms. listed_limits (codes "members") ms >>= (λ _. alignment_limits (codes "minimum-alignment") ms))
+struct_limits d = where_read (object_of d) (λ ms. judged_under (codes "members") members_limits ms >>= (λ _. judged_under (codes "minimum-alignment") alignment_limit ms))

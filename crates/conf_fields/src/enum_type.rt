@@ -6,15 +6,16 @@ ghost use Rattle.serde_json.specs.View.{view, items_view, members_view};
 ghost use Rattle.conf_tree.specs.Flaw.{IsMemory, index as item};
 ghost use Rattle.conf_tree.specs.Reading.{Gives, at};
 ghost use Rattle.conf_values.specs.Property.{next_needed};
-ghost use Rattle.conf_fields.specs.EnumType.{numbers_of as numbers_of_size, end_of, pair_of, range_of, is_inside as is_inside_of, mapping_of, ranges_from, some_ranges, label_rule, label_from, labels_from, some_labels, mappings_of, numbers_in as numbers_in_of, enum_parts, enum_of, count_limit, label_limits, mapping_limits, enum_limits};
+ghost use Rattle.conf_fields.specs.EnumType.{numbers_of as numbers_of_size, end_of, pair_of, range_of, is_inside as is_inside_of, mapping_of, ranges_from, some_ranges, label_rule, label_from, labels_from, some_labels, mappings_of, numbers_in as numbers_in_of, enum_parts, enum_of, count_limit, label_limits, mapping_limits, enum_limits, enumeration_place as enumeration_place_of, ranges_in as ranges_in_of};
+ghost use Rattle.conf_fields.specs.Judging.{judged_under};
 
 use crate::int_type::{
     check_int_limits, integer, needed_size, next_alignment, next_base, next_size,
 };
+use conf_table::Place;
 use conf_tree::{At, ConfFault, FaultKind, needed};
 use conf_values::{
-    ObjectKind, copied, first_unknown, is_printable, list, needed_value, no_more, object, turn,
-    whole,
+    copied, first_unknown, is_printable, list, needed_value, no_more, object, property, turn, whole,
 };
 use ctf_types::{EnumType, ListOf, Mapping};
 use serde_json::{Map, Value};
@@ -308,6 +309,17 @@ fn read_enum_parts(
     Ok(EnumType { int, mappings })
 }
 
+/// The place of an enumeration field type.
+fn enumeration_place(signed: bool) -> Place
+    ensures { result ≡ enumeration_place_of signed }
+{
+    if signed {
+        Place::SignedEnumeration
+    } else {
+        Place::UnsignedEnumeration
+    }
+}
+
 /// The enumeration type that an object of an enumeration class is.
 #[tactic(auto, unfolding(crate::specs::EnumType::enum_of))]
 pub(crate) fn read_enum(
@@ -321,7 +333,7 @@ pub(crate) fn read_enum(
 {
     needed(alloc, members, "mappings")?;
     needed(alloc, members, "size")?;
-    let unknown = first_unknown(members, ObjectKind::Enumeration);
+    let unknown = first_unknown(members, enumeration_place(signed));
     read_enum_parts(alloc, unknown, signed, members)
 }
 
@@ -337,44 +349,74 @@ fn check_label_limits(alloc: Global, members: &Map<String, Value>) -> Result<(),
     Ok(())
 }
 
-fn check_count(mappings: &ListOf<Mapping>) -> Result<(), ConfFault>
-    ensures reading { Gives (λ _. tt) result (count_limit mappings.now) }
-    ensures steps { IfErr result (λ fault. array_vec_len fault.path ≡ 0) }
+/// The number of ranges that the value of a label has.
+#[tactic(auto, using(crate::proofs::Sizes::items_counted))]
+fn ranges_in(value: &Value) -> usize
+    ensures { result ≡ ranges_in_of (view value.now) }
 {
-    if mappings.len() <= MAX_RANGES {
-        Ok(())
-    } else {
-        Err(ConfFault::here(FaultKind::Limit))
+    match value.as_array() {
+        Some(ranges) => ranges.len(),
+        None => 0,
     }
 }
 
+fn check_count(labels: &Map<String, Value>) -> Result<(), ConfFault>
+    ensures reading { Gives (λ _. tt) result (count_limit (members_view labels.now.entries)) }
+    ensures steps { IfErr result (λ fault. array_vec_len fault.path ≡ 0) }
+{
+    let mut left = MAX_RANGES;
+    for (_label, value) in labels.iter() {
+        let count = ranges_in(value);
+        if count > left {
+            return Err(ConfFault::here(FaultKind::Limit));
+        }
+        left -= count;
+    }
+    Ok(())
+}
+
 #[tactic(auto, unfolding(crate::specs::EnumType::mapping_limits))]
-fn check_mapping_limits(alloc: Global, numbers: Span, value: &Value) -> Result<(), ConfFault>
-    requires nested { depth (view value.now) ≤ 32 }
-    ensures reading { Gives (λ _. tt) result (mapping_limits numbers (view value.now)) }
+fn check_mapping_limits(alloc: Global, value: &Value) -> Result<(), ConfFault>
+    ensures reading { Gives (λ _. tt) result (mapping_limits (view value.now)) }
     ensures steps { IfErr result (λ fault. array_vec_len fault.path ≤ depth (view value.now)) }
 {
-    let mappings = read_mappings(alloc, numbers, value)?;
-    check_count(&mappings)?;
-    check_label_limits(alloc, object(value)?)
+    let Value::Object(labels) = value else {
+        return Ok(());
+    };
+    check_count(labels)?;
+    check_label_limits(alloc, labels)
+}
+
+/// Refuses the property `name` where it has too many ranges or too long a label.
+#[tactic(auto, unfolding(conf_tree::specs::Reading::optional_as))]
+fn check_mappings_limits(
+    alloc: Global,
+    members: &Map<String, Value>,
+    name: &str,
+) -> Result<(), ConfFault>
+    requires nested { members_depth (members_view members.now.entries) < 32 }
+    ensures reading { Gives (λ _. tt) result (judged_under name.now mapping_limits (members_view members.now.entries)) }
+    ensures steps { IfErr result (λ fault. array_vec_len fault.path ≤ members_depth (members_view members.now.entries) + 1) }
+{
+    match property(members, name) {
+        None => Ok(()),
+        Some(value) => match check_mapping_limits(alloc, value) {
+            Ok(()) => Ok(()),
+            Err(fault) => Err(fault.in_property(alloc, name)),
+        },
+    }
 }
 
 /// Refuses an enumeration whose alignment, ranges or labels are past a limit.
 #[tactic(auto, unfolding(crate::specs::EnumType::enum_limits))]
 pub(crate) fn check_enum_limits(
     alloc: Global,
-    signed: bool,
     members: &Map<String, Value>,
 ) -> Result<(), ConfFault>
     requires nested { members_depth (members_view members.now.entries) < 32 }
-    ensures reading { Gives (λ _. tt) result (enum_limits signed (members_view members.now.entries)) }
+    ensures reading { Gives (λ _. tt) result (enum_limits (members_view members.now.entries)) }
     ensures steps { IfErr result (λ fault. array_vec_len fault.path ≤ members_depth (members_view members.now.entries) + 1) }
 {
-    let numbers = numbers_in(alloc, signed, members)?;
     check_int_limits(alloc, members)?;
-    let value = needed_value(alloc, members, "mappings")?;
-    match check_mapping_limits(alloc, numbers, value) {
-        Ok(()) => Ok(()),
-        Err(fault) => Err(fault.in_property(alloc, "mappings")),
-    }
+    check_mappings_limits(alloc, members, "mappings")
 }

@@ -1,21 +1,24 @@
 //! Field types of a configuration that may stand anywhere in a structure.
-ghost use Rattle.std.specs.Prelude.{◌≡◌, ◌+◌, ◌<◌, ◌≤◌, IfErr, SomeIff, nat_le, length as length_of, option_map};
+ghost use Rattle.std.specs.Prelude.{◌≡◌, ◌+◌, ◌<◌, ◌≤◌, IfOk, IfErr, SomeIff, nat_le, length as length_of, option_map};
 ghost use Rattle.arrayvec.specs.ArrayVec.{array_vec_len};
 ghost use Rattle.serde_json.specs.Data.{depth, members_depth};
 ghost use Rattle.serde_json.specs.View.{view, members_view};
 ghost use Rattle.ctf_types.specs.Allowed.{elements_of};
 ghost use Rattle.ctf_types.specs.FieldTypes.{chain_of};
-ghost use Rattle.conf_tree.specs.Reading.{Gives, needed_as};
+ghost use Rattle.conf_tree.specs.Flaw.{IsMemory};
+ghost use Rattle.conf_tree.specs.Reading.{Gives};
 ghost use Rattle.conf_values.specs.Property.{next_needed};
 ghost use Rattle.conf_values.specs.Scalar.{natural_of};
+ghost use Rattle.conf_fields.specs.Judging.{judged_under};
 ghost use Rattle.conf_fields.specs.FieldType.{class_of, class_in, static_of, plain_of, field_in, field_of, unsigned_of, unsigned_field_of, nest_limit, inner_limits, plain_limits, field_limits};
 
 use crate::enum_type::{check_enum_limits, read_enum};
 use crate::int_type::{check_int_limits, read_int};
+use conf_table::Place;
 use conf_tree::{ConfFault, FaultKind, MAX_STEPS, needed};
 use conf_values::{
-    FieldClass, ObjectKind, class_word, first_unknown, natural, needed_value, no_more, object,
-    text, turn,
+    FieldClass, class_word, first_unknown, natural, needed_value, no_more, object, property, text,
+    turn,
 };
 use ctf_types::{Element, FieldType, IntType};
 use serde_json::{Map, Value};
@@ -111,7 +114,7 @@ fn read_plain(
         FieldClass::UnsignedEnumeration => Ok(FieldType::Enum(read_enum(alloc, false, members)?)),
         FieldClass::SignedEnumeration => Ok(FieldType::Enum(read_enum(alloc, true, members)?)),
         FieldClass::Text => {
-            no_more(alloc, first_unknown(members, ObjectKind::Str))?;
+            no_more(alloc, first_unknown(members, Place::Str))?;
             Ok(FieldType::Str)
         }
         FieldClass::StaticArray => read_static(alloc, members, levels),
@@ -135,7 +138,7 @@ fn read_static(
 {
     needed(alloc, members, "element-field-type")?;
     needed(alloc, members, "length")?;
-    let unknown = first_unknown(members, ObjectKind::StaticArray);
+    let unknown = first_unknown(members, Place::StaticArray);
     let element = next_element(alloc, members, unknown, "element-field-type", levels)?;
     let length = next_length(alloc, members, unknown, "length")?;
     no_more(alloc, unknown)?;
@@ -238,6 +241,19 @@ fn elements(field: &FieldType) -> Option<u64>
     }
 }
 
+/// What could not be read passes no limit; want of memory stays a fault.
+pub(crate) fn only_memory(fault: ConfFault) -> Result<(), ConfFault>
+    ensures memory { IfErr result IsMemory }
+    ensures read { IfOk result (λ _. IsMemory fault → ⊥) }
+    ensures steps { IfErr result (λ same. array_vec_len same.path ≡ 0) }
+{
+    if fault.is_memory() {
+        Err(fault)
+    } else {
+        Ok(())
+    }
+}
+
 /// Refuses static arrays that nest too deep or have too many elements in all.
 fn check_nest_limit(field: &FieldType) -> Result<(), ConfFault>
     ensures reading { Gives (λ _. tt) result (nest_limit field.now) }
@@ -258,12 +274,16 @@ fn check_inner_limits(alloc: Global, value: &Value, levels: usize) -> Result<(),
     ensures reading { Gives (λ _. tt) result (inner_limits levels (view value.now)) }
     ensures steps { IfErr result (λ fault. array_vec_len fault.path ≤ depth (view value.now)) }
 {
+    let Value::Object(members) = value else {
+        return Ok(());
+    };
     if levels == 0 {
         return Ok(());
     }
-    let members = object(value)?;
-    let class = read_class(alloc, members)?;
-    check_plain_limits(alloc, class, members, levels - 1)
+    match read_class(alloc, members) {
+        Ok(class) => check_plain_limits(alloc, class, members, levels - 1),
+        Err(fault) => only_memory(fault),
+    }
 }
 
 #[cycle(limits)]
@@ -280,8 +300,9 @@ fn check_plain_limits(
 {
     match class {
         FieldClass::UnsignedInteger | FieldClass::SignedInteger => check_int_limits(alloc, members),
-        FieldClass::UnsignedEnumeration => check_enum_limits(alloc, false, members),
-        FieldClass::SignedEnumeration => check_enum_limits(alloc, true, members),
+        FieldClass::UnsignedEnumeration | FieldClass::SignedEnumeration => {
+            check_enum_limits(alloc, members)
+        }
         FieldClass::StaticArray => {
             check_element_limits(alloc, members, "element-field-type", levels)
         }
@@ -290,6 +311,7 @@ fn check_plain_limits(
 }
 
 #[cycle(limits)]
+#[tactic(auto, unfolding(conf_tree::specs::Reading::optional_as))]
 fn check_element_limits(
     alloc: Global,
     members: &Map<String, Value>,
@@ -297,13 +319,15 @@ fn check_element_limits(
     levels: usize,
 ) -> Result<(), ConfFault>
     requires nested { members_depth (members_view members.now.entries) < 32 }
-    ensures reading { Gives (λ _. tt) result (needed_as name.now (inner_limits levels) (members_view members.now.entries)) }
+    ensures reading { Gives (λ _. tt) result (judged_under name.now (inner_limits levels) (members_view members.now.entries)) }
     ensures steps { IfErr result (λ fault. array_vec_len fault.path ≤ members_depth (members_view members.now.entries) + 1) }
 {
-    let value = needed_value(alloc, members, name)?;
-    match check_inner_limits(alloc, value, levels) {
-        Ok(()) => Ok(()),
-        Err(fault) => Err(fault.in_property(alloc, name)),
+    match property(members, name) {
+        None => Ok(()),
+        Some(value) => match check_inner_limits(alloc, value, levels) {
+            Ok(()) => Ok(()),
+            Err(fault) => Err(fault.in_property(alloc, name)),
+        },
     }
 }
 
@@ -314,7 +338,9 @@ pub fn check_field_limits(alloc: Global, value: &Value) -> Result<(), ConfFault>
     ensures reading { Gives (λ _. tt) result (field_limits (view value.now)) }
     ensures steps { IfErr result (λ fault. array_vec_len fault.path ≤ depth (view value.now)) }
 {
-    let field = read_field(alloc, value)?;
-    check_nest_limit(&field)?;
+    match read_field(alloc, value) {
+        Ok(field) => check_nest_limit(&field)?,
+        Err(fault) => only_memory(fault)?,
+    }
     check_inner_limits(alloc, value, MAX_STEPS)
 }

@@ -4,10 +4,12 @@ ghost use Rattle.arrayvec.specs.ArrayVec.{array_vec_len};
 ghost use Rattle.serde_json.specs.View.{view, members_view};
 ghost use Rattle.conf_tree.specs.Reading.{Gives, needed_as};
 ghost use Rattle.conf_values.specs.Property.{next, next_needed};
-ghost use Rattle.conf_fields.specs.IntType.{is_power_of_two as is_power_of_two_of, is_within_limit as is_within_limit_of, up_to_limit as up_to_limit_of, alignment_of, alignment_limit as alignment_limit_of, base_of, size_of, align_or_default as align_or_default_of, base_or_default as base_or_default_of, integer_of, int_parts, int_of, alignment_limits, int_limits};
+ghost use Rattle.conf_fields.specs.IntType.{is_power_of_two as is_power_of_two_of, is_within_limit as is_within_limit_of, up_to_limit as up_to_limit_of, alignment_of, alignment_limit as alignment_limit_of, base_of, size_of, align_or_default as align_or_default_of, base_or_default as base_or_default_of, integer_of, integer_place as integer_place_of, int_parts, int_of, int_limits};
+ghost use Rattle.conf_fields.specs.Judging.{judged_under};
 
+use conf_table::Place;
 use conf_tree::{ConfFault, FaultKind, needed, optional};
-use conf_values::{ObjectKind, base_word, first_unknown, natural, no_more, text, turn};
+use conf_values::{base_word, first_unknown, natural, no_more, text, turn};
 use ctf_types::{Base, IntType};
 use serde_json::{Map, Value};
 use std::alloc::Global;
@@ -65,16 +67,24 @@ fn alignment(value: &Value) -> Result<u64, ConfFault>
     }
 }
 
-/// Refuses an alignment past the largest.
+/// Refuses a number past the largest alignment.
 #[tactic(auto, unfolding(crate::specs::IntType::alignment_limit))]
 fn check_alignment_limit(value: &Value) -> Result<(), ConfFault>
     ensures reading { Gives (λ _. tt) result (alignment_limit_of (view value.now)) }
     ensures steps { IfErr result (λ fault. array_vec_len fault.path ≡ 0) }
 {
-    if is_within_limit(alignment(value)?) {
-        Ok(())
-    } else {
-        Err(ConfFault::here(FaultKind::Limit))
+    let Some(number) = value.as_number() else {
+        return Ok(());
+    };
+    match number.as_u64() {
+        None => Ok(()),
+        Some(alignment) => {
+            if alignment <= u64::from(MAX_ALIGNMENT) {
+                Ok(())
+            } else {
+                Err(ConfFault::here(FaultKind::Limit))
+            }
+        }
     }
 }
 
@@ -235,6 +245,17 @@ fn read_int_parts(
     integer(size, alignment, signed, base)
 }
 
+/// The place of an integer field type.
+fn integer_place(signed: bool) -> Place
+    ensures { result ≡ integer_place_of signed }
+{
+    if signed {
+        Place::SignedInteger
+    } else {
+        Place::UnsignedInteger
+    }
+}
+
 /// The integer type that an object of an integer class is.
 #[tactic(auto, unfolding(crate::specs::IntType::int_of))]
 pub(crate) fn read_int(
@@ -246,18 +267,18 @@ pub(crate) fn read_int(
     ensures steps { IfErr result (λ fault. array_vec_len fault.path ≤ 1) }
 {
     needed(alloc, members, "size")?;
-    let unknown = first_unknown(members, ObjectKind::Integer);
+    let unknown = first_unknown(members, integer_place(signed));
     read_int_parts(alloc, unknown, signed, members)
 }
 
 /// Refuses the alignment past the largest that the property `name` is.
-#[tactic(auto, unfolding(crate::specs::IntType::alignment_limits, conf_tree::specs::Reading::optional_as))]
+#[tactic(auto, unfolding(conf_tree::specs::Reading::optional_as))]
 pub(crate) fn check_alignment_limits(
     alloc: Global,
     members: &Map<String, Value>,
     name: &str,
 ) -> Result<(), ConfFault>
-    ensures reading { Gives (λ _. tt) result (alignment_limits name.now (members_view members.now.entries)) }
+    ensures reading { Gives (λ _. tt) result (judged_under name.now alignment_limit_of (members_view members.now.entries)) }
     ensures steps { IfErr result (λ fault. array_vec_len fault.path ≤ 1) }
 {
     match optional(members, name) {

@@ -14,7 +14,7 @@ ghost use Rattle.ctf_types.specs.AllowedConfig.{IsConfigStruct, AreConfigMembers
 ghost use Rattle.ctf_types.specs.Members.{names_in};
 ghost use Rattle.ctf_types.specs.Shown.{shown_members};
 ghost use Rattle.conf_tree.specs.Flaw.{Flaw};
-ghost use Rattle.conf_fields.specs.Order.{Ascends};
+ghost use Rattle.conf_tree.specs.Order.{Ascends};
 ghost use Rattle.conf_fields.specs.IntType.{int_of};
 ghost use Rattle.conf_fields.specs.declared.enum_type.Span.{Span};
 ghost use Rattle.conf_fields.specs.EnumType.{enum_of, mappings_of};

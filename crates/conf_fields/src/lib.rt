@@ -8,7 +8,6 @@ mod laws;
 mod member;
 mod member_type;
 mod members;
-mod order;
 mod refusals;
 mod struct_type;
 
@@ -19,7 +18,6 @@ pub use laws::{
     static_arrays_by_rows, structures_by_rows, unsigned_fields,
 };
 pub use members::{check_members_limits, read_members};
-pub use order::walk_in_order;
 pub use refusals::{
     enumerations_refused, field_types_refused, integers_refused, limits_of_field_types,
     limits_of_members_lists, limits_of_structures, members_lists_refused, structures_refused,

@@ -8,13 +8,14 @@ ghost use Rattle.conf_tree.specs.Flaw.{IsMemory};
 ghost use Rattle.conf_tree.specs.Reading.{Gives, needed_as};
 ghost use Rattle.conf_values.specs.Property.{next_needed};
 ghost use Rattle.conf_fields.specs.MemberType.{member_type_of, member_type_limits};
-ghost use Rattle.conf_fields.specs.Member.{is_taken as is_taken_of, not_taken, dynamic_or_not, type_class, class_told, names_for, none_taken, name_rules, member_of, member_named, single_of, entry_of, names_of, value_limits, entry_limits};
+ghost use Rattle.conf_fields.specs.Member.{is_taken as is_taken_of, not_taken, dynamic_or_not, type_class, class_told, names_for, none_taken, name_rules, member_of, member_named, single_of, entry_of, names_of, value_limits, single_limits, entry_limits};
 
 use crate::field_type::read_class;
 use crate::member_type::{check_member_type_limits, is_dynamic, read_member_type};
+use conf_table::Place;
 use conf_tree::{ConfFault, FaultKind, needed};
 use conf_values::{
-    FieldClass, ObjectKind, check_plain_name, copied, first_unknown, needed_value, no_more, object,
+    FieldClass, check_plain_name, copied, first_unknown, needed_value, no_more, object, property,
     turn,
 };
 use ctf_types::{Length, ListOf, MemberType, Text};
@@ -169,7 +170,7 @@ fn read_member(
     let members = object(value)?;
     check_name_rules(alloc, taken, name, members)?;
     needed(alloc, members, "field-type")?;
-    let unknown = first_unknown(members, ObjectKind::Member);
+    let unknown = first_unknown(members, Place::Member);
     let member = next_type(alloc, members, unknown, "field-type")?;
     no_more(alloc, unknown)?;
     Ok(member)
@@ -241,31 +242,35 @@ pub(crate) fn take_names(
     Ok(())
 }
 
-#[tactic(auto, unfolding(crate::specs::Member::value_limits))]
+#[tactic(auto, unfolding(crate::specs::Member::value_limits, conf_tree::specs::Reading::optional_as))]
 fn check_value_limits(alloc: Global, value: &Value) -> Result<(), ConfFault>
     requires nested { depth (view value.now) ≤ 32 }
     ensures reading { Gives (λ _. tt) result (value_limits (view value.now)) }
     ensures steps { IfErr result (λ fault. array_vec_len fault.path ≤ depth (view value.now)) }
 {
-    let members = object(value)?;
-    let value = needed_value(alloc, members, "field-type")?;
-    match check_member_type_limits(alloc, value) {
-        Ok(()) => Ok(()),
-        Err(fault) => Err(fault.in_property(alloc, "field-type")),
+    let Value::Object(members) = value else {
+        return Ok(());
+    };
+    match property(members, "field-type") {
+        None => Ok(()),
+        Some(value) => match check_member_type_limits(alloc, value) {
+            Ok(()) => Ok(()),
+            Err(fault) => Err(fault.in_property(alloc, "field-type")),
+        },
     }
 }
 
 fn check_single_limits(alloc: Global, members: &Map<String, Value>) -> Result<(), ConfFault>
     requires nested { members_depth (members_view members.now.entries) < 32 }
-    ensures reading { Gives (λ _. tt) result (single_of (λ name value. value_limits value) (members_view members.now.entries)) }
+    ensures reading { Gives (λ _. tt) result (single_limits (members_view members.now.entries)) }
     ensures steps { IfErr result (λ fault. array_vec_len fault.path ≤ members_depth (members_view members.now.entries) + 1) }
 {
     let mut entries = members.iter();
     let Some((name, value)) = entries.next() else {
-        return Err(ConfFault::here(FaultKind::WrongKind));
+        return Ok(());
     };
     if entries.next().is_some() {
-        return Err(ConfFault::here(FaultKind::WrongKind));
+        return Ok(());
     }
     match check_value_limits(alloc, value) {
         Ok(()) => Ok(()),
@@ -280,5 +285,10 @@ pub(crate) fn check_entry_limits(alloc: Global, value: &Value) -> Result<(), Con
     ensures reading { Gives (λ _. tt) result (entry_limits (view value.now)) }
     ensures steps { IfErr result (λ fault. array_vec_len fault.path ≤ depth (view value.now)) }
 {
-    check_single_limits(alloc, object(value)?)
+    match value {
+        Value::Object(members) => check_single_limits(alloc, members),
+        Value::Null | Value::Bool(_) | Value::Number(_) | Value::String(_) | Value::Array(_) => Ok(
+            (),
+        ),
+    }
 }

@@ -3,14 +3,16 @@ ghost use Rattle.std.specs.Prelude.{◌≡◌, ◌+◌, ◌<◌, ◌≤◌, IfEr
 ghost use Rattle.arrayvec.specs.ArrayVec.{array_vec_len};
 ghost use Rattle.serde_json.specs.Data.{depth, members_depth};
 ghost use Rattle.serde_json.specs.View.{view, members_view};
-ghost use Rattle.conf_tree.specs.Reading.{Gives, needed_as};
+ghost use Rattle.conf_tree.specs.Reading.{Gives};
 ghost use Rattle.conf_values.specs.Property.{next_needed};
+ghost use Rattle.conf_fields.specs.Judging.{judged_under};
 ghost use Rattle.conf_fields.specs.FieldType.{field_limits};
 ghost use Rattle.conf_fields.specs.MemberType.{is_dynamic as is_dynamic_of, has_bits as has_bits_of, element_of, dynamic_of, member_type_of, member_type_limits};
 
-use crate::field_type::{check_field_limits, read_class, read_field};
+use crate::field_type::{check_field_limits, only_memory, read_class, read_field};
+use conf_table::Place;
 use conf_tree::{ConfFault, FaultKind, needed};
-use conf_values::{FieldClass, ObjectKind, first_unknown, needed_value, no_more, object, turn};
+use conf_values::{FieldClass, first_unknown, needed_value, no_more, object, property, turn};
 use ctf_types::{FieldType, Length, MemberType};
 use serde_json::{Map, Value};
 use std::alloc::Global;
@@ -85,7 +87,7 @@ fn read_dynamic(alloc: Global, members: &Map<String, Value>) -> Result<MemberTyp
     ensures steps { IfErr result (λ fault. array_vec_len fault.path ≤ members_depth (members_view members.now.entries) + 1) }
 {
     needed(alloc, members, "element-field-type")?;
-    let unknown = first_unknown(members, ObjectKind::DynamicArray);
+    let unknown = first_unknown(members, Place::DynamicArray);
     let element = next_element(alloc, members, unknown, "element-field-type")?;
     no_more(alloc, unknown)?;
     Ok(MemberType::Dyn(element, Length::Auto))
@@ -107,19 +109,22 @@ pub(crate) fn read_member_type(alloc: Global, value: &Value) -> Result<MemberTyp
     }
 }
 
+#[tactic(auto, unfolding(conf_tree::specs::Reading::optional_as))]
 fn check_element_limits(
     alloc: Global,
     members: &Map<String, Value>,
     name: &str,
 ) -> Result<(), ConfFault>
     requires nested { members_depth (members_view members.now.entries) < 32 }
-    ensures reading { Gives (λ _. tt) result (needed_as name.now field_limits (members_view members.now.entries)) }
+    ensures reading { Gives (λ _. tt) result (judged_under name.now field_limits (members_view members.now.entries)) }
     ensures steps { IfErr result (λ fault. array_vec_len fault.path ≤ members_depth (members_view members.now.entries) + 1) }
 {
-    let value = needed_value(alloc, members, name)?;
-    match check_field_limits(alloc, value) {
-        Ok(()) => Ok(()),
-        Err(fault) => Err(fault.in_property(alloc, name)),
+    match property(members, name) {
+        None => Ok(()),
+        Some(value) => match check_field_limits(alloc, value) {
+            Ok(()) => Ok(()),
+            Err(fault) => Err(fault.in_property(alloc, name)),
+        },
     }
 }
 
@@ -130,11 +135,17 @@ pub(crate) fn check_member_type_limits(alloc: Global, value: &Value) -> Result<(
     ensures reading { Gives (λ _. tt) result (member_type_limits (view value.now)) }
     ensures steps { IfErr result (λ fault. array_vec_len fault.path ≤ depth (view value.now)) }
 {
-    let members = object(value)?;
-    let class = read_class(alloc, members)?;
-    if is_dynamic(class) {
-        check_element_limits(alloc, members, "element-field-type")
-    } else {
-        check_field_limits(alloc, value)
+    let Value::Object(members) = value else {
+        return Ok(());
+    };
+    match read_class(alloc, members) {
+        Ok(class) => {
+            if is_dynamic(class) {
+                check_element_limits(alloc, members, "element-field-type")
+            } else {
+                check_field_limits(alloc, value)
+            }
+        }
+        Err(fault) => only_memory(fault),
     }
 }

@@ -112,7 +112,9 @@ pub fn check_members_limits(alloc: Global, value: &Value) -> Result<(), ConfFaul
     ensures reading { Gives (λ _. tt) result (members_limits (view value.now)) }
     ensures steps { IfErr result (λ fault. array_vec_len fault.path ≤ depth (view value.now)) }
 {
-    let items = list(value)?;
+    let Value::Array(items) = value else {
+        return Ok(());
+    };
     check_count(items)?;
     check_items_limits(alloc, items)
 }

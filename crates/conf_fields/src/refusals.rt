@@ -12,7 +12,7 @@ ghost use Rattle.conf_fields.specs.FieldFlaws.{IsNoInteger, IsNoEnumeration, IsN
 
 /// An integer field type that is refused has an unknown property, lacks its size, or has a wrong size, alignment or base.
 pub fn integers_refused()
-    ensures { (signed : Bool) (ms : Members) (flaw : Flaw) → int_of signed ms ≡ Err flaw → IsNoInteger ms flaw }
+    ensures { (signed : Bool) (ms : Members) (flaw : Flaw) → int_of signed ms ≡ Err flaw → IsNoInteger signed ms flaw }
 {}
 
 /// An enumeration field type that is refused has a flaw of an integer's, or one of its labels and ranges.
@@ -40,17 +40,17 @@ pub fn structures_refused()
     ensures { (d : Data) (flaw : Flaw) → struct_of d ≡ Err flaw → IsNoStructure d flaw }
 {}
 
-/// A field type that its limits refuse passes one of them, or was none.
+/// A field type that its limits refuse passes one of them.
 pub fn limits_of_field_types()
     ensures { (d : Data) (flaw : Flaw) → field_limits d ≡ Err flaw → PassesFieldLimit d flaw }
 {}
 
-/// A members list that its limits refuse passes one of them, or was none.
+/// A members list that its limits refuse passes one of them.
 pub fn limits_of_members_lists()
     ensures { (d : Data) (flaw : Flaw) → members_limits d ≡ Err flaw → PassesMembersLimit d flaw }
 {}
 
-/// A structure field type that its limits refuse passes one of them, or was none.
+/// A structure field type that its limits refuse passes one of them.
 pub fn limits_of_structures()
     ensures { (d : Data) (flaw : Flaw) → struct_limits d ≡ Err flaw → PassesStructLimit d flaw }
 {}

@@ -6,14 +6,16 @@ ghost use Rattle.serde_json.specs.View.{view, members_view};
 ghost use Rattle.conf_tree.specs.Reading.{Gives, ◌>>=◌ as followed_by};
 ghost use Rattle.conf_values.specs.Property.{next, no_more as none_more};
 ghost use Rattle.conf_fields.specs.IntType.{alignment_of};
-ghost use Rattle.conf_fields.specs.Members.{members_of};
-ghost use Rattle.conf_fields.specs.StructType.{min_align_for, or_none, structure_of, struct_parts, struct_of_class, struct_of, listed_limits, struct_limits};
+ghost use Rattle.conf_fields.specs.Judging.{judged_under};
+ghost use Rattle.conf_fields.specs.Members.{members_of, members_limits};
+ghost use Rattle.conf_fields.specs.StructType.{min_align_for, or_none, structure_of, struct_parts, struct_of_class, struct_of, struct_limits};
 
 use crate::field_type::read_class;
 use crate::int_type::{check_alignment_limits, next_alignment, up_to_limit};
 use crate::members::{check_members_limits, read_members};
+use conf_table::Place;
 use conf_tree::{ConfFault, FaultKind};
-use conf_values::{FieldClass, ObjectKind, first_unknown, no_more, object, property, turn};
+use conf_values::{FieldClass, first_unknown, no_more, object, property, turn};
 use ctf_types::{ListOf, Members, StructType};
 use serde_json::{Map, Value};
 use std::alloc::Global;
@@ -127,7 +129,7 @@ fn read_struct_of(
 {
     match class {
         FieldClass::Structure => {
-            let unknown = first_unknown(members, ObjectKind::Structure);
+            let unknown = first_unknown(members, Place::Structure);
             read_struct_parts(alloc, unknown, members)
         }
         FieldClass::UnsignedInteger
@@ -159,7 +161,7 @@ fn check_listed_limits(
     name: &str,
 ) -> Result<(), ConfFault>
     requires nested { members_depth (members_view members.now.entries) < 32 }
-    ensures reading { Gives (λ _. tt) result (listed_limits name.now (members_view members.now.entries)) }
+    ensures reading { Gives (λ _. tt) result (judged_under name.now members_limits (members_view members.now.entries)) }
     ensures steps { IfErr result (λ fault. array_vec_len fault.path ≤ members_depth (members_view members.now.entries) + 1) }
 {
     match property(members, name) {
@@ -178,7 +180,9 @@ pub fn check_struct_limits(alloc: Global, value: &Value) -> Result<(), ConfFault
     ensures reading { Gives (λ _. tt) result (struct_limits (view value.now)) }
     ensures steps { IfErr result (λ fault. array_vec_len fault.path ≤ depth (view value.now)) }
 {
-    let members = object(value)?;
+    let Value::Object(members) = value else {
+        return Ok(());
+    };
     check_listed_limits(alloc, members, "members")?;
     check_alignment_limits(alloc, members, "minimum-alignment")
 }

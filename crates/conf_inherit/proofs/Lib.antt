@@ -17,6 +17,7 @@ pub mod LimitLemmas
 pub mod RoundLemmas
 pub mod PlaceLemmas
 pub mod WholeNumbers
+pub mod AscendingNames
 pub mod ResolveLemmas
 pub mod CircleLemmas
 pub mod WalkLemmas

@@ -3,6 +3,7 @@ use Rattle.std.proofs.Common.{◌≡◌, ◌&&◌, ◌⊎◌, inl, inr, ℕ, zer
 use Rattle.serde_json.specs.Data.{Data, null, boolean, number, string, array, object, Items, no_items, item, Members, no_members, member}
 use Rattle.serde_json.specs.Find.{get_item, get_member}
 use Rattle.conf_tree.specs.Flaw.{Place, key, index}
+use Rattle.conf_tree.specs.Order.{Ascends, ItemsAscend, MembersAscend}
 use Rattle.conf_tree.specs.Walk.{HasMember}
 use Rattle.conf_inherit.specs.declared.spot.Spot.{Spot}
 use Rattle.conf_inherit.specs.declared.spot.Spot.TheVariants.{FieldType, MemberList, ExtraMembers, Entry, Plain}
@@ -19,7 +20,7 @@ use Rattle.conf_inherit.proofs.LayingLemmas.{lay_members-found}
 use Rattle.conf_inherit.proofs.ListLemmas.{AllEntries, found_each}
 use Rattle.conf_inherit.proofs.NamedLemmas.{named}
 use Rattle.conf_inherit.proofs.NoLarger.{value_same, NoLargerItems, as_large, as_large_items, items_through, next_item, one_more, no_item, fits_below, property_fits, item_fits}
-use Rattle.conf_inherit.proofs.ReadInOrder.{AllInOrder, ItemsInOrder, EachInOrder, apart}
+use Rattle.conf_inherit.proofs.ReadInOrder.{apart}
 use Rattle.conf_inherit.proofs.ReadyLemmas.{ready, single_entry}
 use Rattle.conf_inherit.proofs.SoundParts.{PartSound, own_sound, member_sound, item_sound}
 use Rattle.conf_inherit.proofs.SpotLemmas.{list_spot, base_spot}
@@ -54,14 +55,14 @@ each_has P no_members k d each there = absurd there
 each_has P (member l e ms) k d each (inl same) = subst (λ x. P x d) (sym same.0) (subst (P l) (sym same.1) each.0)
 each_has P (member l e ms) k d each (inr later) = each_has P ms k d each.1 later
 
-pub member_in_order : (ms : Members) (k : List ℕ) (d : Data) → EachInOrder ms → HasMember k d ms → AllInOrder d
+pub member_in_order : (ms : Members) (k : List ℕ) (d : Data) → MembersAscend ms → HasMember k d ms → Ascends d
 member_in_order no_members k d each there = absurd there
-member_in_order (member l e ms) k d each (inl same) = subst AllInOrder (sym same.1) each.0
+member_in_order (member l e ms) k d each (inl same) = subst Ascends (sym same.1) each.0
 member_in_order (member l e ms) k d each (inr later) = member_in_order ms k d each.1 later
 
-pub item_in_order : (es : Items) (i : ℕ) (d : Data) → ItemsInOrder es → get_item i es ≡ Some d → AllInOrder d
+pub item_in_order : (es : Items) (i : ℕ) (d : Data) → ItemsAscend es → get_item i es ≡ Some d → Ascends d
 item_in_order no_items i d each there = absurd cc
-item_in_order (item e es) zero d each there = subst AllInOrder (value_same e d there) each.0
+item_in_order (item e es) zero d each there = subst Ascends (value_same e d there) each.0
 item_in_order (item e es) (suc i) d each there = item_in_order es i d each.1 there
 
 pub inherits_under : (x : Data) (s : Spot) (ms : Members) (k : List ℕ) (d : Data) → HasMember k d ms → Inherits x (spot_under s k) d → InheritsInMembers x s ms
@@ -134,7 +135,7 @@ module _ (al done : Members) (known : AreResolved al done) (all : (n : List ℕ)
     pub taken : Bool
     pub seen : Members
     pub sound : PartSound al s taken seen v
-    pub in_order : AllInOrder v
+    pub in_order : Ascends v
     pub inherited : (d : Data) → Inherits d s v → all_named (has done) FieldType d ≡ true → Fits (lay done FieldType d None)
     pub whole : Fits (lay done s v None)
 

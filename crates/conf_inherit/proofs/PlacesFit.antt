@@ -4,6 +4,7 @@ use Rattle.std.specs.Prelude.{codes}
 use Rattle.serde_json.specs.Data.{Data, array, object, Items, no_items, item, Members, no_members}
 use Rattle.serde_json.specs.Find.{get_item}
 use Rattle.conf_tree.specs.Flaw.{Place, key, index, within}
+use Rattle.conf_tree.specs.Order.{Ascends}
 use Rattle.conf_tree.specs.Walk.{HasMember}
 use Rattle.conf_inherit.specs.declared.spot.Spot.{Spot}
 use Rattle.conf_inherit.specs.declared.spot.Spot.TheVariants.{Root, Trace, TraceType, TraceFeatures, Aliases, StreamTypes, StreamType, StreamFeatures, PacketFeatures, EventRecordFeatures, EventTypes, EventType, FieldType, MemberList, ExtraMembers, Entry, MemberValue, Plain}
@@ -21,7 +22,6 @@ use Rattle.conf_inherit.proofs.NoLarger.{value_same}
 use Rattle.conf_inherit.proofs.LimitLemmas.{sound_type, alike_inner, alike_limit}
 use Rattle.conf_inherit.proofs.PartsFit.{IsFit, sound_named, fits_along, plain_leads_nowhere, member_in_order, item_in_order, inherits_under}
 use Rattle.conf_inherit.proofs.PlaceLemmas.{place_of_type, place_of_member}
-use Rattle.conf_inherit.proofs.ReadInOrder.{AllInOrder}
 use Rattle.conf_inherit.proofs.ReadyLemmas.{front_empty, back_empty, part_empty, rest_empty}
 use Rattle.conf_inherit.proofs.SoundParts.{PartSound, member_sound, item_sound}
 use Rattle.conf_inherit.proofs.SpotsUnder.{either, in_trace_type, in_stream_type, in_event_type, in_stream_features, in_trace_features, in_packet_features, in_event_features}
@@ -110,7 +110,7 @@ entry_unnamed (inr h) = true≢false (sym h)
 module _ (al done : Members) (known : AreResolved al done) (all : (n : List ℕ) → has al n ≡ true → has done n ≡ true) where
   -- ---- a field type at a place
 
-  type_fit : (v : Data) (taken : Bool) (seen : Members) → PartSound al FieldType taken seen v → AllInOrder v → type_flaws al done FieldType v ≡ [] → IsFit al done known all FieldType v
+  type_fit : (v : Data) (taken : Bool) (seen : Members) → PartSound al FieldType taken seen v → Ascends v → type_flaws al done FieldType v ≡ [] → IsFit al done known all FieldType v
   type_fit v taken seen part ordered none =
       let sound = (sound_type done al FieldType v).0 none in
       record { taken = taken; seen = seen; sound = part; in_order = ordered; inherited = sound.2; whole = sound.1 (sound_named al done known all FieldType v taken seen part) }
@@ -142,7 +142,7 @@ module _ (al done : Members) (known : AreResolved al done) (all : (n : List ℕ)
   extra_inherits : (e : Data) → ExtraSound e → (d : Data) → Inherits d Entry e → all_named (has done) FieldType d ≡ true → Fits (lay done FieldType d None)
   extra_inherits e h = ((alike_inner done al e Entry h.marks).0 (back_empty (own_flaws al Entry false e) (inner_flaws al (Some done) Entry h.marks e) h.flawless)).1
 
-  member_fit : (ms : Members) (k : List ℕ) (d : Data) (marks : Members) → PartSound al Entry false marks (object ms) → AllInOrder (object ms) → ExtraSound (object ms) → HasMember k d ms → IsFit al done known all (spot_under Entry k) d
+  member_fit : (ms : Members) (k : List ℕ) (d : Data) (marks : Members) → PartSound al Entry false marks (object ms) → Ascends (object ms) → ExtraSound (object ms) → HasMember k d ms → IsFit al done known all (spot_under Entry k) d
   member_fit ms k d marks part ordered h there =
       let mine = member_sound al Entry marks ms k d part.inner there in
       let place = member_place al done Entry ms k d (object_places al done Entry ms entry_leads h.places) there in
@@ -158,11 +158,11 @@ module _ (al done : Members) (known : AreResolved al done) (all : (n : List ℕ)
         whole = subst (λ t. Fits (lay done t d None)) (sym (entry_spot k)) (whole (subst (λ t. all_named (has done) t d ≡ true) (entry_spot k) (sound_named al done known all (spot_under Entry k) d _ no_members mine)));
       }
 
-  extra_along : (path : List Place) (e : Data) (t : Spot) (w : Data) (marks : Members) → PartSound al Entry false marks e → AllInOrder e → ExtraSound e → Leads Entry e path t w → Names t → Fits (lay done t w None)
+  extra_along : (path : List Place) (e : Data) (t : Spot) (w : Data) (marks : Members) → PartSound al Entry false marks e → Ascends e → ExtraSound e → Leads Entry e path t w → Names t → Fits (lay done t w None)
   extra_along [] e t w marks part ordered h (spot, value) names = absurd (entry_unnamed (subst Names (sym spot) names))
   extra_along (index i ∷ path) e t w marks part ordered h (es, d, is, there, leads) names = absurd (plain_leads_nowhere (spot_of_items Entry) path d t w entry_items leads names)
   extra_along (key k ∷ path) e t w marks part ordered h (ms, d, is, there, leads) names =
-      fits_along al done known all path (spot_under Entry k) d t w (member_fit ms k d marks (subst (PartSound al Entry false marks) is part) (subst AllInOrder is ordered) (subst ExtraSound is h) there) leads names
+      fits_along al done known all path (spot_under Entry k) d t w (member_fit ms k d marks (subst (PartSound al Entry false marks) is part) (subst Ascends is ordered) (subst ExtraSound is h) there) leads names
 
   -- ---- along a path from the top
 
@@ -171,7 +171,7 @@ module _ (al done : Members) (known : AreResolved al done) (all : (n : List ℕ)
     taken : Bool
     seen : Members
     sound : PartSound al s taken seen v
-    in_order : AllInOrder v
+    in_order : Ascends v
     places : PlaceSound al done s v
 
   type_along : (path : List Place) (s : Spot) (v : Data) (t : Spot) (w : Data) → SoundPlace s v → names_alias s ≡ true → Leads s v path t w → Names t → Fits (lay done t w None)
@@ -220,6 +220,6 @@ module _ (al done : Members) (known : AreResolved al done) (all : (n : List ℕ)
   ]
 
   -- nothing is wrong with a configuration as a whole, nor at its places
-  pub all_fit : (v : Data) (path : List Place) (t : Spot) (w : Data) → PartSound al Root false no_members v → AllInOrder v → inner_places al done Root v ≡ [] → Leads Root v path t w → Names t → Fits (lay done t w None)
+  pub all_fit : (v : Data) (path : List Place) (t : Spot) (w : Data) → PartSound al Root false no_members v → Ascends v → inner_places al done Root v ≡ [] → Leads Root v path t w → Names t → Fits (lay done t w None)
   all_fit v path t w part ordered none leads names =
       place_along path Root v t w refl (record { taken = false; seen = no_members; sound = part; in_order = ordered; places = root_place al done v none }) leads names

@@ -2,21 +2,9 @@
 use Rattle.std.specs.Prelude.{◌≡◌, ℕ, List, [], ◌∷◌, ◌++◌, Option, None, Some, not, filter}
 use Rattle.std.specs.List.{list_any}
 use Rattle.std.specs.Str.{bytes_eq}
-use Rattle.std.specs.Ordering.{nat_cmp}
-use Rattle.std.specs.declared.cmp.Ordering.TheVariants.{Less}
-use Rattle.std.specs.Cmp.Lexicographic.{slice_cmp}
 use Rattle.serde_json.specs.Data.{Data, array, object, Items, no_items, item, Members, no_members, member}
 use Rattle.serde_json.specs.Find.{get, get_member}
-
--- every name is above this one, in byte order
-abbrev pub AllAbove : List ℕ → Members → Type 0
-AllAbove k no_members = Unit {0}
-AllAbove k (member l d ms) = (slice_cmp nat_cmp k l ≡ Less) × AllAbove k ms
-
--- the names ascend in byte order
-abbrev pub IsInOrder : Members → Type 0
-IsInOrder no_members = Unit {0}
-IsInOrder (member k d ms) = AllAbove k ms × IsInOrder ms
+pub use Rattle.conf_tree.specs.Order.{AllAbove, IsInOrder}
 
 abbrev pub names_of : Members → List (List ℕ)
 names_of no_members = []

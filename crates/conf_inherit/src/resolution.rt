@@ -3,6 +3,7 @@ ghost use Rattle.std.specs.Prelude.{◌≡◌, ◌≤◌, ◌⊎◌, Option, Non
 ghost use Rattle.arrayvec.specs.ArrayVec.{array_vec_len};
 ghost use Rattle.serde_json.specs.Data.{depth, no_members, members_depth};
 ghost use Rattle.conf_tree.specs.Flaw.{flaw_of, IsMemory};
+ghost use Rattle.conf_tree.specs.Order.{Ascends};
 ghost use Rattle.conf_tree.specs.Reading.{Gives};
 ghost use Rattle.conf_tree.specs.Walk.{refusal};
 ghost use Rattle.conf_inherit.specs.AliasFlaws.{all_alias_flaws};
@@ -130,6 +131,7 @@ fn resolve_under(
 ) -> Result<Tree, ConfFault>
     requires nested { depth (view value.now) ≤ 32 }
     requires whole { has_float (view value.now) ≡ false }
+    requires ordered { Ascends (view value.now) }
     requires own { members_view aliases.now.entries ≡ aliases_of (view value.now) }
     ensures resolved { IfOk result (λ tree. Resolves (view value.now) (view tree.value)) }
     ensures refused { IfErr result (λ fault. IsMemory fault ⊎ RefusalHolds (view value.now) (flaw_of fault)) }

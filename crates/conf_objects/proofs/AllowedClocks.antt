@@ -6,14 +6,16 @@ use Rattle.ctf_types.specs.AllowedConfig.{IsClockType}
 use Rattle.ctf_types.specs.Names.{IsPlainName, IsConfigText}
 use Rattle.ctf_types.specs.declared.ClockType.{ClockType}
 use Rattle.conf_tree.specs.Reading.{optional}
-use Rattle.conf_objects.specs.declared.limits.Part.TheVariants as part
+use Rattle.conf_table.specs.declared.place.Place.TheVariants as places
+use Rattle.conf_table.specs.declared.row.Content.TheVariants.{Text, At}
+use Rattle.conf_table.specs.Table.{rows_of, entries_of, place_in, content_under}
 use Rattle.conf_objects.specs.ClockType.{max_u64, clock_types_of}
 use Rattle.conf_objects.specs.EventType.{listed}
 use Rattle.conf_fields.specs.FieldRows.{MaySay}
-use Rattle.conf_objects.specs.Limits.{part_under, part_in_trace_type, part_in_clock_type, most_entries, limits, member_limits}
+use Rattle.conf_objects.specs.Limits.{part_under, most_bytes, most_entries, limits, member_limits}
 use Rattle.conf_objects.specs.MapRows.{IsObject}
 use Rattle.conf_objects.specs.ObjectRows.{IsClockObject}
-use Rattle.conf_fields.specs.Order.{Ascends, MembersAscend}
+use Rattle.conf_tree.specs.Order.{Ascends, MembersAscend}
 use Rattle.conf_values.specs.Scalar.{config_text_of, natural_of}
 use Rattle.conf_objects.proofs.AllowedEnvironment.{text_there}
 use Rattle.conf_objects.proofs.AllowedMaps.{AreAllowed, IsUnder, listed_allowed}
@@ -25,11 +27,15 @@ use Rattle.conf_values.proofs.Steps.{given_read}
 
 -- ---- one clock type
 
-description_allowed : (ms : Members) (o : Option (List ℕ)) → member_limits part.ClockType ms ≡ Ok tt → MaySay (codes "description") config_text_of ms o → (t : List ℕ) → o ≡ Some t → IsConfigText t
-unfolding part_under part_in_clock_type
+description_bytes : most_bytes (Text 4096) ≡ Some 4096
+unfolding most_bytes
+description_bytes = refl
+
+description_allowed : (ms : Members) (o : Option (List ℕ)) → member_limits (At places.ClockType) ms ≡ Ok tt → MaySay (codes "description") config_text_of ms o → (t : List ℕ) → o ≡ Some t → IsConfigText t
+unfolding part_under content_under rows_of entries_of place_in
 description_allowed ms o limit said t is =
     let read = given_read (codes "description") config_text_of ms t (said ∙ ap Ok is) in
-    text_there read.0 t read.2 (limit_given part.ClockType (codes "description") ms read.0 limit read.1)
+    text_there (Text 4096) read.0 t description_bytes read.2 (limit_given (At places.ClockType) (codes "description") ms read.0 limit read.1)
 
 frequency_positive : (ms : Members) (o : Option ℕ) → MaySay (codes "frequency") (natural_of 1 max_u64) ms o → 0 < unwrap_or o 1000000000
 frequency_positive ms None said = omega arith
@@ -40,9 +46,9 @@ frequency_positive ms (Some n) said =
 abbrev IsClockEntry : List ℕ → Data → ClockType → Type 0
 IsClockEntry name d c = IsObject (λ ms. IsClockObject name ms c) d
 
-clock_allowed : (name : List ℕ) (d : Data) (c : ClockType) → Ascends d → limits part.ClockType d ≡ Ok tt → IsClockEntry name d c → IsUnder (λ (x : ClockType). x.name) IsClockType name c
+clock_allowed : (name : List ℕ) (d : Data) (c : ClockType) → Ascends d → limits (At places.ClockType) d ≡ Ok tt → IsClockEntry name d c → IsUnder (λ (x : ClockType). x.name) IsClockType name c
 clock_allowed name d c ascends limit (ms, is, h) =
-    let keeps = limits_kept part.ClockType d ms is limit in (
+    let keeps = limits_kept (At places.ClockType) d ms is limit in (
       h.name_is,
       record {
         name = subst IsPlainName (sym h.name_is) (plain_name name tt h.named);
@@ -56,11 +62,11 @@ clock_allowed name d c ascends limit (ms, is, h) =
 abbrev pub AreClocks : List ClockType → Type 0
 AreClocks cs = AreAllowed (λ (c : ClockType). c.name) IsClockType 64 cs
 
-entries_limits : (ms : Members) → member_limits part.TraceType ms ≡ Ok tt → (d : Data) → optional (codes "clock-types") ms ≡ Some d → limits part.ClockTypes d ≡ Ok tt
-unfolding part_under part_in_trace_type
-entries_limits ms limit d is = limit_given part.TraceType (codes "clock-types") ms d limit is
+entries_limits : (ms : Members) → member_limits (At places.TraceType) ms ≡ Ok tt → (d : Data) → optional (codes "clock-types") ms ≡ Some d → limits (At places.ClockTypes) d ≡ Ok tt
+unfolding part_under content_under rows_of entries_of place_in
+entries_limits ms limit d is = limit_given (At places.TraceType) (codes "clock-types") ms d limit is
 
-pub clocks_allowed : (ms : Members) (cs : List ClockType) → MembersAscend ms → member_limits part.TraceType ms ≡ Ok tt → ((o : Option (List ClockType)) × MaySay (codes "clock-types") clock_types_of ms o × (cs ≡ listed o)) → AreClocks cs
-unfolding part_under most_entries
+pub clocks_allowed : (ms : Members) (cs : List ClockType) → MembersAscend ms → member_limits (At places.TraceType) ms ≡ Ok tt → ((o : Option (List ClockType)) × MaySay (codes "clock-types") clock_types_of ms o × (cs ≡ listed o)) → AreClocks cs
+unfolding part_under content_under rows_of entries_of place_in most_entries
 clocks_allowed ms cs ascends limit said =
-    listed_allowed (λ (c : ClockType). c.name) IsClockType part.ClockTypes part.ClockType IsClockEntry (λ name. refl) clock_allowed 64 clock_types_of (codes "clock-types") ms cs refl clock_types_say ascends (entries_limits ms limit) said
+    listed_allowed (λ (c : ClockType). c.name) IsClockType (At places.ClockTypes) (At places.ClockType) IsClockEntry (λ name. refl) clock_allowed 64 clock_types_of (codes "clock-types") ms cs refl clock_types_say ascends (entries_limits ms limit) said

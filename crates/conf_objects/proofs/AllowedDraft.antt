@@ -8,13 +8,15 @@ use Rattle.ctf_types.specs.declared.EnvironmentEntry.{EnvironmentEntry}
 use Rattle.ctf_types.specs.declared.HeaderFeatures.{HeaderFeatures}
 use Rattle.conf_tree.specs.Reading.{needed, optional}
 use Rattle.conf_objects.specs.declared.draft.Draft.{Draft}
-use Rattle.conf_objects.specs.declared.limits.Part.TheVariants as part
+use Rattle.conf_table.specs.declared.place.Place.TheVariants as places
+use Rattle.conf_table.specs.declared.row.Content.TheVariants.{At}
+use Rattle.conf_table.specs.Table.{rows_of, entries_of, place_in, content_under}
 use Rattle.conf_objects.specs.EventType.{listed}
 use Rattle.conf_objects.specs.Features.{or_empty, header_in, header_of}
 use Rattle.conf_fields.specs.FieldRows.{MaySay}
-use Rattle.conf_objects.specs.Limits.{part_under, part_in_root, part_in_trace, part_in_trace_type, limits, member_limits}
+use Rattle.conf_objects.specs.Limits.{root, part_under, limits, member_limits}
 use Rattle.conf_objects.specs.ObjectRows.{IsHeaderObject}
-use Rattle.conf_fields.specs.Order.{Ascends, MembersAscend}
+use Rattle.conf_tree.specs.Order.{Ascends, MembersAscend}
 use Rattle.conf_objects.specs.Trace.{trace_of, draft_reading}
 use Rattle.conf_objects.specs.TraceType.{levels_in, has_uuid, trace_type_of}
 use Rattle.conf_objects.proofs.AllowedClocks.{AreClocks, clocks_allowed}
@@ -35,28 +37,28 @@ pub record IsHeader (f : HeaderFeatures) : Type 0 where
   pub uuid : OnlyIf f.uuid (λ t. IsPlainUnsigned t × (t.size ≡ 8) × (t.align ≡ 8))
   pub stream_id : OnlyIf f.stream_id IsPlainUnsigned
 
-fields_allowed : (has : Bool) (ms : Members) (f : HeaderFeatures) → MembersAscend ms → ((d : Data) → optional (codes "uuid-field-type") ms ≡ Some d → limits part.Feature d ≡ Ok tt) → IsHeaderObject has ms f → IsHeader f
+fields_allowed : (has : Bool) (ms : Members) (f : HeaderFeatures) → MembersAscend ms → ((d : Data) → optional (codes "uuid-field-type") ms ≡ Some d → limits (At places.IdentifierFeature) d ≡ Ok tt) → IsHeaderObject has ms f → IsHeader f
 fields_allowed has ms f ascends limit h = record {
   magic = magic_allowed (codes "magic-field-type") ms f.magic h.magic;
   uuid = identifier_allowed has (codes "uuid-field-type") ms f.uuid ascends limit h.uuid;
   stream_id = feature_allowed true (codes "data-stream-type-id-field-type") ms f.stream_id h.stream_id;
 }
 
-uuid_limits : (ms : Members) → member_limits part.Features ms ≡ Ok tt → (d : Data) → optional (codes "uuid-field-type") ms ≡ Some d → limits part.Feature d ≡ Ok tt
-unfolding part_under
-uuid_limits ms limit d is = limit_given part.Features (codes "uuid-field-type") ms d limit is
+uuid_limits : (ms : Members) → member_limits (At places.TraceFeatures) ms ≡ Ok tt → (d : Data) → optional (codes "uuid-field-type") ms ≡ Some d → limits (At places.IdentifierFeature) d ≡ Ok tt
+unfolding part_under content_under rows_of entries_of place_in
+uuid_limits ms limit d is = limit_given (At places.TraceFeatures) (codes "uuid-field-type") ms d limit is
 
-header_there : (has : Bool) (d : Data) (f : HeaderFeatures) → Ascends d → limits part.Features d ≡ Ok tt → header_of has d ≡ Ok f → IsHeader f
+header_there : (has : Bool) (d : Data) (f : HeaderFeatures) → Ascends d → limits (At places.TraceFeatures) d ≡ Ok tt → header_of has d ≡ Ok f → IsHeader f
 header_there has d f ascends limit e =
     let says = header_says has d f e in
-    let keeps = limits_kept part.Features d says.0 says.1 limit in
+    let keeps = limits_kept (At places.TraceFeatures) d says.0 says.1 limit in
     fields_allowed has says.0 f (ascends_object d says.0 says.1 ascends).1 (uuid_limits says.0 keeps.members) says.2
 
-features_limits : (ms : Members) → member_limits part.TraceType ms ≡ Ok tt → (d : Data) → optional (codes "$features") ms ≡ Some d → limits part.Features d ≡ Ok tt
-unfolding part_under part_in_trace_type
-features_limits ms limit d is = limit_given part.TraceType (codes "$features") ms d limit is
+features_limits : (ms : Members) → member_limits (At places.TraceType) ms ≡ Ok tt → (d : Data) → optional (codes "$features") ms ≡ Some d → limits (At places.TraceFeatures) d ≡ Ok tt
+unfolding part_under content_under rows_of entries_of place_in
+features_limits ms limit d is = limit_given (At places.TraceType) (codes "$features") ms d limit is
 
-header_allowed : (has : Bool) (ms : Members) (f : HeaderFeatures) → MembersAscend ms → member_limits part.TraceType ms ≡ Ok tt
+header_allowed : (has : Bool) (ms : Members) (f : HeaderFeatures) → MembersAscend ms → member_limits (At places.TraceType) ms ≡ Ok tt
     → ((o : Option HeaderFeatures) × MaySay (codes "$features") (header_of has) ms o × (or_empty (header_in has None no_members) o ≡ Ok f)) → IsHeader f
 header_allowed has ms f ascends limit said =
     or_empty_allowed IsHeader (header_in has None no_members) (header_of has) (codes "$features") ms f
@@ -76,17 +78,17 @@ pub record IsGoodConfig (c : Config) : Type 0 where
 abbrev pub IsGoodDraft : Draft → Type 0
 IsGoodDraft draft = IsGoodConfig draft.config
 
-streams_limits : (ms : Members) → member_limits part.TraceType ms ≡ Ok tt → (d : Data) → optional (codes "data-stream-types") ms ≡ Some d → limits part.StreamTypes d ≡ Ok tt
-unfolding part_under part_in_trace_type
-streams_limits ms limit d is = limit_given part.TraceType (codes "data-stream-types") ms d limit is
+streams_limits : (ms : Members) → member_limits (At places.TraceType) ms ≡ Ok tt → (d : Data) → optional (codes "data-stream-types") ms ≡ Some d → limits (At places.StreamTypes) d ≡ Ok tt
+unfolding part_under content_under rows_of entries_of place_in
+streams_limits ms limit d is = limit_given (At places.TraceType) (codes "data-stream-types") ms d limit is
 
-trace_type_allowed : (number : Option (List ℕ)) (environment : List EnvironmentEntry) (d : Data) (draft : Draft) → IsEnvironment environment → Ascends d → limits part.TraceType d ≡ Ok tt → trace_type_of number environment d ≡ Ok draft → IsGoodDraft draft
+trace_type_allowed : (number : Option (List ℕ)) (environment : List EnvironmentEntry) (d : Data) (draft : Draft) → IsEnvironment environment → Ascends d → limits (At places.TraceType) d ≡ Ok tt → trace_type_of number environment d ≡ Ok draft → IsGoodDraft draft
 trace_type_allowed number environment d draft good ascends limit e =
     let says = trace_type_says number environment d draft e in
     let ms = says.0 in
     let h = says.2 in
     let in_order = (ascends_object d ms says.1 ascends).1 in
-    let keeps = limits_kept part.TraceType d ms says.1 limit in
+    let keeps = limits_kept (At places.TraceType) d ms says.1 limit in
     record {
       environment = subst IsEnvironment (sym h.environment_is) good;
       header = header_allowed (has_uuid ms) ms draft.config.header in_order keeps.members h.features;
@@ -96,29 +98,29 @@ trace_type_allowed number environment d draft good ascends limit e =
 
 -- ---- the trace and the configuration around it
 
-type_limits_there : (ms : Members) (d : Data) → member_limits part.Trace ms ≡ Ok tt → needed (codes "type") ms ≡ Ok d → limits part.TraceType d ≡ Ok tt
-unfolding part_under part_in_trace
-type_limits_there ms d limit there = limit_there part.Trace (codes "type") ms d limit (found_there (codes "type") ms d there)
+type_limits_there : (ms : Members) (d : Data) → member_limits (At places.Trace) ms ≡ Ok tt → needed (codes "type") ms ≡ Ok d → limits (At places.TraceType) d ≡ Ok tt
+unfolding part_under content_under rows_of entries_of place_in
+type_limits_there ms d limit there = limit_there (At places.Trace) (codes "type") ms d limit (found_there (codes "type") ms d there)
 
-trace_allowed : (number : Option (List ℕ)) (d : Data) (draft : Draft) → Ascends d → limits part.Trace d ≡ Ok tt → trace_of number d ≡ Ok draft → IsGoodDraft draft
+trace_allowed : (number : Option (List ℕ)) (d : Data) (draft : Draft) → Ascends d → limits (At places.Trace) d ≡ Ok tt → trace_of number d ≡ Ok draft → IsGoodDraft draft
 trace_allowed number d draft ascends limit e =
     let says = trace_says number d draft e in
     let ms = says.0 in
     let h = says.2 in
     let in_order = (ascends_object d ms says.1 ascends).1 in
-    let keeps = limits_kept part.Trace d ms says.1 limit in
+    let keeps = limits_kept (At places.Trace) d ms says.1 limit in
     let environment = environment_allowed ms (listed h.entries) in_order keeps.members (h.entries, h.environment, refl) in
     let there = needed_read (codes "type") (trace_type_of number (listed h.entries)) ms draft h.trace_type in
     trace_type_allowed number (listed h.entries) there.0 draft environment (ascends_needed (codes "type") ms there.0 in_order there.1) (type_limits_there ms there.0 keeps.members there.1) there.2
 
-trace_limits_there : (ms : Members) (d : Data) → member_limits part.Root ms ≡ Ok tt → needed (codes "trace") ms ≡ Ok d → limits part.Trace d ≡ Ok tt
-unfolding part_under part_in_root
-trace_limits_there ms d limit there = limit_there part.Root (codes "trace") ms d limit (found_there (codes "trace") ms d there)
+trace_limits_there : (ms : Members) (d : Data) → member_limits root ms ≡ Ok tt → needed (codes "trace") ms ≡ Ok d → limits (At places.Trace) d ≡ Ok tt
+unfolding part_under content_under rows_of entries_of place_in
+trace_limits_there ms d limit there = limit_there root (codes "trace") ms d limit (found_there (codes "trace") ms d there)
 
-pub good_draft : (number : Option (List ℕ)) (d : Data) (draft : Draft) → Ascends d → limits part.Root d ≡ Ok tt → draft_reading number d ≡ Ok draft → IsGoodDraft draft
+pub good_draft : (number : Option (List ℕ)) (d : Data) (draft : Draft) → Ascends d → limits root d ≡ Ok tt → draft_reading number d ≡ Ok draft → IsGoodDraft draft
 good_draft number d draft ascends limit e =
     let says = root_says number d draft e in
     let ms = says.0 in
-    let keeps = limits_kept part.Root d ms says.1 limit in
+    let keeps = limits_kept root d ms says.1 limit in
     let there = needed_read (codes "trace") (trace_of number) ms draft says.2.trace in
     trace_allowed number there.0 draft (ascends_needed (codes "trace") ms there.0 (ascends_object d ms says.1 ascends).1 there.1) (trace_limits_there ms there.0 keeps.members there.1) there.2

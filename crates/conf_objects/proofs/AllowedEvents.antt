@@ -7,16 +7,18 @@ use Rattle.ctf_types.specs.Names.{IsConfigName}
 use Rattle.ctf_types.specs.declared.EventType.{EventType}
 use Rattle.ctf_types.specs.declared.StructType.{StructType}
 use Rattle.conf_tree.specs.Reading.{optional}
-use Rattle.conf_objects.specs.declared.limits.Part.TheVariants as part
+use Rattle.conf_table.specs.declared.place.Place.TheVariants as places
+use Rattle.conf_table.specs.declared.row.Content.TheVariants.{At}
+use Rattle.conf_table.specs.Table.{rows_of, entries_of, place_in, content_under}
 use Rattle.conf_objects.specs.EntryRows.{IsLogLevel}
 use Rattle.conf_objects.specs.EventType.{event_types_of, listed}
 use Rattle.conf_fields.specs.FieldRows.{MaySay}
-use Rattle.conf_objects.specs.Limits.{part_under, part_in_event_type, most_entries, type_limits, limits, member_limits}
+use Rattle.conf_objects.specs.Limits.{part_under, most_entries, is_feature, is_structure_type, type_limits, limits, member_limits}
 use Rattle.conf_objects.specs.LogLevel.{max_level, level_of, log_level_of}
 use Rattle.conf_objects.specs.MapRows.{IsObject}
 use Rattle.conf_objects.specs.ObjectRows.{IsEventObject}
 use Rattle.conf_objects.specs.OptionalStruct.{plain_struct, struct_or_none}
-use Rattle.conf_fields.specs.Order.{Ascends, MembersAscend}
+use Rattle.conf_tree.specs.Order.{Ascends, MembersAscend}
 use Rattle.conf_fields.specs.StructType.{struct_of, struct_limits}
 use Rattle.conf_objects.proofs.AllowedMaps.{AreAllowed, IsUnder, listed_allowed}
 use Rattle.conf_objects.proofs.EntryRowLaws.{log_level_says}
@@ -45,8 +47,8 @@ unfolding plain_struct
 plain_allowed = record { members = no_members_allowed; empty = λ none. refl }
 
 -- the limits of a structure
-struct_within : (d : Data) (s : StructType) → struct_of d ≡ Ok s → limits part.Structure d ≡ Ok tt → struct_limits d ≡ Ok tt
-unfolding struct_of type_limits
+struct_within : (d : Data) (s : StructType) → struct_of d ≡ Ok s → limits (At places.StructureType) d ≡ Ok tt → struct_limits d ≡ Ok tt
+unfolding struct_of is_feature is_structure_type type_limits
 struct_within (object ms) s e limit = (both_read (struct_limits (object ms)) _ tt limit).1
 struct_within null s e limit = absurd cc
 struct_within (boolean b) s e limit = absurd cc
@@ -54,7 +56,7 @@ struct_within (number n) s e limit = absurd cc
 struct_within (string x) s e limit = absurd cc
 struct_within (array ds) s e limit = absurd cc
 
-pub struct_allowed : (name : List ℕ) (ms : Members) (s : StructType) → MembersAscend ms → ((d : Data) → optional name ms ≡ Some d → limits part.Structure d ≡ Ok tt)
+pub struct_allowed : (name : List ℕ) (ms : Members) (s : StructType) → MembersAscend ms → ((d : Data) → optional name ms ≡ Some d → limits (At places.StructureType) d ≡ Ok tt)
     → ((o : Option StructType) × MaySay name struct_of ms o × (s ≡ struct_or_none o)) → IsConfigStruct s
 struct_allowed name ms s ascends limit (None, said, same) = subst IsConfigStruct (sym same) plain_allowed
 struct_allowed name ms s ascends limit (Some x, said, same) =
@@ -70,13 +72,13 @@ pub record IsGoodEvent (e : EventType) : Type 0 where
   pub specific : IsConfigStruct e.specific
   pub payload : IsConfigStruct e.payload
 
-payload_limits : (ms : Members) → member_limits part.EventType ms ≡ Ok tt → (d : Data) → optional (codes "payload-field-type") ms ≡ Some d → limits part.Structure d ≡ Ok tt
-unfolding part_under part_in_event_type
-payload_limits ms limit d is = limit_given part.EventType (codes "payload-field-type") ms d limit is
+payload_limits : (ms : Members) → member_limits (At places.EventType) ms ≡ Ok tt → (d : Data) → optional (codes "payload-field-type") ms ≡ Some d → limits (At places.StructureType) d ≡ Ok tt
+unfolding part_under content_under rows_of entries_of place_in
+payload_limits ms limit d is = limit_given (At places.EventType) (codes "payload-field-type") ms d limit is
 
-specific_limits : (ms : Members) → member_limits part.EventType ms ≡ Ok tt → (d : Data) → optional (codes "specific-context-field-type") ms ≡ Some d → limits part.Structure d ≡ Ok tt
-unfolding part_under part_in_event_type
-specific_limits ms limit d is = limit_given part.EventType (codes "specific-context-field-type") ms d limit is
+specific_limits : (ms : Members) → member_limits (At places.EventType) ms ≡ Ok tt → (d : Data) → optional (codes "specific-context-field-type") ms ≡ Some d → limits (At places.StructureType) d ≡ Ok tt
+unfolding part_under content_under rows_of entries_of place_in
+specific_limits ms limit d is = limit_given (At places.EventType) (codes "specific-context-field-type") ms d limit is
 
 level_allowed : (aliases ms : Members) (o : Option ℕ) → MaySay (codes "log-level") (log_level_of aliases) ms o → (n : ℕ) → o ≡ Some n → n < 2 ^ 63
 level_allowed aliases ms o said n is =
@@ -86,9 +88,9 @@ level_allowed aliases ms o said n is =
 abbrev IsEventEntry : Members → List ℕ → Data → EventType → Type 0
 IsEventEntry aliases name d e = IsObject (λ ms. IsEventObject aliases name ms e) d
 
-event_allowed : (aliases : Members) (name : List ℕ) (d : Data) (e : EventType) → Ascends d → limits part.EventType d ≡ Ok tt → IsEventEntry aliases name d e → IsUnder (λ (x : EventType). x.name) IsGoodEvent name e
+event_allowed : (aliases : Members) (name : List ℕ) (d : Data) (e : EventType) → Ascends d → limits (At places.EventType) d ≡ Ok tt → IsEventEntry aliases name d e → IsUnder (λ (x : EventType). x.name) IsGoodEvent name e
 event_allowed aliases name d e ascends limit (ms, is, h) =
-    let keeps = limits_kept part.EventType d ms is limit in
+    let keeps = limits_kept (At places.EventType) d ms is limit in
     let in_order = (ascends_object d ms is ascends).1 in (
       h.name_is,
       record {
@@ -104,8 +106,8 @@ event_allowed aliases name d e ascends limit (ms, is, h) =
 abbrev pub AreGoodEvents : List EventType → Type 0
 AreGoodEvents es = AreAllowed (λ (e : EventType). e.name) IsGoodEvent 1024 es
 
-pub events_allowed : (aliases : Members) (name : List ℕ) (ms : Members) (es : List EventType) → MembersAscend ms → ((d : Data) → optional name ms ≡ Some d → limits part.EventTypes d ≡ Ok tt)
+pub events_allowed : (aliases : Members) (name : List ℕ) (ms : Members) (es : List EventType) → MembersAscend ms → ((d : Data) → optional name ms ≡ Some d → limits (At places.EventTypes) d ≡ Ok tt)
     → ((o : Option (List EventType)) × MaySay name (event_types_of aliases) ms o × (es ≡ listed o)) → AreGoodEvents es
-unfolding part_under most_entries
+unfolding part_under content_under rows_of entries_of place_in most_entries
 events_allowed aliases name ms es ascends limit said =
-    listed_allowed (λ (e : EventType). e.name) IsGoodEvent part.EventTypes part.EventType (IsEventEntry aliases) (λ key. refl) (event_allowed aliases) 1024 (event_types_of aliases) name ms es refl (event_types_say aliases) ascends limit said
+    listed_allowed (λ (e : EventType). e.name) IsGoodEvent (At places.EventTypes) (At places.EventType) (IsEventEntry aliases) (λ key. refl) (event_allowed aliases) 1024 (event_types_of aliases) name ms es refl (event_types_say aliases) ascends limit said

@@ -11,14 +11,15 @@ use Rattle.conf_objects.specs.declared.feature.Choice.{Choice}
 use Rattle.conf_objects.specs.declared.feature.Choice.TheVariants.{On, Off, Own}
 use Rattle.conf_objects.specs.declared.feature.FeatureRule.{FeatureRule}
 use Rattle.conf_objects.specs.declared.feature.FeatureRule.TheVariants.{Plain, Size, Magic, Identifier}
-use Rattle.conf_objects.specs.declared.limits.Part.TheVariants as part
+use Rattle.conf_table.specs.declared.place.Place.TheVariants as places
+use Rattle.conf_table.specs.declared.row.Content.TheVariants.{At}
 use Rattle.conf_objects.specs.Feature.{number_type, magic_type, byte_type, choice_of, chosen, chosen_size, mapped, mapped_if_on}
 use Rattle.conf_objects.specs.FeatureRows.{IsByte, IsChoice}
 use Rattle.conf_fields.specs.FieldRows.{MaySay}
 use Rattle.conf_fields.specs.FieldType.{unsigned_field_of, field_of, field_in, field_limits}
-use Rattle.conf_objects.specs.Limits.{limits, type_limits}
+use Rattle.conf_objects.specs.Limits.{is_feature, limits, type_limits}
 use Rattle.conf_objects.specs.ObjectRows.{IsFeature, IsSize, IsTimestampFeature}
-use Rattle.conf_fields.specs.Order.{Ascends, MembersAscend}
+use Rattle.conf_tree.specs.Order.{Ascends, MembersAscend}
 use Rattle.conf_objects.proofs.FeatureRowLaws.{choice_says}
 use Rattle.conf_fields.proofs.AllowedFields.{allowed_field}
 use Rattle.conf_fields.proofs.AllowedInts.{allowed_unsigned}
@@ -53,8 +54,8 @@ own_array d c t (IsChoice.number x other read wide) e = absurd (other refl)
 own_array d c t (IsChoice.identifier ms byte is of_class read sixteen) e = let same : byte ≡ t = cc in subst (IsOwnArray d) same (record { read = read; byte = sixteen })
 
 -- the limits of a field type that is a feature
-feature_limits : (d : Data) (f : FieldType) → field_of d ≡ Ok f → limits part.Feature d ≡ Ok tt → field_limits d ≡ Ok tt
-unfolding field_of field_in type_limits
+feature_limits : (d : Data) (f : FieldType) → field_of d ≡ Ok f → limits (At places.IdentifierFeature) d ≡ Ok tt → field_limits d ≡ Ok tt
+unfolding field_of field_in is_feature type_limits
 feature_limits (object ms) f e limit = (both_read (field_limits (object ms)) _ tt limit).1
 feature_limits null f e limit = absurd cc
 feature_limits (boolean b) f e limit = absurd cc
@@ -65,7 +66,7 @@ feature_limits (array ds) f e limit = absurd cc
 abbrev IsIdentifier : IntType → Type 0
 IsIdentifier t = IsPlainUnsigned t × (t.size ≡ 8) × (t.align ≡ 8)
 
-bytes_there : (d : Data) (t : IntType) → Ascends d → limits part.Feature d ≡ Ok tt → choice_of Identifier d ≡ Ok (Own t) → IsIdentifier t
+bytes_there : (d : Data) (t : IntType) → Ascends d → limits (At places.IdentifierFeature) d ≡ Ok tt → choice_of Identifier d ≡ Ok (Own t) → IsIdentifier t
 bytes_there d t ascends limit e =
     let own = own_array d (Own t) t (choice_says Identifier d (Own t) e) refl in
     let whole : FieldType = Static (record { lengths = []; leaf = Number t }) 16 in
@@ -118,7 +119,7 @@ magic_said name ms o t said own = let number = number_allowed Magic name ms o t 
 pub magic_allowed : (name : List ℕ) (ms : Members) (t : Option IntType) → ((o : Option Choice) × MaySay name (choice_of Magic) ms o × (t ≡ chosen true magic_type o)) → OnlyIf t (λ x. IsPlainUnsigned x × (x.size ≡ 32))
 magic_allowed name ms t (o, said, is) = subst (λ x. OnlyIf x IsMagic) (sym is) (chosen_only IsMagic true magic_type o ((refl, refl), refl) (λ x own. magic_said name ms o x said own))
 
-pub identifier_allowed : (b : Bool) (name : List ℕ) (ms : Members) (t : Option IntType) → MembersAscend ms → ((d : Data) → optional name ms ≡ Some d → limits part.Feature d ≡ Ok tt)
+pub identifier_allowed : (b : Bool) (name : List ℕ) (ms : Members) (t : Option IntType) → MembersAscend ms → ((d : Data) → optional name ms ≡ Some d → limits (At places.IdentifierFeature) d ≡ Ok tt)
     → ((o : Option Choice) × MaySay name (choice_of Identifier) ms o × (t ≡ chosen b byte_type o)) → OnlyIf t (λ x. IsPlainUnsigned x × (x.size ≡ 8) × (x.align ≡ 8))
 identifier_allowed b name ms t ascends limit (o, said, is) =
     subst (λ x. OnlyIf x IsIdentifier) (sym is) (chosen_only IsIdentifier b byte_type o ((refl, refl), refl, refl)

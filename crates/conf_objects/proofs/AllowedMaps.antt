@@ -10,12 +10,12 @@ use Rattle.ctf_types.specs.AllowedConfig.{InByteOrder}
 use Rattle.conf_tree.specs.Flaw.{Flaw, key}
 use Rattle.conf_tree.specs.Reading.{at, optional}
 use Rattle.conf_inherit.specs.Names.{names_of}
-use Rattle.conf_objects.specs.declared.limits.Part.{Part}
+use Rattle.conf_table.specs.declared.row.Content.{Content}
 use Rattle.conf_objects.specs.EntryRows.{EachEntryIs, IsMapTo}
 use Rattle.conf_objects.specs.EventType.{listed}
 use Rattle.conf_fields.specs.FieldRows.{MaySay}
 use Rattle.conf_objects.specs.Limits.{part_under, most_entries, limits, member_limits}
-use Rattle.conf_fields.specs.Order.{Ascends, MembersAscend}
+use Rattle.conf_tree.specs.Order.{Ascends, MembersAscend}
 use Rattle.conf_fields.proofs.Ascending.{ascends_object, ascends_given}
 use Rattle.conf_objects.proofs.InTheMap.{sorted_names, limits_kept, entries_few}
 use Rattle.conf_values.proofs.Steps.{both_read, read_there, given_read}
@@ -39,7 +39,7 @@ unfolding IsStrictlySortedBy
 none_allowed named good most = record { each = All-nil good; in_order = tt; few = omega arith }
 
 -- each entry of the part `whole` is a part `inner`, and is what `is` says
-module _ {A : Type 0} (named : A → List ℕ) (good : A → Type 0) (whole inner : Part) (is : List ℕ → Data → A → Type 0) (under : (name : List ℕ) → part_under whole name ≡ inner)
+module _ {A : Type 0} (named : A → List ℕ) (good : A → Type 0) (whole inner : Content) (is : List ℕ → Data → A → Type 0) (under : (name : List ℕ) → part_under whole name ≡ inner)
     (each_good : (name : List ℕ) (d : Data) (x : A) → Ascends d → limits inner d ≡ Ok tt → is name d x → IsUnder named good name x) where
   entries_allowed : (ms : Members) (xs : List A) → MembersAscend ms → member_limits whole ms ≡ Ok tt → EachEntryIs is ms xs → AreItems named good ms xs
   entries_allowed no_members [] ascends limit h = record { names_are = refl; items = tt }

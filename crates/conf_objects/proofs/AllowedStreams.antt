@@ -17,18 +17,20 @@ use Rattle.ctf_types.specs.declared.StructType.{StructType}
 use Rattle.conf_tree.specs.Flaw.{Flaw}
 use Rattle.conf_tree.specs.Reading.{optional}
 use Rattle.conf_objects.specs.declared.features.StreamFields.{StreamFields}
-use Rattle.conf_objects.specs.declared.limits.Part.TheVariants as part
+use Rattle.conf_table.specs.declared.place.Place.TheVariants as places
+use Rattle.conf_table.specs.declared.row.Content.TheVariants.{At}
+use Rattle.conf_table.specs.Table.{rows_of, entries_of, place_in, content_under}
 use Rattle.conf_objects.specs.declared.stream_type.Listed.{Listed}
 use Rattle.conf_objects.specs.EntryRows.{EachEntryIs, IsMapTo}
 use Rattle.conf_objects.specs.EventType.{listed}
 use Rattle.conf_objects.specs.Features.{or_empty, event_header_in, event_header_of, context_in, context_of, stream_fields_in, stream_fields_of}
 use Rattle.conf_fields.specs.FieldRows.{MaySay}
-use Rattle.conf_objects.specs.Limits.{part_under, part_in_stream_type, most_entries, list_limits, limits, member_limits}
+use Rattle.conf_objects.specs.Limits.{part_under, most_entries, is_extra_members, list_limits, limits, member_limits}
 use Rattle.conf_objects.specs.MapRows.{IsObject, AreStreamEntries}
 use Rattle.conf_fields.specs.Members.{members_of, members_limits}
 use Rattle.conf_objects.specs.ObjectRows.{IsEventHeaderObject, IsContextObject, IsStreamFieldsObject, IsStreamObject}
 use Rattle.conf_objects.specs.OptionalStruct.{plain_struct, extras_or_none}
-use Rattle.conf_fields.specs.Order.{Ascends, MembersAscend}
+use Rattle.conf_tree.specs.Order.{Ascends, MembersAscend}
 use Rattle.conf_objects.specs.StreamType.{stream_types_of}
 use Rattle.conf_objects.proofs.AllowedEvents.{AreGoodEvents, struct_allowed, events_allowed}
 use Rattle.conf_objects.proofs.AllowedFeatures.{IsOfClock, feature_allowed, size_allowed, timestamp_allowed}
@@ -112,8 +114,8 @@ pub record AreExtras (s : StructType) : Type 0 where
   pub no_own_name : All (λ name. list_any (bytes_eq name) own_names ≡ false) (names_in (shown_members 0 s.members))
 
 -- the limits of a members list
-members_within : (d : Data) (ms : List (List ℕ × MemberType)) → members_of own_names d ≡ Ok ms → limits part.Extras d ≡ Ok tt → members_limits d ≡ Ok tt
-unfolding members_of list_limits
+members_within : (d : Data) (ms : List (List ℕ × MemberType)) → members_of own_names d ≡ Ok ms → limits (At places.ExtraMembers) d ≡ Ok tt → members_limits d ≡ Ok tt
+unfolding members_of is_extra_members list_limits
 members_within (array ds) ms e limit = limit
 members_within null ms e limit = absurd cc
 members_within (boolean b) ms e limit = absurd cc
@@ -125,7 +127,7 @@ no_extras : AreExtras (plain_struct [])
 unfolding plain_struct shown_members
 no_extras = record { members = no_members_allowed; align = refl; no_own_name = All-nil (λ n. list_any (bytes_eq n) own_names ≡ false) }
 
-some_extras : (d : Data) (l : List (List ℕ × MemberType)) → Ascends d → limits part.Extras d ≡ Ok tt → members_of own_names d ≡ Ok l → AreExtras (plain_struct l)
+some_extras : (d : Data) (l : List (List ℕ × MemberType)) → Ascends d → limits (At places.ExtraMembers) d ≡ Ok tt → members_of own_names d ≡ Ok l → AreExtras (plain_struct l)
 unfolding plain_struct
 some_extras d l ascends limit e = record {
   members = allowed_members own_names d l ascends e (members_within d l e limit);
@@ -133,7 +135,7 @@ some_extras d l ascends limit e = record {
   no_own_name = names_free own_names d l e;
 }
 
-extras_allowed : (name : List ℕ) (ms : Members) (s : StructType) → MembersAscend ms → ((d : Data) → optional name ms ≡ Some d → limits part.Extras d ≡ Ok tt)
+extras_allowed : (name : List ℕ) (ms : Members) (s : StructType) → MembersAscend ms → ((d : Data) → optional name ms ≡ Some d → limits (At places.ExtraMembers) d ≡ Ok tt)
     → ((o : Option (List (List ℕ × MemberType))) × MaySay name (members_of own_names) ms o × (s ≡ extras_or_none o)) → AreExtras s
 extras_allowed name ms s ascends limit (None, said, same) = subst AreExtras (sym same) no_extras
 extras_allowed name ms s ascends limit (Some l, said, same) =
@@ -151,19 +153,19 @@ pub record IsGoodStream (s : StreamType) : Type 0 where
   pub common : IsConfigStruct s.common
   pub events : AreGoodEvents s.events
 
-common_limits : (ms : Members) → member_limits part.StreamType ms ≡ Ok tt → (d : Data) → optional (codes "event-record-common-context-field-type") ms ≡ Some d → limits part.Structure d ≡ Ok tt
-unfolding part_under part_in_stream_type
-common_limits ms limit d is = limit_given part.StreamType (codes "event-record-common-context-field-type") ms d limit is
+common_limits : (ms : Members) → member_limits (At places.StreamType) ms ≡ Ok tt → (d : Data) → optional (codes "event-record-common-context-field-type") ms ≡ Some d → limits (At places.StructureType) d ≡ Ok tt
+unfolding part_under content_under rows_of entries_of place_in
+common_limits ms limit d is = limit_given (At places.StreamType) (codes "event-record-common-context-field-type") ms d limit is
 
-events_limits : (ms : Members) → member_limits part.StreamType ms ≡ Ok tt → (d : Data) → optional (codes "event-record-types") ms ≡ Some d → limits part.EventTypes d ≡ Ok tt
-unfolding part_under part_in_stream_type
-events_limits ms limit d is = limit_given part.StreamType (codes "event-record-types") ms d limit is
+events_limits : (ms : Members) → member_limits (At places.StreamType) ms ≡ Ok tt → (d : Data) → optional (codes "event-record-types") ms ≡ Some d → limits (At places.EventTypes) d ≡ Ok tt
+unfolding part_under content_under rows_of entries_of place_in
+events_limits ms limit d is = limit_given (At places.StreamType) (codes "event-record-types") ms d limit is
 
-extras_limits : (ms : Members) → member_limits part.StreamType ms ≡ Ok tt → (d : Data) → optional (codes "packet-context-field-type-extra-members") ms ≡ Some d → limits part.Extras d ≡ Ok tt
-unfolding part_under part_in_stream_type
-extras_limits ms limit d is = limit_given part.StreamType (codes "packet-context-field-type-extra-members") ms d limit is
+extras_limits : (ms : Members) → member_limits (At places.StreamType) ms ≡ Ok tt → (d : Data) → optional (codes "packet-context-field-type-extra-members") ms ≡ Some d → limits (At places.ExtraMembers) d ≡ Ok tt
+unfolding part_under content_under rows_of entries_of place_in
+extras_limits ms limit d is = limit_given (At places.StreamType) (codes "packet-context-field-type-extra-members") ms d limit is
 
-good_stream : (aliases : Members) (taken : Bool) (name : List ℕ) (ms : Members) (l : Listed) → MembersAscend ms → member_limits part.StreamType ms ≡ Ok tt → IsStreamObject aliases taken name ms l → IsGoodStream l.stream
+good_stream : (aliases : Members) (taken : Bool) (name : List ℕ) (ms : Members) (l : Listed) → MembersAscend ms → member_limits (At places.StreamType) ms ≡ Ok tt → IsStreamObject aliases taken name ms l → IsGoodStream l.stream
 good_stream aliases taken name ms l ascends limit h =
     let s = l.stream in
     let fields = features_allowed s.default_clock ms (fields_part s) h.features in
@@ -180,9 +182,9 @@ good_stream aliases taken name ms l ascends limit h =
 abbrev IsStreamEntry : Members → List ℕ → Data → StreamType → Type 0
 IsStreamEntry aliases name d s = (taken : Bool) × (l : Listed) × IsObject (λ ms. IsStreamObject aliases taken name ms l) d × (l.stream ≡ s)
 
-stream_allowed : (aliases : Members) (name : List ℕ) (d : Data) (s : StreamType) → Ascends d → limits part.StreamType d ≡ Ok tt → IsStreamEntry aliases name d s → IsUnder (λ (x : StreamType). x.name) IsGoodStream name s
+stream_allowed : (aliases : Members) (name : List ℕ) (d : Data) (s : StreamType) → Ascends d → limits (At places.StreamType) d ≡ Ok tt → IsStreamEntry aliases name d s → IsUnder (λ (x : StreamType). x.name) IsGoodStream name s
 stream_allowed aliases name d s ascends limit (taken, l, (ms, is, h), same) =
-    let keeps = limits_kept part.StreamType d ms is limit in
+    let keeps = limits_kept (At places.StreamType) d ms is limit in
     let in_order = (ascends_object d ms is ascends).1 in
     subst (IsUnder (λ (x : StreamType). x.name) IsGoodStream name) same (h.name_is, good_stream aliases taken name ms l in_order keeps.members h)
 
@@ -200,8 +202,8 @@ stream_entries aliases taken (member k d ms) (s ∷ ss) (l, is, same, rest) = ((
 stream_map : (aliases : Members) (d : Data) (ss : List StreamType) → stream_types_of aliases d ≡ Ok ss → IsMapTo (IsStreamEntry aliases) d ss
 stream_map aliases d ss read = let says = stream_types_say aliases d ss read in (says.0, says.1, stream_entries aliases false says.0 ss says.2)
 
-pub streams_allowed : (aliases : Members) (name : List ℕ) (ms : Members) (ss : List StreamType) → MembersAscend ms → ((d : Data) → optional name ms ≡ Some d → limits part.StreamTypes d ≡ Ok tt)
+pub streams_allowed : (aliases : Members) (name : List ℕ) (ms : Members) (ss : List StreamType) → MembersAscend ms → ((d : Data) → optional name ms ≡ Some d → limits (At places.StreamTypes) d ≡ Ok tt)
     → ((o : Option (List StreamType)) × MaySay name (stream_types_of aliases) ms o × (ss ≡ listed o)) → AreGoodStreams ss
-unfolding part_under most_entries
+unfolding part_under content_under rows_of entries_of place_in most_entries
 streams_allowed aliases name ms ss ascends limit said =
-    listed_allowed (λ (s : StreamType). s.name) IsGoodStream part.StreamTypes part.StreamType (IsStreamEntry aliases) (λ key. refl) (stream_allowed aliases) 64 (stream_types_of aliases) name ms ss refl (stream_map aliases) ascends limit said
+    listed_allowed (λ (s : StreamType). s.name) IsGoodStream (At places.StreamTypes) (At places.StreamType) (IsStreamEntry aliases) (λ key. refl) (stream_allowed aliases) 64 (stream_types_of aliases) name ms ss refl (stream_map aliases) ascends limit said

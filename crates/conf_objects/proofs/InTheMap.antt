@@ -14,7 +14,7 @@ use Rattle.conf_tree.specs.Flaw.{key}
 use Rattle.conf_tree.specs.Reading.{at, object_of, optional}
 use Rattle.conf_inherit.specs.Names.{AllAbove, IsInOrder, names_of}
 use Rattle.conf_inherit.proofs.LayingLemmas.{Meets, same, other, meets, get_other, get_same}
-use Rattle.conf_objects.specs.declared.limits.Part.{Part}
+use Rattle.conf_table.specs.declared.row.Content.{Content}
 use Rattle.conf_objects.specs.Limits.{part_under, most_entries, at_most, entries_limit, type_limits, limits, member_limits}
 use Rattle.conf_values.proofs.Depths.{given_some}
 use Rattle.conf_values.proofs.Steps.{both_read, read_there, is_passed}
@@ -43,7 +43,7 @@ object_is (array ds) ms e = absurd cc
 object_is (object ns) ms e = cc
 
 -- what keeps the limits of a part keeps those of its properties
-pub limit_there : (part : Part) (k : List ℕ) (ms : Members) (d : Data) → member_limits part ms ≡ Ok tt → get_member k ms ≡ Some d → limits (part_under part k) d ≡ Ok tt
+pub limit_there : (part : Content) (k : List ℕ) (ms : Members) (d : Data) → member_limits part ms ≡ Ok tt → get_member k ms ≡ Some d → limits (part_under part k) d ≡ Ok tt
 limit_there part k no_members d e is = absurd cc
 limit_there part k (member l f ms) d e is = go (meets k l) (limit_there part k ms d first.2)
   where
@@ -57,16 +57,16 @@ limit_there part k (member l f ms) d e is = go (meets k l) (limit_there part k m
         subst (λ x. limits (part_under part k) x ≡ Ok tt) value (subst (λ n. limits (part_under part n) f ≡ Ok tt) (sym s) (read_there (key l) (limits (part_under part l) f) tt first.1))
     go (other apart) later = later (sym (get_other k l f ms apart) ∙ is)
 
-pub limit_given : (part : Part) (k : List ℕ) (ms : Members) (d : Data) → member_limits part ms ≡ Ok tt → optional k ms ≡ Some d → limits (part_under part k) d ≡ Ok tt
+pub limit_given : (part : Content) (k : List ℕ) (ms : Members) (d : Data) → member_limits part ms ≡ Ok tt → optional k ms ≡ Some d → limits (part_under part k) d ≡ Ok tt
 limit_given part k ms d e is = limit_there part k ms d e (given_some (get_member k ms) d is)
 
 -- an object that keeps its limits
-pub record KeepsLimits (part : Part) (d : Data) (ms : Members) : Type 0 where
+pub record KeepsLimits (part : Content) (d : Data) (ms : Members) : Type 0 where
   pub as_type : type_limits part d ≡ Ok tt
   pub entries : entries_limit part ms ≡ Ok tt
   pub members : member_limits part ms ≡ Ok tt
 
-pub limits_kept : (part : Part) (d : Data) (ms : Members) → object_of d ≡ Ok ms → limits part d ≡ Ok tt → KeepsLimits part d ms
+pub limits_kept : (part : Content) (d : Data) (ms : Members) → object_of d ≡ Ok ms → limits part d ≡ Ok tt → KeepsLimits part d ms
 limits_kept part d ms is e =
     let whole : limits part (object ms) ≡ Ok tt = subst (λ x. limits part x ≡ Ok tt) (object_is d ms is) e in
     let first = both_read (type_limits part (object ms)) _ tt whole in
@@ -82,6 +82,6 @@ within (Some limit) n count is e =
     let eq : limit ≡ n = cc in
     subst (λ x. count ≤ x) eq few
 
-pub entries_few : (part : Part) (ms : Members) (n : ℕ) → most_entries part ≡ Some n → entries_limit part ms ≡ Ok tt → length (names_of ms) ≤ n
+pub entries_few : (part : Content) (ms : Members) (n : ℕ) → most_entries part ≡ Some n → entries_limit part ms ≡ Ok tt → length (names_of ms) ≤ n
 unfolding entries_limit
 entries_few part ms n is e = subst (λ x. x ≤ n) (sym (names_counted ms)) (within (most_entries part) n (members_len ms) is e)

@@ -16,8 +16,8 @@ use Rattle.conf_objects.specs.declared.feature.Choice.{Choice}
 use Rattle.conf_objects.specs.declared.feature.Choice.TheVariants.{On, Off, Own}
 use Rattle.conf_objects.specs.declared.feature.FeatureRule.{FeatureRule}
 use Rattle.conf_objects.specs.declared.feature.FeatureRule.TheVariants.{Plain, Size, Magic, Identifier}
-use Rattle.conf_values.specs.declared.properties.ObjectKind.{ObjectKind}
-use Rattle.conf_values.specs.declared.properties.ObjectKind.TheVariants as objects
+use Rattle.conf_table.specs.declared.place.Place.{Place}
+use Rattle.conf_table.specs.declared.place.Place.TheVariants as places
 use Rattle.conf_objects.specs.Alias.{alias_of, aliases_in, aliases_of}
 use Rattle.conf_values.specs.Broken.{HasUnknown, MaySayNot}
 use Rattle.conf_objects.specs.ClockType.{Offset, max_u64, offset_in, offset_of, or_no_offset, next_offset, before_origin, origin_in, after_origin, clock_in, clock_type_of, clock_member_of, clocks_in, clock_types_of}
@@ -196,28 +196,28 @@ feature_refused Identifier d flaw e = identifier_refused d flaw e
 
 -- ---- features in their walk
 
-abbrev pub Row : ObjectKind → List ℕ → (Data → Flaw → Type 0) → Members → Flaw → Type 0
-Row kind name wrong ms flaw = HasUnknown kind ms flaw ⊎ MaySayNot name wrong ms flaw
+abbrev pub Row : Place → List ℕ → (Data → Flaw → Type 0) → Members → Flaw → Type 0
+Row place name wrong ms flaw = HasUnknown place ms flaw ⊎ MaySayNot name wrong ms flaw
 
-next_feature_refused : (kind : ObjectKind) (b : Bool) (name : List ℕ) (ms : Members) (flaw : Flaw) → next_feature b (first_unknown kind ms) name ms ≡ Err flaw → Row kind name (IsNoFeature Plain) ms flaw
+next_feature_refused : (place : Place) (b : Bool) (name : List ℕ) (ms : Members) (flaw : Flaw) → next_feature b (first_unknown place ms) name ms ≡ Err flaw → Row place name (IsNoFeature Plain) ms flaw
 unfolding next_feature
-next_feature_refused kind b name ms flaw e = only_step (next (first_unknown kind ms) name (choice_of Plain) ms) _ flaw e (next_refused kind name (choice_of Plain) (IsNoFeature Plain) ms flaw (feature_refused Plain))
+next_feature_refused place b name ms flaw e = only_step (next (first_unknown place ms) name (choice_of Plain) ms) _ flaw e (next_refused place name (choice_of Plain) (IsNoFeature Plain) ms flaw (feature_refused Plain))
 
-next_size_refused : (kind : ObjectKind) (name : List ℕ) (ms : Members) (flaw : Flaw) → next_size (first_unknown kind ms) name ms ≡ Err flaw → Row kind name (IsNoFeature Size) ms flaw
+next_size_refused : (place : Place) (name : List ℕ) (ms : Members) (flaw : Flaw) → next_size (first_unknown place ms) name ms ≡ Err flaw → Row place name (IsNoFeature Size) ms flaw
 unfolding next_size
-next_size_refused kind name ms flaw e = only_step (next (first_unknown kind ms) name (choice_of Size) ms) _ flaw e (next_refused kind name (choice_of Size) (IsNoFeature Size) ms flaw (feature_refused Size))
+next_size_refused place name ms flaw e = only_step (next (first_unknown place ms) name (choice_of Size) ms) _ flaw e (next_refused place name (choice_of Size) (IsNoFeature Size) ms flaw (feature_refused Size))
 
-next_magic_refused : (kind : ObjectKind) (name : List ℕ) (ms : Members) (flaw : Flaw) → next_magic (first_unknown kind ms) name ms ≡ Err flaw → Row kind name (IsNoFeature Magic) ms flaw
+next_magic_refused : (place : Place) (name : List ℕ) (ms : Members) (flaw : Flaw) → next_magic (first_unknown place ms) name ms ≡ Err flaw → Row place name (IsNoFeature Magic) ms flaw
 unfolding next_magic
-next_magic_refused kind name ms flaw e = only_step (next (first_unknown kind ms) name (choice_of Magic) ms) _ flaw e (next_refused kind name (choice_of Magic) (IsNoFeature Magic) ms flaw (feature_refused Magic))
+next_magic_refused place name ms flaw e = only_step (next (first_unknown place ms) name (choice_of Magic) ms) _ flaw e (next_refused place name (choice_of Magic) (IsNoFeature Magic) ms flaw (feature_refused Magic))
 
-next_identifier_refused : (kind : ObjectKind) (b : Bool) (name : List ℕ) (ms : Members) (flaw : Flaw) → next_identifier b (first_unknown kind ms) name ms ≡ Err flaw → Row kind name (IsNoFeature Identifier) ms flaw
+next_identifier_refused : (place : Place) (b : Bool) (name : List ℕ) (ms : Members) (flaw : Flaw) → next_identifier b (first_unknown place ms) name ms ≡ Err flaw → Row place name (IsNoFeature Identifier) ms flaw
 unfolding next_identifier
-next_identifier_refused kind b name ms flaw e = only_step (next (first_unknown kind ms) name (choice_of Identifier) ms) _ flaw e (next_refused kind name (choice_of Identifier) (IsNoFeature Identifier) ms flaw (feature_refused Identifier))
+next_identifier_refused place b name ms flaw e = only_step (next (first_unknown place ms) name (choice_of Identifier) ms) _ flaw e (next_refused place name (choice_of Identifier) (IsNoFeature Identifier) ms flaw (feature_refused Identifier))
 
-next_timestamp_refused : (kind : ObjectKind) (clock : Option (List ℕ)) (name : List ℕ) (ms : Members) (flaw : Flaw) → next_timestamp clock (first_unknown kind ms) name ms ≡ Err flaw → Row kind name (IsNoFeature Plain) ms flaw
+next_timestamp_refused : (place : Place) (clock : Option (List ℕ)) (name : List ℕ) (ms : Members) (flaw : Flaw) → next_timestamp clock (first_unknown place ms) name ms ≡ Err flaw → Row place name (IsNoFeature Plain) ms flaw
 unfolding next_timestamp
-next_timestamp_refused kind clock name ms flaw e = only_step (next_feature (is_some clock) (first_unknown kind ms) name ms) _ flaw e (next_feature_refused kind (is_some clock) name ms flaw)
+next_timestamp_refused place clock name ms flaw e = only_step (next_feature (is_some clock) (first_unknown place ms) name ms) _ flaw e (next_feature_refused place (is_some clock) name ms flaw)
 
 -- what an object that is not there says is never refused
 pub absent_or_there : {A : Type 0} (empty : Result A Flaw) (o : Option A) (flaw : Flaw) → (empty ≡ Err flaw → ⊥) → or_empty empty o ≡ Err flaw → ⊥
@@ -228,57 +228,57 @@ absent_or_there empty (Some x) flaw fine e = absurd cc
 
 module _ (has : Bool) (ms : Members) (flaw : Flaw) where
   abbrev header_u : Option (List ℕ)
-  header_u = first_unknown objects.TraceFeatures ms
+  header_u = first_unknown places.TraceFeatures ms
 
   header_fields_refused : header_fields_in has header_u ms ≡ Err flaw → IsNoHeaderObject ms flaw
   unfolding header_fields_in
   header_fields_refused e =
       either_step (next_feature true header_u (codes "data-stream-type-id-field-type") ms) _ flaw e
-      (λ r. either_way (next_feature_refused objects.TraceFeatures true (codes "data-stream-type-id-field-type") ms flaw r) IsNoHeaderObject.unknown IsNoHeaderObject.stream_id)
+      (λ r. either_way (next_feature_refused places.TraceFeatures true (codes "data-stream-type-id-field-type") ms flaw r) IsNoHeaderObject.unknown IsNoHeaderObject.stream_id)
       (λ x went f. either_step (next_magic header_u (codes "magic-field-type") ms) _ flaw f
-      (λ r. either_way (next_magic_refused objects.TraceFeatures (codes "magic-field-type") ms flaw r) IsNoHeaderObject.unknown IsNoHeaderObject.magic)
+      (λ r. either_way (next_magic_refused places.TraceFeatures (codes "magic-field-type") ms flaw r) IsNoHeaderObject.unknown IsNoHeaderObject.magic)
       (λ y made g. only_step (next_identifier has header_u (codes "uuid-field-type") ms) _ flaw g
-      (λ r. either_way (next_identifier_refused objects.TraceFeatures has (codes "uuid-field-type") ms flaw r) IsNoHeaderObject.unknown IsNoHeaderObject.uuid)))
+      (λ r. either_way (next_identifier_refused places.TraceFeatures has (codes "uuid-field-type") ms flaw r) IsNoHeaderObject.unknown IsNoHeaderObject.uuid)))
 
   header_in_refused : header_in has header_u ms ≡ Err flaw → IsNoHeaderObject ms flaw
   unfolding header_in
   header_in_refused e =
       either_step (header_fields_in has header_u ms) _ flaw e header_fields_refused
-      (λ x went f. only_step (no_more header_u) _ flaw f (λ r. IsNoHeaderObject.unknown (no_more_refused objects.TraceFeatures ms flaw r)))
+      (λ x went f. only_step (no_more header_u) _ flaw f (λ r. IsNoHeaderObject.unknown (no_more_refused places.TraceFeatures ms flaw r)))
 
 pub header_refused : (has : Bool) (d : Data) (flaw : Flaw) → header_of has d ≡ Err flaw → IsNoHeader d flaw
 unfolding header_of
-header_refused has d flaw e = in_object IsNoHeaderObject (λ ms. header_in has (first_unknown objects.TraceFeatures ms) ms) d flaw (λ ms r. header_in_refused has ms flaw r) e
+header_refused has d flaw e = in_object IsNoHeaderObject (λ ms. header_in has (first_unknown places.TraceFeatures ms) ms) d flaw (λ ms r. header_in_refused has ms flaw r) e
 
 no_header_fine : (has : Bool) (flaw : Flaw) → header_in has None no_members ≡ Err flaw → ⊥
 unfolding header_in header_fields_in next_feature next_magic next_identifier next optional_as
 no_header_fine has flaw e = absurd cc
 
-pub next_header_refused : (kind : ObjectKind) (has : Bool) (name : List ℕ) (ms : Members) (flaw : Flaw) → next_header has (first_unknown kind ms) name ms ≡ Err flaw → Row kind name IsNoHeader ms flaw
+pub next_header_refused : (place : Place) (has : Bool) (name : List ℕ) (ms : Members) (flaw : Flaw) → next_header has (first_unknown place ms) name ms ≡ Err flaw → Row place name IsNoHeader ms flaw
 unfolding next_header
-next_header_refused kind has name ms flaw e =
-    either_step (next (first_unknown kind ms) name (header_of has) ms) (or_empty (header_in has None no_members)) flaw e
-    (next_refused kind name (header_of has) IsNoHeader ms flaw (header_refused has))
+next_header_refused place has name ms flaw e =
+    either_step (next (first_unknown place ms) name (header_of has) ms) (or_empty (header_in has None no_members)) flaw e
+    (next_refused place name (header_of has) IsNoHeader ms flaw (header_refused has))
     (λ o went r. absurd (absent_or_there (header_in has None no_members) o flaw (no_header_fine has flaw) r))
 
 -- ---- the event record header
 
 module _ (clock : Option (List ℕ)) (ms : Members) (flaw : Flaw) where
   abbrev event_u : Option (List ℕ)
-  event_u = first_unknown objects.EventFeatures ms
+  event_u = first_unknown places.EventRecordFeatures ms
 
   event_header_in_refused : event_header_in clock event_u ms ≡ Err flaw → IsNoEventHeaderObject ms flaw
   unfolding event_header_in
   event_header_in_refused e =
       either_step (next_timestamp clock event_u (codes "timestamp-field-type") ms) _ flaw e
-      (λ r. either_way (next_timestamp_refused objects.EventFeatures clock (codes "timestamp-field-type") ms flaw r) IsNoEventHeaderObject.unknown IsNoEventHeaderObject.timestamp)
+      (λ r. either_way (next_timestamp_refused places.EventRecordFeatures clock (codes "timestamp-field-type") ms flaw r) IsNoEventHeaderObject.unknown IsNoEventHeaderObject.timestamp)
       (λ x went f. either_step (next_feature true event_u (codes "type-id-field-type") ms) _ flaw f
-      (λ r. either_way (next_feature_refused objects.EventFeatures true (codes "type-id-field-type") ms flaw r) IsNoEventHeaderObject.unknown IsNoEventHeaderObject.id)
-      (λ y made g. only_step (no_more event_u) _ flaw g (λ r. IsNoEventHeaderObject.unknown (no_more_refused objects.EventFeatures ms flaw r))))
+      (λ r. either_way (next_feature_refused places.EventRecordFeatures true (codes "type-id-field-type") ms flaw r) IsNoEventHeaderObject.unknown IsNoEventHeaderObject.id)
+      (λ y made g. only_step (no_more event_u) _ flaw g (λ r. IsNoEventHeaderObject.unknown (no_more_refused places.EventRecordFeatures ms flaw r))))
 
 pub event_header_refused : (clock : Option (List ℕ)) (d : Data) (flaw : Flaw) → event_header_of clock d ≡ Err flaw → IsNoEventHeader d flaw
 unfolding event_header_of
-event_header_refused clock d flaw e = in_object IsNoEventHeaderObject (λ ms. event_header_in clock (first_unknown objects.EventFeatures ms) ms) d flaw (λ ms r. event_header_in_refused clock ms flaw r) e
+event_header_refused clock d flaw e = in_object IsNoEventHeaderObject (λ ms. event_header_in clock (first_unknown places.EventRecordFeatures ms) ms) d flaw (λ ms r. event_header_in_refused clock ms flaw r) e
 
 no_event_header_fine : (clock : Option (List ℕ)) (flaw : Flaw) → event_header_in clock None no_members ≡ Err flaw → ⊥
 unfolding event_header_in next_timestamp next_feature next optional_as
@@ -288,38 +288,38 @@ no_event_header_fine clock flaw e = absurd cc
 
 module _ (clock : Option (List ℕ)) (ms : Members) (flaw : Flaw) where
   abbrev packet_u : Option (List ℕ)
-  packet_u = first_unknown objects.PacketFeatures ms
+  packet_u = first_unknown places.PacketFeatures ms
 
   front_refused : front_in clock packet_u ms ≡ Err flaw → IsNoPacketObject ms flaw
   unfolding front_in
   front_refused e =
       either_step (next_timestamp clock packet_u (codes "beginning-timestamp-field-type") ms) _ flaw e
-      (λ r. either_way (next_timestamp_refused objects.PacketFeatures clock (codes "beginning-timestamp-field-type") ms flaw r) IsNoPacketObject.unknown IsNoPacketObject.timestamp_begin)
+      (λ r. either_way (next_timestamp_refused places.PacketFeatures clock (codes "beginning-timestamp-field-type") ms flaw r) IsNoPacketObject.unknown IsNoPacketObject.timestamp_begin)
       (λ x went f. either_step (next_size packet_u (codes "content-size-field-type") ms) _ flaw f
-      (λ r. either_way (next_size_refused objects.PacketFeatures (codes "content-size-field-type") ms flaw r) IsNoPacketObject.unknown IsNoPacketObject.content_size)
+      (λ r. either_way (next_size_refused places.PacketFeatures (codes "content-size-field-type") ms flaw r) IsNoPacketObject.unknown IsNoPacketObject.content_size)
       (λ y made g. only_step (next_feature true packet_u (codes "discarded-event-records-counter-snapshot-field-type") ms) _ flaw g
-      (λ r. either_way (next_feature_refused objects.PacketFeatures true (codes "discarded-event-records-counter-snapshot-field-type") ms flaw r) IsNoPacketObject.unknown IsNoPacketObject.events_discarded)))
+      (λ r. either_way (next_feature_refused places.PacketFeatures true (codes "discarded-event-records-counter-snapshot-field-type") ms flaw r) IsNoPacketObject.unknown IsNoPacketObject.events_discarded)))
 
   back_refused : back_in clock packet_u ms ≡ Err flaw → IsNoPacketObject ms flaw
   unfolding back_in
   back_refused e =
       either_step (next_timestamp clock packet_u (codes "end-timestamp-field-type") ms) _ flaw e
-      (λ r. either_way (next_timestamp_refused objects.PacketFeatures clock (codes "end-timestamp-field-type") ms flaw r) IsNoPacketObject.unknown IsNoPacketObject.timestamp_end)
+      (λ r. either_way (next_timestamp_refused places.PacketFeatures clock (codes "end-timestamp-field-type") ms flaw r) IsNoPacketObject.unknown IsNoPacketObject.timestamp_end)
       (λ x went f. either_step (next_feature false packet_u (codes "sequence-number-field-type") ms) _ flaw f
-      (λ r. either_way (next_feature_refused objects.PacketFeatures false (codes "sequence-number-field-type") ms flaw r) IsNoPacketObject.unknown IsNoPacketObject.packet_seq_num)
+      (λ r. either_way (next_feature_refused places.PacketFeatures false (codes "sequence-number-field-type") ms flaw r) IsNoPacketObject.unknown IsNoPacketObject.packet_seq_num)
       (λ y made g. only_step (next_size packet_u (codes "total-size-field-type") ms) _ flaw g
-      (λ r. either_way (next_size_refused objects.PacketFeatures (codes "total-size-field-type") ms flaw r) IsNoPacketObject.unknown IsNoPacketObject.packet_size)))
+      (λ r. either_way (next_size_refused places.PacketFeatures (codes "total-size-field-type") ms flaw r) IsNoPacketObject.unknown IsNoPacketObject.packet_size)))
 
   context_in_refused : context_in clock packet_u ms ≡ Err flaw → IsNoPacketObject ms flaw
   unfolding context_in
   context_in_refused e =
       either_step (front_in clock packet_u ms) _ flaw e front_refused
       (λ x went f. either_step (back_in clock packet_u ms) _ flaw f back_refused
-      (λ y made g. only_step (no_more packet_u) _ flaw g (λ r. IsNoPacketObject.unknown (no_more_refused objects.PacketFeatures ms flaw r))))
+      (λ y made g. only_step (no_more packet_u) _ flaw g (λ r. IsNoPacketObject.unknown (no_more_refused places.PacketFeatures ms flaw r))))
 
 pub context_refused : (clock : Option (List ℕ)) (d : Data) (flaw : Flaw) → context_of clock d ≡ Err flaw → IsNoPacketFeatures d flaw
 unfolding context_of
-context_refused clock d flaw e = in_object IsNoPacketObject (λ ms. context_in clock (first_unknown objects.PacketFeatures ms) ms) d flaw (λ ms r. context_in_refused clock ms flaw r) e
+context_refused clock d flaw e = in_object IsNoPacketObject (λ ms. context_in clock (first_unknown places.PacketFeatures ms) ms) d flaw (λ ms r. context_in_refused clock ms flaw r) e
 
 no_context_fine : (clock : Option (List ℕ)) (flaw : Flaw) → context_in clock None no_members ≡ Err flaw → ⊥
 unfolding context_in front_in back_in next_timestamp next_feature next_size next optional_as
@@ -329,20 +329,20 @@ no_context_fine clock flaw e = absurd cc
 
 module _ (clock : Option (List ℕ)) (ms : Members) (flaw : Flaw) where
   abbrev features_u : Option (List ℕ)
-  features_u = first_unknown objects.StreamFeatures ms
+  features_u = first_unknown places.StreamFeatures ms
 
-  next_event_header_refused : next_event_header clock features_u (codes "event-record") ms ≡ Err flaw → Row objects.StreamFeatures (codes "event-record") IsNoEventHeader ms flaw
+  next_event_header_refused : next_event_header clock features_u (codes "event-record") ms ≡ Err flaw → Row places.StreamFeatures (codes "event-record") IsNoEventHeader ms flaw
   unfolding next_event_header
   next_event_header_refused e =
       either_step (next features_u (codes "event-record") (event_header_of clock) ms) (or_empty (event_header_in clock None no_members)) flaw e
-      (next_refused objects.StreamFeatures (codes "event-record") (event_header_of clock) IsNoEventHeader ms flaw (event_header_refused clock))
+      (next_refused places.StreamFeatures (codes "event-record") (event_header_of clock) IsNoEventHeader ms flaw (event_header_refused clock))
       (λ o went r. absurd (absent_or_there (event_header_in clock None no_members) o flaw (no_event_header_fine clock flaw) r))
 
-  next_context_refused : next_context clock features_u (codes "packet") ms ≡ Err flaw → Row objects.StreamFeatures (codes "packet") IsNoPacketFeatures ms flaw
+  next_context_refused : next_context clock features_u (codes "packet") ms ≡ Err flaw → Row places.StreamFeatures (codes "packet") IsNoPacketFeatures ms flaw
   unfolding next_context
   next_context_refused e =
       either_step (next features_u (codes "packet") (context_of clock) ms) (or_empty (context_in clock None no_members)) flaw e
-      (next_refused objects.StreamFeatures (codes "packet") (context_of clock) IsNoPacketFeatures ms flaw (context_refused clock))
+      (next_refused places.StreamFeatures (codes "packet") (context_of clock) IsNoPacketFeatures ms flaw (context_refused clock))
       (λ o went r. absurd (absent_or_there (context_in clock None no_members) o flaw (no_context_fine clock flaw) r))
 
   stream_fields_in_refused : stream_fields_in clock features_u ms ≡ Err flaw → IsNoStreamFeaturesObject ms flaw
@@ -352,11 +352,11 @@ module _ (clock : Option (List ℕ)) (ms : Members) (flaw : Flaw) where
       (λ r. either_way (next_event_header_refused r) IsNoStreamFeaturesObject.unknown IsNoStreamFeaturesObject.event_record)
       (λ x went f. either_step (next_context clock features_u (codes "packet") ms) _ flaw f
       (λ r. either_way (next_context_refused r) IsNoStreamFeaturesObject.unknown IsNoStreamFeaturesObject.packet)
-      (λ y made g. only_step (no_more features_u) _ flaw g (λ r. IsNoStreamFeaturesObject.unknown (no_more_refused objects.StreamFeatures ms flaw r))))
+      (λ y made g. only_step (no_more features_u) _ flaw g (λ r. IsNoStreamFeaturesObject.unknown (no_more_refused places.StreamFeatures ms flaw r))))
 
 pub stream_fields_refused : (clock : Option (List ℕ)) (d : Data) (flaw : Flaw) → stream_fields_of clock d ≡ Err flaw → IsNoStreamFeatures d flaw
 unfolding stream_fields_of
-stream_fields_refused clock d flaw e = in_object IsNoStreamFeaturesObject (λ ms. stream_fields_in clock (first_unknown objects.StreamFeatures ms) ms) d flaw (λ ms r. stream_fields_in_refused clock ms flaw r) e
+stream_fields_refused clock d flaw e = in_object IsNoStreamFeaturesObject (λ ms. stream_fields_in clock (first_unknown places.StreamFeatures ms) ms) d flaw (λ ms r. stream_fields_in_refused clock ms flaw r) e
 
 pub no_stream_fields_fine : (clock : Option (List ℕ)) (flaw : Flaw) → stream_fields_in clock None no_members ≡ Err flaw → ⊥
 unfolding stream_fields_in next_event_header next_context event_header_in context_in front_in back_in next_timestamp next_feature next_size next optional_as
@@ -364,22 +364,22 @@ no_stream_fields_fine clock flaw e = absurd cc
 
 -- ---- clock types
 
-offset_in_refused : (ms : Members) (flaw : Flaw) → offset_in (first_unknown objects.ClockOffset ms) ms ≡ Err flaw → IsNoOffsetObject ms flaw
+offset_in_refused : (ms : Members) (flaw : Flaw) → offset_in (first_unknown places.ClockOffset ms) ms ≡ Err flaw → IsNoOffsetObject ms flaw
 offset_in_refused ms flaw e =
-    let u = first_unknown objects.ClockOffset ms in
+    let u = first_unknown places.ClockOffset ms in
     either_step (next u (codes "cycles") (natural_of 0 max_u64) ms) _ flaw e
-    (λ r. either_way (next_refused objects.ClockOffset (codes "cycles") (natural_of 0 max_u64) (IsNoNatural 0 max_u64) ms flaw (natural_refused 0 max_u64) r) IsNoOffsetObject.unknown IsNoOffsetObject.cycles)
+    (λ r. either_way (next_refused places.ClockOffset (codes "cycles") (natural_of 0 max_u64) (IsNoNatural 0 max_u64) ms flaw (natural_refused 0 max_u64) r) IsNoOffsetObject.unknown IsNoOffsetObject.cycles)
     (λ x went f. either_step (next u (codes "seconds") signed_of ms) _ flaw f
-    (λ r. either_way (next_refused objects.ClockOffset (codes "seconds") signed_of IsNoSigned ms flaw signed_refused r) IsNoOffsetObject.unknown IsNoOffsetObject.seconds)
-    (λ y made g. only_step (no_more u) _ flaw g (λ r. IsNoOffsetObject.unknown (no_more_refused objects.ClockOffset ms flaw r))))
+    (λ r. either_way (next_refused places.ClockOffset (codes "seconds") signed_of IsNoSigned ms flaw signed_refused r) IsNoOffsetObject.unknown IsNoOffsetObject.seconds)
+    (λ y made g. only_step (no_more u) _ flaw g (λ r. IsNoOffsetObject.unknown (no_more_refused places.ClockOffset ms flaw r))))
 
 pub offset_refused : (d : Data) (flaw : Flaw) → offset_of d ≡ Err flaw → IsNoOffset d flaw
 unfolding offset_of
-offset_refused d flaw e = in_object IsNoOffsetObject (λ ms. offset_in (first_unknown objects.ClockOffset ms) ms) d flaw (λ ms r. offset_in_refused ms flaw r) e
+offset_refused d flaw e = in_object IsNoOffsetObject (λ ms. offset_in (first_unknown places.ClockOffset ms) ms) d flaw (λ ms r. offset_in_refused ms flaw r) e
 
 module _ (name : List ℕ) (ms : Members) (flaw : Flaw) where
   abbrev clock_u : Option (List ℕ)
-  clock_u = first_unknown objects.ClockType ms
+  clock_u = first_unknown places.ClockType ms
 
   abbrev NoClock : Type 0
   NoClock = IsNoClockObject name ms flaw
@@ -388,15 +388,15 @@ module _ (name : List ℕ) (ms : Members) (flaw : Flaw) where
   unfolding before_origin
   before_refused e =
       either_step (next clock_u (codes "description") config_text_of ms) _ flaw e
-      (λ r. either_way (next_refused objects.ClockType (codes "description") config_text_of IsNoConfigText ms flaw config_text_refused r) IsNoClockObject.unknown IsNoClockObject.description)
+      (λ r. either_way (next_refused places.ClockType (codes "description") config_text_of IsNoConfigText ms flaw config_text_refused r) IsNoClockObject.unknown IsNoClockObject.description)
       (λ x went f. only_step (next clock_u (codes "frequency") (natural_of 1 max_u64) ms) _ flaw f
-      (λ r. either_way (next_refused objects.ClockType (codes "frequency") (natural_of 1 max_u64) (IsNoNatural 1 max_u64) ms flaw (natural_refused 1 max_u64) r) IsNoClockObject.unknown IsNoClockObject.frequency))
+      (λ r. either_way (next_refused places.ClockType (codes "frequency") (natural_of 1 max_u64) (IsNoNatural 1 max_u64) ms flaw (natural_refused 1 max_u64) r) IsNoClockObject.unknown IsNoClockObject.frequency))
 
   offset_there : next_offset clock_u (codes "offset") ms ≡ Err flaw → NoClock
   unfolding next_offset
   offset_there e =
       either_step (next clock_u (codes "offset") offset_of ms) or_no_offset flaw e
-      (λ r. either_way (next_refused objects.ClockType (codes "offset") offset_of IsNoOffset ms flaw offset_refused r) IsNoClockObject.unknown IsNoClockObject.offset)
+      (λ r. either_way (next_refused places.ClockType (codes "offset") offset_of IsNoOffset ms flaw offset_refused r) IsNoClockObject.unknown IsNoClockObject.offset)
       (λ o went r. absurd (never o r))
     where
       never : (o : Option Offset) → or_no_offset o ≡ Err flaw → ⊥
@@ -408,16 +408,16 @@ module _ (name : List ℕ) (ms : Members) (flaw : Flaw) where
   origin_refused e =
       either_step (next_offset clock_u (codes "offset") ms) _ flaw e offset_there
       (λ x went f. only_step (next clock_u (codes "origin-is-unix-epoch") flag_of ms) _ flaw f
-      (λ r. either_way (next_refused objects.ClockType (codes "origin-is-unix-epoch") flag_of IsNoFlag ms flaw flag_refused r) IsNoClockObject.unknown IsNoClockObject.origin_is_unix_epoch))
+      (λ r. either_way (next_refused places.ClockType (codes "origin-is-unix-epoch") flag_of IsNoFlag ms flaw flag_refused r) IsNoClockObject.unknown IsNoClockObject.origin_is_unix_epoch))
 
   after_refused : after_origin clock_u ms ≡ Err flaw → NoClock
   unfolding after_origin
   after_refused e =
       either_step (next clock_u (codes "precision") (natural_of 0 max_u64) ms) _ flaw e
-      (λ r. either_way (next_refused objects.ClockType (codes "precision") (natural_of 0 max_u64) (IsNoNatural 0 max_u64) ms flaw (natural_refused 0 max_u64) r) IsNoClockObject.unknown IsNoClockObject.precision)
+      (λ r. either_way (next_refused places.ClockType (codes "precision") (natural_of 0 max_u64) (IsNoNatural 0 max_u64) ms flaw (natural_refused 0 max_u64) r) IsNoClockObject.unknown IsNoClockObject.precision)
       (λ x went f. either_step (next clock_u (codes "uuid") uuid_of ms) _ flaw f
-      (λ r. either_way (next_refused objects.ClockType (codes "uuid") uuid_of IsNoUuid ms flaw uuid_refused r) IsNoClockObject.unknown IsNoClockObject.uuid)
-      (λ y made g. only_step (no_more clock_u) _ flaw g (λ r. IsNoClockObject.unknown (no_more_refused objects.ClockType ms flaw r))))
+      (λ r. either_way (next_refused places.ClockType (codes "uuid") uuid_of IsNoUuid ms flaw uuid_refused r) IsNoClockObject.unknown IsNoClockObject.uuid)
+      (λ y made g. only_step (no_more clock_u) _ flaw g (λ r. IsNoClockObject.unknown (no_more_refused places.ClockType ms flaw r))))
 
   clock_in_refused : clock_in name clock_u ms ≡ Err flaw → NoClock
   unfolding clock_in
@@ -431,7 +431,7 @@ module _ (name : List ℕ) (ms : Members) (flaw : Flaw) where
 pub clock_refused : (name : List ℕ) (d : Data) (flaw : Flaw) → clock_type_of name d ≡ Err flaw → IsNoClock name d flaw
 unfolding clock_type_of
 clock_refused name d flaw e =
-    in_object (IsNoClockObject name) (λ ms. plain_name_of name >>= (λ named. clock_in name (first_unknown objects.ClockType ms) ms)) d flaw (λ ms r. named_clock_refused name ms flaw r) e
+    in_object (IsNoClockObject name) (λ ms. plain_name_of name >>= (λ named. clock_in name (first_unknown places.ClockType ms) ms)) d flaw (λ ms r. named_clock_refused name ms flaw r) e
 
 clocks_in_refused : (ms : Members) (flaw : Flaw) → clocks_in ms ≡ Err flaw → HasWrongEntry IsNoClock ms flaw
 unfolding clock_member_of

@@ -16,7 +16,7 @@ use Rattle.conf_objects.specs.declared.feature.FeatureRule.TheVariants.{Plain, S
 use Rattle.conf_objects.specs.declared.features.FrontFields.{FrontFields}
 use Rattle.conf_objects.specs.declared.features.BackFields.{BackFields}
 use Rattle.conf_objects.specs.declared.features.StreamFields.{StreamFields}
-use Rattle.conf_values.specs.declared.properties.ObjectKind.TheVariants as objects
+use Rattle.conf_table.specs.declared.place.Place.TheVariants as places
 use Rattle.conf_objects.specs.declared.stream_type.Clocked.{Clocked}
 use Rattle.conf_objects.specs.declared.stream_type.Head.{Head}
 use Rattle.conf_objects.specs.declared.stream_type.Rest.{Rest}
@@ -39,7 +39,7 @@ use Rattle.conf_values.proofs.Steps.{both_read, ok_same, then_read, none_unknown
 
 -- ---- clock types
 
-offset_in_says : (u : Option (List ℕ)) (ms : Members) (o : Offset) → u ≡ first_unknown objects.ClockOffset ms → offset_in u ms ≡ Ok o → IsOffsetObject ms o
+offset_in_says : (u : Option (List ℕ)) (ms : Members) (o : Offset) → u ≡ first_unknown places.ClockOffset ms → offset_in u ms ≡ Ok o → IsOffsetObject ms o
 offset_in_says u ms o is e =
     let cycles = both_read (next u (codes "cycles") (natural_of 0 max_u64) ms) _ o e in
     let seconds = both_read (next u (codes "seconds") signed_of ms) _ o cycles.2 in
@@ -52,7 +52,7 @@ offset_in_says u ms o is e =
 
 pub offset_says : (d : Data) (o : Offset) → offset_of d ≡ Ok o → (ms : Members) × (object_of d ≡ Ok ms) × IsOffsetObject ms o
 unfolding offset_of
-offset_says d o e = let ms = both_read (object_of d) _ o e in (ms.0, ms.1, offset_in_says (first_unknown objects.ClockOffset ms.0) ms.0 o refl ms.2)
+offset_says d o e = let ms = both_read (object_of d) _ o e in (ms.0, ms.1, offset_in_says (first_unknown places.ClockOffset ms.0) ms.0 o refl ms.2)
 
 offset_in_read : (ms : Members) (o : Offset) → IsOffsetObject ms o → offset_in None ms ≡ Ok o
 unfolding next
@@ -65,7 +65,7 @@ pub offset_read : (d : Data) (o : Offset) → ((ms : Members) × (object_of d �
 unfolding offset_of
 offset_read d o (ms, is, h) = then_read (object_of d) _ ms o is (subst (λ u. offset_in u ms ≡ Ok o) (sym h.known) (offset_in_read ms o h))
 
-clock_in_says : (name : List ℕ) (u : Option (List ℕ)) (ms : Members) (c : ClockType) (x : Unit {0}) → u ≡ first_unknown objects.ClockType ms → plain_name_of name ≡ Ok x → clock_in name u ms ≡ Ok c → IsClockObject name ms c
+clock_in_says : (name : List ℕ) (u : Option (List ℕ)) (ms : Members) (c : ClockType) (x : Unit {0}) → u ≡ first_unknown places.ClockType ms → plain_name_of name ≡ Ok x → clock_in name u ms ≡ Ok c → IsClockObject name ms c
 unfolding clock_in before_origin origin_in after_origin next_offset
 clock_in_says name u ms c x is named e =
     let before = both_read (before_origin u ms) _ c e in
@@ -99,7 +99,7 @@ unfolding clock_type_of
 clock_says name d c e =
     let ms = both_read (object_of d) _ c e in
     let named = both_read (plain_name_of name) _ c ms.2 in
-    (ms.0, ms.1, clock_in_says name (first_unknown objects.ClockType ms.0) ms.0 c named.0 refl named.1 named.2)
+    (ms.0, ms.1, clock_in_says name (first_unknown places.ClockType ms.0) ms.0 c named.0 refl named.1 named.2)
 
 before_read : (name : List ℕ) (ms : Members) (c : ClockType) → IsClockObject name ms c → before_origin None ms ≡ Ok (c.description, c.frequency)
 unfolding before_origin next
@@ -167,7 +167,7 @@ timestamp_read : (clock : Option (List ℕ)) (name : List ℕ) (ms : Members) (t
 unfolding next_timestamp
 timestamp_read clock name ms t (f, says, is) = then_read (next_feature (is_some clock) None name ms) _ f t (feature_read (is_some clock) name ms f says) (ap Ok (sym is))
 
-header_fields_says : (has : Bool) (u : Option (List ℕ)) (ms : Members) (f : HeaderFeatures) → HasOnly objects.TraceFeatures ms → header_fields_in has u ms ≡ Ok f → IsHeaderObject has ms f
+header_fields_says : (has : Bool) (u : Option (List ℕ)) (ms : Members) (f : HeaderFeatures) → HasOnly places.TraceFeatures ms → header_fields_in has u ms ≡ Ok f → IsHeaderObject has ms f
 unfolding header_fields_in next_magic next_identifier
 header_fields_says has u ms f known e =
     let stream_id = both_read (next_feature true u (codes "data-stream-type-id-field-type") ms) _ f e in
@@ -182,7 +182,7 @@ header_fields_says has u ms f known e =
       uuid = (i.0, next_read_there u (codes "uuid-field-type") (choice_of Identifier) ms i.0 i.1, sym (ok_same (chosen has byte_type i.0) uuid.0 i.2));
     })
 
-pub header_in_says : (has : Bool) (u : Option (List ℕ)) (ms : Members) (f : HeaderFeatures) → u ≡ first_unknown objects.TraceFeatures ms → header_in has u ms ≡ Ok f → IsHeaderObject has ms f
+pub header_in_says : (has : Bool) (u : Option (List ℕ)) (ms : Members) (f : HeaderFeatures) → u ≡ first_unknown places.TraceFeatures ms → header_in has u ms ≡ Ok f → IsHeaderObject has ms f
 unfolding header_in
 header_in_says has u ms f is e =
     let fields = both_read (header_fields_in has u ms) _ f e in
@@ -191,7 +191,7 @@ header_in_says has u ms f is e =
 
 pub header_says : (has : Bool) (d : Data) (f : HeaderFeatures) → header_of has d ≡ Ok f → (ms : Members) × (object_of d ≡ Ok ms) × IsHeaderObject has ms f
 unfolding header_of
-header_says has d f e = let ms = both_read (object_of d) _ f e in (ms.0, ms.1, header_in_says has (first_unknown objects.TraceFeatures ms.0) ms.0 f refl ms.2)
+header_says has d f e = let ms = both_read (object_of d) _ f e in (ms.0, ms.1, header_in_says has (first_unknown places.TraceFeatures ms.0) ms.0 f refl ms.2)
 
 header_fields_read : (has : Bool) (ms : Members) (f : HeaderFeatures) → IsHeaderObject has ms f → header_fields_in has None ms ≡ Ok f
 unfolding header_fields_in next_magic next_identifier next
@@ -208,7 +208,7 @@ pub header_read : (has : Bool) (d : Data) (f : HeaderFeatures) → ((ms : Member
 unfolding header_of
 header_read has d f (ms, is, h) = then_read (object_of d) _ ms f is (subst (λ u. header_in has u ms ≡ Ok f) (sym h.known) (header_in_read has ms f h))
 
-pub event_header_in_says : (clock u : Option (List ℕ)) (ms : Members) (f : EventFeatures) → u ≡ first_unknown objects.EventFeatures ms → event_header_in clock u ms ≡ Ok f → IsEventHeaderObject clock ms f
+pub event_header_in_says : (clock u : Option (List ℕ)) (ms : Members) (f : EventFeatures) → u ≡ first_unknown places.EventRecordFeatures ms → event_header_in clock u ms ≡ Ok f → IsEventHeaderObject clock ms f
 unfolding event_header_in
 event_header_in_says clock u ms f is e =
     let timestamp = both_read (next_timestamp clock u (codes "timestamp-field-type") ms) _ f e in
@@ -222,7 +222,7 @@ event_header_in_says clock u ms f is e =
 
 pub event_header_says : (clock : Option (List ℕ)) (d : Data) (f : EventFeatures) → event_header_of clock d ≡ Ok f → (ms : Members) × (object_of d ≡ Ok ms) × IsEventHeaderObject clock ms f
 unfolding event_header_of
-event_header_says clock d f e = let ms = both_read (object_of d) _ f e in (ms.0, ms.1, event_header_in_says clock (first_unknown objects.EventFeatures ms.0) ms.0 f refl ms.2)
+event_header_says clock d f e = let ms = both_read (object_of d) _ f e in (ms.0, ms.1, event_header_in_says clock (first_unknown places.EventRecordFeatures ms.0) ms.0 f refl ms.2)
 
 event_header_in_read : (clock : Option (List ℕ)) (ms : Members) (f : EventFeatures) → IsEventHeaderObject clock ms f → event_header_in clock None ms ≡ Ok f
 unfolding event_header_in
@@ -258,7 +258,7 @@ back_says clock u ms f e =
     (ok_same (record { timestamp_end = end.0; packet_seq_num = sequence.0; packet_size = size.0 }) f size.2)
     (timestamp_says clock u (codes "end-timestamp-field-type") ms end.0 end.1, feature_says false u (codes "sequence-number-field-type") ms sequence.0 sequence.1, size_says u (codes "total-size-field-type") ms size.0 size.1)
 
-pub context_in_says : (clock u : Option (List ℕ)) (ms : Members) (f : ContextFeatures) → u ≡ first_unknown objects.PacketFeatures ms → context_in clock u ms ≡ Ok f → IsContextObject clock ms f
+pub context_in_says : (clock u : Option (List ℕ)) (ms : Members) (f : ContextFeatures) → u ≡ first_unknown places.PacketFeatures ms → context_in clock u ms ≡ Ok f → IsContextObject clock ms f
 unfolding context_in
 context_in_says clock u ms f is e =
     let front = both_read (front_in clock u ms) _ f e in
@@ -280,7 +280,7 @@ context_in_says clock u ms f is e =
 
 pub context_says : (clock : Option (List ℕ)) (d : Data) (f : ContextFeatures) → context_of clock d ≡ Ok f → (ms : Members) × (object_of d ≡ Ok ms) × IsContextObject clock ms f
 unfolding context_of
-context_says clock d f e = let ms = both_read (object_of d) _ f e in (ms.0, ms.1, context_in_says clock (first_unknown objects.PacketFeatures ms.0) ms.0 f refl ms.2)
+context_says clock d f e = let ms = both_read (object_of d) _ f e in (ms.0, ms.1, context_in_says clock (first_unknown places.PacketFeatures ms.0) ms.0 f refl ms.2)
 
 abbrev front_part : ContextFeatures → FrontFields
 front_part f = record { timestamp_begin = f.timestamp_begin; content_size = f.content_size; events_discarded = f.events_discarded }
@@ -313,7 +313,7 @@ context_read clock d f (ms, is, h) = then_read (object_of d) _ ms f is (subst (�
 
 -- ---- the features of a data stream type
 
-pub stream_fields_in_says : (clock u : Option (List ℕ)) (ms : Members) (f : StreamFields) → u ≡ first_unknown objects.StreamFeatures ms → stream_fields_in clock u ms ≡ Ok f → IsStreamFieldsObject clock ms f
+pub stream_fields_in_says : (clock u : Option (List ℕ)) (ms : Members) (f : StreamFields) → u ≡ first_unknown places.StreamFeatures ms → stream_fields_in clock u ms ≡ Ok f → IsStreamFieldsObject clock ms f
 unfolding stream_fields_in next_event_header next_context
 stream_fields_in_says clock u ms f is e =
     let header = both_read (next_event_header clock u (codes "event-record") ms) _ f e in
@@ -329,7 +329,7 @@ stream_fields_in_says clock u ms f is e =
 
 pub stream_fields_says : (clock : Option (List ℕ)) (d : Data) (f : StreamFields) → stream_fields_of clock d ≡ Ok f → (ms : Members) × (object_of d ≡ Ok ms) × IsStreamFieldsObject clock ms f
 unfolding stream_fields_of
-stream_fields_says clock d f e = let ms = both_read (object_of d) _ f e in (ms.0, ms.1, stream_fields_in_says clock (first_unknown objects.StreamFeatures ms.0) ms.0 f refl ms.2)
+stream_fields_says clock d f e = let ms = both_read (object_of d) _ f e in (ms.0, ms.1, stream_fields_in_says clock (first_unknown places.StreamFeatures ms.0) ms.0 f refl ms.2)
 
 stream_fields_in_read : (clock : Option (List ℕ)) (ms : Members) (f : StreamFields) → IsStreamFieldsObject clock ms f → stream_fields_in clock None ms ≡ Ok f
 unfolding stream_fields_in next_event_header next_context next
@@ -343,7 +343,7 @@ stream_fields_read clock d f (ms, is, h) = then_read (object_of d) _ ms f is (su
 
 -- ---- event record types
 
-event_parts_says : (aliases : Members) (name : List ℕ) (u : Option (List ℕ)) (ms : Members) (e : EventType) (x : Unit {0}) → HasOnly objects.EventType ms → name_of name ≡ Ok x → event_parts_in name aliases u ms ≡ Ok e → IsEventObject aliases name ms e
+event_parts_says : (aliases : Members) (name : List ℕ) (u : Option (List ℕ)) (ms : Members) (e : EventType) (x : Unit {0}) → HasOnly places.EventType ms → name_of name ≡ Ok x → event_parts_in name aliases u ms ≡ Ok e → IsEventObject aliases name ms e
 unfolding event_parts_in next_struct
 event_parts_says aliases name u ms e x known named read =
     let level = both_read (next u (codes "log-level") (log_level_of aliases) ms) _ e read in
@@ -365,7 +365,7 @@ unfolding event_type_of event_in
 event_says aliases name d e read =
     let ms = both_read (object_of d) _ e read in
     let named = both_read (name_of name) _ e ms.2 in
-    let u = first_unknown objects.EventType ms.0 in
+    let u = first_unknown places.EventType ms.0 in
     let parts = both_read (event_parts_in name aliases u ms.0) _ e named.2 in
     let known = both_read (no_more u) _ e parts.2 in
     (ms.0, ms.1, subst (IsEventObject aliases name ms.0) (ok_same parts.0 e known.2) (event_parts_says aliases name u ms.0 parts.0 named.0 (none_unknown u known.0 known.1) named.1 parts.1))
@@ -437,7 +437,7 @@ rest_says aliases u ms r e =
       (x.0, next_read_there u (codes "packet-context-field-type-extra-members") (members_of own_names) ms x.0 x.1, sym (ok_same (extras_or_none x.0) extras.0 x.2)),
     )
 
-stream_parts_says : (aliases : Members) (taken : Bool) (name : List ℕ) (u : Option (List ℕ)) (ms : Members) (l : Listed) (x : Unit {0}) → HasOnly objects.StreamType ms → name_of name ≡ Ok x → stream_parts_in name aliases taken u ms ≡ Ok l → IsStreamObject aliases taken name ms l
+stream_parts_says : (aliases : Members) (taken : Bool) (name : List ℕ) (u : Option (List ℕ)) (ms : Members) (l : Listed) (x : Unit {0}) → HasOnly places.StreamType ms → name_of name ≡ Ok x → stream_parts_in name aliases taken u ms ≡ Ok l → IsStreamObject aliases taken name ms l
 unfolding stream_parts_in
 stream_parts_says aliases taken name u ms l x known named e =
     let head = both_read (head_in taken u ms) _ l e in
@@ -461,7 +461,7 @@ unfolding stream_type_of stream_in
 stream_says aliases taken name d l read =
     let ms = both_read (object_of d) _ l read in
     let named = both_read (name_of name) _ l ms.2 in
-    let u = first_unknown objects.StreamType ms.0 in
+    let u = first_unknown places.StreamType ms.0 in
     let parts = both_read (stream_parts_in name aliases taken u ms.0) _ l named.2 in
     let known = both_read (no_more u) _ l parts.2 in
     (ms.0, ms.1, subst (IsStreamObject aliases taken name ms.0) (ok_same parts.0 l known.2) (stream_parts_says aliases taken name u ms.0 parts.0 named.0 (none_unknown u known.0 known.1) named.1 parts.1))

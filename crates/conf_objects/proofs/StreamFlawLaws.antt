@@ -8,8 +8,8 @@ use Rattle.ctf_types.specs.Packets.{own_names}
 use Rattle.conf_tree.specs.declared.fault_kind.FaultKind.TheVariants.{OutOfRange}
 use Rattle.conf_tree.specs.Flaw.{Flaw, key, here, within}
 use Rattle.conf_tree.specs.Reading.{◌>>=◌, at, optional_as, object_of, text_of, flag_of}
-use Rattle.conf_values.specs.declared.properties.ObjectKind.{ObjectKind}
-use Rattle.conf_values.specs.declared.properties.ObjectKind.TheVariants as objects
+use Rattle.conf_table.specs.declared.place.Place.{Place}
+use Rattle.conf_table.specs.declared.place.Place.TheVariants as places
 use Rattle.conf_objects.specs.declared.stream_type.Listed.{Listed}
 use Rattle.conf_objects.specs.EventType.{event_parts_in, event_in, event_type_of, event_member_of, events_in, event_types_of, next_events}
 use Rattle.conf_objects.specs.Features.{or_empty, stream_fields_in, stream_fields_of, next_stream_fields}
@@ -29,15 +29,15 @@ use Rattle.conf_objects.proofs.ObjectFlawLaws.{Row, either_step, only_step, eith
 use Rattle.conf_objects.proofs.ObjectRowLaws.{stream_says}
 use Rattle.conf_values.proofs.Steps.{both_read, read_there, given_read}
 
-next_struct_refused : (kind : ObjectKind) (name : List ℕ) (ms : Members) (flaw : Flaw) → next_struct (first_unknown kind ms) name ms ≡ Err flaw → Row kind name IsNoStructure ms flaw
+next_struct_refused : (place : Place) (name : List ℕ) (ms : Members) (flaw : Flaw) → next_struct (first_unknown place ms) name ms ≡ Err flaw → Row place name IsNoStructure ms flaw
 unfolding next_struct
-next_struct_refused kind name ms flaw e = only_step (next (first_unknown kind ms) name struct_of ms) _ flaw e (next_refused kind name struct_of IsNoStructure ms flaw structure_refused)
+next_struct_refused place name ms flaw e = only_step (next (first_unknown place ms) name struct_of ms) _ flaw e (next_refused place name struct_of IsNoStructure ms flaw structure_refused)
 
 -- ---- event record types
 
 module _ (aliases : Members) (name : List ℕ) (ms : Members) (flaw : Flaw) where
   abbrev event_u : Option (List ℕ)
-  event_u = first_unknown objects.EventType ms
+  event_u = first_unknown places.EventType ms
 
   abbrev NoEvent : Type 0
   NoEvent = IsNoEventObject aliases name ms flaw
@@ -46,17 +46,17 @@ module _ (aliases : Members) (name : List ℕ) (ms : Members) (flaw : Flaw) wher
   unfolding event_parts_in
   event_parts_refused e =
       either_step (next event_u (codes "log-level") (log_level_of aliases) ms) _ flaw e
-      (λ r. either_way (next_refused objects.EventType (codes "log-level") (log_level_of aliases) (IsNoLogLevel aliases) ms flaw (log_level_refused aliases) r) IsNoEventObject.unknown IsNoEventObject.log_level)
+      (λ r. either_way (next_refused places.EventType (codes "log-level") (log_level_of aliases) (IsNoLogLevel aliases) ms flaw (log_level_refused aliases) r) IsNoEventObject.unknown IsNoEventObject.log_level)
       (λ x went f. either_step (next_struct event_u (codes "payload-field-type") ms) _ flaw f
-      (λ r. either_way (next_struct_refused objects.EventType (codes "payload-field-type") ms flaw r) IsNoEventObject.unknown IsNoEventObject.payload)
+      (λ r. either_way (next_struct_refused places.EventType (codes "payload-field-type") ms flaw r) IsNoEventObject.unknown IsNoEventObject.payload)
       (λ y made g. only_step (next_struct event_u (codes "specific-context-field-type") ms) _ flaw g
-      (λ r. either_way (next_struct_refused objects.EventType (codes "specific-context-field-type") ms flaw r) IsNoEventObject.unknown IsNoEventObject.specific)))
+      (λ r. either_way (next_struct_refused places.EventType (codes "specific-context-field-type") ms flaw r) IsNoEventObject.unknown IsNoEventObject.specific)))
 
   event_in_refused : event_in name aliases event_u ms ≡ Err flaw → NoEvent
   unfolding event_in
   event_in_refused e =
       either_step (event_parts_in name aliases event_u ms) _ flaw e event_parts_refused
-      (λ x went f. only_step (no_more event_u) _ flaw f (λ r. IsNoEventObject.unknown (no_more_refused objects.EventType ms flaw r)))
+      (λ x went f. only_step (no_more event_u) _ flaw f (λ r. IsNoEventObject.unknown (no_more_refused places.EventType ms flaw r)))
 
   named_event_refused : (name_of name >>= (λ named. event_in name aliases event_u ms)) ≡ Err flaw → NoEvent
   named_event_refused e = either_step (name_of name) _ flaw e (λ r. IsNoEventObject.bad_name (name_refused name flaw r)) (λ x went r. event_in_refused r)
@@ -64,7 +64,7 @@ module _ (aliases : Members) (name : List ℕ) (ms : Members) (flaw : Flaw) wher
 pub event_refused : (aliases : Members) (name : List ℕ) (d : Data) (flaw : Flaw) → event_type_of aliases name d ≡ Err flaw → IsNoEventType aliases name d flaw
 unfolding event_type_of
 event_refused aliases name d flaw e =
-    in_object (IsNoEventObject aliases name) (λ ms. name_of name >>= (λ named. event_in name aliases (first_unknown objects.EventType ms) ms)) d flaw (λ ms r. named_event_refused aliases name ms flaw r) e
+    in_object (IsNoEventObject aliases name) (λ ms. name_of name >>= (λ named. event_in name aliases (first_unknown places.EventType ms) ms)) d flaw (λ ms r. named_event_refused aliases name ms flaw r) e
 
 events_in_refused : (aliases : Members) (ms : Members) (flaw : Flaw) → events_in aliases ms ≡ Err flaw → HasWrongEntry (IsNoEventType aliases) ms flaw
 unfolding event_member_of
@@ -90,7 +90,7 @@ default_refused taken d flaw e =
 
 module _ (aliases : Members) (taken : Bool) (name : List ℕ) (ms : Members) (flaw : Flaw) where
   abbrev stream_u : Option (List ℕ)
-  stream_u = first_unknown objects.StreamType ms
+  stream_u = first_unknown places.StreamType ms
 
   abbrev NoStream : Type 0
   NoStream = IsNoStreamObject aliases taken name ms flaw
@@ -99,21 +99,21 @@ module _ (aliases : Members) (taken : Bool) (name : List ℕ) (ms : Members) (fl
   unfolding next_stream_fields
   fields_refused clock e =
       either_step (next stream_u (codes "$features") (stream_fields_of clock) ms) (or_empty (stream_fields_in clock None no_members)) flaw e
-      (λ r. either_way (next_refused objects.StreamType (codes "$features") (stream_fields_of clock) IsNoStreamFeatures ms flaw (stream_fields_refused clock) r) IsNoStreamObject.unknown IsNoStreamObject.features)
+      (λ r. either_way (next_refused places.StreamType (codes "$features") (stream_fields_of clock) IsNoStreamFeatures ms flaw (stream_fields_refused clock) r) IsNoStreamObject.unknown IsNoStreamObject.features)
       (λ o went r. absurd (absent_or_there (stream_fields_in clock None no_members) o flaw (no_stream_fields_fine clock flaw) r))
 
   clocked_refused : clocked_in stream_u ms ≡ Err flaw → NoStream
   unfolding clocked_in
   clocked_refused e =
       either_step (next stream_u (codes "$default-clock-type-name") text_of ms) _ flaw e
-      (λ r. either_way (next_refused objects.StreamType (codes "$default-clock-type-name") text_of IsNoText ms flaw text_refused r) IsNoStreamObject.unknown IsNoStreamObject.default_clock)
+      (λ r. either_way (next_refused places.StreamType (codes "$default-clock-type-name") text_of IsNoText ms flaw text_refused r) IsNoStreamObject.unknown IsNoStreamObject.default_clock)
       (λ clock went f. only_step (next_stream_fields clock stream_u (codes "$features") ms) _ flaw f (fields_refused clock))
 
   next_default_refused : next_default taken stream_u (codes "$is-default") ms ≡ Err flaw → NoStream
   unfolding next_default
   next_default_refused e =
       only_step (next stream_u (codes "$is-default") (default_of taken) ms) _ flaw e
-      (λ r. either_way (next_refused objects.StreamType (codes "$is-default") (default_of taken) (IsNoDefault taken) ms flaw (default_refused taken) r) IsNoStreamObject.unknown IsNoStreamObject.is_default)
+      (λ r. either_way (next_refused places.StreamType (codes "$is-default") (default_of taken) (IsNoDefault taken) ms flaw (default_refused taken) r) IsNoStreamObject.unknown IsNoStreamObject.is_default)
 
   head_refused : head_in taken stream_u ms ≡ Err flaw → NoStream
   unfolding head_in
@@ -123,19 +123,19 @@ module _ (aliases : Members) (taken : Bool) (name : List ℕ) (ms : Members) (fl
   unfolding next_events
   next_events_refused e =
       only_step (next stream_u (codes "event-record-types") (event_types_of aliases) ms) _ flaw e
-      (λ r. either_way (next_refused objects.StreamType (codes "event-record-types") (event_types_of aliases) (IsNoEventTypes aliases) ms flaw (event_types_refused aliases) r) IsNoStreamObject.unknown IsNoStreamObject.events)
+      (λ r. either_way (next_refused places.StreamType (codes "event-record-types") (event_types_of aliases) (IsNoEventTypes aliases) ms flaw (event_types_refused aliases) r) IsNoStreamObject.unknown IsNoStreamObject.events)
 
   next_extras_refused : next_extras stream_u (codes "packet-context-field-type-extra-members") ms ≡ Err flaw → NoStream
   unfolding next_extras
   next_extras_refused e =
       only_step (next stream_u (codes "packet-context-field-type-extra-members") (members_of own_names) ms) _ flaw e
-      (λ r. either_way (next_refused objects.StreamType (codes "packet-context-field-type-extra-members") (members_of own_names) (IsNoMembersList own_names) ms flaw (members_refused own_names) r) IsNoStreamObject.unknown IsNoStreamObject.extras)
+      (λ r. either_way (next_refused places.StreamType (codes "packet-context-field-type-extra-members") (members_of own_names) (IsNoMembersList own_names) ms flaw (members_refused own_names) r) IsNoStreamObject.unknown IsNoStreamObject.extras)
 
   rest_refused : rest_in aliases stream_u ms ≡ Err flaw → NoStream
   unfolding rest_in
   rest_refused e =
       either_step (next_struct stream_u (codes "event-record-common-context-field-type") ms) _ flaw e
-      (λ r. either_way (next_struct_refused objects.StreamType (codes "event-record-common-context-field-type") ms flaw r) IsNoStreamObject.unknown IsNoStreamObject.common)
+      (λ r. either_way (next_struct_refused places.StreamType (codes "event-record-common-context-field-type") ms flaw r) IsNoStreamObject.unknown IsNoStreamObject.common)
       (λ x went f. either_step (next_events aliases stream_u (codes "event-record-types") ms) _ flaw f next_events_refused
       (λ y made g. only_step (next_extras stream_u (codes "packet-context-field-type-extra-members") ms) _ flaw g next_extras_refused))
 
@@ -147,7 +147,7 @@ module _ (aliases : Members) (taken : Bool) (name : List ℕ) (ms : Members) (fl
   unfolding stream_in
   stream_in_refused e =
       either_step (stream_parts_in name aliases taken stream_u ms) _ flaw e stream_parts_refused
-      (λ x went f. only_step (no_more stream_u) _ flaw f (λ r. IsNoStreamObject.unknown (no_more_refused objects.StreamType ms flaw r)))
+      (λ x went f. only_step (no_more stream_u) _ flaw f (λ r. IsNoStreamObject.unknown (no_more_refused places.StreamType ms flaw r)))
 
   named_stream_refused : (name_of name >>= (λ named. stream_in name aliases taken stream_u ms)) ≡ Err flaw → NoStream
   named_stream_refused e = either_step (name_of name) _ flaw e (λ r. IsNoStreamObject.bad_name (name_refused name flaw r)) (λ x went r. stream_in_refused r)
@@ -155,7 +155,7 @@ module _ (aliases : Members) (taken : Bool) (name : List ℕ) (ms : Members) (fl
 pub stream_refused : (aliases : Members) (taken : Bool) (name : List ℕ) (d : Data) (flaw : Flaw) → stream_type_of aliases taken name d ≡ Err flaw → IsNoStreamType aliases taken name d flaw
 unfolding stream_type_of
 stream_refused aliases taken name d flaw e =
-    in_object (IsNoStreamObject aliases taken name) (λ ms. name_of name >>= (λ named. stream_in name aliases taken (first_unknown objects.StreamType ms) ms)) d flaw (λ ms r. named_stream_refused aliases taken name ms flaw r) e
+    in_object (IsNoStreamObject aliases taken name) (λ ms. name_of name >>= (λ named. stream_in name aliases taken (first_unknown places.StreamType ms) ms)) d flaw (λ ms r. named_stream_refused aliases taken name ms flaw r) e
 
 -- ---- all of them
 

@@ -10,7 +10,7 @@ use Rattle.uuid.specs.Text.{parsed}
 use Rattle.conf_tree.specs.declared.fault_kind.FaultKind.TheVariants.{WrongKind, Missing, OutOfRange}
 use Rattle.conf_tree.specs.Flaw.{Flaw, key, here, within}
 use Rattle.conf_tree.specs.Reading.{◌>>=◌, needed, optional, text_of}
-use Rattle.conf_values.specs.declared.properties.ObjectKind.TheVariants as objects
+use Rattle.conf_table.specs.declared.place.Place.TheVariants as places
 use Rattle.conf_objects.specs.Alias.{aliases_of}
 use Rattle.conf_objects.specs.ClockType.{clock_types_of}
 use Rattle.conf_objects.specs.Environment.{environment_of}
@@ -74,7 +74,7 @@ order_there_refused ms flaw e =
 
 module _ (number : Option (List ℕ)) (environment : List EnvironmentEntry) (ms : Members) (flaw : Flaw) where
   abbrev type_u : Option (List ℕ)
-  type_u = first_unknown objects.TraceType ms
+  type_u = first_unknown places.TraceType ms
 
   abbrev NoType : Type 0
   NoType = IsNoTraceTypeObject ms flaw
@@ -83,23 +83,23 @@ module _ (number : Option (List ℕ)) (environment : List EnvironmentEntry) (ms 
   unfolding front_in
   front_refused e =
       either_step (next_header (has_uuid ms) type_u (codes "$features") ms) _ flaw e
-      (λ r. either_way (next_header_refused objects.TraceType (has_uuid ms) (codes "$features") ms flaw r) IsNoTraceTypeObject.unknown IsNoTraceTypeObject.features)
+      (λ r. either_way (next_header_refused places.TraceType (has_uuid ms) (codes "$features") ms flaw r) IsNoTraceTypeObject.unknown IsNoTraceTypeObject.features)
       (λ x went f. either_step (next type_u (codes "$field-type-aliases") aliases_of ms) _ flaw f
-      (λ r. either_way (next_refused objects.TraceType (codes "$field-type-aliases") aliases_of IsNoAliases ms flaw aliases_refused r) IsNoTraceTypeObject.unknown IsNoTraceTypeObject.field_type_aliases)
+      (λ r. either_way (next_refused places.TraceType (codes "$field-type-aliases") aliases_of IsNoAliases ms flaw aliases_refused r) IsNoTraceTypeObject.unknown IsNoTraceTypeObject.field_type_aliases)
       (λ y made g. only_step (next type_u (codes "$log-level-aliases") level_aliases_of ms) (λ _. x) flaw g
-      (λ r. either_way (next_refused objects.TraceType (codes "$log-level-aliases") level_aliases_of IsNoLogLevelAliases ms flaw level_aliases_refused r) IsNoTraceTypeObject.unknown IsNoTraceTypeObject.log_level_aliases)))
+      (λ r. either_way (next_refused places.TraceType (codes "$log-level-aliases") level_aliases_of IsNoLogLevelAliases ms flaw level_aliases_refused r) IsNoTraceTypeObject.unknown IsNoTraceTypeObject.log_level_aliases)))
 
   next_clocks_refused : next_clocks type_u (codes "clock-types") ms ≡ Err flaw → NoType
   unfolding next_clocks
   next_clocks_refused e =
       only_step (next type_u (codes "clock-types") clock_types_of ms) _ flaw e
-      (λ r. either_way (next_refused objects.TraceType (codes "clock-types") clock_types_of IsNoClockTypes ms flaw clock_types_refused r) IsNoTraceTypeObject.unknown IsNoTraceTypeObject.clocks)
+      (λ r. either_way (next_refused places.TraceType (codes "clock-types") clock_types_of IsNoClockTypes ms flaw clock_types_refused r) IsNoTraceTypeObject.unknown IsNoTraceTypeObject.clocks)
 
   next_streams_refused : next_streams (levels_in ms) type_u (codes "data-stream-types") ms ≡ Err flaw → NoType
   unfolding next_streams
   next_streams_refused e =
       only_step (next type_u (codes "data-stream-types") (stream_types_of (levels_in ms)) ms) _ flaw e
-      (λ r. either_way (next_refused objects.TraceType (codes "data-stream-types") (stream_types_of (levels_in ms)) (IsNoStreamTypes (levels_in ms)) ms flaw (stream_types_refused (levels_in ms)) r) IsNoTraceTypeObject.unknown IsNoTraceTypeObject.streams)
+      (λ r. either_way (next_refused places.TraceType (codes "data-stream-types") (stream_types_of (levels_in ms)) (IsNoStreamTypes (levels_in ms)) ms flaw (stream_types_refused (levels_in ms)) r) IsNoTraceTypeObject.unknown IsNoTraceTypeObject.streams)
 
   lists_refused : lists_in (levels_in ms) type_u ms ≡ Err flaw → NoType
   unfolding lists_in
@@ -111,11 +111,11 @@ module _ (number : Option (List ℕ)) (environment : List EnvironmentEntry) (ms 
   unfolding ends_in
   ends_refused e =
       either_step (next type_u (codes "native-byte-order") order_of ms) _ flaw e
-      (λ r. either_way (next_refused objects.TraceType (codes "native-byte-order") order_of (IsNoWordOf (words_of order_words)) ms flaw order_refused r) IsNoTraceTypeObject.unknown IsNoTraceTypeObject.native_byte_order)
+      (λ r. either_way (next_refused places.TraceType (codes "native-byte-order") order_of (IsNoWordOf (words_of order_words)) ms flaw order_refused r) IsNoTraceTypeObject.unknown IsNoTraceTypeObject.native_byte_order)
       (λ x went f. either_step (next type_u (codes "trace-byte-order") order_of ms) _ flaw f
-      (λ r. either_way (next_refused objects.TraceType (codes "trace-byte-order") order_of (IsNoWordOf (words_of order_words)) ms flaw order_refused r) IsNoTraceTypeObject.unknown IsNoTraceTypeObject.trace_byte_order)
+      (λ r. either_way (next_refused places.TraceType (codes "trace-byte-order") order_of (IsNoWordOf (words_of order_words)) ms flaw order_refused r) IsNoTraceTypeObject.unknown IsNoTraceTypeObject.trace_byte_order)
       (λ y made g. only_step (next type_u (codes "uuid") uuid_choice_of ms) _ flaw g
-      (λ r. either_way (next_refused objects.TraceType (codes "uuid") uuid_choice_of IsNoIdentifierChoice ms flaw uuid_choice_refused r) IsNoTraceTypeObject.unknown IsNoTraceTypeObject.uuid)))
+      (λ r. either_way (next_refused places.TraceType (codes "uuid") uuid_choice_of IsNoIdentifierChoice ms flaw uuid_choice_refused r) IsNoTraceTypeObject.unknown IsNoTraceTypeObject.uuid)))
 
   parts_refused : trace_parts_in number environment type_u ms ≡ Err flaw → NoType
   unfolding trace_parts_in
@@ -127,7 +127,7 @@ module _ (number : Option (List ℕ)) (environment : List EnvironmentEntry) (ms 
   unfolding trace_type_in
   trace_type_in_refused e =
       either_step (trace_parts_in number environment type_u ms) _ flaw e parts_refused
-      (λ x went f. only_step (no_more type_u) (λ _. x) flaw f (λ r. IsNoTraceTypeObject.unknown (no_more_refused objects.TraceType ms flaw r)))
+      (λ x went f. only_step (no_more type_u) (λ _. x) flaw f (λ r. IsNoTraceTypeObject.unknown (no_more_refused places.TraceType ms flaw r)))
 
   ordered_refused : (order_there ms >>= (λ _. trace_type_in number environment type_u ms)) ≡ Err flaw → NoType
   ordered_refused e = either_step (order_there ms) (λ _. trace_type_in number environment type_u ms) flaw e (order_there_refused ms flaw) (λ x went r. trace_type_in_refused r)
@@ -135,49 +135,49 @@ module _ (number : Option (List ℕ)) (environment : List EnvironmentEntry) (ms 
 pub trace_type_refused : (number : Option (List ℕ)) (environment : List EnvironmentEntry) (d : Data) (flaw : Flaw) → trace_type_of number environment d ≡ Err flaw → IsNoTraceType d flaw
 unfolding trace_type_of
 trace_type_refused number environment d flaw e =
-    in_object IsNoTraceTypeObject (λ ms. order_there ms >>= (λ _. trace_type_in number environment (first_unknown objects.TraceType ms) ms)) d flaw (λ ms r. ordered_refused number environment ms flaw r) e
+    in_object IsNoTraceTypeObject (λ ms. order_there ms >>= (λ _. trace_type_in number environment (first_unknown places.TraceType ms) ms)) d flaw (λ ms r. ordered_refused number environment ms flaw r) e
 
 -- ---- the trace and the configuration around it
 
 module _ (number : Option (List ℕ)) (ms : Members) (flaw : Flaw) where
   abbrev trace_u : Option (List ℕ)
-  trace_u = first_unknown objects.Trace ms
+  trace_u = first_unknown places.Trace ms
 
   next_environment_refused : next_environment trace_u (codes "environment") ms ≡ Err flaw → IsNoTraceObject ms flaw
   unfolding next_environment
   next_environment_refused e =
       only_step (next trace_u (codes "environment") environment_of ms) _ flaw e
-      (λ r. either_way (next_refused objects.Trace (codes "environment") environment_of IsNoEnvironment ms flaw environment_refused r) IsNoTraceObject.unknown IsNoTraceObject.environment)
+      (λ r. either_way (next_refused places.Trace (codes "environment") environment_of IsNoEnvironment ms flaw environment_refused r) IsNoTraceObject.unknown IsNoTraceObject.environment)
 
   trace_in_refused : trace_in number trace_u ms ≡ Err flaw → IsNoTraceObject ms flaw
   unfolding trace_in
   trace_in_refused e =
       either_step (next_environment trace_u (codes "environment") ms) _ flaw e next_environment_refused
       (λ x went f. either_step (next_needed trace_u (codes "type") (trace_type_of number x) ms) _ flaw f
-      (λ r. either_way (next_needed_refused objects.Trace (codes "type") (trace_type_of number x) IsNoTraceType ms flaw (trace_type_refused number x) r) IsNoTraceObject.unknown IsNoTraceObject.trace_type)
-      (λ y made g. only_step (no_more trace_u) (λ _. y) flaw g (λ r. IsNoTraceObject.unknown (no_more_refused objects.Trace ms flaw r))))
+      (λ r. either_way (next_needed_refused places.Trace (codes "type") (trace_type_of number x) IsNoTraceType ms flaw (trace_type_refused number x) r) IsNoTraceObject.unknown IsNoTraceObject.trace_type)
+      (λ y made g. only_step (no_more trace_u) (λ _. y) flaw g (λ r. IsNoTraceObject.unknown (no_more_refused places.Trace ms flaw r))))
 
   there_refused : (needed (codes "type") ms >>= (λ _. trace_in number trace_u ms)) ≡ Err flaw → IsNoTraceObject ms flaw
   there_refused e = either_step (needed (codes "type") ms) (λ _. trace_in number trace_u ms) flaw e (λ r. IsNoTraceObject.trace_type (inl (lacks_refused (codes "type") ms flaw r))) (λ x went r. trace_in_refused r)
 
 pub trace_refused : (number : Option (List ℕ)) (d : Data) (flaw : Flaw) → trace_of number d ≡ Err flaw → IsNoTrace d flaw
 unfolding trace_of
-trace_refused number d flaw e = in_object IsNoTraceObject (λ ms. needed (codes "type") ms >>= (λ _. trace_in number (first_unknown objects.Trace ms) ms)) d flaw (λ ms r. there_refused number ms flaw r) e
+trace_refused number d flaw e = in_object IsNoTraceObject (λ ms. needed (codes "type") ms >>= (λ _. trace_in number (first_unknown places.Trace ms) ms)) d flaw (λ ms r. there_refused number ms flaw r) e
 
 module _ (number : Option (List ℕ)) (ms : Members) (flaw : Flaw) where
   abbrev root_u : Option (List ℕ)
-  root_u = first_unknown objects.Root ms
+  root_u = first_unknown places.Root ms
 
   root_in_refused : root_in number root_u ms ≡ Err flaw → IsNoRootObject ms flaw
   unfolding root_in
   root_in_refused e =
       either_step (next_needed root_u (codes "trace") (trace_of number) ms) _ flaw e
-      (λ r. either_way (next_needed_refused objects.Root (codes "trace") (trace_of number) IsNoTrace ms flaw (trace_refused number) r) IsNoRootObject.unknown IsNoRootObject.trace)
-      (λ x went f. only_step (no_more root_u) (λ _. x) flaw f (λ r. IsNoRootObject.unknown (no_more_refused objects.Root ms flaw r)))
+      (λ r. either_way (next_needed_refused places.Root (codes "trace") (trace_of number) IsNoTrace ms flaw (trace_refused number) r) IsNoRootObject.unknown IsNoRootObject.trace)
+      (λ x went f. only_step (no_more root_u) (λ _. x) flaw f (λ r. IsNoRootObject.unknown (no_more_refused places.Root ms flaw r)))
 
   root_there_refused : (needed (codes "trace") ms >>= (λ _. root_in number root_u ms)) ≡ Err flaw → IsNoRootObject ms flaw
   root_there_refused e = either_step (needed (codes "trace") ms) (λ _. root_in number root_u ms) flaw e (λ r. IsNoRootObject.trace (inl (lacks_refused (codes "trace") ms flaw r))) (λ x went r. root_in_refused r)
 
 pub root_refused : (number : Option (List ℕ)) (d : Data) (flaw : Flaw) → draft_reading number d ≡ Err flaw → IsNoRoot d flaw
 unfolding draft_reading
-root_refused number d flaw e = in_object IsNoRootObject (λ ms. needed (codes "trace") ms >>= (λ _. root_in number (first_unknown objects.Root ms) ms)) d flaw (λ ms r. root_there_refused number ms flaw r) e
+root_refused number d flaw e = in_object IsNoRootObject (λ ms. needed (codes "trace") ms >>= (λ _. root_in number (first_unknown places.Root ms) ms)) d flaw (λ ms r. root_there_refused number ms flaw r) e

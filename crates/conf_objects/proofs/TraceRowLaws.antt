@@ -8,7 +8,7 @@ use Rattle.ctf_types.specs.declared.EnvironmentEntry.{EnvironmentEntry}
 use Rattle.ctf_types.specs.declared.HeaderFeatures.{HeaderFeatures}
 use Rattle.conf_tree.specs.Reading.{◌>>=◌, object_of, needed, needed_as, optional_as}
 use Rattle.conf_objects.specs.declared.draft.Draft.{Draft}
-use Rattle.conf_values.specs.declared.properties.ObjectKind.TheVariants as objects
+use Rattle.conf_table.specs.declared.place.Place.TheVariants as places
 use Rattle.conf_objects.specs.declared.trace_type.Lists.{Lists}
 use Rattle.conf_objects.specs.declared.trace_type.Ends.{Ends}
 use Rattle.conf_objects.specs.Alias.{aliases_of}
@@ -73,7 +73,7 @@ ends_say u ms x e =
     subst (EndsSay ms) (ok_same (record { native_order = native.0; trace_order = trace.0; uuid = uuid.0 }) x uuid.2)
     (next_read_there u (codes "native-byte-order") order_of ms native.0 native.1, next_read_there u (codes "trace-byte-order") order_of ms trace.0 trace.1, next_read_there u (codes "uuid") uuid_choice_of ms uuid.0 uuid.1)
 
-draft_says : (number : Option (List ℕ)) (environment : List EnvironmentEntry) (ms : Members) (header : HeaderFeatures) (lists : Lists) (ends : Ends) → HasOnly objects.TraceType ms → order_there ms ≡ Ok tt
+draft_says : (number : Option (List ℕ)) (environment : List EnvironmentEntry) (ms : Members) (header : HeaderFeatures) (lists : Lists) (ends : Ends) → HasOnly places.TraceType ms → order_there ms ≡ Ok tt
     → FrontSays (has_uuid ms) ms header → ListsSay (levels_in ms) ms lists → EndsSay ms ends → IsTraceTypeObject number environment ms (draft_of number environment header lists ends)
 unfolding draft_of
 draft_says number environment ms header lists ends known there a b c = record {
@@ -102,7 +102,7 @@ unfolding trace_type_of trace_type_in trace_parts_in
 trace_type_says number environment d draft e =
     let ms = both_read (object_of d) _ draft e in
     let there = both_read (order_there ms.0) _ draft ms.2 in
-    let u = first_unknown objects.TraceType ms.0 in
+    let u = first_unknown places.TraceType ms.0 in
     let parts = both_read (trace_parts_in number environment u ms.0) _ draft there.2 in
     let known = both_read (no_more u) _ draft parts.2 in
     let header = both_read (front_in (has_uuid ms.0) u ms.0) _ parts.0 parts.1 in
@@ -167,7 +167,7 @@ unfolding trace_of trace_in next_environment
 trace_says number d draft e =
     let ms = both_read (object_of d) _ draft e in
     let there = both_read (needed (codes "type") ms.0) _ draft ms.2 in
-    let u = first_unknown objects.Trace ms.0 in
+    let u = first_unknown places.Trace ms.0 in
     let environment = both_read (next_environment u (codes "environment") ms.0) _ draft there.2 in
     let inner = both_read (next_needed u (codes "type") (trace_type_of number environment.0) ms.0) _ draft environment.2 in
     let known = both_read (no_more u) _ draft inner.2 in
@@ -200,7 +200,7 @@ unfolding draft_reading root_in
 root_says number d draft e =
     let ms = both_read (object_of d) _ draft e in
     let there = both_read (needed (codes "trace") ms.0) _ draft ms.2 in
-    let u = first_unknown objects.Root ms.0 in
+    let u = first_unknown places.Root ms.0 in
     let inner = both_read (next_needed u (codes "trace") (trace_of number) ms.0) _ draft there.2 in
     let known = both_read (no_more u) _ draft inner.2 in
     (ms.0, ms.1, record { known = none_unknown u known.0 known.1; trace = next_needed_read u (codes "trace") (trace_of number) ms.0 inner.0 inner.1 ∙ known.2 })

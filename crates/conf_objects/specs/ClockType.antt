@@ -4,7 +4,7 @@ use Rattle.serde_json.specs.Data.{Data, Members, no_members, member}
 use Rattle.ctf_types.specs.declared.ClockType.{ClockType}
 use Rattle.conf_tree.specs.Flaw.{Flaw, key}
 use Rattle.conf_tree.specs.Reading.{at, object_of, flag_of, ◌>>=◌}
-use Rattle.conf_values.specs.declared.properties.ObjectKind.TheVariants as object
+use Rattle.conf_table.specs.declared.place.Place.TheVariants as places
 use Rattle.conf_values.specs.Name.{plain_name_of}
 use Rattle.conf_values.specs.Property.{first_unknown, next, no_more}
 use Rattle.conf_values.specs.Scalar.{natural_of, signed_of, config_text_of, uuid_of}
@@ -25,7 +25,7 @@ offset_in u ms =
     Ok (record { cycles = unwrap_or cycles 0; seconds = unwrap_or seconds (pos 0) }))))
 
 unfoldable pub offset_of : Data → Result Offset Flaw
-offset_of d = object_of d >>= (λ ms. offset_in (first_unknown object.ClockOffset ms) ms)
+offset_of d = object_of d >>= (λ ms. offset_in (first_unknown places.ClockOffset ms) ms)
 
 abbrev pub no_offset : Offset
 no_offset = record { cycles = 0; seconds = pos 0 }
@@ -79,7 +79,7 @@ clock_in name u ms =
 
 unfoldable pub clock_type_of : List ℕ → Data → Result ClockType Flaw
 clock_type_of name d =
-    object_of d >>= (λ ms. plain_name_of name >>= (λ named. clock_in name (first_unknown object.ClockType ms) ms))
+    object_of d >>= (λ ms. plain_name_of name >>= (λ named. clock_in name (first_unknown places.ClockType ms) ms))
 
 -- the same, seen from the object that has it under its name
 unfoldable pub clock_member_of : List ℕ → Data → Result ClockType Flaw

@@ -4,7 +4,7 @@ use Rattle.serde_json.specs.Data.{Data, Members, no_members, member}
 use Rattle.ctf_types.specs.declared.EventType.{EventType}
 use Rattle.conf_tree.specs.Flaw.{Flaw, key}
 use Rattle.conf_tree.specs.Reading.{at, object_of, ◌>>=◌}
-use Rattle.conf_values.specs.declared.properties.ObjectKind.TheVariants as objects
+use Rattle.conf_table.specs.declared.place.Place.TheVariants as places
 use Rattle.conf_objects.specs.LogLevel.{log_level_of}
 use Rattle.conf_values.specs.Name.{name_of}
 use Rattle.conf_objects.specs.OptionalStruct.{next_struct}
@@ -27,7 +27,7 @@ event_in name aliases u ms = do
 -- `aliases` are those of log levels
 unfoldable pub event_type_of : Members → List ℕ → Data → Result EventType Flaw
 event_type_of aliases name d =
-    object_of d >>= (λ ms. name_of name >>= (λ named. event_in name aliases (first_unknown objects.EventType ms) ms))
+    object_of d >>= (λ ms. name_of name >>= (λ named. event_in name aliases (first_unknown places.EventType ms) ms))
 
 -- the same, seen from the object that has it under its name
 unfoldable pub event_member_of : Members → List ℕ → Data → Result EventType Flaw

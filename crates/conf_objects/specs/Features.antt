@@ -10,7 +10,7 @@ use Rattle.conf_tree.specs.Reading.{object_of, ◌>>=◌}
 use Rattle.conf_objects.specs.declared.features.FrontFields.{FrontFields}
 use Rattle.conf_objects.specs.declared.features.BackFields.{BackFields}
 use Rattle.conf_objects.specs.declared.features.StreamFields.{StreamFields}
-use Rattle.conf_values.specs.declared.properties.ObjectKind.TheVariants as objects
+use Rattle.conf_table.specs.declared.place.Place.TheVariants as places
 use Rattle.conf_objects.specs.Feature.{next_feature, next_size, next_timestamp, next_magic, next_identifier}
 use Rattle.conf_values.specs.Property.{first_unknown, next, no_more}
 
@@ -36,7 +36,7 @@ header_in has_uuid u ms = do
   Ok fields
 
 unfoldable pub header_of : Bool → Data → Result HeaderFeatures Flaw
-header_of has_uuid d = object_of d >>= (λ ms. header_in has_uuid (first_unknown objects.TraceFeatures ms) ms)
+header_of has_uuid d = object_of d >>= (λ ms. header_in has_uuid (first_unknown places.TraceFeatures ms) ms)
 
 unfoldable pub next_header : Bool → Option (List ℕ) → List ℕ → Members → Result HeaderFeatures Flaw
 next_header has_uuid u name ms = next u name (header_of has_uuid) ms >>= or_empty (header_in has_uuid None no_members)
@@ -51,7 +51,7 @@ event_header_in clock u ms = do
   Ok (record { id = id; timestamp = timestamp })
 
 unfoldable pub event_header_of : Option (List ℕ) → Data → Result EventFeatures Flaw
-event_header_of clock d = object_of d >>= (λ ms. event_header_in clock (first_unknown objects.EventFeatures ms) ms)
+event_header_of clock d = object_of d >>= (λ ms. event_header_in clock (first_unknown places.EventRecordFeatures ms) ms)
 
 unfoldable pub next_event_header : Option (List ℕ) → Option (List ℕ) → List ℕ → Members → Result EventFeatures Flaw
 next_event_header clock u name ms = next u name (event_header_of clock) ms >>= or_empty (event_header_in clock None no_members)
@@ -87,7 +87,7 @@ context_in clock u ms = do
   })
 
 unfoldable pub context_of : Option (List ℕ) → Data → Result ContextFeatures Flaw
-context_of clock d = object_of d >>= (λ ms. context_in clock (first_unknown objects.PacketFeatures ms) ms)
+context_of clock d = object_of d >>= (λ ms. context_in clock (first_unknown places.PacketFeatures ms) ms)
 
 unfoldable pub next_context : Option (List ℕ) → Option (List ℕ) → List ℕ → Members → Result ContextFeatures Flaw
 next_context clock u name ms = next u name (context_of clock) ms >>= or_empty (context_in clock None no_members)
@@ -102,7 +102,7 @@ stream_fields_in clock u ms = do
   Ok (record { event_header = event_header; context = context })
 
 unfoldable pub stream_fields_of : Option (List ℕ) → Data → Result StreamFields Flaw
-stream_fields_of clock d = object_of d >>= (λ ms. stream_fields_in clock (first_unknown objects.StreamFeatures ms) ms)
+stream_fields_of clock d = object_of d >>= (λ ms. stream_fields_in clock (first_unknown places.StreamFeatures ms) ms)
 
 unfoldable pub next_stream_fields : Option (List ℕ) → Option (List ℕ) → List ℕ → Members → Result StreamFields Flaw
 next_stream_fields clock u name ms = next u name (stream_fields_of clock) ms >>= or_empty (stream_fields_in clock None no_members)

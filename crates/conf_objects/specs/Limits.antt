@@ -1,114 +1,94 @@
 -- The limits of a configuration's size, judged over its tree once each object is as it should be: how many entries its maps
--- have, how long its texts are, and the limits of its field types. The first in the order of the walk is the flaw.
-use Rattle.std.specs.Prelude.{ℕ, List, nat_le, length, Option, None, Some, Result, Ok, Err, codes, if◌then◌else◌, ⊤}
-use Rattle.std.specs.Str.{bytes_eq}
+-- have and how long its texts are, as the table has it, and the limits of its field types. The first in the order of the walk
+-- is the flaw.
+use Rattle.std.specs.Prelude.{ℕ, List, Bool, true, false, nat_le, length, Option, None, Some, Result, Ok, Err, if◌then◌else◌, ⊤}
 use Rattle.serde_json.specs.Data.{Data, null, boolean, number, string, array, object, Members, no_members, member}
 use Rattle.serde_json.specs.Events.{members_len}
+use Rattle.conf_table.specs.declared.place.Place.TheVariants as places
+use Rattle.conf_table.specs.declared.row.Content.{Content}
+use Rattle.conf_table.specs.declared.row.Content.TheVariants.{Text, WholeOrText, At, Anything}
+use Rattle.conf_table.specs.declared.row.Entries.{Entries}
+use Rattle.conf_table.specs.Table.{entries_of, place_in, content_under}
 use Rattle.conf_tree.specs.declared.fault_kind.FaultKind.TheVariants.{Limit}
 use Rattle.conf_tree.specs.Flaw.{Flaw, key, here}
 use Rattle.conf_tree.specs.Reading.{at, ◌>>=◌}
-use Rattle.conf_objects.specs.declared.limits.Part.{Part}
-use Rattle.conf_objects.specs.declared.limits.Part.TheVariants.{Root, Trace, TraceType, Environment, Aliases, LogLevels, ClockTypes, ClockType, StreamTypes, StreamType, EventTypes, EventType, FeatureGroups, Features, Feature, Structure, Extras, Words, Plain}
 use Rattle.conf_fields.specs.FieldType.{field_limits}
 use Rattle.conf_fields.specs.Members.{members_limits}
 use Rattle.conf_fields.specs.StructType.{struct_limits}
 
--- ---- the parts of a configuration
+-- ---- what the table says of a value
 
-unfoldable pub part_in_trace_type : List ℕ → Part
-part_in_trace_type k =
-    if bytes_eq k (codes "$features") then Features
-    else if bytes_eq k (codes "$field-type-aliases") then Aliases
-    else if bytes_eq k (codes "$log-level-aliases") then LogLevels
-    else if bytes_eq k (codes "clock-types") then ClockTypes
-    else if bytes_eq k (codes "data-stream-types") then StreamTypes
-    else Plain
+-- the whole configuration
+abbrev pub root : Content
+root = At places.Root
 
-unfoldable pub part_in_stream_type : List ℕ → Part
-part_in_stream_type k =
-    if bytes_eq k (codes "$features") then FeatureGroups
-    else if bytes_eq k (codes "event-record-common-context-field-type") then Structure
-    else if bytes_eq k (codes "event-record-types") then EventTypes
-    else if bytes_eq k (codes "packet-context-field-type-extra-members") then Extras
-    else Plain
+abbrev pub or_anything : Option Content → Content
+or_anything None = Anything
+or_anything (Some content) = content
 
-unfoldable pub part_in_trace : List ℕ → Part
-part_in_trace k =
-    if bytes_eq k (codes "environment") then Environment
-    else if bytes_eq k (codes "type") then TraceType
-    else Plain
+-- what the property of this name is; one that the table does not know may be anything
+unfoldable pub part_under : Content → List ℕ → Content
+part_under whole k = or_anything (content_under (place_in whole) k)
 
-unfoldable pub part_in_event_type : List ℕ → Part
-part_in_event_type k =
-    if bytes_eq k (codes "payload-field-type") then Structure
-    else if bytes_eq k (codes "specific-context-field-type") then Structure
-    else Plain
+-- how many bytes a text has at most
+unfoldable pub most_bytes : Content → Option ℕ
+most_bytes (Text most) = Some most
+most_bytes (WholeOrText low high most) = Some most
+most_bytes _ = None
 
-unfoldable pub part_in_clock_type : List ℕ → Part
-part_in_clock_type k = if bytes_eq k (codes "description") then Words else Plain
+abbrev pub most_of : Option Entries → Option ℕ
+most_of None = None
+most_of (Some entries) = entries.most
 
-unfoldable pub part_in_root : List ℕ → Part
-part_in_root k = if bytes_eq k (codes "trace") then Trace else Plain
+-- how many entries a map has at most
+unfoldable pub most_entries : Content → Option ℕ
+most_entries content = most_of (entries_of (place_in content))
 
--- the part that a property of this name is
-unfoldable pub part_under : Part → List ℕ → Part
-part_under Root k = part_in_root k
-part_under Trace k = part_in_trace k
-part_under TraceType k = part_in_trace_type k
-part_under Environment k = Words
-part_under ClockTypes k = ClockType
-part_under ClockType k = part_in_clock_type k
-part_under StreamTypes k = StreamType
-part_under StreamType k = part_in_stream_type k
-part_under EventTypes k = EventType
-part_under EventType k = part_in_event_type k
-part_under FeatureGroups k = Features
-part_under Features k = Feature
-part_under _ k = Plain
+unfoldable pub is_feature : Content → Bool
+is_feature (At places.Feature) = true
+is_feature (At places.SizeFeature) = true
+is_feature (At places.MagicFeature) = true
+is_feature (At places.IdentifierFeature) = true
+is_feature _ = false
 
--- how many entries a part has at most
-unfoldable pub most_entries : Part → Option ℕ
-most_entries Environment = Some 256
-most_entries Aliases = Some 1024
-most_entries LogLevels = Some 1024
-most_entries ClockTypes = Some 64
-most_entries StreamTypes = Some 64
-most_entries EventTypes = Some 1024
-most_entries _ = None
+-- a payload or a context
+unfoldable pub is_structure_type : Content → Bool
+is_structure_type (At places.StructureType) = true
+is_structure_type _ = false
+
+-- the extra members of a packet context
+unfoldable pub is_extra_members : Content → Bool
+is_extra_members (At places.ExtraMembers) = true
+is_extra_members _ = false
 
 -- ---- limits
 
 abbrev pub at_most : Option ℕ → ℕ → Result ⊤ Flaw
 at_most None n = Ok tt
-at_most (Some limit) n = if nat_le n limit then Ok tt else Err (here Limit)
+at_most (Some most) n = if nat_le n most then Ok tt else Err (here Limit)
 
-unfoldable pub entries_limit : Part → Members → Result ⊤ Flaw
-entries_limit part ms = at_most (most_entries part) (members_len ms)
+unfoldable pub entries_limit : Content → Members → Result ⊤ Flaw
+entries_limit content ms = at_most (most_entries content) (members_len ms)
 
--- a text that people read has 4,096 bytes at most
-unfoldable pub text_limit : Part → List ℕ → Result ⊤ Flaw
-text_limit Words s = at_most (Some 4096) (length s)
-text_limit _ s = Ok tt
+unfoldable pub text_limit : Content → List ℕ → Result ⊤ Flaw
+text_limit content s = at_most (most_bytes content) (length s)
 
-unfoldable pub list_limits : Part → Data → Result ⊤ Flaw
-list_limits Extras d = members_limits d
-list_limits _ d = Ok tt
+unfoldable pub list_limits : Content → Data → Result ⊤ Flaw
+list_limits content d = if is_extra_members content then members_limits d else Ok tt
 
 -- a feature or a structure is a field type
-unfoldable pub type_limits : Part → Data → Result ⊤ Flaw
-type_limits Feature d = field_limits d
-type_limits Structure d = struct_limits d
-type_limits _ d = Ok tt
+unfoldable pub type_limits : Content → Data → Result ⊤ Flaw
+type_limits content d = if is_feature content then field_limits d else if is_structure_type content then struct_limits d else Ok tt
 
 abbrev mutual
-  pub limits : Part → Data → Result ⊤ Flaw
-  limits part null = Ok tt
-  limits part (boolean b) = Ok tt
-  limits part (number n) = Ok tt
-  limits part (string s) = text_limit part s
-  limits part (array ds) = list_limits part (array ds)
-  limits part (object ms) = type_limits part (object ms) >>= (λ _. entries_limit part ms >>= (λ _. member_limits part ms))
+  pub limits : Content → Data → Result ⊤ Flaw
+  limits content null = Ok tt
+  limits content (boolean b) = Ok tt
+  limits content (number n) = Ok tt
+  limits content (string s) = text_limit content s
+  limits content (array ds) = list_limits content (array ds)
+  limits content (object ms) = type_limits content (object ms) >>= (λ _. entries_limit content ms >>= (λ _. member_limits content ms))
 
-  pub member_limits : Part → Members → Result ⊤ Flaw
-  member_limits part no_members = Ok tt
-  member_limits part (member k d ms) = at (key k) (limits (part_under part k) d) >>= (λ _. member_limits part ms)
+  pub member_limits : Content → Members → Result ⊤ Flaw
+  member_limits content no_members = Ok tt
+  member_limits content (member k d ms) = at (key k) (limits (part_under content k) d) >>= (λ _. member_limits content ms)

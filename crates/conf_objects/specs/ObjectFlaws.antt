@@ -15,7 +15,7 @@ use Rattle.conf_tree.specs.Reading.{object_of, optional}
 use Rattle.conf_tree.specs.Walk.{HasMember}
 use Rattle.conf_objects.specs.declared.feature.FeatureRule.{FeatureRule}
 use Rattle.conf_objects.specs.declared.feature.FeatureRule.TheVariants.{Plain, Size, Magic, Identifier}
-use Rattle.conf_values.specs.declared.properties.ObjectKind.TheVariants as objects
+use Rattle.conf_table.specs.declared.place.Place.TheVariants as places
 use Rattle.conf_values.specs.Broken.{HasUnknown, SaysNot, MaySayNot}
 use Rattle.conf_objects.specs.ClockType.{max_u64}
 use Rattle.conf_values.specs.declared.words.FieldClass.{FieldClass}
@@ -54,7 +54,7 @@ pub data IsNoFeature (rule : FeatureRule) (d : Data) : Flaw → Type 0 where
 
 -- the features of a packet header
 pub data IsNoHeaderObject (ms : Members) (flaw : Flaw) : Type 0 where
-  unknown : HasUnknown objects.TraceFeatures ms flaw → IsNoHeaderObject ms flaw
+  unknown : HasUnknown places.TraceFeatures ms flaw → IsNoHeaderObject ms flaw
   stream_id : MaySayNot (codes "data-stream-type-id-field-type") (IsNoFeature Plain) ms flaw → IsNoHeaderObject ms flaw
   magic : MaySayNot (codes "magic-field-type") (IsNoFeature Magic) ms flaw → IsNoHeaderObject ms flaw
   uuid : MaySayNot (codes "uuid-field-type") (IsNoFeature Identifier) ms flaw → IsNoHeaderObject ms flaw
@@ -64,7 +64,7 @@ IsNoHeader = IsNoSuch IsNoHeaderObject
 
 -- those of an event record header
 pub data IsNoEventHeaderObject (ms : Members) (flaw : Flaw) : Type 0 where
-  unknown : HasUnknown objects.EventFeatures ms flaw → IsNoEventHeaderObject ms flaw
+  unknown : HasUnknown places.EventRecordFeatures ms flaw → IsNoEventHeaderObject ms flaw
   timestamp : MaySayNot (codes "timestamp-field-type") (IsNoFeature Plain) ms flaw → IsNoEventHeaderObject ms flaw
   id : MaySayNot (codes "type-id-field-type") (IsNoFeature Plain) ms flaw → IsNoEventHeaderObject ms flaw
 
@@ -73,7 +73,7 @@ IsNoEventHeader = IsNoSuch IsNoEventHeaderObject
 
 -- those of a packet context
 pub data IsNoPacketObject (ms : Members) (flaw : Flaw) : Type 0 where
-  unknown : HasUnknown objects.PacketFeatures ms flaw → IsNoPacketObject ms flaw
+  unknown : HasUnknown places.PacketFeatures ms flaw → IsNoPacketObject ms flaw
   packet_size : MaySayNot (codes "total-size-field-type") (IsNoFeature Size) ms flaw → IsNoPacketObject ms flaw
   content_size : MaySayNot (codes "content-size-field-type") (IsNoFeature Size) ms flaw → IsNoPacketObject ms flaw
   timestamp_begin : MaySayNot (codes "beginning-timestamp-field-type") (IsNoFeature Plain) ms flaw → IsNoPacketObject ms flaw
@@ -86,7 +86,7 @@ IsNoPacketFeatures = IsNoSuch IsNoPacketObject
 
 -- those of a data stream type
 pub data IsNoStreamFeaturesObject (ms : Members) (flaw : Flaw) : Type 0 where
-  unknown : HasUnknown objects.StreamFeatures ms flaw → IsNoStreamFeaturesObject ms flaw
+  unknown : HasUnknown places.StreamFeatures ms flaw → IsNoStreamFeaturesObject ms flaw
   packet : MaySayNot (codes "packet") IsNoPacketFeatures ms flaw → IsNoStreamFeaturesObject ms flaw
   event_record : MaySayNot (codes "event-record") IsNoEventHeader ms flaw → IsNoStreamFeaturesObject ms flaw
 
@@ -96,7 +96,7 @@ IsNoStreamFeatures = IsNoSuch IsNoStreamFeaturesObject
 -- ---- clock types
 
 pub data IsNoOffsetObject (ms : Members) (flaw : Flaw) : Type 0 where
-  unknown : HasUnknown objects.ClockOffset ms flaw → IsNoOffsetObject ms flaw
+  unknown : HasUnknown places.ClockOffset ms flaw → IsNoOffsetObject ms flaw
   cycles : MaySayNot (codes "cycles") (IsNoNatural 0 max_u64) ms flaw → IsNoOffsetObject ms flaw
   seconds : MaySayNot (codes "seconds") IsNoSigned ms flaw → IsNoOffsetObject ms flaw
 
@@ -105,7 +105,7 @@ IsNoOffset = IsNoSuch IsNoOffsetObject
 
 pub data IsNoClockObject (name : List ℕ) (ms : Members) (flaw : Flaw) : Type 0 where
   bad_name : IsNoPlainName name flaw → IsNoClockObject name ms flaw
-  unknown : HasUnknown objects.ClockType ms flaw → IsNoClockObject name ms flaw
+  unknown : HasUnknown places.ClockType ms flaw → IsNoClockObject name ms flaw
   frequency : MaySayNot (codes "frequency") (IsNoNatural 1 max_u64) ms flaw → IsNoClockObject name ms flaw
   description : MaySayNot (codes "description") IsNoConfigText ms flaw → IsNoClockObject name ms flaw
   uuid : MaySayNot (codes "uuid") IsNoUuid ms flaw → IsNoClockObject name ms flaw
@@ -159,7 +159,7 @@ pub data IsNoLogLevel (aliases : Members) (d : Data) : Flaw → Type 0 where
 
 pub data IsNoEventObject (aliases : Members) (name : List ℕ) (ms : Members) (flaw : Flaw) : Type 0 where
   bad_name : IsNoName name flaw → IsNoEventObject aliases name ms flaw
-  unknown : HasUnknown objects.EventType ms flaw → IsNoEventObject aliases name ms flaw
+  unknown : HasUnknown places.EventType ms flaw → IsNoEventObject aliases name ms flaw
   log_level : MaySayNot (codes "log-level") (IsNoLogLevel aliases) ms flaw → IsNoEventObject aliases name ms flaw
   specific : MaySayNot (codes "specific-context-field-type") IsNoStructure ms flaw → IsNoEventObject aliases name ms flaw
   payload : MaySayNot (codes "payload-field-type") IsNoStructure ms flaw → IsNoEventObject aliases name ms flaw
@@ -179,7 +179,7 @@ pub data IsNoDefault (taken : Bool) (d : Data) : Flaw → Type 0 where
 
 pub data IsNoStreamObject (aliases : Members) (taken : Bool) (name : List ℕ) (ms : Members) (flaw : Flaw) : Type 0 where
   bad_name : IsNoName name flaw → IsNoStreamObject aliases taken name ms flaw
-  unknown : HasUnknown objects.StreamType ms flaw → IsNoStreamObject aliases taken name ms flaw
+  unknown : HasUnknown places.StreamType ms flaw → IsNoStreamObject aliases taken name ms flaw
   is_default : MaySayNot (codes "$is-default") (IsNoDefault taken) ms flaw → IsNoStreamObject aliases taken name ms flaw
   default_clock : MaySayNot (codes "$default-clock-type-name") IsNoText ms flaw → IsNoStreamObject aliases taken name ms flaw
   features : MaySayNot (codes "$features") IsNoStreamFeatures ms flaw → IsNoStreamObject aliases taken name ms flaw
@@ -214,7 +214,7 @@ abbrev pub IsNoIdentifierChoice : Data → Flaw → Type 0
 IsNoIdentifierChoice d flaw = (as_str d ≢ Some (codes "auto")) × IsNoUuid d flaw
 
 pub data IsNoTraceTypeObject (ms : Members) : Flaw → Type 0 where
-  unknown : {flaw : Flaw} → HasUnknown objects.TraceType ms flaw → IsNoTraceTypeObject ms flaw
+  unknown : {flaw : Flaw} → HasUnknown places.TraceType ms flaw → IsNoTraceTypeObject ms flaw
   no_order : optional (codes "trace-byte-order") ms ≡ None → optional (codes "native-byte-order") ms ≡ None → IsNoTraceTypeObject ms (within (key (codes "trace-byte-order")) (here Missing))
   trace_byte_order : {flaw : Flaw} → MaySayNot (codes "trace-byte-order") (IsNoWordOf (words_of order_words)) ms flaw → IsNoTraceTypeObject ms flaw
   native_byte_order : {flaw : Flaw} → MaySayNot (codes "native-byte-order") (IsNoWordOf (words_of order_words)) ms flaw → IsNoTraceTypeObject ms flaw
@@ -229,7 +229,7 @@ abbrev pub IsNoTraceType : Data → Flaw → Type 0
 IsNoTraceType = IsNoSuch IsNoTraceTypeObject
 
 pub data IsNoTraceObject (ms : Members) (flaw : Flaw) : Type 0 where
-  unknown : HasUnknown objects.Trace ms flaw → IsNoTraceObject ms flaw
+  unknown : HasUnknown places.Trace ms flaw → IsNoTraceObject ms flaw
   trace_type : SaysNot (codes "type") IsNoTraceType ms flaw → IsNoTraceObject ms flaw
   environment : MaySayNot (codes "environment") IsNoEnvironment ms flaw → IsNoTraceObject ms flaw
 
@@ -237,7 +237,7 @@ abbrev pub IsNoTrace : Data → Flaw → Type 0
 IsNoTrace = IsNoSuch IsNoTraceObject
 
 pub data IsNoRootObject (ms : Members) (flaw : Flaw) : Type 0 where
-  unknown : HasUnknown objects.Root ms flaw → IsNoRootObject ms flaw
+  unknown : HasUnknown places.Root ms flaw → IsNoRootObject ms flaw
   trace : SaysNot (codes "trace") IsNoTrace ms flaw → IsNoRootObject ms flaw
 
 abbrev pub IsNoRoot : Data → Flaw → Type 0

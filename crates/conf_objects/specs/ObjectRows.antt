@@ -17,7 +17,7 @@ use Rattle.conf_tree.specs.Reading.{text_of, flag_of}
 use Rattle.conf_objects.specs.declared.feature.Choice.{Choice}
 use Rattle.conf_objects.specs.declared.feature.FeatureRule.TheVariants.{Plain, Size, Magic, Identifier}
 use Rattle.conf_objects.specs.declared.features.StreamFields.{StreamFields}
-use Rattle.conf_values.specs.declared.properties.ObjectKind.TheVariants as objects
+use Rattle.conf_table.specs.declared.place.Place.TheVariants as places
 use Rattle.conf_objects.specs.declared.stream_type.Listed.{Listed}
 use Rattle.conf_objects.specs.ClockType.{Offset, max_u64, offset_of, or_no_offset}
 use Rattle.conf_objects.specs.EventType.{event_types_of, listed}
@@ -39,12 +39,12 @@ SaysOr {A = A} name reads ms default x = (o : Option A) × MaySay name reads ms 
 -- ---- clock types
 
 pub record IsOffsetObject (ms : Members) (o : Offset) : Type 0 where
-  pub known : HasOnly objects.ClockOffset ms
+  pub known : HasOnly places.ClockOffset ms
   pub cycles : SaysOr (codes "cycles") (natural_of 0 max_u64) ms 0 o.cycles
   pub seconds : SaysOr (codes "seconds") signed_of ms (pos 0) o.seconds
 
 pub record IsClockObject (name : List ℕ) (ms : Members) (c : ClockType) : Type 0 where
-  pub known : HasOnly objects.ClockType ms
+  pub known : HasOnly places.ClockType ms
   pub named : plain_name_of name ≡ Ok tt
   pub name_is : c.name ≡ name
   pub description : MaySay (codes "description") config_text_of ms c.description
@@ -67,18 +67,18 @@ abbrev pub IsTimestampFeature : Option (List ℕ) → List ℕ → Members → O
 IsTimestampFeature clock name ms t = (f : Option IntType) × IsFeature (is_some clock) name ms f × (t ≡ mapped_if_on clock f)
 
 pub record IsHeaderObject (has_uuid : Bool) (ms : Members) (f : HeaderFeatures) : Type 0 where
-  pub known : HasOnly objects.TraceFeatures ms
+  pub known : HasOnly places.TraceFeatures ms
   pub stream_id : IsFeature true (codes "data-stream-type-id-field-type") ms f.stream_id
   pub magic : (o : Option Choice) × MaySay (codes "magic-field-type") (choice_of Magic) ms o × (f.magic ≡ chosen true magic_type o)
   pub uuid : (o : Option Choice) × MaySay (codes "uuid-field-type") (choice_of Identifier) ms o × (f.uuid ≡ chosen has_uuid byte_type o)
 
 pub record IsEventHeaderObject (clock : Option (List ℕ)) (ms : Members) (f : EventFeatures) : Type 0 where
-  pub known : HasOnly objects.EventFeatures ms
+  pub known : HasOnly places.EventRecordFeatures ms
   pub timestamp : IsTimestampFeature clock (codes "timestamp-field-type") ms f.timestamp
   pub id : IsFeature true (codes "type-id-field-type") ms f.id
 
 pub record IsContextObject (clock : Option (List ℕ)) (ms : Members) (f : ContextFeatures) : Type 0 where
-  pub known : HasOnly objects.PacketFeatures ms
+  pub known : HasOnly places.PacketFeatures ms
   pub timestamp_begin : IsTimestampFeature clock (codes "beginning-timestamp-field-type") ms f.timestamp_begin
   pub content_size : IsSize (codes "content-size-field-type") ms f.content_size
   pub events_discarded : IsFeature true (codes "discarded-event-records-counter-snapshot-field-type") ms f.events_discarded
@@ -88,14 +88,14 @@ pub record IsContextObject (clock : Option (List ℕ)) (ms : Members) (f : Conte
 
 -- what is absent is as an empty object
 pub record IsStreamFieldsObject (clock : Option (List ℕ)) (ms : Members) (f : StreamFields) : Type 0 where
-  pub known : HasOnly objects.StreamFeatures ms
+  pub known : HasOnly places.StreamFeatures ms
   pub event_record : (o : Option EventFeatures) × MaySay (codes "event-record") (event_header_of clock) ms o × (or_empty (event_header_in clock None no_members) o ≡ Ok f.event_header)
   pub packet : (o : Option ContextFeatures) × MaySay (codes "packet") (context_of clock) ms o × (or_empty (context_in clock None no_members) o ≡ Ok f.context)
 
 -- ---- event record types: `aliases` are those of log levels
 
 pub record IsEventObject (aliases : Members) (name : List ℕ) (ms : Members) (e : EventType) : Type 0 where
-  pub known : HasOnly objects.EventType ms
+  pub known : HasOnly places.EventType ms
   pub named : name_of name ≡ Ok tt
   pub name_is : e.name ≡ name
   pub log_level : MaySay (codes "log-level") (log_level_of aliases) ms e.log_level
@@ -105,7 +105,7 @@ pub record IsEventObject (aliases : Members) (name : List ℕ) (ms : Members) (e
 -- ---- data stream types: `taken` where another is the default
 
 pub record IsStreamObject (aliases : Members) (taken : Bool) (name : List ℕ) (ms : Members) (l : Listed) : Type 0 where
-  pub known : HasOnly objects.StreamType ms
+  pub known : HasOnly places.StreamType ms
   pub named : name_of name ≡ Ok tt
   pub name_is : l.stream.name ≡ name
   pub default_clock : MaySay (codes "$default-clock-type-name") text_of ms l.stream.default_clock

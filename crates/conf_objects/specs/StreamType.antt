@@ -9,7 +9,7 @@ use Rattle.conf_objects.specs.declared.stream_type.Clocked.{Clocked}
 use Rattle.conf_objects.specs.declared.stream_type.Head.{Head}
 use Rattle.conf_objects.specs.declared.stream_type.Rest.{Rest}
 use Rattle.conf_objects.specs.declared.stream_type.Listed.{Listed}
-use Rattle.conf_values.specs.declared.properties.ObjectKind.TheVariants as objects
+use Rattle.conf_table.specs.declared.place.Place.TheVariants as places
 use Rattle.conf_objects.specs.EventType.{next_events, listed}
 use Rattle.conf_objects.specs.Features.{next_stream_fields}
 use Rattle.conf_values.specs.Name.{name_of}
@@ -76,7 +76,7 @@ stream_in name aliases taken u ms = do
 -- `aliases` are those of log levels
 unfoldable pub stream_type_of : Members → Bool → List ℕ → Data → Result Listed Flaw
 stream_type_of aliases taken name d =
-    object_of d >>= (λ ms. name_of name >>= (λ named. stream_in name aliases taken (first_unknown objects.StreamType ms) ms))
+    object_of d >>= (λ ms. name_of name >>= (λ named. stream_in name aliases taken (first_unknown places.StreamType ms) ms))
 
 -- the same, seen from the object that has it under its name
 unfoldable pub stream_member_of : Members → Bool → List ℕ → Data → Result Listed Flaw

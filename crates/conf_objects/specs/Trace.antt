@@ -5,7 +5,7 @@ use Rattle.ctf_types.specs.declared.EnvironmentEntry.{EnvironmentEntry}
 use Rattle.conf_tree.specs.Flaw.{Flaw}
 use Rattle.conf_tree.specs.Reading.{object_of, needed, ◌>>=◌}
 use Rattle.conf_objects.specs.declared.draft.Draft.{Draft}
-use Rattle.conf_values.specs.declared.properties.ObjectKind.TheVariants as objects
+use Rattle.conf_table.specs.declared.place.Place.TheVariants as places
 use Rattle.conf_objects.specs.Environment.{environment_of}
 use Rattle.conf_objects.specs.EventType.{listed}
 use Rattle.conf_values.specs.Property.{first_unknown, next, next_needed, no_more}
@@ -23,7 +23,7 @@ trace_in number u ms = do
   Ok draft
 
 unfoldable pub trace_of : Option (List ℕ) → Data → Result Draft Flaw
-trace_of number d = object_of d >>= (λ ms. needed (codes "type") ms >>= (λ _. trace_in number (first_unknown objects.Trace ms) ms))
+trace_of number d = object_of d >>= (λ ms. needed (codes "type") ms >>= (λ _. trace_in number (first_unknown places.Trace ms) ms))
 
 unfoldable pub root_in : Option (List ℕ) → Option (List ℕ) → Members → Result Draft Flaw
 root_in number u ms = do
@@ -33,4 +33,4 @@ root_in number u ms = do
 
 -- what each object of a configuration says by itself. Its `options` are not looked at
 unfoldable pub draft_reading : Option (List ℕ) → Data → Result Draft Flaw
-draft_reading number d = object_of d >>= (λ ms. needed (codes "trace") ms >>= (λ _. root_in number (first_unknown objects.Root ms) ms))
+draft_reading number d = object_of d >>= (λ ms. needed (codes "trace") ms >>= (λ _. root_in number (first_unknown places.Root ms) ms))

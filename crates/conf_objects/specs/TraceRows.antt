@@ -8,7 +8,7 @@ use Rattle.ctf_types.specs.declared.StreamType.{StreamType}
 use Rattle.ctf_types.specs.declared.EnvironmentEntry.{EnvironmentEntry}
 use Rattle.ctf_types.specs.declared.HeaderFeatures.{HeaderFeatures}
 use Rattle.conf_objects.specs.declared.draft.Draft.{Draft}
-use Rattle.conf_values.specs.declared.properties.ObjectKind.TheVariants as objects
+use Rattle.conf_table.specs.declared.place.Place.TheVariants as places
 use Rattle.conf_objects.specs.Alias.{aliases_of}
 use Rattle.conf_objects.specs.ClockType.{clock_types_of}
 use Rattle.conf_objects.specs.Environment.{environment_of}
@@ -22,7 +22,7 @@ use Rattle.conf_objects.specs.TraceType.{order_of, uuid_choice_of, levels_in, ha
 
 -- `number` is the identifier that is handed in
 pub record IsTraceTypeObject (number : Option (List ℕ)) (environment : List EnvironmentEntry) (ms : Members) (draft : Draft) : Type 0 where
-  pub known : HasOnly objects.TraceType ms
+  pub known : HasOnly places.TraceType ms
   pub order_is_there : order_there ms ≡ Ok tt
   pub native : Option ByteOrder
   pub trace : Option ByteOrder
@@ -42,11 +42,11 @@ pub record IsTraceTypeObject (number : Option (List ℕ)) (environment : List En
   pub environment_is : draft.config.environment ≡ environment
 
 pub record IsTraceObject (number : Option (List ℕ)) (ms : Members) (draft : Draft) : Type 0 where
-  pub known : HasOnly objects.Trace ms
+  pub known : HasOnly places.Trace ms
   pub entries : Option (List EnvironmentEntry)
   pub environment : MaySay (codes "environment") environment_of ms entries
   pub trace_type : Says (codes "type") (trace_type_of number (listed entries)) ms draft
 
 pub record IsRootObject (number : Option (List ℕ)) (ms : Members) (draft : Draft) : Type 0 where
-  pub known : HasOnly objects.Root ms
+  pub known : HasOnly places.Root ms
   pub trace : Says (codes "trace") (trace_of number) ms draft

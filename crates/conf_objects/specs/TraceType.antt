@@ -13,7 +13,7 @@ use Rattle.conf_tree.specs.Reading.{object_of, text_of, optional, ◌>>=◌}
 use Rattle.conf_objects.specs.declared.draft.Draft.{Draft}
 use Rattle.conf_objects.specs.declared.trace_type.Lists.{Lists}
 use Rattle.conf_objects.specs.declared.trace_type.Ends.{Ends}
-use Rattle.conf_values.specs.declared.properties.ObjectKind.TheVariants as objects
+use Rattle.conf_table.specs.declared.place.Place.TheVariants as places
 use Rattle.conf_objects.specs.Alias.{aliases_of}
 use Rattle.conf_objects.specs.ClockType.{clock_types_of}
 use Rattle.conf_objects.specs.EventType.{listed}
@@ -128,4 +128,4 @@ order_there ms =
 
 unfoldable pub trace_type_of : Option (List ℕ) → List EnvironmentEntry → Data → Result Draft Flaw
 trace_type_of number environment d =
-    object_of d >>= (λ ms. order_there ms >>= (λ _. trace_type_in number environment (first_unknown objects.TraceType ms) ms))
+    object_of d >>= (λ ms. order_there ms >>= (λ _. trace_type_in number environment (first_unknown places.TraceType ms) ms))

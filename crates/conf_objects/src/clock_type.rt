@@ -5,10 +5,11 @@ ghost use Rattle.serde_json.specs.View.{view, members_view};
 ghost use Rattle.conf_tree.specs.Reading.{Gives};
 ghost use Rattle.conf_objects.specs.ClockType.{Offset, offset_in, offset_of, next_offset as next_offset_of, origin_in, before_origin as before_origin_of, after_origin as after_origin_of, clock_in, clock_type_of, clock_member_of, clocks_in, clock_types_of};
 
+use conf_table::Place;
 use conf_tree::{ConfFault, optional};
 use conf_values::{
-    ObjectKind, check_plain_name, copied, first_unknown, grow, next_flag, next_identifier,
-    next_natural, next_signed, next_text, no_more, object, turn,
+    check_plain_name, copied, first_unknown, grow, next_flag, next_identifier, next_natural,
+    next_signed, next_text, no_more, object, turn,
 };
 use ctf_types::{ClockType, ListOf, Text};
 use serde_json::{Map, Value};
@@ -22,7 +23,7 @@ fn offset(alloc: Global, value: &Value) -> Result<(u64, i64), ConfFault>
     ensures steps { IfErr result (λ fault. array_vec_len fault.path ≤ 2) }
 {
     let members = object(value)?;
-    let unknown = first_unknown(members, ObjectKind::ClockOffset);
+    let unknown = first_unknown(members, Place::ClockOffset);
     let cycles = next_natural(alloc, members, unknown, "cycles", 0, u64::MAX)?;
     let seconds = next_signed(alloc, members, unknown, "seconds")?;
     no_more(alloc, unknown)?;
@@ -135,7 +136,7 @@ pub(crate) fn clock_type(alloc: Global, name: &str, value: &Value) -> Result<Clo
 {
     let members = object(value)?;
     check_plain_name(name)?;
-    let unknown = first_unknown(members, ObjectKind::ClockType);
+    let unknown = first_unknown(members, Place::ClockType);
     clock_of(alloc, copied(alloc, name)?, unknown, members)
 }
 

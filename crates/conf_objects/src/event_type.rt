@@ -11,10 +11,9 @@ ghost use Rattle.conf_values.specs.Property.{next};
 use crate::log_level::log_level;
 use crate::optional_struct::next_struct;
 use crate::sequence::{beside, complete};
+use conf_table::Place;
 use conf_tree::ConfFault;
-use conf_values::{
-    ObjectKind, check_name, copied, first_unknown, grow, no_more, object, property, turn,
-};
+use conf_values::{check_name, copied, first_unknown, grow, no_more, object, property, turn};
 use ctf_types::{EventType, ListOf, Text};
 use serde_json::{Map, Value};
 use std::alloc::Global;
@@ -102,7 +101,7 @@ fn read_event(
 {
     let members = object(value)?;
     check_name(name)?;
-    let unknown = first_unknown(members, ObjectKind::EventType);
+    let unknown = first_unknown(members, Place::EventType);
     event_in(alloc, copied(alloc, name)?, members, aliases, unknown)
 }
 

@@ -8,8 +8,9 @@ ghost use Rattle.conf_objects.specs.Features.{header_fields_in as header_fields_
 
 use crate::feature::{next_feature, next_identifier, next_magic, next_size, next_timestamp};
 use crate::sequence::{beside, complete};
+use conf_table::Place;
 use conf_tree::ConfFault;
-use conf_values::{ObjectKind, first_unknown, no_more, object, property, turn};
+use conf_values::{first_unknown, no_more, object, property, turn};
 use ctf_types::{ContextFeatures, EventFeatures, HeaderFeatures, IntType, Text};
 use serde_json::{Map, Value};
 use std::alloc::Global;
@@ -70,7 +71,7 @@ fn header(alloc: Global, value: &Value, has_uuid: bool) -> Result<HeaderFeatures
     ensures steps { IfErr result (λ fault. array_vec_len fault.path ≤ depth (view value.now)) }
 {
     let members = object(value)?;
-    let unknown = first_unknown(members, ObjectKind::TraceFeatures);
+    let unknown = first_unknown(members, Place::TraceFeatures);
     header_in(alloc, members, unknown, has_uuid)
 }
 
@@ -133,7 +134,7 @@ fn event_header(
     ensures steps { IfErr result (λ fault. array_vec_len fault.path ≤ depth (view value.now)) }
 {
     let members = object(value)?;
-    let unknown = first_unknown(members, ObjectKind::EventFeatures);
+    let unknown = first_unknown(members, Place::EventRecordFeatures);
     event_header_in(alloc, members, unknown, clock)
 }
 
@@ -289,7 +290,7 @@ fn context(alloc: Global, value: &Value, clock: &Option<Text>) -> Result<Context
     ensures steps { IfErr result (λ fault. array_vec_len fault.path ≤ depth (view value.now)) }
 {
     let members = object(value)?;
-    let unknown = first_unknown(members, ObjectKind::PacketFeatures);
+    let unknown = first_unknown(members, Place::PacketFeatures);
     context_in(alloc, members, unknown, clock)
 }
 
@@ -357,7 +358,7 @@ fn stream_fields(
     ensures steps { IfErr result (λ fault. array_vec_len fault.path ≤ depth (view value.now)) }
 {
     let members = object(value)?;
-    let unknown = first_unknown(members, ObjectKind::StreamFeatures);
+    let unknown = first_unknown(members, Place::StreamFeatures);
     stream_fields_in(alloc, members, unknown, clock)
 }
 

@@ -24,7 +24,7 @@ pub use laws::{
     aliases_by_rows, clock_types_by_rows, environment_entries_by_rows, event_types_by_rows,
     features_by_rows, log_levels_by_rows, stream_types_by_rows, traces_by_rows,
 };
-pub use limits::{Part, check_limits};
+pub use limits::check_limits;
 pub use refusals::{
     aliases_refused, clock_types_refused, environment_entries_refused, event_types_refused,
     features_refused, log_levels_refused, stream_types_refused, traces_refused,

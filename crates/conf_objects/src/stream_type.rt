@@ -10,10 +10,10 @@ use crate::event_type::next_events;
 use crate::features::next_stream_fields;
 use crate::optional_struct::{next_extras, next_struct};
 use crate::sequence::{beside, complete};
+use conf_table::Place;
 use conf_tree::{ConfFault, FaultKind};
 use conf_values::{
-    ObjectKind, check_name, copied, first_unknown, flag, grow, next_word, no_more, object,
-    property, turn,
+    check_name, copied, first_unknown, flag, grow, next_word, no_more, object, property, turn,
 };
 use ctf_types::{ContextFeatures, EventFeatures, EventType, ListOf, StreamType, StructType, Text};
 use serde_json::{Map, Value};
@@ -237,7 +237,7 @@ fn read_stream(
 {
     let members = object(value)?;
     check_name(name)?;
-    let unknown = first_unknown(members, ObjectKind::StreamType);
+    let unknown = first_unknown(members, Place::StreamType);
     stream_in(
         alloc,
         copied(alloc, name)?,

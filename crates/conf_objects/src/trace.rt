@@ -12,8 +12,9 @@ use crate::draft::Draft;
 use crate::environment::environment;
 use crate::sequence::complete;
 use crate::trace_type::trace_type;
+use conf_table::Place;
 use conf_tree::ConfFault;
-use conf_values::{ObjectKind, first_unknown, needed_value, no_more, object, property, turn};
+use conf_values::{first_unknown, needed_value, no_more, object, property, turn};
 use ctf_types::{EnvironmentEntry, ListOf};
 use serde_json::{Map, Value};
 use std::alloc::Global;
@@ -90,7 +91,7 @@ fn trace(alloc: Global, number: Option<Uuid>, value: &Value) -> Result<Draft, Co
 {
     let members = object(value)?;
     needed_value(alloc, members, "type")?;
-    let unknown = first_unknown(members, ObjectKind::Trace);
+    let unknown = first_unknown(members, Place::Trace);
     trace_in(alloc, number, unknown, members)
 }
 
@@ -141,6 +142,6 @@ pub fn read_draft(alloc: Global, number: Option<Uuid>, value: &Value) -> Result<
 {
     let members = object(value)?;
     needed_value(alloc, members, "trace")?;
-    let unknown = first_unknown(members, ObjectKind::Root);
+    let unknown = first_unknown(members, Place::Root);
     root_in(alloc, number, unknown, members)
 }

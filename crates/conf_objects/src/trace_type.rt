@@ -17,10 +17,9 @@ use crate::features::next_header;
 use crate::log_level::check_level_aliases;
 use crate::sequence::{beside, complete};
 use crate::stream_type::next_streams;
+use conf_table::Place;
 use conf_tree::{At, ConfFault, FaultKind};
-use conf_values::{
-    ObjectKind, first_unknown, no_more, object, order_word, parsed, property, text, turn,
-};
+use conf_values::{first_unknown, no_more, object, order_word, parsed, property, text, turn};
 use ctf_types::{
     ByteOrder, ClockType, Config, EnvironmentEntry, HeaderFeatures, ListOf, StreamType,
 };
@@ -401,6 +400,6 @@ pub(crate) fn trace_type(
 {
     let members = object(value)?;
     order_there(alloc, members)?;
-    let unknown = first_unknown(members, ObjectKind::TraceType);
+    let unknown = first_unknown(members, Place::TraceType);
     trace_type_in(alloc, number, environment, unknown, members)
 }

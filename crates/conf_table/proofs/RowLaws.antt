@@ -64,9 +64,9 @@ named_known place k object named = subst (λ o. IsSome (option_map place_in o)) 
 
 module _ (k : List ℕ) (rs : List (Bor (List ℕ) × Presence × Content)) (i : ℕ) (d : Bor (List ℕ) × Presence × Content) where
   pub row_here : i < length rs → row_in k (map told_of rs) ≡ row_in k (map told_of (drop i rs)) → bytes_eq (slice_index_or rs i d).0.now k ≡ true
-      → Some (slice_index_or rs i d).2 ≡ option_map (λ r. r.content) (row_in k (map told_of rs))
-  row_here h before same = sym (ap (option_map (λ r. r.content)) (before ∙ at_drop_more (λ xs. row_in k (map told_of xs)) rs i d h
-      ∙ ap (λ b. cond b (Some (told_of (slice_index_or rs i d))) (row_in k (map told_of (drop (i + 1) rs)))) same))
+      → Some (told_of (slice_index_or rs i d)) ≡ row_in k (map told_of rs)
+  row_here h before same = sym (before ∙ at_drop_more (λ xs. row_in k (map told_of xs)) rs i d h
+      ∙ ap (λ b. cond b (Some (told_of (slice_index_or rs i d))) (row_in k (map told_of (drop (i + 1) rs)))) same)
 
   pub row_behind : i < length rs → row_in k (map told_of rs) ≡ row_in k (map told_of (drop i rs)) → bytes_eq (slice_index_or rs i d).0.now k ≡ false
       → row_in k (map told_of rs) ≡ row_in k (map told_of (drop (i + 1) rs))

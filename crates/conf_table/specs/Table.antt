@@ -7,6 +7,7 @@ use Rattle.std.specs.Borrow.{Bor}
 use Rattle.conf_table.specs.declared.place.Place.{Place}
 use Rattle.conf_table.specs.declared.place.Place.TheVariants as places
 use Rattle.conf_table.specs.declared.row.Presence.{Presence}
+use Rattle.conf_table.specs.declared.row.Presence.TheVariants.{UntilResolved}
 use Rattle.conf_table.specs.declared.row.Content.{Content}
 use Rattle.conf_table.specs.declared.row.Content.TheVariants.{At, Anything}
 use Rattle.conf_table.specs.declared.row.Keys.{Keys}
@@ -67,6 +68,19 @@ rows_of _ = []
 abbrev pub row_in : List ℕ → List Told → Option Told
 row_in k [] = None
 row_in k (r ∷ rs) = if bytes_eq r.name k then Some r else row_in k rs
+
+-- a property that a resolved configuration can still have
+abbrev pub stays : Presence → Bool
+stays UntilResolved = false
+stays _ = true
+
+abbrev pub is_told_to_stay : Option Told → Bool
+is_told_to_stay None = false
+is_told_to_stay (Some r) = stays r.presence
+
+-- an object of a resolved configuration can have a property of this name: a row has it, and not only until it is resolved
+unfoldable pub has_property : Place → List ℕ → Bool
+has_property place k = is_told_to_stay (row_in k (rows_of place))
 
 -- ---- maps and lists
 

@@ -6,7 +6,7 @@ const CLASS: Row = ("class", Presence::Needed, Content::Class);
 
 const INHERIT: Row = (
     "$inherit",
-    Presence::Optional,
+    Presence::UntilResolved,
     Content::At(Place::FieldType),
 );
 

@@ -15,5 +15,5 @@ pub use classes::{class_place, class_words};
 pub use laws::{known_by_rows, one_row_a_name};
 pub use place::Place;
 pub use row::{Content, Entries, Keys, Presence, Row};
-pub use table::{content, entries, rows, under};
+pub use table::{content, entries, has_property, rows, under};
 pub use words::{Words, words_in};

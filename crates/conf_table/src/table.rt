@@ -1,6 +1,6 @@
 //! Look-ups in the table: the rows of an object, what a map or a list holds, and where a property leads.
 ghost use Rattle.std.specs.Prelude.{◌≡◌, map, option_map};
-ghost use Rattle.conf_table.specs.Table.{rows_of, told_of, entries_of, row_in, under_of, content_under, place_in};
+ghost use Rattle.conf_table.specs.Table.{rows_of, told_of, entries_of, row_in as row_in_of, has_property as has_property_of, under_of, content_under, place_in};
 
 use crate::{Content, Entries, Keys, Place, Row, field_types, maps, objects};
 
@@ -120,20 +120,34 @@ pub fn content(place: Place, name: &str) -> Option<Content>
                 Some(entries.content)
             }
         }
-        None => content_in(rows(place), name),
+        None => match row_in(rows(place), name) {
+            Some((_, _, content)) => Some(content),
+            None => None,
+        },
     }
 }
 
-/// What the value of the property `name` is, where a row has the name.
-fn content_in(rows: &'static [Row], name: &str) -> Option<Content>
-    ensures { result ≡ option_map (λ r. r.content) (row_in name.now (map told_of rows.now)) }
+/// The row of the name.
+fn row_in(rows: &'static [Row], name: &str) -> Option<Row>
+    ensures { option_map told_of result ≡ row_in_of name.now (map told_of rows.now) }
 {
-    for (row, _, content) in rows {
+    for (row, presence, content) in rows {
         if *row == name {
-            return Some(*content);
+            return Some((*row, *presence, *content));
         }
     }
     None
+}
+
+/// Whether an object of a resolved configuration can have the property `name`.
+#[tactic(auto, unfolding(crate::specs::Table::has_property))]
+pub fn has_property(place: Place, name: &str) -> bool
+    ensures { result ≡ has_property_of place name.now }
+{
+    match row_in(rows(place), name) {
+        Some((_, presence, _)) => presence.stays(),
+        None => false,
+    }
 }
 
 /// The place of the property `name`. None is an unknown property.

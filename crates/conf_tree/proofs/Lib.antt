@@ -1,3 +1,4 @@
 mod Flaws
 mod Rows
 pub mod Readings
+mod Ordered

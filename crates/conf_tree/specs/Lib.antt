@@ -1,3 +1,4 @@
 pub mod Flaw
 pub mod Reading
 pub mod Walk
+pub mod Order

@@ -1,7 +1,9 @@
 //! The walk over a value that finds the first place which is nested too deep or holds no whole number.
-ghost use Rattle.std.specs.Prelude.{◌≡◌, ◌≤◌, ◌<◌, ◌+◌, IfErr};
+ghost use Rattle.std.specs.Prelude.{◌≡◌, ◌≤◌, ◌<◌, ◌+◌, IfOk, IfErr};
+ghost use Rattle.serde_json.specs.Data.{object};
 ghost use Rattle.serde_json.specs.View.{view, items_view, members_view};
 ghost use Rattle.arrayvec.specs.ArrayVec.{array_vec_len};
+ghost use Rattle.conf_tree.specs.Order.{Ascends, ItemsAscend};
 ghost use Rattle.conf_tree.specs.Reading.{Gives};
 ghost use Rattle.conf_tree.specs.Walk.{flaws, item_flaws, member_flaws, refusal};
 
@@ -15,6 +17,7 @@ use std::alloc::Global;
 pub(crate) fn check_value(alloc: Global, value: &Value, levels: usize) -> Result<(), ConfFault>
     requires { levels ≤ MAX_STEPS }
     ensures first { Gives (λ _. tt) result (refusal (flaws (view value.now) levels)) }
+    ensures ordered { IfOk result (λ _. Ascends (view value.now)) }
     ensures short { IfErr result (λ fault. array_vec_len fault.path ≤ levels) }
 {
     match value {
@@ -46,6 +49,7 @@ fn check_items(alloc: Global, items: &Vec<Value>, levels: usize) -> Result<(), C
     requires { levels < MAX_STEPS }
     ensures first { Gives (λ _. tt) result
         (refusal (item_flaws (items_view items.now.items) 0 levels)) }
+    ensures ordered { IfOk result (λ _. ItemsAscend (items_view items.now.items)) }
     ensures short { IfErr result (λ fault. array_vec_len fault.path ≤ levels + 1) }
 {
     for (index, item) in items.iter().enumerate() {
@@ -65,6 +69,7 @@ fn check_members(
     requires { levels < MAX_STEPS }
     ensures first { Gives (λ _. tt) result
         (refusal (member_flaws (members_view members.now.entries) levels)) }
+    ensures ordered { IfOk result (λ _. Ascends (object (members_view members.now.entries))) }
     ensures short { IfErr result (λ fault. array_vec_len fault.path ≤ levels + 1) }
 {
     for (name, member) in members.iter() {

@@ -16,11 +16,12 @@ use Rattle.serde_json.specs.Find.{get_member, as_object, as_array, as_str, as_bo
 use Rattle.uuid.specs.Text.{parsed}
 use Rattle.ctf_types.specs.Names.{is_identifier, unused_keywords, used_keywords}
 use Rattle.conf_tree.specs.declared.fault_kind.FaultKind.TheVariants.{WrongKind, NotWhole, OutOfRange, Unknown, Missing, BadName, ReservedName}
-use Rattle.conf_tree.specs.Flaw.{Flaw, Place, key, here, within}
+use Rattle.conf_table.specs.declared.place.Place.{Place}
+use Rattle.conf_table.specs.Table.{has_property}
+use Rattle.conf_tree.specs.Flaw.{Flaw, Place as Step, key, here, within}
 use Rattle.conf_tree.specs.Reading.{◌>>=◌, at, wanted, object_of, list_of, text_of, flag_of, whole_or_not, whole_of, needed, needed_as, optional, optional_as, some_read}
 use Rattle.conf_tree.specs.Walk.{HasMember}
-use Rattle.conf_values.specs.declared.properties.ObjectKind.{ObjectKind}
-use Rattle.conf_values.specs.Property.{has_property, first_unknown, turn, no_more, next, next_needed}
+use Rattle.conf_values.specs.Property.{first_unknown, turn, no_more, next, next_needed}
 use Rattle.conf_values.specs.Parts.{one_of}
 use Rattle.conf_values.specs.Scalar.{natural_in, natural_of, signed_in, signed_of, is_printable, config_text_of, uuid_in, parsed_or_not, uuid_of}
 use Rattle.conf_values.specs.Name.{name_of, is_reserved, plain_name_of}
@@ -40,7 +41,7 @@ refused_here_or_next (Ok x) next_step flaw e = inr (x, refl, e)
 refused_here_or_next (Err f) next_step flaw e = inl (ap Err (same_flaw f flaw (Err f >>= next_step) refl e))
 
 -- a refusal at a place is one of the value there
-pub refused_there : {A : Type 0} (place : Place) (r : Result A Flaw) (flaw : Flaw) → at place r ≡ Err flaw → (f : Flaw) × (r ≡ Err f) × (flaw ≡ within place f)
+pub refused_there : {A : Type 0} (place : Step) (r : Result A Flaw) (flaw : Flaw) → at place r ≡ Err flaw → (f : Flaw) × (r ≡ Err f) × (flaw ≡ within place f)
 refused_there place (Ok x) flaw e = absurd cc
 refused_there place (Err f) flaw e = (f, refl, sym (same_flaw (within place f) flaw (at place (Err f)) refl e))
 
@@ -74,17 +75,17 @@ none_refused x flaw e = absurd cc
 pub holds_of : (R : Flaw → Type 0) (f flaw : Flaw) → flaw ≡ f → R f → R flaw
 holds_of R f flaw same h = subst R (sym same) h
 
--- ---- properties that an object of the kind has not
+-- ---- properties that no object at the place has
 
-here_or_later : (kind : ObjectKind) (k : List ℕ) (d : Data) (ms : Members) (name : List ℕ)
-    → (first_unknown kind ms ≡ Some name → (v : Data) × HasMember name v ms × (has_property kind name ≡ false))
-    → (b : Bool) → has_property kind k ≡ b → cond b (first_unknown kind ms) (Some k) ≡ Some name → (v : Data) × HasMember name v (member k d ms) × (has_property kind name ≡ false)
-here_or_later kind k d ms name later true is e = let there = later e in (there.0, inr there.1, there.2)
-here_or_later kind k d ms name later false is e = let same : name ≡ k = cc in (d, inl (same, refl), ap (has_property kind) same ∙ is)
+here_or_later : (place : Place) (k : List ℕ) (d : Data) (ms : Members) (name : List ℕ)
+    → (first_unknown place ms ≡ Some name → (v : Data) × HasMember name v ms × (has_property place name ≡ false))
+    → (b : Bool) → has_property place k ≡ b → cond b (first_unknown place ms) (Some k) ≡ Some name → (v : Data) × HasMember name v (member k d ms) × (has_property place name ≡ false)
+here_or_later place k d ms name later true is e = let there = later e in (there.0, inr there.1, there.2)
+here_or_later place k d ms name later false is e = let same : name ≡ k = cc in (d, inl (same, refl), ap (has_property place) same ∙ is)
 
-unknown_there : (kind : ObjectKind) (ms : Members) (name : List ℕ) → first_unknown kind ms ≡ Some name → (d : Data) × HasMember name d ms × (has_property kind name ≡ false)
-unknown_there kind no_members name e = absurd cc
-unknown_there kind (member k d ms) name e = here_or_later kind k d ms name (unknown_there kind ms name) (has_property kind k) refl e
+unknown_there : (place : Place) (ms : Members) (name : List ℕ) → first_unknown place ms ≡ Some name → (d : Data) × HasMember name d ms × (has_property place name ≡ false)
+unknown_there place no_members name e = absurd cc
+unknown_there place (member k d ms) name e = here_or_later place k d ms name (unknown_there place ms name) (has_property place k) refl e
 
 turned : {A : Type 0} (o : Ordering) (x : A) (f flaw : Flaw) → match_ordering o (Err f) (Ok x) (Ok x) ≡ Err flaw → flaw ≡ f
 turned Less x f flaw e = cc
@@ -99,16 +100,16 @@ no_more_told : (u : Option (List ℕ)) (flaw : Flaw) → no_more u ≡ Err flaw 
 no_more_told None flaw e = absurd cc
 no_more_told (Some k) flaw e = (k, refl, cc)
 
-unknown_told : (kind : ObjectKind) (ms : Members) (k : List ℕ) (flaw : Flaw) → first_unknown kind ms ≡ Some k → flaw ≡ within (key k) (here Unknown) → HasUnknown kind ms flaw
-unknown_told kind ms k flaw e is = let there = unknown_there kind ms k e in (k, there.0, there.1, there.2, is)
+unknown_told : (place : Place) (ms : Members) (k : List ℕ) (flaw : Flaw) → first_unknown place ms ≡ Some k → flaw ≡ within (key k) (here Unknown) → HasUnknown place ms flaw
+unknown_told place ms k flaw e is = let there = unknown_there place ms k e in (k, there.0, there.1, there.2, is)
 
 -- an unknown property that stands before this one
-pub unknown_refused : (kind : ObjectKind) (ms : Members) (name : List ℕ) (flaw : Flaw) → turn (first_unknown kind ms) name ≡ Err flaw → HasUnknown kind ms flaw
-unknown_refused kind ms name flaw e = let told = turn_told (first_unknown kind ms) name flaw e in unknown_told kind ms told.0 flaw told.1 told.2
+pub unknown_refused : (place : Place) (ms : Members) (name : List ℕ) (flaw : Flaw) → turn (first_unknown place ms) name ≡ Err flaw → HasUnknown place ms flaw
+unknown_refused place ms name flaw e = let told = turn_told (first_unknown place ms) name flaw e in unknown_told place ms told.0 flaw told.1 told.2
 
 -- an unknown property wherever it stands
-pub no_more_refused : (kind : ObjectKind) (ms : Members) (flaw : Flaw) → no_more (first_unknown kind ms) ≡ Err flaw → HasUnknown kind ms flaw
-no_more_refused kind ms flaw e = let told = no_more_told (first_unknown kind ms) flaw e in unknown_told kind ms told.0 flaw told.1 told.2
+pub no_more_refused : (place : Place) (ms : Members) (flaw : Flaw) → no_more (first_unknown place ms) ≡ Err flaw → HasUnknown place ms flaw
+no_more_refused place ms flaw e = let told = no_more_told (first_unknown place ms) flaw e in unknown_told place ms told.0 flaw told.1 told.2
 
 -- ---- properties that are read
 
@@ -154,21 +155,21 @@ optional_refused name reads wrong ms flaw h e =
     (told.0, told.1, told.2, h told.0 told.1 told.3, told.4)
 
 -- the same in a walk over the object's properties
-pub next_refused : {A : Type 0} (kind : ObjectKind) (name : List ℕ) (reads : Data → Result A Flaw) (wrong : Data → Flaw → Type 0) (ms : Members) (flaw : Flaw)
-    → ((d : Data) (f : Flaw) → reads d ≡ Err f → wrong d f) → next (first_unknown kind ms) name reads ms ≡ Err flaw → HasUnknown kind ms flaw ⊎ MaySayNot name wrong ms flaw
+pub next_refused : {A : Type 0} (place : Place) (name : List ℕ) (reads : Data → Result A Flaw) (wrong : Data → Flaw → Type 0) (ms : Members) (flaw : Flaw)
+    → ((d : Data) (f : Flaw) → reads d ≡ Err f → wrong d f) → next (first_unknown place ms) name reads ms ≡ Err flaw → HasUnknown place ms flaw ⊎ MaySayNot name wrong ms flaw
 unfolding next
-next_refused kind name reads wrong ms flaw h e =
-    elim (refused_here_or_next (turn (first_unknown kind ms) name) (λ _. optional_as name reads ms) flaw e) [
-      | inl unknown ↦ inl (unknown_refused kind ms name flaw unknown)
+next_refused place name reads wrong ms flaw h e =
+    elim (refused_here_or_next (turn (first_unknown place ms) name) (λ _. optional_as name reads ms) flaw e) [
+      | inl unknown ↦ inl (unknown_refused place ms name flaw unknown)
       | inr (x, went, refused) ↦ inr (optional_refused name reads wrong ms flaw h refused)
     ]
 
-pub next_needed_refused : {A : Type 0} (kind : ObjectKind) (name : List ℕ) (reads : Data → Result A Flaw) (wrong : Data → Flaw → Type 0) (ms : Members) (flaw : Flaw)
-    → ((d : Data) (f : Flaw) → reads d ≡ Err f → wrong d f) → next_needed (first_unknown kind ms) name reads ms ≡ Err flaw → HasUnknown kind ms flaw ⊎ SaysNot name wrong ms flaw
+pub next_needed_refused : {A : Type 0} (place : Place) (name : List ℕ) (reads : Data → Result A Flaw) (wrong : Data → Flaw → Type 0) (ms : Members) (flaw : Flaw)
+    → ((d : Data) (f : Flaw) → reads d ≡ Err f → wrong d f) → next_needed (first_unknown place ms) name reads ms ≡ Err flaw → HasUnknown place ms flaw ⊎ SaysNot name wrong ms flaw
 unfolding next_needed
-next_needed_refused kind name reads wrong ms flaw h e =
-    elim (refused_here_or_next (turn (first_unknown kind ms) name) (λ _. needed_as name reads ms) flaw e) [
-      | inl unknown ↦ inl (unknown_refused kind ms name flaw unknown)
+next_needed_refused place name reads wrong ms flaw h e =
+    elim (refused_here_or_next (turn (first_unknown place ms) name) (λ _. needed_as name reads ms) flaw e) [
+      | inl unknown ↦ inl (unknown_refused place ms name flaw unknown)
       | inr (x, went, refused) ↦ inr (needed_refused name reads wrong ms flaw h refused)
     ]
 

@@ -1,18 +1,18 @@
--- How a row of an object's table does not hold, and the flaw that tells of it: the object has a property that its kind has
--- not, lacks one that it needs, or has one whose value is not what the row asks for.
+-- How a row of an object's table does not hold, and the flaw that tells of it: the object has a property that no object at its
+-- place has, lacks one that it needs, or has one whose value is not what the row asks for.
 use Rattle.std.specs.Prelude.{◌≡◌, ◌⊎◌, ℕ, List, false, Some, None}
 use Rattle.serde_json.specs.Data.{Data, Members}
 use Rattle.serde_json.specs.Find.{get_member}
+use Rattle.conf_table.specs.declared.place.Place.{Place}
+use Rattle.conf_table.specs.Table.{has_property}
 use Rattle.conf_tree.specs.declared.fault_kind.FaultKind.TheVariants.{Missing, Unknown}
 use Rattle.conf_tree.specs.Flaw.{Flaw, key, here, within}
 use Rattle.conf_tree.specs.Reading.{optional}
 use Rattle.conf_tree.specs.Walk.{HasMember}
-use Rattle.conf_values.specs.declared.properties.ObjectKind.{ObjectKind}
-use Rattle.conf_values.specs.Property.{has_property}
 
--- a property that objects of the kind have not
-abbrev pub HasUnknown : ObjectKind → Members → Flaw → Type 0
-HasUnknown kind ms flaw = (k : List ℕ) × (d : Data) × HasMember k d ms × (has_property kind k ≡ false) × (flaw ≡ within (key k) (here Unknown))
+-- a property that no object at this place has
+abbrev pub HasUnknown : Place → Members → Flaw → Type 0
+HasUnknown place ms flaw = (k : List ℕ) × (d : Data) × HasMember k d ms × (has_property place k ≡ false) × (flaw ≡ within (key k) (here Unknown))
 
 -- no property of this name, where one is needed
 abbrev pub Lacks : List ℕ → Members → Flaw → Type 0

@@ -14,7 +14,7 @@ pub use growth::grow;
 pub use in_turn::{next_flag, next_identifier, next_natural, next_signed, next_text, next_word};
 pub use lookup::{flag, list, member, needed_value, object, property, text, whole};
 pub use name::{check_name, check_plain_name};
-pub use properties::{ObjectKind, first_unknown, no_more, turn};
+pub use properties::{first_unknown, no_more, turn};
 pub use refusals::{kinds_refused, names_refused, numbers_refused, texts_refused};
 pub use scalar::{config_text, copied, is_printable, natural, parsed, signed};
 pub use words::{FieldClass, base_word, class_word, order_word};

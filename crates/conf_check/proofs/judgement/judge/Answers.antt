@@ -8,4 +8,4 @@ pub returns-clause-allowed : goal.returns-clause-allowed
 unfolding check_reading
 returns-clause-allowed c =
     let read : check_reading (view c.args.tree.value) c.args.number ≡ Ok c.in_ok-draft.draft.config = rw (c.in_ok-draft.ensures.reading, c.in_ok-whole.ensures.reading) refl in
-    allowed (view c.args.tree.value) c.args.number c.in_ok-draft.draft.config c.walk_in_order.ensures read
+    allowed (view c.args.tree.value) c.args.number c.in_ok-draft.draft.config c.args.tree.ordered read

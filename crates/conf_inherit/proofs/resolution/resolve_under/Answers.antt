@@ -9,6 +9,7 @@ use Rattle.conf_inherit.specs.Names.{NoClash}
 use Rattle.conf_tree.specs.Flaw.{flaw_of}
 use Rattle.conf_inherit.proofs.RefusalLemmas.{refusal_holds}
 use Rattle.conf_inherit.proofs.ResolveLemmas.{aliases_part, resolution_is, resolution_sound, depth-nests, resolved_whole}
+use Rattle.conf_inherit.proofs.AscendingNames.{resolved_ascends}
 use Rattle.conf_inherit.proofs.resolution.resolve_under.Goals as goal
 
 pub settle_aliases-requires : goal.settle_aliases-requires
@@ -36,6 +37,7 @@ invariant_of-result c =
     record {
       nested = depth-nests (view c.in-Ok.value) 32 sound.1;
       whole = resolved_whole (view c.args.value.now) (view c.in-Ok.value) c.requires.nested c.requires.whole sound.0;
+      ordered = resolved_ascends (view c.args.value.now) (view c.in-Ok.value) c.requires.ordered sound.0;
     }
 
 pub returns-clause-first : goal.returns-clause-first

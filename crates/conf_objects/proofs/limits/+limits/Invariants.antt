@@ -8,4 +8,4 @@ use Rattle.conf_objects.proofs.limits.+limits.Given as goal
 abbrev pub invariant-check_members-loop-name : goal.invariant-check_members-loop-name
 invariant-check_members-loop-name l =
     (members_depth (members_view l.name-iterator) ≤ members_depth (members_view l.members.entries))
-    × (member_limits l.part (members_view l.members.entries) ≡ member_limits l.part (members_view l.name-iterator))
+    × (member_limits l.content (members_view l.members.entries) ≡ member_limits l.content (members_view l.name-iterator))

@@ -12,4 +12,8 @@ returns-in_err-check_value-clause-holds c =
 pub invariant_of-result : goal.invariant_of-result
 invariant_of-result c =
     let none = accepted _ c.in_ok-check_value.ensures.first in
-    record { nested = depth-flaws (view c.in-Ok.value) max_levels none; whole = has_float-flaws (view c.in-Ok.value) max_levels none }
+    record {
+      nested = depth-flaws (view c.in-Ok.value) max_levels none;
+      whole = has_float-flaws (view c.in-Ok.value) max_levels none;
+      ordered = c.in_ok-check_value.ensures.ordered;
+    }

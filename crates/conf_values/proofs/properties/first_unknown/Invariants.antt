@@ -5,4 +5,4 @@ use Rattle.conf_values.proofs.properties.first_unknown.Given as goal
 
 -- what is left of the object has the same first unknown property
 abbrev pub invariant-loop-name : goal.invariant-loop-name
-invariant-loop-name l = first_unknown l.kind (members_view l.members.entries) ≡ first_unknown l.kind (members_view l.name-iterator)
+invariant-loop-name l = first_unknown l.place (members_view l.members.entries) ≡ first_unknown l.place (members_view l.name-iterator)
