@@ -1,12 +1,12 @@
 -- Lists of values item by item, and the entries of members lists.
-use Rattle.std.proofs.Common.{◌≡◌, ℕ, List, [], ◌∷◌, ◌++◌, map, None, is_some, Bool, true, false, bytes_eq, refl, ap}
+use Rattle.std.proofs.Common.{◌≡◌, ℕ, List, [], ◌∷◌, ◌++◌, None, is_some, Bool, true, false, bytes_eq, refl, ap}
 use Rattle.std.proofs.lemmas.Slice.Eq.{bytes_eq-Decides}
 use Rattle.std.specs.List.{list_any}
 use Rattle.serde_json.specs.Data.{Data, object, Items, no_items, item, Members, no_members, member, put}
 use Rattle.serde_json.specs.Find.{get_member}
-use Rattle.serde_json.specs.View.{view, items_of, items_view}
+use Rattle.serde_json.specs.View.{view, items_view}
 use Rattle.serde_json.specs.declared.value.Value.{Value}
-use Rattle.conf_inherit.specs.Names.{names_of, join_members, join_items, map_items}
+use Rattle.conf_inherit.specs.Names.{names_of, join_members, join_items}
 use Rattle.conf_inherit.specs.declared.spot.Spot.TheVariants.{MemberValue}
 use Rattle.conf_inherit.specs.Laying.{lay, has_entry, lay_members, lay_new_member}
 use Rattle.conf_inherit.specs.Spot.{spot_under, is_base_name}
@@ -22,7 +22,12 @@ pub join_pushed : (vs : List Value) (v : Value) (more : Items) → join_items (i
 join_pushed [] v more = refl
 join_pushed (w ∷ vs) v more = ap (item (view w)) (join_pushed vs v more)
 
-differs : (n l : List ℕ) → (n ≡ l → ⊥) → (b : Bool) → bytes_eq n l ≡ b → b ≡ false
+-- two lists one after the other
+pub join_appended : (vs ws : List Value) → items_view (vs ++ ws) ≡ join_items (items_view vs) (items_view ws)
+join_appended [] ws = refl
+join_appended (v ∷ vs) ws = ap (item (view v)) (join_appended vs ws)
+
+pub differs : (n l : List ℕ) → (n ≡ l → ⊥) → (b : Bool) → bytes_eq n l ≡ b → b ≡ false
 differs n l apart true e = absurd (apart ((bytes_eq-Decides n l).0 e))
 differs n l apart false e = refl
 
@@ -50,10 +55,6 @@ any_joined_later n (member l d a) more h = go (bytes_eq n l) refl (any_joined_la
     go : (t : Bool) → bytes_eq n l ≡ t → (list_any (bytes_eq n) (names_of a) ≡ false → list_any (bytes_eq n) (names_of (join_members a more)) ≡ list_any (bytes_eq n) (names_of more)) → list_any (bytes_eq n) (names_of (join_members (member l d a) more)) ≡ list_any (bytes_eq n) (names_of more)
     go true is rest = absurd (let bad = rw is at h in let no : true ≡ false = bad in cc)
     go false is rest = rw is (rest (rw is at h))
-
-pub map_items_view : (f : Data → Data) (vs : List Value) → map_items f (items_view vs) ≡ items_of (map (λ v. f (view v)) vs)
-map_items_view f [] = refl
-map_items_view f (v ∷ vs) = ap (item (f (view v))) (map_items_view f vs)
 
 -- an entry that the base has not comes before the later new ones
 pub new_member_fresh : (done : Members) (n : List ℕ) (d : Data) (ms : Members) (seen rest : Items) → has_entry n seen ≡ false

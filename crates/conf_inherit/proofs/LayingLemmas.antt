@@ -5,15 +5,15 @@ use Rattle.std.proofs.lemmas.Map.Text.{is_eq-slice_cmp}
 use Rattle.std.proofs.lemmas.Slice.Eq.{bytes_eq-Decides}
 use Rattle.std.specs.Cmp.Lexicographic.{slice_cmp}
 use Rattle.std.specs.Ordering.{match_ordering}
-use Rattle.serde_json.specs.Data.{Data, Members, no_members, member, put}
+use Rattle.serde_json.specs.Data.{Data, array, Items, Members, no_members, member, put}
 use Rattle.serde_json.specs.Find.{get_member}
 use Rattle.serde_json.proofs.Views.{get_member-put, get_member-put_other}
 use Rattle.conf_inherit.specs.declared.spot.Spot.{Spot}
 use Rattle.conf_inherit.specs.declared.spot.Spot.TheVariants.{FieldType}
-use Rattle.conf_inherit.specs.Spot.{spot_under, is_base_name}
-use Rattle.conf_inherit.specs.Names.{AllAbove, IsInOrder}
+use Rattle.conf_inherit.specs.Spot.{spot_under, is_base_name, lists_members}
+use Rattle.conf_inherit.specs.Names.{AllAbove, IsInOrder, join_items, map_items}
 use Rattle.conf_inherit.specs.Looks.{base_of}
-use Rattle.conf_inherit.specs.Laying.{lay, lay_base, lay_members}
+use Rattle.conf_inherit.specs.Laying.{items_below, lay, lay_base, lay_members, lay_over, lay_new}
 use Rattle.conf_inherit.proofs.InOrder.{get_first, get_below, get_after, equal_names, above_turned}
 
 above_put_at : (o : Ordering) (q k l : List ℕ) (d e : Data) (ms : Members) → slice_cmp nat_cmp q k ≡ Less → slice_cmp nat_cmp q l ≡ Less → AllAbove q ms → AllAbove q (put k d ms)
@@ -92,6 +92,12 @@ lay_base-heir done s (member k d ms) base b h = go _ refl (lay_base-heir done s 
     go : (t : Bool) → is_base_name s k ≡ t → (base_of s ms ≡ Some b → lay_base done s ms base ≡ Some (lay done FieldType b None)) → lay_base done s (member k d ms) base ≡ Some (lay done FieldType b None)
     go true is rest = let e : Some d ≡ Some b = rw is at h in let same : d ≡ b = cc in rw is (ap (λ x. Some (lay done FieldType x None)) same)
     go false is rest = rw is (rest (rw is at h))
+
+-- ---- the entries
+
+pub lay_entries : (done : Members) (s : Spot) (es : Items) (base : Option Data) → lists_members s ≡ true
+    → lay done s (array es) base ≡ array (join_items (map_items (λ b. lay_over done es b) (items_below base)) (lay_new done es (items_below base)))
+lay_entries done s es base is = rw is refl
 
 -- ---- the properties
 

@@ -4,6 +4,7 @@ pub mod SpotLemmas
 pub mod LayingLemmas
 pub mod ItemLemmas
 pub mod ListLemmas
+pub mod EntryLemmas
 pub mod SizeLemmas
 pub mod LaysOver
 pub mod FlawLemmas
@@ -32,4 +33,6 @@ pub mod PlacesFit
 pub mod ExcludedInheritance
 pub mod RefusalLemmas
 pub mod TurnLemmas
+pub mod WholeLemmas
+pub mod WrittenLemmas
 pub mod WorkedRows

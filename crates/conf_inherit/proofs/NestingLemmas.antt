@@ -1,5 +1,5 @@
--- What stands too deep in a value: nothing where it nests at most so deep, and else what its path leads to.
-use Rattle.std.proofs.Common.{◌≡◌, ◌+◌, inl, inr, ℕ, zero, suc, List, [], ◌∷◌, map, Some, true, refl, sym, ap, subst, arith}
+-- What stands too deep in a value: nothing just where it nests at most so deep, and else what its path leads to.
+use Rattle.std.proofs.Common.{◌≡◌, ◌+◌, ◌++◌, inl, inr, ℕ, zero, suc, List, [], ◌∷◌, map, Some, true, false, true≢false, refl, sym, ap, ◌∙◌, subst, arith}
 use Rattle.serde_json.specs.Data.{Data, null, boolean, number, string, array, object, Items, no_items, item, Members, no_members, member}
 use Rattle.serde_json.specs.Find.{get_item}
 use Rattle.conf_tree.specs.Flaw.{Flaw, key, index, here, within}
@@ -8,7 +8,7 @@ use Rattle.conf_tree.specs.declared.fault_kind.FaultKind.TheVariants.{TooDeep}
 use Rattle.conf_inherit.specs.Nesting.{nests, items_nest, members_nest, deep_flaws, deep_item_flaws, deep_member_flaws, PassesDepth}
 use Rattle.conf_inherit.proofs.FaultLemmas.{Among, among_within, first_or_rest, Aligned, aligned_here, aligned_next}
 use Rattle.conf_inherit.proofs.NamedLemmas.{both}
-use Rattle.conf_inherit.proofs.ReadyLemmas.{part_empty, rest_empty}
+use Rattle.conf_inherit.proofs.ReadyLemmas.{part_empty, rest_empty, and_left, and_right}
 
 mutual
   pub shallow_nests : (d : Data) (levels : ℕ) → deep_flaws d levels ≡ [] → nests d levels ≡ true
@@ -32,6 +32,29 @@ mutual
   shallow_members (member k d ms) levels h = both (nests d levels) (members_nest ms levels)
       (shallow_nests d levels (part_empty (within (key k)) (deep_flaws d levels) (deep_member_flaws ms levels) h))
       (shallow_members ms levels (rest_empty (within (key k)) (deep_flaws d levels) (deep_member_flaws ms levels) h))
+
+mutual
+  pub nested_shallow : (d : Data) (levels : ℕ) → nests d levels ≡ true → deep_flaws d levels ≡ []
+  nested_shallow null levels h = refl
+  nested_shallow (boolean b) levels h = refl
+  nested_shallow (number n) levels h = refl
+  nested_shallow (string s) levels h = refl
+  nested_shallow (array ds) zero h = absurd (true≢false (sym h))
+  nested_shallow (array ds) (suc levels) h = nested_items 0 ds levels h
+  nested_shallow (object ms) zero h = absurd (true≢false (sym h))
+  nested_shallow (object ms) (suc levels) h = nested_members ms levels h
+
+  nested_items : (i : ℕ) (ds : Items) (levels : ℕ) → items_nest ds levels ≡ true → deep_item_flaws i ds levels ≡ []
+  nested_items i no_items levels h = refl
+  nested_items i (item d ds) levels h =
+      ap (λ fs. map (within (index i)) fs ++ deep_item_flaws (suc i) ds levels) (nested_shallow d levels (and_left (nests d levels) (items_nest ds levels) h))
+      ∙ nested_items (suc i) ds levels (and_right (nests d levels) (items_nest ds levels) h)
+
+  nested_members : (ms : Members) (levels : ℕ) → members_nest ms levels ≡ true → deep_member_flaws ms levels ≡ []
+  nested_members no_members levels h = refl
+  nested_members (member k d ms) levels h =
+      ap (λ fs. map (within (key k)) fs ++ deep_member_flaws ms levels) (nested_shallow d levels (and_left (nests d levels) (members_nest ms levels) h))
+      ∙ nested_members ms levels (and_right (nests d levels) (members_nest ms levels) h)
 
 -- what is too deep in a part is too deep in the whole
 in_list : (es : Items) (i : ℕ) (e : Data) (levels : ℕ) (f : Flaw) → get_item i es ≡ Some e → (g : Flaw) × (f ≡ within (index i) g) × PassesDepth levels e g → PassesDepth (suc levels) (array es) f

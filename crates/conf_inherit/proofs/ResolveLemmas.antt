@@ -29,7 +29,7 @@ use Rattle.conf_inherit.proofs.LayingLemmas.{Meets, same, other, meets, get_othe
 use Rattle.conf_inherit.proofs.LaysOver.{lays}
 use Rattle.conf_inherit.proofs.ListLemmas.{found_each}
 use Rattle.conf_inherit.proofs.NamedLemmas.{named}
-use Rattle.conf_inherit.proofs.NestingLemmas.{shallow_nests}
+use Rattle.conf_inherit.proofs.NestingLemmas.{shallow_nests, nested_shallow}
 use Rattle.conf_inherit.proofs.ReadyLemmas.{ready, front_empty, back_empty, and_left, and_right}
 use Rattle.conf_inherit.proofs.RoundLemmas.{HasRoot, rounds_resolved, rounds_root, all_done}
 use Rattle.conf_inherit.proofs.WholeNumbers.{IsWhole, looks_whole, member_whole}
@@ -139,9 +139,12 @@ aliases_part t d w =
 pub resolved_whole : (t r : Data) → depth t ≤ 32 → has_float t ≡ false → Resolves t r → has_float r ≡ false
 resolved_whole t r d w l = looks_whole (aliases_of t) (aliases_part t d w).1 l (w, tt)
 
+pub shallow_as_it_is : (r : Data) → nests r 32 ≡ true → if_shallow r ≡ Ok r
+shallow_as_it_is r h = ap (λ fs. refusal fs >>= (λ a. Ok r)) (nested_shallow r 32 h)
+
 -- ---- the names of a map are in order
 
-above_of : (k : String Global) (es : List Entry) → AllByRecursion (λ y. string_cmp k y ≡ Less) (keys_of es) → AllAbove (string_bytes k) (members_view es)
+pub above_of : (k : String Global) (es : List Entry) → AllByRecursion (λ y. string_cmp k y ≡ Less) (keys_of es) → AllAbove (string_bytes k) (members_view es)
 above_of k [] h = tt
 above_of k (e ∷ es) h = (h.0, above_of k es h.1)
 

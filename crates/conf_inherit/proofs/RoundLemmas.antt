@@ -25,7 +25,7 @@ use Rattle.conf_inherit.proofs.ListLemmas.{AllEntries}
 use Rattle.conf_inherit.proofs.NamedLemmas.{Between, between, named, both_named}
 use Rattle.conf_inherit.proofs.ReadyLemmas.{ready, part_empty, rest_empty, front_empty, back_empty, and_left, and_right}
 
-empty_flaws : (fs : List Flaw) → is_empty fs ≡ true → fs ≡ []
+pub empty_flaws : (fs : List Flaw) → is_empty fs ≡ true → fs ≡ []
 empty_flaws [] h = refl
 empty_flaws (f ∷ fs) h = absurd (true≢false (sym h))
 
@@ -42,7 +42,7 @@ by_round al P st before after = go (all_over al st) refl
 pub no_value : (r : Data) → (let o : Option Data = None in o ≡ Some r) → ⊥
 no_value r h = cc
 
-fitting_ok : (o : Result Data FaultKind) (t : Data) → if_fitting o ≡ Some t → o ≡ Ok t
+pub fitting_ok : (o : Result Data FaultKind) (t : Data) → if_fitting o ≡ Some t → o ≡ Ok t
 fitting_ok (Ok r) t h = cc
 fitting_ok (Err kind) t h = cc
 

@@ -165,13 +165,6 @@ new_entry_size done (array ds) seen rest = omega arith
 
 -- ---- what is left of a list of values
 
--- the next of the base's entries, with that of its name over it, and the later ones
-pub over_next : (over : Data → Data) (vs : List Value) (i : ℕ) (v : Value) → i < length vs → v ≡ get_or vs i v
-    → items_size (map_items over (items_view (drop i vs))) ≡ size (over (view v)) + items_size (map_items over (items_view (drop (i + 1) vs)))
-over_next over vs i v below is =
-    at_drop_more (λ ws. items_size (map_items over (items_view ws))) vs i v below
-    ∙ ap (λ w. size (over (view w)) + items_size (map_items over (items_view (drop (i + 1) vs)))) (sym is)
-
 -- the new entries of the next item, and those of the later ones
 pub new_next : (done : Members) (seen : Items) (vs : List Value) (i : ℕ) (v : Value) → i < length vs → v ≡ get_or vs i v
     → items_size (lay_new done (items_view (drop i vs)) seen) ≡ items_size (lay_new_entry done (view v) seen no_items) + items_size (lay_new done (items_view (drop (i + 1) vs)) seen)

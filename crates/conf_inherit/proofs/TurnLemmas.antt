@@ -51,7 +51,7 @@ Agrees st next = (n : List ℕ) → has_outcome st n ≡ true → SameAt st next
 concluded_agrees : (k : List ℕ) (st : Outcomes) (o : Option Data) → has_outcome st k ≡ false → Agrees st (concluded k st o)
 concluded_agrees k st o free n h = concluded_other k st o n (λ e. true≢false (sym h ∙ ap (has_outcome st) e ∙ free))
 
-or_first : (a b : Bool) → a ≡ true → (a || b) ≡ true
+pub or_first : (a b : Bool) → a ≡ true → (a || b) ≡ true
 or_first true b h = refl
 or_first false b h = absurd (true≢false (sym h))
 
@@ -262,7 +262,7 @@ module _ (al : Members) where
   round_reached no_members st each h = h
   round_reached (member k w ms) st each h = round_reached ms (step al k w st) each.1 (turned k w st each.0 h)
 
-  rounds_reached : (n : ℕ) → AllEntries (λ k w. get_member k al ≡ Some w) al → Reached al (rounds al n no_outcomes)
+  pub rounds_reached : (n : ℕ) → AllEntries (λ k w. get_member k al ≡ Some w) al → Reached al (rounds al n no_outcomes)
   rounds_reached zero each = at_first
   rounds_reached (suc n) each = by_round al (Reached al) (rounds al n no_outcomes) (rounds_reached n each) (round_reached al (rounds al n no_outcomes) each (rounds_reached n each))
 

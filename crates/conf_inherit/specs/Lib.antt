@@ -2,6 +2,7 @@ pub mod Spot
 pub mod Names
 pub mod Looks
 pub mod Laying
+pub mod EntryIndex
 pub mod Ready
 pub mod Named
 pub mod Size
@@ -16,4 +17,5 @@ pub mod Places
 pub mod AliasOutcomes
 pub mod Asked
 pub mod Resolution
+pub mod Whole
 pub mod Faults

@@ -8,14 +8,15 @@ ghost use Rattle.conf_inherit.specs.Names.{properties_of, items_in, names_of, en
 ghost use Rattle.conf_inherit.specs.Size.{size, items_size, members_size, Within, Leaves, IsDue};
 
 use crate::Spot;
-use crate::base::{has_entry_named, items_under, join, properties_below, properties_in};
-use crate::property::{property, single};
+use crate::base::{items_under, join, properties_below, properties_in};
+use crate::entry_index::EntryIndex;
+use crate::property::{into_property, property, single, take_property};
 use crate::size::{Stop, take};
 use serde_json::{Map, Value};
 use std::alloc::{AllocError, Global};
 
 /// The resolved alias of a name, or null.
-fn copy_alias(aliases: &Map<String, Value>, name: &str) -> Result<Value, AllocError>
+pub(crate) fn copy_alias(aliases: &Map<String, Value>, name: &str) -> Result<Value, AllocError>
     ensures { IfOk result (λ copy. view copy ≡ resolved (members_view aliases.now.entries) name.now) }
 {
     match property(aliases, name) {
@@ -53,14 +54,14 @@ pub(crate) fn lay(
     alloc: Global,
     spot: Spot,
     value: &Value,
-    base: Option<&Value>,
+    base: Option<Value>,
     aliases: &Map<String, Value>,
     limit: Option<usize>,
 ) -> Result<Value, Stop>
     ensures laid { IfOk result (λ laid. view laid
-        ≡ lay (members_view aliases.now.entries) spot (view value.now) (option_map (λ b. view b.now) base.entry)) }
+        ≡ lay (members_view aliases.now.entries) spot (view value.now) (option_map view base)) }
     ensures within { IfOk result (λ laid. Within limit (size (view laid))) }
-    ensures past { IfErr result (λ stop. IsDue stop limit (size (lay (members_view aliases.now.entries) spot (view value.now) (option_map (λ b. view b.now) base.entry)))) }
+    ensures past { IfErr result (λ stop. IsDue stop limit (size (lay (members_view aliases.now.entries) spot (view value.now) (option_map view base)))) }
 {
     let laid = lay_value(alloc, spot, value, base, aliases, limit)?;
     let _left = take(&laid, limit)?;
@@ -73,13 +74,13 @@ fn lay_value(
     alloc: Global,
     spot: Spot,
     value: &Value,
-    base: Option<&Value>,
+    base: Option<Value>,
     aliases: &Map<String, Value>,
     limit: Option<usize>,
 ) -> Result<Value, Stop>
     ensures laid { IfOk result (λ laid. view laid
-        ≡ lay (members_view aliases.now.entries) spot (view value.now) (option_map (λ b. view b.now) base.entry)) }
-    ensures past { IfErr result (λ stop. IsDue stop limit (size (lay (members_view aliases.now.entries) spot (view value.now) (option_map (λ b. view b.now) base.entry)))) }
+        ≡ lay (members_view aliases.now.entries) spot (view value.now) (option_map view base)) }
+    ensures past { IfErr result (λ stop. IsDue stop limit (size (lay (members_view aliases.now.entries) spot (view value.now) (option_map view base)))) }
 {
     match value {
         Value::Null => Ok(Value::Null),
@@ -97,17 +98,17 @@ fn lay_object(
     alloc: Global,
     spot: Spot,
     members: &Map<String, Value>,
-    base: Option<&Value>,
+    base: Option<Value>,
     aliases: &Map<String, Value>,
     limit: Option<usize>,
 ) -> Result<Value, Stop>
     ensures laid { IfOk result (λ laid. view laid
-        ≡ lay (members_view aliases.now.entries) spot (object (members_view members.now.entries)) (option_map (λ b. view b.now) base.entry)) }
-    ensures past { IfErr result (λ stop. IsDue stop limit (size (lay (members_view aliases.now.entries) spot (object (members_view members.now.entries)) (option_map (λ b. view b.now) base.entry)))) }
+        ≡ lay (members_view aliases.now.entries) spot (object (members_view members.now.entries)) (option_map view base)) }
+    ensures past { IfErr result (λ stop. IsDue stop limit (size (lay (members_view aliases.now.entries) spot (object (members_view members.now.entries)) (option_map view base)))) }
 {
     let below = match lay_inherited(alloc, spot, members, aliases)? {
         Some(inherited) => properties_in(alloc, inherited),
-        None => properties_below(alloc, base)?,
+        None => properties_below(alloc, base),
     };
     let laid = lay_properties(alloc, spot, members, below, aliases, limit)?;
     Ok(Value::Object(laid))
@@ -151,7 +152,7 @@ fn lay_properties(
     let mut laid = below;
     for (name, value) in members.iter().rev() {
         if !spot.is_base_name(name.as_str()) {
-            let base = property(&laid, name.as_str());
+            let base = take_property(&mut laid, name.as_str());
             let over = lay(
                 alloc,
                 spot.under(name.as_str()),
@@ -172,18 +173,20 @@ fn lay_list(
     alloc: Global,
     spot: Spot,
     items: &Vec<Value>,
-    base: Option<&Value>,
+    base: Option<Value>,
     aliases: &Map<String, Value>,
     limit: Option<usize>,
 ) -> Result<Value, Stop>
     ensures laid { IfOk result (λ laid. view laid
-        ≡ lay (members_view aliases.now.entries) spot (array (items_view items.now.items)) (option_map (λ b. view b.now) base.entry)) }
-    ensures past { IfErr result (λ stop. IsDue stop limit (size (lay (members_view aliases.now.entries) spot (array (items_view items.now.items)) (option_map (λ b. view b.now) base.entry)))) }
+        ≡ lay (members_view aliases.now.entries) spot (array (items_view items.now.items)) (option_map view base)) }
+    ensures past { IfErr result (λ stop. IsDue stop limit (size (lay (members_view aliases.now.entries) spot (array (items_view items.now.items)) (option_map view base)))) }
 {
-    let below = items_under(alloc, base)?;
+    let below = items_under(alloc, base);
     if spot.lists_members() {
-        let mut entries = lay_over_entries(alloc, items, &below, aliases, limit)?;
-        push_new_entries(alloc, items, &below, &mut entries, aliases, limit)?;
+        let mut added = Vec::new(alloc);
+        push_new_entries(alloc, items, &below, &mut added, aliases, limit)?;
+        let mut entries = lay_over_entries(alloc, items, below, aliases, limit)?;
+        entries.append(&mut added)?;
         return Ok(Value::Array(entries));
     }
     Ok(Value::Array(join(below, items)?))
@@ -194,63 +197,62 @@ fn lay_list(
 fn lay_over_entries(
     alloc: Global,
     own: &Vec<Value>,
-    base: &Vec<Value>,
+    base: Vec<Value>,
     aliases: &Map<String, Value>,
     limit: Option<usize>,
 ) -> Result<Vec<Value>, Stop>
     ensures laid { IfOk result (λ v. items_view v.items
-        ≡ map_items (λ b. lay_over (members_view aliases.now.entries) (items_view own.now.items) b) (items_view base.now.items)) }
+        ≡ map_items (λ b. lay_over (members_view aliases.now.entries) (items_view own.now.items) b) (items_view base.items)) }
     ensures within { IfOk result (λ v. Within limit (items_size (items_view v.items))) }
-    ensures past { IfErr result (λ stop. IsDue stop limit (items_size (map_items (λ b. lay_over (members_view aliases.now.entries) (items_view own.now.items) b) (items_view base.now.items)))) }
+    ensures past { IfErr result (λ stop. IsDue stop limit (items_size (map_items (λ b. lay_over (members_view aliases.now.entries) (items_view own.now.items) b) (items_view base.items)))) }
 {
+    let index = EntryIndex::of(alloc, own)?;
     let mut entries = Vec::new(alloc);
     let mut room = limit;
     for entry in base {
-        let laid = lay_over(alloc, own, entry, aliases, room)?;
+        let laid = lay_over(alloc, own, &index, entry, aliases, room)?;
         room = take(&laid, room)?;
         entries.push(laid)?;
     }
     Ok(entries)
 }
 
-/// An entry of the base, with the entry of its name over it.
+/// An entry of the base, with the entry of its name over it. `index` finds those of the list.
 #[cycle(laying)]
 fn lay_over(
     alloc: Global,
     own: &Vec<Value>,
-    entry: &Value,
+    index: &EntryIndex,
+    entry: Value,
     aliases: &Map<String, Value>,
     limit: Option<usize>,
 ) -> Result<Value, Stop>
+    requires { index.now.entries.now ≡ own.now }
     ensures laid { IfOk result (λ laid. view laid
-        ≡ lay_over (members_view aliases.now.entries) (items_view own.now.items) (view entry.now)) }
-    ensures past { IfErr result (λ stop. IsDue stop limit (size (lay_over (members_view aliases.now.entries) (items_view own.now.items) (view entry.now)))) }
+        ≡ lay_over (members_view aliases.now.entries) (items_view own.now.items) (view entry)) }
+    ensures past { IfErr result (λ stop. IsDue stop limit (size (lay_over (members_view aliases.now.entries) (items_view own.now.items) (view entry)))) }
 {
-    for item in own {
-        if let Some(laid) = lay_over_item(alloc, item, entry, aliases, limit)? {
-            return Ok(laid);
-        }
+    match index.first_over(&entry) {
+        Some(item) => lay_over_item(alloc, item, entry, aliases, limit),
+        None => Ok(entry),
     }
-    Ok(entry.clone()?)
 }
 
-/// The entry of the base, with what an item of the list has for its name over it.
+/// An entry of the base, with what an item of the list has for its name over it.
 #[cycle(laying)]
 fn lay_over_item(
     alloc: Global,
     item: &Value,
-    entry: &Value,
+    entry: Value,
     aliases: &Map<String, Value>,
     limit: Option<usize>,
-) -> Result<Option<Value>, Stop>
-    ensures found { IfOk result (λ found. MatchOption found
-        ((rest : Data) → lay_over_entry (members_view aliases.now.entries) (view item.now) (view entry.now) rest ≡ rest)
-        (λ laid. (rest : Data) → lay_over_entry (members_view aliases.now.entries) (view item.now) (view entry.now) rest ≡ view laid)) }
-    ensures past { IfErr result (λ stop. (rest : Data) → IsDue stop limit (size (lay_over_entry (members_view aliases.now.entries) (view item.now) (view entry.now) rest))) }
+) -> Result<Value, Stop>
+    ensures laid { IfOk result (λ laid. view laid ≡ lay_over_entry (members_view aliases.now.entries) (view item.now) (view entry) (view entry)) }
+    ensures past { IfErr result (λ stop. IsDue stop limit (size (lay_over_entry (members_view aliases.now.entries) (view item.now) (view entry) (view entry)))) }
 {
     match item {
         Value::Object(members) => lay_over_entry(alloc, members, entry, aliases, limit),
-        _ => Ok(None),
+        _ => Ok(entry),
     }
 }
 
@@ -259,22 +261,21 @@ fn lay_over_item(
 fn lay_over_entry(
     alloc: Global,
     members: &Map<String, Value>,
-    entry: &Value,
+    entry: Value,
     aliases: &Map<String, Value>,
     limit: Option<usize>,
-) -> Result<Option<Value>, Stop>
-    ensures found { IfOk result (λ found. MatchOption found
-        ((rest : Data) → lay_over_member (members_view aliases.now.entries) (members_view members.now.entries) (view entry.now) rest ≡ rest)
-        (λ laid. (rest : Data) → lay_over_member (members_view aliases.now.entries) (members_view members.now.entries) (view entry.now) rest ≡ view laid)) }
-    ensures past { IfErr result (λ stop. (rest : Data) → IsDue stop limit (size (lay_over_member (members_view aliases.now.entries) (members_view members.now.entries) (view entry.now) rest))) }
+) -> Result<Value, Stop>
+    ensures laid { IfOk result (λ laid. view laid ≡ lay_over_member (members_view aliases.now.entries) (members_view members.now.entries) (view entry) (view entry)) }
+    ensures past { IfErr result (λ stop. IsDue stop limit (size (lay_over_member (members_view aliases.now.entries) (members_view members.now.entries) (view entry) (view entry)))) }
 {
     for (name, value) in members.iter() {
-        if let Some(base) = entry.get(name.as_str()) {
-            let laid = lay(alloc, Spot::MemberValue, value, Some(base), aliases, limit)?;
-            return Ok(Some(single(alloc, name.clone()?, laid)?));
+        if entry.get(name.as_str()).is_some() {
+            let base = into_property(entry, name.as_str());
+            let laid = lay(alloc, Spot::MemberValue, value, base, aliases, limit)?;
+            return Ok(single(alloc, name.clone()?, laid)?);
         }
     }
-    Ok(None)
+    Ok(entry)
 }
 
 /// Adds the entries whose names the base has not.
@@ -292,9 +293,10 @@ fn push_new_entries(
     ensures within { OnOk result (Within limit (items_size (lay_new (members_view aliases.now.entries) (items_view own.now.items) (items_view base.now.items)))) }
     ensures past { IfErr result (λ stop. IsDue stop limit (items_size (lay_new (members_view aliases.now.entries) (items_view own.now.items) (items_view base.now.items)))) }
 {
+    let index = EntryIndex::of(alloc, base)?;
     let mut room = limit;
     for item in own {
-        room = push_new_item(alloc, item, base, entries, aliases, room)?;
+        room = push_new_item(alloc, item, &index, entries, aliases, room)?;
     }
     Ok(())
 }
@@ -304,15 +306,15 @@ fn push_new_entries(
 fn push_new_item(
     alloc: Global,
     item: &Value,
-    base: &Vec<Value>,
+    base: &EntryIndex,
     entries: &mut Vec<Value>,
     aliases: &Map<String, Value>,
     limit: Option<usize>,
 ) -> Result<Option<usize>, Stop>
     ensures laid { OnOk result ((rest : Items) → join_items (items_view entries.new.items) rest
-        ≡ join_items (items_view entries.old.items) (lay_new_entry (members_view aliases.now.entries) (view item.now) (items_view base.now.items) rest)) }
-    ensures left { IfOk result (λ left. Leaves limit (items_size (lay_new_entry (members_view aliases.now.entries) (view item.now) (items_view base.now.items) no_items)) left) }
-    ensures past { IfErr result (λ stop. IsDue stop limit (items_size (lay_new_entry (members_view aliases.now.entries) (view item.now) (items_view base.now.items) no_items))) }
+        ≡ join_items (items_view entries.old.items) (lay_new_entry (members_view aliases.now.entries) (view item.now) (items_view base.now.entries.now.items) rest)) }
+    ensures left { IfOk result (λ left. Leaves limit (items_size (lay_new_entry (members_view aliases.now.entries) (view item.now) (items_view base.now.entries.now.items) no_items)) left) }
+    ensures past { IfErr result (λ stop. IsDue stop limit (items_size (lay_new_entry (members_view aliases.now.entries) (view item.now) (items_view base.now.entries.now.items) no_items))) }
 {
     match item {
         Value::Object(members) => push_new_entry(alloc, members, base, entries, aliases, limit),
@@ -325,19 +327,19 @@ fn push_new_item(
 fn push_new_entry(
     alloc: Global,
     members: &Map<String, Value>,
-    base: &Vec<Value>,
+    base: &EntryIndex,
     entries: &mut Vec<Value>,
     aliases: &Map<String, Value>,
     limit: Option<usize>,
 ) -> Result<Option<usize>, Stop>
     ensures laid { OnOk result ((rest : Items) → join_items (items_view entries.new.items) rest
-        ≡ join_items (items_view entries.old.items) (lay_new_member (members_view aliases.now.entries) (members_view members.now.entries) (items_view base.now.items) rest)) }
-    ensures left { IfOk result (λ left. Leaves limit (items_size (lay_new_member (members_view aliases.now.entries) (members_view members.now.entries) (items_view base.now.items) no_items)) left) }
-    ensures past { IfErr result (λ stop. IsDue stop limit (items_size (lay_new_member (members_view aliases.now.entries) (members_view members.now.entries) (items_view base.now.items) no_items))) }
+        ≡ join_items (items_view entries.old.items) (lay_new_member (members_view aliases.now.entries) (members_view members.now.entries) (items_view base.now.entries.now.items) rest)) }
+    ensures left { IfOk result (λ left. Leaves limit (items_size (lay_new_member (members_view aliases.now.entries) (members_view members.now.entries) (items_view base.now.entries.now.items) no_items)) left) }
+    ensures past { IfErr result (λ stop. IsDue stop limit (items_size (lay_new_member (members_view aliases.now.entries) (members_view members.now.entries) (items_view base.now.entries.now.items) no_items))) }
 {
     let mut room = limit;
     for (name, value) in members.iter() {
-        if !has_entry_named(base, name.as_str()) {
+        if !base.has(name.as_str()) {
             let laid = lay(alloc, Spot::MemberValue, value, None, aliases, room)?;
             let entry = single(alloc, name.clone()?, laid)?;
             room = take(&entry, room)?;

@@ -4,6 +4,7 @@
 mod alias_check;
 mod asked;
 mod base;
+mod entry_index;
 mod flaws;
 mod law;
 mod laying;
@@ -19,6 +20,7 @@ mod rounds;
 mod same;
 mod size;
 mod spot;
+mod whole;
 
 pub use law::{
     circle_is_refused, limit_is_passed, one_resolution, refusal_holds, resolution_exists,

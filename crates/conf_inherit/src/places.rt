@@ -1,12 +1,14 @@
 //! The first fault at the places of a configuration where field types stand, in walk order.
 ghost use Rattle.std.specs.Prelude.{◌≡◌, ◌+◌, ◌≤◌, ◌<◌, ◌++◌, Some, IfErr, false};
 ghost use Rattle.arrayvec.specs.ArrayVec.{array_vec_len};
-ghost use Rattle.serde_json.specs.Data.{depth, items_depth, members_depth, array, no_members};
+ghost use Rattle.serde_json.specs.Data.{depth, items_depth, members_depth, array, object, no_members};
 ghost use Rattle.serde_json.specs.View.{view, items_view, members_view};
 ghost use Rattle.conf_tree.specs.Reading.{Gives};
 ghost use Rattle.conf_tree.specs.Walk.{refusal};
 ghost use Rattle.conf_inherit.specs.Flaws.{own_flaws, flaws};
+ghost use Rattle.conf_inherit.specs.Spot.{spot_of_items};
 ghost use Rattle.conf_inherit.specs.Places.{too_many, place_flaws, inner_places, item_places, member_places};
+ghost use Rattle.conf_inherit.specs.Whole.{HasSound};
 
 use crate::Spot;
 use crate::flaws::{check_flaws, check_itself, check_type, mark};
@@ -80,7 +82,7 @@ fn check_place(
     Ok(())
 }
 
-/// Refuses the first fault at the places in a value, which nests at most `levels` deep.
+/// Refuses the first fault at the places in a value, which nests at most `levels` deep. The aliases are judged already.
 #[cycle(places)]
 pub(crate) fn check_places(
     alloc: Global,
@@ -92,6 +94,7 @@ pub(crate) fn check_places(
 ) -> Result<(), ConfFault>
     requires nested { depth (view value.now) ≤ levels }
     requires shallow { levels ≤ 32 }
+    requires sound { HasSound (members_view aliases.now.entries) (members_view resolved.now.entries) spot (view value.now) }
     ensures first { Gives (λ _. tt) result (refusal (inner_places (members_view aliases.now.entries) (members_view resolved.now.entries) spot (view value.now))) }
     ensures short { IfErr result (λ fault. array_vec_len fault.path ≤ levels) }
 {
@@ -104,6 +107,9 @@ pub(crate) fn check_places(
             Ok(())
         }
         Value::Object(members) => {
+            if let Spot::Aliases = spot {
+                return Ok(());
+            }
             if spot.leads_on() {
                 return check_member_places(alloc, members, spot, levels - 1, aliases, resolved);
             }
@@ -129,15 +135,7 @@ fn check_item_places(
 {
     let mut seen = Map::new(alloc);
     for (index, item) in items.iter().enumerate() {
-        if let Err(fault) = check_entry(
-            alloc,
-            item,
-            spot.of_items(),
-            &seen,
-            levels,
-            aliases,
-            resolved,
-        ) {
+        if let Err(fault) = check_entry(alloc, item, spot, &seen, levels, aliases, resolved) {
             return Err(fault.inside(index));
         }
         if mark(item, &mut seen).is_err() {
@@ -147,7 +145,7 @@ fn check_item_places(
     Ok(())
 }
 
-/// Refuses the first flaw of an extra member, or else the limit that its field type passes. `seen` has the names of
+/// Refuses the first flaw of an entry of a list at the spot, or else the limit that its field type passes. `seen` has the names of
 /// the entries before it.
 #[cycle(places)]
 #[tactic(auto, using(crate::proofs::FlawLemmas::refused_first, crate::proofs::FlawLemmas::refused_later))]
@@ -162,14 +160,15 @@ fn check_entry(
 ) -> Result<(), ConfFault>
     requires nested { depth (view value.now) ≤ levels }
     requires shallow { levels ≤ 32 }
-    ensures first { Gives (λ _. tt) result (refusal (flaws (members_view aliases.now.entries) (Some (members_view resolved.now.entries)) spot false (members_view seen.now.entries) (view value.now) ++ inner_places (members_view aliases.now.entries) (members_view resolved.now.entries) spot (view value.now))) }
+    ensures first { Gives (λ _. tt) result (refusal (flaws (members_view aliases.now.entries) (Some (members_view resolved.now.entries)) (spot_of_items spot) false (members_view seen.now.entries) (view value.now) ++ inner_places (members_view aliases.now.entries) (members_view resolved.now.entries) (spot_of_items spot) (view value.now))) }
     ensures short { IfErr result (λ fault. array_vec_len fault.path ≤ levels) }
 {
+    let entry = spot.of_items();
     let known = Some(resolved);
-    if let Err(fault) = check_flaws(alloc, value, spot, false, seen, levels, aliases, known) {
+    if let Err(fault) = check_flaws(alloc, value, entry, false, seen, levels, aliases, known) {
         return Err(fault);
     }
-    check_places(alloc, value, spot, levels, aliases, resolved)
+    check_places(alloc, value, entry, levels, aliases, resolved)
 }
 
 /// Refuses the first fault at the places in an object's properties.
@@ -184,6 +183,7 @@ fn check_member_places(
 ) -> Result<(), ConfFault>
     requires nested { members_depth (members_view members.now.entries) ≤ levels }
     requires shallow { levels < 32 }
+    requires sound { HasSound (members_view aliases.now.entries) (members_view resolved.now.entries) spot (object (members_view members.now.entries)) }
     ensures first { Gives (λ _. tt) result (refusal (member_places (members_view aliases.now.entries) (members_view resolved.now.entries) spot (members_view members.now.entries))) }
     ensures short { IfErr result (λ fault. array_vec_len fault.path ≤ levels + 1) }
 {
@@ -215,6 +215,7 @@ fn check_place_and_inner(
 ) -> Result<(), ConfFault>
     requires nested { depth (view value.now) ≤ levels }
     requires shallow { levels ≤ 32 }
+    requires sound { HasSound (members_view aliases.now.entries) (members_view resolved.now.entries) spot (view value.now) }
     ensures first { Gives (λ _. tt) result (refusal (place_flaws (members_view aliases.now.entries) (members_view resolved.now.entries) spot (view value.now) ++ inner_places (members_view aliases.now.entries) (members_view resolved.now.entries) spot (view value.now))) }
     ensures short { IfErr result (λ fault. array_vec_len fault.path ≤ levels) }
 {

@@ -1,12 +1,13 @@
 //! The properties of JSON objects, by name.
 ghost use Rattle.std.specs.Prelude.{◌≡◌, string_bytes, IfOk, option_map, option_and_then};
-ghost use Rattle.serde_json.specs.Data.{object, member, no_members};
+ghost use Rattle.serde_json.specs.Data.{Data, object, member, no_members, put};
 ghost use Rattle.serde_json.specs.Find.{get, get_member};
 ghost use Rattle.serde_json.specs.View.{view, members_view};
 ghost use Rattle.conf_inherit.specs.Named.{has};
 
 use serde_json::{Map, Value};
 use std::alloc::{AllocError, Global};
+use std::mem::replace;
 
 /// The value of a property.
 pub(crate) fn property<'v>(members: &'v Map<String, Value>, name: &str) -> Option<&'v Value>
@@ -14,6 +15,28 @@ pub(crate) fn property<'v>(members: &'v Map<String, Value>, name: &str) -> Optio
         ≡ get_member name.now (members_view members.now.entries) }
 {
     members.get(name)
+}
+
+/// Takes the value out of a property, which is null then.
+pub(crate) fn take_property(members: &mut Map<String, Value>, name: &str) -> Option<Value>
+    ensures found { option_map view result ≡ get_member name.now (members_view members.old.entries) }
+    ensures others { (d : Data) → put name.now d (members_view members.new.entries) ≡ put name.now d (members_view members.old.entries) }
+{
+    match members.get_mut(name) {
+        Some(value) => Some(replace(value, Value::Null)),
+        None => None,
+    }
+}
+
+/// The value of a property, without the others.
+pub(crate) fn into_property(value: Value, name: &str) -> Option<Value>
+    ensures { option_map view result ≡ get name.now (view value) }
+{
+    match value {
+        Value::Object(mut members) => take_property(&mut members, name),
+        Value::Null | Value::Bool(_) | Value::Number(_) | Value::String(_) | Value::Array(_) =>
+            None,
+    }
 }
 
 /// An object of one property.

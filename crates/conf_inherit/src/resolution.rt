@@ -10,6 +10,10 @@ ghost use Rattle.conf_inherit.specs.AliasFlaws.{all_alias_flaws};
 ghost use Rattle.conf_inherit.specs.AliasOutcomes.{outcomes_of};
 ghost use Rattle.conf_inherit.specs.Faults.{RefusalHolds};
 ghost use Rattle.conf_inherit.specs.Laying.{lay};
+ghost use Rattle.conf_inherit.specs.Names.{NoClash};
+ghost use Rattle.conf_inherit.specs.Rounds.{rounds, no_outcomes};
+ghost use Rattle.conf_inherit.specs.Whole.{HasLaid};
+ghost use Rattle.std.specs.BTreeMap.{btree_map_len};
 ghost use Rattle.serde_json.specs.Find.{get, as_object};
 ghost use Rattle.serde_json.specs.View.{view, members_view};
 ghost use Rattle.serde_json.specs.Written.{has_float};
@@ -18,12 +22,12 @@ ghost use Rattle.conf_inherit.specs.Resolution.{trace_name, type_name, aliases_n
 use crate::Spot;
 use crate::alias_check::check_aliases;
 use crate::flaws::check_value;
-use crate::laying::lay;
-use crate::nesting::check_nesting;
+use crate::nesting::{check_nesting, nests};
 use crate::outcomes::AliasOutcomes;
 use crate::places::check_places;
 use crate::rounds::settle_aliases;
 use crate::size::Stop;
+use crate::whole::lay_whole;
 use conf_tree::{ConfFault, FaultKind, Tree};
 use serde_json::{Map, Value};
 use std::alloc::Global;
@@ -84,13 +88,18 @@ fn check_all_aliases(
 
 /// The resolved configuration, unless it nests too deep. Each field type in it is within the limits, so none holds
 /// for the whole.
-fn lay_all(alloc: Global, value: &Value, outcomes: &AliasOutcomes) -> Result<Value, ConfFault>
-    ensures first { Gives view result (if_shallow (lay (outcomes_of outcomes.now).done Spot.Root (view value.now) None)) }
+#[tactic(auto, using(crate::proofs::ResolveLemmas::shallow_as_it_is))]
+fn lay_all(alloc: Global, value: &Value, resolved: Map<String, Value>) -> Result<Value, ConfFault>
+    requires { HasLaid (members_view resolved.entries) Spot.Root (view value.now) }
+    ensures first { Gives view result (if_shallow (lay (members_view resolved.entries) Spot.Root (view value.now) None)) }
 {
-    match lay(alloc, Spot::Root, value, None, &outcomes.resolved, None) {
+    match lay_whole(alloc, Spot::Root, value, resolved) {
         Ok(resolved) => {
-            if let Err(fault) = check_nesting(alloc, &resolved, 32) {
-                return Err(fault);
+            // A fault is large, so the walk that may have one is made only where it has.
+            if !nests(&resolved, 32) {
+                if let Err(fault) = check_nesting(alloc, &resolved, 32) {
+                    return Err(fault);
+                }
             }
             Ok(resolved)
         }
@@ -104,13 +113,16 @@ fn resolve_after(
     alloc: Global,
     value: &Value,
     aliases: &Map<String, Value>,
-    outcomes: &AliasOutcomes,
+    outcomes: AliasOutcomes,
 ) -> Result<Value, ConfFault>
     requires nested { depth (view value.now) ≤ 32 }
     requires shallow { members_depth (members_view aliases.now.entries) ≤ 28 }
-    ensures first { Gives view result (resolution_after (members_view aliases.now.entries) (outcomes_of outcomes.now) (view value.now)) }
+    requires own { members_view aliases.now.entries ≡ aliases_of (view value.now) }
+    requires apart { NoClash (members_view aliases.now.entries) }
+    requires settled { outcomes_of outcomes ≡ rounds (members_view aliases.now.entries) (btree_map_len aliases.now) no_outcomes }
+    ensures first { Gives view result (resolution_after (members_view aliases.now.entries) (outcomes_of outcomes) (view value.now)) }
 {
-    if let Err(fault) = check_all_aliases(alloc, aliases, outcomes) {
+    if let Err(fault) = check_all_aliases(alloc, aliases, &outcomes) {
         return Err(fault);
     }
     if let Err(fault) = check_places(alloc, value, Spot::Root, 32, aliases, &outcomes.resolved) {
@@ -120,7 +132,11 @@ fn resolve_after(
     if let Err(fault) = check_value(alloc, value, Spot::Root, 32, aliases, None) {
         return Err(fault);
     }
-    lay_all(alloc, value, outcomes)
+    let AliasOutcomes {
+        resolved,
+        refused: _,
+    } = outcomes;
+    lay_all(alloc, value, resolved)
 }
 
 /// The resolution under these aliases, which are those of the configuration.
@@ -138,7 +154,7 @@ fn resolve_under(
     ensures first { Gives (λ tree. view tree.value) result (resolution (view value.now)) }
 {
     let outcomes = settle_aliases(alloc, aliases)?;
-    match resolve_after(alloc, value, aliases, &outcomes) {
+    match resolve_after(alloc, value, aliases, outcomes) {
         Ok(value) => Ok(Tree { value }),
         Err(fault) => Err(fault),
     }
@@ -148,7 +164,7 @@ fn resolve_under(
 /// object inherits from (barectf 3.1, "Field type inheritance"). The tree is spent on a refusal, which names the first
 /// fault: those of the aliases in byte order of their names, then those of the other places in walk order, and last
 /// the first place in the resolved tree that stands inside 32 objects and lists. It takes as long as the text and what
-/// is laid over it.
+/// its field types hold once they are resolved.
 pub fn resolve(alloc: Global, tree: Tree) -> Result<Tree, ConfFault>
     ensures resolved { IfOk result (λ made. Resolves (view tree.value) (view made.value)) }
     ensures refused { IfErr result (λ fault. IsMemory fault ⊎ RefusalHolds (view tree.value) (flaw_of fault)) }

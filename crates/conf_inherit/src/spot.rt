@@ -44,6 +44,8 @@ pub(crate) enum Spot {
 
 impl Spot {
     ghost use Rattle.conf_inherit.specs.Spot.{spot_under, spot_of_items, names_alias, names_member_type, is_base_name, lists_members, lists_extra_members, is_entry, leads_on, spot_in_trace_type, spot_in_stream_type, spot_in_event_type, spot_in_type, spot_in_stream_features, spot_in_trace_features, spot_in_packet_features, spot_in_event_record_features};
+    ghost use Rattle.std.specs.Prelude.{option_map};
+    ghost use Rattle.conf_inherit.specs.Whole.{holds_aliases, way_to_aliases};
 
     /// The spot of the property `name` of an object that stands here.
     #[tactic(auto, unfolding(crate::specs::Spot::spot_under))]
@@ -133,6 +135,30 @@ impl Spot {
                 | Spot::MemberValue
                 | Spot::Plain
         )
+    }
+
+    /// Whether an object that stands here has the aliases in it, or is their object.
+    #[tactic(auto, unfolding(crate::specs::Whole::holds_aliases))]
+    pub(crate) fn holds_aliases(self) -> bool
+        ensures { result ≡ holds_aliases self }
+    {
+        matches!(
+            self,
+            Spot::Root | Spot::Trace | Spot::TraceType | Spot::Aliases
+        )
+    }
+
+    /// The name of the property of an object that stands here that has the aliases in it, or is their object.
+    #[tactic(auto, unfolding(crate::specs::Whole::way_to_aliases, crate::specs::Resolution::trace_name, crate::specs::Resolution::type_name, crate::specs::Resolution::aliases_name))]
+    pub(crate) fn way_to_aliases(self) -> Option<&'static str>
+        ensures { option_map (λ name. name.now) result ≡ way_to_aliases self }
+    {
+        match self {
+            Spot::Root => Some("trace"),
+            Spot::Trace => Some("type"),
+            Spot::TraceType => Some("$field-type-aliases"),
+            _ => None,
+        }
     }
 
     /// Whether the property `name` of an object that stands here is what the object inherits from.

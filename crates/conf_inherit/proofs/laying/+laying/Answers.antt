@@ -1,27 +1,38 @@
-use Rattle.std.proofs.Common.{◌≡◌, ◌+◌, None, true, false, string_bytes, [], ◌∷◌, ◌++◌, get_or, map, ap, sym, ◌∙◌, arith, append-nil, append_assoc, option_map, refl, drop, subst}
+use Rattle.std.proofs.Common.{rules, ◌≡◌, ◌+◌, List, length, None, true, false, string_bytes, [], ◌∷◌, ◌++◌, get_or, ap, sym, ◌∙◌, arith, append-nil, append_assoc, option_map, refl, drop, subst}
 use Rattle.std.proofs.lemmas.Grind.{common_steps}
-use Rattle.std.proofs.lemmas.List.{take_all, at_drop_all}
-use Rattle.serde_json.specs.Data.{Data, Items, no_items, item, object, member, no_members, put}
-use Rattle.serde_json.specs.View.{view, items_of, items_view, members_view}
+use Rattle.std.proofs.lemmas.List.{at_drop_all}
+use Rattle.std.specs.Vec.Iter.{into_iter_items}
+use Rattle.serde_json.specs.Data.{Data, Items, no_items, item, array, object, member, no_members, put}
+use Rattle.serde_json.specs.View.{view, items_view, members_view}
 use Rattle.conf_inherit.specs.declared.spot.Spot.TheVariants.{MemberValue}
-use Rattle.conf_inherit.specs.Laying.{lay, has_entry, lay_members, lay_over, lay_new, lay_new_member}
+use Rattle.conf_inherit.specs.Laying.{lay, items_below, has_entry, lay_members, lay_over, lay_over_entry, lay_new, lay_new_member}
+use Rattle.conf_inherit.specs.EntryIndex.{lay_over_found}
+use Rattle.std.specs.Result.{IfOk, IfErr}
 use Rattle.conf_inherit.specs.Names.{map_items, join_items}
-use Rattle.conf_inherit.proofs.ItemLemmas.{join_none, join_pushed, map_items_view, new_member_fresh, lay_members-first}
-use Rattle.serde_json.proofs.Views.{Entry, members_view-insert_entry}
+use Rattle.conf_inherit.proofs.ItemLemmas.{join_none, join_pushed, join_appended, new_member_fresh, lay_members-first}
+use Rattle.serde_json.proofs.Views.{Entry, members_view-insert_entry, view-Array}
 use Rattle.serde_json.specs.Find.{get_member}
 use Rattle.conf_inherit.specs.Spot.{spot_under, is_base_name, lists_members}
 use Rattle.std.proofs.lemmas.Result.{err_from_is_err_and}
 use Rattle.conf_inherit.specs.Names.{NoClash}
 use Rattle.conf_inherit.proofs.ResolveLemmas.{apart_of}
-use Rattle.conf_inherit.specs.Size.{size, items_size, Within}
-use Rattle.conf_inherit.proofs.SizeLemmas.{counted_all, leaves_within, counted_more, counted_past, due_more, past_due, over_size, over_next, new_size, new_next, property_size, found_among, absent_after}
-use Rattle.conf_inherit.proofs.LayingLemmas.{lay_members-absent}
+use Rattle.conf_inherit.specs.Size.{size, items_size, Within, IsDue}
+use Rattle.conf_inherit.proofs.SizeLemmas.{IsCounted, counted_none, counted_all, leaves_within, counted_more, counted_past, due_more, past_due, over_size, new_size, new_next, property_size, found_among, absent_after}
+use Rattle.conf_inherit.proofs.LayingLemmas.{lay_members-absent, lay_entries}
 use Rattle.conf_inherit.proofs.laying.+laying.Goals as goal
+
+nothing_left : {X : Type 0} (l : List X) → length l ≡ 0 → l ≡ []
+nothing_left [] h = refl
+nothing_left (x ∷ xs) h = absurd (omega arith)
 
 pub lay_over_entries-returns-clause-laid : goal.lay_over_entries-returns-clause-laid
 lay_over_entries-returns-clause-laid t c =
-    ap items_of (c.loop-entry.invariant.laid ∙ ap (map (λ b. lay_over (members_view c.args.aliases.now.entries) (items_view c.args.own.now.items) (view b))) (take_all c.loop-entry.entry-index c.args.base.now.items (omega arith)))
-    ∙ sym (map_items_view (λ b. lay_over (members_view c.args.aliases.now.entries) (items_view c.args.own.now.items) b) c.args.base.now.items)
+    let l = c.loop-entry in
+    let over = λ (b : Data). lay_over (members_view c.args.aliases.now.entries) (items_view c.args.own.now.items) b in
+    let empty : into_iter_items l.entry-iterator ≡ [] = nothing_left _ (sym l.invariant.count ∙ c.in-None.ensures.steps.0) in
+    sym (join_none (items_view l.entries.items))
+    ∙ ap (λ vs. join_items (items_view l.entries.items) (map_items over (items_view vs))) (sym empty)
+    ∙ l.invariant.laid
 
 pub push_new_entries-returns-clause-laid : goal.push_new_entries-returns-clause-laid
 push_new_entries-returns-clause-laid t c =
@@ -32,10 +43,10 @@ push_new_entries-returns-clause-laid t c =
 pub push_new_entry-loop-name-preserved-in_ok-push : goal.push_new_entry-loop-name-preserved-in_ok-push
 push_new_entry-loop-name-preserved-in_ok-push t c =
     let done = members_view c.args.aliases.now.entries in
-    let seen = items_view c.args.base.now.items in
+    let seen = items_view c.args.base.now.entries.now.items in
     let n = string_bytes c.in-Some.name.now in
     let d = view c.in-Some.value.now in
-    let fresh : has_entry n seen ≡ false = let e = c.has_entry_named.ensures in let f = c.if-not-has_entry_named.true in let g = c.as_str.ensures.value in ap (λ x. has_entry x seen) (sym g) ∙ sym e ∙ f in
+    let fresh : has_entry n seen ≡ false = let e = c.has.ensures in let f = c.if-not-has.true in let g = c.as_str.ensures.value in ap (λ x. has_entry x seen) (sym g) ∙ sym e ∙ f in
     let made : view c.in_ok-entry.entry ≡ object (member n (lay done MemberValue d None) no_members) = c.in_ok-entry.ensures ∙ ap (λ x. object (member x (view c.in_ok-laid.laid) no_members)) c.in_ok-clone.ensures.cases ∙ ap (λ x. object (member n x no_members)) c.in_ok-laid.ensures.laid in
     let left = λ (rest : Items). lay_new_member done (members_view c.next.new.self) seen rest in
     let split : items_size (lay_new_member done (members_view c.loop-name.name-iterator) seen no_items) ≡ size (view c.in_ok-entry.entry) + items_size (left no_items)
@@ -75,17 +86,21 @@ lay_properties-loop-name-preserved-then-not-is_base_name t c =
     let apart : NoClash (members_view c.args.members.now.entries) = apart_of c.args.members.now.entries c.iter.ensures.ordered in
     let spot : c.under.result ≡ spot_under c.args.spot n = c.under.ensures ∙ ap (spot_under c.args.spot) c.as_str-then-not-is_base_name-2.ensures.value in
     let absent : get_member n (members_view inv.0) ≡ None = absent_after c.next.new.self.iter e inv.0 c.args.members.now.entries split apart in
-    let found : option_map (λ b. view b.now) c.property-base.result ≡ get_member n below
-    = c.property-base.ensures ∙ ap (λ x. get_member x (members_view c.loop-name.laid.entries)) c.as_str-then-not-is_base_name.ensures.value
+    let found : option_map view c.take_property-base.result ≡ get_member n below
+    = c.take_property-base.ensures.found ∙ ap (λ x. get_member x (members_view c.loop-name.laid.entries)) c.as_str-then-not-is_base_name.ensures.value
     ∙ ap (get_member n) inv.2 ∙ lay_members-absent done c.args.spot n (members_view inv.0) below absent in
-    let over : view c.in_ok-over.over ≡ lay done (spot_under c.args.spot n) d (get_member n below) = c.in_ok-over.ensures.laid ∙ ap (λ x. lay done x d (option_map (λ b. view b.now) c.property-base.result)) spot ∙ ap (lay done (spot_under c.args.spot n) d) found in
+    let over : view c.in_ok-over.over ≡ lay done (spot_under c.args.spot n) d (get_member n below) = c.in_ok-over.ensures.laid ∙ ap (λ x. lay done x d (option_map view c.take_property-base.result)) spot ∙ ap (lay done (spot_under c.args.spot n) d) found in
+    let laid = lay done (spot_under c.args.spot n) d (get_member n below) in
+    let same : put n laid (members_view c.take_property-base.new.members.entries) ≡ put n laid (members_view c.loop-name.laid.entries)
+    = subst (λ x. put x laid (members_view c.take_property-base.new.members.entries) ≡ put x laid (members_view c.loop-name.laid.entries)) c.as_str-then-not-is_base_name.ensures.value (c.take_property-base.ensures.others laid) in
     let no_base : is_base_name c.args.spot n ≡ false = ap (is_base_name c.args.spot) (sym c.as_str.ensures.value) ∙ sym c.is_base_name.ensures ∙ c.if-not-is_base_name.true in (
       e ∷ inv.0,
       split,
       ap members_view c.in_ok-insert.ensures.entries
-          ∙ members_view-insert_entry c.loop-name.laid.entries c.in_ok-clone.field-0 c.in_ok-over.over
-          ∙ ap (λ x. put x (view c.in_ok-over.over) (members_view c.loop-name.laid.entries)) c.in_ok-clone.ensures.cases
-          ∙ ap (λ x. put n x (members_view c.loop-name.laid.entries)) over
+          ∙ members_view-insert_entry c.take_property-base.new.members.entries c.in_ok-clone.field-0 c.in_ok-over.over
+          ∙ ap (λ x. put x (view c.in_ok-over.over) (members_view c.take_property-base.new.members.entries)) c.in_ok-clone.ensures.cases
+          ∙ ap (λ x. put n x (members_view c.take_property-base.new.members.entries)) over
+          ∙ same
           ∙ ap (put n (lay done (spot_under c.args.spot n) d (get_member n below))) inv.2
           ∙ sym (lay_members-first done c.args.spot n d (members_view inv.0) below no_base),
     )
@@ -95,16 +110,16 @@ lay_list-returns-in_err-entries-clause-past t c =
     let p = err_from_is_err_and c.from_residual-in_err-entries.result c.from_residual-in_err-entries.ensures.1 in
     let is : lists_members c.args.spot ≡ true = sym c.lists_members.ensures ∙ c.if-lists_members.true in
     rw (p.1, p.2)
-    (due_more c.in_err-entries.field-0.0 c.args.limit _ _ (over_size (members_view c.args.aliases.now.entries) c.args.spot (items_view c.args.items.now.items) (option_map (λ b. view b.now) c.args.base) is)
-    (rw c.in_ok-below.ensures at c.in_err-entries.ensures.past))
+    (due_more c.in_err-entries.field-0.0 c.args.limit _ _ (over_size (members_view c.args.aliases.now.entries) c.args.spot (items_view c.args.items.now.items) (option_map view c.args.base) is)
+    (rw c.items_under-below.ensures at c.in_err-entries.ensures.past))
 
 pub lay_list-returns-in_err-push_new_entries-clause-past : goal.lay_list-returns-in_err-push_new_entries-clause-past
 lay_list-returns-in_err-push_new_entries-clause-past t c =
-    let p = err_from_is_err_and c.from_residual-in_err-push_new_entries.result c.from_residual-in_err-push_new_entries.ensures.1 in
+    let p = err_from_is_err_and c.from_residual.result c.from_residual.ensures.1 in
     let is : lists_members c.args.spot ≡ true = sym c.lists_members.ensures ∙ c.if-lists_members.true in
     rw (p.1, p.2)
-    (due_more c.in_err-push_new_entries.field-0.0 c.args.limit _ _ (new_size (members_view c.args.aliases.now.entries) c.args.spot (items_view c.args.items.now.items) (option_map (λ b. view b.now) c.args.base) is)
-    (rw c.in_ok-below.ensures at c.in_err-push_new_entries.ensures.past))
+    (due_more c.in_err-push_new_entries.field-0.0 c.args.limit _ _ (new_size (members_view c.args.aliases.now.entries) c.args.spot (items_view c.args.items.now.items) (option_map view c.args.base) is)
+    (rw c.items_under-below.ensures at c.in_err-push_new_entries.ensures.past))
 
 pub lay_properties-returns-in_err-over-clause-past : goal.lay_properties-returns-in_err-over-clause-past
 lay_properties-returns-in_err-over-clause-past t c =
@@ -119,20 +134,37 @@ lay_properties-returns-in_err-over-clause-past t c =
     let apart : NoClash (members_view c.args.members.now.entries) = apart_of c.args.members.now.entries c.iter.ensures.ordered in
     let spot : c.under.result ≡ spot_under c.args.spot n = c.under.ensures ∙ ap (spot_under c.args.spot) c.as_str-then-not-is_base_name-2.ensures.value in
     let absent : get_member n (members_view inv.0) ≡ None = absent_after c.next.new.self.iter e inv.0 c.args.members.now.entries split apart in
-    let found : option_map (λ b. view b.now) c.property-base.result ≡ get_member n below
-    = c.property-base.ensures ∙ ap (λ x. get_member x (members_view c.loop-name.laid.entries)) c.as_str-then-not-is_base_name.ensures.value
+    let found : option_map view c.take_property-base.result ≡ get_member n below
+    = c.take_property-base.ensures.found ∙ ap (λ x. get_member x (members_view c.loop-name.laid.entries)) c.as_str-then-not-is_base_name.ensures.value
     ∙ ap (get_member n) inv.2 ∙ lay_members-absent done c.args.spot n (members_view inv.0) below absent in
     let no_base : is_base_name c.args.spot n ≡ false = ap (is_base_name c.args.spot) (sym c.as_str.ensures.value) ∙ sym c.is_base_name.ensures ∙ c.if-not-is_base_name.true in
     let part = property_size done c.args.spot n d (members_view c.args.members.now.entries) below no_base (found_among c.next.new.self.iter e inv.0 c.args.members.now.entries split apart) in
     rw (p.1, p.2)
     (due_more c.in_err-over.field-0.0 c.args.limit _ _ part (rw (spot, found) at c.in_err-over.ensures.past))
 
+pub lay_over-returns-in-Some-clause-laid : goal.lay_over-returns-in-Some-clause-laid
+lay_over-returns-in-Some-clause-laid t c =
+    let done = members_view c.args.aliases.now.entries in
+    let b = view c.args.entry in
+    let found : lay_over done (items_view c.args.own.now.items) b ≡ lay_over_entry done (view c.in-Some.item.now) b b
+    = ap (λ v. lay_over done (items_view v.items) b) (sym c.requires) ∙ c.first_over.ensures.found done ∙ ap (λ o. lay_over_found done (option_map (λ e. view e.now) o) b) c.in-Some.is in
+    subst (λ d. IfOk c.lay_over_item.result (λ laid. view laid ≡ d)) (sym found) c.lay_over_item.ensures.laid
+
+pub lay_over-returns-in-Some-clause-past : goal.lay_over-returns-in-Some-clause-past
+lay_over-returns-in-Some-clause-past t c =
+    let done = members_view c.args.aliases.now.entries in
+    let b = view c.args.entry in
+    let found : lay_over done (items_view c.args.own.now.items) b ≡ lay_over_entry done (view c.in-Some.item.now) b b
+    = ap (λ v. lay_over done (items_view v.items) b) (sym c.requires) ∙ c.first_over.ensures.found done ∙ ap (λ o. lay_over_found done (option_map (λ e. view e.now) o) b) c.in-Some.is in
+    subst (λ d. IfErr c.lay_over_item.result (λ stop. IsDue stop c.args.limit (size d))) (sym found) c.lay_over_item.ensures.past
+
 pub lay_over_entries-returns-in_err-laid-clause-past : goal.lay_over_entries-returns-in_err-laid-clause-past
 lay_over_entries-returns-in_err-laid-clause-past t c =
-    let p = err_from_is_err_and c.from_residual.result c.from_residual.ensures.1 in
+    let p = err_from_is_err_and c.from_residual-in_err-laid.result c.from_residual-in_err-laid.ensures.1 in
     let l = c.loop-entry in
     let over = λ (b : Data). lay_over (members_view c.args.aliases.now.entries) (items_view c.args.own.now.items) b in
-    let next = over_next over c.args.base.now.items l.entry-index c.entry-item.result (omega arith) (c.entry-item.is ∙ ap (λ xs. get_or xs l.entry-index c.entry-item.result) c.deref-entry-items.ensures.value) in
+    let steps : into_iter_items l.entry-iterator ≡ c.in-Some.entry ∷ into_iter_items c.next.new.self = c.in-Some.ensures.steps.0 in
+    let next = ap (λ vs. items_size (map_items over (items_view vs))) steps in
     rw (p.1, p.2) (counted_past c.in_err-laid.field-0.0 c.args.limit l.room _ _ _ _ l.invariant.left next c.in_err-laid.ensures.past)
 
 pub lay_over_entries-returns-in_err-room-clause-past : goal.lay_over_entries-returns-in_err-room-clause-past
@@ -140,7 +172,8 @@ lay_over_entries-returns-in_err-room-clause-past t c =
     let p = err_from_is_err_and c.from_residual-in_err-room.result c.from_residual-in_err-room.ensures.1 in
     let l = c.loop-entry in
     let over = λ (b : Data). lay_over (members_view c.args.aliases.now.entries) (items_view c.args.own.now.items) b in
-    let next = over_next over c.args.base.now.items l.entry-index c.entry-item.result (omega arith) (c.entry-item.is ∙ ap (λ xs. get_or xs l.entry-index c.entry-item.result) c.deref-entry-items.ensures.value) in
+    let steps : into_iter_items l.entry-iterator ≡ c.in-Some.entry ∷ into_iter_items c.next.new.self = c.in-Some.ensures.steps.0 in
+    let next = ap (λ vs. items_size (map_items over (items_view vs))) steps in
     let past = past_due c.in_err-room.field-0.0 l.room (size (view c.in_ok-laid.laid)) c.in_err-room.ensures.past.0 c.in_err-room.ensures.past.1 in
     rw (p.1, p.2) (counted_past c.in_err-room.field-0.0 c.args.limit l.room _ _ _ _ l.invariant.left next (rw c.in_ok-laid.ensures.laid at past))
 
@@ -148,28 +181,78 @@ pub lay_over_entries-loop-entry-preserved : goal.lay_over_entries-loop-entry-pre
 lay_over_entries-loop-entry-preserved t c =
     let l = c.loop-entry in
     let over = λ (b : Data). lay_over (members_view c.args.aliases.now.entries) (items_view c.args.own.now.items) b in
-    let next = over_next over c.args.base.now.items l.entry-index c.entry-item.result (omega arith) (c.entry-item.is ∙ ap (λ xs. get_or xs l.entry-index c.entry-item.result) c.deref-entry-items.ensures.value) in
-    record { laid = grind (arith, common_steps); left = counted_more c.args.limit l.room c.in_ok-room.room _ _ _ _ l.invariant.left next (rw c.in_ok-laid.ensures.laid at c.in_ok-room.ensures.left) }
+    let steps : into_iter_items l.entry-iterator ≡ c.in-Some.entry ∷ into_iter_items c.next.new.self = c.in-Some.ensures.steps.0 in
+    let rest = map_items over (items_view (into_iter_items c.next.new.self)) in
+    let next = ap (λ vs. items_size (map_items over (items_view vs))) steps in
+    record {
+      laid = ap (λ vs. join_items (items_view vs) rest) c.in_ok-push.ensures.items
+          ∙ join_pushed l.entries.items c.in_ok-laid.laid rest
+          ∙ ap (λ x. join_items (items_view l.entries.items) (item x rest)) c.in_ok-laid.ensures.laid
+          ∙ ap (λ vs. join_items (items_view l.entries.items) (map_items over (items_view vs))) (sym steps)
+          ∙ l.invariant.laid;
+      left = counted_more c.args.limit l.room c.in_ok-room.room _ _ _ _ l.invariant.left next (rw c.in_ok-laid.ensures.laid at c.in_ok-room.ensures.left);
+      count =
+          let before = l.invariant.count in
+          let gone = c.in-Some.ensures.steps.1 in
+          let short = ap length steps in
+          omega (arith, before, gone, short);
+    }
+
+pub lay_over_entries-loop-entry-init : goal.lay_over_entries-loop-entry-init
+lay_over_entries-loop-entry-init t c =
+    let over = λ (b : Data). lay_over (members_view c.args.aliases.now.entries) (items_view c.args.own.now.items) b in
+    let vs = c.args.base.items in
+    let all : into_iter_items c.into_iter-entry-iterator.result ≡ vs = c.into_iter-entry-iterator.ensures.into_iter_gives.0 in
+    record {
+      laid = ap (λ xs. join_items (items_view xs) (map_items over (items_view (into_iter_items c.into_iter-entry-iterator.result)))) c.new-entries.ensures.items
+          ∙ ap (λ xs. map_items over (items_view xs)) all;
+      left = subst (λ xs. IsCounted c.args.limit c.args.limit (items_size (map_items over (items_view vs))) (items_size (map_items over (items_view xs)))) (sym all) (counted_none c.args.limit _);
+      count = search rules;
+    }
+
+pub lay_list-returns-then-lists_members-clause-laid : goal.lay_list-returns-then-lists_members-clause-laid
+lay_list-returns-then-lists_members-clause-laid t c =
+    let done = members_view c.args.aliases.now.entries in
+    let own = items_view c.args.items.now.items in
+    let base = option_map view c.args.base in
+    let over = λ (b : Data). lay_over done own b in
+    let entries = c.in_ok-entries.entries.items in
+    let added = c.push_new_entries.new.entries.items in
+    let below : items_view c.items_under-below.result.items ≡ items_below base = c.items_under-below.ensures in
+    let laid : items_view entries ≡ map_items over (items_below base) = c.in_ok-entries.ensures.laid ∙ ap (map_items over) below in
+    let new : items_view added ≡ lay_new done own (items_below base)
+    = c.in_ok-push_new_entries.ensures.laid
+    ∙ ap (λ vs. join_items (items_view vs) (lay_new done own (items_view c.items_under-below.result.items))) c.new-added.ensures.items
+    ∙ ap (lay_new done own) below in
+    let is : lists_members c.args.spot ≡ true = sym c.lists_members.ensures ∙ c.if-lists_members.true in
+    view-Array c.append.new.self
+    ∙ ap (λ vs. array (items_view vs)) c.in_ok-append.ensures.items
+    ∙ ap array (join_appended entries added)
+    ∙ ap (λ x. array (join_items x (items_view added))) laid
+    ∙ ap (λ x. array (join_items (map_items over (items_below base)) x)) new
+    ∙ sym (lay_entries done c.args.spot own base is)
 
 pub push_new_entries-returns-in_err-room-clause-past : goal.push_new_entries-returns-in_err-room-clause-past
 push_new_entries-returns-in_err-room-clause-past t c =
-    let p = err_from_is_err_and c.from_residual.result c.from_residual.ensures.1 in
+    let p = err_from_is_err_and c.from_residual-in_err-room.result c.from_residual-in_err-room.ensures.1 in
     let l = c.loop-item in
+    let base : c.in_ok-index.index.entries.now.items ≡ c.args.base.now.items = ap (λ v. v.items) c.in_ok-index.ensures in
     let next = new_next (members_view c.args.aliases.now.entries) (items_view c.args.base.now.items) c.args.own.now.items l.item-index c.item-item.result (omega arith) (c.item-item.is ∙ ap (λ xs. get_or xs l.item-index c.item-item.result) c.deref-item-items.ensures.value) in
-    rw (p.1, p.2) (counted_past c.in_err-room.field-0.0 c.args.limit l.room _ _ _ _ l.invariant.left next c.in_err-room.ensures.past)
+    rw (p.1, p.2) (counted_past c.in_err-room.field-0.0 c.args.limit l.room _ _ _ _ l.invariant.left next (rw base at c.in_err-room.ensures.past))
 
 pub push_new_entries-loop-item-preserved : goal.push_new_entries-loop-item-preserved
 push_new_entries-loop-item-preserved t c =
     let l = c.loop-item in
+    let base : c.in_ok-index.index.entries.now.items ≡ c.args.base.now.items = ap (λ v. v.items) c.in_ok-index.ensures in
     let next = new_next (members_view c.args.aliases.now.entries) (items_view c.args.base.now.items) c.args.own.now.items l.item-index c.item-item.result (omega arith) (c.item-item.is ∙ ap (λ xs. get_or xs l.item-index c.item-item.result) c.deref-item-items.ensures.value) in
-    record { laid = grind (arith, common_steps); left = counted_more c.args.limit l.room c.in_ok-room.room _ _ _ _ l.invariant.left next c.in_ok-room.ensures.left }
+    record { laid = grind (arith, common_steps, base); left = counted_more c.args.limit l.room c.in_ok-room.room _ _ _ _ l.invariant.left next (rw base at c.in_ok-room.ensures.left) }
 
 pub lay_over_entries-returns-clause-within : goal.lay_over_entries-returns-clause-within
 lay_over_entries-returns-clause-within t c =
     let l = c.loop-entry in
     let over = λ (b : Data). lay_over (members_view c.args.aliases.now.entries) (items_view c.args.own.now.items) b in
-    let none : items_size (map_items over (items_view (drop l.entry-index c.args.base.now.items))) ≡ 0
-    = at_drop_all (λ v. items_size (map_items over (items_view v))) c.args.base.now.items l.entry-index (omega arith) in
+    let empty : into_iter_items l.entry-iterator ≡ [] = nothing_left _ (sym l.invariant.count ∙ c.in-None.ensures.steps.0) in
+    let none : items_size (map_items over (items_view (into_iter_items l.entry-iterator))) ≡ 0 = ap (λ vs. items_size (map_items over (items_view vs))) empty in
     let whole = leaves_within c.args.limit l.room _ (counted_all c.args.limit l.room _ (rw none at l.invariant.left)) in
     subst (λ x. Within c.args.limit (items_size x)) (sym (lay_over_entries-returns-clause-laid t c)) whole
 

@@ -1,4 +1,5 @@
-use Rattle.std.proofs.Common.{◌≡◌, ◌+◌, ◌*◌, take, drop, Option, map, List, ◌++◌}
+use Rattle.std.proofs.Common.{◌≡◌, ◌+◌, ◌*◌, drop, length, Option, List, ◌++◌}
+use Rattle.std.specs.Vec.Iter.{into_iter_items, into_iter_len}
 use Rattle.serde_json.specs.Data.{Data, Items, no_items}
 use Rattle.serde_json.specs.View.{view, items_view, members_view}
 use Rattle.serde_json.proofs.Views.{Entry}
@@ -57,23 +58,20 @@ abbrev pub invariant-lay_properties-loop-name : goal.invariant-lay_properties-lo
 invariant-lay_properties-loop-name l =
     (done : List Entry) × (l.members.entries ≡ l.name-iterator.iter ++ done) × (members_view l.laid.entries ≡ lay_members (members_view l.aliases.entries) l.spot (members_view done) (members_view l.fn.below.entries))
 
--- the items that are left are laid over the entry as all of them are
-abbrev pub invariant-lay_over-loop-item : goal.invariant-lay_over-loop-item
-invariant-lay_over-loop-item l =
-    lay_over (members_view l.aliases.entries) (items_view l.own.items) (view l.entry) ≡ lay_over (members_view l.aliases.entries) (items_view (drop l.item-index l.own.items)) (view l.entry)
-
--- the entries so far are those of the base so far, and the room is what they leave
+-- the entries so far, and what is left of the base laid over; the room is what those so far leave
 abbrev pub invariant-lay_over_entries-loop-entry : goal.invariant-lay_over_entries-loop-entry
 invariant-lay_over_entries-loop-entry l = record {
-  laid : map view l.entries.items ≡ map (λ b. lay_over (members_view l.aliases.entries) (items_view l.own.items) (view b)) (take l.entry-index l.base.items);
-  left : IsCounted l.fn.limit l.room (items_size (map_items (λ b. lay_over (members_view l.aliases.entries) (items_view l.own.items) b) (items_view l.base.items)))
-      (items_size (map_items (λ b. lay_over (members_view l.aliases.entries) (items_view l.own.items) b) (items_view (drop l.entry-index l.base.items))));
+  laid : join_items (items_view l.entries.items) (map_items (λ b. lay_over (members_view l.aliases.entries) (items_view l.own.items) b) (items_view (into_iter_items l.entry-iterator)))
+      ≡ map_items (λ b. lay_over (members_view l.aliases.entries) (items_view l.own.items) b) (items_view l.fn.base.items);
+  left : IsCounted l.fn.limit l.room (items_size (map_items (λ b. lay_over (members_view l.aliases.entries) (items_view l.own.items) b) (items_view l.fn.base.items)))
+      (items_size (map_items (λ b. lay_over (members_view l.aliases.entries) (items_view l.own.items) b) (items_view (into_iter_items l.entry-iterator))));
+  count : into_iter_len l.entry-iterator ≡ length (into_iter_items l.entry-iterator);
 }
 
 -- the properties that are left are laid over the entry as all of them are
 abbrev pub invariant-lay_over_entry-loop-name : goal.invariant-lay_over_entry-loop-name
 invariant-lay_over_entry-loop-name l =
-    (rest : Data) → lay_over_member (members_view l.aliases.entries) (members_view l.members.entries) (view l.entry) rest ≡ lay_over_member (members_view l.aliases.entries) (members_view l.name-iterator) (view l.entry) rest
+    lay_over_member (members_view l.aliases.entries) (members_view l.members.entries) (view l.entry) (view l.entry) ≡ lay_over_member (members_view l.aliases.entries) (members_view l.name-iterator) (view l.entry) (view l.entry)
 
 -- the entries so far, and the new ones of what is left; the room is what the new ones so far leave
 abbrev pub invariant-push_new_entries-loop-item : goal.invariant-push_new_entries-loop-item
@@ -86,8 +84,8 @@ invariant-push_new_entries-loop-item l = record {
 
 abbrev pub invariant-push_new_entry-loop-name : goal.invariant-push_new_entry-loop-name
 invariant-push_new_entry-loop-name l = record {
-  laid : (rest : Items) → join_items (items_view l.entries.items) (lay_new_member (members_view l.aliases.entries) (members_view l.name-iterator) (items_view l.base.items) rest)
-      ≡ join_items (items_view l.initial.entries.items) (lay_new_member (members_view l.aliases.entries) (members_view l.members.entries) (items_view l.base.items) rest);
-  left : IsCounted l.fn.limit l.room (items_size (lay_new_member (members_view l.aliases.entries) (members_view l.members.entries) (items_view l.base.items) no_items))
-      (items_size (lay_new_member (members_view l.aliases.entries) (members_view l.name-iterator) (items_view l.base.items) no_items));
+  laid : (rest : Items) → join_items (items_view l.entries.items) (lay_new_member (members_view l.aliases.entries) (members_view l.name-iterator) (items_view l.base.entries.now.items) rest)
+      ≡ join_items (items_view l.initial.entries.items) (lay_new_member (members_view l.aliases.entries) (members_view l.members.entries) (items_view l.base.entries.now.items) rest);
+  left : IsCounted l.fn.limit l.room (items_size (lay_new_member (members_view l.aliases.entries) (members_view l.members.entries) (items_view l.base.entries.now.items) no_items))
+      (items_size (lay_new_member (members_view l.aliases.entries) (members_view l.name-iterator) (items_view l.base.entries.now.items) no_items));
 }

@@ -40,12 +40,12 @@ invariant_of-result c =
       ordered = resolved_ascends (view c.args.value.now) (view c.in-Ok.value) c.requires.ordered sound.0;
     }
 
-pub returns-clause-first : goal.returns-clause-first
-returns-clause-first c =
+pub returns-in-Err-clause-first : goal.returns-in-Err-clause-first
+returns-in-Err-clause-first c =
     let is = resolution_is (view c.args.value.now) (members_view c.args.aliases.now.entries) (btree_map_len c.args.aliases.now) (outcomes_of c.in_ok-outcomes.outcomes) c.requires.own (members_len-members_view c.args.aliases.now.entries) c.in_ok-outcomes.ensures.settled in
     elim c.in-Err.ensures.first [ inl memory ↦ inl memory | inr flawed ↦ inr (is ∙ flawed) ]
 
-pub returns-clause-refused : goal.returns-clause-refused
-returns-clause-refused c =
+pub returns-in-Err-clause-refused : goal.returns-in-Err-clause-refused
+returns-in-Err-clause-refused c =
     let is = resolution_is (view c.args.value.now) (members_view c.args.aliases.now.entries) (btree_map_len c.args.aliases.now) (outcomes_of c.in_ok-outcomes.outcomes) c.requires.own (members_len-members_view c.args.aliases.now.entries) c.in_ok-outcomes.ensures.settled in
     elim c.in-Err.ensures.first [ inl memory ↦ inl memory | inr flawed ↦ inr (refusal_holds (view c.args.value.now) (flaw_of c.in-Err.fault) (subst NoClash c.requires.own c.in_ok-outcomes.ensures.apart) (is ∙ flawed)) ]

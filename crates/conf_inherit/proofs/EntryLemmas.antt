@@ -1,0 +1,308 @@
+-- What an index of entries answers is what a search of the entries answers.
+use Rattle.std.proofs.Common.{Bor, ◌≡◌, ◌+◌, ◌≤◌, ◌||◌, ℕ, suc, List, Option, Some, None, option_map, is_some, nat_lt, if◌then◌else◌, Bool, true, false, true≢false, refl, sym, ap, ◌∙◌, subst, arith}
+use Rattle.std.proofs.lemmas.Bool.Decides.{nat_tests}
+use Rattle.std.proofs.lemmas.Slice.Eq.{bytes_eq-Decides}
+use Rattle.std.specs.List.{IsAmong}
+use Rattle.std.specs.Map.{update}
+use Rattle.std.specs.Option.{option_or, IfSome}
+use Rattle.std.specs.Slice.{IsItemAt}
+use Rattle.std.specs.Str.{bytes_eq}
+use Rattle.serde_json.specs.Data.{Data, null, boolean, number, string, array, object, Items, no_items, item, Members, no_members, member}
+use Rattle.serde_json.specs.Find.{get, get_member, get_item}
+use Rattle.serde_json.specs.View.{view, items_view}
+use Rattle.serde_json.specs.declared.value.Value.{Value}
+use Rattle.serde_json.proofs.Views.{get_item_within, get_item_past}
+use Rattle.conf_inherit.specs.EntryIndex.{place_if, place_from, lower, lowest, lowest_of, lay_over_found}
+use Rattle.conf_inherit.specs.Laying.{has_entry, lay_over, lay_over_entry, lay_over_member}
+use Rattle.conf_inherit.proofs.InOrder.{get_first}
+use Rattle.conf_inherit.proofs.LayingLemmas.{Meets, same, other, meets, get_other, get_same}
+use Rattle.conf_inherit.proofs.ItemLemmas.{differs}
+
+none_of : (o : Option ℕ) → is_some o ≡ false → o ≡ None
+none_of None h = refl
+none_of (Some x) h = absurd (true≢false h)
+
+-- ---- the first place of a name
+
+pub has_place : (i : ℕ) (n : List ℕ) (es : Items) → is_some (place_from i n es) ≡ has_entry n es
+has_place i n no_items = refl
+has_place i n (item e es) = go (is_some (get n e)) refl (has_place (suc i) n es)
+  where
+    go : (t : Bool) → is_some (get n e) ≡ t → is_some (place_from (suc i) n es) ≡ has_entry n es → is_some (place_from i n (item e es)) ≡ has_entry n (item e es)
+    go true is rest = rw is refl
+    go false is rest = rw is rest
+
+-- what is noted before comes first
+pub or_later : (a b c : Option ℕ) → option_or (option_or a b) c ≡ option_or a (option_or b c)
+or_later None b c = refl
+or_later (Some i) b c = refl
+
+-- the first place is the next entry's, or else a later one
+pub next_place : (i : ℕ) (n : List ℕ) (e : Data) (es : Items) → place_from i n (item e es) ≡ option_or (place_if n e i) (place_from (suc i) n es)
+next_place i n e es = go (is_some (get n e)) refl
+  where
+    go : (t : Bool) → is_some (get n e) ≡ t → place_from i n (item e es) ≡ option_or (place_if n e i) (place_from (suc i) n es)
+    go true is = rw is refl
+    go false is = rw is refl
+
+-- what is noted at a name that had no place
+pub noted_new : (old new : List ℕ → Option ℕ) (k : List ℕ) (place : ℕ) (d : Data) (ms : Members) → ((n : List ℕ) → new n ≡ update bytes_eq old k (Some place) n) → is_some (old k) ≡ false
+    → (n : List ℕ) → option_or (new n) (place_if n (object ms) place) ≡ option_or (old n) (place_if n (object (member k d ms)) place)
+noted_new old new k place d ms put fresh n = go (meets n k)
+  where
+    go : Meets n k → option_or (new n) (place_if n (object ms) place) ≡ option_or (old n) (place_if n (object (member k d ms)) place)
+    go (same e) =
+        let eq : bytes_eq k n ≡ true = (bytes_eq-Decides k n).1 (sym e) in
+        let made : new n ≡ Some place = put n ∙ rw eq refl in
+        let none : old n ≡ None = none_of (old n) (ap (λ x. is_some (old x)) e ∙ fresh) in
+        let found : place_if n (object (member k d ms)) place ≡ Some place = let f = get_same n k d ms e in rw f refl in
+        rw (made, none, found) refl
+    go (other apart) =
+        let eq : bytes_eq k n ≡ false = differs k n (λ e. apart (sym e)) (bytes_eq k n) refl in
+        let kept : new n ≡ old n = put n ∙ rw eq refl in
+        ap (λ o. option_or o (place_if n (object ms) place)) kept ∙ ap (λ o. option_or (old n) (if is_some o then Some place else None)) (sym (get_other n k d ms apart))
+
+-- a name that had a place keeps it
+pub noted_old : (old : List ℕ → Option ℕ) (k : List ℕ) (place : ℕ) (d : Data) (ms : Members) → is_some (old k) ≡ true
+    → (n : List ℕ) → option_or (old n) (place_if n (object ms) place) ≡ option_or (old n) (place_if n (object (member k d ms)) place)
+noted_old old k place d ms there n = go (meets n k)
+  where
+    kept : (o a b : Option ℕ) → is_some o ≡ true → option_or o a ≡ option_or o b
+    kept None a b h = absurd (true≢false (sym h))
+    kept (Some p) a b h = refl
+
+    go : Meets n k → option_or (old n) (place_if n (object ms) place) ≡ option_or (old n) (place_if n (object (member k d ms)) place)
+    go (same e) = kept (old n) _ _ (ap (λ x. is_some (old x)) e ∙ there)
+    go (other apart) = ap (λ o. option_or (old n) (if is_some o then Some place else None)) (sym (get_other n k d ms apart))
+
+abbrev AtLeast : ℕ → Option ℕ → Type 0
+AtLeast i None = Unit {0}
+AtLeast i (Some p) = i ≤ p
+
+sooner : (i : ℕ) (o : Option ℕ) → AtLeast (suc i) o → AtLeast i o
+sooner i None h = tt
+sooner i (Some p) h = omega arith
+
+place_at_least : (i : ℕ) (n : List ℕ) (es : Items) → AtLeast i (place_from i n es)
+place_at_least i n no_items = tt
+place_at_least i n (item e es) = go (is_some (get n e)) refl (sooner i (place_from (suc i) n es) (place_at_least (suc i) n es))
+  where
+    go : (t : Bool) → is_some (get n e) ≡ t → AtLeast i (place_from (suc i) n es) → AtLeast i (place_from i n (item e es))
+    go true is rest = rw is (let e : i ≤ i = omega arith in e)
+    go false is rest = rw is rest
+
+-- ---- the lowest place of some names
+
+not_before : (i j : ℕ) → i ≤ j → nat_lt j i ≡ false
+not_before i j h = grind (arith, nat_tests)
+
+is_before : (i j : ℕ) → suc i ≤ j → nat_lt i j ≡ true
+is_before i j h = grind (arith, nat_tests)
+
+lower_at_least : (i : ℕ) (o q : Option ℕ) → AtLeast i o → AtLeast i q → AtLeast i (lower o q)
+lower_at_least i None q a b = b
+lower_at_least i (Some p) None a b = a
+lower_at_least i (Some p) (Some r) a b = go (nat_lt r p) refl
+  where
+    go : (t : Bool) → nat_lt r p ≡ t → AtLeast i (lower (Some p) (Some r))
+    go true is = rw is b
+    go false is = rw is a
+
+lowest_at_least : (i : ℕ) (f : List ℕ → Option ℕ) (ms : Members) → ((n : List ℕ) → AtLeast i (f n)) → AtLeast i (lowest f ms)
+lowest_at_least i f no_members h = tt
+lowest_at_least i f (member n d ms) h = lower_at_least i (f n) (lowest f ms) (h n) (lowest_at_least i f ms h)
+
+lower_first : (i : ℕ) (q : Option ℕ) → AtLeast i q → lower (Some i) q ≡ Some i
+lower_first i None h = refl
+lower_first i (Some j) h = rw (not_before i j h) refl
+
+lower_second : (i : ℕ) (o q : Option ℕ) → AtLeast (suc i) o → q ≡ Some i → lower o q ≡ Some i
+lower_second i None q h e = e
+lower_second i (Some p) q h e = rw (e, is_before i p h) refl
+
+-- the lower of three places
+pub lower_later : (a b c : Option ℕ) → lower (lower a b) c ≡ lower a (lower b c)
+lower_later None b c = refl
+lower_later (Some i) None c = refl
+lower_later (Some i) (Some j) None = go (nat_lt j i) refl
+  where
+    go : (t : Bool) → nat_lt j i ≡ t → lower (lower (Some i) (Some j)) None ≡ lower (Some i) (lower (Some j) None)
+    go true is = rw is refl
+    go false is = rw is refl
+lower_later (Some i) (Some j) (Some k) = go (nat_lt j i) refl (nat_lt k j) refl (nat_lt k i) refl
+  where
+    go : (t : Bool) → nat_lt j i ≡ t → (u : Bool) → nat_lt k j ≡ u → (w : Bool) → nat_lt k i ≡ w → lower (lower (Some i) (Some j)) (Some k) ≡ lower (Some i) (lower (Some j) (Some k))
+    go true a true b true c = rw (a, b, c) refl
+    go true a true b false c = absurd (let bad : ⊥ = grind (arith, nat_tests, a, b, c) in bad)
+    go true a false b w c = rw (a, b, a) refl
+    go false a true b w c = rw (a, b) refl
+    go false a false b true c = absurd (let bad : ⊥ = grind (arith, nat_tests, a, b, c) in bad)
+    go false a false b false c = rw (a, b, c, a) refl
+
+-- names that have the same places have the same lowest one
+pub same_lowest : (f g : List ℕ → Option ℕ) → ((n : List ℕ) → f n ≡ g n) → (d : Data) → lowest_of f d ≡ lowest_of g d
+same_lowest f g h null = refl
+same_lowest f g h (boolean b) = refl
+same_lowest f g h (number n) = refl
+same_lowest f g h (string s) = refl
+same_lowest f g h (array ds) = refl
+same_lowest f g h (object ms) = go ms
+  where
+    go : (ms : Members) → lowest f ms ≡ lowest g ms
+    go no_members = refl
+    go (member n d ms) = ap (λ o. lower o (lowest f ms)) (h n) ∙ ap (lower (g n)) (go ms)
+
+-- ---- an entry that has one of the names, and one that has none
+
+-- one of the names is that of a property of the value
+abbrev shares : Members → Data → Bool
+shares no_members e = false
+shares (member n d ms) e = is_some (get n e) || shares ms e
+
+lowest_later : (i : ℕ) (e : Data) (es : Items) (ms : Members) → shares ms e ≡ false → lowest (λ n. place_from i n (item e es)) ms ≡ lowest (λ n. place_from (suc i) n es) ms
+lowest_later i e es no_members h = refl
+lowest_later i e es (member n d ms) h = go (is_some (get n e)) refl (lowest_later i e es ms)
+  where
+    go : (t : Bool) → is_some (get n e) ≡ t → (shares ms e ≡ false → lowest (λ n. place_from i n (item e es)) ms ≡ lowest (λ n. place_from (suc i) n es) ms)
+        → lowest (λ n. place_from i n (item e es)) (member n d ms) ≡ lowest (λ n. place_from (suc i) n es) (member n d ms)
+    go true is rest = absurd (true≢false (rw is at h))
+    go false is rest = rw is (ap (lower (place_from (suc i) n es)) (rest (rw is at h)))
+
+lowest_here : (i : ℕ) (e : Data) (es : Items) (ms : Members) → shares ms e ≡ true → lowest (λ n. place_from i n (item e es)) ms ≡ Some i
+lowest_here i e es no_members h = absurd (true≢false (sym h))
+lowest_here i e es (member n d ms) h = go (is_some (get n e)) refl (lowest_here i e es ms)
+  where
+    least : AtLeast i (lowest (λ n. place_from i n (item e es)) ms)
+    least = lowest_at_least i (λ n. place_from i n (item e es)) ms (λ n. place_at_least i n (item e es))
+
+    go : (t : Bool) → is_some (get n e) ≡ t → (shares ms e ≡ true → lowest (λ n. place_from i n (item e es)) ms ≡ Some i) → lowest (λ n. place_from i n (item e es)) (member n d ms) ≡ Some i
+    go true is rest = rw is (lower_first i _ least)
+    go false is rest = rw is (lower_second i (place_from (suc i) n es) _ (place_at_least (suc i) n es) (rest (rw is at h)))
+
+unshared : (n : List ℕ) (bs : Members) (e : Data) → shares bs e ≡ false → is_some (get n e) ≡ true → get_member n bs ≡ None
+unshared n no_members e h is = refl
+unshared n (member l d bs) e h is = go (is_some (get l e)) refl (unshared n bs e) (meets n l)
+  where
+    go : (t : Bool) → is_some (get l e) ≡ t → (shares bs e ≡ false → is_some (get n e) ≡ true → get_member n bs ≡ None) → Meets n l → get_member n (member l d bs) ≡ None
+    go true at rest m = absurd (true≢false (rw at at h))
+    go false at rest (same x) = absurd (true≢false (sym is ∙ ap (λ k. is_some (get k e)) x ∙ at))
+    go false at rest (other apart) = get_other n l d bs apart ∙ rest (rw at at h) is
+
+still_there : (n l : List ℕ) (d : Data) (ms : Members) → is_some (get_member n ms) ≡ true → is_some (get_member n (member l d ms)) ≡ true
+still_there n l d ms h = go (meets n l)
+  where
+    go : Meets n l → is_some (get_member n (member l d ms)) ≡ true
+    go (same x) = ap is_some (get_same n l d ms x)
+    go (other apart) = ap is_some (get_other n l d ms apart) ∙ h
+
+-- where no name is shared, what comes later is laid
+passed_members : (done bs : Members) (e : Data) (ms : Members) (rest : Data) → shares bs e ≡ false → ((n : List ℕ) → is_some (get_member n ms) ≡ true → is_some (get n e) ≡ true)
+    → lay_over_member done ms (object bs) rest ≡ rest
+passed_members done bs e no_members rest h inc = refl
+passed_members done bs e (member n d ms) rest h inc =
+    let none : is_some (get_member n bs) ≡ false = ap is_some (unshared n bs e h (inc n (ap is_some (get_first n d ms)))) in
+    rw none (passed_members done bs e ms rest h (λ m x. inc m (still_there m n d ms x)))
+
+passed : (done bs : Members) (e rest : Data) → shares bs e ≡ false → lay_over_entry done e (object bs) rest ≡ rest
+passed done bs null rest h = refl
+passed done bs (boolean b) rest h = refl
+passed done bs (number n) rest h = refl
+passed done bs (string s) rest h = refl
+passed done bs (array ds) rest h = refl
+passed done bs (object ms) rest h = passed_members done bs (object ms) ms rest h (λ n x. x)
+
+none_shared : (e : Data) → ((n : List ℕ) → get n e ≡ None) → (bs : Members) → shares bs e ≡ false
+none_shared e none no_members = refl
+none_shared e none (member n d bs) = let f : is_some (get n e) ≡ false = ap is_some (none n) in rw f (none_shared e none bs)
+
+shared_later : (n : List ℕ) (d : Data) (ms bs : Members) → get_member n bs ≡ None → shares bs (object (member n d ms)) ≡ shares bs (object ms)
+shared_later n d ms no_members h = refl
+shared_later n d ms (member l x bs) h = go (meets n l) (shared_later n d ms bs)
+  where
+    go : Meets n l → (get_member n bs ≡ None → shares bs (object (member n d ms)) ≡ shares bs (object ms)) → shares (member l x bs) (object (member n d ms)) ≡ shares (member l x bs) (object ms)
+    go (same e) rest = absurd (let f : Some x ≡ None = sym (get_same n l x bs e) ∙ h in cc)
+    go (other apart) rest =
+        ap (λ o. is_some o || shares bs (object (member n d ms))) (get_other l n d ms (λ e. apart (sym e)))
+        ∙ ap (λ t. is_some (get_member l ms) || t) (rest (sym (get_other n l x bs apart) ∙ h))
+
+-- where a name is shared, it does not matter what comes later
+decided_members : (done bs ms : Members) (rest last : Data) → shares bs (object ms) ≡ true → lay_over_member done ms (object bs) rest ≡ lay_over_member done ms (object bs) last
+decided_members done bs no_members rest last h = absurd (true≢false (sym h ∙ none_shared (object no_members) (λ n. refl) bs))
+decided_members done bs (member n d ms) rest last h = go (get_member n bs) refl (decided_members done bs ms rest last)
+  where
+    go : (o : Option Data) → get_member n bs ≡ o → (shares bs (object ms) ≡ true → lay_over_member done ms (object bs) rest ≡ lay_over_member done ms (object bs) last)
+        → lay_over_member done (member n d ms) (object bs) rest ≡ lay_over_member done (member n d ms) (object bs) last
+    go (Some x) is more = rw is refl
+    go None is more = rw is (more (sym (shared_later n d ms bs is) ∙ h))
+
+decided : (done bs : Members) (e rest last : Data) → shares bs e ≡ true → lay_over_entry done e (object bs) rest ≡ lay_over_entry done e (object bs) last
+decided done bs null rest last h = absurd (true≢false (sym h ∙ none_shared null (λ n. refl) bs))
+decided done bs (boolean b) rest last h = absurd (true≢false (sym h ∙ none_shared (boolean b) (λ n. refl) bs))
+decided done bs (number n) rest last h = absurd (true≢false (sym h ∙ none_shared (number n) (λ m. refl) bs))
+decided done bs (string s) rest last h = absurd (true≢false (sym h ∙ none_shared (string s) (λ n. refl) bs))
+decided done bs (array ds) rest last h = absurd (true≢false (sym h ∙ none_shared (array ds) (λ n. refl) bs))
+decided done bs (object ms) rest last h = decided_members done bs ms rest last h
+
+-- ---- the entry at the lowest place of a value's names is the one that is laid over it
+
+-- the entry at the place, if there is one, is laid over the value, and else the value stays
+abbrev pub Finds : ℕ → Items → Data → Option ℕ → Type 0
+Finds i es b None = (done : Members) → lay_over done es b ≡ b
+Finds i es b (Some p) = (k : ℕ) × (e : Data) × (p ≡ i + k) × (get_item k es ≡ Some e) × ((done : Members) → lay_over done es b ≡ lay_over_entry done e b b)
+
+finds_later : (i : ℕ) (e : Data) (es : Items) (bs : Members) → shares bs e ≡ false → (o : Option ℕ) → Finds (suc i) es (object bs) o → Finds i (item e es) (object bs) o
+finds_later i e es bs is None h = λ done. passed done bs e (lay_over done es (object bs)) is ∙ h done
+finds_later i e es bs is (Some p) (k, x, sum, at, laid) = (suc k, x, omega arith, at, λ done. passed done bs e (lay_over done es (object bs)) is ∙ laid done)
+
+none_low : (i : ℕ) (bs : Members) → lowest (λ n. place_from i n no_items) bs ≡ None
+none_low i no_members = refl
+none_low i (member n d bs) = none_low i bs
+
+finds_object : (i : ℕ) (es : Items) (bs : Members) → Finds i es (object bs) (lowest (λ n. place_from i n es) bs)
+finds_object i no_items bs = subst (Finds i no_items (object bs)) (sym (none_low i bs)) (λ done. refl)
+finds_object i (item e es) bs = go (shares bs e) refl (finds_object (suc i) es bs)
+  where
+    go : (t : Bool) → shares bs e ≡ t → Finds (suc i) es (object bs) (lowest (λ n. place_from (suc i) n es) bs) → Finds i (item e es) (object bs) (lowest (λ n. place_from i n (item e es)) bs)
+    go true is later = subst (Finds i (item e es) (object bs)) (sym (lowest_here i e es bs is)) (0, e, omega arith, refl, λ done. decided done bs e (lay_over done es (object bs)) (object bs) is)
+    go false is later = subst (Finds i (item e es) (object bs)) (sym (lowest_later i e es bs is)) (finds_later i e es bs is _ later)
+
+plain_members : (done ms : Members) (b rest : Data) → ((n : List ℕ) → get n b ≡ None) → lay_over_member done ms b rest ≡ rest
+plain_members done no_members b rest none = refl
+plain_members done (member n d ms) b rest none = let f : is_some (get n b) ≡ false = ap is_some (none n) in rw f (plain_members done ms b rest none)
+
+plain_entry : (done : Members) (e b rest : Data) → ((n : List ℕ) → get n b ≡ None) → lay_over_entry done e b rest ≡ rest
+plain_entry done null b rest none = refl
+plain_entry done (boolean x) b rest none = refl
+plain_entry done (number n) b rest none = refl
+plain_entry done (string s) b rest none = refl
+plain_entry done (array ds) b rest none = refl
+plain_entry done (object ms) b rest none = plain_members done ms b rest none
+
+plain_over : (done : Members) (es : Items) (b : Data) → ((n : List ℕ) → get n b ≡ None) → lay_over done es b ≡ b
+plain_over done no_items b none = refl
+plain_over done (item e es) b none = plain_entry done e b (lay_over done es b) none ∙ plain_over done es b none
+
+pub finds : (es : Items) (b : Data) → Finds 0 es b (lowest_of (λ n. place_from 0 n es) b)
+finds es null = λ done. plain_over done es null (λ n. refl)
+finds es (boolean x) = λ done. plain_over done es (boolean x) (λ n. refl)
+finds es (number n) = λ done. plain_over done es (number n) (λ m. refl)
+finds es (string s) = λ done. plain_over done es (string s) (λ n. refl)
+finds es (array ds) = λ done. plain_over done es (array ds) (λ n. refl)
+finds es (object bs) = finds_object 0 es bs
+
+-- the item at a place, as data
+item_at : (vs : List Value) (p : ℕ) (r : Option (Bor Value)) → IsItemAt vs p r → option_map (λ x. view x.now) r ≡ get_item p (items_view vs)
+item_at vs p None h = get_item_past vs p h.3
+item_at vs p (Some x) h = ap (λ v. Some (view v)) h.1 ∙ get_item_within vs p x.now h.3.0
+
+-- the item that is found is the one that is laid over the value
+pub found_first : (vs : List Value) (b : Data) (p : ℕ) (r : Option (Bor Value)) → Finds 0 (items_view vs) b (Some p) → IsItemAt vs p r
+    → (done : Members) → lay_over done (items_view vs) b ≡ lay_over_found done (option_map (λ e. view e.now) r) b
+found_first vs b p r (k, e, sum, at, laid) h done =
+    let one : option_map (λ x. view x.now) r ≡ Some e = item_at vs p r h ∙ ap (λ i. get_item i (items_view vs)) (let same : p ≡ k = omega arith in same) ∙ at in
+    laid done ∙ ap (λ o. lay_over_found done o b) (sym one)
+
+-- it is one of the items
+pub among_items : (vs : List Value) (p : ℕ) (r : Option (Bor Value)) → IsItemAt vs p r → IfSome r (λ x. IsAmong vs x.now)
+among_items vs p None h = tt
+among_items vs p (Some x) h = (p, (h.3.0, h.1))

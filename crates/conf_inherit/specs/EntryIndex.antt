@@ -1,0 +1,42 @@
+-- The entries of a members list by their names.
+use Rattle.std.specs.Prelude.{◌≡◌, ℕ, suc, List, Option, None, Some, is_some, nat_lt, if◌then◌else◌}
+use Rattle.std.specs.BTreeMap.{BTreeMap, get_by_text}
+use Rattle.std.specs.declared.alloc.Global.{Global}
+use Rattle.std.specs.declared.string.String.{String}
+use Rattle.serde_json.specs.Data.{Data, object, Items, no_items, item, Members, no_members, member}
+use Rattle.serde_json.specs.Find.{get}
+use Rattle.conf_inherit.specs.Laying.{lay_over_entry}
+
+-- the place, if a value has the name
+abbrev pub place_if : List ℕ → Data → ℕ → Option ℕ
+place_if n e place = if is_some (get n e) then Some place else None
+
+-- the place of the first entry with the name, where the first of all has the place i
+abbrev pub place_from : ℕ → List ℕ → Items → Option ℕ
+place_from i n no_items = None
+place_from i n (item e es) = if is_some (get n e) then Some i else place_from (suc i) n es
+
+-- an index has the place of the first entry of each name
+abbrev pub HasPlaces : BTreeMap (String Global) ℕ → Items → Type 0
+HasPlaces places es = (n : List ℕ) → get_by_text places n ≡ place_from 0 n es
+
+-- the lower of two places, where there are any
+abbrev pub lower : Option ℕ → Option ℕ → Option ℕ
+lower None q = q
+lower (Some i) None = Some i
+lower (Some i) (Some j) = if nat_lt j i then Some j else Some i
+
+-- the lowest place of some names
+abbrev pub lowest : (List ℕ → Option ℕ) → Members → Option ℕ
+lowest f no_members = None
+lowest f (member n d ms) = lower (f n) (lowest f ms)
+
+-- the lowest place of a value's names
+abbrev pub lowest_of : (List ℕ → Option ℕ) → Data → Option ℕ
+lowest_of f (object ms) = lowest f ms
+lowest_of f _ = None
+
+-- a value, with the entry that was found for it over it
+abbrev pub lay_over_found : Members → Option Data → Data → Data
+lay_over_found done None b = b
+lay_over_found done (Some e) b = lay_over_entry done e b b

@@ -1,0 +1,114 @@
+//! The entries of a members list by their names.
+ghost use Rattle.std.specs.Prelude.{◌≡◌, ℕ, List, IfOk, IfSome, OnOk, option_map};
+ghost use Rattle.std.specs.List.{IsAmong};
+ghost use Rattle.std.specs.Option.{option_or};
+ghost use Rattle.std.specs.BTreeMap.{get_by_text};
+ghost use Rattle.serde_json.specs.Data.{Members, object};
+ghost use Rattle.serde_json.specs.View.{view, items_view, members_view};
+ghost use Rattle.conf_inherit.specs.EntryIndex.{HasPlaces, place_if, lower, lowest, lowest_of, lay_over_found};
+ghost use Rattle.conf_inherit.specs.Laying.{has_entry, lay_over};
+
+use serde_json::{Map, Value};
+use std::alloc::{AllocError, Global};
+use std::collections::BTreeMap;
+
+/// The entries of a members list, with the place of the first one of each name.
+#[derive(Drop)]
+pub(crate) struct EntryIndex<'a> {
+    entries: &'a Vec<Value>,
+    places: BTreeMap<String, usize>,
+    ghost placed: { HasPlaces places (items_view entries.now.items) },
+}
+
+impl<'a> EntryIndex<'a> {
+    /// The entries by their names.
+    pub(crate) fn of(alloc: Global, entries: &'a Vec<Value>) -> Result<EntryIndex<'a>, AllocError>
+        ensures { IfOk result (λ made. made.entries.now ≡ entries.now) }
+    {
+        let mut places = BTreeMap::new(alloc);
+        for (place, entry) in entries.iter().enumerate() {
+            note(entry, place, &mut places)?;
+        }
+        Ok(EntryIndex { entries, places })
+    }
+
+    /// Whether there is an entry of the name.
+    pub(crate) fn has(&self, name: &str) -> bool
+        ensures { result ≡ has_entry name.now (items_view self.now.entries.now.items) }
+    {
+        self.places.contains_key(name)
+    }
+
+    /// The first entry with a name that a value has, which is the one that is laid over it.
+    pub(crate) fn first_over(&self, value: &Value) -> Option<&Value>
+        ensures found { (done : Members) → lay_over done (items_view self.now.entries.now.items) (view value.now)
+            ≡ lay_over_found done (option_map (λ e. view e.now) result) (view value.now) }
+        ensures among { IfSome result (λ e. IsAmong self.now.entries.now.items e.now) }
+    {
+        match lowest_place(&self.places, value) {
+            Some(place) => self.entries.as_slice().get(place),
+            None => None,
+        }
+    }
+}
+
+/// Notes the place of an entry at its names, if they have none.
+fn note(entry: &Value, place: usize, places: &mut BTreeMap<String, usize>) -> Result<(), AllocError>
+    ensures { OnOk result ((n : List ℕ) → get_by_text places.new n ≡ option_or (get_by_text places.old n) (place_if n (view entry.now) place)) }
+{
+    match entry {
+        Value::Object(members) => note_names(members, place, places),
+        _ => Ok(()),
+    }
+}
+
+fn note_names(
+    members: &Map<String, Value>,
+    place: usize,
+    places: &mut BTreeMap<String, usize>,
+) -> Result<(), AllocError>
+    ensures { OnOk result ((n : List ℕ) → get_by_text places.new n ≡ option_or (get_by_text places.old n) (place_if n (object (members_view members.now.entries)) place)) }
+{
+    for (name, _value) in members.iter() {
+        if !places.contains_key(name.as_str()) {
+            drop(places.insert(name.clone()?, place)?);
+        }
+    }
+    Ok(())
+}
+
+/// The lowest place that a name of the value has.
+fn lowest_place(places: &BTreeMap<String, usize>, value: &Value) -> Option<usize>
+    ensures { result ≡ lowest_of (λ n. get_by_text places.now n) (view value.now) }
+{
+    match value {
+        Value::Object(members) => lowest_among(places, members),
+        _ => None,
+    }
+}
+
+fn lowest_among(places: &BTreeMap<String, usize>, members: &Map<String, Value>) -> Option<usize>
+    ensures { result ≡ lowest (λ n. get_by_text places.now n) (members_view members.now.entries) }
+{
+    let mut lowest = None;
+    for (name, _value) in members.iter() {
+        lowest = lower(lowest, places.get(name.as_str()));
+    }
+    lowest
+}
+
+/// The lower of two places, where there are any.
+fn lower(place: Option<usize>, other: Option<&usize>) -> Option<usize>
+    ensures { result ≡ lower place (option_map (λ p. p.now) other.entry) }
+{
+    match (place, other) {
+        (Some(first), Some(second)) => {
+            if *second < first {
+                return Some(*second);
+            }
+            Some(first)
+        }
+        (None, Some(second)) => Some(*second),
+        (_, None) => place,
+    }
+}
