@@ -9,10 +9,10 @@ use Rattle.conf_tree.specs.Walk.{IsTreeOf}
 use Rattle.conf_inherit.specs.Faults.{RefusalHolds}
 use Rattle.conf_inherit.specs.Resolution.{aliases_of, resolution, Resolves}
 use Rattle.conf_objects.specs.declared.draft.Draft.{Draft}
+use Rattle.conf_objects.specs.Limits.{root}
 use Rattle.conf_objects.specs.Trace.{draft_reading}
 use Rattle.conf_objects.specs.TraceRows.{IsRootObject}
 use Rattle.conf_check.specs.Configuration.{IsNoConfiguration, HasNoFault}
-use Rattle.conf_objects.specs.Limits.{root}
 use Rattle.conf_check.specs.ConfigurationRows.{IsConfigurationOf}
 use Rattle.conf_check.specs.WholeFlaws.{BreaksRule}
 use Rattle.conf_values.proofs.Steps.{same_value}
