@@ -1,5 +1,5 @@
 -- The attributes, scopes and entries of blocks in another order.
-use Rattle.std.proofs.Common.{◌≡◌, ℕ, suc, Bool, true, false, not, cond, ◌&&◌, ◌||◌, List, [], ◌∷◌, ◌++◌, map, length, Option, Some, None, refl, sym, ap, ap₂, subst, ◌∙◌}
+use Rattle.std.proofs.Common.{◌≡◌, ℕ, suc, Bool, true, false, not, cond, ◌&&◌, ◌||◌, List, [], ◌∷◌, ◌++◌, map, length, Option, Some, refl, sym, ap, ap₂, subst, ◌∙◌}
 use Rattle.std.specs.Prelude.{pos, codes, nat_le}
 use Rattle.std.specs.List.{list_any, list_all, flat_map}
 use Rattle.std.specs.Str.{bytes_eq}
@@ -10,7 +10,6 @@ use Rattle.ctf_types.specs.declared.ClockType.{ClockType}
 use Rattle.ctf_types.specs.declared.EnvironmentEntry.{EnvironmentEntry}
 use Rattle.ctf_types.specs.declared.Stream.{Stream}
 use Rattle.ctf_types.specs.declared.Event.{Event}
-use Rattle.ctf_types.specs.declared.StructType.{StructType}
 use Rattle.ctf_types.specs.declared.Metadata.{Metadata}
 use Rattle.tsdl_grammar.specs.declared.tree.Value.{Value}
 use Rattle.tsdl_grammar.specs.declared.tree.Attribute.{Attribute}
@@ -23,8 +22,8 @@ use Rattle.tsdl_grammar.specs.Steps.{◌>>=◌, provided, only, at_most_one, eac
 use Rattle.tsdl_grammar.specs.Lookups.{words_of, same_words, is_word, is_among, no_two, are_distinct, attr, attr_names, attr_in, attrs_in, scope, scope_in, scopes_in, has_parts}
 use Rattle.tsdl_grammar.specs.AttributeValues.{natural_value, whole_value, text_value, name_value, flag_value, uuid_value, with_default, optional}
 use Rattle.tsdl_grammar.specs.IntegerMeaning.{Known}
-use Rattle.tsdl_grammar.specs.StructureMeaning.{structure_of, scope_meaning, has_member}
-use Rattle.tsdl_grammar.specs.BlockMeaning.{number_or_zero, packet_header, has_number, is_trace, trace_order, trace_uuid, header_meaning, suits_header, clock_meaning, packet_context, event_header, event_context, context_names, suits, stream_meaning, specific_context, fields_scope, event_meaning, named_fact_meaning, environment_meaning}
+use Rattle.tsdl_grammar.specs.StructureMeaning.{scope_meaning, has_member}
+use Rattle.tsdl_grammar.specs.BlockMeaning.{number_or_zero, packet_header, has_number, is_trace, trace_order, trace_uuid, header_meaning, clock_meaning, packet_context, event_header, event_context, context_names, suits, stream_meaning, specific_context, fields_scope, event_meaning, named_fact_meaning, environment_meaning}
 use Rattle.tsdl_grammar.specs.Denotes.{text_meta, trace_in, stream_in, event_in, clock_in, environment_in, known_of, streams_meaning}
 use Rattle.tsdl_grammar.specs.Laws.{SaysMetadata}
 use Rattle.tsdl_grammar.specs.Orders.{Reordered, same, neighbours, behind, further, SameItems, traces, streams, events, clocks, environments, Paired, none, more, SameButEnvironmentOrder}

@@ -7,7 +7,7 @@ use Rattle.tsdl_grammar.specs.declared.piece.Piece.{Piece}
 use Rattle.tsdl_grammar.specs.declared.piece.Piece.TheVariants as pieces
 use Rattle.tsdl_grammar.specs.declared.piece.Cut.{Cut}
 use Rattle.tsdl_grammar.specs.Pieces.{piece_at}
-use Rattle.tsdl_grammar.specs.Tokens.{Splits, token_of, tokens_from, Rises, Stuck, StopsAt, Tokenizes}
+use Rattle.tsdl_grammar.specs.Tokens.{Splits, token_of, tokens_from, Rises, Stuck, StopsAt, Tokenizes, HasTokens}
 
 -- the bytes of some pieces
 abbrev pub lens : List Cut → ℕ
@@ -97,3 +97,30 @@ no_stop text rest (c ∷ xs) [] s t k = let e : piece_at text ≡ None = ap piec
 no_stop text rest (c ∷ xs) (d ∷ ys) s t k =
     let same = same_piece (piece_at text) c d s.0 t.0 in
     no_stop (drop c.len text) rest xs ys s.1 (subst (λ (x : Cut). Splits (drop x.len text) ys rest) (sym same) t.1) k
+
+-- a text that has tokens is cut up to its end where no more piece begins
+pub has_ended : (text rest : List ℕ) (at : ℕ) (found : List Token) → Progress text rest at found → HasTokens text → piece_at rest ≡ None → Tokenizes text found × Rises 0 found (length text)
+has_ended text [] at found p has none = is_done text at found p
+has_ended text (b ∷ rest) at found p has none = absurd (no_stop text (b ∷ rest) has.1.0 p.cuts has.1.1 p.splits ((λ e. absurd cc), none))
+
+-- the pieces of a whole text go on from where it is cut
+goes_through : (text rest : List ℕ) (xs ys : List Cut) → Splits text xs [] → Splits text ys rest → (zs : List Cut) × Splits rest zs [] × (xs ≡ ys ++ zs)
+goes_through text rest xs [] s t = (xs, subst (λ (l : List ℕ). Splits l xs []) t s, refl)
+goes_through text rest [] (d ∷ ys) s t = absurd (let e : piece_at text ≡ None = ap piece_at s ∙ nothing_at_the_end in let f = t.0 in cc)
+goes_through text rest (c ∷ xs) (d ∷ ys) s t =
+    let same = same_piece (piece_at text) c d s.0 t.0 in
+    let more = goes_through (drop c.len text) rest xs ys s.1 (subst (λ (x : Cut). Splits (drop x.len text) ys rest) (sym same) t.1) in
+    (more.0, more.1, ap (λ (zs : List Cut). c ∷ zs) more.2 ∙ ap (λ (x : Cut). x ∷ (ys ++ more.0)) same)
+
+tokens_from-append : (at : ℕ) (cuts more : List Cut) → tokens_from at (cuts ++ more) ≡ tokens_from at cuts ++ tokens_from (at + lens cuts) more
+tokens_from-append at [] more = let e : at + 0 ≡ at = omega arith in rw e refl
+tokens_from-append at (c ∷ cuts) more =
+    let e : at + c.len + lens cuts ≡ at + (c.len + lens cuts) = omega arith in
+    let t = token_of c.piece (span at (at + c.len)) in
+    ap (λ (ts : List Token). t ++ ts) (tokens_from-append (at + c.len) cuts more ∙ rw e refl) ∙ sym (append_assoc t (tokens_from (at + c.len) cuts) (tokens_from (at + (c.len + lens cuts)) more))
+
+-- the tokens of a text that is cut up to its rest are those that were found, and then the rest's
+pub found_first : (text rest : List ℕ) (at : ℕ) (found ts : List Token) → Progress text rest at found → Tokenizes text ts → (zs : List Cut) × Splits rest zs [] × (ts ≡ found ++ tokens_from at zs)
+found_first text rest at found ts p t =
+    let more = goes_through text rest t.0 p.cuts t.1 p.splits in
+    (more.0, more.1, t.2 ∙ ap (tokens_from 0) more.2 ∙ tokens_from-append 0 p.cuts more.0 ∙ ap (λ (us : List Token). us ++ tokens_from (0 + lens p.cuts) more.0) (sym p.tokens) ∙ ap (λ (n : ℕ). found ++ tokens_from n more.0) (let e = p.place in omega arith))

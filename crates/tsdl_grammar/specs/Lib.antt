@@ -4,6 +4,7 @@ pub mod Literals
 pub mod Pieces
 pub mod Tokens
 pub mod Atoms
+pub mod Fronts
 pub mod Spelling
 pub mod Steps
 pub mod Lookups

@@ -1,6 +1,6 @@
 -- The tokens of a metadata text, with the bytes that each one is, and the place at which a text has no tokens.
 -- A text is cut into its pieces from the front on, each as long as it can be; blanks and comments are no tokens.
-use Rattle.std.specs.Prelude.{◌≡◌, ◌≢◌, ℕ, ◌+◌, ◌≤◌, ◌<◌, List, [], ◌∷◌, ◌++◌, length, drop, Some, None, codes, Result, Ok, Err}
+use Rattle.std.specs.Prelude.{◌≡◌, ◌≢◌, ℕ, Bool, true, false, ◌+◌, ◌≤◌, ◌<◌, List, [], ◌∷◌, ◌++◌, length, drop, Option, Some, None, codes, Result, Ok, Err}
 use Rattle.std.specs.Global.{Vec}
 use Rattle.tsdl_grammar.specs.declared.token.Token.{Token}
 use Rattle.tsdl_grammar.specs.declared.token.Span.{Span}
@@ -30,6 +30,12 @@ token_of pieces.Blank span = []
 token_of pieces.Comment span = []
 token_of (pieces.Token kind) span = record { kind = kind; span = span } ∷ []
 
+-- whether a piece is one
+abbrev pub is_token : Piece → Bool
+is_token pieces.Blank = false
+is_token pieces.Comment = false
+is_token (pieces.Token kind) = true
+
 -- the tokens among the pieces, of which the first begins at a place
 abbrev pub tokens_from : ℕ → List Cut → List Token
 tokens_from at [] = []
@@ -38,6 +44,15 @@ tokens_from at (c ∷ cuts) = token_of c.piece (record { start = at; end = at + 
 -- these are the tokens of the text
 abbrev pub Tokenizes : List ℕ → List Token → Type 0
 Tokenizes text ts = (cuts : List Cut) × Splits text cuts [] × (ts ≡ tokens_from 0 cuts)
+
+-- where a token begins, or the end of the text
+abbrev pub start_of : Option Token → ℕ → ℕ
+start_of (Some token) end = token.span.start
+start_of None end = end
+
+-- the text has tokens
+abbrev pub HasTokens : List ℕ → Type 0
+HasTokens text = (ts : List Token) × Tokenizes text ts
 
 -- no piece begins here, and the text has not ended
 abbrev pub Stuck : List ℕ → Type 0

@@ -3,7 +3,7 @@
 ghost use Rattle.std.specs.Prelude.{◌≡◌, ◌≤◌, length, slice_range, IfOk, MatchOption, true, false};
 ghost use Rattle.std.specs.Str.{is_utf8};
 ghost use Rattle.tsdl_grammar.specs.Tokens.{Rises};
-ghost use Rattle.tsdl_grammar.specs.Atoms.{atom_of, atoms_of, word_atom, text_atom, content_of};
+ghost use Rattle.tsdl_grammar.specs.Atoms.{atom_of, atoms_of, meaning_of, word_atom, text_atom, content_of};
 
 use crate::escapes::unescape;
 use crate::literal::literal_value;
@@ -30,7 +30,7 @@ pub fn atoms(alloc: Global, text: &[u8], tokens: &[Token]) -> Result<Vec<Atom>, 
     requires { Rises 0 tokens.now (length text.now) }
     ensures { IfOk result (λ v. v.items ≡ atoms_of text.now tokens.now) }
 {
-    let mut atoms = Vec::new(alloc);
+    let mut atoms = Vec::with_capacity(alloc, tokens.len())?;
     for token in tokens {
         atoms.push(atom_at(alloc, text, token)?)?;
     }
@@ -43,8 +43,14 @@ pub fn atom_at(alloc: Global, text: &[u8], token: &Token) -> Result<Atom, AllocE
     requires within { token.now.span.end ≤ length text.now }
     ensures { IfOk result (λ a. a ≡ atom_of text.now token.now) }
 {
-    let bytes = &text[token.span.start..token.span.end];
-    match token.kind {
+    meaning(alloc, token.kind, &text[token.span.start..token.span.end])
+}
+
+/// What the bytes of a token of a kind mean.
+pub(crate) fn meaning(alloc: Global, kind: TokenKind, bytes: &[u8]) -> Result<Atom, AllocError>
+    ensures { IfOk result (λ a. a ≡ meaning_of kind bytes.now) }
+{
+    match kind {
         TokenKind::Identifier => word(alloc, bytes),
         TokenKind::Number => Ok(match literal_value(bytes) {
             Some(number) => Atom::Number(number),

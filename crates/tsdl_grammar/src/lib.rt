@@ -4,6 +4,7 @@
 mod atom;
 mod escapes;
 mod fault;
+mod front;
 mod laws;
 mod literal;
 mod piece;
@@ -15,6 +16,7 @@ mod tree;
 pub use atom::{Atom, atom_at, atoms};
 pub use escapes::{escape, escaped_byte, unescape};
 pub use fault::{MetaFault, MetaFaultKind};
+pub use front::{Atoms, Front, atom_count, first_token};
 pub use laws::{
     blocks_stand_in_any_order, clocks_say_their_parts, decimals_come_back, escapes_come_back,
     escapes_keep_utf8, events_say_their_parts, integers_have_defaults, integers_need_a_size,
@@ -26,7 +28,7 @@ pub use literal::literal_value;
 pub use piece::{Cut, Piece};
 pub use position::{Position, explain, found_at, position_of};
 pub use token::{Mark, Span, Token, TokenKind};
-pub use tokenizer::{MAGIC_LINE, tokens};
+pub use tokenizer::{MAGIC_LINE, check_tokens, token_start, tokens};
 pub use tree::{
     Attribute, Block, Bracket, Closing, Entries, Entry, Fact, Item, Kind, Label, MemberTree, Name,
     NamedFact, Number, Scope, Sign, Structure, Value,

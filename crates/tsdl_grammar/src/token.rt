@@ -35,6 +35,29 @@ pub enum Mark {
     Ellipsis,
 }
 
+impl Mark {
+    /// The mark's bytes.
+    pub fn spelling(self) -> &'static str {
+        match self {
+            Mark::OpenBrace => "{",
+            Mark::CloseBrace => "}",
+            Mark::OpenBracket => "[",
+            Mark::CloseBracket => "]",
+            Mark::OpenParenthesis => "(",
+            Mark::CloseParenthesis => ")",
+            Mark::Semicolon => ";",
+            Mark::Comma => ",",
+            Mark::Colon => ":",
+            Mark::Equals => "=",
+            Mark::Minus => "-",
+            Mark::Plus => "+",
+            Mark::Dot => ".",
+            Mark::Assign => ":=",
+            Mark::Ellipsis => "...",
+        }
+    }
+}
+
 /// What a token is.
 #[derive(Clone, Copy, Debug, PartialEq, Eq)]
 pub enum TokenKind {

@@ -1,7 +1,8 @@
 //! The tokens of a metadata text.
 
-ghost use Rattle.std.specs.Prelude.{◌≡◌, ◌++◌, ◌≤◌, List, length, IfOk, IfErr, OnOk};
-ghost use Rattle.tsdl_grammar.specs.Tokens.{HasMagicLine, Tokenizes, TokenFault, GivesTokens, Rises, token_of};
+ghost use Rattle.std.specs.Prelude.{◌≡◌, ◌++◌, ◌≤◌, List, length, slice_get, IfOk, IfErr, IsOk, OnOk};
+ghost use Rattle.tsdl_grammar.specs.Tokens.{HasMagicLine, Tokenizes, HasTokens, StopsAt, TokenFault, GivesTokens, Rises, is_token, token_of, start_of};
+ghost use Rattle.tsdl_grammar.specs.declared.fault.MetaFaultKind.TheVariants as faults;
 ghost use Rattle.tsdl_grammar.specs.declared.token.Token.{Token};
 
 use crate::fault::{MetaFault, MetaFaultKind};
@@ -22,8 +23,18 @@ pub fn tokens(alloc: Global, text: &[u8]) -> Result<Vec<Token>, MetaFault>
     ensures spans { IfOk result (λ v. Rises 0 v.items (length text.now)) }
     ensures fault { IfErr result (λ f. TokenFault text.now f.kind f.place) }
 {
+    check_tokens(text)?;
+    Ok(split(alloc, text)?)
+}
+
+/// Whether a metadata text has tokens, without a list of them. The faults are `NoMagicLine` and `Token`, as of `tokens`.
+pub fn check_tokens(text: &[u8]) -> Result<(), MetaFault>
+    ensures found { IfOk result (λ _. HasMagicLine text.now × HasTokens text.now) }
+    ensures only { HasMagicLine text.now → HasTokens text.now → IsOk result }
+    ensures fault { IfErr result (λ f. TokenFault text.now f.kind f.place) }
+{
     if text.starts_with(MAGIC_LINE) {
-        split(alloc, text)
+        pass(text)
     } else {
         Err(MetaFault {
             place: 0,
@@ -32,13 +43,11 @@ pub fn tokens(alloc: Global, text: &[u8]) -> Result<Vec<Token>, MetaFault>
     }
 }
 
-/// The tokens of any bytes.
-fn split(alloc: Global, text: &[u8]) -> Result<Vec<Token>, MetaFault>
-    ensures found { IfOk result (λ v. Tokenizes text.now v.items) }
-    ensures spans { IfOk result (λ v. Rises 0 v.items (length text.now)) }
-    ensures fault { IfErr result (λ f. HasMagicLine text.now → TokenFault text.now f.kind f.place) }
+/// Passes over the tokens of any bytes.
+fn pass(text: &[u8]) -> Result<(), MetaFault>
+    ensures found { IfOk result (λ _. HasTokens text.now) }
+    ensures fault { IfErr result (λ f. (f.kind ≡ faults.Token) × StopsAt text.now f.place) }
 {
-    let mut found = Vec::new(alloc);
     let mut at = 0;
     let mut rest = text;
     while !rest.is_empty() {
@@ -48,6 +57,23 @@ fn split(alloc: Global, text: &[u8]) -> Result<Vec<Token>, MetaFault>
                 kind: MetaFaultKind::Token,
             });
         };
+        let (_, after) = rest.split_at(cut.len);
+        at += cut.len;
+        rest = after;
+    }
+    Ok(())
+}
+
+/// The tokens of bytes that have some.
+fn split(alloc: Global, text: &[u8]) -> Result<Vec<Token>, AllocError>
+    requires { HasTokens text.now }
+    ensures found { IfOk result (λ v. Tokenizes text.now v.items) }
+    ensures spans { IfOk result (λ v. Rises 0 v.items (length text.now)) }
+{
+    let mut found = Vec::new(alloc);
+    let mut at = 0;
+    let mut rest = text;
+    while let Some(cut) = piece_at(rest) {
         let end = at + cut.len;
         push_token(&mut found, cut.piece, Span { start: at, end })?;
         let (_, after) = rest.split_at(cut.len);
@@ -55,6 +81,36 @@ fn split(alloc: Global, text: &[u8]) -> Result<Vec<Token>, MetaFault>
         rest = after;
     }
     Ok(found)
+}
+
+/// Where the token of this index begins, in bytes: the end of the text where it has no such token.
+pub fn token_start(text: &[u8], index: usize) -> usize
+    ensures { (ts : List Token) → Tokenizes text.now ts → result ≡ start_of (slice_get ts index) (length text.now) }
+{
+    let mut before = index;
+    let mut at = 0;
+    let mut rest = text;
+    while let Some(cut) = piece_at(rest) {
+        if is_token(cut.piece) {
+            if before == 0 {
+                return at;
+            }
+            before -= 1;
+        }
+        let (_, after) = rest.split_at(cut.len);
+        at += cut.len;
+        rest = after;
+    }
+    text.len()
+}
+
+fn is_token(piece: Piece) -> bool
+    ensures { result ≡ is_token piece }
+{
+    match piece {
+        Piece::Blank | Piece::Comment => false,
+        Piece::Token(_) => true,
+    }
 }
 
 /// Adds the token that a piece is, if it is one.

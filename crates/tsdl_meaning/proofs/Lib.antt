@@ -8,6 +8,7 @@ pub mod LengthPlaces
 pub mod MemberNames
 pub mod StructureTypes
 pub mod NumberOrder
+pub mod GroupsTaken
 pub mod ClockSets
 pub mod GoodAtoms
 pub mod AllowedTypes

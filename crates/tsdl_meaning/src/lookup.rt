@@ -193,7 +193,7 @@ fn has_scope_in(name: &Name, items: &[Item]) -> bool
 fn words_of<'a>(alloc: Global, name: &'a Name) -> Result<Vec<&'a str>, AllocError>
     ensures { IfOk result (λ words. texts_of words.items ≡ words_of name.now) }
 {
-    let mut words = Vec::new(alloc);
+    let mut words = Vec::with_capacity(alloc, name.rest.len().saturating_add(1))?;
     words.push(name.first.as_str())?;
     for word in name.rest.as_slice() {
         words.push(word.as_str())?;

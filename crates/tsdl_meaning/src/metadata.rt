@@ -10,17 +10,17 @@ use crate::text::text_meaning;
 use ctf_types::Metadata;
 use std::alloc::Global;
 use tsdl_flaw::Stop;
-use tsdl_grammar::{Atom, Block};
+use tsdl_grammar::Block;
 
-/// The metadata that the blocks of a text mean. Their atoms stand first among those of the text; the byte order and
-/// the clocks' names are looked for among all of them.
-pub fn metadata_of(alloc: Global, atoms: &[Atom], blocks: &[Block]) -> Result<Metadata, Stop>
+/// The metadata that the blocks of a text mean. For a fault the byte order and the clocks' names are looked for among
+/// all atoms of the text.
+pub fn metadata_of(alloc: Global, text: &[u8], blocks: &[Block]) -> Result<Metadata, Stop>
     ensures found { IfOk result (λ m. text_meta blocks.now ≡ Some m) }
     ensures none { IfErr result (λ stop. IfFault stop (text_meta blocks.now ≡ None)) }
     ensures fault { IfErr result (StopsText (text_toks blocks.now)) }
 {
     match text_meaning(alloc, blocks)? {
         Some(metadata) => Ok(metadata),
-        None => Err(first_flaw(alloc, &Survey::of(alloc, atoms)?, blocks)),
+        None => Err(first_flaw(alloc, &Survey::of(alloc, text)?, blocks)),
     }
 }

@@ -85,7 +85,7 @@ fn members_meaning(
 ) -> Result<Option<Members>, AllocError>
     ensures { IfOk result (λ ms. ms ≡ members_meaning known.now [] members.now) }
 {
-    let mut before = Members::new(alloc);
+    let mut before = Members::with_capacity(alloc, members.len())?;
     let mut rest = members;
     while let [member, others @ ..] = rest {
         if has_member(&before, member.name.as_str()) {

@@ -1,11 +1,12 @@
 //! The streams of a metadata text, each with its events (CTF 1.8.3, section 7).
 
-ghost use Rattle.std.specs.Prelude.{◌≡◌, ℕ, map, IfOk, OnOk};
+ghost use Rattle.std.specs.Prelude.{◌≡◌, ℕ, IfOk, OnOk};
 ghost use Rattle.std.specs.List.{flat_map};
 ghost use Rattle.tsdl_grammar.specs.Steps.{each};
 ghost use Rattle.tsdl_grammar.specs.BlockMeaning.{stream_meaning, event_meaning};
 ghost use Rattle.tsdl_grammar.specs.Denotes.{stream_in, event_in, events_of, have_streams, streams_meaning};
-ghost use Rattle.tsdl_meaning.specs.Groups.{HasNumbers, AddsEvent, group_of, with_group};
+ghost use Rattle.tsdl_grammar.specs.Laws.{NumbersRise};
+ghost use Rattle.tsdl_meaning.specs.Groups.{HasNumbers, AddsEvent, OthersStay, group_of, with_group};
 
 use crate::known::Known;
 use crate::numbered::by_number;
@@ -16,7 +17,7 @@ use std::collections::{BTreeMap, BTreeSet};
 use tsdl_grammar::Block;
 
 /// Events by the number of their stream, each group as it stands in the text.
-type Groups<'a> = BTreeMap<u64, Vec<&'a Event>>;
+type Groups = BTreeMap<u64, Vec<Event>>;
 
 /// The streams by number, each with its events by number.
 #[tactic(auto, unfolding(tsdl_grammar::specs::Denotes::streams_meaning))]
@@ -39,8 +40,8 @@ pub(crate) fn streams_meaning(
     if !have_streams(alloc, streams.as_slice(), events.as_slice())? {
         return Ok(None);
     }
-    let groups = groups_of(alloc, events.as_slice())?;
-    streams_with(alloc, &groups, streams.as_slice())
+    let groups = groups_of(alloc, events)?;
+    streams_with(alloc, groups, streams.as_slice())
 }
 
 /// The streams of the stream blocks, as they stand.
@@ -124,47 +125,46 @@ fn numbers_of(alloc: Global, streams: &[Stream]) -> Result<BTreeSet<u64>, AllocE
 }
 
 /// The events by the number of their stream.
-fn groups_of(alloc: Global, events: &[(u64, Event)]) -> Result<Groups<'_>, AllocError>
-    ensures { IfOk result (λ groups. (id : ℕ) → group_of groups id ≡ events_of id events.now) }
+fn groups_of(alloc: Global, events: ListOf<(u64, Event)>) -> Result<Groups, AllocError>
+    ensures { IfOk result (λ groups. (id : ℕ) → group_of groups id ≡ events_of id events) }
 {
     let mut groups = BTreeMap::new(alloc);
-    let mut rest = events;
-    while let [event, others @ ..] = rest {
+    let mut left = events.into_vec();
+    left.reverse();
+    while let Some(event) = left.pop() {
         add_event(alloc, &mut groups, event)?;
-        rest = others;
     }
     Ok(groups)
 }
 
 /// Adds an event behind the others of its stream.
-fn add_event<'a>(
-    alloc: Global,
-    groups: &mut Groups<'a>,
-    event: &'a (u64, Event),
-) -> Result<(), AllocError>
-    ensures { OnOk result (AddsEvent groups.old event.now groups.new) }
+fn add_event(alloc: Global, groups: &mut Groups, event: (u64, Event)) -> Result<(), AllocError>
+    ensures { OnOk result (AddsEvent groups.old event groups.new) }
 {
-    let mut group = match groups.remove(&event.0) {
+    let (id, event) = event;
+    let mut group = match groups.remove(&id) {
         Some(group) => group,
         None => Vec::new(alloc),
     };
-    group.push(&event.1)?;
-    drop(groups.insert(event.0, group)?);
+    group.push(event)?;
+    drop(groups.insert(id, group)?);
     Ok(())
 }
 
 /// Each stream with the events of its group.
 fn streams_with(
     alloc: Global,
-    groups: &Groups,
+    groups: Groups,
     streams: &[Stream],
 ) -> Result<Option<ListOf<Stream>>, AllocError>
-    ensures { IfOk result (λ ss. ss ≡ each (with_group groups.now) streams.now) }
+    requires { NumbersRise (λ s. s.id) streams.now }
+    ensures { IfOk result (λ ss. ss ≡ each (with_group groups) streams.now) }
 {
     let mut made = ListOf::new(alloc);
+    let mut left = groups;
     let mut rest = streams;
     while let [stream, others @ ..] = rest {
-        let Some(stream) = with_group(alloc, groups, stream)? else {
+        let Some(stream) = with_group(alloc, &mut left, stream)? else {
             return Ok(None);
         };
         made.push(stream)?;
@@ -173,11 +173,16 @@ fn streams_with(
     Ok(Some(made))
 }
 
-/// A stream with the events of its group, by number.
-fn with_group(alloc: Global, groups: &Groups, stream: &Stream) -> Result<Option<Stream>, AllocError>
-    ensures { IfOk result (λ s. s ≡ with_group groups.now stream.now) }
+/// A stream with the events of its group, by number, which are taken out of the groups.
+fn with_group(
+    alloc: Global,
+    groups: &mut Groups,
+    stream: &Stream,
+) -> Result<Option<Stream>, AllocError>
+    ensures made { IfOk result (λ s. s ≡ with_group groups.old stream.now) }
+    ensures others { OthersStay stream.now.id groups.old groups.new }
 {
-    let own = group_of(alloc, groups, stream.id)?;
+    let own = take_group(alloc, groups, stream.id);
     let Some(events) = by_number(alloc, own)? else {
         return Ok(None);
     };
@@ -190,22 +195,13 @@ fn with_group(alloc: Global, groups: &Groups, stream: &Stream) -> Result<Option<
     }))
 }
 
-/// Copies of the events of the stream of this number.
-fn group_of(alloc: Global, groups: &Groups, id: u64) -> Result<ListOf<Event>, AllocError>
-    ensures { IfOk result (λ es. es ≡ group_of groups.now id) }
+/// The events of the stream of this number, which are taken out of the groups.
+fn take_group(alloc: Global, groups: &mut Groups, id: u64) -> ListOf<Event>
+    ensures own { result ≡ group_of groups.old id }
+    ensures others { OthersStay id groups.old groups.new }
 {
-    match groups.get(&id) {
-        None => Ok(ListOf::new(alloc)),
-        Some(group) => copies_of(alloc, group.as_slice()),
+    match groups.remove(&id) {
+        None => ListOf::new(alloc),
+        Some(group) => ListOf::from_vec(group),
     }
-}
-
-fn copies_of(alloc: Global, events: &[&Event]) -> Result<ListOf<Event>, AllocError>
-    ensures { IfOk result (λ es. es ≡ map (λ e. e.now) events.now) }
-{
-    let mut copies = ListOf::new(alloc);
-    for event in events {
-        copies.push(event.copy(alloc)?)?;
-    }
-    Ok(copies)
 }

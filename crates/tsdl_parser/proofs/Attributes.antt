@@ -11,7 +11,7 @@ use Rattle.tsdl_grammar.specs.declared.tree.Value.{Value}
 use Rattle.tsdl_grammar.specs.declared.tree.Value.TheVariants as values
 use Rattle.tsdl_grammar.specs.declared.tree.Attribute.{Attribute}
 use Rattle.tsdl_grammar.specs.Spelling.{mark, word, number_toks, dotted, name_toks, value_toks, attr_toks, attrs_toks}
-use Rattle.tsdl_parser.specs.Parsing.{begins, mark_at, word_at, number_at, is_open}
+use Rattle.tsdl_parser.specs.Parsing.{begins, mark_at, word_at, signed_at, number_at, is_open}
 use Rattle.tsdl_parser.specs.ParsingAttributes.{dotted_at, all_dotted_at, name_at, value_at, attr_behind, attr_at, all_attrs_at, attrs_at}
 use Rattle.tsdl_parser.proofs.Steps.{along, first_of_two}
 use Rattle.tsdl_parser.proofs.Words.{mark_takes, word_takes, number_takes}
@@ -74,7 +74,7 @@ value_takes (atoms.TooLarge ∷ ts) x e = absurd cc
 
 number_value_again : (sign : Option Sign) (literal : ℕ) (rest : List Atom)
     → value_at (number_toks (record { sign = sign; literal = literal }) ++ rest) ≡ Some (values.Number (record { sign = sign; literal = literal }), rest)
-unfolding value_at number_at
+unfolding value_at number_at signed_at
 number_value_again None literal rest = refl
 number_value_again (Some Plus) literal rest = refl
 number_value_again (Some Minus) literal rest = refl

@@ -20,7 +20,7 @@ use Rattle.tsdl_grammar.specs.Spelling.{mark, word, number_toks, braced, name_to
 use Rattle.tsdl_parser.specs.declared.halt.Unread.{Unread}
 use Rattle.tsdl_parser.specs.declared.halt.Unread.TheVariants as unread
 use Rattle.tsdl_parser.specs.Halting.{IfHalted}
-use Rattle.tsdl_parser.specs.Parsing.{Fails, begins, mark_at, word_at, names, keyword_at, number_at, is_open}
+use Rattle.tsdl_parser.specs.Parsing.{Fails, begins, mark_at, word_at, names, keyword_at, signed_at, number_at, is_open}
 use Rattle.tsdl_parser.specs.ParsingAttributes.{name_at, attr_behind}
 use Rattle.tsdl_parser.specs.ParsingMembers.{struct_at}
 use Rattle.tsdl_parser.specs.ParsingBlocks.{scope_behind, item_at, all_items_at, items_at, fact_at, named_fact_at, all_facts_at, environment_at, block_at, ended_block_at, has_more, all_blocks_at}
@@ -111,7 +111,7 @@ fact_takes (atoms.TooLarge ∷ ts) x e = absurd cc
 
 number_fact_again : (sign : Option Sign) (literal : ℕ) (rest : List Atom)
     → fact_at (number_toks (record { sign = sign; literal = literal }) ++ rest) ≡ Some (facts.Number (record { sign = sign; literal = literal }), rest)
-unfolding fact_at number_at
+unfolding fact_at number_at signed_at
 number_fact_again None literal rest = refl
 number_fact_again (Some Plus) literal rest = refl
 number_fact_again (Some Minus) literal rest = refl

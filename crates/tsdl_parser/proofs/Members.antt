@@ -18,7 +18,7 @@ use Rattle.tsdl_grammar.specs.declared.tree.Bracket.TheVariants as brackets
 use Rattle.tsdl_grammar.specs.declared.tree.MemberTree.{MemberTree}
 use Rattle.tsdl_grammar.specs.declared.tree.Structure.{Structure}
 use Rattle.tsdl_grammar.specs.Spelling.{mark, word, number_toks, int_toks, entries_toks, kind_toks, bracket_toks, member_toks, align_toks, struct_toks}
-use Rattle.tsdl_parser.specs.Parsing.{begins, mark_at, word_at, names, keyword_at, number_at, is_open}
+use Rattle.tsdl_parser.specs.Parsing.{begins, mark_at, word_at, names, keyword_at, signed_at, number_at, is_open}
 use Rattle.tsdl_parser.specs.ParsingAttributes.{attrs_at}
 use Rattle.tsdl_parser.specs.ParsingEntries.{entries_at}
 use Rattle.tsdl_parser.specs.ParsingMembers.{int_at, enum_at, string_at, kind_at, count_at, bracket_at, all_brackets_at, member_at, all_members_at, align_at, struct_at}
@@ -132,7 +132,7 @@ count_takes (atoms.TooLarge ∷ ts) x e = absurd cc
 
 number_count_again : (sign : Option Sign) (literal : ℕ) (rest : List Atom)
     → count_at (number_toks (record { sign = sign; literal = literal }) ++ rest) ≡ Some (brackets.Count (record { sign = sign; literal = literal }), rest)
-unfolding count_at number_at
+unfolding count_at number_at signed_at
 number_count_again None literal rest = refl
 number_count_again (Some Plus) literal rest = refl
 number_count_again (Some Minus) literal rest = refl

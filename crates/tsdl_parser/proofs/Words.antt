@@ -11,7 +11,7 @@ use Rattle.tsdl_grammar.specs.declared.tree.Sign.{Sign}
 use Rattle.tsdl_grammar.specs.declared.tree.Sign.TheVariants.{Plus, Minus}
 use Rattle.tsdl_grammar.specs.declared.tree.Number.{Number}
 use Rattle.tsdl_grammar.specs.Spelling.{mark, word, number_toks}
-use Rattle.tsdl_parser.specs.Parsing.{number_of, is_mark, mark_at, word_at, is_word, keyword_at, number_at}
+use Rattle.tsdl_parser.specs.Parsing.{number_of, is_mark, mark_at, word_at, is_word, keyword_at, signed_at, number_at}
 use Rattle.tsdl_parser.proofs.Steps.{along}
 
 -- ---- marks
@@ -80,7 +80,7 @@ keyword_takes keyword (a ∷ ts) rest e = let g = cond_some (is_word keyword a) 
 -- ---- numbers
 
 pub number_takes : (ts : List Atom) (x : Number × List Atom) → number_at ts ≡ Some x → ts ≡ number_toks x.0 ++ x.1
-unfolding number_at
+unfolding number_at signed_at
 number_takes (atoms.Number n ∷ ts) x e = along (λ (y : Number × List Atom). (atoms.Number n ∷ ts) ≡ number_toks y.0 ++ y.1) (record { sign = None; literal = n }, ts) x e refl
 number_takes (atoms.Mark marks.Plus ∷ atoms.Number n ∷ ts) x e =
     along (λ (y : Number × List Atom). (mark marks.Plus ∷ atoms.Number n ∷ ts) ≡ number_toks y.0 ++ y.1) (record { sign = Some Plus; literal = n }, ts) x e refl
@@ -89,7 +89,7 @@ number_takes (atoms.Mark marks.Minus ∷ atoms.Number n ∷ ts) x e =
 number_takes _ x e = absurd cc
 
 again_of : (sign : Option Sign) (literal : ℕ) (rest : List Atom) → number_at (number_toks (record { sign = sign; literal = literal }) ++ rest) ≡ Some (record { sign = sign; literal = literal }, rest)
-unfolding number_at
+unfolding number_at signed_at
 again_of None literal rest = refl
 again_of (Some Plus) literal rest = refl
 again_of (Some Minus) literal rest = refl

@@ -5,6 +5,7 @@ use Rattle.tsdl_grammar.specs.declared.token.Mark.{Mark}
 use Rattle.tsdl_grammar.specs.declared.token.Mark.TheVariants as marks
 use Rattle.tsdl_grammar.specs.declared.atom.Atom.{Atom}
 use Rattle.tsdl_grammar.specs.declared.atom.Atom.TheVariants as atoms
+use Rattle.tsdl_grammar.specs.declared.tree.Sign.{Sign}
 use Rattle.tsdl_grammar.specs.declared.tree.Sign.TheVariants.{Plus, Minus}
 use Rattle.tsdl_grammar.specs.declared.tree.Number.{Number}
 use Rattle.tsdl_grammar.specs.Steps.{◌>>=◌}
@@ -80,11 +81,16 @@ unfoldable pub keyword_at : List ℕ → List Atom → Option (List Atom)
 keyword_at keyword [] = None
 keyword_at keyword (a ∷ ts) = if is_word keyword a then Some ts else None
 
+-- a literal behind its sign
+unfoldable pub signed_at : Sign → List Atom → Option (Number × List Atom)
+signed_at sign (atoms.Number n ∷ ts) = Some (record { sign = Some sign; literal = n }, ts)
+signed_at sign _ = None
+
 -- [ "-" | "+" ] literal
 unfoldable pub number_at : List Atom → Option (Number × List Atom)
 number_at (atoms.Number n ∷ ts) = Some (record { sign = None; literal = n }, ts)
-number_at (atoms.Mark marks.Plus ∷ atoms.Number n ∷ ts) = Some (record { sign = Some Plus; literal = n }, ts)
-number_at (atoms.Mark marks.Minus ∷ atoms.Number n ∷ ts) = Some (record { sign = Some Minus; literal = n }, ts)
+number_at (atoms.Mark marks.Plus ∷ ts) = signed_at Plus ts
+number_at (atoms.Mark marks.Minus ∷ ts) = signed_at Minus ts
 number_at _ = None
 
 -- items one after the other, at most so many, for as long as another one starts

@@ -3,6 +3,7 @@
 ghost use Rattle.std.specs.Prelude.{◌≡◌, List, IfOk, IfErr};
 ghost use Rattle.tsdl_grammar.specs.declared.tree.Block.{Block};
 ghost use Rattle.tsdl_grammar.specs.Spelling.{text_toks};
+ghost use Rattle.tsdl_grammar.specs.Fronts.{shown};
 ghost use Rattle.tsdl_parser.specs.Halting.{IfHalted};
 ghost use Rattle.tsdl_parser.specs.Parsing.{Gives};
 ghost use Rattle.tsdl_parser.specs.ParsingBlocks.{scope_behind, item_at, all_items_at, items_at, fact_at, named_fact_at, all_facts_at, environment_at, block_at, ended_block_at, has_more, all_blocks_at};
@@ -12,20 +13,22 @@ use crate::expected::Expected;
 use crate::halt::{Unread, back_to, expecting, going_on};
 use crate::member::struct_at;
 use crate::missing::{CLOSE_BRACE, SEMICOLON, ZERO};
-use crate::parsing::{begins, is_open, keyword_at, mark_at, names, no_number, number_at, word_at};
+use crate::parsing::{
+    begins, is_open, keyword_at, mark_at, names, next_atom, no_number, number_at, whole, word_at,
+};
 use ctf_types::ListOf;
 use std::alloc::Global;
-use tsdl_grammar::{Atom, Block, Fact, Item, Mark, Name, NamedFact, Scope};
+use tsdl_grammar::{Atom, Atoms, Block, Fact, Item, Mark, Name, NamedFact, Scope};
 
 /// The rest of a scope behind its name, with which the item begins.
 #[tactic(auto, unfolding(crate::specs::ParsingBlocks::scope_behind))]
 fn scope_behind<'a>(
     alloc: Global,
     name: Name,
-    atoms: &'a [Atom],
-    item: &'a [Atom],
-) -> Result<(Scope, &'a [Atom]), Unread>
-    ensures { Gives (λ x. (x.0, x.1.now)) result (scope_behind name atoms.now) }
+    atoms: Atoms<'a>,
+    item: Atoms<'a>,
+) -> Result<(Scope, Atoms<'a>), Unread>
+    ensures { Gives (λ x. (x.0, shown x.1)) result (scope_behind name (shown atoms.entry)) }
 {
     let rest = expecting(mark_at(Mark::Assign, atoms), Expected::ItemMark);
     let rest = back_to(rest, item)?;
@@ -35,8 +38,8 @@ fn scope_behind<'a>(
 }
 
 #[tactic(auto, unfolding(crate::specs::ParsingBlocks::item_at))]
-fn item_at(alloc: Global, atoms: &[Atom]) -> Result<(Item, &[Atom]), Unread>
-    ensures { Gives (λ x. (x.0, x.1.now)) result (item_at atoms.now) }
+fn item_at(alloc: Global, atoms: Atoms<'_>) -> Result<(Item, Atoms<'_>), Unread>
+    ensures { Gives (λ x. (x.0, shown x.1)) result (item_at (shown atoms.entry)) }
 {
     let (name, rest) = name_at(alloc, atoms, Expected::Item)?;
     if begins(Mark::Equals, rest) {
@@ -48,17 +51,17 @@ fn item_at(alloc: Global, atoms: &[Atom]) -> Result<(Item, &[Atom]), Unread>
     }
 }
 
-fn all_items_at(alloc: Global, atoms: &[Atom]) -> Result<(ListOf<Item>, &[Atom]), Unread>
-    ensures { Gives (λ x. (x.0, x.1.now)) result (all_items_at atoms.now) }
+fn all_items_at(alloc: Global, atoms: Atoms<'_>) -> Result<(ListOf<Item>, Atoms<'_>), Unread>
+    ensures { Gives (λ x. (x.0, shown x.1)) result (all_items_at (shown atoms.entry)) }
 {
-    let mut items = ListOf::new(alloc);
+    let mut items = Vec::new(alloc);
     let mut rest = atoms;
     while is_open(rest) {
         let (item, behind) = item_at(alloc, rest)?;
         items.push(item)?;
         rest = behind;
     }
-    Ok((items, rest))
+    Ok((whole(items), rest))
 }
 
 /// The items of a block of this word.
@@ -66,9 +69,9 @@ fn all_items_at(alloc: Global, atoms: &[Atom]) -> Result<(ListOf<Item>, &[Atom])
 fn items_at<'a>(
     alloc: Global,
     keyword: &str,
-    atoms: &'a [Atom],
-) -> Result<(ListOf<Item>, &'a [Atom]), Unread>
-    ensures { Gives (λ x. (x.0, x.1.now)) result (items_at keyword.now atoms.now) }
+    atoms: Atoms<'a>,
+) -> Result<(ListOf<Item>, Atoms<'a>), Unread>
+    ensures { Gives (λ x. (x.0, shown x.1)) result (items_at keyword.now (shown atoms.entry)) }
 {
     let rest = keyword_at(keyword, atoms, Expected::Block)?;
     let inside = going_on(mark_at(Mark::OpenBrace, rest), &[CLOSE_BRACE, SEMICOLON])?;
@@ -78,24 +81,25 @@ fn items_at<'a>(
 }
 
 #[tactic(auto, unfolding(crate::specs::ParsingBlocks::fact_at))]
-fn fact_at(alloc: Global, atoms: &[Atom]) -> Result<(Fact, &[Atom]), Unread>
-    ensures { Gives (λ x. (x.0, x.1.now)) result (fact_at atoms.now) }
+fn fact_at(alloc: Global, atoms: Atoms<'_>) -> Result<(Fact, Atoms<'_>), Unread>
+    ensures { Gives (λ x. (x.0, shown x.1)) result (fact_at (shown atoms.entry)) }
 {
-    match atoms {
-        [Atom::Text(text), rest @ ..] => Ok((Fact::Text(text.copy(alloc)?), rest)),
-        [Atom::Number(_) | Atom::Mark(_), ..] => {
-            let (number, rest) = number_at(atoms, Expected::Fact)?;
+    let (first, rest) = next_atom(alloc, atoms)?;
+    match first {
+        Some(Atom::Text(text)) => Ok((Fact::Text(text), rest)),
+        Some(Atom::Number(_) | Atom::Mark(_)) => {
+            let (number, rest) = number_at(alloc, atoms, Expected::Fact)?;
             Ok((Fact::Number(number), rest))
         }
-        [] | [Atom::Word(_) | Atom::TooLarge, ..] => {
+        None | Some(Atom::Word(_) | Atom::TooLarge) => {
             Err(Unread::Halted(no_number(atoms, Expected::Fact)))
         }
     }
 }
 
 #[tactic(auto, unfolding(crate::specs::ParsingBlocks::named_fact_at))]
-fn named_fact_at(alloc: Global, atoms: &[Atom]) -> Result<(NamedFact, &[Atom]), Unread>
-    ensures { Gives (λ x. (x.0, x.1.now)) result (named_fact_at atoms.now) }
+fn named_fact_at(alloc: Global, atoms: Atoms<'_>) -> Result<(NamedFact, Atoms<'_>), Unread>
+    ensures { Gives (λ x. (x.0, shown x.1)) result (named_fact_at (shown atoms.entry)) }
 {
     let (name, rest) = word_at(alloc, atoms, Expected::FactName)?;
     let rest = going_on(mark_at(Mark::Equals, rest), &[ZERO, SEMICOLON])?;
@@ -104,22 +108,22 @@ fn named_fact_at(alloc: Global, atoms: &[Atom]) -> Result<(NamedFact, &[Atom]), 
     Ok((NamedFact { name, fact }, rest))
 }
 
-fn all_facts_at(alloc: Global, atoms: &[Atom]) -> Result<(ListOf<NamedFact>, &[Atom]), Unread>
-    ensures { Gives (λ x. (x.0, x.1.now)) result (all_facts_at atoms.now) }
+fn all_facts_at(alloc: Global, atoms: Atoms<'_>) -> Result<(ListOf<NamedFact>, Atoms<'_>), Unread>
+    ensures { Gives (λ x. (x.0, shown x.1)) result (all_facts_at (shown atoms.entry)) }
 {
-    let mut facts = ListOf::new(alloc);
+    let mut facts = Vec::new(alloc);
     let mut rest = atoms;
     while is_open(rest) {
         let (fact, behind) = named_fact_at(alloc, rest)?;
         facts.push(fact)?;
         rest = behind;
     }
-    Ok((facts, rest))
+    Ok((whole(facts), rest))
 }
 
 #[tactic(auto, unfolding(crate::specs::ParsingBlocks::environment_at))]
-fn environment_at(alloc: Global, atoms: &[Atom]) -> Result<(Block, &[Atom]), Unread>
-    ensures { Gives (λ x. (x.0, x.1.now)) result (environment_at atoms.now) }
+fn environment_at(alloc: Global, atoms: Atoms<'_>) -> Result<(Block, Atoms<'_>), Unread>
+    ensures { Gives (λ x. (x.0, shown x.1)) result (environment_at (shown atoms.entry)) }
 {
     let rest = keyword_at("env", atoms, Expected::Block)?;
     let inside = going_on(mark_at(Mark::OpenBrace, rest), &[CLOSE_BRACE, SEMICOLON])?;
@@ -129,8 +133,8 @@ fn environment_at(alloc: Global, atoms: &[Atom]) -> Result<(Block, &[Atom]), Unr
 }
 
 #[tactic(auto, unfolding(crate::specs::ParsingBlocks::block_at))]
-fn block_at(alloc: Global, atoms: &[Atom]) -> Result<(Block, &[Atom]), Unread>
-    ensures { Gives (λ x. (x.0, x.1.now)) result (block_at atoms.now) }
+fn block_at(alloc: Global, atoms: Atoms<'_>) -> Result<(Block, Atoms<'_>), Unread>
+    ensures { Gives (λ x. (x.0, shown x.1)) result (block_at (shown atoms.entry)) }
 {
     if names("trace", atoms) {
         let (items, rest) = items_at(alloc, "trace", atoms)?;
@@ -150,40 +154,37 @@ fn block_at(alloc: Global, atoms: &[Atom]) -> Result<(Block, &[Atom]), Unread>
 }
 
 #[tactic(auto, unfolding(crate::specs::ParsingBlocks::ended_block_at))]
-fn ended_block_at(alloc: Global, atoms: &[Atom]) -> Result<(Block, &[Atom]), Unread>
-    ensures { Gives (λ x. (x.0, x.1.now)) result (ended_block_at atoms.now) }
+fn ended_block_at(alloc: Global, atoms: Atoms<'_>) -> Result<(Block, Atoms<'_>), Unread>
+    ensures { Gives (λ x. (x.0, shown x.1)) result (ended_block_at (shown atoms.entry)) }
 {
     let (block, rest) = block_at(alloc, atoms)?;
     let rest = mark_at(Mark::Semicolon, rest)?;
     Ok((block, rest))
 }
 
-fn has_more(atoms: &[Atom]) -> bool
-    ensures { result ≡ has_more atoms.now }
+fn has_more(atoms: Atoms<'_>) -> bool
+    ensures { result ≡ has_more (shown atoms.entry) }
 {
-    match atoms {
-        [] => false,
-        [_, ..] => true,
-    }
+    atoms.front.is_some()
 }
 
-fn all_blocks_at(alloc: Global, atoms: &[Atom]) -> Result<(ListOf<Block>, &[Atom]), Unread>
-    ensures { Gives (λ x. (x.0, x.1.now)) result (all_blocks_at atoms.now) }
+fn all_blocks_at(alloc: Global, atoms: Atoms<'_>) -> Result<(ListOf<Block>, Atoms<'_>), Unread>
+    ensures { Gives (λ x. (x.0, shown x.1)) result (all_blocks_at (shown atoms.entry)) }
 {
-    let mut found = ListOf::new(alloc);
+    let mut found = Vec::new(alloc);
     let mut rest = atoms;
     while has_more(rest) {
         let (block, behind) = ended_block_at(alloc, rest)?;
         found.push(block)?;
         rest = behind;
     }
-    Ok((found, rest))
+    Ok((whole(found), rest))
 }
 
 /// The blocks that the atoms of a text spell, or how far the atoms spell any.
-pub fn parse(alloc: Global, atoms: &[Atom]) -> Result<Vec<Block>, Unread>
-    ensures found { IfOk result (λ bs. atoms.now ≡ text_toks bs.items) }
-    ensures none { IfErr result (λ e. IfHalted e ((bs : List Block) → atoms.now ≡ text_toks bs → ⊥)) }
+pub fn parse(alloc: Global, atoms: Atoms<'_>) -> Result<Vec<Block>, Unread>
+    ensures found { IfOk result (λ bs. (shown atoms.entry) ≡ text_toks bs.items) }
+    ensures none { IfErr result (λ e. IfHalted e ((bs : List Block) → (shown atoms.entry) ≡ text_toks bs → ⊥)) }
 {
     let (found, _) = all_blocks_at(alloc, atoms)?;
     Ok(found.into_vec())

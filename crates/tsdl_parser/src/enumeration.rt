@@ -1,25 +1,27 @@
 //! Reads the entries of enumerations.
 
-ghost use Rattle.std.specs.Prelude.{◌≡◌};
+ghost use Rattle.std.specs.Prelude.{◌≡◌, IfOk};
+ghost use Rattle.tsdl_grammar.specs.Fronts.{shown};
 ghost use Rattle.tsdl_parser.specs.Parsing.{Gives};
 ghost use Rattle.tsdl_parser.specs.ParsingEntries.{label_at, high_at, entry_at, is_labelled, is_next, next_entry_at, all_next_at, closing_at, listed_at, entries_at};
 
 use crate::expected::Expected;
 use crate::halt::{Halt, Unread, expecting, going_on};
 use crate::missing::ZERO;
-use crate::parsing::{begins, is_mark, mark_at, number_at};
+use crate::parsing::{begins, is_mark, mark_at, next_atom, number_at, whole};
 use ctf_types::ListOf;
-use std::alloc::Global;
-use tsdl_grammar::{Atom, Closing, Entries, Entry, Label, Mark, Number};
+use std::alloc::{AllocError, Global};
+use tsdl_grammar::{Atom, Atoms, Closing, Entries, Entry, Label, Mark, Number};
 
 #[tactic(auto, unfolding(crate::specs::ParsingEntries::label_at))]
-fn label_at(alloc: Global, atoms: &[Atom]) -> Result<(Label, &[Atom]), Unread>
-    ensures { Gives (λ x. (x.0, x.1.now)) result (label_at atoms.now) }
+fn label_at(alloc: Global, atoms: Atoms<'_>) -> Result<(Label, Atoms<'_>), Unread>
+    ensures { Gives (λ x. (x.0, shown x.1)) result (label_at (shown atoms.entry)) }
 {
-    match atoms {
-        [Atom::Text(text), rest @ ..] => Ok((Label::Quoted(text.copy(alloc)?), rest)),
-        [Atom::Word(word), rest @ ..] => Ok((Label::Bare(word.copy(alloc)?), rest)),
-        [] | [Atom::Number(_) | Atom::Mark(_) | Atom::TooLarge, ..] => {
+    let (first, rest) = next_atom(alloc, atoms)?;
+    match first {
+        Some(Atom::Text(text)) => Ok((Label::Quoted(text), rest)),
+        Some(Atom::Word(word)) => Ok((Label::Bare(word), rest)),
+        None | Some(Atom::Number(_) | Atom::Mark(_) | Atom::TooLarge) => {
             Err(Unread::Halted(Halt::before(atoms, Expected::Label, &[])))
         }
     }
@@ -27,12 +29,12 @@ fn label_at(alloc: Global, atoms: &[Atom]) -> Result<(Label, &[Atom]), Unread>
 
 /// The upper end of a range, if one follows.
 #[tactic(auto, unfolding(crate::specs::ParsingEntries::high_at))]
-fn high_at(atoms: &[Atom]) -> Result<(Option<Number>, &[Atom]), Unread>
-    ensures { Gives (λ x. (x.0, x.1.now)) result (high_at atoms.now) }
+fn high_at(alloc: Global, atoms: Atoms<'_>) -> Result<(Option<Number>, Atoms<'_>), Unread>
+    ensures { Gives (λ x. (x.0, shown x.1)) result (high_at (shown atoms.entry)) }
 {
     if begins(Mark::Ellipsis, atoms) {
         let behind = mark_at(Mark::Ellipsis, atoms)?;
-        let (high, rest) = number_at(behind, Expected::Number)?;
+        let (high, rest) = number_at(alloc, behind, Expected::Number)?;
         Ok((Some(high), rest))
     } else {
         Ok((None, atoms))
@@ -40,61 +42,62 @@ fn high_at(atoms: &[Atom]) -> Result<(Option<Number>, &[Atom]), Unread>
 }
 
 #[tactic(auto, unfolding(crate::specs::ParsingEntries::entry_at))]
-fn entry_at(alloc: Global, atoms: &[Atom]) -> Result<(Entry, &[Atom]), Unread>
-    ensures { Gives (λ x. (x.0, x.1.now)) result (entry_at atoms.now) }
+fn entry_at(alloc: Global, atoms: Atoms<'_>) -> Result<(Entry, Atoms<'_>), Unread>
+    ensures { Gives (λ x. (x.0, shown x.1)) result (entry_at (shown atoms.entry)) }
 {
     let (label, rest) = label_at(alloc, atoms)?;
     let rest = expecting(mark_at(Mark::Equals, rest), Expected::LabelMark);
-    let (low, rest) = number_at(going_on(rest, &[ZERO])?, Expected::Number)?;
-    let (high, rest) = high_at(rest)?;
+    let (low, rest) = number_at(alloc, going_on(rest, &[ZERO])?, Expected::Number)?;
+    let (high, rest) = high_at(alloc, rest)?;
     Ok((Entry { label, low, high }, rest))
 }
 
 #[tactic(auto, unfolding(crate::specs::ParsingEntries::is_labelled))]
-fn is_labelled(atoms: &[Atom]) -> bool
-    ensures { result ≡ is_labelled atoms.now }
+fn is_labelled(alloc: Global, atoms: Atoms<'_>) -> Result<bool, AllocError>
+    ensures { IfOk result (λ b. b ≡ is_labelled (shown atoms.entry)) }
 {
-    match atoms {
-        [Atom::Text(_) | Atom::Word(_), ..] => true,
-        [] | [Atom::Number(_) | Atom::Mark(_) | Atom::TooLarge, ..] => false,
+    let (first, _) = next_atom(alloc, atoms)?;
+    match first {
+        Some(Atom::Text(_) | Atom::Word(_)) => Ok(true),
+        None | Some(Atom::Number(_) | Atom::Mark(_) | Atom::TooLarge) => Ok(false),
     }
 }
 
 /// Whether a comma and another entry follow.
 #[tactic(auto, unfolding(crate::specs::ParsingEntries::is_next))]
-fn is_next(atoms: &[Atom]) -> bool
-    ensures { result ≡ is_next atoms.now }
+fn is_next(alloc: Global, atoms: Atoms<'_>) -> Result<bool, AllocError>
+    ensures { IfOk result (λ b. b ≡ is_next (shown atoms.entry)) }
 {
-    match atoms {
-        [] => false,
-        [atom, rest @ ..] => is_mark(Mark::Comma, atom) && is_labelled(rest),
+    match atoms.front {
+        Some(front) if is_mark(Mark::Comma, front) => is_labelled(alloc, atoms.behind()),
+        None | Some(_) => Ok(false),
     }
 }
 
 #[tactic(auto, unfolding(crate::specs::ParsingEntries::next_entry_at))]
-fn next_entry_at(alloc: Global, atoms: &[Atom]) -> Result<(Entry, &[Atom]), Unread>
-    ensures { Gives (λ x. (x.0, x.1.now)) result (next_entry_at atoms.now) }
+fn next_entry_at(alloc: Global, atoms: Atoms<'_>) -> Result<(Entry, Atoms<'_>), Unread>
+    ensures { Gives (λ x. (x.0, shown x.1)) result (next_entry_at (shown atoms.entry)) }
 {
     entry_at(alloc, mark_at(Mark::Comma, atoms)?)
 }
 
-fn all_next_at(alloc: Global, atoms: &[Atom]) -> Result<(ListOf<Entry>, &[Atom]), Unread>
-    ensures { Gives (λ x. (x.0, x.1.now)) result (all_next_at atoms.now) }
+fn all_next_at(alloc: Global, atoms: Atoms<'_>) -> Result<(ListOf<Entry>, Atoms<'_>), Unread>
+    ensures { Gives (λ x. (x.0, shown x.1)) result (all_next_at (shown atoms.entry)) }
 {
-    let mut entries = ListOf::new(alloc);
+    let mut entries = Vec::new(alloc);
     let mut rest = atoms;
-    while is_next(rest) {
+    while is_next(alloc, rest)? {
         let (entry, behind) = next_entry_at(alloc, rest)?;
         entries.push(entry)?;
         rest = behind;
     }
-    Ok((entries, rest))
+    Ok((whole(entries), rest))
 }
 
 /// The comma behind the last entry, if there is one.
 #[tactic(auto, unfolding(crate::specs::ParsingEntries::closing_at))]
-fn closing_at(atoms: &[Atom]) -> Result<(Closing, &[Atom]), Unread>
-    ensures { Gives (λ x. (x.0, x.1.now)) result (closing_at atoms.now) }
+fn closing_at(atoms: Atoms<'_>) -> Result<(Closing, Atoms<'_>), Unread>
+    ensures { Gives (λ x. (x.0, shown x.1)) result (closing_at (shown atoms.entry)) }
 {
     if begins(Mark::Comma, atoms) {
         Ok((Closing::Comma, mark_at(Mark::Comma, atoms)?))
@@ -104,8 +107,8 @@ fn closing_at(atoms: &[Atom]) -> Result<(Closing, &[Atom]), Unread>
 }
 
 #[tactic(auto, unfolding(crate::specs::ParsingEntries::listed_at))]
-fn listed_at(alloc: Global, atoms: &[Atom]) -> Result<(Entries, &[Atom]), Unread>
-    ensures { Gives (λ x. (x.0, x.1.now)) result (listed_at atoms.now) }
+fn listed_at(alloc: Global, atoms: Atoms<'_>) -> Result<(Entries, Atoms<'_>), Unread>
+    ensures { Gives (λ x. (x.0, shown x.1)) result (listed_at (shown atoms.entry)) }
 {
     let (first, rest) = entry_at(alloc, atoms)?;
     let (others, rest) = all_next_at(alloc, rest)?;
@@ -115,10 +118,10 @@ fn listed_at(alloc: Global, atoms: &[Atom]) -> Result<(Entries, &[Atom]), Unread
 
 /// What stands between an enumeration's braces.
 #[tactic(auto, unfolding(crate::specs::ParsingEntries::entries_at))]
-pub(crate) fn entries_at(alloc: Global, atoms: &[Atom]) -> Result<(Entries, &[Atom]), Unread>
-    ensures { Gives (λ x. (x.0, x.1.now)) result (entries_at atoms.now) }
+pub(crate) fn entries_at(alloc: Global, atoms: Atoms<'_>) -> Result<(Entries, Atoms<'_>), Unread>
+    ensures { Gives (λ x. (x.0, shown x.1)) result (entries_at (shown atoms.entry)) }
 {
-    if is_labelled(atoms) {
+    if is_labelled(alloc, atoms)? {
         listed_at(alloc, atoms)
     } else {
         Ok((Entries::Empty, atoms))

@@ -9,7 +9,7 @@ use crate::expected::Expected;
 use crate::missing::Missing;
 use arrayvec::ArrayVec;
 use std::alloc::{AllocError, AllocFailed};
-use tsdl_grammar::Atom;
+use tsdl_grammar::Atoms;
 
 /// More than any text lacks, which is at most 12 atoms.
 const MOST_MISSING: usize = 16;
@@ -55,9 +55,9 @@ pub struct Halt {
 
 impl Halt {
     /// The halt in front of these atoms, from where a text could go on with what is missing.
-    pub(crate) fn before(atoms: &[Atom], expected: Expected, missing: &[Missing]) -> Halt {
+    pub(crate) fn before(atoms: Atoms<'_>, expected: Expected, missing: &[Missing]) -> Halt {
         let nothing = Halt {
-            left: atoms.len(),
+            left: left(atoms),
             dropped: 0,
             expected,
             rest: ArrayVec::new(),
@@ -88,6 +88,17 @@ impl Halt {
     }
 }
 
+/// How many atoms are left.
+fn left(atoms: Atoms<'_>) -> usize {
+    let mut count = 0usize;
+    let mut rest = atoms;
+    while rest.front.is_some() {
+        count = count.saturating_add(1);
+        rest = rest.behind();
+    }
+    count
+}
+
 /// What was found, or the same halt with what is missing here behind its rest.
 pub(crate) fn going_on<T>(found: Result<T, Unread>, missing: &[Missing]) -> Result<T, Unread>
     ensures { Alike found result }
@@ -111,14 +122,14 @@ pub(crate) fn expecting<T>(found: Result<T, Unread>, expected: Expected) -> Resu
 }
 
 /// What was found, or the same halt with none of these atoms kept.
-pub(crate) fn back_to<T>(found: Result<T, Unread>, atoms: &[Atom]) -> Result<T, Unread>
+pub(crate) fn back_to<T>(found: Result<T, Unread>, atoms: Atoms<'_>) -> Result<T, Unread>
     ensures { Alike found result }
 {
     match found {
         Ok(found) => Ok(found),
         Err(Unread::Memory) => Err(Unread::Memory),
         Err(Unread::Halted(halt)) => Err(Unread::Halted(Halt {
-            dropped: atoms.len().saturating_sub(halt.left),
+            dropped: left(atoms).saturating_sub(halt.left),
             rest: ArrayVec::new(),
             ..halt
         })),

@@ -4,9 +4,10 @@ ghost use Rattle.std.specs.Prelude.{◌≡◌, ◌<◌, ◌↔◌, not, true, le
 ghost use Rattle.std.specs.List.{list_any, list_all};
 ghost use Rattle.std.specs.Str.{bytes_eq};
 ghost use Rattle.tsdl_grammar.specs.Denotes.{unread_words, is_read};
+ghost use Rattle.tsdl_grammar.specs.Fronts.{atoms_in, meant};
 ghost use Rattle.tsdl_parser.specs.Keywords.{IsUnreadAt};
 
-use tsdl_grammar::Atom;
+use tsdl_grammar::{Front, first_token};
 
 /// Whether a word is a keyword of TSDL that this project doesn't read.
 pub fn is_unread(word: &str) -> bool
@@ -34,22 +35,31 @@ pub fn is_unread(word: &str) -> bool
     )
 }
 
-/// Whether an atom is no keyword that this project doesn't read.
-fn is_read(atom: &Atom) -> bool
-    ensures { result ≡ is_read atom.now }
+/// Whether a token is no keyword that this project doesn't read.
+fn is_read(front: Front<'_>) -> bool
+    ensures { result ≡ is_read (meant front.entry) }
 {
-    match atom {
-        Atom::Word(word) => !is_unread(word.as_str()),
-        Atom::Number(_) | Atom::Text(_) | Atom::Mark(_) | Atom::TooLarge => true,
+    match front.word() {
+        Some(word) => !is_unread(word),
+        None => true,
     }
 }
 
-/// The index of the first atom that is a keyword which this project doesn't read.
-pub fn first_unread(atoms: &[Atom]) -> Option<usize>
-    ensures none { IsNone result ↔ (list_all is_read atoms.now ≡ true) }
-    ensures within { IfSome result (λ i. i < length atoms.now) }
-    ensures unread { IfSome result (λ i. IsUnreadAt atoms.now i) }
-    ensures before { IfSome result (λ i. list_all is_read (take i atoms.now) ≡ true) }
+/// The index of the first atom of a text that is a keyword which this project doesn't read.
+pub fn first_unread(text: &[u8]) -> Option<usize>
+    ensures none { IsNone result ↔ (list_all is_read (atoms_in text.now) ≡ true) }
+    ensures within { IfSome result (λ i. i < length (atoms_in text.now)) }
+    ensures unread { IfSome result (λ i. IsUnreadAt (atoms_in text.now) i) }
+    ensures before { IfSome result (λ i. list_all is_read (take i (atoms_in text.now)) ≡ true) }
 {
-    atoms.iter().position(|atom| !is_read(atom))
+    let mut index = 0usize;
+    let mut rest = text;
+    while let Some((front, behind)) = first_token(rest) {
+        if !is_read(front) {
+            return Some(index);
+        }
+        index += 1;
+        rest = behind;
+    }
+    None
 }

@@ -1,5 +1,6 @@
 //! Reads types, members and structures.
 
+ghost use Rattle.tsdl_grammar.specs.Fronts.{shown};
 ghost use Rattle.tsdl_parser.specs.Parsing.{Gives};
 ghost use Rattle.tsdl_parser.specs.ParsingMembers.{int_at, enum_at, string_at, kind_at, count_at, bracket_at, all_brackets_at, member_at, all_members_at, align_at, struct_at};
 
@@ -11,18 +12,20 @@ use crate::missing::{
     CLOSE_BRACE, CLOSE_BRACKET, CLOSE_PARENTHESIS, INTEGER, NAME, OPEN_BRACE, SEMICOLON, STRUCT,
     ZERO,
 };
-use crate::parsing::{begins, is_open, keyword_at, mark_at, names, no_number, number_at, word_at};
+use crate::parsing::{
+    begins, is_open, keyword_at, mark_at, names, next_atom, no_number, number_at, whole, word_at,
+};
 use ctf_types::ListOf;
 use std::alloc::Global;
-use tsdl_grammar::{Atom, Attribute, Bracket, Kind, Mark, MemberTree, Number, Structure};
+use tsdl_grammar::{Atom, Atoms, Attribute, Bracket, Kind, Mark, MemberTree, Number, Structure};
 
 #[tactic(auto, unfolding(crate::specs::ParsingMembers::int_at))]
 fn int_at(
     alloc: Global,
-    atoms: &[Atom],
+    atoms: Atoms<'_>,
     expected: Expected,
-) -> Result<(ListOf<Attribute>, &[Atom]), Unread>
-    ensures { Gives (λ x. (x.0, x.1.now)) result (int_at atoms.now) }
+) -> Result<(ListOf<Attribute>, Atoms<'_>), Unread>
+    ensures { Gives (λ x. (x.0, shown x.1)) result (int_at (shown atoms.entry)) }
 {
     let rest = keyword_at("integer", atoms, expected);
     let rest = going_on(rest, &[INTEGER, OPEN_BRACE, CLOSE_BRACE])?;
@@ -30,8 +33,8 @@ fn int_at(
 }
 
 #[tactic(auto, unfolding(crate::specs::ParsingMembers::enum_at))]
-fn enum_at(alloc: Global, atoms: &[Atom]) -> Result<(Kind, &[Atom]), Unread>
-    ensures { Gives (λ x. (x.0, x.1.now)) result (enum_at atoms.now) }
+fn enum_at(alloc: Global, atoms: Atoms<'_>) -> Result<(Kind, Atoms<'_>), Unread>
+    ensures { Gives (λ x. (x.0, shown x.1)) result (enum_at (shown atoms.entry)) }
 {
     let rest = keyword_at("enum", atoms, Expected::Member)?;
     let rest = expecting(mark_at(Mark::Colon, rest), Expected::EnumColon);
@@ -48,8 +51,8 @@ fn enum_at(alloc: Global, atoms: &[Atom]) -> Result<(Kind, &[Atom]), Unread>
 }
 
 #[tactic(auto, unfolding(crate::specs::ParsingMembers::string_at))]
-fn string_at(alloc: Global, atoms: &[Atom]) -> Result<(Kind, &[Atom]), Unread>
-    ensures { Gives (λ x. (x.0, x.1.now)) result (string_at atoms.now) }
+fn string_at(alloc: Global, atoms: Atoms<'_>) -> Result<(Kind, Atoms<'_>), Unread>
+    ensures { Gives (λ x. (x.0, shown x.1)) result (string_at (shown atoms.entry)) }
 {
     let rest = keyword_at("string", atoms, Expected::Member)?;
     if begins(Mark::OpenBrace, rest) {
@@ -61,8 +64,8 @@ fn string_at(alloc: Global, atoms: &[Atom]) -> Result<(Kind, &[Atom]), Unread>
 }
 
 #[tactic(auto, unfolding(crate::specs::ParsingMembers::kind_at))]
-fn kind_at(alloc: Global, atoms: &[Atom]) -> Result<(Kind, &[Atom]), Unread>
-    ensures { Gives (λ x. (x.0, x.1.now)) result (kind_at atoms.now) }
+fn kind_at(alloc: Global, atoms: Atoms<'_>) -> Result<(Kind, Atoms<'_>), Unread>
+    ensures { Gives (λ x. (x.0, shown x.1)) result (kind_at (shown atoms.entry)) }
 {
     if names("integer", atoms) {
         let attrs = int_at(alloc, atoms, Expected::Member);
@@ -77,24 +80,25 @@ fn kind_at(alloc: Global, atoms: &[Atom]) -> Result<(Kind, &[Atom]), Unread>
 
 /// What stands between an array's brackets.
 #[tactic(auto, unfolding(crate::specs::ParsingMembers::count_at))]
-fn count_at(alloc: Global, atoms: &[Atom]) -> Result<(Bracket, &[Atom]), Unread>
-    ensures { Gives (λ x. (x.0, x.1.now)) result (count_at atoms.now) }
+fn count_at(alloc: Global, atoms: Atoms<'_>) -> Result<(Bracket, Atoms<'_>), Unread>
+    ensures { Gives (λ x. (x.0, shown x.1)) result (count_at (shown atoms.entry)) }
 {
-    match atoms {
-        [Atom::Word(name), rest @ ..] => Ok((Bracket::Member(name.copy(alloc)?), rest)),
-        [Atom::Number(_) | Atom::Mark(_), ..] => {
-            let (count, rest) = number_at(atoms, Expected::Length)?;
+    let (first, rest) = next_atom(alloc, atoms)?;
+    match first {
+        Some(Atom::Word(name)) => Ok((Bracket::Member(name), rest)),
+        Some(Atom::Number(_) | Atom::Mark(_)) => {
+            let (count, rest) = number_at(alloc, atoms, Expected::Length)?;
             Ok((Bracket::Count(count), rest))
         }
-        [] | [Atom::Text(_) | Atom::TooLarge, ..] => {
+        None | Some(Atom::Text(_) | Atom::TooLarge) => {
             Err(Unread::Halted(no_number(atoms, Expected::Length)))
         }
     }
 }
 
 #[tactic(auto, unfolding(crate::specs::ParsingMembers::bracket_at))]
-fn bracket_at(alloc: Global, atoms: &[Atom]) -> Result<(Bracket, &[Atom]), Unread>
-    ensures { Gives (λ x. (x.0, x.1.now)) result (bracket_at atoms.now) }
+fn bracket_at(alloc: Global, atoms: Atoms<'_>) -> Result<(Bracket, Atoms<'_>), Unread>
+    ensures { Gives (λ x. (x.0, shown x.1)) result (bracket_at (shown atoms.entry)) }
 {
     let inside = mark_at(Mark::OpenBracket, atoms)?;
     let (count, rest) = going_on(count_at(alloc, inside), &[CLOSE_BRACKET])?;
@@ -102,22 +106,22 @@ fn bracket_at(alloc: Global, atoms: &[Atom]) -> Result<(Bracket, &[Atom]), Unrea
     Ok((count, rest))
 }
 
-fn all_brackets_at(alloc: Global, atoms: &[Atom]) -> Result<(ListOf<Bracket>, &[Atom]), Unread>
-    ensures { Gives (λ x. (x.0, x.1.now)) result (all_brackets_at atoms.now) }
+fn all_brackets_at(alloc: Global, atoms: Atoms<'_>) -> Result<(ListOf<Bracket>, Atoms<'_>), Unread>
+    ensures { Gives (λ x. (x.0, shown x.1)) result (all_brackets_at (shown atoms.entry)) }
 {
-    let mut brackets = ListOf::new(alloc);
+    let mut brackets = Vec::new(alloc);
     let mut rest = atoms;
     while begins(Mark::OpenBracket, rest) {
         let (bracket, behind) = bracket_at(alloc, rest)?;
         brackets.push(bracket)?;
         rest = behind;
     }
-    Ok((brackets, rest))
+    Ok((whole(brackets), rest))
 }
 
 #[tactic(auto, unfolding(crate::specs::ParsingMembers::member_at))]
-fn member_at(alloc: Global, atoms: &[Atom]) -> Result<(MemberTree, &[Atom]), Unread>
-    ensures { Gives (λ x. (x.0, x.1.now)) result (member_at atoms.now) }
+fn member_at(alloc: Global, atoms: Atoms<'_>) -> Result<(MemberTree, Atoms<'_>), Unread>
+    ensures { Gives (λ x. (x.0, shown x.1)) result (member_at (shown atoms.entry)) }
 {
     let (kind, rest) = kind_at(alloc, atoms)?;
     let name = word_at(alloc, rest, Expected::MemberName);
@@ -134,29 +138,32 @@ fn member_at(alloc: Global, atoms: &[Atom]) -> Result<(MemberTree, &[Atom]), Unr
     ))
 }
 
-fn all_members_at(alloc: Global, atoms: &[Atom]) -> Result<(ListOf<MemberTree>, &[Atom]), Unread>
-    ensures { Gives (λ x. (x.0, x.1.now)) result (all_members_at atoms.now) }
+fn all_members_at(
+    alloc: Global,
+    atoms: Atoms<'_>,
+) -> Result<(ListOf<MemberTree>, Atoms<'_>), Unread>
+    ensures { Gives (λ x. (x.0, shown x.1)) result (all_members_at (shown atoms.entry)) }
 {
-    let mut members = ListOf::new(alloc);
+    let mut members = Vec::new(alloc);
     let mut rest = atoms;
     while is_open(rest) {
         let (member, behind) = member_at(alloc, rest)?;
         members.push(member)?;
         rest = behind;
     }
-    Ok((members, rest))
+    Ok((whole(members), rest))
 }
 
 /// A structure's alignment, if it is given.
 #[tactic(auto, unfolding(crate::specs::ParsingMembers::align_at))]
-fn align_at(atoms: &[Atom]) -> Result<(Option<Number>, &[Atom]), Unread>
-    ensures { Gives (λ x. (x.0, x.1.now)) result (align_at atoms.now) }
+fn align_at(alloc: Global, atoms: Atoms<'_>) -> Result<(Option<Number>, Atoms<'_>), Unread>
+    ensures { Gives (λ x. (x.0, shown x.1)) result (align_at (shown atoms.entry)) }
 {
     if names("align", atoms) {
         let rest = keyword_at("align", atoms, Expected::Mark(Mark::Semicolon))?;
         let inside = mark_at(Mark::OpenParenthesis, rest);
         let inside = going_on(inside, &[ZERO, CLOSE_PARENTHESIS])?;
-        let align = number_at(inside, Expected::Number);
+        let align = number_at(alloc, inside, Expected::Number);
         let (align, rest) = going_on(align, &[CLOSE_PARENTHESIS])?;
         let rest = mark_at(Mark::CloseParenthesis, rest)?;
         Ok((Some(align), rest))
@@ -166,8 +173,8 @@ fn align_at(atoms: &[Atom]) -> Result<(Option<Number>, &[Atom]), Unread>
 }
 
 #[tactic(auto, unfolding(crate::specs::ParsingMembers::struct_at))]
-pub(crate) fn struct_at(alloc: Global, atoms: &[Atom]) -> Result<(Structure, &[Atom]), Unread>
-    ensures { Gives (λ x. (x.0, x.1.now)) result (struct_at atoms.now) }
+pub(crate) fn struct_at(alloc: Global, atoms: Atoms<'_>) -> Result<(Structure, Atoms<'_>), Unread>
+    ensures { Gives (λ x. (x.0, shown x.1)) result (struct_at (shown atoms.entry)) }
 {
     let rest = keyword_at("struct", atoms, Expected::Structure);
     let rest = going_on(rest, &[STRUCT, OPEN_BRACE, CLOSE_BRACE])?;
@@ -175,6 +182,6 @@ pub(crate) fn struct_at(alloc: Global, atoms: &[Atom]) -> Result<(Structure, &[A
     let inside = going_on(inside, &[CLOSE_BRACE])?;
     let (members, rest) = going_on(all_members_at(alloc, inside), &[CLOSE_BRACE])?;
     let rest = mark_at(Mark::CloseBrace, rest)?;
-    let (align, rest) = align_at(rest)?;
+    let (align, rest) = align_at(alloc, rest)?;
     Ok((Structure { members, align }, rest))
 }

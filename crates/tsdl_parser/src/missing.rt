@@ -12,6 +12,17 @@ pub enum Missing {
     Zero,
 }
 
+impl Missing {
+    /// The atom as it is written.
+    pub fn spelling(self) -> &'static str {
+        match self {
+            Missing::Mark(mark) => mark.spelling(),
+            Missing::Word(word) => word,
+            Missing::Zero => "0",
+        }
+    }
+}
+
 pub(crate) const OPEN_BRACE: Missing = Missing::Mark(Mark::OpenBrace);
 
 pub(crate) const CLOSE_BRACE: Missing = Missing::Mark(Mark::CloseBrace);

@@ -1,14 +1,24 @@
 //! What the rules of the grammar are made of: marks, words and numbers at the front of a list of atoms.
 
-ghost use Rattle.std.specs.Prelude.{◌≡◌};
-ghost use Rattle.tsdl_parser.specs.Parsing.{Gives, number_of, is_mark, begins, mark_at, word_at, is_word, names, keyword_at, number_at, is_open};
+ghost use Rattle.std.specs.Prelude.{◌≡◌, ◌∷◌, [], IfOk, MatchOption, option_map};
+ghost use Rattle.tsdl_grammar.specs.Fronts.{meant, shown};
+ghost use Rattle.tsdl_parser.specs.Parsing.{Gives, number_of, is_mark, begins, mark_at, word_at, is_word, names, keyword_at, signed_at, number_at, is_open};
 
 use crate::expected::Expected;
 use crate::halt::{Halt, Unread};
 use crate::missing::Missing;
-use ctf_types::Text;
-use std::alloc::Global;
-use tsdl_grammar::{Atom, Mark, Number, Sign};
+use ctf_types::{ListOf, Text};
+use std::alloc::{AllocError, Global};
+use tsdl_grammar::{Atom, Atoms, Front, Mark, Number, Sign, TokenKind};
+
+/// A list of parts that takes no more memory than they do.
+pub(crate) fn whole<T>(parts: Vec<T>) -> ListOf<T>
+    ensures { result ≡ parts.items }
+{
+    let mut parts = parts;
+    parts.shrink_to_fit();
+    ListOf::from_vec(parts)
+}
 
 fn number_of(mark: Mark) -> u8
     ensures { result ≡ number_of mark }
@@ -16,34 +26,47 @@ fn number_of(mark: Mark) -> u8
     mark as u8
 }
 
-pub(crate) fn is_mark(mark: Mark, atom: &Atom) -> bool
-    ensures { result ≡ is_mark mark atom.now }
+/// The first atom, where there is one, in memory of its own, and the atoms behind it.
+pub(crate) fn next_atom(
+    alloc: Global,
+    atoms: Atoms<'_>,
+) -> Result<(Option<Atom>, Atoms<'_>), AllocError>
+    ensures { IfOk result (λ x. MatchOption x.0 (shown atoms.entry ≡ []) (λ a. shown atoms.entry ≡ a ∷ shown x.1)) }
 {
-    match atom {
-        Atom::Mark(found) => number_of(*found) == number_of(mark),
-        Atom::Word(_) | Atom::Number(_) | Atom::Text(_) | Atom::TooLarge => false,
+    match atoms.front {
+        Some(front) => Ok((Some(front.atom(alloc)?), atoms.behind())),
+        None => Ok((None, atoms)),
+    }
+}
+
+pub(crate) fn is_mark(mark: Mark, front: Front<'_>) -> bool
+    ensures { result ≡ is_mark mark (meant front.entry) }
+{
+    match front.kind {
+        TokenKind::Mark(found) => number_of(found) == number_of(mark),
+        TokenKind::Identifier | TokenKind::Number | TokenKind::Text => false,
     }
 }
 
 /// Whether the first atom is this mark.
 #[tactic(auto, unfolding(crate::specs::Parsing::begins))]
-pub(crate) fn begins(mark: Mark, atoms: &[Atom]) -> bool
-    ensures { result ≡ begins mark atoms.now }
+pub(crate) fn begins(mark: Mark, atoms: Atoms<'_>) -> bool
+    ensures { result ≡ begins mark (shown atoms.entry) }
 {
-    match atoms {
-        [] => false,
-        [atom, ..] => is_mark(mark, atom),
+    match atoms.front {
+        None => false,
+        Some(front) => is_mark(mark, front),
     }
 }
 
 /// What stands behind this mark.
 #[tactic(auto, unfolding(crate::specs::Parsing::mark_at))]
-pub(crate) fn mark_at(mark: Mark, atoms: &[Atom]) -> Result<&[Atom], Unread>
-    ensures { Gives (λ x. x.now) result (mark_at mark atoms.now) }
+pub(crate) fn mark_at(mark: Mark, atoms: Atoms<'_>) -> Result<Atoms<'_>, Unread>
+    ensures { Gives (λ x. shown x) result (mark_at mark (shown atoms.entry)) }
 {
-    match atoms {
-        [atom, rest @ ..] if is_mark(mark, atom) => Ok(rest),
-        [] | [_, ..] => Err(Unread::Halted(Halt::before(
+    match atoms.front {
+        Some(front) if is_mark(mark, front) => Ok(atoms.behind()),
+        None | Some(_) => Err(Unread::Halted(Halt::before(
             atoms,
             Expected::Mark(mark),
             &[Missing::Mark(mark)],
@@ -55,38 +78,37 @@ pub(crate) fn mark_at(mark: Mark, atoms: &[Atom]) -> Result<&[Atom], Unread>
 #[tactic(auto, unfolding(crate::specs::Parsing::word_at))]
 pub(crate) fn word_at(
     alloc: Global,
-    atoms: &[Atom],
+    atoms: Atoms<'_>,
     expected: Expected,
-) -> Result<(Text, &[Atom]), Unread>
-    ensures { Gives (λ x. (x.0, x.1.now)) result (word_at atoms.now) }
+) -> Result<(Text, Atoms<'_>), Unread>
+    ensures { Gives (λ x. (x.0, shown x.1)) result (word_at (shown atoms.entry)) }
 {
-    match atoms {
-        [Atom::Word(word), rest @ ..] => Ok((word.copy(alloc)?, rest)),
-        []
-        | [
-            Atom::Number(_) | Atom::Text(_) | Atom::Mark(_) | Atom::TooLarge,
-            ..
-        ] => Err(Unread::Halted(Halt::before(atoms, expected, &[]))),
+    let (first, rest) = next_atom(alloc, atoms)?;
+    match first {
+        Some(Atom::Word(word)) => Ok((word, rest)),
+        None | Some(Atom::Number(_) | Atom::Text(_) | Atom::Mark(_) | Atom::TooLarge) => Err(
+            Unread::Halted(Halt::before(atoms, expected, &[])),
+        ),
     }
 }
 
-fn is_word(keyword: &str, atom: &Atom) -> bool
-    ensures { result ≡ is_word keyword.now atom.now }
+fn is_word(keyword: &str, front: Front<'_>) -> bool
+    ensures { result ≡ is_word keyword.now (meant front.entry) }
 {
-    match atom {
-        Atom::Word(word) => word.as_str() == keyword,
-        Atom::Number(_) | Atom::Text(_) | Atom::Mark(_) | Atom::TooLarge => false,
+    match front.word() {
+        Some(word) => word == keyword,
+        None => false,
     }
 }
 
 /// Whether the first atom is this word.
 #[tactic(auto, unfolding(crate::specs::Parsing::names))]
-pub(crate) fn names(keyword: &str, atoms: &[Atom]) -> bool
-    ensures { result ≡ names keyword.now atoms.now }
+pub(crate) fn names(keyword: &str, atoms: Atoms<'_>) -> bool
+    ensures { result ≡ names keyword.now (shown atoms.entry) }
 {
-    match atoms {
-        [] => false,
-        [atom, ..] => is_word(keyword, atom),
+    match atoms.front {
+        None => false,
+        Some(front) => is_word(keyword, front),
     }
 }
 
@@ -94,55 +116,83 @@ pub(crate) fn names(keyword: &str, atoms: &[Atom]) -> bool
 #[tactic(auto, unfolding(crate::specs::Parsing::keyword_at))]
 pub(crate) fn keyword_at<'a>(
     keyword: &str,
-    atoms: &'a [Atom],
+    atoms: Atoms<'a>,
     expected: Expected,
-) -> Result<&'a [Atom], Unread>
-    ensures { Gives (λ x. x.now) result (keyword_at keyword.now atoms.now) }
+) -> Result<Atoms<'a>, Unread>
+    ensures { Gives (λ x. shown x) result (keyword_at keyword.now (shown atoms.entry)) }
 {
-    match atoms {
-        [atom, rest @ ..] if is_word(keyword, atom) => Ok(rest),
-        [] | [_, ..] => Err(Unread::Halted(Halt::before(atoms, expected, &[]))),
+    match atoms.front {
+        Some(front) if is_word(keyword, front) => Ok(atoms.behind()),
+        None | Some(_) => Err(Unread::Halted(Halt::before(atoms, expected, &[]))),
     }
 }
 
 /// Whether another item stands before the closing brace.
-pub(crate) fn is_open(atoms: &[Atom]) -> bool
-    ensures { result ≡ is_open atoms.now }
+pub(crate) fn is_open(atoms: Atoms<'_>) -> bool
+    ensures { result ≡ is_open (shown atoms.entry) }
 {
     !begins(Mark::CloseBrace, atoms)
 }
 
 /// A number with its sign.
-#[tactic(auto, unfolding(crate::specs::Parsing::number_at))]
-pub(crate) fn number_at(atoms: &[Atom], expected: Expected) -> Result<(Number, &[Atom]), Unread>
-    ensures { Gives (λ x. (x.0, x.1.now)) result (number_at atoms.now) }
+pub(crate) fn number_at(
+    alloc: Global,
+    atoms: Atoms<'_>,
+    expected: Expected,
+) -> Result<(Number, Atoms<'_>), Unread>
+    ensures { Gives (λ x. (x.0, shown x.1)) result (number_at (shown atoms.entry)) }
 {
-    match atoms {
-        [Atom::Number(literal), rest @ ..] => Ok((unsigned(*literal), rest)),
-        [Atom::Mark(Mark::Plus), Atom::Number(literal), rest @ ..] => {
-            Ok((signed(Sign::Plus, *literal), rest))
-        }
-        [Atom::Mark(Mark::Minus), Atom::Number(literal), rest @ ..] => {
-            Ok((signed(Sign::Minus, *literal), rest))
-        }
-        _ => Err(Unread::Halted(no_number(atoms, expected))),
+    match number_in(alloc, atoms)? {
+        Some(found) => Ok(found),
+        None => Err(Unread::Halted(no_number(atoms, expected))),
+    }
+}
+
+/// A number with its sign, None where none stands.
+#[tactic(auto, unfolding(crate::specs::Parsing::number_at))]
+fn number_in(alloc: Global, atoms: Atoms<'_>) -> Result<Option<(Number, Atoms<'_>)>, AllocError>
+    ensures { IfOk result (λ found. option_map (λ x. (x.0, shown x.1)) found ≡ number_at (shown atoms.entry)) }
+{
+    let (first, rest) = next_atom(alloc, atoms)?;
+    match first {
+        Some(Atom::Number(literal)) => Ok(Some((unsigned(literal), rest))),
+        Some(Atom::Mark(Mark::Plus)) => signed_at(alloc, Sign::Plus, rest),
+        Some(Atom::Mark(Mark::Minus)) => signed_at(alloc, Sign::Minus, rest),
+        _ => Ok(None),
+    }
+}
+
+/// A literal behind its sign, None where none stands.
+#[tactic(auto, unfolding(crate::specs::Parsing::signed_at))]
+fn signed_at(
+    alloc: Global,
+    sign: Sign,
+    atoms: Atoms<'_>,
+) -> Result<Option<(Number, Atoms<'_>)>, AllocError>
+    ensures { IfOk result (λ found. option_map (λ x. (x.0, shown x.1)) found ≡ signed_at sign (shown atoms.entry)) }
+{
+    let (first, rest) = next_atom(alloc, atoms)?;
+    match first {
+        Some(Atom::Number(literal)) => Ok(Some((signed(sign, literal), rest))),
+        _ => Ok(None),
     }
 }
 
 /// The halt where a number is expected. A sign without a literal does not stand.
-pub(crate) fn no_number(atoms: &[Atom], expected: Expected) -> Halt {
-    match atoms {
-        [Atom::Mark(Mark::Plus | Mark::Minus), rest @ ..] => Halt {
+pub(crate) fn no_number(atoms: Atoms<'_>, expected: Expected) -> Halt {
+    match atoms.front {
+        Some(front) if is_mark(Mark::Plus, front) || is_mark(Mark::Minus, front) => Halt {
             dropped: 1,
-            ..no_literal(rest, expected)
+            ..no_literal(atoms.behind(), expected)
         },
         _ => no_literal(atoms, expected),
     }
 }
 
-fn no_literal(atoms: &[Atom], expected: Expected) -> Halt {
-    let expected = match atoms {
-        [Atom::TooLarge, ..] => Expected::SmallerNumber,
+/// The halt where no literal up to 2^64 - 1 stands.
+fn no_literal(atoms: Atoms<'_>, expected: Expected) -> Halt {
+    let expected = match atoms.front {
+        Some(front) if matches!(front.kind, TokenKind::Number) => Expected::SmallerNumber,
         _ => expected,
     };
     Halt::before(atoms, expected, &[Missing::Zero])

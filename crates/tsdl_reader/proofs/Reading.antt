@@ -9,16 +9,22 @@ use Rattle.tsdl_grammar.specs.declared.atom.Atom.{Atom}
 use Rattle.tsdl_grammar.specs.declared.fault.MetaFault.{MetaFault}
 use Rattle.tsdl_grammar.specs.declared.fault.MetaFaultKind.{MetaFaultKind}
 use Rattle.tsdl_grammar.specs.declared.fault.MetaFaultKind.TheVariants as faults
-use Rattle.tsdl_grammar.specs.Tokens.{Tokenizes}
+use Rattle.tsdl_grammar.specs.Tokens.{HasMagicLine, Tokenizes, HasTokens, start_of}
 use Rattle.tsdl_grammar.specs.Atoms.{atom_of, atoms_of}
+use Rattle.tsdl_grammar.specs.Fronts.{atoms_in}
+use Rattle.tsdl_grammar.proofs.AtomsAhead.{tokens_mean}
 use Rattle.tsdl_grammar.specs.Denotes.{is_read, text_meta, Denotes}
 use Rattle.tsdl_flaw.specs.Flaws.{FaultStands}
-use Rattle.tsdl_reader.specs.Reading.{Means, HasAtoms, start_of, IsPlaced, IsRefused, FaultHolds}
+use Rattle.tsdl_reader.specs.Reading.{Means, HasAtoms, IsPlaced, IsRefused, FaultHolds}
 use Rattle.tsdl_parser.proofs.Steps.{some_is}
 use Rattle.tsdl_parser.proofs.Blocks.{one_reading}
 
 abbrev pub OneListOfTokens : Type 0
 OneListOfTokens = (text : List ℕ) (ts us : List Token) → Tokenizes text ts → Tokenizes text us → ts ≡ us
+
+-- what stands in the text, one after the other, is what its tokens mean
+pub has_atoms : (text : List ℕ) → HasMagicLine text → (has : HasTokens text) → HasAtoms text has.0 (atoms_in text)
+has_atoms text magic has = record { magic = magic; split = has.1; atoms = sym (tokens_mean text has.0 has.1) }
 
 pub denotes : (text : List ℕ) (ts : List Token) (meant : List Atom) (m : Metadata) → HasAtoms text ts meant → Means meant m → Denotes text m
 denotes text ts meant m has means = (has.magic, meant, (ts, has.split, has.atoms), means.0, means.1)

@@ -1,5 +1,5 @@
 -- What a reader of metadata answers: the metadata that the text denotes, or a fault that says why it denotes none.
-use Rattle.std.specs.Prelude.{◌≡◌, ℕ, true, ◌⊎◌, List, length, Option, Some, None, slice_get, string_bytes, Result, Ok, Err}
+use Rattle.std.specs.Prelude.{◌≡◌, ℕ, true, ◌⊎◌, List, length, Option, Some, slice_get, string_bytes, Result, Ok, Err}
 use Rattle.std.specs.List.{list_all}
 use Rattle.ctf_types.specs.declared.Metadata.{Metadata}
 use Rattle.tsdl_grammar.specs.declared.token.Token.{Token}
@@ -9,7 +9,7 @@ use Rattle.tsdl_grammar.specs.declared.tree.Block.{Block}
 use Rattle.tsdl_grammar.specs.declared.fault.MetaFault.{MetaFault}
 use Rattle.tsdl_grammar.specs.declared.fault.MetaFaultKind.{MetaFaultKind}
 use Rattle.tsdl_grammar.specs.declared.fault.MetaFaultKind.TheVariants as faults
-use Rattle.tsdl_grammar.specs.Tokens.{HasMagicLine, Tokenizes, StopsAt}
+use Rattle.tsdl_grammar.specs.Tokens.{HasMagicLine, Tokenizes, StopsAt, start_of}
 use Rattle.tsdl_grammar.specs.Atoms.{atoms_of}
 use Rattle.tsdl_grammar.specs.Spelling.{text_toks}
 use Rattle.tsdl_grammar.specs.Denotes.{is_read, text_meta, Denotes}
@@ -39,11 +39,6 @@ GivesMetadata (Err fault) m = fault.kind ≡ faults.OutOfMemory
 abbrev pub GivesKind : Result Metadata MetaFault → MetaFaultKind → Type 0
 GivesKind (Ok found) kind = ⊥
 GivesKind (Err fault) kind = (fault.kind ≡ kind) ⊎ (fault.kind ≡ faults.OutOfMemory)
-
--- where a token begins, or the end of the text
-abbrev pub start_of : Option Token → ℕ → ℕ
-start_of (Some token) end = token.span.start
-start_of None end = end
 
 -- the atoms of a text mean nothing
 abbrev pub MeansNothing : List Atom → Type 0

@@ -1,18 +1,18 @@
 //! Reads a metadata text.
 
-ghost use Rattle.std.specs.Prelude.{◌≡◌, ℕ, slice_get, IfOk, IfErr};
+ghost use Rattle.std.specs.Prelude.{◌≡◌, ℕ, IfOk, IfErr};
 ghost use Rattle.ctf_types.specs.declared.Metadata.{Metadata};
 ghost use Rattle.ctf_types.specs.Allowed.{IsMetadata};
-ghost use Rattle.tsdl_grammar.specs.Tokens.{HasMagicLine, StopsAt};
+ghost use Rattle.tsdl_grammar.specs.Tokens.{HasMagicLine, HasTokens, StopsAt};
 ghost use Rattle.tsdl_grammar.specs.Denotes.{Denotes};
-ghost use Rattle.tsdl_reader.specs.Reading.{GivesMetadata, GivesKind, HasAtoms, FaultHolds, start_of};
+ghost use Rattle.tsdl_reader.specs.Reading.{GivesMetadata, GivesKind, FaultHolds};
 
 use crate::meaning::meaning;
 use ctf_types::Metadata;
 use std::alloc::{AllocError, Global};
 use tsdl_flaw::Stop;
 use tsdl_grammar::{
-    Atom, MetaFault, MetaFaultKind, Token, atoms, tokens, tokens_are_unique, tokens_or_a_stop,
+    MetaFault, MetaFaultKind, check_tokens, token_start, tokens_are_unique, tokens_or_a_stop,
 };
 use tsdl_meaning::denoted_is_allowed;
 
@@ -31,41 +31,25 @@ pub fn read_metadata(alloc: Global, text: &[u8]) -> Result<Metadata, MetaFault>
     ensures fault { IfErr result (λ f. FaultHolds text.now f.kind f.place) }
 {
     tokens_or_a_stop();
-    let tokens = tokens(alloc, text)?;
-    let atoms = atoms(alloc, text, &tokens)?;
-    judge(alloc, text, &tokens, atoms)
+    check_tokens(text)?;
+    judge(alloc, text)
 }
 
-/// The metadata that a text of these tokens denotes.
-fn judge(
-    alloc: Global,
-    text: &[u8],
-    tokens: &[Token],
-    atoms: Vec<Atom>,
-) -> Result<Metadata, MetaFault>
-    requires { HasAtoms text.now tokens.now atoms.items }
+/// The metadata that a text denotes that has tokens.
+fn judge(alloc: Global, text: &[u8]) -> Result<Metadata, MetaFault>
+    requires { HasMagicLine text.now × HasTokens text.now }
     ensures found { IfOk result (λ m. Denotes text.now m × IsMetadata m) }
     ensures only { (m : Metadata) → Denotes text.now m → GivesMetadata result m }
     ensures fault { IfErr result (λ f. FaultHolds text.now f.kind f.place) }
 {
     tokens_are_unique();
     denoted_is_allowed();
-    match meaning(alloc, atoms) {
+    match meaning(alloc, text) {
         Ok(metadata) => Ok(metadata),
         Err(Stop::Fault(fault)) => Err(MetaFault {
-            place: place_of(tokens, fault.at, text.len()),
+            place: token_start(text, fault.at),
             kind: fault.flaw.into_kind(),
         }),
         Err(Stop::NoMemory) => Err(MetaFault::from(AllocError)),
-    }
-}
-
-/// Where a token begins, the end of the text behind the last one.
-fn place_of(tokens: &[Token], index: usize, end: usize) -> usize
-    ensures { result ≡ start_of (slice_get tokens.now index) end }
-{
-    match tokens.get(index) {
-        Some(token) => token.span.start,
-        None => end,
     }
 }

@@ -1,19 +1,20 @@
 //! What is wrong where something else is expected than what stands there.
 
-ghost use Rattle.std.specs.Prelude.{◌≡◌, IfOk, Some, option_map, slice_get};
+ghost use Rattle.std.specs.Prelude.{◌≡◌, IfOk, Some, slice_get};
 ghost use Rattle.tsdl_grammar.specs.declared.atom.Atom.TheVariants as atoms;
+ghost use Rattle.tsdl_grammar.specs.Fronts.{atoms_in};
 ghost use Rattle.tsdl_reader.specs.Reading.{IsFaultOf, IsFlawOf};
 
 use std::alloc::{AllocError, Global};
 use tsdl_flaw::{Fault, Flaw, Remedy, Stop};
-use tsdl_grammar::{Atom, Mark};
+use tsdl_grammar::{Atom, Mark, first_token};
 use tsdl_parser::{Expected, is_unread};
 
-/// The fault of atoms at a place where something else is expected.
-pub(crate) fn unexpected(alloc: Global, atoms: &[Atom], at: usize, expected: Expected) -> Stop
-    ensures { IsFaultOf atoms.now result }
+/// The fault of a text at an atom where something else is expected.
+pub(crate) fn unexpected(alloc: Global, text: &[u8], at: usize, expected: Expected) -> Stop
+    ensures { IsFaultOf (atoms_in text.now) result }
 {
-    match flaw_of(alloc, atom_at(atoms, at), expected) {
+    match flaw_at(alloc, text, at, expected) {
         Ok(flaw) => Stop::Fault(Fault {
             at,
             end: at.saturating_add(1),
@@ -23,16 +24,33 @@ pub(crate) fn unexpected(alloc: Global, atoms: &[Atom], at: usize, expected: Exp
     }
 }
 
-/// What stands at a place, nothing at the end of the text.
-fn atom_at(atoms: &[Atom], at: usize) -> Option<&Atom>
-    ensures { option_map (λ a. a.now) result ≡ slice_get atoms.now at }
+/// What is wrong with the atom of this index, or with the end of the text.
+fn flaw_at(alloc: Global, text: &[u8], at: usize, expected: Expected) -> Result<Flaw, AllocError>
+    ensures { IfOk result (IsFlawOf (slice_get (atoms_in text.now) at)) }
 {
-    atoms.get(at)
+    let atom = atom_at(alloc, text, at)?;
+    flaw_of(alloc, &atom, expected)
+}
+
+/// The atom of this index, None behind the last one.
+fn atom_at(alloc: Global, text: &[u8], at: usize) -> Result<Option<Atom>, AllocError>
+    ensures { IfOk result (λ atom. atom ≡ slice_get (atoms_in text.now) at) }
+{
+    let mut before = at;
+    let mut rest = text;
+    while let Some((front, behind)) = first_token(rest) {
+        if before == 0 {
+            return Ok(Some(front.atom(alloc)?));
+        }
+        before -= 1;
+        rest = behind;
+    }
+    Ok(None)
 }
 
 /// What is wrong with an atom, or with the end of the text, where something else is expected.
-fn flaw_of(alloc: Global, atom: Option<&Atom>, expected: Expected) -> Result<Flaw, AllocError>
-    ensures { IfOk result (IsFlawOf (option_map (λ a. a.now) atom.entry)) }
+fn flaw_of(alloc: Global, atom: &Option<Atom>, expected: Expected) -> Result<Flaw, AllocError>
+    ensures { IfOk result (IsFlawOf atom.now) }
 {
     match atom {
         Some(Atom::Word(word)) => flaw_of_word(alloc, word.as_str(), expected),

@@ -4,7 +4,7 @@ use crate::meaning::meaning;
 use crate::token_words::token_words;
 use std::alloc::{AllocError, Global};
 use tsdl_flaw::{CONVERTED, Stop};
-use tsdl_grammar::{MetaFault, MetaFaultKind, atoms, found_at, tokens};
+use tsdl_grammar::{MetaFault, MetaFaultKind, check_tokens, found_at};
 
 /// What packets of metadata begin with, as numbers in both byte orders.
 const PACKET_MAGIC: [[u8; 4]; 2] = [[0x57, 0x1d, 0xd1, 0x75], [0x75, 0xd1, 0x1d, 0x57]];
@@ -46,17 +46,10 @@ fn packets_words(alloc: Global, text: &[u8]) -> Result<Option<String>, AllocErro
 
 /// What is wrong with the atoms of a text.
 fn atoms_words(alloc: Global, text: &[u8]) -> Result<Option<String>, AllocError> {
-    let tokens = match tokens(alloc, text) {
-        Ok(tokens) => tokens,
-        Err(
-            MetaFault {
-                kind: MetaFaultKind::OutOfMemory,
-                ..
-            },
-        ) => return Err(AllocError),
-        Err(_) => return Ok(None),
-    };
-    match meaning(alloc, atoms(alloc, text, &tokens)?) {
+    if check_tokens(text).is_err() {
+        return Ok(None);
+    }
+    match meaning(alloc, text) {
         Err(Stop::Fault(fault)) => fault.flaw.words(alloc),
         Err(Stop::NoMemory) => Err(AllocError),
         Ok(_) => Ok(None),

@@ -4,7 +4,7 @@ use crate::known::Known;
 use crate::trace::order_word;
 use ctf_types::{ByteOrder, ListOf, Text};
 use std::alloc::{AllocError, Global};
-use tsdl_grammar::{Atom, Mark};
+use tsdl_grammar::{Atom, Mark, first_token};
 
 /// The trace's byte order, where it is given, and what integers have to know. Blocks stand in any order.
 #[derive(Drop)]
@@ -15,23 +15,65 @@ pub struct Survey {
 
 impl Survey {
     /// What is found among the atoms of a text.
-    pub fn of(alloc: Global, atoms: &[Atom]) -> Result<Survey, AllocError> {
-        let mut found = Found {
-            order: None,
-            clocks: ListOf::new(alloc),
-        };
-        let mut around = Around::Nothing;
-        let mut depth = 0usize;
-        for next in atoms.windows(5) {
-            around = around.behind(depth, next);
-            depth = depth_behind(depth, next);
-            if depth == 1 {
-                found.note(alloc, around, next)?;
-            }
+    pub fn of(alloc: Global, text: &[u8]) -> Result<Survey, AllocError> {
+        let mut seen = Seen::nothing(alloc)?;
+        let mut rest = text;
+        while let Some((front, behind)) = first_token(rest) {
+            seen.pass(alloc, front.atom(alloc)?)?;
+            rest = behind;
         }
-        let Found { order, clocks } = found;
+        let Found { order, clocks } = seen.found;
         let known = Known::with_names(alloc, order.unwrap_or(ByteOrder::Little), clocks)?;
         Ok(Survey { order, known })
+    }
+}
+
+/// How many atoms are looked at together: an attribute and the mark before it.
+const WINDOW: usize = 5;
+
+/// What was seen of a text so far.
+#[derive(Drop)]
+struct Seen {
+    found: Found,
+    around: Around,
+    depth: usize,
+    /// The last atoms.
+    window: Vec<Atom>,
+}
+
+impl Seen {
+    fn nothing(alloc: Global) -> Result<Seen, AllocError> {
+        Ok(Seen {
+            found: Found {
+                order: None,
+                clocks: ListOf::new(alloc),
+            },
+            around: Around::Nothing,
+            depth: 0,
+            window: Vec::with_capacity(alloc, WINDOW)?,
+        })
+    }
+
+    /// Passes over the next atom.
+    fn pass(&mut self, alloc: Global, atom: Atom) -> Result<(), AllocError> {
+        if self.window.len() == WINDOW {
+            self.window.remove(0);
+        }
+        self.window.push(atom)?;
+        if self.window.len() == WINDOW {
+            self.look(alloc)?;
+        }
+        Ok(())
+    }
+
+    /// Looks at the last atoms.
+    fn look(&mut self, alloc: Global) -> Result<(), AllocError> {
+        self.around = self.around.behind(self.depth, &self.window);
+        self.depth = depth_behind(self.depth, &self.window);
+        if self.depth == 1 {
+            self.found.note(alloc, self.around, &self.window)?;
+        }
+        Ok(())
     }
 }
 

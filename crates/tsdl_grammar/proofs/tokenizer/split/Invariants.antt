@@ -2,8 +2,8 @@ use Rattle.std.proofs.Common.{length}
 use Rattle.tsdl_grammar.proofs.Splits.{Progress}
 use Rattle.tsdl_grammar.proofs.tokenizer.split.Given as goal
 
-abbrev pub invariant-loop-rest : goal.invariant-loop-rest
-invariant-loop-rest l = Progress l.text l.rest l.at l.found.items
+abbrev pub invariant-loop-cut : goal.invariant-loop-cut
+invariant-loop-cut l = Progress l.text l.rest l.at l.found.items
 
-abbrev pub decreases-loop-rest : goal.decreases-loop-rest
-decreases-loop-rest l = length l.rest
+abbrev pub decreases-loop-cut : goal.decreases-loop-cut
+decreases-loop-cut l = length l.rest

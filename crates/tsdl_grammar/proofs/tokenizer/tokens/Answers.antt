@@ -1,19 +1,8 @@
-use Rattle.std.proofs.Common.{length, drop}
-use Rattle.std.proofs.lemmas.Bool.Decides.{Decides-eqb}
-use Rattle.std.proofs.lemmas.Slice.Eq.{starts_is}
-use Rattle.tsdl_grammar.specs.Tokens.{HasMagicLine, magic_line}
-use Rattle.tsdl_grammar.proofs.TokenLists.{with_magic_line, fault_is, gives}
+use Rattle.tsdl_grammar.proofs.TokenLists.{same_tokens}
 use Rattle.tsdl_grammar.proofs.tokenizer.tokens.Goals as goal
 
-has_magic_line : (c : goal.After-split) → HasMagicLine c.args.text.now
-has_magic_line c =
-    (drop (length magic_line) c.args.text.now, (starts_is Decides-eqb c.args.text.now magic_line c.starts_with.result c.starts_with.ensures.value).0 c.if-starts_with.true)
+pub returns-in_err-check_tokens-clause-only : goal.returns-in_err-check_tokens-clause-only
+returns-in_err-check_tokens-clause-only c = λ ts magic has. absurd (let ok = c.in_err-check_tokens.ensures.only magic (ts, has) in cc)
 
-pub returns-then-starts_with-clause-found : goal.returns-then-starts_with-clause-found
-returns-then-starts_with-clause-found c = with_magic_line c.args.text.now c.split.result (has_magic_line c) c.split.ensures.found
-
-pub returns-then-starts_with-clause-only : goal.returns-then-starts_with-clause-only
-returns-then-starts_with-clause-only c = gives c.args.text.now c.split.result c.split.ensures.found c.split.ensures.fault
-
-pub returns-then-starts_with-clause-fault : goal.returns-then-starts_with-clause-fault
-returns-then-starts_with-clause-fault c = fault_is c.args.text.now c.split.result (has_magic_line c) c.split.ensures.fault
+pub returns-clause-only : goal.returns-clause-only
+returns-clause-only c = λ ts magic has. same_tokens c.args.text.now c.in_ok-split.field-0.items ts c.in_ok-split.ensures.found has

@@ -1,5 +1,6 @@
 use Rattle.std.proofs.Common.{sym, ◌∙◌}
 use Rattle.std.proofs.lemmas.Result.{err_from_is_err_and}
+use Rattle.tsdl_grammar.specs.Fronts.{shown}
 use Rattle.tsdl_parser.specs.Parsing.{is_open}
 use Rattle.tsdl_parser.specs.ParsingAttributes.{attr_at, all_attrs_at}
 use Rattle.tsdl_parser.proofs.Repeated.{goes_on, gives_up, is_done}
@@ -9,14 +10,14 @@ use Rattle.tsdl_parser.proofs.attribute.all_attrs_at.Goals as goal
 pub returns-in_err-attr : goal.returns-in_err-attr
 returns-in_err-attr c =
     let p = err_from_is_err_and c.from_residual.result c.from_residual.ensures.1 in
-    rw (p.1, p.2) (gives_up is_open attr_at (all_attrs_at c.args.atoms.now) c.loop-alloc.attrs c.loop-alloc.rest.now c.in_err-attr.field-0.0 c.loop-alloc.invariant (sym c.is_open.ensures ∙ c.loop-alloc-test.true) c.in_err-attr.ensures)
+    rw (p.1, p.2) (gives_up is_open attr_at (all_attrs_at (shown c.args.atoms)) c.loop-alloc.attrs.items (shown c.loop-alloc.rest) c.in_err-attr.field-0.0 c.loop-alloc.invariant (sym c.is_open.ensures ∙ c.loop-alloc-test.true) c.in_err-attr.ensures)
 
 pub loop-alloc-smaller : goal.loop-alloc-smaller
-loop-alloc-smaller c = attr_short c.loop-alloc.rest.now (c.in_ok-attr.attr, c.in_ok-attr.behind.now) c.in_ok-attr.ensures
+loop-alloc-smaller c = attr_short (shown c.loop-alloc.rest) (c.in_ok-attr.attr, (shown c.in_ok-attr.behind)) c.in_ok-attr.ensures
 
 pub loop-alloc-preserved : goal.loop-alloc-preserved
 loop-alloc-preserved c =
-    rw c.in_ok-push.ensures.ok (goes_on is_open attr_at attr_short (all_attrs_at c.args.atoms.now) c.loop-alloc.attrs c.loop-alloc.rest.now c.in_ok-attr.attr c.in_ok-attr.behind.now c.loop-alloc.invariant (sym c.is_open.ensures ∙ c.loop-alloc-test.true) c.in_ok-attr.ensures)
+    rw c.in_ok-push.ensures.items (goes_on is_open attr_at attr_short (all_attrs_at (shown c.args.atoms)) c.loop-alloc.attrs.items (shown c.loop-alloc.rest) c.in_ok-attr.attr (shown c.in_ok-attr.behind) c.loop-alloc.invariant (sym c.is_open.ensures ∙ c.loop-alloc-test.true) c.in_ok-attr.ensures)
 
 pub returns : goal.returns
-returns c = is_done is_open attr_at (all_attrs_at c.args.atoms.now) c.loop-alloc.attrs c.loop-alloc.rest.now c.loop-alloc.invariant (sym c.is_open.ensures ∙ c.loop-alloc-test.false)
+returns c = rw c.whole.ensures (is_done is_open attr_at (all_attrs_at (shown c.args.atoms)) c.loop-alloc.attrs.items (shown c.loop-alloc.rest) c.loop-alloc.invariant (sym c.is_open.ensures ∙ c.loop-alloc-test.false))

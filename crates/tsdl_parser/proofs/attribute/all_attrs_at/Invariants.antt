@@ -1,11 +1,12 @@
 use Rattle.std.proofs.Common.{◌≡◌, length}
+use Rattle.tsdl_grammar.specs.Fronts.{shown}
 use Rattle.tsdl_parser.specs.ParsingAttributes.{all_attrs_at}
 use Rattle.tsdl_parser.proofs.Repeated.{with_front}
 use Rattle.tsdl_parser.proofs.attribute.all_attrs_at.Given as goal
 
 -- what was read, and then what is read, is what all the atoms give
 abbrev pub invariant-loop-alloc : goal.invariant-loop-alloc
-invariant-loop-alloc l = with_front l.attrs (all_attrs_at l.rest) ≡ all_attrs_at l.atoms
+invariant-loop-alloc l = with_front l.attrs.items (all_attrs_at (shown l.rest)) ≡ all_attrs_at (shown l.atoms)
 
 abbrev pub decreases-loop-alloc : goal.decreases-loop-alloc
-decreases-loop-alloc l = length l.rest
+decreases-loop-alloc l = length (shown l.rest)

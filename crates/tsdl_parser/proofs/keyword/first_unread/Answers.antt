@@ -1,14 +1,17 @@
-use Rattle.std.proofs.Common.{rules, tests, ◌≡◌, not}
-use Rattle.std.specs.List.{position}
-use Rattle.std.proofs.lemmas.Iterator.Search.{position_from_yields_List}
-use Rattle.std.proofs.lemmas.Iterator.{YieldsList-from_slice}
-use Rattle.tsdl_grammar.specs.Denotes.{is_read}
-use Rattle.tsdl_parser.proofs.Keywords.{first}
+use Rattle.std.proofs.Common.{rules, sym, ◌∙◌}
+use Rattle.tsdl_grammar.specs.Fronts.{atoms_in, meant}
+use Rattle.tsdl_parser.proofs.Keywords.{reads_on, room, unread_here}
 use Rattle.tsdl_parser.proofs.keyword.first_unread.Goals as goal
 
-pub returns : goal.returns
-returns c =
-    let place : c.position.result ≡ position (λ a. not (is_read a)) c.args.atoms.now =
-    position_from_yields_List (λ a. not (is_read a)) _ _ c.position.result c.position.ensures.ran (YieldsList-from_slice _ c.iter.ensures.rest) (λ x b q k. search (rules, tests)) in
-    let f = first c.args.atoms.now c.position.result place in
-    record { none = f.none; within = f.within; unread = f.unread; before = f.before }
+pub returns-then-not-is_read-clause-unread : goal.returns-then-not-is_read-clause-unread
+returns-then-not-is_read-clause-unread c =
+    unread_here (atoms_in c.args.text.now) (meant c.in-Some.front) (atoms_in c.in-Some.behind.now) c.loop-front.index (rw c.in-Some.ensures at c.loop-front.invariant) (sym c.is_read.ensures ∙ c.if-not-is_read.true)
+
+pub overflow_add-index : goal.overflow_add-index
+overflow_add-index c =
+    let r = room c.args.text.now (meant c.in-Some.front) (atoms_in c.in-Some.behind.now) c.loop-front.index (rw c.in-Some.ensures at c.loop-front.invariant) in
+    search (rules, r)
+
+pub loop-front-preserved : goal.loop-front-preserved
+loop-front-preserved c =
+    reads_on (atoms_in c.args.text.now) (meant c.in-Some.front) (atoms_in c.in-Some.behind.now) c.loop-front.index (rw c.in-Some.ensures at c.loop-front.invariant) (sym c.is_read.ensures ∙ c.if-not-is_read.false)

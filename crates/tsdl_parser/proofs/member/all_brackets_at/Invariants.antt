@@ -1,11 +1,12 @@
 use Rattle.std.proofs.Common.{◌≡◌, length}
+use Rattle.tsdl_grammar.specs.Fronts.{shown}
 use Rattle.tsdl_parser.specs.ParsingMembers.{all_brackets_at}
 use Rattle.tsdl_parser.proofs.Repeated.{with_front}
 use Rattle.tsdl_parser.proofs.member.all_brackets_at.Given as goal
 
 -- what was read, and then what is read, is what all the atoms give
 abbrev pub invariant-loop-alloc : goal.invariant-loop-alloc
-invariant-loop-alloc l = with_front l.brackets (all_brackets_at l.rest) ≡ all_brackets_at l.atoms
+invariant-loop-alloc l = with_front l.brackets.items (all_brackets_at (shown l.rest)) ≡ all_brackets_at (shown l.atoms)
 
 abbrev pub decreases-loop-alloc : goal.decreases-loop-alloc
-decreases-loop-alloc l = length l.rest
+decreases-loop-alloc l = length (shown l.rest)

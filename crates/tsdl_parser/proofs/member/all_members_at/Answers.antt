@@ -1,5 +1,6 @@
 use Rattle.std.proofs.Common.{sym, ◌∙◌}
 use Rattle.std.proofs.lemmas.Result.{err_from_is_err_and}
+use Rattle.tsdl_grammar.specs.Fronts.{shown}
 use Rattle.tsdl_parser.specs.Parsing.{is_open}
 use Rattle.tsdl_parser.specs.ParsingMembers.{member_at, all_members_at}
 use Rattle.tsdl_parser.proofs.Repeated.{goes_on, gives_up, is_done}
@@ -9,14 +10,14 @@ use Rattle.tsdl_parser.proofs.member.all_members_at.Goals as goal
 pub returns-in_err-member : goal.returns-in_err-member
 returns-in_err-member c =
     let p = err_from_is_err_and c.from_residual.result c.from_residual.ensures.1 in
-    rw (p.1, p.2) (gives_up is_open member_at (all_members_at c.args.atoms.now) c.loop-alloc.members c.loop-alloc.rest.now c.in_err-member.field-0.0 c.loop-alloc.invariant (sym c.is_open.ensures ∙ c.loop-alloc-test.true) c.in_err-member.ensures)
+    rw (p.1, p.2) (gives_up is_open member_at (all_members_at (shown c.args.atoms)) c.loop-alloc.members.items (shown c.loop-alloc.rest) c.in_err-member.field-0.0 c.loop-alloc.invariant (sym c.is_open.ensures ∙ c.loop-alloc-test.true) c.in_err-member.ensures)
 
 pub loop-alloc-smaller : goal.loop-alloc-smaller
-loop-alloc-smaller c = member_short c.loop-alloc.rest.now (c.in_ok-member.member, c.in_ok-member.behind.now) c.in_ok-member.ensures
+loop-alloc-smaller c = member_short (shown c.loop-alloc.rest) (c.in_ok-member.member, (shown c.in_ok-member.behind)) c.in_ok-member.ensures
 
 pub loop-alloc-preserved : goal.loop-alloc-preserved
 loop-alloc-preserved c =
-    rw c.in_ok-push.ensures.ok (goes_on is_open member_at member_short (all_members_at c.args.atoms.now) c.loop-alloc.members c.loop-alloc.rest.now c.in_ok-member.member c.in_ok-member.behind.now c.loop-alloc.invariant (sym c.is_open.ensures ∙ c.loop-alloc-test.true) c.in_ok-member.ensures)
+    rw c.in_ok-push.ensures.items (goes_on is_open member_at member_short (all_members_at (shown c.args.atoms)) c.loop-alloc.members.items (shown c.loop-alloc.rest) c.in_ok-member.member (shown c.in_ok-member.behind) c.loop-alloc.invariant (sym c.is_open.ensures ∙ c.loop-alloc-test.true) c.in_ok-member.ensures)
 
 pub returns : goal.returns
-returns c = is_done is_open member_at (all_members_at c.args.atoms.now) c.loop-alloc.members c.loop-alloc.rest.now c.loop-alloc.invariant (sym c.is_open.ensures ∙ c.loop-alloc-test.false)
+returns c = rw c.whole.ensures (is_done is_open member_at (all_members_at (shown c.args.atoms)) c.loop-alloc.members.items (shown c.loop-alloc.rest) c.loop-alloc.invariant (sym c.is_open.ensures ∙ c.loop-alloc-test.false))

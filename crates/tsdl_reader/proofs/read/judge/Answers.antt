@@ -1,23 +1,30 @@
 use Rattle.tsdl_grammar.specs.declared.fault.MetaFault.{MetaFault}
-use Rattle.tsdl_reader.proofs.Reading.{denotes, means, one_metadata, refused, holds}
+use Rattle.tsdl_grammar.specs.Fronts.{atoms_in}
+use Rattle.tsdl_reader.proofs.Reading.{has_atoms, denotes, means, one_metadata, refused, holds}
 use Rattle.tsdl_reader.proofs.read.judge.Goals as goal
 
 pub returns-in-Ok-clause-found : goal.returns-in-Ok-clause-found
 returns-in-Ok-clause-found c =
-    let d = denotes c.args.text.now c.args.tokens.now c.args.atoms.items c.in-Ok.metadata c.requires (rw c.in-Ok.is at c.meaning.ensures.found) in
-    (d, c.denoted_is_allowed.ensures c.args.text.now c.in-Ok.metadata d)
+    let text = c.args.text.now in
+    let d = denotes text c.requires.1.0 (atoms_in text) c.in-Ok.metadata (has_atoms text c.requires.0 c.requires.1) (rw c.in-Ok.is at c.meaning.ensures.found) in
+    (d, c.denoted_is_allowed.ensures text c.in-Ok.metadata d)
 
 pub returns-in-Ok-clause-only : goal.returns-in-Ok-clause-only
-returns-in-Ok-clause-only c = λ m d. one_metadata c.tokens_are_unique.ensures c.args.text.now c.args.tokens.now c.args.atoms.items c.in-Ok.metadata m c.requires (rw c.in-Ok.is at c.meaning.ensures.found) d
+returns-in-Ok-clause-only c =
+    let text = c.args.text.now in
+    λ m d. one_metadata c.tokens_are_unique.ensures text c.requires.1.0 (atoms_in text) c.in-Ok.metadata m (has_atoms text c.requires.0 c.requires.1) (rw c.in-Ok.is at c.meaning.ensures.found) d
 
 pub returns-in-Err-Fault-clause-only : goal.returns-in-Err-Fault-clause-only
-returns-in-Err-Fault-clause-only c = λ m d. absurd ((rw (c.in-Err-Fault.is, c.in-Err-Fault.field-0-is) at c.meaning.ensures.none) m (means c.tokens_are_unique.ensures c.args.text.now c.args.tokens.now c.args.atoms.items m c.requires d))
+returns-in-Err-Fault-clause-only c =
+    let text = c.args.text.now in
+    λ m d. absurd ((rw (c.in-Err-Fault.is, c.in-Err-Fault.field-0-is) at c.meaning.ensures.none) m (means c.tokens_are_unique.ensures text c.requires.1.0 (atoms_in text) m (has_atoms text c.requires.0 c.requires.1) d))
 
 pub returns-in-Err-Fault-clause-fault : goal.returns-in-Err-Fault-clause-fault
 returns-in-Err-Fault-clause-fault c =
-    let fault : MetaFault = record { place = c.place_of.result; kind = c.into_kind.result } in
+    let text = c.args.text.now in
+    let fault : MetaFault = record { place = c.token_start.result; kind = c.into_kind.result } in
     let none = rw (c.in-Err-Fault.is, c.in-Err-Fault.field-0-is) at c.meaning.ensures.none in
     let stands = rw (c.in-Err-Fault.is, c.in-Err-Fault.field-0-is) at c.meaning.ensures.fault in
-    holds c.args.text.now c.place_of.result c.into_kind.result
-    (refused c.tokens_are_unique.ensures c.args.text.now c.args.tokens.now c.args.atoms.items fault c.requires none
-    (c.in-Err-Fault.fault.at, c.place_of.ensures, rw c.into_kind.ensures stands))
+    holds text c.token_start.result c.into_kind.result
+    (refused c.tokens_are_unique.ensures text c.requires.1.0 (atoms_in text) fault (has_atoms text c.requires.0 c.requires.1) none
+    (c.in-Err-Fault.fault.at, c.token_start.ensures c.requires.1.0 c.requires.1.1, rw c.into_kind.ensures stands))

@@ -7,7 +7,7 @@ use std::alloc::Global;
 use std::process::Abort;
 use std::test::Fail;
 use tsdl_flaw::Stop;
-use tsdl_grammar::{atoms, tokens};
+use tsdl_grammar::{Atoms, atom_count};
 use tsdl_meaning::{Survey, first_flaw};
 use tsdl_parser::parse;
 use tsdl_reader::read_metadata;
@@ -109,12 +109,11 @@ fn read(rt: &impl Abort, alloc: Global, row: &str) -> Result<String, Fail> {
 
 /// Whether the search for a first flaw comes to the end of the text.
 fn is_passed_over(alloc: Global, text: &[u8]) -> Result<bool, Fail> {
-    let atoms = atoms(alloc, text, &tokens(alloc, text)?)?;
-    let Ok(blocks) = parse(alloc, &atoms) else {
+    let Ok(blocks) = parse(alloc, Atoms::of(text)) else {
         return Ok(false);
     };
-    match first_flaw(alloc, &Survey::of(alloc, &atoms)?, &blocks) {
-        Stop::Fault(fault) => Ok(fault.at == atoms.len()),
+    match first_flaw(alloc, &Survey::of(alloc, text)?, &blocks) {
+        Stop::Fault(fault) => Ok(fault.at == atom_count(text)),
         Stop::NoMemory => Ok(false),
     }
 }
