@@ -18,7 +18,8 @@ use Rattle.tsdl_flaw.specs.Stopping.{StopsIn}
 use Rattle.tsdl_flaw.specs.Twice.{IsTwice, begun}
 use Rattle.tsdl_meaning.specs.Judged.{IsAttribute}
 use Rattle.tsdl_meaning.specs.Ledgers.{HasClock, HasStream}
-use Rattle.tsdl_meaning.proofs.JudgedParts.{stops_after, ends_more, ends_part}
+use Rattle.tsdl_meaning.proofs.JudgedParts.{ends_more, ends_part}
+use Rattle.tsdl_flaw.proofs.Parts.{stops_after}
 
 -- ---- the value of an attribute
 

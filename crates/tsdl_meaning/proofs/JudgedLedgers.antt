@@ -1,13 +1,15 @@
 -- What a ledger has of the blocks before a place.
-use Rattle.std.proofs.Common.{◌≡◌, ℕ, Bool, true, cond, List, ◌++◌, Option, Some, sym, ap, ◌∙◌, subst, inl, inr, bytes_eq}
+use Rattle.std.proofs.Common.{◌≡◌, ℕ, Bool, true, cond, List, [], ◌∷◌, ◌++◌, refl, Option, Some, sym, ap, ◌∙◌, subst, inl, inr, bytes_eq}
 use Rattle.std.proofs.lemmas.Bool.{cases_Bool}
 use Rattle.std.proofs.lemmas.Slice.Eq.{bytes_eq-Decides}
 use Rattle.std.proofs.lemmas.Map.Lookups.{exact_unsigned, exact_pairs}
 use Rattle.std.specs.Ordering.{nat_cmp, is_eq}
 use Rattle.std.specs.Cmp.{Equal-is}
-use Rattle.std.specs.BTreeMap.{BTreeMap, get, ContainsKey}
-use Rattle.std.specs.BTreeSet.{BTreeSet, contains_text}
-use Rattle.std.specs.Option.{IsSome}
+use Rattle.std.specs.List.{AllByRecursion}
+use Rattle.std.specs.Map.{lookup}
+use Rattle.std.specs.BTreeMap.{BTreeMap, get, ContainsKey, is_at}
+use Rattle.std.specs.BTreeSet.{BTreeSet, contains, contains_text}
+use Rattle.std.specs.Option.{IsSome, is_some}
 use Rattle.std.specs.declared.string.String.{String}
 use Rattle.std.specs.declared.alloc.Global.{Global}
 use Rattle.tsdl_grammar.specs.declared.atom.Atom.{Atom}
@@ -52,3 +54,26 @@ event_more front old new items key name known u here is k h = elim (cases_Bool (
       let there : get pair_cmp new k ≡ get pair_cmp old k = u k ∙ ap (λ (b : Bool). cond b name (get pair_cmp old k)) e in
       known k (subst (λ (o : Option (String Global)). IsSome o) there h)
 ]
+
+-- a key stays where another is inserted
+pub key_stays : (old new : BTreeMap (ℕ × ℕ) (String Global)) (key other : ℕ × ℕ) (name : Option (String Global)) → is_some name ≡ true
+    → get pair_cmp new other ≡ cond (is_eq (pair_cmp key other)) name (get pair_cmp old other) → ContainsKey pair_cmp old other → ContainsKey pair_cmp new other
+key_stays old new key other name some u there =
+    elim (cases_Bool (is_eq (pair_cmp key other))) [
+      | inl e ↦ ap is_some (u ∙ ap (λ (b : Bool). cond b name (get pair_cmp old other)) e) ∙ some
+      | inr e ↦ ap is_some (u ∙ ap (λ (b : Bool). cond b name (get pair_cmp old other)) e) ∙ there
+    ]
+
+-- each entry's stream is there, and so is the one of any key
+pub key_streams : (streams : BTreeSet ℕ) (entries : List ((ℕ × ℕ) × String Global)) (key : ℕ × ℕ) → AllByRecursion (λ e. contains nat_cmp streams e.0.0 ≡ true) entries
+    → is_some (lookup (is_at (pair_cmp key)) entries) ≡ true → contains nat_cmp streams key.0 ≡ true
+key_streams streams [] key all there = absurd cc
+key_streams streams (e ∷ es) key all there =
+    elim (cases_Bool (is_eq (pair_cmp key e.0))) [
+      | inl t ↦
+          let same : key ≡ e.0 = exact_pairs nat_cmp nat_cmp exact_unsigned exact_unsigned key e.0 ((Equal-is (pair_cmp key e.0)).0 t) in
+          ap (λ (k : ℕ × ℕ). contains nat_cmp streams k.0) same ∙ all.0
+      | inr f ↦
+          let later : lookup (is_at (pair_cmp key)) (e ∷ es) ≡ lookup (is_at (pair_cmp key)) es = rw f refl in
+          key_streams streams es key all.1 (sym (ap is_some later) ∙ there)
+    ]

@@ -1,11 +1,13 @@
 -- Numbers that pass a limit.
-use Rattle.std.proofs.Common.{◌≡◌, ℕ, ◌<◌, ◌==◌, Bool, true, false, List, Some, refl, inl, inr, arith}
-use Rattle.std.specs.Prelude.{if◌then◌else◌}
+use Rattle.std.proofs.Common.{◌≡◌, ℕ, ◌<◌, ◌%◌, ◌==◌, ◌&&◌, Bool, true, false, List, Option, Some, IsSome, refl, sym, subst, inl, inr, arith}
+use Rattle.std.specs.Prelude.{if◌then◌else◌, nat_lt}
+use Rattle.std.specs.Option.{is_some}
 use Rattle.tsdl_grammar.specs.declared.atom.Atom.{Atom}
 use Rattle.tsdl_grammar.specs.declared.tree.Number.{Number}
 use Rattle.tsdl_grammar.specs.Spelling.{number_toks}
-use Rattle.tsdl_grammar.specs.Steps.{provided}
+use Rattle.tsdl_grammar.specs.Steps.{◌>>=◌, provided}
 use Rattle.tsdl_grammar.specs.AttributeValues.{natural, is_negative}
+use Rattle.tsdl_grammar.specs.StructureMeaning.{align_of}
 use Rattle.tsdl_flaw.specs.Limits.{IsLargeAlignment, IsPassed}
 use Rattle.tsdl_meaning.specs.Judging.{IsBehindAlign}
 
@@ -26,3 +28,7 @@ large_align front n v ends e large =
     let l : n.literal ≡ v = literal_is n v (omega arith) e in
     let it : IsLargeAlignment front (number_toks n) = record { number = n; ends = ends; large = omega arith; here = refl } in
     inr (inr (inr (inl it)))
+
+-- a number that is an alignment is one where it stands behind a structure
+pub aligned_is : (n : Number) (v : ℕ) → natural n ≡ Some v → is_some (provided (nat_lt 0 v && (4096 % v == 0)) (Some v)) ≡ true → IsSome (align_of (Some n))
+aligned_is n v e there = subst (λ (o : Option ℕ). IsSome (o >>= λ a. provided (nat_lt 0 a && (4096 % a == 0)) (Some a))) (sym e) there

@@ -30,3 +30,15 @@ pub mod StopsInKinds
 pub mod StopsInBrackets
 pub mod StopsInMembers
 pub mod BlockNumbers
+pub mod FlawlessStructures
+pub mod FlawlessNames
+pub mod FlawlessItems
+pub mod FlawlessValues
+pub mod FlawlessScopes
+pub mod FlawlessBlocks
+pub mod FlawlessFacts
+pub mod NumberedItems
+pub mod FlawlessTexts
+pub mod SurveyedBlocks
+pub mod FlawlessTypes
+pub mod FlawlessBrackets

@@ -7,10 +7,10 @@ use Rattle.ctf_types.specs.declared.MemberType.{MemberType}
 use Rattle.ctf_types.specs.Members.{names_in}
 use Rattle.tsdl_grammar.specs.StructureMeaning.{has_member}
 
-contains_first : {X : Type 0} (x : X) (xs : List X) → Contains (x ∷ xs) x
+pub contains_first : {X : Type 0} (x : X) (xs : List X) → Contains (x ∷ xs) x
 contains_first x xs = (0, omega arith, refl)
 
-contains_later : {X : Type 0} (x y : X) (xs : List X) → Contains xs y → Contains (x ∷ xs) y
+pub contains_later : {X : Type 0} (x y : X) (xs : List X) → Contains xs y → Contains (x ∷ xs) y
 contains_later x y xs w = (suc w.0, omega (arith, w.1), w.2)
 
 pub contains_cases : {X : Type 0} (x y : X) (xs : List X) → Contains (x ∷ xs) y → (x ≡ y) ⊎ Contains xs y

@@ -17,3 +17,10 @@ pub mod Blocks
 pub mod Judging
 pub mod BracketLengths
 pub mod MembersBefore
+pub mod FlawlessStructures
+pub mod FlawlessBlocks
+pub mod FlawlessTypes
+pub mod FlawlessBrackets
+pub mod PacketSizes
+pub mod FlawlessTexts
+pub mod NotedBlocks

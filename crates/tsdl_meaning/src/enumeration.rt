@@ -1,7 +1,8 @@
 //! What the entries of an enumeration mean (CTF 1.8.3, section 4.1.8).
 
-ghost use Rattle.std.specs.Prelude.{◌≡◌, ◌∷◌, IfOk};
+ghost use Rattle.std.specs.Prelude.{int_le, ◌≡◌, ◌∷◌, IfOk};
 ghost use Rattle.tsdl_grammar.specs.Steps.{each};
+ghost use Rattle.tsdl_grammar.specs.AttributeValues.{signed_of};
 ghost use Rattle.tsdl_grammar.specs.MemberMeaning.{label_of, high_of, entry_meaning, enum_meaning};
 ghost use Rattle.tsdl_meaning.specs.Fronts.{with_front};
 
@@ -76,13 +77,21 @@ fn mappings_behind(
 fn entry_meaning(alloc: Global, entry: &Entry) -> Result<Option<Mapping>, AllocError>
     ensures { IfOk result (λ m. m ≡ entry_meaning entry.now) }
 {
-    let low = signed_of(entry.low);
-    let high = high_of(low, entry.high);
-    if low > high {
+    if !rises(entry) {
         return Ok(None);
     }
+    let low = signed_of(entry.low);
+    let high = high_of(low, entry.high);
     let label = label_of(&entry.label).copy(alloc)?;
     Ok(Some(Mapping { label, low, high }))
+}
+
+/// Whether a range does not fall.
+pub(crate) fn rises(entry: &Entry) -> bool
+    ensures { result ≡ int_le (signed_of entry.now.low) (high_of (signed_of entry.now.low) entry.now.high) }
+{
+    let low = signed_of(entry.low);
+    low <= high_of(low, entry.high)
 }
 
 fn label_of(label: &Label) -> &Text

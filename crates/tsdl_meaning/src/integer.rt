@@ -187,7 +187,7 @@ fn clock_if_mapped<'a>(known: &Known, value: Option<&'a Value>) -> Option<Option
 
 /// The middle word of `clock.NAME.value`, where it names a clock.
 #[tactic(auto, unfolding(tsdl_grammar::specs::IntegerMeaning::clock_value))]
-fn clock_value<'a>(known: &Known, value: &'a Value) -> Option<&'a Text>
+pub(crate) fn clock_value<'a>(known: &Known, value: &'a Value) -> Option<&'a Text>
     ensures { option_map (λ t. t.now) result ≡ clock_value known.now.clocks value.now }
 {
     match value {

@@ -2,6 +2,7 @@
 
 mod attribute;
 mod block;
+mod blocks_survey;
 mod brackets;
 mod environment;
 mod integer;
@@ -13,5 +14,6 @@ mod survey;
 mod text;
 mod value;
 
+pub(crate) use blocks_survey::survey_of_blocks;
 pub use survey::Survey;
 pub use text::first_flaw;

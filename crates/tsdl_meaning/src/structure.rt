@@ -21,6 +21,9 @@ use tsdl_grammar::{Item, MemberTree, Number, Structure};
 /// The most members of a structure.
 pub(crate) const MAX_MEMBERS: usize = 1024;
 
+/// The largest alignment in bits.
+pub(crate) const LARGEST_ALIGN: u64 = 4096;
+
 /// The structure of the scope of this name in a block, without members where the scope is not there.
 pub(crate) fn scope_meaning(
     alloc: Global,
@@ -120,13 +123,13 @@ fn align_of(align: Option<Number>) -> Option<u32>
 }
 
 /// The number as an alignment, if it is a power of two up to 4,096.
-fn alignment(align: u64) -> Option<u32>
+pub(crate) fn alignment(align: u64) -> Option<u32>
     ensures { result ≡ provided (nat_lt 0 align && (4096 % align == 0)) (Some align) }
 {
     if align == 0 {
         return None;
     }
-    if 4096 % align != 0 {
+    if LARGEST_ALIGN % align != 0 {
         return None;
     }
     Some(align as u32)

@@ -26,7 +26,7 @@ pub(crate) fn meaning(alloc: Global, text: &[u8]) -> Result<Metadata, Stop>
     let all = atom_count(text);
     let end = first_unread(text).unwrap_or(all);
     match parse(alloc, Atoms::up_to(text, end)) {
-        Ok(blocks) if end == all => metadata_of(alloc, text, &blocks),
+        Ok(blocks) if end == all => metadata_of(alloc, &blocks),
         Ok(_) => Err(first_fault(alloc, text, end, end, Expected::Block, &[])),
         Err(Unread::Halted(halt)) => Err(first_fault(
             alloc,

@@ -1,6 +1,6 @@
 //! The first flaw of an attribute of a block. An attribute that no rule names is passed over.
 
-ghost use Rattle.std.specs.Prelude.{List, ◌++◌, IfOk, IfErr, codes};
+ghost use Rattle.std.specs.Prelude.{List, ◌++◌, IfOk, IfErr, IsTrue, codes};
 ghost use Rattle.tsdl_grammar.specs.declared.atom.Atom.{Atom};
 ghost use Rattle.tsdl_grammar.specs.declared.token.Mark.TheVariants as marks;
 ghost use Rattle.tsdl_grammar.specs.declared.tree.Item.{Item};
@@ -10,6 +10,7 @@ ghost use Rattle.tsdl_meaning.specs.Judged.{StopsAmong, StopsWhere, IsAttribute}
 ghost use Rattle.tsdl_meaning.specs.Ledgers.{AreNoted};
 ghost use Rattle.tsdl_meaning.specs.NamesBefore.{AreNamed};
 ghost use Rattle.tsdl_meaning.specs.Blocks.{IsBegun};
+ghost use Rattle.tsdl_meaning.specs.FlawlessBlocks.{AddsAttribute, is_fit, asked_of, fits, of_trace, of_stream, of_event, of_clock, is_order, is_number, is_new_name};
 
 use crate::judge::block::{BlockKind, Judging};
 use crate::judge::ledger::Ledger;
@@ -32,6 +33,7 @@ pub(crate) fn judge_attribute(
     at: usize,
 ) -> Result<(), Stop>
     ensures fault { (items : List Item) → IfErr result (StopsWhere (λ front. IsBegun judging.now items front × AreNamed front marks.Equals names.old.names) at (attr_toks attribute.now)) }
+    ensures flawless { IfOk result (λ _. AddsAttribute judging.now.kind judging.now.ledger.now names.old.names attribute.now names.new.names) }
     ensures named { IfOk result (λ _. (front : List Atom) → AreNamed front marks.Equals names.old.names → AreNamed (front ++ attr_toks attribute.now) marks.Equals names.new.names) }
 {
     names.add(judging.alloc, &attribute.name, at)?;
@@ -40,7 +42,8 @@ pub(crate) fn judge_attribute(
 
 /// Judges what an attribute has, by the rule for its name.
 fn judge_value(judging: &Judging, attribute: &Attribute, at: usize) -> Result<(), Stop>
-    ensures { (items : List Item) → IfErr result (StopsWhere (IsBegun judging.now items) at (attr_toks attribute.now)) }
+    ensures fit { IfOk result (λ _. IsTrue (is_fit (asked_of judging.now.kind judging.now.ledger.now) attribute.now)) }
+    ensures fault { (items : List Item) → IfErr result (StopsWhere (IsBegun judging.now items) at (attr_toks attribute.now)) }
 {
     let Some(word) = one_word(&attribute.name) else {
         return Ok(());
@@ -58,7 +61,8 @@ fn judge_value(judging: &Judging, attribute: &Attribute, at: usize) -> Result<()
 
 /// Judges the value of an attribute of a trace.
 fn judge_trace(alloc: Global, word: &str, value: &Value, at: usize) -> Result<(), Stop>
-    ensures { IfErr result (StopsWhere (IsAttribute (codes "trace") word.now) at (value_toks value.now)) }
+    ensures fit { IfOk result (λ _. IsTrue (fits of_trace word.now value.now)) }
+    ensures fault { IfErr result (StopsWhere (IsAttribute (codes "trace") word.now) at (value_toks value.now)) }
 {
     match word {
         "byte_order" => judge_order(alloc, value, at),
@@ -71,7 +75,8 @@ fn judge_trace(alloc: Global, word: &str, value: &Value, at: usize) -> Result<()
 
 /// Judges the byte order of a trace.
 fn judge_order(alloc: Global, value: &Value, at: usize) -> Result<(), Stop>
-    ensures { IfErr result (StopsAmong at (value_toks value.now)) }
+    ensures fit { IfOk result (λ _. IsTrue (is_order value.now)) }
+    ensures fault { IfErr result (StopsAmong at (value_toks value.now)) }
 {
     match word_value(value) {
         Some(word) if order_word(word.as_str()).is_some() => Ok(()),
@@ -88,7 +93,8 @@ fn judge_version(
     wanted: u64,
 ) -> Result<(), Stop>
     requires { IsPartOfVersion part.now }
-    ensures { IfErr result (StopsWhere (IsAttribute (codes "trace") part.now) at (value_toks value.now)) }
+    ensures fit { IfOk result (λ _. IsTrue (is_number wanted value.now)) }
+    ensures fault { IfErr result (StopsWhere (IsAttribute (codes "trace") part.now) at (value_toks value.now)) }
 {
     if judge_natural(value, at)? == wanted {
         return Ok(());
@@ -99,7 +105,8 @@ fn judge_version(
 
 /// Judges the value of an attribute of a stream.
 fn judge_stream(ledger: &Ledger, word: &str, value: &Value, at: usize) -> Result<(), Stop>
-    ensures { IfErr result (StopsWhere (λ front. AreNoted front ledger.now × IsAttribute (codes "stream") word.now front) at (value_toks value.now)) }
+    ensures fit { IfOk result (λ _. IsTrue (fits (of_stream ledger.now) word.now value.now)) }
+    ensures fault { IfErr result (StopsWhere (λ front. AreNoted front ledger.now × IsAttribute (codes "stream") word.now front) at (value_toks value.now)) }
 {
     match word {
         "id" => {
@@ -114,23 +121,26 @@ fn judge_stream(ledger: &Ledger, word: &str, value: &Value, at: usize) -> Result
 
 /// Judges the value of an attribute of an event.
 fn judge_event(word: &str, value: &Value, at: usize) -> Result<(), Stop>
-    ensures { IfErr result (StopsAmong at (value_toks value.now)) }
+    ensures fit { IfOk result (λ _. IsTrue (fits of_event word.now value.now)) }
+    ensures fault { IfErr result (StopsAmong at (value_toks value.now)) }
 {
     match word {
         "name" => {
             judge_label(value, at)?;
+            Ok(())
         }
         "id" | "stream_id" | "loglevel" => {
             judge_natural(value, at)?;
+            Ok(())
         }
-        _ => {}
+        _ => Ok(()),
     }
-    Ok(())
 }
 
 /// Judges the value of an attribute of a clock.
 fn judge_clock(ledger: &Ledger, word: &str, value: &Value, at: usize) -> Result<(), Stop>
-    ensures { IfErr result (StopsWhere (λ front. AreNoted front ledger.now × IsAttribute (codes "clock") word.now front) at (value_toks value.now)) }
+    ensures fit { IfOk result (λ _. IsTrue (fits (of_clock ledger.now) word.now value.now)) }
+    ensures fault { IfErr result (StopsWhere (λ front. AreNoted front ledger.now × IsAttribute (codes "clock") word.now front) at (value_toks value.now)) }
 {
     match word {
         "name" => judge_clock_name(ledger, value, at),
@@ -148,7 +158,8 @@ fn judge_clock(ledger: &Ledger, word: &str, value: &Value, at: usize) -> Result<
 
 /// Judges the name of a clock, which no other has.
 fn judge_clock_name(ledger: &Ledger, value: &Value, at: usize) -> Result<(), Stop>
-    ensures { IfErr result (StopsWhere (λ front. AreNoted front ledger.now × IsAttribute (codes "clock") (codes "name") front) at (value_toks value.now)) }
+    ensures fit { IfOk result (λ _. IsTrue (is_new_name ledger.now value.now)) }
+    ensures fault { IfErr result (StopsWhere (λ front. AreNoted front ledger.now × IsAttribute (codes "clock") (codes "name") front) at (value_toks value.now)) }
 {
     if ledger.has_clock(judge_label(value, at)?) {
         return Err(Stop::at(at, value, Flaw::Duplicate));

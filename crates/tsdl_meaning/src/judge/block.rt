@@ -1,6 +1,8 @@
 //! The first flaw of a block with attributes and scopes: a trace, a stream, an event or a clock.
 
-ghost use Rattle.std.specs.Prelude.{List, [], ◌∷◌, ◌++◌, IfOk, IfErr, IsTrue};
+ghost use Rattle.std.specs.Prelude.{◌≡◌, false, List, [], ◌∷◌, ◌++◌, IfOk, IfErr, IsTrue};
+ghost use Rattle.std.specs.Option.{is_some, is_none};
+ghost use Rattle.std.specs.List.{list_all};
 ghost use Rattle.tsdl_grammar.specs.declared.atom.Atom.{Atom};
 ghost use Rattle.tsdl_grammar.specs.declared.token.Mark.TheVariants as marks;
 ghost use Rattle.tsdl_grammar.specs.declared.tree.Item.{Item};
@@ -9,7 +11,9 @@ ghost use Rattle.tsdl_flaw.specs.Twice.{IsTwice};
 ghost use Rattle.tsdl_meaning.specs.Judged.{StopsWhere};
 ghost use Rattle.tsdl_meaning.specs.Ledgers.{AreNoted};
 ghost use Rattle.tsdl_meaning.specs.NamesBefore.{AreNamed};
+ghost use Rattle.tsdl_grammar.specs.Lookups.{words_of, attr, attrs_in};
 ghost use Rattle.tsdl_meaning.specs.Blocks.{word_of, IsBegun, AreKept};
+ghost use Rattle.tsdl_meaning.specs.FlawlessBlocks.{IsFlawlessBlock, AddsItem, AddsScope, IsEnded, IsNumberedAnew, rule_in, scopes_of, needed, named_rules, first_texts};
 
 use crate::judge::attribute::judge_attribute;
 use crate::judge::ledger::{Ledger, event_numbers};
@@ -61,7 +65,8 @@ impl BlockNames {
 
 /// Judges a block of these items, whose word stands at an atom.
 pub(crate) fn judge_items(judging: &Judging, items: &[Item], at: usize) -> Result<(), Stop>
-    ensures { IfErr result (StopsWhere (λ front. AreNoted front judging.now.ledger.now) at (word (word_of judging.now.kind) ∷ items_toks items.now)) }
+    ensures flawless { IfOk result (λ _. IsFlawlessBlock judging.now.survey.now.known judging.now.kind judging.now.ledger.now items.now) }
+    ensures fault { IfErr result (StopsWhere (λ front. AreNoted front judging.now.ledger.now) at (word (word_of judging.now.kind) ∷ items_toks items.now)) }
 {
     let mut names = BlockNames::new(judging.alloc);
     let mut next = at.saturating_add(2);
@@ -73,6 +78,7 @@ pub(crate) fn judge_items(judging: &Judging, items: &[Item], at: usize) -> Resul
 }
 
 fn judge_item(judging: &Judging, names: &mut BlockNames, item: &Item, at: usize) -> Result<(), Stop>
+    ensures flawless { IfOk result (λ _. AddsItem judging.now.survey.now.known judging.now.kind judging.now.ledger.now names.old item.now names.new) }
     ensures fault { (items : List Item) → IfErr result (StopsWhere (λ front. IsBegun judging.now items front × AreKept names.old front) at (item_toks item.now)) }
     ensures named { IfOk result (λ _. (front : List Atom) → AreKept names.old front → AreKept names.new (front ++ item_toks item.now)) }
 {
@@ -86,6 +92,7 @@ fn judge_item(judging: &Judging, names: &mut BlockNames, item: &Item, at: usize)
 
 /// Judges a scope of a block behind the names of others.
 fn judge_scope(judging: &Judging, names: &mut Names, scope: &Scope, at: usize) -> Result<(), Stop>
+    ensures flawless { IfOk result (λ _. AddsScope judging.now.survey.now.known judging.now.kind names.old.names scope.now names.new.names) }
     ensures fault { IfErr result (StopsWhere (λ front. AreNamed front marks.Assign names.old.names) at (scope_toks scope.now)) }
     ensures named { IfOk result (λ _. (front : List Atom) → AreNamed front marks.Assign names.old.names → AreNamed (front ++ scope_toks scope.now) marks.Assign names.new.names) }
 {
@@ -105,17 +112,30 @@ fn judge_scope(judging: &Judging, names: &mut Names, scope: &Scope, at: usize) -
 }
 
 /// What the scope of this name asks of its members, if the block may have it.
-fn rule_of(kind: BlockKind, name: &Name) -> Option<ScopeRule> {
-    for (words, rule) in scopes_of(kind) {
+fn rule_of(kind: BlockKind, name: &Name) -> Option<ScopeRule>
+    ensures { result ≡ rule_in (scopes_of kind) (words_of name.now) }
+{
+    rule_in(scopes_of(kind), name)
+}
+
+/// What the scope of this name asks of its members, if it is one of these.
+fn rule_in(scopes: &[(&[&str], ScopeRule)], name: &Name) -> Option<ScopeRule>
+    ensures { result ≡ rule_in (named_rules scopes.now) (words_of name.now) }
+{
+    let mut rest = scopes;
+    while let [(words, rule), others @ ..] = rest {
         if has_words(name, *words) {
             return Some(*rule);
         }
+        rest = others;
     }
     None
 }
 
 /// The scopes that a block may have, and what each one asks of its members.
-fn scopes_of(kind: BlockKind) -> &'static [(&'static [&'static str], ScopeRule)] {
+fn scopes_of(kind: BlockKind) -> &'static [(&'static [&'static str], ScopeRule)]
+    ensures { named_rules result.now ≡ scopes_of kind }
+{
     match kind {
         BlockKind::Trace => &[(&PACKET_HEADER, ScopeRule::PacketHeader)],
         BlockKind::Stream => &[
@@ -133,7 +153,8 @@ fn scopes_of(kind: BlockKind) -> &'static [(&'static [&'static str], ScopeRule)]
 
 /// Judges a block at its closing brace, an atom: what it has to have, and its numbers.
 fn judge_end(judging: &Judging, items: &[Item], at: usize) -> Result<(), Stop>
-    ensures { IfErr result (StopsWhere (IsBegun judging.now items.now) at (mark marks.CloseBrace ∷ [])) }
+    ensures ended { IfOk result (λ _. IsEnded judging.now.kind judging.now.ledger.now items.now) }
+    ensures fault { IfErr result (StopsWhere (IsBegun judging.now items.now) at (mark marks.CloseBrace ∷ [])) }
 {
     if let Some(expected) = missing(judging.kind, items) {
         return Err(Stop::at_atom(at, Flaw::Syntax(expected)));
@@ -146,7 +167,8 @@ fn judge_end(judging: &Judging, items: &[Item], at: usize) -> Result<(), Stop>
 
 /// Whether another stream has the number 0 of a stream without one, or another event the numbers of an event.
 fn is_numbered_twice(judging: &Judging, items: &[Item]) -> bool
-    ensures { (front : List Atom) → IsTrue result → IsBegun judging.now items.now front → IsTwice front (mark marks.CloseBrace ∷ []) }
+    ensures anew { result ≡ false → IsNumberedAnew judging.now.kind judging.now.ledger.now items.now }
+    ensures twice { (front : List Atom) → IsTrue result → IsBegun judging.now items.now front → IsTwice front (mark marks.CloseBrace ∷ []) }
 {
     match judging.kind {
         BlockKind::Trace | BlockKind::Clock => false,
@@ -162,17 +184,30 @@ fn is_numbered_twice(judging: &Judging, items: &[Item]) -> bool
 }
 
 /// What a block lacks of what it has to have, in words.
-fn missing(kind: BlockKind, items: &[Item]) -> Option<&'static str> {
-    for (name, quoted) in needed(kind) {
+fn missing(kind: BlockKind, items: &[Item]) -> Option<&'static str>
+    ensures { is_none result ≡ list_all (λ w. is_some (attr w (attrs_in items.now))) (needed kind) }
+{
+    first_missing(needed(kind), items)
+}
+
+/// The first of these attributes that a block lacks, in words.
+fn first_missing(needed: &[(&'static str, &'static str)], items: &[Item]) -> Option<&'static str>
+    ensures { is_none result ≡ list_all (λ w. is_some (attr w (attrs_in items.now))) (first_texts needed.now) }
+{
+    let mut rest = needed;
+    while let [(name, quoted), others @ ..] = rest {
         if attr_in(*name, items).is_none() {
             return Some(*quoted);
         }
+        rest = others;
     }
     None
 }
 
 /// The attributes that a block has to have, and what is expected in words.
-fn needed(kind: BlockKind) -> &'static [(&'static str, &'static str)] {
+fn needed(kind: BlockKind) -> &'static [(&'static str, &'static str)]
+    ensures { first_texts result.now ≡ needed kind }
+{
     match kind {
         BlockKind::Trace => &[
             ("major", "a `major`"),

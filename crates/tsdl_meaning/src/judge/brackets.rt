@@ -1,12 +1,16 @@
 //! The first flaw of a member's brackets: how many there are, how long they are, and which members they name.
 
-ghost use Rattle.std.specs.Prelude.{List, [], ◌∷◌, ◌++◌, IfOk, IfErr, MatchOption};
+ghost use Rattle.std.specs.Prelude.{◌≡◌, ℕ, List, [], ◌∷◌, ◌++◌, None, IsSome, IfOk, IfErr, MatchOption};
 ghost use Rattle.std.specs.List.{flat_map};
 ghost use Rattle.tsdl_grammar.specs.declared.tree.Bracket.{Bracket};
 ghost use Rattle.tsdl_grammar.specs.declared.tree.Bracket.TheVariants as brackets;
+ghost use Rattle.ctf_types.specs.declared.MemberType.{MemberType};
+ghost use Rattle.ctf_types.specs.Chain.{Leaf};
+ghost use Rattle.tsdl_grammar.specs.MemberMeaning.{bracketed};
 ghost use Rattle.tsdl_grammar.specs.Spelling.{word, number_toks, bracket_toks};
 ghost use Rattle.tsdl_meaning.specs.Judged.{StopsAmong, StopsWhere};
 ghost use Rattle.tsdl_meaning.specs.BracketLengths.{HasLengths, IsBehindBrackets, IsInBrackets, IsInBracket, Adds, PassesLimit};
+ghost use Rattle.tsdl_meaning.specs.FlawlessBrackets.{KeepsLimits, AreBrackets};
 
 use crate::array::{MAX_DEPTH, MAX_ELEMENTS};
 use crate::judge::value::judge_number;
@@ -29,7 +33,8 @@ struct Lengths {
 impl Lengths {
     /// Adds a length. Answers the limit that it passes, if there is one.
     fn add(&mut self, length: u64) -> Option<&'static str>
-        ensures { MatchOption result (Adds self.old length self.new) (λ _. PassesLimit self.old length) }
+        ensures adds { MatchOption result (Adds self.old length self.new) (λ _. PassesLimit self.old length) }
+        ensures keeps { result ≡ None → KeepsLimits self.old length self.new }
     {
         let elements = self.elements.saturating_mul(length.max(1));
         if self.is_sequence && length == 0 {
@@ -54,7 +59,8 @@ pub(crate) fn judge_brackets(
     brackets: &[Bracket],
     at: usize,
 ) -> Result<(), Stop>
-    ensures { IfErr result (StopsAmong at (flat_map bracket_toks brackets.now)) }
+    ensures meant { (leaf : Leaf) → IfOk result (λ _. IsSome (bracketed before.now leaf brackets.now)) }
+    ensures fault { IfErr result (StopsAmong at (flat_map bracket_toks brackets.now)) }
 {
     let mut lengths = Lengths {
         is_sequence: false,
@@ -77,6 +83,7 @@ fn judge_bracket(
     bracket: &Bracket,
     at: usize,
 ) -> Result<(), Stop>
+    ensures meant { IfOk result (λ _. (done : List Bracket) → AreBrackets before.now done lengths.old → AreBrackets before.now (done ++ bracket.now ∷ []) lengths.new) }
     ensures fault { IfErr result (λ s. (done : List Bracket) → HasLengths lengths.old done → StopsWhere (IsBehindBrackets done) at (bracket_toks bracket.now) s) }
     ensures added { IfOk result (λ _. (done : List Bracket) → HasLengths lengths.old done → HasLengths lengths.new (done ++ bracket.now ∷ [])) }
 {
@@ -89,6 +96,7 @@ fn judge_bracket(
 
 /// A number in a bracket.
 fn judge_count(lengths: &mut Lengths, number: &Number, at: usize) -> Result<(), Stop>
+    ensures meant { IfOk result (λ _. (before : List (List ℕ × MemberType)) (done : List Bracket) → AreBrackets before done lengths.old → AreBrackets before (done ++ brackets.Count number.now ∷ []) lengths.new) }
     ensures fault { IfErr result (λ s. (done : List Bracket) → HasLengths lengths.old done → StopsWhere (IsInBrackets done) at (number_toks number.now) s) }
     ensures added { IfOk result (λ _. (done : List Bracket) → HasLengths lengths.old done → HasLengths lengths.new (done ++ brackets.Count number.now ∷ [])) }
 {
@@ -107,6 +115,7 @@ fn judge_name(
     name: &Text,
     at: usize,
 ) -> Result<(), Stop>
+    ensures meant { IfOk result (λ _. (done : List Bracket) → AreBrackets before.now done lengths.old → AreBrackets before.now (done ++ brackets.Member name.now ∷ []) lengths.new) }
     ensures fault { IfErr result (StopsWhere IsInBracket at (word name.now ∷ [])) }
     ensures added { IfOk result (λ _. (done : List Bracket) → HasLengths lengths.old done → HasLengths lengths.new (done ++ brackets.Member name.now ∷ [])) }
 {

@@ -1,14 +1,19 @@
 //! The first flaw of `integer { .. }`: its attributes, of which `size` is needed.
 
-ghost use Rattle.std.specs.Prelude.{List, ◌++◌, IfOk, IfErr, IfSome};
+ghost use Rattle.std.specs.Prelude.{◌≡◌, List, ◌++◌, Some, IsSome, IsTrue, IfOk, IfErr, IfSome};
 ghost use Rattle.tsdl_grammar.specs.declared.token.Mark.TheVariants as marks;
 ghost use Rattle.tsdl_grammar.specs.declared.atom.Atom.{Atom};
+ghost use Rattle.std.specs.Option.{is_some};
+ghost use Rattle.tsdl_grammar.specs.AttributeValues.{one_word};
+ghost use Rattle.tsdl_grammar.specs.IntegerMeaning.{int_attrs, int_meaning, order_value, base_value, clock_value};
 ghost use Rattle.tsdl_grammar.specs.Spelling.{attr_toks, int_toks, value_toks};
 ghost use Rattle.tsdl_meaning.specs.Judged.{StopsAmong, StopsWhere};
 ghost use Rattle.tsdl_meaning.specs.Judging.{IsBehindOwn, IsOf};
 ghost use Rattle.tsdl_meaning.specs.NamesBefore.{AreNamed};
+ghost use Rattle.tsdl_meaning.specs.FlawlessBlocks.{fits};
+ghost use Rattle.tsdl_meaning.specs.FlawlessTypes.{AddsOwn, of_integer, own_word, is_size};
 
-use crate::integer::{base_value, order_value};
+use crate::integer::{base_value, clock_value, order_value};
 use crate::judge::names::Names;
 use crate::judge::survey::Survey;
 use crate::judge::value::{
@@ -27,7 +32,8 @@ pub(crate) fn judge_integer(
     attributes: &[Attribute],
     at: usize,
 ) -> Result<(), Stop>
-    ensures { IfErr result (StopsAmong at (int_toks attributes.now)) }
+    ensures meant { IfOk result (λ _. IsSome (int_meaning survey.now.known attributes.now)) }
+    ensures fault { IfErr result (StopsAmong at (int_toks attributes.now)) }
 {
     let mut names = Names::new(alloc);
     let mut next = at.saturating_add(2);
@@ -49,6 +55,7 @@ fn judge_attribute(
     attribute: &Attribute,
     at: usize,
 ) -> Result<(), Stop>
+    ensures own { IfOk result (λ _. AddsOwn int_attrs (of_integer survey.now.known) names.old.names attribute.now names.new.names) }
     ensures fault { IfErr result (StopsWhere (λ front. AreNamed front marks.Equals names.old.names) at (attr_toks attribute.now)) }
     ensures named { IfOk result (λ _. (front : List Atom) → AreNamed front marks.Equals names.old.names → AreNamed (front ++ attr_toks attribute.now) marks.Equals names.new.names) }
 {
@@ -69,7 +76,8 @@ fn judge_value(
     value: &Value,
     at: usize,
 ) -> Result<(), Stop>
-    ensures { IfErr result (StopsWhere (IsBehindOwn kind) at (value_toks value.now)) }
+    ensures fit { IfOk result (λ _. IsTrue (fits (of_integer survey.now.known) (own_word kind) value.now)) }
+    ensures fault { IfErr result (StopsWhere (IsBehindOwn kind) at (value_toks value.now)) }
 {
     match kind {
         IntegerAttribute::Size => judge_size(value, at),
@@ -96,7 +104,8 @@ enum IntegerAttribute {
 
 impl IntegerAttribute {
     fn named(name: &Name) -> Option<IntegerAttribute>
-        ensures { IfSome result (IsOf name.now) }
+        ensures word { IfSome result (λ kind. one_word name.now ≡ Some (own_word kind)) }
+        ensures named { IfSome result (IsOf name.now) }
     {
         match one_word(name)?.as_str() {
             "size" => Some(IntegerAttribute::Size),
@@ -113,7 +122,8 @@ impl IntegerAttribute {
 
 /// A size from 1 to 64 bits.
 fn judge_size(value: &Value, at: usize) -> Result<(), Stop>
-    ensures { IfErr result (StopsAmong at (value_toks value.now)) }
+    ensures fit { IfOk result (λ _. IsTrue (is_size value.now)) }
+    ensures fault { IfErr result (StopsAmong at (value_toks value.now)) }
 {
     match judge_natural(value, at)? {
         1..=64 => Ok(()),
@@ -123,21 +133,23 @@ fn judge_size(value: &Value, at: usize) -> Result<(), Stop>
 
 /// `native`, or the trace's own byte order.
 fn judge_order(alloc: Global, survey: &Survey, value: &Value, at: usize) -> Result<(), Stop>
-    ensures { IfErr result (StopsAmong at (value_toks value.now)) }
+    ensures fit { IfOk result (λ _. IsTrue (is_some (order_value survey.now.known.order value.now))) }
+    ensures fault { IfErr result (StopsAmong at (value_toks value.now)) }
 {
     let remedy = order_remedy(value);
-    match survey.order {
-        None => judge_words(alloc, value, at, &["native"], remedy),
-        Some(order) => match order_value(order, value) {
-            Some(_) => Ok(()),
-            None => Err(unread(alloc, value, at, remedy)),
-        },
+    if !survey.has_order {
+        return judge_words(alloc, value, at, &["native"], remedy);
+    }
+    match order_value(survey.known.order(), value) {
+        Some(_) => Ok(()),
+        None => Err(unread(alloc, value, at, remedy)),
     }
 }
 
 /// `2 binary b`, `8 octal oct o`, `10 decimal dec d i u` or `16 hexadecimal hex x X p`.
 fn judge_base(alloc: Global, value: &Value, at: usize) -> Result<(), Stop>
-    ensures { IfErr result (StopsAmong at (value_toks value.now)) }
+    ensures fit { IfOk result (λ _. IsTrue (is_some (base_value value.now))) }
+    ensures fault { IfErr result (StopsAmong at (value_toks value.now)) }
 {
     if base_value(value).is_some() {
         return Ok(());
@@ -151,19 +163,20 @@ fn judge_base(alloc: Global, value: &Value, at: usize) -> Result<(), Stop>
 
 /// `clock.NAME.value`. A clock that is not there is a flaw of its name.
 fn judge_map(survey: &Survey, value: &Value, at: usize) -> Result<(), Stop>
-    ensures { IfErr result (StopsAmong at (value_toks value.now)) }
+    ensures fit { IfOk result (λ _. IsTrue (is_some (clock_value survey.now.known.clocks value.now))) }
+    ensures fault { IfErr result (StopsAmong at (value_toks value.now)) }
 {
+    if clock_value(&survey.known, value).is_some() {
+        return Ok(());
+    }
     let Value::Name(name) = value else {
         return Err(Stop::expected(at, value, "a name"));
     };
-    let [clock, last] = name.rest.as_slice() else {
+    let [_, last] = name.rest.as_slice() else {
         return Err(Stop::expected(at, value, "`clock.NAME.value`"));
     };
     if name.first.as_str() != "clock" || last.as_str() != "value" {
         return Err(Stop::expected(at, value, "`clock.NAME.value`"));
-    }
-    if survey.known.has_clock(clock.as_str()) {
-        return Ok(());
     }
     let place = at.saturating_add(2);
     Err(Stop::at_atom(place, Flaw::Syntax("the name of a clock")))

@@ -1,23 +1,24 @@
 //! The first flaw of a member's kind: an integer, an enumeration or a string.
 
-ghost use Rattle.std.specs.Prelude.{List, [], ◌∷◌, ◌++◌, IfOk, IfErr, codes};
+ghost use Rattle.std.specs.Prelude.{List, [], ◌∷◌, ◌++◌, Some, IsSome, IfOk, IfErr, codes};
 ghost use Rattle.std.specs.List.{flat_map};
 ghost use Rattle.tsdl_grammar.specs.declared.token.Mark.TheVariants as marks;
 ghost use Rattle.tsdl_grammar.specs.declared.atom.Atom.{Atom};
 ghost use Rattle.tsdl_grammar.specs.declared.tree.Kind.TheVariants as kinds;
 ghost use Rattle.tsdl_grammar.specs.Spelling.{word, kind_toks, attr_toks, attrs_toks, braced, entries_toks, entry_toks, next_entry_toks};
+ghost use Rattle.tsdl_grammar.specs.MemberMeaning.{entry_meaning, text_meaning, kind_meaning};
 ghost use Rattle.tsdl_meaning.specs.Judged.{StopsAmong, StopsWhere};
 ghost use Rattle.tsdl_meaning.specs.Judging.{IsBehindBrace};
 ghost use Rattle.tsdl_meaning.specs.NamesBefore.{AreNamed};
+ghost use Rattle.tsdl_meaning.specs.FlawlessTypes.{AddsOwn, AreRanges, string_attrs, of_string};
 
-use crate::enumeration::MAX_RANGES;
+use crate::enumeration::{MAX_RANGES, rises};
 use crate::judge::integer::judge_integer;
 use crate::judge::names::Names;
 use crate::judge::survey::Survey;
 use crate::judge::value::unread;
 use crate::lookup::is_word;
 use crate::member::encoding_or_any;
-use crate::value::signed_of;
 use ctf_types::ListOf;
 use std::alloc::Global;
 use tsdl_flaw::{Flaw, Remedy, Spelled, Stop};
@@ -25,15 +26,15 @@ use tsdl_grammar::{Attribute, Entries, Entry, Kind};
 
 /// `integer { .. }`, `enum : integer { .. } { .. }` or `string { .. }`.
 pub(crate) fn judge_kind(alloc: Global, survey: &Survey, kind: &Kind, at: usize) -> Result<(), Stop>
-    ensures { IfErr result (StopsAmong at (kind_toks kind.now)) }
+    ensures meant { IfOk result (λ _. IsSome (kind_meaning survey.now.known kind.now)) }
+    ensures fault { IfErr result (StopsAmong at (kind_toks kind.now)) }
 {
     match kind {
         Kind::Integer(attributes) => judge_integer(alloc, survey, attributes.as_slice(), at),
         Kind::Enumeration(attributes, entries) => {
             judge_enumeration(alloc, survey, attributes, entries, at)
         }
-        Kind::Text(Some(attributes)) => judge_string(alloc, attributes.as_slice(), at),
-        Kind::Text(None) => Ok(()),
+        Kind::Text(attributes) => judge_text_kind(alloc, attributes, at),
     }
 }
 
@@ -45,7 +46,8 @@ fn judge_enumeration(
     entries: &Entries,
     at: usize,
 ) -> Result<(), Stop>
-    ensures { IfErr result (StopsAmong at (kind_toks (kinds.Enumeration attributes.now entries.now))) }
+    ensures meant { IfOk result (λ _. IsSome (kind_meaning survey.now.known (kinds.Enumeration attributes.now entries.now))) }
+    ensures fault { IfErr result (StopsAmong at (kind_toks (kinds.Enumeration attributes.now entries.now))) }
 {
     let integer = at.saturating_add(2);
     judge_integer(alloc, survey, attributes.as_slice(), integer)?;
@@ -59,7 +61,8 @@ fn judge_enumeration(
 
 /// `range { "," range }`, behind an opening brace.
 fn judge_ranges(first: &Entry, others: &[Entry], at: usize) -> Result<(), Stop>
-    ensures { IfErr result (StopsWhere IsBehindBrace at (entry_toks first.now ++ flat_map next_entry_toks others.now)) }
+    ensures meant { IfOk result (λ _. AreRanges (first.now ∷ others.now)) }
+    ensures fault { IfErr result (StopsWhere IsBehindBrace at (entry_toks first.now ++ flat_map next_entry_toks others.now)) }
 {
     judge_range(first, at)?;
     let mut next = at.saturating_add(first.length());
@@ -76,21 +79,38 @@ fn judge_ranges(first: &Entry, others: &[Entry], at: usize) -> Result<(), Stop>
 
 /// `label "=" number [ "..." number ]`, where the range does not fall.
 fn judge_range(entry: &Entry, at: usize) -> Result<(), Stop>
-    ensures { IfErr result (StopsAmong at (entry_toks entry.now)) }
+    ensures meant { IfOk result (λ _. IsSome (entry_meaning entry.now)) }
+    ensures fault { IfErr result (StopsAmong at (entry_toks entry.now)) }
 {
     let Some(high) = entry.high else {
         return Ok(());
     };
-    if signed_of(high) >= signed_of(entry.low) {
+    if rises(entry) {
         return Ok(());
     }
     let place = at.saturating_add(entry.low.length()).saturating_add(3);
     Err(Stop::expected(place, &high, "a number that is not below the range's first"))
 }
 
+/// `"string" [ "{" { attribute } "}" ]`.
+fn judge_text_kind(
+    alloc: Global,
+    attributes: &Option<ListOf<Attribute>>,
+    at: usize,
+) -> Result<(), Stop>
+    ensures meant { IfOk result (λ _. IsSome (text_meaning attributes.now)) }
+    ensures fault { IfErr result (StopsAmong at (kind_toks (kinds.Text attributes.now))) }
+{
+    match attributes {
+        Some(attributes) => judge_string(alloc, attributes.as_slice(), at),
+        None => Ok(()),
+    }
+}
+
 /// `"string" "{" { attribute } "}"`.
 fn judge_string(alloc: Global, attributes: &[Attribute], at: usize) -> Result<(), Stop>
-    ensures { IfErr result (StopsAmong at (word (codes "string") ∷ attrs_toks attributes.now)) }
+    ensures meant { IfOk result (λ _. IsSome (text_meaning (Some attributes.now))) }
+    ensures fault { IfErr result (StopsAmong at (word (codes "string") ∷ attrs_toks attributes.now)) }
 {
     let mut names = Names::new(alloc);
     let mut next = at.saturating_add(2);
@@ -108,6 +128,7 @@ fn judge_encoding(
     attribute: &Attribute,
     at: usize,
 ) -> Result<(), Stop>
+    ensures own { IfOk result (λ _. AddsOwn string_attrs of_string names.old.names attribute.now names.new.names) }
     ensures fault { IfErr result (StopsWhere (λ front. AreNamed front marks.Equals names.old.names) at (attr_toks attribute.now)) }
     ensures named { IfOk result (λ _. (front : List Atom) → AreNamed front marks.Equals names.old.names → AreNamed (front ++ attr_toks attribute.now) marks.Equals names.new.names) }
 {

@@ -1,6 +1,9 @@
 //! What the blocks of a text so far say: what may stand once only, and what the end of the text is judged by.
 
-ghost use Rattle.std.specs.Prelude.{◌≡◌, ◌⊎◌, List, [], ◌∷◌, option_map, OnOk, IfOk, IfErr, IsTrue, IfSome, codes};
+ghost use Rattle.std.specs.Prelude.{◌≡◌, ◌↔◌, ◌⊎◌, ℕ, true, false, None, List, [], ◌∷◌, option_map, OnOk, IfOk, IfErr, IsTrue, IfSome, codes};
+ghost use Rattle.std.specs.Ordering.{nat_cmp};
+ghost use Rattle.std.specs.BTreeMap.{ContainsKey};
+ghost use Rattle.std.specs.BTreeSet.{contains, contains_text};
 ghost use Rattle.tsdl_grammar.specs.declared.atom.Atom.{Atom};
 ghost use Rattle.tsdl_grammar.specs.Spelling.{word, block_toks};
 ghost use Rattle.tsdl_flaw.specs.Fronts.{Holds};
@@ -10,7 +13,9 @@ ghost use Rattle.tsdl_flaw.specs.Stopping.{kind_of};
 ghost use Rattle.tsdl_flaw.specs.TextStops.{StopsText};
 ghost use Rattle.tsdl_meaning.specs.Judged.{StopsWhere};
 ghost use Rattle.tsdl_flaw.specs.Twice.{clock_name, HasNumbers};
-ghost use Rattle.tsdl_meaning.specs.Ledgers.{AreNoted, HasClock, HasStream, HasEvent};
+ghost use Rattle.tsdl_meaning.specs.FlawlessTexts.{AddsBlock, AddsClock, AddsStream, AddsEvent, HaveStreams, IsEmpty};
+ghost use Rattle.tsdl_meaning.specs.PacketSizes.{IfSizesMissed};
+ghost use Rattle.tsdl_meaning.specs.Ledgers.{AreNoted, HasClock, HasStream, HasEvent, pair_cmp};
 
 use crate::lookup::attr_in;
 use crate::value::{name_value, natural_or_zero};
@@ -33,7 +38,8 @@ pub(crate) struct Ledger {
 
 impl Ledger {
     pub(crate) fn new(alloc: Global) -> Ledger
-        ensures { (front : List Atom) → AreNoted front result }
+        ensures empty { IsEmpty result }
+        ensures noted { (front : List Atom) → AreNoted front result }
     {
         Ledger {
             has_trace: false,
@@ -46,7 +52,8 @@ impl Ledger {
 
     /// Judges whether a trace block may begin at an atom.
     pub(crate) fn judge_trace(&self, at: usize) -> Result<(), Stop>
-        ensures { IfErr result (StopsWhere (λ front. AreNoted front self.now) at (word (codes "trace") ∷ [])) }
+        ensures first { IfOk result (λ _. self.now.has_trace ≡ false) }
+        ensures fault { IfErr result (StopsWhere (λ front. AreNoted front self.now) at (word (codes "trace") ∷ [])) }
     {
         if self.has_trace {
             return Err(Stop::at_atom(at, Flaw::Duplicate));
@@ -56,7 +63,8 @@ impl Ledger {
 
     /// Judges whether an environment block may begin at an atom.
     pub(crate) fn judge_environment(&self, at: usize) -> Result<(), Stop>
-        ensures { IfErr result (StopsWhere (λ front. AreNoted front self.now) at (word (codes "env") ∷ [])) }
+        ensures first { IfOk result (λ _. self.now.has_environment ≡ false) }
+        ensures fault { IfErr result (StopsWhere (λ front. AreNoted front self.now) at (word (codes "env") ∷ [])) }
     {
         if self.has_environment {
             return Err(Stop::at_atom(at, Flaw::Duplicate));
@@ -66,28 +74,32 @@ impl Ledger {
 
     /// Whether a clock has this name.
     pub(crate) fn has_clock(&self, name: &Text) -> bool
-        ensures { (front : List Atom) → AreNoted front self.now → IsTrue result → HasClock front name.now }
+        ensures is { result ≡ contains_text self.now.clocks name.now }
+        ensures noted { (front : List Atom) → AreNoted front self.now → IsTrue result → HasClock front name.now }
     {
         self.clocks.contains(name.as_str())
     }
 
     /// Whether a stream has this number.
     pub(crate) fn has_stream(&self, id: u64) -> bool
-        ensures { (front : List Atom) → AreNoted front self.now → IsTrue result → HasStream front id }
+        ensures is { result ≡ contains nat_cmp self.now.streams id }
+        ensures noted { (front : List Atom) → AreNoted front self.now → IsTrue result → HasStream front id }
     {
         self.streams.contains(&id)
     }
 
     /// Whether an event has these numbers, of its stream and its own.
     pub(crate) fn has_event(&self, numbers: (u64, u64)) -> bool
-        ensures { (front : List Atom) → AreNoted front self.now → IsTrue result → HasEvent front numbers }
+        ensures is { IsTrue result ↔ ContainsKey pair_cmp self.now.events numbers }
+        ensures noted { (front : List Atom) → AreNoted front self.now → IsTrue result → HasEvent front numbers }
     {
         self.events.contains_key(&numbers)
     }
 
     /// Adds a block that has been judged.
     pub(crate) fn add(&mut self, alloc: Global, block: &Block) -> Result<(), AllocError>
-        ensures { (front : List Atom) → AreNoted front self.old → Holds front (block_toks block.now) → OnOk result (AreNoted front self.new) }
+        ensures adds { OnOk result (AddsBlock self.old block.now self.new) }
+        ensures noted { (front : List Atom) → AreNoted front self.old → Holds front (block_toks block.now) → OnOk result (AreNoted front self.new) }
     {
         match block {
             Block::Trace(_) => self.has_trace = true,
@@ -100,7 +112,8 @@ impl Ledger {
     }
 
     fn add_clock(&mut self, alloc: Global, items: &[Item]) -> Result<(), AllocError>
-        ensures { (front : List Atom) → AreNoted front self.old → Holds front (block_toks (Block.Clock items.now)) → OnOk result (AreNoted front self.new) }
+        ensures adds { OnOk result (AddsClock self.old items.now self.new) }
+        ensures noted { (front : List Atom) → AreNoted front self.old → Holds front (block_toks (Block.Clock items.now)) → OnOk result (AreNoted front self.new) }
     {
         if let Some(name) = name_in(items) {
             let _is_new = self.clocks.insert(String::from_str(alloc, name.as_str())?)?;
@@ -109,7 +122,8 @@ impl Ledger {
     }
 
     fn add_stream(&mut self, items: &[Item]) -> Result<(), AllocError>
-        ensures { (front : List Atom) → AreNoted front self.old → Holds front (block_toks (Block.Stream items.now)) → OnOk result (AreNoted front self.new) }
+        ensures adds { OnOk result (AddsStream self.old items.now self.new) }
+        ensures noted { (front : List Atom) → AreNoted front self.old → Holds front (block_toks (Block.Stream items.now)) → OnOk result (AreNoted front self.new) }
     {
         if let Some(id) = natural_or_zero(attr_in("id", items)) {
             let _is_new = self.streams.insert(id)?;
@@ -118,7 +132,8 @@ impl Ledger {
     }
 
     fn add_event(&mut self, alloc: Global, items: &[Item]) -> Result<(), AllocError>
-        ensures { (front : List Atom) → AreNoted front self.old → Holds front (block_toks (Block.Event items.now)) → OnOk result (AreNoted front self.new) }
+        ensures adds { OnOk result (AddsEvent self.old items.now self.new) }
+        ensures noted { (front : List Atom) → AreNoted front self.old → Holds front (block_toks (Block.Event items.now)) → OnOk result (AreNoted front self.new) }
     {
         let (Some(name), Some(numbers)) = (name_in(items), event_numbers(items)) else {
             return Ok(());
@@ -130,7 +145,8 @@ impl Ledger {
 
     /// Where judging a text stops that has no flaw before its end.
     pub(crate) fn stop_at_end(&self, alloc: Global, at: usize) -> Stop
-        ensures { (toks : List Atom) → HasLength toks at → StopsText toks result }
+        ensures complete { IfSizesMissed result ((self.now.has_trace ≡ true) × HaveStreams self.now) }
+        ensures stops { (toks : List Atom) → HasLength toks at → StopsText toks result }
     {
         match self.flaw_at_end(alloc) {
             Err(error) => Stop::from(error),
@@ -139,7 +155,8 @@ impl Ledger {
     }
 
     fn flaw_at_end(&self, alloc: Global) -> Result<Flaw, AllocError>
-        ensures { IfOk result (λ flaw. (kind_of flaw ≡ faults.Syntax) ⊎ (kind_of flaw ≡ faults.NoPacketSize)) }
+        ensures complete { IfOk result (λ flaw. kind_of flaw ≡ faults.NoPacketSize → (self.now.has_trace ≡ true) × HaveStreams self.now) }
+        ensures kind { IfOk result (λ flaw. (kind_of flaw ≡ faults.Syntax) ⊎ (kind_of flaw ≡ faults.NoPacketSize)) }
     {
         if !self.has_trace {
             return Ok(Flaw::Syntax("a trace block"));
@@ -151,7 +168,9 @@ impl Ledger {
     }
 
     /// The first event by number whose stream is not there.
-    fn first_orphan(&self, alloc: Global) -> Result<Option<Orphan>, AllocError> {
+    fn first_orphan(&self, alloc: Global) -> Result<Option<Orphan>, AllocError>
+        ensures { IfOk result (λ orphan. orphan ≡ None → HaveStreams self.now) }
+    {
         for ((stream, _), name) in &self.events {
             if !self.streams.contains(stream) {
                 return Ok(Some(Orphan {
@@ -173,7 +192,8 @@ fn name_in(items: &[Item]) -> Option<&Text>
 
 /// The numbers of an event, of its stream and its own.
 pub(crate) fn event_numbers(items: &[Item]) -> Option<(u64, u64)>
-    ensures { IfSome result (λ numbers. HasNumbers items.now numbers.0 numbers.1) }
+    ensures found { IfSome result (λ numbers. HasNumbers items.now numbers.0 numbers.1) }
+    ensures none { result ≡ None → (stream id : ℕ) → HasNumbers items.now stream id → ⊥ }
 {
     let stream = natural_or_zero(attr_in("stream_id", items))?;
     let id = natural_or_zero(attr_in("id", items))?;

@@ -6,6 +6,7 @@ ghost use Rattle.tsdl_grammar.specs.declared.atom.Atom.{Atom};
 ghost use Rattle.tsdl_grammar.specs.Spelling.{mark, name_toks};
 ghost use Rattle.tsdl_meaning.specs.Judged.{StopsWhere};
 ghost use Rattle.tsdl_meaning.specs.NamesBefore.{AreNamed};
+ghost use Rattle.tsdl_meaning.specs.FlawlessBlocks.{AddsName};
 
 use std::alloc::Global;
 use std::collections::BTreeSet;
@@ -30,6 +31,7 @@ impl Names {
     /// Adds a name, of which the first word has this index, and its mark stands behind it.
     pub(crate) fn add(&mut self, alloc: Global, name: &Name, at: usize) -> Result<(), Stop>
         ensures fault { IfErr result (λ s. (sign : Mark) → StopsWhere (λ front. AreNamed front sign self.old.names) at (name_toks name.now ++ mark sign ∷ []) s) }
+        ensures flawless { IfOk result (λ _. AddsName self.old.names name.now self.new.names) }
         ensures added { IfOk result (λ _. (front : List Atom) (sign : Mark) → AreNamed front sign self.old.names → AreNamed (front ++ (name_toks name.now ++ mark sign ∷ [])) sign self.new.names) }
     {
         let written = dotted(alloc, name)?;

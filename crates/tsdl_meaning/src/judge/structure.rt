@@ -1,12 +1,14 @@
 //! The first flaw of a scope's structure: its members in order, then its alignment.
 
-ghost use Rattle.std.specs.Prelude.{List, [], ◌∷◌, ◌++◌, IfOk, IfErr};
+ghost use Rattle.std.specs.Prelude.{◌≡◌, ◌<◌, false, List, [], ◌∷◌, ◌++◌, length, IfOk, IfErr};
 ghost use Rattle.std.specs.List.{Contains, flat_map};
 ghost use Rattle.ctf_types.specs.Members.{names_in};
 ghost use Rattle.tsdl_grammar.specs.declared.tree.Kind.{Kind};
 ghost use Rattle.tsdl_grammar.specs.declared.tree.MemberTree.{MemberTree};
 ghost use Rattle.tsdl_grammar.specs.Spelling.{word, bracket_toks, member_toks, struct_toks};
+ghost use Rattle.tsdl_grammar.specs.StructureMeaning.{has_member};
 ghost use Rattle.tsdl_meaning.specs.Judged.{StopsAmong, StopsWhere};
+ghost use Rattle.tsdl_meaning.specs.FlawlessStructures.{AddsMember, IsFlawless};
 ghost use Rattle.tsdl_meaning.specs.MembersBefore.{AreMembers, IsBehindMembers, IsBehindKind};
 
 use crate::judge::brackets::judge_brackets;
@@ -29,7 +31,8 @@ pub(crate) fn judge_structure(
     structure: &Structure,
     at: usize,
 ) -> Result<Members, Stop>
-    ensures { IfErr result (StopsAmong at (struct_toks structure.now)) }
+    ensures fault { IfErr result (StopsAmong at (struct_toks structure.now)) }
+    ensures flawless { IfOk result (λ _. IsFlawless survey.now.known rule structure.now) }
 {
     let mut members = Members::new(alloc);
     let mut next = at.saturating_add(2);
@@ -38,10 +41,13 @@ pub(crate) fn judge_structure(
         judge_member(alloc, survey, rule, &mut members, tree, next)?;
         next = next.saturating_add(tree.length());
     }
-    if let Some(number) = structure.align {
-        judge_align(&number, next.saturating_add(3))?;
+    match structure.align {
+        None => Ok(members),
+        Some(number) => {
+            judge_align(&number, next.saturating_add(3))?;
+            Ok(members)
+        }
     }
-    Ok(members)
 }
 
 /// `kind identifier { bracket } ";"`, a member behind these.
@@ -55,6 +61,7 @@ fn judge_member(
 ) -> Result<(), Stop>
     ensures fault { IfErr result (λ s. (done : List MemberTree) → AreMembers done members.old → StopsWhere (IsBehindMembers done) at (member_toks tree.now) s) }
     ensures added { IfOk result (λ _. (done : List MemberTree) → AreMembers done members.old → AreMembers (done ++ tree.now ∷ []) members.new) }
+    ensures flawless { IfOk result (λ _. AddsMember survey.now.known rule members.old tree.now members.new) }
 {
     judge_kind(alloc, survey, &tree.kind, at)?;
     let place = at.saturating_add(tree.kind.length());
@@ -62,7 +69,7 @@ fn judge_member(
     let behind = place.saturating_add(1);
     judge_brackets(alloc, members, tree.brackets.as_slice(), behind)?;
     let Some(member) = member_meaning(alloc, &survey.known, members, tree)? else {
-        return Err(Stop::expected(at, &tree.kind, "a type that is read here"));
+        unreachable!()
     };
     if !suits_rule(rule, tree.name.as_str(), &member) {
         return Err(unsuited(alloc, tree, place));
@@ -75,6 +82,8 @@ fn judge_member(
 fn judge_member_name(members: &Members, name: &Text, at: usize) -> Result<(), Stop>
     ensures fault { IfErr result (λ s. (done : List MemberTree) (kind : Kind) → AreMembers done members.now → StopsWhere (IsBehindKind done kind) at (word name.now ∷ []) s) }
     ensures fresh { IfOk result (λ _. Contains (names_in members.now) name.now → ⊥) }
+    ensures new { IfOk result (λ _. has_member name.now members.now ≡ false) }
+    ensures few { IfOk result (λ _. length members.now < 1024) }
 {
     if has_member(members, name.as_str()) {
         return Err(Stop::at_atom(at, Flaw::Duplicate));

@@ -6,10 +6,10 @@ use ctf_types::{ByteOrder, ListOf, Text};
 use std::alloc::{AllocError, Global};
 use tsdl_grammar::{Atom, Mark, first_token};
 
-/// The trace's byte order, where it is given, and what integers have to know. Blocks stand in any order.
+/// What integers have to know of a text, and whether its trace gives a byte order. Blocks stand in any order.
 #[derive(Drop)]
 pub struct Survey {
-    pub(crate) order: Option<ByteOrder>,
+    pub(crate) has_order: bool,
     pub(crate) known: Known,
 }
 
@@ -23,8 +23,9 @@ impl Survey {
             rest = behind;
         }
         let Found { order, clocks } = seen.found;
+        let has_order = order.is_some();
         let known = Known::with_names(alloc, order.unwrap_or(ByteOrder::Little), clocks)?;
-        Ok(Survey { order, known })
+        Ok(Survey { has_order, known })
     }
 }
 

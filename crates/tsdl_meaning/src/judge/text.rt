@@ -1,11 +1,15 @@
 //! The first flaw of a text that means nothing, by one pass over its blocks.
 
-ghost use Rattle.std.specs.Prelude.{List, ◌++◌, OnOk, IfOk, IfErr};
+ghost use Rattle.std.specs.Prelude.{◌≡◌, List, [], ◌++◌, None, OnOk, IfOk, IfErr};
 ghost use Rattle.tsdl_grammar.specs.declared.atom.Atom.{Atom};
 ghost use Rattle.tsdl_grammar.specs.Spelling.{block_toks, text_toks};
+ghost use Rattle.tsdl_grammar.specs.Denotes.{text_meta};
+ghost use Rattle.tsdl_flaw.specs.Stopping.{StopsIn};
 ghost use Rattle.tsdl_flaw.specs.TextStops.{StopsText};
 ghost use Rattle.tsdl_meaning.specs.Judged.{StopsWhere};
 ghost use Rattle.tsdl_meaning.specs.Ledgers.{AreNoted};
+ghost use Rattle.tsdl_meaning.specs.FlawlessTexts.{IsFlawlessBehind, AddsBlock, Surveys};
+ghost use Rattle.tsdl_meaning.specs.PacketSizes.{MissesSizes};
 
 use crate::judge::block::{BlockKind, Judging, judge_items};
 use crate::judge::environment::judge_environment;
@@ -20,7 +24,8 @@ use tsdl_grammar::Block;
 /// Faults come in the order of the text. The end of the text lacks a trace block, the stream of an event or the sizes
 /// of a stream's packets, in this order.
 pub fn first_flaw(alloc: Global, survey: &Survey, blocks: &[Block]) -> Stop
-    ensures { StopsText (text_toks blocks.now) result }
+    ensures sizes { Surveys survey.now.known blocks.now → text_meta blocks.now ≡ None → MissesSizes blocks.now result }
+    ensures stops { StopsText (text_toks blocks.now) result }
 {
     match judge_blocks(alloc, survey, blocks) {
         Ok(stop) => stop,
@@ -30,8 +35,9 @@ pub fn first_flaw(alloc: Global, survey: &Survey, blocks: &[Block]) -> Stop
 
 /// Judges the blocks in their order. Answers where judging stops that finds nothing wrong with any of them.
 fn judge_blocks(alloc: Global, survey: &Survey, blocks: &[Block]) -> Result<Stop, Stop>
+    ensures sizes { Surveys survey.now.known blocks.now → text_meta blocks.now ≡ None → IfOk result (MissesSizes blocks.now) }
     ensures end { IfOk result (StopsText (text_toks blocks.now)) }
-    ensures fault { IfErr result (StopsText (text_toks blocks.now)) }
+    ensures fault { IfErr result (StopsIn [] 0 (text_toks blocks.now)) }
 {
     let mut ledger = Ledger::new(alloc);
     let mut next = 0usize;
@@ -50,6 +56,8 @@ fn judge_block(
     block: &Block,
     at: usize,
 ) -> Result<(), Stop>
+    ensures flawless { IfOk result (λ _. IsFlawlessBehind survey.now.known ledger.old block.now) }
+    ensures adds { OnOk result (AddsBlock ledger.old block.now ledger.new) }
     ensures fault { IfErr result (StopsWhere (λ front. AreNoted front ledger.old) at (block_toks block.now)) }
     ensures noted { (front : List Atom) → AreNoted front ledger.old → OnOk result (AreNoted (front ++ block_toks block.now) ledger.new) }
 {
@@ -65,7 +73,8 @@ fn judge_parts(
     block: &Block,
     at: usize,
 ) -> Result<(), Stop>
-    ensures { IfErr result (StopsWhere (λ front. AreNoted front ledger.now) at (block_toks block.now)) }
+    ensures flawless { IfOk result (λ _. IsFlawlessBehind survey.now.known ledger.now block.now) }
+    ensures fault { IfErr result (StopsWhere (λ front. AreNoted front ledger.now) at (block_toks block.now)) }
 {
     let (kind, items) = match block {
         Block::Trace(items) => {

@@ -1,20 +1,24 @@
 //! What attributes have, judged by what each one may have. A flaw of a value stands at its first atom.
 
-ghost use Rattle.std.specs.Prelude.{◌≡◌, Some, IfOk, IfErr};
+ghost use Rattle.std.specs.Prelude.{◌≡◌, false, Some, IsSome, IsTrue, IfOk, IfErr};
+ghost use Rattle.std.specs.Option.{is_some, option_map_or};
+ghost use Rattle.std.specs.List.{list_any};
+ghost use Rattle.std.specs.Str.{bytes_eq};
 ghost use Rattle.tsdl_grammar.specs.Spelling.{value_toks, number_toks};
-ghost use Rattle.tsdl_grammar.specs.AttributeValues.{natural, natural_value, name_value};
+ghost use Rattle.tsdl_grammar.specs.AttributeValues.{natural, natural_value, whole_value, text_value, word_value, name_value, flag_value, uuid_value};
+ghost use Rattle.tsdl_grammar.specs.StructureMeaning.{align_of};
 ghost use Rattle.tsdl_meaning.specs.Judged.{StopsAmong, StopsWhere};
 ghost use Rattle.tsdl_meaning.specs.Judging.{IsBehindAlign};
+ghost use Rattle.tsdl_meaning.specs.Names.{texts_of};
+ghost use Rattle.tsdl_meaning.specs.FlawlessTypes.{is_alignment};
 
 use crate::scope_rule::has_word;
+use crate::structure::{LARGEST_ALIGN, alignment};
 use crate::value::{flag_value, name_value, natural, text_value, uuid_value, whole, word_value};
 use ctf_types::Text;
 use std::alloc::Global;
 use tsdl_flaw::{Flaw, Remedy, Stop};
 use tsdl_grammar::{Number, Value};
-
-/// The largest alignment in bits.
-const LARGEST_ALIGN: u64 = 4096;
 
 /// The number of a value that has to be one.
 fn number(value: &Value, at: usize) -> Result<&Number, Stop>
@@ -48,7 +52,8 @@ pub(crate) fn judge_natural(value: &Value, at: usize) -> Result<u64, Stop>
 
 /// Judges whether this is a number from -2^63 to 2^63 - 1.
 pub(crate) fn judge_whole(value: &Value, at: usize) -> Result<(), Stop>
-    ensures { IfErr result (StopsAmong at (value_toks value.now)) }
+    ensures fault { IfErr result (StopsAmong at (value_toks value.now)) }
+    ensures value { IfOk result (λ _. IsTrue (is_some (whole_value value.now))) }
 {
     match whole(*number(value, at)?) {
         Some(_) => Ok(()),
@@ -58,28 +63,31 @@ pub(crate) fn judge_whole(value: &Value, at: usize) -> Result<(), Stop>
 
 /// Judges an alignment in bits, a power of two.
 pub(crate) fn judge_align(number: &Number, at: usize) -> Result<(), Stop>
-    ensures { IfErr result (StopsWhere IsBehindAlign at (number_toks number.now)) }
+    ensures fault { IfErr result (StopsWhere IsBehindAlign at (number_toks number.now)) }
+    ensures aligned { IfOk result (λ _. IsSome (align_of (Some number.now))) }
 {
     let align = judge_number(number, at)?;
-    if !align.is_power_of_two() {
-        return Err(Stop::expected(at, number, "a power of two"));
+    if alignment(align).is_some() {
+        return Ok(());
     }
-    if align > LARGEST_ALIGN {
+    if align > LARGEST_ALIGN && align.is_power_of_two() {
         return Err(Stop::at(at, number, Flaw::Limit("an alignment of at most 4096 bits")));
     }
-    Ok(())
+    Err(Stop::expected(at, number, "a power of two"))
 }
 
 /// Judges the alignment that an attribute has.
 pub(crate) fn judge_align_value(value: &Value, at: usize) -> Result<(), Stop>
-    ensures { IfErr result (StopsWhere IsBehindAlign at (value_toks value.now)) }
+    ensures fit { IfOk result (λ _. IsTrue (is_alignment value.now)) }
+    ensures fault { IfErr result (StopsWhere IsBehindAlign at (value_toks value.now)) }
 {
     judge_align(number(value, at)?, at)
 }
 
 /// A string.
 pub(crate) fn judge_text(value: &Value, at: usize) -> Result<(), Stop>
-    ensures { IfErr result (StopsAmong at (value_toks value.now)) }
+    ensures fault { IfErr result (StopsAmong at (value_toks value.now)) }
+    ensures value { IfOk result (λ _. IsTrue (is_some (text_value value.now))) }
 {
     match text_value(value) {
         Some(_) => Ok(()),
@@ -89,7 +97,8 @@ pub(crate) fn judge_text(value: &Value, at: usize) -> Result<(), Stop>
 
 /// Judges whether this is a string that an identifier of a trace or a clock parses from.
 pub(crate) fn judge_uuid(value: &Value, at: usize) -> Result<(), Stop>
-    ensures { IfErr result (StopsAmong at (value_toks value.now)) }
+    ensures fault { IfErr result (StopsAmong at (value_toks value.now)) }
+    ensures value { IfOk result (λ _. IsTrue (is_some (uuid_value value.now))) }
 {
     judge_text(value, at)?;
     match uuid_value(value) {
@@ -111,7 +120,8 @@ pub(crate) fn judge_label(value: &Value, at: usize) -> Result<&Text, Stop>
 
 /// Judges a flag, by one of its words or as 1 or 0.
 pub(crate) fn judge_flag(value: &Value, at: usize) -> Result<(), Stop>
-    ensures { IfErr result (StopsAmong at (value_toks value.now)) }
+    ensures fault { IfErr result (StopsAmong at (value_toks value.now)) }
+    ensures value { IfOk result (λ _. IsTrue (is_some (flag_value value.now))) }
 {
     if let Value::Number(_) = value {
         judge_natural(value, at)?;
@@ -140,7 +150,8 @@ pub(crate) fn judge_words(
     words: &[&str],
     remedy: Remedy,
 ) -> Result<(), Stop>
-    ensures { IfErr result (StopsAmong at (value_toks value.now)) }
+    ensures word { IfOk result (λ _. IsTrue (option_map_or (λ w. list_any (bytes_eq w) (texts_of words.now)) (word_value value.now) false)) }
+    ensures fault { IfErr result (StopsAmong at (value_toks value.now)) }
 {
     match word_value(value) {
         Some(word) if has_word(word.as_str(), words) => Ok(()),

@@ -1,11 +1,12 @@
-use Rattle.std.proofs.Common.{List, [], ◌∷◌, ◌++◌}
+use Rattle.std.proofs.Common.{◌≡◌, true, List, [], ◌∷◌, ◌++◌}
 use Rattle.tsdl_grammar.specs.declared.atom.Atom.{Atom}
 use Rattle.tsdl_grammar.specs.declared.token.Mark.TheVariants as marks
 use Rattle.tsdl_grammar.specs.Spelling.{mark, name_toks, value_toks, attr_toks}
 use Rattle.tsdl_meaning.specs.Judged.{StopsWhere}
 use Rattle.tsdl_meaning.specs.NamesBefore.{AreNamed}
 use Rattle.tsdl_meaning.specs.Blocks.{IsBegun}
-use Rattle.tsdl_meaning.proofs.JudgedParts.{handed, err_from, ok_from, stops_same}
+use Rattle.tsdl_meaning.specs.FlawlessBlocks.{is_fit, asked_of, AddsAttribute}
+use Rattle.tsdl_meaning.proofs.JudgedParts.{handed, err_from, ok_from, ok_map, stops_same}
 use Rattle.tsdl_meaning.proofs.BlockAttributes.{attr_opening, attr_rest}
 use Rattle.tsdl_meaning.proofs.NamesBefore.{named_behind}
 use Rattle.tsdl_meaning.proofs.judge.attribute.judge_attribute.Goals as goal
@@ -26,7 +27,7 @@ returns-clause-fault c = λ items.
     let a = c.args.attribute.now in
     let P = λ (front : List Atom). IsBegun c.args.judging.now items front × AreNamed front marks.Equals c.args.names.now.names in
     err_from c.judge_value.result (StopsWhere (IsBegun c.args.judging.now items) c.args.at (attr_toks a)) (StopsWhere P c.args.at (attr_toks a)) (λ stop h front behind p. h front behind p.0)
-    (c.judge_value.ensures items)
+    (c.judge_value.ensures.fault items)
 
 pub returns-clause-named : goal.returns-clause-named
 returns-clause-named c =
@@ -34,3 +35,11 @@ returns-clause-named c =
     ok_from c.judge_value.result (λ x. (front : List Atom) → AreNamed front marks.Equals c.args.names.now.names → AreNamed (front ++ attr_toks a) marks.Equals c.add.new.self.names)
     (λ x front named.
     named_behind front (attr_toks a) (name_toks a.name) (value_toks a.value ++ (mark marks.Semicolon ∷ [])) marks.Equals c.add.new.self.names (attr_rest a) (c.in_ok-add.ensures.added front marks.Equals named))
+
+pub returns-clause-flawless : goal.returns-clause-flawless
+returns-clause-flawless c =
+    let a = c.args.attribute.now in
+    let judging = c.args.judging.now in
+    let asked = asked_of judging.kind judging.ledger.now in
+    ok_map c.judge_value.result (λ x. is_fit asked a ≡ true) (λ x. AddsAttribute judging.kind judging.ledger.now c.args.names.now.names a c.add.new.self.names)
+    (λ x fit. record { name = c.in_ok-add.ensures.flawless; fit = fit }) c.judge_value.ensures.fit

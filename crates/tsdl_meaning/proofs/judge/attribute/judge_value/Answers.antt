@@ -13,8 +13,8 @@ use Rattle.tsdl_meaning.proofs.JudgedLedgers.{noted_more}
 use Rattle.tsdl_meaning.proofs.BlockAttributes.{in_value}
 use Rattle.tsdl_meaning.proofs.judge.attribute.judge_value.Goals as goal
 
-pub returns-in-Trace : goal.returns-in-Trace
-returns-in-Trace c = λ items.
+pub returns-in-Trace-clause-fault : goal.returns-in-Trace-clause-fault
+returns-in-Trace-clause-fault c = λ items.
     let a = c.args.attribute.now in
     let name = c.as_str-word.result.now in
     let opening = word name ∷ mark marks.Equals ∷ [] in
@@ -23,10 +23,10 @@ returns-in-Trace c = λ items.
     (λ stop h front behind b.
     in_value a name (codes "trace") items front behind c.args.at place stop (sym c.in-Some.ensures ∙ ap (λ (n : List ℕ). Some n) (sym c.as_str-word.ensures)) c.saturating_add-behind.ensures
     (subst (λ (k : BlockKind). Ends front (begun (word_of k) items)) c.in-Trace.is b.ends) (λ named after. h (front ++ opening) after named))
-    c.judge_trace.ensures
+    c.judge_trace.ensures.fault
 
-pub returns-in-Stream : goal.returns-in-Stream
-returns-in-Stream c = λ items.
+pub returns-in-Stream-clause-fault : goal.returns-in-Stream-clause-fault
+returns-in-Stream-clause-fault c = λ items.
     let a = c.args.attribute.now in
     let name = c.as_str-word.result.now in
     let opening = word name ∷ mark marks.Equals ∷ [] in
@@ -35,10 +35,10 @@ returns-in-Stream c = λ items.
     (λ stop h front behind b.
     in_value a name (codes "stream") items front behind c.args.at place stop (sym c.in-Some.ensures ∙ ap (λ (n : List ℕ). Some n) (sym c.as_str-word.ensures)) c.saturating_add-behind.ensures
     (subst (λ (k : BlockKind). Ends front (begun (word_of k) items)) c.in-Stream.is b.ends) (λ named after. h (front ++ opening) after (noted_more front opening c.args.judging.now.ledger.now b.noted, named)))
-    c.judge_stream.ensures
+    c.judge_stream.ensures.fault
 
-pub returns-in-Event : goal.returns-in-Event
-returns-in-Event c = λ items.
+pub returns-in-Event-clause-fault : goal.returns-in-Event-clause-fault
+returns-in-Event-clause-fault c = λ items.
     let a = c.args.attribute.now in
     let name = c.as_str-word.result.now in
     let opening = word name ∷ mark marks.Equals ∷ [] in
@@ -47,10 +47,10 @@ returns-in-Event c = λ items.
     (λ stop h front behind b.
     in_value a name (codes "event") items front behind c.args.at place stop (sym c.in-Some.ensures ∙ ap (λ (n : List ℕ). Some n) (sym c.as_str-word.ensures)) c.saturating_add-behind.ensures
     (subst (λ (k : BlockKind). Ends front (begun (word_of k) items)) c.in-Event.is b.ends) (λ named after. h (front ++ opening) after))
-    c.judge_event.ensures
+    c.judge_event.ensures.fault
 
-pub returns-in-Clock : goal.returns-in-Clock
-returns-in-Clock c = λ items.
+pub returns-in-Clock-clause-fault : goal.returns-in-Clock-clause-fault
+returns-in-Clock-clause-fault c = λ items.
     let a = c.args.attribute.now in
     let name = c.as_str-word.result.now in
     let opening = word name ∷ mark marks.Equals ∷ [] in
@@ -59,4 +59,4 @@ returns-in-Clock c = λ items.
     (λ stop h front behind b.
     in_value a name (codes "clock") items front behind c.args.at place stop (sym c.in-Some.ensures ∙ ap (λ (n : List ℕ). Some n) (sym c.as_str-word.ensures)) c.saturating_add-behind.ensures
     (subst (λ (k : BlockKind). Ends front (begun (word_of k) items)) c.in-Clock.is b.ends) (λ named after. h (front ++ opening) after (noted_more front opening c.args.judging.now.ledger.now b.noted, named)))
-    c.judge_clock.ensures
+    c.judge_clock.ensures.fault

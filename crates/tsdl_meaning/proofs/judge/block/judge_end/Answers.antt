@@ -1,10 +1,15 @@
+use Rattle.std.proofs.Common.{sym, ap, ◌∙◌}
+use Rattle.std.specs.Option.{is_none}
 use Rattle.tsdl_grammar.specs.declared.token.Mark.TheVariants as marks
 use Rattle.tsdl_grammar.specs.Spelling.{mark}
 use Rattle.tsdl_meaning.proofs.judge.block.judge_end.Goals as goal
 
-pub returns-in-Some : goal.returns-in-Some
-returns-in-Some c = λ front behind b. c.at_atom.ensures front behind (mark marks.CloseBrace) tt
+pub returns-in-Some-clause-fault : goal.returns-in-Some-clause-fault
+returns-in-Some-clause-fault c = λ front behind b. c.at_atom.ensures front behind (mark marks.CloseBrace) tt
 
-pub returns-then-is_numbered_twice : goal.returns-then-is_numbered_twice
-returns-then-is_numbered_twice c = λ front behind b.
-    c.at_atom-then-is_numbered_twice.ensures front behind (mark marks.CloseBrace) (c.is_numbered_twice.ensures front c.if-is_numbered_twice.true b)
+pub returns-then-is_numbered_twice-clause-fault : goal.returns-then-is_numbered_twice-clause-fault
+returns-then-is_numbered_twice-clause-fault c = λ front behind b.
+    c.at_atom-then-is_numbered_twice.ensures front behind (mark marks.CloseBrace) (c.is_numbered_twice.ensures.twice front c.if-is_numbered_twice.true b)
+
+pub returns-clause-ended : goal.returns-clause-ended
+returns-clause-ended c = record { complete = sym c.missing.ensures ∙ ap is_none c.in_default.is; anew = c.is_numbered_twice.ensures.anew c.if-is_numbered_twice.false }

@@ -1,4 +1,4 @@
-use Rattle.std.proofs.Common.{List, ◌++◌, sym, subst}
+use Rattle.std.proofs.Common.{List, ◌++◌, refl, sym, subst}
 use Rattle.tsdl_grammar.specs.declared.atom.Atom.{Atom}
 use Rattle.tsdl_grammar.specs.declared.token.Mark.TheVariants as marks
 use Rattle.tsdl_grammar.specs.declared.tree.Item.{Item}
@@ -7,6 +7,8 @@ use Rattle.tsdl_flaw.specs.Stopping.{StopsIn}
 use Rattle.tsdl_meaning.specs.Judged.{StopsWhere}
 use Rattle.tsdl_meaning.specs.NamesBefore.{AreNamed}
 use Rattle.tsdl_meaning.specs.Blocks.{IsBegun, AreKept}
+use Rattle.tsdl_meaning.specs.declared.judge.block.BlockNames.{BlockNames}
+use Rattle.tsdl_meaning.specs.FlawlessBlocks.{AddsAttribute, AddsScope, AddsItem}
 use Rattle.tsdl_meaning.proofs.JudgedParts.{err_from, ok_map}
 use Rattle.tsdl_meaning.proofs.NamesBefore.{still_named}
 use Rattle.tsdl_meaning.proofs.judge.block.judge_item.Goals as goal
@@ -46,3 +48,24 @@ returns-in-Scope-clause-named c =
       scopes = subst (λ (i : Item). AreNamed (front ++ item_toks i) marks.Assign new.names) (sym c.in-Scope.is) (h front k.scopes);
     })
     c.judge_scope.ensures.named
+
+pub returns-in-Attribute-clause-flawless : goal.returns-in-Attribute-clause-flawless
+returns-in-Attribute-clause-flawless c =
+    let judging = c.args.judging.now in
+    let known = judging.survey.now.known in
+    let ledger = judging.ledger.now in
+    let names = c.args.names.now in
+    let after : BlockNames = record { attributes = c.judge_attribute.new.names; scopes = names.scopes } in
+    ok_map c.judge_attribute.result (λ x. AddsAttribute judging.kind ledger names.attributes.names c.in-Attribute.attribute c.judge_attribute.new.names.names)
+    (λ x. AddsItem known judging.kind ledger names c.args.item.now after)
+    (λ x h. subst (λ (i : Item). AddsItem known judging.kind ledger names i after) (sym c.in-Attribute.is) (h, refl)) c.judge_attribute.ensures.flawless
+
+pub returns-in-Scope-clause-flawless : goal.returns-in-Scope-clause-flawless
+returns-in-Scope-clause-flawless c =
+    let judging = c.args.judging.now in
+    let known = judging.survey.now.known in
+    let ledger = judging.ledger.now in
+    let names = c.args.names.now in
+    let after : BlockNames = record { attributes = names.attributes; scopes = c.judge_scope.new.names } in
+    ok_map c.judge_scope.result (λ x. AddsScope known judging.kind names.scopes.names c.in-Scope.scope c.judge_scope.new.names.names) (λ x. AddsItem known judging.kind ledger names c.args.item.now after)
+    (λ x h. subst (λ (i : Item). AddsItem known judging.kind ledger names i after) (sym c.in-Scope.is) (h, refl)) c.judge_scope.ensures.flawless

@@ -2,11 +2,12 @@ use Rattle.std.proofs.Common.{List, ◌++◌, take}
 use Rattle.tsdl_grammar.specs.declared.atom.Atom.{Atom}
 use Rattle.tsdl_flaw.specs.Twice.{begun}
 use Rattle.tsdl_meaning.specs.Blocks.{word_of, AreKept}
-use Rattle.tsdl_meaning.proofs.JudgedParts.{IsAfter}
+use Rattle.tsdl_meaning.proofs.FlawlessItems.{Items}
+use Rattle.tsdl_flaw.specs.Places.{StandsBehind}
 use Rattle.tsdl_meaning.proofs.judge.block.judge_items.Given as goal
 
 -- the items so far stand before the place, with all the names
 abbrev pub invariant-loop-item : goal.invariant-loop-item
 invariant-loop-item l =
     let before = begun (word_of l.judging.kind) (take l.item-index l.items) in
-    record { place : IsAfter l.at before l.next; kept : (front : List Atom) → AreKept l.names (front ++ before) }
+    record { place : StandsBehind l.at before l.next; kept : (front : List Atom) → AreKept l.names (front ++ before); flawless : Items l.judging.survey.now.known l.judging.kind l.judging.ledger.now (take l.item-index l.items) l.names }

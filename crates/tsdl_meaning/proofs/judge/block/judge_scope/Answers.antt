@@ -1,12 +1,13 @@
-use Rattle.std.proofs.Common.{arith, List, [], ◌∷◌, ◌++◌, length-append}
+use Rattle.std.proofs.Common.{arith, List, [], ◌∷◌, ◌++◌, sym, length-append}
 use Rattle.tsdl_grammar.specs.declared.atom.Atom.{Atom}
 use Rattle.tsdl_grammar.specs.declared.token.Mark.TheVariants as marks
 use Rattle.tsdl_grammar.specs.Spelling.{mark, name_toks, struct_toks, scope_toks}
 use Rattle.tsdl_meaning.specs.Judged.{StopsWhere}
 use Rattle.tsdl_meaning.specs.NamesBefore.{AreNamed}
-use Rattle.tsdl_meaning.proofs.JudgedParts.{handed, stops_same, stops_after}
+use Rattle.tsdl_meaning.proofs.JudgedParts.{handed, stops_same}
 use Rattle.tsdl_meaning.proofs.NamesBefore.{named_behind}
 use Rattle.tsdl_meaning.proofs.JudgedScopes.{scope_parts, scope_opening, scope_rest}
+use Rattle.tsdl_flaw.proofs.Parts.{stops_after}
 use Rattle.tsdl_meaning.proofs.judge.block.judge_scope.Goals as goal
 
 pub returns-in_default-clause-fault : goal.returns-in_default-clause-fault
@@ -38,10 +39,16 @@ returns-in_err-judge_structure-clause-fault c =
     let l = length-append (name_toks s.name) (mark marks.Assign ∷ []) in
     stops_after front (scope_toks s ++ behind) opening rest c.args.at c.saturating_add-behind.result stop (scope_opening s behind)
     (λ fits. let m = c.length.ensures (omega (arith, l)) in omega (arith, l, m))
-    (c.in_err-judge_structure.ensures (front ++ opening) (mark marks.Semicolon ∷ behind)))
+    (c.in_err-judge_structure.ensures.fault (front ++ opening) (mark marks.Semicolon ∷ behind)))
 
 pub returns-clause-named : goal.returns-clause-named
 returns-clause-named c = λ front named.
     let s = c.args.scope.now in
     named_behind front (scope_toks s) (name_toks s.name) (struct_toks s.structure ++ (mark marks.Semicolon ∷ [])) marks.Assign c.add.new.self.names (scope_rest s)
     (c.in_ok-add.ensures.added front marks.Assign named)
+
+pub returns-clause-flawless : goal.returns-clause-flawless
+returns-clause-flawless c = record {
+  name = c.in_ok-add.ensures.flawless;
+  flawless = record { rule = c.in-Some.rule; asks = sym c.in-Some.ensures; flawless = c.in_ok-judge_structure.ensures.flawless };
+}

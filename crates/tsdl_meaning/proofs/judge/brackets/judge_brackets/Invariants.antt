@@ -3,8 +3,9 @@ use Rattle.std.specs.List.{flat_map}
 use Rattle.tsdl_grammar.specs.Spelling.{bracket_toks}
 use Rattle.tsdl_flaw.specs.Places.{StandsBehind}
 use Rattle.tsdl_meaning.specs.BracketLengths.{HasLengths}
+use Rattle.tsdl_meaning.specs.FlawlessBrackets.{AreBrackets}
 use Rattle.tsdl_meaning.proofs.judge.brackets.judge_brackets.Given as goal
 
 -- the brackets so far stand before the place, and have these lengths
 abbrev pub invariant-loop-bracket : goal.invariant-loop-bracket
-invariant-loop-bracket l = record { stands : StandsBehind l.at (flat_map bracket_toks (take l.bracket-index l.brackets)) l.next; lengths : HasLengths l.lengths (take l.bracket-index l.brackets) }
+invariant-loop-bracket l = record { stands : StandsBehind l.at (flat_map bracket_toks (take l.bracket-index l.brackets)) l.next; lengths : HasLengths l.lengths (take l.bracket-index l.brackets); brackets : AreBrackets l.before (take l.bracket-index l.brackets) l.lengths }

@@ -1,4 +1,7 @@
-use Rattle.std.proofs.Common.{refl}
+use Rattle.std.proofs.Common.{refl, sym, ap, ◌∙◌, arith}
+use Rattle.std.specs.Option.{is_some}
+use Rattle.tsdl_grammar.specs.MemberMeaning.{length_place}
+use Rattle.tsdl_meaning.proofs.FlawlessBrackets.{name_more}
 use Rattle.tsdl_grammar.specs.Spelling.{word}
 use Rattle.tsdl_meaning.proofs.judge.brackets.judge_name.Goals as goal
 
@@ -7,3 +10,9 @@ returns-then-lengths-clause-fault c = λ front behind stands. c.unsupported_word
 
 pub returns-then-is_none-clause-fault : goal.returns-then-is_none-clause-fault
 returns-then-is_none-clause-fault c = λ front behind stands. c.at_atom.ensures front behind (word c.args.name.now) (stands, (c.args.name.now, refl))
+
+pub returns-clause-meant : goal.returns-clause-meant
+returns-clause-meant c = λ done s.
+    let before = c.args.before.now in
+    let place = sym (ap is_some (c.length_place.ensures ∙ ap (length_place before) c.as_str.ensures)) ∙ c.if-is_none.ensures in
+    name_more before done c.args.lengths.now c.args.name.now s c.if-lengths.false (omega arith) place

@@ -2,8 +2,10 @@ use Rattle.std.proofs.Common.{[], ◌∷◌, ◌++◌, take, codes}
 use Rattle.std.specs.List.{flat_map}
 use Rattle.tsdl_grammar.specs.declared.token.Mark.TheVariants as marks
 use Rattle.tsdl_grammar.specs.Spelling.{mark, word, named_fact_toks}
-use Rattle.tsdl_meaning.proofs.JudgedParts.{IsAfter}
+use Rattle.tsdl_meaning.proofs.FlawlessFacts.{Facts}
+use Rattle.tsdl_flaw.specs.Places.{StandsBehind}
 use Rattle.tsdl_meaning.proofs.judge.environment.judge_environment.Given as goal
 
 abbrev pub invariant-loop-index : goal.invariant-loop-index
-invariant-loop-index l = IsAfter l.at ((word (codes "env") ∷ mark marks.OpenBrace ∷ []) ++ flat_map named_fact_toks (take l.index l.facts)) l.next
+invariant-loop-index l =
+    record { place : StandsBehind l.at ((word (codes "env") ∷ mark marks.OpenBrace ∷ []) ++ flat_map named_fact_toks (take l.index l.facts)) l.next; facts : Facts (take l.index l.facts) }

@@ -4,6 +4,6 @@ use Rattle.tsdl_grammar.specs.Spelling.{fact_toks}
 use Rattle.tsdl_flaw.specs.Stopping.{StopsIn}
 use Rattle.tsdl_meaning.proofs.judge.environment.judge_fact.Goals as goal
 
-pub returns-in-None : goal.returns-in-None
-returns-in-None c = λ front behind.
+pub returns-in-None-clause-fault : goal.returns-in-None-clause-fault
+returns-in-None-clause-fault c = λ front behind.
     subst (λ (f : Fact). StopsIn front c.args.at (fact_toks f ++ behind) c.expected.result) (sym c.in-Number.is) (c.expected.ensures front behind)

@@ -1,11 +1,16 @@
-use Rattle.std.proofs.Common.{List, ◌++◌}
+use Rattle.std.proofs.Common.{◌≡◌, ℕ, true, List, Option, ◌++◌, ap, ◌∙◌}
 use Rattle.tsdl_grammar.specs.declared.token.Mark.TheVariants as marks
 use Rattle.tsdl_grammar.specs.declared.atom.Atom.{Atom}
 use Rattle.tsdl_grammar.specs.Spelling.{attr_toks, value_toks}
 use Rattle.tsdl_meaning.specs.Judged.{StopsWhere}
 use Rattle.tsdl_meaning.specs.Judging.{IsBehindOwn}
 use Rattle.tsdl_meaning.specs.NamesBefore.{AreNamed}
-use Rattle.tsdl_meaning.proofs.HandedOn.{handed_on, err_weaker, ok_always}
+use Rattle.tsdl_grammar.specs.Lookups.{is_among}
+use Rattle.tsdl_grammar.specs.IntegerMeaning.{int_attrs}
+use Rattle.tsdl_meaning.specs.FlawlessBlocks.{fits, fits_word}
+use Rattle.tsdl_meaning.specs.FlawlessTypes.{AddsOwn, of_integer, own_word}
+use Rattle.tsdl_meaning.proofs.JudgedParts.{ok_map, handed, err_from, ok_from}
+use Rattle.tsdl_meaning.proofs.FlawlessTypes.{one_of, own_among}
 use Rattle.tsdl_meaning.proofs.StopsInAttributes.{in_name, in_opening, in_value, behind_own, attr_named}
 use Rattle.tsdl_meaning.proofs.judge.integer.judge_attribute.Goals as goal
 
@@ -15,7 +20,7 @@ returns-in_default-clause-fault c = λ front behind named. in_name c.args.attrib
 pub returns-in_err-add-clause-fault : goal.returns-in_err-add-clause-fault
 returns-in_err-add-clause-fault c =
     let P = λ (f : List Atom). AreNamed f marks.Equals c.args.names.now.names in
-    handed_on c.from_residual.result c.in_err-add.field-0.0 (StopsWhere P c.args.at (attr_toks c.args.attribute.now)) c.from_residual.ensures.1
+    handed c.from_residual.result c.in_err-add.field-0.0 (StopsWhere P c.args.at (attr_toks c.args.attribute.now)) c.from_residual.ensures.1
     (λ front behind named. in_opening P c.args.attribute.now front behind c.args.at c.in_err-add.field-0.0 named (c.in_err-add.ensures.fault marks.Equals))
 
 pub returns-clause-fault : goal.returns-clause-fault
@@ -24,16 +29,30 @@ returns-clause-fault c =
     let P = λ (f : List Atom). AreNamed f marks.Equals c.args.names.now.names in
     let Own = IsBehindOwn c.in-Some.kind in
     let place = c.saturating_add-behind.result in
-    err_weaker c.judge_value.result (StopsWhere Own place (value_toks a.value)) (StopsWhere P c.args.at (attr_toks a))
+    err_from c.judge_value.result (StopsWhere Own place (value_toks a.value)) (StopsWhere P c.args.at (attr_toks a))
     (λ s h front behind named.
     in_value Own a front behind c.args.at c.length.result c.saturating_add.result place s c.length.ensures c.saturating_add.ensures c.saturating_add-behind.ensures
-    (behind_own c.in-Some.kind a.name front c.in-Some.ensures) h)
-    c.judge_value.ensures
+    (behind_own c.in-Some.kind a.name front c.in-Some.ensures.named) h)
+    c.judge_value.ensures.fault
 
 pub returns-clause-named : goal.returns-clause-named
 returns-clause-named c =
     let a = c.args.attribute.now in
     let old = c.args.names.now.names in
     let new = c.add.new.self.names in
-    ok_always c.judge_value.result (λ x. (front : List Atom) → AreNamed front marks.Equals old → AreNamed (front ++ attr_toks a) marks.Equals new)
+    ok_from c.judge_value.result (λ x. (front : List Atom) → AreNamed front marks.Equals old → AreNamed (front ++ attr_toks a) marks.Equals new)
     (λ x front named. attr_named a front new (c.in_ok-add.ensures.added front marks.Equals named))
+
+pub returns-clause-own : goal.returns-clause-own
+returns-clause-own c =
+    let a = c.args.attribute.now in
+    let kind = c.in-Some.kind in
+    let asked = of_integer c.args.survey.now.known in
+    let word = c.in-Some.ensures.word in
+    ok_map c.judge_value.result (λ x. fits asked (own_word kind) a.value ≡ true) (λ x. AddsOwn int_attrs asked c.args.names.now.names a c.add.new.self.names)
+    (λ x fit. record {
+      among = ap (is_among int_attrs) (one_of a.name (own_word kind) word) ∙ own_among kind;
+      name = c.in_ok-add.ensures.flawless;
+      fit = ap (λ (o : Option (List ℕ)). fits_word asked o a.value) word ∙ fit;
+    })
+    c.judge_value.ensures.fit

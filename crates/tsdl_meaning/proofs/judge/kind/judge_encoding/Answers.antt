@@ -4,7 +4,7 @@ use Rattle.tsdl_grammar.specs.declared.atom.Atom.{Atom}
 use Rattle.tsdl_grammar.specs.Spelling.{attr_toks}
 use Rattle.tsdl_meaning.specs.Judged.{StopsWhere}
 use Rattle.tsdl_meaning.specs.NamesBefore.{AreNamed}
-use Rattle.tsdl_meaning.proofs.HandedOn.{handed_on}
+use Rattle.tsdl_meaning.proofs.JudgedParts.{handed}
 use Rattle.tsdl_meaning.proofs.StopsInAttributes.{in_name, in_opening, in_value, attr_named}
 use Rattle.tsdl_meaning.proofs.judge.kind.judge_encoding.Goals as goal
 
@@ -14,7 +14,7 @@ returns-then-not-is_word-clause-fault c = λ front behind named. in_name c.args.
 pub returns-in_err-add-clause-fault : goal.returns-in_err-add-clause-fault
 returns-in_err-add-clause-fault c =
     let P = λ (f : List Atom). AreNamed f marks.Equals c.args.names.now.names in
-    handed_on c.from_residual.result c.in_err-add.field-0.0 (StopsWhere P c.args.at (attr_toks c.args.attribute.now)) c.from_residual.ensures.1
+    handed c.from_residual.result c.in_err-add.field-0.0 (StopsWhere P c.args.at (attr_toks c.args.attribute.now)) c.from_residual.ensures.1
     (λ front behind named. in_opening P c.args.attribute.now front behind c.args.at c.in_err-add.field-0.0 named (c.in_err-add.ensures.fault marks.Equals))
 
 pub returns-then-is_none-clause-fault : goal.returns-then-is_none-clause-fault

@@ -1,7 +1,10 @@
+use Rattle.std.proofs.Common.{◌∷◌, take}
 use Rattle.tsdl_flaw.specs.Places.{StandsBehind}
+use Rattle.tsdl_meaning.specs.FlawlessTypes.{AreRanges}
 use Rattle.tsdl_meaning.proofs.StopsInKinds.{range_before}
 use Rattle.tsdl_meaning.proofs.judge.kind.judge_ranges.Given as goal
 
 -- the ranges so far stand before the place
 abbrev pub invariant-loop-index : goal.invariant-loop-index
-invariant-loop-index l = StandsBehind l.at (range_before l.first l.others l.index) l.next
+invariant-loop-index l =
+    record { place : StandsBehind l.at (range_before l.first l.others l.index) l.next; ranges : AreRanges (l.first ∷ take l.index l.others) }

@@ -1,4 +1,5 @@
-use Rattle.std.proofs.Common.{ℕ, List, Contains, subst}
+use Rattle.std.specs.Option.{is_some}
+use Rattle.std.proofs.Common.{◌≡◌, ℕ, true, false, List, IsSome, Contains, sym, ap, ◌∙◌, subst}
 use Rattle.std.specs.List.{flat_map}
 use Rattle.ctf_types.specs.Members.{names_in}
 use Rattle.tsdl_grammar.specs.declared.tree.Bracket.{Bracket}
@@ -7,7 +8,9 @@ use Rattle.tsdl_grammar.specs.Spelling.{bracket_toks, member_toks}
 use Rattle.tsdl_flaw.specs.declared.flaw.Stop.{Stop}
 use Rattle.tsdl_meaning.specs.Judged.{StopsAmong, StopsWhere}
 use Rattle.tsdl_meaning.specs.MembersBefore.{AreMembers, IsBehindMembers}
-use Rattle.tsdl_meaning.proofs.HandedOn.{handed_on}
+use Rattle.tsdl_grammar.specs.MemberMeaning.{bracketed}
+use Rattle.tsdl_meaning.proofs.FlawlessBrackets.{member_means}
+use Rattle.tsdl_meaning.proofs.JudgedParts.{handed}
 use Rattle.tsdl_meaning.proofs.StopsInMembers.{in_kind, at_name, in_brackets, at_name_and_brackets}
 use Rattle.tsdl_meaning.proofs.judge.structure.judge_member.Goals as goal
 
@@ -15,14 +18,14 @@ pub returns-in_err-judge_kind-clause-fault : goal.returns-in_err-judge_kind-clau
 returns-in_err-judge_kind-clause-fault c =
     let t = c.args.tree.now in
     let stop = c.in_err-judge_kind.field-0.0 in
-    handed_on c.from_residual.result stop (λ (s : Stop). (done : List MemberTree) → AreMembers done c.args.members.now → StopsWhere (IsBehindMembers done) c.args.at (member_toks t) s)
-    c.from_residual.ensures.1 (λ done same front behind ends. in_kind t front behind c.args.at stop c.in_err-judge_kind.ensures)
+    handed c.from_residual.result stop (λ (s : Stop). (done : List MemberTree) → AreMembers done c.args.members.now → StopsWhere (IsBehindMembers done) c.args.at (member_toks t) s)
+    c.from_residual.ensures.1 (λ done same front behind ends. in_kind t front behind c.args.at stop c.in_err-judge_kind.ensures.fault)
 
 pub returns-in_err-judge_member_name-clause-fault : goal.returns-in_err-judge_member_name-clause-fault
 returns-in_err-judge_member_name-clause-fault c =
     let t = c.args.tree.now in
     let stop = c.in_err-judge_member_name.field-0.0 in
-    handed_on c.from_residual-in_err-judge_member_name.result stop
+    handed c.from_residual-in_err-judge_member_name.result stop
     (λ (s : Stop). (done : List MemberTree) → AreMembers done c.args.members.now → StopsWhere (IsBehindMembers done) c.args.at (member_toks t) s)
     c.from_residual-in_err-judge_member_name.ensures.1
     (λ done same front behind ends.
@@ -34,15 +37,21 @@ returns-in_err-judge_brackets-clause-fault c =
     let t = c.args.tree.now in
     let stop = c.in_err-judge_brackets.field-0.0 in
     let next = c.saturating_add-behind.result in
-    handed_on c.from_residual-in_err-judge_brackets.result stop
+    handed c.from_residual-in_err-judge_brackets.result stop
     (λ (s : Stop). (done : List MemberTree) → AreMembers done c.args.members.now → StopsWhere (IsBehindMembers done) c.args.at (member_toks t) s)
     c.from_residual-in_err-judge_brackets.ensures.1
     (λ done same front behind ends.
     in_brackets t front behind c.args.at c.length.result c.saturating_add-place.result next stop c.length.ensures c.saturating_add-place.ensures c.saturating_add-behind.ensures
-    (subst (λ (l : List Bracket). StopsAmong next (flat_map bracket_toks l) stop) c.as_slice.ensures c.in_err-judge_brackets.ensures))
+    (subst (λ (l : List Bracket). StopsAmong next (flat_map bracket_toks l) stop) c.as_slice.ensures c.in_err-judge_brackets.ensures.fault))
 
-pub returns-in_default-clause-fault : goal.returns-in_default-clause-fault
-returns-in_default-clause-fault c = λ done same front behind ends. in_kind c.args.tree.now front behind c.args.at c.expected.result c.expected.ensures
+pub unreachable-requires : goal.unreachable-requires
+unreachable-requires c =
+    let known = c.args.survey.now.known in
+    let members = c.args.members.now in
+    let tree = c.args.tree.now in
+    let there = member_means known members tree c.in_ok-judge_kind.ensures.meant
+    (λ leaf. subst (λ (bs : List Bracket). IsSome (bracketed members leaf bs)) c.as_slice.ensures (c.in_ok-judge_brackets.ensures.meant leaf)) in
+    absurd (let never : false ≡ true = sym (ap is_some (sym c.in_ok-member.ensures ∙ c.in_default.is)) ∙ there in cc)
 
 pub returns-then-not-suits_rule-clause-fault : goal.returns-then-not-suits_rule-clause-fault
 returns-then-not-suits_rule-clause-fault c = λ done same front behind ends.

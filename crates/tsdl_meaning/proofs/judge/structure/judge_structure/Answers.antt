@@ -1,16 +1,23 @@
-use Rattle.std.proofs.Common.{take, arith}
+use Rattle.std.proofs.Common.{List, Option, take, sym, ap, ◌∙◌, subst, arith}
+use Rattle.std.specs.Option.{is_some}
+use Rattle.std.proofs.lemmas.List.{take_all}
+use Rattle.tsdl_grammar.specs.declared.tree.Number.{Number}
+use Rattle.tsdl_grammar.specs.declared.tree.MemberTree.{MemberTree}
+use Rattle.tsdl_grammar.specs.StructureMeaning.{align_of}
+use Rattle.ctf_types.specs.Members.{names_in}
 use Rattle.tsdl_grammar.specs.Spelling.{member_toks, struct_toks}
 use Rattle.tsdl_meaning.specs.Judged.{StopsAmong}
 use Rattle.tsdl_flaw.proofs.Parts.{behind_item}
-use Rattle.tsdl_meaning.proofs.HandedOn.{handed_on}
+use Rattle.tsdl_meaning.proofs.JudgedParts.{handed}
 use Rattle.tsdl_meaning.proofs.StopsInMembers.{struct_opening, in_member, next_members, in_align}
+use Rattle.tsdl_meaning.proofs.FlawlessStructures.{AreFlawless, none_flawless, next_flawless, all_flawless}
 use Rattle.tsdl_meaning.proofs.judge.structure.judge_structure.Goals as goal
 
-pub returns-in_err-judge_member : goal.returns-in_err-judge_member
-returns-in_err-judge_member c =
+pub returns-in_err-judge_member-clause-fault : goal.returns-in_err-judge_member-clause-fault
+returns-in_err-judge_member-clause-fault c =
     let s = c.args.structure.now in
     let stop = c.in_err-judge_member.field-0.0 in
-    handed_on c.from_residual.result stop (StopsAmong c.args.at (struct_toks s)) c.from_residual.ensures.1
+    handed c.from_residual.result stop (StopsAmong c.args.at (struct_toks s)) c.from_residual.ensures.1
     (λ front behind.
     in_member s c.as_slice-trees.result.now c.loop-tree.tree-index c.tree-item.result c.loop-tree.members front behind c.args.at c.loop-tree.next stop c.as_slice-trees.ensures (omega arith)
     c.tree-item.is c.loop-tree.invariant.stands c.loop-tree.invariant.members c.in_err-judge_member.ensures.fault)
@@ -25,13 +32,37 @@ loop-tree-preserved c =
           behind_item member_toks ts i t struct_opening c.args.at c.loop-tree.next c.length.result c.saturating_add-next-in-loop-tree.result (omega arith) c.tree-item.is
           c.loop-tree.invariant.stands c.length.ensures c.saturating_add-next-in-loop-tree.ensures;
       members = next_members ts i t c.judge_member.new.members (omega arith) c.tree-item.is (c.in_ok-judge_member.ensures.added (take i ts) c.loop-tree.invariant.members);
+      flawless =
+          next_flawless c.args.survey.now.known c.args.rule ts i t c.loop-tree.members c.judge_member.new.members (omega arith) c.tree-item.is c.loop-tree.invariant.flawless
+          c.in_ok-judge_member.ensures.flawless;
     }
 
-pub returns-in_err-judge_align : goal.returns-in_err-judge_align
-returns-in_err-judge_align c =
+pub returns-in_err-judge_align-in-Some-clause-fault : goal.returns-in_err-judge_align-in-Some-clause-fault
+returns-in_err-judge_align-in-Some-clause-fault c =
     let s = c.args.structure.now in
-    let stop = c.in_err-judge_align.field-0.0 in
-    handed_on c.from_residual-in_err-judge_align.result stop (StopsAmong c.args.at (struct_toks s)) c.from_residual-in_err-judge_align.ensures.1
+    let stop = c.in_err-judge_align-in-Some.field-0.0 in
+    handed c.from_residual-in_err-judge_align-in-Some.result stop (StopsAmong c.args.at (struct_toks s)) c.from_residual-in_err-judge_align-in-Some.ensures.1
     (λ front behind.
     in_align s c.as_slice-trees.result.now c.loop-tree.tree-index c.in-Some.number front behind c.args.at c.loop-tree.next c.saturating_add.result stop c.as_slice-trees.ensures (omega arith)
-    c.in-Some.is c.loop-tree.invariant.stands c.saturating_add.ensures c.in_err-judge_align.ensures)
+    c.in-Some.is c.loop-tree.invariant.stands c.saturating_add.ensures c.in_err-judge_align-in-Some.ensures.fault)
+
+pub loop-tree-init : goal.loop-tree-init
+loop-tree-init c = record {
+  stands = λ fits. omega (arith, c.saturating_add-next.ensures);
+  members = ap names_in c.new-members.ensures;
+  flawless = none_flawless c.args.survey.now.known c.args.rule c.new-members.result c.new-members.ensures;
+}
+
+pub returns-in-None-clause-flawless : goal.returns-in-None-clause-flawless
+returns-in-None-clause-flawless c =
+    all_flawless c.args.survey.now.known c.args.rule c.args.structure.now c.loop-tree.members
+    (rw (sym c.as_slice-trees.ensures)
+    (subst (λ (ts : List MemberTree). AreFlawless c.args.survey.now.known c.args.rule ts c.loop-tree.members) (take_all c.loop-tree.tree-index c.as_slice-trees.result.now (omega arith)) c.loop-tree.invariant.flawless))
+    (ap (λ (o : Option Number). is_some (align_of o)) c.in-None.is)
+
+pub returns-in_ok-judge_align-in-Some-clause-flawless : goal.returns-in_ok-judge_align-in-Some-clause-flawless
+returns-in_ok-judge_align-in-Some-clause-flawless c =
+    all_flawless c.args.survey.now.known c.args.rule c.args.structure.now c.loop-tree.members
+    (rw (sym c.as_slice-trees.ensures)
+    (subst (λ (ts : List MemberTree). AreFlawless c.args.survey.now.known c.args.rule ts c.loop-tree.members) (take_all c.loop-tree.tree-index c.as_slice-trees.result.now (omega arith)) c.loop-tree.invariant.flawless))
+    (ap (λ (o : Option Number). is_some (align_of o)) c.in-Some.is ∙ c.in_ok-judge_align-in-Some.ensures.aligned)

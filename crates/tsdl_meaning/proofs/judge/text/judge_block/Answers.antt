@@ -7,4 +7,4 @@ use Rattle.tsdl_meaning.proofs.judge.text.judge_block.Goals as goal
 pub returns-clause-noted : goal.returns-clause-noted
 returns-clause-noted c = λ front n.
     let own = block_toks c.args.block.now in
-    c.in_ok-add.ensures (front ++ own) (noted_more front own c.args.ledger.now n) (holds_last front own)
+    c.in_ok-add.ensures.noted (front ++ own) (noted_more front own c.args.ledger.now n) (holds_last front own)

@@ -4,11 +4,13 @@ use Rattle.tsdl_grammar.specs.declared.atom.Atom.{Atom}
 use Rattle.tsdl_grammar.specs.declared.token.Mark.TheVariants as marks
 use Rattle.tsdl_grammar.specs.declared.tree.Block.{Block}
 use Rattle.tsdl_grammar.specs.Spelling.{mark, block_toks, block_and_semicolon, text_toks}
-use Rattle.tsdl_flaw.specs.TextStops.{StopsText}
+use Rattle.tsdl_flaw.specs.Stopping.{StopsIn}
 use Rattle.tsdl_meaning.specs.Ledgers.{AreNoted}
-use Rattle.tsdl_meaning.proofs.JudgedParts.{IsAfter, handed, stops_same, stops_item, after_more, flat_next}
+use Rattle.tsdl_meaning.proofs.JudgedParts.{handed, stops_same, stops_item}
 use Rattle.tsdl_meaning.proofs.JudgedLedgers.{noted_more}
-use Rattle.tsdl_meaning.proofs.JudgedEnds.{text_stop}
+use Rattle.tsdl_meaning.proofs.FlawlessTexts.{Text, next_block, no_blocks, sizes_missed, sizes_end}
+use Rattle.tsdl_flaw.specs.Places.{StandsBehind}
+use Rattle.tsdl_flaw.proofs.Parts.{behind_more, flat_next}
 use Rattle.tsdl_meaning.proofs.judge.text.judge_blocks.Goals as goal
 
 pub returns-in_err-judge_block-clause-fault : goal.returns-in_err-judge_block-clause-fault
@@ -20,12 +22,11 @@ returns-in_err-judge_block-clause-fault c =
     let before = text_toks (take i blocks) in
     let next = c.loop-block.next in
     let stop = c.in_err-judge_block.field-0.0 in
-    handed c.from_residual.result stop (StopsText toks) c.from_residual.ensures.1
-    (text_stop toks stop
+    handed c.from_residual.result stop (StopsIn [] 0 toks) c.from_residual.ensures.1
     (stops_item block_and_semicolon blocks i b [] toks [] [] 0 next stop (omega arith) c.block-item.is (sym (append-nil toks)) c.loop-block.invariant.place
     (λ after.
     stops_same before (block_and_semicolon b ++ after) (block_toks b ++ (mark marks.Semicolon ∷ after)) next stop (append_assoc (block_toks b) (mark marks.Semicolon ∷ []) after)
-    (c.in_err-judge_block.ensures.fault before (mark marks.Semicolon ∷ after) c.loop-block.invariant.noted))))
+    (c.in_err-judge_block.ensures.fault before (mark marks.Semicolon ∷ after) c.loop-block.invariant.noted)))
 
 pub loop-block-preserved : goal.loop-block-preserved
 loop-block-preserved c =
@@ -38,13 +39,16 @@ loop-block-preserved c =
     let e = append_assoc before (block_toks b) closing ∙ sym (flat_next block_and_semicolon blocks i b (omega arith) c.block-item.is) in
     record {
       place =
-          subst (λ (l : List Atom). IsAfter 0 l c.saturating_add-next.result) e
-          (after_more (before ++ block_toks b) closing 0 c.saturating_add.result 1 c.saturating_add-next.result
-          (after_more before (block_toks b) 0 c.loop-block.next c.length.result c.saturating_add.result c.loop-block.invariant.place c.length.ensures c.saturating_add.ensures)
+          subst (λ (l : List Atom). StandsBehind 0 l c.saturating_add-next.result) e
+          (behind_more (before ++ block_toks b) closing 0 c.saturating_add.result 1 c.saturating_add-next.result
+          (behind_more before (block_toks b) 0 c.loop-block.next c.length.result c.saturating_add.result c.loop-block.invariant.place c.length.ensures c.saturating_add.ensures)
           (λ h. refl) c.saturating_add-next.ensures);
       noted =
           subst (λ (l : List Atom). AreNoted l c.judge_block.new.ledger) e
           (noted_more (before ++ block_toks b) closing c.judge_block.new.ledger (c.in_ok-judge_block.ensures.noted before c.loop-block.invariant.noted));
+      text =
+          next_block c.args.survey.now.known c.loop-block.ledger c.judge_block.new.ledger blocks i b (omega arith) c.block-item.is c.loop-block.invariant.text
+          c.in_ok-judge_block.ensures.flawless c.in_ok-judge_block.ensures.adds;
     }
 
 pub returns-clause-end : goal.returns-clause-end
@@ -52,7 +56,17 @@ returns-clause-end c =
     let blocks = c.args.blocks.now in
     let toks = text_toks blocks in
     let next = c.loop-block.next in
-    let place : IsAfter 0 toks next =
-    subst (λ (bs : List Block). IsAfter 0 (text_toks bs) next) (take_all c.loop-block.block-index blocks (omega arith)) c.loop-block.invariant.place
+    let place : StandsBehind 0 toks next =
+    subst (λ (bs : List Block). StandsBehind 0 (text_toks bs) next) (take_all c.loop-block.block-index blocks (omega arith)) c.loop-block.invariant.place
     in
-    c.stop_at_end.ensures toks (λ bound. let e = place (omega arith) in omega arith)
+    c.stop_at_end.ensures.stops toks (λ bound. let e = place (omega arith) in omega arith)
+
+pub loop-block-init : goal.loop-block-init
+loop-block-init c = record { place = λ fits. refl; noted = c.new-ledger.ensures.noted []; text = no_blocks c.args.survey.now.known c.new-ledger.result c.new-ledger.ensures.empty }
+
+pub returns-clause-sizes : goal.returns-clause-sizes
+returns-clause-sizes c = λ surveys none bounded.
+    let blocks = c.args.blocks.now in
+    let known = c.args.survey.now.known in
+    let text = subst (λ (bs : List Block). Text known c.loop-block.ledger bs) (take_all c.loop-block.block-index blocks (omega arith)) c.loop-block.invariant.text in
+    sizes_end blocks c.stop_at_end.result _ c.stop_at_end.ensures.complete (λ complete. sizes_missed known c.loop-block.ledger blocks text complete.0 complete.1 surveys none)

@@ -1,11 +1,12 @@
 use Rattle.std.proofs.Common.{take}
 use Rattle.tsdl_grammar.specs.Spelling.{text_toks}
 use Rattle.tsdl_meaning.specs.Ledgers.{AreNoted}
-use Rattle.tsdl_meaning.proofs.JudgedParts.{IsAfter}
+use Rattle.tsdl_meaning.proofs.FlawlessTexts.{Text}
+use Rattle.tsdl_flaw.specs.Places.{StandsBehind}
 use Rattle.tsdl_meaning.proofs.judge.text.judge_blocks.Given as goal
 
 -- the blocks so far stand before the place, and the ledger is of them
 abbrev pub invariant-loop-block : goal.invariant-loop-block
 invariant-loop-block l =
     let before = text_toks (take l.block-index l.blocks) in
-    record { place : IsAfter 0 before l.next; noted : AreNoted before l.ledger }
+    record { place : StandsBehind 0 before l.next; noted : AreNoted before l.ledger; text : Text l.survey.known l.ledger (take l.block-index l.blocks) }

@@ -23,3 +23,11 @@ returns-clause-added c = λ front sign named.
     btree_set_updates_text (string_bytes c.in_ok-written.written) c.args.self.now.names c.insert.new.self true c.in_ok-_is_new.ensures.updates w
     ∙ ap (λ (n : List ℕ). cond (bytes_eq n w) true (contains_text c.args.self.now.names w)) c.in_ok-written.ensures)
     named
+
+pub returns-clause-flawless : goal.returns-clause-flawless
+returns-clause-flawless c = record {
+  fresh = ap (contains_text c.args.self.now.names) (sym c.in_ok-written.ensures ∙ sym c.as_str.ensures.value) ∙ sym c.contains.ensures ∙ c.if-contains.false;
+  kept = λ w.
+      btree_set_updates_text (string_bytes c.in_ok-written.written) c.args.self.now.names c.insert.new.self true c.in_ok-_is_new.ensures.updates w
+      ∙ ap (λ (n : List ℕ). cond (bytes_eq n w) true (contains_text c.args.self.now.names w)) c.in_ok-written.ensures;
+}

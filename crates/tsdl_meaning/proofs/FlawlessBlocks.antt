@@ -1,0 +1,273 @@
+-- What blocks without a flaw mean.
+use Rattle.std.proofs.Common.{◌≡◌, ℕ, ◌==◌, Bool, true, false, not, ◌&&◌, ◌||◌, List, [], ◌∷◌, map, Option, Some, None, refl, sym, ap, subst, ◌∙◌, inl, inr, pos}
+use Rattle.std.specs.Prelude.{codes}
+use Rattle.std.specs.Option.{is_some, option_map_or}
+use Rattle.std.specs.List.{list_all, AllByRecursion}
+use Rattle.std.specs.Ordering.{nat_cmp}
+use Rattle.std.specs.BTreeMap.{ContainsKey}
+use Rattle.std.specs.BTreeSet.{contains, contains_text}
+use Rattle.std.proofs.lemmas.Bool.{cases_Bool}
+use Rattle.ctf_types.specs.declared.ByteOrder.{ByteOrder}
+use Rattle.ctf_types.specs.declared.StructType.{StructType}
+use Rattle.ctf_types.specs.declared.ClockType.{ClockType}
+use Rattle.ctf_types.specs.declared.Stream.{Stream}
+use Rattle.ctf_types.specs.declared.Event.{Event}
+use Rattle.tsdl_grammar.specs.declared.tree.Value.{Value}
+use Rattle.tsdl_grammar.specs.declared.tree.Scope.{Scope}
+use Rattle.tsdl_grammar.specs.declared.tree.Item.{Item}
+use Rattle.tsdl_grammar.specs.Steps.{◌>>=◌}
+use Rattle.tsdl_grammar.specs.Lookups.{words_of, same_words, attr, attrs_in, scopes_in, attr_names, are_distinct, is_among, has_parts}
+use Rattle.tsdl_grammar.specs.AttributeValues.{natural_value, whole_value, text_value, word_value, name_value, flag_value, uuid_value, meant_by, with_default}
+use Rattle.tsdl_grammar.specs.IntegerMeaning.{Known}
+use Rattle.tsdl_grammar.specs.StructureMeaning.{has_member}
+use Rattle.tsdl_grammar.specs.BlockMeaning.{number_or_zero, order_table, packet_header, packet_context, event_header, event_context, specific_context, fields_scope, has_number, is_trace, trace_order, trace_uuid, header_meaning, clock_meaning, stream_meaning, event_meaning}
+use Rattle.tsdl_grammar.specs.Laws.{SaysClock, SaysStream, SaysEvent}
+use Rattle.tsdl_flaw.specs.Twice.{clock_name, HasNumbers}
+use Rattle.tsdl_meaning.specs.declared.judge.block.BlockKind.{BlockKind}
+use Rattle.tsdl_meaning.specs.declared.judge.block.BlockKind.TheVariants as kinds
+use Rattle.tsdl_meaning.specs.declared.judge.ledger.Ledger.{Ledger}
+use Rattle.tsdl_meaning.specs.declared.scope_rule.ScopeRule.{ScopeRule}
+use Rattle.tsdl_meaning.specs.declared.scope_rule.ScopeRule.TheVariants.{AnyMembers, PacketHeader, PacketContext, EventHeader}
+use Rattle.tsdl_meaning.specs.Ledgers.{pair_cmp}
+use Rattle.tsdl_meaning.specs.PacketSizes.{has_sizes, has_in_context}
+use Rattle.tsdl_meaning.specs.FlawlessBlocks.{is_number, of_trace, of_stream, of_event, of_clock, fits, is_fit, scopes_of, rule_in, IsFlawlessScope, AreFlawless, IsFlawlessBlock}
+use Rattle.tsdl_meaning.proofs.FlawlessNames.{and_both, and_left, and_right}
+use Rattle.tsdl_meaning.proofs.FlawlessValues.{some_is, value_fits, needed_is, default_is, option_is}
+use Rattle.tsdl_meaning.proofs.FlawlessScopes.{scope_means, has_alike}
+
+-- ---- the parts of a block
+
+three : (a b c : Bool) → a ≡ true → b ≡ true → c ≡ true → (a && b && c) ≡ true
+three a b c e f g = rw (e, f, g) refl
+
+among : (n : List (List ℕ)) (rule : ScopeRule) (rows : List (List (List ℕ) × ScopeRule)) → rule_in rows n ≡ Some rule → is_among (map (λ row. row.0) rows) n ≡ true
+among n rule [] e = absurd cc
+among n rule (row ∷ rows) e =
+    elim (cases_Bool (same_words n row.0)) [
+      | inl t ↦ ap (λ (b : Bool). b || is_among (map (λ r. r.0) rows) n) t
+      | inr f ↦ (let later : rule_in rows n ≡ Some rule = sym (rw f refl) ∙ e in ap (λ (b : Bool). b || is_among (map (λ r. r.0) rows) n) f ∙ among n rule rows later)
+    ]
+
+all_among : (known : Known) (kind : BlockKind) (scopes : List Scope) → AllByRecursion (IsFlawlessScope known kind) scopes
+    → list_all (λ s. is_among (map (λ row. row.0) (scopes_of kind)) (words_of s.name)) scopes ≡ true
+all_among known kind [] all = refl
+all_among known kind (s ∷ scopes) all =
+    and_both (is_among (map (λ row. row.0) (scopes_of kind)) (words_of s.name)) (list_all (λ x. is_among (map (λ row. row.0) (scopes_of kind)) (words_of x.name)) scopes)
+    (among (words_of s.name) all.0.rule (scopes_of kind) all.0.asks) (all_among known kind scopes all.1)
+
+parts_are : (known : Known) (kind : BlockKind) (ledger : Ledger) (is : List Item) → AreFlawless known kind ledger is → has_parts (map (λ row. row.0) (scopes_of kind)) is ≡ true
+parts_are known kind ledger is f =
+    three (are_distinct (attr_names (attrs_in is))) (are_distinct (map (λ s. words_of s.name) (scopes_in is))) (list_all (λ s. is_among (map (λ row. row.0) (scopes_of kind)) (words_of s.name)) (scopes_in is))
+    f.attributes_once f.scopes_once (all_among known kind (scopes_in is) f.scopes)
+
+-- ---- what says its parts means them
+
+clock_says : (is : List Item) (c : ClockType) → SaysClock is c → clock_meaning is ≡ Some c
+unfolding clock_meaning
+clock_says is c s = rw (s.once, s.name, s.uuid, s.description, s.frequency, s.precision, s.offset_seconds, s.offset_cycles, s.absolute) refl
+
+stream_says : (known : Known) (is : List Item) (s : Stream) → SaysStream known is s → s.events ≡ [] → stream_meaning known is ≡ Some s
+unfolding stream_meaning
+stream_says known is s says none = rw (says.once, says.id, says.context, says.header, says.common, says.sizes, sym none) refl
+
+event_says : (known : Known) (is : List Item) (stream : ℕ) (e : Event) → SaysEvent known is stream e → event_meaning known is ≡ Some (stream, e)
+unfolding event_meaning
+event_says known is stream e s = rw (s.once, s.name, s.id, s.stream_id, s.log_level, s.specific, s.fields) refl
+
+-- ---- the trace
+
+pub record TraceOf (known : Known) (is : List Item) : Type 0 where
+  pub order : ByteOrder
+  pub uuid : Option (List ℕ)
+  pub header : StructType
+  pub version : is_trace is ≡ true
+  pub ordered : trace_order is ≡ Some order
+  pub identified : trace_uuid is ≡ Some uuid
+  pub headed : header_meaning known is ≡ Some header
+
+numbered : (w : List ℕ) (n : ℕ) (is : List Item) → list_all (is_fit of_trace) (attrs_in is) ≡ true → is_some (attr w (attrs_in is)) ≡ true → ((v : Value) → fits of_trace w v ≡ is_number n v) → has_number w n is ≡ true
+numbered w n is all there asks =
+    let v = some_is (attr w (attrs_in is)) there in
+    ap (λ (o : Option Value). option_map_or (λ m. m == n) (o >>= natural_value) false) v.1 ∙ sym (asks v.0) ∙ value_fits of_trace w (attrs_in is) v.0 all v.1
+
+pub trace_means : (known : Known) (ledger : Ledger) (is : List Item) → IsFlawlessBlock known kinds.Trace ledger is → TraceOf known is
+unfolding trace_uuid header_meaning
+trace_means known ledger is f =
+    let attrs = attrs_in is in
+    let all = f.parts.attributes in
+    let complete = f.ended.complete in
+    let there = λ (w : List ℕ). is_some (attr w attrs) in
+    let major = and_left (there (codes "major")) (there (codes "minor") && (there (codes "byte_order") && true)) complete in
+    let rest = and_right (there (codes "major")) (there (codes "minor") && (there (codes "byte_order") && true)) complete in
+    let minor = and_left (there (codes "minor")) (there (codes "byte_order") && true) rest in
+    let order = and_left (there (codes "byte_order")) true (and_right (there (codes "minor")) (there (codes "byte_order") && true) rest) in
+    let ordered = needed_is of_trace (λ v. word_value v >>= meant_by order_table) (codes "byte_order") attrs all (λ v h. h) order in
+    let identified = option_is of_trace uuid_value (codes "uuid") attrs all (λ v h. h) in
+    let headed = scope_means known kinds.Trace packet_header PacketHeader (scopes_in is) f.parts.scopes refl in
+    record {
+      order = ordered.0;
+      uuid = identified.0;
+      header = headed.meant;
+      version =
+          three (has_parts (packet_header ∷ []) is) (has_number (codes "major") 1 is) (has_number (codes "minor") 8 is) (parts_are known kinds.Trace ledger is f.parts)
+          (numbered (codes "major") 1 is all major (λ v. refl)) (numbered (codes "minor") 8 is all minor (λ v. refl));
+      ordered = ordered.1;
+      identified = identified.1;
+      headed = headed.means;
+    }
+
+-- ---- clocks
+
+pub record ClockOf (ledger : Ledger) (is : List Item) : Type 0 where
+  pub clock : ClockType
+  pub means : clock_meaning is ≡ Some clock
+  pub named : clock_name is ≡ Some clock.name
+  pub anew : contains_text ledger.clocks clock.name ≡ false
+
+new_name : (o : Option (List ℕ)) (taken : List ℕ → Bool) → option_map_or (λ name. not (taken name)) o false ≡ true → is_some o ≡ true
+new_name None taken e = absurd cc
+new_name (Some w) taken e = refl
+
+is_new : (o : Option (List ℕ)) (taken : List ℕ → Bool) (w : List ℕ) → option_map_or (λ name. not (taken name)) o false ≡ true → o ≡ Some w → taken w ≡ false
+is_new None taken w e f = absurd cc
+is_new (Some x) taken w e f = let same : x ≡ w = cc in subst (λ (y : List ℕ). taken y ≡ false) same (untaken (taken x) e)
+  where
+    untaken : (b : Bool) → not b ≡ true → b ≡ false
+    untaken true h = absurd cc
+    untaken false h = refl
+
+pub clock_means : (known : Known) (ledger : Ledger) (is : List Item) → IsFlawlessBlock known kinds.Clock ledger is → ClockOf ledger is
+clock_means known ledger is f =
+    let attrs = attrs_in is in
+    let all = f.parts.attributes in
+    let asked = of_clock ledger in
+    let there = and_left (is_some (attr (codes "name") attrs)) true f.ended.complete in
+    let taken = contains_text ledger.clocks in
+    let name = needed_is asked name_value (codes "name") attrs all (λ v h. new_name (name_value v) taken h) there in
+    let uuid = option_is asked uuid_value (codes "uuid") attrs all (λ v h. h) in
+    let description = option_is asked text_value (codes "description") attrs all (λ v h. h) in
+    let frequency = default_is asked natural_value (codes "freq") attrs all (λ v h. h) 1000000000 in
+    let precision = default_is asked natural_value (codes "precision") attrs all (λ v h. h) 0 in
+    let seconds = default_is asked whole_value (codes "offset_s") attrs all (λ v h. h) (pos 0) in
+    let cycles = default_is asked natural_value (codes "offset") attrs all (λ v h. h) 0 in
+    let absolute = default_is asked flag_value (codes "absolute") attrs all (λ v h. h) false in
+    let clock : ClockType = record {
+      name = name.0;
+      uuid = uuid.0;
+      description = description.0;
+      frequency = frequency.0;
+      precision = precision.0;
+      offset_seconds = seconds.0;
+      offset_cycles = cycles.0;
+      absolute = absolute.0;
+    } in
+    let says : SaysClock is clock = record {
+      once = parts_are known kinds.Clock ledger is f.parts;
+      name = name.1;
+      uuid = uuid.1;
+      description = description.1;
+      frequency = frequency.1;
+      precision = precision.1;
+      offset_seconds = seconds.1;
+      offset_cycles = cycles.1;
+      absolute = absolute.1;
+    } in
+    let v = some_is (attr (codes "name") attrs) there in
+    let value : name_value v.0 ≡ Some name.0 = sym (ap (λ (o : Option Value). o >>= name_value) v.1) ∙ name.1 in
+    record {
+      clock = clock;
+      means = clock_says is clock says;
+      named = name.1;
+      anew = is_new (name_value v.0) taken name.0 (value_fits asked (codes "name") attrs v.0 all v.1) value;
+    }
+
+-- ---- streams
+
+pub record StreamOf (known : Known) (ledger : Ledger) (is : List Item) : Type 0 where
+  pub id : ℕ
+  pub numbered : number_or_zero (codes "id") (attrs_in is) ≡ Some id
+  pub anew : contains nat_cmp ledger.streams id ≡ false
+  pub means : has_sizes is ≡ true → (s : Stream) × (stream_meaning known is ≡ Some s) × (s.id ≡ id)
+
+new_number : (o : Option ℕ) (taken : ℕ → Bool) → option_map_or (λ n. not (taken n)) o false ≡ true → is_some o ≡ true
+new_number None taken e = absurd cc
+new_number (Some n) taken e = refl
+
+is_free : (o : Option ℕ) (taken : ℕ → Bool) (n : ℕ) → option_map_or (λ m. not (taken m)) o false ≡ true → o ≡ Some n → taken n ≡ false
+is_free None taken n e f = absurd cc
+is_free (Some m) taken n e f = let same : m ≡ n = cc in subst (λ (k : ℕ). taken k ≡ false) same (untaken (taken m) e)
+  where
+    untaken : (b : Bool) → not b ≡ true → b ≡ false
+    untaken true h = absurd cc
+    untaken false h = refl
+
+-- the number that is given, or 0, is new
+number_free : (taken : ℕ → Bool) (o : Option Value) (n : ℕ) → with_default 0 natural_value o ≡ Some n → (o ≡ None → taken 0 ≡ false)
+    → ((v : Value) → o ≡ Some v → option_map_or (λ m. not (taken m)) (natural_value v) false ≡ true) → taken n ≡ false
+number_free taken None n e none some = let zero_is : 0 ≡ n = cc in subst (λ (k : ℕ). taken k ≡ false) zero_is (none refl)
+number_free taken (Some v) n e none some = is_free (natural_value v) taken n (some v refl) e
+
+pub stream_means : (known : Known) (ledger : Ledger) (is : List Item) → IsFlawlessBlock known kinds.Stream ledger is → StreamOf known ledger is
+stream_means known ledger is f =
+    let attrs = attrs_in is in
+    let scopes = scopes_in is in
+    let all = f.parts.attributes in
+    let asked = of_stream ledger in
+    let taken = contains nat_cmp ledger.streams in
+    let id = default_is asked natural_value (codes "id") attrs all (λ v h. new_number (natural_value v) taken h) 0 in
+    let context = scope_means known kinds.Stream packet_context PacketContext scopes f.parts.scopes refl in
+    let header = scope_means known kinds.Stream event_header EventHeader scopes f.parts.scopes refl in
+    let common = scope_means known kinds.Stream event_context AnyMembers scopes f.parts.scopes refl in
+    record {
+      id = id.0;
+      numbered = id.1;
+      anew = number_free taken (attr (codes "id") attrs) id.0 id.1 f.ended.anew (λ v e. value_fits asked (codes "id") attrs v all e);
+      means = λ sizes.
+          let s : Stream = record { id = id.0; context = context.meant; event_header = header.meant; common = common.meant; events = [] } in
+          let says : SaysStream known is s = record {
+            once = parts_are known kinds.Stream ledger is f.parts;
+            id = id.1;
+            context = context.means;
+            header = header.means;
+            common = common.means;
+            sizes =
+                and_both (has_member (codes "packet_size") context.meant.members) (has_member (codes "content_size") context.meant.members)
+                (has_alike known packet_context PacketContext scopes (codes "packet_size") context ∙ and_left (has_in_context (codes "packet_size") is) (has_in_context (codes "content_size") is) sizes)
+                (has_alike known packet_context PacketContext scopes (codes "content_size") context ∙ and_right (has_in_context (codes "packet_size") is) (has_in_context (codes "content_size") is) sizes);
+          } in
+          (s, stream_says known is s says refl, refl);
+    }
+
+-- ---- events
+
+pub record EventOf (known : Known) (ledger : Ledger) (is : List Item) : Type 0 where
+  pub stream : ℕ
+  pub event : Event
+  pub means : event_meaning known is ≡ Some (stream, event)
+  pub named : clock_name is ≡ Some event.name
+  pub numbers : HasNumbers is stream event.id
+  pub anew : ContainsKey pair_cmp ledger.events (stream, event.id) → ⊥
+
+pub event_means : (known : Known) (ledger : Ledger) (is : List Item) → IsFlawlessBlock known kinds.Event ledger is → EventOf known ledger is
+event_means known ledger is f =
+    let attrs = attrs_in is in
+    let scopes = scopes_in is in
+    let all = f.parts.attributes in
+    let there = and_left (is_some (attr (codes "name") attrs)) true f.ended.complete in
+    let name = needed_is of_event name_value (codes "name") attrs all (λ v h. h) there in
+    let id = default_is of_event natural_value (codes "id") attrs all (λ v h. h) 0 in
+    let stream = default_is of_event natural_value (codes "stream_id") attrs all (λ v h. h) 0 in
+    let level = option_is of_event natural_value (codes "loglevel") attrs all (λ v h. h) in
+    let specific = scope_means known kinds.Event specific_context AnyMembers scopes f.parts.scopes refl in
+    let fields = scope_means known kinds.Event fields_scope AnyMembers scopes f.parts.scopes refl in
+    let e : Event = record { id = id.0; name = name.0; log_level = level.0; specific = specific.meant; fields = fields.meant } in
+    let says : SaysEvent known is stream.0 e = record {
+      once = parts_are known kinds.Event ledger is f.parts;
+      name = name.1;
+      id = id.1;
+      stream_id = stream.1;
+      log_level = level.1;
+      specific = specific.means;
+      fields = fields.means;
+    } in
+    record { stream = stream.0; event = e; means = event_says known is stream.0 e says; named = name.1; numbers = (stream.1, id.1); anew = f.ended.anew stream.0 id.0 (stream.1, id.1) }

@@ -1,0 +1,79 @@
+-- The entries of an environment, one behind the other.
+use Rattle.std.proofs.Common.{◌≡◌, ℕ, ◌+◌, ◌<◌, ◌≤◌, Bool, true, false, ◌&&◌, ◌||◌, List, [], ◌∷◌, ◌++◌, map, length, take, get_or, Option, Some, refl, sym, ap, subst, ◌∙◌, arith, length-append}
+use Rattle.std.specs.Prelude.{nat_le}
+use Rattle.std.specs.Option.{option_map}
+use Rattle.std.specs.List.{list_any, AllByRecursion}
+use Rattle.std.specs.Str.{bytes_eq}
+use Rattle.std.specs.Cmp.Lexicographic.{nat_list_eq_equiv}
+use Rattle.std.proofs.lemmas.Bool.Decides.{nat_tests}
+use Rattle.std.proofs.lemmas.List.{map-append, take_more}
+use Rattle.ctf_types.specs.declared.EnvironmentEntry.{EnvironmentEntry}
+use Rattle.tsdl_grammar.specs.declared.tree.NamedFact.{NamedFact}
+use Rattle.tsdl_grammar.specs.Steps.{◌>>=◌, provided, each}
+use Rattle.tsdl_grammar.specs.Lookups.{no_two}
+use Rattle.tsdl_grammar.specs.BlockMeaning.{fact_meaning, named_fact_meaning, environment_meaning}
+use Rattle.tsdl_grammar.proofs.Inversion.{bind_some, bind_is, some_same}
+use Rattle.tsdl_meaning.specs.FlawlessTexts.{MeanEntries, AddsFact}
+use Rattle.tsdl_meaning.proofs.FlawlessNames.{and_both, no_two_more}
+use Rattle.tsdl_meaning.proofs.FlawlessValues.{some_is}
+
+-- what is made of one more item
+pub each_more : {A B : Type 0} (f : A → Option B) (xs : List A) (ys : List B) (x : A) (y : B) → each f xs ≡ Some ys → f x ≡ Some y → each f (xs ++ x ∷ []) ≡ Some (ys ++ y ∷ [])
+each_more {A} {B} f [] ys x y e h =
+    bind_is (f x) (λ z. Some (z ∷ [])) y (ys ++ y ∷ []) h (ap (λ (l : List B). Some (l ++ y ∷ [])) (some_same [] ys (Some []) refl e))
+each_more {A} {B} f (z ∷ xs) ys x y e h =
+    let a = bind_some (f z) (λ u. each f xs >>= λ us. Some (u ∷ us)) ys e in
+    let b = bind_some (each f xs) (λ us. Some (a.0 ∷ us)) ys a.2 in
+    let same : a.0 ∷ b.0 ≡ ys = some_same (a.0 ∷ b.0) ys (Some (a.0 ∷ b.0)) refl b.2 in
+    bind_is (f z) (λ u. each f (xs ++ x ∷ []) >>= λ us. Some (u ∷ us)) a.0 (ys ++ y ∷ []) a.1
+    (bind_is (each f (xs ++ x ∷ [])) (λ us. Some (a.0 ∷ us)) (b.0 ++ y ∷ []) (ys ++ y ∷ []) (each_more f xs b.0 x y b.1 h) (ap (λ (l : List B). Some (l ++ y ∷ [])) same))
+
+-- the entries so far
+pub record Facts (facts : List NamedFact) : Type 0 where
+  pub few : length facts ≤ 256
+  pub once : no_two bytes_eq (map (λ f. f.name) facts) ≡ true
+  pub entries : List EnvironmentEntry
+  pub mean : each named_fact_meaning facts ≡ Some entries
+
+-- none of the words is the other
+apart : (w : List ℕ) (words : List (List ℕ)) → list_any (bytes_eq w) words ≡ false → AllByRecursion (λ x. bytes_eq x w ≡ false) words
+apart w [] e = tt
+apart w (x ∷ words) e = (nat_list_eq_equiv.symm x w ∙ left (bytes_eq w x) (list_any (bytes_eq w) words) e, apart w words (right (bytes_eq w x) (list_any (bytes_eq w) words) e))
+  where
+    left : (a b : Bool) → (a || b) ≡ false → a ≡ false
+    left true b h = absurd cc
+    left false b h = refl
+
+    right : (a b : Bool) → (a || b) ≡ false → b ≡ false
+    right true b h = absurd cc
+    right false b h = h
+
+fact_more : (facts : List NamedFact) (fact : NamedFact) → Facts facts → AddsFact facts fact → Facts (facts ++ fact ∷ [])
+fact_more facts fact s adds =
+    let n = length-append facts (fact ∷ []) in
+    let below = adds.few in
+    let value = some_is (fact_meaning fact.fact) adds.meant in
+    let entry : EnvironmentEntry = record { name = fact.name; value = value.0 } in
+    record {
+      few = omega (arith, n, below);
+      once =
+          ap (no_two bytes_eq) (map-append (λ f. f.name) facts (fact ∷ []))
+          ∙ no_two_more bytes_eq (map (λ f. f.name) facts) fact.name (apart fact.name (map (λ f. f.name) facts) adds.fresh) s.once;
+      entries = s.entries ++ entry ∷ [];
+      mean = each_more named_fact_meaning facts s.entries fact entry s.mean (ap (option_map (λ v. record { name = fact.name; value = v })) value.1);
+    }
+
+pub next_fact : (facts : List NamedFact) (i : ℕ) (fact : NamedFact) → i < length facts → fact ≡ get_or facts i fact → Facts (take i facts) → AddsFact (take i facts) fact → Facts (take (i + 1) facts)
+next_fact facts i fact h is s adds =
+    subst Facts (sym (take_more facts i fact h ∙ ap (λ (f : NamedFact). take i facts ++ f ∷ []) (sym is))) (fact_more (take i facts) fact s adds)
+
+pub no_facts : Facts []
+no_facts = record { few = omega arith; once = refl; entries = []; mean = refl }
+
+pub facts_mean : (facts : List NamedFact) → Facts facts → MeanEntries facts
+unfolding environment_meaning
+facts_mean facts s =
+    let n = s.few in
+    let few : nat_le (length facts) 256 ≡ true = grind (arith, nat_tests) in
+    let both : (nat_le (length facts) 256 && no_two bytes_eq (map (λ f. f.name) facts)) ≡ true = and_both (nat_le (length facts) 256) (no_two bytes_eq (map (λ f. f.name) facts)) few s.once in
+    (s.entries, ap (λ (b : Bool). provided b (each named_fact_meaning facts)) both ∙ s.mean)

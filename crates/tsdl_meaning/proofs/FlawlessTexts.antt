@@ -1,0 +1,415 @@
+-- Blocks without a flaw, one behind the other, and the metadata that they mean.
+use Rattle.std.proofs.Common.{◌≡◌, ℕ, ◌+◌, ◌<◌, ◌==◌, Bool, true, false, not, cond, ◌&&◌, ◌||◌, List, [], ◌∷◌, ◌++◌, map, length, take, get_or, Contains, Option, Some, None, refl, sym, ap, ap₂, subst, ◌∙◌, inl, inr, arith}
+use Rattle.std.specs.List.{list_all, list_any, flat_map, AllByRecursion}
+use Rattle.std.specs.Str.{bytes_eq}
+use Rattle.std.specs.Ordering.{nat_cmp}
+use Rattle.std.specs.BTreeMap.{BTreeMap, ContainsKey}
+use Rattle.std.specs.BTreeSet.{BTreeSet, contains, contains_text}
+use Rattle.std.specs.declared.string.String.{String}
+use Rattle.std.specs.declared.alloc.Global.{Global}
+use Rattle.std.proofs.lemmas.Bool.{cases_Bool, eqb-true}
+use Rattle.std.proofs.lemmas.Bool.Decides.{nat_tests}
+use Rattle.std.proofs.lemmas.List.{append-nil, map-append, take_more}
+use Rattle.std.proofs.lemmas.List.Folds.{list_all-append, list_any-append}
+use Rattle.std.proofs.lemmas.Slice.Eq.{bytes_eq-Decides}
+use Rattle.ctf_types.specs.declared.ClockType.{ClockType}
+use Rattle.ctf_types.specs.declared.EnvironmentEntry.{EnvironmentEntry}
+use Rattle.ctf_types.specs.declared.Metadata.{Metadata}
+use Rattle.ctf_types.specs.declared.Stream.{Stream}
+use Rattle.ctf_types.specs.declared.Event.{Event}
+use Rattle.tsdl_grammar.specs.declared.tree.Item.{Item}
+use Rattle.tsdl_grammar.specs.declared.tree.NamedFact.{NamedFact}
+use Rattle.tsdl_grammar.specs.declared.tree.Block.{Block}
+use Rattle.tsdl_grammar.specs.declared.tree.Block.TheVariants as blocks
+use Rattle.tsdl_grammar.specs.Steps.{◌>>=◌, provided, each, only, at_most_one, by_number}
+use Rattle.tsdl_grammar.specs.Lookups.{no_two}
+use Rattle.tsdl_grammar.specs.IntegerMeaning.{Known}
+use Rattle.tsdl_grammar.specs.BlockMeaning.{header_meaning, clock_meaning, stream_meaning, event_meaning, environment_meaning}
+use Rattle.tsdl_grammar.specs.Denotes.{trace_in, stream_in, event_in, clock_in, environment_in, events_of, with_events, have_streams, streams_meaning, text_meta}
+use Rattle.tsdl_grammar.specs.Laws.{SaysMetadata}
+use Rattle.tsdl_grammar.proofs.Inversion.{bind_is}
+use Rattle.tsdl_grammar.proofs.MeaningParts.{text_says}
+use Rattle.tsdl_flaw.specs.declared.flaw.Stop.{Stop}
+use Rattle.tsdl_flaw.specs.declared.flaw.Stop.TheVariants as stops
+use Rattle.tsdl_meaning.specs.declared.judge.ledger.Ledger.{Ledger}
+use Rattle.tsdl_meaning.specs.Ledgers.{pair_cmp}
+use Rattle.tsdl_meaning.specs.PacketSizes.{has_sizes, LacksSizes, IfSizesMissed}
+use Rattle.tsdl_meaning.specs.FlawlessTexts.{MeanEntries, IsFlawlessBehind, AddsClock, AddsStream, AddsEvent, AddsBlock, IsEmpty, HaveStreams, Surveys}
+use Rattle.tsdl_meaning.proofs.MemberNames.{contains_first, contains_later}
+use Rattle.tsdl_meaning.proofs.FlawlessNames.{and_both, and_left, and_right, all_more, all_weaker, flat_more, no_two_more}
+use Rattle.tsdl_meaning.proofs.FlawlessFacts.{each_more, no_facts, facts_mean}
+use Rattle.tsdl_meaning.proofs.FlawlessBlocks.{TraceOf, ClockOf, StreamOf, EventOf, trace_means, clock_means, stream_means, event_means}
+use Rattle.tsdl_meaning.proofs.NumberedItems.{numbers_order}
+
+-- ---- clocks
+
+pub record Clocks (names : BTreeSet (String Global)) (all : List (List Item)) : Type 0 where
+  pub made : List ClockType
+  pub mean : each clock_meaning all ≡ Some made
+  pub once : no_two bytes_eq (map (λ c. c.name) made) ≡ true
+  pub noted : AllByRecursion (λ w. contains_text names w ≡ true) (map (λ c. c.name) made)
+
+other_name : (names : BTreeSet (String Global)) (w v : List ℕ) → contains_text names w ≡ true → contains_text names v ≡ false → bytes_eq w v ≡ false
+other_name names w v there fresh =
+    elim (cases_Bool (bytes_eq w v)) [
+      | inr e ↦ e
+      | inl e ↦ absurd (let same : contains_text names w ≡ contains_text names v = ap (contains_text names) ((bytes_eq-Decides w v).0 e) in cc)
+    ]
+
+still : (b c : Bool) → c ≡ true → cond b true c ≡ true
+still true c e = refl
+still false c e = e
+
+clock_more : (ledger after : Ledger) (all : List (List Item)) (is : List Item) → ClockOf ledger is → Clocks ledger.clocks all → (adds : AddsClock ledger is after) → Clocks adds.clocks (all ++ is ∷ [])
+clock_more ledger after all is c s adds =
+    let names = map (λ (x : ClockType). x.name) s.made in
+    let more : map (λ (x : ClockType). x.name) (s.made ++ c.clock ∷ []) ≡ names ++ c.clock.name ∷ [] = map-append (λ x. x.name) s.made (c.clock ∷ []) in
+    let added = adds.added c.clock.name c.named in
+    record {
+      made = s.made ++ c.clock ∷ [];
+      mean = each_more clock_meaning all s.made is c.clock s.mean c.means;
+      once =
+          ap (no_two bytes_eq) more
+          ∙ no_two_more bytes_eq names c.clock.name
+          (all_weaker (λ w. contains_text ledger.clocks w ≡ true) (λ w. bytes_eq w c.clock.name ≡ false) names (λ w there. other_name ledger.clocks w c.clock.name there c.anew) s.noted) s.once;
+      noted =
+          subst (AllByRecursion (λ w. contains_text adds.clocks w ≡ true)) (sym more)
+          (all_more (λ w. contains_text adds.clocks w ≡ true) names c.clock.name
+          (all_weaker (λ w. contains_text ledger.clocks w ≡ true) (λ w. contains_text adds.clocks w ≡ true) names (λ w there. added w ∙ still (bytes_eq c.clock.name w) (contains_text ledger.clocks w) there) s.noted)
+          (added c.clock.name ∙ ap (λ (b : Bool). cond b true (contains_text ledger.clocks c.clock.name)) ((bytes_eq-Decides c.clock.name c.clock.name).1 refl)));
+    }
+
+-- ---- streams
+
+pub record Streams (known : Known) (numbers : BTreeSet ℕ) (all : List (List Item)) : Type 0 where
+  pub made : List Stream
+  pub mean : each (stream_meaning known) all ≡ Some made
+  pub once : no_two (λ s t. s.id == t.id) made ≡ true
+  pub noted : AllByRecursion (λ s. contains nat_cmp numbers s.id ≡ true) made
+  pub there : (n : ℕ) → contains nat_cmp numbers n ≡ true → list_any (λ s. s.id == n) made ≡ true
+
+same_number : (n : ℕ) → (n == n) ≡ true
+same_number n = grind (arith, nat_tests)
+
+other_number : (numbers : BTreeSet ℕ) (m n : ℕ) → contains nat_cmp numbers m ≡ true → contains nat_cmp numbers n ≡ false → (m == n) ≡ false
+other_number numbers m n there fresh =
+    elim (cases_Bool (m == n)) [
+      | inr e ↦ e
+      | inl e ↦ absurd (let same : contains nat_cmp numbers m ≡ contains nat_cmp numbers n = ap (contains nat_cmp numbers) (eqb-true m n e) in cc)
+    ]
+
+or_right_true : (a b : Bool) → b ≡ true → (a || b) ≡ true
+or_right_true true b e = refl
+or_right_true false b e = e
+
+or_left_true : (a b : Bool) → a ≡ true → (a || b) ≡ true
+or_left_true true b e = refl
+or_left_true false b e = absurd cc
+
+stream_more : (known : Known) (ledger after : Ledger) (all : List (List Item)) (is : List Item) → StreamOf known ledger is → (adds : AddsStream ledger is after)
+    → (list_all has_sizes all ≡ true → Streams known ledger.streams all) → list_all has_sizes (all ++ is ∷ []) ≡ true → Streams known adds.streams (all ++ is ∷ [])
+stream_more known ledger after all is o adds before sized =
+    let both : (list_all has_sizes all && (has_sizes is && true)) ≡ true = sym (list_all-append has_sizes all (is ∷ [])) ∙ sized in
+    let s = before (and_left (list_all has_sizes all) (has_sizes is && true) both) in
+    let one = o.means (and_left (has_sizes is) true (and_right (list_all has_sizes all) (has_sizes is && true) both)) in
+    let stream = one.0 in
+    let added = adds.added o.id o.numbered in
+    record {
+      made = s.made ++ stream ∷ [];
+      mean = each_more (stream_meaning known) all s.made is stream s.mean one.1;
+      once =
+          no_two_more (λ x y. x.id == y.id) s.made stream
+          (all_weaker (λ x. contains nat_cmp ledger.streams x.id ≡ true) (λ x. (x.id == stream.id) ≡ false) s.made
+          (λ x there. other_number ledger.streams x.id stream.id there (ap (contains nat_cmp ledger.streams) one.2 ∙ o.anew)) s.noted) s.once;
+      noted =
+          all_more (λ x. contains nat_cmp adds.streams x.id ≡ true) s.made stream
+          (all_weaker (λ x. contains nat_cmp ledger.streams x.id ≡ true) (λ x. contains nat_cmp adds.streams x.id ≡ true) s.made (λ x there. (added x.id).1 (inr there)) s.noted)
+          ((added stream.id).1 (inl one.2));
+      there = λ n h.
+          list_any-append (λ x. x.id == n) s.made (stream ∷ [])
+          ∙ elim ((added n).0 h) [
+            | inl e ↦ or_right_true (list_any (λ x. x.id == n) s.made) ((stream.id == n) || false)
+                (or_left_true (stream.id == n) false (ap (λ (m : ℕ). stream.id == m) (e ∙ sym one.2) ∙ same_number stream.id))
+            | inr old ↦ or_left_true (list_any (λ x. x.id == n) s.made) ((stream.id == n) || false) (s.there n old)
+          ];
+    }
+
+-- ---- events
+
+-- events of the same numbers
+abbrev pub same_key : ℕ × Event → ℕ × Event → Bool
+same_key e f = (e.0 == f.0) && (e.1.id == f.1.id)
+
+pub record Events (known : Known) (keys : BTreeMap (ℕ × ℕ) (String Global)) (all : List (List Item)) : Type 0 where
+  pub made : List (ℕ × Event)
+  pub mean : each (event_meaning known) all ≡ Some made
+  pub once : no_two same_key made ≡ true
+  pub noted : AllByRecursion (λ e. ContainsKey pair_cmp keys (e.0, e.1.id)) made
+
+other_key : (keys : BTreeMap (ℕ × ℕ) (String Global)) (e f : ℕ × Event) → ContainsKey pair_cmp keys (e.0, e.1.id) → (ContainsKey pair_cmp keys (f.0, f.1.id) → ⊥) → same_key e f ≡ false
+other_key keys e f there fresh =
+    elim (cases_Bool (same_key e f)) [
+      | inr h ↦ h
+      | inl h ↦
+          let streams = eqb-true e.0 f.0 (and_left (e.0 == f.0) (e.1.id == f.1.id) h) in
+          let ids = eqb-true e.1.id f.1.id (and_right (e.0 == f.0) (e.1.id == f.1.id) h) in
+          absurd (fresh (subst (λ (k : ℕ × ℕ). ContainsKey pair_cmp keys k) (ap₂ (λ (m n : ℕ). (m, n)) streams ids) there))
+    ]
+
+event_more : (known : Known) (ledger after : Ledger) (all : List (List Item)) (is : List Item) → EventOf known ledger is → Events known ledger.events all → (adds : AddsEvent ledger is after)
+    → Events known adds.events (all ++ is ∷ [])
+event_more known ledger after all is o s adds =
+    let one : ℕ × Event = (o.stream, o.event) in
+    let added = adds.added o.event.name o.stream o.event.id o.named o.numbers in
+    record {
+      made = s.made ++ one ∷ [];
+      mean = each_more (event_meaning known) all s.made is one s.mean o.means;
+      once =
+          no_two_more same_key s.made one
+          (all_weaker (λ e. ContainsKey pair_cmp ledger.events (e.0, e.1.id)) (λ e. same_key e one ≡ false) s.made (λ e there. other_key ledger.events e one there o.anew) s.noted) s.once;
+      noted =
+          all_more (λ e. ContainsKey pair_cmp adds.events (e.0, e.1.id)) s.made one
+          (all_weaker (λ e. ContainsKey pair_cmp ledger.events (e.0, e.1.id)) (λ e. ContainsKey pair_cmp adds.events (e.0, e.1.id)) s.made (λ e there. added.1 (e.0, e.1.id) there) s.noted)
+          added.0;
+    }
+
+-- ---- blocks
+
+-- there is one item where it was seen
+abbrev pub IsSeen : {A : Type 0} → Bool → List A → Type 0
+IsSeen false xs = xs ≡ []
+IsSeen {A} true xs = (x : A) × (xs ≡ x ∷ [])
+
+first_seen : {A : Type 0} (b : Bool) (xs : List A) (x : A) → b ≡ false → IsSeen b xs → IsSeen true (xs ++ x ∷ [])
+first_seen true xs x e s = absurd cc
+first_seen {A} false xs x e s = (x, ap (λ (l : List A). l ++ x ∷ []) s)
+
+pub record Parts (known : Known) (ledger : Ledger) (traces streams events clocks : List (List Item)) (environments : List (List NamedFact)) : Type 0 where
+  pub trace_seen : IsSeen ledger.has_trace traces
+  pub trace : AllByRecursion (TraceOf known) traces
+  pub environment_seen : IsSeen ledger.has_environment environments
+  pub environment : AllByRecursion MeanEntries environments
+  pub clocks_mean : Clocks ledger.clocks clocks
+  pub streams_mean : list_all has_sizes streams ≡ true → Streams known ledger.streams streams
+  pub events_mean : Events known ledger.events events
+
+abbrev pub Text : Known → Ledger → List Block → Type 0
+Text known ledger bs = Parts known ledger (flat_map trace_in bs) (flat_map stream_in bs) (flat_map event_in bs) (flat_map clock_in bs) (flat_map environment_in bs)
+
+none_more : {A : Type 0} (P : List A → Type 0) (xs : List A) → P xs → P (xs ++ [])
+none_more P xs p = subst P (sym (append-nil xs)) p
+
+sized_more : (known : Known) (numbers : BTreeSet ℕ) (xs : List (List Item)) → (list_all has_sizes xs ≡ true → Streams known numbers xs) → list_all has_sizes (xs ++ []) ≡ true → Streams known numbers (xs ++ [])
+sized_more known numbers xs s = none_more (λ l. list_all has_sizes l ≡ true → Streams known numbers l) xs s
+
+abbrev Next : Known → Ledger → List Block → Block → Type 0
+Next known ledger bs b =
+    Parts known ledger (flat_map trace_in bs ++ trace_in b) (flat_map stream_in bs ++ stream_in b) (flat_map event_in bs ++ event_in b) (flat_map clock_in bs ++ clock_in b) (flat_map environment_in bs ++ environment_in b)
+
+next : (known : Known) (ledger after : Ledger) (bs : List Block) (b : Block) → Text known ledger bs → IsFlawlessBehind known ledger b → AddsBlock ledger b after → Next known after bs b
+next known ledger after bs (blocks.Trace is) s f adds =
+    subst (λ (l : Ledger). Next known l bs (blocks.Trace is)) (sym adds) (record {
+      trace_seen = first_seen ledger.has_trace (flat_map trace_in bs) is f.0 s.trace_seen;
+      trace = all_more (TraceOf known) (flat_map trace_in bs) is s.trace (trace_means known ledger is f.1);
+      environment_seen = none_more (IsSeen ledger.has_environment) (flat_map environment_in bs) s.environment_seen;
+      environment = none_more (AllByRecursion MeanEntries) (flat_map environment_in bs) s.environment;
+      clocks_mean = none_more (Clocks ledger.clocks) (flat_map clock_in bs) s.clocks_mean;
+      streams_mean = sized_more known ledger.streams (flat_map stream_in bs) s.streams_mean;
+      events_mean = none_more (Events known ledger.events) (flat_map event_in bs) s.events_mean;
+    })
+next known ledger after bs (blocks.Stream is) s f adds =
+    subst (λ (l : Ledger). Next known l bs (blocks.Stream is)) (sym adds.others) (record {
+      trace_seen = none_more (IsSeen ledger.has_trace) (flat_map trace_in bs) s.trace_seen;
+      trace = none_more (AllByRecursion (TraceOf known)) (flat_map trace_in bs) s.trace;
+      environment_seen = none_more (IsSeen ledger.has_environment) (flat_map environment_in bs) s.environment_seen;
+      environment = none_more (AllByRecursion MeanEntries) (flat_map environment_in bs) s.environment;
+      clocks_mean = none_more (Clocks ledger.clocks) (flat_map clock_in bs) s.clocks_mean;
+      streams_mean = stream_more known ledger after (flat_map stream_in bs) is (stream_means known ledger is f) adds s.streams_mean;
+      events_mean = none_more (Events known ledger.events) (flat_map event_in bs) s.events_mean;
+    })
+next known ledger after bs (blocks.Event is) s f adds =
+    subst (λ (l : Ledger). Next known l bs (blocks.Event is)) (sym adds.others) (record {
+      trace_seen = none_more (IsSeen ledger.has_trace) (flat_map trace_in bs) s.trace_seen;
+      trace = none_more (AllByRecursion (TraceOf known)) (flat_map trace_in bs) s.trace;
+      environment_seen = none_more (IsSeen ledger.has_environment) (flat_map environment_in bs) s.environment_seen;
+      environment = none_more (AllByRecursion MeanEntries) (flat_map environment_in bs) s.environment;
+      clocks_mean = none_more (Clocks ledger.clocks) (flat_map clock_in bs) s.clocks_mean;
+      streams_mean = sized_more known ledger.streams (flat_map stream_in bs) s.streams_mean;
+      events_mean = event_more known ledger after (flat_map event_in bs) is (event_means known ledger is f) s.events_mean adds;
+    })
+next known ledger after bs (blocks.Clock is) s f adds =
+    subst (λ (l : Ledger). Next known l bs (blocks.Clock is)) (sym adds.others) (record {
+      trace_seen = none_more (IsSeen ledger.has_trace) (flat_map trace_in bs) s.trace_seen;
+      trace = none_more (AllByRecursion (TraceOf known)) (flat_map trace_in bs) s.trace;
+      environment_seen = none_more (IsSeen ledger.has_environment) (flat_map environment_in bs) s.environment_seen;
+      environment = none_more (AllByRecursion MeanEntries) (flat_map environment_in bs) s.environment;
+      clocks_mean = clock_more ledger after (flat_map clock_in bs) is (clock_means known ledger is f) s.clocks_mean adds;
+      streams_mean = sized_more known ledger.streams (flat_map stream_in bs) s.streams_mean;
+      events_mean = none_more (Events known ledger.events) (flat_map event_in bs) s.events_mean;
+    })
+next known ledger after bs (blocks.Environment facts) s f adds =
+    subst (λ (l : Ledger). Next known l bs (blocks.Environment facts)) (sym adds) (record {
+      trace_seen = none_more (IsSeen ledger.has_trace) (flat_map trace_in bs) s.trace_seen;
+      trace = none_more (AllByRecursion (TraceOf known)) (flat_map trace_in bs) s.trace;
+      environment_seen = first_seen ledger.has_environment (flat_map environment_in bs) facts f.0 s.environment_seen;
+      environment = all_more MeanEntries (flat_map environment_in bs) facts s.environment f.1;
+      clocks_mean = none_more (Clocks ledger.clocks) (flat_map clock_in bs) s.clocks_mean;
+      streams_mean = sized_more known ledger.streams (flat_map stream_in bs) s.streams_mean;
+      events_mean = none_more (Events known ledger.events) (flat_map event_in bs) s.events_mean;
+    })
+
+pub block_more : (known : Known) (ledger after : Ledger) (bs : List Block) (b : Block) → Text known ledger bs → IsFlawlessBehind known ledger b → AddsBlock ledger b after → Text known after (bs ++ b ∷ [])
+block_more known ledger after bs b s f adds =
+    rw (flat_more trace_in bs b, flat_more stream_in bs b, flat_more event_in bs b, flat_more clock_in bs b, flat_more environment_in bs b) (next known ledger after bs b s f adds)
+
+pub next_block : (known : Known) (ledger after : Ledger) (bs : List Block) (i : ℕ) (b : Block) → i < length bs → b ≡ get_or bs i b → Text known ledger (take i bs) → IsFlawlessBehind known ledger b
+    → AddsBlock ledger b after → Text known after (take (i + 1) bs)
+next_block known ledger after bs i b h is s f adds =
+    subst (Text known after) (sym (take_more bs i b h ∙ ap (λ (x : Block). take i bs ++ x ∷ []) (sym is))) (block_more known ledger after (take i bs) b s f adds)
+
+pub no_blocks : (known : Known) (ledger : Ledger) → IsEmpty ledger → Text known ledger []
+no_blocks known ledger e = record {
+  trace_seen = subst (λ (b : Bool). IsSeen {A = List Item} b []) (sym e.trace) refl;
+  trace = tt;
+  environment_seen = subst (λ (b : Bool). IsSeen {A = List NamedFact} b []) (sym e.environment) refl;
+  environment = tt;
+  clocks_mean = record { made = []; mean = refl; once = refl; noted = tt };
+  streams_mean = λ sized. record { made = []; mean = refl; once = refl; noted = tt; there = λ n h. absurd (let none = e.streams n in cc) };
+  events_mean = record { made = []; mean = refl; once = refl; noted = tt };
+}
+
+-- ---- the streams with their events
+
+none_of : (id : ℕ) (e : ℕ × Event) (es : List (ℕ × Event)) → e.0 ≡ id → list_any (same_key e) es ≡ false → list_any (λ x. e.1.id == x.id) (events_of id es) ≡ false
+none_of id e [] is none = refl
+none_of id e (f ∷ es) is none =
+    let rest = none_of id e es is (right (same_key e f) (list_any (same_key e) es) none) in
+    elim (cases_Bool (f.0 == id)) [
+      | inl t ↦
+          let same : (e.0 == f.0) ≡ true = ap (λ (n : ℕ). n == f.0) (is ∙ sym (eqb-true f.0 id t)) ∙ same_number f.0 in
+          let other : (e.1.id == f.1.id) ≡ false = sym (ap (λ (b : Bool). b && (e.1.id == f.1.id)) same) ∙ left (same_key e f) (list_any (same_key e) es) none in
+          rw (t, other) rest
+      | inr t ↦ rw t rest
+    ]
+  where
+    left : (a b : Bool) → (a || b) ≡ false → a ≡ false
+    left true b h = absurd cc
+    left false b h = refl
+
+    right : (a b : Bool) → (a || b) ≡ false → b ≡ false
+    right true b h = absurd cc
+    right false b h = h
+
+is_not : (b : Bool) → not b ≡ true → b ≡ false
+is_not true e = absurd cc
+is_not false e = refl
+
+not_is : (b : Bool) → b ≡ false → not b ≡ true
+not_is true e = absurd cc
+not_is false e = refl
+
+own_once : (id : ℕ) (es : List (ℕ × Event)) → no_two same_key es ≡ true → no_two (λ x y. x.id == y.id) (events_of id es) ≡ true
+own_once id [] d = refl
+own_once id (e ∷ es) d =
+    let none = is_not (list_any (same_key e) es) (and_left (not (list_any (same_key e) es)) (no_two same_key es) d) in
+    let rest = own_once id es (and_right (not (list_any (same_key e) es)) (no_two same_key es) d) in
+    elim (cases_Bool (e.0 == id)) [
+      | inl t ↦ rw t
+          (and_both (not (list_any (λ x. e.1.id == x.id) (events_of id es))) (no_two (λ x y. x.id == y.id) (events_of id es))
+          (not_is (list_any (λ x. e.1.id == x.id) (events_of id es)) (none_of id e es (eqb-true e.0 id t) none)) rest)
+      | inr t ↦ rw t rest
+    ]
+
+each_is : {A B : Type 0} (f : A → Option B) (xs : List A) → ((x : A) → (y : B) × (f x ≡ Some y)) → (ys : List B) × (each f xs ≡ Some ys)
+each_is f [] g = ([], refl)
+each_is f (x ∷ xs) g =
+    let y = g x in
+    let rest = each_is f xs g in
+    (y.0 ∷ rest.0, bind_is (f x) (λ u. each f xs >>= λ us. Some (u ∷ us)) y.0 (y.0 ∷ rest.0) y.1 (bind_is (each f xs) (λ us. Some (y.0 ∷ us)) rest.0 (y.0 ∷ rest.0) rest.1 refl))
+
+has_events : (es : List (ℕ × Event)) → no_two same_key es ≡ true → (s : Stream) → (t : Stream) × (with_events es s ≡ Some t)
+has_events es d s =
+    let own = numbers_order (λ e. e.id) (events_of s.id es) (own_once s.id es d) in
+    let t : Stream = record s { events = own.items } in
+    (t, bind_is (by_number (λ e. e.id) (events_of s.id es)) (λ xs. Some (record s { events = xs })) own.items t own.is refl)
+
+all_true : {A : Type 0} (f : A → Bool) (P : A → Type 0) (xs : List A) → ((x : A) → P x → f x ≡ true) → AllByRecursion P xs → list_all f xs ≡ true
+all_true f P [] g all = refl
+all_true f P (x ∷ xs) g all = and_both (f x) (list_all f xs) (g x all.0) (all_true f P xs g all.1)
+
+streams_are : (known : Known) (ledger : Ledger) (bs : List Block) → Streams known ledger.streams (flat_map stream_in bs) → Events known ledger.events (flat_map event_in bs) → HaveStreams ledger
+    → (ss : List Stream) × (streams_meaning known bs ≡ Some ss)
+unfolding streams_meaning
+streams_are known ledger bs s e have =
+    let ordered = numbers_order (λ x. x.id) s.made s.once in
+    let streams = ordered.items in
+    let all : have_streams streams e.made ≡ true =
+    all_true (λ x. list_any (λ t. t.id == x.0) streams) (λ x. ContainsKey pair_cmp ledger.events (x.0, x.1.id)) e.made
+    (λ x there. ordered.same (λ t. t.id == x.0) ∙ s.there x.0 (have (x.0, x.1.id) there)) e.noted
+    in
+    let made = each_is (with_events e.made) streams (has_events e.made e.once) in (
+      made.0,
+      bind_is (each (stream_meaning known) (flat_map stream_in bs)) (λ found. by_number (λ x. x.id) found >>= λ ss. each (event_meaning known) (flat_map event_in bs) >>= λ events. provided (have_streams ss events) (each (with_events events) ss)) s.made made.0 s.mean
+          (bind_is (by_number (λ x. x.id) s.made) (λ ss. each (event_meaning known) (flat_map event_in bs) >>= λ events. provided (have_streams ss events) (each (with_events events) ss)) streams made.0 ordered.is
+          (bind_is (each (event_meaning known) (flat_map event_in bs)) (λ events. provided (have_streams streams events) (each (with_events events) streams)) e.made made.0 e.mean
+          (ap (λ (b : Bool). provided b (each (with_events e.made) streams)) all ∙ made.1))),
+    )
+
+-- ---- the whole text
+
+environment_is : (b : Bool) (xs : List (List NamedFact)) → IsSeen b xs → AllByRecursion MeanEntries xs → (es : List EnvironmentEntry) × ((at_most_one xs >>= environment_meaning) ≡ Some es)
+environment_is false xs seen all =
+    let none = facts_mean [] no_facts in
+    (none.0, ap (λ (l : List (List NamedFact)). at_most_one l >>= environment_meaning) seen ∙ none.1)
+environment_is true xs seen all =
+    let one = subst (AllByRecursion MeanEntries) seen.1 all in
+    (one.0.0, ap (λ (l : List (List NamedFact)). at_most_one l >>= environment_meaning) seen.1 ∙ one.0.1)
+
+-- blocks without a flaw mean metadata, where there is a trace, each event has its stream and each stream its sizes
+text_means : (known : Known) (ledger : Ledger) (bs : List Block) → Text known ledger bs → ledger.has_trace ≡ true → HaveStreams ledger → Surveys known bs → list_all has_sizes (flat_map stream_in bs) ≡ true
+    → (m : Metadata) × (text_meta bs ≡ Some m)
+text_means known ledger bs s traced have surveys sized =
+    let seen = subst (λ (b : Bool). IsSeen b (flat_map trace_in bs)) traced s.trace_seen in
+    let trace = (subst (AllByRecursion (TraceOf known)) seen.1 s.trace).0 in
+    let environment = environment_is ledger.has_environment (flat_map environment_in bs) s.environment_seen s.environment in
+    let clocks = s.clocks_mean in
+    let one_trace : only (flat_map trace_in bs) ≡ Some seen.0 = ap only seen.1 in
+    let same = surveys seen.0 trace.order clocks.made one_trace trace.ordered clocks.mean in
+    let streams = streams_are known ledger bs (s.streams_mean sized) s.events_mean have in
+    let m : Metadata = record { order = trace.order; uuid = trace.uuid; environment = environment.0; clocks = clocks.made; header = trace.header; streams = streams.0 } in
+    let says : SaysMetadata bs m = record {
+      trace = seen.0;
+      one_trace = one_trace;
+      version = trace.version;
+      order = trace.ordered;
+      uuid = trace.identified;
+      environment = environment.1;
+      clocks = clocks.mean;
+      clocks_once = clocks.once;
+      header = subst (λ (k : Known). header_meaning k seen.0 ≡ Some trace.header) same trace.headed;
+      streams = subst (λ (k : Known). streams_meaning k bs ≡ Some streams.0) same streams.1;
+    } in
+    (m, text_says bs m says)
+
+lacking : (xs : List (List Item)) → list_all has_sizes xs ≡ false → (x : List Item) × Contains xs x × (has_sizes x ≡ false)
+lacking [] e = absurd cc
+lacking (x ∷ xs) e =
+    elim (cases_Bool (has_sizes x)) [
+      | inl t ↦
+          let later : list_all has_sizes xs ≡ false = sym (ap (λ (b : Bool). b && list_all has_sizes xs) t) ∙ e in
+          let l = lacking xs later in
+          (l.0, contains_later x l.0 xs l.1, l.2)
+      | inr f ↦ (x, contains_first x xs, f)
+    ]
+
+-- where they mean nothing all the same, a stream lacks a size
+pub sizes_missed : (known : Known) (ledger : Ledger) (bs : List Block) → Text known ledger bs → ledger.has_trace ≡ true → HaveStreams ledger → Surveys known bs → text_meta bs ≡ None → LacksSizes bs
+sizes_missed known ledger bs s traced have surveys none =
+    elim (cases_Bool (list_all has_sizes (flat_map stream_in bs))) [
+      | inl sized ↦ (let m = text_means known ledger bs s traced have surveys sized in let never : None ≡ Some m.0 = sym none ∙ m.1 in absurd cc)
+      | inr not_all ↦ (let l = lacking (flat_map stream_in bs) not_all in record { stream = l.0; there = l.1; lacks = l.2 })
+    ]
+
+pub sizes_end : (bs : List Block) (stop : Stop) (P : Type 0) → IfSizesMissed stop P → (P → LacksSizes bs) → IfSizesMissed stop (LacksSizes bs)
+sizes_end bs (stops.Fault fault) P h f = λ kind. f (h kind)
+sizes_end bs stops.NoMemory P h f = tt

@@ -1,0 +1,63 @@
+-- What the attributes of an integer and of a string are in which no flaw is found: each is one that the type may have and has what its name asks for, and no
+-- name stands twice.
+use Rattle.std.specs.Prelude.{◌≡◌, ℕ, ◌≤◌, ◌%◌, ◌==◌, Bool, true, false, ◌&&◌, nat_lt, nat_le, List, [], ◌∷◌, length, Some, codes}
+use Rattle.std.specs.Option.{is_some, option_map_or}
+use Rattle.std.specs.BTreeSet.{BTreeSet}
+use Rattle.std.specs.declared.string.String.{String}
+use Rattle.std.specs.declared.alloc.Global.{Global}
+use Rattle.ctf_types.specs.declared.Mapping.{Mapping}
+use Rattle.tsdl_grammar.specs.declared.tree.Entry.{Entry}
+use Rattle.tsdl_grammar.specs.declared.tree.Value.{Value}
+use Rattle.tsdl_grammar.specs.declared.tree.Attribute.{Attribute}
+use Rattle.tsdl_grammar.specs.Lookups.{words_of, is_among}
+use Rattle.tsdl_grammar.specs.AttributeValues.{natural_value, flag_value}
+use Rattle.tsdl_grammar.specs.IntegerMeaning.{Known, order_value, base_value, clock_value}
+use Rattle.tsdl_grammar.specs.MemberMeaning.{encoding_value, entry_meaning}
+use Rattle.tsdl_grammar.specs.Steps.{each}
+use Rattle.tsdl_meaning.specs.declared.judge.integer.IntegerAttribute.{IntegerAttribute}
+use Rattle.tsdl_meaning.specs.declared.judge.integer.IntegerAttribute.TheVariants.{Size, Align, Signed, ByteOrder, Base, Map, Encoding}
+use Rattle.tsdl_meaning.specs.FlawlessBlocks.{Asked, is_fit, AddsName}
+
+-- a size from 1 to 64 bits
+abbrev pub is_size : Value → Bool
+is_size v = option_map_or (λ n. nat_lt 0 n && nat_le n 64) (natural_value v) false
+
+-- a power of two up to 4,096
+abbrev pub is_alignment : Value → Bool
+is_alignment v = option_map_or (λ n. nat_lt 0 n && (4096 % n == 0)) (natural_value v) false
+
+-- what the attributes of an integer are asked for (CTF 1.8.3, section 4.1.5)
+abbrev pub of_integer : Known → Asked
+of_integer known =
+    (codes "size", is_size) ∷ (codes "align", is_alignment) ∷ (codes "signed", λ v. is_some (flag_value v))
+    ∷ (codes "byte_order", λ v. is_some (order_value known.order v)) ∷ (codes "base", λ v. is_some (base_value v))
+    ∷ (codes "map", λ v. is_some (clock_value known.clocks v)) ∷ []
+
+-- the name of an attribute of an integer
+abbrev pub own_word : IntegerAttribute → List ℕ
+own_word Size = codes "size"
+own_word Align = codes "align"
+own_word Signed = codes "signed"
+own_word ByteOrder = codes "byte_order"
+own_word Base = codes "base"
+own_word Map = codes "map"
+own_word Encoding = codes "encoding"
+
+abbrev pub string_attrs : List (List (List ℕ))
+string_attrs = (codes "encoding" ∷ []) ∷ []
+
+-- what the attribute of a string is asked for
+abbrev pub of_string : Asked
+of_string = (codes "encoding", λ v. is_some (encoding_value v)) ∷ []
+
+-- one more attribute of a type that may have these
+pub record AddsOwn (allowed : List (List (List ℕ))) (asked : Asked) (before : BTreeSet (String Global)) (a : Attribute) (after : BTreeSet (String Global)) : Type 0 where
+  pub among : is_among allowed (words_of a.name) ≡ true
+  pub name : AddsName before a.name after
+  pub fit : is_fit asked a ≡ true
+
+-- at most 65,536 ranges, each of which means something
+pub record AreRanges (es : List Entry) : Type 0 where
+  pub few : length es ≤ 65536
+  pub mappings : List Mapping
+  pub mean : each entry_meaning es ≡ Some mappings
