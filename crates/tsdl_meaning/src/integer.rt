@@ -9,6 +9,7 @@ ghost use Rattle.tsdl_meaning.specs.IntegerParts.{typed_parts, HasParts};
 
 use crate::known::Known;
 use crate::lookup::{attr, has_only};
+use crate::structure::LARGEST_ALIGN;
 use crate::value::{flag_or_false, natural, natural_or, natural_value, one_word, word_value};
 use ctf_types::{Base, ByteOrder, IntType, Text};
 use std::alloc::{AllocError, Global};
@@ -94,7 +95,7 @@ fn plain_type(size: u64, align: u64, signed: bool, base: Base) -> Option<IntType
     ensures accepted { IsSome result ↔ ((0 < size) × (size ≤ 64) × IsAlignment align) }
     ensures parts { IfSome result (λ t. HasParts t size align signed base None) }
 {
-    if size > 64 || align > 4096 {
+    if size > 64 || align > LARGEST_ALIGN {
         return None;
     }
     IntType::new(size as u8, align as u32, signed, base)
