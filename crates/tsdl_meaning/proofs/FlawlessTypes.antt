@@ -15,7 +15,6 @@ use Rattle.ctf_types.specs.declared.ByteOrder.{ByteOrder}
 use Rattle.ctf_types.specs.declared.ByteOrder.TheVariants.{Little, Big}
 use Rattle.ctf_types.specs.declared.Base.TheVariants.{Dec}
 use Rattle.ctf_types.specs.declared.IntType.{IntType}
-use Rattle.tsdl_grammar.specs.declared.tree.Name.{Name}
 use Rattle.tsdl_grammar.specs.declared.tree.Number.{Number}
 use Rattle.tsdl_grammar.specs.declared.tree.Value.{Value}
 use Rattle.tsdl_grammar.specs.declared.tree.Attribute.{Attribute}
@@ -24,15 +23,13 @@ use Rattle.tsdl_grammar.specs.declared.tree.Entries.{Entries}
 use Rattle.tsdl_grammar.specs.declared.tree.Kind.TheVariants as kinds
 use Rattle.tsdl_grammar.specs.Steps.{◌>>=◌, provided}
 use Rattle.tsdl_grammar.specs.Lookups.{words_of, attr, attr_names, are_distinct, is_among}
-use Rattle.tsdl_grammar.specs.AttributeValues.{signed_of, natural_value, flag_value, word_value, alone, one_word, with_default}
+use Rattle.tsdl_grammar.specs.AttributeValues.{signed_of, natural_value, flag_value, word_value, with_default}
 use Rattle.tsdl_grammar.specs.IntegerMeaning.{Known, default_align, order_words, order_value, base_value, clock_value, int_attrs, has_only, int_meaning}
 use Rattle.tsdl_grammar.specs.MemberMeaning.{high_of, entry_meaning, entries_of, enum_meaning, encoding_value, text_meaning, kind_meaning}
 use Rattle.tsdl_grammar.proofs.Inversion.{bind_is}
 use Rattle.tsdl_grammar.proofs.TypeParts.{int_type-own}
-use Rattle.tsdl_meaning.specs.declared.judge.integer.IntegerAttribute.{IntegerAttribute}
-use Rattle.tsdl_meaning.specs.declared.judge.integer.IntegerAttribute.TheVariants.{Size, Align, Signed, ByteOrder as OrderOf, Base, Map, Encoding}
 use Rattle.tsdl_meaning.specs.FlawlessBlocks.{Asked, is_fit}
-use Rattle.tsdl_meaning.specs.FlawlessTypes.{is_size, is_alignment, of_integer, own_word, string_attrs, of_string, AddsOwn, AreRanges}
+use Rattle.tsdl_meaning.specs.FlawlessTypes.{is_size, is_alignment, of_integer, string_attrs, of_string, AddsOwn, AreRanges}
 use Rattle.tsdl_meaning.proofs.FlawlessNames.{HasAll, names_more, distinct_more, and_both, and_left, and_right}
 use Rattle.tsdl_meaning.proofs.FlawlessFacts.{each_more}
 use Rattle.tsdl_meaning.proofs.FlawlessValues.{some_is, value_fits, default_is, option_is}
@@ -70,14 +67,6 @@ no_own allowed asked names = record { among = refl; fit = refl; once = refl; kep
 
 only_these : (allowed : List (List (List ℕ))) (asked : Asked) (all : List Attribute) (names : BTreeSet (String Global)) → Own allowed asked all names → has_only allowed all ≡ true
 only_these allowed asked all names s = and_both (are_distinct (attr_names all)) (list_all (λ a. is_among allowed (words_of a.name)) all) s.once s.among
-
--- a name of one word
-alone_words : (first : List ℕ) (rest : List (List ℕ)) (w : List ℕ) → alone first rest ≡ Some w → first ∷ rest ≡ w ∷ []
-alone_words first [] w e = let same : first ≡ w = cc in ap (λ (x : List ℕ). x ∷ []) same
-alone_words first (x ∷ rest) w e = absurd (let none : None ≡ Some w = e in cc)
-
-pub one_of : (n : Name) (w : List ℕ) → one_word n ≡ Some w → words_of n ≡ w ∷ []
-one_of n w e = alone_words n.first n.rest w e
 
 -- ---- values
 
@@ -229,16 +218,7 @@ next_range first others i e h is s few meant =
     subst (λ (es : List Entry). AreRanges (first ∷ es)) (sym (take_more others i e h ∙ ap (λ (x : Entry). take i others ++ x ∷ []) (sym is)))
     (range_more (first ∷ take i others) e s (omega (arith, l, few)) meant)
 
--- ---- names and look-ups
-
-pub own_among : (kind : IntegerAttribute) → is_among int_attrs (own_word kind ∷ []) ≡ true
-own_among Size = refl
-own_among Align = refl
-own_among Signed = refl
-own_among OrderOf = refl
-own_among Base = refl
-own_among Map = refl
-own_among Encoding = refl
+-- ---- look-ups
 
 pub seen : (o : Option (Bor Value)) (p : Option Value) → option_map (λ v. v.now) o ≡ p → is_some o ≡ true → is_some p ≡ true
 seen None p e h = absurd cc

@@ -19,8 +19,8 @@ use Rattle.tsdl_meaning.specs.Judging.{IsBehindOwn, IsOf}
 use Rattle.tsdl_meaning.specs.NamesBefore.{AreNamed}
 use Rattle.tsdl_meaning.proofs.Fronts.{whole}
 use Rattle.tsdl_meaning.proofs.StopsInNames.{still_named}
-use Rattle.tsdl_meaning.specs.declared.judge.integer.IntegerAttribute.{IntegerAttribute}
-use Rattle.tsdl_meaning.specs.declared.judge.integer.IntegerAttribute.TheVariants.{Size, Align, Signed, ByteOrder, Base, Map, Encoding}
+use Rattle.tsdl_meaning.specs.declared.integer.IntegerAttribute.{IntegerAttribute}
+use Rattle.tsdl_meaning.specs.declared.integer.IntegerAttribute.TheVariants.{Size, Align, Signed, ByteOrder, Base, Map, Encoding}
 
 -- what stands before the value of an attribute
 abbrev pub opening : Name → List Atom

@@ -14,8 +14,8 @@ use Rattle.tsdl_grammar.specs.AttributeValues.{natural_value, flag_value}
 use Rattle.tsdl_grammar.specs.IntegerMeaning.{Known, order_value, base_value, clock_value}
 use Rattle.tsdl_grammar.specs.MemberMeaning.{encoding_value, entry_meaning}
 use Rattle.tsdl_grammar.specs.Steps.{each}
-use Rattle.tsdl_meaning.specs.declared.judge.integer.IntegerAttribute.{IntegerAttribute}
-use Rattle.tsdl_meaning.specs.declared.judge.integer.IntegerAttribute.TheVariants.{Size, Align, Signed, ByteOrder, Base, Map, Encoding}
+use Rattle.tsdl_meaning.specs.declared.integer.IntegerAttribute.{IntegerAttribute}
+use Rattle.tsdl_meaning.specs.declared.integer.IntegerAttribute.TheVariants.{Size, Align, Signed, ByteOrder, Base, Map, Encoding}
 use Rattle.tsdl_meaning.specs.FlawlessBlocks.{Asked, is_fit, AddsName}
 
 -- a size from 1 to 64 bits

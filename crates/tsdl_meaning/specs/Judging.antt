@@ -5,8 +5,8 @@ use Rattle.tsdl_grammar.specs.declared.atom.Atom.{Atom}
 use Rattle.tsdl_grammar.specs.declared.tree.Name.{Name}
 use Rattle.tsdl_grammar.specs.Spelling.{mark, word, name_toks}
 use Rattle.tsdl_flaw.specs.Fronts.{Ends}
-use Rattle.tsdl_meaning.specs.declared.judge.integer.IntegerAttribute.{IntegerAttribute}
-use Rattle.tsdl_meaning.specs.declared.judge.integer.IntegerAttribute.TheVariants.{Size, Align, Signed, ByteOrder, Base, Map, Encoding}
+use Rattle.tsdl_meaning.specs.declared.integer.IntegerAttribute.{IntegerAttribute}
+use Rattle.tsdl_meaning.specs.declared.integer.IntegerAttribute.TheVariants.{Size, Align, Signed, ByteOrder, Base, Map, Encoding}
 
 -- `align =` or `align (` stands right before the place
 abbrev pub IsBehindAlign : List Atom → Type 0

@@ -1,30 +1,55 @@
 //! What `integer { .. }` means (CTF 1.8.3, section 4.1.5).
 
-ghost use Rattle.std.specs.Prelude.{◌≡◌, ◌↔◌, ◌<◌, ◌≤◌, false, option_map, IfOk, IfSome, IsSome};
+ghost use Rattle.std.specs.Prelude.{◌≡◌, ◌↔◌, ◌<◌, ◌≤◌, false, Some, option_map, IfOk, IfSome, IsSome};
+ghost use Rattle.std.specs.Option.{is_some};
 ghost use Rattle.ctf_types.specs.Alignment.{IsAlignment};
 ghost use Rattle.ctf_types.specs.declared.Base.TheVariants as bases;
-ghost use Rattle.tsdl_grammar.specs.AttributeValues.{natural_value, flag_value, meant_by, numbered, with_default, optional};
-ghost use Rattle.tsdl_grammar.specs.IntegerMeaning.{int_type, default_align, base_words, base_numbers, base_value, order_value, clock_value, int_meaning};
+ghost use Rattle.tsdl_grammar.specs.AttributeValues.{one_word, natural_value, flag_value, meant_by, numbered, with_default, optional};
+ghost use Rattle.tsdl_grammar.specs.IntegerMeaning.{int_attrs, has_only, int_type, default_align, base_words, base_numbers, base_value, order_value, clock_value, int_meaning};
+ghost use Rattle.tsdl_grammar.specs.Lookups.{words_of, is_among};
+ghost use Rattle.tsdl_meaning.specs.FlawlessTypes.{own_word};
 ghost use Rattle.tsdl_meaning.specs.IntegerParts.{typed_parts, HasParts};
+ghost use Rattle.tsdl_meaning.specs.Judging.{IsOf};
 
 use crate::known::Known;
-use crate::lookup::{attr, has_only};
+use crate::lookup::{attr, has_attr};
 use crate::structure::LARGEST_ALIGN;
 use crate::value::{flag_or_false, natural, natural_or, natural_value, one_word, word_value};
 use ctf_types::{Base, ByteOrder, IntType, Text};
 use std::alloc::{AllocError, Global};
-use tsdl_grammar::{Attribute, Value};
+use tsdl_grammar::{Attribute, Name, Value};
 
-/// The attributes that an integer may have.
-const INTEGER_ATTRIBUTES: [&[&str]; 7] = [
-    &["size"],
-    &["align"],
-    &["signed"],
-    &["byte_order"],
-    &["base"],
-    &["map"],
-    &["encoding"],
-];
+/// An attribute that an integer may have.
+#[derive(Clone, Copy)]
+pub(crate) enum IntegerAttribute {
+    Size,
+    Align,
+    Signed,
+    ByteOrder,
+    Base,
+    Map,
+    Encoding,
+}
+
+impl IntegerAttribute {
+    /// The attribute of this name, one word.
+    pub(crate) fn named(name: &Name) -> Option<IntegerAttribute>
+        ensures among { is_some result ≡ is_among int_attrs (words_of name.now) }
+        ensures word { IfSome result (λ kind. one_word name.now ≡ Some (own_word kind)) }
+        ensures named { IfSome result (IsOf name.now) }
+    {
+        match one_word(name)?.as_str() {
+            "size" => Some(IntegerAttribute::Size),
+            "align" => Some(IntegerAttribute::Align),
+            "signed" => Some(IntegerAttribute::Signed),
+            "byte_order" => Some(IntegerAttribute::ByteOrder),
+            "base" => Some(IntegerAttribute::Base),
+            "map" => Some(IntegerAttribute::Map),
+            "encoding" => Some(IntegerAttribute::Encoding),
+            _ => None,
+        }
+    }
+}
 
 /// What the attributes of an integer say.
 #[derive(Drop)]
@@ -59,7 +84,7 @@ pub(crate) fn int_meaning(
 fn parts_of<'a>(known: &Known, attributes: &'a [Attribute]) -> Option<IntegerParts<'a>>
     ensures { int_meaning known.now attributes.now ≡ typed_parts result }
 {
-    if !has_only(&INTEGER_ATTRIBUTES, attributes) {
+    if !has_only_own(attributes) {
         return None;
     }
     let size = natural_value(attr("size", attributes)?)?;
@@ -75,6 +100,20 @@ fn parts_of<'a>(known: &Known, attributes: &'a [Attribute]) -> Option<IntegerPar
         base,
         clock,
     })
+}
+
+/// Whether each attribute is one that an integer may have, and none stands twice.
+fn has_only_own(attributes: &[Attribute]) -> bool
+    ensures { result ≡ has_only int_attrs attributes.now }
+{
+    let mut rest = attributes;
+    while let [attribute, others @ ..] = rest {
+        if IntegerAttribute::named(&attribute.name).is_none() || has_attr(&attribute.name, others) {
+            return false;
+        }
+        rest = others;
+    }
+    true
 }
 
 /// The integer type of these parts, where its size and alignment are in range.

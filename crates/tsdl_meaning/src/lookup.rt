@@ -77,7 +77,7 @@ pub(crate) fn has_words(name: &Name, words: &[&str]) -> bool
 }
 
 /// Whether the words of a name are among these.
-fn is_among(names: &[&[&str]], name: &Name) -> bool
+pub(crate) fn is_among(names: &[&[&str]], name: &Name) -> bool
     ensures { result ≡ is_among (names_of names.now) (words_of name.now) }
 {
     let mut rest = names;
@@ -105,7 +105,7 @@ pub(crate) fn attr<'a>(word: &str, attributes: &'a [Attribute]) -> Option<&'a Va
 }
 
 /// Whether an attribute has this name.
-fn has_attr(name: &Name, attributes: &[Attribute]) -> bool
+pub(crate) fn has_attr(name: &Name, attributes: &[Attribute]) -> bool
     ensures { result ≡ list_any (same_words (words_of name.now)) (attr_names attributes.now) }
 {
     let mut rest = attributes;

@@ -1,29 +1,27 @@
 //! The first flaw of `integer { .. }`: its attributes, of which `size` is needed.
 
-ghost use Rattle.std.specs.Prelude.{◌≡◌, List, ◌++◌, Some, IsSome, IsTrue, IfOk, IfErr, IfSome};
+ghost use Rattle.std.specs.Prelude.{List, ◌++◌, IsSome, IsTrue, IfOk, IfErr};
 ghost use Rattle.tsdl_grammar.specs.declared.token.Mark.TheVariants as marks;
 ghost use Rattle.tsdl_grammar.specs.declared.atom.Atom.{Atom};
 ghost use Rattle.std.specs.Option.{is_some};
-ghost use Rattle.tsdl_grammar.specs.AttributeValues.{one_word};
 ghost use Rattle.tsdl_grammar.specs.IntegerMeaning.{int_attrs, int_meaning, order_value, base_value, clock_value};
 ghost use Rattle.tsdl_grammar.specs.Spelling.{attr_toks, int_toks, value_toks};
 ghost use Rattle.tsdl_meaning.specs.Judged.{StopsAmong, StopsWhere};
-ghost use Rattle.tsdl_meaning.specs.Judging.{IsBehindOwn, IsOf};
+ghost use Rattle.tsdl_meaning.specs.Judging.{IsBehindOwn};
 ghost use Rattle.tsdl_meaning.specs.NamesBefore.{AreNamed};
 ghost use Rattle.tsdl_meaning.specs.FlawlessBlocks.{fits};
 ghost use Rattle.tsdl_meaning.specs.FlawlessTypes.{AddsOwn, of_integer, own_word, is_size};
 
-use crate::integer::{base_value, clock_value, order_value};
+use crate::integer::{IntegerAttribute, base_value, clock_value, order_value};
 use crate::judge::names::Names;
 use crate::judge::survey::Survey;
 use crate::judge::value::{
     judge_align_value, judge_flag, judge_natural, judge_words, order_remedy, unread,
 };
 use crate::lookup::attr;
-use crate::value::one_word;
 use std::alloc::Global;
 use tsdl_flaw::{Flaw, Remedy, Spelled, Stop};
-use tsdl_grammar::{Attribute, Name, Value};
+use tsdl_grammar::{Attribute, Value};
 
 /// `"integer" "{" { attribute } "}"`, of which the first atom has this index.
 pub(crate) fn judge_integer(
@@ -87,36 +85,6 @@ fn judge_value(
         IntegerAttribute::Base => judge_base(alloc, value, at),
         IntegerAttribute::Map => judge_map(survey, value, at),
         IntegerAttribute::Encoding => Ok(()),
-    }
-}
-
-/// An attribute that an integer may have.
-#[derive(Clone, Copy)]
-enum IntegerAttribute {
-    Size,
-    Align,
-    Signed,
-    ByteOrder,
-    Base,
-    Map,
-    Encoding,
-}
-
-impl IntegerAttribute {
-    fn named(name: &Name) -> Option<IntegerAttribute>
-        ensures word { IfSome result (λ kind. one_word name.now ≡ Some (own_word kind)) }
-        ensures named { IfSome result (IsOf name.now) }
-    {
-        match one_word(name)?.as_str() {
-            "size" => Some(IntegerAttribute::Size),
-            "align" => Some(IntegerAttribute::Align),
-            "signed" => Some(IntegerAttribute::Signed),
-            "byte_order" => Some(IntegerAttribute::ByteOrder),
-            "base" => Some(IntegerAttribute::Base),
-            "map" => Some(IntegerAttribute::Map),
-            "encoding" => Some(IntegerAttribute::Encoding),
-            _ => None,
-        }
     }
 }
 

@@ -1,16 +1,14 @@
-use Rattle.std.proofs.Common.{◌≡◌, ℕ, true, List, Option, ◌++◌, ap, ◌∙◌}
+use Rattle.std.proofs.Common.{◌≡◌, ℕ, true, List, Option, ◌++◌, ap, ◌∙◌, sym}
 use Rattle.tsdl_grammar.specs.declared.token.Mark.TheVariants as marks
 use Rattle.tsdl_grammar.specs.declared.atom.Atom.{Atom}
 use Rattle.tsdl_grammar.specs.Spelling.{attr_toks, value_toks}
 use Rattle.tsdl_meaning.specs.Judged.{StopsWhere}
 use Rattle.tsdl_meaning.specs.Judging.{IsBehindOwn}
 use Rattle.tsdl_meaning.specs.NamesBefore.{AreNamed}
-use Rattle.tsdl_grammar.specs.Lookups.{is_among}
 use Rattle.tsdl_grammar.specs.IntegerMeaning.{int_attrs}
 use Rattle.tsdl_meaning.specs.FlawlessBlocks.{fits, fits_word}
 use Rattle.tsdl_meaning.specs.FlawlessTypes.{AddsOwn, of_integer, own_word}
 use Rattle.tsdl_meaning.proofs.JudgedParts.{ok_map, handed, err_from, ok_from}
-use Rattle.tsdl_meaning.proofs.FlawlessTypes.{one_of, own_among}
 use Rattle.tsdl_meaning.proofs.StopsInAttributes.{in_name, in_opening, in_value, behind_own, attr_named}
 use Rattle.tsdl_meaning.proofs.judge.integer.judge_attribute.Goals as goal
 
@@ -51,7 +49,7 @@ returns-clause-own c =
     let word = c.in-Some.ensures.word in
     ok_map c.judge_value.result (λ x. fits asked (own_word kind) a.value ≡ true) (λ x. AddsOwn int_attrs asked c.args.names.now.names a c.add.new.self.names)
     (λ x fit. record {
-      among = ap (is_among int_attrs) (one_of a.name (own_word kind) word) ∙ own_among kind;
+      among = sym c.in-Some.ensures.among;
       name = c.in_ok-add.ensures.flawless;
       fit = ap (λ (o : Option (List ℕ)). fits_word asked o a.value) word ∙ fit;
     })
