@@ -18,7 +18,7 @@ use std::alloc::{AllocError, Global};
 use tsdl_grammar::{Attribute, Bracket, Kind, MemberTree, Value};
 
 /// The attributes that a string may have.
-const STRING_ATTRIBUTES: [&[&str]; 1] = [&["encoding"]];
+pub(crate) const STRING_ATTRIBUTES: [&[&str]; 1] = [&["encoding"]];
 
 /// The type of a member behind those before it.
 #[tactic(auto, unfolding(tsdl_grammar::specs::MemberMeaning::member_meaning))]

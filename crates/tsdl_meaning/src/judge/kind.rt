@@ -17,8 +17,8 @@ use crate::judge::integer::judge_integer;
 use crate::judge::names::Names;
 use crate::judge::survey::Survey;
 use crate::judge::value::unread;
-use crate::lookup::is_word;
-use crate::member::encoding_or_any;
+use crate::lookup::is_among;
+use crate::member::{STRING_ATTRIBUTES, encoding_or_any};
 use ctf_types::ListOf;
 use std::alloc::Global;
 use tsdl_flaw::{Flaw, Remedy, Spelled, Stop};
@@ -132,7 +132,7 @@ fn judge_encoding(
     ensures fault { IfErr result (StopsWhere (λ front. AreNamed front marks.Equals names.old.names) at (attr_toks attribute.now)) }
     ensures named { IfOk result (λ _. (front : List Atom) → AreNamed front marks.Equals names.old.names → AreNamed (front ++ attr_toks attribute.now) marks.Equals names.new.names) }
 {
-    if !is_word("encoding", &attribute.name) {
+    if !is_among(&STRING_ATTRIBUTES, &attribute.name) {
         return Err(Stop::unsupported(alloc, at, &attribute.name, Remedy::Nothing));
     }
     names.add(alloc, &attribute.name, at)?;

@@ -8,8 +8,8 @@ use Rattle.tsdl_meaning.proofs.JudgedParts.{handed}
 use Rattle.tsdl_meaning.proofs.StopsInAttributes.{in_name, in_opening, in_value, attr_named}
 use Rattle.tsdl_meaning.proofs.judge.kind.judge_encoding.Goals as goal
 
-pub returns-then-not-is_word-clause-fault : goal.returns-then-not-is_word-clause-fault
-returns-then-not-is_word-clause-fault c = λ front behind named. in_name c.args.attribute.now front behind c.args.at c.unsupported.result c.unsupported.ensures
+pub returns-then-not-is_among-clause-fault : goal.returns-then-not-is_among-clause-fault
+returns-then-not-is_among-clause-fault c = λ front behind named. in_name c.args.attribute.now front behind c.args.at c.unsupported.result c.unsupported.ensures
 
 pub returns-in_err-add-clause-fault : goal.returns-in_err-add-clause-fault
 returns-in_err-add-clause-fault c =
