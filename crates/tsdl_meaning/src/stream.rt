@@ -16,15 +16,24 @@ use ctf_types::{Event, ListOf, Stream, StructType, Text};
 use std::alloc::{AllocError, Global};
 use tsdl_grammar::Item;
 
-pub(crate) const PACKET_CONTEXT: [&str; 2] = ["packet", "context"];
+pub(crate) const PACKET_CONTEXT: (&[&str], ScopeRule) = (
+    &["packet", "context"],
+    ScopeRule::PacketContext,
+);
 
-pub(crate) const EVENT_HEADER: [&str; 2] = ["event", "header"];
+pub(crate) const EVENT_HEADER: (&[&str], ScopeRule) = (
+    &["event", "header"],
+    ScopeRule::EventHeader,
+);
 
-pub(crate) const EVENT_CONTEXT: [&str; 2] = ["event", "context"];
+pub(crate) const EVENT_CONTEXT: (&[&str], ScopeRule) = (
+    &["event", "context"],
+    ScopeRule::AnyMembers,
+);
 
-pub(crate) const SPECIFIC_CONTEXT: [&str; 1] = ["context"];
+pub(crate) const SPECIFIC_CONTEXT: (&[&str], ScopeRule) = (&["context"], ScopeRule::AnyMembers);
 
-pub(crate) const FIELDS: [&str; 1] = ["fields"];
+pub(crate) const FIELDS: (&[&str], ScopeRule) = (&["fields"], ScopeRule::AnyMembers);
 
 /// What the attributes of an event say.
 #[derive(Drop)]
@@ -46,7 +55,7 @@ pub(crate) fn stream_meaning(
 {
     if !has_parts(
         alloc,
-        &[&PACKET_CONTEXT, &EVENT_HEADER, &EVENT_CONTEXT],
+        &[PACKET_CONTEXT.0, EVENT_HEADER.0, EVENT_CONTEXT.0],
         items,
     )? {
         return Ok(None);
@@ -54,16 +63,13 @@ pub(crate) fn stream_meaning(
     let Some(id) = natural_or_zero(attr_in("id", items)) else {
         return Ok(None);
     };
-    let rule = ScopeRule::PacketContext;
-    let Some(context) = scope_meaning(alloc, known, &PACKET_CONTEXT, rule, items)? else {
+    let Some(context) = scope_meaning(alloc, known, PACKET_CONTEXT, items)? else {
         return Ok(None);
     };
-    let rule = ScopeRule::EventHeader;
-    let Some(event_header) = scope_meaning(alloc, known, &EVENT_HEADER, rule, items)? else {
+    let Some(event_header) = scope_meaning(alloc, known, EVENT_HEADER, items)? else {
         return Ok(None);
     };
-    let rule = ScopeRule::AnyMembers;
-    let Some(common) = scope_meaning(alloc, known, &EVENT_CONTEXT, rule, items)? else {
+    let Some(common) = scope_meaning(alloc, known, EVENT_CONTEXT, items)? else {
         return Ok(None);
     };
     if !has_sizes(&context) {
@@ -94,17 +100,16 @@ pub(crate) fn event_meaning(
 ) -> Result<Option<(u64, Event)>, AllocError>
     ensures { IfOk result (λ e. e ≡ event_meaning known.now items.now) }
 {
-    if !has_parts(alloc, &[&SPECIFIC_CONTEXT, &FIELDS], items)? {
+    if !has_parts(alloc, &[SPECIFIC_CONTEXT.0, FIELDS.0], items)? {
         return Ok(None);
     }
     let Some(parts) = said_by(items) else {
         return Ok(None);
     };
-    let rule = ScopeRule::AnyMembers;
-    let Some(specific) = scope_meaning(alloc, known, &SPECIFIC_CONTEXT, rule, items)? else {
+    let Some(specific) = scope_meaning(alloc, known, SPECIFIC_CONTEXT, items)? else {
         return Ok(None);
     };
-    let Some(fields) = scope_meaning(alloc, known, &FIELDS, rule, items)? else {
+    let Some(fields) = scope_meaning(alloc, known, FIELDS, items)? else {
         return Ok(None);
     };
     let name = parts.name.copy(alloc)?;

@@ -28,12 +28,12 @@ pub(crate) const LARGEST_ALIGN: u64 = 4096;
 pub(crate) fn scope_meaning(
     alloc: Global,
     known: &Known,
-    name: &[&str],
-    rule: ScopeRule,
+    scope: (&[&str], ScopeRule),
     items: &[Item],
 ) -> Result<Option<StructType>, AllocError>
-    ensures { IfOk result (λ t. t ≡ scope_meaning known.now (texts_of name.now) (suits_rule rule) (scopes_in items.now)) }
+    ensures { IfOk result (λ t. t ≡ scope_meaning known.now (texts_of scope.entry.0.now) (suits_rule scope.entry.1) (scopes_in items.now)) }
 {
+    let (name, rule) = scope;
     let Some(structure) = structure_of(alloc, known, scope_in(name, items))? else {
         return Ok(None);
     };

@@ -14,8 +14,11 @@ use std::alloc::{AllocError, Global};
 use tsdl_grammar::Item;
 use uuid::Uuid;
 
-/// The scope of a trace block.
-pub(crate) const PACKET_HEADER: [&str; 2] = ["packet", "header"];
+/// The scope of a trace block, and what it asks of its members.
+pub(crate) const PACKET_HEADER: (&[&str], ScopeRule) = (
+    &["packet", "header"],
+    ScopeRule::PacketHeader,
+);
 
 /// `byte_order = le` or `be`.
 pub(crate) fn trace_order(items: &[Item]) -> Option<ByteOrder>
@@ -39,7 +42,7 @@ pub(crate) fn is_trace(alloc: Global, items: &[Item]) -> Result<bool, AllocError
     ensures { IfOk result (λ is. is ≡ is_trace items.now) }
 {
     Ok(
-        has_parts(alloc, &[&PACKET_HEADER], items)?
+        has_parts(alloc, &[PACKET_HEADER.0], items)?
             && has_number("major", 1, items)
             && has_number("minor", 8, items),
     )
@@ -74,5 +77,5 @@ pub(crate) fn header_meaning(
 ) -> Result<Option<StructType>, AllocError>
     ensures { IfOk result (λ t. t ≡ header_meaning known.now items.now) }
 {
-    scope_meaning(alloc, known, &PACKET_HEADER, ScopeRule::PacketHeader, items)
+    scope_meaning(alloc, known, PACKET_HEADER, items)
 }

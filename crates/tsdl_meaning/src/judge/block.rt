@@ -137,16 +137,9 @@ fn scopes_of(kind: BlockKind) -> &'static [(&'static [&'static str], ScopeRule)]
     ensures { named_rules result.now ≡ scopes_of kind }
 {
     match kind {
-        BlockKind::Trace => &[(&PACKET_HEADER, ScopeRule::PacketHeader)],
-        BlockKind::Stream => &[
-            (&PACKET_CONTEXT, ScopeRule::PacketContext),
-            (&EVENT_HEADER, ScopeRule::EventHeader),
-            (&EVENT_CONTEXT, ScopeRule::AnyMembers),
-        ],
-        BlockKind::Event => &[
-            (&SPECIFIC_CONTEXT, ScopeRule::AnyMembers),
-            (&FIELDS, ScopeRule::AnyMembers),
-        ],
+        BlockKind::Trace => &[PACKET_HEADER],
+        BlockKind::Stream => &[PACKET_CONTEXT, EVENT_HEADER, EVENT_CONTEXT],
+        BlockKind::Event => &[SPECIFIC_CONTEXT, FIELDS],
         BlockKind::Clock => &[],
     }
 }
