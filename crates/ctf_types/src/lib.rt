@@ -5,6 +5,7 @@ mod alignment;
 mod fitting;
 mod identifier;
 mod laws;
+mod limits;
 mod magic;
 mod size;
 
@@ -21,6 +22,7 @@ pub use laws::{
     allowed_metadata, clean_lies, front_of_packets, joined_packets, lying_fits, one_end,
     one_packet_list, one_value, own_bits_alone, shown_lies,
 };
+pub use limits::{LARGEST_ALIGN, MAX_ARRAYS, MAX_ELEMENTS, MAX_ENVIRONMENT};
 pub use magic::MAGIC;
 pub use plain_lists::{Bytes, Duplicate, ListOf, Text};
 pub use size::{members_size, size_from};

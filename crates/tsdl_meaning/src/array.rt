@@ -7,15 +7,9 @@ ghost use Rattle.tsdl_grammar.specs.Steps.{each};
 ghost use Rattle.tsdl_grammar.specs.MemberMeaning.{field_of, arrays_of, elements_of, are_lengths, count_of};
 
 use crate::value::natural;
-use ctf_types::{Element, FieldType, ListOf};
+use ctf_types::{Element, FieldType, ListOf, MAX_ARRAYS, MAX_ELEMENTS};
 use std::alloc::{AllocError, Global};
 use tsdl_grammar::Bracket;
-
-/// The most static arrays in one another.
-pub(crate) const MAX_DEPTH: usize = 8;
-
-/// The most elements of static arrays in one another.
-pub(crate) const MAX_ELEMENTS: u64 = 1 << 20;
 
 /// Arrays of these lengths.
 pub(crate) fn arrays_of(
@@ -39,7 +33,7 @@ pub(crate) fn arrays_of(
 pub(crate) fn are_lengths(lengths: &[u64]) -> bool
     ensures { result ≡ are_lengths lengths.now }
 {
-    lengths.len() <= MAX_DEPTH && are_few(lengths)
+    lengths.len() <= MAX_ARRAYS && are_few(lengths)
 }
 
 /// Whether arrays of these lengths have at most 2^20 elements, a length of 0 counted as 1.

@@ -8,12 +8,9 @@ ghost use Rattle.tsdl_grammar.specs.Steps.{each};
 ghost use Rattle.tsdl_grammar.specs.BlockMeaning.{fact_meaning, named_fact_meaning, environment_meaning};
 
 use crate::value::whole;
-use ctf_types::{EnvironmentEntry, EnvironmentValue, ListOf, Text};
+use ctf_types::{EnvironmentEntry, EnvironmentValue, ListOf, MAX_ENVIRONMENT, Text};
 use std::alloc::{AllocError, Global};
 use tsdl_grammar::{Fact, NamedFact};
-
-/// The most names of an environment.
-pub(crate) const MAX_NAMES: usize = 256;
 
 /// The environment of at most 256 names, of which none stands twice.
 #[tactic(auto, unfolding(tsdl_grammar::specs::BlockMeaning::environment_meaning))]
@@ -23,7 +20,7 @@ pub(crate) fn environment_meaning(
 ) -> Result<Option<ListOf<EnvironmentEntry>>, AllocError>
     ensures { IfOk result (λ es. es ≡ environment_meaning facts.now) }
 {
-    if facts.len() > MAX_NAMES || !are_distinct(facts) {
+    if facts.len() > MAX_ENVIRONMENT || !are_distinct(facts) {
         return Ok(None);
     }
     entries_of(alloc, facts)

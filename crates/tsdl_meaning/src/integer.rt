@@ -13,9 +13,8 @@ ghost use Rattle.tsdl_meaning.specs.Judging.{IsOf};
 
 use crate::known::Known;
 use crate::lookup::{attr, has_attr};
-use crate::structure::LARGEST_ALIGN;
 use crate::value::{flag_or_false, natural, natural_or, natural_value, one_word, word_value};
-use ctf_types::{Base, ByteOrder, IntType, Text};
+use ctf_types::{Base, ByteOrder, IntType, LARGEST_ALIGN, Text};
 use std::alloc::{AllocError, Global};
 use tsdl_grammar::{Attribute, Name, Value};
 

@@ -14,15 +14,12 @@ use crate::lookup::scope_in;
 use crate::member::member_meaning;
 use crate::scope_rule::{ScopeRule, all_suit};
 use crate::value::natural;
-use ctf_types::{Members, StructType};
+use ctf_types::{LARGEST_ALIGN, Members, StructType};
 use std::alloc::{AllocError, Global};
 use tsdl_grammar::{Item, MemberTree, Number, Structure};
 
 /// The most members of a structure.
 pub(crate) const MAX_MEMBERS: usize = 1024;
-
-/// The largest alignment in bits.
-pub(crate) const LARGEST_ALIGN: u64 = 4096;
 
 /// The structure of the scope of this name in a block, without members where the scope is not there.
 pub(crate) fn scope_meaning(

@@ -12,10 +12,9 @@ ghost use Rattle.tsdl_meaning.specs.Judged.{StopsAmong, StopsWhere};
 ghost use Rattle.tsdl_meaning.specs.BracketLengths.{HasLengths, IsBehindBrackets, IsInBrackets, IsInBracket, Adds, PassesLimit};
 ghost use Rattle.tsdl_meaning.specs.FlawlessBrackets.{KeepsLimits, AreBrackets};
 
-use crate::array::{MAX_DEPTH, MAX_ELEMENTS};
 use crate::judge::value::judge_number;
 use crate::member::length_place;
-use ctf_types::{Members, Text};
+use ctf_types::{MAX_ARRAYS, MAX_ELEMENTS, Members, Text};
 use std::alloc::Global;
 use tsdl_flaw::{Flaw, Remedy, Spelled, Stop};
 use tsdl_grammar::{Bracket, Number};
@@ -40,7 +39,7 @@ impl Lengths {
         if self.is_sequence && length == 0 {
             return Some("a sequence of elements with bits");
         }
-        if self.count >= MAX_DEPTH {
+        if self.count >= MAX_ARRAYS {
             return Some("at most 8 arrays in one another");
         }
         if elements > MAX_ELEMENTS {

@@ -8,8 +8,9 @@ ghost use Rattle.tsdl_grammar.specs.BlockMeaning.{fact_meaning};
 ghost use Rattle.tsdl_meaning.specs.FlawlessTexts.{MeanEntries, AddsFact};
 ghost use Rattle.tsdl_meaning.specs.Judged.{StopsAmong, StopsWhere, EndsFacts};
 
-use crate::environment::{MAX_NAMES, has_fact};
+use crate::environment::has_fact;
 use crate::value::whole;
+use ctf_types::MAX_ENVIRONMENT;
 use tsdl_flaw::{Fault, Flaw, Spelled, Stop};
 use tsdl_grammar::{Fact, NamedFact};
 
@@ -40,7 +41,7 @@ fn judge_entry(before: &[NamedFact], fact: &NamedFact, at: usize) -> Result<(), 
             flaw,
         }));
     }
-    if before.len() >= MAX_NAMES {
+    if before.len() >= MAX_ENVIRONMENT {
         return Err(Stop::at_atom(at, Flaw::Limit("at most 256 names")));
     }
     judge_fact(&fact.fact, behind)

@@ -13,9 +13,9 @@ ghost use Rattle.tsdl_meaning.specs.Names.{texts_of};
 ghost use Rattle.tsdl_meaning.specs.FlawlessTypes.{is_alignment};
 
 use crate::scope_rule::has_word;
-use crate::structure::{LARGEST_ALIGN, alignment};
+use crate::structure::alignment;
 use crate::value::{flag_value, name_value, natural, text_value, uuid_value, whole, word_value};
-use ctf_types::Text;
+use ctf_types::{LARGEST_ALIGN, Text};
 use std::alloc::Global;
 use tsdl_flaw::{Flaw, Remedy, Stop};
 use tsdl_grammar::{Number, Value};

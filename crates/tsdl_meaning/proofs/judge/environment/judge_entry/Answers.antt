@@ -19,8 +19,8 @@ returns-then-has_fact-clause-fault c = λ front behind ends.
     (record { at = c.args.at; end = c.saturating_add-behind.result; flaw = flaws.Duplicate }) c.args.at c.saturating_add-behind.result refl refl (λ some fits. omega arith)
     (fact_twice fact.name c.args.before.now front (sym c.has_fact.ensures ∙ c.if-has_fact.true) ends)
 
-pub returns-then-before-ge-MAX_NAMES-clause-fault : goal.returns-then-before-ge-MAX_NAMES-clause-fault
-returns-then-before-ge-MAX_NAMES-clause-fault c = λ front behind ends.
+pub returns-then-before-ge-MAX_ENVIRONMENT-clause-fault : goal.returns-then-before-ge-MAX_ENVIRONMENT-clause-fault
+returns-then-before-ge-MAX_ENVIRONMENT-clause-fault c = λ front behind ends.
     let fact = c.args.fact.now in
     c.at_atom.ensures front (mark marks.Equals ∷ ((fact_toks fact.fact ++ mark marks.Semicolon ∷ []) ++ behind)) (word fact.name)
     (inr (inr (inl (record { facts = c.args.before.now; name = fact.name; ends = ends; many = omega arith; here = refl }))))
