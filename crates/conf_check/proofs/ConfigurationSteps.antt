@@ -9,10 +9,10 @@ use Rattle.conf_tree.specs.Walk.{IsTreeOf, IsFirstFlaw, Reads, FlawHolds, max_le
 use Rattle.conf_inherit.specs.Faults.{RefusalHolds}
 use Rattle.conf_inherit.specs.Resolution.{aliases_of, resolution, Resolves}
 use Rattle.conf_inherit.proofs.OneReading.{one_look}
-use Rattle.conf_check.specs.Configuration.{IsInnocent, IsNoTree, RefusedForMemory, ConfiguresByLookUp}
+use Rattle.conf_check.specs.Configuration.{IsInnocent, IsNoTree, IsRefusal, RefusedForMemory, ConfiguresByLookUp}
 use Rattle.conf_check.specs.ConfigurationRows.{IsConfigurationOf}
-use Rattle.conf_check.specs.Judgement.{check_reading}
-use Rattle.conf_check.proofs.ConfigurationRowLaws.{configuration_read}
+use Rattle.conf_check.specs.Judgement.{IsFirstFlawOf}
+use Rattle.conf_check.proofs.ConfigurationLaws.{one_configuration}
 
 same_tree : (text : List ℕ) (s t : Data) → read text ≡ Some s → read text ≡ Some t → s ≡ t
 same_tree text s t p q = cc
@@ -38,9 +38,6 @@ no_tree text fault (inr (inr (d, rest, reads, is))) (inr holds) = inr (inr (d, r
 
 -- ---- by look-up: the tree and its resolution are those that were found
 
-same_answer : (x y : Config) (r : Result Config Flaw) → r ≡ Ok x → r ≡ Ok y → x ≡ y
-same_answer x y r p q = cc
-
 -- the rows hold of the resolution that was found
 rows_found : (text : List ℕ) (number : Option (List ℕ)) (t r : Data) (c : Config) → IsTreeOf text t → Resolves t r → ConfiguresByLookUp text number c → IsConfigurationOf r number c
 rows_found text number t r c tree resolves configures =
@@ -62,5 +59,10 @@ refused_for_memory text number t fault c tree (inr holds) configures =
 pub innocent_by_look_up : (text : List ℕ) (number : Option (List ℕ)) (t r : Data) (fault : ConfFault) (c : Config) → IsTreeOf text t → Resolves t r → IsInnocent r number fault → ConfiguresByLookUp text number c → IsMemory fault
 innocent_by_look_up text number t r fault c tree resolves innocent configures = innocent c (rows_found text number t r c tree resolves configures)
 
-pub answered_by_look_up : (text : List ℕ) (number : Option (List ℕ)) (t r : Data) (x c : Config) → IsTreeOf text t → Resolves t r → check_reading r number ≡ Ok x → ConfiguresByLookUp text number c → x ≡ c
-answered_by_look_up text number t r x c tree resolves read configures = same_answer x c (check_reading r number) read (configuration_read r number c (rows_found text number t r c tree resolves configures))
+pub answered_by_look_up : (text : List ℕ) (number : Option (List ℕ)) (t r : Data) (x c : Config) → IsTreeOf text t → Resolves t r → IsConfigurationOf r number x → ConfiguresByLookUp text number c → x ≡ c
+answered_by_look_up text number t r x c tree resolves is configures = one_configuration r number x c is (rows_found text number t r c tree resolves configures)
+
+-- the first flaw of the resolved tree is that of the text
+pub refused_at_last : (text : List ℕ) (number : Option (List ℕ)) (t r : Data) (fault : ConfFault) → IsTreeOf text t → resolution t ≡ Ok r → IsMemory fault ⊎ IsFirstFlawOf r number (flaw_of fault) → IsMemory fault ⊎ IsRefusal text number (flaw_of fault)
+refused_at_last text number t r fault tree resolved (inl memory) = inl memory
+refused_at_last text number t r fault tree resolved (inr first) = inr (inr (inr (t, r, tree, resolved, first)))

@@ -1,5 +1,5 @@
 -- What the rules over the whole of a configuration refuse breaks one of them, or passes a limit.
-use Rattle.std.proofs.Common.{◌≡◌, ◌≢◌, ◌⊎◌, inl, inr, ℕ, suc, ◌<◌, ◌-◌, ◌&&◌, ◌||◌, Bool, true, false, cond, List, [], ◌∷◌, length, Contains, IsSome, Option, Some, None, is_some, is_none, Ok, Err, refl, sym, ap, subst, ◌∙◌, arith, bytes_eq, get_or}
+use Rattle.std.proofs.Common.{◌≡◌, ◌≢◌, ◌⊎◌, inl, inr, ℕ, suc, ◌<◌, ◌-◌, ◌&&◌, ◌||◌, Bool, true, false, List, [], ◌∷◌, length, Contains, IsSome, Option, Some, None, is_some, is_none, Ok, Err, refl, sym, ap, subst, ◌∙◌, arith, bytes_eq, get_or}
 use Rattle.std.specs.Prelude.{codes, nat_le, nat_lt, ◌^◌, ◌==◌}
 use Rattle.std.specs.List.{AllByRecursion, list_all}
 use Rattle.std.proofs.lemmas.Bool.{eqb-false, leb-false, lt-ltb, false≢true, and_cases, and_from, and_parts, or_parts}
@@ -7,8 +7,7 @@ use Rattle.std.proofs.Math.Numerals.{lt_of_le_of_ne}
 use Rattle.std.proofs.lemmas.List.Elements.{recursion_from_All}
 use Rattle.std.proofs.lemmas.List.Folds.{list_any_at}
 use Rattle.std.proofs.lemmas.Slice.Eq.{bytes_eq-Decides}
-use Rattle.serde_json.specs.Data.{Data, null, boolean, number, string, array, object, Items, Members, no_members, member}
-use Rattle.serde_json.specs.Events.{members_len}
+use Rattle.serde_json.specs.Data.{Data}
 use Rattle.ctf_types.specs.AllowedConfig.{HoldsUpTo, MemberHasBits, StructHasBits}
 use Rattle.ctf_types.specs.FieldTypes.{chain_of}
 use Rattle.ctf_types.specs.declared.ClockType.{ClockType}
@@ -19,22 +18,22 @@ use Rattle.ctf_types.specs.declared.IntType.{IntType}
 use Rattle.ctf_types.specs.declared.MemberType.{MemberType}
 use Rattle.ctf_types.specs.declared.MemberType.TheVariants.{Plain, Dyn}
 use Rattle.ctf_types.specs.declared.StructType.{StructType}
-use Rattle.conf_table.specs.declared.row.Content.{Content}
-use Rattle.conf_tree.specs.declared.fault_kind.FaultKind.TheVariants.{FieldTooSmall, ZeroSizeRecord, NoClock, NoUuid, Limit, TwoOrders, TimestampSize}
+use Rattle.conf_table.specs.declared.place.Place.TheVariants.{Root}
+use Rattle.conf_table.specs.declared.row.Content.TheVariants.{At}
+use Rattle.conf_tree.specs.declared.fault_kind.FaultKind.TheVariants.{FieldTooSmall, ZeroSizeRecord, NoClock, NoUuid, TwoOrders, TimestampSize}
 use Rattle.conf_tree.specs.Flaw.{Flaw, key, here, within}
 use Rattle.conf_tree.specs.Reading.{◌>>=◌, at}
-use Rattle.conf_tree.specs.Walk.{HasMember}
-use Rattle.conf_objects.specs.declared.draft.Draft.{Draft}
+use Rattle.conf_tree.specs.Walk.{refusal}
+use Rattle.conf_judge.specs.Limits.{configuration_limits}
+use Rattle.conf_draft.specs.declared.draft.Draft.{Draft}
 use Rattle.conf_check.specs.declared.stream_rule.StreamRule.{StreamRule}
 use Rattle.conf_check.specs.declared.stream_rule.StreamRule.TheVariants.{NumbersFit, RecordsHaveBits, ClocksAreThere, TimestampsAreSized}
 use Rattle.conf_check.specs.Judgement.{in_type, header_flaw, stream_number_fits, number_given, identifier_given, one_order, sizes_and_bits, clocks_and_identifier, limits_and_orders, whole}
-use Rattle.conf_objects.specs.Limits.{root, part_under, most_bytes, most_entries, is_feature, is_structure_type, is_extra_members, at_most, entries_limit, text_limit, list_limits, type_limits, limits, member_limits}
+use Rattle.conf_laws.specs.Rules.{RecordHasBits}
+use Rattle.conf_laws.specs.TableLimits.{PassesLimitOf}
+use Rattle.conf_laws.proofs.TableLimitLaws.{refused_told}
 use Rattle.conf_check.specs.StreamRules.{unless, feature_flaw, holds, numbers_fit, member_has_bits, struct_has_bits, header_has_bits, event_has_bits, event_bits, events_bits, records_have_bits, has_clock, clock_is_there, is_clocked, timestamp_clocked, record_clocked, begin_clocked, end_clocked, timestamps_clocked, clocks_are_there, is_whole, has_record_size, packet_sized, record_sized, begin_sized, end_sized, timestamps_sized, judged, judged_by_name, all_judged, streams_judged}
-use Rattle.conf_check.specs.WholeFlaws.{in_stream, IsTimestampOf, of_record, of_beginning, of_end, RecordHasBits, BreaksRule, stream_number, event_number, no_bits, no_such_clock, no_clock, no_number, no_identifier, two_orders, packet_timestamp, record_timestamp, no_beginning, PassesLimit, too_many, too_long, in_feature, in_structure, in_extras, inside}
-use Rattle.conf_fields.specs.FieldType.{field_limits}
-use Rattle.conf_fields.specs.Members.{members_limits}
-use Rattle.conf_fields.specs.StructType.{struct_limits}
-use Rattle.conf_fields.proofs.FieldLimitFlawLaws.{field_limits_refused, members_limits_refused, struct_limits_refused}
+use Rattle.conf_check.specs.WholeFlaws.{in_stream, IsTimestampOf, of_record, of_beginning, of_end, BreaksRule, stream_number, event_number, no_bits, no_such_clock, no_clock, no_number, no_identifier, two_orders, packet_timestamp, record_timestamp, no_beginning}
 use Rattle.conf_values.proofs.LeafFlawLaws.{refused_here_or_next, refused_there, refused_test, refused_where}
 
 -- ---- tests that were not passed
@@ -96,77 +95,6 @@ not_named : (clocks : List ClockType) (name : List ℕ) → has_clock clocks nam
 not_named clocks name e c (k, below, is) same =
     let found : (get_or clocks k c).name ≡ name = ap (λ (x : ClockType). x.name) is ∙ same in
     false≢true (sym e ∙ list_any_at (λ (x : ClockType). bytes_eq x.name name) clocks k c below ((bytes_eq-Decides (get_or clocks k c).name name).1 found))
-
--- ---- limits
-
-at_most_refused : (most : Option ℕ) (n : ℕ) (flaw : Flaw) → at_most most n ≡ Err flaw → (limit : ℕ) × (most ≡ Some limit) × (limit < n) × (flaw ≡ here Limit)
-at_most_refused None n flaw e = absurd cc
-at_most_refused (Some limit) n flaw e = let t = refused_test (nat_le n limit) tt (here Limit) flaw e in (limit, refl, leb-false n limit t.0, t.1)
-
-passes_as : (content : Content) (d : Data) (f g : Flaw) → g ≡ f → PassesLimit content d f → PassesLimit content d g
-passes_as content d f g same h = subst (PassesLimit content d) (sym same) h
-
-text_refused : (content : Content) (s : List ℕ) (flaw : Flaw) → text_limit content s ≡ Err flaw → PassesLimit content (string s) flaw
-unfolding text_limit
-text_refused content s flaw e =
-    let t = at_most_refused (most_bytes content) (length s) flaw e in
-    passes_as content (string s) (here Limit) flaw t.3 (too_long t.0 s t.1 t.2)
-
-list_refused : (content : Content) (ds : Items) (flaw : Flaw) → list_limits content (array ds) ≡ Err flaw → PassesLimit content (array ds) flaw
-unfolding list_limits
-list_refused content ds flaw e = go (is_extra_members content) refl e
-  where
-    go : (b : Bool) → is_extra_members content ≡ b → cond b (members_limits (array ds)) (Ok tt) ≡ Err flaw → PassesLimit content (array ds) flaw
-    go true is refused = in_extras is (members_limits_refused (array ds) flaw refused)
-    go false is refused = absurd cc
-
-type_refused : (content : Content) (ms : Members) (flaw : Flaw) → type_limits content (object ms) ≡ Err flaw → PassesLimit content (object ms) flaw
-unfolding type_limits
-type_refused content ms flaw e = go (is_feature content) (is_structure_type content) refl refl e
-  where
-    go : (a b : Bool) → is_feature content ≡ a → is_structure_type content ≡ b → cond a (field_limits (object ms)) (cond b (struct_limits (object ms)) (Ok tt)) ≡ Err flaw → PassesLimit content (object ms) flaw
-    go true b is other refused = in_feature is (field_limits_refused (object ms) flaw refused)
-    go false true other is refused = in_structure is (struct_limits_refused (object ms) flaw refused)
-    go false false other is refused = absurd cc
-
-entries_refused : (content : Content) (ms : Members) (flaw : Flaw) → entries_limit content ms ≡ Err flaw → PassesLimit content (object ms) flaw
-unfolding entries_limit
-entries_refused content ms flaw e =
-    let t = at_most_refused (most_entries content) (members_len ms) flaw e in
-    passes_as content (object ms) (here Limit) flaw t.3 (too_many t.0 ms t.1 t.2)
-
-abbrev PassesInside : Content → Members → Flaw → Type 0
-PassesInside content ms flaw = (k : List ℕ) × (d : Data) × (f : Flaw) × HasMember k d ms × PassesLimit (part_under content k) d f × (flaw ≡ within (key k) f)
-
-further : (content : Content) (k : List ℕ) (d : Data) (ms : Members) (flaw : Flaw) → PassesInside content ms flaw → PassesInside content (member k d ms) flaw
-further content k d ms flaw (l, e, f, has, passes, is) = (l, e, f, inr has, passes, is)
-
-there : (content : Content) (ms : Members) (flaw : Flaw) → PassesInside content ms flaw → PassesLimit content (object ms) flaw
-there content ms flaw (k, d, f, has, passes, is) = passes_as content (object ms) (within (key k) f) flaw is (inside ms k d f has passes)
-
-mutual
-  limit_refused : (d : Data) (content : Content) (flaw : Flaw) → limits content d ≡ Err flaw → PassesLimit content d flaw
-  limit_refused null content flaw e = absurd cc
-  limit_refused (boolean b) content flaw e = absurd cc
-  limit_refused (number n) content flaw e = absurd cc
-  limit_refused (string s) content flaw e = text_refused content s flaw e
-  limit_refused (array ds) content flaw e = list_refused content ds flaw e
-  limit_refused (object ms) content flaw e =
-      elim (refused_here_or_next (type_limits content (object ms)) (λ _. entries_limit content ms >>= (λ _. member_limits content ms)) flaw e) [
-        | inl first ↦ type_refused content ms flaw first
-        | inr rest ↦ elim (refused_here_or_next (entries_limit content ms) (λ _. member_limits content ms) flaw rest.2) [
-          | inl first ↦ entries_refused content ms flaw first
-          | inr last ↦ there content ms flaw (member_refused ms content flaw last.2)
-        ]
-      ]
-
-  member_refused : (ms : Members) (content : Content) (flaw : Flaw) → member_limits content ms ≡ Err flaw → PassesInside content ms flaw
-  member_refused no_members content flaw e = absurd cc
-  member_refused (member k d ms) content flaw e =
-      elim (refused_here_or_next (at (key k) (limits (part_under content k) d)) (λ _. member_limits content ms) flaw e) [
-        | inl first ↦ let r = refused_there (key k) (limits (part_under content k) d) flaw first in (k, d, r.0, inl (refl, refl), limit_refused d (part_under content k) r.0 r.1, r.2)
-        | inr rest ↦ further content k d ms flaw (member_refused ms content flaw rest.2)
-      ]
 
 -- ---- one data stream type of all, one event record type of all
 
@@ -354,18 +282,18 @@ module _ (draft : Draft) where
         ]
       ]
 
-  last_refused : (d : Data) (flaw : Flaw) → limits_and_orders d draft ≡ Err flaw → BreaksRule draft flaw ⊎ PassesLimit root d flaw
+  last_refused : (d : Data) (flaw : Flaw) → limits_and_orders d draft ≡ Err flaw → BreaksRule draft flaw ⊎ PassesLimitOf (At Root) d flaw
   unfolding limits_and_orders
   last_refused d flaw e =
-      elim (refused_here_or_next (limits root d) (λ _. one_order draft >>= (λ _. streams_judged TimestampsAreSized draft.config)) flaw e) [
-        | inl first ↦ inr (limit_refused d root flaw first)
+      elim (refused_here_or_next (refusal (configuration_limits d)) (λ _. one_order draft >>= (λ _. streams_judged TimestampsAreSized draft.config)) flaw e) [
+        | inl first ↦ inr (refused_told d flaw first)
         | inr rest ↦ elim (refused_here_or_next (one_order draft) (λ _. streams_judged TimestampsAreSized draft.config) flaw rest.2) [
           | inl first ↦ inl (orders_refused flaw first)
           | inr last ↦ inl (timestamps_refused flaw last.2)
         ]
       ]
 
-pub rule_refused : (d : Data) (draft : Draft) (flaw : Flaw) → whole d draft ≡ Err flaw → BreaksRule draft flaw ⊎ PassesLimit root d flaw
+pub rule_refused : (d : Data) (draft : Draft) (flaw : Flaw) → whole d draft ≡ Err flaw → BreaksRule draft flaw ⊎ PassesLimitOf (At Root) d flaw
 unfolding whole
 rule_refused d draft flaw e =
     elim (refused_here_or_next (sizes_and_bits draft.config) (λ _. clocks_and_identifier draft >>= (λ _. limits_and_orders d draft)) flaw e) [

@@ -1,22 +1,23 @@
 -- From the text of a configuration to the configuration: its tree, the tree with every inheritance resolved, and what that
 -- says, row by row.
-use Rattle.std.specs.Prelude.{◌≡◌, ◌⊎◌, ℕ, List, Option, Result, Ok, Err}
-use Rattle.serde_json.specs.Data.{Data, Members}
+use Rattle.std.specs.Prelude.{◌≡◌, ◌⊎◌, ℕ, List, [], Option, Some, Result, Ok, Err}
+use Rattle.serde_json.specs.Data.{Data}
 use Rattle.ctf_types.specs.declared.Config.{Config}
 use Rattle.conf_tree.specs.declared.fault.ConfFault.{ConfFault}
 use Rattle.conf_tree.specs.declared.fault_kind.FaultKind.TheVariants.{NotJson}
 use Rattle.conf_tree.specs.Flaw.{Flaw, here, IsMemory}
-use Rattle.conf_tree.specs.Reading.{object_of}
 use Rattle.conf_tree.specs.Walk.{IsTreeOf, IsFirstFlaw, Reads, FlawHolds, max_levels}
 use Rattle.conf_inherit.specs.Faults.{RefusalHolds}
 use Rattle.conf_inherit.specs.Resolution.{resolution, Resolves}
-use Rattle.conf_objects.specs.declared.draft.Draft.{Draft}
-use Rattle.conf_check.specs.ConfigurationRows.{IsConfigurationOf}
-use Rattle.conf_objects.specs.TraceRows.{IsRootObject}
-use Rattle.conf_check.specs.Judgement.{check_reading}
-use Rattle.conf_objects.specs.ObjectFlaws.{IsNoRoot}
-use Rattle.conf_objects.specs.Limits.{root}
-use Rattle.conf_check.specs.WholeFlaws.{BreaksRule, PassesLimit}
+use Rattle.conf_table.specs.declared.place.Place.TheVariants.{Root}
+use Rattle.conf_table.specs.declared.row.Content.TheVariants.{At}
+use Rattle.conf_draft.specs.declared.draft.Draft.{Draft}
+use Rattle.conf_draft.specs.Traces.{draft_of}
+use Rattle.conf_laws.specs.TableFlaws.{IsFlawOf}
+use Rattle.conf_laws.specs.TableLimits.{PassesLimitOf}
+use Rattle.conf_check.specs.ConfigurationRows.{IsConfigurationOf, KeepsAllRows}
+use Rattle.conf_check.specs.Judgement.{IsFirstFlawOf}
+use Rattle.conf_check.specs.WholeFlaws.{BreaksRule}
 
 -- c is the configuration of the text, where `number` is the identifier that is handed in
 abbrev pub Configures : List ℕ → Option (List ℕ) → Config → Type 0
@@ -47,14 +48,14 @@ abbrev pub IsRefusal : List ℕ → Option (List ℕ) → Flaw → Type 0
 IsRefusal text number flaw =
     IsFirstFlaw text flaw
     ⊎ ((t : Data) × IsTreeOf text t × (resolution t ≡ Err flaw))
-    ⊎ ((t : Data) × (r : Data) × IsTreeOf text t × (resolution t ≡ Ok r) × (check_reading r number ≡ Err flaw))
+    ⊎ ((t : Data) × (r : Data) × IsTreeOf text t × (resolution t ≡ Ok r) × IsFirstFlawOf r number flaw)
 
 -- the resolved tree is no configuration: an object has a row that does not hold, or all rows hold, and the whole breaks a rule
 -- or passes a limit
 abbrev pub IsNoConfiguration : Data → Option (List ℕ) → Flaw → Type 0
 IsNoConfiguration d number flaw =
-    IsNoRoot d flaw
-    ⊎ ((ms : Members) × (draft : Draft) × (object_of d ≡ Ok ms) × IsRootObject number ms draft × (BreaksRule draft flaw ⊎ PassesLimit root d flaw))
+    IsFlawOf [] (At Root) d flaw
+    ⊎ ((draft : Draft) × KeepsAllRows d × (draft_of number d ≡ Some draft) × (BreaksRule draft flaw ⊎ PassesLimitOf (At Root) d flaw))
 
 -- the text is no JSON, or the flaw's kind holds at its path in the value that it is
 abbrev pub IsNoTree : List ℕ → Flaw → Type 0

@@ -1,32 +1,33 @@
--- What a whole configuration says: its objects row by row, and the rules over all of them.
-use Rattle.std.specs.Prelude.{◌≡◌, ℕ, List, false, Option, Ok}
-use Rattle.serde_json.specs.Data.{Data, Members}
+-- What a whole configuration is: no row of its objects' tables fails to hold, no rule over the whole is broken, no limit is
+-- passed, and it says what its properties say (barectf 3.1, "Configuration object").
+use Rattle.std.specs.Prelude.{◌≡◌, ℕ, List, [], Option, Some}
+use Rattle.serde_json.specs.Data.{Data}
 use Rattle.ctf_types.specs.declared.Config.{Config}
-use Rattle.conf_tree.specs.Reading.{object_of}
-use Rattle.conf_objects.specs.declared.draft.Draft.{Draft}
-use Rattle.conf_check.specs.declared.stream_rule.StreamRule.TheVariants.{NumbersFit, RecordsHaveBits, ClocksAreThere, TimestampsAreSized}
-use Rattle.conf_check.specs.Judgement.{stream_number_fits, identifier_given}
-use Rattle.conf_objects.specs.Limits.{root, limits}
-use Rattle.conf_check.specs.StreamRules.{streams_judged}
-use Rattle.conf_objects.specs.TraceRows.{IsRootObject}
+use Rattle.conf_tree.specs.Flaw.{Flaw}
+use Rattle.conf_table.specs.declared.place.Place.TheVariants.{Root}
+use Rattle.conf_table.specs.declared.row.Content.TheVariants.{At}
+use Rattle.conf_draft.specs.declared.draft.Draft.{Draft}
+use Rattle.conf_draft.specs.Traces.{draft_of}
+use Rattle.conf_laws.specs.TableFlaws.{IsFlawOf}
+use Rattle.conf_laws.specs.TableLimits.{PassesLimitOf}
+use Rattle.conf_check.specs.WholeFlaws.{BreaksRule}
 
--- the rules over the whole
-pub record KeepsAllRules (d : Data) (draft : Draft) : Type 0 where
-  pub stream_number : stream_number_fits draft.config ≡ Ok tt
-  pub numbers_fit : streams_judged NumbersFit draft.config ≡ Ok tt
-  pub records_have_bits : streams_judged RecordsHaveBits draft.config ≡ Ok tt
-  pub clocks_are_there : streams_judged ClocksAreThere draft.config ≡ Ok tt
-  pub number_is_given : draft.lacks_number ≡ false
-  pub identifier : identifier_given draft.config ≡ Ok tt
-  pub within_limits : limits root d ≡ Ok tt
-  pub one_order : draft.two_orders ≡ false
-  pub timestamps_are_sized : streams_judged TimestampsAreSized draft.config ≡ Ok tt
+-- every row of the objects' tables holds
+abbrev pub KeepsAllRows : Data → Type 0
+KeepsAllRows d = (flaw : Flaw) → ¬ IsFlawOf [] (At Root) d flaw
 
--- c is what the resolved tree d says
+-- every rule over the whole holds
+abbrev pub KeepsAllRules : Draft → Type 0
+KeepsAllRules draft = (flaw : Flaw) → ¬ BreaksRule draft flaw
+
+abbrev pub IsWithinLimits : Data → Type 0
+IsWithinLimits d = (flaw : Flaw) → ¬ PassesLimitOf (At Root) d flaw
+
+-- c is what the resolved tree d says, where `number` is the identifier that is handed in
 pub record IsConfigurationOf (d : Data) (number : Option (List ℕ)) (c : Config) : Type 0 where
   pub draft : Draft
-  pub members : Members
-  pub object_is : object_of d ≡ Ok members
-  pub objects : IsRootObject number members draft
-  pub rules : KeepsAllRules d draft
+  pub rows : KeepsAllRows d
+  pub says : draft_of number d ≡ Some draft
+  pub rules : KeepsAllRules draft
+  pub within_limits : IsWithinLimits d
   pub config_is : draft.config ≡ c

@@ -1,17 +1,19 @@
 -- How a resolved configuration is judged, and what configuration it is. First each object by itself, in one walk; then what
 -- the objects have to be together, one rule after the other, each at its first place (barectf 3.1, "Configuration object").
-use Rattle.std.specs.Prelude.{ℕ, ◌-◌, ◌&&◌, List, Option, is_some, is_none, length, Result, Ok, Err, codes, if◌then◌else◌, ⊤}
+use Rattle.std.specs.Prelude.{◌≡◌, ℕ, ◌-◌, ◌&&◌, List, [], Option, Some, is_some, is_none, length, Result, Ok, Err, codes, if◌then◌else◌, ⊤}
 use Rattle.serde_json.specs.Data.{Data}
 use Rattle.ctf_types.specs.declared.Config.{Config}
 use Rattle.conf_tree.specs.declared.fault_kind.FaultKind.{FaultKind}
 use Rattle.conf_tree.specs.declared.fault_kind.FaultKind.TheVariants.{FieldTooSmall, NoUuid, TwoOrders}
 use Rattle.conf_tree.specs.Flaw.{Flaw, key, here, within}
 use Rattle.conf_tree.specs.Reading.{◌>>=◌}
-use Rattle.conf_objects.specs.declared.draft.Draft.{Draft}
+use Rattle.conf_tree.specs.Walk.{refusal}
+use Rattle.conf_judge.specs.Flaws.{configuration_flaws}
+use Rattle.conf_judge.specs.Limits.{configuration_limits}
+use Rattle.conf_draft.specs.declared.draft.Draft.{Draft}
+use Rattle.conf_draft.specs.Traces.{draft_of}
 use Rattle.conf_check.specs.declared.stream_rule.StreamRule.TheVariants.{NumbersFit, RecordsHaveBits, ClocksAreThere, TimestampsAreSized}
-use Rattle.conf_objects.specs.Limits.{root, limits}
 use Rattle.conf_check.specs.StreamRules.{holds, streams_judged, unless}
-use Rattle.conf_objects.specs.Trace.{draft_reading}
 
 -- a flaw of the trace type, seen from the configuration
 abbrev pub in_type : Flaw → Flaw
@@ -51,7 +53,7 @@ clocks_and_identifier draft = do
 
 unfoldable pub limits_and_orders : Data → Draft → Result ⊤ Flaw
 limits_and_orders d draft = do
-  _ ← limits root d
+  _ ← refusal (configuration_limits d)
   _ ← one_order draft
   streams_judged TimestampsAreSized draft.config
 
@@ -61,9 +63,18 @@ whole d draft = do
   _ ← clocks_and_identifier draft
   limits_and_orders d draft
 
--- the configuration that a resolved tree is, where `number` is the identifier that is handed in
-unfoldable pub check_reading : Data → Option (List ℕ) → Result Config Flaw
-check_reading d number = do
-  draft ← draft_reading number d
-  _ ← whole d draft
-  Ok draft.config
+-- ---- a resolved tree
+
+-- c is what the tree says, where `number` is the identifier that is handed in: no walk over its objects tells of a flaw, and none
+-- of the rules is broken
+pub record IsJudgedTo (d : Data) (number : Option (List ℕ)) (c : Config) : Type 0 where
+  pub draft : Draft
+  pub no_flaw : configuration_flaws d ≡ []
+  pub says : draft_of number d ≡ Some draft
+  pub passes : whole d draft ≡ Ok tt
+  pub config_is : draft.config ≡ c
+
+-- the first flaw of a tree: the first of its objects, or, where they have none, the first of the whole
+pub data IsFirstFlawOf (d : Data) (number : Option (List ℕ)) (flaw : Flaw) : Type 0 where
+  of_an_object : refusal (configuration_flaws d) ≡ Err flaw → IsFirstFlawOf d number flaw
+  of_the_whole : (draft : Draft) → configuration_flaws d ≡ [] → draft_of number d ≡ Some draft → whole d draft ≡ Err flaw → IsFirstFlawOf d number flaw

@@ -1,25 +1,18 @@
--- How a configuration whose objects are each as they should be breaks a rule over the whole, or passes a limit, and the flaw
--- that tells of it. A flaw of a field stands at its feature, one of a clock at the name of the default clock or at the
--- feature, one of an event record type at that type, and one of two byte orders at the trace type.
-use Rattle.std.specs.Prelude.{◌≡◌, ◌≢◌, ◌⊎◌, ◌<◌, ◌-◌, ℕ, List, Contains, Option, None, Some, IsSome, length, true, codes}
-use Rattle.serde_json.specs.Data.{Data, string, array, object, Items, Members}
-use Rattle.serde_json.specs.Events.{members_len}
-use Rattle.ctf_types.specs.AllowedConfig.{HoldsUpTo, StructHasBits}
+-- How a configuration whose objects are each as they should be breaks a rule over the whole, and the flaw that tells of it. A flaw
+-- of a field stands at its feature, one of a clock at the name of the default clock or at the feature, one of an event record type
+-- at that type, and one of two byte orders at the trace type.
+use Rattle.std.specs.Prelude.{◌≡◌, ◌≢◌, ◌<◌, ◌-◌, ℕ, List, Contains, Option, None, Some, IsSome, length, true, codes}
+use Rattle.ctf_types.specs.AllowedConfig.{HoldsUpTo}
 use Rattle.ctf_types.specs.declared.ClockType.{ClockType}
 use Rattle.ctf_types.specs.declared.EventType.{EventType}
 use Rattle.ctf_types.specs.declared.StreamType.{StreamType}
 use Rattle.ctf_types.specs.declared.IntType.{IntType}
-use Rattle.conf_tree.specs.declared.fault_kind.FaultKind.TheVariants.{FieldTooSmall, ZeroSizeRecord, NoClock, NoUuid, Limit, TwoOrders, TimestampSize}
+use Rattle.conf_tree.specs.declared.fault_kind.FaultKind.TheVariants.{FieldTooSmall, ZeroSizeRecord, NoClock, NoUuid, TwoOrders, TimestampSize}
 use Rattle.conf_tree.specs.Flaw.{Flaw, key, here, within}
-use Rattle.conf_tree.specs.Walk.{HasMember}
-use Rattle.conf_objects.specs.declared.draft.Draft.{Draft}
-use Rattle.conf_table.specs.declared.row.Content.{Content}
-use Rattle.conf_fields.specs.FieldFlaws.{PassesFieldLimit, PassesStructLimit, PassesMembersLimit}
+use Rattle.conf_draft.specs.declared.draft.Draft.{Draft}
+use Rattle.conf_laws.specs.Rules.{RecordHasBits}
 use Rattle.conf_check.specs.Judgement.{in_type, header_flaw}
-use Rattle.conf_objects.specs.Limits.{part_under, most_bytes, most_entries, is_feature, is_structure_type, is_extra_members}
 use Rattle.conf_check.specs.StreamRules.{feature_flaw}
-
--- ---- rules over the whole
 
 -- a flaw of a data stream type, seen from the configuration
 abbrev pub in_stream : StreamType → Flaw → Flaw
@@ -30,10 +23,6 @@ pub data IsTimestampOf (s : StreamType) : List ℕ → List ℕ → Option IntTy
   of_record : IsTimestampOf s (codes "event-record") (codes "timestamp-field-type") s.event_header.timestamp
   of_beginning : IsTimestampOf s (codes "packet") (codes "beginning-timestamp-field-type") s.context.timestamp_begin
   of_end : IsTimestampOf s (codes "packet") (codes "end-timestamp-field-type") s.context.timestamp_end
-
--- a record of the type has bits: a number, a timestamp, or a field that is in no empty array
-abbrev pub RecordHasBits : StreamType → EventType → Type 0
-RecordHasBits s e = IsSome s.event_header.id ⊎ (IsSome s.event_header.timestamp ⊎ (StructHasBits s.common ⊎ (StructHasBits e.specific ⊎ StructHasBits e.payload)))
 
 pub data BreaksRule (draft : Draft) : Flaw → Type 0 where
   -- the field of a data stream type's number does not hold the largest of them
@@ -65,17 +54,3 @@ pub data BreaksRule (draft : Draft) : Flaw → Type 0 where
   -- or fewer than 64, where a packet does not say the clock value at which it begins
   no_beginning : (s : StreamType) (t : IntType) → Contains draft.config.streams s → s.event_header.timestamp ≡ Some t → t.size < 64 → s.context.timestamp_begin ≡ None
       → BreaksRule draft (in_stream s (feature_flaw (codes "event-record") (codes "timestamp-field-type") TimestampSize))
-
--- ---- limits
-
-pub data PassesLimit : Content → Data → Flaw → Type 0 where
-  -- a map with more entries than the table has for it
-  too_many : {content : Content} (most : ℕ) (ms : Members) → most_entries content ≡ Some most → most < members_len ms → PassesLimit content (object ms) (here Limit)
-  -- a text of more bytes than the table has for it
-  too_long : {content : Content} (most : ℕ) (s : List ℕ) → most_bytes content ≡ Some most → most < length s → PassesLimit content (string s) (here Limit)
-  -- a feature's own type, a structure, or the extra members of a packet context past a limit of field types
-  in_feature : {content : Content} {ms : Members} {flaw : Flaw} → is_feature content ≡ true → PassesFieldLimit (object ms) flaw → PassesLimit content (object ms) flaw
-  in_structure : {content : Content} {ms : Members} {flaw : Flaw} → is_structure_type content ≡ true → PassesStructLimit (object ms) flaw → PassesLimit content (object ms) flaw
-  in_extras : {content : Content} {ds : Items} {flaw : Flaw} → is_extra_members content ≡ true → PassesMembersLimit (array ds) flaw → PassesLimit content (array ds) flaw
-  -- a property past a limit of its own
-  inside : {content : Content} (ms : Members) (k : List ℕ) (d : Data) (flaw : Flaw) → HasMember k d ms → PassesLimit (part_under content k) d flaw → PassesLimit content (object ms) (within (key k) flaw)

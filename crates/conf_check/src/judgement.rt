@@ -1,18 +1,19 @@
 //! The judgement of a resolved configuration.
-ghost use Rattle.std.specs.Prelude.{◌≡◌, ◌≤◌, ◌⊎◌, IfOk, IfErr, codes};
+ghost use Rattle.std.specs.Prelude.{◌≡◌, ◌≤◌, ◌⊎◌, [], Some, IsSome, IfOk, IfErr, codes};
 ghost use Rattle.serde_json.specs.Data.{depth};
 ghost use Rattle.serde_json.specs.View.{view};
 ghost use Rattle.ctf_types.specs.AllowedConfig.{IsConfig};
 ghost use Rattle.conf_tree.specs.Flaw.{flaw_of, key, here, within, IsMemory};
 ghost use Rattle.conf_tree.specs.declared.fault_kind.FaultKind.TheVariants.{NoUuid, TwoOrders};
 ghost use Rattle.conf_tree.specs.Reading.{Gives};
+ghost use Rattle.conf_draft.specs.Traces.{draft_of as draft_of_value};
 ghost use Rattle.conf_check.specs.Configuration.{IsNoConfiguration, IsInnocent};
 ghost use Rattle.conf_check.specs.ConfigurationRows.{IsConfigurationOf};
-ghost use Rattle.conf_check.specs.Judgement.{in_type as in_type_is, header_flaw, stream_number_fits as stream_number_fits_is, number_given as number_given_is, identifier_given as identifier_given_is, one_order as one_order_is, sizes_and_bits as sizes_and_bits_is, clocks_and_identifier as clocks_and_identifier_is, limits_and_orders as limits_and_orders_is, whole as whole_is, check_reading};
+ghost use Rattle.conf_check.specs.Judgement.{in_type as in_type_is, header_flaw, stream_number_fits as stream_number_fits_is, number_given as number_given_is, identifier_given as identifier_given_is, one_order as one_order_is, sizes_and_bits as sizes_and_bits_is, clocks_and_identifier as clocks_and_identifier_is, limits_and_orders as limits_and_orders_is, whole as whole_is, IsJudgedTo, IsFirstFlawOf};
 
 use crate::stream_rule::{StreamRule, check_streams, holds};
-use conf_objects::{Draft, check_limits, read_draft};
-use conf_table::{Content, Place};
+use conf_draft::{Draft, draft_of};
+use conf_judge::{check_limits, check_objects};
 use conf_tree::{ConfFault, FaultKind, Tree};
 use ctf_types::Config;
 use serde_json::Value;
@@ -128,7 +129,7 @@ fn limits_and_orders(alloc: Global, value: &Value, draft: &Draft) -> Result<(), 
     requires { depth (view value.now) ≤ 32 }
     ensures reading { Gives (λ _. tt) result (limits_and_orders_is (view value.now) draft.now) }
 {
-    check_limits(alloc, value, Content::At(Place::Root))?;
+    check_limits(alloc, value)?;
     one_order(alloc, draft)?;
     check_streams(alloc, StreamRule::TimestampsAreSized, &draft.config)?;
     Ok(())
@@ -145,14 +146,24 @@ fn whole(alloc: Global, value: &Value, draft: &Draft) -> Result<(), ConfFault>
     Ok(())
 }
 
+/// What a tree says whose objects have no flaw.
+fn draft(alloc: Global, number: Option<Uuid>, value: &Value) -> Result<Draft, ConfFault>
+    requires { IsSome (draft_of_value number (view value.now)) }
+    ensures says { IfOk result (λ draft. draft_of_value number (view value.now) ≡ Some draft) }
+    ensures memory { IfErr result (λ fault. IsMemory fault) }
+{
+    draft_of(alloc, number, value).map_err(|_| ConfFault::here(FaultKind::OutOfMemory))
+}
+
 /// The configuration that the tree is.
-#[tactic(auto, unfolding(crate::specs::Judgement::check_reading))]
 fn judge(alloc: Global, tree: Tree, number: Option<Uuid>) -> Result<Config, ConfFault>
-    ensures reading { Gives (λ c. c) result (check_reading (view tree.value) number) }
+    ensures judged { IfOk result (λ c. IsJudgedTo (view tree.value) number c) }
+    ensures first { IfErr result (λ fault. IsMemory fault ⊎ IsFirstFlawOf (view tree.value) number (flaw_of fault)) }
     ensures allowed { IfOk result (λ c. IsConfig c) }
 {
     let Tree { value } = tree;
-    let draft = read_draft(alloc, number, &value)?;
+    check_objects(alloc, &value)?;
+    let draft = draft(alloc, number, &value)?;
     whole(alloc, &value, &draft)?;
     Ok(draft.config)
 }
@@ -162,9 +173,11 @@ fn judge(alloc: Global, tree: Tree, number: Option<Uuid>) -> Result<Config, Conf
 /// an object before its content and properties in byte order of their names, and then those of the whole, kind by kind in
 /// the order of `FaultKind`.
 pub fn check(alloc: Global, tree: Tree, number: Option<Uuid>) -> Result<Config, ConfFault>
-    ensures reading { Gives (λ c. c) result (check_reading (view tree.value) number) }
     ensures rows { IfOk result (λ c. IsConfigurationOf (view tree.value) number c) }
     ensures allowed { IfOk result (λ c. IsConfig c) }
+
+    // The fault is the first.
+    ensures first { IfErr result (λ fault. IsMemory fault ⊎ IsFirstFlawOf (view tree.value) number (flaw_of fault)) }
 
     // The fault's kind is that of a row which does not hold, or of a rule that is broken, and its path leads there.
     ensures refused { IfErr result (λ fault. IsMemory fault ⊎ IsNoConfiguration (view tree.value) number (flaw_of fault)) }

@@ -5,34 +5,34 @@ ghost use Rattle.serde_json.specs.Data.{Data};
 ghost use Rattle.ctf_types.specs.declared.Config.{Config as Configuration};
 ghost use Rattle.conf_tree.specs.Flaw.{Flaw};
 ghost use Rattle.conf_tree.specs.Walk.{IsTreeOf};
-ghost use Rattle.conf_objects.specs.declared.draft.Draft.{Draft};
-ghost use Rattle.conf_objects.specs.Limits.{root};
+ghost use Rattle.conf_table.specs.declared.place.Place.TheVariants.{Root};
+ghost use Rattle.conf_table.specs.declared.row.Content.TheVariants.{At};
 ghost use Rattle.conf_inherit.specs.Resolution.{resolution, Resolves};
+ghost use Rattle.conf_draft.specs.declared.draft.Draft.{Draft};
+ghost use Rattle.conf_laws.specs.TableLimits.{PassesLimitOf};
 ghost use Rattle.conf_check.specs.Configuration.{HasNoFault, IsNoConfiguration};
 ghost use Rattle.conf_check.specs.ConfigurationRows.{IsConfigurationOf};
-ghost use Rattle.conf_check.specs.Judgement.{whole, check_reading};
-ghost use Rattle.conf_check.specs.WholeFlaws.{BreaksRule, PassesLimit};
+ghost use Rattle.conf_check.specs.Judgement.{whole, IsJudgedTo, IsFirstFlawOf};
+ghost use Rattle.conf_check.specs.WholeFlaws.{BreaksRule};
 
 /// A resolved tree is judged to be a configuration exactly where all rows and all rules say so.
 pub fn configurations_by_rows()
-    ensures { (d : Data) (number : Option (List ℕ)) (c : Configuration)
-        → (check_reading d number ≡ Ok c) ↔ IsConfigurationOf d number c }
+    ensures { (d : Data) (number : Option (List ℕ)) (c : Configuration) → IsJudgedTo d number c ↔ IsConfigurationOf d number c }
 {}
 
 /// A configuration whose objects are each as they should be is refused where it breaks a rule over the whole or passes a limit.
 pub fn rules_refused()
-    ensures { (d : Data) (draft : Draft) (flaw : Flaw) → whole d draft ≡ Err flaw → BreaksRule draft flaw ⊎ PassesLimit root d flaw }
+    ensures { (d : Data) (draft : Draft) (flaw : Flaw) → whole d draft ≡ Err flaw → BreaksRule draft flaw ⊎ PassesLimitOf (At Root) d flaw }
 {}
 
 /// A resolved tree that is refused has an object with a row that does not hold, breaks a rule over the whole or passes a limit.
 pub fn configurations_refused()
-    ensures { (d : Data) (number : Option (List ℕ)) (flaw : Flaw) → check_reading d number ≡ Err flaw → IsNoConfiguration d number flaw }
+    ensures { (d : Data) (number : Option (List ℕ)) (flaw : Flaw) → IsFirstFlawOf d number flaw → IsNoConfiguration d number flaw }
 {}
 
 /// A resolved tree of which all rows and all rules hold has no row that does not hold, breaks no rule and passes no limit.
 pub fn configurations_faultless()
-    ensures { (t d : Data) (number : Option (List ℕ)) (c : Configuration) (flaw : Flaw)
-        → Resolves t d → IsConfigurationOf d number c → IsNoConfiguration d number flaw → ⊥ }
+    ensures { (d : Data) (number : Option (List ℕ)) (c : Configuration) (flaw : Flaw) → IsConfigurationOf d number c → ¬ IsNoConfiguration d number flaw }
 {}
 
 /// A text whose tree is resolved to a configuration has none of the faults.

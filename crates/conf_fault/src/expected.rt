@@ -16,7 +16,7 @@ pub(crate) fn push_expected(
         Content::PowerOfTwo { high } => said.push_str(format!(in alloc;
             "a power of two, {high} at most"
         )?.as_str()),
-        Content::Flag => said.push_str("true or false"),
+        Content::Flag | Content::OneFlag => said.push_str("true or false"),
         Content::Text { most_bytes } => push_text(alloc, said, most_bytes),
         Content::ClockName => said.push_str("the name of a clock type"),
         Content::Identifier => said.push_str("a UUID as text"),
@@ -103,7 +103,7 @@ fn described(place: Place) -> &'static str {
         Place::StructureType => "a structure field type, or the name of an alias of one",
         Place::FieldType => "a field type, or the name of an alias",
         Place::MemberType => "a field type that is no structure, or the name of an alias of one",
-        Place::ElementType =>
+        Place::ElementType | Place::DynamicElementType =>
             "a field type that is neither a structure nor a dynamic array, or the name of an alias of one",
         Place::Feature => "true, false, or an unsigned integer field type",
         Place::SizeFeature => "true, or an unsigned integer field type: a packet has its sizes",

@@ -56,6 +56,7 @@ admits_class places.FieldType class = is_class class
 admits_class places.StructureType class = is_structure class
 admits_class places.MemberType class = if is_structure class then false else is_class class
 admits_class places.ElementType class = if is_structure class then false else (if is_dynamic_array class then false else is_class class)
+admits_class places.DynamicElementType class = if is_structure class then false else (if is_dynamic_array class then false else is_class class)
 admits_class places.Feature class = is_unsigned_integer class
 admits_class places.SizeFeature class = is_unsigned_integer class
 admits_class places.MagicFeature class = is_unsigned_integer class

@@ -50,6 +50,7 @@ rows_of places.FieldType = map (λ r. told r.0.now r.1 r.2) fields.FIELD_TYPE
 rows_of places.StructureType = map (λ r. told r.0.now r.1 r.2) fields.FIELD_TYPE
 rows_of places.MemberType = map (λ r. told r.0.now r.1 r.2) fields.FIELD_TYPE
 rows_of places.ElementType = map (λ r. told r.0.now r.1 r.2) fields.FIELD_TYPE
+rows_of places.DynamicElementType = map (λ r. told r.0.now r.1 r.2) fields.FIELD_TYPE
 rows_of places.Feature = map (λ r. told r.0.now r.1 r.2) fields.FIELD_TYPE
 rows_of places.SizeFeature = map (λ r. told r.0.now r.1 r.2) fields.FIELD_TYPE
 rows_of places.MagicFeature = map (λ r. told r.0.now r.1 r.2) fields.FIELD_TYPE
@@ -128,6 +129,10 @@ content_under place k = told_under (entries_of place) (rows_of place) k
 -- the place of the property of this name; None is an unknown property
 abbrev pub under_of : Place → List ℕ → Option Place
 under_of place k = option_map place_in (content_under place k)
+
+-- whether the property of this name has to be there, where a row has the name
+unfoldable pub presence_under : Place → List ℕ → Option Presence
+presence_under place k = option_map (λ r. r.presence) (row_in k (rows_of place))
 
 -- ---- what the laws of the table say
 

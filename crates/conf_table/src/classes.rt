@@ -59,7 +59,7 @@ impl Place {
             Place::FieldType => class.is_class(),
             Place::StructureType => class == Place::Structure,
             Place::MemberType => class != Place::Structure && class.is_class(),
-            Place::ElementType => {
+            Place::ElementType | Place::DynamicElementType => {
                 class != Place::Structure && class != Place::DynamicArray && class.is_class()
             }
             Place::Feature | Place::SizeFeature | Place::MagicFeature => {

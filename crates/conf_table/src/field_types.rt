@@ -1,6 +1,7 @@
 //! The properties of field types, by class (barectf 3.1, "Field type objects").
 
 use crate::{Content, Place, Presence, Row, Words};
+use ctf_types::{LARGEST_ALIGN, MAX_ELEMENTS};
 
 const CLASS: Row = ("class", Presence::Needed, Content::Class);
 
@@ -19,7 +20,9 @@ const SIZE: Row = (
 const ALIGNMENT: Row = (
     "alignment",
     Presence::ByteAlignment,
-    Content::PowerOfTwo { high: 4096 },
+    Content::PowerOfTwo {
+        high: LARGEST_ALIGN,
+    },
 );
 
 const BASE: Row = (
@@ -42,10 +45,10 @@ pub(crate) static INTEGER: [Row; 5] = [CLASS, INHERIT, SIZE, ALIGNMENT, BASE];
 pub(crate) static ENUMERATION: [Row; 6] = [
     CLASS,
     INHERIT,
+    ("mappings", Presence::Needed, Content::At(Place::Mappings)),
     SIZE,
     ALIGNMENT,
     BASE,
-    ("mappings", Presence::Needed, Content::At(Place::Mappings)),
 ];
 
 pub(crate) static STR: [Row; 2] = [CLASS, INHERIT];
@@ -59,12 +62,20 @@ pub(crate) static STATIC_ARRAY: [Row; 4] = [
         Presence::Needed,
         Content::Whole {
             low: 0,
-            high: 1048576,
+            high: MAX_ELEMENTS as i128,
         },
     ),
 ];
 
-pub(crate) static DYNAMIC_ARRAY: [Row; 3] = [CLASS, INHERIT, ELEMENT];
+pub(crate) static DYNAMIC_ARRAY: [Row; 3] = [
+    CLASS,
+    INHERIT,
+    (
+        "element-field-type",
+        Presence::Needed,
+        Content::At(Place::DynamicElementType),
+    ),
+];
 
 pub(crate) static STRUCTURE: [Row; 4] = [
     CLASS,
@@ -73,7 +84,9 @@ pub(crate) static STRUCTURE: [Row; 4] = [
     (
         "minimum-alignment",
         Presence::Number(1),
-        Content::PowerOfTwo { high: 4096 },
+        Content::PowerOfTwo {
+            high: LARGEST_ALIGN,
+        },
     ),
 ];
 

@@ -4,6 +4,7 @@
 mod classes;
 mod field_types;
 mod laws;
+mod limits;
 mod maps;
 mod objects;
 mod place;
@@ -13,7 +14,8 @@ mod words;
 
 pub use classes::{class_place, class_words};
 pub use laws::{known_by_rows, one_row_a_name};
+pub use limits::{MAX_RANGES, MAX_TEXT_BYTES};
 pub use place::Place;
 pub use row::{Content, Entries, Keys, Presence, Row};
-pub use table::{content, entries, has_property, rows, under};
+pub use table::{content, entries, has_property, presence, rows, under};
 pub use words::{Words, words_in};

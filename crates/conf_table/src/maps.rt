@@ -1,15 +1,16 @@
 //! What the maps and the lists of a configuration hold.
 
-use crate::objects::{HIGHEST, HIGHEST_UNSIGNED, LOWEST, MOST_BYTES};
-use crate::{Content, Entries, Keys, Place};
+use crate::objects::{HIGHEST, HIGHEST_UNSIGNED, LOWEST};
+use crate::{Content, Entries, Keys, MAX_TEXT_BYTES, Place};
+use ctf_types::MAX_ENVIRONMENT;
 
 pub(crate) const ENVIRONMENT: Entries = Entries {
     keys: Keys::PlainName,
-    most: Some(256),
+    most: Some(MAX_ENVIRONMENT as u64),
     content: Content::WholeOrText {
         low: LOWEST,
         high: HIGHEST,
-        most_bytes: MOST_BYTES,
+        most_bytes: MAX_TEXT_BYTES,
     },
 };
 

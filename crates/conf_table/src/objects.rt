@@ -1,6 +1,6 @@
 //! The properties of the objects that are no field types (barectf 3.1, "Configuration object" and the pages below it).
 
-use crate::{Content, Place, Presence, Row, Words};
+use crate::{Content, MAX_TEXT_BYTES, Place, Presence, Row, Words};
 
 /// The lowest number of 64 bits, one of which is the sign.
 pub(crate) const LOWEST: i128 = -9223372036854775808;
@@ -10,9 +10,6 @@ pub(crate) const HIGHEST: i128 = 9223372036854775807;
 
 /// The highest number of 64 bits without a sign.
 pub(crate) const HIGHEST_UNSIGNED: i128 = 18446744073709551615;
-
-/// The most bytes of a text that people read.
-pub(crate) const MOST_BYTES: u64 = 4096;
 
 pub(crate) static ROOT: [Row; 2] = [
     ("trace", Presence::Needed, Content::At(Place::Trace)),
@@ -98,7 +95,7 @@ pub(crate) static CLOCK_TYPE: [Row; 7] = [
         "description",
         Presence::Optional,
         Content::Text {
-            most_bytes: MOST_BYTES,
+            most_bytes: MAX_TEXT_BYTES,
         },
     ),
     ("uuid", Presence::Optional, Content::Identifier),
@@ -139,7 +136,7 @@ pub(crate) static CLOCK_OFFSET: [Row; 2] = [
 ];
 
 pub(crate) static STREAM_TYPE: [Row; 6] = [
-    ("$is-default", Presence::Flag(false), Content::Flag),
+    ("$is-default", Presence::Flag(false), Content::OneFlag),
     (
         "$default-clock-type-name",
         Presence::Optional,

@@ -50,6 +50,8 @@ pub enum Place {
     MemberType,
     /// An element's field type, which is neither a structure nor a dynamic array.
     ElementType,
+    /// The field type of a dynamic array's element: neither a structure nor a dynamic array, and with bits.
+    DynamicElementType,
     /// A feature: on, off, or an unsigned integer.
     Feature,
     /// A feature that cannot be off.

@@ -64,6 +64,8 @@ pub enum Content {
         high: u64,
     },
     Flag,
+    /// A flag that is true at one entry of its map at most.
+    OneFlag,
     /// A text that people read, of so many bytes at most, without control characters but newline and tab.
     Text {
         most_bytes: u64,

@@ -1,8 +1,8 @@
 //! Look-ups in the table: the rows of an object, what a map or a list holds, and where a property leads.
 ghost use Rattle.std.specs.Prelude.{◌≡◌, map, option_map};
-ghost use Rattle.conf_table.specs.Table.{rows_of, told_of, entries_of, row_in as row_in_of, has_property as has_property_of, under_of, content_under, place_in};
+ghost use Rattle.conf_table.specs.Table.{rows_of, told_of, entries_of, row_in, has_property as has_property_of, under_of, content_under, presence_under, place_in};
 
-use crate::{Content, Entries, Keys, Place, Row, field_types, maps, objects};
+use crate::{Content, Entries, Keys, Place, Presence, Row, field_types, maps, objects};
 
 /// The rows of an object. A map, a list, a number or a text has none.
 #[tactic(auto, unfolding(crate::specs::Table::rows_of))]
@@ -26,6 +26,7 @@ pub fn rows(place: Place) -> &'static [Row]
         | Place::StructureType
         | Place::MemberType
         | Place::ElementType
+        | Place::DynamicElementType
         | Place::Feature
         | Place::SizeFeature
         | Place::MagicFeature
@@ -87,6 +88,7 @@ pub fn entries(place: Place) -> Option<Entries>
         | Place::StructureType
         | Place::MemberType
         | Place::ElementType
+        | Place::DynamicElementType
         | Place::Feature
         | Place::SizeFeature
         | Place::MagicFeature
@@ -120,32 +122,41 @@ pub fn content(place: Place, name: &str) -> Option<Content>
                 Some(entries.content)
             }
         }
-        None => match row_in(rows(place), name) {
-            Some((_, _, content)) => Some(content),
-            None => None,
-        },
+        None => {
+            let (_, _, content) = row_in(rows(place), name)?;
+            Some(*content)
+        }
     }
 }
 
-/// The row of the name.
-fn row_in(rows: &'static [Row], name: &str) -> Option<Row>
-    ensures { option_map told_of result ≡ row_in_of name.now (map told_of rows.now) }
+/// The row of a name.
+fn row_in(rows: &'static [Row], name: &str) -> Option<&'static Row>
+    ensures { option_map (λ r. told_of r.now) result ≡ row_in name.now (map told_of rows.now) }
 {
-    for (row, presence, content) in rows {
-        if *row == name {
-            return Some((*row, *presence, *content));
+    for row in rows {
+        if row.0 == name {
+            return Some(row);
         }
     }
     None
 }
 
+/// Whether the property `name` of an object has to be there, where a row has the name.
+#[tactic(auto, unfolding(crate::specs::Table::presence_under))]
+pub fn presence(place: Place, name: &str) -> Option<Presence>
+    ensures { result ≡ presence_under place name.now }
+{
+    let (_, presence, _) = row_in(rows(place), name)?;
+    Some(*presence)
+}
+
 /// Whether an object of a resolved configuration can have the property `name`.
-#[tactic(auto, unfolding(crate::specs::Table::has_property))]
+#[tactic(auto, unfolding(crate::specs::Table::has_property, crate::specs::Table::presence_under))]
 pub fn has_property(place: Place, name: &str) -> bool
     ensures { result ≡ has_property_of place name.now }
 {
-    match row_in(rows(place), name) {
-        Some((_, presence, _)) => presence.stays(),
+    match presence(place, name) {
+        Some(presence) => presence.stays(),
         None => false,
     }
 }
@@ -170,6 +181,7 @@ impl Content {
             Content::Whole { low: _, high: _ }
             | Content::PowerOfTwo { high: _ }
             | Content::Flag
+            | Content::OneFlag
             | Content::Text { most_bytes: _ }
             | Content::ClockName
             | Content::Identifier

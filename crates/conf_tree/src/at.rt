@@ -17,12 +17,12 @@ impl At<'_> {
     ghost use Rattle.std.specs.Prelude.{◌≡◌, ◌≤◌, ◌⊎◌};
     ghost use Rattle.arrayvec.specs.ArrayVec.{array_vec_len};
     ghost use Rattle.conf_tree.specs.Flaw.{flaw_of, here, IsMemory};
-    ghost use Rattle.conf_tree.specs.Reading.{flaw_at};
+    ghost use Rattle.conf_tree.specs.Reading.{flaw_at, steps_to};
 
     /// A fault of the value that stands here, or want of memory for the copy of a name.
     pub fn fault(self, alloc: Global, kind: FaultKind) -> ConfFault
         ensures flaw { IsMemory result ⊎ (flaw_of result ≡ flaw_at self.entry (here kind)) }
-        ensures steps { array_vec_len result.path ≤ 1 }
+        ensures steps { array_vec_len result.path ≤ steps_to self.entry }
     {
         let fault = ConfFault::here(kind);
         match self {

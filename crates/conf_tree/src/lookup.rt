@@ -3,7 +3,7 @@ ghost use Rattle.std.specs.Prelude.{◌≡◌, ◌≤◌, IfErr, option_map};
 ghost use Rattle.arrayvec.specs.ArrayVec.{array_vec_len};
 ghost use Rattle.serde_json.specs.Find.{get_member};
 ghost use Rattle.serde_json.specs.View.{view, items_view, members_view};
-ghost use Rattle.conf_tree.specs.Reading.{Gives, reading_at, object_of, list_of, text_of, whole_of, flag_of, needed as needed_of, optional as optional_of, optional_as};
+ghost use Rattle.conf_tree.specs.Reading.{Gives, reading_at, steps_to, object_of, list_of, text_of, whole_of, flag_of, needed as needed_of, optional as optional_of, optional_as};
 
 use crate::{At, ConfFault, FaultKind};
 use serde_json::{Map, Value};
@@ -17,7 +17,7 @@ pub fn object<'v>(
 ) -> Result<&'v Map<String, Value>, ConfFault>
     ensures reading { Gives (λ m. members_view m.now.entries) result
         (reading_at at.entry (object_of (view value.now))) }
-    ensures steps { IfErr result (λ fault. array_vec_len fault.path ≤ 1) }
+    ensures steps { IfErr result (λ fault. array_vec_len fault.path ≤ steps_to at.entry) }
 {
     match value.as_object() {
         Some(members) => Ok(members),
@@ -29,7 +29,7 @@ pub fn object<'v>(
 pub fn list<'v>(alloc: Global, at: At<'_>, value: &'v Value) -> Result<&'v Vec<Value>, ConfFault>
     ensures reading { Gives (λ v. items_view v.now.items) result
         (reading_at at.entry (list_of (view value.now))) }
-    ensures steps { IfErr result (λ fault. array_vec_len fault.path ≤ 1) }
+    ensures steps { IfErr result (λ fault. array_vec_len fault.path ≤ steps_to at.entry) }
 {
     match value.as_array() {
         Some(items) => Ok(items),
@@ -40,7 +40,7 @@ pub fn list<'v>(alloc: Global, at: At<'_>, value: &'v Value) -> Result<&'v Vec<V
 /// The text that `value` is, which stands at `at`.
 pub fn text<'v>(alloc: Global, at: At<'_>, value: &'v Value) -> Result<&'v str, ConfFault>
     ensures reading { Gives (λ s. s.now) result (reading_at at.entry (text_of (view value.now))) }
-    ensures steps { IfErr result (λ fault. array_vec_len fault.path ≤ 1) }
+    ensures steps { IfErr result (λ fault. array_vec_len fault.path ≤ steps_to at.entry) }
 {
     match value.as_str() {
         Some(text) => Ok(text),
@@ -51,7 +51,7 @@ pub fn text<'v>(alloc: Global, at: At<'_>, value: &'v Value) -> Result<&'v str, 
 /// The flag that `value` is, which stands at `at`.
 pub fn flag(alloc: Global, at: At<'_>, value: &Value) -> Result<bool, ConfFault>
     ensures reading { Gives (λ b. b) result (reading_at at.entry (flag_of (view value.now))) }
-    ensures steps { IfErr result (λ fault. array_vec_len fault.path ≤ 1) }
+    ensures steps { IfErr result (λ fault. array_vec_len fault.path ≤ steps_to at.entry) }
 {
     match value.as_bool() {
         Some(flag) => Ok(flag),
@@ -69,7 +69,7 @@ pub fn whole(
     high: i128,
 ) -> Result<i128, ConfFault>
     ensures reading { Gives (λ z. z) result (reading_at at.entry (whole_of low high (view value.now))) }
-    ensures steps { IfErr result (λ fault. array_vec_len fault.path ≤ 1) }
+    ensures steps { IfErr result (λ fault. array_vec_len fault.path ≤ steps_to at.entry) }
 {
     let Some(number) = value.as_number() else {
         return Err(at.fault(alloc, FaultKind::WrongKind));

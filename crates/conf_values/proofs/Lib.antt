@@ -1,5 +1,4 @@
-pub mod Numbers
 pub mod Steps
-pub mod Walks
-pub mod Depths
 pub mod LeafFlawLaws
+pub mod Meanings
+mod WorkedWords

@@ -1,7 +1,7 @@
 -- How a value is not what its place asks for, and the flaw of the value itself: it is of another kind, it is no whole number,
 -- or it is outside what the place allows. Each case is one way in which it fails.
-use Rattle.std.specs.Prelude.{◌≡◌, ◌≢◌, ◌⊎◌, ◌<◌, ◌≤◌, ◌^◌, ℕ, ℤ, ◌<ℤ◌, Float, List, map, length, Contains, Some, None, false}
-use Rattle.serde_json.specs.Data.{Data, Num, unsigned, negative, float}
+use Rattle.std.specs.Prelude.{◌≡◌, ◌≢◌, ◌⊎◌, ◌<◌, ℕ, ℤ, ◌<ℤ◌, Float, List, length, Contains, Some, None, false}
+use Rattle.serde_json.specs.Data.{Data, Num, float}
 use Rattle.serde_json.specs.Find.{as_object, as_array, as_str, as_bool, as_number, as_integer}
 use Rattle.uuid.specs.Text.{parsed}
 use Rattle.ctf_types.specs.Names.{is_identifier, unused_keywords, used_keywords}
@@ -29,20 +29,6 @@ pub data IsNoFlag (d : Data) : Flaw → Type 0 where
 -- ---- numbers
 
 -- no whole number from low to high
-pub data IsNoNatural (low high : ℕ) (d : Data) : Flaw → Type 0 where
-  no_number : as_number d ≡ None → IsNoNatural low high d (here WrongKind)
-  a_fraction : (x : Float) → as_number d ≡ Some (float x) → IsNoNatural low high d (here NotWhole)
-  below_zero : (z : ℤ) → as_number d ≡ Some (negative z) → IsNoNatural low high d (here OutOfRange)
-  too_small : (n : ℕ) → as_number d ≡ Some (unsigned n) → n < low → IsNoNatural low high d (here OutOfRange)
-  too_large : (n : ℕ) → as_number d ≡ Some (unsigned n) → high < n → IsNoNatural low high d (here OutOfRange)
-
--- no whole number of 64 bits, one of which is the sign; no tree has a number below these
-pub data IsNoSigned (d : Data) : Flaw → Type 0 where
-  no_number : as_number d ≡ None → IsNoSigned d (here WrongKind)
-  a_fraction : (x : Float) → as_number d ≡ Some (float x) → IsNoSigned d (here NotWhole)
-  too_large : (n : ℕ) → as_number d ≡ Some (unsigned n) → 2 ^ 63 ≤ n → IsNoSigned d (here OutOfRange)
-
--- no whole number from low to high, either of which may be below zero
 pub data IsNoWhole (low high : ℤ) (d : Data) : Flaw → Type 0 where
   no_number : as_number d ≡ None → IsNoWhole low high d (here WrongKind)
   a_fraction : (x : Float) → as_number d ≡ Some (float x) → IsNoWhole low high d (here NotWhole)
@@ -69,10 +55,6 @@ pub data IsNoUuid (d : Data) : Flaw → Type 0 where
 pub data IsNoWordOf (words : List (List ℕ)) (d : Data) : Flaw → Type 0 where
   no_text : as_str d ≡ None → IsNoWordOf words d (here WrongKind)
   another_word : (s : List ℕ) → as_str d ≡ Some s → ¬ Contains words s → IsNoWordOf words d (here OutOfRange)
-
--- the words of a table, whatever they stand for
-abbrev pub words_of : {A : Type 0} → List (List ℕ × A) → List (List ℕ)
-words_of rows = map (λ row. row.0) rows
 
 -- ---- names
 

@@ -1,5 +1,4 @@
 pub mod Name
-pub mod Property
 pub mod Scalar
 pub mod Words
 pub mod Parts

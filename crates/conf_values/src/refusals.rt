@@ -4,8 +4,7 @@ ghost use Rattle.serde_json.specs.Data.{Data};
 ghost use Rattle.conf_tree.specs.Flaw.{Flaw};
 ghost use Rattle.conf_tree.specs.Reading.{object_of, list_of, text_of, flag_of, whole_of};
 ghost use Rattle.conf_values.specs.Name.{name_of, plain_name_of};
-ghost use Rattle.conf_values.specs.Scalar.{natural_of, signed_of, config_text_of, uuid_of};
-ghost use Rattle.conf_values.specs.LeafFlaws.{IsNoObject, IsNoList, IsNoText, IsNoFlag, IsNoNatural, IsNoSigned, IsNoWhole, IsNoConfigText, IsNoUuid, IsNoName, IsNoPlainName};
+ghost use Rattle.conf_values.specs.LeafFlaws.{IsNoObject, IsNoList, IsNoText, IsNoFlag, IsNoWhole, IsNoName, IsNoPlainName};
 
 /// A name that is refused is no identifier, too long or, where it may not be one, a reserved word.
 pub fn names_refused()
@@ -23,14 +22,5 @@ pub fn kinds_refused()
 
 /// What is refused as a number is none, is not whole, or is outside its bounds.
 pub fn numbers_refused()
-    ensures naturals { (low high : ℕ) (d : Data) (flaw : Flaw) → natural_of low high d ≡ Err flaw → IsNoNatural low high d flaw }
-    ensures signed { (d : Data) (flaw : Flaw) → signed_of d ≡ Err flaw → IsNoSigned d flaw }
     ensures wholes { (low high : ℤ) (d : Data) (flaw : Flaw) → whole_of low high d ≡ Err flaw → IsNoWhole low high d flaw }
-{}
-
-/// What is refused as a text that people read is no text or has a control character, and what is refused as an identifier of
-/// 16 bytes is no text or stands for none.
-pub fn texts_refused()
-    ensures texts { (d : Data) (flaw : Flaw) → config_text_of d ≡ Err flaw → IsNoConfigText d flaw }
-    ensures identifiers { (d : Data) (flaw : Flaw) → uuid_of d ≡ Err flaw → IsNoUuid d flaw }
 {}

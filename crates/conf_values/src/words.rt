@@ -1,59 +1,66 @@
-//! The fixed words of a configuration, and what they stand for.
-ghost use Rattle.std.specs.Prelude.{◌≡◌};
-ghost use Rattle.conf_values.specs.Words.{word_in, class_words, base_words, order_words};
+//! What the fixed words of a configuration stand for.
+ghost use Rattle.std.specs.Prelude.{◌≡◌, map};
+ghost use Rattle.std.specs.List.{zip};
+ghost use Rattle.conf_table.specs.Words.{words_of};
+ghost use Rattle.conf_table.specs.declared.words.Words.TheVariants as choices;
+ghost use Rattle.conf_values.specs.Words.{word_in, base_words, order_words};
 
+use conf_table::{Words, words_in};
 use ctf_types::{Base, ByteOrder};
 
-/// The class of a field type (barectf 3.1, "Field type objects").
-#[derive(Clone, Copy, Debug, PartialEq, Eq)]
-pub enum FieldClass {
-    UnsignedInteger,
-    SignedInteger,
-    UnsignedEnumeration,
-    SignedEnumeration,
-    Text,
-    StaticArray,
-    DynamicArray,
-    Structure,
-}
+/// What each word of a display base stands for, in the order of the table's words.
+static BASES: [Base; 8] = [
+    Base::Bin,
+    Base::Bin,
+    Base::Oct,
+    Base::Oct,
+    Base::Dec,
+    Base::Dec,
+    Base::Hex,
+    Base::Hex,
+];
 
-/// The class that this word stands for.
-pub fn class_word(word: &str) -> Option<FieldClass>
-    ensures { result ≡ word_in class_words word.now }
-{
-    match word {
-        "unsigned-integer" | "unsigned-int" | "uint" => Some(FieldClass::UnsignedInteger),
-        "signed-integer" | "signed-int" | "sint" => Some(FieldClass::SignedInteger),
-        "unsigned-enumeration" | "unsigned-enum" | "uenum" => Some(FieldClass::UnsignedEnumeration),
-        "signed-enumeration" | "signed-enum" | "senum" => Some(FieldClass::SignedEnumeration),
-        "string" | "str" => Some(FieldClass::Text),
-        "static-array" => Some(FieldClass::StaticArray),
-        "dynamic-array" => Some(FieldClass::DynamicArray),
-        "structure" | "struct" => Some(FieldClass::Structure),
-        _ => None,
-    }
-}
+/// What each word of a byte order stands for, in the order of the table's words.
+static ORDERS: [ByteOrder; 6] = [
+    ByteOrder::Little,
+    ByteOrder::Little,
+    ByteOrder::Little,
+    ByteOrder::Big,
+    ByteOrder::Big,
+    ByteOrder::Big,
+];
 
 /// The display base that this word stands for.
+#[tactic(auto, unfolding(crate::specs::Words::base_words))]
 pub fn base_word(word: &str) -> Option<Base>
     ensures { result ≡ word_in base_words word.now }
 {
-    match word {
-        "binary" | "bin" => Some(Base::Bin),
-        "octal" | "oct" => Some(Base::Oct),
-        "decimal" | "dec" => Some(Base::Dec),
-        "hexadecimal" | "hex" => Some(Base::Hex),
-        _ => None,
-    }
+    meaning(words_in(Words::DisplayBase), &BASES, word)
 }
 
 /// The byte order that this word stands for.
+#[tactic(auto, unfolding(crate::specs::Words::order_words))]
 pub fn order_word(word: &str) -> Option<ByteOrder>
     ensures { result ≡ word_in order_words word.now }
 {
-    match word {
-        "little-endian" | "little" | "le" => Some(ByteOrder::Little),
-        "big-endian" | "big" | "be" => Some(ByteOrder::Big),
-        _ => None,
-    }
+    meaning(words_in(Words::ByteOrder), &ORDERS, word)
 }
+
+/// The meaning that stands where the word does.
+fn meaning<T: Copy>(words: &'static [&'static str], meanings: &'static [T], word: &str) -> Option<T>
+    ensures { result ≡ word_in (zip (map (λ w. w.now) words.now) meanings.now) word.now }
+{
+    for (other, meaning) in words.iter().zip(meanings) {
+        if word == *other {
+            return Some(*meaning);
+        }
+    }
+    None
+}
+
+/// Each word of the table stands for something, and no other word does.
+#[tactic(auto, unfolding(crate::specs::Words::base_words, crate::specs::Words::order_words, conf_table::specs::Words::words_of))]
+pub fn words_of_the_table()
+    ensures bases { map (λ row. row.0) base_words ≡ words_of choices.DisplayBase }
+    ensures orders { map (λ row. row.0) order_words ≡ words_of choices.ByteOrder }
+{}

@@ -1,4 +1,4 @@
-use Rattle.conf_check.proofs.ConfigurationFlawLaws.{configuration_refused}
+use Rattle.conf_check.proofs.ConfigurationLaws.{configuration_refused}
 use Rattle.conf_check.proofs.laws.configurations_refused.Goals as goal
 
 pub returns : goal.returns

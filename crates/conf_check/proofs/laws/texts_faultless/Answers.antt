@@ -1,4 +1,4 @@
-use Rattle.conf_check.proofs.ExcludedConfigurations.{text_excluded}
+use Rattle.conf_check.proofs.ConfigurationLaws.{text_excluded}
 use Rattle.conf_check.proofs.laws.texts_faultless.Goals as goal
 
 pub returns : goal.returns

@@ -1,0 +1,3 @@
+pub mod Lists
+pub mod Made
+pub mod Names

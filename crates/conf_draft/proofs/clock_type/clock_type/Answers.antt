@@ -1,0 +1,20 @@
+use Rattle.std.proofs.Common.{◌≡◌, ℕ, ℤ, List, Option, Bool, true, refl, ap, ◌∙◌, rules, unwrap_or}
+use Rattle.ctf_types.specs.declared.ClockType.{ClockType}
+use Rattle.conf_draft.specs.Clocks.{clock_type, seconds_in, cycles_in}
+use Rattle.conf_draft.proofs.clock_type.clock_type.Goals as goal
+
+same_clock : (n m : List ℕ) (u v d e : Option (List ℕ)) (f g p q : ℕ) (s t : ℤ) (x y : ℕ) (a b : Bool)
+    → n ≡ m → u ≡ v → d ≡ e → f ≡ g → p ≡ q → s ≡ t → x ≡ y → a ≡ b
+    → ◌≡◌ {A = ClockType} (record { name = n; uuid = u; description = d; frequency = f; precision = p; offset_seconds = s; offset_cycles = x; absolute = a })
+    (record { name = m; uuid = v; description = e; frequency = g; precision = q; offset_seconds = t; offset_cycles = y; absolute = b })
+same_clock n m u v d e f g p q s t x y a b e1 e2 e3 e4 e5 e6 e7 e8 = rw (e1, e2, e3, e4, e5, e6, e7, e8) refl
+
+pub returns : goal.returns
+unfolding clock_type
+returns c =
+    same_clock _ _ _ _ _ _ _ _ _ _ _ _ _ _ _ _ c.in_ok-name.ensures c.identifier.ensures c.in_ok-description.ensures
+    (c.unwrap_or.ensures ∙ ap (λ o. unwrap_or o 1000000000) c.natural.ensures)
+    (c.unwrap_or-2.ensures ∙ ap (λ o. unwrap_or o 0) c.natural-2.ensures)
+    (search rules ∙ c.offset_in-offset_seconds.ensures.seconds ∙ ap seconds_in c.object.ensures)
+    (c.offset_in-offset_seconds.ensures.cycles ∙ ap cycles_in c.object.ensures)
+    (c.unwrap_or-3.ensures ∙ ap (λ o. unwrap_or o true) c.flag.ensures)

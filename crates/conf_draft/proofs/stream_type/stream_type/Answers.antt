@@ -1,0 +1,26 @@
+use Rattle.std.proofs.Common.{◌≡◌, ℕ, List, Option, Some, refl, subst}
+use Rattle.serde_json.specs.View.{members_view}
+use Rattle.ctf_types.specs.declared.ContextFeatures.{ContextFeatures}
+use Rattle.ctf_types.specs.declared.EventFeatures.{EventFeatures}
+use Rattle.ctf_types.specs.declared.EventType.{EventType}
+use Rattle.ctf_types.specs.declared.StructType.{StructType}
+use Rattle.conf_draft.specs.Features.{context, event_header}
+use Rattle.conf_draft.specs.Streams.{stream_type, stream_with, features_of, clock_of}
+use Rattle.conf_draft.proofs.stream_type.stream_type.Goals as goal
+
+stream_made : (n m : List ℕ) (k l : Option (List ℕ)) (c : Option ContextFeatures) (e : Option StructType) (h : Option EventFeatures) (s : Option StructType) (es : Option (List EventType))
+    (c1 : ContextFeatures) (e1 : StructType) (h1 : EventFeatures) (s1 : StructType) (es1 : List EventType) → m ≡ n → l ≡ k → c ≡ Some c1 → e ≡ Some e1 → h ≡ Some h1 → s ≡ Some s1 → es ≡ Some es1
+    → stream_with n k c e h s es ≡ Some (record { name = m; default_clock = l; context = c1; extras = e1; event_header = h1; common = s1; events = es1 })
+stream_made n m k l c e h s es c1 e1 h1 s1 es1 p q r t u v w = rw (← p, ← q, r, t, u, v, w) refl
+
+pub returns : goal.returns
+unfolding stream_type
+returns c =
+    let ms = members_view c.args.members.now.entries in
+    let own = c.in_ok-own.own in
+    stream_made c.args.name.now c.in_ok-name.name (clock_of ms) c.in_ok-default_clock.default_clock _ _ _ _ _ own.context c.in_ok-extras.extras own.event_header c.in_ok-common.common c.in_ok-events.events
+    c.in_ok-name.ensures c.in_ok-default_clock.ensures
+    (subst (λ k. context k (features_of ms) ≡ Some own.context) c.in_ok-default_clock.ensures c.in_ok-own.ensures.context)
+    c.in_ok-extras.ensures
+    (subst (λ k. event_header k (features_of ms) ≡ Some own.event_header) c.in_ok-default_clock.ensures c.in_ok-own.ensures.event_header)
+    c.in_ok-common.ensures c.in_ok-events.ensures

@@ -1,0 +1,13 @@
+pub mod Alignments
+pub mod Clocks
+pub mod Enumerations
+pub mod Environments
+pub mod Events
+pub mod Features
+pub mod FieldTypes
+pub mod Integers
+pub mod Lookups
+pub mod Members
+pub mod Streams
+pub mod Structures
+pub mod Traces

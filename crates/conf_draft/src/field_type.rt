@@ -1,0 +1,93 @@
+//! Field types that may stand anywhere in a structure (barectf 3.1, "Field type objects").
+ghost use Rattle.std.specs.Prelude.{◌≡◌, ◌≤◌, Some, IsSome, IfOk};
+ghost use Rattle.serde_json.specs.Data.{object};
+ghost use Rattle.serde_json.specs.View.{view, members_view};
+ghost use Rattle.ctf_types.specs.declared.FieldType.TheVariants as fields;
+ghost use Rattle.ctf_types.specs.FieldTypes.{chain_of};
+ghost use Rattle.conf_draft.specs.FieldTypes.{class_of as class_of_members, length_of, field_type as field_type_of_data, element as element_of};
+
+use crate::enumeration::enumeration;
+use crate::integer::integer;
+use crate::lookup::{natural, word};
+use conf_table::{Place, class_place};
+use ctf_types::{Element, FieldType};
+use serde_json::{Map, Value};
+use std::alloc::{AllocError, Global};
+
+/// The place whose properties a field type has.
+#[tactic(auto, unfolding(crate::specs::FieldTypes::class_of))]
+pub(crate) fn class_of(members: &Map<String, Value>) -> Option<Place>
+    ensures { result ≡ class_of_members (members_view members.now.entries) }
+{
+    match word(members, "class") {
+        Some(word) => class_place(word),
+        None => None,
+    }
+}
+
+/// The field type that a value is: an integer, an enumeration, a string, or a static array of one of them.
+#[cycle(field_type)]
+fn field_type(alloc: Global, value: &Value) -> Result<FieldType, AllocError>
+    requires { IsSome (field_type_of_data (view value.now)) }
+    ensures { IfOk result (λ t. field_type_of_data (view value.now) ≡ Some t) }
+{
+    match value {
+        Value::Object(members) => field_type_of(alloc, members),
+        _ => unreachable!(),
+    }
+}
+
+/// The field type that an object is.
+#[cycle(field_type)]
+#[tactic(auto, unfolding(crate::specs::FieldTypes::of_class))]
+pub(crate) fn field_type_of(
+    alloc: Global,
+    members: &Map<String, Value>,
+) -> Result<FieldType, AllocError>
+    requires { IsSome (field_type_of_data (object (members_view members.now.entries))) }
+    ensures { IfOk result (λ t. field_type_of_data (object (members_view members.now.entries)) ≡ Some t) }
+{
+    match class_of(members) {
+        Some(Place::UnsignedInteger) => Ok(FieldType::Int(integer(false, members))),
+        Some(Place::SignedInteger) => Ok(FieldType::Int(integer(true, members))),
+        Some(Place::UnsignedEnumeration) => {
+            Ok(FieldType::Enum(enumeration(alloc, false, members)?))
+        }
+        Some(Place::SignedEnumeration) => Ok(FieldType::Enum(enumeration(alloc, true, members)?)),
+        Some(Place::Str) => Ok(FieldType::Str),
+        Some(Place::StaticArray) => static_array(alloc, length(members), element(alloc, members)?),
+        _ => unreachable!(),
+    }
+}
+
+#[tactic(auto, unfolding(crate::specs::FieldTypes::length_of))]
+fn length(members: &Map<String, Value>) -> u64
+    ensures { result ≡ length_of (members_view members.now.entries) }
+{
+    natural(members, "length").unwrap_or(0)
+}
+
+/// An array of so many elements.
+fn static_array(alloc: Global, length: u64, element: FieldType) -> Result<FieldType, AllocError>
+    requires { length ≤ 1048576 }
+    ensures { IfOk result (λ t. t ≡ fields.Static (chain_of element) length) }
+{
+    match Element::new(alloc, element) {
+        Ok(element) => Ok(FieldType::Static(element, length as u32)),
+        Err(_) => Err(AllocError),
+    }
+}
+
+/// The type of an array's elements.
+#[cycle(field_type)]
+pub(crate) fn element(alloc: Global, members: &Map<String, Value>) -> Result<FieldType, AllocError>
+    requires { IsSome (element_of (members_view members.now.entries)) }
+    ensures { IfOk result (λ t. element_of (members_view members.now.entries) ≡ Some t) }
+{
+    for (name, value) in members.iter() {
+        if name.as_str() == "element-field-type" {
+            return field_type(alloc, value);
+        }
+    }
+    unreachable!()
+}

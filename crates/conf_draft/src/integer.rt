@@ -1,0 +1,63 @@
+//! Integer field types (barectf 3.1, "Integer field type objects").
+ghost use Rattle.std.specs.Prelude.{◌≡◌, Some, IsSome};
+ghost use Rattle.serde_json.specs.View.{members_view};
+ghost use Rattle.conf_draft.specs.Integers.{integer as integer_of, made as made_of, base_of, size_of, align_of, default_align as default_align_of};
+
+use crate::alignment::alignment;
+use crate::lookup::{natural, word};
+use conf_values::base_word;
+use ctf_types::{Base, IntType};
+use serde_json::{Map, Value};
+
+/// The integer type that an object of an integer class is.
+#[tactic(auto, unfolding(crate::specs::Integers::integer))]
+pub(crate) fn integer(signed: bool, members: &Map<String, Value>) -> IntType
+    requires { IsSome (integer_of signed (members_view members.now.entries)) }
+    ensures { integer_of signed (members_view members.now.entries) ≡ Some result }
+{
+    made(size(members), align(members), signed, base(members))
+}
+
+/// The integer type of this size and this alignment in bits.
+#[tactic(auto, unfolding(crate::specs::Integers::made))]
+fn made(size: u64, align: u64, signed: bool, base: Base) -> IntType
+    requires { IsSome (made_of size align signed base) }
+    ensures { made_of size align signed base ≡ Some result }
+{
+    match IntType::new(size as u8, align as u32, signed, base) {
+        Some(made) => made,
+        None => unreachable!(),
+    }
+}
+
+#[tactic(auto, unfolding(crate::specs::Integers::size_of))]
+fn size(members: &Map<String, Value>) -> u64
+    ensures { result ≡ size_of (members_view members.now.entries) }
+{
+    natural(members, "size").unwrap_or(0)
+}
+
+#[tactic(auto, unfolding(crate::specs::Integers::align_of))]
+fn align(members: &Map<String, Value>) -> u64
+    ensures { result ≡ align_of (members_view members.now.entries) }
+{
+    alignment(members, "alignment").unwrap_or(default_align(size(members)))
+}
+
+/// The alignment in bits of an integer of this size that has none of its own.
+fn default_align(size: u64) -> u64
+    ensures { result ≡ default_align_of size }
+{
+    if size % 8 == 0 { 8 } else { 1 }
+}
+
+/// The base in which the integer is shown, decimal where it is left out.
+#[tactic(auto, unfolding(crate::specs::Integers::base_of))]
+fn base(members: &Map<String, Value>) -> Base
+    ensures { result ≡ base_of (members_view members.now.entries) }
+{
+    match word(members, "preferred-display-base") {
+        Some(word) => base_word(word).unwrap_or(Base::Dec),
+        None => Base::Dec,
+    }
+}

@@ -1,0 +1,105 @@
+//! The values of an object's properties. A property that is left out, or null, or of another kind, has none.
+ghost use Rattle.std.specs.Prelude.{◌≡◌, IfOk, option_map};
+ghost use Rattle.serde_json.specs.View.{items_view, members_view};
+ghost use Rattle.conf_draft.specs.Lookups.{natural as natural_in, signed as signed_in, flag as flag_in, word as word_in, object as object_in, list as list_in, identifier as identifier_in};
+
+use conf_tree::optional;
+use conf_values::{as_natural, parsed};
+use ctf_types::Text;
+use serde_json::{Map, Value};
+use std::alloc::{AllocError, Global};
+use uuid::Uuid;
+
+/// The whole number from 0 to 2^64 - 1 that the property `name` is.
+#[tactic(auto, unfolding(crate::specs::Lookups::natural))]
+pub(crate) fn natural(members: &Map<String, Value>, name: &str) -> Option<u64>
+    ensures { result ≡ natural_in name.now (members_view members.now.entries) }
+{
+    match optional(members, name) {
+        Some(value) => as_natural(value),
+        None => None,
+    }
+}
+
+/// The whole number from -2^63 to 2^63 - 1 that the property `name` is.
+#[tactic(auto, unfolding(crate::specs::Lookups::signed))]
+pub(crate) fn signed(members: &Map<String, Value>, name: &str) -> Option<i64>
+    ensures { result ≡ signed_in name.now (members_view members.now.entries) }
+{
+    match optional(members, name) {
+        Some(value) => value.as_i64(),
+        None => None,
+    }
+}
+
+/// The flag that the property `name` is.
+#[tactic(auto, unfolding(crate::specs::Lookups::flag))]
+pub(crate) fn flag(members: &Map<String, Value>, name: &str) -> Option<bool>
+    ensures { result ≡ flag_in name.now (members_view members.now.entries) }
+{
+    match optional(members, name) {
+        Some(value) => value.as_bool(),
+        None => None,
+    }
+}
+
+/// The text that the property `name` is.
+#[tactic(auto, unfolding(crate::specs::Lookups::word))]
+pub(crate) fn word<'v>(members: &'v Map<String, Value>, name: &str) -> Option<&'v str>
+    ensures { option_map (λ s. s.now) result ≡ word_in name.now (members_view members.now.entries) }
+{
+    match optional(members, name) {
+        Some(value) => value.as_str(),
+        None => None,
+    }
+}
+
+/// The object that the property `name` is.
+#[tactic(auto, unfolding(crate::specs::Lookups::object))]
+pub(crate) fn object<'v>(
+    members: &'v Map<String, Value>,
+    name: &str,
+) -> Option<&'v Map<String, Value>>
+    ensures { option_map (λ m. members_view m.now.entries) result ≡ object_in name.now (members_view members.now.entries) }
+{
+    match optional(members, name) {
+        Some(value) => value.as_object(),
+        None => None,
+    }
+}
+
+/// The items of the list that the property `name` is.
+#[tactic(auto, unfolding(crate::specs::Lookups::list))]
+pub(crate) fn list<'v>(members: &'v Map<String, Value>, name: &str) -> Option<&'v Vec<Value>>
+    ensures { option_map (λ v. items_view v.now.items) result ≡ list_in name.now (members_view members.now.entries) }
+{
+    match optional(members, name) {
+        Some(value) => value.as_array(),
+        None => None,
+    }
+}
+
+/// A copy of the text that the property `name` is.
+pub(crate) fn text(
+    alloc: Global,
+    members: &Map<String, Value>,
+    name: &str,
+) -> Result<Option<Text>, AllocError>
+    ensures { IfOk result (λ t. t ≡ word_in name.now (members_view members.now.entries)) }
+{
+    match word(members, name) {
+        Some(word) => Ok(Some(Text::from_str(alloc, word)?)),
+        None => Ok(None),
+    }
+}
+
+/// The identifier that the property `name` is the text of.
+#[tactic(auto, unfolding(crate::specs::Lookups::identifier))]
+pub(crate) fn identifier(members: &Map<String, Value>, name: &str) -> Option<Uuid>
+    ensures { result ≡ identifier_in name.now (members_view members.now.entries) }
+{
+    match word(members, name) {
+        Some(word) => parsed(word),
+        None => None,
+    }
+}

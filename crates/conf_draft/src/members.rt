@@ -1,0 +1,97 @@
+//! Members lists (barectf 3.1, "Structure field type member object").
+ghost use Rattle.std.specs.Prelude.{◌≡◌, [], Some, IsSome, IfOk, OnOk, option_map};
+ghost use Rattle.serde_json.specs.View.{view, items_view, members_view};
+ghost use Rattle.conf_draft.specs.Members.{member_type as member_type_in, told_type as told_type_of, member_of as member_of_value, behind, behind_named, behind_entry, members_behind};
+
+use crate::field_type::{class_of, element, field_type_of};
+use conf_table::Place;
+use conf_tree::optional;
+use ctf_types::{Length, MemberType, Members, Text};
+use serde_json::{Map, Value};
+use std::alloc::{AllocError, Global};
+
+/// The members that the entries of a list have.
+pub(crate) fn members_of(alloc: Global, entries: &Vec<Value>) -> Result<Members, AllocError>
+    requires { IsSome (members_behind [] (items_view entries.now.items)) }
+    ensures { IfOk result (λ m. members_behind [] (items_view entries.now.items) ≡ Some m) }
+{
+    let mut members = Members::new(alloc);
+    for entry in entries {
+        push_entry(alloc, &mut members, entry)?;
+    }
+    Ok(members)
+}
+
+fn push_entry(alloc: Global, members: &mut Members, entry: &Value) -> Result<(), AllocError>
+    requires { IsSome (behind_entry members.old (view entry.now)) }
+    ensures { OnOk result (behind_entry members.old (view entry.now) ≡ Some members.new) }
+{
+    match entry {
+        Value::Object(named) => push_named(alloc, members, named),
+        _ => Ok(()),
+    }
+}
+
+fn push_named(
+    alloc: Global,
+    members: &mut Members,
+    named: &Map<String, Value>,
+) -> Result<(), AllocError>
+    requires { IsSome (behind_named members.old (members_view named.now.entries)) }
+    ensures { OnOk result (behind_named members.old (members_view named.now.entries) ≡ Some members.new) }
+{
+    for (name, value) in named.iter() {
+        push_member(alloc, members, name.as_str(), value)?;
+    }
+    Ok(())
+}
+
+#[tactic(auto, using(crate::proofs::Names::not_there), unfolding(crate::specs::Members::behind))]
+fn push_member(
+    alloc: Global,
+    members: &mut Members,
+    name: &str,
+    value: &Value,
+) -> Result<(), AllocError>
+    requires { IsSome (behind members.old name.now (member_of_value (view value.now))) }
+    ensures { OnOk result (behind members.old name.now (member_of_value (view value.now)) ≡ Some members.new) }
+{
+    let member = member_of(alloc, value)?;
+    let name = Text::from_str(alloc, name)?;
+    match members.push(name, member) {
+        Ok(()) => Ok(()),
+        Err(_) => Err(AllocError),
+    }
+}
+
+/// The type of a member that an entry's value tells of.
+fn member_of(alloc: Global, value: &Value) -> Result<MemberType, AllocError>
+    requires { IsSome (member_of_value (view value.now)) }
+    ensures { IfOk result (λ t. member_of_value (view value.now) ≡ Some t) }
+{
+    match value {
+        Value::Object(told) => told_type(alloc, optional(told, "field-type")),
+        _ => unreachable!(),
+    }
+}
+
+fn told_type(alloc: Global, value: Option<&Value>) -> Result<MemberType, AllocError>
+    requires { IsSome (told_type_of (option_map (λ v. view v.now) value)) }
+    ensures { IfOk result (λ t. told_type_of (option_map (λ v. view v.now) value.entry) ≡ Some t) }
+{
+    match value {
+        Some(Value::Object(members)) => member_type(alloc, members),
+        _ => unreachable!(),
+    }
+}
+
+#[tactic(auto, unfolding(crate::specs::Members::member_type))]
+fn member_type(alloc: Global, members: &Map<String, Value>) -> Result<MemberType, AllocError>
+    requires { IsSome (member_type_in (members_view members.now.entries)) }
+    ensures { IfOk result (λ t. member_type_in (members_view members.now.entries) ≡ Some t) }
+{
+    match class_of(members) {
+        Some(Place::DynamicArray) => Ok(MemberType::Dyn(element(alloc, members)?, Length::Auto)),
+        _ => Ok(MemberType::Plain(field_type_of(alloc, members)?)),
+    }
+}

@@ -1,0 +1,9 @@
+pub mod Flaws
+pub mod Forms
+pub mod Known
+pub mod Leaves
+pub mod Limits
+pub mod Names
+pub mod Numbers
+pub mod Places
+pub mod Shapes

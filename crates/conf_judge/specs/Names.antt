@@ -1,0 +1,111 @@
+-- The names of the entries of maps, and the names that members take: a member's own, and that of its length where it is a
+-- dynamic array (barectf 3.1, "Structure field type member object"; CTF 1.8.3, section 5.2).
+use Rattle.std.specs.Prelude.{◌||◌, ℕ, Bool, true, false, List, [], ◌∷◌, Option, Some, None, is_some, Result, Ok, Err, codes, ⊤, if◌then◌else◌}
+use Rattle.serde_json.specs.Data.{Data, null, object, Members, no_members, member, put}
+use Rattle.serde_json.specs.Find.{get_member, as_str}
+use Rattle.ctf_types.specs.Packets.{own_names}
+use Rattle.ctf_types.specs.Shown.{length_name}
+use Rattle.conf_tree.specs.declared.fault_kind.FaultKind.TheVariants.{NameClash}
+use Rattle.conf_tree.specs.Flaw.{Flaw, here}
+use Rattle.conf_tree.specs.Reading.{◌>>=◌}
+use Rattle.conf_table.specs.declared.place.Place.{Place}
+use Rattle.conf_table.specs.declared.place.Place.TheVariants as places
+use Rattle.conf_table.specs.declared.row.Entries.{Entries}
+use Rattle.conf_table.specs.declared.row.Keys.{Keys}
+use Rattle.conf_table.specs.declared.row.Keys.TheVariants.{Name, PlainName, Label, Index}
+use Rattle.conf_table.specs.Classes.{class_words, class_in}
+use Rattle.conf_table.specs.Table.{entries_of}
+use Rattle.conf_values.specs.Name.{name_of, plain_name_of}
+use Rattle.conf_values.specs.Scalar.{is_printable}
+use Rattle.conf_judge.specs.Known.{Known}
+use Rattle.conf_judge.specs.Leaves.{only_if}
+
+-- the place whose properties a field type has, where its class says one
+abbrev pub class_named : Option (List ℕ) → Option Place
+class_named None = None
+class_named (Some word) = class_in word class_words
+
+abbrev pub class_said : Option Data → Option Place
+class_said None = None
+class_said (Some d) = class_named (as_str d)
+
+unfoldable pub class_of : Members → Option Place
+class_of ms = class_said (get_member (codes "class") ms)
+
+abbrev pub is_dynamic_array : Option Place → Bool
+is_dynamic_array (Some places.DynamicArray) = true
+is_dynamic_array _ = false
+
+-- the class of the type that is told of
+abbrev pub class_of_type : Option Data → Option Place
+class_of_type (Some (object ms)) = class_of ms
+class_of_type _ = None
+
+-- the class of the member that an entry's value tells of
+abbrev pub class_of_member : Data → Option Place
+class_of_member (object ms) = class_of_type (get_member (codes "field-type") ms)
+class_of_member _ = None
+
+-- the member of this value is a dynamic array
+unfoldable pub is_dynamic : Data → Bool
+is_dynamic d = is_dynamic_array (class_of_member d)
+
+-- ---- names that are taken
+
+abbrev pub take : List ℕ → Members → Members
+take name taken = put name null taken
+
+abbrev pub take_each : List (List ℕ) → Members → Members
+take_each [] taken = taken
+take_each (name ∷ names) taken = take_each names (take name taken)
+
+-- of a packet context, the members that it has itself
+unfoldable pub names_beside : Place → Members
+names_beside places.ExtraMembers = take_each own_names no_members
+names_beside _ = no_members
+
+abbrev pub take_length : Bool → List ℕ → Members → Members
+take_length true name taken = take (length_name name) taken
+take_length false name taken = taken
+
+abbrev pub take_all : Members → Members → Members
+take_all no_members taken = taken
+take_all (member k d ms) taken = take_all ms (take k (take_length (is_dynamic d) k taken))
+
+-- with the names that an entry's member has
+abbrev pub with_names : Data → Members → Members
+with_names (object ms) taken = take_all ms taken
+with_names _ taken = taken
+
+abbrev pub is_taken : Members → List ℕ → Bool
+is_taken taken name = is_some (get_member name taken)
+
+abbrev pub length_is_taken : Bool → Members → List ℕ → Bool
+length_is_taken true taken name = is_taken taken (length_name name)
+length_is_taken false taken name = false
+
+unfoldable pub free_of : Members → List ℕ → Data → Result ⊤ Flaw
+free_of taken name d = if is_taken taken name || length_is_taken (is_dynamic d) taken name then Err (here NameClash) else Ok tt
+
+-- ---- the name of an entry
+
+abbrev pub is_entry : Place → Bool
+is_entry places.Entry = true
+is_entry _ = false
+
+unfoldable pub plain_of : Known → Bool → List ℕ → Data → Result ⊤ Flaw
+plain_of k true name d = plain_name_of name >>= (λ _. free_of k.taken name d)
+plain_of k false name d = plain_name_of name
+
+unfoldable pub key_by : Known → Place → Keys → List ℕ → Data → Result ⊤ Flaw
+key_by k place Name name d = name_of name
+key_by k place PlainName name d = plain_of k (is_entry place) name d
+key_by k place Label name d = only_if (is_printable name)
+key_by k place Index name d = Ok tt
+
+abbrev pub key_in : Known → Place → Option Entries → List ℕ → Data → Result ⊤ Flaw
+key_in k place None name d = Ok tt
+key_in k place (Some entries) name d = key_by k place entries.keys name d
+
+unfoldable pub key_of : Known → Place → List ℕ → Data → Result ⊤ Flaw
+key_of k place name d = key_in k place (entries_of place) name d

@@ -1,0 +1,78 @@
+//! The class of a field type: what it leads to, and whether it can stand at a place.
+ghost use Rattle.std.specs.Prelude.{◌≡◌, ◌≤◌, IfErr, option_map};
+ghost use Rattle.arrayvec.specs.ArrayVec.{array_vec_len};
+ghost use Rattle.serde_json.specs.View.{view, members_view};
+ghost use Rattle.conf_tree.specs.Reading.{Gives};
+ghost use Rattle.conf_judge.specs.Flaws.{other_class as other_class_of, class_rule};
+ghost use Rattle.conf_judge.specs.Names.{class_of as class_of_members, class_said as class_said_of, class_named as class_named_of};
+
+use crate::places::is_position;
+use conf_table::{Place, class_place};
+use conf_tree::{At, ConfFault, FaultKind, needed, text};
+use conf_values::member;
+use serde_json::{Map, Value};
+use std::alloc::Global;
+
+/// Refuses a field type without a class, or of one that cannot stand at this place.
+#[tactic(auto, unfolding(crate::specs::Flaws::class_rule))]
+pub(crate) fn check_class(
+    alloc: Global,
+    place: Place,
+    members: &Map<String, Value>,
+) -> Result<(), ConfFault>
+    ensures reading { Gives (λ _. tt) result (class_rule place (members_view members.now.entries)) }
+    ensures steps { IfErr result (λ fault. array_vec_len fault.path ≤ 1) }
+{
+    if !is_position(place) {
+        return Ok(());
+    }
+    let value = needed(alloc, members, "class")?;
+    let word = text(alloc, At::Property("class"), value)?;
+    match class_place(word) {
+        Some(class) => {
+            if place.admits(class) {
+                Ok(())
+            } else {
+                Err(ConfFault::here(other_class(place)))
+            }
+        }
+        None => Err(At::Property("class").fault(alloc, FaultKind::OutOfRange)),
+    }
+}
+
+/// The kind of fault that a field type of a class that cannot stand here is.
+#[tactic(auto, unfolding(crate::specs::Flaws::other_class))]
+fn other_class(place: Place) -> FaultKind
+    ensures { result ≡ other_class_of place }
+{
+    match place {
+        Place::IdentifierFeature => FaultKind::OutOfRange,
+        _ => FaultKind::WrongKind,
+    }
+}
+
+/// The place whose properties a field type has, where its class says one.
+#[tactic(auto, unfolding(crate::specs::Names::class_of))]
+pub(crate) fn class_of(members: &Map<String, Value>) -> Option<Place>
+    ensures { result ≡ class_of_members (members_view members.now.entries) }
+{
+    class_said(member(members, "class"))
+}
+
+fn class_said(value: Option<&Value>) -> Option<Place>
+    ensures { result ≡ class_said_of (option_map (λ v. view v.now) value.entry) }
+{
+    match value {
+        Some(value) => class_named(value.as_str()),
+        None => None,
+    }
+}
+
+fn class_named(word: Option<&str>) -> Option<Place>
+    ensures { result ≡ class_named_of (option_map (λ s. s.now) word.entry) }
+{
+    match word {
+        Some(word) => class_place(word),
+        None => None,
+    }
+}

@@ -1,0 +1,18 @@
+//! Judges the objects of a resolved configuration by the table of what they may hold.
+#![tactic(auto)]
+
+mod around;
+mod class;
+mod form;
+mod judge;
+mod leaf;
+mod limits;
+mod names;
+mod numbers;
+mod places;
+mod presence;
+mod shape;
+mod size;
+
+pub use judge::check_objects;
+pub use limits::check_limits;

@@ -1,0 +1,144 @@
+//! The ranges of an enumeration, and the numbers that its integer can hold.
+ghost use Rattle.std.specs.Prelude.{◌≡◌, ◌≤◌, ◌^◌, IfErr, pos};
+ghost use Rattle.arrayvec.specs.ArrayVec.{array_vec_len};
+ghost use Rattle.serde_json.specs.Data.{depth};
+ghost use Rattle.serde_json.specs.View.{view, items_view, members_view};
+ghost use Rattle.conf_tree.specs.Flaw.{index as item};
+ghost use Rattle.conf_tree.specs.Reading.{Gives, at};
+ghost use Rattle.conf_judge.specs.Numbers.{natural_in as natural_in_of, end_of, pair_of, range_of, inside_of, numbers_of as numbers_of_size, numbers_in as numbers_in_of, is_inside as is_inside_of};
+
+use conf_tree::{At, ConfFault, FaultKind, whole};
+use conf_values::{as_natural, member};
+use serde_json::{Map, Value};
+use std::alloc::Global;
+
+/// The numbers from one to another, both included.
+#[derive(Clone, Copy, Debug)]
+pub(crate) struct Span {
+    pub(crate) low: i128,
+    pub(crate) high: i128,
+}
+
+/// The lowest whole number that a configuration can hold.
+const LOWEST: i128 = -9_223_372_036_854_775_808;
+
+/// The highest whole number that a configuration can hold.
+const HIGHEST: i128 = 18_446_744_073_709_551_615;
+
+/// Every whole number that a configuration can hold.
+pub(crate) const ALL: Span = Span {
+    low: LOWEST,
+    high: HIGHEST,
+};
+
+/// 2 to the power of this number of bits.
+fn power(bits: u64) -> i128
+    requires { bits ≤ 64 }
+    ensures { result ≡ pos (2 ^ bits) }
+{
+    (1u128 << bits) as i128
+}
+
+/// The numbers that an integer of this size in bits can hold. Where the size is none, no number is outside.
+#[tactic(auto, unfolding(crate::specs::Numbers::numbers_of))]
+fn numbers_of(signed: bool, size: u64) -> Span
+    ensures { result ≡ numbers_of_size signed size }
+{
+    if size == 0 || size > 64 {
+        return ALL;
+    }
+    if signed {
+        let half = power(size - 1);
+        Span {
+            low: -half,
+            high: half - 1,
+        }
+    } else {
+        Span {
+            low: 0,
+            high: power(size) - 1,
+        }
+    }
+}
+
+/// The numbers that an integer with these properties can hold.
+#[tactic(auto, unfolding(crate::specs::Numbers::numbers_in))]
+pub(crate) fn numbers_in(signed: bool, members: &Map<String, Value>) -> Span
+    ensures { result ≡ numbers_in_of signed (members_view members.now.entries) }
+{
+    match natural_in(members, "size") {
+        Some(size) => numbers_of(signed, size),
+        None => ALL,
+    }
+}
+
+/// The whole number that a property is, if it is one from 0 to 2^64 - 1.
+#[tactic(auto, unfolding(crate::specs::Numbers::natural_in))]
+pub(crate) fn natural_in(members: &Map<String, Value>, name: &str) -> Option<u64>
+    ensures { result ≡ natural_in_of name.now (members_view members.now.entries) }
+{
+    match member(members, name) {
+        Some(value) => as_natural(value),
+        None => None,
+    }
+}
+
+fn end_at(alloc: Global, value: &Value, index: usize) -> Result<i128, ConfFault>
+    ensures reading { Gives (λ z. z) result (at (item index) (end_of (view value.now))) }
+    ensures steps { IfErr result (λ fault. array_vec_len fault.path ≤ 1) }
+{
+    whole(alloc, At::Item(index), value, LOWEST, HIGHEST)
+}
+
+#[tactic(auto, using(crate::proofs::Sizes::pair_few, crate::proofs::Sizes::pair_many), unfolding(crate::specs::Numbers::pair_of))]
+fn pair(alloc: Global, items: &Vec<Value>) -> Result<Span, ConfFault>
+    ensures reading { Gives (λ s. s) result (pair_of (items_view items.now.items)) }
+    ensures steps { IfErr result (λ fault. array_vec_len fault.path ≤ 1) }
+{
+    match items.as_slice() {
+        [first, second] => {
+            let low = end_at(alloc, first, 0)?;
+            let high = end_at(alloc, second, 1)?;
+            Ok(Span { low, high })
+        }
+        [] | [_] | [_, _, _, ..] => Err(ConfFault::here(FaultKind::WrongKind)),
+    }
+}
+
+/// The range that a number or a pair of numbers is.
+#[tactic(auto, unfolding(crate::specs::Numbers::range_of))]
+fn range(alloc: Global, value: &Value) -> Result<Span, ConfFault>
+    ensures reading { Gives (λ s. s) result (range_of (view value.now)) }
+    ensures steps { IfErr result (λ fault. array_vec_len fault.path ≤ depth (view value.now)) }
+{
+    match value {
+        Value::Array(items) => pair(alloc, items),
+        Value::Null | Value::Bool(_) | Value::Number(_) | Value::String(_) | Value::Object(_) => {
+            let number = whole(alloc, At::Here, value, LOWEST, HIGHEST)?;
+            Ok(Span {
+                low: number,
+                high: number,
+            })
+        }
+    }
+}
+
+#[tactic(auto, unfolding(crate::specs::Numbers::is_inside))]
+fn is_inside(numbers: Span, range: Span) -> bool
+    ensures { result ≡ is_inside_of numbers range }
+{
+    range.low <= range.high && numbers.low <= range.low && range.high <= numbers.high
+}
+
+/// Refuses a value that is no range inside these numbers.
+#[tactic(auto, unfolding(crate::specs::Numbers::inside_of))]
+pub(crate) fn check_range(alloc: Global, numbers: Span, value: &Value) -> Result<(), ConfFault>
+    ensures reading { Gives (λ _. tt) result (inside_of numbers (view value.now)) }
+    ensures steps { IfErr result (λ fault. array_vec_len fault.path ≤ depth (view value.now)) }
+{
+    if is_inside(numbers, range(alloc, value)?) {
+        Ok(())
+    } else {
+        Err(ConfFault::here(FaultKind::OutOfRange))
+    }
+}

@@ -1,0 +1,490 @@
+-- What is told of a value by itself, and of the name of an entry, is a flaw of it.
+use Rattle.std.proofs.Common.{◌≡◌, ◌≢◌, ◌⊎◌, ◌↔◌, ◌≤◌, ◌<◌, ◌^◌, ◌&&◌, ◌||◌, ℕ, zero, suc, ℤ, pos, negsuc, Bool, true, false, not, cond, List, [], ◌∷◌, map, Contains, Option, Some, None, is_some, Result, Ok, Err, inl, inr, refl, sym, ap, subst, ◌∙◌, arith, get_or}
+use Rattle.std.specs.Prelude.{codes, unwrap_or, option_map, nat_lt, nat_eq, int_le}
+use Rattle.std.specs.List.{list_any}
+use Rattle.std.specs.Str.{bytes_eq}
+use Rattle.std.proofs.lemmas.Bool.{true≢false, false≢true, and_cases, and_parts, or_parts, or_cases, cases_lt, eqb-false, ltb-false, agree_below_at}
+use Rattle.std.proofs.lemmas.List.Folds.{list_any_at}
+use Rattle.std.proofs.lemmas.Slice.Eq.{bytes_eq-Decides}
+use Rattle.std.proofs.Math.Pow.{pow_mono}
+use borrow.Author.Differences.{le-true, le-false, below_in}
+use Rattle.serde_json.specs.Data.{Data, null, boolean, number, string, array, object, Items, no_items, item, Members, no_members, member}
+use Rattle.serde_json.specs.Events.{items_len}
+use Rattle.serde_json.specs.Find.{get_member, as_object, as_array, as_str, as_bool, as_number, as_integer}
+use Rattle.uuid.specs.Text.{parsed}
+use Rattle.ctf_types.specs.AllowedConfig.{lowest, highest}
+use Rattle.ctf_types.specs.Shown.{length_name}
+use Rattle.conf_tree.specs.declared.fault_kind.FaultKind.TheVariants.{WrongKind, OutOfRange, NameClash, NoSuchAlias}
+use Rattle.conf_tree.specs.Flaw.{Flaw, index, here, within}
+use Rattle.conf_tree.specs.Reading.{◌>>=◌, at, wanted, object_of, list_of, text_of, flag_of, whole_of, whole_or_not}
+use Rattle.conf_table.specs.declared.place.Place.{Place}
+use Rattle.conf_table.specs.declared.place.Place.TheVariants as places
+use Rattle.conf_table.specs.declared.row.Content.{Content}
+use Rattle.conf_table.specs.declared.row.Content.TheVariants as contents
+use Rattle.conf_table.specs.declared.row.Entries.{Entries}
+use Rattle.conf_table.specs.declared.row.Keys.{Keys}
+use Rattle.conf_table.specs.declared.row.Keys.TheVariants as keys
+use Rattle.conf_table.specs.Classes.{ClassWord, class_words, class_in}
+use Rattle.conf_table.specs.Table.{entries_of}
+use Rattle.conf_table.specs.Words.{words_of}
+use Rattle.conf_values.specs.LeafFlaws.{IsNoObject, IsNoList, IsNoText, IsNoFlag, IsNoWhole, IsNoConfigText, IsNoUuid, IsNoWordOf}
+use Rattle.conf_values.specs.Name.{plain_name_of}
+use Rattle.conf_values.specs.Scalar.{is_printable, uuid_in}
+use Rattle.conf_values.proofs.LeafFlawLaws.{same_flaw, refused_here_or_next, refused_there, refused_test, refused_where, wanted_refused, wanted_found, none_refused, holds_of, object_refused, list_refused, text_refused, flag_refused, whole_refused, control_there, name_refused, plain_name_refused}
+use Rattle.conf_values.proofs.Steps.{both_read, read_there, is_passed, ok_same}
+use Rattle.conf_judge.specs.Forms.{any_object, any_list, some_items, some_members, one_member, some_list, some_object, entry, feature, size_feature, form_of, itself_of}
+use Rattle.conf_judge.specs.Known.{Known}
+use Rattle.conf_judge.specs.Leaves.{only_if, whole_from, is_power_of_two, power_of, any_flag, one_flag, any_text, printable, identifier, identifier_or_auto, word_among, class_word, whole_or_text, level_or_none, level, leaf_of}
+use Rattle.conf_judge.specs.Names.{is_dynamic, is_taken, length_is_taken, free_of, is_entry, plain_of, key_by, key_in, key_of}
+use Rattle.conf_judge.specs.Numbers.{all_numbers, natural_or_none, natural_in, numbers_of, numbers_or_all, numbers_in, end_of, pair_of, single_of, range_of, is_inside, inside_of}
+use Rattle.conf_laws.specs.Around.{Around, enumeration_around, HasNumber, HasBits, IsTaken}
+use Rattle.conf_laws.specs.ValueFlaws.{IsPowerOfTwo, IsNoPowerOfTwo, IsNoLevel, IsNoWholeOrText, IsNoDefault, IsWhole, IsRange, IsNoRange, IsNoSomeList, IsNoSomeObject, IsNoEntry, IsNoFeature, IsNoSizeFeature, IsNoneAt, words_of_classes, IsNoValueOf, IsNoMemberName, IsNoLabel, IsNoKey, IsNoNameAt}
+use Rattle.conf_laws.proofs.Agreement.{Agrees, IsTrue, dynamic_told}
+
+-- ---- steps
+
+-- what holds where the first step is refused, and where the next is
+pub either_step : {A B P : Type 0} (r : Result A Flaw) (step : A → Result B Flaw) (flaw : Flaw) → (r >>= step) ≡ Err flaw → (r ≡ Err flaw → P) → ((x : A) → r ≡ Ok x → step x ≡ Err flaw → P) → P
+either_step r step flaw e first rest = elim (refused_here_or_next r step flaw e) [ inl refused ↦ first refused | inr (x, went, refused) ↦ rest x went refused ]
+
+-- the same where the last step goes well
+pub only_step : {A B P : Type 0} (r : Result A Flaw) (made : A → B) (flaw : Flaw) → (r >>= (λ x. Ok (made x))) ≡ Err flaw → (r ≡ Err flaw → P) → P
+only_step r made flaw e first = either_step r (λ x. Ok (made x)) flaw e first (λ x went never. none_refused (made x) flaw never)
+
+pub not_passed : (b : Bool) (flaw : Flaw) → only_if b ≡ Err flaw → (b ≡ false) × (flaw ≡ here OutOfRange)
+not_passed true flaw e = absurd cc
+not_passed false flaw e = (refl, cc)
+
+-- a text of which a test does not hold
+text_told : {P : Type 0} (test : List ℕ → Bool) (d : Data) (flaw : Flaw) → (text_of d >>= (λ s. only_if (test s))) ≡ Err flaw
+    → (as_str d ≡ None → flaw ≡ here WrongKind → P) → ((s : List ℕ) → as_str d ≡ Some s → test s ≡ false → flaw ≡ here OutOfRange → P) → P
+text_told test d flaw e none fails =
+    either_step (text_of d) (λ s. only_if (test s)) flaw e
+    (λ r. let told = wanted_refused (as_str d) flaw r in none told.0 told.1)
+    (λ s went r. let told = not_passed (test s) flaw r in fails s (wanted_found (as_str d) s went) told.0 told.1)
+
+-- ---- numbers
+
+whole_told : (low high : ℤ) (d : Data) (flaw : Flaw) → whole_from low high d ≡ Err flaw → IsNoWhole low high d flaw
+unfolding whole_from
+whole_told low high d flaw e = only_step (whole_of low high d) (λ z. tt) flaw e (whole_refused low high d flaw)
+
+whole_there : (low high : ℤ) (found : Option ℤ) (z : ℤ) → whole_or_not low high found ≡ Ok z → (found ≡ Some z) × (int_le low z ≡ true) × (int_le z high ≡ true)
+whole_there low high None z e = absurd cc
+whole_there low high (Some y) z e =
+    let p = is_passed (int_le low y && int_le y high) y z (here OutOfRange) e in
+    let b = and_parts (int_le low y) (int_le y high) p.0 in
+    (ap Some p.1, ap (int_le low) (sym p.1) ∙ b.0, ap (λ x. int_le x high) (sym p.1) ∙ b.1)
+
+-- a whole number that was read, and that it is between its bounds
+pub record WholeRead (low high : ℤ) (d : Data) (z : ℤ) : Type 0 where
+  pub whole : IsWhole d z
+  pub least : int_le low z ≡ true
+  pub most : int_le z high ≡ true
+
+pub whole_read : (low high : ℤ) (d : Data) (z : ℤ) → whole_of low high d ≡ Ok z → WholeRead low high d z
+unfolding whole_of
+whole_read low high d z e =
+    let m = both_read (wanted (as_number d)) (λ n. whole_or_not low high (as_integer n)) z e in
+    let there = whole_there low high (as_integer m.0) z m.2 in
+    record { whole = (m.0, wanted_found (as_number d) m.0 m.1, there.0); least = there.1; most = there.2 }
+
+power_is_one : (k : ℕ) → k < 64 → is_power_of_two (pos (2 ^ k)) ≡ true
+power_is_one k l = agree_below_at (λ j. is_power_of_two (pos (2 ^ j))) (λ j. true) 64 k refl l
+
+no_power : (z : ℤ) → int_le z (pos 18446744073709551615) ≡ true → is_power_of_two z ≡ false → ¬ IsPowerOfTwo z
+no_power z most e (k, is) =
+    elim (cases_lt k 64) [
+      | inl small ↦ false≢true (sym e ∙ ap is_power_of_two is ∙ power_is_one k small)
+      | inr large ↦
+          let above : 2 ^ 64 ≤ 2 ^ k = pow_mono large in
+          let below : int_le (pos (2 ^ k)) (pos 18446744073709551615) ≡ true = ap (λ x. int_le x (pos 18446744073709551615)) (sym is) ∙ most in
+          omega (arith, above, le-true (pos (2 ^ k)) (pos 18446744073709551615) below)
+    ]
+
+power_told : (d : Data) (flaw : Flaw) → power_of d ≡ Err flaw → IsNoPowerOfTwo d flaw
+unfolding power_of
+power_told d flaw e =
+    either_step (whole_of (pos 1) (pos 18446744073709551615) d) _ flaw e
+    (λ r. IsNoPowerOfTwo.no_number (whole_refused (pos 1) (pos 18446744073709551615) d flaw r))
+    (λ z went r.
+    let told = not_passed (is_power_of_two z) flaw r in
+    let read = whole_read (pos 1) (pos 18446744073709551615) d z went in
+    holds_of (IsNoPowerOfTwo d) (here OutOfRange) flaw told.1 (IsNoPowerOfTwo.no_power read.whole.0 z read.whole.1 read.whole.2 (no_power z read.most told.0)))
+
+-- ---- flags and texts
+
+flag_told : (d : Data) (flaw : Flaw) → any_flag d ≡ Err flaw → IsNoFlag d flaw
+unfolding any_flag
+flag_told d flaw e = only_step (flag_of d) (λ b. tt) flaw e (flag_refused d flaw)
+
+both_true : (b before : Bool) → not (b && before) ≡ false → (b ≡ true) × (before ≡ true)
+both_true true true e = (refl, refl)
+both_true true false e = absurd cc
+both_true false before e = absurd cc
+
+default_told : (k : Known) (around : Around) → Agrees k around → (d : Data) (flaw : Flaw) → one_flag k.has_default d ≡ Err flaw → IsNoDefault around d flaw
+unfolding one_flag
+default_told k around h d flaw e =
+    either_step (flag_of d) _ flaw e
+    (λ r. IsNoDefault.no_flag (flag_refused d flaw r))
+    (λ b went r.
+    let told = not_passed (not (b && k.has_default)) flaw r in
+    let both = both_true b k.has_default told.0 in
+    holds_of (IsNoDefault around d) (here OutOfRange) flaw told.1 (IsNoDefault.a_second (wanted_found (as_bool d) b went ∙ ap Some both.0) (h.second.0 both.1)))
+
+any_text_told : (d : Data) (flaw : Flaw) → any_text d ≡ Err flaw → IsNoText d flaw
+unfolding any_text
+any_text_told d flaw e = only_step (text_of d) (λ s. tt) flaw e (text_refused d flaw)
+
+control_told : (d : Data) (s : List ℕ) (flaw : Flaw) → as_str d ≡ Some s → is_printable s ≡ false → flaw ≡ here OutOfRange → IsNoConfigText d flaw
+control_told d s flaw is fails same = let control = control_there s fails in holds_of (IsNoConfigText d) (here OutOfRange) flaw same (IsNoConfigText.has_control s control.0 is control.1 control.2)
+
+printable_told : (d : Data) (flaw : Flaw) → printable d ≡ Err flaw → IsNoConfigText d flaw
+unfolding printable
+printable_told d flaw e = text_told is_printable d flaw e (λ none same. holds_of (IsNoConfigText d) (here WrongKind) flaw same (IsNoConfigText.no_text none)) (λ s is fails same. control_told d s flaw is fails same)
+
+pub none_there : {A : Type 0} (o : Option A) → is_some o ≡ false → o ≡ None
+none_there None e = refl
+none_there (Some x) e = absurd cc
+
+uuid_told : (d : Data) (s : List ℕ) (flaw : Flaw) → as_str d ≡ Some s → is_some (uuid_in s) ≡ false → flaw ≡ here OutOfRange → IsNoUuid d flaw
+unfolding uuid_in
+uuid_told d s flaw is fails same = holds_of (IsNoUuid d) (here OutOfRange) flaw same (IsNoUuid.no_uuid s is (none_there (parsed s) fails))
+
+no_uuid_text : (d : Data) (flaw : Flaw) → as_str d ≡ None → flaw ≡ here WrongKind → IsNoUuid d flaw
+no_uuid_text d flaw none same = holds_of (IsNoUuid d) (here WrongKind) flaw same (IsNoUuid.no_text none)
+
+identifier_told : (d : Data) (flaw : Flaw) → identifier d ≡ Err flaw → IsNoUuid d flaw
+unfolding identifier
+identifier_told d flaw e = text_told (λ s. is_some (uuid_in s)) d flaw e (no_uuid_text d flaw) (λ s is fails same. uuid_told d s flaw is fails same)
+
+some_none : {A : Type 0} (o : Option A) (x : A) → o ≡ Some x → o ≡ None → ⊥
+some_none o x p q = cc
+
+some_same : {A : Type 0} (o : Option A) (x y : A) → o ≡ Some x → o ≡ Some y → x ≡ y
+some_same o x y p q = cc
+
+choice_told : (d : Data) (flaw : Flaw) → identifier_or_auto d ≡ Err flaw → (as_str d ≢ Some (codes "auto")) × IsNoUuid d flaw
+unfolding identifier_or_auto
+choice_told d flaw e =
+    text_told (λ s. bytes_eq s (codes "auto") || is_some (uuid_in s)) d flaw e
+    (λ none same. (λ is. some_none (as_str d) (codes "auto") is none, no_uuid_text d flaw none same))
+    (λ s is fails same.
+    let parts = or_parts (bytes_eq s (codes "auto")) (is_some (uuid_in s)) fails in
+    (λ auto. false≢true (sym parts.0 ∙ (bytes_eq-Decides s (codes "auto")).1 (some_same (as_str d) s (codes "auto") is auto)), uuid_told d s flaw is parts.1 same))
+
+-- ---- words
+
+-- a word of the list is one that the list has by its bytes
+pub has_by_bytes : (words : List (List ℕ)) (w : List ℕ) → Contains words w → list_any (bytes_eq w) words ≡ true
+has_by_bytes words w (k, among, is) = list_any_at (bytes_eq w) words k w among ((bytes_eq-Decides w (get_or words k w)).1 (sym is))
+
+no_word_text : (words : List (List ℕ)) (d : Data) (flaw : Flaw) → as_str d ≡ None → flaw ≡ here WrongKind → IsNoWordOf words d flaw
+no_word_text words d flaw none same = holds_of (IsNoWordOf words d) (here WrongKind) flaw same (IsNoWordOf.no_text none)
+
+word_told : (words : List (List ℕ)) (d : Data) (flaw : Flaw) → word_among words d ≡ Err flaw → IsNoWordOf words d flaw
+unfolding word_among
+word_told words d flaw e = text_told (λ s. list_any (bytes_eq s) words) d flaw e (no_word_text words d flaw)
+    (λ s is fails same. holds_of (IsNoWordOf words d) (here OutOfRange) flaw same (IsNoWordOf.another_word s is (λ c. false≢true (sym fails ∙ has_by_bytes words s c))))
+
+none_of_classes : (c : ClassWord) (cs : List ClassWord) (w : List ℕ) (b : Bool) → bytes_eq c.word w ≡ b → is_some (cond b (Some c.place) (class_in w cs)) ≡ false → (is_some (class_in w cs) ≡ false → ¬ Contains (map (λ x. x.word) cs) w) → ¬ Contains (map (λ x. x.word) (c ∷ cs)) w
+none_of_classes c cs w true is e later there = absurd cc
+none_of_classes c cs w false is e later (zero, among, same) = false≢true (sym is ∙ (bytes_eq-Decides c.word w).1 same)
+none_of_classes c cs w false is e later (suc k, among, same) = later e (k, omega (arith, among), same)
+
+pub no_class_word : (cs : List ClassWord) (w : List ℕ) → is_some (class_in w cs) ≡ false → ¬ Contains (map (λ x. x.word) cs) w
+no_class_word [] w e (k, among, is) = omega (arith, among)
+no_class_word (c ∷ cs) w e there = none_of_classes c cs w (bytes_eq c.word w) refl e (no_class_word cs w) there
+
+class_told : (d : Data) (flaw : Flaw) → class_word d ≡ Err flaw → IsNoWordOf words_of_classes d flaw
+unfolding class_word
+class_told d flaw e = text_told (λ s. is_some (class_in s class_words)) d flaw e (no_word_text words_of_classes d flaw)
+    (λ s is fails same. holds_of (IsNoWordOf words_of_classes d) (here OutOfRange) flaw same (IsNoWordOf.another_word s is (no_class_word class_words s fails)))
+
+-- ---- a number or a text
+
+whole_or_text_told : (low high : ℤ) (d : Data) (flaw : Flaw) → whole_or_text low high d ≡ Err flaw → IsNoWholeOrText low high d flaw
+unfolding whole_or_text
+whole_or_text_told low high (string s) flaw e = let told = not_passed (is_printable s) flaw e in IsNoWholeOrText.has_control refl (control_told (string s) s flaw refl told.0 told.1)
+whole_or_text_told low high null flaw e = IsNoWholeOrText.no_number refl (whole_told low high null flaw e)
+whole_or_text_told low high (boolean b) flaw e = IsNoWholeOrText.no_number refl (whole_told low high (boolean b) flaw e)
+whole_or_text_told low high (number n) flaw e = IsNoWholeOrText.no_number refl (whole_told low high (number n) flaw e)
+whole_or_text_told low high (array ds) flaw e = IsNoWholeOrText.no_number refl (whole_told low high (array ds) flaw e)
+whole_or_text_told low high (object ms) flaw e = IsNoWholeOrText.no_number refl (whole_told low high (object ms) flaw e)
+
+alias_told : (levels : Members) (high : ℤ) (s : List ℕ) (flaw : Flaw) (o : Option Data) → get_member s levels ≡ o → level_or_none high o ≡ Err flaw → IsNoLevel levels high (string s) flaw
+alias_told levels high s flaw None is e = holds_of (IsNoLevel levels high (string s)) (here NoSuchAlias) flaw (same_flaw flaw (here NoSuchAlias) (level_or_none high None) e refl) (IsNoLevel.no_alias s refl is)
+alias_told levels high s flaw (Some a) is e = IsNoLevel.alias_is_no_level s a refl is (whole_told (pos 0) high a flaw e)
+
+level_told : (levels : Members) (high : ℤ) (d : Data) (flaw : Flaw) → level levels high d ≡ Err flaw → IsNoLevel levels high d flaw
+unfolding level
+level_told levels high (string s) flaw e = alias_told levels high s flaw (get_member s levels) refl e
+level_told levels high null flaw e = IsNoLevel.no_level refl (whole_told (pos 0) high null flaw e)
+level_told levels high (boolean b) flaw e = IsNoLevel.no_level refl (whole_told (pos 0) high (boolean b) flaw e)
+level_told levels high (number n) flaw e = IsNoLevel.no_level refl (whole_told (pos 0) high (number n) flaw e)
+level_told levels high (array ds) flaw e = IsNoLevel.no_level refl (whole_told (pos 0) high (array ds) flaw e)
+level_told levels high (object ms) flaw e = IsNoLevel.no_level refl (whole_told (pos 0) high (object ms) flaw e)
+
+-- ---- values that hold others
+
+object_told : (d : Data) (flaw : Flaw) → any_object d ≡ Err flaw → IsNoObject d flaw
+unfolding any_object
+object_told d flaw e = only_step (object_of d) (λ ms. tt) flaw e (object_refused d flaw)
+
+list_told : (d : Data) (flaw : Flaw) → any_list d ≡ Err flaw → IsNoList d flaw
+unfolding any_list
+list_told d flaw e = only_step (list_of d) (λ ds. tt) flaw e (list_refused d flaw)
+
+no_items_told : (d : Data) (ds : Items) (flaw : Flaw) → as_array d ≡ Some ds → some_items ds ≡ Err flaw → IsNoSomeList d flaw
+no_items_told d no_items flaw is e = holds_of (IsNoSomeList d) (here OutOfRange) flaw (same_flaw flaw (here OutOfRange) (some_items no_items) e refl) (IsNoSomeList.has_none is)
+no_items_told d (item a ds) flaw is e = absurd cc
+
+some_list_told : (d : Data) (flaw : Flaw) → some_list d ≡ Err flaw → IsNoSomeList d flaw
+unfolding some_list
+some_list_told d flaw e = either_step (list_of d) some_items flaw e (λ r. IsNoSomeList.no_list (list_refused d flaw r)) (λ ds went r. no_items_told d ds flaw (wanted_found (as_array d) ds went) r)
+
+no_members_told : (d : Data) (ms : Members) (flaw : Flaw) → as_object d ≡ Some ms → some_members ms ≡ Err flaw → IsNoSomeObject d flaw
+no_members_told d no_members flaw is e = holds_of (IsNoSomeObject d) (here OutOfRange) flaw (same_flaw flaw (here OutOfRange) (some_members no_members) e refl) (IsNoSomeObject.has_none is)
+no_members_told d (member k a ms) flaw is e = absurd cc
+
+some_object_told : (d : Data) (flaw : Flaw) → some_object d ≡ Err flaw → IsNoSomeObject d flaw
+unfolding some_object
+some_object_told d flaw e = either_step (object_of d) some_members flaw e (λ r. IsNoSomeObject.no_object (object_refused d flaw r)) (λ ms went r. no_members_told d ms flaw (wanted_found (as_object d) ms went) r)
+
+not_one_told : (d : Data) (ms : Members) (flaw : Flaw) → as_object d ≡ Some ms → one_member ms ≡ Err flaw → IsNoEntry d flaw
+not_one_told d no_members flaw is e = holds_of (IsNoEntry d) (here WrongKind) flaw (same_flaw flaw (here WrongKind) (one_member no_members) e refl) (IsNoEntry.not_one_property no_members is (λ one. omega (arith, one)))
+not_one_told d (member k a no_members) flaw is e = absurd cc
+not_one_told d (member k a (member l b ms)) flaw is e =
+    holds_of (IsNoEntry d) (here WrongKind) flaw (same_flaw flaw (here WrongKind) (one_member (member k a (member l b ms))) e refl) (IsNoEntry.not_one_property (member k a (member l b ms)) is (λ one. omega (arith, one)))
+
+entry_told : (d : Data) (flaw : Flaw) → entry d ≡ Err flaw → IsNoEntry d flaw
+unfolding entry
+entry_told d flaw e = either_step (object_of d) one_member flaw e (λ r. IsNoEntry.no_object (object_refused d flaw r)) (λ ms went r. not_one_told d ms flaw (wanted_found (as_object d) ms went) r)
+
+feature_told : (d : Data) (flaw : Flaw) → feature d ≡ Err flaw → IsNoFeature d flaw
+unfolding feature
+feature_told (boolean b) flaw e = absurd cc
+feature_told null flaw e = (refl, object_told null flaw e)
+feature_told (number n) flaw e = (refl, object_told (number n) flaw e)
+feature_told (string s) flaw e = (refl, object_told (string s) flaw e)
+feature_told (array ds) flaw e = (refl, object_told (array ds) flaw e)
+feature_told (object ms) flaw e = (refl, object_told (object ms) flaw e)
+
+size_told : (d : Data) (flaw : Flaw) → size_feature d ≡ Err flaw → IsNoSizeFeature d flaw
+unfolding size_feature
+size_told (boolean true) flaw e = absurd cc
+size_told (boolean false) flaw e = holds_of (IsNoSizeFeature (boolean false)) (here OutOfRange) flaw (same_flaw flaw (here OutOfRange) (size_feature (boolean false)) e refl) (IsNoSizeFeature.is_off refl)
+size_told null flaw e = IsNoSizeFeature.no_feature (refl, object_told null flaw e)
+size_told (number n) flaw e = IsNoSizeFeature.no_feature (refl, object_told (number n) flaw e)
+size_told (string s) flaw e = IsNoSizeFeature.no_feature (refl, object_told (string s) flaw e)
+size_told (array ds) flaw e = IsNoSizeFeature.no_feature (refl, object_told (array ds) flaw e)
+size_told (object ms) flaw e = IsNoSizeFeature.no_feature (refl, object_told (object ms) flaw e)
+
+-- ---- ranges
+
+abbrev lowest_end : ℤ
+lowest_end = negsuc 9223372036854775807
+
+abbrev highest_end : ℤ
+highest_end = pos 18446744073709551615
+
+-- a range that was read, and that its ends are in what a configuration can hold
+record RangeRead (d : Data) (low high : ℤ) : Type 0 where
+  is : IsRange d low high
+  least : int_le lowest_end low ≡ true
+  most : int_le high highest_end ≡ true
+
+single_read : (d : Data) (range : _) → single_of d ≡ Ok range → RangeRead d range.low range.high
+single_read d range e =
+    let x = both_read (end_of d) _ range e in
+    let read = whole_read lowest_end highest_end d x.0 x.1 in
+    let made : RangeRead d x.0 x.0 = record { is = IsRange.one_number x.0 read.whole; least = read.least; most = read.most } in
+    subst (λ r. RangeRead d r.low r.high) (ok_same (record { low = x.0; high = x.0 }) range x.2) made
+
+pair_read : (ds : Items) (range : _) → pair_of ds ≡ Ok range → RangeRead (array ds) range.low range.high
+unfolding pair_of
+pair_read no_items range e = absurd cc
+pair_read (item a no_items) range e = absurd cc
+pair_read (item a (item b no_items)) range e =
+    let x = both_read (at (index 0) (end_of a)) _ range e in
+    let y = both_read (at (index 1) (end_of b)) _ range x.2 in
+    let low = whole_read lowest_end highest_end a x.0 (read_there (index 0) (end_of a) x.0 x.1) in
+    let high = whole_read lowest_end highest_end b y.0 (read_there (index 1) (end_of b) y.0 y.1) in
+    let made : RangeRead (array (item a (item b no_items))) x.0 y.0 = record { is = IsRange.two_numbers a b x.0 y.0 refl low.whole high.whole; least = low.least; most = high.most } in
+    subst (λ r. RangeRead (array (item a (item b no_items))) r.low r.high) (ok_same (record { low = x.0; high = y.0 }) range y.2) made
+pair_read (item a (item b (item c ds))) range e = absurd cc
+
+range_read : (d : Data) (range : _) → range_of d ≡ Ok range → RangeRead d range.low range.high
+unfolding range_of
+range_read (array ds) range e = pair_read ds range e
+range_read null range e = single_read null range e
+range_read (boolean b) range e = single_read (boolean b) range e
+range_read (number n) range e = single_read (number n) range e
+range_read (string s) range e = single_read (string s) range e
+range_read (object ms) range e = single_read (object ms) range e
+
+pub number_there : (name : List ℕ) (ms : Members) (n : ℕ) → natural_in name ms ≡ Some n → HasNumber name ms n
+unfolding natural_in
+number_there name ms n e = go (get_member name ms) refl e
+  where
+    go : (o : Option Data) → get_member name ms ≡ o → natural_or_none o ≡ Some n → HasNumber name ms n
+    go None is f = absurd cc
+    go (Some d) is f = (d, is, f)
+
+module _ (around : Around) where
+  no_pair_told : (ds : Items) (flaw : Flaw) → items_len ds ≢ 2 → flaw ≡ here WrongKind → IsNoRange around (array ds) flaw
+  no_pair_told ds flaw other same = holds_of (IsNoRange around (array ds)) (here WrongKind) flaw same (IsNoRange.no_pair ds refl other)
+
+  pair_told : (ds : Items) (flaw : Flaw) → pair_of ds ≡ Err flaw → IsNoRange around (array ds) flaw
+  unfolding pair_of
+  pair_told no_items flaw e = no_pair_told no_items flaw (λ two. omega (arith, two)) (same_flaw flaw (here WrongKind) (pair_of no_items) e refl)
+  pair_told (item a no_items) flaw e = no_pair_told (item a no_items) flaw (λ two. omega (arith, two)) (same_flaw flaw (here WrongKind) (pair_of (item a no_items)) e refl)
+  pair_told (item a (item b no_items)) flaw e =
+      either_step (at (index 0) (end_of a)) _ flaw e
+      (λ r. let told = refused_there (index 0) (end_of a) flaw r in
+      holds_of (IsNoRange around (array (item a (item b no_items)))) (within (index 0) told.0) flaw told.2 (IsNoRange.wrong_low a b told.0 refl (whole_refused lowest_end highest_end a told.0 told.1)))
+      (λ x went rest. only_step (at (index 1) (end_of b)) _ flaw rest
+      (λ r. let told = refused_there (index 1) (end_of b) flaw r in
+      holds_of (IsNoRange around (array (item a (item b no_items)))) (within (index 1) told.0) flaw told.2 (IsNoRange.wrong_high a b told.0 refl (whole_refused lowest_end highest_end b told.0 told.1))))
+  pair_told (item a (item b (item c ds))) flaw e = no_pair_told (item a (item b (item c ds))) flaw (λ two. omega (arith, two)) (same_flaw flaw (here WrongKind) (pair_of (item a (item b (item c ds)))) e refl)
+
+  single_told : (d : Data) (flaw : Flaw) → as_array d ≡ None → single_of d ≡ Err flaw → IsNoRange around d flaw
+  single_told d flaw none e = only_step (end_of d) _ flaw e (λ r. IsNoRange.wrong_number none (whole_refused lowest_end highest_end d flaw r))
+
+  no_range_told : (d : Data) (flaw : Flaw) → range_of d ≡ Err flaw → IsNoRange around d flaw
+  unfolding range_of
+  no_range_told (array ds) flaw e = pair_told ds flaw e
+  no_range_told null flaw e = single_told null flaw refl e
+  no_range_told (boolean b) flaw e = single_told (boolean b) flaw refl e
+  no_range_told (number n) flaw e = single_told (number n) flaw refl e
+  no_range_told (string s) flaw e = single_told (string s) flaw refl e
+  no_range_told (object ms) flaw e = single_told (object ms) flaw refl e
+
+  -- what holds of the numbers of the enumeration around a value, where they are not all
+  sized : {P : Type 0} (test : _ → Bool) → test all_numbers ≡ true → ((signed : Bool) (n : ℕ) → HasBits around signed n → test (record { low = lowest signed n; high = highest signed n }) ≡ false → P) → test (unwrap_or (option_map (λ (e : Bool × Members). numbers_in e.0 e.1) (enumeration_around around)) all_numbers) ≡ false → P
+  unfolding numbers_in numbers_of
+  sized {P = P} test all sized_so = by_enumeration (enumeration_around around) refl
+    where
+      some : (n : ℕ) → nat_eq n 0 ≡ false → 1 ≤ n
+      some n p = let other = eqb-false n 0 p in omega (arith, other)
+
+      most : (n : ℕ) → nat_lt 64 n ≡ false → n ≤ 64
+      most n q = let at_most = ltb-false 64 n q in omega (arith, at_most)
+
+      by_size : (signed : Bool) (ms : Members) (n : ℕ) → enumeration_around around ≡ Some (signed, ms) → HasNumber (codes "size") ms n → (a b : Bool) → nat_eq n 0 ≡ a → nat_lt 64 n ≡ b
+          → test (cond (a || b) all_numbers (record { low = lowest signed n; high = highest signed n })) ≡ false → P
+      by_size signed ms n is has true b p q e = absurd (true≢false (sym all ∙ e))
+      by_size signed ms n is has false true p q e = absurd (true≢false (sym all ∙ e))
+      by_size signed ms n is has false false p q e = sized_so signed n (ms, is, has, some n p, most n q) e
+
+      by_number : (signed : Bool) (ms : Members) → enumeration_around around ≡ Some (signed, ms) → (o : Option ℕ) → natural_in (codes "size") ms ≡ o → test (numbers_or_all signed o) ≡ false → P
+      by_number signed ms is None found e = absurd (true≢false (sym all ∙ e))
+      by_number signed ms is (Some n) found e = by_size signed ms n is (number_there (codes "size") ms n found) (nat_eq n 0) (nat_lt 64 n) refl refl e
+
+      by_enumeration : (o : Option (Bool × Members)) → enumeration_around around ≡ o → test (unwrap_or (option_map (λ (e : Bool × Members). numbers_in e.0 e.1) o) all_numbers) ≡ false → P
+      by_enumeration None is e = absurd (true≢false (sym all ∙ e))
+      by_enumeration (Some (signed, ms)) is e = by_number signed ms is (natural_in (codes "size") ms) refl e
+
+  range_told : (numbers : _) → numbers ≡ unwrap_or (option_map (λ (e : Bool × Members). numbers_in e.0 e.1) (enumeration_around around)) all_numbers → (d : Data) (flaw : Flaw) → inside_of numbers d ≡ Err flaw → IsNoRange around d flaw
+  unfolding inside_of is_inside
+  range_told numbers agrees d flaw e =
+      either_step (range_of d) _ flaw e (no_range_told d flaw)
+      (λ range went r.
+      let told = refused_test (is_inside numbers range) tt (here OutOfRange) flaw r in
+      holds_of (IsNoRange around d) (here OutOfRange) flaw told.1 (outside range went (and_cases (int_le range.low range.high && int_le numbers.low range.low) (int_le range.high numbers.high) told.0)))
+    where
+      below_one : (range : _) → range_of d ≡ Ok range → int_le numbers.low range.low ≡ false → IsNoRange around d (here OutOfRange)
+      below_one range went small = let read = range_read d range went in sized (λ s. int_le s.low range.low) read.least
+          (λ signed n bits less. IsNoRange.below_the_integer range.low range.high signed n read.is bits (below_in range.low (lowest signed n) (le-false (lowest signed n) range.low less)))
+          (ap (λ s. int_le s.low range.low) (sym agrees) ∙ small)
+
+      above_one : (range : _) → range_of d ≡ Ok range → int_le range.high numbers.high ≡ false → IsNoRange around d (here OutOfRange)
+      above_one range went large = let read = range_read d range went in sized (λ s. int_le range.high s.high) read.most
+          (λ signed n bits more. IsNoRange.above_the_integer range.low range.high signed n read.is bits (below_in (highest signed n) range.high (le-false range.high (highest signed n) more)))
+          (ap (λ s. int_le range.high s.high) (sym agrees) ∙ large)
+
+      outside : (range : _) → range_of d ≡ Ok range → ((int_le range.low range.high && int_le numbers.low range.low) ≡ false) ⊎ (int_le range.high numbers.high ≡ false) → IsNoRange around d (here OutOfRange)
+      outside range went (inr large) = above_one range went large
+      outside range went (inl either) = elim (and_cases (int_le range.low range.high) (int_le numbers.low range.low) either) [
+        | inl empty ↦ IsNoRange.low_above_high range.low range.high (range_read d range went).is (below_in range.high range.low (le-false range.low range.high empty))
+        | inr small ↦ below_one range went small
+      ]
+
+-- ---- all values
+
+module _ (k : Known) (around : Around) (h : Agrees k around) where
+  none_told : (place : Place) (d : Data) (flaw : Flaw) → form_of k place d ≡ Err flaw → IsNoneAt around place d flaw
+  unfolding form_of
+  none_told places.Members d flaw e = list_told d flaw e
+  none_told places.ExtraMembers d flaw e = list_told d flaw e
+  none_told places.Ranges d flaw e = some_list_told d flaw e
+  none_told places.Range d flaw e = range_told around k.numbers h.numbers d flaw e
+  none_told places.Entry d flaw e = entry_told d flaw e
+  none_told places.Mappings d flaw e = some_object_told d flaw e
+  none_told places.Feature d flaw e = feature_told d flaw e
+  none_told places.MagicFeature d flaw e = feature_told d flaw e
+  none_told places.IdentifierFeature d flaw e = feature_told d flaw e
+  none_told places.SizeFeature d flaw e = size_told d flaw e
+  none_told places.Scalar d flaw e = absurd cc
+  none_told places.Ignored d flaw e = absurd cc
+  none_told _ d flaw e = object_told d flaw e
+
+  pub value_told : (content : Content) (d : Data) (flaw : Flaw) → itself_of k content d ≡ Err flaw → IsNoValueOf around content d flaw
+  unfolding itself_of leaf_of
+  value_told (contents.Whole low high) d flaw e = whole_told low high d flaw e
+  value_told (contents.PowerOfTwo high) d flaw e = power_told d flaw e
+  value_told contents.Flag d flaw e = flag_told d flaw e
+  value_told contents.OneFlag d flaw e = default_told k around h d flaw e
+  value_told (contents.Text most) d flaw e = printable_told d flaw e
+  value_told contents.ClockName d flaw e = any_text_told d flaw e
+  value_told contents.Identifier d flaw e = identifier_told d flaw e
+  value_told contents.IdentifierOrAuto d flaw e = choice_told d flaw e
+  value_told (contents.Word words) d flaw e = word_told (words_of words) d flaw e
+  value_told contents.Class d flaw e = class_told d flaw e
+  value_told (contents.WholeOrText low high most) d flaw e = whole_or_text_told low high d flaw e
+  value_told (contents.Level high) d flaw e = subst (λ levels. IsNoLevel levels high d flaw) h.levels (level_told k.levels high d flaw e)
+  value_told (contents.At place) d flaw e = none_told place d flaw e
+  value_told contents.Anything d flaw e = absurd cc
+
+-- ---- the names of entries
+
+module _ (k : Known) (around : Around) (h : (name : List ℕ) → IsTrue (is_taken k.taken name) ↔ IsTaken around name) where
+  length_clash : (b : Bool) (name : List ℕ) (d : Data) → is_dynamic d ≡ b → length_is_taken b k.taken name ≡ true → IsNoMemberName around name d (here NameClash)
+  length_clash true name d is e = IsNoMemberName.length_clash (dynamic_told d is) ((h (length_name name)).0 e)
+  length_clash false name d is e = absurd cc
+
+  clash_told : (name : List ℕ) (d : Data) (flaw : Flaw) → free_of k.taken name d ≡ Err flaw → IsNoMemberName around name d flaw
+  unfolding free_of
+  clash_told name d flaw e =
+      let told = refused_where (is_taken k.taken name || length_is_taken (is_dynamic d) k.taken name) tt (here NameClash) flaw e in
+      holds_of (IsNoMemberName around name d) (here NameClash) flaw told.1 (elim (or_cases (is_taken k.taken name) (length_is_taken (is_dynamic d) k.taken name) told.0) [
+        | inl taken ↦ IsNoMemberName.name_clash ((h name).0 taken)
+        | inr taken ↦ length_clash (is_dynamic d) name d refl taken
+      ])
+
+  plain_told : (place : Place) (name : List ℕ) (d : Data) (flaw : Flaw) → plain_of k (is_entry place) name d ≡ Err flaw → IsNoKey around place keys.PlainName name d flaw
+  unfolding plain_of
+  plain_told places.Entry name d flaw e = either_step (plain_name_of name) _ flaw e (λ r. IsNoMemberName.no_name (plain_name_refused name flaw r)) (λ x went r. clash_told name d flaw r)
+  plain_told _ name d flaw e = plain_name_refused name flaw e
+
+  label_told : (name : List ℕ) (flaw : Flaw) → only_if (is_printable name) ≡ Err flaw → IsNoLabel name flaw
+  label_told name flaw e =
+      let told = not_passed (is_printable name) flaw e in
+      let control = control_there name told.0 in
+      holds_of (IsNoLabel name) (here OutOfRange) flaw told.1 (IsNoLabel.has_control control.0 control.1 control.2)
+
+  key_told : (place : Place) (by : Keys) (name : List ℕ) (d : Data) (flaw : Flaw) → key_by k place by name d ≡ Err flaw → IsNoKey around place by name d flaw
+  unfolding key_by
+  key_told place keys.Name name d flaw e = name_refused name flaw e
+  key_told place keys.PlainName name d flaw e = plain_told place name d flaw e
+  key_told place keys.Label name d flaw e = label_told name flaw e
+  key_told place keys.Index name d flaw e = absurd cc
+
+  pub name_told : (place : Place) (name : List ℕ) (d : Data) (flaw : Flaw) → key_of k place name d ≡ Err flaw → IsNoNameAt around place name d flaw
+  unfolding key_of
+  name_told place name d flaw e = go (entries_of place) refl e
+    where
+      go : (o : Option Entries) → entries_of place ≡ o → key_in k place o name d ≡ Err flaw → IsNoNameAt around place name d flaw
+      go None is f = absurd cc
+      go (Some entries) is f = (entries, is, key_told place entries.keys name d flaw f)

@@ -1,0 +1,6 @@
+pub mod Order
+pub mod Rules
+pub mod Around
+pub mod ValueFlaws
+pub mod TableFlaws
+pub mod TableLimits

@@ -1,0 +1,56 @@
+//! A resolved configuration whose objects have no flaw says something, which the rules allow where it passes no limit; and what a
+//! walk over its objects tells of is what the table calls a flaw.
+ghost use Rattle.std.specs.Prelude.{◌≡◌, ℕ, pos, true, List, [], Contains, Option, Some, IsSome, codes};
+ghost use Rattle.serde_json.specs.Data.{Data, Members};
+ghost use Rattle.conf_tree.specs.Flaw.{Flaw};
+ghost use Rattle.conf_table.specs.declared.place.Place.TheVariants.{Root};
+ghost use Rattle.conf_table.specs.declared.row.Content.TheVariants.{At};
+ghost use Rattle.conf_judge.specs.Flaws.{configuration_flaws};
+ghost use Rattle.conf_judge.specs.Leaves.{is_power_of_two};
+ghost use Rattle.conf_judge.specs.Limits.{configuration_limits, divides};
+ghost use Rattle.conf_draft.specs.Integers.{align_of as align_of_integer};
+ghost use Rattle.conf_draft.specs.Lookups.{natural};
+ghost use Rattle.conf_draft.specs.Structures.{align_of as align_of_structure};
+ghost use Rattle.conf_draft.specs.Traces.{draft_of};
+ghost use Rattle.conf_draft.specs.declared.draft.Draft.{Draft};
+ghost use Rattle.ctf_types.specs.AllowedConfig.{IsConfig};
+ghost use Rattle.conf_laws.specs.Order.{Ascends};
+ghost use Rattle.conf_laws.specs.Rules.{KeepsRules};
+ghost use Rattle.conf_laws.specs.TableFlaws.{IsFlawOf};
+ghost use Rattle.conf_laws.specs.TableLimits.{PassesLimitOf};
+
+/// What has no flaw says something.
+pub fn sound_trees_say_something()
+    ensures { (number : Option (List ℕ)) (d : Data) → configuration_flaws d ≡ [] → IsSome (draft_of number d) }
+{}
+
+/// A power of two that passes no limit is read as the very alignment that it is, of an integer and of a structure.
+pub fn alignments_are_kept()
+    ensures integers { (ms : Members) (n : ℕ) → natural (codes "alignment") ms ≡ Some n → is_power_of_two (pos n) ≡ true → divides 4096 (Some n) ≡ true → align_of_integer ms ≡ n }
+    ensures structures { (ms : Members) (n : ℕ) → natural (codes "minimum-alignment") ms ≡ Some n → is_power_of_two (pos n) ≡ true → divides 4096 (Some n) ≡ true → align_of_structure ms ≡ n }
+{}
+
+/// What has no flaw, passes no limit and keeps the rules over the whole says a configuration that the rules allow.
+pub fn sound_drafts_are_allowed()
+    ensures { (number : Option (List ℕ)) (d : Data) (draft : Draft) → Ascends d → configuration_flaws d ≡ [] → configuration_limits d ≡ [] → draft_of number d ≡ Some draft → KeepsRules draft.config → IsConfig draft.config }
+{}
+
+/// Each flaw that a walk over the objects tells of is one by the table.
+pub fn each_flaw_is_one()
+    ensures { (d : Data) (flaw : Flaw) → Contains (configuration_flaws d) flaw → IsFlawOf [] (At Root) d flaw }
+{}
+
+/// Where a walk over the objects tells of nothing, the table knows of no flaw.
+pub fn no_flaw_is_left()
+    ensures { (d : Data) (flaw : Flaw) → configuration_flaws d ≡ [] → ¬ IsFlawOf [] (At Root) d flaw }
+{}
+
+/// Each limit that a walk over the objects tells of is one that the configuration passes by the table.
+pub fn each_limit_is_passed()
+    ensures { (d : Data) (flaw : Flaw) → Contains (configuration_limits d) flaw → PassesLimitOf (At Root) d flaw }
+{}
+
+/// Where a walk over the objects tells of no limit, the configuration passes none by the table.
+pub fn no_limit_is_passed()
+    ensures { (d : Data) (flaw : Flaw) → configuration_limits d ≡ [] → ¬ PassesLimitOf (At Root) d flaw }
+{}

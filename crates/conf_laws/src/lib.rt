@@ -1,0 +1,9 @@
+//! Laws of a resolved configuration: what a walk over its objects tells of, and what it says where that is no flaw.
+#![tactic(auto)]
+
+mod law;
+
+pub use law::{
+    alignments_are_kept, each_flaw_is_one, each_limit_is_passed, no_flaw_is_left,
+    no_limit_is_passed, sound_drafts_are_allowed, sound_trees_say_something,
+};
