@@ -1,11 +1,9 @@
 -- What a judge knows around a value is what the value stands in.
-use Rattle.std.proofs.Common.{◌≡◌, ◌⊎◌, ◌↔◌, ◌||◌, ℕ, zero, suc, Bool, true, false, List, [], ◌∷◌, Contains, Option, Some, None, is_some, Ordering, Less, Equal, Greater, nat_cmp, is_eq, inl, inr, refl, sym, ap, subst, ◌∙◌, arith}
+use Rattle.std.proofs.Common.{◌≡◌, ◌⊎◌, ◌↔◌, ◌||◌, ℕ, zero, suc, Bool, true, false, List, [], ◌∷◌, Contains, Option, Some, None, is_some, Ordering, Less, Equal, Greater, nat_cmp, inl, inr, refl, sym, ap, subst, ◌∙◌, arith}
 use Rattle.std.specs.Prelude.{codes, unwrap_or, option_map}
 use Rattle.std.specs.Ordering.{match_ordering}
 use Rattle.std.specs.Cmp.Lexicographic.{slice_cmp}
-use Rattle.std.proofs.lemmas.Bool.{false≢true, or_cases}
-use Rattle.std.proofs.lemmas.Map.Text.{is_eq-slice_cmp}
-use Rattle.std.proofs.lemmas.Slice.Eq.{bytes_eq-Decides}
+use Rattle.std.proofs.lemmas.Bool.{false≢true, or_cases, or_left, or_right}
 use Rattle.serde_json.specs.Data.{Data, null, boolean, number, string, array, object, Items, no_items, item, Members, no_members, member, put}
 use Rattle.serde_json.specs.Events.{items_len}
 use Rattle.serde_json.specs.Find.{get_member}
@@ -20,6 +18,8 @@ use Rattle.conf_judge.specs.Names.{class_of, class_of_type, class_of_member, is_
 use Rattle.conf_judge.specs.Numbers.{all_numbers, numbers_in}
 use Rattle.conf_laws.specs.Around.{Around, member_of, item_of, levels_around, SaysDefault, HasDefault, IsBehindDefault, enumeration_around, IsDynamic, TakesName, IsBeside, IsTaken}
 use Rattle.conf_laws.proofs.Items.{ItemParts, HasItem, before_found, found_before}
+use Rattle.conf_laws.proofs.Readings.{same_name}
+use Rattle.std.proofs.lemmas.Cmp.{nat_list_cmp_total, tied_itself}
 
 abbrev pub IsTrue : Bool → Type 0
 IsTrue b = b ≡ true
@@ -86,18 +86,10 @@ module _ (around : Around) (ms before : Members) (name : List ℕ) (d : Data) wh
       there (inl e) = further (h.0 e)
       there (inr e) = inl (name, d, inl (refl, refl), says_told d e)
 
-      first_true : (x y : Bool) → x ≡ true → IsTrue (x || y)
-      first_true true y e = refl
-      first_true false y e = absurd cc
-
-      second_true : (x y : Bool) → y ≡ true → IsTrue (x || y)
-      second_true true y e = refl
-      second_true false y e = e
-
       back : HasDefault (member name d before) ⊎ IsBehindDefault around → IsTrue (b || says_default d)
-      back (inl (l, e, inl same, says)) = second_true b (says_default d) (told_says d (subst SaysDefault same.1 says))
-      back (inl (l, e, inr has, says)) = first_true b (says_default d) (h.1 (inl (l, e, has, says)))
-      back (inr c) = first_true b (says_default d) (h.1 (inr c))
+      back (inl (l, e, inl same, says)) = or_right b (says_default d) (told_says d (subst SaysDefault same.1 says))
+      back (inl (l, e, inr has, says)) = or_left b (says_default d) (h.1 (inl (l, e, has, says)))
+      back (inr c) = or_left b (says_default d) (h.1 (inr c))
 
   pub behind_agrees : (place : Place) (k : Known) → Agrees k (member_of place ms before ∷ around) → Agrees (behind place d k) (member_of place ms (member name d before) ∷ around)
   unfolding behind
@@ -106,21 +98,10 @@ module _ (around : Around) (ms before : Members) (name : List ℕ) (d : Data) wh
 
 -- ---- names that are taken
 
-pub same_name : (a b : List ℕ) → slice_cmp nat_cmp a b ≡ Equal → a ≡ b
-same_name a b e = (bytes_eq-Decides a b).0 (sym (is_eq-slice_cmp a b) ∙ ap is_eq e)
-
-pub one_name : (a : List ℕ) → slice_cmp nat_cmp a a ≡ Equal
-one_name a = go (slice_cmp nat_cmp a a) (is_eq-slice_cmp a a ∙ (bytes_eq-Decides a a).1 refl)
-  where
-    go : (o : Ordering) → is_eq o ≡ true → o ≡ Equal
-    go Less e = absurd cc
-    go Equal e = refl
-    go Greater e = absurd cc
-
 abbrev found_at : Ordering → Data → Option Data → Option Data
 found_at o d rest = match_ordering o rest (Some d) rest
 
-pub is_taken_step : (name l : List ℕ) (e : Data) (ms : Members) → IsTrue (is_taken (member l e ms) name) ↔ ((name ≡ l) ⊎ IsTrue (is_taken ms name))
+is_taken_step : (name l : List ℕ) (e : Data) (ms : Members) → IsTrue (is_taken (member l e ms) name) ↔ ((name ≡ l) ⊎ IsTrue (is_taken ms name))
 is_taken_step name l e ms = (λ t. there (slice_cmp nat_cmp name l) refl t, back)
   where
     there : (o : Ordering) → slice_cmp nat_cmp name l ≡ o → IsTrue (is_some (found_at o e (get_member name ms))) → (name ≡ l) ⊎ IsTrue (is_taken ms name)
@@ -134,10 +115,10 @@ is_taken_step name l e ms = (λ t. there (slice_cmp nat_cmp name l) refl t, back
     still Greater t = t
 
     back : (name ≡ l) ⊎ IsTrue (is_taken ms name) → IsTrue (is_taken (member l e ms) name)
-    back (inl same) = ap (λ o. is_some (found_at o e (get_member name ms))) (ap (slice_cmp nat_cmp name) (sym same) ∙ one_name name)
+    back (inl same) = ap (λ o. is_some (found_at o e (get_member name ms))) (ap (slice_cmp nat_cmp name) (sym same) ∙ tied_itself nat_list_cmp_total name)
     back (inr t) = still (slice_cmp nat_cmp name l) t
 
-pub taken_put : (name k : List ℕ) (ms : Members) → IsTrue (is_taken (take k ms) name) ↔ ((name ≡ k) ⊎ IsTrue (is_taken ms name))
+taken_put : (name k : List ℕ) (ms : Members) → IsTrue (is_taken (take k ms) name) ↔ ((name ≡ k) ⊎ IsTrue (is_taken ms name))
 taken_put name k no_members = is_taken_step name k null no_members
 taken_put name k (member l e ms) = at_order (slice_cmp nat_cmp k l) refl (taken_put name k ms)
   where
@@ -158,14 +139,10 @@ taken_put name k (member l e ms) = at_order (slice_cmp nat_cmp k l) refl (taken_
           λ p. elim p [ inl is ↦ new.1 (inr (h.1 (inl is))) | inr t ↦ elim (old.0 t) [ inl is ↦ new.1 (inl is) | inr r ↦ new.1 (inr (h.1 (inr r))) ] ],
         )
 
-either_map : {A B C D : Type 0} → (A → C) → (B → D) → A ⊎ B → C ⊎ D
-either_map f g (inl a) = inl (f a)
-either_map f g (inr b) = inr (g b)
-
 none_contained : (name : List ℕ) → Contains [] name → ⊥
 none_contained name (i, lt, is) = omega (arith, lt)
 
-pub each_taken : (names : List (List ℕ)) (taken : Members) (name : List ℕ) → IsTrue (is_taken (take_each names taken) name) ↔ (Contains names name ⊎ IsTrue (is_taken taken name))
+each_taken : (names : List (List ℕ)) (taken : Members) (name : List ℕ) → IsTrue (is_taken (take_each names taken) name) ↔ (Contains names name ⊎ IsTrue (is_taken taken name))
 each_taken [] taken name = (λ t. inr t, λ p. elim p [ inl c ↦ absurd (none_contained name c) | inr t ↦ t ])
 each_taken (n ∷ names) taken name = further (each_taken names (take n taken) name) (taken_put name n taken)
   where
@@ -179,7 +156,7 @@ each_taken (n ∷ names) taken name = further (each_taken names (take n taken) n
 
 -- ---- dynamic arrays
 
-array_told : (o : Option Place) → is_dynamic_array o ≡ true → o ≡ Some places.DynamicArray
+pub array_told : (o : Option Place) → is_dynamic_array o ≡ true → o ≡ Some places.DynamicArray
 array_told None e = absurd cc
 array_told (Some places.DynamicArray) e = refl
 array_told (Some _) e = absurd cc

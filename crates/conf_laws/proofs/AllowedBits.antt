@@ -1,6 +1,6 @@
 -- What stands in a dynamic array has bits: no array in it is empty.
 use Rattle.std.proofs.Common.{◌≡◌, ℕ, ◌<◌, ◌&&◌, ◌||◌, Bool, true, false, cond, Option, Some, None, Ok, refl, sym, ap, subst, ◌∙◌, arith}
-use Rattle.std.specs.Prelude.{codes, pos, not, nat_eq, unwrap_or}
+use Rattle.std.specs.Prelude.{codes, not, nat_eq, unwrap_or}
 use Rattle.std.specs.List.{AllByRecursion}
 use Rattle.std.specs.Str.{bytes_eq}
 use Rattle.std.proofs.lemmas.Bool.{and_parts}
@@ -13,42 +13,32 @@ use Rattle.ctf_types.specs.declared.FieldType.TheVariants.{Int, Enum, Str}
 use Rattle.ctf_types.specs.FieldTypes.{chain_of}
 use Rattle.conf_table.specs.declared.place.Place.{Place as Kind}
 use Rattle.conf_table.specs.declared.place.Place.TheVariants as places
-use Rattle.conf_table.specs.declared.row.Content.TheVariants.{At, Whole}
-use Rattle.conf_table.specs.Table.{content_under, presence_under, entries_of, rows_of}
-use Rattle.conf_judge.specs.Flaws.{resolved_content, is_left_out, all_there}
-use Rattle.conf_judge.specs.Forms.{itself_of}
-use Rattle.conf_judge.specs.Known.{Known, behind}
-use Rattle.conf_judge.specs.Leaves.{leaf_of, whole_from}
-use Rattle.conf_judge.specs.Numbers.{natural_in, natural_or_none}
+use Rattle.conf_table.specs.declared.row.Content.TheVariants.{At}
+use Rattle.conf_judge.specs.Flaws.{all_there}
+use Rattle.conf_judge.specs.Known.{Known}
+use Rattle.conf_judge.specs.Numbers.{natural_in}
 use Rattle.conf_judge.specs.Places.{is_position}
 use Rattle.conf_judge.specs.Shapes.{is_number, is_static_array, has_bits, element_has_bits}
 use Rattle.conf_draft.specs.Enumerations.{enumeration}
 use Rattle.conf_draft.specs.FieldTypes.{class_of, length_of, of_class, field_type, element}
 use Rattle.conf_draft.specs.Integers.{integer}
-use Rattle.conf_laws.proofs.AllowedFields.{class_place, static_says, element_first, element_later, elements_at, element_position}
-use Rattle.conf_laws.proofs.AllowedNaturals as naturals
-use Rattle.conf_laws.proofs.Entries.{needed_there}
+use Rattle.conf_laws.proofs.AllowedFields.{static_says, element_first, element_later, elements_at, element_position}
 use Rattle.conf_laws.proofs.Properties.{AreGood, IsGood, IsGoodAt, good_object, there_at}
-use Rattle.conf_laws.proofs.Sound.{property_sound}
-use Rattle.conf_laws.proofs.Steps.{some_same, mapped_some, same_class, same_natural}
+use Rattle.conf_laws.proofs.Steps.{mapped_some, same_natural}
+use Rattle.std.proofs.lemmas.Option.{same_Some}
+use Rattle.conf_laws.proofs.Classes.{class_same, class_place}
+use Rattle.conf_laws.proofs.FieldTypes.{length_leads, length_needed}
+use Rattle.conf_laws.proofs.Naturals.{needed_natural}
 
 abbrev AllSome : FieldType → Type 0
 AllSome t = AllByRecursion (λ n. 0 < n) (chain_of t).lengths
 
 -- ---- the length of a static array
 
-module _ (k : Known) where
-  length_whole : (d : Data) → itself_of k (Whole (pos 0) (pos 1048576)) d ≡ Ok tt → whole_from (pos 0) (pos 1048576) d ≡ Ok tt
-  unfolding itself_of leaf_of
-  length_whole d e = e
-
-  length_there : (ms : Members) → all_there places.StaticArray ms ≡ Ok tt → AreGood k places.StaticArray ms → (n : ℕ) × (natural_in (codes "length") ms ≡ Some n)
-  unfolding behind resolved_content content_under presence_under entries_of rows_of is_left_out natural_in
-  length_there ms there h =
-      let found = needed_there places.StaticArray (codes "length") ms refl there in
-      let sound = property_sound k places.StaticArray (codes "length") (Whole (pos 0) (pos 1048576)) ms found.0 (λ d j. refl) refl h.flaws found.1 refl in
-      let whole = naturals.natural_in 0 1048576 found.0 refl (length_whole found.0 sound.value.itself) in
-      (whole.value, ap natural_or_none found.1 ∙ whole.is)
+length_there : (k : Known) (ms : Members) → all_there places.StaticArray ms ≡ Ok tt → AreGood k places.StaticArray ms → (n : ℕ) × (natural_in (codes "length") ms ≡ Some n)
+length_there k ms there h =
+    let n = needed_natural k places.StaticArray (codes "length") 0 1048576 ms length_leads length_needed (record { there = there; flaws = h.flaws }) (omega arith) in
+    (n.0, sym (same_natural (codes "length") ms) ∙ n.1)
 
 some_length : (o : Option ℕ) (n : ℕ) → o ≡ Some n → not (is_number o 0) ≡ true → 0 < unwrap_or o 0
 some_length None n is e = absurd cc
@@ -72,7 +62,7 @@ bits_of_class k place (Some places.UnsignedInteger) ms t position h inner is e b
 bits_of_class k place (Some places.SignedInteger) ms t position h inner is e bits = let read = mapped_some (λ x. Int x) (integer true ms) t e in subst (λ x. AllSome x) read.2 tt
 bits_of_class k place (Some places.UnsignedEnumeration) ms t position h inner is e bits = let read = mapped_some (λ x. Enum x) (enumeration false ms) t e in subst (λ x. AllSome x) read.2 tt
 bits_of_class k place (Some places.SignedEnumeration) ms t position h inner is e bits = let read = mapped_some (λ x. Enum x) (enumeration true ms) t e in subst (λ x. AllSome x) read.2 tt
-bits_of_class k place (Some places.Str) ms t position h inner is e bits = subst (λ x. AllSome x) (some_same Str t e) tt
+bits_of_class k place (Some places.Str) ms t position h inner is e bits = subst (λ x. AllSome x) (same_Some Str t e) tt
 bits_of_class k place (Some places.StaticArray) ms t position h inner is e bits =
     let says = static_says (length_of ms) (element ms) t e in
     let good = elements_at k place ms position is h in
@@ -90,7 +80,7 @@ mutual
   field_has_bits (string s) k place t position h e bits = absurd cc
   field_has_bits (array ds) k place t position h e bits = absurd cc
   field_has_bits (object ms) k place t position h e bits =
-      bits_of_class k place (class_of ms) ms t position (good_object k place ms h) (λ x good there some. element_bits ms k x good there some) refl e (ap (λ class. bits_of class ms) (same_class ms) ∙ bits)
+      bits_of_class k place (class_of ms) ms t position (good_object k place ms h) (λ x good there some. element_bits ms k x good there some) refl e (ap (λ class. bits_of class ms) (sym (class_same ms)) ∙ bits)
 
   element_bits : (ms : Members) (k : Known) (t : FieldType) → AreGood k places.StaticArray ms → element ms ≡ Some t → element_has_bits ms ≡ true → AllSome t
   element_bits no_members k t h e bits = absurd cc

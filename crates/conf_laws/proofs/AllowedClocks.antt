@@ -18,15 +18,17 @@ use Rattle.conf_judge.specs.Limits.{fits}
 use Rattle.conf_judge.specs.Names.{key_of, key_by, plain_of}
 use Rattle.conf_judge.specs.Places.{place_of_properties, is_position, own_place}
 use Rattle.conf_draft.specs.Clocks.{clock_type, clock_or_none, clocks_in, clocks_or_none, clock_types}
-use Rattle.conf_draft.specs.Lookups.{natural, natural_of, word, object as object_at}
+use Rattle.conf_draft.specs.Lookups.{natural, natural_of, word}
 use Rattle.conf_laws.proofs.AllowedMaps.{AreAllowed, AreUnder, none_under, one_under, none_allowed, map_allowed}
 use Rattle.conf_laws.proofs.AllowedNames.{plain_name, config_text}
-use Rattle.conf_laws.proofs.AllowedNaturals.{natural_is_in}
+use Rattle.conf_laws.proofs.Naturals.{natural_is_in}
 use Rattle.conf_laws.proofs.Ascending.{names_of}
-use Rattle.conf_laws.proofs.Entries.{IsGoodEntry, IsMapOf, entry_in, plain_rest, entry_object}
-use Rattle.conf_laws.proofs.Properties.{AreGood, IsGood, IsGoodAt, IsOwn, Leads, own_properties, property_at, object_in, entries_fit}
+use Rattle.conf_laws.proofs.Entries.{IsGoodEntry, entry_in, plain_rest, entry_object}
+use Rattle.conf_laws.proofs.Properties.{AreGood, IsGood, IsGoodAt, IsOwn, own_properties, property_at, entries_fit, by_good_object}
 use Rattle.conf_laws.proofs.Sound.{IsPlain}
-use Rattle.conf_laws.proofs.Steps.{only_passed, word_said, natural_said}
+use Rattle.conf_laws.proofs.Steps.{word_said, natural_said}
+use Rattle.conf_laws.proofs.Readings.{was_so}
+use Rattle.conf_laws.proofs.Rows.{IsMapOf, Leads}
 
 -- ---- one clock type
 
@@ -42,11 +44,11 @@ module _ where
   -- a text that people read, of 4,096 bytes at most
   text_good : (k : Known) (s : List ℕ) → IsGoodAt k (Text 4096) (string s) → IsConfigText s
   unfolding itself_of leaf_of printable fits
-  text_good k s h = config_text s (only_passed _ h.sound.itself) h.within.fitting
+  text_good k s h = config_text s (was_so _ h.sound.itself) h.within.fitting
 
   frequency_in : (k : Known) (d : Data) (n : ℕ) → IsGoodAt k (Whole (pos 1) (pos 18446744073709551615)) d → natural_of (Some d) ≡ Some n → 0 < n
   unfolding itself_of leaf_of
-  frequency_in k d n h e = let b = (natural_is_in 1 18446744073709551615 d n refl h.sound.itself e).0 in omega (arith, b)
+  frequency_in k d n h e = let b = (natural_is_in 1 18446744073709551615 d n (omega arith) h.sound.itself e).0 in omega (arith, b)
 
 description_allowed : (k : Known) (ms : Members) (s : List ℕ) → AreGood k places.ClockType ms → word (codes "description") ms ≡ Some s → IsConfigText s
 description_allowed k ms s h e = text_good k s (property_at k places.ClockType (codes "description") (Text 4096) ms (string s) description_leads h (word_said (codes "description") ms s e))
@@ -119,10 +121,6 @@ AreClocks cs = AreAllowed clock_name IsClockType 64 cs
 
 pub clocks_allowed : (k : Known) (place : Kind) (ms : Members) → Leads place (codes "clock-types") (At places.ClockTypes) → AreGood k place ms → AreClocks (clock_types ms)
 unfolding clock_types
-clocks_allowed k place ms leads h = go (object_at (codes "clock-types") ms) refl
-  where
-    go : (o : Option Members) → object_at (codes "clock-types") ms ≡ o → AreClocks (clocks_or_none o)
-    go None is = none_allowed clock_name IsClockType 64
-    go (Some x) is =
-        let good = object_in k place (codes "clock-types") places.ClockTypes ms x leads h is in
-        map_allowed clock_name IsClockType 64 x (clocks_in x) good.in_order (clocks_few k x good) (clocks_under_names k x (own_properties k places.ClockTypes x clocks_own good))
+clocks_allowed k place ms leads h =
+    by_good_object k place (codes "clock-types") places.ClockTypes ms leads h (λ o. AreClocks (clocks_or_none o)) (none_allowed clock_name IsClockType 64)
+    (λ x good. map_allowed clock_name IsClockType 64 x (clocks_in x) good.in_order (clocks_few k x good) (clocks_under_names k x (own_properties k places.ClockTypes x clocks_own good)))

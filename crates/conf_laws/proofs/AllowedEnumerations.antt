@@ -1,10 +1,9 @@
 -- An enumeration that has no flaw and passes no limit is one that the rules allow.
 use Rattle.std.proofs.Common.{◌≡◌, ◌≢◌, ℕ, ◌<◌, ◌≤◌, Bool, true, false, List, length, All, Option, Some, None, Ok, refl, sym, ap, subst, ◌∙◌, arith}
-use Rattle.std.specs.Prelude.{nat_lt, nat_eq, int_le, ◌&&◌, codes, unwrap_or}
+use Rattle.std.specs.Prelude.{int_le, ◌&&◌, codes, unwrap_or}
 use Rattle.std.specs.Int.Signed.{le_z_yes}
-use Rattle.std.proofs.lemmas.Bool.{and_parts}
+use Rattle.std.proofs.lemmas.Bool.{and_parts, leb-true}
 use Rattle.std.proofs.lemmas.Float.{T_from_true}
-use Rattle.std.proofs.lemmas.Bool.Decides.{nat_tests}
 use Rattle.std.proofs.lemmas.List.Elements.{All-from_recursion, All-weaker}
 use Rattle.serde_json.specs.Data.{Data, null, boolean, number, string, array, object, Members, no_members, member}
 use Rattle.serde_json.specs.Find.{get_member}
@@ -19,7 +18,7 @@ use Rattle.conf_table.specs.declared.place.Place.TheVariants as places
 use Rattle.conf_table.specs.declared.row.Content.TheVariants.{At}
 use Rattle.conf_table.specs.declared.row.Presence.TheVariants.{Needed}
 use Rattle.conf_table.specs.Table.{content_under, presence_under, entries_of, rows_of}
-use Rattle.conf_judge.specs.Flaws.{resolved_content, is_left_out, all_there}
+use Rattle.conf_judge.specs.Flaws.{resolved_content, all_there}
 use Rattle.conf_judge.specs.Forms.{itself_of, form_of, some_object}
 use Rattle.conf_judge.specs.Known.{Known, inside, behind}
 use Rattle.conf_judge.specs.Limits.{ranges_fit}
@@ -29,15 +28,12 @@ use Rattle.conf_judge.specs.Places.{place_of_properties, is_position, own_place}
 use Rattle.conf_draft.specs.Enumerations.{enumeration, labels_in, mappings_or_none, with_mappings}
 use Rattle.conf_draft.specs.Integers.{integer, size_of}
 use Rattle.conf_draft.specs.Lookups.{object_of, object as object_at}
-use Rattle.conf_laws.proofs.Sound.{IsPlain, property_sound}
-use Rattle.conf_laws.proofs.Ascending.{ascends_found}
 use Rattle.conf_laws.proofs.AllowedIntegers.{integer_says}
-use Rattle.conf_laws.proofs.AllowedNames.{at_most}
 use Rattle.conf_laws.proofs.AllowedRanges.{IsGoodMapping, labels_good, labels_in_order, labels_few, some_range}
-use Rattle.conf_laws.proofs.Entries.{needed_there}
-use Rattle.conf_laws.proofs.Properties.{AreGood, IsGoodAt, good_object, own_properties, IsOwn, ranges_are_few}
+use Rattle.conf_laws.proofs.Properties.{AreGood, IsGoodAt, good_object, own_properties, IsOwn, ranges_are_few, needed_at}
 use Rattle.conf_laws.proofs.Steps.{mapped_some, same_natural}
-use Rattle.conf_laws.proofs.Within.{property_within}
+use Rattle.conf_laws.proofs.Rows.{Leads, needed_there}
+use Rattle.conf_laws.proofs.Ranges.{some_size}
 
 -- ---- the mappings as they are listed
 
@@ -55,7 +51,7 @@ module _ where
 
   few_ranges : (labels : Members) → ranges_fit places.Mappings (object labels) ≡ true → limits.ranges_in labels ≤ 1024
   unfolding ranges_fit
-  few_ranges labels e = at_most (limits.ranges_in labels) 1024 e
+  few_ranges labels e = leb-true (limits.ranges_in labels) 1024 e
 
 not_empty : (k : Known) (labels : Members) → itself_of k (At places.Mappings) (object labels) ≡ Ok tt → labels ≢ no_members
 unfolding itself_of form_of some_object
@@ -91,33 +87,21 @@ labels_there k ms (string s) is h = absurd (let e = h.sound.itself in cc)
 labels_there k ms (array ds) is h = absurd (let e = h.sound.itself in cc)
 labels_there k ms (object labels) is h = record { labels = labels; there = ap (λ o. object_of (given o)) is; good = h }
 
--- where the place is an enumeration's
-module _ (k : Known) (place : Kind) (ms : Members) (plain : IsPlain place) (content : resolved_content place (codes "mappings") ≡ Some (At places.Mappings)) (under : content_under place (codes "mappings") ≡ Some (At places.Mappings))
-    (needed : presence_under place (codes "mappings") ≡ Some Needed) (stays : (d : Data) → is_left_out place (codes "mappings") d ≡ false) where
-  has_mappings : all_there place ms ≡ Ok tt → AreGood k place ms → HasMappings k ms
-  has_mappings there h =
-      let found = needed_there place (codes "mappings") ms needed there in
-      let sound = property_sound k place (codes "mappings") (At places.Mappings) ms found.0 plain content h.flaws found.1 (stays found.0) in
-      let within = property_within place (codes "mappings") (At places.Mappings) ms found.0 under h.limits found.1 in
-      labels_there k ms found.0 found.1 (record { sound = sound.value; within = within.value; ascends = ascends_found (codes "mappings") ms found.0 h.ascend found.1 })
+has_mappings : (k : Known) (place : Kind) (ms : Members) → Leads place (codes "mappings") (At places.Mappings) → presence_under place (codes "mappings") ≡ Some Needed → all_there place ms ≡ Ok tt → AreGood k place ms → HasMappings k ms
+has_mappings k place ms leads needed there h =
+    let found = needed_there place (codes "mappings") ms needed there in
+    labels_there k ms found.0 found.1 (needed_at k place (codes "mappings") (At places.Mappings) ms found.0 leads needed h found.1)
 
 module _ (k : Known) (ms : Members) where
   unsigned_mappings : all_there places.UnsignedEnumeration ms ≡ Ok tt → AreGood k places.UnsignedEnumeration ms → HasMappings k ms
-  unfolding behind resolved_content content_under presence_under entries_of rows_of is_left_out
-  unsigned_mappings there h = has_mappings k places.UnsignedEnumeration ms (λ d j. refl) refl refl refl (λ d. refl) there h
+  unfolding behind resolved_content content_under presence_under entries_of rows_of
+  unsigned_mappings there h = has_mappings k places.UnsignedEnumeration ms (record { plain = λ d j. refl; resolved = refl; under = refl }) refl there h
 
   signed_mappings : all_there places.SignedEnumeration ms ≡ Ok tt → AreGood k places.SignedEnumeration ms → HasMappings k ms
-  unfolding behind resolved_content content_under presence_under entries_of rows_of is_left_out
-  signed_mappings there h = has_mappings k places.SignedEnumeration ms (λ d j. refl) refl refl refl (λ d. refl) there h
+  unfolding behind resolved_content content_under presence_under entries_of rows_of
+  signed_mappings there h = has_mappings k places.SignedEnumeration ms (record { plain = λ d j. refl; resolved = refl; under = refl }) refl there h
 
 -- ---- the numbers of the integer
-
-some_size : (signed : Bool) (size : ℕ) → 0 < size → size ≤ 64 → ((numbers_of signed size).low ≡ lowest signed size) × ((numbers_of signed size).high ≡ highest signed size)
-unfolding numbers_of
-some_size signed size some most =
-    let a : nat_eq size 0 ≡ false = grind (arith, nat_tests) in
-    let b : nat_lt 64 size ≡ false = grind (arith, nat_tests) in
-    rw (a, b) (refl, refl)
 
 numbers_said : (signed : Bool) (o : Option ℕ) (size : ℕ) → unwrap_or o 0 ≡ size → 0 < size → numbers_or_all signed o ≡ numbers_of signed size
 numbers_said signed None size is some = absurd (omega (arith, is, some))

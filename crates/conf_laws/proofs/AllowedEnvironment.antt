@@ -1,5 +1,5 @@
 -- Environments that have no flaw and pass no limit are ones that the rules allow.
-use Rattle.std.proofs.Common.{◌≡◌, ℕ, pos, true, List, Option, Some, None, Ok, refl}
+use Rattle.std.proofs.Common.{◌≡◌, ℕ, pos, true, List, Ok, refl}
 use Rattle.std.specs.Prelude.{codes, nat_le, negsuc}
 use Rattle.serde_json.specs.Data.{Data, null, boolean, number, string, array, object, Members, no_members, member}
 use Rattle.serde_json.specs.Events.{members_len}
@@ -19,14 +19,14 @@ use Rattle.conf_judge.specs.Limits.{fits}
 use Rattle.conf_judge.specs.Names.{key_of, key_by, plain_of}
 use Rattle.conf_judge.specs.Places.{place_of_properties, is_position, own_place}
 use Rattle.conf_draft.specs.Environments.{entry_value, entries_in, entries_or_none, environment}
-use Rattle.conf_draft.specs.Lookups.{object as object_at}
 use Rattle.conf_laws.proofs.AllowedMaps.{AreAllowed, AreUnder, none_under, one_under, none_allowed, map_allowed}
 use Rattle.conf_laws.proofs.AllowedNames.{plain_name, config_text}
 use Rattle.conf_laws.proofs.Ascending.{names_of}
-use Rattle.conf_laws.proofs.Entries.{IsMapOf, entry_in, plain_rest}
-use Rattle.conf_laws.proofs.Properties.{AreGood, IsGood, IsGoodAt, IsOwn, Leads, own_properties, object_in, entries_fit}
+use Rattle.conf_laws.proofs.Entries.{entry_in, plain_rest}
+use Rattle.conf_laws.proofs.Properties.{AreGood, IsGood, IsGoodAt, IsOwn, own_properties, entries_fit, by_good_object}
 use Rattle.conf_laws.proofs.Sound.{IsPlain}
-use Rattle.conf_laws.proofs.Steps.{only_passed}
+use Rattle.conf_laws.proofs.Readings.{was_so}
+use Rattle.conf_laws.proofs.Rows.{IsMapOf, Leads}
 
 abbrev entry_content : Content
 entry_content = WholeOrText (negsuc 9223372036854775807) (pos 9223372036854775807) 4096
@@ -54,7 +54,7 @@ module _ where
 
   text_good : (k : Known) (s : List ℕ) → IsGoodAt k entry_content (string s) → IsConfigText s
   unfolding itself_of leaf_of whole_or_text fits
-  text_good k s h = config_text s (only_passed _ h.sound.itself) h.within.fitting
+  text_good k s h = config_text s (was_so _ h.sound.itself) h.within.fitting
 
 value_allowed : (k : Known) (d : Data) → IsGoodAt k entry_content d → IsEnvironmentValue (entry_value d)
 value_allowed k null h = tt
@@ -82,10 +82,6 @@ IsEnvironment es = AreAllowed entry_name IsEntry 256 es
 
 pub environment_allowed : (k : Known) (place : Kind) (ms : Members) → Leads place (codes "environment") (At places.Environment) → AreGood k place ms → IsEnvironment (environment ms)
 unfolding environment
-environment_allowed k place ms leads h = go (object_at (codes "environment") ms) refl
-  where
-    go : (o : Option Members) → object_at (codes "environment") ms ≡ o → IsEnvironment (entries_or_none o)
-    go None is = none_allowed entry_name IsEntry 256
-    go (Some x) is =
-        let good = object_in k place (codes "environment") places.Environment ms x leads h is in
-        map_allowed entry_name IsEntry 256 x (entries_in x) good.in_order (environment_few k x good) (entries_under k x (own_properties k places.Environment x environment_own good))
+environment_allowed k place ms leads h =
+    by_good_object k place (codes "environment") places.Environment ms leads h (λ o. IsEnvironment (entries_or_none o)) (none_allowed entry_name IsEntry 256)
+    (λ x good. map_allowed entry_name IsEntry 256 x (entries_in x) good.in_order (environment_few k x good) (entries_under k x (own_properties k places.Environment x environment_own good)))

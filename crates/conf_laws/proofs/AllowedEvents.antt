@@ -1,8 +1,7 @@
 -- Event record types that have no flaw and pass no limit are ones that the rules allow, but for their bits.
-use Rattle.std.proofs.Common.{◌≡◌, ℕ, pos, ◌<◌, ◌^◌, true, List, [], ◌∷◌, ◌++◌, Option, Some, None, Ok, refl, sym, ap, subst, ◌∙◌, arith, append_assoc}
+use Rattle.std.proofs.Common.{◌≡◌, ℕ, pos, ◌<◌, ◌^◌, true, List, [], ◌∷◌, ◌++◌, Option, Some, None, Ok, refl, sym, ap, subst, ◌∙◌, arith}
 use Rattle.std.specs.Prelude.{codes, nat_le}
-use Rattle.std.proofs.lemmas.List.{append-nil}
-use Rattle.serde_json.specs.Data.{Data, null, boolean, number, string, array, object, Members, no_members, member}
+use Rattle.serde_json.specs.Data.{Data, null, boolean, number, string, array, object, Members}
 use Rattle.serde_json.specs.Events.{members_len}
 use Rattle.serde_json.specs.Find.{get_member}
 use Rattle.ctf_types.specs.AllowedConfig.{IsConfigStruct}
@@ -15,23 +14,24 @@ use Rattle.conf_table.specs.declared.place.Place.TheVariants as places
 use Rattle.conf_table.specs.declared.row.Content.TheVariants.{At, Level}
 use Rattle.conf_table.specs.Table.{content_under, presence_under, entries_of, rows_of}
 use Rattle.conf_values.specs.Scalar.{as_natural}
-use Rattle.conf_judge.specs.Flaws.{resolved_content, is_left_out}
-use Rattle.conf_judge.specs.Forms.{itself_of, form_of, any_object}
+use Rattle.conf_judge.specs.Flaws.{resolved_content}
+use Rattle.conf_judge.specs.Forms.{itself_of}
 use Rattle.conf_judge.specs.Known.{Known, inside, behind}
 use Rattle.conf_judge.specs.Leaves.{leaf_of, level, level_or_none, whole_from}
 use Rattle.conf_judge.specs.Names.{key_of, key_by}
-use Rattle.conf_judge.specs.Places.{place_of_properties, is_position, own_place}
 use Rattle.conf_draft.specs.Events.{level_of, event_with, event_type, event_behind, entry_behind, events_behind, events_or_none, event_types}
-use Rattle.conf_draft.specs.Lookups.{natural_of, object as object_at}
-use Rattle.conf_laws.proofs.AllowedMaps.{AreAllowed, AreUnder, none_under, last_under, none_allowed, map_allowed}
+use Rattle.conf_draft.specs.Lookups.{natural_of}
+use Rattle.conf_laws.proofs.AllowedMaps.{AreAllowed, AreUnder, none_under, none_allowed, map_allowed, IsOneMore, map_read}
 use Rattle.conf_laws.proofs.AllowedNames.{config_name}
-use Rattle.conf_laws.proofs.AllowedNaturals.{natural_is_in}
+use Rattle.conf_laws.proofs.Naturals.{natural_is_in}
 use Rattle.conf_laws.proofs.AllowedStructures.{structure_allowed}
 use Rattle.conf_laws.proofs.Ascending.{names_of}
-use Rattle.conf_laws.proofs.Entries.{IsGoodEntry, IsMapOf, entry_in, plain_rest, entry_object}
-use Rattle.conf_laws.proofs.Properties.{AreGood, IsGood, IsOwn, Leads, own_properties, property_at, object_in, entries_fit}
+use Rattle.conf_laws.proofs.Entries.{IsGoodEntry, entry_in, plain_rest, entry_object}
+use Rattle.conf_laws.proofs.Properties.{AreGood, IsGood, IsOwn, own_properties, property_at, entries_fit, by_good_object}
 use Rattle.conf_laws.proofs.Sound.{IsPlain}
-use Rattle.conf_laws.proofs.Steps.{some_same, then_some}
+use Rattle.std.proofs.lemmas.Option.{same_Some}
+use Rattle.conf_laws.proofs.Rows.{Leads}
+use Rattle.conf_laws.proofs.Events.{specific_leads, payload_leads, events_map, event_object, events_object}
 
 -- ---- log levels
 
@@ -39,7 +39,7 @@ abbrev highest : ℕ
 highest = 9223372036854775807
 
 small : (d : Data) (n : ℕ) → whole_from (pos 0) (pos highest) d ≡ Ok tt → as_natural d ≡ Some n → n < 2 ^ 63
-small d n judged is = let b = (natural_is_in 0 highest d n refl judged is).1 in omega (arith, b)
+small d n judged is = let b = (natural_is_in 0 highest d n (omega arith) judged is).1 in omega (arith, b)
 
 alias_small : (o : Option Data) (n : ℕ) → level_or_none (pos highest) o ≡ Ok tt → natural_of o ≡ Some n → n < 2 ^ 63
 alias_small None n judged is = absurd cc
@@ -62,14 +62,6 @@ module _ where
   level_judged : (k : Known) (d : Data) → itself_of k (Level (pos highest)) d ≡ Ok tt → level k.levels (pos highest) d ≡ Ok tt
   unfolding itself_of leaf_of
   level_judged k d e = e
-
-  specific_leads : Leads places.EventType (codes "specific-context-field-type") (At places.StructureType)
-  unfolding behind resolved_content content_under presence_under entries_of rows_of
-  specific_leads = record { plain = λ d k. refl; resolved = refl; under = refl }
-
-  payload_leads : Leads places.EventType (codes "payload-field-type") (At places.StructureType)
-  unfolding behind resolved_content content_under presence_under entries_of rows_of
-  payload_leads = record { plain = λ d k. refl; resolved = refl; under = refl }
 
 level_allowed : (k : Known) (ms : Members) (n : ℕ) → AreGood k places.EventType ms → level_of k.levels (optional (codes "log-level") ms) ≡ Some n → n < 2 ^ 63
 level_allowed k ms n h e = go (optional (codes "log-level") ms) refl e
@@ -97,7 +89,7 @@ event_says : (name : List ℕ) (level : Option ℕ) (a b : Option StructType) (e
 event_says name level None b e is = absurd cc
 event_says name level (Some x) None e is = absurd cc
 event_says name level (Some x) (Some y) e is =
-    let same = some_same _ e is in
+    let same = same_Some _ e is in
     record { name_is = ap (λ r. r.name) same; level_is = ap (λ r. r.log_level) same; specific = ap (λ r. Some r.specific) same; payload = ap (λ r. Some r.payload) same }
 
 -- good, and of this name
@@ -124,25 +116,17 @@ module _ where
   unfolding behind
   events_plain d k = refl
 
-  events_map : IsMapOf places.EventTypes (At places.EventType)
-  unfolding content_under presence_under entries_of rows_of is_left_out
-  events_map = record { under = λ name. refl; inherits_none = refl; stays = λ name d. refl }
-
   event_named : (k : Known) (name : List ℕ) (d : Data) → key_of k places.EventTypes name d ≡ Ok tt → IsConfigName name
   unfolding key_of key_by entries_of
   event_named k name d e = config_name name e
 
   event_own : IsOwn places.EventType
-  unfolding place_of_properties is_position own_place inside
-  event_own = record { own = λ ms. refl; known = λ k ms. refl }
-
-  event_form : (k : Known) (d : Data) → itself_of k (At places.EventType) d ≡ any_object d
-  unfolding itself_of form_of
-  event_form k d = refl
+  unfolding inside
+  event_own = record { own = event_object.own; known = λ k ms. refl }
 
   events_own : IsOwn places.EventTypes
-  unfolding place_of_properties is_position own_place inside
-  events_own = record { own = λ ms. refl; known = λ k ms. refl }
+  unfolding inside
+  events_own = record { own = events_object.own; known = λ k ms. refl }
 
   events_few : (k : Known) (ms : Members) → IsGood k places.EventTypes ms → nat_le (members_len ms) 1024 ≡ true
   unfolding entries_of
@@ -151,37 +135,29 @@ module _ where
 abbrev event_name : EventType → List ℕ
 event_name e = e.name
 
-abbrev AreEvents : List (List ℕ) → List EventType → Type 0
-AreEvents names es = AreUnder event_name IsGoodEvent names es
+event_last : (done more : List EventType) (o : Option EventType) (name : List ℕ) → ((x : EventType) → o ≡ Some x → IsUnder name x) → event_behind done o ≡ Some more → IsOneMore event_name IsGoodEvent name done more
+event_last done more None name good e = absurd cc
+event_last done more (Some x) name good e = let one = good x refl in record { new = x; more = same_Some (done ++ x ∷ []) more e; name_is = one.0; is_good = one.1 }
 
-event_last : (k : Known) (done more : List EventType) (o : Option EventType) (name : List ℕ) (names : List (List ℕ)) → ((e : EventType) → o ≡ Some e → IsUnder name e) → AreEvents names done → event_behind done o ≡ Some more → AreEvents (names ++ name ∷ []) more
-event_last k done more None name names good h e = absurd cc
-event_last k done more (Some x) name names good h e = subst (AreEvents (names ++ name ∷ [])) (some_same (done ++ x ∷ []) more e) (let one = good x refl in last_under event_name IsGoodEvent name names x done one.0 one.1 h)
-
-event_entry : (k : Known) (done more : List EventType) (name : List ℕ) (d : Data) (names : List (List ℕ)) → IsGoodEntry k places.EventTypes name (At places.EventType) d → AreEvents names done → entry_behind k.levels done name d ≡ Some more → AreEvents (names ++ name ∷ []) more
-event_entry k done more name d names entry h e =
-    let inner = entry_object k places.EventType d (event_form k d) entry.value in
+event_entry : (k : Known) (name : List ℕ) (d : Data) → IsGoodEntry k places.EventTypes name (At places.EventType) d → (done more : List EventType) → entry_behind k.levels done name d ≡ Some more → IsOneMore event_name IsGoodEvent name done more
+event_entry k name d entry done more e =
+    let inner = entry_object k places.EventType d (event_object.form k d) entry.value in
     let own = own_properties k places.EventType inner.0 event_own inner.2 in
     let read : event_behind done (event_type k.levels name inner.0) ≡ Some more = ap (λ x. entry_behind k.levels done name x) (sym inner.1) ∙ e in
-    event_last k done more (event_type k.levels name inner.0) name names (λ x is. event_allowed k name inner.0 x (event_named k name d entry.named) own is) h read
+    event_last done more (event_type k.levels name inner.0) name (λ x is. event_allowed k name inner.0 x (event_named k name d entry.named) own is) read
 
-events_read : (k : Known) (ms : Members) (done es : List EventType) (names : List (List ℕ)) → AreGood k places.EventTypes ms → AreEvents names done → events_behind k.levels done ms ≡ Some es → AreEvents (names ++ names_of ms) es
-events_read k no_members done es names h good e = subst (λ l. AreEvents l es) (sym (append-nil names)) (subst (AreEvents names) (some_same done es e) good)
-events_read k (member name d ms) done es names h good e =
-    let read = then_some (λ more. events_behind k.levels more ms) (entry_behind k.levels done name d) es e in
-    let entry = entry_in k places.EventTypes name (At places.EventType) d ms events_map h in
-    let rest = plain_rest k places.EventTypes name d ms events_plain h in
-    subst (λ l. AreEvents l es) (append_assoc names (name ∷ []) (names_of ms)) (events_read k ms read.0 es (names ++ name ∷ []) rest (event_entry k done read.0 name d names entry good read.1) read.2)
+events_read : (k : Known) (ms : Members) (es : List EventType) → AreGood k places.EventTypes ms → events_behind k.levels [] ms ≡ Some es → AreUnder event_name IsGoodEvent (names_of ms) es
+events_read k ms es h e =
+    map_read event_name IsGoodEvent (events_behind k.levels) (entry_behind k.levels) (λ done. refl) (λ done name d ms. refl) (λ ms. AreGood k places.EventTypes ms)
+    (λ name d ms good. (plain_rest k places.EventTypes name d ms events_plain good, event_entry k name d (entry_in k places.EventTypes name (At places.EventType) d ms events_map good)))
+    ms [] es [] h (none_under event_name IsGoodEvent) e
 
 abbrev pub AreGoodEvents : List EventType → Type 0
 AreGoodEvents es = AreAllowed event_name IsGoodEvent 1024 es
 
 pub events_allowed : (k : Known) (place : Kind) (ms : Members) (es : List EventType) → Leads place (codes "event-record-types") (At places.EventTypes) → AreGood k place ms → event_types k.levels ms ≡ Some es → AreGoodEvents es
 unfolding event_types
-events_allowed k place ms es leads h e = go (object_at (codes "event-record-types") ms) refl e
-  where
-    go : (o : Option Members) → object_at (codes "event-record-types") ms ≡ o → events_or_none k.levels o ≡ Some es → AreGoodEvents es
-    go None is e = subst AreGoodEvents (some_same [] es e) (none_allowed event_name IsGoodEvent 1024)
-    go (Some x) is e =
-        let good = object_in k place (codes "event-record-types") places.EventTypes ms x leads h is in
-        map_allowed event_name IsGoodEvent 1024 x es good.in_order (events_few k x good) (events_read k x [] es [] (own_properties k places.EventTypes x events_own good) (none_under event_name IsGoodEvent) e)
+events_allowed k place ms es leads h e =
+    by_good_object k place (codes "event-record-types") places.EventTypes ms leads h (λ o. events_or_none k.levels o ≡ Some es → AreGoodEvents es)
+    (λ f. subst AreGoodEvents (same_Some [] es f) (none_allowed event_name IsGoodEvent 1024))
+    (λ x good f. map_allowed event_name IsGoodEvent 1024 x es good.in_order (events_few k x good) (events_read k x es (own_properties k places.EventTypes x events_own good) f)) e

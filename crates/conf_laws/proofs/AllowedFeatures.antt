@@ -1,7 +1,7 @@
 -- Features that have no flaw have types that the rules allow.
 use Rattle.std.proofs.Common.{◌≡◌, ℕ, ◌&&◌, Bool, true, false, List, Option, Some, None, is_some, Ok, refl, sym, ap, subst, ◌∙◌}
 use Rattle.std.specs.Prelude.{codes, option_map, option_and_then, unwrap_or}
-use Rattle.std.proofs.lemmas.Bool.{and_parts, eqb-true}
+use Rattle.std.proofs.lemmas.Bool.{and_parts}
 use Rattle.serde_json.specs.Data.{Data, null, boolean, number, string, array, object, Members, no_members}
 use Rattle.serde_json.specs.Find.{get_member}
 use Rattle.ctf_types.specs.AllowedConfig.{OnlyIf, IsPlainUnsigned}
@@ -13,10 +13,8 @@ use Rattle.conf_tree.specs.Reading.{optional}
 use Rattle.conf_table.specs.declared.place.Place.{Place as Kind}
 use Rattle.conf_table.specs.declared.place.Place.TheVariants as places
 use Rattle.conf_table.specs.declared.row.Content.TheVariants.{At}
-use Rattle.conf_table.specs.Table.{content_under, presence_under, entries_of, rows_of}
 use Rattle.conf_values.specs.Scalar.{as_natural}
-use Rattle.conf_judge.specs.Flaws.{resolved_content}
-use Rattle.conf_judge.specs.Known.{Known, behind}
+use Rattle.conf_judge.specs.Known.{Known}
 use Rattle.conf_judge.specs.Names as judged
 use Rattle.conf_judge.specs.Numbers.{natural_in}
 use Rattle.conf_judge.specs.Shapes.{shape_of, is_number, is_eight, is_byte, is_identifier, is_unsigned_integer}
@@ -25,22 +23,24 @@ use Rattle.conf_draft.specs.Features.{number_type, magic_type, byte_type, if_on,
 use Rattle.conf_draft.specs.Integers.{integer, size_of, align_of, default_align}
 use Rattle.conf_draft.specs.Lookups.{natural, natural_of, object as object_at}
 use Rattle.conf_laws.proofs.AllowedIntegers.{integer_says, unsigned_says}
-use Rattle.conf_laws.proofs.Properties.{AreGood, IsOwn, Leads, good_object, own_properties, property_at, object_in}
+use Rattle.conf_laws.proofs.Properties.{AreGood, IsOwn, good_object, own_properties, property_at, by_good_object}
 use Rattle.conf_laws.proofs.Sound.{optional_there}
-use Rattle.conf_laws.proofs.Steps.{some_same, mapped_some, only_passed, same_natural}
+use Rattle.conf_laws.proofs.Steps.{mapped_some, same_natural}
+use Rattle.std.proofs.lemmas.Option.{same_Some}
+use Rattle.conf_laws.proofs.Readings.{was_so}
+use Rattle.conf_laws.proofs.Rows.{Leads}
+use Rattle.conf_laws.proofs.FeatureObjects.{magic_leads, uuid_leads}
+use Rattle.conf_laws.proofs.Naturals.{number_told}
 
 -- ---- the type that a feature has: the one that it says itself, or its default
 
-abbrev some_type : Option IntType → Option (Option IntType)
-some_type t = Some t
-
 on_or_off : (P : IntType → Type 0) (b : Bool) (s : IntType) (t : Option IntType) → P s → if_on b s ≡ Some t → OnlyIf t P
-on_or_off P true s t ps e = λ x is. subst P (some_same s x (some_same (Some s) t e ∙ is)) ps
-on_or_off P false s t ps e = λ x is. absurd (let none = some_same None t e ∙ is in cc)
+on_or_off P true s t ps e = λ x is. subst P (same_Some s x (same_Some (Some s) t e ∙ is)) ps
+on_or_off P false s t ps e = λ x is. absurd (let none = same_Some None t e ∙ is in cc)
 
 own_only : (P : IntType → Type 0) (o : Option IntType) (t : Option IntType) → ((x : IntType) → o ≡ Some x → P x) → own o ≡ Some t → OnlyIf t P
 own_only P None t from e = absurd cc
-own_only P (Some y) t from e = λ x is. subst P (some_same y x (some_same (Some y) t e ∙ is)) (from y refl)
+own_only P (Some y) t from e = λ x is. subst P (same_Some y x (same_Some (Some y) t e ∙ is)) (from y refl)
 
 -- of a value that was found
 feature_only : (P : IntType → Type 0) (b : Bool) (s : IntType) (o : Option Data) (t : Option IntType) → P s → ((ms : Members) (x : IntType) → o ≡ Some (object ms) → integer false ms ≡ Some x → P x) → feature_of b s o ≡ Some t → OnlyIf t P
@@ -83,7 +83,7 @@ mapped_of (Some c) t plain = (plain.0, refl)
 
 mapped_only : (clock : Option (List ℕ)) (o : Option IntType) → OnlyIf o IsPlainUnsigned → OnlyIf (option_map (mapped clock) o) (IsOfClock clock)
 mapped_only clock None plain = λ t is. absurd cc
-mapped_only clock (Some x) plain = λ t is. subst (IsOfClock clock) (some_same (mapped clock x) t is) (mapped_of clock x (plain x refl))
+mapped_only clock (Some x) plain = λ t is. subst (IsOfClock clock) (same_Some (mapped clock x) t is) (mapped_of clock x (plain x refl))
 
 timestamp_allowed : (clock : Option (List ℕ)) (name : List ℕ) (ms : Members) (t : Option IntType) → timestamp name clock ms ≡ Some t → OnlyIf t (IsOfClock clock)
 unfolding timestamp
@@ -93,13 +93,9 @@ timestamp_allowed clock name ms t e =
 
 -- ---- the magic number
 
-number_is : (o : Option ℕ) (n : ℕ) → is_number o n ≡ true → o ≡ Some n
-number_is None n e = absurd cc
-number_is (Some m) n e = ap (λ x. Some x) (eqb-true m n e)
-
 size_is : (ms : Members) (t : IntType) (n : ℕ) → integer false ms ≡ Some t → is_number (natural_in (codes "size") ms) n ≡ true → t.size ≡ n
 unfolding size_of
-size_is ms t n e is = (integer_says false ms t e).size_is ∙ ap (λ o. unwrap_or o 0) (same_natural (codes "size") ms ∙ number_is (natural_in (codes "size") ms) n is)
+size_is ms t n e is = (integer_says false ms t e).size_is ∙ ap (λ o. unwrap_or o 0) (same_natural (codes "size") ms ∙ number_told (natural_in (codes "size") ms) n is)
 
 abbrev pub IsMagic : IntType → Type 0
 IsMagic t = IsPlainUnsigned t × (t.size ≡ 32)
@@ -107,19 +103,11 @@ IsMagic t = IsPlainUnsigned t × (t.size ≡ 32)
 module _ where
   magic_shape : (ms : Members) → shape_of places.MagicFeature ms ≡ Ok tt → is_number (natural_in (codes "size") ms) 32 ≡ true
   unfolding shape_of
-  magic_shape ms e = only_passed _ e
+  magic_shape ms e = was_so _ e
 
   identifier_shape : (ms : Members) → shape_of places.IdentifierFeature ms ≡ Ok tt → is_byte (get_member (codes "element-field-type") ms) ≡ true
   unfolding shape_of is_identifier
-  identifier_shape ms e = (and_parts (is_number (natural_in (codes "length") ms) 16) (is_byte (get_member (codes "element-field-type") ms)) (only_passed _ e)).1
-
-  magic_leads : Leads places.TraceFeatures (codes "magic-field-type") (At places.MagicFeature)
-  unfolding behind resolved_content content_under presence_under entries_of rows_of
-  magic_leads = record { plain = λ d k. refl; resolved = refl; under = refl }
-
-  uuid_leads : Leads places.TraceFeatures (codes "uuid-field-type") (At places.IdentifierFeature)
-  unfolding behind resolved_content content_under presence_under entries_of rows_of
-  uuid_leads = record { plain = λ d k. refl; resolved = refl; under = refl }
+  identifier_shape ms e = (and_parts (is_number (natural_in (codes "length") ms) 16) (is_byte (get_member (codes "element-field-type") ms)) (was_so _ e)).1
 
 magic_good : (k : Known) (ms inner : Members) (t : IntType) → AreGood k places.TraceFeatures ms → optional (codes "magic-field-type") ms ≡ Some (object inner) → integer false inner ≡ Some t → IsMagic t
 magic_good k ms inner t h there e =
@@ -136,7 +124,7 @@ IsByte t = IsPlainUnsigned t × (t.size ≡ 8) × (t.align ≡ 8)
 
 eight_aligned : (o : Option Data) (size : ℕ) → is_eight o ≡ true → size ≡ 8 → unwrap_or (option_and_then alignment_of (natural_of o)) (default_align size) ≡ 8
 eight_aligned None size e is = ap default_align is
-eight_aligned (Some d) size e is = ap (λ o. unwrap_or (option_and_then alignment_of o) (default_align size)) (number_is (as_natural d) 8 e)
+eight_aligned (Some d) size e is = ap (λ o. unwrap_or (option_and_then alignment_of o) (default_align size)) (number_told (as_natural d) 8 e)
 
 byte_good : (ms : Members) (t : IntType) → is_byte (Some (object ms)) ≡ true → integer false ms ≡ Some t → IsByte t
 unfolding align_of alignment natural
@@ -186,11 +174,7 @@ none_good : (k : Known) (place : Kind) → AreGood k place no_members
 none_good k place = record { flaws = refl; limits = refl; in_order = tt; ascend = tt }
 
 pub or_empty_good : (k : Known) (place : Kind) (name : List ℕ) (inner : Kind) (ms : Members) → Leads place name (At inner) → IsOwn inner → AreGood k place ms → AreGood k inner (or_empty (object_at name ms))
-or_empty_good k place name inner ms leads own h = go (object_at name ms) refl
-  where
-    go : (o : Option Members) → object_at name ms ≡ o → AreGood k inner (or_empty o)
-    go None is = none_good k inner
-    go (Some x) is = own_properties k inner x own (object_in k place name inner ms x leads h is)
+or_empty_good k place name inner ms leads own h = by_good_object k place name inner ms leads h (λ o. AreGood k inner (or_empty o)) (none_good k inner) (λ x good. own_properties k inner x own good)
 
 -- ---- a packet's header
 
@@ -204,7 +188,7 @@ header_says None b c f e = absurd cc
 header_says (Some x) None c f e = absurd cc
 header_says (Some x) (Some y) None f e = absurd cc
 header_says (Some x) (Some y) (Some z) f e =
-    let same = some_same _ f e in (ap (λ r. Some r.magic) same, ap (λ r. Some r.uuid) same, ap (λ r. Some r.stream_id) same)
+    let same = same_Some _ f e in (ap (λ r. Some r.magic) same, ap (λ r. Some r.uuid) same, ap (λ r. Some r.stream_id) same)
 
 pub header_allowed : (k : Known) (has : Bool) (ms : Members) (f : HeaderFeatures) → AreGood k places.TraceFeatures ms → header_of has ms ≡ Some f → IsHeader f
 unfolding header_of
@@ -242,7 +226,7 @@ context_says (Some a) (Some b) (Some c) None e g f is = absurd cc
 context_says (Some a) (Some b) (Some c) (Some d) None g f is = absurd cc
 context_says (Some a) (Some b) (Some c) (Some d) (Some e) None f is = absurd cc
 context_says (Some a) (Some b) (Some c) (Some d) (Some e) (Some g) f is =
-    let same = some_same _ f is in
+    let same = same_Some _ f is in
     record {
       packet_size = ap (λ r. Some r.packet_size) same;
       content_size = ap (λ r. Some r.content_size) same;
@@ -275,7 +259,7 @@ pub record IsEventHeader (clock : Option (List ℕ)) (f : EventFeatures) : Type 
 event_header_says : (a b : Option (Option IntType)) (f : EventFeatures) → event_header_with a b ≡ Some f → (a ≡ Some f.id) × (b ≡ Some f.timestamp)
 event_header_says None b f e = absurd cc
 event_header_says (Some x) None f e = absurd cc
-event_header_says (Some x) (Some y) f e = let same = some_same _ f e in (ap (λ r. Some r.id) same, ap (λ r. Some r.timestamp) same)
+event_header_says (Some x) (Some y) f e = let same = same_Some _ f e in (ap (λ r. Some r.id) same, ap (λ r. Some r.timestamp) same)
 
 pub event_header_allowed : (clock : Option (List ℕ)) (ms : Members) (f : EventFeatures) → event_header clock ms ≡ Some f → IsEventHeader clock f
 unfolding event_header event_header_of

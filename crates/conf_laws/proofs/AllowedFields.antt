@@ -1,7 +1,7 @@
 -- What a field type holds that has no flaw and passes no limit is what the rules allow: an integer that is no clock's, an
 -- enumeration, or a string.
-use Rattle.std.proofs.Common.{◌≡◌, ℕ, Bool, true, false, cond, List, Option, Some, None, refl, sym, ap, subst, ◌∙◌}
-use Rattle.std.specs.Prelude.{codes, nat_le, unwrap_or}
+use Rattle.std.proofs.Common.{◌≡◌, ℕ, Bool, true, false, cond, List, Option, Some, None, refl, subst}
+use Rattle.std.specs.Prelude.{codes, nat_le}
 use Rattle.std.specs.Str.{bytes_eq}
 use Rattle.std.proofs.lemmas.Slice.Eq.{bytes_eq-Decides}
 use Rattle.serde_json.specs.Data.{Data, null, boolean, number, string, array, object, Members, no_members, member}
@@ -12,29 +12,19 @@ use Rattle.ctf_types.specs.FieldTypes.{chain_of}
 use Rattle.conf_table.specs.declared.place.Place.{Place as Kind}
 use Rattle.conf_table.specs.declared.place.Place.TheVariants as places
 use Rattle.conf_table.specs.declared.row.Content.TheVariants.{At}
-use Rattle.conf_table.specs.Table.{content_under, presence_under, entries_of, rows_of}
-use Rattle.conf_judge.specs.Flaws.{resolved_content, is_left_out}
-use Rattle.conf_judge.specs.Known.{Known, inside, behind}
-use Rattle.conf_judge.specs.Places.{place_of_properties, is_position}
+use Rattle.conf_judge.specs.Known.{Known, inside}
+use Rattle.conf_judge.specs.Places.{is_position}
 use Rattle.conf_draft.specs.Enumerations.{enumeration}
 use Rattle.conf_draft.specs.FieldTypes.{class_of, static, length_of, of_class, field_type, element}
 use Rattle.conf_draft.specs.Integers.{integer}
 use Rattle.conf_laws.proofs.AllowedEnumerations.{unsigned_allowed, signed_allowed}
 use Rattle.conf_laws.proofs.AllowedIntegers.{integer_says}
-use Rattle.conf_laws.proofs.Entries.{entry_first, plain_rest}
+use Rattle.conf_laws.proofs.Entries.{plain_rest, needed_first}
 use Rattle.conf_laws.proofs.Properties.{AreGood, IsGood, IsGoodAt, good_object, properties_at, there_at}
-use Rattle.conf_laws.proofs.Sound.{IsPlain}
-use Rattle.conf_laws.proofs.Steps.{some_same, mapped_some, if_some, same_class}
-
--- ---- positions of field types
-
-chosen : {A : Type 0} (b : Bool) (x y : A) → b ≡ true → cond b x y ≡ x
-chosen true x y e = refl
-chosen false x y e = absurd cc
-
-pub class_place : (place : Kind) (ms : Members) (class : Kind) → is_position place ≡ true → class_of ms ≡ Some class → place_of_properties place ms ≡ class
-unfolding place_of_properties
-class_place place ms class position is = chosen (is_position place) _ _ position ∙ ap (λ o. unwrap_or o places.Ignored) (sym (same_class ms) ∙ is)
+use Rattle.conf_laws.proofs.Steps.{mapped_some}
+use Rattle.std.proofs.lemmas.Option.{same_Some, cond_some}
+use Rattle.conf_laws.proofs.Classes.{class_place}
+use Rattle.conf_laws.proofs.FieldTypes.{element_leads, element_needed}
 
 -- ---- the elements of a static array
 
@@ -46,42 +36,23 @@ pub record IsStatic (length : ℕ) (element : Option FieldType) (t : FieldType) 
 
 pub static_says : (length : ℕ) (element : Option FieldType) (t : FieldType) → static length element ≡ Some t → IsStatic length element t
 static_says length None t e = absurd cc
-static_says length (Some x) t e = let p = if_some (nat_le length 1048576) (Static (chain_of x) length) t e in record { inner = x; there = refl; short = p.0; is = p.1 }
+static_says length (Some x) t e = let p = cond_some (nat_le length 1048576) (Static (chain_of x) length) t e in record { inner = x; there = refl; short = p.0; is = p.1 }
 
 -- the element of an array of this class, which stands at a position
 module _ where
-  pub static_known : (k : Known) (ms : Members) → inside places.StaticArray ms k ≡ k
+  static_known : (k : Known) (ms : Members) → inside places.StaticArray ms k ≡ k
   unfolding inside
   static_known k ms = refl
-
-  static_plain : IsPlain places.StaticArray
-  unfolding behind
-  static_plain d k = refl
-
-  element_content : resolved_content places.StaticArray (codes "element-field-type") ≡ Some (At places.ElementType)
-  unfolding resolved_content content_under presence_under entries_of rows_of
-  element_content = refl
-
-  element_under : content_under places.StaticArray (codes "element-field-type") ≡ Some (At places.ElementType)
-  unfolding content_under entries_of rows_of
-  element_under = refl
-
-  element_stays : (d : Data) → is_left_out places.StaticArray (codes "element-field-type") d ≡ false
-  unfolding is_left_out presence_under rows_of
-  element_stays d = refl
 
   pub element_position : is_position places.ElementType ≡ true
   unfolding is_position
   element_position = refl
 
 pub element_first : (k : Known) (name : List ℕ) (d : Data) (ms : Members) → bytes_eq name (codes "element-field-type") ≡ true → AreGood k places.StaticArray (member name d ms) → IsGoodAt k (At places.ElementType) d
-element_first k name d ms is h =
-    let same = sym ((bytes_eq-Decides name (codes "element-field-type")).0 is) in
-    (entry_first k places.StaticArray name d ms (At places.ElementType) (subst (λ n. resolved_content places.StaticArray n ≡ Some (At places.ElementType)) same element_content)
-    (subst (λ n. content_under places.StaticArray n ≡ Some (At places.ElementType)) same element_under) (subst (λ n. is_left_out places.StaticArray n d ≡ false) same (element_stays d)) h).value
+element_first k name d ms is h = needed_first k places.StaticArray (codes "element-field-type") name (At places.ElementType) d ms element_leads element_needed ((bytes_eq-Decides name (codes "element-field-type")).0 is) h
 
 pub element_later : (k : Known) (name : List ℕ) (d : Data) (ms : Members) → AreGood k places.StaticArray (member name d ms) → AreGood k places.StaticArray ms
-element_later k name d ms h = plain_rest k places.StaticArray name d ms static_plain h
+element_later k name d ms h = plain_rest k places.StaticArray name d ms element_leads.plain h
 
 pub elements_at : (k : Known) (place : Kind) (ms : Members) → is_position place ≡ true → class_of ms ≡ Some places.StaticArray → IsGood k place ms → AreGood k places.StaticArray ms
 elements_at k place ms position is h = subst (λ j. AreGood j places.StaticArray ms) (static_known k ms) (properties_at k place places.StaticArray ms (class_place place ms places.StaticArray position is) h)
@@ -109,7 +80,7 @@ leaf_of_class k place (Some places.SignedEnumeration) ms t position h inner is e
     let read = mapped_some (λ x. Enum x) (enumeration true ms) t e in
     let own = class_place place ms places.SignedEnumeration position is in
     subst (λ x. LeafIsAllowed x) read.2 (signed_allowed k ms read.0 (there_at k place places.SignedEnumeration ms own h) (properties_at k place places.SignedEnumeration ms own h) read.1)
-leaf_of_class k place (Some places.Str) ms t position h inner is e = let same = some_same _ t e in subst (λ x. LeafIsAllowed x) same tt
+leaf_of_class k place (Some places.Str) ms t position h inner is e = let same = same_Some _ t e in subst (λ x. LeafIsAllowed x) same tt
 leaf_of_class k place (Some places.StaticArray) ms t position h inner is e =
     let says = static_says (length_of ms) (element ms) t e in
     subst (λ x. LeafIsAllowed x) says.is (inner says.inner (elements_at k place ms position is h) says.there)

@@ -5,7 +5,8 @@ use Rattle.ctf_types.specs.AllowedConfig.{IsPlainUnsigned}
 use Rattle.ctf_types.specs.declared.Base.{Base}
 use Rattle.ctf_types.specs.declared.IntType.{IntType}
 use Rattle.conf_draft.specs.Integers.{made, integer, size_of, align_of, base_of}
-use Rattle.conf_laws.proofs.Steps.{some_same, proved_some}
+use Rattle.conf_laws.proofs.Steps.{proved_some}
+use Rattle.std.proofs.lemmas.Option.{same_Some}
 
 pub record IsMade (size align : ℕ) (signed : Bool) (t : IntType) : Type 0 where
   pub size_is : t.size ≡ size
@@ -20,7 +21,7 @@ made_says size align signed base t e =
     let b = proved_some (nat_le size 64) _ t a.1 in
     let c = proved_some (nat_lt 0 align) _ t b.1 in
     let d = proved_some (4096 % align == 0) _ t c.1 in
-    let same = some_same _ t d.1 in
+    let same = same_Some _ t d.1 in
     record { size_is = ap (λ x. x.size) (sym same); align_is = ap (λ x. x.align) (sym same); sign_is = ap (λ x. x.signed) (sym same); no_clock = ap (λ x. x.clock) (sym same) }
 
 pub integer_says : (signed : Bool) (ms : Members) (t : IntType) → integer signed ms ≡ Some t → IsMade (size_of ms) (align_of ms) signed t

@@ -1,10 +1,9 @@
 -- A members list that has no flaw and passes no limit is one that the rules allow.
-use Rattle.std.proofs.Common.{◌≡◌, ℕ, suc, ◌+◌, Bool, true, false, ◌||◌, cond, List, [], ◌∷◌, ◌++◌, length, All, Option, Some, None, is_some, Ok, Err, refl, sym, ap, subst, ◌∙◌, arith, length-append}
+use Rattle.std.proofs.Common.{◌≡◌, ℕ, suc, ◌+◌, Bool, true, false, cond, List, [], ◌∷◌, ◌++◌, length, All, Option, Some, None, is_some, Ok, refl, sym, ap, subst, ◌∙◌, arith, length-append}
 use Rattle.std.specs.Prelude.{codes, option_map}
 use Rattle.std.specs.List.{list_any}
 use Rattle.std.specs.Str.{bytes_eq}
 use Rattle.std.proofs.lemmas.List.Elements.{All-push}
-use Rattle.std.proofs.lemmas.Slice.Eq.{bytes_eq-Decides}
 use Rattle.serde_json.specs.Data.{Data, null, boolean, number, string, array, object, Items, no_items, item, Members, no_members, member}
 use Rattle.serde_json.specs.Events.{items_len}
 use Rattle.ctf_types.specs.declared.FieldType.{FieldType}
@@ -14,16 +13,13 @@ use Rattle.ctf_types.specs.declared.MemberType.TheVariants.{Plain, Dyn}
 use Rattle.ctf_types.specs.AllowedConfig.{IsConfigMember}
 use Rattle.ctf_types.specs.Members.{names_in}
 use Rattle.ctf_types.specs.Shown.{length_name}
-use Rattle.conf_tree.specs.Flaw.{Flaw}
-use Rattle.conf_tree.specs.Reading.{◌>>=◌, optional}
+use Rattle.conf_tree.specs.Reading.{optional}
 use Rattle.conf_table.specs.declared.place.Place.{Place as Kind}
 use Rattle.conf_table.specs.declared.place.Place.TheVariants as places
 use Rattle.conf_table.specs.declared.row.Content.TheVariants.{At}
-use Rattle.conf_table.specs.Table.{content_under, presence_under, entries_of, rows_of}
 use Rattle.conf_values.specs.Name.{plain_name_of}
-use Rattle.conf_judge.specs.Flaws.{resolved_content, is_left_out}
 use Rattle.conf_judge.specs.Forms.{itself_of, form_of, entry}
-use Rattle.conf_judge.specs.Known.{Known, inside, behind, with_taken}
+use Rattle.conf_judge.specs.Known.{Known, inside, with_taken}
 use Rattle.conf_judge.specs.Limits.{fits, arrays_fit, is_outermost, elements}
 use Rattle.conf_judge.specs.Names as judged
 use Rattle.conf_judge.specs.Names.{key_of, key_by, plain_of, free_of, is_taken, length_is_taken, take, take_length, with_names}
@@ -34,14 +30,20 @@ use Rattle.conf_draft.specs.Members as drafts
 use Rattle.conf_draft.specs.Members.{member_type, told_type, member_of, behind_named, behind_entry, members_behind}
 use Rattle.conf_values.proofs.Steps.{both_read}
 use Rattle.conf_laws.proofs.AllowedBits.{bits_allowed}
-use Rattle.conf_laws.proofs.AllowedFields.{class_place, leaf_allowed}
+use Rattle.conf_laws.proofs.AllowedFields.{leaf_allowed}
 use Rattle.conf_laws.proofs.AllowedNames.{plain_name}
 use Rattle.conf_laws.proofs.AllowedNests.{nest_allowed}
-use Rattle.conf_laws.proofs.Entries.{IsGoodEntry, IsMapOf, AreGoodItems, entry_first, entry_in, plain_rest, item_first, item_rest}
-use Rattle.conf_laws.proofs.MemberNames.{names_of, AreTaken, AreFree, AreNamed, takes_itself, all_still_taken, one_more_named}
-use Rattle.conf_laws.proofs.Properties.{AreGood, IsGoodAt, IsOwn, Leads, good_object, properties_at, own_properties, property_at, arrays_are_few}
-use Rattle.conf_laws.proofs.Sound.{IsPlain, optional_there}
-use Rattle.conf_laws.proofs.Steps.{some_same, mapped_some, then_some, neither, only_passed, same_class}
+use Rattle.conf_laws.proofs.Entries.{IsGoodEntry, AreGoodItems, entry_in, item_first, item_rest}
+use Rattle.conf_laws.proofs.MemberNames.{names_of, AreTaken, AreFree, AreNamed, takes_itself, all_still_taken, one_more_named, with_member, keeps_taken}
+use Rattle.conf_laws.proofs.Properties.{AreGood, IsGoodAt, IsOwn, good_object, properties_at, own_properties, property_at, arrays_are_few, needed_at}
+use Rattle.conf_laws.proofs.Sound.{optional_there}
+use Rattle.conf_laws.proofs.Steps.{mapped_some, then_some}
+use Rattle.std.proofs.lemmas.Option.{same_Some}
+use Rattle.conf_laws.proofs.Readings.{was_so}
+use Rattle.conf_laws.proofs.Classes.{class_same, class_place}
+use Rattle.conf_laws.proofs.MemberTypes.{type_leads, entry_map, dynamic_leads, dynamic_needed, entry_shape, element_is, name_judged, name_free}
+use Rattle.conf_laws.proofs.Agreement.{array_told}
+use Rattle.serde_json.specs.Find.{get_member}
 
 -- ---- the type of a member
 
@@ -71,25 +73,9 @@ module _ where
   unfolding inside
   dynamic_known k ms = refl
 
-  dynamic_plain : IsPlain places.DynamicArray
-  unfolding behind
-  dynamic_plain d k = refl
-
-  dynamic_content : resolved_content places.DynamicArray (codes "element-field-type") ≡ Some (At places.DynamicElementType)
-  unfolding resolved_content content_under presence_under entries_of rows_of
-  dynamic_content = refl
-
-  dynamic_under : content_under places.DynamicArray (codes "element-field-type") ≡ Some (At places.DynamicElementType)
-  unfolding content_under entries_of rows_of
-  dynamic_under = refl
-
-  dynamic_stays : (d : Data) → is_left_out places.DynamicArray (codes "element-field-type") d ≡ false
-  unfolding is_left_out presence_under rows_of
-  dynamic_stays d = refl
-
   bits_said : (ms : Members) → shape_of places.DynamicElementType ms ≡ Ok tt → has_bits (object ms) ≡ true
   unfolding shape_of
-  bits_said ms e = only_passed _ e
+  bits_said ms e = was_so _ e
 
 -- the elements of a dynamic array
 record IsElement (k : Known) (t : FieldType) : Type 0 where
@@ -98,16 +84,9 @@ record IsElement (k : Known) (t : FieldType) : Type 0 where
   is : field_type value ≡ Some t
 
 element_there : (k : Known) (ms : Members) (t : FieldType) → AreGood k places.DynamicArray ms → element ms ≡ Some t → IsElement k t
-element_there k no_members t h e = absurd cc
-element_there k (member name d ms) t h e = go (bytes_eq name (codes "element-field-type")) refl e (λ rest there. element_there k ms t rest there)
-  where
-    go : (b : Bool) → bytes_eq name (codes "element-field-type") ≡ b → cond b (field_type d) (element ms) ≡ Some t → (AreGood k places.DynamicArray ms → element ms ≡ Some t → IsElement k t) → IsElement k t
-    go false is there later = later (plain_rest k places.DynamicArray name d ms dynamic_plain h) there
-    go true is there later =
-        let same = sym ((bytes_eq-Decides name (codes "element-field-type")).0 is) in
-        let first = entry_first k places.DynamicArray name d ms (At places.DynamicElementType) (subst (λ n. resolved_content places.DynamicArray n ≡ Some (At places.DynamicElementType)) same dynamic_content)
-        (subst (λ n. content_under places.DynamicArray n ≡ Some (At places.DynamicElementType)) same dynamic_under) (subst (λ n. is_left_out places.DynamicArray n d ≡ false) same (dynamic_stays d)) h in
-        record { value = d; good = first.value; is = there }
+element_there k ms t h e =
+    let read = then_some field_type (get_member (codes "element-field-type") ms) t (sym (element_is ms) ∙ e) in
+    record { value = read.0; good = needed_at k places.DynamicArray (codes "element-field-type") (At places.DynamicElementType) ms read.0 dynamic_leads dynamic_needed h read.1; is = read.2 }
 
 element_bits : (k : Known) (d : Data) (t : FieldType) → IsGoodAt k (At places.DynamicElementType) d → field_type d ≡ Some t → has_bits d ≡ true
 element_bits k null t h e = refl
@@ -130,10 +109,10 @@ dynamic_allowed k ms t h e =
       bits_allowed inner.value k places.DynamicElementType t dynamic_position inner.good inner.is (element_bits k inner.value t inner.good inner.is),
     )
 
-dynamic_class : (o : Option Kind) → drafts.is_dynamic_array o ≡ true → o ≡ Some places.DynamicArray
-dynamic_class None e = absurd cc
-dynamic_class (Some places.DynamicArray) e = refl
-dynamic_class (Some _) e = absurd cc
+same_dynamic : (o : Option Kind) → judged.is_dynamic_array o ≡ drafts.is_dynamic_array o
+same_dynamic None = refl
+same_dynamic (Some places.DynamicArray) = refl
+same_dynamic (Some _) = refl
 
 -- what is said of a member's type, by whether it is a dynamic array
 abbrev IsTyped : Bool → Members → MemberType → Type 0
@@ -154,49 +133,24 @@ member_type_allowed k ms m h e = go (drafts.is_dynamic_array (class_of ms)) refl
     go : (b : Bool) → drafts.is_dynamic_array (class_of ms) ≡ b → IsTyped b ms m → IsConfigMember m
     go false is (t, there, same) = subst IsConfigMember same (plain_allowed k (object ms) t h there)
     go true is (t, there, same) =
-        let class = dynamic_class (class_of ms) is in
+        let class = array_told (class_of ms) (same_dynamic (class_of ms) ∙ is) in
         let own = properties_at k places.MemberType places.DynamicArray ms (class_place places.MemberType ms places.DynamicArray member_position class) (good_object k places.MemberType ms h) in
         subst IsConfigMember same (dynamic_allowed k ms t (subst (λ j. AreGood j places.DynamicArray ms) (dynamic_known k ms) own) there)
 
 -- ---- one entry
-
--- the one property of an entry
-record IsEntry (d : Data) : Type 0 where
-  name : List ℕ
-  value : Data
-  is : d ≡ object (member name value no_members)
-
-entry_is : (k : Known) (d : Data) → itself_of k (At places.Entry) d ≡ Ok tt → IsEntry d
-unfolding itself_of form_of entry
-entry_is k null e = absurd cc
-entry_is k (boolean b) e = absurd cc
-entry_is k (number n) e = absurd cc
-entry_is k (string s) e = absurd cc
-entry_is k (array ds) e = absurd cc
-entry_is k (object no_members) e = absurd cc
-entry_is k (object (member name value no_members)) e = record { name = name; value = value; is = refl }
-entry_is k (object (member name value (member other more ms))) e = absurd cc
 
 module _ where
   entry_own : IsOwn places.Entry
   unfolding place_of_properties is_position own_place inside
   entry_own = record { own = λ ms. refl; known = λ k ms. refl }
 
-  entry_map : IsMapOf places.Entry (At places.Member)
-  unfolding content_under presence_under entries_of rows_of is_left_out
-  entry_map = record { under = λ name. refl; inherits_none = refl; stays = λ name d. refl }
+  entry_judged : (k : Known) (d : Data) → itself_of k (At places.Entry) d ≡ Ok tt → entry d ≡ Ok tt
+  unfolding itself_of form_of
+  entry_judged k d e = e
 
   told_own : IsOwn places.Member
   unfolding place_of_properties is_position own_place inside
   told_own = record { own = λ ms. refl; known = λ k ms. refl }
-
-  type_leads : Leads places.Member (codes "field-type") (At places.MemberType)
-  unfolding behind resolved_content content_under presence_under entries_of rows_of
-  type_leads = record { plain = λ d k. refl; resolved = refl; under = refl }
-
-  name_judged : (k : Known) (name : List ℕ) (d : Data) → key_of k places.Entry name d ≡ Ok tt → (plain_name_of name >>= (λ ok. free_of k.taken name d)) ≡ Ok tt
-  unfolding key_of key_by plain_of entries_of
-  name_judged k name d e = e
 
 entry_good : (k : Known) (name : List ℕ) (value : Data) → IsGoodAt k (At places.Entry) (object (member name value no_members)) → IsGoodEntry k places.Entry name (At places.Member) value
 entry_good k name value h =
@@ -237,18 +191,13 @@ type_allowed k d m h tells =
 
 -- ---- its names
 
-same_dynamic : (o : Option Kind) → judged.is_dynamic_array o ≡ drafts.is_dynamic_array o
-same_dynamic None = refl
-same_dynamic (Some places.DynamicArray) = refl
-same_dynamic (Some _) = refl
-
 dynamic_is : (d : Data) (m : MemberType) (tells : Tells d m) → judged.is_dynamic d ≡ drafts.is_dynamic_array (class_of tells.type)
 unfolding judged.is_dynamic
 dynamic_is d m tells =
     ap (λ x. judged.is_dynamic_array (judged.class_of_member x)) tells.is
     ∙ ap (λ o. judged.is_dynamic_array (judged.class_of_type o)) (optional_there (codes "field-type") tells.told (object tells.type) tells.there).0
     ∙ same_dynamic (judged.class_of tells.type)
-    ∙ ap (λ o. drafts.is_dynamic_array o) (sym (same_class tells.type))
+    ∙ ap (λ o. drafts.is_dynamic_array o) (class_same tells.type)
 
 abbrev names_by : Bool → List ℕ → List (List ℕ)
 names_by true name = length_name name ∷ name ∷ []
@@ -261,27 +210,12 @@ names_typed false name ms m (t, there, same) = ap (λ x. names_of (name, x)) sam
 names_are : (name : List ℕ) (d : Data) (m : MemberType) → Tells d m → names_by (judged.is_dynamic d) name ≡ names_of (name, m)
 names_are name d m tells = ap (λ b. names_by b name) (dynamic_is d m tells) ∙ names_typed (drafts.is_dynamic_array (class_of tells.type)) name tells.type m (typed tells.type m tells.says)
 
-not_clashing : (b : Bool) (f : Flaw) (x : Unit {0}) → cond b (Err f) (Ok tt) ≡ Ok x → b ≡ false
-not_clashing true f x e = absurd cc
-not_clashing false f x e = refl
-
 free_by : (taken : Members) (name : List ℕ) (b : Bool) → is_taken taken name ≡ false → length_is_taken b taken name ≡ false → AreFree taken (names_by b name)
 free_by taken name true own long = (long, (own, tt))
 free_by taken name false own long = (own, tt)
 
 names_free : (taken : Members) (name : List ℕ) (d : Data) → free_of taken name d ≡ Ok tt → AreFree taken (names_by (judged.is_dynamic d) name)
-unfolding free_of
-names_free taken name d e =
-    let p = neither (is_taken taken name) (length_is_taken (judged.is_dynamic d) taken name) (not_clashing (is_taken taken name || length_is_taken (judged.is_dynamic d) taken name) _ tt e) in
-    free_by taken name (judged.is_dynamic d) p.0 p.1
-
--- with those of the member
-abbrev with_member : List ℕ → Bool → Members → Members
-with_member name b taken = take name (take_length b name taken)
-
-keeps_taken : (name : List ℕ) (b : Bool) (taken : Members) (names : List (List ℕ)) → AreTaken taken names → AreTaken (with_member name b taken) names
-keeps_taken name true taken names h = all_still_taken name (take (length_name name) taken) names (all_still_taken (length_name name) taken names h)
-keeps_taken name false taken names h = all_still_taken name taken names h
+names_free taken name d e = let p = name_free taken name d e in free_by taken name (judged.is_dynamic d) p.0 p.1
 
 takes_names : (name : List ℕ) (b : Bool) (taken : Members) → AreTaken (with_member name b taken) (names_by b name)
 takes_names name true taken = ((all_still_taken name (take (length_name name) taken) (length_name name ∷ []) (takes_itself (length_name name) taken, tt)).0, (takes_itself name (take (length_name name) taken), tt))
@@ -301,7 +235,7 @@ follows_by done more name d (Some t) is e = go (list_any (bytes_eq name) (names_
   where
     go : (b : Bool) → cond b None (Some (done ++ (name, t) ∷ [])) ≡ Some more → Follows done more name d
     go true e = absurd cc
-    go false e = record { type = t; tells = is; is = some_same (done ++ (name, t) ∷ []) more e }
+    go false e = record { type = t; tells = is; is = same_Some (done ++ (name, t) ∷ []) more e }
 
 follows : (done more : List (List ℕ × MemberType)) (name : List ℕ) (d : Data) → behind_entry done (object (member name d no_members)) ≡ Some more → Follows done more name d
 follows done more name d e =
@@ -336,20 +270,20 @@ pub record AreAllRead (before : List (List ℕ)) (done ms : List (List ℕ × Me
 module _ (k : Known) (place : Kind) (before : List (List ℕ)) (entries : item_content place ≡ At places.Entry) where
   pub all_read : (done ms : List (List ℕ × MemberType)) (taken : Members) (i : ℕ) (ds : Items) → AreRead before done taken → AreGoodItems k place taken i ds → members_behind done ds ≡ Some ms → AreAllRead before done ms ds
   all_read done ms taken i no_items h good e =
-      let same = some_same done ms e in
+      let same = same_Some done ms e in
       record { taken = taken; read = subst (λ l. AreRead before l taken) same h; counted = omega (arith, ap (λ l. length l) (sym same)) }
-  all_read done ms taken i (item d ds) h good e = go (entry_is (with_taken taken k) d first.sound.itself) (λ more after read rest next. all_read more ms after (suc i) ds read rest next)
+  all_read done ms taken i (item d ds) h good e = go (entry_shape d (entry_judged (with_taken taken k) d first.sound.itself)) (λ more after read rest next. all_read more ms after (suc i) ds read rest next)
     where
       first : IsGoodAt (with_taken taken k) (At places.Entry) d
       first = subst (λ c. IsGoodAt (with_taken taken k) c d) entries (item_first k place taken i d ds good)
 
-      go : IsEntry d → ((more : List (List ℕ × MemberType)) (after : Members) → AreRead before more after → AreGoodItems k place after (suc i) ds → members_behind more ds ≡ Some ms → AreAllRead before more ms ds) → AreAllRead before done ms (item d ds)
-      go one later =
+      go : (name : List ℕ) × (x : Data) × (d ≡ object (member name x no_members)) → ((more : List (List ℕ × MemberType)) (after : Members) → AreRead before more after → AreGoodItems k place after (suc i) ds → members_behind more ds ≡ Some ms → AreAllRead before more ms ds) → AreAllRead before done ms (item d ds)
+      go (name, value, is) later =
           let step = then_some (λ xs. members_behind xs ds) (behind_entry done d) ms e in
-          let next = follows done step.0 one.name one.value (ap (λ x. behind_entry done x) (sym one.is) ∙ step.1) in
-          let read = one_more k before done step.0 taken one.name one.value h (subst (λ x. IsGoodAt (with_taken taken k) (At places.Entry) x) one.is first) next in
-          let rest = subst (λ x. AreGoodItems k place (with_names x taken) (suc i) ds) one.is (item_rest k place taken i d ds good) in
-          let all = later step.0 (with_member one.name (judged.is_dynamic one.value) taken) read rest step.2 in
+          let next = follows done step.0 name value (ap (λ x. behind_entry done x) (sym is) ∙ step.1) in
+          let read = one_more k before done step.0 taken name value h (subst (λ x. IsGoodAt (with_taken taken k) (At places.Entry) x) is first) next in
+          let rest = subst (λ x. AreGoodItems k place (with_names x taken) (suc i) ds) is (item_rest k place taken i d ds good) in
+          let all = later step.0 (with_member name (judged.is_dynamic value) taken) read rest step.2 in
           let counted = all.counted in
           let longer = ap (λ l. length l) (sym next.is) in
-          record { taken = all.taken; read = all.read; counted = omega (arith, counted, longer, length-append done ((one.name, next.type) ∷ [])) }
+          record { taken = all.taken; read = all.read; counted = omega (arith, counted, longer, length-append done ((name, next.type) ∷ [])) }

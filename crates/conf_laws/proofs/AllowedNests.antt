@@ -1,6 +1,6 @@
 -- The static arrays of a field type that passes no limit nest as deep as the rules allow, with as many elements.
 use Rattle.std.proofs.Common.{◌≡◌, ℕ, zero, suc, ◌*◌, ◌<◌, ◌≤◌, Bool, true, false, cond, List, [], length, Option, Some, None, refl, sym, ap, subst, ◌∙◌, arith}
-use Rattle.std.specs.Prelude.{codes, nat_le, nat_eq, max, unwrap_or, if◌then◌else◌}
+use Rattle.std.specs.Prelude.{codes, nat_eq, max, unwrap_or, if◌then◌else◌}
 use Rattle.std.specs.Str.{bytes_eq}
 use Rattle.std.proofs.lemmas.Bool.{eqb-true}
 use Rattle.std.proofs.lemmas.Bool.Decides.{nat_tests}
@@ -19,29 +19,16 @@ use Rattle.conf_draft.specs.Enumerations.{enumeration}
 use Rattle.conf_draft.specs.FieldTypes.{class_of, length_of, of_class, field_type, element}
 use Rattle.conf_draft.specs.Integers.{integer}
 use Rattle.conf_laws.proofs.AllowedFields.{static_says}
-use Rattle.conf_laws.proofs.AllowedNames.{at_most}
-use Rattle.conf_laws.proofs.Steps.{some_same, mapped_some, if_some, same_class, same_natural}
+use Rattle.conf_laws.proofs.Steps.{mapped_some, same_natural}
+use Rattle.std.proofs.lemmas.Option.{same_Some}
+use Rattle.conf_laws.proofs.Classes.{class_same}
+use Rattle.conf_laws.proofs.ArrayLimitLaws.{times_told}
 
 -- its static arrays nest no deeper than these levels, and have n elements in all
 record Nests (levels n : ℕ) (t : FieldType) : Type 0 where
   deep : length (chain_of t).lengths ≤ levels
   size : elements_of (chain_of t).lengths ≡ n
   few : n ≤ 1048576
-
-record AreTimes (a b : Option ℕ) (n : ℕ) : Type 0 where
-  x : ℕ
-  y : ℕ
-  first : a ≡ Some x
-  second : b ≡ Some y
-  product : x * y ≡ n
-  few : n ≤ 1048576
-
-times_says : (a b : Option ℕ) (n : ℕ) → times a b ≡ Some n → AreTimes a b n
-times_says None b n e = absurd cc
-times_says (Some x) None n e = absurd cc
-times_says (Some x) (Some y) n e =
-    let p = if_some (nat_le (x * y) 1048576) (x * y) n e in
-    record { x = x; y = y; first = refl; second = refl; product = p.1; few = subst (λ m. m ≤ 1048576) p.1 (at_most (x * y) 1048576 p.0) }
 
 -- an array of this many elements, each of which nests
 record NestsIn (levels : ℕ) (count : Option ℕ) (n : ℕ) (t : FieldType) : Type 0 where
@@ -78,8 +65,8 @@ abbrev ElementNests : Members → Type 0
 ElementNests ms = (levels : ℕ) (count : Option ℕ) (n : ℕ) (t : FieldType) → element ms ≡ Some t → elements_in_array levels count ms ≡ Some n → NestsIn levels count n t
 
 own_is : (o : Option ℕ) (own : ℕ) → at_least_one o ≡ Some own → max 1 (unwrap_or o 0) ≡ own
-own_is None own e = some_same 1 own e
-own_is (Some n) own e = go (nat_eq n 0) refl (some_same _ own e)
+own_is None own e = same_Some 1 own e
+own_is (Some n) own e = go (nat_eq n 0) refl (same_Some _ own e)
   where
     go : (b : Bool) → nat_eq n 0 ≡ b → cond b 1 n ≡ own → max 1 n ≡ own
     go true is e = let none = eqb-true n 0 is in let one : 1 ≡ own = e in omega (arith, none, one)
@@ -103,14 +90,14 @@ static_nests (suc levels) n ms t inner e c =
 nests_of_class : (levels n : ℕ) (class : Option Kind) (ms : Members) (t : FieldType) → ElementNests ms → of_class class ms (element ms) ≡ Some t → counted levels class ms ≡ Some n → Nests levels n t
 unfolding of_class
 nests_of_class levels n (Some places.UnsignedInteger) ms t inner e c =
-    let read = mapped_some (λ x. Int x) (integer false ms) t e in subst (λ x. Nests levels n x) read.2 (nest_none levels n (Int read.0) refl (some_same 1 n c))
+    let read = mapped_some (λ x. Int x) (integer false ms) t e in subst (λ x. Nests levels n x) read.2 (nest_none levels n (Int read.0) refl (same_Some 1 n c))
 nests_of_class levels n (Some places.SignedInteger) ms t inner e c =
-    let read = mapped_some (λ x. Int x) (integer true ms) t e in subst (λ x. Nests levels n x) read.2 (nest_none levels n (Int read.0) refl (some_same 1 n c))
+    let read = mapped_some (λ x. Int x) (integer true ms) t e in subst (λ x. Nests levels n x) read.2 (nest_none levels n (Int read.0) refl (same_Some 1 n c))
 nests_of_class levels n (Some places.UnsignedEnumeration) ms t inner e c =
-    let read = mapped_some (λ x. Enum x) (enumeration false ms) t e in subst (λ x. Nests levels n x) read.2 (nest_none levels n (Enum read.0) refl (some_same 1 n c))
+    let read = mapped_some (λ x. Enum x) (enumeration false ms) t e in subst (λ x. Nests levels n x) read.2 (nest_none levels n (Enum read.0) refl (same_Some 1 n c))
 nests_of_class levels n (Some places.SignedEnumeration) ms t inner e c =
-    let read = mapped_some (λ x. Enum x) (enumeration true ms) t e in subst (λ x. Nests levels n x) read.2 (nest_none levels n (Enum read.0) refl (some_same 1 n c))
-nests_of_class levels n (Some places.Str) ms t inner e c = subst (λ x. Nests levels n x) (some_same Str t e) (nest_none levels n Str refl (some_same 1 n c))
+    let read = mapped_some (λ x. Enum x) (enumeration true ms) t e in subst (λ x. Nests levels n x) read.2 (nest_none levels n (Enum read.0) refl (same_Some 1 n c))
+nests_of_class levels n (Some places.Str) ms t inner e c = subst (λ x. Nests levels n x) (same_Some Str t e) (nest_none levels n Str refl (same_Some 1 n c))
 nests_of_class levels n (Some places.StaticArray) ms t inner e c = static_nests levels n ms t inner e c
 nests_of_class levels n _ ms t inner e c = absurd cc
 
@@ -123,7 +110,7 @@ mutual
   field_nests (array ds) levels n t e c = absurd cc
   field_nests (object ms) levels n t e c =
       nests_of_class levels n (class_of ms) ms t (λ l count m x there counts. element_nests ms l count m x there counts) e
-      (ap (λ class. counted levels class ms) (same_class ms) ∙ sym (elements_counted levels ms) ∙ c)
+      (ap (λ class. counted levels class ms) (sym (class_same ms)) ∙ sym (elements_counted levels ms) ∙ c)
 
   element_nests : (ms : Members) (levels : ℕ) (count : Option ℕ) (n : ℕ) (t : FieldType) → element ms ≡ Some t → elements_in_array levels count ms ≡ Some n → NestsIn levels count n t
   element_nests no_members levels count n t e c = absurd cc
@@ -133,8 +120,8 @@ mutual
       go : (b : Bool) → cond b (field_type d) (element ms) ≡ Some t → cond b (times count (elements levels d)) (elements_in_array levels count ms) ≡ Some n → ((m : ℕ) → field_type d ≡ Some t → elements levels d ≡ Some m → Nests levels m t)
           → (element ms ≡ Some t → elements_in_array levels count ms ≡ Some n → NestsIn levels count n t) → NestsIn levels count n t
       go true there counts first later =
-          let p = times_says count (elements levels d) n counts in
-          record { own = p.x; inner = p.y; count_is = p.first; nests = first p.y there p.second; product = p.product; few = p.few }
+          let p = times_told count (elements levels d) n counts in
+          record { own = p.first; inner = p.second; count_is = p.one; nests = first p.second there p.two; product = sym p.is; few = p.most }
       go false there counts first later = later there counts
 
 pub nest_allowed : (d : Data) (n : ℕ) (t : FieldType) → field_type d ≡ Some t → elements 8 d ≡ Some n → IsNest (chain_of t).lengths

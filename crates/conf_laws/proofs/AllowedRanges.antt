@@ -1,17 +1,17 @@
 -- The ranges of an enumeration's labels that have no flaw and pass no limit are inside its numbers, and few.
-use Rattle.std.proofs.Common.{◌≡◌, ◌≢◌, ℕ, ℤ, pos, negsuc, suc, ◌<◌, ◌≤◌, Bool, true, List, [], ◌∷◌, ◌++◌, length, Some, Ok, Ordering, Less, Equal, Greater, nat_cmp, refl, sym, ap, subst, ◌∙◌, arith, length-append}
+use Rattle.std.proofs.Common.{◌≡◌, ◌≢◌, ℕ, ℤ, pos, suc, ◌<◌, ◌≤◌, Bool, true, List, [], ◌∷◌, ◌++◌, length, Some, Ok, Ordering, Less, Equal, Greater, nat_cmp, refl, sym, ap, subst, ◌∙◌, arith, length-append, None}
 use Rattle.std.specs.Prelude.{int_le, ◌&&◌}
 use Rattle.std.specs.List.{AllByRecursion}
 use Rattle.std.specs.Cmp.Lexicographic.{slice_cmp}
 use Rattle.std.proofs.lemmas.Cmp.{nat_list_cmp_total, tied_itself}
 use Rattle.serde_json.specs.Data.{Data, null, boolean, number, string, array, object, Num, unsigned, negative, float, Items, no_items, item, Members, no_members, member}
-use Rattle.serde_json.specs.Find.{as_integer}
+use Rattle.serde_json.specs.Find.{as_integer, as_array}
 use Rattle.serde_json.specs.Events.{items_len}
 use Rattle.ctf_types.specs.declared.Mapping.{Mapping}
 use Rattle.ctf_types.specs.AllowedConfig.{LabelsInOrder}
 use Rattle.ctf_types.specs.Names.{IsConfigText}
-use Rattle.conf_tree.specs.Flaw.{index, here}
-use Rattle.conf_tree.specs.Reading.{at, whole_of, whole_or_not}
+use Rattle.conf_tree.specs.Flaw.{here}
+use Rattle.conf_tree.specs.Reading.{whole_of, whole_or_not}
 use Rattle.conf_tree.specs.declared.fault_kind.FaultKind.TheVariants.{OutOfRange}
 use Rattle.conf_table.specs.declared.place.Place.TheVariants as places
 use Rattle.conf_table.specs.declared.row.Content.TheVariants.{At}
@@ -22,24 +22,22 @@ use Rattle.conf_judge.specs.Known.{Known, behind, with_taken}
 use Rattle.conf_judge.specs.Limits as limits
 use Rattle.conf_judge.specs.Limits.{key_fits, count_of}
 use Rattle.conf_judge.specs.Names.{key_of, key_by, names_beside, with_names}
-use Rattle.conf_judge.specs.Numbers.{end_of, pair_of, single_of, range_of, is_inside, inside_of}
+use Rattle.conf_judge.specs.Numbers.{end_of, range_of, is_inside, inside_of}
 use Rattle.conf_judge.specs.Places.{item_content}
 use Rattle.conf_draft.specs.Enumerations.{whole, low, high, ranges_in, ranges_of, labels_in}
-use Rattle.conf_values.proofs.Steps.{both_read, read_there, is_passed, ok_same}
-use Rattle.conf_laws.specs.Order.{AllAbove, IsInOrder}
+use Rattle.conf_values.proofs.Steps.{both_read, is_passed}
+use Rattle.conf_tree.specs.Order.{AllAbove, IsInOrder}
 use Rattle.conf_laws.proofs.AllowedNames.{config_text}
-use Rattle.conf_laws.proofs.Entries.{AreGoodItems, IsGoodEntry, IsMapOf, entry_in, plain_rest, good_items, item_first, item_rest}
+use Rattle.conf_laws.proofs.Entries.{AreGoodItems, IsGoodEntry, entry_in, plain_rest, good_items, item_first, item_rest}
 use Rattle.conf_laws.proofs.Properties.{AreGood, IsGoodAt}
 use Rattle.conf_laws.proofs.Sound.{IsPlain}
-use Rattle.conf_laws.proofs.Steps.{only_passed}
+use Rattle.conf_laws.proofs.Readings.{was_so}
+use Rattle.conf_laws.proofs.Rows.{IsMapOf}
+use Rattle.conf_laws.proofs.Steps.{all_joined}
+use Rattle.conf_laws.proofs.Ranges.{lowest_end, highest_end, ReadSo, read_so}
+use Rattle.conf_laws.specs.ValueFlaws.{IsPair}
 
 -- ---- one range
-
-abbrev lowest_end : ℤ
-lowest_end = negsuc 9223372036854775807
-
-abbrev highest_end : ℤ
-highest_end = pos 18446744073709551615
 
 end_says : (n : Num) (x : ℤ) → whole_or_not lowest_end highest_end (as_integer n) ≡ Ok x → whole (Some (number n)) ≡ x
 end_says (unsigned m) x e = (is_passed (int_le lowest_end (pos m) && int_le (pos m) highest_end) (pos m) x _ e).1
@@ -55,45 +53,36 @@ end_is (string s) x e = absurd cc
 end_is (array ds) x e = absurd cc
 end_is (object ms) x e = absurd cc
 
-pair_is : (ds : Items) (s : _) → pair_of ds ≡ Ok s → (s.low ≡ low (array ds)) × (s.high ≡ high (array ds))
-unfolding pair_of
-pair_is no_items s e = absurd cc
-pair_is (item a no_items) s e = absurd cc
-pair_is (item a (item b no_items)) s e =
-    let first = both_read (at (index 0) (end_of a)) _ s e in
-    let second = both_read (at (index 1) (end_of b)) _ s first.2 in
-    let one = end_is a first.0 (read_there (index 0) (end_of a) first.0 first.1) in
-    let two = end_is b second.0 (read_there (index 1) (end_of b) second.0 second.1) in
-    let same = ok_same _ s second.2 in
-    (sym (one ∙ ap (λ x. x.low) same), sym (two ∙ ap (λ x. x.high) same))
-pair_is (item a (item b (item c ds))) s e = absurd cc
+one_end : (d : Data) (z : ℤ) → as_array d ≡ None → end_of d ≡ Ok z → (z ≡ low d) × (z ≡ high d)
+one_end (array ds) z none e = absurd cc
+one_end null z none e = let one = sym (end_is null z e) in (one, one)
+one_end (boolean b) z none e = let one = sym (end_is (boolean b) z e) in (one, one)
+one_end (number n) z none e = let one = sym (end_is (number n) z e) in (one, one)
+one_end (string s) z none e = let one = sym (end_is (string s) z e) in (one, one)
+one_end (object ms) z none e = let one = sym (end_is (object ms) z e) in (one, one)
 
-single_is : (d : Data) (s : _) → single_of d ≡ Ok s → (s.low ≡ whole (Some d)) × (s.high ≡ whole (Some d))
-single_is d s e =
-    let read = both_read (end_of d) _ s e in
-    let one = end_is d read.0 read.1 in
-    let same = ok_same _ s read.2 in
-    (sym (one ∙ ap (λ x. x.low) same), sym (one ∙ ap (λ x. x.high) same))
+two_ends : (d a b : Data) → IsPair d a b → (low d ≡ whole (Some a)) × (high d ≡ whole (Some b))
+two_ends (array ds) a b pair = let same : ds ≡ item a (item b no_items) = cc in (ap (λ x. low (array x)) same, ap (λ x. high (array x)) same)
+two_ends null a b pair = absurd cc
+two_ends (boolean c) a b pair = absurd cc
+two_ends (number n) a b pair = absurd cc
+two_ends (string s) a b pair = absurd cc
+two_ends (object ms) a b pair = absurd cc
 
-range_is : (d : Data) (s : _) → range_of d ≡ Ok s → (s.low ≡ low d) × (s.high ≡ high d)
-unfolding range_of
-range_is null s e = single_is null s e
-range_is (boolean b) s e = single_is (boolean b) s e
-range_is (number n) s e = single_is (number n) s e
-range_is (string x) s e = single_is (string x) s e
-range_is (array ds) s e = pair_is ds s e
-range_is (object ms) s e = single_is (object ms) s e
+range_is : (d : Data) (x y : ℤ) → ReadSo d x y → (x ≡ low d) × (y ≡ high d)
+range_is d x y (ReadSo.one_number z none e) = one_end d z none e
+range_is d x y (ReadSo.two_numbers a b z w pair e f) = let ends = two_ends d a b pair in (sym (end_is a z e) ∙ sym ends.0, sym (end_is b w f) ∙ sym ends.1)
 
 -- from low to high, not empty and inside the numbers that are known
 abbrev pub is_known : Known → ℤ → ℤ → Bool
 is_known k low high = int_le low high && int_le k.numbers.low low && int_le high k.numbers.high
 
-pub range_inside : (k : Known) (d : Data) → inside_of k.numbers d ≡ Ok tt → is_known k (low d) (high d) ≡ true
+range_inside : (k : Known) (d : Data) → inside_of k.numbers d ≡ Ok tt → is_known k (low d) (high d) ≡ true
 unfolding inside_of is_inside
 range_inside k d e =
     let read = both_read (range_of d) _ tt e in
     let passed = is_passed (is_inside k.numbers read.0) tt tt (here OutOfRange) read.2 in
-    let ends = range_is d read.0 read.1 in
+    let ends = range_is d read.0.low read.0.high (read_so d read.0 read.1) in
     subst (λ x. is_known k x (high d) ≡ true) ends.0 (subst (λ y. is_known k read.0.low y ≡ true) ends.1 passed.0)
 
 -- ---- the ranges of a label
@@ -127,7 +116,7 @@ module _ where
 
   label_printable : (k : Known) (name : List ℕ) (d : Data) → key_of k places.Mappings name d ≡ Ok tt → key_fits places.Mappings name ≡ true → IsConfigText name
   unfolding key_of key_by key_fits entries_of
-  label_printable k name d e short = config_text name (only_passed _ e) short
+  label_printable k name d e short = config_text name (was_so _ e) short
 
 label_good : (k : Known) (label : List ℕ) (d : Data) (ms : Members) → AreGood k places.Mappings (member label d ms) → IsGoodEntry k places.Mappings label (At places.Ranges) d
 label_good k label d ms h = entry_in k places.Mappings label (At places.Ranges) d ms labels_map h
@@ -142,10 +131,6 @@ own_good k label (number n) text h = tt
 own_good k label (string s) text h = tt
 own_good k label (array ds) text h = ranges_good k label (names_beside places.Ranges) 0 ds text (good_items k places.Ranges ds h)
 own_good k label (object ms) text h = tt
-
-pub all_joined : {A : Type 0} (P : A → Type 0) (xs ys : List A) → AllByRecursion P xs → AllByRecursion P ys → AllByRecursion P (xs ++ ys)
-all_joined P [] ys h k = k
-all_joined P (x ∷ xs) ys h k = (h.0, all_joined P xs ys h.1 k)
 
 pub labels_good : (k : Known) (labels : Members) → AreGood k places.Mappings labels → AllByRecursion (IsGoodMapping k) (labels_in labels)
 labels_good k no_members h = tt

@@ -1,8 +1,7 @@
 -- Data stream types that have no flaw and pass no limit are ones that the rules allow, each by itself.
-use Rattle.std.proofs.Common.{◌≡◌, ℕ, true, List, [], ◌∷◌, ◌++◌, Option, Some, None, Ok, refl, sym, ap, subst, ◌∙◌, append_assoc}
+use Rattle.std.proofs.Common.{◌≡◌, ℕ, true, List, [], ◌∷◌, ◌++◌, Option, Some, None, Ok, refl, sym, ap, subst, ◌∙◌}
 use Rattle.std.specs.Prelude.{codes, nat_le}
-use Rattle.std.proofs.lemmas.List.{append-nil}
-use Rattle.serde_json.specs.Data.{Data, object, Members, no_members, member}
+use Rattle.serde_json.specs.Data.{Data, object, Members, member}
 use Rattle.serde_json.specs.Events.{members_len}
 use Rattle.ctf_types.specs.AllowedConfig.{IsConfigStruct}
 use Rattle.ctf_types.specs.Names.{IsConfigName}
@@ -14,24 +13,23 @@ use Rattle.ctf_types.specs.declared.StructType.{StructType}
 use Rattle.conf_table.specs.declared.place.Place.{Place as Kind}
 use Rattle.conf_table.specs.declared.place.Place.TheVariants as places
 use Rattle.conf_table.specs.declared.row.Content.TheVariants.{At}
-use Rattle.conf_table.specs.Table.{content_under, presence_under, entries_of, rows_of}
-use Rattle.conf_judge.specs.Flaws.{resolved_content, is_left_out}
-use Rattle.conf_judge.specs.Forms.{itself_of, form_of, any_object}
+use Rattle.conf_table.specs.Table.{entries_of}
 use Rattle.conf_judge.specs.Known.{Known, inside, behind}
 use Rattle.conf_judge.specs.Names.{key_of, key_by}
-use Rattle.conf_judge.specs.Places.{place_of_properties, is_position, own_place}
 use Rattle.conf_draft.specs.Features.{or_empty}
 use Rattle.conf_draft.specs.Lookups.{object as object_at}
 use Rattle.conf_draft.specs.Streams.{stream_with, features_of, clock_of, stream_type, stream_behind, entry_behind, streams_behind, streams_or_none, stream_types}
 use Rattle.conf_laws.proofs.AllowedEvents.{AreGoodEvents, events_allowed}
 use Rattle.conf_laws.proofs.AllowedFeatures.{IsContext, IsEventHeader, context_allowed, event_header_allowed}
-use Rattle.conf_laws.proofs.AllowedMaps.{AreAllowed, AreUnder, none_under, last_under, none_allowed, map_allowed}
+use Rattle.conf_laws.proofs.AllowedMaps.{AreAllowed, AreUnder, none_under, none_allowed, map_allowed, IsOneMore, map_read}
 use Rattle.conf_laws.proofs.AllowedNames.{config_name}
 use Rattle.conf_laws.proofs.AllowedStructures.{AreExtras, structure_allowed, extras_allowed}
 use Rattle.conf_laws.proofs.Ascending.{names_of}
-use Rattle.conf_laws.proofs.Entries.{IsGoodEntry, IsMapOf, entry_in, entry_rest, entry_object}
-use Rattle.conf_laws.proofs.Properties.{AreGood, IsGood, IsOwn, Leads, own_properties, object_in, entries_fit}
-use Rattle.conf_laws.proofs.Steps.{some_same, then_some}
+use Rattle.conf_laws.proofs.Entries.{IsGoodEntry, entry_in, entry_rest, entry_object}
+use Rattle.conf_laws.proofs.Properties.{AreGood, IsGood, IsOwn, own_properties, entries_fit, by_good_object}
+use Rattle.std.proofs.lemmas.Option.{same_Some}
+use Rattle.conf_laws.proofs.Rows.{Leads}
+use Rattle.conf_laws.proofs.Streams.{extras_lead, common_leads, events_lead, streams_map, stream_object, streams_object}
 
 -- ---- one data stream type
 
@@ -60,7 +58,7 @@ stream_says name clock (Some a) (Some b) None d e s is = absurd cc
 stream_says name clock (Some a) (Some b) (Some c) None e s is = absurd cc
 stream_says name clock (Some a) (Some b) (Some c) (Some d) None s is = absurd cc
 stream_says name clock (Some a) (Some b) (Some c) (Some d) (Some e) s is =
-    let same = some_same _ s is in
+    let same = same_Some _ s is in
     record {
       name_is = ap (λ r. r.name) same;
       clock_is = ap (λ r. r.default_clock) same;
@@ -70,19 +68,6 @@ stream_says name clock (Some a) (Some b) (Some c) (Some d) (Some e) s is =
       common = ap (λ r. Some r.common) same;
       events = ap (λ r. Some r.events) same;
     }
-
-module _ where
-  extras_lead : Leads places.StreamType (codes "packet-context-field-type-extra-members") (At places.ExtraMembers)
-  unfolding behind resolved_content content_under presence_under entries_of rows_of
-  extras_lead = record { plain = λ d k. refl; resolved = refl; under = refl }
-
-  common_leads : Leads places.StreamType (codes "event-record-common-context-field-type") (At places.StructureType)
-  unfolding behind resolved_content content_under presence_under entries_of rows_of
-  common_leads = record { plain = λ d k. refl; resolved = refl; under = refl }
-
-  events_lead : Leads places.StreamType (codes "event-record-types") (At places.EventTypes)
-  unfolding behind resolved_content content_under presence_under entries_of rows_of
-  events_lead = record { plain = λ d k. refl; resolved = refl; under = refl }
 
 -- good, and of this name
 abbrev IsUnder : List ℕ → StreamType → Type 0
@@ -110,25 +95,17 @@ module _ where
   unfolding behind
   streams_keep_levels d k = refl
 
-  streams_map : IsMapOf places.StreamTypes (At places.StreamType)
-  unfolding content_under presence_under entries_of rows_of is_left_out
-  streams_map = record { under = λ name. refl; inherits_none = refl; stays = λ name d. refl }
-
   stream_named : (k : Known) (name : List ℕ) (d : Data) → key_of k places.StreamTypes name d ≡ Ok tt → IsConfigName name
   unfolding key_of key_by entries_of
   stream_named k name d e = config_name name e
 
   stream_own : IsOwn places.StreamType
-  unfolding place_of_properties is_position own_place inside
-  stream_own = record { own = λ ms. refl; known = λ k ms. refl }
-
-  stream_form : (k : Known) (d : Data) → itself_of k (At places.StreamType) d ≡ any_object d
-  unfolding itself_of form_of
-  stream_form k d = refl
+  unfolding inside
+  stream_own = record { own = stream_object.own; known = λ k ms. refl }
 
   streams_own : IsOwn places.StreamTypes
-  unfolding place_of_properties is_position own_place inside
-  streams_own = record { own = λ ms. refl; known = λ k ms. refl }
+  unfolding inside
+  streams_own = record { own = streams_object.own; known = λ k ms. refl }
 
   streams_few : (k : Known) (ms : Members) → IsGood k places.StreamTypes ms → nat_le (members_len ms) 64 ≡ true
   unfolding entries_of
@@ -137,38 +114,39 @@ module _ where
 abbrev stream_name : StreamType → List ℕ
 stream_name s = s.name
 
-abbrev AreStreams : List (List ℕ) → List StreamType → Type 0
-AreStreams names ss = AreUnder stream_name IsGoodStream names ss
+stream_last : (done more : List StreamType) (o : Option StreamType) (name : List ℕ) → ((x : StreamType) → o ≡ Some x → IsUnder name x) → stream_behind done o ≡ Some more → IsOneMore stream_name IsGoodStream name done more
+stream_last done more None name good e = absurd cc
+stream_last done more (Some x) name good e = let one = good x refl in record { new = x; more = same_Some (done ++ x ∷ []) more e; name_is = one.0; is_good = one.1 }
 
-stream_last : (done more : List StreamType) (o : Option StreamType) (name : List ℕ) (names : List (List ℕ)) → ((s : StreamType) → o ≡ Some s → IsUnder name s) → AreStreams names done → stream_behind done o ≡ Some more → AreStreams (names ++ name ∷ []) more
-stream_last done more None name names good h e = absurd cc
-stream_last done more (Some x) name names good h e = subst (AreStreams (names ++ name ∷ [])) (some_same (done ++ x ∷ []) more e) (let one = good x refl in last_under stream_name IsGoodStream name names x done one.0 one.1 h)
-
-stream_entry : (k : Known) (done more : List StreamType) (name : List ℕ) (d : Data) (names : List (List ℕ)) → IsGoodEntry k places.StreamTypes name (At places.StreamType) d → AreStreams names done → entry_behind k.levels done name d ≡ Some more → AreStreams (names ++ name ∷ []) more
-stream_entry k done more name d names entry h e =
-    let inner = entry_object k places.StreamType d (stream_form k d) entry.value in
+stream_entry : (k : Known) (name : List ℕ) (d : Data) → IsGoodEntry k places.StreamTypes name (At places.StreamType) d → (done more : List StreamType) → entry_behind k.levels done name d ≡ Some more → IsOneMore stream_name IsGoodStream name done more
+stream_entry k name d entry done more e =
+    let inner = entry_object k places.StreamType d (stream_object.form k d) entry.value in
     let own = own_properties k places.StreamType inner.0 stream_own inner.2 in
     let read : stream_behind done (stream_type k.levels name inner.0) ≡ Some more = ap (λ x. entry_behind k.levels done name x) (sym inner.1) ∙ e in
-    stream_last done more (stream_type k.levels name inner.0) name names (λ x is. stream_allowed k name inner.0 x (stream_named k name d entry.named) own is) h read
+    stream_last done more (stream_type k.levels name inner.0) name (λ x is. stream_allowed k name inner.0 x (stream_named k name d entry.named) own is) read
 
-streams_read : (ms : Members) (k : Known) (done ss : List StreamType) (names : List (List ℕ)) → AreGood k places.StreamTypes ms → AreStreams names done → streams_behind k.levels done ms ≡ Some ss → AreStreams (names ++ names_of ms) ss
-streams_read no_members k done ss names h good e = subst (λ l. AreStreams l ss) (sym (append-nil names)) (subst (AreStreams names) (some_same done ss e) good)
-streams_read (member name d ms) k done ss names h good e =
-    let read = then_some (λ more. streams_behind k.levels more ms) (entry_behind k.levels done name d) ss e in
-    let entry = entry_in k places.StreamTypes name (At places.StreamType) d ms streams_map h in
-    let next : streams_behind (behind places.StreamTypes d k).levels read.0 ms ≡ Some ss = ap (λ levels. streams_behind levels read.0 ms) (streams_keep_levels d k) ∙ read.2 in
-    subst (λ l. AreStreams l ss) (append_assoc names (name ∷ []) (names_of ms))
-    (streams_read ms (behind places.StreamTypes d k) read.0 ss (names ++ name ∷ []) (entry_rest k places.StreamTypes name d ms h) (stream_entry k done read.0 name d names entry good read.1) next)
+-- what is known at a member are these log level aliases
+abbrev AreGoodBy : Members → Members → Type 0
+AreGoodBy levels ms = (k : Known) × (k.levels ≡ levels) × AreGood k places.StreamTypes ms
+
+streams_read : (k : Known) (ms : Members) (ss : List StreamType) → AreGood k places.StreamTypes ms → streams_behind k.levels [] ms ≡ Some ss → AreUnder stream_name IsGoodStream (names_of ms) ss
+streams_read k ms ss h e =
+    map_read stream_name IsGoodStream (streams_behind k.levels) (entry_behind k.levels) (λ done. refl) (λ done name d ms. refl) (AreGoodBy k.levels) each ms [] ss [] (k, refl, h) (none_under stream_name IsGoodStream) e
+  where
+    each : (name : List ℕ) (d : Data) (ms : Members) → AreGoodBy k.levels (member name d ms)
+        → AreGoodBy k.levels ms × ((done more : List StreamType) → entry_behind k.levels done name d ≡ Some more → IsOneMore stream_name IsGoodStream name done more)
+    each name d ms (j, is, good) = (
+      (behind places.StreamTypes d j, streams_keep_levels d j ∙ is, entry_rest j places.StreamTypes name d ms good),
+      λ done more f. stream_entry j name d (entry_in j places.StreamTypes name (At places.StreamType) d ms streams_map good) done more (ap (λ levels. entry_behind levels done name d) is ∙ f),
+    )
 
 abbrev pub AreGoodStreams : List StreamType → Type 0
 AreGoodStreams ss = AreAllowed stream_name IsGoodStream 64 ss
 
 pub streams_allowed : (k : Known) (place : Kind) (ms : Members) (ss : List StreamType) → Leads place (codes "data-stream-types") (At places.StreamTypes) → AreGood k place ms → k.levels ≡ or_empty (object_at (codes "$log-level-aliases") ms) → stream_types ms ≡ Some ss → AreGoodStreams ss
 unfolding stream_types
-streams_allowed k place ms ss leads h levels e = go (object_at (codes "data-stream-types") ms) refl (subst (λ l. streams_or_none l (object_at (codes "data-stream-types") ms) ≡ Some ss) (sym levels) e)
-  where
-    go : (o : Option Members) → object_at (codes "data-stream-types") ms ≡ o → streams_or_none k.levels o ≡ Some ss → AreGoodStreams ss
-    go None is e = subst AreGoodStreams (some_same [] ss e) (none_allowed stream_name IsGoodStream 64)
-    go (Some x) is e =
-        let good = object_in k place (codes "data-stream-types") places.StreamTypes ms x leads h is in
-        map_allowed stream_name IsGoodStream 64 x ss good.in_order (streams_few k x good) (streams_read x k [] ss [] (own_properties k places.StreamTypes x streams_own good) (none_under stream_name IsGoodStream) e)
+streams_allowed k place ms ss leads h levels e =
+    by_good_object k place (codes "data-stream-types") places.StreamTypes ms leads h (λ o. streams_or_none k.levels o ≡ Some ss → AreGoodStreams ss)
+    (λ f. subst AreGoodStreams (same_Some [] ss f) (none_allowed stream_name IsGoodStream 64))
+    (λ x good f. map_allowed stream_name IsGoodStream 64 x ss good.in_order (streams_few k x good) (streams_read k x ss (own_properties k places.StreamTypes x streams_own good) f))
+    (subst (λ l. streams_or_none l (object_at (codes "data-stream-types") ms) ≡ Some ss) (sym levels) e)

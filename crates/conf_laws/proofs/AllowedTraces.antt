@@ -20,24 +20,27 @@ use Rattle.conf_table.specs.Table.{content_under, presence_under, entries_of, ro
 use Rattle.conf_judge.specs.Flaws.{resolved_content, configuration_flaws}
 use Rattle.conf_judge.specs.Known.{Known, nothing, inside, behind, members_or_none}
 use Rattle.conf_judge.specs.Limits.{configuration_limits}
-use Rattle.conf_judge.specs.Places.{place_of_properties, is_position, own_place}
 use Rattle.conf_draft.specs.declared.draft.Draft.{Draft}
 use Rattle.conf_draft.specs.Clocks.{clock_types}
 use Rattle.conf_draft.specs.Environments.{environment}
 use Rattle.conf_draft.specs.Features.{or_empty, header}
 use Rattle.conf_draft.specs.Lookups.{object_of, object as object_at}
 use Rattle.conf_draft.specs.Traces.{draft_from, draft_with, draft_of_type, draft_of_trace, draft_of_root, draft_of}
-use Rattle.conf_laws.specs.Order.{Ascends}
+use Rattle.conf_tree.specs.Order.{Ascends}
 use Rattle.conf_laws.specs.Rules.{TellsClock, TellsRecordClock, RecordHasBits, KeepsStreamRules, KeepsRules}
 use Rattle.conf_laws.proofs.AllowedClocks.{AreClocks, clocks_allowed}
 use Rattle.conf_laws.proofs.AllowedEnvironment.{IsEntry, IsEnvironment, environment_allowed}
 use Rattle.conf_laws.proofs.AllowedEvents.{IsGoodEvent}
 use Rattle.conf_laws.proofs.AllowedFeatures.{IsOfClock, IsHeader, or_empty_good, header_allowed}
 use Rattle.conf_laws.proofs.AllowedStreams.{IsGoodStream, AreGoodStreams, streams_allowed}
-use Rattle.conf_laws.proofs.Properties.{IsGood, IsGoodAt, IsOwn, Leads, good_object, properties_at, own_properties, object_in}
+use Rattle.conf_laws.proofs.Properties.{IsGood, IsGoodAt, IsOwn, good_object, properties_at, own_properties, object_in}
 use Rattle.conf_laws.proofs.Sound.{content_sound}
-use Rattle.conf_laws.proofs.Steps.{some_same, then_some}
+use Rattle.conf_laws.proofs.Steps.{then_some}
 use Rattle.conf_laws.proofs.Within.{content_within}
+use Rattle.std.proofs.lemmas.Option.{same_Some}
+use Rattle.conf_laws.proofs.Rows.{Leads}
+use Rattle.conf_laws.proofs.Traces.{features_lead, streams_lead, type_leads, root_leads, type_object, trace_object, root_object}
+use Rattle.conf_laws.proofs.FeatureObjects.{trace_features}
 
 -- ---- the parts by themselves
 
@@ -52,21 +55,9 @@ module _ where
   unfolding behind resolved_content content_under presence_under entries_of rows_of
   clocks_lead = record { plain = λ d k. refl; resolved = refl; under = refl }
 
-  streams_lead : Leads places.TraceType (codes "data-stream-types") (At places.StreamTypes)
-  unfolding behind resolved_content content_under presence_under entries_of rows_of
-  streams_lead = record { plain = λ d k. refl; resolved = refl; under = refl }
-
-  features_lead : Leads places.TraceType (codes "$features") (At places.TraceFeatures)
-  unfolding behind resolved_content content_under presence_under entries_of rows_of
-  features_lead = record { plain = λ d k. refl; resolved = refl; under = refl }
-
   features_own : IsOwn places.TraceFeatures
-  unfolding place_of_properties is_position own_place inside
-  features_own = record { own = λ ms. refl; known = λ k ms. refl }
-
-  type_properties : (ms : Members) → place_of_properties places.TraceType ms ≡ places.TraceType
-  unfolding place_of_properties is_position own_place
-  type_properties ms = refl
+  unfolding inside
+  features_own = record { own = trace_features.own; known = λ k ms. refl }
 
   type_levels : (k : Known) (ms : Members) → (inside places.TraceType ms k).levels ≡ members_or_none (optional (codes "$log-level-aliases") ms)
   unfolding inside
@@ -96,7 +87,7 @@ draft_says : (given : Option (List ℕ)) (entries : List EnvironmentEntry) (ms :
 draft_says given entries ms None b draft e = absurd cc
 draft_says given entries ms (Some h) None draft e = absurd cc
 draft_says given entries ms (Some h) (Some ss) draft e =
-    let same = some_same (draft_from given entries (clock_types ms) h ss ms) draft e in
+    let same = same_Some (draft_from given entries (clock_types ms) h ss ms) draft e in
     record {
       header = ap (λ r. Some r.config.header) same;
       streams = ap (λ r. Some r.config.streams) same;
@@ -108,7 +99,7 @@ type_allowed : (k : Known) (given : Option (List ℕ)) (entries : List Environme
 unfolding draft_of_type header
 type_allowed k given entries ms draft env h e =
     let j = inside places.TraceType ms k in
-    let good = properties_at k places.TraceType places.TraceType ms (type_properties ms) h in
+    let good = properties_at k places.TraceType places.TraceType ms (type_object.own ms) h in
     let says = draft_says given entries ms _ _ draft e in
     let features = or_empty_good j places.TraceType (codes "$features") places.TraceFeatures ms features_lead features_own good in
     record {
@@ -122,24 +113,16 @@ type_allowed k given entries ms draft env h e =
 
 module _ where
   trace_own : IsOwn places.Trace
-  unfolding place_of_properties is_position own_place inside
-  trace_own = record { own = λ ms. refl; known = λ k ms. refl }
+  unfolding inside
+  trace_own = record { own = trace_object.own; known = λ k ms. refl }
 
   environment_leads : Leads places.Trace (codes "environment") (At places.Environment)
   unfolding behind resolved_content content_under presence_under entries_of rows_of
   environment_leads = record { plain = λ d k. refl; resolved = refl; under = refl }
 
-  type_leads : Leads places.Trace (codes "type") (At places.TraceType)
-  unfolding behind resolved_content content_under presence_under entries_of rows_of
-  type_leads = record { plain = λ d k. refl; resolved = refl; under = refl }
-
   root_own : IsOwn places.Root
-  unfolding place_of_properties is_position own_place inside
-  root_own = record { own = λ ms. refl; known = λ k ms. refl }
-
-  root_leads : Leads places.Root (codes "trace") (At places.Trace)
-  unfolding behind resolved_content content_under presence_under entries_of rows_of
-  root_leads = record { plain = λ d k. refl; resolved = refl; under = refl }
+  unfolding inside
+  root_own = record { own = root_object.own; known = λ k ms. refl }
 
 trace_allowed : (k : Known) (given : Option (List ℕ)) (ms : Members) (draft : Draft) → IsGood k places.Trace ms → draft_of_trace given ms ≡ Some draft → IsGoodConfig draft.config
 unfolding draft_of_trace
@@ -158,7 +141,7 @@ root_allowed k given ms draft h e =
 good_whole : (d : Data) → Ascends d → configuration_flaws d ≡ [] → configuration_limits d ≡ [] → IsGoodAt nothing (At places.Root) d
 good_whole d ascends flaws limits = record { sound = content_sound nothing (At places.Root) d flaws; within = content_within (At places.Root) d limits; ascends = ascends }
 
-pub good_config : (given : Option (List ℕ)) (d : Data) (draft : Draft) → IsGoodAt nothing (At places.Root) d → draft_of given d ≡ Some draft → IsGoodConfig draft.config
+good_config : (given : Option (List ℕ)) (d : Data) (draft : Draft) → IsGoodAt nothing (At places.Root) d → draft_of given d ≡ Some draft → IsGoodConfig draft.config
 good_config given null draft h e = absurd cc
 good_config given (boolean b) draft h e = absurd cc
 good_config given (number n) draft h e = absurd cc

@@ -1,19 +1,20 @@
 -- Static arrays nest too deep, or have too many elements, exactly where their elements are not counted.
 use Rattle.std.proofs.Common.{◌≡◌, ◌⊎◌, ◌*◌, ◌≤◌, ◌<◌, ℕ, zero, suc, Bool, true, false, not, cond, List, [], ◌∷◌, length, Option, Some, None, inl, inr, refl, sym, ap, subst, ◌∙◌, arith}
 use Rattle.std.specs.Prelude.{codes, nat_le, nat_eq}
-use Rattle.std.specs.Str.{bytes_eq}
 use Rattle.std.proofs.lemmas.Bool.{leb-true, leb-false, eqb-false}
 use Rattle.std.proofs.Math.Nat.{mul-one, one-le-mul}
 use Rattle.std.proofs.lemmas.Nat.{mul-le}
-use Rattle.serde_json.specs.Data.{Data, null, boolean, number, string, array, object, Members, no_members, member}
+use Rattle.serde_json.specs.Data.{Data, null, boolean, number, string, array, object, Members}
 use Rattle.serde_json.specs.Find.{get_member}
 use Rattle.conf_judge.specs.Limits.{times, at_least_one, elements, elements_in_array}
 use Rattle.conf_judge.specs.Names.{class_of}
 use Rattle.conf_judge.specs.Numbers.{natural_in}
 use Rattle.conf_judge.specs.Shapes.{is_static_array}
 use Rattle.conf_laws.specs.TableLimits.{IsArray, HasElement, Nest, product, HasTooManyElements}
-use Rattle.conf_laws.proofs.ObjectFlawLaws.{static_told, found_first, found_later}
-use Rattle.conf_laws.proofs.ExcludedValues.{some_none, some_same}
+use Rattle.conf_laws.proofs.ObjectFlawLaws.{static_told}
+use Rattle.std.proofs.lemmas.Option.{cond_some}
+use Rattle.conf_laws.proofs.Steps.{some_none, some_same}
+use Rattle.conf_laws.proofs.Readings.{at_name}
 
 -- ---- the counts of one array
 
@@ -24,13 +25,7 @@ module _ (levels : ℕ) (count : Option ℕ) where
   of_element (Some element) = times count (elements levels element)
 
   in_array : (ms : Members) → elements_in_array levels count ms ≡ of_element (get_member (codes "element-field-type") ms)
-  in_array no_members = refl
-  in_array (member k d ms) = go (bytes_eq k (codes "element-field-type")) refl (in_array ms)
-    where
-      go : (b : Bool) → bytes_eq k (codes "element-field-type") ≡ b → elements_in_array levels count ms ≡ of_element (get_member (codes "element-field-type") ms)
-          → cond b (times count (elements levels d)) (elements_in_array levels count ms) ≡ of_element (get_member (codes "element-field-type") (member k d ms))
-      go true is rest = ap of_element (sym (found_first (codes "element-field-type") k d ms is))
-      go false is rest = rest ∙ ap of_element (sym (found_later (codes "element-field-type") k d ms is))
+  in_array ms = at_name (codes "element-field-type") (elements_in_array levels count) of_element refl (λ k d rest. refl) ms
 
 -- each array counts as one at least
 one_or_more : (n : ℕ) (b : Bool) → nat_eq n 0 ≡ b → 1 ≤ cond b 1 n
@@ -47,24 +42,20 @@ count_of_one ms n e =
     subst (λ m. 1 ≤ m) (some_same (at_least_one (natural_in (codes "length") ms)) some.0 n some.1 e) some.2
 
 -- the product of two counts, where it is not too large
-record Times (a b : Option ℕ) (m : ℕ) : Type 0 where
-  first : ℕ
-  second : ℕ
-  one : a ≡ Some first
-  two : b ≡ Some second
-  is : m ≡ first * second
-  most : m ≤ 1048576
+pub record Times (a b : Option ℕ) (m : ℕ) : Type 0 where
+  pub first : ℕ
+  pub second : ℕ
+  pub one : a ≡ Some first
+  pub two : b ≡ Some second
+  pub is : m ≡ first * second
+  pub most : m ≤ 1048576
 
-times_told : (a b : Option ℕ) (m : ℕ) → times a b ≡ Some m → Times a b m
+pub times_told : (a b : Option ℕ) (m : ℕ) → times a b ≡ Some m → Times a b m
 times_told None b m e = absurd cc
 times_told (Some n) None m e = absurd cc
-times_told (Some n) (Some k) m e = go (nat_le (n * k) 1048576) refl e
-  where
-    go : (b : Bool) → nat_le (n * k) 1048576 ≡ b → cond b (Some (n * k)) None ≡ Some m → Times (Some n) (Some k) m
-    go true le f =
-        let same : n * k ≡ m = cc in
-        record { first = n; second = k; one = refl; two = refl; is = sym same; most = subst (λ x. x ≤ 1048576) same (leb-true (n * k) 1048576 le) }
-    go false le f = absurd cc
+times_told (Some n) (Some k) m e =
+    let p = cond_some (nat_le (n * k) 1048576) (n * k) m e in
+    record { first = n; second = k; one = refl; two = refl; is = sym p.1; most = subst (λ x. x ≤ 1048576) p.1 (leb-true (n * k) 1048576 p.0) }
 
 too_large_told : (n k : ℕ) → times (Some n) (Some k) ≡ None → 1048576 < n * k
 too_large_told n k e = go (nat_le (n * k) 1048576) refl e

@@ -8,7 +8,7 @@ use Rattle.serde_json.specs.Events.{members_len}
 use Rattle.serde_json.specs.Find.{get_member}
 use Rattle.ctf_types.specs.AllowedConfig.{InByteOrder}
 use Rattle.conf_tree.specs.Reading.{optional}
-use Rattle.conf_laws.specs.Order.{AllAbove, IsInOrder, Ascends, MembersAscend}
+use Rattle.conf_tree.specs.Order.{AllAbove, IsInOrder, Ascends, MembersAscend}
 use Rattle.conf_laws.proofs.Readings.{at_found}
 use Rattle.conf_laws.proofs.Sound.{optional_there}
 

@@ -1,10 +1,9 @@
 -- Where the walk over a configuration's objects tells of nothing, the table knows of no flaw.
-use Rattle.std.proofs.Common.{◌≡◌, ◌++◌, ℕ, Bool, true, false, cond, List, [], ◌∷◌, map, Some, None, is_some, Ok, inl, inr, refl, sym, ap, subst, ◌∙◌}
-use Rattle.std.specs.Prelude.{◌&&◌, codes}
-use Rattle.std.specs.Str.{bytes_eq}
+use Rattle.std.proofs.Common.{◌≡◌, ℕ, false, cond, List, [], ◌∷◌, Some, None, is_some, Ok, inl, inr, refl, sym, ap, subst, ◌∙◌}
+use Rattle.std.specs.Prelude.{codes}
 use Rattle.serde_json.specs.Data.{Data, array, object, Items, no_items, item, Members, no_members, member}
 use Rattle.serde_json.specs.Events.{items_len}
-use Rattle.conf_tree.specs.Flaw.{Flaw, key, index, within}
+use Rattle.conf_tree.specs.Flaw.{Flaw}
 use Rattle.conf_tree.specs.Walk.{HasMember, refusal}
 use Rattle.conf_table.specs.declared.place.Place.{Place}
 use Rattle.conf_table.specs.declared.place.Place.TheVariants as places
@@ -14,36 +13,21 @@ use Rattle.conf_table.specs.declared.row.Entries.{Entries}
 use Rattle.conf_table.specs.declared.row.Keys.{Keys}
 use Rattle.conf_table.specs.declared.row.Keys.TheVariants as keys
 use Rattle.conf_table.specs.Table.{rows_of, entries_of, is_by_index, under_entries, told_under, content_under, presence_under}
-use Rattle.conf_judge.specs.Flaws.{told_by, class_rule, all_there, may_inherit, resolved_content, is_left_out, content_or_any, property_flaws, inner_flaws, item_flaws, member_flaws, content_flaws, configuration_flaws}
+use Rattle.conf_judge.specs.Flaws.{told_by, all_there, may_inherit, resolved_content, is_left_out, content_or_any, property_flaws, inner_flaws, item_flaws, member_flaws, content_flaws, configuration_flaws}
 use Rattle.conf_judge.specs.Forms.{itself_of}
 use Rattle.conf_judge.specs.Known.{Known, nothing, inside, behind, with_taken}
-use Rattle.conf_judge.specs.Names.{key_of, names_beside, with_names}
+use Rattle.conf_judge.specs.Names.{names_beside, with_names}
 use Rattle.conf_judge.specs.Places.{place_of_properties, item_content}
-use Rattle.conf_judge.specs.Shapes.{shape_of}
 use Rattle.conf_laws.specs.Around.{Around, Parts, HasBehind, member_of, item_of}
 use Rattle.conf_laws.specs.ValueFlaws.{IsNoKey, IsNoNameAt}
 use Rattle.conf_laws.specs.TableFlaws.{HasNotItsRows, IsFlawOf}
-use Rattle.conf_laws.proofs.Sound.{told_none, both_none, none_mapped}
+use Rattle.conf_laws.proofs.Sound.{told_none, both_none, ObjectSound, PropertySound, object_sound, property_here, first_flaws, first_item}
 use Rattle.conf_laws.proofs.Agreement.{Agrees, nothing_agrees, inside_agrees, behind_agrees, Takes, takes_beside, takes_further, item_agrees}
 use Rattle.conf_laws.proofs.Items.{ItemParts, stands}
 use Rattle.conf_laws.proofs.TakenProperties.{is_property, is_none, left_not}
 use Rattle.conf_laws.proofs.ExcludedForms.{value_excluded, at_name_excluded}
 use Rattle.conf_laws.proofs.ExcludedObjects.{class_at_excluded, missing_excluded, no_order_excluded, shape_excluded}
-
--- ---- the parts of an object of which nothing is told
-
-record ObjectClear (k : Known) (place : Place) (ms : Members) : Type 0 where
-  class_fits : class_rule place ms ≡ Ok tt
-  there : all_there (place_of_properties place ms) ms ≡ Ok tt
-  members : member_flaws (inside (place_of_properties place ms) ms k) (place_of_properties place ms) ms ≡ []
-  shape : shape_of place ms ≡ Ok tt
-
-object_clear : (k : Known) (place : Place) (ms : Members) → inner_flaws k (At place) (object ms) ≡ [] → ObjectClear k place ms
-object_clear k place ms e =
-    let one = both_none (told_by (class_rule place ms)) _ e in
-    let two = both_none (told_by (all_there (place_of_properties place ms) ms)) _ one.1 in
-    let three = both_none (member_flaws (inside (place_of_properties place ms) ms k) (place_of_properties place ms) ms) (told_by (shape_of place ms)) two.1 in
-    record { class_fits = told_none _ one.0; there = told_none _ two.0; members = three.0; shape = told_none _ three.1 }
+use Rattle.conf_laws.proofs.Rows.{nothing_inherited}
 
 -- ---- at a member
 
@@ -58,37 +42,21 @@ module _ (around : Around) (place : Place) (all : Members) where
   further before name d rest r = record {
     known = behind place d r.known;
     agrees = behind_agrees around all before name d place r.known r.agrees;
-    clear = (both_none (map (within (key name)) (property_flaws r.known place name (resolved_content place name) d (inner_flaws r.known (content_or_any (resolved_content place name)) d))) _ r.clear).1;
+    clear = (first_flaws r.known place name d rest r.clear).1;
   }
 
   reached : (before rest : Members) → Parts all before rest → Reached no_members all → Reached before rest
   reached before rest Parts.at_the_first start = start
   reached before rest (Parts.behind b name d r parts) start = further b name d rest (reached b (member name d rest) parts start)
 
-  -- nothing is told of the property that is reached
-  property_clear : (before : Members) (name : List ℕ) (d : Data) (rest : Members) (r : Reached before (member name d rest))
-      → property_flaws r.known place name (resolved_content place name) d (inner_flaws r.known (content_or_any (resolved_content place name)) d) ≡ []
-  property_clear before name d rest r = none_mapped (within (key name)) _ (both_none (map (within (key name)) (property_flaws r.known place name (resolved_content place name) d (inner_flaws r.known (content_or_any (resolved_content place name)) d))) _ r.clear).0
-
   unknown_clear : {P : Type 0} (before : Members) (name : List ℕ) (d : Data) (rest : Members) → Reached before (member name d rest) → resolved_content place name ≡ None → P
   unknown_clear before name d rest r none =
-      let e = property_clear before name d rest r in
+      let e = (first_flaws r.known place name d rest r.clear).0 in
       let told = subst (λ o. property_flaws r.known place name o d (inner_flaws r.known (content_or_any o) d) ≡ []) none e in
       absurd cc
 
-  record ValueClear (k : Known) (name : List ℕ) (content : Content) (d : Data) : Type 0 where
-    itself : itself_of k content d ≡ Ok tt
-    named : key_of k place name d ≡ Ok tt
-    inner : inner_flaws k content d ≡ []
-
-  value_clear : (before : Members) (name : List ℕ) (d : Data) (rest : Members) (content : Content) (r : Reached before (member name d rest)) → resolved_content place name ≡ Some content → is_left_out place name d ≡ false → ValueClear r.known name content d
-  value_clear before name d rest content r is left =
-      let e = property_clear before name d rest r in
-      let told = subst (λ o. property_flaws r.known place name o d (inner_flaws r.known (content_or_any o) d) ≡ []) is e in
-      let flaws = subst (λ b. cond b [] (told_by (itself_of r.known content d) ++ (told_by (key_of r.known place name d) ++ inner_flaws r.known content d)) ≡ []) left told in
-      let one = both_none (told_by (itself_of r.known content d)) _ flaws in
-      let two = both_none (told_by (key_of r.known place name d)) (inner_flaws r.known content d) one.1 in
-      record { itself = told_none _ one.0; named = told_none _ two.0; inner = two.1 }
+  value_clear : (before : Members) (name : List ℕ) (d : Data) (rest : Members) (content : Content) (r : Reached before (member name d rest)) → resolved_content place name ≡ Some content → is_left_out place name d ≡ false → PropertySound r.known place name content d
+  value_clear before name d rest content r is left = property_here r.known place name content d is left (first_flaws r.known place name d rest r.clear).0
 
   -- a member stands behind some
   stands_behind : (before rest : Members) (name : List ℕ) (d : Data) → Parts all before rest → HasMember name d rest → (b : Members) × HasBehind b name d all
@@ -124,14 +92,9 @@ no_rows places.Range name entries is = refl
 no_rows _ name entries is = absurd cc
 
 entry_content : (place : Place) (name : List ℕ) (entries : Entries) → entries_of place ≡ Some entries → resolved_content place name ≡ under_entries entries
-unfolding resolved_content
 entry_content place name entries is =
     let inherits : may_inherit place ≡ false = ap is_some (no_rows place (codes "$inherit") entries is) in
-    ap (λ b. cond (bytes_eq name (codes "$inherit") && b) None (content_under place name)) inherits ∙ neither (bytes_eq name (codes "$inherit")) ∙ plain_content place name entries is
-  where
-    neither : (b : Bool) → cond (b && false) None (content_under place name) ≡ content_under place name
-    neither true = refl
-    neither false = refl
+    nothing_inherited place name inherits ∙ plain_content place name entries is
 
 entry_stays : (place : Place) (name : List ℕ) (d : Data) (entries : Entries) → entries_of place ≡ Some entries → is_left_out place name d ≡ false
 unfolding is_left_out
@@ -172,7 +135,7 @@ module _ (around : Around) (k : Known) (h : Agrees k around) (place : Place) (al
   item_further before d rest r = record {
     taken = with_names d r.taken;
     takes = takes_further r.taken place before d r.takes;
-    clear = (both_none (map (within (index (items_len before))) (content_flaws (with_taken r.taken k) (item_content place) d)) _ r.clear).1;
+    clear = (first_item k place r.taken (items_len before) d rest r.clear).1;
   }
 
   item_reached : (before rest : Items) → ItemParts all before rest → ItemReached no_items all → ItemReached before rest
@@ -180,18 +143,18 @@ module _ (around : Around) (k : Known) (h : Agrees k around) (place : Place) (al
   item_reached before rest (ItemParts.behind b d r parts) start = item_further b d rest (item_reached b (item d rest) parts start)
 
   item_clear : (before : Items) (d : Data) (rest : Items) (r : ItemReached before (item d rest)) → content_flaws (with_taken r.taken k) (item_content place) d ≡ []
-  item_clear before d rest r = none_mapped (within (index (items_len before))) _ (both_none (map (within (index (items_len before))) (content_flaws (with_taken r.taken k) (item_content place) d)) _ r.clear).0
+  item_clear before d rest r = (first_item k place r.taken (items_len before) d rest r.clear).0
 
 -- ---- a value and all that it holds
 
 module _ (k : Known) (around : Around) (h : Agrees k around) (place : Place) (ms : Members) (e : content_flaws k (At place) (object ms) ≡ []) where
-  clear_object : ObjectClear k place ms
-  clear_object = object_clear k place ms (both_none (told_by (itself_of k (At place) (object ms))) _ e).1
+  clear_object : ObjectSound k place ms
+  clear_object = object_sound k place ms (both_none (told_by (itself_of k (At place) (object ms))) _ e).1
 
   start_of : Reached around (place_of_properties place ms) ms no_members ms
   start_of = record { known = inside (place_of_properties place ms) ms k; agrees = inside_agrees k around h (place_of_properties place ms) ms; clear = clear_object.members }
 
-pub flaw_excluded : (around : Around) (content : Content) (d : Data) (flaw : Flaw) → IsFlawOf around content d flaw → (k : Known) → Agrees k around → content_flaws k content d ≡ [] → ⊥
+flaw_excluded : (around : Around) (content : Content) (d : Data) (flaw : Flaw) → IsFlawOf around content d flaw → (k : Known) → Agrees k around → content_flaws k content d ≡ [] → ⊥
 flaw_excluded around content d flaw (IsFlawOf.wrong_value wrong) k h e = value_excluded k around h content d flaw (told_none _ (both_none (told_by (itself_of k content d)) _ e).0) wrong
 flaw_excluded around content d flaw (IsFlawOf.wrong_class {place = place} {ms = ms} wrong) k h e = class_at_excluded place ms flaw (clear_object k around h place ms e).class_fits wrong
 flaw_excluded around content d flaw (IsFlawOf.wrong_rows {place = place} {ms = ms} wrong) k h e = rows_clear around (place_of_properties place ms) ms flaw (clear_object k around h place ms e).there (start_of k around h place ms e) wrong
@@ -203,7 +166,7 @@ flaw_excluded around content d flaw (IsFlawOf.in_property {place = place} {ms = 
     let p = place_of_properties place ms in
     let r = reached around p ms before (member name v behind_these.0) behind_these.1 (start_of k around h place ms e) in
     let clear = value_clear around p ms before name v behind_these.0 inner r (is_property p name inner is) (left_not p name v left) in
-    flaw_excluded (member_of p ms before ∷ around) inner v f wrong r.known r.agrees (nothing_told r.known inner v clear.itself clear.inner)
+    flaw_excluded (member_of p ms before ∷ around) inner v f wrong r.known r.agrees (nothing_told r.known inner v clear.value.itself clear.value.inner)
   where
     nothing_told : (k : Known) (content : Content) (d : Data) → itself_of k content d ≡ Ok tt → inner_flaws k content d ≡ [] → content_flaws k content d ≡ []
     nothing_told k content d itself held = rw (itself, held) refl
@@ -222,7 +185,3 @@ none_left d e flaw wrong = flaw_excluded [] (At places.Root) d flaw wrong nothin
 pub none_refused : (flaws : List Flaw) → refusal flaws ≡ Ok tt → flaws ≡ []
 none_refused [] e = refl
 none_refused (f ∷ flaws) e = absurd cc
-
--- what the judge of a configuration's objects passes has no flaw
-pub passed_clear : (d : Data) (flaw : Flaw) → refusal (configuration_flaws d) ≡ Ok tt → ¬ IsFlawOf [] (At places.Root) d flaw
-passed_clear d flaw e = none_left d (none_refused (configuration_flaws d) e) flaw

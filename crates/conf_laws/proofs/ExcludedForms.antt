@@ -1,10 +1,10 @@
 -- A value that holds others, of which nothing is told by itself, is of the kind of its place; and a name of which nothing is told is
 -- one that the entry can have.
-use Rattle.std.proofs.Common.{◌≡◌, ◌↔◌, ◌≤◌, ◌&&◌, ◌||◌, ℕ, ℤ, pos, negsuc, Bool, true, false, cond, List, length, Some, None, Ok, Err, inl, inr, refl, sym, ap, subst, ◌∙◌, arith}
-use Rattle.std.specs.Prelude.{unwrap_or, option_map, nat_le, nat_lt, nat_eq, int_le, codes}
+use Rattle.std.proofs.Common.{◌≡◌, ◌↔◌, ◌≤◌, ◌&&◌, ◌||◌, ℕ, ℤ, Bool, true, false, List, length, Some, None, Ok, inl, inr, refl, sym, ap, subst, ◌∙◌, arith}
+use Rattle.std.specs.Prelude.{unwrap_or, option_map, nat_le, int_le, codes}
 use Rattle.std.specs.List.{list_any}
 use Rattle.std.specs.Str.{bytes_eq}
-use Rattle.std.proofs.lemmas.Bool.{true≢false, false≢true, and_parts, or_parts, leb-true, le-ltb, ne_eqb}
+use Rattle.std.proofs.lemmas.Bool.{true≢false, false≢true, and_parts, or_parts, leb-true}
 use Rattle.serde_json.specs.Data.{Data, null, boolean, number, string, array, object, Items, no_items, item, Members, no_members, member}
 use Rattle.serde_json.specs.Events.{items_len, members_len}
 use Rattle.serde_json.specs.Find.{as_object, as_array, as_bool}
@@ -12,8 +12,7 @@ use Rattle.ctf_types.specs.AllowedConfig.{lowest, highest}
 use Rattle.ctf_types.specs.Names.{is_identifier, unused_keywords, used_keywords}
 use Rattle.ctf_types.specs.Shown.{length_name}
 use Rattle.conf_tree.specs.declared.fault_kind.FaultKind.TheVariants.{OutOfRange, BadName, ReservedName, NameClash}
-use Rattle.conf_tree.specs.Flaw.{Flaw, index, here}
-use Rattle.conf_tree.specs.Reading.{at}
+use Rattle.conf_tree.specs.Flaw.{Flaw, here}
 use Rattle.conf_table.specs.declared.place.Place.{Place}
 use Rattle.conf_table.specs.declared.place.Place.TheVariants as places
 use Rattle.conf_table.specs.declared.row.Content.{Content}
@@ -24,18 +23,21 @@ use Rattle.conf_table.specs.Words.{words_of}
 use Rattle.conf_values.specs.LeafFlaws.{IsNoObject, IsNoList, IsNoName, IsReserved, IsNoPlainName}
 use Rattle.conf_values.specs.Name.{name_of, is_reserved, plain_name_of}
 use Rattle.conf_values.specs.Scalar.{is_printable}
-use Rattle.conf_values.proofs.Steps.{both_read, read_there, is_passed, ok_same}
+use Rattle.conf_values.proofs.Steps.{both_read, is_passed}
 use Rattle.conf_judge.specs.Forms.{any_object, any_list, some_items, some_members, one_member, some_list, some_object, entry, feature, size_feature, form_of, itself_of}
 use Rattle.conf_judge.specs.Known.{Known}
 use Rattle.conf_judge.specs.Leaves.{only_if, level, leaf_of}
 use Rattle.conf_judge.specs.Names.{is_dynamic, is_taken, length_is_taken, free_of, is_entry, plain_of, key_by, key_in, key_of}
-use Rattle.conf_judge.specs.Numbers.{all_numbers, numbers_of, numbers_or_all, numbers_in, end_of, pair_of, single_of, range_of, is_inside, inside_of}
+use Rattle.conf_judge.specs.Numbers.{all_numbers, numbers_of, numbers_or_all, numbers_in, end_of, range_of, is_inside, inside_of}
 use Rattle.conf_laws.specs.Around.{Around, enumeration_around, HasBits, IsTaken}
 use Rattle.conf_laws.specs.ValueFlaws.{IsWhole, IsNoEnd, IsPair, IsRange, IsNoRange, IsNoSomeList, IsNoSomeObject, IsNoEntry, IsNoFeature, IsNoSizeFeature, IsNoneAt, IsNoValueOf, IsNoMemberName, IsNoLabel, IsNoKey, IsNoNameAt}
 use Rattle.conf_laws.proofs.Agreement.{Agrees, IsTrue, told_dynamic}
-use Rattle.conf_laws.proofs.ValueFlawLaws.{whole_read, has_by_bytes}
+use Rattle.conf_laws.proofs.ValueFlawLaws.{has_by_bytes}
 use Rattle.conf_laws.proofs.ObjectFlawLaws.{number_found}
-use Rattle.conf_laws.proofs.ExcludedValues.{some_none, some_same, passed, found, not_both_ways, read_excluded, whole_same, whole_excluded, power_excluded, flag_excluded, default_excluded, any_text_excluded, shown_character, printable_excluded, identifier_excluded, choice_excluded, word_excluded, class_excluded, whole_or_text_excluded, level_excluded}
+use Rattle.conf_laws.proofs.ExcludedValues.{found, not_both_ways, read_excluded, whole_same, whole_excluded, power_excluded, flag_excluded, default_excluded, any_text_excluded, shown_character, printable_excluded, identifier_excluded, choice_excluded, word_excluded, class_excluded, whole_or_text_excluded, level_excluded}
+use Rattle.conf_laws.proofs.Readings.{was_so, under_no_test}
+use Rattle.conf_laws.proofs.Steps.{some_none, some_same}
+use Rattle.conf_laws.proofs.Ranges.{lowest_end, highest_end, ReadSo, read_so, end_whole, some_size}
 
 -- ---- objects and lists
 
@@ -111,45 +113,6 @@ size_excluded (object ms) flaw e wrong = own_size_excluded (object ms) flaw refl
 
 -- ---- ranges
 
-abbrev lowest_end : ℤ
-lowest_end = negsuc 9223372036854775807
-
-abbrev highest_end : ℤ
-highest_end = pos 18446744073709551615
-
--- what was read as a range: a number, or a list of two
-data ReadSo (d : Data) : ℤ → ℤ → Type 0 where
-  one_number : (x : ℤ) → as_array d ≡ None → end_of d ≡ Ok x → ReadSo d x x
-  two_numbers : (a b : Data) (x y : ℤ) → IsPair d a b → end_of a ≡ Ok x → end_of b ≡ Ok y → ReadSo d x y
-
-single_so : (d : Data) (range : _) → single_of d ≡ Ok range → as_array d ≡ None → ReadSo d range.low range.high
-single_so d range e none =
-    let x = both_read (end_of d) _ range e in
-    subst (λ r. ReadSo d r.low r.high) (ok_same (record { low = x.0; high = x.0 }) range x.2) (ReadSo.one_number x.0 none x.1)
-
-pair_so : (ds : Items) (range : _) → pair_of ds ≡ Ok range → ReadSo (array ds) range.low range.high
-unfolding pair_of
-pair_so no_items range e = absurd cc
-pair_so (item a no_items) range e = absurd cc
-pair_so (item a (item b no_items)) range e =
-    let x = both_read (at (index 0) (end_of a)) _ range e in
-    let y = both_read (at (index 1) (end_of b)) _ range x.2 in
-    subst (λ r. ReadSo (array (item a (item b no_items))) r.low r.high) (ok_same (record { low = x.0; high = y.0 }) range y.2)
-    (ReadSo.two_numbers a b x.0 y.0 refl (read_there (index 0) (end_of a) x.0 x.1) (read_there (index 1) (end_of b) y.0 y.1))
-pair_so (item a (item b (item c ds))) range e = absurd cc
-
-read_so : (d : Data) (range : _) → range_of d ≡ Ok range → ReadSo d range.low range.high
-unfolding range_of
-read_so (array ds) range e = pair_so ds range e
-read_so null range e = single_so null range e refl
-read_so (boolean b) range e = single_so (boolean b) range e refl
-read_so (number n) range e = single_so (number n) range e refl
-read_so (string s) range e = single_so (string s) range e refl
-read_so (object ms) range e = single_so (object ms) range e refl
-
-end_whole : (d : Data) (x : ℤ) → end_of d ≡ Ok x → IsWhole d x
-end_whole d x e = (whole_read lowest_end highest_end d x e).whole
-
 end_excluded : (d : Data) (x : ℤ) (flaw : Flaw) → end_of d ≡ Ok x → ¬ IsNoEnd d flaw
 end_excluded d x flaw e = read_excluded lowest_end highest_end d x flaw e
 
@@ -180,14 +143,6 @@ range_same d x y low high (ReadSo.one_number z none read) is = number_same d z l
 range_same d x y low high (ReadSo.two_numbers a b z w pair first second) is = pair_same d a b z w low high pair (end_whole a z first) (end_whole b w second) is
 
 module _ (around : Around) where
-  -- the tests of the numbers of the enumeration's integer
-  some_bits : (signed : Bool) (n : ℕ) → 1 ≤ n → n ≤ 64 → ((numbers_of signed n).low ≡ lowest signed n) × ((numbers_of signed n).high ≡ highest signed n)
-  unfolding numbers_of
-  some_bits signed n least most =
-      let a : nat_eq n 0 ≡ false = ne_eqb n 0 (λ none. omega (arith, none, least)) in
-      let b : nat_lt 64 n ≡ false = le-ltb 64 n most in
-      (rw (a, b) refl, rw (a, b) refl)
-
   numbers_there : (signed : Bool) (n : ℕ) → HasBits around signed n → unwrap_or (option_map (λ (e : Bool × Members). numbers_in e.0 e.1) (enumeration_around around)) all_numbers ≡ numbers_of signed n
   unfolding numbers_in
   numbers_there signed n (ms, is, has, least, most) =
@@ -250,7 +205,7 @@ module _ (around : Around) where
       inside_excluded d flaw numbers.low numbers.high range.0.low range.0.high
       (λ signed n bits.
       let same = agrees ∙ numbers_there signed n bits in
-      let ends = some_bits signed n bits.3 bits.4 in
+      let ends = some_size signed n bits.3 bits.4 in
       (ap (λ s. s.low) same ∙ ends.0, ap (λ s. s.high) same ∙ ends.1))
       (read_so d range.0 range.1) (inside_so numbers range.0 within.0)
 
@@ -308,22 +263,18 @@ not_reserved name e reserved = go (or_parts (list_any (bytes_eq name) unused_key
     go (a, b) (inr there) = false≢true (sym b ∙ has_by_bytes used_keywords name there)
 
 -- a test that must fail, failed
-failed_test : {A : Type 0} (b : Bool) (x y : A) (f : Flaw) → cond b (Err f) (Ok x) ≡ Ok y → b ≡ false
-failed_test true x y f e = absurd cc
-failed_test false x y f e = refl
-
 plain_excluded : (name : List ℕ) (flaw : Flaw) → plain_name_of name ≡ Ok tt → ¬ IsNoPlainName name flaw
 unfolding plain_name_of is_reserved
 plain_excluded name flaw e wrong =
     let r = both_read (name_of name) _ tt e in
-    go flaw (λ f. name_excluded name f r.1) (failed_test (list_any (bytes_eq name) unused_keywords || list_any (bytes_eq name) used_keywords) tt tt (here ReservedName) r.2) wrong
+    go flaw (λ f. name_excluded name f r.1) (under_no_test (list_any (bytes_eq name) unused_keywords || list_any (bytes_eq name) used_keywords) tt tt (here ReservedName) r.2) wrong
   where
     go : (f : Flaw) → ((g : Flaw) → ¬ IsNoName name g) → (list_any (bytes_eq name) unused_keywords || list_any (bytes_eq name) used_keywords) ≡ false → ¬ IsNoPlainName name f
     go f named free (IsNoPlainName.no_name g none) = named g none
     go f named free (IsNoPlainName.a_reserved_word reserved) = not_reserved name free reserved
 
 label_excluded : (name : List ℕ) (flaw : Flaw) → only_if (is_printable name) ≡ Ok tt → ¬ IsNoLabel name flaw
-label_excluded name flaw e (IsNoLabel.has_control c among control) = shown_character name c (passed (is_printable name) e) among control
+label_excluded name flaw e (IsNoLabel.has_control c among control) = shown_character name c (was_so (is_printable name) e) among control
 
 module _ (k : Known) (around : Around) (h : (name : List ℕ) → IsTrue (is_taken k.taken name) ↔ IsTaken around name) where
   member_excluded : (name : List ℕ) (d : Data) (flaw : Flaw) → plain_name_of name ≡ Ok tt → (is_taken k.taken name ≡ false) × (length_is_taken (is_dynamic d) k.taken name ≡ false) → ¬ IsNoMemberName around name d flaw
@@ -337,7 +288,7 @@ module _ (k : Known) (around : Around) (h : (name : List ℕ) → IsTrue (is_tak
   plain_key places.Entry name d flaw e =
       let r = both_read (plain_name_of name) _ tt e in
       let plain : plain_name_of name ≡ Ok tt = r.1 in
-      let free = or_parts (is_taken k.taken name) (length_is_taken (is_dynamic d) k.taken name) (failed_test (is_taken k.taken name || length_is_taken (is_dynamic d) k.taken name) tt tt (here NameClash) r.2) in
+      let free = or_parts (is_taken k.taken name) (length_is_taken (is_dynamic d) k.taken name) (under_no_test (is_taken k.taken name || length_is_taken (is_dynamic d) k.taken name) tt tt (here NameClash) r.2) in
       member_excluded name d flaw plain free
   plain_key _ name d flaw e = plain_excluded name flaw e
 

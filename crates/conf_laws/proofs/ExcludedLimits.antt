@@ -1,10 +1,10 @@
 -- Where the walk over a configuration tells of no limit, it passes none by the table.
-use Rattle.std.proofs.Common.{◌≡◌, ◌≢◌, ◌++◌, ◌*◌, ◌/◌, ◌%◌, ◌==◌, ◌<◌, ◌&&◌, ℕ, zero, suc, Bool, true, false, List, [], length, map, Some, None, is_some, inl, inr, refl, sym, ap, subst, ◌∙◌, arith, Ok}
+use Rattle.std.proofs.Common.{◌≡◌, ◌/◌, ◌%◌, ◌==◌, ◌<◌, ℕ, zero, suc, true, false, List, [], length, Some, None, is_some, inl, inr, refl, sym, ap, subst, ◌∙◌, arith, Ok}
 use Rattle.std.specs.Prelude.{nat_le, nat_eq}
-use Rattle.std.proofs.lemmas.Bool.{false≢true, or_from, lt-leb, ne_eqb}
+use Rattle.std.proofs.lemmas.Bool.{false≢true, or_from, lt-leb, ne_eqb, and_left, and_right}
 use Rattle.serde_json.specs.Data.{Data, null, boolean, number, string, array, object, Items, no_items, item, Members, no_members, member}
 use Rattle.serde_json.specs.Find.{get_item}
-use Rattle.conf_tree.specs.Flaw.{Flaw, key, index, within}
+use Rattle.conf_tree.specs.Flaw.{Flaw}
 use Rattle.conf_tree.specs.Walk.{HasMember, refusal}
 use Rattle.conf_table.specs.declared.place.Place.{Place}
 use Rattle.conf_table.specs.declared.place.Place.TheVariants as places
@@ -12,15 +12,16 @@ use Rattle.conf_table.specs.declared.row.Content.{Content}
 use Rattle.conf_table.specs.declared.row.Content.TheVariants as contents
 use Rattle.conf_table.specs.declared.row.Entries.{Entries}
 use Rattle.conf_table.specs.declared.row.Keys.TheVariants.{Label}
-use Rattle.conf_table.specs.Table.{entries_of, content_under}
+use Rattle.conf_table.specs.Table.{entries_of}
 use Rattle.conf_judge.specs.Flaws.{told_by, content_or_any}
-use Rattle.conf_judge.specs.Limits.{within_limit, bytes_fit, divides, power_fits, elements, is_outermost, arrays_fit, count_of, at_most, ranges_of, ranges_fit, place_fits, fits, is_label, key_fits, inner_limits, item_limits, member_limits, content_limits, configuration_limits}
+use Rattle.conf_judge.specs.Limits.{within_limit, bytes_fit, divides, power_fits, elements, is_outermost, arrays_fit, count_of, at_most, ranges_of, ranges_fit, place_fits, fits, is_label, key_fits, item_limits, member_limits, content_limits, configuration_limits}
 use Rattle.conf_judge.specs.Places.{place_of_properties, item_content}
 use Rattle.conf_laws.specs.TableLimits.{PassesAt, IsLongText, IsNoPowerUpTo, PassesBy, PassesLimitOf}
-use Rattle.conf_laws.proofs.Sound.{both_none, none_mapped}
-use Rattle.conf_laws.proofs.Within.{within_none}
+use Rattle.conf_laws.proofs.Sound.{both_none}
+use Rattle.conf_laws.proofs.Within.{within_none, limits_at, first_limits, first_item_limits}
 use Rattle.conf_laws.proofs.ArrayLimitLaws.{not_counted}
 use Rattle.conf_laws.proofs.ExcludedFlaws.{none_refused}
+use Rattle.conf_laws.proofs.ExcludedValues.{divided}
 
 -- ---- a value by itself
 
@@ -32,20 +33,9 @@ long_fails most (number n) (s, is, long) = absurd cc
 long_fails most (array ds) (s, is, long) = absurd cc
 long_fails most (object ms) (s, is, long) = absurd cc
 
-divided : (x n : ℕ) → n ≢ 0 → x % n ≡ 0 → n * (x / n) ≡ x
-divided x n some e = let more : 0 < n = omega (arith, some) in omega (arith, more, e)
-
 power_fails : (high : ℕ) (d : Data) → IsNoPowerUpTo high d → power_fits high d ≡ false
 unfolding power_fits
-power_fails high d (n, is, some, none) = ap (divides high) is ∙ or_from (nat_eq n 0) (high % n == 0) (ne_eqb n 0 some) (ne_eqb (high % n) 0 (λ e. none (high / n) (divided high n some e)))
-
-first_fails : (a b : Bool) → a ≡ false → (a && b) ≡ false
-first_fails true b e = absurd cc
-first_fails false b e = refl
-
-second_fails : (a b : Bool) → b ≡ false → (a && b) ≡ false
-second_fails true b e = e
-second_fails false b e = refl
+power_fails high d (n, is, some, none) = ap (divides high) is ∙ or_from (nat_eq n 0) (high % n == 0) (ne_eqb n 0 some) (ne_eqb (high % n) 0 (λ e. none (high / n) (divided high n (omega (arith, some)) e)))
 
 module _ (place : Place) (d : Data) where
   entries_fail : (entries : Entries) (most : ℕ) → entries_of place ≡ Some entries → entries.most ≡ Some most → most < count_of d → at_most (entries_of place) (count_of d) ≡ false
@@ -64,9 +54,9 @@ ranges_fail place d is more = subst (λ p. ranges_fit p d ≡ false) (sym is) (l
 at_fails : (place : Place) (d : Data) → PassesAt place d → place_fits place d ≡ false
 unfolding place_fits
 at_fails place d (PassesAt.too_many_entries entries most is number_is more) =
-    second_fails (arrays_fit place d) _ (first_fails (at_most (entries_of place) (count_of d)) (ranges_fit place d) (entries_fail place d entries most is number_is more))
-at_fails place d (PassesAt.too_many_ranges is more) = second_fails (arrays_fit place d) _ (second_fails (at_most (entries_of place) (count_of d)) (ranges_fit place d) (ranges_fail place d is more))
-at_fails place d (PassesAt.too_many_elements outermost many) = first_fails (arrays_fit place d) _ (arrays_fail place d outermost (not_counted d many))
+    and_right (arrays_fit place d) _ (and_left (at_most (entries_of place) (count_of d)) (ranges_fit place d) (entries_fail place d entries most is number_is more))
+at_fails place d (PassesAt.too_many_ranges is more) = and_right (arrays_fit place d) _ (and_right (at_most (entries_of place) (count_of d)) (ranges_fit place d) (ranges_fail place d is more))
+at_fails place d (PassesAt.too_many_elements outermost many) = and_left (arrays_fit place d) _ (arrays_fail place d outermost (not_counted d many))
 
 by_fails : (content : Content) (d : Data) → PassesBy content d → fits content d ≡ false
 unfolding fits
@@ -84,26 +74,22 @@ label_fails place name entries is label long =
 
 -- ---- at a member, and at an item
 
-abbrev limits_at : Place → List ℕ → Data → List Flaw
-limits_at place name d = told_by (within_limit (key_fits place name)) ++ (told_by (within_limit (fits (content_or_any (content_under place name)) d)) ++ inner_limits (content_or_any (content_under place name)) d)
-
 member_clear : (place : Place) (ms : Members) (name : List ℕ) (d : Data) → member_limits place ms ≡ [] → HasMember name d ms → limits_at place name d ≡ []
 member_clear place no_members name d e has = absurd has
 member_clear place (member l v ms) name d e (inl (same, is)) =
-    let first = none_mapped (within (key l)) (limits_at place l v) (both_none (map (within (key l)) (limits_at place l v)) (member_limits place ms) e).0 in
-    subst (λ n. limits_at place n d ≡ []) (sym same) (subst (λ x. limits_at place l x ≡ []) (sym is) first)
-member_clear place (member l v ms) name d e (inr has) = member_clear place ms name d (both_none (map (within (key l)) (limits_at place l v)) (member_limits place ms) e).1 has
+    subst (λ n. limits_at place n d ≡ []) (sym same) (subst (λ x. limits_at place l x ≡ []) (sym is) (first_limits place l v ms e).0)
+member_clear place (member l v ms) name d e (inr has) = member_clear place ms name d (first_limits place l v ms e).1 has
 
 item_clear : (place : Place) (first : ℕ) (ds : Items) (i : ℕ) (d : Data) → item_limits place first ds ≡ [] → get_item i ds ≡ Some d → content_limits (item_content place) d ≡ []
 item_clear place first no_items i d e is = absurd cc
 item_clear place first (item v ds) zero d e is =
     let same : v ≡ d = cc in
-    subst (λ x. content_limits (item_content place) x ≡ []) same (none_mapped (within (index first)) _ (both_none (map (within (index first)) (content_limits (item_content place) v)) _ e).0)
-item_clear place first (item v ds) (suc i) d e is = item_clear place (suc first) ds i d (both_none (map (within (index first)) (content_limits (item_content place) v)) _ e).1 is
+    subst (λ x. content_limits (item_content place) x ≡ []) same (first_item_limits place first v ds e).0
+item_clear place first (item v ds) (suc i) d e is = item_clear place (suc first) ds i d (first_item_limits place first v ds e).1 is
 
 -- ---- a value and all that it holds
 
-pub limit_excluded : (content : Content) (d : Data) (flaw : Flaw) → PassesLimitOf content d flaw → content_limits content d ≡ [] → ⊥
+limit_excluded : (content : Content) (d : Data) (flaw : Flaw) → PassesLimitOf content d flaw → content_limits content d ≡ [] → ⊥
 limit_excluded content d flaw (PassesLimitOf.too_large passed) e = false≢true (sym (by_fails content d passed) ∙ within_none (fits content d) (both_none (told_by (within_limit (fits content d))) _ e).0)
 limit_excluded content d flaw (PassesLimitOf.long_label {place = place} {ms = ms} label v entries has is labels long) e =
     let inner = (both_none (told_by (within_limit (fits (contents.At place) (object ms)))) _ e).1 in

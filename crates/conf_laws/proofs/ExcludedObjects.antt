@@ -1,25 +1,23 @@
 -- An object of which nothing is told by itself has a class that can stand where it is, all that it needs, and is what it has to be as
 -- a whole.
-use Rattle.std.proofs.Common.{◌≡◌, ◌⊎◌, ◌&&◌, ℕ, zero, suc, Bool, true, false, not, cond, List, [], ◌∷◌, Contains, Option, Some, None, is_some, Ok, Err, inl, inr, refl, sym, ap, subst, ◌∙◌, arith}
+use Rattle.std.proofs.Common.{◌≡◌, ◌⊎◌, ℕ, zero, suc, true, false, not, List, [], ◌∷◌, Contains, Option, Some, None, is_some, Ok, Err, inl, inr, refl, sym, ap, subst, ◌∙◌, arith}
 use Rattle.std.specs.Prelude.{codes}
-use Rattle.std.specs.Str.{bytes_eq}
 use Rattle.std.proofs.lemmas.Bool.{true≢false, false≢true, and_parts}
-use Rattle.serde_json.specs.Data.{Data, null, boolean, number, string, array, object, Members, no_members, member}
+use Rattle.serde_json.specs.Data.{Data, null, boolean, number, string, array, object, Members}
 use Rattle.serde_json.specs.Find.{get_member, as_str}
 use Rattle.conf_tree.specs.declared.fault_kind.FaultKind.TheVariants.{Missing}
 use Rattle.conf_tree.specs.Flaw.{Flaw, key, here, within}
-use Rattle.conf_tree.specs.Reading.{◌>>=◌, at, needed, optional, text_of}
+use Rattle.conf_tree.specs.Reading.{needed, optional}
 use Rattle.conf_table.specs.declared.place.Place.{Place}
 use Rattle.conf_table.specs.declared.place.Place.TheVariants as places
 use Rattle.conf_table.specs.declared.row.Presence.TheVariants as presences
-use Rattle.conf_table.specs.Classes.{class_words, class_in, admits_class}
+use Rattle.conf_table.specs.Classes.{class_words, admits_class}
 use Rattle.conf_table.specs.Table.{Told, rows_of}
 use Rattle.conf_values.specs.LeafFlaws.{IsNoWordOf}
 use Rattle.conf_values.specs.Scalar.{as_natural}
-use Rattle.conf_values.proofs.LeafFlawLaws.{wanted_found, found_there}
-use Rattle.conf_values.proofs.Steps.{both_read, read_there, is_passed}
-use Rattle.conf_judge.specs.Flaws.{other_class, admitted, class_rule, row_there, rows_there, one_there, orders_there, all_there}
-use Rattle.conf_judge.specs.Names.{class_named, class_said, class_of}
+use Rattle.conf_values.proofs.Steps.{both_read}
+use Rattle.conf_judge.specs.Flaws.{class_rule, row_there, rows_there, one_there, orders_there, all_there}
+use Rattle.conf_judge.specs.Names.{class_of}
 use Rattle.conf_judge.specs.Numbers.{natural_in}
 use Rattle.conf_judge.specs.Places.{is_position}
 use Rattle.conf_judge.specs.Shapes.{is_number, is_unsigned_integer, is_static_array, is_eight, is_byte, is_identifier, has_bits, element_has_bits, shape_of}
@@ -28,41 +26,16 @@ use Rattle.conf_laws.specs.ValueFlaws.{words_of_classes}
 use Rattle.conf_laws.specs.TableFlaws.{IsNoClassAt, IsByte, IsIdentifier, HasNoBits, IsNoShapeAt}
 use Rattle.conf_laws.proofs.Sound.{optional_there}
 use Rattle.conf_laws.proofs.ValueFlawLaws.{number_there}
-use Rattle.conf_laws.proofs.ObjectFlawLaws.{number_found, number_told, found_first, found_later}
-use Rattle.conf_laws.proofs.ExcludedValues.{some_none, some_same, passed, class_word_listed}
+use Rattle.conf_laws.proofs.ObjectFlawLaws.{number_found}
+use Rattle.conf_laws.proofs.ExcludedValues.{class_word_listed}
+use Rattle.conf_laws.proofs.Readings.{was_so, at_name}
+use Rattle.conf_laws.proofs.Classes.{HasClass, has_class, class_there, unsigned_told}
+use Rattle.conf_laws.proofs.Naturals.{number_told}
+use Rattle.std.proofs.Math.Bool.{and-false}
+use Rattle.conf_laws.proofs.Steps.{some_none, some_same}
+use Rattle.std.specs.Option.{option_map_or}
 
 -- ---- the class
-
--- the class that a field type has where it stands
-record HasClass (place : Place) (ms : Members) : Type 0 where
-  value : Data
-  word : List ℕ
-  class : Place
-  there : get_member (codes "class") ms ≡ Some value
-  text : as_str value ≡ Some word
-  found : class_in word class_words ≡ Some class
-  admits : admits_class place class ≡ true
-
-class_passed : (place : Place) (o : Option Place) → admitted place o ≡ Ok tt → (class : Place) × (o ≡ Some class) × (admits_class place class ≡ true)
-class_passed place None e = absurd cc
-class_passed place (Some class) e = (class, refl, (is_passed (admits_class place class) tt tt (here (other_class place)) e).0)
-
-has_class : (place : Place) (ms : Members) → class_rule place ms ≡ Ok tt → is_position place ≡ true → HasClass place ms
-unfolding class_rule
-has_class place ms e is =
-    let read = subst (λ b. cond b (needed (codes "class") ms >>= (λ d. at (key (codes "class")) (text_of d) >>= (λ w. admitted place (class_in w class_words)))) (Ok tt) ≡ Ok tt) is e in
-    let d = both_read (needed (codes "class") ms) _ tt read in
-    let w = both_read (at (key (codes "class")) (text_of d.0)) _ tt d.2 in
-    let c = class_passed place (class_in w.0 class_words) w.2 in
-    record {
-      value = d.0;
-      word = w.0;
-      class = c.0;
-      there = found_there (codes "class") ms d.0 d.1;
-      text = wanted_found (as_str d.0) w.0 (read_there (key (codes "class")) (text_of d.0) w.0 w.1);
-      found = c.1;
-      admits = c.2;
-    }
 
 no_word_excluded : (place : Place) (ms : Members) (d : Data) (f : Flaw) → HasClass place ms → get_member (codes "class") ms ≡ Some d → ¬ IsNoWordOf words_of_classes d f
 no_word_excluded place ms d f c there (IsNoWordOf.no_text none) = some_none (as_str c.value) c.word c.text (ap as_str (some_same (get_member (codes "class") ms) c.value d c.there there) ∙ none)
@@ -71,23 +44,19 @@ no_word_excluded place ms d f c there (IsNoWordOf.another_word s is other) =
     let same : c.word ≡ s = some_same (as_str d) c.word s (ap as_str (sym value) ∙ c.text) is in
     other (subst (Contains words_of_classes) same (class_word_listed class_words c.word (ap is_some c.found)))
 
-class_there : (place : Place) (ms : Members) (c : HasClass place ms) → class_of ms ≡ Some c.class
-unfolding class_of
-class_there place ms c = ap class_said c.there ∙ ap class_named c.text ∙ c.found
-
 admitted_excluded : (place : Place) (ms : Members) (class : Place) → class_rule place ms ≡ Ok tt → is_position place ≡ true → class_of ms ≡ Some class → admits_class place class ≡ false → ⊥
 admitted_excluded place ms class e is said other =
-    let c = has_class place ms e is in
+    let c = has_class place ms is e in
     let same : c.class ≡ class = some_same (class_of ms) c.class class (class_there place ms c) said in
-    true≢false (sym c.admits ∙ ap (admits_class place) same ∙ other)
+    true≢false (sym c.may_stand ∙ ap (admits_class place) same ∙ other)
 
 identifier_position : is_position places.IdentifierFeature ≡ true
 unfolding is_position
 identifier_position = refl
 
 pub class_at_excluded : (place : Place) (ms : Members) (flaw : Flaw) → class_rule place ms ≡ Ok tt → ¬ IsNoClassAt place ms flaw
-class_at_excluded place ms flaw e (IsNoClassAt.no_class is (inl (none, same))) = let c = has_class place ms e is in some_none (get_member (codes "class") ms) c.value c.there none
-class_at_excluded place ms flaw e (IsNoClassAt.no_class is (inr (d, f, there, wrong, same))) = no_word_excluded place ms d f (has_class place ms e is) there wrong
+class_at_excluded place ms flaw e (IsNoClassAt.no_class is (inl (none, same))) = let c = has_class place ms is e in some_none (get_member (codes "class") ms) c.value c.there none
+class_at_excluded place ms flaw e (IsNoClassAt.no_class is (inr (d, f, there, wrong, same))) = no_word_excluded place ms d f (has_class place ms is e) there wrong
 class_at_excluded place ms flaw e (IsNoClassAt.another_class class is elsewhere said other) = admitted_excluded place ms class e is said other
 class_at_excluded place ms flaw e (IsNoClassAt.no_array class identifier said other) = admitted_excluded place ms class e (ap is_position identifier ∙ identifier_position) said other
 
@@ -119,11 +88,6 @@ module _ (ms : Members) where
 number_has : (name : List ℕ) (ms : Members) (n : ℕ) → is_number (natural_in name ms) n ≡ true → HasNumber name ms n
 number_has name ms n e = number_there name ms n (number_told (natural_in name ms) n e)
 
-unsigned_told : (o : Option Place) → is_unsigned_integer o ≡ true → o ≡ Some places.UnsignedInteger
-unsigned_told None e = absurd cc
-unsigned_told (Some places.UnsignedInteger) e = refl
-unsigned_told (Some _) e = absurd cc
-
 eight_told : (ms : Members) → is_eight (optional (codes "alignment") ms) ≡ true → (optional (codes "alignment") ms ≡ None) ⊎ HasNumber (codes "alignment") ms 8
 eight_told ms e = go (optional (codes "alignment") ms) refl e
   where
@@ -152,14 +116,9 @@ identifier_told ms e =
 
 -- the element that an array is told to have is the one that is looked at
 element_of : (ms : Members) (element : Data) → get_member (codes "element-field-type") ms ≡ Some element → element_has_bits ms ≡ has_bits element
-element_of no_members element e = absurd cc
-element_of (member k d ms) element e = go (bytes_eq k (codes "element-field-type")) refl (element_of ms element)
-  where
-    go : (b : Bool) → bytes_eq k (codes "element-field-type") ≡ b → (get_member (codes "element-field-type") ms ≡ Some element → element_has_bits ms ≡ has_bits element) → cond b (has_bits d) (element_has_bits ms) ≡ has_bits element
-    go true is later = ap has_bits (some_same (get_member (codes "element-field-type") (member k d ms)) d element (found_first (codes "element-field-type") k d ms is) e)
-    go false is later = later (sym (found_later (codes "element-field-type") k d ms is) ∙ e)
+element_of ms element e = at_name (codes "element-field-type") element_has_bits (λ o. option_map_or has_bits o true) refl (λ k d rest. refl) ms ∙ ap (λ o. option_map_or has_bits o true) e
 
-pub no_bits_found : (d : Data) → HasNoBits d → has_bits d ≡ false
+no_bits_found : (d : Data) → HasNoBits d → has_bits d ≡ false
 no_bits_found d (HasNoBits.an_empty_array ms class length) =
     let none : is_number (natural_in (codes "length") ms) 0 ≡ true = ap (λ o. is_number o 0) (number_found (codes "length") ms 0 length) in
     let static : is_static_array (class_of ms) ≡ true = ap is_static_array class in
@@ -167,14 +126,10 @@ no_bits_found d (HasNoBits.an_empty_array ms class length) =
 no_bits_found d (HasNoBits.an_array_of_such ms element class there such) =
     let static : is_static_array (class_of ms) ≡ true = ap is_static_array class in
     let none : element_has_bits ms ≡ false = element_of ms element there ∙ no_bits_found element such in
-    rw (static, none) (and_none (not (is_number (natural_in (codes "length") ms) 0)))
-  where
-    and_none : (b : Bool) → (b && false) ≡ false
-    and_none true = refl
-    and_none false = refl
+    rw (static, none) (and-false (not (is_number (natural_in (codes "length") ms) 0)))
 
 pub shape_excluded : (place : Place) (ms : Members) (flaw : Flaw) → shape_of place ms ≡ Ok tt → ¬ IsNoShapeAt place ms flaw
 unfolding shape_of
-shape_excluded place ms flaw e (IsNoShapeAt.no_magic_number is other) = other (number_has (codes "size") ms 32 (passed (is_number (natural_in (codes "size") ms) 32) (subst (λ p. shape_of p ms ≡ Ok tt) is e)))
-shape_excluded place ms flaw e (IsNoShapeAt.no_identifier is other) = other (identifier_told ms (passed (is_identifier ms) (subst (λ p. shape_of p ms ≡ Ok tt) is e)))
-shape_excluded place ms flaw e (IsNoShapeAt.no_bits is such) = false≢true (sym (no_bits_found (object ms) such) ∙ passed (has_bits (object ms)) (subst (λ p. shape_of p ms ≡ Ok tt) is e))
+shape_excluded place ms flaw e (IsNoShapeAt.no_magic_number is other) = other (number_has (codes "size") ms 32 (was_so (is_number (natural_in (codes "size") ms) 32) (subst (λ p. shape_of p ms ≡ Ok tt) is e)))
+shape_excluded place ms flaw e (IsNoShapeAt.no_identifier is other) = other (identifier_told ms (was_so (is_identifier ms) (subst (λ p. shape_of p ms ≡ Ok tt) is e)))
+shape_excluded place ms flaw e (IsNoShapeAt.no_bits is such) = false≢true (sym (no_bits_found (object ms) such) ∙ was_so (has_bits (object ms)) (subst (λ p. shape_of p ms ≡ Ok tt) is e))

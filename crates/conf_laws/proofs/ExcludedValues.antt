@@ -23,19 +23,11 @@ use Rattle.conf_judge.specs.Leaves.{only_if, whole_from, is_power_of_two, power_
 use Rattle.conf_laws.specs.Around.{Around}
 use Rattle.conf_laws.specs.ValueFlaws.{IsPowerOfTwo, IsNoPowerOfTwo, IsNoLevel, IsNoWholeOrText, IsNoDefault, IsWhole, words_of_classes}
 use Rattle.conf_laws.proofs.Agreement.{Agrees}
-use Rattle.conf_laws.proofs.ValueFlawLaws.{whole_read}
+use Rattle.conf_laws.proofs.Readings.{was_so}
+use Rattle.conf_laws.proofs.Steps.{some_none, some_same}
+use Rattle.conf_laws.proofs.Naturals.{whole_read}
 
 -- ---- steps
-
-pub some_none : {A P : Type 0} (o : Option A) (x : A) → o ≡ Some x → o ≡ None → P
-some_none o x p q = absurd cc
-
-pub some_same : {A : Type 0} (o : Option A) (x y : A) → o ≡ Some x → o ≡ Some y → x ≡ y
-some_same o x y p q = cc
-
-pub passed : (b : Bool) → only_if b ≡ Ok tt → b ≡ true
-passed true e = refl
-passed false e = absurd cc
 
 pub found : {A B : Type 0} (o : Option A) (next : A → Result B Flaw) (y : B) → (wanted o >>= next) ≡ Ok y → (x : A) × (o ≡ Some x) × (next x ≡ Ok y)
 found o next y e = let r = both_read (wanted o) next y e in (r.0, wanted_found o r.0 r.1, r.2)
@@ -46,7 +38,7 @@ found o next y e = let r = both_read (wanted o) next y e in (r.0, wanted_found o
 pub not_both_ways : (a b : ℤ) → int_le a b ≡ true → b <ℤ a → ⊥
 not_both_ways a b e less = omega (arith, le-true a b e, lt_out b a less)
 
-pub within_excluded : (low high : ℤ) (d : Data) (m : Num) (x : ℤ) (flaw : Flaw) → as_number d ≡ Some m → as_integer m ≡ Some x → int_le low x ≡ true → int_le x high ≡ true → ¬ IsNoWhole low high d flaw
+within_excluded : (low high : ℤ) (d : Data) (m : Num) (x : ℤ) (flaw : Flaw) → as_number d ≡ Some m → as_integer m ≡ Some x → int_le low x ≡ true → int_le x high ≡ true → ¬ IsNoWhole low high d flaw
 within_excluded low high d m x flaw is whole least most (IsNoWhole.no_number none) = some_none (as_number d) m is none
 within_excluded low high d m x flaw is whole least most (IsNoWhole.a_fraction y there) = let same : m ≡ float y = some_same (as_number d) m (float y) is there in some_none (as_integer m) x whole (ap as_integer same)
 within_excluded low high d m x flaw is whole least most (IsNoWhole.too_small n z there integer small) =
@@ -116,7 +108,7 @@ divides_power (suc m) n q e = go (even_or_odd n) (even_or_odd q) (divides_power 
     go (a, inr odd) (b, inl even) smaller = smaller n b (other_half b even)
     go (a, inr odd) (b, inr odd_too) smaller = absurd (neither a b odd odd_too)
 
-divided : (x n : ℕ) → 0 < n → x % n ≡ 0 → n * (x / n) ≡ x
+pub divided : (x n : ℕ) → 0 < n → x % n ≡ 0 → n * (x / n) ≡ x
 divided x n some e = omega (arith, some, e)
 
 a_power : (z : ℤ) → is_power_of_two z ≡ true → IsPowerOfTwo z
@@ -135,7 +127,7 @@ power_excluded d flaw e wrong = go flaw (both_read (whole_of (pos 1) (pos 184467
     go f (z, read, tested) (IsNoPowerOfTwo.no_number none) = read_excluded (pos 1) (pos 18446744073709551615) d z f read none
     go f (z, read, tested) (IsNoPowerOfTwo.no_power m y is whole other) =
         let same : z ≡ y = whole_same d z y (whole_read (pos 1) (pos 18446744073709551615) d z read).whole (m, is, whole) in
-        other (subst IsPowerOfTwo same (a_power z (passed (is_power_of_two z) tested)))
+        other (subst IsPowerOfTwo same (a_power z (was_so (is_power_of_two z) tested)))
 
 -- ---- flags
 
@@ -157,7 +149,7 @@ default_excluded k around h d flaw e wrong = go flaw (found (as_bool d) _ tt e) 
 
     go : (f : Flaw) → (b : Bool) × (as_bool d ≡ Some b) × (only_if (not (b && k.has_default)) ≡ Ok tt) → ¬ IsNoDefault around d f
     go f (b, is, tested) (IsNoDefault.no_flag none) = no_flag_excluded d b f is none
-    go f (b, is, tested) (IsNoDefault.a_second there behind) = clash b k.has_default (some_same (as_bool d) b true is there) (h.second.1 behind) (passed (not (b && k.has_default)) tested)
+    go f (b, is, tested) (IsNoDefault.a_second there behind) = clash b k.has_default (some_same (as_bool d) b true is there) (h.second.1 behind) (was_so (not (b && k.has_default)) tested)
 
 -- ---- texts
 
@@ -172,29 +164,29 @@ shown_character s c e (k, among, is) control =
     let tested : (nat_le 32 c || nat_eq c 10 || nat_eq c 9) ≡ false = or_from (nat_le 32 c || nat_eq c 10) (nat_eq c 9) (or_from (nat_le 32 c) (nat_eq c 10) small (ne_eqb c 10 control.1)) (ne_eqb c 9 control.2) in
     true≢false (sym e ∙ list_all_at (λ x. nat_le 32 x || nat_eq x 10 || nat_eq x 9) s k c among (ap (λ x. nat_le 32 x || nat_eq x 10 || nat_eq x 9) is ∙ tested))
 
-pub shown_excluded : (d : Data) (s : List ℕ) (flaw : Flaw) → as_str d ≡ Some s → is_printable s ≡ true → ¬ IsNoConfigText d flaw
+shown_excluded : (d : Data) (s : List ℕ) (flaw : Flaw) → as_str d ≡ Some s → is_printable s ≡ true → ¬ IsNoConfigText d flaw
 shown_excluded d s flaw is shown (IsNoConfigText.no_text none) = some_none (as_str d) s is none
 shown_excluded d s flaw is shown (IsNoConfigText.has_control r c there among control) = shown_character r c (ap is_printable (sym (some_same (as_str d) s r is there)) ∙ shown) among control
 
 pub printable_excluded : (d : Data) (flaw : Flaw) → printable d ≡ Ok tt → ¬ IsNoConfigText d flaw
 unfolding printable
-printable_excluded d flaw e = let r = found (as_str d) _ tt e in shown_excluded d r.0 flaw r.1 (passed (is_printable r.0) r.2)
+printable_excluded d flaw e = let r = found (as_str d) _ tt e in shown_excluded d r.0 flaw r.1 (was_so (is_printable r.0) r.2)
 
-pub uuid_excluded : (d : Data) (s : List ℕ) (flaw : Flaw) → as_str d ≡ Some s → is_some (uuid_in s) ≡ true → ¬ IsNoUuid d flaw
+uuid_excluded : (d : Data) (s : List ℕ) (flaw : Flaw) → as_str d ≡ Some s → is_some (uuid_in s) ≡ true → ¬ IsNoUuid d flaw
 unfolding uuid_in
 uuid_excluded d s flaw is read (IsNoUuid.no_text none) = some_none (as_str d) s is none
 uuid_excluded d s flaw is read (IsNoUuid.no_uuid r there none) = true≢false (sym read ∙ ap (λ x. is_some (parsed x)) (some_same (as_str d) s r is there) ∙ ap is_some none)
 
 pub identifier_excluded : (d : Data) (flaw : Flaw) → identifier d ≡ Ok tt → ¬ IsNoUuid d flaw
 unfolding identifier
-identifier_excluded d flaw e = let r = found (as_str d) _ tt e in uuid_excluded d r.0 flaw r.1 (passed (is_some (uuid_in r.0)) r.2)
+identifier_excluded d flaw e = let r = found (as_str d) _ tt e in uuid_excluded d r.0 flaw r.1 (was_so (is_some (uuid_in r.0)) r.2)
 
 pub choice_excluded : (d : Data) (flaw : Flaw) → identifier_or_auto d ≡ Ok tt → (as_str d ≡ Some (codes "auto") → ⊥) → ¬ IsNoUuid d flaw
 unfolding identifier_or_auto
 choice_excluded d flaw e other = go (found (as_str d) _ tt e)
   where
     go : (s : List ℕ) × (as_str d ≡ Some s) × (only_if (bytes_eq s (codes "auto") || is_some (uuid_in s)) ≡ Ok tt) → ¬ IsNoUuid d flaw
-    go (s, is, tested) wrong = elim (or_cases (bytes_eq s (codes "auto")) (is_some (uuid_in s)) (passed _ tested)) [
+    go (s, is, tested) wrong = elim (or_cases (bytes_eq s (codes "auto")) (is_some (uuid_in s)) (was_so _ tested)) [
       | inl auto ↦ other (is ∙ ap Some ((bytes_eq-Decides s (codes "auto")).0 auto))
       | inr read ↦ uuid_excluded d s flaw is read wrong
     ]
@@ -206,7 +198,7 @@ unfolding word_among
 word_excluded words d flaw e (IsNoWordOf.no_text none) = let r = found (as_str d) _ tt e in some_none (as_str d) r.0 r.1 none
 word_excluded words d flaw e (IsNoWordOf.another_word s is other) =
     let r = found (as_str d) _ tt e in
-    other (subst (Contains words) (some_same (as_str d) r.0 s r.1 is) (listed words r.0 (passed (list_any (bytes_eq r.0) words) r.2)))
+    other (subst (Contains words) (some_same (as_str d) r.0 s r.1 is) (listed words r.0 (was_so (list_any (bytes_eq r.0) words) r.2)))
 
 pub class_word_listed : (cs : List ClassWord) (w : List ℕ) → is_some (class_in w cs) ≡ true → Contains (map (λ c. c.word) cs) w
 class_word_listed [] w e = absurd cc
@@ -221,7 +213,7 @@ unfolding class_word
 class_excluded d flaw e (IsNoWordOf.no_text none) = let r = found (as_str d) _ tt e in some_none (as_str d) r.0 r.1 none
 class_excluded d flaw e (IsNoWordOf.another_word s is other) =
     let r = found (as_str d) _ tt e in
-    other (subst (Contains words_of_classes) (some_same (as_str d) r.0 s r.1 is) (class_word_listed class_words r.0 (passed (is_some (class_in r.0 class_words)) r.2)))
+    other (subst (Contains words_of_classes) (some_same (as_str d) r.0 s r.1 is) (class_word_listed class_words r.0 (was_so (is_some (class_in r.0 class_words)) r.2)))
 
 -- ---- a number or a text
 
@@ -238,7 +230,7 @@ whole_or_text_excluded low high (string s) flaw e wrong = go flaw wrong
   where
     go : (f : Flaw) → ¬ IsNoWholeOrText low high (string s) f
     go f (IsNoWholeOrText.no_number none wrong_number) = absurd cc
-    go f (IsNoWholeOrText.has_control some text) = shown_excluded (string s) s f refl (passed (is_printable s) e) text
+    go f (IsNoWholeOrText.has_control some text) = shown_excluded (string s) s f refl (was_so (is_printable s) e) text
 whole_or_text_excluded low high null flaw e wrong = number_excluded low high null flaw refl e wrong
 whole_or_text_excluded low high (boolean b) flaw e wrong = number_excluded low high (boolean b) flaw refl e wrong
 whole_or_text_excluded low high (number n) flaw e wrong = number_excluded low high (number n) flaw refl e wrong

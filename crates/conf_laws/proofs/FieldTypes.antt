@@ -1,5 +1,5 @@
 -- Field types that have no flaw say something.
-use Rattle.std.proofs.Common.{◌≡◌, ℕ, Bool, true, false, cond, List, [], Option, Some, None, is_some, IsSome, option_map, Ok, nat_le, refl, sym, ap, subst, ◌∙◌, arith}
+use Rattle.std.proofs.Common.{◌≡◌, ℕ, Bool, true, false, cond, List, [], Option, Some, None, is_some, IsSome, Ok, nat_le, refl, sym, ap, subst, ◌∙◌, arith}
 use Rattle.std.specs.Prelude.{codes, pos, unwrap_or}
 use Rattle.std.specs.Str.{bytes_eq}
 use Rattle.std.proofs.lemmas.Bool.{false≢true}
@@ -20,33 +20,31 @@ use Rattle.conf_judge.specs.Places.{is_position}
 use Rattle.conf_draft.specs.Enumerations.{enumeration}
 use Rattle.conf_draft.specs.FieldTypes.{field_type, element, of_class, static, length_of}
 use Rattle.conf_draft.specs.Integers.{integer}
-use Rattle.conf_laws.proofs.Readings.{get_other}
-use Rattle.conf_laws.proofs.Sound.{ContentSound, IsPlain, object_sound, first_flaws}
-use Rattle.conf_laws.proofs.Rows.{RowIs, RowsSound, needed_there, needed_kept, first_sound}
+use Rattle.conf_laws.proofs.Sound.{ContentSound, object_sound, first_flaws}
+use Rattle.conf_laws.proofs.Rows.{Leads, RowsSound, needed_there, needed_kept, first_sound}
 use Rattle.conf_laws.proofs.Classes.{TypeSound, type_sound}
-use Rattle.conf_laws.proofs.Integers.{HasIntegerRows, integer_said, needed_natural}
-
-pub mapped_there : {A B : Type 0} (f : A → B) (o : Option A) → IsSome o → IsSome (option_map f o)
-mapped_there f None e = absurd (false≢true e)
-mapped_there f (Some x) e = refl
+use Rattle.conf_laws.proofs.Integers.{HasIntegerRows, integer_said}
+use Rattle.conf_laws.proofs.Readings.{found_later}
+use Rattle.conf_laws.proofs.Naturals.{needed_natural}
+use Rattle.conf_laws.proofs.Steps.{mapped_there}
 
 -- ---- integers and enumerations
 
 pub unsigned_integer_rows : HasIntegerRows places.UnsignedInteger
 unfolding behind resolved_content content_under presence_under entries_of rows_of
-unsigned_integer_rows = record { plain = λ d k. refl; size = record { resolved = refl; under = refl }; needed = refl }
+unsigned_integer_rows = record { size = record { plain = λ d k. refl; resolved = refl; under = refl }; needed = refl }
 
 signed_integer_rows : HasIntegerRows places.SignedInteger
 unfolding behind resolved_content content_under presence_under entries_of rows_of
-signed_integer_rows = record { plain = λ d k. refl; size = record { resolved = refl; under = refl }; needed = refl }
+signed_integer_rows = record { size = record { plain = λ d k. refl; resolved = refl; under = refl }; needed = refl }
 
 unsigned_enumeration_rows : HasIntegerRows places.UnsignedEnumeration
 unfolding behind resolved_content content_under presence_under entries_of rows_of
-unsigned_enumeration_rows = record { plain = λ d k. refl; size = record { resolved = refl; under = refl }; needed = refl }
+unsigned_enumeration_rows = record { size = record { plain = λ d k. refl; resolved = refl; under = refl }; needed = refl }
 
 signed_enumeration_rows : HasIntegerRows places.SignedEnumeration
 unfolding behind resolved_content content_under presence_under entries_of rows_of
-signed_enumeration_rows = record { plain = λ d k. refl; size = record { resolved = refl; under = refl }; needed = refl }
+signed_enumeration_rows = record { size = record { plain = λ d k. refl; resolved = refl; under = refl }; needed = refl }
 
 enumeration_said : (k : Known) (place : Kind) (signed : Bool) (ms : Members) → HasIntegerRows place → RowsSound k place ms → IsSome (enumeration signed ms)
 unfolding enumeration
@@ -54,21 +52,17 @@ enumeration_said k place signed ms rows h = mapped_there _ (integer signed ms) (
 
 -- ---- static arrays
 
-pub plain_array : IsPlain places.StaticArray
-unfolding behind
-plain_array d k = refl
+pub length_leads : Leads places.StaticArray (codes "length") (Whole (pos 0) (pos 1048576))
+unfolding behind resolved_content content_under presence_under entries_of rows_of
+length_leads = record { plain = λ d k. refl; resolved = refl; under = refl }
 
-length_row : RowIs places.StaticArray (codes "length") (Whole (pos 0) (pos 1048576))
-unfolding resolved_content content_under presence_under entries_of rows_of
-length_row = record { resolved = refl; under = refl }
-
-length_needed : presence_under places.StaticArray (codes "length") ≡ Some Needed
+pub length_needed : presence_under places.StaticArray (codes "length") ≡ Some Needed
 unfolding presence_under rows_of
 length_needed = refl
 
-pub element_row : RowIs places.StaticArray (codes "element-field-type") (At places.ElementType)
-unfolding resolved_content content_under presence_under entries_of rows_of
-element_row = record { resolved = refl; under = refl }
+pub element_leads : Leads places.StaticArray (codes "element-field-type") (At places.ElementType)
+unfolding behind resolved_content content_under presence_under entries_of rows_of
+element_leads = record { plain = λ d k. refl; resolved = refl; under = refl }
 
 pub element_needed : presence_under places.StaticArray (codes "element-field-type") ≡ Some Needed
 unfolding presence_under rows_of
@@ -81,7 +75,7 @@ static_there n (Some t) l e = rw l refl
 length_fits : (k : Known) (ms : Members) → RowsSound k places.StaticArray ms → nat_le (length_of ms) 1048576 ≡ true
 unfolding length_of
 length_fits k ms h =
-    let n = needed_natural k places.StaticArray (codes "length") 0 1048576 ms plain_array length_row length_needed h (omega arith) in
+    let n = needed_natural k places.StaticArray (codes "length") 0 1048576 ms length_leads length_needed h (omega arith) in
     subst (λ o. nat_le (unwrap_or o 0) 1048576 ≡ true) (sym n.1) n.3
 
 -- ---- a field type by its class
@@ -116,9 +110,9 @@ object_said k place ms t a elements =
 
 element_here : (k : Known) (name : List ℕ) (d : Data) (ms : Members) → name ≡ codes "element-field-type" → member_flaws k places.StaticArray (member name d ms) ≡ [] → ContentSound k (At places.ElementType) d
 element_here k name d ms same f =
-    let row = subst (λ n. RowIs places.StaticArray n (At places.ElementType)) (sym same) element_row in
+    let resolved = subst (λ n. resolved_content places.StaticArray n ≡ Some (At places.ElementType)) (sym same) element_leads.resolved in
     let needed = subst (λ n. presence_under places.StaticArray n ≡ Some Needed) (sym same) element_needed in
-    (first_sound k places.StaticArray name (At places.ElementType) d ms row (needed_kept places.StaticArray name d needed) f).sound.value
+    (first_sound k places.StaticArray name (At places.ElementType) d ms resolved (needed_kept places.StaticArray name d needed) f).sound.value
 
 element_first : (k : Known) (name : List ℕ) (d : Data) (ms : Members) → member_flaws k places.StaticArray (member name d ms) ≡ []
     → IsSome (get_member (codes "element-field-type") (member name d ms)) → (ContentSound k (At places.ElementType) d → IsSome (field_type d)) → ElementsSaid ms → IsSome (element (member name d ms))
@@ -127,7 +121,7 @@ element_first k name d ms f there one rest = go (bytes_eq name (codes "element-f
     go : (b : Bool) → bytes_eq name (codes "element-field-type") ≡ b → IsSome (cond b (field_type d) (element ms))
     go true is = one (element_here k name d ms ((bytes_eq-Decides name (codes "element-field-type")).0 is) f)
     go false is =
-        rest (behind places.StaticArray d k) (first_flaws k places.StaticArray name d ms f).1 (ap is_some (sym (get_other (codes "element-field-type") name d ms is)) ∙ there)
+        rest (behind places.StaticArray d k) (first_flaws k places.StaticArray name d ms f).1 (ap is_some (sym (found_later (codes "element-field-type") name d ms is)) ∙ there)
 
 mutual
   unfolding itself_of form_of any_object is_position

@@ -3,6 +3,8 @@ pub mod Sound
 pub mod Within
 pub mod Rows
 pub mod Alignments
+pub mod Naturals
+pub mod Ranges
 pub mod Integers
 pub mod Classes
 pub mod FieldTypes
@@ -26,7 +28,6 @@ pub mod AllowedIntegers
 pub mod AllowedMaps
 pub mod AllowedMembers
 pub mod AllowedNames
-pub mod AllowedNaturals
 pub mod AllowedNests
 pub mod AllowedRanges
 pub mod AllowedStreams

@@ -4,7 +4,7 @@ use Rattle.std.proofs.Common.{◌≡◌, ℕ, ◌+◌, Bool, true, false, ◌||�
 use Rattle.std.specs.Prelude.{codes}
 use Rattle.std.specs.List.{IsDistinct, AllByRecursion, list_any}
 use Rattle.std.specs.Str.{bytes_eq}
-use Rattle.std.proofs.lemmas.Bool.{false≢true}
+use Rattle.std.proofs.lemmas.Bool.{false≢true, or_parts}
 use Rattle.std.proofs.lemmas.List.{map-append}
 use Rattle.std.proofs.lemmas.List.Elements.{All-push, All-nil}
 use Rattle.std.proofs.lemmas.List.Folds.{list_any-append}
@@ -17,9 +17,8 @@ use Rattle.ctf_types.specs.declared.MemberType.TheVariants.{Plain, Dyn}
 use Rattle.ctf_types.specs.Members.{names_in}
 use Rattle.ctf_types.specs.Names.{IsPlainName}
 use Rattle.ctf_types.specs.Shown.{length_name, shown_members}
-use Rattle.conf_judge.specs.Names.{take, is_taken}
-use Rattle.conf_laws.proofs.AllowedRanges.{all_joined}
-use Rattle.conf_laws.proofs.Steps.{neither}
+use Rattle.conf_judge.specs.Names.{take, is_taken, take_length}
+use Rattle.conf_laws.proofs.Steps.{all_joined}
 
 -- ---- what a member takes
 
@@ -63,8 +62,16 @@ pub all_still_taken : (name : List ℕ) (taken : Members) (names : List (List �
 all_still_taken name taken [] h = tt
 all_still_taken name taken (other ∷ names) h = (still_taken name other taken h.0, all_still_taken name taken names h.1)
 
+-- with those of the member
+abbrev pub with_member : List ℕ → Bool → Members → Members
+with_member name b taken = take name (take_length b name taken)
+
+pub keeps_taken : (name : List ℕ) (b : Bool) (taken : Members) (names : List (List ℕ)) → AreTaken taken names → AreTaken (with_member name b taken) names
+keeps_taken name true taken names h = all_still_taken name (take (length_name name) taken) names (all_still_taken (length_name name) taken names h)
+keeps_taken name false taken names h = all_still_taken name taken names h
+
 -- a name that is free is none of those that are taken
-apart_from_taken : (taken : Members) (name : List ℕ) (names : List (List ℕ)) → is_taken taken name ≡ false → AreTaken taken names → list_any (bytes_eq name) names ≡ false
+pub apart_from_taken : (taken : Members) (name : List ℕ) (names : List (List ℕ)) → is_taken taken name ≡ false → AreTaken taken names → list_any (bytes_eq name) names ≡ false
 apart_from_taken taken name [] free h = refl
 apart_from_taken taken name (other ∷ names) free h = go (bytes_eq name other) refl (apart_from_taken taken name names free h.1)
   where
@@ -88,16 +95,12 @@ apart x y e = go (bytes_eq x y) refl
     go true is = absurd (false≢true (sym e ∙ (bytes_eq-Decides y x).1 (sym ((bytes_eq-Decides x y).0 is))))
     go false is = refl
 
-all_last : (P : List ℕ → Type 0) (xs : List (List ℕ)) (y : List ℕ) → AllByRecursion P xs → P y → AllByRecursion P (xs ++ y ∷ [])
-all_last P [] y h k = (k, tt)
-all_last P (x ∷ xs) y h k = (h.0, all_last P xs y h.1 k)
-
 distinct_last : (xs : List (List ℕ)) (y : List ℕ) → IsDistinct bytes_eq xs → list_any (bytes_eq y) xs ≡ false → IsDistinct bytes_eq (xs ++ y ∷ [])
 unfolding IsDistinct
 distinct_last [] y h free = (tt, tt)
 distinct_last (x ∷ xs) y h free =
-    let p = neither (bytes_eq y x) (list_any (bytes_eq y) xs) free in
-    (all_last (λ z. bytes_eq x z ≡ false) xs y h.0 (apart x y p.0), distinct_last xs y h.1 p.1)
+    let p = or_parts (bytes_eq y x) (list_any (bytes_eq y) xs) free in
+    (all_joined (λ z. bytes_eq x z ≡ false) xs (y ∷ []) h.0 (apart x y p.0, tt), distinct_last xs y h.1 p.1)
 
 differ : (xs ys : List ℕ) → (xs ≡ ys → ⊥) → bytes_eq xs ys ≡ false
 differ xs ys other = go (bytes_eq xs ys) refl

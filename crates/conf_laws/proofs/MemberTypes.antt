@@ -1,21 +1,17 @@
 -- The members of a structure that have no flaw say something.
-use Rattle.std.proofs.Common.{◌≡◌, ◌⊎◌, ◌++◌, ℕ, suc, Bool, true, false, cond, List, [], ◌∷◌, map, Option, Some, None, is_some, IsSome, option_map, Ok, refl, sym, ap, subst, ◌∙◌, inl, inr}
-use Rattle.std.specs.Prelude.{◌||◌, codes}
+use Rattle.std.proofs.Common.{◌≡◌, ◌⊎◌, ◌++◌, ℕ, suc, Bool, true, false, cond, List, [], ◌∷◌, Option, Some, None, is_some, IsSome, option_map, Ok, refl, sym, ap, subst, ◌∙◌, inl, inr}
+use Rattle.std.specs.Prelude.{codes, option_and_then}
 use Rattle.std.specs.List.{list_any}
 use Rattle.std.specs.Str.{bytes_eq}
-use Rattle.std.proofs.lemmas.Bool.{true≢false, false≢true, or_parts}
+use Rattle.std.proofs.lemmas.Bool.{false≢true, or_parts}
 use Rattle.std.proofs.lemmas.List.{map-append}
-use Rattle.std.proofs.lemmas.List.Folds.{list_any-append}
-use Rattle.std.proofs.lemmas.Slice.Eq.{bytes_eq-Decides}
 use Rattle.serde_json.specs.Data.{Data, null, boolean, number, string, array, object, Items, no_items, item, Members, no_members, member}
 use Rattle.serde_json.specs.Find.{get_member}
-use Rattle.serde_json.proofs.Views.{get_member-put, get_member-put_other}
 use Rattle.ctf_types.specs.declared.Length.TheVariants.{Auto}
 use Rattle.ctf_types.specs.declared.MemberType.{MemberType}
 use Rattle.ctf_types.specs.declared.MemberType.TheVariants.{Plain, Dyn}
 use Rattle.ctf_types.specs.Members.{names_in}
-use Rattle.conf_tree.specs.Flaw.{index, within}
-use Rattle.conf_tree.specs.Reading.{optional}
+use Rattle.conf_tree.specs.Reading.{optional, ◌>>=◌}
 use Rattle.conf_table.specs.declared.place.Place.{Place as Kind}
 use Rattle.conf_table.specs.declared.place.Place.TheVariants as places
 use Rattle.conf_table.specs.declared.row.Content.TheVariants.{At}
@@ -23,43 +19,34 @@ use Rattle.conf_table.specs.declared.row.Presence.TheVariants.{Needed}
 use Rattle.conf_table.specs.Classes.{admits_class}
 use Rattle.conf_table.specs.Table.{content_under, presence_under, rows_of, entries_of}
 use Rattle.conf_values.specs.Name.{plain_name_of}
-use Rattle.conf_judge.specs.Flaws.{told_by, resolved_content, is_left_out, inner_flaws, item_flaws}
+use Rattle.conf_judge.specs.Flaws.{resolved_content, is_left_out, inner_flaws, item_flaws}
 use Rattle.conf_judge.specs.Forms.{itself_of, form_of, entry}
 use Rattle.conf_judge.specs.Known.{Known, inside, behind, with_taken}
-use Rattle.conf_judge.specs.Names.{key_of, key_by, plain_of, free_of, is_taken, is_dynamic, take, take_length, with_names}
+use Rattle.conf_judge.specs.Names.{key_of, key_by, plain_of, free_of, is_taken, is_dynamic, take_length, with_names, length_is_taken}
 use Rattle.conf_judge.specs.Places.{is_position, own_place, place_of_properties, item_content}
 use Rattle.conf_draft.specs.FieldTypes.{field_type, element}
 use Rattle.conf_draft.specs.Members.{is_dynamic_array, member_type, told_type, member_of, behind as behind_done, members_behind}
-use Rattle.conf_laws.proofs.Readings.{bound, under_no_test, get_other, get_same, optional_found}
-use Rattle.conf_laws.proofs.Sound.{ObjectSound, ContentSound, PropertySound, IsPlain, object_sound, object_at, content_sound, both_none, none_mapped}
-use Rattle.conf_laws.proofs.Rows.{RowIs, RowsSound, rows_sound, needed_sound, first_sound, entry_is}
+use Rattle.conf_laws.proofs.Readings.{under_no_test, optional_found, at_name}
+use Rattle.conf_laws.proofs.Sound.{ObjectSound, ContentSound, PropertySound, object_sound, object_at, content_sound, first_item}
+use Rattle.conf_laws.proofs.Rows.{Leads, RowsSound, rows_sound, needed_sound, IsMapOf, first_entry}
 use Rattle.conf_laws.proofs.Classes.{TypeSound, type_sound}
-use Rattle.conf_laws.proofs.FieldTypes.{mapped_there, type_said}
+use Rattle.conf_laws.proofs.FieldTypes.{type_said}
+use Rattle.conf_values.proofs.Steps.{both_read}
+use Rattle.conf_laws.proofs.Steps.{mapped_there, all_joined}
+use Rattle.conf_laws.proofs.MemberNames.{AreTaken, with_member, keeps_taken, takes_itself, apart_from_taken}
 
 -- ---- dynamic arrays
 
-element_at : (ms : Members) (d : Data) → get_member (codes "element-field-type") ms ≡ Some d → element ms ≡ field_type d
-element_at no_members d e = absurd cc
-element_at (member name x ms) d e = go (bytes_eq name (codes "element-field-type")) refl (λ f. element_at ms d f)
-  where
-    go : (b : Bool) → bytes_eq name (codes "element-field-type") ≡ b → (get_member (codes "element-field-type") ms ≡ Some d → element ms ≡ field_type d) → cond b (field_type x) (element ms) ≡ field_type d
-    go true is later =
-        let f : Some x ≡ Some d = sym (get_same (codes "element-field-type") name x ms ((bytes_eq-Decides name (codes "element-field-type")).0 is)) ∙ e in
-        let same : x ≡ d = cc in
-        ap field_type same
-    go false is later = later (sym (get_other (codes "element-field-type") name x ms is) ∙ e)
+pub element_is : (ms : Members) → element ms ≡ option_and_then field_type (get_member (codes "element-field-type") ms)
+element_is ms = at_name (codes "element-field-type") element (option_and_then field_type) refl (λ k d rest. refl) ms
 
-plain_array : IsPlain places.DynamicArray
-unfolding behind
-plain_array d k = refl
+pub dynamic_leads : Leads places.DynamicArray (codes "element-field-type") (At places.DynamicElementType)
+unfolding behind resolved_content content_under presence_under entries_of rows_of
+dynamic_leads = record { plain = λ d k. refl; resolved = refl; under = refl }
 
-element_row : RowIs places.DynamicArray (codes "element-field-type") (At places.DynamicElementType)
-unfolding resolved_content content_under presence_under entries_of rows_of
-element_row = record { resolved = refl; under = refl }
-
-element_needed : presence_under places.DynamicArray (codes "element-field-type") ≡ Some Needed
+pub dynamic_needed : presence_under places.DynamicArray (codes "element-field-type") ≡ Some Needed
 unfolding presence_under rows_of
-element_needed = refl
+dynamic_needed = refl
 
 element_class : (class : Kind) → admits_class places.DynamicElementType class ≡ true → admits_class places.ElementType class ≡ true
 unfolding admits_class
@@ -74,8 +61,8 @@ element_said k d h =
 
 array_said : (k : Known) (ms : Members) → RowsSound k places.DynamicArray ms → IsSome (element ms)
 array_said k ms h =
-    let p = needed_sound k places.DynamicArray (codes "element-field-type") (At places.DynamicElementType) ms plain_array element_row element_needed h in
-    ap is_some (element_at ms p.value p.found) ∙ element_said k p.value p.sound.value
+    let p = needed_sound k places.DynamicArray (codes "element-field-type") (At places.DynamicElementType) ms dynamic_leads dynamic_needed h in
+    ap is_some (element_is ms ∙ ap (option_and_then field_type) p.found) ∙ element_said k p.value p.sound.value
 
 -- ---- the type of a member
 
@@ -101,13 +88,9 @@ member_said k ms h =
 
 -- ---- the member that an entry tells of
 
-plain_member : IsPlain places.Member
-unfolding behind
-plain_member d k = refl
-
-type_row : RowIs places.Member (codes "field-type") (At places.MemberType)
-unfolding resolved_content content_under presence_under entries_of rows_of
-type_row = record { resolved = refl; under = refl }
+pub type_leads : Leads places.Member (codes "field-type") (At places.MemberType)
+unfolding behind resolved_content content_under presence_under entries_of rows_of
+type_leads = record { plain = λ d k. refl; resolved = refl; under = refl }
 
 type_needed : presence_under places.Member (codes "field-type") ≡ Some Needed
 unfolding presence_under rows_of
@@ -128,12 +111,12 @@ member_there : (k : Known) (x : Data) → ContentSound k (At places.Member) x �
 unfolding itself_of form_of
 member_there k x h =
     let o = object_at k places.Member x h refl in
-    let p = needed_sound k places.Member (codes "field-type") (At places.MemberType) o.ms plain_member type_row type_needed (told_rows k o.ms o.sound) in
+    let p = needed_sound k places.Member (codes "field-type") (At places.MemberType) o.ms type_leads type_needed (told_rows k o.ms o.sound) in
     subst (λ y. IsSome (member_of y)) (sym o.is) (told_said k o.ms p.value p.found p.sound.value)
 
 -- ---- an entry
 
-entry_shape : (d : Data) → entry d ≡ Ok tt → (name : List ℕ) × (x : Data) × (d ≡ object (member name x no_members))
+pub entry_shape : (d : Data) → entry d ≡ Ok tt → (name : List ℕ) × (x : Data) × (d ≡ object (member name x no_members))
 unfolding entry
 entry_shape (object (member name x no_members)) e = (name, x, refl)
 entry_shape (object (member name x (member other y ms))) e = absurd cc
@@ -144,13 +127,9 @@ entry_shape (number n) e = absurd cc
 entry_shape (string s) e = absurd cc
 entry_shape (array ds) e = absurd cc
 
-member_row : (name : List ℕ) → RowIs places.Entry name (At places.Member)
-unfolding content_under presence_under entries_of rows_of
-member_row name = entry_is places.Entry name (At places.Member) refl refl
-
-member_kept : (name : List ℕ) (x : Data) → is_left_out places.Entry name x ≡ false
-unfolding is_left_out presence_under rows_of
-member_kept name x = refl
+pub entry_map : IsMapOf places.Entry (At places.Member)
+unfolding content_under presence_under entries_of rows_of is_left_out
+entry_map = record { under = λ name. refl; inherits_none = refl; stays = λ name d. refl }
 
 entry_rows : (k : Known) (ms : Members) → ObjectSound k places.Entry ms → RowsSound k places.Entry ms
 unfolding place_of_properties is_position own_place inside
@@ -169,58 +148,25 @@ entry_sound k d h =
     let s = entry_shape d h.itself in
     let o = object_sound k places.Entry (member s.0 s.1 no_members) (subst (λ x. inner_flaws k (At places.Entry) x ≡ []) s.2 h.inner) in
     let r = entry_rows k (member s.0 s.1 no_members) o in
-    record { name = s.0; told = s.1; is = s.2; sound = (first_sound k places.Entry s.0 (At places.Member) s.1 no_members (member_row s.0) (member_kept s.0 s.1) r.flaws).sound }
+    record { name = s.0; told = s.1; is = s.2; sound = (first_entry k places.Entry s.0 (At places.Member) s.1 no_members entry_map r.flaws).sound }
 
--- its name is free
-name_free : (k : Known) (name : List ℕ) (x : Data) → key_of k places.Entry name x ≡ Ok tt → is_taken k.taken name ≡ false
-unfolding key_of key_by plain_of entries_of free_of
-name_free k name x e =
-    let free = bound (plain_name_of name) (λ _. free_of k.taken name x) tt e in (or_parts (is_taken k.taken name) _ (under_no_test _ tt tt _ free.2)).0
+-- what is judged of its name
+pub name_judged : (k : Known) (name : List ℕ) (d : Data) → key_of k places.Entry name d ≡ Ok tt → (plain_name_of name >>= (λ ok. free_of k.taken name d)) ≡ Ok tt
+unfolding key_of key_by plain_of entries_of
+name_judged k name d e = e
 
--- ---- names that are taken
-
--- the names of members are taken
-abbrev AreTaken : List (List ℕ × MemberType) → Members → Type 0
-AreTaken done taken = (n : List ℕ) → list_any (bytes_eq n) (names_in done) ≡ true → is_taken taken n ≡ true
-
-taken_still : (name n : List ℕ) (taken : Members) → is_taken taken n ≡ true → is_taken (take name taken) n ≡ true
-taken_still name n taken h = go (bytes_eq n name) refl
-  where
-    go : (b : Bool) → bytes_eq n name ≡ b → is_taken (take name taken) n ≡ true
-    go true is = subst (λ x. is_taken (take name taken) x ≡ true) (sym ((bytes_eq-Decides n name).0 is)) (ap is_some (get_member-put name null taken))
-    go false is = ap is_some (get_member-put_other n name null taken (λ same. true≢false (sym ((bytes_eq-Decides n name).1 same) ∙ is))) ∙ h
-
-taken_with_length : (b : Bool) (name n : List ℕ) (taken : Members) → is_taken taken n ≡ true → is_taken (take_length b name taken) n ≡ true
-taken_with_length true name n taken h = taken_still _ n taken h
-taken_with_length false name n taken h = h
-
-or_not : (a : Bool) → (a || false) ≡ true → a ≡ true
-or_not true e = refl
-or_not false e = e
-
-more_taken : (done : List (List ℕ × MemberType)) (taken : Members) (name : List ℕ) (t : MemberType) → AreTaken done taken → AreTaken (done ++ (name, t) ∷ []) (take name taken)
-more_taken done taken name t h n e = go (bytes_eq n name) refl
-  where
-    split : (list_any (bytes_eq n) (names_in done) || (bytes_eq n name || false)) ≡ true
-    split = sym (list_any-append (bytes_eq n) (names_in done) (name ∷ [])) ∙ ap (list_any (bytes_eq n)) (sym (map-append (λ (m : List ℕ × MemberType). m.0) done ((name, t) ∷ []))) ∙ e
-
-    go : (b : Bool) → bytes_eq n name ≡ b → is_taken (take name taken) n ≡ true
-    go true is = subst (λ x. is_taken (take name taken) x ≡ true) (sym ((bytes_eq-Decides n name).0 is)) (ap is_some (get_member-put name null taken))
-    go false is = taken_still name n taken (h n (or_not _ (ap (λ b. list_any (bytes_eq n) (names_in done) || (b || false)) (sym is) ∙ split)))
-
-no_name_taken : (taken : Members) → AreTaken [] taken
-no_name_taken taken n e = absurd (false≢true e)
+-- it is free, and so is that of its length
+pub name_free : (taken : Members) (name : List ℕ) (d : Data) → free_of taken name d ≡ Ok tt → (is_taken taken name ≡ false) × (length_is_taken (is_dynamic d) taken name ≡ false)
+unfolding free_of
+name_free taken name d e = or_parts (is_taken taken name) (length_is_taken (is_dynamic d) taken name) (under_no_test _ tt tt _ e)
 
 -- ---- members, one behind another
 
-record FirstItem (k : Known) (place : Kind) (taken : Members) (i : ℕ) (d : Data) (ds : Items) : Type 0 where
-  pub sound : ContentSound (with_taken taken k) (item_content place) d
-  pub flaws : item_flaws k place (with_names d taken) (suc i) ds ≡ []
-
-first_item : (k : Known) (place : Kind) (taken : Members) (i : ℕ) (d : Data) (ds : Items) → item_flaws k place taken i (item d ds) ≡ [] → FirstItem k place taken i d ds
-first_item k place taken i d ds f =
-    let flaws = both_none (map (within (index i)) (told_by (itself_of (with_taken taken k) (item_content place) d) ++ inner_flaws (with_taken taken k) (item_content place) d)) _ f in
-    record { sound = content_sound (with_taken taken k) (item_content place) d (none_mapped (within (index i)) _ flaws.0); flaws = flaws.1 }
+-- its name is taken behind it
+more_taken : (done : List (List ℕ × MemberType)) (taken : Members) (name : List ℕ) (b : Bool) (t : MemberType) → AreTaken taken (names_in done) → AreTaken (with_member name b taken) (names_in (done ++ (name, t) ∷ []))
+more_taken done taken name b t h =
+    subst (λ l. AreTaken (with_member name b taken) l) (sym (map-append (λ (m : List ℕ × MemberType). m.0) done ((name, t) ∷ [])))
+    (all_joined (λ n. is_taken (with_member name b taken) n ≡ true) (names_in done) (name ∷ []) (keeps_taken name b taken (names_in done) h) (takes_itself name (take_length b name taken), tt))
 
 -- a member whose name is none of those before it
 behind_there : (done : List (List ℕ × MemberType)) (name : List ℕ) (o : Option MemberType) → IsSome o → list_any (bytes_eq name) (names_in done) ≡ false → (t : MemberType) × (behind_done done name o ≡ Some (done ++ (name, t) ∷ []))
@@ -228,33 +174,27 @@ unfolding behind_done
 behind_there done name None h free = absurd (false≢true h)
 behind_there done name (Some t) h free = (t, rw free refl)
 
-not_done : (done : List (List ℕ × MemberType)) (taken : Members) (name : List ℕ) → AreTaken done taken → is_taken taken name ≡ false → list_any (bytes_eq name) (names_in done) ≡ false
-not_done done taken name h free = go (list_any (bytes_eq name) (names_in done)) refl
-  where
-    go : (b : Bool) → list_any (bytes_eq name) (names_in done) ≡ b → b ≡ false
-    go true is = absurd (true≢false (sym (h name is) ∙ free))
-    go false is = refl
-
 -- the entries from place i on, behind members whose names are taken
 abbrev RestSaid : Known → Kind → Items → Type 0
-RestSaid k place ds = (taken : Members) (i : ℕ) (done : List (List ℕ × MemberType)) → AreTaken done taken → item_flaws k place taken i ds ≡ [] → IsSome (members_behind done ds)
+RestSaid k place ds = (taken : Members) (i : ℕ) (done : List (List ℕ × MemberType)) → AreTaken taken (names_in done) → item_flaws k place taken i ds ≡ [] → IsSome (members_behind done ds)
 
-one_more : (k : Known) (place : Kind) (ds : Items) (taken : Members) (i : ℕ) (done : List (List ℕ × MemberType)) (name : List ℕ) (told : Data) → AreTaken done taken
+one_more : (k : Known) (place : Kind) (ds : Items) (taken : Members) (i : ℕ) (done : List (List ℕ × MemberType)) (name : List ℕ) (told : Data) → AreTaken taken (names_in done)
     → PropertySound (with_taken taken k) places.Entry name (At places.Member) told
     → item_flaws k place (with_names (object (member name told no_members)) taken) (suc i) ds ≡ [] → RestSaid k place ds → IsSome (members_behind done (item (object (member name told no_members)) ds))
 one_more k place ds taken i done name told h s f rest =
-    let free = not_done done taken name h (name_free (with_taken taken k) name told s.named) in
+    let judged = both_read (plain_name_of name) _ tt (name_judged (with_taken taken k) name told s.named) in
+    let free = apart_from_taken taken name (names_in done) (name_free taken name told judged.2).0 h in
     let more = behind_there done name (member_of told) (member_there (with_taken taken k) told s.value) free in
-    rw more.1 (rest _ (suc i) (done ++ (name, more.0) ∷ []) (more_taken done _ name more.0 (λ n e. taken_with_length (is_dynamic told) name n taken (h n e))) f)
+    rw more.1 (rest _ (suc i) (done ++ (name, more.0) ∷ []) (more_taken done taken name (is_dynamic told) more.0 h) f)
 
 items_said : (ds : Items) (k : Known) (place : Kind) → item_content place ≡ At places.Entry → RestSaid k place ds
 items_said no_items k place entries taken i done h f = refl
 items_said (item d ds) k place entries taken i done h f =
     let first = first_item k place taken i d ds f in
-    let e = entry_sound (with_taken taken k) d (subst (λ c. ContentSound (with_taken taken k) c d) entries first.sound) in
+    let e = entry_sound (with_taken taken k) d (subst (λ c. ContentSound (with_taken taken k) c d) entries (content_sound (with_taken taken k) (item_content place) d first.0)) in
     subst (λ x. IsSome (members_behind done (item x ds))) (sym e.is)
-    (one_more k place ds taken i done e.name e.told h e.sound (subst (λ x. item_flaws k place (with_names x taken) (suc i) ds ≡ []) e.is first.flaws) (items_said ds k place entries))
+    (one_more k place ds taken i done e.name e.told h e.sound (subst (λ x. item_flaws k place (with_names x taken) (suc i) ds ≡ []) e.is first.1) (items_said ds k place entries))
 
 -- all members of a list, whatever names are taken before it
 pub list_said : (ds : Items) (k : Known) (place : Kind) (taken : Members) → item_content place ≡ At places.Entry → item_flaws k place taken 0 ds ≡ [] → IsSome (members_behind [] ds)
-list_said ds k place taken entries f = items_said ds k place entries taken 0 [] (no_name_taken taken) f
+list_said ds k place taken entries f = items_said ds k place entries taken 0 [] tt f

@@ -1,11 +1,8 @@
 -- What is told of an object by itself is a flaw of it: of its class, of what is missing, and of what it is as a whole.
-use Rattle.std.proofs.Common.{◌≡◌, ◌⊎◌, ◌&&◌, ℕ, Bool, true, false, not, cond, List, [], ◌∷◌, Contains, Option, Some, None, is_some, Ordering, Less, Equal, Greater, nat_cmp, Ok, Err, inl, inr, refl, sym, ap, ◌∙◌, arith, suc}
+use Rattle.std.proofs.Common.{◌≡◌, ◌⊎◌, ◌&&◌, ℕ, Bool, true, false, not, cond, List, [], ◌∷◌, Contains, Option, Some, None, is_some, Ok, Err, inl, inr, refl, sym, ap, ◌∙◌, arith, suc}
 use Rattle.std.specs.Prelude.{codes}
-use Rattle.std.specs.Ordering.{match_ordering}
-use Rattle.std.specs.Cmp.Lexicographic.{slice_cmp}
 use Rattle.std.specs.Str.{bytes_eq}
-use Rattle.std.proofs.lemmas.Bool.{false≢true, and_cases, or_parts, eqb-true}
-use Rattle.std.proofs.lemmas.Slice.Eq.{bytes_eq-Decides}
+use Rattle.std.proofs.lemmas.Bool.{false≢true, and_cases, or_parts, and_from}
 use Rattle.serde_json.specs.Data.{Data, null, boolean, number, string, array, object, Members, no_members, member}
 use Rattle.serde_json.specs.Find.{get_member, as_str}
 use Rattle.conf_tree.specs.declared.fault_kind.FaultKind.TheVariants.{WrongKind, Missing, OutOfRange}
@@ -29,9 +26,10 @@ use Rattle.conf_judge.specs.Shapes.{is_number, is_unsigned_integer, is_static_ar
 use Rattle.conf_laws.specs.Around.{HasNumber}
 use Rattle.conf_laws.specs.ValueFlaws.{words_of_classes}
 use Rattle.conf_laws.specs.TableFlaws.{IsNoClassAt, HasNotItsRows, IsByte, IsIdentifier, HasNoBits, IsNoShapeAt}
-use Rattle.conf_laws.proofs.Agreement.{same_name, one_name}
 use Rattle.conf_laws.proofs.TakenProperties.{other_told}
 use Rattle.conf_laws.proofs.ValueFlawLaws.{either_step, not_passed, no_class_word, number_there}
+use Rattle.conf_laws.proofs.Readings.{found_first, found_later}
+use Rattle.conf_laws.proofs.Naturals.{number_told}
 
 -- ---- the class
 
@@ -113,10 +111,6 @@ module _ (ms : Members) where
 
 -- ---- what a field type is as a whole
 
-pub both_hold : (a b : Bool) → a ≡ true → b ≡ true → (a && b) ≡ true
-both_hold true b p q = q
-both_hold false b p q = absurd cc
-
 pub number_found : (name : List ℕ) (ms : Members) (n : ℕ) → HasNumber name ms n → natural_in name ms ≡ Some n
 unfolding natural_in
 number_found name ms n (d, there, is) = ap natural_or_none there ∙ is
@@ -136,17 +130,13 @@ eight_found ms (inr (d, there, is)) = ap is_eight (ap given there ∙ given_numb
 
 byte_found : (ms : Members) → IsByte ms → is_byte (Some (object ms)) ≡ true
 byte_found ms (class, size, align) =
-    both_hold (is_unsigned_integer (class_of ms)) _ (ap is_unsigned_integer class)
-    (both_hold (is_number (natural_in (codes "size") ms) 8) (is_eight (optional (codes "alignment") ms)) (ap (λ o. is_number o 8) (number_found (codes "size") ms 8 size)) (eight_found ms align))
+    and_from (is_unsigned_integer (class_of ms)) _ (ap is_unsigned_integer class)
+    (and_from (is_number (natural_in (codes "size") ms) 8) (is_eight (optional (codes "alignment") ms)) (ap (λ o. is_number o 8) (number_found (codes "size") ms 8 size)) (eight_found ms align))
 
-pub identifier_found : (ms : Members) → IsIdentifier ms → is_identifier ms ≡ true
+identifier_found : (ms : Members) → IsIdentifier ms → is_identifier ms ≡ true
 unfolding is_identifier
 identifier_found ms (element, length, there, byte) =
-    both_hold (is_number (natural_in (codes "length") ms) 16) (is_byte (get_member (codes "element-field-type") ms)) (ap (λ o. is_number o 16) (number_found (codes "length") ms 16 length)) (ap is_byte there ∙ byte_found element byte)
-
-pub number_told : (o : Option ℕ) (n : ℕ) → is_number o n ≡ true → o ≡ Some n
-number_told None n e = absurd cc
-number_told (Some m) n e = ap Some (eqb-true m n e)
+    and_from (is_number (natural_in (codes "length") ms) 16) (is_byte (get_member (codes "element-field-type") ms)) (ap (λ o. is_number o 16) (number_found (codes "length") ms 16 length)) (ap is_byte there ∙ byte_found element byte)
 
 pub static_told : (o : Option Place) → not (is_static_array o) ≡ false → o ≡ Some places.StaticArray
 static_told None e = absurd cc
@@ -157,22 +147,8 @@ not_not : (b : Bool) → not b ≡ false → b ≡ true
 not_not true e = refl
 not_not false e = absurd cc
 
--- the first member of a name is found, and another one is passed over
-pub found_first : (name k : List ℕ) (d : Data) (ms : Members) → bytes_eq k name ≡ true → get_member name (member k d ms) ≡ Some d
-found_first name k d ms e =
-    let same : k ≡ name = (bytes_eq-Decides k name).0 e in
-    ap (λ o. match_ordering o (get_member name ms) (Some d) (get_member name ms)) (ap (slice_cmp nat_cmp name) same ∙ one_name name)
-
-pub found_later : (name k : List ℕ) (d : Data) (ms : Members) → bytes_eq k name ≡ false → get_member name (member k d ms) ≡ get_member name ms
-found_later name k d ms e = go (slice_cmp nat_cmp name k) refl
-  where
-    go : (o : Ordering) → slice_cmp nat_cmp name k ≡ o → match_ordering o (get_member name ms) (Some d) (get_member name ms) ≡ get_member name ms
-    go Less c = refl
-    go Equal c = absurd (false≢true (sym e ∙ (bytes_eq-Decides k name).1 (sym (same_name name k c))))
-    go Greater c = refl
-
 mutual
-  pub bits_told : (d : Data) → has_bits d ≡ false → HasNoBits d
+  bits_told : (d : Data) → has_bits d ≡ false → HasNoBits d
   bits_told null e = absurd cc
   bits_told (boolean b) e = absurd cc
   bits_told (number n) e = absurd cc

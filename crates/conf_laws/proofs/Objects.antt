@@ -11,8 +11,8 @@ use Rattle.conf_judge.specs.Known.{Known, inside}
 use Rattle.conf_judge.specs.Places.{place_of_properties}
 use Rattle.conf_draft.specs.Lookups.{object as object_in, object_of}
 use Rattle.conf_laws.proofs.Readings.{optional_found}
-use Rattle.conf_laws.proofs.Rows.{RowIs, RowsSound, rows_sound, needed_sound, given_sound}
-use Rattle.conf_laws.proofs.Sound.{ContentSound, IsPlain, object_at}
+use Rattle.conf_laws.proofs.Rows.{Leads, RowsSound, rows_sound, needed_sound, given_sound}
+use Rattle.conf_laws.proofs.Sound.{ContentSound, object_at}
 
 -- a place of objects with rows of its own
 pub record IsObject (place : Kind) : Type 0 where
@@ -28,15 +28,15 @@ pub record Held (k : Known) (place : Kind) (d : Data) : Type 0 where
 pub held_at : (k : Known) (place : Kind) (d : Data) → IsObject place → ContentSound k (At place) d → Held k place d
 held_at k place d o h = let s = object_at k place d h (o.form k d) in record { ms = s.ms; is = s.is; rows = rows_sound k place place s.ms (o.own s.ms) s.sound }
 
-module _ (k : Known) (around place : Kind) (name : List ℕ) (ms : Members) (plain : IsPlain around) (row : RowIs around name (At place)) (o : IsObject place) (h : RowsSound k around ms) where
-  pub held : (d : Data) → optional name ms ≡ Some d → Held k place d
-  held d found = held_at k place d o (given_sound k around name (At place) ms d plain row h found).value
+module _ (k : Known) (around place : Kind) (name : List ℕ) (ms : Members) (leads : Leads around name (At place)) (o : IsObject place) (h : RowsSound k around ms) where
+  held : (d : Data) → optional name ms ≡ Some d → Held k place d
+  held d found = held_at k place d o (given_sound k around name (At place) ms d leads h found).value
 
   -- a needed object is there
   pub needed_object : presence_under around name ≡ Some Needed → (os : Members) × (object_in name ms ≡ Some os) × RowsSound (inside place os k) place os
   unfolding object_in
   needed_object is =
-      let p = needed_sound k around name (At place) ms plain row is h in
+      let p = needed_sound k around name (At place) ms leads is h in
       let s = held_at k place p.value o p.sound.value in
       let found = optional_found name ms (object s.ms) (p.found ∙ ap Some s.is) refl in
       (s.ms, ap object_of found, s.rows)

@@ -1,22 +1,25 @@
 -- Objects of a configuration that have no flaw and pass no limit, whose names are in order, and what stands at their properties.
-use Rattle.std.proofs.Common.{◌≡◌, ◌&&◌, ℕ, true, List, [], Some, Ok, subst}
+use Rattle.std.proofs.Common.{◌≡◌, ◌&&◌, ℕ, true, List, [], Some, Ok, subst, Option, None, refl}
 use Rattle.std.proofs.lemmas.Bool.{and_parts}
 use Rattle.serde_json.specs.Data.{Data, array, object, Items, Members}
 use Rattle.conf_tree.specs.Reading.{optional}
 use Rattle.conf_table.specs.declared.place.Place.{Place as Kind}
 use Rattle.conf_table.specs.declared.row.Content.{Content}
 use Rattle.conf_table.specs.declared.row.Content.TheVariants.{At}
-use Rattle.conf_table.specs.Table.{content_under, entries_of}
-use Rattle.conf_judge.specs.Flaws.{all_there, resolved_content, member_flaws}
+use Rattle.conf_table.specs.Table.{entries_of, presence_under}
+use Rattle.conf_judge.specs.Flaws.{all_there, member_flaws}
 use Rattle.conf_judge.specs.Known.{Known, inside}
 use Rattle.conf_judge.specs.Limits.{member_limits, fits, place_fits, arrays_fit, at_most, count_of, ranges_fit}
 use Rattle.conf_judge.specs.Places.{place_of_properties}
 use Rattle.conf_draft.specs.Lookups.{list, object as object_at}
-use Rattle.conf_laws.specs.Order.{IsInOrder, MembersAscend, Ascends}
-use Rattle.conf_laws.proofs.Sound.{ObjectSound, ContentSound, IsPlain, object_sound, optional_there, optional_sound}
+use Rattle.conf_tree.specs.Order.{IsInOrder, MembersAscend, Ascends}
+use Rattle.conf_laws.proofs.Sound.{ObjectSound, ContentSound, object_sound, optional_there, optional_sound, property_sound}
 use Rattle.conf_laws.proofs.Within.{ContentWithin, property_within}
-use Rattle.conf_laws.proofs.Ascending.{ascends_given}
+use Rattle.conf_laws.proofs.Ascending.{ascends_given, ascends_found}
 use Rattle.conf_laws.proofs.Steps.{object_said, list_said}
+use Rattle.conf_laws.proofs.Rows.{Leads, needed_kept}
+use Rattle.conf_table.specs.declared.row.Presence.TheVariants.{Needed}
+use Rattle.serde_json.specs.Find.{get_member}
 
 -- the properties of an object at this place
 pub record AreGood (k : Known) (place : Kind) (ms : Members) : Type 0 where
@@ -44,12 +47,6 @@ unfolding fits
 good_object k place ms h = record { sound = object_sound k place ms h.sound.inner; fitting = h.within.fitting; limits = h.within.inner; in_order = h.ascends.0; ascend = h.ascends.1 }
 
 -- ---- where a property leads
-
--- a property of this place, whose entries say nothing of one another
-pub record Leads (place : Kind) (name : List ℕ) (content : Content) : Type 0 where
-  pub plain : IsPlain place
-  pub resolved : resolved_content place name ≡ Some content
-  pub under : content_under place name ≡ Some content
 
 -- an object whose place says which properties it has, around which nothing more is known
 pub record IsOwn (place : Kind) : Type 0 where
@@ -79,8 +76,24 @@ property_at k place name content ms d leads h there = record {
   ascends = ascends_given name ms d h.ascend there;
 }
 
+-- what a needed property is
+pub needed_at : (k : Known) (place : Kind) (name : List ℕ) (content : Content) (ms : Members) (d : Data) → Leads place name content → presence_under place name ≡ Some Needed → AreGood k place ms → get_member name ms ≡ Some d → IsGoodAt k content d
+needed_at k place name content ms d leads needed h found = record {
+  sound = (property_sound k place name content ms d leads.plain leads.resolved h.flaws found (needed_kept place name d needed)).value;
+  within = (property_within place name content ms d leads.under h.limits found).value;
+  ascends = ascends_found name ms d h.ascend found;
+}
+
 pub object_in : (k : Known) (place : Kind) (name : List ℕ) (inner : Kind) (ms found : Members) → Leads place name (At inner) → AreGood k place ms → object_at name ms ≡ Some found → IsGood k inner found
 object_in k place name inner ms found leads h there = good_object k inner found (property_at k place name (At inner) ms (object found) leads h (object_said name ms found there))
+
+-- what holds of no object and of each good one holds of a property
+pub by_good_object : (k : Known) (place : Kind) (name : List ℕ) (inner : Kind) (ms : Members) → Leads place name (At inner) → AreGood k place ms → (P : Option Members → Type 0) → P None → ((x : Members) → IsGood k inner x → P (Some x)) → P (object_at name ms)
+by_good_object k place name inner ms leads h P without with = go (object_at name ms) refl
+  where
+    go : (o : Option Members) → object_at name ms ≡ o → P o
+    go None is = without
+    go (Some x) is = with x (object_in k place name inner ms x leads h is)
 
 pub list_in : (k : Known) (place : Kind) (name : List ℕ) (inner : Kind) (ms : Members) (found : Items) → Leads place name (At inner) → AreGood k place ms → list name ms ≡ Some found → IsGoodAt k (At inner) (array found)
 list_in k place name inner ms found leads h there = property_at k place name (At inner) ms (array found) leads h (list_said name ms found there)

@@ -1,48 +1,24 @@
 -- What readings say that have no flaw.
-use Rattle.std.proofs.Common.{◌≡◌, ℕ, Bool, true, false, cond, List, Option, Some, None, Result, Ok, Err, Ordering, Less, Equal, Greater, nat_cmp, is_eq, refl, sym, ap, subst, ◌∙◌}
-use Rattle.std.specs.Prelude.{◌&&◌}
+use Rattle.std.proofs.Common.{◌≡◌, ℕ, Bool, true, false, cond, List, Option, Some, None, Ok, Err, Ordering, Less, Equal, Greater, nat_cmp, is_eq, refl, sym, ap, subst, ◌∙◌}
 use Rattle.std.specs.Str.{bytes_eq}
 use Rattle.std.specs.Ordering.{match_ordering}
 use Rattle.std.specs.Cmp.Lexicographic.{slice_cmp}
-use Rattle.std.proofs.lemmas.Bool.{true≢false}
+use Rattle.std.proofs.lemmas.Bool.{false≢true}
 use Rattle.std.proofs.lemmas.Cmp.{nat_list_cmp_total, tied_itself}
 use Rattle.std.proofs.lemmas.Map.Text.{is_eq-slice_cmp}
 use Rattle.std.proofs.lemmas.Slice.Eq.{bytes_eq-Decides}
 use Rattle.serde_json.specs.Data.{Data, null, boolean, number, string, array, object, Members, no_members, member}
 use Rattle.serde_json.specs.Find.{get_member}
-use Rattle.conf_tree.specs.Flaw.{Flaw, Place}
-use Rattle.conf_tree.specs.Reading.{◌>>=◌, at, wanted, needed, optional, given}
+use Rattle.conf_tree.specs.Flaw.{Flaw}
+use Rattle.conf_tree.specs.Reading.{optional, given}
 use Rattle.conf_judge.specs.Flaws.{is_null}
 use Rattle.conf_judge.specs.Leaves.{only_if}
 
 -- ---- tests
 
-pub both_true : (a b : Bool) → (a && b) ≡ true → (a ≡ true) × (b ≡ true)
-both_true true b e = (refl, e)
-both_true false b e = absurd cc
-
--- ---- one reading behind another
-
-pub bound : {A B : Type 0} (r : Result A Flaw) (f : A → Result B Flaw) (y : B) → (r >>= f) ≡ Ok y → (x : A) × (r ≡ Ok x) × (f x ≡ Ok y)
-bound (Ok x) f y e = (x, refl, e)
-bound (Err flaw) f y e = absurd cc
-
-pub read_at : {A : Type 0} (place : Place) (r : Result A Flaw) (x : A) → at place r ≡ Ok x → r ≡ Ok x
-read_at place (Ok y) x e = e
-read_at place (Err flaw) x e = absurd cc
-
-pub was_wanted : {A : Type 0} (o : Option A) (x : A) → wanted o ≡ Ok x → o ≡ Some x
-was_wanted None x e = absurd cc
-was_wanted (Some y) x e = let same : y ≡ x = cc in ap Some same
-
 pub was_so : (b : Bool) → only_if b ≡ Ok tt → b ≡ true
 was_so true e = refl
 was_so false e = absurd cc
-
--- what is answered under a test, and is no flaw
-pub under_test : {A : Type 0} (b : Bool) (x y : A) (flaw : Flaw) → cond b (Ok x) (Err flaw) ≡ Ok y → (b ≡ true) × (x ≡ y)
-under_test true x y flaw e = (refl, (let same : x ≡ y = cc in same))
-under_test false x y flaw e = absurd cc
 
 -- what is answered where a test fails
 pub under_no_test : {A : Type 0} (b : Bool) (x y : A) (flaw : Flaw) → cond b (Err flaw) (Ok x) ≡ Ok y → b ≡ false
@@ -52,13 +28,6 @@ under_no_test false x y flaw e = refl
 -- ---- properties
 
 module _ (name : List ℕ) (ms : Members) where
-  pub was_needed : (d : Data) → needed name ms ≡ Ok d → get_member name ms ≡ Some d
-  was_needed d e = go (get_member name ms) refl
-    where
-      go : (o : Option Data) → get_member name ms ≡ o → get_member name ms ≡ Some d
-      go None f = absurd (let h = rw f at e in cc)
-      go (Some x) f = let h = rw f at e in let same : x ≡ d = cc in f ∙ ap Some same
-
   given_itself : (d : Data) → is_null d ≡ false → given (Some d) ≡ Some d
   given_itself null e = absurd cc
   given_itself (boolean b) e = refl
@@ -73,22 +42,32 @@ module _ (name : List ℕ) (ms : Members) where
 
 -- ---- what is at a name
 
-same_name : (a b : List ℕ) → slice_cmp nat_cmp a b ≡ Equal → a ≡ b
+pub same_name : (a b : List ℕ) → slice_cmp nat_cmp a b ≡ Equal → a ≡ b
 same_name a b e = (bytes_eq-Decides a b).0 (sym (is_eq-slice_cmp a b) ∙ ap is_eq e)
 
-pub get_other : (k l : List ℕ) (d : Data) (ms : Members) → bytes_eq l k ≡ false → get_member k (member l d ms) ≡ get_member k ms
-get_other k l d ms apart = go (slice_cmp nat_cmp k l) refl
+-- the first member of a name is found, and another one is passed over
+pub found_first : (name k : List ℕ) (d : Data) (ms : Members) → bytes_eq k name ≡ true → get_member name (member k d ms) ≡ Some d
+found_first name k d ms e =
+    let same : k ≡ name = (bytes_eq-Decides k name).0 e in
+    ap (λ o. match_ordering o (get_member name ms) (Some d) (get_member name ms)) (ap (slice_cmp nat_cmp name) same ∙ tied_itself nat_list_cmp_total name)
+
+pub found_later : (name k : List ℕ) (d : Data) (ms : Members) → bytes_eq k name ≡ false → get_member name (member k d ms) ≡ get_member name ms
+found_later name k d ms e = go (slice_cmp nat_cmp name k) refl
   where
-    go : (o : Ordering) → slice_cmp nat_cmp k l ≡ o → match_ordering o (get_member k ms) (Some d) (get_member k ms) ≡ get_member k ms
-    go Less is = refl
-    go Greater is = refl
-    go Equal is = absurd (true≢false (sym ((bytes_eq-Decides l k).1 (sym (same_name k l is))) ∙ apart))
+    go : (o : Ordering) → slice_cmp nat_cmp name k ≡ o → match_ordering o (get_member name ms) (Some d) (get_member name ms) ≡ get_member name ms
+    go Less c = refl
+    go Equal c = absurd (false≢true (sym e ∙ (bytes_eq-Decides k name).1 (sym (same_name name k c))))
+    go Greater c = refl
 
-get_first : (k : List ℕ) (d : Data) (ms : Members) → get_member k (member k d ms) ≡ Some d
-get_first k d ms = ap (λ o. match_ordering o (get_member k ms) (Some d) (get_member k ms)) (tied_itself nat_list_cmp_total k)
-
-pub get_same : (k l : List ℕ) (d : Data) (ms : Members) → l ≡ k → get_member k (member l d ms) ≡ Some d
-get_same k l d ms same = subst (λ x. get_member x (member l d ms) ≡ Some d) same (get_first l d ms)
+-- what is computed from the first property of a name, and else from none
+pub at_name : {X : Type 0} (name : List ℕ) (walk : Members → X) (made : Option Data → X) → walk no_members ≡ made None → ((k : List ℕ) (d : Data) (ms : Members) → walk (member k d ms) ≡ cond (bytes_eq k name) (made (Some d)) (walk ms))
+    → (ms : Members) → walk ms ≡ made (get_member name ms)
+at_name name walk made none step no_members = none
+at_name name walk made none step (member k d ms) = step k d ms ∙ go (bytes_eq k name) refl (at_name name walk made none step ms)
+  where
+    go : (b : Bool) → bytes_eq k name ≡ b → walk ms ≡ made (get_member name ms) → cond b (made (Some d)) (walk ms) ≡ made (get_member name (member k d ms))
+    go true is later = ap made (sym (found_first name k d ms is))
+    go false is later = later ∙ ap made (sym (found_later name k d ms is))
 
 -- what holds of each property and of those behind it holds of the one that is found
 module _ (P : Members → Type 0) (Q : List ℕ → Data → Type 0) (each : (k : List ℕ) (d : Data) (ms : Members) → P (member k d ms) → Q k d × P ms) where

@@ -1,20 +1,20 @@
 -- What an object and its properties are that have no flaw.
-use Rattle.std.proofs.Common.{◌≡◌, ◌++◌, ℕ, Bool, true, false, cond, List, [], ◌∷◌, map, Option, Some, None, Result, Ok, Err, refl, sym, subst, ◌∙◌}
+use Rattle.std.proofs.Common.{◌≡◌, ◌++◌, ℕ, Bool, true, false, cond, List, [], ◌∷◌, map, Option, Some, None, Result, Ok, Err, refl, sym, subst, ◌∙◌, suc}
 use Rattle.std.specs.Prelude.{⊤}
-use Rattle.serde_json.specs.Data.{Data, null, boolean, number, string, array, object, Members, member}
+use Rattle.serde_json.specs.Data.{Data, null, boolean, number, string, array, object, Members, member, Items, item}
 use Rattle.serde_json.specs.Find.{get_member}
-use Rattle.conf_tree.specs.Flaw.{Flaw, key, within}
+use Rattle.conf_tree.specs.Flaw.{Flaw, key, within, index}
 use Rattle.conf_tree.specs.Reading.{optional, given}
 use Rattle.conf_table.specs.declared.place.Place.{Place as Kind}
 use Rattle.conf_table.specs.declared.row.Content.{Content}
 use Rattle.conf_table.specs.declared.row.Content.TheVariants.{At}
 use Rattle.conf_table.specs.declared.row.Presence.{Presence}
 use Rattle.conf_table.specs.Table.{presence_under}
-use Rattle.conf_judge.specs.Flaws.{told_by, class_rule, all_there, resolved_content, is_left_out, left_out, is_needed, is_null, property_flaws, content_or_any, inner_flaws, member_flaws}
+use Rattle.conf_judge.specs.Flaws.{told_by, class_rule, all_there, resolved_content, is_left_out, left_out, is_needed, is_null, property_flaws, content_or_any, inner_flaws, member_flaws, content_flaws, item_flaws}
 use Rattle.conf_judge.specs.Forms.{itself_of, any_object}
-use Rattle.conf_judge.specs.Known.{Known, inside, behind}
-use Rattle.conf_judge.specs.Names.{key_of}
-use Rattle.conf_judge.specs.Places.{place_of_properties}
+use Rattle.conf_judge.specs.Known.{Known, inside, behind, with_taken}
+use Rattle.conf_judge.specs.Names.{key_of, with_names}
+use Rattle.conf_judge.specs.Places.{place_of_properties, item_content}
 use Rattle.conf_judge.specs.Shapes.{shape_of}
 use Rattle.conf_laws.proofs.Readings.{at_found}
 
@@ -78,6 +78,13 @@ pub first_flaws : (k : Known) (place : Kind) (name : List ℕ) (d : Data) (ms : 
 first_flaws k place name d ms e =
     let both = both_none (map (within (key name)) (flaws_at k place name d)) _ e in
     (none_mapped (within (key name)) (flaws_at k place name d) both.0, both.1)
+
+-- the first item of a list, and those behind it
+pub first_item : (k : Known) (place : Kind) (taken : Members) (i : ℕ) (d : Data) (ds : Items) → item_flaws k place taken i (item d ds) ≡ []
+    → (content_flaws (with_taken taken k) (item_content place) d ≡ []) × (item_flaws k place (with_names d taken) (suc i) ds ≡ [])
+first_item k place taken i d ds e =
+    let both = both_none (map (within (index i)) (content_flaws (with_taken taken k) (item_content place) d)) _ e in
+    (none_mapped (within (index i)) (content_flaws (with_taken taken k) (item_content place) d) both.0, both.1)
 
 -- a place whose entries say nothing of one another
 abbrev pub IsPlain : Kind → Type 0

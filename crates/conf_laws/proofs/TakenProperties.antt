@@ -2,7 +2,7 @@
 use Rattle.std.proofs.Common.{◌≡◌, ◌≢◌, ◌⊎◌, ◌&&◌, ℕ, Bool, true, false, cond, List, Option, Some, None, is_some, IsSome, inl, inr, refl, sym, ap, ◌∙◌}
 use Rattle.std.specs.Prelude.{codes}
 use Rattle.std.specs.Str.{bytes_eq}
-use Rattle.std.proofs.lemmas.Bool.{true≢false, false≢true, and_parts}
+use Rattle.std.proofs.lemmas.Bool.{true≢false, false≢true, and_parts, and_from}
 use Rattle.std.proofs.lemmas.Slice.Eq.{bytes_eq-Decides}
 use Rattle.serde_json.specs.Data.{Data, null, boolean, number, string, array, object}
 use Rattle.conf_tree.specs.declared.fault_kind.FaultKind.TheVariants.{WrongKind, OutOfRange}
@@ -29,11 +29,7 @@ module _ (place : Place) (name : List ℕ) where
       (same, ap (λ n. is_some (presence_under place n)) same ∙ p.1)
 
   told_inherits : Inherits → (bytes_eq name (codes "$inherit") && may_inherit place) ≡ true
-  told_inherits (same, some) = both (bytes_eq name (codes "$inherit")) (may_inherit place) ((bytes_eq-Decides name (codes "$inherit")).1 same) (ap (λ n. is_some (presence_under place n)) (sym same) ∙ some)
-    where
-      both : (a b : Bool) → a ≡ true → b ≡ true → (a && b) ≡ true
-      both true b p q = q
-      both false b p q = absurd cc
+  told_inherits (same, some) = and_from (bytes_eq name (codes "$inherit")) (may_inherit place) ((bytes_eq-Decides name (codes "$inherit")).1 same) (ap (λ n. is_some (presence_under place n)) (sym same) ∙ some)
 
   pub property_is : (content : Content) → resolved_content place name ≡ Some content → IsPropertyOf place name content
   unfolding resolved_content

@@ -19,8 +19,8 @@ use Rattle.conf_draft.specs.Lookups.{word}
 use Rattle.conf_draft.specs.Traces.{draft_with, draft_of_type, draft_of_trace, draft_of_root, draft_of}
 use Rattle.conf_laws.proofs.FeatureObjects.{header_there}
 use Rattle.conf_laws.proofs.Objects.{IsObject, held_at, needed_object}
-use Rattle.conf_laws.proofs.Rows.{RowIs, RowsSound}
-use Rattle.conf_laws.proofs.Sound.{IsPlain, content_sound}
+use Rattle.conf_laws.proofs.Rows.{Leads, RowsSound}
+use Rattle.conf_laws.proofs.Sound.{content_sound}
 use Rattle.conf_laws.proofs.Streams.{streams_there}
 
 -- ---- the trace type
@@ -30,40 +30,32 @@ type_parts number entries ms (Some a) (Some b) x y = refl
 type_parts number entries ms None b x y = absurd (false≢true x)
 type_parts number entries ms (Some a) None x y = absurd (false≢true y)
 
-type_object : IsObject places.TraceType
+pub type_object : IsObject places.TraceType
 unfolding itself_of form_of place_of_properties is_position own_place
 type_object = record { form = λ k d. refl; own = λ ms. refl }
 
-plain_type : IsPlain places.TraceType
-unfolding behind
-plain_type d k = refl
+pub features_lead : Leads places.TraceType (codes "$features") (At places.TraceFeatures)
+unfolding behind resolved_content content_under presence_under entries_of rows_of
+features_lead = record { plain = λ d k. refl; resolved = refl; under = refl }
 
-features_row : RowIs places.TraceType (codes "$features") (At places.TraceFeatures)
-unfolding resolved_content content_under presence_under entries_of rows_of
-features_row = record { resolved = refl; under = refl }
-
-streams_row : RowIs places.TraceType (codes "data-stream-types") (At places.StreamTypes)
-unfolding resolved_content content_under presence_under entries_of rows_of
-streams_row = record { resolved = refl; under = refl }
+pub streams_lead : Leads places.TraceType (codes "data-stream-types") (At places.StreamTypes)
+unfolding behind resolved_content content_under presence_under entries_of rows_of
+streams_lead = record { plain = λ d k. refl; resolved = refl; under = refl }
 
 type_said : (k : Known) (number : Option (List ℕ)) (entries : List EnvironmentEntry) (ms : Members) → RowsSound k places.TraceType ms → IsSome (draft_of_type number entries ms)
 unfolding draft_of_type
 type_said k number entries ms h = type_parts number entries ms _ _
-    (header_there k places.TraceType (is_some (word (codes "uuid") ms)) ms plain_type features_row h) (streams_there k places.TraceType ms plain_type streams_row h)
+    (header_there k places.TraceType (is_some (word (codes "uuid") ms)) ms features_lead h) (streams_there k places.TraceType ms streams_lead h)
 
 -- ---- the trace
 
-trace_object : IsObject places.Trace
+pub trace_object : IsObject places.Trace
 unfolding itself_of form_of place_of_properties is_position own_place
 trace_object = record { form = λ k d. refl; own = λ ms. refl }
 
-plain_trace : IsPlain places.Trace
-unfolding behind
-plain_trace d k = refl
-
-type_row : RowIs places.Trace (codes "type") (At places.TraceType)
-unfolding resolved_content content_under presence_under entries_of rows_of
-type_row = record { resolved = refl; under = refl }
+pub type_leads : Leads places.Trace (codes "type") (At places.TraceType)
+unfolding behind resolved_content content_under presence_under entries_of rows_of
+type_leads = record { plain = λ d k. refl; resolved = refl; under = refl }
 
 type_needed : presence_under places.Trace (codes "type") ≡ Some Needed
 unfolding presence_under rows_of
@@ -72,22 +64,18 @@ type_needed = refl
 trace_said : (k : Known) (number : Option (List ℕ)) (ms : Members) → RowsSound k places.Trace ms → IsSome (draft_of_trace number ms)
 unfolding draft_of_trace
 trace_said k number ms h =
-    let t = needed_object k places.Trace places.TraceType (codes "type") ms plain_trace type_row type_object h type_needed in
+    let t = needed_object k places.Trace places.TraceType (codes "type") ms type_leads type_object h type_needed in
     subst (λ o. IsSome (option_and_then (draft_of_type number (environment ms)) o)) (sym t.1) (type_said (inside places.TraceType t.0 k) number (environment ms) t.0 t.2)
 
 -- ---- the whole configuration
 
-root_object : IsObject places.Root
+pub root_object : IsObject places.Root
 unfolding itself_of form_of place_of_properties is_position own_place
 root_object = record { form = λ k d. refl; own = λ ms. refl }
 
-plain_root : IsPlain places.Root
-unfolding behind
-plain_root d k = refl
-
-trace_row : RowIs places.Root (codes "trace") (At places.Trace)
-unfolding resolved_content content_under presence_under entries_of rows_of
-trace_row = record { resolved = refl; under = refl }
+pub root_leads : Leads places.Root (codes "trace") (At places.Trace)
+unfolding behind resolved_content content_under presence_under entries_of rows_of
+root_leads = record { plain = λ d k. refl; resolved = refl; under = refl }
 
 trace_needed : presence_under places.Root (codes "trace") ≡ Some Needed
 unfolding presence_under rows_of
@@ -96,7 +84,7 @@ trace_needed = refl
 root_said : (k : Known) (number : Option (List ℕ)) (ms : Members) → RowsSound k places.Root ms → IsSome (draft_of_root number ms)
 unfolding draft_of_root
 root_said k number ms h =
-    let t = needed_object k places.Root places.Trace (codes "trace") ms plain_root trace_row trace_object h trace_needed in
+    let t = needed_object k places.Root places.Trace (codes "trace") ms root_leads trace_object h trace_needed in
     subst (λ o. IsSome (option_and_then (draft_of_trace number) o)) (sym t.1) (trace_said (inside places.Trace t.0 k) number t.0 t.2)
 
 pub tree_said : (number : Option (List ℕ)) (d : Data) → configuration_flaws d ≡ [] → IsSome (draft_of number d)

@@ -1,22 +1,22 @@
 -- What is told of a value by itself, and of the name of an entry, is a flaw of it.
-use Rattle.std.proofs.Common.{◌≡◌, ◌≢◌, ◌⊎◌, ◌↔◌, ◌≤◌, ◌<◌, ◌^◌, ◌&&◌, ◌||◌, ℕ, zero, suc, ℤ, pos, negsuc, Bool, true, false, not, cond, List, [], ◌∷◌, map, Contains, Option, Some, None, is_some, Result, Ok, Err, inl, inr, refl, sym, ap, subst, ◌∙◌, arith, get_or}
+use Rattle.std.proofs.Common.{◌≡◌, ◌≢◌, ◌⊎◌, ◌↔◌, ◌≤◌, ◌<◌, ◌^◌, ◌&&◌, ◌||◌, ℕ, zero, suc, ℤ, pos, Bool, true, false, not, cond, List, [], ◌∷◌, map, Contains, Option, Some, None, is_some, Result, Ok, Err, inl, inr, refl, sym, ap, subst, ◌∙◌, arith, get_or}
 use Rattle.std.specs.Prelude.{codes, unwrap_or, option_map, nat_lt, nat_eq, int_le}
 use Rattle.std.specs.List.{list_any}
 use Rattle.std.specs.Str.{bytes_eq}
-use Rattle.std.proofs.lemmas.Bool.{true≢false, false≢true, and_cases, and_parts, or_parts, or_cases, cases_lt, eqb-false, ltb-false, agree_below_at}
+use Rattle.std.proofs.lemmas.Bool.{true≢false, false≢true, and_cases, or_parts, or_cases, cases_lt, eqb-false, ltb-false, agree_below_at}
 use Rattle.std.proofs.lemmas.List.Folds.{list_any_at}
 use Rattle.std.proofs.lemmas.Slice.Eq.{bytes_eq-Decides}
 use Rattle.std.proofs.Math.Pow.{pow_mono}
 use borrow.Author.Differences.{le-true, le-false, below_in}
 use Rattle.serde_json.specs.Data.{Data, null, boolean, number, string, array, object, Items, no_items, item, Members, no_members, member}
 use Rattle.serde_json.specs.Events.{items_len}
-use Rattle.serde_json.specs.Find.{get_member, as_object, as_array, as_str, as_bool, as_number, as_integer}
+use Rattle.serde_json.specs.Find.{get_member, as_object, as_array, as_str, as_bool}
 use Rattle.uuid.specs.Text.{parsed}
 use Rattle.ctf_types.specs.AllowedConfig.{lowest, highest}
 use Rattle.ctf_types.specs.Shown.{length_name}
 use Rattle.conf_tree.specs.declared.fault_kind.FaultKind.TheVariants.{WrongKind, OutOfRange, NameClash, NoSuchAlias}
 use Rattle.conf_tree.specs.Flaw.{Flaw, index, here, within}
-use Rattle.conf_tree.specs.Reading.{◌>>=◌, at, wanted, object_of, list_of, text_of, flag_of, whole_of, whole_or_not}
+use Rattle.conf_tree.specs.Reading.{◌>>=◌, at, object_of, list_of, text_of, flag_of, whole_of}
 use Rattle.conf_table.specs.declared.place.Place.{Place}
 use Rattle.conf_table.specs.declared.place.Place.TheVariants as places
 use Rattle.conf_table.specs.declared.row.Content.{Content}
@@ -31,15 +31,17 @@ use Rattle.conf_values.specs.LeafFlaws.{IsNoObject, IsNoList, IsNoText, IsNoFlag
 use Rattle.conf_values.specs.Name.{plain_name_of}
 use Rattle.conf_values.specs.Scalar.{is_printable, uuid_in}
 use Rattle.conf_values.proofs.LeafFlawLaws.{same_flaw, refused_here_or_next, refused_there, refused_test, refused_where, wanted_refused, wanted_found, none_refused, holds_of, object_refused, list_refused, text_refused, flag_refused, whole_refused, control_there, name_refused, plain_name_refused}
-use Rattle.conf_values.proofs.Steps.{both_read, read_there, is_passed, ok_same}
 use Rattle.conf_judge.specs.Forms.{any_object, any_list, some_items, some_members, one_member, some_list, some_object, entry, feature, size_feature, form_of, itself_of}
 use Rattle.conf_judge.specs.Known.{Known}
 use Rattle.conf_judge.specs.Leaves.{only_if, whole_from, is_power_of_two, power_of, any_flag, one_flag, any_text, printable, identifier, identifier_or_auto, word_among, class_word, whole_or_text, level_or_none, level, leaf_of}
 use Rattle.conf_judge.specs.Names.{is_dynamic, is_taken, length_is_taken, free_of, is_entry, plain_of, key_by, key_in, key_of}
 use Rattle.conf_judge.specs.Numbers.{all_numbers, natural_or_none, natural_in, numbers_of, numbers_or_all, numbers_in, end_of, pair_of, single_of, range_of, is_inside, inside_of}
 use Rattle.conf_laws.specs.Around.{Around, enumeration_around, HasNumber, HasBits, IsTaken}
-use Rattle.conf_laws.specs.ValueFlaws.{IsPowerOfTwo, IsNoPowerOfTwo, IsNoLevel, IsNoWholeOrText, IsNoDefault, IsWhole, IsRange, IsNoRange, IsNoSomeList, IsNoSomeObject, IsNoEntry, IsNoFeature, IsNoSizeFeature, IsNoneAt, words_of_classes, IsNoValueOf, IsNoMemberName, IsNoLabel, IsNoKey, IsNoNameAt}
+use Rattle.conf_laws.specs.ValueFlaws.{IsPowerOfTwo, IsNoPowerOfTwo, IsNoLevel, IsNoWholeOrText, IsNoDefault, IsRange, IsNoRange, IsNoSomeList, IsNoSomeObject, IsNoEntry, IsNoFeature, IsNoSizeFeature, IsNoneAt, words_of_classes, IsNoValueOf, IsNoMemberName, IsNoLabel, IsNoKey, IsNoNameAt}
 use Rattle.conf_laws.proofs.Agreement.{Agrees, IsTrue, dynamic_told}
+use Rattle.conf_laws.proofs.Steps.{some_none, some_same}
+use Rattle.conf_laws.proofs.Naturals.{whole_read}
+use Rattle.conf_laws.proofs.Ranges.{lowest_end, highest_end, ReadSo, read_so}
 
 -- ---- steps
 
@@ -48,7 +50,7 @@ pub either_step : {A B P : Type 0} (r : Result A Flaw) (step : A → Result B Fl
 either_step r step flaw e first rest = elim (refused_here_or_next r step flaw e) [ inl refused ↦ first refused | inr (x, went, refused) ↦ rest x went refused ]
 
 -- the same where the last step goes well
-pub only_step : {A B P : Type 0} (r : Result A Flaw) (made : A → B) (flaw : Flaw) → (r >>= (λ x. Ok (made x))) ≡ Err flaw → (r ≡ Err flaw → P) → P
+only_step : {A B P : Type 0} (r : Result A Flaw) (made : A → B) (flaw : Flaw) → (r >>= (λ x. Ok (made x))) ≡ Err flaw → (r ≡ Err flaw → P) → P
 only_step r made flaw e first = either_step r (λ x. Ok (made x)) flaw e first (λ x went never. none_refused (made x) flaw never)
 
 pub not_passed : (b : Bool) (flaw : Flaw) → only_if b ≡ Err flaw → (b ≡ false) × (flaw ≡ here OutOfRange)
@@ -68,26 +70,6 @@ text_told test d flaw e none fails =
 whole_told : (low high : ℤ) (d : Data) (flaw : Flaw) → whole_from low high d ≡ Err flaw → IsNoWhole low high d flaw
 unfolding whole_from
 whole_told low high d flaw e = only_step (whole_of low high d) (λ z. tt) flaw e (whole_refused low high d flaw)
-
-whole_there : (low high : ℤ) (found : Option ℤ) (z : ℤ) → whole_or_not low high found ≡ Ok z → (found ≡ Some z) × (int_le low z ≡ true) × (int_le z high ≡ true)
-whole_there low high None z e = absurd cc
-whole_there low high (Some y) z e =
-    let p = is_passed (int_le low y && int_le y high) y z (here OutOfRange) e in
-    let b = and_parts (int_le low y) (int_le y high) p.0 in
-    (ap Some p.1, ap (int_le low) (sym p.1) ∙ b.0, ap (λ x. int_le x high) (sym p.1) ∙ b.1)
-
--- a whole number that was read, and that it is between its bounds
-pub record WholeRead (low high : ℤ) (d : Data) (z : ℤ) : Type 0 where
-  pub whole : IsWhole d z
-  pub least : int_le low z ≡ true
-  pub most : int_le z high ≡ true
-
-pub whole_read : (low high : ℤ) (d : Data) (z : ℤ) → whole_of low high d ≡ Ok z → WholeRead low high d z
-unfolding whole_of
-whole_read low high d z e =
-    let m = both_read (wanted (as_number d)) (λ n. whole_or_not low high (as_integer n)) z e in
-    let there = whole_there low high (as_integer m.0) z m.2 in
-    record { whole = (m.0, wanted_found (as_number d) m.0 m.1, there.0); least = there.1; most = there.2 }
 
 power_is_one : (k : ℕ) → k < 64 → is_power_of_two (pos (2 ^ k)) ≡ true
 power_is_one k l = agree_below_at (λ j. is_power_of_two (pos (2 ^ j))) (λ j. true) 64 k refl l
@@ -158,12 +140,6 @@ no_uuid_text d flaw none same = holds_of (IsNoUuid d) (here WrongKind) flaw same
 identifier_told : (d : Data) (flaw : Flaw) → identifier d ≡ Err flaw → IsNoUuid d flaw
 unfolding identifier
 identifier_told d flaw e = text_told (λ s. is_some (uuid_in s)) d flaw e (no_uuid_text d flaw) (λ s is fails same. uuid_told d s flaw is fails same)
-
-some_none : {A : Type 0} (o : Option A) (x : A) → o ≡ Some x → o ≡ None → ⊥
-some_none o x p q = cc
-
-some_same : {A : Type 0} (o : Option A) (x y : A) → o ≡ Some x → o ≡ Some y → x ≡ y
-some_same o x y p q = cc
 
 choice_told : (d : Data) (flaw : Flaw) → identifier_or_auto d ≡ Err flaw → (as_str d ≢ Some (codes "auto")) × IsNoUuid d flaw
 unfolding identifier_or_auto
@@ -283,46 +259,21 @@ size_told (object ms) flaw e = IsNoSizeFeature.no_feature (refl, object_told (ob
 
 -- ---- ranges
 
-abbrev lowest_end : ℤ
-lowest_end = negsuc 9223372036854775807
-
-abbrev highest_end : ℤ
-highest_end = pos 18446744073709551615
-
 -- a range that was read, and that its ends are in what a configuration can hold
 record RangeRead (d : Data) (low high : ℤ) : Type 0 where
   is : IsRange d low high
   least : int_le lowest_end low ≡ true
   most : int_le high highest_end ≡ true
 
-single_read : (d : Data) (range : _) → single_of d ≡ Ok range → RangeRead d range.low range.high
-single_read d range e =
-    let x = both_read (end_of d) _ range e in
-    let read = whole_read lowest_end highest_end d x.0 x.1 in
-    let made : RangeRead d x.0 x.0 = record { is = IsRange.one_number x.0 read.whole; least = read.least; most = read.most } in
-    subst (λ r. RangeRead d r.low r.high) (ok_same (record { low = x.0; high = x.0 }) range x.2) made
-
-pair_read : (ds : Items) (range : _) → pair_of ds ≡ Ok range → RangeRead (array ds) range.low range.high
-unfolding pair_of
-pair_read no_items range e = absurd cc
-pair_read (item a no_items) range e = absurd cc
-pair_read (item a (item b no_items)) range e =
-    let x = both_read (at (index 0) (end_of a)) _ range e in
-    let y = both_read (at (index 1) (end_of b)) _ range x.2 in
-    let low = whole_read lowest_end highest_end a x.0 (read_there (index 0) (end_of a) x.0 x.1) in
-    let high = whole_read lowest_end highest_end b y.0 (read_there (index 1) (end_of b) y.0 y.1) in
-    let made : RangeRead (array (item a (item b no_items))) x.0 y.0 = record { is = IsRange.two_numbers a b x.0 y.0 refl low.whole high.whole; least = low.least; most = high.most } in
-    subst (λ r. RangeRead (array (item a (item b no_items))) r.low r.high) (ok_same (record { low = x.0; high = y.0 }) range y.2) made
-pair_read (item a (item b (item c ds))) range e = absurd cc
+range_known : (d : Data) (low high : ℤ) → ReadSo d low high → RangeRead d low high
+range_known d low high (ReadSo.one_number z none e) = let read = whole_read lowest_end highest_end d z e in record { is = IsRange.one_number z read.whole; least = read.least; most = read.most }
+range_known d low high (ReadSo.two_numbers a b z w pair e f) =
+    let first = whole_read lowest_end highest_end a z e in
+    let second = whole_read lowest_end highest_end b w f in
+    record { is = IsRange.two_numbers a b z w pair first.whole second.whole; least = first.least; most = second.most }
 
 range_read : (d : Data) (range : _) → range_of d ≡ Ok range → RangeRead d range.low range.high
-unfolding range_of
-range_read (array ds) range e = pair_read ds range e
-range_read null range e = single_read null range e
-range_read (boolean b) range e = single_read (boolean b) range e
-range_read (number n) range e = single_read (number n) range e
-range_read (string s) range e = single_read (string s) range e
-range_read (object ms) range e = single_read (object ms) range e
+range_read d range e = range_known d range.low range.high (read_so d range e)
 
 pub number_there : (name : List ℕ) (ms : Members) (n : ℕ) → natural_in name ms ≡ Some n → HasNumber name ms n
 unfolding natural_in

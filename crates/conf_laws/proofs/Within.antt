@@ -1,15 +1,16 @@
 -- What an object and its properties are that pass no limit.
-use Rattle.std.proofs.Common.{◌≡◌, ◌++◌, ℕ, Bool, true, false, List, [], map, Some, refl, subst}
-use Rattle.serde_json.specs.Data.{Data, Members, member}
+use Rattle.std.proofs.Common.{◌≡◌, ◌++◌, ℕ, Bool, true, false, List, [], map, Some, refl, subst, suc}
+use Rattle.serde_json.specs.Data.{Data, Members, member, Items, item}
 use Rattle.serde_json.specs.Find.{get_member}
-use Rattle.conf_tree.specs.Flaw.{Flaw, key, within}
+use Rattle.conf_tree.specs.Flaw.{Flaw, key, within, index}
 use Rattle.conf_table.specs.declared.place.Place.{Place as Kind}
 use Rattle.conf_table.specs.declared.row.Content.{Content}
 use Rattle.conf_table.specs.Table.{content_under}
 use Rattle.conf_judge.specs.Flaws.{told_by, content_or_any}
-use Rattle.conf_judge.specs.Limits.{within_limit, fits, inner_limits, member_limits, key_fits}
+use Rattle.conf_judge.specs.Limits.{within_limit, fits, inner_limits, member_limits, key_fits, content_limits, item_limits}
 use Rattle.conf_laws.proofs.Readings.{at_found}
 use Rattle.conf_laws.proofs.Sound.{both_none, none_mapped}
+use Rattle.conf_judge.specs.Places.{item_content}
 
 pub within_none : (b : Bool) → told_by (within_limit b) ≡ [] → b ≡ true
 within_none true e = refl
@@ -45,6 +46,12 @@ pub first_limits : (place : Kind) (name : List ℕ) (d : Data) (ms : Members) �
 first_limits place name d ms l =
     let both = both_none (map (within (key name)) (limits_at place name d)) _ l in
     (none_mapped (within (key name)) (limits_at place name d) both.0, both.1)
+
+-- the first item of a list, and those behind it
+pub first_item_limits : (place : Kind) (i : ℕ) (d : Data) (ds : Items) → item_limits place i (item d ds) ≡ [] → (content_limits (item_content place) d ≡ []) × (item_limits place (suc i) ds ≡ [])
+first_item_limits place i d ds e =
+    let both = both_none (map (within (index i)) (content_limits (item_content place) d)) _ e in
+    (none_mapped (within (index i)) (content_limits (item_content place) d) both.0, both.1)
 
 pub property_within : (place : Kind) (name : List ℕ) (content : Content) (ms : Members) (d : Data) → content_under place name ≡ Some content → member_limits place ms ≡ [] → get_member name ms ≡ Some d → PropertyWithin place name content d
 property_within place name content ms d under l found =

@@ -35,10 +35,10 @@ use Rattle.conf_draft.specs.Members.{member_type, behind as behind_member}
 use Rattle.conf_draft.specs.Streams.{stream_type, stream_types}
 use Rattle.conf_draft.specs.Structures as structures
 use Rattle.conf_draft.specs.Traces.{asks_number, draft_of_type, draft_of_trace, draft_of_root, draft_of}
-use Rattle.conf_laws.specs.Order.{Ascends}
+use Rattle.conf_tree.specs.Order.{Ascends}
 use Rattle.conf_laws.specs.Rules.{KeepsStreamRules, KeepsRules}
 use Rattle.conf_laws.proofs.AllowedTraces.{draft_allowed}
-use Rattle.conf_laws.proofs.Steps.{some_same}
+use Rattle.std.proofs.lemmas.Option.{same_Some}
 
 abbrev trace_type : Members
 trace_type = member (codes "trace-byte-order") (string (codes "le")) no_members
@@ -60,7 +60,7 @@ in_order = ((tt, tt), (((tt, tt), (((tt, tt), (tt, tt)), tt)), tt))
 keeps_rules : (draft : Draft) → draft_of None small ≡ Some draft → KeepsRules draft.config
 unfolding draft_of_root draft_of_trace draft_of_type object_at word header header_of feature identifier stream_types environment clock_types asks_number
 keeps_rules draft e =
-    subst (λ (x : Draft). KeepsRules x.config) (some_same _ draft e)
+    subst (λ (x : Draft). KeepsRules x.config) (same_Some _ draft e)
     (record { uuid_is_there = λ there. absurd cc; stream_id_holds = omega arith; streams = All-nil (KeepsStreamRules []) })
 
 -- what the small one says is allowed

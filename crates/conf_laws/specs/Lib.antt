@@ -1,4 +1,3 @@
-pub mod Order
 pub mod Rules
 pub mod Around
 pub mod ValueFlaws

@@ -3,6 +3,7 @@
 ghost use Rattle.std.specs.Prelude.{◌≡◌, ℕ, pos, true, List, [], Contains, Option, Some, IsSome, codes};
 ghost use Rattle.serde_json.specs.Data.{Data, Members};
 ghost use Rattle.conf_tree.specs.Flaw.{Flaw};
+ghost use Rattle.conf_tree.specs.Order.{Ascends};
 ghost use Rattle.conf_table.specs.declared.place.Place.TheVariants.{Root};
 ghost use Rattle.conf_table.specs.declared.row.Content.TheVariants.{At};
 ghost use Rattle.conf_judge.specs.Flaws.{configuration_flaws};
@@ -14,7 +15,6 @@ ghost use Rattle.conf_draft.specs.Structures.{align_of as align_of_structure};
 ghost use Rattle.conf_draft.specs.Traces.{draft_of};
 ghost use Rattle.conf_draft.specs.declared.draft.Draft.{Draft};
 ghost use Rattle.ctf_types.specs.AllowedConfig.{IsConfig};
-ghost use Rattle.conf_laws.specs.Order.{Ascends};
 ghost use Rattle.conf_laws.specs.Rules.{KeepsRules};
 ghost use Rattle.conf_laws.specs.TableFlaws.{IsFlawOf};
 ghost use Rattle.conf_laws.specs.TableLimits.{PassesLimitOf};
