@@ -3,8 +3,8 @@ use Rattle.std.proofs.Common.{◌≡◌, List, [], ◌∷◌, ℕ, Option, Some,
 use Rattle.serde_json.specs.Data.{Data, null, boolean, number, string, array, object, Items, no_items, item, Members, no_members, member}
 use Rattle.serde_json.specs.Find.{get, get_member}
 use Rattle.conf_tree.specs.Order.{IsInOrder, Ascends, ItemsAscend, MembersAscend}
-use Rattle.conf_inherit.specs.declared.spot.Spot.{Spot}
-use Rattle.conf_inherit.specs.Spot.{is_base_name}
+use Rattle.conf_table.specs.declared.place.Place.{Place}
+use Rattle.conf_inherit.specs.FieldPlaces.{is_base_name}
 use Rattle.conf_inherit.specs.Names.{properties_of, items_in, entries_of, join_members, join_items, cons_some, values_in, entry_values, joined}
 use Rattle.conf_inherit.specs.Looks.{Chain, nothing, alias, member_alias, heir, own, a_list, plain, Looks, looks, Shows, a_scalar, an_object, the_members, a_join, Entries, no_entry, an_entry, base_of, if_objects, if_lists, values_at}
 use Rattle.conf_inherit.specs.Resolution.{members_or_none, trace_name, type_name, aliases_name, aliases_of, Resolves}
@@ -23,11 +23,11 @@ member_ascends : (k : List ℕ) (d : Data) (ms : Members) → MembersAscend ms �
 member_ascends k d no_members w h = cc
 member_ascends k d (member l e ms) w h = member_ascends_at k l e d ms (meets k l) h w.0 (member_ascends k d ms w.1)
 
-base_ascends_at : (s : Spot) (k : List ℕ) (d b : Data) (ms : Members) → (t : Bool) → is_base_name s k ≡ t → base_of s (member k d ms) ≡ Some b → Ascends d → (base_of s ms ≡ Some b → Ascends b) → Ascends b
+base_ascends_at : (s : Place) (k : List ℕ) (d b : Data) (ms : Members) → (t : Bool) → is_base_name s k ≡ t → base_of s (member k d ms) ≡ Some b → Ascends d → (base_of s ms ≡ Some b → Ascends b) → Ascends b
 base_ascends_at s k d b ms true is h here later = let g : Some d ≡ Some b = rw is at h in let one : d ≡ b = cc in subst Ascends one here
 base_ascends_at s k d b ms false is h here later = later (rw is at h)
 
-base_ascends : (s : Spot) (b : Data) (ms : Members) → MembersAscend ms → base_of s ms ≡ Some b → Ascends b
+base_ascends : (s : Place) (b : Data) (ms : Members) → MembersAscend ms → base_of s ms ≡ Some b → Ascends b
 base_ascends s b no_members w h = cc
 base_ascends s b (member k d ms) w h = base_ascends_at s k d b ms (is_base_name s k) refl h w.0 (base_ascends s b ms w.1)
 
@@ -65,7 +65,7 @@ values_ascend : (k : List ℕ) (ds : List Data) → AllAscend ds → AllAscend (
 values_ascend k [] w = tt
 values_ascend k (d ∷ ds) w = cons_ascend (get k d) (values_in k ds) (λ e h. get_ascends k d e w.0 h) (values_ascend k ds w.1)
 
-values_at_ascend : (s : Spot) (k : List ℕ) (ds : List Data) → AllAscend ds → AllAscend (values_at s k ds)
+values_at_ascend : (s : Place) (k : List ℕ) (ds : List Data) → AllAscend ds → AllAscend (values_at s k ds)
 values_at_ascend s k ds w = go (is_base_name s k) refl
   where
     go : (t : Bool) → is_base_name s k ≡ t → AllAscend (values_at s k ds)
@@ -117,7 +117,7 @@ by_names (member k d rs) o f = (f k d (get_first k d rs), by_names rs o.1 (λ q 
     none_there q r e h = let g : get_member k rs ≡ Some r = subst (λ x. get_member x rs ≡ Some r) e h in let n = get_none k rs o.0 in let bad : Some r ≡ None = sym g ∙ n in cc
 
 module _ (al : Members) (ascend : MembersAscend al) where
-  chain_ascends : {s : Spot} {vs cs : List Data} → Chain al s vs cs → AllAscend vs → AllAscend cs
+  chain_ascends : {s : Place} {vs cs : List Data} → Chain al s vs cs → AllAscend vs → AllAscend cs
   chain_ascends nothing w = tt
   chain_ascends (alias {n = n} {w = v} p q c) w = chain_ascends c (member_ascends n v al ascend q, tt)
   chain_ascends (member_alias p) w = (((tt, tt), (tt, tt)), tt)
@@ -127,10 +127,10 @@ module _ (al : Members) (ascend : MembersAscend al) where
   chain_ascends (plain p) w = (w.0, tt)
 
   mutual
-    looks_ascends : {s : Spot} {vs : List Data} {r : Data} → Looks al s vs r → AllAscend vs → Ascends r
+    looks_ascends : {s : Place} {vs : List Data} {r : Data} → Looks al s vs r → AllAscend vs → Ascends r
     looks_ascends (looks c h) w = shows_ascends h (chain_ascends c w)
 
-    shows_ascends : {s : Spot} {cs : List Data} {r : Data} → Shows al s cs r → AllAscend cs → Ascends r
+    shows_ascends : {s : Place} {cs : List Data} {r : Data} → Shows al s cs r → AllAscend cs → Ascends r
     shows_ascends (a_scalar p) w = w.0
     shows_ascends {s} (an_object {ms = ms} {rs = rs} {cs = cs} o f g) w = (o, by_names rs o (λ k r h. looks_ascends (f k r h) (values_at_ascend s k (object ms ∷ cs) w)))
     shows_ascends (the_members {es = es} {cs = cs} m e) w = entries_listed e w

@@ -2,9 +2,9 @@
 use Rattle.std.proofs.Common.{◌≡◌, ◌||◌, ◌⊎◌, inl, inr, ℕ, zero, suc, List, Option, Some, None, Bool, true, false, not, true≢false, refl, sym, ◌∙◌}
 use Rattle.serde_json.specs.Data.{Data, null, boolean, number, string, array, object, Items, no_items, item, Members, no_members, member, put}
 use Rattle.serde_json.specs.Find.{get_member}
-use Rattle.conf_inherit.specs.declared.spot.Spot.{Spot}
-use Rattle.conf_inherit.specs.declared.spot.Spot.TheVariants.{FieldType}
-use Rattle.conf_inherit.specs.Spot.{spot_under, spot_of_items, names_alias, names_member_type}
+use Rattle.conf_table.specs.declared.place.Place.{Place}
+use Rattle.conf_table.specs.declared.place.Place.TheVariants as places
+use Rattle.conf_inherit.specs.FieldPlaces.{place_under, place_of_items, names_alias, names_member_type}
 use Rattle.conf_inherit.specs.Circle.{Mentions, MentionsInItems, MentionsInMembers, Walks}
 use Rattle.conf_inherit.specs.Ready.{Names}
 use Rattle.conf_inherit.specs.Named.{all_named, all_named_in_items, all_named_in_members, has}
@@ -15,46 +15,46 @@ use Rattle.conf_inherit.proofs.NamedLemmas.{either_false, and_first, and_second}
 
 -- ---- a name that keeps a value from its turn
 
-abbrev Blocks : (List ℕ → Bool) → Spot → Data → Type 0
+abbrev Blocks : (List ℕ → Bool) → Place → Data → Type 0
 Blocks p s v = (m : List ℕ) × Mentions m s v × (p m ≡ false)
 
-names_of : (s : Spot) (t : Bool) → (names_alias s || names_member_type s) ≡ t → t ≡ true → Names s
+names_of : (s : Place) (t : Bool) → (names_alias s || names_member_type s) ≡ t → t ≡ true → Names s
 names_of s t e f = go (names_alias s) refl
   where
     go : (u : Bool) → names_alias s ≡ u → Names s
     go true a = inl a
     go false a = inr (rw a at (e ∙ f))
 
-blocks_text : (p : List ℕ → Bool) (s : Spot) (n : List ℕ) → (t : Bool) → (names_alias s || names_member_type s) ≡ t → (not t || p n) ≡ false → Blocks p s (string n)
+blocks_text : (p : List ℕ → Bool) (s : Place) (n : List ℕ) → (t : Bool) → (names_alias s || names_member_type s) ≡ t → (not t || p n) ≡ false → Blocks p s (string n)
 blocks_text p s n true e h = (n, (names_of s true e refl, refl), h)
 blocks_text p s n false e h = absurd (true≢false h)
 
-blocked_item : (p : List ℕ → Bool) (d : Data) (ds : Items) (s : Spot) → (all_named p s d ≡ false) ⊎ (all_named_in_items p s ds ≡ false)
+blocked_item : (p : List ℕ → Bool) (d : Data) (ds : Items) (s : Place) → (all_named p s d ≡ false) ⊎ (all_named_in_items p s ds ≡ false)
     → (all_named p s d ≡ false → Blocks p s d) → (all_named_in_items p s ds ≡ false → (m : List ℕ) × MentionsInItems m s ds × (p m ≡ false)) → (m : List ℕ) × MentionsInItems m s (item d ds) × (p m ≡ false)
 blocked_item p d ds s (inl e) f g = let (m, x, h) = f e in (m, inl x, h)
 blocked_item p d ds s (inr e) f g = let (m, x, h) = g e in (m, inr x, h)
 
-blocked_member : (p : List ℕ → Bool) (k : List ℕ) (d : Data) (ms : Members) (s : Spot) → (all_named p (spot_under s k) d ≡ false) ⊎ (all_named_in_members p s ms ≡ false)
-    → (all_named p (spot_under s k) d ≡ false → Blocks p (spot_under s k) d) → (all_named_in_members p s ms ≡ false → (m : List ℕ) × MentionsInMembers m s ms × (p m ≡ false)) → (m : List ℕ) × MentionsInMembers m s (member k d ms) × (p m ≡ false)
+blocked_member : (p : List ℕ → Bool) (k : List ℕ) (d : Data) (ms : Members) (s : Place) → (all_named p (place_under s k) d ≡ false) ⊎ (all_named_in_members p s ms ≡ false)
+    → (all_named p (place_under s k) d ≡ false → Blocks p (place_under s k) d) → (all_named_in_members p s ms ≡ false → (m : List ℕ) × MentionsInMembers m s ms × (p m ≡ false)) → (m : List ℕ) × MentionsInMembers m s (member k d ms) × (p m ≡ false)
 blocked_member p k d ms s (inl e) f g = let (m, x, h) = f e in (m, inl x, h)
 blocked_member p k d ms s (inr e) f g = let (m, x, h) = g e in (m, inr x, h)
 
 mutual
-  pub blocked : (p : List ℕ → Bool) (v : Data) (s : Spot) → all_named p s v ≡ false → Blocks p s v
+  pub blocked : (p : List ℕ → Bool) (v : Data) (s : Place) → all_named p s v ≡ false → Blocks p s v
   blocked p null s h = absurd (true≢false h)
   blocked p (boolean b) s h = absurd (true≢false h)
   blocked p (number n) s h = absurd (true≢false h)
   blocked p (string n) s h = blocks_text p s n (names_alias s || names_member_type s) refl h
-  blocked p (array ds) s h = blocked_items p ds (spot_of_items s) h
+  blocked p (array ds) s h = blocked_items p ds (place_of_items s) h
   blocked p (object ms) s h = blocked_members p ms s h
 
-  blocked_items : (p : List ℕ → Bool) (ds : Items) (s : Spot) → all_named_in_items p s ds ≡ false → (m : List ℕ) × MentionsInItems m s ds × (p m ≡ false)
+  blocked_items : (p : List ℕ → Bool) (ds : Items) (s : Place) → all_named_in_items p s ds ≡ false → (m : List ℕ) × MentionsInItems m s ds × (p m ≡ false)
   blocked_items p no_items s h = absurd (true≢false h)
   blocked_items p (item d ds) s h = blocked_item p d ds s (either_false (all_named p s d) (all_named_in_items p s ds) h) (blocked p d s) (blocked_items p ds s)
 
-  blocked_members : (p : List ℕ → Bool) (ms : Members) (s : Spot) → all_named_in_members p s ms ≡ false → (m : List ℕ) × MentionsInMembers m s ms × (p m ≡ false)
+  blocked_members : (p : List ℕ → Bool) (ms : Members) (s : Place) → all_named_in_members p s ms ≡ false → (m : List ℕ) × MentionsInMembers m s ms × (p m ≡ false)
   blocked_members p no_members s h = absurd (true≢false h)
-  blocked_members p (member k d ms) s h = blocked_member p k d ms s (either_false (all_named p (spot_under s k) d) (all_named_in_members p s ms) h) (blocked p d (spot_under s k)) (blocked_members p ms s)
+  blocked_members p (member k d ms) s h = blocked_member p k d ms s (either_false (all_named p (place_under s k) d) (all_named_in_members p s ms) h) (blocked p d (place_under s k)) (blocked_members p ms s)
 
 -- ---- an alias with no outcome
 
@@ -87,9 +87,9 @@ module _ (al : Members) where
   open_concluded k st None q (d, f) = (d, open_put k null st.refused q f)
 
   open_step : (k : List ℕ) (w : Data) (st : Outcomes) (q : List ℕ) → IsOpen (step al k w st) q → IsOpen st q
-  open_step k w st q h = go (has_outcome st k) refl (all_named (is_over al st) FieldType w) refl
+  open_step k w st q h = go (has_outcome st k) refl (all_named (is_over al st) places.FieldType w) refl
     where
-      go : (t : Bool) → has_outcome st k ≡ t → (u : Bool) → all_named (is_over al st) FieldType w ≡ u → IsOpen st q
+      go : (t : Bool) → has_outcome st k ≡ t → (u : Bool) → all_named (is_over al st) places.FieldType w ≡ u → IsOpen st q
       go true a u b = rw a at h
       go false a false b = rw (a, b) at h
       go false a true b = open_concluded k st (outcome al st.done w) q (rw (a, b) at h)
@@ -104,19 +104,19 @@ module _ (al : Members) where
   closed k st None (d, f) = true≢false (sym (is_put k null st.refused) ∙ f)
 
   -- an alias that stays open names an open one
-  waits_step : (k : List ℕ) (w : Data) (st : Outcomes) → IsOpen (step al k w st) k → (m : List ℕ) × Mentions m FieldType w × (has al m ≡ true) × IsOpen st m
-  waits_step k w st h = go (has_outcome st k) refl (all_named (is_over al st) FieldType w) refl
+  waits_step : (k : List ℕ) (w : Data) (st : Outcomes) → IsOpen (step al k w st) k → (m : List ℕ) × Mentions m places.FieldType w × (has al m ≡ true) × IsOpen st m
+  waits_step k w st h = go (has_outcome st k) refl (all_named (is_over al st) places.FieldType w) refl
     where
-      go : (t : Bool) → has_outcome st k ≡ t → (u : Bool) → all_named (is_over al st) FieldType w ≡ u → (m : List ℕ) × Mentions m FieldType w × (has al m ≡ true) × IsOpen st m
+      go : (t : Bool) → has_outcome st k ≡ t → (u : Bool) → all_named (is_over al st) places.FieldType w ≡ u → (m : List ℕ) × Mentions m places.FieldType w × (has al m ≡ true) × IsOpen st m
       go true a u b = let o = open_step k w st k h in absurd (true≢false (sym a ∙ either_or (has st.done k) (has st.refused k) o.0 o.1))
       go false a true b = absurd (closed k st (outcome al st.done w) (rw (a, b) at h))
       go false a false b =
-          let (m, x, f) = blocked (is_over al st) w FieldType b in
+          let (m, x, f) = blocked (is_over al st) w places.FieldType b in
           let parts = over_false (has st.done m) (has st.refused m) (has al m) f in
           (m, x, parts.2, (parts.0, parts.1))
 
   abbrev pub Waits : Outcomes → List ℕ → Data → Outcomes → Type 0
-  Waits after k w before = IsOpen after k → (m : List ℕ) × Mentions m FieldType w × (has al m ≡ true) × IsOpen before m
+  Waits after k w before = IsOpen after k → (m : List ℕ) × Mentions m places.FieldType w × (has al m ≡ true) × IsOpen before m
 
   waits_earlier : (k : List ℕ) (w : Data) (st after : Outcomes) (q : List ℕ) (v : Data) → Waits after q v (step al k w st) → Waits after q v st
   waits_earlier k w st after q v f h = let (m, x, known, o) = f h in (m, x, known, open_step k w st m o)
@@ -135,10 +135,10 @@ module _ (al : Members) where
     all_closed ms st (and_second (has_outcome st k) (all_over ms st) h),
   )
 
-  waits_next : (k : List ℕ) (w : Data) (st : Outcomes) → get_member k al ≡ Some w → IsOpen (next_round al st) k → (m : List ℕ) × Mentions m FieldType w × (has al m ≡ true) × IsOpen st m
+  waits_next : (k : List ℕ) (w : Data) (st : Outcomes) → get_member k al ≡ Some w → IsOpen (next_round al st) k → (m : List ℕ) × Mentions m places.FieldType w × (has al m ≡ true) × IsOpen st m
   waits_next k w st is h = go (all_over al st) refl
     where
-      go : (t : Bool) → all_over al st ≡ t → (m : List ℕ) × Mentions m FieldType w × (has al m ≡ true) × IsOpen st m
+      go : (t : Bool) → all_over al st ≡ t → (m : List ℕ) × Mentions m places.FieldType w × (has al m ≡ true) × IsOpen st m
       go true e = absurd (entry_found (λ k w. IsOpen st k → ⊥) al (all_closed al st e) k w is (rw e at h))
       go false e = entry_found (λ k w. Waits (round al al st) k w st) al (waits_round al st) k w is (rw e at h)
 

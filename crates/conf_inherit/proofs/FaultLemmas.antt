@@ -3,16 +3,16 @@ use Rattle.std.proofs.Common.{◌≡◌, ◌&&◌, ◌<◌, ◌+◌, ◌++◌, �
 use Rattle.serde_json.specs.Data.{Data, null, boolean, number, string, array, object, Items, no_items, item, Members, no_members, member, put}
 use Rattle.serde_json.specs.Find.{get_item}
 use Rattle.serde_json.proofs.Views.{get_member-put_other}
-use Rattle.conf_tree.specs.Flaw.{Flaw, Place, key, index, here, within}
+use Rattle.conf_tree.specs.Flaw.{Flaw, Place as Step, key, index, here, within}
 use Rattle.conf_tree.specs.Walk.{HasMember, refusal}
 use Rattle.conf_tree.specs.declared.fault_kind.FaultKind.TheVariants.{WrongKind, NoSuchAlias, NameClash}
-use Rattle.conf_inherit.specs.declared.spot.Spot.{Spot}
-use Rattle.conf_inherit.specs.Spot.{spot_under, spot_of_items, is_entry}
+use Rattle.conf_table.specs.declared.place.Place.{Place}
+use Rattle.conf_inherit.specs.FieldPlaces.{place_under, place_of_items, is_entry}
 use Rattle.conf_inherit.specs.Flaws.{is_wrong, is_unknown, own_flaws, base_flaws, inner_flaws, item_flaws, member_flaws, mark, mark_names}
 use Rattle.conf_inherit.specs.Named.{has}
 use Rattle.conf_inherit.specs.Faults.{Leads, HasEntry, SaysOf, FlawHolds}
 use Rattle.conf_inherit.proofs.LayingLemmas.{Meets, same, other, meets}
-use Rattle.conf_inherit.proofs.SpotLemmas.{entry_list}
+use Rattle.conf_inherit.proofs.FieldPlaceLemmas.{entry_list}
 
 -- a flaw is among those of a list
 abbrev pub Among : Flaw → List Flaw → Type 0
@@ -32,21 +32,21 @@ among_joined f (x ∷ xs) ys (inr h) = elim (among_joined f xs ys h) [ inl a ↦
 pub first_or_rest : {A : Type 0} (f : Flaw) (xs ys : List Flaw) → Among f (xs ++ ys) → (Among f xs → A) → (Among f ys → A) → A
 first_or_rest f xs ys h g k = elim (among_joined f xs ys h) [ inl a ↦ g a | inr a ↦ k a ]
 
-pub among_within : (p : Place) (f : Flaw) (xs : List Flaw) → Among f (map (within p) xs) → (g : Flaw) × (f ≡ within p g) × Among g xs
+pub among_within : (p : Step) (f : Flaw) (xs : List Flaw) → Among f (map (within p) xs) → (g : Flaw) × (f ≡ within p g) × Among g xs
 among_within p f (x ∷ xs) (inl e) = (x, e, inl refl)
 among_within p f (x ∷ xs) (inr h) = let (g, e, a) = among_within p f xs h in (g, e, inr a)
 among_within p f [] h = absurd h
 
 module _ (al : Members) where
   -- one step further out
-  pub holds_in_object : (s : Spot) (k : List ℕ) (d : Data) (ms : Members) (f : Flaw) → HasMember k d ms → FlawHolds al (spot_under s k) d f → FlawHolds al s (object ms) (within (key k) f)
+  pub holds_in_object : (s : Place) (k : List ℕ) (d : Data) (ms : Members) (f : Flaw) → HasMember k d ms → FlawHolds al (place_under s k) d f → FlawHolds al s (object ms) (within (key k) f)
   holds_in_object s k d ms f m (inl (t, w, leads, says)) = inl (t, w, (ms, d, refl, m, leads), says)
   holds_in_object s k d ms f m (inr (inl (e, (front, t, es, i, j, n, path, leads, lists, below, a, b)))) =
       inr (inl (e, (key k ∷ front, t, es, i, j, n, ap (λ p. key k ∷ p) path, (ms, d, refl, m, leads), lists, below, a, b)))
   holds_in_object s k d ms f m (inr (inr (e, (front, n, path, leads, walks)))) =
       inr (inr (e, (key k ∷ front, n, ap (λ p. key k ∷ p) path, (ms, d, refl, m, leads), walks)))
 
-  pub holds_in_list : (s : Spot) (i : ℕ) (d : Data) (es : Items) (f : Flaw) → get_item i es ≡ Some d → FlawHolds al (spot_of_items s) d f → FlawHolds al s (array es) (within (index i) f)
+  pub holds_in_list : (s : Place) (i : ℕ) (d : Data) (es : Items) (f : Flaw) → get_item i es ≡ Some d → FlawHolds al (place_of_items s) d f → FlawHolds al s (array es) (within (index i) f)
   holds_in_list s i d es f m (inl (t, w, leads, says)) = inl (t, w, (es, d, refl, m, leads), says)
   holds_in_list s i d es f m (inr (inl (e, (front, t, ds, x, j, n, path, leads, lists, below, a, b)))) =
       inr (inl (e, (index i ∷ front, t, ds, x, j, n, ap (λ p. index i ∷ p) path, (es, d, refl, m, leads), lists, below, a, b)))
@@ -54,7 +54,7 @@ module _ (al : Members) where
       inr (inr (e, (index i ∷ front, n, ap (λ p. index i ∷ p) path, (es, d, refl, m, leads), walks)))
 
   -- a flaw of a value itself holds, or its name is taken
-  own_holds : (s : Spot) (taken : Bool) (v : Data) (f : Flaw) → Among f (own_flaws al s taken v) → FlawHolds al s v f ⊎ ((f ≡ here NameClash) × (taken ≡ true))
+  own_holds : (s : Place) (taken : Bool) (v : Data) (f : Flaw) → Among f (own_flaws al s taken v) → FlawHolds al s v f ⊎ ((f ≡ here NameClash) × (taken ≡ true))
   own_holds s taken v f h = go (is_wrong s v) refl (is_unknown al s v) refl taken refl
     where
       only : (g : Flaw) → Among f (g ∷ []) → f ≡ g
@@ -71,11 +71,11 @@ module _ (al : Members) where
       go false a false b false e = absurd (rw (a, b, e) at h)
 
   -- a flaw that a value has by itself holds
-  pub flaw_of_itself_holds : (s : Spot) (v : Data) (f : Flaw) → Among f (own_flaws al s false v) → FlawHolds al s v f
+  pub flaw_of_itself_holds : (s : Place) (v : Data) (f : Flaw) → Among f (own_flaws al s false v) → FlawHolds al s v f
   flaw_of_itself_holds s v f h = elim (own_holds s false v f h) [ inl holds ↦ holds | inr bad ↦ absurd (true≢false (sym bad.1)) ]
 
 -- the name of an entry that one before it has
-abbrev Taken : Spot → Members → Data → Flaw → Type 0
+abbrev Taken : Place → Members → Data → Flaw → Type 0
 Taken s seen v f = (n : List ℕ) × (d : Data) × (ms : Members) × (v ≡ object ms) × HasMember n d ms × (is_entry s ≡ true) × (has seen n ≡ true) × (f ≡ within (key n) (here NameClash))
 
 below_next : (j i : ℕ) → j < i → j < suc i
@@ -129,71 +129,71 @@ and_two false b h = absurd (true≢false (sym h))
 
 -- each limit that is listed of the value of a `$inherit` holds
 abbrev pub BasesHold : Members → Option Members → Type 0
-BasesHold al rs = (s : Spot) (k : List ℕ) (d : Data) (f : Flaw) → Among f (base_flaws rs s k d) → FlawHolds al (spot_under s k) d f
+BasesHold al rs = (s : Place) (k : List ℕ) (d : Data) (f : Flaw) → Among f (base_flaws rs s k d) → FlawHolds al (place_under s k) d f
 
 module _ (al : Members) (rs : Option Members) (bases : BasesHold al rs) where
   -- a flaw of an item, or in it
-  item_at : (s : Spot) (es : Items) (i : ℕ) (seen : Members) (e : Data) (f : Flaw) → get_item i es ≡ Some e → Seen es i seen
-      → Among f (map (within (index i)) (own_flaws al (spot_of_items s) false e ++ inner_flaws al rs (spot_of_items s) seen e))
-      → ((g : Flaw) → Among g (inner_flaws al rs (spot_of_items s) seen e) → FlawHolds al (spot_of_items s) e g ⊎ Taken (spot_of_items s) seen e g)
+  item_at : (s : Place) (es : Items) (i : ℕ) (seen : Members) (e : Data) (f : Flaw) → get_item i es ≡ Some e → Seen es i seen
+      → Among f (map (within (index i)) (own_flaws al (place_of_items s) false e ++ inner_flaws al rs (place_of_items s) seen e))
+      → ((g : Flaw) → Among g (inner_flaws al rs (place_of_items s) seen e) → FlawHolds al (place_of_items s) e g ⊎ Taken (place_of_items s) seen e g)
       → FlawHolds al s (array es) f
-  item_at s es i seen e f is before h deeper = go (among_within (index i) f (own_flaws al (spot_of_items s) false e ++ inner_flaws al rs (spot_of_items s) seen e) h)
+  item_at s es i seen e f is before h deeper = go (among_within (index i) f (own_flaws al (place_of_items s) false e ++ inner_flaws al rs (place_of_items s) seen e) h)
     where
-      here_holds : (g : Flaw) → f ≡ within (index i) g → FlawHolds al (spot_of_items s) e g → FlawHolds al s (array es) f
+      here_holds : (g : Flaw) → f ≡ within (index i) g → FlawHolds al (place_of_items s) e g → FlawHolds al s (array es) f
       here_holds g e' holds = subst (FlawHolds al s (array es)) (sym e') (holds_in_list al s i e es g is holds)
 
-      clash : (g : Flaw) → f ≡ within (index i) g → Taken (spot_of_items s) seen e g → FlawHolds al s (array es) f
+      clash : (g : Flaw) → f ≡ within (index i) g → Taken (place_of_items s) seen e g → FlawHolds al s (array es) f
       clash g e' (n, d, ms, v, m, entry, b, flaw) =
           let (j, lt, first) = before n b in
           let all : f ≡ within (index i) (within (key n) (here NameClash)) = e' ∙ ap (within (index i)) flaw in
           inr (inl (ap (λ x. x.kind) all, ([], s, es, j, i, n, ap (λ x. x.path) all, (refl, refl), entry_list s entry, lt, first, (ms, d, is ∙ ap Some v, m))))
 
-      own : (g : Flaw) → f ≡ within (index i) g → FlawHolds al (spot_of_items s) e g ⊎ ((g ≡ here NameClash) × (false ≡ true)) → FlawHolds al s (array es) f
+      own : (g : Flaw) → f ≡ within (index i) g → FlawHolds al (place_of_items s) e g ⊎ ((g ≡ here NameClash) × (false ≡ true)) → FlawHolds al s (array es) f
       own g e' (inl holds) = here_holds g e' holds
       own g e' (inr (x, bad)) = absurd (true≢false (sym bad))
 
-      inner : (g : Flaw) → f ≡ within (index i) g → FlawHolds al (spot_of_items s) e g ⊎ Taken (spot_of_items s) seen e g → FlawHolds al s (array es) f
+      inner : (g : Flaw) → f ≡ within (index i) g → FlawHolds al (place_of_items s) e g ⊎ Taken (place_of_items s) seen e g → FlawHolds al s (array es) f
       inner g e' (inl holds) = here_holds g e' holds
       inner g e' (inr taken) = clash g e' taken
 
-      either : (g : Flaw) → f ≡ within (index i) g → Among g (own_flaws al (spot_of_items s) false e) ⊎ Among g (inner_flaws al rs (spot_of_items s) seen e) → FlawHolds al s (array es) f
-      either g e' (inl a) = own g e' (own_holds al (spot_of_items s) false e g a)
+      either : (g : Flaw) → f ≡ within (index i) g → Among g (own_flaws al (place_of_items s) false e) ⊎ Among g (inner_flaws al rs (place_of_items s) seen e) → FlawHolds al s (array es) f
+      either g e' (inl a) = own g e' (own_holds al (place_of_items s) false e g a)
       either g e' (inr a) = inner g e' (deeper g a)
 
-      go : (g : Flaw) × (f ≡ within (index i) g) × Among g (own_flaws al (spot_of_items s) false e ++ inner_flaws al rs (spot_of_items s) seen e) → FlawHolds al s (array es) f
-      go (g, e', a) = either g e' (among_joined g (own_flaws al (spot_of_items s) false e) (inner_flaws al rs (spot_of_items s) seen e) a)
+      go : (g : Flaw) × (f ≡ within (index i) g) × Among g (own_flaws al (place_of_items s) false e ++ inner_flaws al rs (place_of_items s) seen e) → FlawHolds al s (array es) f
+      go (g, e', a) = either g e' (among_joined g (own_flaws al (place_of_items s) false e) (inner_flaws al rs (place_of_items s) seen e) a)
 
   -- a flaw of a property, or in it
-  member_at : (s : Spot) (ms : Members) (seen : Members) (k : List ℕ) (d : Data) (f : Flaw) → HasMember k d ms
-      → Among f (map (within (key k)) ((own_flaws al (spot_under s k) (is_entry s && has seen k) d ++ inner_flaws al rs (spot_under s k) no_members d) ++ base_flaws rs s k d))
-      → ((g : Flaw) → Among g (inner_flaws al rs (spot_under s k) no_members d) → FlawHolds al (spot_under s k) d g ⊎ Taken (spot_under s k) no_members d g)
+  member_at : (s : Place) (ms : Members) (seen : Members) (k : List ℕ) (d : Data) (f : Flaw) → HasMember k d ms
+      → Among f (map (within (key k)) ((own_flaws al (place_under s k) (is_entry s && has seen k) d ++ inner_flaws al rs (place_under s k) no_members d) ++ base_flaws rs s k d))
+      → ((g : Flaw) → Among g (inner_flaws al rs (place_under s k) no_members d) → FlawHolds al (place_under s k) d g ⊎ Taken (place_under s k) no_members d g)
       → FlawHolds al s (object ms) f ⊎ Taken s seen (object ms) f
-  member_at s ms seen k d f m h deeper = go (among_within (key k) f ((own_flaws al (spot_under s k) (is_entry s && has seen k) d ++ inner_flaws al rs (spot_under s k) no_members d) ++ base_flaws rs s k d) h)
+  member_at s ms seen k d f m h deeper = go (among_within (key k) f ((own_flaws al (place_under s k) (is_entry s && has seen k) d ++ inner_flaws al rs (place_under s k) no_members d) ++ base_flaws rs s k d) h)
     where
-      here_holds : (g : Flaw) → f ≡ within (key k) g → FlawHolds al (spot_under s k) d g → FlawHolds al s (object ms) f
+      here_holds : (g : Flaw) → f ≡ within (key k) g → FlawHolds al (place_under s k) d g → FlawHolds al s (object ms) f
       here_holds g e' holds = subst (FlawHolds al s (object ms)) (sym e') (holds_in_object al s k d ms g m holds)
 
-      own : (g : Flaw) → f ≡ within (key k) g → FlawHolds al (spot_under s k) d g ⊎ ((g ≡ here NameClash) × ((is_entry s && has seen k) ≡ true)) → FlawHolds al s (object ms) f ⊎ Taken s seen (object ms) f
+      own : (g : Flaw) → f ≡ within (key k) g → FlawHolds al (place_under s k) d g ⊎ ((g ≡ here NameClash) × ((is_entry s && has seen k) ≡ true)) → FlawHolds al s (object ms) f ⊎ Taken s seen (object ms) f
       own g e' (inl holds) = inl (here_holds g e' holds)
       own g e' (inr (x, both)) = inr (k, d, ms, refl, m, and_one (is_entry s) (has seen k) both, and_two (is_entry s) (has seen k) both, e' ∙ ap (within (key k)) x)
 
-      inner : (g : Flaw) → f ≡ within (key k) g → FlawHolds al (spot_under s k) d g ⊎ Taken (spot_under s k) no_members d g → FlawHolds al s (object ms) f ⊎ Taken s seen (object ms) f
+      inner : (g : Flaw) → f ≡ within (key k) g → FlawHolds al (place_under s k) d g ⊎ Taken (place_under s k) no_members d g → FlawHolds al s (object ms) f ⊎ Taken s seen (object ms) f
       inner g e' (inl holds) = inl (here_holds g e' holds)
       inner g e' (inr (n, d', ns, v, m', entry, b, flaw)) = absurd (none_seen n b)
 
-      either : (g : Flaw) → f ≡ within (key k) g → Among g (own_flaws al (spot_under s k) (is_entry s && has seen k) d) ⊎ Among g (inner_flaws al rs (spot_under s k) no_members d) → FlawHolds al s (object ms) f ⊎ Taken s seen (object ms) f
-      either g e' (inl a) = own g e' (own_holds al (spot_under s k) (is_entry s && has seen k) d g a)
+      either : (g : Flaw) → f ≡ within (key k) g → Among g (own_flaws al (place_under s k) (is_entry s && has seen k) d) ⊎ Among g (inner_flaws al rs (place_under s k) no_members d) → FlawHolds al s (object ms) f ⊎ Taken s seen (object ms) f
+      either g e' (inl a) = own g e' (own_holds al (place_under s k) (is_entry s && has seen k) d g a)
       either g e' (inr a) = inner g e' (deeper g a)
 
-      with_base : (g : Flaw) → f ≡ within (key k) g → Among g (own_flaws al (spot_under s k) (is_entry s && has seen k) d ++ inner_flaws al rs (spot_under s k) no_members d) ⊎ Among g (base_flaws rs s k d) → FlawHolds al s (object ms) f ⊎ Taken s seen (object ms) f
-      with_base g e' (inl a) = either g e' (among_joined g (own_flaws al (spot_under s k) (is_entry s && has seen k) d) (inner_flaws al rs (spot_under s k) no_members d) a)
+      with_base : (g : Flaw) → f ≡ within (key k) g → Among g (own_flaws al (place_under s k) (is_entry s && has seen k) d ++ inner_flaws al rs (place_under s k) no_members d) ⊎ Among g (base_flaws rs s k d) → FlawHolds al s (object ms) f ⊎ Taken s seen (object ms) f
+      with_base g e' (inl a) = either g e' (among_joined g (own_flaws al (place_under s k) (is_entry s && has seen k) d) (inner_flaws al rs (place_under s k) no_members d) a)
       with_base g e' (inr a) = inl (here_holds g e' (bases s k d g a))
 
-      go : (g : Flaw) × (f ≡ within (key k) g) × Among g ((own_flaws al (spot_under s k) (is_entry s && has seen k) d ++ inner_flaws al rs (spot_under s k) no_members d) ++ base_flaws rs s k d) → FlawHolds al s (object ms) f ⊎ Taken s seen (object ms) f
-      go (g, e', a) = with_base g e' (among_joined g (own_flaws al (spot_under s k) (is_entry s && has seen k) d ++ inner_flaws al rs (spot_under s k) no_members d) (base_flaws rs s k d) a)
+      go : (g : Flaw) × (f ≡ within (key k) g) × Among g ((own_flaws al (place_under s k) (is_entry s && has seen k) d ++ inner_flaws al rs (place_under s k) no_members d) ++ base_flaws rs s k d) → FlawHolds al s (object ms) f ⊎ Taken s seen (object ms) f
+      go (g, e', a) = with_base g e' (among_joined g (own_flaws al (place_under s k) (is_entry s && has seen k) d ++ inner_flaws al rs (place_under s k) no_members d) (base_flaws rs s k d) a)
 
   mutual
-    inner_holds : (v : Data) (s : Spot) (seen : Members) (f : Flaw) → Among f (inner_flaws al rs s seen v) → FlawHolds al s v f ⊎ Taken s seen v f
+    inner_holds : (v : Data) (s : Place) (seen : Members) (f : Flaw) → Among f (inner_flaws al rs s seen v) → FlawHolds al s v f ⊎ Taken s seen v f
     inner_holds null s seen f h = absurd h
     inner_holds (boolean b) s seen f h = absurd h
     inner_holds (number n) s seen f h = absurd h
@@ -201,22 +201,22 @@ module _ (al : Members) (rs : Option Members) (bases : BasesHold al rs) where
     inner_holds (array es) s seen f h = inl (items_hold es s es 0 no_members f (λ j d g. let same : j ≡ 0 + j = omega arith in subst (λ x. get_item x es ≡ Some d) same g) (λ n b. absurd (none_seen n b)) h)
     inner_holds (object ms) s seen f h = members_hold ms s ms seen f (λ k d m. m) h
 
-    items_hold : (rest : Items) (s : Spot) (es : Items) (i : ℕ) (seen : Members) (f : Flaw) → Aligned es i rest → Seen es i seen → Among f (item_flaws al rs s i seen rest) → FlawHolds al s (array es) f
+    items_hold : (rest : Items) (s : Place) (es : Items) (i : ℕ) (seen : Members) (f : Flaw) → Aligned es i rest → Seen es i seen → Among f (item_flaws al rs s i seen rest) → FlawHolds al s (array es) f
     items_hold no_items s es i seen f al' before h = absurd h
     items_hold (item e rest) s es i seen f al' before h =
-        first_or_rest f (map (within (index i)) (own_flaws al (spot_of_items s) false e ++ inner_flaws al rs (spot_of_items s) seen e)) (item_flaws al rs s (suc i) (mark e seen) rest) h
-        (λ a. item_at s es i seen e f (aligned_here es i e rest al') before a (λ g b. inner_holds e (spot_of_items s) seen g b))
+        first_or_rest f (map (within (index i)) (own_flaws al (place_of_items s) false e ++ inner_flaws al rs (place_of_items s) seen e)) (item_flaws al rs s (suc i) (mark e seen) rest) h
+        (λ a. item_at s es i seen e f (aligned_here es i e rest al') before a (λ g b. inner_holds e (place_of_items s) seen g b))
         (λ a. items_hold rest s es (suc i) (mark e seen) f (aligned_next es i e rest al') (seen_next_at es i e seen (aligned_here es i e rest al') before) a)
 
-    members_hold : (rest : Members) (s : Spot) (ms : Members) (seen : Members) (f : Flaw) → ((k : List ℕ) (d : Data) → HasMember k d rest → HasMember k d ms) → Among f (member_flaws al rs s seen rest) → FlawHolds al s (object ms) f ⊎ Taken s seen (object ms) f
+    members_hold : (rest : Members) (s : Place) (ms : Members) (seen : Members) (f : Flaw) → ((k : List ℕ) (d : Data) → HasMember k d rest → HasMember k d ms) → Among f (member_flaws al rs s seen rest) → FlawHolds al s (object ms) f ⊎ Taken s seen (object ms) f
     members_hold no_members s ms seen f within_all h = absurd h
     members_hold (member k d rest) s ms seen f within_all h =
-        first_or_rest f (map (within (key k)) ((own_flaws al (spot_under s k) (is_entry s && has seen k) d ++ inner_flaws al rs (spot_under s k) no_members d) ++ base_flaws rs s k d)) (member_flaws al rs s seen rest) h
-        (λ a. member_at s ms seen k d f (within_all k d (inl (refl, refl))) a (λ g b. inner_holds d (spot_under s k) no_members g b))
+        first_or_rest f (map (within (key k)) ((own_flaws al (place_under s k) (is_entry s && has seen k) d ++ inner_flaws al rs (place_under s k) no_members d) ++ base_flaws rs s k d)) (member_flaws al rs s seen rest) h
+        (λ a. member_at s ms seen k d f (within_all k d (inl (refl, refl))) a (λ g b. inner_holds d (place_under s k) no_members g b))
         (λ a. members_hold rest s ms seen f (λ q e m. within_all q e (inr m)) a)
 
   -- each flaw of a value, with no entry before it, holds
-  pub flaw_holds : (s : Spot) (v : Data) (f : Flaw) → Among f (own_flaws al s false v ++ inner_flaws al rs s no_members v) → FlawHolds al s v f
+  pub flaw_holds : (s : Place) (v : Data) (f : Flaw) → Among f (own_flaws al s false v ++ inner_flaws al rs s no_members v) → FlawHolds al s v f
   flaw_holds s v f h = first_or_rest f (own_flaws al s false v) (inner_flaws al rs s no_members v) h own inner
     where
       own : Among f (own_flaws al s false v) → FlawHolds al s v f
@@ -225,15 +225,15 @@ module _ (al : Members) (rs : Option Members) (bases : BasesHold al rs) where
       inner : Among f (inner_flaws al rs s no_members v) → FlawHolds al s v f
       inner a = elim (inner_holds v s no_members f a) [ inl holds ↦ holds | inr taken ↦ absurd (none_seen taken.0 taken.6) ]
 
-  among_mapped : (p : Place) (f g : Flaw) (xs : List Flaw) → f ≡ within p g → Among g xs → Among f (map (within p) xs)
+  among_mapped : (p : Step) (f g : Flaw) (xs : List Flaw) → f ≡ within p g → Among g xs → Among f (map (within p) xs)
   among_mapped p f g (x ∷ xs) e (inl is) = inl (e ∙ ap (within p) is)
   among_mapped p f g (x ∷ xs) e (inr h) = inr (among_mapped p f g xs e h)
   among_mapped p f g [] e h = absurd h
 
   -- a flaw of an entry, with the names of the entries before it, holds, and so does what else is wrong in it
-  pub entry_holds : (s : Spot) (es : Items) (i : ℕ) (seen : Members) (e : Data) (f : Flaw) (more : List Flaw) → get_item i es ≡ Some e → Seen es i seen
-      → (g : Flaw) × (f ≡ within (index i) g) × Among g ((own_flaws al (spot_of_items s) false e ++ inner_flaws al rs (spot_of_items s) seen e) ++ more)
-      → ((g : Flaw) → Among g more → FlawHolds al (spot_of_items s) e g) → FlawHolds al s (array es) f
-  entry_holds s es i seen e f more is before (g, same_f, a) deeper = first_or_rest g (own_flaws al (spot_of_items s) false e ++ inner_flaws al rs (spot_of_items s) seen e) more a
-      (λ b. item_at s es i seen e f is before (among_mapped (index i) f g (own_flaws al (spot_of_items s) false e ++ inner_flaws al rs (spot_of_items s) seen e) same_f b) (λ x c. inner_holds e (spot_of_items s) seen x c))
+  pub entry_holds : (s : Place) (es : Items) (i : ℕ) (seen : Members) (e : Data) (f : Flaw) (more : List Flaw) → get_item i es ≡ Some e → Seen es i seen
+      → (g : Flaw) × (f ≡ within (index i) g) × Among g ((own_flaws al (place_of_items s) false e ++ inner_flaws al rs (place_of_items s) seen e) ++ more)
+      → ((g : Flaw) → Among g more → FlawHolds al (place_of_items s) e g) → FlawHolds al s (array es) f
+  entry_holds s es i seen e f more is before (g, same_f, a) deeper = first_or_rest g (own_flaws al (place_of_items s) false e ++ inner_flaws al rs (place_of_items s) seen e) more a
+      (λ b. item_at s es i seen e f is before (among_mapped (index i) f g (own_flaws al (place_of_items s) false e ++ inner_flaws al rs (place_of_items s) seen e) same_f b) (λ x c. inner_holds e (place_of_items s) seen x c))
       (λ b. subst (FlawHolds al s (array es)) (sym same_f) (holds_in_list al s i e es g is (deeper g b)))

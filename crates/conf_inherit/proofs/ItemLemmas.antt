@@ -7,10 +7,10 @@ use Rattle.serde_json.specs.Find.{get_member}
 use Rattle.serde_json.specs.View.{view, items_view}
 use Rattle.serde_json.specs.declared.value.Value.{Value}
 use Rattle.conf_inherit.specs.Names.{names_of, join_members, join_items}
-use Rattle.conf_inherit.specs.declared.spot.Spot.TheVariants.{MemberValue}
+use Rattle.conf_table.specs.declared.place.Place.TheVariants as places
 use Rattle.conf_inherit.specs.Laying.{lay, has_entry, lay_members, lay_new_member}
-use Rattle.conf_inherit.specs.Spot.{spot_under, is_base_name}
-use Rattle.conf_inherit.specs.declared.spot.Spot.{Spot}
+use Rattle.conf_inherit.specs.FieldPlaces.{place_under, is_base_name}
+use Rattle.conf_table.specs.declared.place.Place.{Place}
 use Rattle.conf_inherit.proofs.LayingLemmas.{Meets, same, other, meets, get_other, get_same}
 
 pub join_none : (ds : Items) → join_items ds no_items ≡ ds
@@ -58,10 +58,10 @@ any_joined_later n (member l d a) more h = go (bytes_eq n l) refl (any_joined_la
 
 -- an entry that the base has not comes before the later new ones
 pub new_member_fresh : (done : Members) (n : List ℕ) (d : Data) (ms : Members) (seen rest : Items) → has_entry n seen ≡ false
-    → lay_new_member done (member n d ms) seen rest ≡ item (object (member n (lay done MemberValue d None) no_members)) (lay_new_member done ms seen rest)
+    → lay_new_member done (member n d ms) seen rest ≡ item (object (member n (lay done places.Member d None) no_members)) (lay_new_member done ms seen rest)
 new_member_fresh done n d ms seen rest h = rw h refl
 
 -- a property that is no base goes over the base's
-pub lay_members-first : (done : Members) (s : Spot) (n : List ℕ) (d : Data) (ms base : Members) → is_base_name s n ≡ false
-    → lay_members done s (member n d ms) base ≡ put n (lay done (spot_under s n) d (get_member n base)) (lay_members done s ms base)
+pub lay_members-first : (done : Members) (s : Place) (n : List ℕ) (d : Data) (ms base : Members) → is_base_name s n ≡ false
+    → lay_members done s (member n d ms) base ≡ put n (lay done (place_under s n) d (get_member n base)) (lay_members done s ms base)
 lay_members-first done s n d ms base h = rw h refl

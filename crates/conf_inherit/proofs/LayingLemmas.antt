@@ -8,9 +8,9 @@ use Rattle.std.specs.Ordering.{match_ordering}
 use Rattle.serde_json.specs.Data.{Data, array, Items, Members, no_members, member, put}
 use Rattle.serde_json.specs.Find.{get_member}
 use Rattle.serde_json.proofs.Views.{get_member-put, get_member-put_other}
-use Rattle.conf_inherit.specs.declared.spot.Spot.{Spot}
-use Rattle.conf_inherit.specs.declared.spot.Spot.TheVariants.{FieldType}
-use Rattle.conf_inherit.specs.Spot.{spot_under, is_base_name, lists_members}
+use Rattle.conf_table.specs.declared.place.Place.{Place}
+use Rattle.conf_table.specs.declared.place.Place.TheVariants as places
+use Rattle.conf_inherit.specs.FieldPlaces.{place_under, is_base_name, lists_members}
 use Rattle.conf_inherit.specs.Names.{AllAbove, IsInOrder, join_items, map_items}
 use Rattle.conf_inherit.specs.Looks.{base_of}
 use Rattle.conf_inherit.specs.Laying.{items_below, lay, lay_base, lay_members, lay_over, lay_new}
@@ -77,7 +77,7 @@ get_same k l d ms e = subst (λ x. get_member x (member l d ms) ≡ Some d) (sym
 
 -- ---- what an object is laid over
 
-pub lay_base-own : (done : Members) (s : Spot) (ms : Members) (base : Option Data) → base_of s ms ≡ None → lay_base done s ms base ≡ base
+pub lay_base-own : (done : Members) (s : Place) (ms : Members) (base : Option Data) → base_of s ms ≡ None → lay_base done s ms base ≡ base
 lay_base-own done s no_members base h = refl
 lay_base-own done s (member k d ms) base h = go _ refl (lay_base-own done s ms base)
   where
@@ -85,23 +85,23 @@ lay_base-own done s (member k d ms) base h = go _ refl (lay_base-own done s ms b
     go true is rest = absurd (let e : Some d ≡ None = rw is at h in cc)
     go false is rest = rw is (rest (rw is at h))
 
-pub lay_base-heir : (done : Members) (s : Spot) (ms : Members) (base : Option Data) (b : Data) → base_of s ms ≡ Some b → lay_base done s ms base ≡ Some (lay done FieldType b None)
+pub lay_base-heir : (done : Members) (s : Place) (ms : Members) (base : Option Data) (b : Data) → base_of s ms ≡ Some b → lay_base done s ms base ≡ Some (lay done places.FieldType b None)
 lay_base-heir done s no_members base b h = cc
 lay_base-heir done s (member k d ms) base b h = go _ refl (lay_base-heir done s ms base b)
   where
-    go : (t : Bool) → is_base_name s k ≡ t → (base_of s ms ≡ Some b → lay_base done s ms base ≡ Some (lay done FieldType b None)) → lay_base done s (member k d ms) base ≡ Some (lay done FieldType b None)
-    go true is rest = let e : Some d ≡ Some b = rw is at h in let same : d ≡ b = cc in rw is (ap (λ x. Some (lay done FieldType x None)) same)
+    go : (t : Bool) → is_base_name s k ≡ t → (base_of s ms ≡ Some b → lay_base done s ms base ≡ Some (lay done places.FieldType b None)) → lay_base done s (member k d ms) base ≡ Some (lay done places.FieldType b None)
+    go true is rest = let e : Some d ≡ Some b = rw is at h in let same : d ≡ b = cc in rw is (ap (λ x. Some (lay done places.FieldType x None)) same)
     go false is rest = rw is (rest (rw is at h))
 
 -- ---- the entries
 
-pub lay_entries : (done : Members) (s : Spot) (es : Items) (base : Option Data) → lists_members s ≡ true
+pub lay_entries : (done : Members) (s : Place) (es : Items) (base : Option Data) → lists_members s ≡ true
     → lay done s (array es) base ≡ array (join_items (map_items (λ b. lay_over done es b) (items_below base)) (lay_new done es (items_below base)))
 lay_entries done s es base is = rw is refl
 
 -- ---- the properties
 
-pub in_order_lay : (done : Members) (s : Spot) (ms base : Members) → IsInOrder base → IsInOrder (lay_members done s ms base)
+pub in_order_lay : (done : Members) (s : Place) (ms base : Members) → IsInOrder base → IsInOrder (lay_members done s ms base)
 in_order_lay done s no_members base h = h
 in_order_lay done s (member k d ms) base h = go _ refl (in_order_lay done s ms base h)
   where
@@ -110,7 +110,7 @@ in_order_lay done s (member k d ms) base h = go _ refl (in_order_lay done s ms b
     go false is rest = rw is (in_order_put k _ _ rest)
 
 -- a name that inheritance takes keeps what the base has
-pub lay_members-base : (done : Members) (s : Spot) (k : List ℕ) (ms base : Members) → is_base_name s k ≡ true → get_member k (lay_members done s ms base) ≡ get_member k base
+pub lay_members-base : (done : Members) (s : Place) (k : List ℕ) (ms base : Members) → is_base_name s k ≡ true → get_member k (lay_members done s ms base) ≡ get_member k base
 lay_members-base done s k no_members base h = refl
 lay_members-base done s k (member l d ms) base h = go _ refl (lay_members-base done s k ms base h)
   where
@@ -119,7 +119,7 @@ lay_members-base done s k (member l d ms) base h = go _ refl (lay_members-base d
     go false is rest = rw is (get_member-put_other k l _ _ (λ e. true≢false (sym h ∙ ap (is_base_name s) e ∙ is)) ∙ rest)
 
 -- a name that the object has not keeps what the base has
-pub lay_members-absent : (done : Members) (s : Spot) (k : List ℕ) (ms base : Members) → get_member k ms ≡ None → get_member k (lay_members done s ms base) ≡ get_member k base
+pub lay_members-absent : (done : Members) (s : Place) (k : List ℕ) (ms base : Members) → get_member k ms ≡ None → get_member k (lay_members done s ms base) ≡ get_member k base
 lay_members-absent done s k no_members base h = refl
 lay_members-absent done s k (member l d ms) base h = go _ refl (meets k l) (lay_members-absent done s k ms base)
   where
@@ -129,17 +129,17 @@ lay_members-absent done s k (member l d ms) base h = go _ refl (meets k l) (lay_
     go false is (other apart) rest = rw is (get_member-put_other k l _ _ apart ∙ rest (sym (get_other k l d ms apart) ∙ h))
 
 -- a name that the object has gets its value, laid over the base's
-pub lay_members-found : (done : Members) (s : Spot) (k : List ℕ) (v : Data) (ms base : Members) → is_base_name s k ≡ false → get_member k ms ≡ Some v
-    → get_member k (lay_members done s ms base) ≡ Some (lay done (spot_under s k) v (get_member k base))
+pub lay_members-found : (done : Members) (s : Place) (k : List ℕ) (v : Data) (ms base : Members) → is_base_name s k ≡ false → get_member k ms ≡ Some v
+    → get_member k (lay_members done s ms base) ≡ Some (lay done (place_under s k) v (get_member k base))
 lay_members-found done s k v no_members base b h = cc
 lay_members-found done s k v (member l d ms) base b h = go _ refl (meets k l) (lay_members-found done s k v ms base b)
   where
-    go : (t : Bool) → is_base_name s l ≡ t → Meets k l → (get_member k ms ≡ Some v → get_member k (lay_members done s ms base) ≡ Some (lay done (spot_under s k) v (get_member k base)))
-        → get_member k (lay_members done s (member l d ms) base) ≡ Some (lay done (spot_under s k) v (get_member k base))
+    go : (t : Bool) → is_base_name s l ≡ t → Meets k l → (get_member k ms ≡ Some v → get_member k (lay_members done s ms base) ≡ Some (lay done (place_under s k) v (get_member k base)))
+        → get_member k (lay_members done s (member l d ms) base) ≡ Some (lay done (place_under s k) v (get_member k base))
     go true is (same e) rest = absurd (true≢false (sym is ∙ ap (is_base_name s) (sym e) ∙ b))
     go false is (same e) rest =
         let f : Some d ≡ Some v = sym (get_same k l d ms e) ∙ h in
         let g : d ≡ v = cc in
-        rw is (put_found k l _ _ e ∙ ap (λ x. Some (lay done (spot_under s x) d (get_member x base))) (sym e) ∙ ap (λ x. Some (lay done (spot_under s k) x (get_member k base))) g)
+        rw is (put_found k l _ _ e ∙ ap (λ x. Some (lay done (place_under s x) d (get_member x base))) (sym e) ∙ ap (λ x. Some (lay done (place_under s k) x (get_member k base))) g)
     go true is (other apart) rest = rw is (rest (sym (get_other k l d ms apart) ∙ h))
     go false is (other apart) rest = rw is (get_member-put_other k l _ _ apart ∙ rest (sym (get_other k l d ms apart) ∙ h))

@@ -3,51 +3,51 @@ use Rattle.std.proofs.Common.{if◌then◌else◌, ◌≡◌, ℕ, List, [], ◌
 use Rattle.std.specs.List.{list_any}
 use Rattle.serde_json.specs.Data.{Data, null, boolean, number, string, array, object, Items, no_items, item, Members, no_members, member}
 use Rattle.serde_json.specs.Find.{get_member}
-use Rattle.conf_inherit.specs.declared.spot.Spot.{Spot}
-use Rattle.conf_inherit.specs.declared.spot.Spot.TheVariants.{FieldType, MemberValue, Entry}
-use Rattle.conf_inherit.specs.Spot.{spot_under, names_alias, names_member_type, is_base_name, lists_members, field_type_name}
+use Rattle.conf_table.specs.declared.place.Place.{Place}
+use Rattle.conf_table.specs.declared.place.Place.TheVariants as places
+use Rattle.conf_inherit.specs.FieldPlaces.{place_under, names_alias, names_member_type, is_base_name, lists_members, field_type_name}
 use Rattle.conf_inherit.specs.Names.{IsInOrder, NoClash, properties_of, items_in, entries_of, names_of, new_names, join_members, join_items, map_items, cons_some, values_in, entry_values, member_names, joined}
 use Rattle.conf_inherit.specs.Looks.{Chain, nothing, alias, member_alias, heir, own, a_list, plain, Looks, looks, Shows, a_scalar, an_object, the_members, a_join, Entries, no_entry, an_entry, base_of, if_objects, if_lists, values_at, IsPlain, AreResolved}
 use Rattle.conf_inherit.specs.Laying.{lay, has_entry, lay_base, lay_members, lay_over, lay_new, lay_new_member, lay_text, members_below, items_below}
 use Rattle.conf_inherit.specs.Ready.{Names, IsReady, AreReady, HasReady}
-use Rattle.conf_inherit.proofs.SpotLemmas.{alias_spot, member_spot, list_spot, entry_spot, member_type_spot, type_is_no_base, alias_field, base_spot, SameSpot, inheriting_spot}
+use Rattle.conf_inherit.proofs.FieldPlaceLemmas.{alias_place, member_value_place, list_place, entry_place, member_type_place, type_is_no_base, alias_field, base_place, SamePlace, inheriting_place}
 use Rattle.conf_inherit.proofs.LayingLemmas.{Meets, same, other, meets, get_other, get_same, lay_base-own, lay_base-heir, in_order_lay, lay_members-base, lay_members-absent, lay_members-found}
 use Rattle.conf_inherit.proofs.ListLemmas.{has_entry_names, over_entries, new_entries, over_absent, over_found, entry_names, entries_joined, AllEntries, found_each, no_values}
 
 -- what a base stands for: no values, or those that are looked up as it
-abbrev pub StandsFor : Members → Spot → List Data → Option Data → Type 0
+abbrev pub StandsFor : Members → Place → List Data → Option Data → Type 0
 StandsFor al s vs None = vs ≡ []
 StandsFor al s vs (Some b) = Looks al s vs b
 
 module _ (al done : Members) where
   -- laid over what stands for other values, it is looked up among itself and them
-  abbrev pub Lays : Spot → Data → Type 0
+  abbrev pub Lays : Place → Data → Type 0
   Lays s v = (vs : List Data) (base : Option Data) → StandsFor al s vs base → Looks al s (v ∷ vs) (lay done s v base)
 
 -- what the objects of a chain show, name by name
-pub record Ground (al : Members) (s : Spot) (cs : List Data) (acc : Members) : Type 0 where
+pub record Ground (al : Members) (s : Place) (cs : List Data) (acc : Members) : Type 0 where
   pub in_order : IsInOrder acc
-  pub found : (k : List ℕ) (r : Data) → get_member k acc ≡ Some r → Looks al (spot_under s k) (values_at s k cs) r
+  pub found : (k : List ℕ) (r : Data) → get_member k acc ≡ Some r → Looks al (place_under s k) (values_at s k cs) r
   pub absent : (k : List ℕ) → get_member k acc ≡ None → values_at s k cs ≡ []
 
 module _ (al : Members) where
-  no_values_at : (s : Spot) (k : List ℕ) → values_at s k [] ≡ []
+  no_values_at : (s : Place) (k : List ℕ) → values_at s k [] ≡ []
   no_values_at s k = go (is_base_name s k) refl
     where
       go : (t : Bool) → is_base_name s k ≡ t → values_at s k [] ≡ []
       go true is = rw is refl
       go false is = rw is refl
 
-  values_at-base : (s : Spot) (k : List ℕ) (cs : List Data) → is_base_name s k ≡ true → values_at s k cs ≡ []
+  values_at-base : (s : Place) (k : List ℕ) (cs : List Data) → is_base_name s k ≡ true → values_at s k cs ≡ []
   values_at-base s k cs is = rw is refl
 
-  values_at-other : (s : Spot) (k : List ℕ) (cs : List Data) → is_base_name s k ≡ false → values_at s k cs ≡ values_in k cs
+  values_at-other : (s : Place) (k : List ℕ) (cs : List Data) → is_base_name s k ≡ false → values_at s k cs ≡ values_in k cs
   values_at-other s k cs is = rw is refl
 
-  pub no_ground : (s : Spot) → Ground al s [] no_members
+  pub no_ground : (s : Place) → Ground al s [] no_members
   no_ground s = record { in_order = tt; found = λ k r e. cc; absent = λ k e. no_values_at s k }
 
-  ground_scalar : (s : Spot) (v : Data) → IsPlain s v → Ground al s (if_objects (v ∷ [])) (properties_of v)
+  ground_scalar : (s : Place) (v : Data) → IsPlain s v → Ground al s (if_objects (v ∷ [])) (properties_of v)
   ground_scalar s null p = no_ground s
   ground_scalar s (boolean b) p = no_ground s
   ground_scalar s (number n) p = no_ground s
@@ -55,48 +55,48 @@ module _ (al : Members) where
   ground_scalar s (array es) p = absurd p
   ground_scalar s (object ms) p = absurd p
 
-  pub ground_shown : {s : Spot} {cs : List Data} {b : Data} → Shows al s cs b → Ground al s (if_objects cs) (properties_of b)
+  pub ground_shown : {s : Place} {cs : List Data} {b : Data} → Shows al s cs b → Ground al s (if_objects cs) (properties_of b)
   ground_shown {s} (a_scalar {v = v} p) = ground_scalar s v p
   ground_shown (an_object o f g) = record { in_order = o; found = f; absent = g }
   ground_shown {s} (the_members m e) = no_ground s
   ground_shown {s} (a_join m) = no_ground s
 
   -- the chain of what a base stands for, and what its objects show
-  pub ground_below : (s : Spot) (vs : List Data) (base : Option Data) → StandsFor al s vs base → (cs : List Data) × Chain al s vs cs × Ground al s (if_objects cs) (members_below base)
+  pub ground_below : (s : Place) (vs : List Data) (base : Option Data) → StandsFor al s vs base → (cs : List Data) × Chain al s vs cs × Ground al s (if_objects cs) (members_below base)
   ground_below s vs None e = ([], subst (λ x. Chain al s x []) (sym e) nothing, no_ground s)
   ground_below s vs (Some b) (looks {cs = cs} c h) = (cs, c, ground_shown h)
 
-  pub ground_along : (s : Spot) (cs : List Data) (acc : Members) → SameSpot s → Ground al FieldType cs acc → Ground al s cs acc
+  pub ground_along : (s : Place) (cs : List Data) (acc : Members) → SamePlace s → Ground al places.FieldType cs acc → Ground al s cs acc
   ground_along s cs acc alike g = record {
     in_order = g.in_order;
-    found = λ k r e. subst (λ x. Looks al x (values_at s k cs) r) (sym (alike.under k)) (subst (λ b. Looks al (spot_under FieldType k) (if b then [] else values_in k cs) r) (sym (alike.base k)) (g.found k r e));
+    found = λ k r e. subst (λ x. Looks al x (values_at s k cs) r) (sym (alike.under k)) (subst (λ b. Looks al (place_under places.FieldType k) (if b then [] else values_in k cs) r) (sym (alike.base k)) (g.found k r e));
     absent = λ k e. rw (alike.base k) (g.absent k e);
   }
 
 module _ (al done : Members) where
   -- an object laid over what other objects show
-  object_shown : (s : Spot) (ms : Members) (cs : List Data) (acc : Members) → Ground al s cs acc
-      → ((k : List ℕ) (d : Data) → get_member k ms ≡ Some d → Lays al done (spot_under s k) d)
+  object_shown : (s : Place) (ms : Members) (cs : List Data) (acc : Members) → Ground al s cs acc
+      → ((k : List ℕ) (d : Data) → get_member k ms ≡ Some d → Lays al done (place_under s k) d)
       → Shows al s (object ms ∷ cs) (object (lay_members done s ms acc))
   object_shown s ms cs acc g each = an_object (in_order_lay done s ms acc g.in_order) found absent
     where
-      base_below : (k : List ℕ) (o : Option Data) → get_member k acc ≡ o → is_base_name s k ≡ false → StandsFor al (spot_under s k) (values_in k cs) o
+      base_below : (k : List ℕ) (o : Option Data) → get_member k acc ≡ o → is_base_name s k ≡ false → StandsFor al (place_under s k) (values_in k cs) o
       base_below k None e is = sym (values_at-other al s k cs is) ∙ g.absent k e
-      base_below k (Some b) e is = subst (λ x. Looks al (spot_under s k) x b) (values_at-other al s k cs is) (g.found k b e)
+      base_below k (Some b) e is = subst (λ x. Looks al (place_under s k) x b) (values_at-other al s k cs is) (g.found k b e)
 
-      by_value : (k : List ℕ) (r : Data) (o : Option Data) → get_member k ms ≡ o → is_base_name s k ≡ false → get_member k (lay_members done s ms acc) ≡ Some r → Looks al (spot_under s k) (cons_some o (values_in k cs)) r
-      by_value k r None e is h = subst (λ x. Looks al (spot_under s k) x r) (values_at-other al s k cs is) (g.found k r (sym (lay_members-absent done s k ms acc e) ∙ h))
+      by_value : (k : List ℕ) (r : Data) (o : Option Data) → get_member k ms ≡ o → is_base_name s k ≡ false → get_member k (lay_members done s ms acc) ≡ Some r → Looks al (place_under s k) (cons_some o (values_in k cs)) r
+      by_value k r None e is h = subst (λ x. Looks al (place_under s k) x r) (values_at-other al s k cs is) (g.found k r (sym (lay_members-absent done s k ms acc e) ∙ h))
       by_value k r (Some d) e is h =
-          let f : Some (lay done (spot_under s k) d (get_member k acc)) ≡ Some r = sym (lay_members-found done s k d ms acc is e) ∙ h in
-          let same : lay done (spot_under s k) d (get_member k acc) ≡ r = cc in
-          subst (λ x. Looks al (spot_under s k) (d ∷ values_in k cs) x) same (each k d e (values_in k cs) (get_member k acc) (base_below k (get_member k acc) refl is))
+          let f : Some (lay done (place_under s k) d (get_member k acc)) ≡ Some r = sym (lay_members-found done s k d ms acc is e) ∙ h in
+          let same : lay done (place_under s k) d (get_member k acc) ≡ r = cc in
+          subst (λ x. Looks al (place_under s k) (d ∷ values_in k cs) x) same (each k d e (values_in k cs) (get_member k acc) (base_below k (get_member k acc) refl is))
 
-      found : (k : List ℕ) (r : Data) → get_member k (lay_members done s ms acc) ≡ Some r → Looks al (spot_under s k) (values_at s k (object ms ∷ cs)) r
+      found : (k : List ℕ) (r : Data) → get_member k (lay_members done s ms acc) ≡ Some r → Looks al (place_under s k) (values_at s k (object ms ∷ cs)) r
       found k r h = go (is_base_name s k) refl
         where
-          go : (t : Bool) → is_base_name s k ≡ t → Looks al (spot_under s k) (values_at s k (object ms ∷ cs)) r
-          go true is = subst (λ x. Looks al (spot_under s k) x r) (values_at-base al s k cs is ∙ sym (values_at-base al s k (object ms ∷ cs) is)) (g.found k r (sym (lay_members-base done s k ms acc is) ∙ h))
-          go false is = subst (λ x. Looks al (spot_under s k) x r) (sym (values_at-other al s k (object ms ∷ cs) is)) (by_value k r (get_member k ms) refl is h)
+          go : (t : Bool) → is_base_name s k ≡ t → Looks al (place_under s k) (values_at s k (object ms ∷ cs)) r
+          go true is = subst (λ x. Looks al (place_under s k) x r) (values_at-base al s k cs is ∙ sym (values_at-base al s k (object ms ∷ cs) is)) (g.found k r (sym (lay_members-base done s k ms acc is) ∙ h))
+          go false is = subst (λ x. Looks al (place_under s k) x r) (sym (values_at-other al s k (object ms ∷ cs) is)) (by_value k r (get_member k ms) refl is h)
 
       absent : (k : List ℕ) → get_member k (lay_members done s ms acc) ≡ None → values_at s k (object ms ∷ cs) ≡ []
       absent k h = go (is_base_name s k) refl (get_member k ms) refl
@@ -104,10 +104,10 @@ module _ (al done : Members) where
           go : (t : Bool) → is_base_name s k ≡ t → (o : Option Data) → get_member k ms ≡ o → values_at s k (object ms ∷ cs) ≡ []
           go true is o e = values_at-base al s k (object ms ∷ cs) is
           go false is None e = values_at-other al s k (object ms ∷ cs) is ∙ rw e (sym (values_at-other al s k cs is) ∙ g.absent k (sym (lay_members-absent done s k ms acc e) ∙ h))
-          go false is (Some d) e = absurd (let f : Some (lay done (spot_under s k) d (get_member k acc)) ≡ None = sym (lay_members-found done s k d ms acc is e) ∙ h in cc)
+          go false is (Some d) e = absurd (let f : Some (lay done (place_under s k) d (get_member k acc)) ≡ None = sym (lay_members-found done s k d ms acc is e) ∙ h in cc)
 
   -- the base's entries, each with the entry of its name over it
-  entries_over : (es : Items) (cs : List Data) → ((n : List ℕ) (d : Data) → get_member n (entries_of es) ≡ Some d → Lays al done MemberValue d)
+  entries_over : (es : Items) (cs : List Data) → ((n : List ℕ) (d : Data) → get_member n (entries_of es) ≡ Some d → Lays al done places.Member d)
       → {ns : List (List ℕ)} {rs : Items} → Entries al cs ns rs → Entries al (array es ∷ cs) ns (map_items (λ b. lay_over done es b) rs)
   entries_over es cs each no_entry = no_entry
   entries_over es cs each (an_entry {n = n} {r = r} {ns = ns} {rs = rs} l e) = go (get_member n (entries_of es)) refl (entries_over es cs each e)
@@ -116,15 +116,15 @@ module _ (al done : Members) where
           → Entries al (array es ∷ cs) (n ∷ ns) (item (lay_over done es (object (member n r no_members))) (map_items (λ b. lay_over done es b) rs))
       go None is rest =
           let kept = over_entries done es (object (member n r no_members)) ∙ over_absent done n r (entries_of es) (object (member n r no_members)) is in
-          let here : Looks al MemberValue (entry_values n (array es ∷ cs)) r = rw is l in
+          let here : Looks al places.Member (entry_values n (array es ∷ cs)) r = rw is l in
           subst (λ x. Entries al (array es ∷ cs) (n ∷ ns) (item x (map_items (λ b. lay_over done es b) rs))) (sym kept) (an_entry here rest)
       go (Some d) is rest =
           let laid = over_entries done es (object (member n r no_members)) ∙ over_found done n r (entries_of es) (object (member n r no_members)) d is in
-          let here : Looks al MemberValue (entry_values n (array es ∷ cs)) (lay done MemberValue d (Some r)) = rw is (each n d is (entry_values n cs) (Some r) l) in
+          let here : Looks al places.Member (entry_values n (array es ∷ cs)) (lay done places.Member d (Some r)) = rw is (each n d is (entry_values n cs) (Some r) l) in
           subst (λ x. Entries al (array es ∷ cs) (n ∷ ns) (item x (map_items (λ b. lay_over done es b) rs))) (sym laid) (an_entry here rest)
 
   -- the entries that the base has not
-  entries_new : (es : Items) (cs : List Data) → ((n : List ℕ) (d : Data) → get_member n (entries_of es) ≡ Some d → Lays al done MemberValue d)
+  entries_new : (es : Items) (cs : List Data) → ((n : List ℕ) (d : Data) → get_member n (entries_of es) ≡ Some d → Lays al done places.Member d)
       → (seen : Items) → ((n : List ℕ) → has_entry n seen ≡ list_any (bytes_eq n) (member_names cs))
       → (ms : Members) → AllEntries (λ n d. get_member n (entries_of es) ≡ Some d) ms
       → Entries al (array es ∷ cs) (new_names (member_names cs) (names_of ms)) (lay_new_member done ms seen no_items)
@@ -135,35 +135,35 @@ module _ (al done : Members) where
           → Entries al (array es ∷ cs) (new_names (member_names cs) (names_of (member n d ms))) (lay_new_member done (member n d ms) seen no_items)
       go true is rest = rw (is, agree n ∙ is) rest
       go false is rest =
-          let below : StandsFor al MemberValue (entry_values n cs) None = no_values n cs is in
-          let here : Looks al MemberValue (entry_values n (array es ∷ cs)) (lay done MemberValue d None) = rw all.0 (each n d all.0 (entry_values n cs) None below) in
+          let below : StandsFor al places.Member (entry_values n cs) None = no_values n cs is in
+          let here : Looks al places.Member (entry_values n (array es ∷ cs)) (lay done places.Member d None) = rw all.0 (each n d all.0 (entry_values n cs) None below) in
           rw (is, agree n ∙ is) (an_entry here rest)
 
 -- ---- one of several properties
 
 module _ (al done : Members) where
-  lays_each_at : (s : Spot) (k l : List ℕ) (v d : Data) (ms : Members) → Meets k l → get_member k (member l v ms) ≡ Some d
-      → Lays al done (spot_under s l) v → (get_member k ms ≡ Some d → Lays al done (spot_under s k) d) → Lays al done (spot_under s k) d
+  lays_each_at : (s : Place) (k l : List ℕ) (v d : Data) (ms : Members) → Meets k l → get_member k (member l v ms) ≡ Some d
+      → Lays al done (place_under s l) v → (get_member k ms ≡ Some d → Lays al done (place_under s k) d) → Lays al done (place_under s k) d
   lays_each_at s k l v d ms (same e) h here later =
       let f : Some v ≡ Some d = sym (get_same k l v ms e) ∙ h in
       let g : v ≡ d = cc in
-      subst (λ x. Lays al done (spot_under s x) d) (sym e) (subst (Lays al done (spot_under s l)) g here)
+      subst (λ x. Lays al done (place_under s x) d) (sym e) (subst (Lays al done (place_under s l)) g here)
   lays_each_at s k l v d ms (other apart) h here later = later (sym (get_other k l v ms apart) ∙ h)
 
-  lays_from_at : (s : Spot) (l : List ℕ) (v b : Data) (ms : Members) → (t : Bool) → is_base_name s l ≡ t → base_of s (member l v ms) ≡ Some b
-      → Lays al done (spot_under s l) v → (base_of s ms ≡ Some b → Looks al FieldType (b ∷ []) (lay done FieldType b None)) → Looks al FieldType (b ∷ []) (lay done FieldType b None)
+  lays_from_at : (s : Place) (l : List ℕ) (v b : Data) (ms : Members) → (t : Bool) → is_base_name s l ≡ t → base_of s (member l v ms) ≡ Some b
+      → Lays al done (place_under s l) v → (base_of s ms ≡ Some b → Looks al places.FieldType (b ∷ []) (lay done places.FieldType b None)) → Looks al places.FieldType (b ∷ []) (lay done places.FieldType b None)
   lays_from_at s l v b ms true is h here later =
       let f : Some v ≡ Some b = rw is at h in
       let g : v ≡ b = cc in
-      subst (λ x. Looks al FieldType (x ∷ []) (lay done FieldType x None)) g (subst (λ x. Lays al done x v) (base_spot s l is) here [] None refl)
+      subst (λ x. Looks al places.FieldType (x ∷ []) (lay done places.FieldType x None)) g (subst (λ x. Lays al done x v) (base_place s l is) here [] None refl)
   lays_from_at s l v b ms false is h here later = later (rw is at h)
 
   lays_joined : (n : List ℕ) (d : Data) (a more : Members) → get_member n (join_members a more) ≡ Some d
-      → (get_member n a ≡ Some d → Lays al done MemberValue d) → (get_member n more ≡ Some d → Lays al done MemberValue d) → Lays al done MemberValue d
+      → (get_member n a ≡ Some d → Lays al done places.Member d) → (get_member n more ≡ Some d → Lays al done places.Member d) → Lays al done places.Member d
   lays_joined n d no_members more h here later = later h
   lays_joined n d (member l v a) more h here later = go (meets n l) (lays_joined n d a more)
     where
-      go : Meets n l → (get_member n (join_members a more) ≡ Some d → (get_member n a ≡ Some d → Lays al done MemberValue d) → (get_member n more ≡ Some d → Lays al done MemberValue d) → Lays al done MemberValue d) → Lays al done MemberValue d
+      go : Meets n l → (get_member n (join_members a more) ≡ Some d → (get_member n a ≡ Some d → Lays al done places.Member d) → (get_member n more ≡ Some d → Lays al done places.Member d) → Lays al done places.Member d) → Lays al done places.Member d
       go (same e) rest = here (get_same n l v a e ∙ sym (get_same n l v (join_members a more) e) ∙ h)
       go (other apart) rest = rest (sym (get_other n l v (join_members a more) apart) ∙ h) (λ f. here (get_other n l v a apart ∙ f)) later
 
@@ -171,7 +171,7 @@ module _ (al done : Members) where
 
 module _ (al done : Members) where
   -- the items of a base, where lists are joined
-  items_joined : {s : Spot} {cs : List Data} {b : Data} → lists_members s ≡ false → Shows al s cs b → items_in b ≡ joined (if_lists cs)
+  items_joined : {s : Place} {cs : List Data} {b : Data} → lists_members s ≡ false → Shows al s cs b → items_in b ≡ joined (if_lists cs)
   items_joined {s} single (a_scalar {v = v} p) = plain_items v p
     where
       plain_items : (v : Data) → IsPlain s v → items_in v ≡ joined (if_lists (v ∷ []))
@@ -186,7 +186,7 @@ module _ (al done : Members) where
   items_joined single (a_join m) = refl
 
   -- the entries of a base, at a members list
-  pub base_entries : {s : Spot} {cs : List Data} {b : Data} → lists_members s ≡ true → Shows al s cs b → Entries al (if_lists cs) (member_names (if_lists cs)) (items_in b)
+  pub base_entries : {s : Place} {cs : List Data} {b : Data} → lists_members s ≡ true → Shows al s cs b → Entries al (if_lists cs) (member_names (if_lists cs)) (items_in b)
   base_entries {s} named (a_scalar {v = v} p) = plain_entries v p
     where
       plain_entries : (v : Data) → IsPlain s v → Entries al (if_lists (v ∷ [])) (member_names (if_lists (v ∷ []))) (items_in v)
@@ -200,8 +200,8 @@ module _ (al done : Members) where
   base_entries named (the_members m e) = e
   base_entries named (a_join m) = absurd (true≢false (sym named ∙ m))
 
-  list_shown : (s : Spot) (es rs : Items) (cs : List Data) → lists_members s ≡ true → NoClash (entries_of es)
-      → ((n : List ℕ) (d : Data) → get_member n (entries_of es) ≡ Some d → Lays al done MemberValue d)
+  list_shown : (s : Place) (es rs : Items) (cs : List Data) → lists_members s ≡ true → NoClash (entries_of es)
+      → ((n : List ℕ) (d : Data) → get_member n (entries_of es) ≡ Some d → Lays al done places.Member d)
       → Entries al cs (member_names cs) rs
       → Shows al s (array es ∷ cs) (array (join_items (map_items (λ b. lay_over done es b) rs) (lay_new done es rs)))
   list_shown s es rs cs named apart each e =
@@ -214,45 +214,45 @@ module _ (al done : Members) where
   -- ---- texts
 
   module _ (known : AreResolved al done) where
-    text_alias : (s : Spot) (n : List ℕ) (r : Data) (vs : List Data) → names_alias s ≡ true → get_member n done ≡ Some r → Looks al s (string n ∷ vs) r
+    text_alias : (s : Place) (n : List ℕ) (r : Data) (vs : List Data) → names_alias s ≡ true → get_member n done ≡ Some r → Looks al s (string n ∷ vs) r
     text_alias s n r vs is f = go (known n r f)
       where
-        go : (w : Data) × (get_member n al ≡ Some w) × Looks al FieldType (w ∷ []) r → Looks al s (string n ∷ vs) r
-        go (w, e, looks {cs = cs} c h) = looks (alias is e c) (subst (λ x. Shows al x cs r) (sym (alias_spot s is)) h)
+        go : (w : Data) × (get_member n al ≡ Some w) × Looks al places.FieldType (w ∷ []) r → Looks al s (string n ∷ vs) r
+        go (w, e, looks {cs = cs} c h) = looks (alias is e c) (subst (λ x. Shows al x cs r) (sym (alias_place s is)) h)
 
-    text_member : (n : List ℕ) (r : Data) (vs : List Data) → names_member_type MemberValue ≡ true → get_member n done ≡ Some r → Looks al MemberValue (string n ∷ vs) (object (member field_type_name r no_members))
+    text_member : (n : List ℕ) (r : Data) (vs : List Data) → names_member_type places.Member ≡ true → get_member n done ≡ Some r → Looks al places.Member (string n ∷ vs) (object (member field_type_name r no_members))
     text_member n r vs is f = looks (member_alias is) (an_object (tt, tt) found absent)
       where
-        found : (k : List ℕ) (t : Data) → get_member k (member field_type_name r no_members) ≡ Some t → Looks al (spot_under MemberValue k) (values_at MemberValue k (object (member field_type_name (string n) no_members) ∷ [])) t
+        found : (k : List ℕ) (t : Data) → get_member k (member field_type_name r no_members) ≡ Some t → Looks al (place_under places.Member k) (values_at places.Member k (object (member field_type_name (string n) no_members) ∷ [])) t
         found k t e = go (meets k field_type_name)
           where
-            go : Meets k field_type_name → Looks al (spot_under MemberValue k) (values_at MemberValue k (object (member field_type_name (string n) no_members) ∷ [])) t
+            go : Meets k field_type_name → Looks al (place_under places.Member k) (values_at places.Member k (object (member field_type_name (string n) no_members) ∷ [])) t
             go (same is_type) =
                 let g : Some r ≡ Some t = sym (get_same k field_type_name r no_members is_type) ∙ e in
                 let one : r ≡ t = cc in
-                let values : values_at MemberValue k (object (member field_type_name (string n) no_members) ∷ []) ≡ string n ∷ [] =
-                rw (ap (is_base_name MemberValue) is_type ∙ type_is_no_base, get_same k field_type_name (string n) no_members is_type) refl in
-                let spot : spot_under MemberValue k ≡ FieldType = ap (spot_under MemberValue) is_type ∙ member_type_spot in
-                subst (λ x. Looks al x (values_at MemberValue k (object (member field_type_name (string n) no_members) ∷ [])) t) (sym spot)
-                (subst (λ x. Looks al FieldType x t) (sym values) (subst (Looks al FieldType (string n ∷ [])) one (text_alias FieldType n r [] alias_field f)))
+                let values : values_at places.Member k (object (member field_type_name (string n) no_members) ∷ []) ≡ string n ∷ [] =
+                rw (ap (is_base_name places.Member) is_type ∙ type_is_no_base, get_same k field_type_name (string n) no_members is_type) refl in
+                let place : place_under places.Member k ≡ places.FieldType = ap (place_under places.Member) is_type ∙ member_type_place in
+                subst (λ x. Looks al x (values_at places.Member k (object (member field_type_name (string n) no_members) ∷ [])) t) (sym place)
+                (subst (λ x. Looks al places.FieldType x t) (sym values) (subst (Looks al places.FieldType (string n ∷ [])) one (text_alias places.FieldType n r [] alias_field f)))
             go (other apart) = let g : None ≡ Some t = sym (get_other k field_type_name r no_members apart) ∙ e in cc
 
-        absent : (k : List ℕ) → get_member k (member field_type_name r no_members) ≡ None → values_at MemberValue k (object (member field_type_name (string n) no_members) ∷ []) ≡ []
-        absent k e = go (meets k field_type_name) (is_base_name MemberValue k) refl
+        absent : (k : List ℕ) → get_member k (member field_type_name r no_members) ≡ None → values_at places.Member k (object (member field_type_name (string n) no_members) ∷ []) ≡ []
+        absent k e = go (meets k field_type_name) (is_base_name places.Member k) refl
           where
-            go : Meets k field_type_name → (t : Bool) → is_base_name MemberValue k ≡ t → values_at MemberValue k (object (member field_type_name (string n) no_members) ∷ []) ≡ []
+            go : Meets k field_type_name → (t : Bool) → is_base_name places.Member k ≡ t → values_at places.Member k (object (member field_type_name (string n) no_members) ∷ []) ≡ []
             go (same is_type) t b = absurd (let g : Some r ≡ None = sym (get_same k field_type_name r no_members is_type) ∙ e in cc)
             go (other apart) true b = rw b refl
             go (other apart) false b = rw (b, get_other k field_type_name (string n) no_members apart) refl
 
-    lays_text : (s : Spot) (n : List ℕ) (vs : List Data) → (Names s → (r : Data) × (get_member n done ≡ Some r)) → Looks al s (string n ∷ vs) (lay_text done s n)
+    lays_text : (s : Place) (n : List ℕ) (vs : List Data) → (Names s → (r : Data) × (get_member n done ≡ Some r)) → Looks al s (string n ∷ vs) (lay_text done s n)
     lays_text s n vs ready = go (names_alias s) refl (names_member_type s) refl
       where
         alias_at : names_alias s ≡ true → (r : Data) × (get_member n done ≡ Some r) → Looks al s (string n ∷ vs) (lay_text done s n)
         alias_at is (r, f) = rw (is, f) (text_alias s n r vs is f)
 
         member_at : names_alias s ≡ false → names_member_type s ≡ true → (r : Data) × (get_member n done ≡ Some r) → Looks al s (string n ∷ vs) (lay_text done s n)
-        member_at not_alias is (r, f) = rw (not_alias, is, f) (subst (λ x. Looks al x (string n ∷ vs) (object (member field_type_name r no_members))) (sym (member_spot s is)) (text_member n r vs (subst (λ x. names_member_type x ≡ true) (member_spot s is) is) f))
+        member_at not_alias is (r, f) = rw (not_alias, is, f) (subst (λ x. Looks al x (string n ∷ vs) (object (member field_type_name r no_members))) (sym (member_value_place s is)) (text_member n r vs (subst (λ x. names_member_type x ≡ true) (member_value_place s is) is) f))
 
         go : (t : Bool) → names_alias s ≡ t → (u : Bool) → names_member_type s ≡ u → Looks al s (string n ∷ vs) (lay_text done s n)
         go true is u is' = alias_at is (ready (inl is))
@@ -261,13 +261,13 @@ module _ (al done : Members) where
 
     -- ---- every value
 
-    lays_object : (s : Spot) (ms : Members) → ((k : List ℕ) (d : Data) → get_member k ms ≡ Some d → Lays al done (spot_under s k) d)
-        → ((b : Data) → base_of s ms ≡ Some b → Looks al FieldType (b ∷ []) (lay done FieldType b None)) → Lays al done s (object ms)
+    lays_object : (s : Place) (ms : Members) → ((k : List ℕ) (d : Data) → get_member k ms ≡ Some d → Lays al done (place_under s k) d)
+        → ((b : Data) → base_of s ms ≡ Some b → Looks al places.FieldType (b ∷ []) (lay done places.FieldType b None)) → Lays al done s (object ms)
     lays_object s ms each from vs base stands = go (base_of s ms) refl
       where
-        heir_at : (b : Data) → base_of s ms ≡ Some b → Looks al FieldType (b ∷ []) (lay done FieldType b None) → Looks al s (object ms ∷ vs) (object (lay_members done s ms (members_below (lay_base done s ms base))))
+        heir_at : (b : Data) → base_of s ms ≡ Some b → Looks al places.FieldType (b ∷ []) (lay done places.FieldType b None) → Looks al s (object ms ∷ vs) (object (lay_members done s ms (members_below (lay_base done s ms base))))
         heir_at b e (looks {cs = cs} c h) = rw (lay_base-heir done s ms base b e)
-            (looks (heir e c) (object_shown al done s ms (if_objects cs) (properties_of (lay done FieldType b None)) (ground_along al s (if_objects cs) (properties_of (lay done FieldType b None)) (inheriting_spot s ms b e) (ground_shown al h)) each))
+            (looks (heir e c) (object_shown al done s ms (if_objects cs) (properties_of (lay done places.FieldType b None)) (ground_along al s (if_objects cs) (properties_of (lay done places.FieldType b None)) (inheriting_place s ms b e) (ground_shown al h)) each))
 
         own_at : base_of s ms ≡ None → (cs : List Data) × Chain al s vs cs × Ground al s (if_objects cs) (members_below base) → Looks al s (object ms ∷ vs) (object (lay_members done s ms (members_below (lay_base done s ms base))))
         own_at e (cs, c, g) = rw (lay_base-own done s ms base e) (looks (own e c) (object_shown al done s ms (if_objects cs) (members_below base) g each))
@@ -276,8 +276,8 @@ module _ (al done : Members) where
         go None e = own_at e (ground_below al s vs base stands)
         go (Some b) e = heir_at b e (from b e)
 
-    lays_list : (s : Spot) (es : Items) → (lists_members s ≡ true → NoClash (entries_of es))
-        → (lists_members s ≡ true → (n : List ℕ) (d : Data) → get_member n (entries_of es) ≡ Some d → Lays al done MemberValue d) → Lays al done s (array es)
+    lays_list : (s : Place) (es : Items) → (lists_members s ≡ true → NoClash (entries_of es))
+        → (lists_members s ≡ true → (n : List ℕ) (d : Data) → get_member n (entries_of es) ≡ Some d → Lays al done places.Member d) → Lays al done s (array es)
     lays_list s es apart each vs base stands = go (lists_members s) refl base stands
       where
         list_laid : Option Data → Data
@@ -291,7 +291,7 @@ module _ (al done : Members) where
         go false is None e = rw is (looks (a_list (subst (λ x. Chain al s x []) (sym e) nothing)) (a_join is))
         go false is (Some b) (looks {cs = cs} c h) = rw (is, items_joined is h) (looks (a_list c) (a_join is))
 
-    lays_plain : (s : Spot) (v : Data) → IsPlain s v → Lays al done s v
+    lays_plain : (s : Place) (v : Data) → IsPlain s v → Lays al done s v
     lays_plain s null p vs base stands = looks (plain p) (a_scalar p)
     lays_plain s (boolean b) p vs base stands = looks (plain p) (a_scalar p)
     lays_plain s (number n) p vs base stands = looks (plain p) (a_scalar p)
@@ -299,34 +299,34 @@ module _ (al done : Members) where
     lays_plain s (array es) p vs base stands = absurd p
     lays_plain s (object ms) p vs base stands = absurd p
 
-    lays_string : (s : Spot) (n : List ℕ) → (Names s → (r : Data) × (get_member n done ≡ Some r)) → Lays al done s (string n)
+    lays_string : (s : Place) (n : List ℕ) → (Names s → (r : Data) × (get_member n done ≡ Some r)) → Lays al done s (string n)
     lays_string s n ready vs base stands = lays_text s n vs ready
 
     mutual
-      pub lays : (v : Data) (s : Spot) → IsReady done s v → Lays al done s v
+      pub lays : (v : Data) (s : Place) → IsReady done s v → Lays al done s v
       lays null s ready = lays_plain s null tt
       lays (boolean b) s ready = lays_plain s (boolean b) tt
       lays (number n) s ready = lays_plain s (number n) tt
       lays (string n) s ready = lays_string s n ready
-      lays (array es) s ready = lays_list s es ready.0 (λ is n d e. lays_entries es (subst (λ x. AreReady done x es) (list_spot s is) ready.1) n d e)
+      lays (array es) s ready = lays_list s es ready.0 (λ is n d e. lays_entries es (subst (λ x. AreReady done x es) (list_place s is) ready.1) n d e)
       lays (object ms) s ready = lays_object s ms (lays_each ms s ready) (lays_from ms s ready)
 
-      lays_each : (ms : Members) (s : Spot) → HasReady done s ms → (k : List ℕ) (d : Data) → get_member k ms ≡ Some d → Lays al done (spot_under s k) d
+      lays_each : (ms : Members) (s : Place) → HasReady done s ms → (k : List ℕ) (d : Data) → get_member k ms ≡ Some d → Lays al done (place_under s k) d
       lays_each no_members s ready k d e = cc
-      lays_each (member l v ms) s ready k d e = lays_each_at al done s k l v d ms (meets k l) e (lays v (spot_under s l) ready.0) (lays_each ms s ready.1 k d)
+      lays_each (member l v ms) s ready k d e = lays_each_at al done s k l v d ms (meets k l) e (lays v (place_under s l) ready.0) (lays_each ms s ready.1 k d)
 
-      pub lays_from : (ms : Members) (s : Spot) → HasReady done s ms → (b : Data) → base_of s ms ≡ Some b → Looks al FieldType (b ∷ []) (lay done FieldType b None)
+      pub lays_from : (ms : Members) (s : Place) → HasReady done s ms → (b : Data) → base_of s ms ≡ Some b → Looks al places.FieldType (b ∷ []) (lay done places.FieldType b None)
       lays_from no_members s ready b e = cc
-      lays_from (member l v ms) s ready b e = lays_from_at al done s l v b ms (is_base_name s l) refl e (lays v (spot_under s l) ready.0) (lays_from ms s ready.1 b)
+      lays_from (member l v ms) s ready b e = lays_from_at al done s l v b ms (is_base_name s l) refl e (lays v (place_under s l) ready.0) (lays_from ms s ready.1 b)
 
-      lays_entries : (es : Items) → AreReady done Entry es → (n : List ℕ) (d : Data) → get_member n (entries_of es) ≡ Some d → Lays al done MemberValue d
+      lays_entries : (es : Items) → AreReady done places.Entry es → (n : List ℕ) (d : Data) → get_member n (entries_of es) ≡ Some d → Lays al done places.Member d
       lays_entries no_items ready n d e = cc
       lays_entries (item v es) ready n d e = lays_joined al done n d (properties_of v) (entries_of es) e (lays_entry v ready.0 n d) (lays_entries es ready.1 n d)
 
-      lays_entry : (v : Data) → IsReady done Entry v → (n : List ℕ) (d : Data) → get_member n (properties_of v) ≡ Some d → Lays al done MemberValue d
+      lays_entry : (v : Data) → IsReady done places.Entry v → (n : List ℕ) (d : Data) → get_member n (properties_of v) ≡ Some d → Lays al done places.Member d
       lays_entry null ready n d e = cc
       lays_entry (boolean b) ready n d e = cc
       lays_entry (number x) ready n d e = cc
       lays_entry (string x) ready n d e = cc
       lays_entry (array x) ready n d e = cc
-      lays_entry (object ms) ready n d e = subst (λ x. Lays al done x d) (entry_spot n) (lays_each ms Entry ready n d e)
+      lays_entry (object ms) ready n d e = subst (λ x. Lays al done x d) (entry_place n) (lays_each ms places.Entry ready n d e)

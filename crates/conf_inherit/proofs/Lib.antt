@@ -1,6 +1,6 @@
 pub mod InOrder
 pub mod OneReading
-pub mod SpotLemmas
+pub mod FieldPlaceLemmas
 pub mod LayingLemmas
 pub mod ItemLemmas
 pub mod ListLemmas
@@ -26,13 +26,15 @@ pub mod ReadInOrder
 pub mod NoLarger
 pub mod LayingGrows
 pub mod SoundParts
-pub mod SpotsUnder
+pub mod PlacesUnder
 pub mod PartsFit
 pub mod ExcludedPlaces
 pub mod PlacesFit
+pub mod SoundPlaces
 pub mod ExcludedInheritance
 pub mod RefusalLemmas
 pub mod TurnLemmas
 pub mod WholeLemmas
 pub mod WrittenLemmas
+pub mod WorkedPlaces
 pub mod WorkedRows

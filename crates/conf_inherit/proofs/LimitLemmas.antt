@@ -9,8 +9,8 @@ use Rattle.conf_tree.specs.Flaw.{Flaw, key, index, here, within}
 use Rattle.conf_tree.specs.Walk.{HasMember, refusal}
 use Rattle.conf_tree.specs.declared.fault_kind.FaultKind.{FaultKind}
 use Rattle.conf_tree.specs.declared.fault_kind.FaultKind.TheVariants.{TooDeep, Limit, WrongKind, NoSuchAlias, NameClash}
-use Rattle.conf_inherit.specs.declared.spot.Spot.{Spot}
-use Rattle.conf_inherit.specs.declared.spot.Spot.TheVariants.{FieldType}
+use Rattle.conf_table.specs.declared.place.Place.{Place}
+use Rattle.conf_table.specs.declared.place.Place.TheVariants as places
 use Rattle.conf_inherit.specs.Faults.{Leads}
 use Rattle.conf_inherit.specs.Flaws.{is_wrong, is_unknown, own_flaws, base_flaws, inner_flaws, item_flaws, member_flaws, flaws, type_flaws, mark}
 use Rattle.conf_inherit.specs.Laying.{lay}
@@ -18,10 +18,10 @@ use Rattle.conf_inherit.specs.Limits.{max_values, max_levels, Fits, Exceeds, fit
 use Rattle.conf_inherit.specs.Named.{all_named, has}
 use Rattle.conf_inherit.specs.Nesting.{nests}
 use Rattle.conf_inherit.specs.Size.{size}
-use Rattle.conf_inherit.specs.Spot.{spot_under, spot_of_items, names_alias, is_base_name, is_entry}
+use Rattle.conf_inherit.specs.FieldPlaces.{place_under, place_of_items, names_alias, is_base_name, is_entry}
 use Rattle.conf_inherit.proofs.FaultLemmas.{Among, refused_among, among_within, first_or_rest, Aligned, aligned_here, aligned_next}
 use Rattle.conf_inherit.proofs.ReadyLemmas.{part_empty, rest_empty, front_empty, back_empty}
-use Rattle.conf_inherit.proofs.SpotLemmas.{alias_spot, base_spot}
+use Rattle.conf_inherit.proofs.FieldPlaceLemmas.{alias_place, base_place}
 
 -- a resolved type fits, or passes a limit
 pub data Judged (r : Data) : Result Data FaultKind → Type 0 where
@@ -69,11 +69,11 @@ fits_at r o (fits h) = ((λ e. h), (λ f. refl))
 fits_at r o (exceeds kind past) = ((λ e. cc), (λ f. absurd (apart_fits kind r f past)))
 
 -- the limit that the alias of a name passes
-pub name_limit : (done : Members) (s : Spot) (v : Data) (n m : List ℕ) → v ≡ string n → m ≡ n → names_alias s ≡ true → all_named (has done) s v ≡ true → passed (fitting (lay done FieldType (string m) None)) ≡ limit_flaws done s v
+pub name_limit : (done : Members) (s : Place) (v : Data) (n m : List ℕ) → v ≡ string n → m ≡ n → names_alias s ≡ true → all_named (has done) s v ≡ true → passed (fitting (lay done places.FieldType (string m) None)) ≡ limit_flaws done s v
 name_limit done s v n m is same names named =
     let at : limit_flaws done s v ≡ passed (fitting (lay done s v None)) = rw named refl in
-    ap (λ x. passed (fitting (lay done FieldType (string x) None))) same
-    ∙ ap (λ t. passed (fitting (lay done t (string n) None))) (sym (alias_spot s names))
+    ap (λ x. passed (fitting (lay done places.FieldType (string x) None))) same
+    ∙ ap (λ t. passed (fitting (lay done t (string n) None))) (sym (alias_place s names))
     ∙ ap (λ x. passed (fitting (lay done s x None))) (sym is)
     ∙ sym at
 
@@ -81,11 +81,11 @@ name_limit done s v n m is same names named =
 abbrev Alike : List Flaw → List Flaw → Type 0 → Type 0
 Alike xs ys P = (xs ≡ [] → (ys ≡ []) × P) × ((ys ≡ []) × P → xs ≡ [])
 
-both_empty : {A : Type 0} (xs ys : List A) → xs ≡ [] → ys ≡ [] → xs ++ ys ≡ []
+pub both_empty : {A : Type 0} (xs ys : List A) → xs ≡ [] → ys ≡ [] → xs ++ ys ≡ []
 both_empty [] ys e h = h
 both_empty (x ∷ xs) ys e h = cc
 
-map_empty : {A B : Type 0} (f : A → B) (xs : List A) → xs ≡ [] → map f xs ≡ []
+pub map_empty : {A B : Type 0} (f : A → B) (xs : List A) → xs ≡ [] → map f xs ≡ []
 map_empty f [] e = refl
 map_empty f (x ∷ xs) e = cc
 
@@ -109,45 +109,45 @@ alike_same xs = ((λ e. (e, tt)), (λ h. h.0))
 
 module _ (done : Members) where
   -- a field type, by itself, fits, if it resolves
-  abbrev FitsAlone : Spot → Data → Type 0
+  abbrev FitsAlone : Place → Data → Type 0
   FitsAlone s d = all_named (has done) s d ≡ true → Fits (lay done s d None)
 
   -- all of these do
   abbrev EachFits : (Data → Type 0) → Type 0
-  EachFits In = (d : Data) → In d → FitsAlone FieldType d
+  EachFits In = (d : Data) → In d → FitsAlone places.FieldType d
 
-  pub alike_limit : (s : Spot) (v : Data) → Alike (limit_flaws done s v) [] (FitsAlone s v)
+  pub alike_limit : (s : Place) (v : Data) → Alike (limit_flaws done s v) [] (FitsAlone s v)
   alike_limit s v = go (all_named (has done) s v) refl (fits_at (lay done s v None) (fitting (lay done s v None)) (judged (lay done s v None)))
     where
       go : (t : Bool) → all_named (has done) s v ≡ t → (passed (fitting (lay done s v None)) ≡ [] → Fits (lay done s v None)) × (Fits (lay done s v None) → passed (fitting (lay done s v None)) ≡ []) → Alike (limit_flaws done s v) [] (FitsAlone s v)
       go true is f = let at : limit_flaws done s v ≡ passed (fitting (lay done s v None)) = rw is refl in ((λ e. (refl, λ x. f.0 (sym at ∙ e))), (λ h. at ∙ f.1 (h.1 is)))
       go false is f = let at : limit_flaws done s v ≡ [] = rw is refl in ((λ e. (refl, λ x. absurd (true≢false (sym x ∙ is)))), (λ h. at))
 
-  abbrev BaseFits : Spot → List ℕ → Data → Type 0
-  BaseFits s k d = is_base_name s k ≡ true → FitsAlone FieldType d
+  abbrev BaseFits : Place → List ℕ → Data → Type 0
+  BaseFits s k d = is_base_name s k ≡ true → FitsAlone places.FieldType d
 
-  alike_base : (s : Spot) (k : List ℕ) (d : Data) → Alike (base_flaws (Some done) s k d) (base_flaws None s k d) (BaseFits s k d)
+  alike_base : (s : Place) (k : List ℕ) (d : Data) → Alike (base_flaws (Some done) s k d) (base_flaws None s k d) (BaseFits s k d)
   alike_base s k d = go (is_base_name s k) refl
     where
       go : (t : Bool) → is_base_name s k ≡ t → Alike (base_flaws (Some done) s k d) (base_flaws None s k d) (BaseFits s k d)
       go true is =
-          let at : base_flaws (Some done) s k d ≡ limit_flaws done FieldType d = rw is refl in
-          let a = alike_limit FieldType d in
+          let at : base_flaws (Some done) s k d ≡ limit_flaws done places.FieldType d = rw is refl in
+          let a = alike_limit places.FieldType d in
           ((λ e. (refl, λ x. (a.0 (sym at ∙ e)).1)), (λ h. at ∙ a.1 (refl, h.1 is)))
       go false is = let at : base_flaws (Some done) s k d ≡ [] = rw is refl in ((λ e. (refl, λ x. absurd (true≢false (sym x ∙ is)))), (λ h. at))
 
   -- d is what the value of a name is inherited from as, or is in it, or in what is left
-  member_there : (s : Spot) (k : List ℕ) (e : Data) (ms : Members) → ((Unit {0} × EachFits (λ d. Inherits d (spot_under s k) e)) × BaseFits s k e) × EachFits (λ d. InheritsInMembers d s ms) → EachFits (λ d. InheritsInMembers d s (member k e ms))
-  member_there s k e ms h d (inl (inl (is, same))) named = subst (λ x. Fits (lay done FieldType x None)) (sym same) (h.0.1 is (subst (λ x. all_named (has done) FieldType x ≡ true) same named))
+  member_there : (s : Place) (k : List ℕ) (e : Data) (ms : Members) → ((Unit {0} × EachFits (λ d. Inherits d (place_under s k) e)) × BaseFits s k e) × EachFits (λ d. InheritsInMembers d s ms) → EachFits (λ d. InheritsInMembers d s (member k e ms))
+  member_there s k e ms h d (inl (inl (is, same))) named = subst (λ x. Fits (lay done places.FieldType x None)) (sym same) (h.0.1 is (subst (λ x. all_named (has done) places.FieldType x ≡ true) same named))
   member_there s k e ms h d (inl (inr a)) named = h.0.0.1 d a named
   member_there s k e ms h d (inr a) named = h.1 d a named
 
-  member_back : (s : Spot) (k : List ℕ) (e : Data) (ms : Members) → EachFits (λ d. InheritsInMembers d s (member k e ms)) → ((Unit {0} × EachFits (λ d. Inherits d (spot_under s k) e)) × BaseFits s k e) × EachFits (λ d. InheritsInMembers d s ms)
+  member_back : (s : Place) (k : List ℕ) (e : Data) (ms : Members) → EachFits (λ d. InheritsInMembers d s (member k e ms)) → ((Unit {0} × EachFits (λ d. Inherits d (place_under s k) e)) × BaseFits s k e) × EachFits (λ d. InheritsInMembers d s ms)
   member_back s k e ms h = (((tt, (λ d a. h d (inl (inr a)))), (λ is. h e (inl (inl (is, refl))))), (λ d a. h d (inr a)))
 
   module _ (al : Members) where
     mutual
-      pub alike_inner : (v : Data) (s : Spot) (seen : Members) → Alike (inner_flaws al (Some done) s seen v) (inner_flaws al None s seen v) (EachFits (λ d. Inherits d s v))
+      pub alike_inner : (v : Data) (s : Place) (seen : Members) → Alike (inner_flaws al (Some done) s seen v) (inner_flaws al None s seen v) (EachFits (λ d. Inherits d s v))
       alike_inner null s seen = ((λ e. (refl, λ d h. absurd h)), (λ h. refl))
       alike_inner (boolean b) s seen = ((λ e. (refl, λ d h. absurd h)), (λ h. refl))
       alike_inner (number n) s seen = ((λ e. (refl, λ d h. absurd h)), (λ h. refl))
@@ -155,10 +155,10 @@ module _ (done : Members) where
       alike_inner (array es) s seen = alike_items es s 0 no_members
       alike_inner (object ms) s seen = alike_members ms s seen
 
-      alike_items : (es : Items) (s : Spot) (i : ℕ) (seen : Members) → Alike (item_flaws al (Some done) s i seen es) (item_flaws al None s i seen es) (EachFits (λ d. InheritsInItems d (spot_of_items s) es))
+      alike_items : (es : Items) (s : Place) (i : ℕ) (seen : Members) → Alike (item_flaws al (Some done) s i seen es) (item_flaws al None s i seen es) (EachFits (λ d. InheritsInItems d (place_of_items s) es))
       alike_items no_items s i seen = ((λ e. (refl, λ d h. absurd h)), (λ h. refl))
       alike_items (item e es) s i seen =
-          let t = spot_of_items s in
+          let t = place_of_items s in
           let own = own_flaws al t false e in
           let In : Data → Type 0 = λ d. Inherits d t e in
           let On : Data → Type 0 = λ d. InheritsInItems d t es in
@@ -169,10 +169,10 @@ module _ (done : Members) where
           (alike_joined own own (inner_flaws al (Some done) t seen e) (inner_flaws al None t seen e) (Unit {0}) (EachFits In) (alike_same own) (alike_inner e t seen))
           (alike_items es s (suc i) (mark e seen)))
 
-      alike_members : (ms : Members) (s : Spot) (seen : Members) → Alike (member_flaws al (Some done) s seen ms) (member_flaws al None s seen ms) (EachFits (λ d. InheritsInMembers d s ms))
+      alike_members : (ms : Members) (s : Place) (seen : Members) → Alike (member_flaws al (Some done) s seen ms) (member_flaws al None s seen ms) (EachFits (λ d. InheritsInMembers d s ms))
       alike_members no_members s seen = ((λ e. (refl, λ d h. absurd h)), (λ h. refl))
       alike_members (member k e ms) s seen =
-          let t = spot_under s k in
+          let t = place_under s k in
           let own = own_flaws al t (is_entry s && is_some (get_member k seen)) e in
           let In : Data → Type 0 = λ d. Inherits d t e in
           let On : Data → Type 0 = λ d. InheritsInMembers d s ms in
@@ -186,7 +186,7 @@ module _ (done : Members) where
           (alike_members ms s seen))
 
     -- nothing is refused exactly where there is no other flaw, and the type and all that it inherits from fit
-    pub sound_type : (s : Spot) (v : Data) → type_flaws al done s v ≡ [] ↔ ((flaws al None s false no_members v ≡ []) × FitsAlone s v × EachFits (λ d. Inherits d s v))
+    pub sound_type : (s : Place) (v : Data) → type_flaws al done s v ≡ [] ↔ ((flaws al None s false no_members v ≡ []) × FitsAlone s v × EachFits (λ d. Inherits d s v))
     sound_type s v =
         let own = own_flaws al s false v in
         let inner = alike_joined own own (inner_flaws al (Some done) s no_members v) (inner_flaws al None s no_members v) (Unit {0}) (EachFits (λ d. Inherits d s v)) (alike_same own) (alike_inner v s no_members) in
@@ -202,23 +202,23 @@ module _ (done : Members) where
     IsLimit kind = (kind ≡ Limit) ⊎ (kind ≡ TooDeep)
 
     -- the type that the path leads to is past the limit
-    abbrev LimitAt : Spot → Data → Flaw → Type 0
-    LimitAt s v f = (d : Data) × Leads s v f.path FieldType d × (all_named (has done) FieldType d ≡ true) × Exceeds f.kind (lay done FieldType d None)
+    abbrev LimitAt : Place → Data → Flaw → Type 0
+    LimitAt s v f = (d : Data) × Leads s v f.path places.FieldType d × (all_named (has done) places.FieldType d ≡ true) × Exceeds f.kind (lay done places.FieldType d None)
 
-    limit_at : (v : Data) (f : Flaw) → Among f (limit_flaws done FieldType v) → LimitAt FieldType v f
-    limit_at v f h = go (all_named (has done) FieldType v) refl
+    limit_at : (v : Data) (f : Flaw) → Among f (limit_flaws done places.FieldType v) → LimitAt places.FieldType v f
+    limit_at v f h = go (all_named (has done) places.FieldType v) refl
       where
-        go : (t : Bool) → all_named (has done) FieldType v ≡ t → LimitAt FieldType v f
+        go : (t : Bool) → all_named (has done) places.FieldType v ≡ t → LimitAt places.FieldType v f
         go false is = absurd (rw is at h)
         go true is =
-            let past = past_at (lay done FieldType v None) (fitting (lay done FieldType v None)) f (judged (lay done FieldType v None)) (rw is at h) in
-            (v, subst (λ p. Leads FieldType v p FieldType v) (sym (ap (λ x. x.path) past.0)) (refl, refl), is, past.1)
+            let past = past_at (lay done places.FieldType v None) (fitting (lay done places.FieldType v None)) f (judged (lay done places.FieldType v None)) (rw is at h) in
+            (v, subst (λ p. Leads places.FieldType v p places.FieldType v) (sym (ap (λ x. x.path) past.0)) (refl, refl), is, past.1)
 
     not_limit : (kind : FaultKind) (f : Flaw) → (IsLimit kind → ⊥) → Among f (here kind ∷ []) → IsLimit f.kind → ⊥
     not_limit kind f other (inl e) is = other (subst IsLimit (ap (λ x. x.kind) e) is)
     not_limit kind f other (inr x) is = x
 
-    own_limit : (s : Spot) (taken : Bool) (v : Data) (f : Flaw) → Among f (own_flaws al s taken v) → IsLimit f.kind → ⊥
+    own_limit : (s : Place) (taken : Bool) (v : Data) (f : Flaw) → Among f (own_flaws al s taken v) → IsLimit f.kind → ⊥
     own_limit s taken v f h is = go (is_wrong s v) refl (is_unknown al s v) refl taken refl
       where
         wrong : IsLimit WrongKind → ⊥
@@ -239,21 +239,21 @@ module _ (done : Members) where
         go false a false b true c = not_limit NameClash f clash (rw (a, b, c) at h) is
         go false a false b false c = rw (a, b, c) at h
 
-    base_limit : (s : Spot) (k : List ℕ) (d : Data) (f : Flaw) → Among f (base_flaws (Some done) s k d) → LimitAt (spot_under s k) d f
+    base_limit : (s : Place) (k : List ℕ) (d : Data) (f : Flaw) → Among f (base_flaws (Some done) s k d) → LimitAt (place_under s k) d f
     base_limit s k d f h = go (is_base_name s k) refl
       where
-        go : (t : Bool) → is_base_name s k ≡ t → LimitAt (spot_under s k) d f
-        go true is = subst (λ t. LimitAt t d f) (sym (base_spot s k is)) (limit_at d f (rw is at h))
+        go : (t : Bool) → is_base_name s k ≡ t → LimitAt (place_under s k) d f
+        go true is = subst (λ t. LimitAt t d f) (sym (base_place s k is)) (limit_at d f (rw is at h))
         go false is = absurd (rw is at h)
 
-    in_member : (s : Spot) (k : List ℕ) (e : Data) (ms : Members) (f g : Flaw) → HasMember k e ms → f ≡ within (key k) g → LimitAt (spot_under s k) e g → LimitAt s (object ms) f
+    in_member : (s : Place) (k : List ℕ) (e : Data) (ms : Members) (f g : Flaw) → HasMember k e ms → f ≡ within (key k) g → LimitAt (place_under s k) e g → LimitAt s (object ms) f
     in_member s k e ms f g m is (d, leads, named, past) = subst (LimitAt s (object ms)) (sym is) (d, (ms, e, refl, m, leads), named, past)
 
-    in_item : (s : Spot) (i : ℕ) (e : Data) (es : Items) (f g : Flaw) → get_item i es ≡ Some e → f ≡ within (index i) g → LimitAt (spot_of_items s) e g → LimitAt s (array es) f
+    in_item : (s : Place) (i : ℕ) (e : Data) (es : Items) (f g : Flaw) → get_item i es ≡ Some e → f ≡ within (index i) g → LimitAt (place_of_items s) e g → LimitAt s (array es) f
     in_item s i e es f g m is (d, leads, named, past) = subst (LimitAt s (array es)) (sym is) (d, (es, e, refl, m, leads), named, past)
 
     mutual
-      inner_limit : (v : Data) (s : Spot) (seen : Members) (f : Flaw) → Among f (inner_flaws al (Some done) s seen v) → IsLimit f.kind → LimitAt s v f
+      inner_limit : (v : Data) (s : Place) (seen : Members) (f : Flaw) → Among f (inner_flaws al (Some done) s seen v) → IsLimit f.kind → LimitAt s v f
       inner_limit null s seen f h is = absurd h
       inner_limit (boolean b) s seen f h is = absurd h
       inner_limit (number n) s seen f h is = absurd h
@@ -261,10 +261,10 @@ module _ (done : Members) where
       inner_limit (array es) s seen f h is = item_limit es s es 0 no_members f (λ j d g. let same : j ≡ 0 + j = omega arith in subst (λ x. get_item x es ≡ Some d) same g) h is
       inner_limit (object ms) s seen f h is = member_limit ms s ms seen f (λ k d m. m) h is
 
-      item_limit : (rest : Items) (s : Spot) (es : Items) (i : ℕ) (seen : Members) (f : Flaw) → Aligned es i rest → Among f (item_flaws al (Some done) s i seen rest) → IsLimit f.kind → LimitAt s (array es) f
+      item_limit : (rest : Items) (s : Place) (es : Items) (i : ℕ) (seen : Members) (f : Flaw) → Aligned es i rest → Among f (item_flaws al (Some done) s i seen rest) → IsLimit f.kind → LimitAt s (array es) f
       item_limit no_items s es i seen f al' h is = absurd h
       item_limit (item e rest) s es i seen f al' h is =
-          let t = spot_of_items s in
+          let t = place_of_items s in
           let own = own_flaws al t false e in
           let inner = inner_flaws al (Some done) t seen e in
           first_or_rest f (map (within (index i)) (own ++ inner)) (item_flaws al (Some done) s (suc i) (mark e seen) rest) h
@@ -273,10 +273,10 @@ module _ (done : Members) where
           in_item s i e es f g (aligned_here es i e rest al') e' (first_or_rest g own inner b (λ c. absurd (own_limit t false e g c kind)) (λ c. inner_limit e t seen g c kind)))
           (λ a. item_limit rest s es (suc i) (mark e seen) f (aligned_next es i e rest al') a is)
 
-      member_limit : (rest : Members) (s : Spot) (ms : Members) (seen : Members) (f : Flaw) → ((k : List ℕ) (d : Data) → HasMember k d rest → HasMember k d ms) → Among f (member_flaws al (Some done) s seen rest) → IsLimit f.kind → LimitAt s (object ms) f
+      member_limit : (rest : Members) (s : Place) (ms : Members) (seen : Members) (f : Flaw) → ((k : List ℕ) (d : Data) → HasMember k d rest → HasMember k d ms) → Among f (member_flaws al (Some done) s seen rest) → IsLimit f.kind → LimitAt s (object ms) f
       member_limit no_members s ms seen f sub h is = absurd h
       member_limit (member k e rest) s ms seen f sub h is =
-          let t = spot_under s k in
+          let t = place_under s k in
           let taken = is_entry s && is_some (get_member k seen) in
           let own = own_flaws al t taken e in
           let inner = inner_flaws al (Some done) t no_members e in
@@ -290,10 +290,10 @@ module _ (done : Members) where
           (λ a. member_limit rest s ms seen f (λ q d m. sub q d (inr m)) a is)
 
     -- a type that is refused for a limit leads to one that passes it
-    pub refused_limit : (v : Data) (f : Flaw) → refusal (type_flaws al done FieldType v) ≡ Err f → IsLimit f.kind → LimitAt FieldType v f
+    pub refused_limit : (v : Data) (f : Flaw) → refusal (type_flaws al done places.FieldType v) ≡ Err f → IsLimit f.kind → LimitAt places.FieldType v f
     refused_limit v f h is =
-        let own = own_flaws al FieldType false v in
-        let inner = inner_flaws al (Some done) FieldType no_members v in
-        first_or_rest f (own ++ inner) (limit_flaws done FieldType v) (refused_among (type_flaws al done FieldType v) f h)
-        (λ a. first_or_rest f own inner a (λ b. absurd (own_limit FieldType false v f b is)) (λ b. inner_limit v FieldType no_members f b is))
+        let own = own_flaws al places.FieldType false v in
+        let inner = inner_flaws al (Some done) places.FieldType no_members v in
+        first_or_rest f (own ++ inner) (limit_flaws done places.FieldType v) (refused_among (type_flaws al done places.FieldType v) f h)
+        (λ a. first_or_rest f own inner a (λ b. absurd (own_limit places.FieldType false v f b is)) (λ b. inner_limit v places.FieldType no_members f b is))
         (λ a. limit_at v f a)

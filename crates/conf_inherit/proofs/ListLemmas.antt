@@ -4,7 +4,7 @@ use Rattle.std.proofs.lemmas.Slice.Eq.{bytes_eq-Decides}
 use Rattle.std.specs.List.{list_any}
 use Rattle.serde_json.specs.Data.{Data, null, boolean, number, string, array, object, Items, no_items, item, Members, no_members, member}
 use Rattle.serde_json.specs.Find.{get, get_member}
-use Rattle.conf_inherit.specs.declared.spot.Spot.TheVariants.{MemberValue}
+use Rattle.conf_table.specs.declared.place.Place.TheVariants as places
 use Rattle.conf_inherit.specs.Names.{NoClash, properties_of, items_in, entries_of, names_of, new_names, join_members, join_items, entry_values, member_names}
 use Rattle.conf_inherit.specs.Looks.{Entries, no_entry, an_entry}
 use Rattle.conf_inherit.specs.Laying.{lay, has_entry, lay_over, lay_over_entry, lay_over_member, lay_new, lay_new_entry, lay_new_member}
@@ -82,17 +82,17 @@ module _ (done : Members) (n : List ℕ) (r : Data) where
           let none : get_member m (member n r no_members) ≡ None = get_other m n r no_members apart in
           rw none (later (sym (get_other n m d ms (λ e. apart (sym e))) ∙ h))
 
-  pub over_found : (es : Members) (rest v : Data) → get_member n es ≡ Some v → lay_over_member done es (object (member n r no_members)) rest ≡ object (member n (lay done MemberValue v (Some r)) no_members)
+  pub over_found : (es : Members) (rest v : Data) → get_member n es ≡ Some v → lay_over_member done es (object (member n r no_members)) rest ≡ object (member n (lay done places.Member v (Some r)) no_members)
   over_found no_members rest v h = cc
   over_found (member m d ms) rest v h = go (meets m n) (over_found ms rest v)
     where
-      go : Meets m n → (get_member n ms ≡ Some v → lay_over_member done ms (object (member n r no_members)) rest ≡ object (member n (lay done MemberValue v (Some r)) no_members))
-          → lay_over_member done (member m d ms) (object (member n r no_members)) rest ≡ object (member n (lay done MemberValue v (Some r)) no_members)
+      go : Meets m n → (get_member n ms ≡ Some v → lay_over_member done ms (object (member n r no_members)) rest ≡ object (member n (lay done places.Member v (Some r)) no_members))
+          → lay_over_member done (member m d ms) (object (member n r no_members)) rest ≡ object (member n (lay done places.Member v (Some r)) no_members)
       go (same e) later =
           let found : get_member m (member n r no_members) ≡ Some r = get_same m n r no_members e in
           let f : Some d ≡ Some v = sym (get_same n m d ms (sym e)) ∙ h in
           let g : d ≡ v = cc in
-          rw found (ap (λ x. object (member x (lay done MemberValue d (Some r)) no_members)) e ∙ ap (λ x. object (member n (lay done MemberValue x (Some r)) no_members)) g)
+          rw found (ap (λ x. object (member x (lay done places.Member d (Some r)) no_members)) e ∙ ap (λ x. object (member n (lay done places.Member x (Some r)) no_members)) g)
       go (other apart) later =
           let none : get_member m (member n r no_members) ≡ None = get_other m n r no_members apart in
           rw none (later (sym (get_other n m d ms (λ e. apart (sym e))) ∙ h))

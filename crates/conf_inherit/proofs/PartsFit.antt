@@ -2,12 +2,13 @@
 use Rattle.std.proofs.Common.{◌≡◌, ◌&&◌, ◌⊎◌, inl, inr, ℕ, zero, suc, Bool, true, false, true≢false, List, [], ◌∷◌, Some, None, is_some, refl, sym, subst}
 use Rattle.serde_json.specs.Data.{Data, null, boolean, number, string, array, object, Items, no_items, item, Members, no_members, member}
 use Rattle.serde_json.specs.Find.{get_item, get_member}
-use Rattle.conf_tree.specs.Flaw.{Place, key, index}
+use Rattle.conf_tree.specs.Flaw.{Place as Step, key, index}
 use Rattle.conf_tree.specs.Order.{Ascends, ItemsAscend, MembersAscend}
 use Rattle.conf_tree.specs.Walk.{HasMember}
-use Rattle.conf_inherit.specs.declared.spot.Spot.{Spot}
-use Rattle.conf_inherit.specs.declared.spot.Spot.TheVariants.{FieldType, MemberList, ExtraMembers, Entry, Plain}
-use Rattle.conf_inherit.specs.Spot.{spot_under, spot_of_items, names_alias, names_member_type, is_base_name, lists_members, is_entry}
+use Rattle.conf_table.specs.declared.place.Place.{Place}
+use Rattle.conf_table.specs.declared.place.Place.TheVariants as places
+use Rattle.conf_table.specs.Table.{rows_of, entries_of, content_under, place_in}
+use Rattle.conf_inherit.specs.FieldPlaces.{field_place, place_under, place_of_items, names_alias, names_member_type, is_base_name, lists_members, is_entry}
 use Rattle.conf_inherit.specs.Faults.{Leads}
 use Rattle.conf_inherit.specs.Flaws.{is_wrong, is_no_entry}
 use Rattle.conf_inherit.specs.Laying.{lay, lay_base, lay_members, lay_new, lay_new_entry, lay_new_member, has_entry, members_below}
@@ -23,30 +24,30 @@ use Rattle.conf_inherit.proofs.NoLarger.{value_same, NoLargerItems, as_large, as
 use Rattle.conf_inherit.proofs.ReadInOrder.{apart}
 use Rattle.conf_inherit.proofs.ReadyLemmas.{ready, single_entry}
 use Rattle.conf_inherit.proofs.SoundParts.{PartSound, own_sound, member_sound, item_sound}
-use Rattle.conf_inherit.proofs.SpotLemmas.{list_spot, base_spot}
+use Rattle.conf_inherit.proofs.FieldPlaceLemmas.{list_place, base_place, ignored_under}
 
 -- ---- where a path leads to no field type
 
-lists_or_plain : (s : Spot) → (lists_members s ≡ true) ⊎ (spot_of_items s ≡ Plain)
-unfolding lists_members spot_of_items
-lists_or_plain MemberList = inl refl
-lists_or_plain ExtraMembers = inl refl
-lists_or_plain _ = inr refl
+lists_or_ignored : (s : Place) → (lists_members s ≡ true) ⊎ (place_of_items s ≡ places.Ignored)
+unfolding lists_members place_of_items
+lists_or_ignored places.Members = inl refl
+lists_or_ignored places.ExtraMembers = inl refl
+lists_or_ignored _ = inr refl
 
-led_on : (path : List Place) (v : Data) (t : Spot) (w : Data) → Leads Plain v path t w → t ≡ Plain
-unfolding spot_under spot_of_items
-led_on [] v t w (spot, value) = sym spot
-led_on (key k ∷ path) v t w (ms, d, is, there, leads) = led_on path d t w leads
+led_on : (path : List Step) (v : Data) (t : Place) (w : Data) → Leads places.Ignored v path t w → t ≡ places.Ignored
+unfolding place_of_items
+led_on [] v t w (place, value) = sym place
+led_on (key k ∷ path) v t w (ms, d, is, there, leads) = led_on path d t w (subst (λ x. Leads x d path t w) (ignored_under k) leads)
 led_on (index i ∷ path) v t w (es, d, is, there, leads) = led_on path d t w leads
 
-nothing_named : Names Plain → ⊥
+nothing_named : Names places.Ignored → ⊥
 unfolding names_alias names_member_type
 nothing_named (inl h) = true≢false (sym h)
 nothing_named (inr h) = true≢false (sym h)
 
--- from a plain value no way leads to a field type
-pub plain_leads_nowhere : (s : Spot) (path : List Place) (v : Data) (t : Spot) (w : Data) → s ≡ Plain → Leads s v path t w → ¬ Names t
-plain_leads_nowhere s path v t w plain leads names = nothing_named (subst Names (led_on path v t w (subst (λ x. Leads x v path t w) plain leads)) names)
+-- from a value that is ignored no way leads to a field type
+pub ignored_leads_nowhere : (s : Place) (path : List Step) (v : Data) (t : Place) (w : Data) → s ≡ places.Ignored → Leads s v path t w → ¬ Names t
+ignored_leads_nowhere s path v t w ignored leads names = nothing_named (subst Names (led_on path v t w (subst (λ x. Leads x v path t w) ignored leads)) names)
 
 -- ---- what an object or a list has
 
@@ -65,17 +66,17 @@ item_in_order no_items i d each there = absurd cc
 item_in_order (item e es) zero d each there = subst Ascends (value_same e d there) each.0
 item_in_order (item e es) (suc i) d each there = item_in_order es i d each.1 there
 
-pub inherits_under : (x : Data) (s : Spot) (ms : Members) (k : List ℕ) (d : Data) → HasMember k d ms → Inherits x (spot_under s k) d → InheritsInMembers x s ms
+pub inherits_under : (x : Data) (s : Place) (ms : Members) (k : List ℕ) (d : Data) → HasMember k d ms → Inherits x (place_under s k) d → InheritsInMembers x s ms
 inherits_under x s no_members k d there h = absurd there
-inherits_under x s (member l e ms) k d (inl same) h = inl (inr (subst (λ n. Inherits x (spot_under s n) e) same.0 (subst (Inherits x (spot_under s k)) same.1 h)))
+inherits_under x s (member l e ms) k d (inl same) h = inl (inr (subst (λ n. Inherits x (place_under s n) e) same.0 (subst (Inherits x (place_under s k)) same.1 h)))
 inherits_under x s (member l e ms) k d (inr later) h = inr (inherits_under x s ms k d later h)
 
-base_inherits : (s : Spot) (ms : Members) (k : List ℕ) (d : Data) → is_base_name s k ≡ true → HasMember k d ms → InheritsInMembers d s ms
+base_inherits : (s : Place) (ms : Members) (k : List ℕ) (d : Data) → is_base_name s k ≡ true → HasMember k d ms → InheritsInMembers d s ms
 base_inherits s no_members k d is there = absurd there
 base_inherits s (member l e ms) k d is (inl same) = inl (inl (subst (λ n. is_base_name s n ≡ true) same.0 is, same.1))
 base_inherits s (member l e ms) k d is (inr later) = inr (base_inherits s ms k d is later)
 
-pub inherits_in_item : (x : Data) (s : Spot) (es : Items) (i : ℕ) (d : Data) → get_item i es ≡ Some d → Inherits x s d → InheritsInItems x s es
+pub inherits_in_item : (x : Data) (s : Place) (es : Items) (i : ℕ) (d : Data) → get_item i es ≡ Some d → Inherits x s d → InheritsInItems x s es
 inherits_in_item x s no_items i d there h = absurd cc
 inherits_in_item x s (item e es) zero d there h = inl (subst (Inherits x s) (sym (value_same e d there)) h)
 inherits_in_item x s (item e es) (suc i) d there h = inr (inherits_in_item x s es i d there h)
@@ -109,14 +110,14 @@ module _ (done : Members) where
       items_through (item (laid_entry done n d) no_items) (lay_new done es no_items) (lay_new_entry done e no_items (lay_new done es no_items)) (entry_stands es i n d there) (behind_entry e no_items (lay_new done es no_items))
 
   -- an entry by itself is laid as it is in its list
-  entry_laid : (n : List ℕ) (d : Data) → lay done Entry (object (member n d no_members)) None ≡ laid_entry done n d
-  unfolding spot_under is_base_name
+  entry_laid : (n : List ℕ) (d : Data) → lay done places.Entry (object (member n d no_members)) None ≡ laid_entry done n d
+  unfolding place_under content_under entries_of rows_of place_in field_place is_base_name
   entry_laid n d = refl
 
-  list_laid : (s : Spot) (es : Items) → lists_members s ≡ true → Fits (lay done s (array es) None) → Fits (array (lay_new done es no_items))
+  list_laid : (s : Place) (es : Items) → lists_members s ≡ true → Fits (lay done s (array es) None) → Fits (array (lay_new done es no_items))
   list_laid s es is h = rw is at h
 
-  entry_fits : (s : Spot) (es : Items) (i : ℕ) (e : Data) → lists_members s ≡ true → is_no_entry e ≡ false → get_item i es ≡ Some e → Fits (lay done s (array es) None) → Fits (lay done Entry e None)
+  entry_fits : (s : Place) (es : Items) (i : ℕ) (e : Data) → lists_members s ≡ true → is_no_entry e ≡ false → get_item i es ≡ Some e → Fits (lay done s (array es) None) → Fits (lay done places.Entry e None)
   entry_fits s es i (object (member n d no_members)) is single there h =
       subst Fits (sym (entry_laid n d)) (item_fits (laid_entry done n d) (lay_new done es no_items) (entry_stands es i n d there) (list_laid s es is h))
   entry_fits s es i (object (member n d (member m c ms))) is single there h = absurd (true≢false single)
@@ -131,50 +132,50 @@ module _ (done : Members) where
 
 module _ (al done : Members) (known : AreResolved al done) (all : (n : List ℕ) → has al n ≡ true → has done n ≡ true) where
   -- a value without a flaw fits, laid over nothing, and so does each value of a `$inherit` in it
-  pub record IsFit (s : Spot) (v : Data) : Type 0 where
+  pub record IsFit (s : Place) (v : Data) : Type 0 where
     pub taken : Bool
     pub seen : Members
     pub sound : PartSound al s taken seen v
     pub in_order : Ascends v
-    pub inherited : (d : Data) → Inherits d s v → all_named (has done) FieldType d ≡ true → Fits (lay done FieldType d None)
+    pub inherited : (d : Data) → Inherits d s v → all_named (has done) places.FieldType d ≡ true → Fits (lay done places.FieldType d None)
     pub whole : Fits (lay done s v None)
 
-  pub sound_named : (s : Spot) (v : Data) (taken : Bool) (seen : Members) → PartSound al s taken seen v → all_named (has done) s v ≡ true
+  pub sound_named : (s : Place) (v : Data) (taken : Bool) (seen : Members) → PartSound al s taken seen v → all_named (has done) s v ≡ true
   sound_named s v taken seen h = named al None (has done) all v s taken seen h.own h.inner
 
-  sound_ready : (s : Spot) (v : Data) (taken : Bool) (seen : Members) → PartSound al s taken seen v → IsReady done s v
+  sound_ready : (s : Place) (v : Data) (taken : Bool) (seen : Members) → PartSound al s taken seen v → IsReady done s v
   sound_ready s v taken seen h = ready al None done v s seen h.inner (sound_named s v taken seen h)
 
   -- a value of a `$inherit`, or another property
-  property_fit : (s : Spot) (ms : Members) (k : List ℕ) (d : Data) (h : IsFit s (object ms)) → HasMember k d ms → Fits (lay done (spot_under s k) d None)
+  property_fit : (s : Place) (ms : Members) (k : List ℕ) (d : Data) (h : IsFit s (object ms)) → HasMember k d ms → Fits (lay done (place_under s k) d None)
   property_fit s ms k d h there = go (is_base_name s k) refl
     where
       taken : Bool
       taken = is_entry s && is_some (get_member k h.seen)
 
-      part : PartSound al (spot_under s k) taken no_members d
+      part : PartSound al (place_under s k) taken no_members d
       part = member_sound al s h.seen ms k d h.sound.inner there
 
-      base_at : is_base_name s k ≡ true → Fits (lay done (spot_under s k) d None)
+      base_at : is_base_name s k ≡ true → Fits (lay done (place_under s k) d None)
       base_at is =
-          let spot = base_spot s k is in
-          subst (λ x. Fits (lay done x d None)) (sym spot) (h.inherited d (base_inherits s ms k d is there) (subst (λ x. all_named (has done) x d ≡ true) spot (sound_named (spot_under s k) d taken no_members part)))
+          let place = base_place s k is in
+          subst (λ x. Fits (lay done x d None)) (sym place) (h.inherited d (base_inherits s ms k d is there) (subst (λ x. all_named (has done) x d ≡ true) place (sound_named (place_under s k) d taken no_members part)))
 
-      other_at : is_base_name s k ≡ false → Fits (lay done (spot_under s k) d None)
+      other_at : is_base_name s k ≡ false → Fits (lay done (place_under s k) d None)
       other_at is =
           let base = members_below (lay_base done s ms None) in
           let found = each_has (λ n e. get_member n ms ≡ Some e) ms k d (found_each ms (apart ms h.in_order.0)) there in
           let (cs, g) = ground_base al done known s ms (sound_ready s (object ms) h.taken h.seen h.sound) in
           let (vs, stands) = property_stands al done s k cs base g in
-          let laid = lay done (spot_under s k) d (get_member k base) in
-          fits_below (lay done (spot_under s k) d None) laid (grows al done d (spot_under s k) (sound_ready (spot_under s k) d taken no_members part) vs (get_member k base) stands)
+          let laid = lay done (place_under s k) d (get_member k base) in
+          fits_below (lay done (place_under s k) d None) laid (grows al done d (place_under s k) (sound_ready (place_under s k) d taken no_members part) vs (get_member k base) stands)
           (property_fits k laid (lay_members done s ms base) (lay_members-found done s k d ms base is found) h.whole)
 
-      go : (t : Bool) → is_base_name s k ≡ t → Fits (lay done (spot_under s k) d None)
+      go : (t : Bool) → is_base_name s k ≡ t → Fits (lay done (place_under s k) d None)
       go true is = base_at is
       go false is = other_at is
 
-  fit_under : (s : Spot) (ms : Members) (k : List ℕ) (d : Data) → IsFit s (object ms) → HasMember k d ms → IsFit (spot_under s k) d
+  fit_under : (s : Place) (ms : Members) (k : List ℕ) (d : Data) → IsFit s (object ms) → HasMember k d ms → IsFit (place_under s k) d
   fit_under s ms k d h there = record {
     taken = is_entry s && is_some (get_member k h.seen);
     seen = no_members;
@@ -184,25 +185,25 @@ module _ (al done : Members) (known : AreResolved al done) (all : (n : List ℕ)
     whole = property_fit s ms k d h there;
   }
 
-  fit_entry : (s : Spot) (es : Items) (i : ℕ) (e : Data) → lists_members s ≡ true → IsFit s (array es) → get_item i es ≡ Some e → IsFit (spot_of_items s) e
+  fit_entry : (s : Place) (es : Items) (i : ℕ) (e : Data) → lists_members s ≡ true → IsFit s (array es) → get_item i es ≡ Some e → IsFit (place_of_items s) e
   fit_entry s es i e is h there =
       let one = item_sound al s 0 no_members es i e h.sound.inner there in
-      let spot = list_spot s is in
-      let right = (own_sound al (spot_of_items s) false e one.sound.own).right in
+      let place = list_place s is in
+      let right = (own_sound al (place_of_items s) false e one.sound.own).right in
       record {
         taken = false;
         seen = one.marks;
         sound = one.sound;
         in_order = item_in_order es i e h.in_order there;
-        inherited = λ x within. h.inherited x (inherits_in_item x (spot_of_items s) es i e there within);
-        whole = subst (λ t. Fits (lay done t e None)) (sym spot) (entry_fits done s es i e is (single_entry e (subst (λ t. is_wrong t e ≡ false) spot right)) there h.whole);
+        inherited = λ x within. h.inherited x (inherits_in_item x (place_of_items s) es i e there within);
+        whole = subst (λ t. Fits (lay done t e None)) (sym place) (entry_fits done s es i e is (single_entry e (subst (λ t. is_wrong t e ≡ false) place right)) there h.whole);
       }
 
   -- each field type that a path leads to fits
-  pub fits_along : (path : List Place) (s : Spot) (v : Data) (t : Spot) (w : Data) → IsFit s v → Leads s v path t w → Names t → Fits (lay done t w None)
-  fits_along [] s v t w h (spot, value) names = subst (λ x. Fits (lay done x w None)) spot (subst (λ x. Fits (lay done s x None)) value h.whole)
-  fits_along (key k ∷ path) s v t w h (ms, d, is, there, leads) names = fits_along path (spot_under s k) d t w (fit_under s ms k d (subst (IsFit s) is h) there) leads names
-  fits_along (index i ∷ path) s v t w h (es, d, is, there, leads) names = elim (lists_or_plain s) [
-    | inl lists ↦ fits_along path (spot_of_items s) d t w (fit_entry s es i d lists (subst (IsFit s) is h) there) leads names
-    | inr plain ↦ absurd (plain_leads_nowhere (spot_of_items s) path d t w plain leads names)
+  pub fits_along : (path : List Step) (s : Place) (v : Data) (t : Place) (w : Data) → IsFit s v → Leads s v path t w → Names t → Fits (lay done t w None)
+  fits_along [] s v t w h (place, value) names = subst (λ x. Fits (lay done x w None)) place (subst (λ x. Fits (lay done s x None)) value h.whole)
+  fits_along (key k ∷ path) s v t w h (ms, d, is, there, leads) names = fits_along path (place_under s k) d t w (fit_under s ms k d (subst (IsFit s) is h) there) leads names
+  fits_along (index i ∷ path) s v t w h (es, d, is, there, leads) names = elim (lists_or_ignored s) [
+    | inl lists ↦ fits_along path (place_of_items s) d t w (fit_entry s es i d lists (subst (IsFit s) is h) there) leads names
+    | inr ignored ↦ absurd (ignored_leads_nowhere (place_of_items s) path d t w ignored leads names)
   ]

@@ -8,8 +8,8 @@ use Rattle.serde_json.proofs.Views.{items_len-items_view}
 use Rattle.conf_tree.specs.Flaw.{here}
 use Rattle.conf_tree.specs.Walk.{refusal}
 use Rattle.conf_tree.specs.declared.fault_kind.FaultKind.TheVariants.{Limit}
-use Rattle.conf_inherit.specs.declared.spot.Spot.{Spot}
-use Rattle.conf_inherit.specs.Spot.{names_alias, names_member_type, lists_extra_members}
+use Rattle.conf_table.specs.declared.place.Place.{Place}
+use Rattle.conf_inherit.specs.FieldPlaces.{names_alias, names_member_type, lists_extra_members}
 use Rattle.conf_inherit.specs.Flaws.{own_flaws, type_flaws}
 use Rattle.conf_inherit.specs.Limits.{limit_flaws}
 use Rattle.conf_inherit.specs.Places.{too_many, place_flaws}
@@ -28,7 +28,7 @@ pub count_within : (vs : List Value) → length vs ≤ 256 → refusal (too_many
 unfolding too_many
 count_within vs h = rw (items_len-items_view vs, few (length vs) h) refl
 
-module _ (al done : Members) (s : Spot) (v : Data) where
+module _ (al done : Members) (s : Place) (v : Data) where
   pub place_of_type : names_alias s ≡ true → place_flaws al done s v ≡ type_flaws al done s v
   unfolding place_flaws
   place_of_type h = rw h refl

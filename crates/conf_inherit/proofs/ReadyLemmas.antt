@@ -4,14 +4,14 @@ use Rattle.serde_json.specs.Data.{Data, null, boolean, number, string, array, ob
 use Rattle.serde_json.specs.Find.{get_member}
 use Rattle.serde_json.proofs.Views.{get_member-put, get_member-put_other}
 use Rattle.conf_tree.specs.Flaw.{key, index, within}
-use Rattle.conf_inherit.specs.declared.spot.Spot.{Spot}
-use Rattle.conf_inherit.specs.declared.spot.Spot.TheVariants.{Entry}
-use Rattle.conf_inherit.specs.Spot.{spot_under, spot_of_items, names_alias, names_member_type, lists_members, is_entry}
+use Rattle.conf_table.specs.declared.place.Place.{Place}
+use Rattle.conf_table.specs.declared.place.Place.TheVariants as places
+use Rattle.conf_inherit.specs.FieldPlaces.{place_under, place_of_items, names_alias, names_member_type, lists_members, is_entry}
 use Rattle.conf_inherit.specs.Names.{entries_of, NoClash}
 use Rattle.conf_inherit.specs.Flaws.{is_wrong, is_no_entry, is_no_member, is_unknown, own_flaws, base_flaws, inner_flaws, item_flaws, member_flaws, mark}
 use Rattle.conf_inherit.specs.Ready.{Names, IsReady, AreReady, HasReady}
 use Rattle.conf_inherit.specs.Named.{all_named, all_named_in_items, all_named_in_members, has}
-use Rattle.conf_inherit.proofs.SpotLemmas.{list_spot}
+use Rattle.conf_inherit.proofs.FieldPlaceLemmas.{list_place}
 use Rattle.conf_inherit.proofs.LayingLemmas.{get_other}
 
 pub part_empty : {A B : Type 0} (f : A → B) (xs : List A) (ys : List B) → map f xs ++ ys ≡ [] → xs ≡ []
@@ -47,14 +47,14 @@ or_right false b h = h
 or_right true b h = absurd (true≢false h)
 
 -- a value without a flaw of its own is not of a wrong kind, and its name is not taken
-not_wrong : (al : Members) (s : Spot) (taken : Bool) (v : Data) → own_flaws al s taken v ≡ [] → is_wrong s v ≡ false
+not_wrong : (al : Members) (s : Place) (taken : Bool) (v : Data) → own_flaws al s taken v ≡ [] → is_wrong s v ≡ false
 not_wrong al s taken v h = go (is_wrong s v) refl
   where
     go : (t : Bool) → is_wrong s v ≡ t → is_wrong s v ≡ false
     go true is = let f = rw is at h in cc
     go false is = is
 
-pub not_unknown : (al : Members) (s : Spot) (taken : Bool) (v : Data) → own_flaws al s taken v ≡ [] → is_unknown al s v ≡ false
+pub not_unknown : (al : Members) (s : Place) (taken : Bool) (v : Data) → own_flaws al s taken v ≡ [] → is_unknown al s v ≡ false
 not_unknown al s taken v h = go (is_wrong s v) refl (is_unknown al s v) refl
   where
     go : (t : Bool) → is_wrong s v ≡ t → (u : Bool) → is_unknown al s v ≡ u → is_unknown al s v ≡ false
@@ -62,7 +62,7 @@ not_unknown al s taken v h = go (is_wrong s v) refl (is_unknown al s v) refl
     go true is true is' = let f = rw is at h in cc
     go false is true is' = let f = rw (is, is') at h in cc
 
-not_taken : (al : Members) (s : Spot) (taken : Bool) (v : Data) → own_flaws al s taken v ≡ [] → taken ≡ false
+not_taken : (al : Members) (s : Place) (taken : Bool) (v : Data) → own_flaws al s taken v ≡ [] → taken ≡ false
 not_taken al s false v h = refl
 not_taken al s true v h = go (is_wrong s v) refl (is_unknown al s v) refl
   where
@@ -71,17 +71,17 @@ not_taken al s true v h = go (is_wrong s v) refl (is_unknown al s v) refl
     go false is true is' = let f = rw (is, is') at h in cc
     go false is false is' = let f = rw (is, is') at h in cc
 
-entry_is : is_entry Entry ≡ true
+entry_is : is_entry places.Entry ≡ true
 unfolding is_entry
 entry_is = refl
 
-entry_lists : lists_members Entry ≡ false
+entry_lists : lists_members places.Entry ≡ false
 unfolding lists_members
 entry_lists = refl
 
 -- an entry without a flaw is an object of one property
-pub single_entry : (v : Data) → is_wrong Entry v ≡ false → is_no_entry v ≡ false
-single_entry v h = or_left (is_no_entry v) (names_member_type Entry && is_no_member v) (rw (entry_lists, entry_is) at h)
+pub single_entry : (v : Data) → is_wrong places.Entry v ≡ false → is_no_entry v ≡ false
+single_entry v h = or_left (is_no_entry v) (names_member_type places.Entry && is_no_member v) (rw (entry_lists, entry_is) at h)
 
 -- the entries of a members list without a flaw have names of their own, which none before them has
 pub record Apart (seen : Members) (es : Members) : Type 0 where
@@ -101,10 +101,10 @@ apart_more n d seen es h a = record {
 }
 
 module _ (al : Members) (rs : Option Members) where
-  apart_at : (s : Spot) (i : ℕ) (seen : Members) (v : Data) (es : Items) → is_no_entry v ≡ false → inner_flaws al rs Entry seen v ≡ [] → (Apart (mark v seen) (entries_of es)) → Apart seen (entries_of (item v es))
+  apart_at : (s : Place) (i : ℕ) (seen : Members) (v : Data) (es : Items) → is_no_entry v ≡ false → inner_flaws al rs places.Entry seen v ≡ [] → (Apart (mark v seen) (entries_of es)) → Apart seen (entries_of (item v es))
   apart_at s i seen (object (member n d no_members)) es single h a =
       let own = front_empty _ _ (front_empty _ _ (part_empty (within (key n)) _ _ h)) in
-      let free : (is_entry Entry && has seen n) ≡ false = not_taken al (spot_under Entry n) (is_entry Entry && has seen n) d own in
+      let free : (is_entry places.Entry && has seen n) ≡ false = not_taken al (place_under places.Entry n) (is_entry places.Entry && has seen n) d own in
       apart_more n d seen (entries_of es) (rw entry_is at free) a
   apart_at s i seen (object (member n d (member m e ms))) es single h a = absurd (true≢false single)
   apart_at s i seen (object no_members) es single h a = absurd (true≢false single)
@@ -114,14 +114,14 @@ module _ (al : Members) (rs : Option Members) where
   apart_at s i seen (string x) es single h a = absurd (true≢false single)
   apart_at s i seen (array x) es single h a = absurd (true≢false single)
 
-  apart_entries : (s : Spot) (i : ℕ) (seen : Members) (es : Items) → spot_of_items s ≡ Entry → item_flaws al rs s i seen es ≡ [] → Apart seen (entries_of es)
-  apart_entries s i seen no_items spot h = record { distinct = tt; new = λ n f. refl }
-  apart_entries s i seen (item v es) spot h =
-      let here_none = part_empty (within (index i)) (own_flaws al (spot_of_items s) false v ++ inner_flaws al rs (spot_of_items s) seen v) (item_flaws al rs s (suc i) (mark v seen) es) h in
-      let later_none = rest_empty (within (index i)) (own_flaws al (spot_of_items s) false v ++ inner_flaws al rs (spot_of_items s) seen v) (item_flaws al rs s (suc i) (mark v seen) es) h in
-      let own : own_flaws al Entry false v ≡ [] = subst (λ x. own_flaws al x false v ≡ []) spot (front_empty _ _ here_none) in
-      let inner : inner_flaws al rs Entry seen v ≡ [] = subst (λ x. inner_flaws al rs x seen v ≡ []) spot (back_empty (own_flaws al (spot_of_items s) false v) (inner_flaws al rs (spot_of_items s) seen v) here_none) in
-      apart_at s i seen v es (single_entry v (not_wrong al Entry false v own)) inner (apart_entries s (suc i) (mark v seen) es spot later_none)
+  apart_entries : (s : Place) (i : ℕ) (seen : Members) (es : Items) → place_of_items s ≡ places.Entry → item_flaws al rs s i seen es ≡ [] → Apart seen (entries_of es)
+  apart_entries s i seen no_items place h = record { distinct = tt; new = λ n f. refl }
+  apart_entries s i seen (item v es) place h =
+      let here_none = part_empty (within (index i)) (own_flaws al (place_of_items s) false v ++ inner_flaws al rs (place_of_items s) seen v) (item_flaws al rs s (suc i) (mark v seen) es) h in
+      let later_none = rest_empty (within (index i)) (own_flaws al (place_of_items s) false v ++ inner_flaws al rs (place_of_items s) seen v) (item_flaws al rs s (suc i) (mark v seen) es) h in
+      let own : own_flaws al places.Entry false v ≡ [] = subst (λ x. own_flaws al x false v ≡ []) place (front_empty _ _ here_none) in
+      let inner : inner_flaws al rs places.Entry seen v ≡ [] = subst (λ x. inner_flaws al rs x seen v ≡ []) place (back_empty (own_flaws al (place_of_items s) false v) (inner_flaws al rs (place_of_items s) seen v) here_none) in
+      apart_at s i seen v es (single_entry v (not_wrong al places.Entry false v own)) inner (apart_entries s (suc i) (mark v seen) es place later_none)
 
   module _ (done : Members) where
     found_of : (n : List ℕ) → has done n ≡ true → (r : Data) × (get_member n done ≡ Some r)
@@ -131,7 +131,7 @@ module _ (al : Members) (rs : Option Members) where
         go (Some r) e = (r, e)
         go None e = absurd (true≢false (sym (ap is_some (sym e) ∙ h)))
 
-    ready_text : (s : Spot) (n : List ℕ) → all_named (has done) s (string n) ≡ true → Names s → (r : Data) × (get_member n done ≡ Some r)
+    ready_text : (s : Place) (n : List ℕ) → all_named (has done) s (string n) ≡ true → Names s → (r : Data) × (get_member n done ≡ Some r)
     ready_text s n h (inl is) = found_of n (rw is at h)
     ready_text s n h (inr is) = found_of n (go (names_alias s) refl)
       where
@@ -140,31 +140,31 @@ module _ (al : Members) (rs : Option Members) where
         go false e = rw (e, is) at h
 
     mutual
-      pub ready : (v : Data) (s : Spot) (seen : Members) → inner_flaws al rs s seen v ≡ [] → all_named (has done) s v ≡ true → IsReady done s v
+      pub ready : (v : Data) (s : Place) (seen : Members) → inner_flaws al rs s seen v ≡ [] → all_named (has done) s v ≡ true → IsReady done s v
       ready null s seen h named = tt
       ready (boolean b) s seen h named = tt
       ready (number n) s seen h named = tt
       ready (string n) s seen h named = ready_text s n named
-      ready (array es) s seen h named = ((λ is. (apart_entries s 0 no_members es (list_spot s is) h).distinct), ready_items es s 0 no_members h named)
+      ready (array es) s seen h named = ((λ is. (apart_entries s 0 no_members es (list_place s is) h).distinct), ready_items es s 0 no_members h named)
       ready (object ms) s seen h named = ready_members ms s seen h named
 
-      ready_items : (es : Items) (s : Spot) (i : ℕ) (seen : Members) → item_flaws al rs s i seen es ≡ [] → all_named_in_items (has done) (spot_of_items s) es ≡ true → AreReady done (spot_of_items s) es
+      ready_items : (es : Items) (s : Place) (i : ℕ) (seen : Members) → item_flaws al rs s i seen es ≡ [] → all_named_in_items (has done) (place_of_items s) es ≡ true → AreReady done (place_of_items s) es
       ready_items no_items s i seen h named = tt
       ready_items (item v es) s i seen h named =
-          let here_none = part_empty (within (index i)) (own_flaws al (spot_of_items s) false v ++ inner_flaws al rs (spot_of_items s) seen v) (item_flaws al rs s (suc i) (mark v seen) es) h in
-          let later_none = rest_empty (within (index i)) (own_flaws al (spot_of_items s) false v ++ inner_flaws al rs (spot_of_items s) seen v) (item_flaws al rs s (suc i) (mark v seen) es) h in (
-            ready v (spot_of_items s) seen (back_empty (own_flaws al (spot_of_items s) false v) (inner_flaws al rs (spot_of_items s) seen v) here_none) (and_left (all_named (has done) (spot_of_items s) v) (all_named_in_items (has done) (spot_of_items s) es) named),
-            ready_items es s (suc i) (mark v seen) later_none (and_right (all_named (has done) (spot_of_items s) v) (all_named_in_items (has done) (spot_of_items s) es) named),
+          let here_none = part_empty (within (index i)) (own_flaws al (place_of_items s) false v ++ inner_flaws al rs (place_of_items s) seen v) (item_flaws al rs s (suc i) (mark v seen) es) h in
+          let later_none = rest_empty (within (index i)) (own_flaws al (place_of_items s) false v ++ inner_flaws al rs (place_of_items s) seen v) (item_flaws al rs s (suc i) (mark v seen) es) h in (
+            ready v (place_of_items s) seen (back_empty (own_flaws al (place_of_items s) false v) (inner_flaws al rs (place_of_items s) seen v) here_none) (and_left (all_named (has done) (place_of_items s) v) (all_named_in_items (has done) (place_of_items s) es) named),
+            ready_items es s (suc i) (mark v seen) later_none (and_right (all_named (has done) (place_of_items s) v) (all_named_in_items (has done) (place_of_items s) es) named),
           )
 
-      ready_members : (ms : Members) (s : Spot) (seen : Members) → member_flaws al rs s seen ms ≡ [] → all_named_in_members (has done) s ms ≡ true → HasReady done s ms
+      ready_members : (ms : Members) (s : Place) (seen : Members) → member_flaws al rs s seen ms ≡ [] → all_named_in_members (has done) s ms ≡ true → HasReady done s ms
       ready_members no_members s seen h named = tt
       ready_members (member k d ms) s seen h named =
-          let own = own_flaws al (spot_under s k) (is_entry s && is_some (get_member k seen)) d in
-          let inner = inner_flaws al rs (spot_under s k) no_members d in
+          let own = own_flaws al (place_under s k) (is_entry s && is_some (get_member k seen)) d in
+          let inner = inner_flaws al rs (place_under s k) no_members d in
           let base = base_flaws rs s k d in
           let here_none = front_empty (own ++ inner) base (part_empty (within (key k)) ((own ++ inner) ++ base) (member_flaws al rs s seen ms) h) in
           let later_none = rest_empty (within (key k)) ((own ++ inner) ++ base) (member_flaws al rs s seen ms) h in (
-            ready d (spot_under s k) no_members (back_empty own inner here_none) (and_left (all_named (has done) (spot_under s k) d) (all_named_in_members (has done) s ms) named),
-            ready_members ms s seen later_none (and_right (all_named (has done) (spot_under s k) d) (all_named_in_members (has done) s ms) named),
+            ready d (place_under s k) no_members (back_empty own inner here_none) (and_left (all_named (has done) (place_under s k) d) (all_named_in_members (has done) s ms) named),
+            ready_members ms s seen later_none (and_right (all_named (has done) (place_under s k) d) (all_named_in_members (has done) s ms) named),
           )

@@ -10,9 +10,9 @@ use Rattle.conf_tree.specs.Reading.{◌>>=◌}
 use Rattle.conf_tree.specs.Walk.{HasMember, refusal}
 use Rattle.conf_tree.specs.declared.fault_kind.FaultKind.{FaultKind}
 use Rattle.conf_tree.specs.declared.fault_kind.FaultKind.TheVariants.{InheritCycle, Limit}
-use Rattle.conf_inherit.specs.declared.spot.Spot.{Spot}
-use Rattle.conf_inherit.specs.declared.spot.Spot.TheVariants.{Root, Trace, TraceType, Aliases, FieldType}
-use Rattle.conf_inherit.specs.Spot.{spot_under, spot_in_trace_type, spot_of_items, names_alias, names_member_type, is_base_name, lists_extra_members, leads_on}
+use Rattle.conf_table.specs.declared.place.Place.{Place}
+use Rattle.conf_table.specs.declared.place.Place.TheVariants as places
+use Rattle.conf_inherit.specs.FieldPlaces.{place_under, place_of_items, names_alias, names_member_type, is_base_name, lists_extra_members, leads_on}
 use Rattle.conf_inherit.specs.AliasFlaws.{over_names, first_or_circle, alias_flaws, all_alias_flaws}
 use Rattle.conf_inherit.specs.Circle.{Walks}
 use Rattle.conf_inherit.specs.SameFlaw.{is_same_flaw}
@@ -34,7 +34,7 @@ use Rattle.conf_inherit.specs.Rounds.{Outcomes, rounds, no_outcomes}
 use Rattle.conf_inherit.specs.Limits.{Exceeds, fitting, passed, limit_flaws}
 use Rattle.conf_inherit.proofs.CircleLemmas.{IsOpen, open_walks}
 use Rattle.conf_inherit.proofs.LimitLemmas.{Judged, fits, exceeds, judged}
-use Rattle.conf_inherit.proofs.SpotLemmas.{alias_field, base_spot}
+use Rattle.conf_inherit.proofs.FieldPlaceLemmas.{trace_place, trace_type_place, aliases_place, alias_place_under, alias_field, base_place}
 use Rattle.conf_inherit.proofs.FaultLemmas.{Among, refused_among, BasesHold, among_within, holds_in_object, entry_holds, flaw_of_itself_holds, flaw_holds, first_or_rest, Aligned, aligned_here, aligned_next, Seen, seen_next_at, none_seen}
 use Rattle.conf_inherit.proofs.ListLemmas.{AllEntries, found_each}
 use Rattle.conf_inherit.proofs.LayingLemmas.{Meets, same, other, meets, get_same, get_other}
@@ -44,25 +44,18 @@ limit_kind r o f (fits x) h = absurd h
 limit_kind r o f (exceeds kind past) (inl e) = (kind, past, e)
 limit_kind r o f (exceeds kind past) (inr h) = absurd h
 
-alias_spot_under : (k : List ℕ) → spot_under Aliases k ≡ FieldType
-unfolding spot_under
-alias_spot_under k = refl
-
 module _ (al : Members) where
   -- a limit that a value passes holds at it
-  passes_here : (s : Spot) (v : Data) (kind : FaultKind) → Passes al kind s v → FlawHolds al s v (here kind)
+  passes_here : (s : Place) (v : Data) (kind : FaultKind) → Passes al kind s v → FlawHolds al s v (here kind)
   passes_here s v kind p = inl (s, v, (refl, refl), inr p)
 
-  along : (s : Spot) (v : Data) (f g : Flaw) → f ≡ g → FlawHolds al s v g → FlawHolds al s v f
+  along : (s : Place) (v : Data) (f g : Flaw) → f ≡ g → FlawHolds al s v g → FlawHolds al s v f
   along s v f g e h = subst (FlawHolds al s v) (sym e) h
-
-  no_bases : BasesHold al None
-  no_bases s k d f h = absurd h
 
   -- ---- a field type, where the resolved aliases are known
 
   module _ (done : Members) (known : AreResolved al done) where
-    limit_here : (s : Spot) (v : Data) (f : Flaw) → Names s → Among f (limit_flaws done s v) → FlawHolds al s v f
+    limit_here : (s : Place) (v : Data) (f : Flaw) → Names s → Among f (limit_flaws done s v) → FlawHolds al s v f
     limit_here s v f names h = go (all_named (has done) s v) refl
       where
         go : (t : Bool) → all_named (has done) s v ≡ t → FlawHolds al s v f
@@ -74,15 +67,15 @@ module _ (al : Members) where
     bases_hold : BasesHold al (Some done)
     bases_hold s k d f h = go (is_base_name s k) refl
       where
-        go : (t : Bool) → is_base_name s k ≡ t → FlawHolds al (spot_under s k) d f
-        go true is = subst (λ t. FlawHolds al t d f) (sym (base_spot s k is)) (limit_here FieldType d f (inl alias_field) (rw is at h))
+        go : (t : Bool) → is_base_name s k ≡ t → FlawHolds al (place_under s k) d f
+        go true is = subst (λ t. FlawHolds al t d f) (sym (base_place s k is)) (limit_here places.FieldType d f (inl alias_field) (rw is at h))
         go false is = absurd (rw is at h)
 
-    type_holds : (s : Spot) (v : Data) (f : Flaw) → Names s → Among f (type_flaws al done s v) → FlawHolds al s v f
+    type_holds : (s : Place) (v : Data) (f : Flaw) → Names s → Among f (type_flaws al done s v) → FlawHolds al s v f
     type_holds s v f names h = first_or_rest f (flaws al (Some done) s false no_members v) (limit_flaws done s v) h (flaw_holds al (Some done) bases_hold s v f) (limit_here s v f names)
 
     -- a flaw of its own holds, and else the circle is told of
-    own_or_circle : (s : Spot) (w : Data) (f : Flaw) → Names s → (own over : Result ⊤ Flaw) → refusal (type_flaws al done s w) ≡ own → Among f (first_or_circle own over) → FlawHolds al s w f ⊎ (f ≡ here InheritCycle)
+    own_or_circle : (s : Place) (w : Data) (f : Flaw) → Names s → (own over : Result ⊤ Flaw) → refusal (type_flaws al done s w) ≡ own → Among f (first_or_circle own over) → FlawHolds al s w f ⊎ (f ≡ here InheritCycle)
     own_or_circle s w f names own over is h = go own is over h
       where
         only : (g : Flaw) → Among f (g ∷ []) → f ≡ g
@@ -106,30 +99,30 @@ module _ (al : Members) where
     CircleOf k f = (f ≡ here InheritCycle) × Walks al (members_len al) k
 
     -- a flaw of an alias holds of its value, or is the circle
-    alias_at : (k : List ℕ) (w : Data) (f : Flaw) → get_member k al ≡ Some w → Among f (alias_flaws al st k w) → FlawHolds al FieldType w f ⊎ CircleOf k f
+    alias_at : (k : List ℕ) (w : Data) (f : Flaw) → get_member k al ≡ Some w → Among f (alias_flaws al st k w) → FlawHolds al places.FieldType w f ⊎ CircleOf k f
     alias_at k w f is h = go (has st.done k) refl (has st.refused k) refl
       where
-        circle : has st.done k ≡ false → has st.refused k ≡ false → FlawHolds al FieldType w f ⊎ (f ≡ here InheritCycle) → FlawHolds al FieldType w f ⊎ CircleOf k f
+        circle : has st.done k ≡ false → has st.refused k ≡ false → FlawHolds al places.FieldType w f ⊎ (f ≡ here InheritCycle) → FlawHolds al places.FieldType w f ⊎ CircleOf k f
         circle a b (inl holds) = inl holds
         circle a b (inr e) = inr (e, walks k (ap is_some is) (a, b))
 
-        go : (t : Bool) → has st.done k ≡ t → (u : Bool) → has st.refused k ≡ u → FlawHolds al FieldType w f ⊎ CircleOf k f
+        go : (t : Bool) → has st.done k ≡ t → (u : Bool) → has st.refused k ≡ u → FlawHolds al places.FieldType w f ⊎ CircleOf k f
         go true a u b = absurd (rw a at h)
-        go false a true b = inl (type_holds st.done known FieldType w f (inl alias_field) (rw (a, b) at h))
-        go false a false b = circle a b (own_or_circle st.done known FieldType w f (inl alias_field) (refusal (type_flaws al st.done FieldType w)) (refusal (type_flaws (over_names al st no_members) st.done FieldType w)) refl (rw (a, b) at h))
+        go false a true b = inl (type_holds st.done known places.FieldType w f (inl alias_field) (rw (a, b) at h))
+        go false a false b = circle a b (own_or_circle st.done known places.FieldType w f (inl alias_field) (refusal (type_flaws al st.done places.FieldType w)) (refusal (type_flaws (over_names al st no_members) st.done places.FieldType w)) refl (rw (a, b) at h))
 
-    aliases_hold : (ms : Members) (f : Flaw) → AllEntries (λ k w. get_member k al ≡ Some w) ms → ((k : List ℕ) (d : Data) → HasMember k d ms → HasMember k d al) → Among f (all_alias_flaws al st ms) → FlawHolds al Aliases (object al) f
+    aliases_hold : (ms : Members) (f : Flaw) → AllEntries (λ k w. get_member k al ≡ Some w) ms → ((k : List ℕ) (d : Data) → HasMember k d ms → HasMember k d al) → Among f (all_alias_flaws al st ms) → FlawHolds al places.FieldTypeAliases (object al) f
     aliases_hold no_members f each sub h = absurd h
     aliases_hold (member k w ms) f each sub h =
         first_or_rest f (map (within (key k)) (alias_flaws al st k w)) (all_alias_flaws al st ms) h
         (λ a. one (among_within (key k) f (alias_flaws al st k w) a))
         (λ a. aliases_hold ms f each.1 (λ q d m. sub q d (inr m)) a)
       where
-        one : (g : Flaw) × (f ≡ within (key k) g) × Among g (alias_flaws al st k w) → FlawHolds al Aliases (object al) f
+        one : (g : Flaw) × (f ≡ within (key k) g) × Among g (alias_flaws al st k w) → FlawHolds al places.FieldTypeAliases (object al) f
         one (g, e, a) = at (alias_at k w g each.0 a)
           where
-            at : FlawHolds al FieldType w g ⊎ CircleOf k g → FlawHolds al Aliases (object al) f
-            at (inl holds) = along Aliases (object al) f (within (key k) g) e (holds_in_object al Aliases k w al g (sub k w (inl (refl, refl))) (subst (λ x. FlawHolds al x w g) (sym (alias_spot_under k)) holds))
+            at : FlawHolds al places.FieldType w g ⊎ CircleOf k g → FlawHolds al places.FieldTypeAliases (object al) f
+            at (inl holds) = along places.FieldTypeAliases (object al) f (within (key k) g) e (holds_in_object al places.FieldTypeAliases k w al g (sub k w (inl (refl, refl))) (subst (λ x. FlawHolds al x w g) (sym (alias_place_under k)) holds))
             at (inr (circle, steps)) =
                 let all : f ≡ within (key k) (here InheritCycle) = e ∙ ap (within (key k)) circle in
                 inr (inr (ap (λ x. x.kind) all, ([], k, ap (λ x. x.path) all, (refl, refl), steps)))
@@ -137,7 +130,7 @@ module _ (al : Members) where
   -- ---- the places
 
   module _ (done : Members) (known : AreResolved al done) where
-    many_here : (s : Spot) (v : Data) (f : Flaw) → lists_extra_members s ≡ true → Among f (too_many v) → FlawHolds al s v f
+    many_here : (s : Place) (v : Data) (f : Flaw) → lists_extra_members s ≡ true → Among f (too_many v) → FlawHolds al s v f
     unfolding too_many
     many_here s (array es) f is h = go (nat_lt max_extra_members (items_len es)) refl
       where
@@ -157,7 +150,7 @@ module _ (al : Members) where
     many_here s (number n) f is h = absurd h
     many_here s (string n) f is h = absurd h
 
-    place_holds : (s : Spot) (v : Data) (f : Flaw) → Among f (place_flaws al done s v) → FlawHolds al s v f
+    place_holds : (s : Place) (v : Data) (f : Flaw) → Among f (place_flaws al done s v) → FlawHolds al s v f
     place_holds s v f h = go (names_alias s) refl (names_member_type s) refl (lists_extra_members s) refl
       where
         go : (a : Bool) → names_alias s ≡ a → (b : Bool) → names_member_type s ≡ b → (c : Bool) → lists_extra_members s ≡ c → FlawHolds al s v f
@@ -166,21 +159,21 @@ module _ (al : Members) where
         go false a false b true c = first_or_rest f (too_many v) (own_flaws al s false v) (subst (Among f) (place_of_list al done s v a b c) h) (many_here s v f c) (flaw_of_itself_holds al s v f)
         go false a false b false c = absurd (subst (Among f) (place_of_other al done s v a b c) h)
 
-    items_at : (s : Spot) (es : Items) (f : Flaw) → (t : Bool) → lists_extra_members s ≡ t → Among f (inner_places al done s (array es)) → (Among f (item_places al done s 0 no_members es) → FlawHolds al s (array es) f) → FlawHolds al s (array es) f
+    items_at : (s : Place) (es : Items) (f : Flaw) → (t : Bool) → lists_extra_members s ≡ t → Among f (inner_places al done s (array es)) → (Among f (item_places al done s 0 no_members es) → FlawHolds al s (array es) f) → FlawHolds al s (array es) f
     items_at s es f true is h k = k (rw is at h)
     items_at s es f false is h k = absurd (rw is at h)
 
-    members_at : (s : Spot) (ms : Members) (f : Flaw) → (t : Bool) → leads_on s ≡ t → Among f (inner_places al done s (object ms)) → (Among f (member_places al done s ms) → FlawHolds al s (object ms) f) → FlawHolds al s (object ms) f
+    members_at : (s : Place) (ms : Members) (f : Flaw) → (t : Bool) → leads_on s ≡ t → Among f (inner_places al done s (object ms)) → (Among f (member_places al done s ms) → FlawHolds al s (object ms) f) → FlawHolds al s (object ms) f
     members_at s ms f true is h k = k (rw is at h)
     members_at s ms f false is h k = absurd (rw is at h)
 
-    member_here : (s : Spot) (ms : Members) (k : List ℕ) (d : Data) (f : Flaw) → HasMember k d ms → (g : Flaw) × (f ≡ within (key k) g) × Among g (place_flaws al done (spot_under s k) d ++ inner_places al done (spot_under s k) d)
-        → ((g : Flaw) → Among g (inner_places al done (spot_under s k) d) → FlawHolds al (spot_under s k) d g) → FlawHolds al s (object ms) f
+    member_here : (s : Place) (ms : Members) (k : List ℕ) (d : Data) (f : Flaw) → HasMember k d ms → (g : Flaw) × (f ≡ within (key k) g) × Among g (place_flaws al done (place_under s k) d ++ inner_places al done (place_under s k) d)
+        → ((g : Flaw) → Among g (inner_places al done (place_under s k) d) → FlawHolds al (place_under s k) d g) → FlawHolds al s (object ms) f
     member_here s ms k d f m (g, same_f, a) deeper = along s (object ms) f (within (key k) g) same_f (holds_in_object al s k d ms g m
-        (first_or_rest g (place_flaws al done (spot_under s k) d) (inner_places al done (spot_under s k) d) a (place_holds (spot_under s k) d g) (deeper g)))
+        (first_or_rest g (place_flaws al done (place_under s k) d) (inner_places al done (place_under s k) d) a (place_holds (place_under s k) d g) (deeper g)))
 
     mutual
-      places_hold : (v : Data) (s : Spot) (f : Flaw) → Among f (inner_places al done s v) → FlawHolds al s v f
+      places_hold : (v : Data) (s : Place) (f : Flaw) → Among f (inner_places al done s v) → FlawHolds al s v f
       places_hold null s f h = absurd h
       places_hold (boolean b) s f h = absurd h
       places_hold (number n) s f h = absurd h
@@ -188,19 +181,19 @@ module _ (al : Members) where
       places_hold (array es) s f h = items_at s es f (lists_extra_members s) refl h (items_hold es s es 0 no_members f (λ j d g. let same : j ≡ 0 + j = omega arith in subst (λ x. get_item x es ≡ Some d) same g) (λ n b. absurd (none_seen n b)))
       places_hold (object ms) s f h = members_at s ms f (leads_on s) refl h (members_hold ms s ms f (λ k d m. m))
 
-      items_hold : (rest : Items) (s : Spot) (es : Items) (i : ℕ) (seen : Members) (f : Flaw) → Aligned es i rest → Seen es i seen → Among f (item_places al done s i seen rest) → FlawHolds al s (array es) f
+      items_hold : (rest : Items) (s : Place) (es : Items) (i : ℕ) (seen : Members) (f : Flaw) → Aligned es i rest → Seen es i seen → Among f (item_places al done s i seen rest) → FlawHolds al s (array es) f
       items_hold no_items s es i seen f al' before h = absurd h
       items_hold (item e rest) s es i seen f al' before h =
-          let t = spot_of_items s in
+          let t = place_of_items s in
           first_or_rest f (map (within (index i)) (flaws al (Some done) t false seen e ++ inner_places al done t e)) (item_places al done s (suc i) (mark e seen) rest) h
           (λ a. entry_holds al (Some done) (bases_hold done known) s es i seen e f (inner_places al done t e) (aligned_here es i e rest al') before (among_within (index i) f (flaws al (Some done) t false seen e ++ inner_places al done t e) a) (λ g b. places_hold e t g b))
           (λ a. items_hold rest s es (suc i) (mark e seen) f (aligned_next es i e rest al') (seen_next_at es i e seen (aligned_here es i e rest al') before) a)
 
-      members_hold : (rest : Members) (s : Spot) (ms : Members) (f : Flaw) → ((k : List ℕ) (d : Data) → HasMember k d rest → HasMember k d ms) → Among f (member_places al done s rest) → FlawHolds al s (object ms) f
+      members_hold : (rest : Members) (s : Place) (ms : Members) (f : Flaw) → ((k : List ℕ) (d : Data) → HasMember k d rest → HasMember k d ms) → Among f (member_places al done s rest) → FlawHolds al s (object ms) f
       members_hold no_members s ms f sub h = absurd h
       members_hold (member k d rest) s ms f sub h =
-          first_or_rest f (map (within (key k)) (place_flaws al done (spot_under s k) d ++ inner_places al done (spot_under s k) d)) (member_places al done s rest) h
-          (λ a. member_here s ms k d f (sub k d (inl (refl, refl))) (among_within (key k) f (place_flaws al done (spot_under s k) d ++ inner_places al done (spot_under s k) d) a) (λ g b. places_hold d (spot_under s k) g b))
+          first_or_rest f (map (within (key k)) (place_flaws al done (place_under s k) d ++ inner_places al done (place_under s k) d)) (member_places al done s rest) h
+          (λ a. member_here s ms k d f (sub k d (inl (refl, refl))) (among_within (key k) f (place_flaws al done (place_under s k) d ++ inner_places al done (place_under s k) d) a) (λ g b. places_hold d (place_under s k) g b))
           (λ a. members_hold rest s ms f (λ q e m. sub q e (inr m)) a)
 
 -- ---- seen from the configuration
@@ -213,33 +206,21 @@ has_found k d (member l e ms) h = go (meets k l) (has_found k d ms)
     go (same f) rest = let g : Some e ≡ Some d = sym (get_same k l e ms f) ∙ h in let one : d ≡ e = cc in inl (f, one)
     go (other apart) rest = inr (rest (sym (get_other k l e ms apart) ∙ h))
 
-trace_spot : spot_under Root trace_name ≡ Trace
-unfolding spot_under trace_name
-trace_spot = refl
-
-type_spot_under : spot_under Trace type_name ≡ TraceType
-unfolding spot_under type_name
-type_spot_under = refl
-
-aliases_spot : spot_under TraceType aliases_name ≡ Aliases
-unfolding spot_under spot_in_trace_type aliases_name
-aliases_spot = refl
-
-lift : (al : Members) (s t : Spot) (k : List ℕ) (v d : Data) (f : Flaw) → spot_under s k ≡ t → get k v ≡ Some d → FlawHolds al t d f → FlawHolds al s v (within (key k) f)
-lift al s t k (object ms) d f spot is h = holds_in_object al s k d ms f (has_found k d ms is) (subst (λ x. FlawHolds al x d f) (sym spot) h)
-lift al s t k null d f spot is h = cc
-lift al s t k (boolean b) d f spot is h = cc
-lift al s t k (number n) d f spot is h = cc
-lift al s t k (string n) d f spot is h = cc
-lift al s t k (array es) d f spot is h = cc
+lift : (al : Members) (s t : Place) (k : List ℕ) (v d : Data) (f : Flaw) → place_under s k ≡ t → get k v ≡ Some d → FlawHolds al t d f → FlawHolds al s v (within (key k) f)
+lift al s t k (object ms) d f place is h = holds_in_object al s k d ms f (has_found k d ms is) (subst (λ x. FlawHolds al x d f) (sym place) h)
+lift al s t k null d f place is h = cc
+lift al s t k (boolean b) d f place is h = cc
+lift al s t k (number n) d f place is h = cc
+lift al s t k (string n) d f place is h = cc
+lift al s t k (array es) d f place is h = cc
 
 -- the flaws of the aliases, seen from the configuration
 lift_aliases : (al : Members) (t : Data) (f : Flaw) → (a b c : Option Data) → get trace_name t ≡ a → option_and_then (get type_name) a ≡ b → option_and_then (get aliases_name) b ≡ c → (ms : Members) → members_or_none c ≡ ms
-    → (FlawHolds al Aliases (object ms) f ⊎ (ms ≡ no_members)) → (ms ≡ no_members → ⊥) → FlawHolds al Root t (in_aliases f)
+    → (FlawHolds al places.FieldTypeAliases (object ms) f ⊎ (ms ≡ no_members)) → (ms ≡ no_members → ⊥) → FlawHolds al places.Root t (in_aliases f)
 lift_aliases al t f (Some a) (Some b) (Some (object ns)) e1 e2 e3 ms is (inl h) some =
-    lift al Root Trace trace_name t a (within (key type_name) (within (key aliases_name) f)) trace_spot e1
-    (lift al Trace TraceType type_name a b (within (key aliases_name) f) type_spot_under e2
-    (lift al TraceType Aliases aliases_name b (object ns) f aliases_spot e3 (subst (λ x. FlawHolds al Aliases (object x) f) (sym is) h)))
+    lift al places.Root places.Trace trace_name t a (within (key type_name) (within (key aliases_name) f)) trace_place e1
+    (lift al places.Trace places.TraceType type_name a b (within (key aliases_name) f) trace_type_place e2
+    (lift al places.TraceType places.FieldTypeAliases aliases_name b (object ns) f aliases_place e3 (subst (λ x. FlawHolds al places.FieldTypeAliases (object x) f) (sym is) h)))
 lift_aliases al t f a b c e1 e2 e3 ms is (inr none) some = absurd (some none)
 lift_aliases al t f None b c e1 e2 e3 ms is h some = absurd (some (lost b c e2 e3 ms is))
   where
@@ -276,7 +257,7 @@ module _ (t : Data) (f : Flaw) (apart : NoClash (aliases_of t)) where
   abbrev st_of : Outcomes
   st_of = rounds al_of (members_len al_of) no_outcomes
 
-  alias_refused : (g : Flaw) → refusal (all_alias_flaws al_of st_of al_of) ≡ Err g → FlawHolds al_of Root t (in_aliases g)
+  alias_refused : (g : Flaw) → refusal (all_alias_flaws al_of st_of al_of) ≡ Err g → FlawHolds al_of places.Root t (in_aliases g)
   alias_refused g h =
       let each = found_each al_of apart in
       let among = refused_among (all_alias_flaws al_of st_of al_of) g h in
@@ -285,25 +266,21 @@ module _ (t : Data) (f : Flaw) (apart : NoClash (aliases_of t)) where
       lift_aliases al_of t g (get trace_name t) (option_and_then (get type_name) (get trace_name t)) (option_and_then (get aliases_name) (option_and_then (get type_name) (get trace_name t))) refl refl refl al_of refl
       (inl (aliases_hold al_of st_of known walks al_of g each (λ k d m. m) among)) (λ none. subst (λ x. Among g (all_alias_flaws al_of st_of x)) none among)
 
-  laid_deep : refusal (all_alias_flaws al_of st_of al_of) ≡ Ok tt → refusal (flaws al_of None Root false no_members t) ≡ Ok tt → if_shallow (lay st_of.done Root t None) ≡ Err f → RefusalHolds t f
+  laid_deep : refusal (all_alias_flaws al_of st_of al_of) ≡ Ok tt → refusal (inner_places al_of st_of.done places.Root t) ≡ Ok tt → if_shallow (lay st_of.done places.Root t None) ≡ Err f → RefusalHolds t f
   laid_deep a b h =
-      inr (lay st_of.done Root t None, laid_resolves t al_of (members_len al_of) st_of refl apart refl a b, err_shallow (lay st_of.done Root t None) f h)
+      inr (lay st_of.done places.Root t None, laid_resolves t al_of (members_len al_of) st_of refl apart refl a b, err_shallow (lay st_of.done places.Root t None) f h)
 
-  after_places : refusal (all_alias_flaws al_of st_of al_of) ≡ Ok tt → (refusal (flaws al_of None Root false no_members t) ≡ Err f) ⊎ ((refusal (flaws al_of None Root false no_members t) ≡ Ok tt) × (if_shallow (lay st_of.done Root t None) ≡ Err f)) → RefusalHolds t f
-  after_places a (inl h) = inl (flaw_holds al_of None (no_bases al_of) Root t f (refused_among (flaws al_of None Root false no_members t) f h))
-  after_places a (inr (b, h)) = laid_deep a b h
+  after_aliases : refusal (all_alias_flaws al_of st_of al_of) ≡ Ok tt → (refusal (inner_places al_of st_of.done places.Root t) ≡ Err f) ⊎ ((refusal (inner_places al_of st_of.done places.Root t) ≡ Ok tt) × (if_shallow (lay st_of.done places.Root t None) ≡ Err f)) → RefusalHolds t f
+  after_aliases a (inl h) = inl (places_hold al_of st_of.done (rounds_resolved al_of (members_len al_of) (found_each al_of apart)) t places.Root f (refused_among (inner_places al_of st_of.done places.Root t) f h))
+  after_aliases a (inr (b, h)) = laid_deep a b h
 
-  after_aliases : refusal (all_alias_flaws al_of st_of al_of) ≡ Ok tt → (refusal (inner_places al_of st_of.done Root t) ≡ Err f) ⊎ ((refusal (inner_places al_of st_of.done Root t) ≡ Ok tt) × ((refusal (flaws al_of None Root false no_members t) >>= (λ c. if_shallow (lay st_of.done Root t None))) ≡ Err f)) → RefusalHolds t f
-  after_aliases a (inl h) = inl (places_hold al_of st_of.done (rounds_resolved al_of (members_len al_of) (found_each al_of apart)) t Root f (refused_among (inner_places al_of st_of.done Root t) f h))
-  after_aliases a (inr (b, h)) = after_places a (err_then (refusal (flaws al_of None Root false no_members t)) (λ c. if_shallow (lay st_of.done Root t None)) f h)
-
-  from_first : ((g : Flaw) × (refusal (all_alias_flaws al_of st_of al_of) ≡ Err g) × (f ≡ in_aliases g)) ⊎ ((refusal (all_alias_flaws al_of st_of al_of) ≡ Ok tt) × ((refusal (inner_places al_of st_of.done Root t) >>= (λ b. refusal (flaws al_of None Root false no_members t) >>= (λ c. if_shallow (lay st_of.done Root t None)))) ≡ Err f)) → RefusalHolds t f
-  from_first (inl (g, h, e)) = inl (subst (FlawHolds al_of Root t) (sym e) (alias_refused g h))
-  from_first (inr (a, h)) = after_aliases a (err_then (refusal (inner_places al_of st_of.done Root t)) (λ b. refusal (flaws al_of None Root false no_members t) >>= (λ c. if_shallow (lay st_of.done Root t None))) f h)
+  from_first : ((g : Flaw) × (refusal (all_alias_flaws al_of st_of al_of) ≡ Err g) × (f ≡ in_aliases g)) ⊎ ((refusal (all_alias_flaws al_of st_of al_of) ≡ Ok tt) × ((refusal (inner_places al_of st_of.done places.Root t) >>= (λ b. if_shallow (lay st_of.done places.Root t None))) ≡ Err f)) → RefusalHolds t f
+  from_first (inl (g, h, e)) = inl (subst (FlawHolds al_of places.Root t) (sym e) (alias_refused g h))
+  from_first (inr (a, h)) = after_aliases a (err_then (refusal (inner_places al_of st_of.done places.Root t)) (λ b. if_shallow (lay st_of.done places.Root t None)) f h)
 
   -- the kind of a refusal holds at its path
   pub refusal_holds : resolution t ≡ Err f → RefusalHolds t f
-  refusal_holds h = from_first (err_aliases (refusal (all_alias_flaws al_of st_of al_of)) (λ a. refusal (inner_places al_of st_of.done Root t) >>= (λ b. refusal (flaws al_of None Root false no_members t) >>= (λ c. if_shallow (lay st_of.done Root t None)))) f h)
+  refusal_holds h = from_first (err_aliases (refusal (all_alias_flaws al_of st_of al_of)) (λ a. refusal (inner_places al_of st_of.done places.Root t) >>= (λ b. if_shallow (lay st_of.done places.Root t None))) f h)
 
 -- a configuration has a resolution, or a fault that holds
 pub resolved_or_refused : (t : Data) → NoClash (aliases_of t) → ((r : Data) × Resolves t r) ⊎ ((f : Flaw) × RefusalHolds t f)

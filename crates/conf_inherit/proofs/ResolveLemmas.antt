@@ -10,9 +10,9 @@ use Rattle.serde_json.specs.Written.{has_float, members_have_float}
 use Rattle.serde_json.proofs.Views.{Entry}
 use Rattle.conf_tree.specs.Flaw.{Flaw}
 use Rattle.conf_tree.specs.Walk.{refusal}
-use Rattle.conf_inherit.specs.declared.spot.Spot.TheVariants.{Root}
+use Rattle.conf_table.specs.declared.place.Place.TheVariants as places
 use Rattle.conf_inherit.specs.AliasFlaws.{all_alias_flaws}
-use Rattle.conf_inherit.specs.Flaws.{flaws, own_flaws, inner_flaws}
+use Rattle.conf_inherit.specs.Flaws.{own_flaws, inner_flaws}
 use Rattle.conf_inherit.specs.Laying.{lay}
 use Rattle.conf_inherit.specs.Looks.{Looks, AreResolved}
 use Rattle.conf_inherit.specs.Names.{AllAbove, NoClash}
@@ -32,6 +32,7 @@ use Rattle.conf_inherit.proofs.NamedLemmas.{named}
 use Rattle.conf_inherit.proofs.NestingLemmas.{shallow_nests, nested_shallow}
 use Rattle.conf_inherit.proofs.ReadyLemmas.{ready, front_empty, back_empty, and_left, and_right}
 use Rattle.conf_inherit.proofs.RoundLemmas.{HasRoot, rounds_resolved, rounds_root, all_done}
+use Rattle.conf_inherit.proofs.SoundPlaces.{flawless}
 use Rattle.conf_inherit.proofs.WholeNumbers.{IsWhole, looks_whole, member_whole}
 
 pub no_flaws : (fs : List Flaw) → refusal fs ≡ Ok tt → fs ≡ []
@@ -41,17 +42,17 @@ no_flaws (f ∷ fs) h = cc
 -- ---- a configuration without a flaw is resolved
 
 pub laid_resolves : (t : Data) (al : Members) (n : ℕ) (st : Outcomes) → al ≡ aliases_of t → NoClash al → st ≡ rounds al n no_outcomes
-    → refusal (all_alias_flaws al st al) ≡ Ok tt → refusal (flaws al None Root false no_members t) ≡ Ok tt → Resolves t (lay st.done Root t None)
+    → refusal (all_alias_flaws al st al) ≡ Ok tt → refusal (inner_places al st.done places.Root t) ≡ Ok tt → Resolves t (lay st.done places.Root t None)
 laid_resolves t al n st is apart turned sound whole =
     let each = found_each al apart in
     let known : AreResolved al st.done = subst (λ x. AreResolved al x.done) (sym turned) (rounds_resolved al n each) in
     let root : HasRoot al st = subst (HasRoot al) (sym turned) (rounds_root al n each) in
-    let none = no_flaws (flaws al None Root false no_members t) whole in
-    let own = front_empty (own_flaws al Root false t) (inner_flaws al None Root no_members t) none in
-    let inner = back_empty (own_flaws al Root false t) (inner_flaws al None Root no_members t) none in
+    let none = flawless al st.done t (no_flaws (inner_places al st.done places.Root t) whole) in
+    let own = front_empty (own_flaws al places.Root false t) (inner_flaws al None places.Root no_members t) none in
+    let inner = back_empty (own_flaws al places.Root false t) (inner_flaws al None places.Root no_members t) none in
     let all = all_done al st (no_flaws (all_alias_flaws al st al) sound) root in
-    subst (λ x. Looks x Root (t ∷ []) (lay st.done Root t None)) is
-    (lays al st.done known t Root (ready al None st.done t Root no_members inner (named al None (has st.done) all t Root false no_members own inner)) [] None refl)
+    subst (λ x. Looks x places.Root (t ∷ []) (lay st.done places.Root t None)) is
+    (lays al st.done known t places.Root (ready al None st.done t places.Root no_members inner (named al None (has st.done) all t places.Root false no_members own inner)) [] None refl)
 
 -- ---- nesting
 
@@ -197,18 +198,17 @@ pub aliases_sound : (t r : Data) → resolution t ≡ Ok r → refusal (all_alia
 aliases_sound t r h =
     let al = aliases_of t in
     let st = rounds al (members_len al) no_outcomes in
-    (ok_aliases (refusal (all_alias_flaws al st al)) (λ a. refusal (inner_places al st.done Root t) >>= (λ b. refusal (flaws al None Root false no_members t) >>= (λ c. if_shallow (lay st.done Root t None)))) r h).0
+    (ok_aliases (refusal (all_alias_flaws al st al)) (λ a. refusal (inner_places al st.done places.Root t) >>= (λ b. if_shallow (lay st.done places.Root t None))) r h).0
 
 -- what is answered is the resolution, and nests at most 32 deep
 pub resolution_sound : (t r : Data) → NoClash (aliases_of t) → resolution t ≡ Ok r → Resolves t r × (nests r 32 ≡ true)
 resolution_sound t r apart h =
     let al = aliases_of t in
     let st = rounds al (members_len al) no_outcomes in
-    let first = ok_aliases (refusal (all_alias_flaws al st al)) (λ a. refusal (inner_places al st.done Root t) >>= (λ b. refusal (flaws al None Root false no_members t) >>= (λ c. if_shallow (lay st.done Root t None)))) r h in
-    let second = ok_then (refusal (inner_places al st.done Root t)) (λ b. refusal (flaws al None Root false no_members t) >>= (λ c. if_shallow (lay st.done Root t None))) r first.1 in
-    let third = ok_then (refusal (flaws al None Root false no_members t)) (λ c. if_shallow (lay st.done Root t None)) r second.1 in
-    let last = ok_shallow (lay st.done Root t None) r third.1 in
-    (subst (Resolves t) last.0 (laid_resolves t al (members_len al) st refl apart refl first.0 third.0), last.1)
+    let first = ok_aliases (refusal (all_alias_flaws al st al)) (λ a. refusal (inner_places al st.done places.Root t) >>= (λ b. if_shallow (lay st.done places.Root t None))) r h in
+    let second = ok_then (refusal (inner_places al st.done places.Root t)) (λ b. if_shallow (lay st.done places.Root t None)) r first.1 in
+    let last = ok_shallow (lay st.done places.Root t None) r second.1 in
+    (subst (Resolves t) last.0 (laid_resolves t al (members_len al) st refl apart refl first.0 second.0), last.1)
 
 pub resolution_is : (t : Data) (al : Members) (n : ℕ) (st : Outcomes) → al ≡ aliases_of t → members_len al ≡ n → st ≡ rounds al n no_outcomes → resolution t ≡ resolution_after al st t
 resolution_is t al n st own count turned =

@@ -8,7 +8,7 @@ use Rattle.std.specs.Prelude.{⊤}
 use Rattle.conf_tree.specs.Flaw.{Flaw, key, within}
 use Rattle.conf_tree.specs.Walk.{refusal}
 use Rattle.conf_tree.specs.declared.fault_kind.FaultKind.{FaultKind}
-use Rattle.conf_inherit.specs.declared.spot.Spot.TheVariants.{FieldType}
+use Rattle.conf_table.specs.declared.place.Place.TheVariants as places
 use Rattle.conf_inherit.specs.AliasFlaws.{over_names, first_or_circle, alias_flaws, all_alias_flaws}
 use Rattle.conf_inherit.specs.Flaws.{flaws, own_flaws, inner_flaws, type_flaws}
 use Rattle.conf_inherit.specs.Laying.{lay}
@@ -22,7 +22,7 @@ use Rattle.conf_inherit.proofs.LayingLemmas.{Meets, same, other, meets, get_othe
 use Rattle.conf_inherit.proofs.LaysOver.{lays}
 use Rattle.conf_inherit.proofs.LimitLemmas.{fitting_value}
 use Rattle.conf_inherit.proofs.ListLemmas.{AllEntries}
-use Rattle.conf_inherit.proofs.NamedLemmas.{Between, between, named, both_named}
+use Rattle.conf_inherit.proofs.NamedLemmas.{Between, between, named, both_named, named_along}
 use Rattle.conf_inherit.proofs.ReadyLemmas.{ready, part_empty, rest_empty, front_empty, back_empty, and_left, and_right}
 
 pub empty_flaws : (fs : List Flaw) → is_empty fs ≡ true → fs ≡ []
@@ -48,32 +48,32 @@ fitting_ok (Err kind) t h = cc
 
 module _ (al : Members) where
   -- an alias that is resolved is what it is looked up as
-  outcome_looks : (done : Members) (w r : Data) → AreResolved al done → outcome al done w ≡ Some r → Looks al FieldType (w ∷ []) r
-  outcome_looks done w r known h = go (all_named (has done) FieldType w && is_empty (flaws al (Some done) FieldType false no_members w)) refl
+  outcome_looks : (done : Members) (w r : Data) → AreResolved al done → outcome al done w ≡ Some r → Looks al places.FieldType (w ∷ []) r
+  outcome_looks done w r known h = go (all_named (has done) places.FieldType w && is_empty (flaws al (Some done) places.FieldType false no_members w)) refl
     where
-      go : (t : Bool) → (all_named (has done) FieldType w && is_empty (flaws al (Some done) FieldType false no_members w)) ≡ t → Looks al FieldType (w ∷ []) r
+      go : (t : Bool) → (all_named (has done) places.FieldType w && is_empty (flaws al (Some done) places.FieldType false no_members w)) ≡ t → Looks al places.FieldType (w ∷ []) r
       go false is = absurd (no_value r (rw is at h))
       go true is =
-          let value : fitting (lay done FieldType w None) ≡ Ok r = fitting_ok (fitting (lay done FieldType w None)) r (rw is at h) in
-          let none = empty_flaws (flaws al (Some done) FieldType false no_members w) (and_right (all_named (has done) FieldType w) (is_empty (flaws al (Some done) FieldType false no_members w)) is) in
-          let named = and_left (all_named (has done) FieldType w) (is_empty (flaws al (Some done) FieldType false no_members w)) is in
-          subst (Looks al FieldType (w ∷ [])) (fitting_value (lay done FieldType w None) r value)
-          (lays al done known w FieldType (ready al (Some done) done w FieldType no_members (back_empty (own_flaws al FieldType false w) (inner_flaws al (Some done) FieldType no_members w) none) named) [] None refl)
+          let value : fitting (lay done places.FieldType w None) ≡ Ok r = fitting_ok (fitting (lay done places.FieldType w None)) r (rw is at h) in
+          let none = empty_flaws (flaws al (Some done) places.FieldType false no_members w) (and_right (all_named (has done) places.FieldType w) (is_empty (flaws al (Some done) places.FieldType false no_members w)) is) in
+          let named = and_left (all_named (has done) places.FieldType w) (is_empty (flaws al (Some done) places.FieldType false no_members w)) is in
+          subst (Looks al places.FieldType (w ∷ [])) (fitting_value (lay done places.FieldType w None) r value)
+          (lays al done known w places.FieldType (ready al (Some done) done w places.FieldType no_members (back_empty (own_flaws al places.FieldType false w) (inner_flaws al (Some done) places.FieldType no_members w) none) named) [] None refl)
 
-  resolved_more : (done : Members) (k : List ℕ) (w r : Data) → AreResolved al done → get_member k al ≡ Some w → Looks al FieldType (w ∷ []) r → AreResolved al (put k r done)
+  resolved_more : (done : Members) (k : List ℕ) (w r : Data) → AreResolved al done → get_member k al ≡ Some w → Looks al places.FieldType (w ∷ []) r → AreResolved al (put k r done)
   resolved_more done k w r known is l n t h = go (meets n k)
     where
-      go : Meets n k → (w : Data) × (get_member n al ≡ Some w) × Looks al FieldType (w ∷ []) t
+      go : Meets n k → (w : Data) × (get_member n al ≡ Some w) × Looks al places.FieldType (w ∷ []) t
       go (same e) =
           let f : Some r ≡ Some t = sym (put_found n k r done e) ∙ h in
           let g : r ≡ t = cc in
-          (w, ap (λ x. get_member x al) e ∙ is, subst (Looks al FieldType (w ∷ [])) g l)
+          (w, ap (λ x. get_member x al) e ∙ is, subst (Looks al places.FieldType (w ∷ [])) g l)
       go (other apart) = known n t (sym (get_member-put_other n k r done apart) ∙ h)
 
   pub step_resolved : (k : List ℕ) (w : Data) (st : Outcomes) → get_member k al ≡ Some w → AreResolved al st.done → AreResolved al (step al k w st).done
-  step_resolved k w st is known = go (has_outcome st k) refl (all_named (is_over al st) FieldType w) refl (outcome al st.done w) refl
+  step_resolved k w st is known = go (has_outcome st k) refl (all_named (is_over al st) places.FieldType w) refl (outcome al st.done w) refl
     where
-      go : (t : Bool) → has_outcome st k ≡ t → (u : Bool) → all_named (is_over al st) FieldType w ≡ u → (o : Option Data) → outcome al st.done w ≡ o → AreResolved al (step al k w st).done
+      go : (t : Bool) → has_outcome st k ≡ t → (u : Bool) → all_named (is_over al st) places.FieldType w ≡ u → (o : Option Data) → outcome al st.done w ≡ o → AreResolved al (step al k w st).done
       go true a u b o e = rw a known
       go false a false b o e = rw (a, b) known
       go false a true b None e = rw (a, b, e) known
@@ -91,7 +91,7 @@ module _ (al : Members) where
 
 -- a type names what is no alias, or all that it names is resolved and it has a flaw or passes a limit
 abbrev IsFlawed : Members → Members → Data → Type 0
-IsFlawed al done w = (all_named (has al) FieldType w ≡ false) ⊎ ((all_named (has done) FieldType w ≡ true) × (is_empty (type_flaws al done FieldType w) ≡ false))
+IsFlawed al done w = (all_named (has al) places.FieldType w ≡ false) ⊎ ((all_named (has done) places.FieldType w ≡ true) × (is_empty (type_flaws al done places.FieldType w) ≡ false))
 
 -- an alias that is refused for what is wrong in it
 abbrev pub IsRoot : Members → Outcomes → Type 0
@@ -151,7 +151,7 @@ module _ (al : Members) where
   flawed_still : (k : List ℕ) (r : Data) (done : Members) (w : Data) → has done k ≡ false → IsFlawed al done w → IsFlawed al (put k r done) w
   flawed_still k r done w free (inl e) = inl e
   flawed_still k r done w free (inr (named, e)) =
-      inr (more_named done (put k r done) (still k r done free) FieldType w named, ap is_empty (kept_flaws done (put k r done) (still k r done free) al FieldType w named) ∙ e)
+      inr (more_named done (put k r done) (still k r done free) places.FieldType w named, ap is_empty (kept_flaws done (put k r done) (still k r done free) al places.FieldType w named) ∙ e)
 
   -- a root stays one when another alias gets its outcome
   root_stays : (k : List ℕ) (st : Outcomes) (o : Option Data) → has_outcome st k ≡ false → IsRoot al st → IsRoot al (concluded k st o)
@@ -165,20 +165,20 @@ module _ (al : Members) where
       go None = (q, w, is, open_q, is_still k null st.refused q refused, flawed)
 
   -- a type that is not resolved, though all that it names is, has a flaw or passes a limit
-  unresolved : (done : Members) (w : Data) → all_named (has done) FieldType w ≡ true → outcome al done w ≡ None → is_empty (type_flaws al done FieldType w) ≡ false
-  unresolved done w named h = go (is_empty (flaws al (Some done) FieldType false no_members w)) refl
+  unresolved : (done : Members) (w : Data) → all_named (has done) places.FieldType w ≡ true → outcome al done w ≡ None → is_empty (type_flaws al done places.FieldType w) ≡ false
+  unresolved done w named h = go (is_empty (flaws al (Some done) places.FieldType false no_members w)) refl
     where
-      go : (t : Bool) → is_empty (flaws al (Some done) FieldType false no_members w) ≡ t → is_empty (type_flaws al done FieldType w) ≡ false
-      go false e = front_flawed (flaws al (Some done) FieldType false no_members w) (limit_flaws done FieldType w) e
+      go : (t : Bool) → is_empty (flaws al (Some done) places.FieldType false no_members w) ≡ t → is_empty (type_flaws al done places.FieldType w) ≡ false
+      go false e = front_flawed (flaws al (Some done) places.FieldType false no_members w) (limit_flaws done places.FieldType w) e
       go true e =
-          let limit : is_empty (passed (fitting (lay done FieldType w None))) ≡ false = limit_listed (fitting (lay done FieldType w None)) (rw (named, e) at h) in
-          let at : limit_flaws done FieldType w ≡ passed (fitting (lay done FieldType w None)) = rw named refl in
-          joined_flawed (flaws al (Some done) FieldType false no_members w) (limit_flaws done FieldType w) (ap is_empty at ∙ limit)
+          let limit : is_empty (passed (fitting (lay done places.FieldType w None))) ≡ false = limit_listed (fitting (lay done places.FieldType w None)) (rw (named, e) at h) in
+          let at : limit_flaws done places.FieldType w ≡ passed (fitting (lay done places.FieldType w None)) = rw named refl in
+          joined_flawed (flaws al (Some done) places.FieldType false no_members w) (limit_flaws done places.FieldType w) (ap is_empty at ∙ limit)
 
   -- an alias that is refused has a flaw, or names one that is refused
-  new_root : (k : List ℕ) (w : Data) (st : Outcomes) → get_member k al ≡ Some w → has_outcome st k ≡ false → all_named (is_over al st) FieldType w ≡ true
+  new_root : (k : List ℕ) (w : Data) (st : Outcomes) → get_member k al ≡ Some w → has_outcome st k ≡ false → all_named (is_over al st) places.FieldType w ≡ true
       → outcome al st.done w ≡ None → HasRoot al st → IsRoot al (concluded k st None)
-  new_root k w st is free due h root = go (all_named (has st.done) FieldType w) refl (all_named (has al) FieldType w) refl
+  new_root k w st is free due h root = go (all_named (has st.done) places.FieldType w) refl (all_named (has al) places.FieldType w) refl
     where
       here_root : IsFlawed al st.done w → IsRoot al (concluded k st None)
       here_root flawed = (k, w, is, or_left_false (has st.done k) (has st.refused k) free, is_put k null st.refused, flawed)
@@ -186,20 +186,20 @@ module _ (al : Members) where
       by_name : Between (λ n. is_over al st n && has al n) (has st.done) → IsRoot al st
       by_name (n, over, open_n) = root n (or_true (has st.done n) (has st.refused n) (has al n) (and_left (is_over al st n) (has al n) over) open_n (and_right (is_over al st n) (has al n) over))
 
-      go : (t : Bool) → all_named (has st.done) FieldType w ≡ t → (u : Bool) → all_named (has al) FieldType w ≡ u → IsRoot al (concluded k st None)
+      go : (t : Bool) → all_named (has st.done) places.FieldType w ≡ t → (u : Bool) → all_named (has al) places.FieldType w ≡ u → IsRoot al (concluded k st None)
       go true a u b = here_root (inr (a, unresolved st.done w a h))
       go false a false b = here_root (inl b)
-      go false a true b = root_stays k st None free (by_name (between (λ n. is_over al st n && has al n) (has st.done) FieldType w (both_named (is_over al st) (has al) FieldType w due b) a))
+      go false a true b = root_stays k st None free (by_name (between (λ n. is_over al st n && has al n) (has st.done) places.FieldType w (both_named (is_over al st) (has al) places.FieldType w due b) a))
 
   -- a step keeps that each refusal has a root
   step_root : (k : List ℕ) (w : Data) (st : Outcomes) → get_member k al ≡ Some w → HasRoot al st → HasRoot al (step al k w st)
-  step_root k w st is root = go (has_outcome st k) refl (all_named (is_over al st) FieldType w) refl (outcome al st.done w) refl
+  step_root k w st is root = go (has_outcome st k) refl (all_named (is_over al st) places.FieldType w) refl (outcome al st.done w) refl
     where
-      concluded_root : (o : Option Data) → has_outcome st k ≡ false → all_named (is_over al st) FieldType w ≡ true → outcome al st.done w ≡ o → HasRoot al (concluded k st o)
+      concluded_root : (o : Option Data) → has_outcome st k ≡ false → all_named (is_over al st) places.FieldType w ≡ true → outcome al st.done w ≡ o → HasRoot al (concluded k st o)
       concluded_root (Some r) free due e q h = root_stays k st (Some r) free (root q h)
       concluded_root None free due e q h = new_root k w st is free due e root
 
-      go : (t : Bool) → has_outcome st k ≡ t → (u : Bool) → all_named (is_over al st) FieldType w ≡ u → (o : Option Data) → outcome al st.done w ≡ o → HasRoot al (step al k w st)
+      go : (t : Bool) → has_outcome st k ≡ t → (u : Bool) → all_named (is_over al st) places.FieldType w ≡ u → (o : Option Data) → outcome al st.done w ≡ o → HasRoot al (step al k w st)
       go true a u b o e = rw a root
       go false a false b o e = rw (a, b) root
       go false a true b o e = rw (a, b, e) (concluded_root o a b e)
@@ -241,18 +241,18 @@ module _ (al : Members) (st : Outcomes) (sound : all_alias_flaws al st al ≡ []
   sound_alias k w h = entry_found (λ k w. alias_flaws al st k w ≡ []) al (each_sound al st al sound) k w h
 
   -- a type without a flaw names aliases alone
-  sound_names : (w : Data) → type_flaws al st.done FieldType w ≡ [] → all_named (has al) FieldType w ≡ true
+  sound_names : (w : Data) → type_flaws al st.done places.FieldType w ≡ [] → all_named (has al) places.FieldType w ≡ true
   sound_names w none =
-      let own = own_flaws al FieldType false w in
-      let inner = inner_flaws al (Some st.done) FieldType no_members w in
-      let all = front_empty (own ++ inner) (limit_flaws st.done FieldType w) none in
-      named al (Some st.done) (has al) (λ n x. x) w FieldType false no_members (front_empty own inner all) (back_empty own inner all)
+      let own = own_flaws al places.FieldType false w in
+      let inner = inner_flaws al (Some st.done) places.FieldType no_members w in
+      let all = front_empty (own ++ inner) (limit_flaws st.done places.FieldType w) none in
+      named al (Some st.done) (has al) (λ n x. x) w places.FieldType false no_members (front_empty own inner all) (back_empty own inner all)
 
   -- a root has a flaw
   no_root : IsRoot al st → ⊥
   no_root (k, w, is, open_k, refused, flawed) = at flawed
     where
-      none : type_flaws al st.done FieldType w ≡ []
+      none : type_flaws al st.done places.FieldType w ≡ []
       none = rw (open_k, refused) at (sound_alias k w is)
 
       at : IsFlawed al st.done w → ⊥
@@ -265,7 +265,11 @@ module _ (al : Members) (st : Outcomes) (sound : all_alias_flaws al st al ≡ []
       at : (w : Data) → get_member n al ≡ Some w → (t : Bool) → has st.done n ≡ t → (u : Bool) → has st.refused n ≡ u → has st.done n ≡ true
       at w is true e u f = e
       at w is false e true f = absurd (no_root (root n f))
-      at w is false e false f = absurd (open_flawed (refusal (type_flaws al st.done FieldType w)) (refusal (type_flaws (over_names al st no_members) st.done FieldType w)) (rw (e, f) at (sound_alias n w is)))
+      at w is false e false f = absurd (open_flawed (refusal (type_flaws al st.done places.FieldType w)) (refusal (type_flaws (over_names al st no_members) st.done places.FieldType w)) (rw (e, f) at (sound_alias n w is)))
 
       found : (w : Data) × (get_member n al ≡ Some w) → has st.done n ≡ true
       found (w, is) = at w is (has st.done n) refl (has st.refused n) refl
+
+-- where all that a value names is resolved, it is due
+pub resolved_due : (al : Members) (st : Outcomes) (v : Data) → all_named (has st.done) places.FieldType v ≡ true → all_named (is_over al st) places.FieldType v ≡ true
+resolved_due al st v h = named_along (has st.done) (is_over al st) (λ n d. rw d refl) places.FieldType v h

@@ -8,8 +8,8 @@ use Rattle.serde_json.proofs.Views.{Entry}
 use Rattle.serde_json.specs.declared.value.Value.{Value}
 use Rattle.conf_inherit.specs.declared.size.Stop.{Stop}
 use Rattle.conf_inherit.specs.declared.size.Stop.TheVariants.{Memory, Limit}
-use Rattle.conf_inherit.specs.declared.spot.Spot.{Spot}
-use Rattle.conf_inherit.specs.Spot.{spot_under, is_base_name, lists_members}
+use Rattle.conf_table.specs.declared.place.Place.{Place}
+use Rattle.conf_inherit.specs.FieldPlaces.{place_under, is_base_name, lists_members}
 use Rattle.conf_inherit.specs.Laying.{lay, has_entry, items_below, lay_members, lay_over, lay_new, lay_new_entry, lay_new_member}
 use Rattle.conf_inherit.specs.Names.{NoClash, join_items, map_items}
 use Rattle.conf_inherit.proofs.ListLemmas.{AllEntries, found_each}
@@ -98,9 +98,9 @@ member_size k e no_members h = cc
 member_size k e (member l d ms) h = member_size_at k l d e ms (meets k l) h (member_size k e ms)
 
 -- a property that is laid is a part of the laid object
-pub property_size : (done : Members) (s : Spot) (k : List ℕ) (v : Data) (ms base : Members) → is_base_name s k ≡ false → get_member k ms ≡ Some v
-    → size (lay done (spot_under s k) v (get_member k base)) ≤ members_size (lay_members done s ms base)
-property_size done s k v ms base b h = member_size k (lay done (spot_under s k) v (get_member k base)) (lay_members done s ms base) (lay_members-found done s k v ms base b h)
+pub property_size : (done : Members) (s : Place) (k : List ℕ) (v : Data) (ms base : Members) → is_base_name s k ≡ false → get_member k ms ≡ Some v
+    → size (lay done (place_under s k) v (get_member k base)) ≤ members_size (lay_members done s ms base)
+property_size done s k v ms base b h = member_size k (lay done (place_under s k) v (get_member k base)) (lay_members done s ms base) (lay_members-found done s k v ms base b h)
 
 pick_entry : (P : List ℕ → Data → Type 0) (front : List Entry) (e : Entry) (back : List Entry) → AllEntries P (members_view (front ++ e ∷ back)) → P (string_bytes e.0) (view e.1)
 pick_entry P [] e back h = h.0
@@ -125,7 +125,7 @@ absent_after front e back whole is apart = clear front (subst (λ es. NoClash (m
     clear (x ∷ xs) h = clear xs h.1
 
 -- the base's entries with those of their names over them, and the new ones, are parts of the laid list
-pub over_size : (done : Members) (s : Spot) (es : Items) (base : Option Data) → lists_members s ≡ true
+pub over_size : (done : Members) (s : Place) (es : Items) (base : Option Data) → lists_members s ≡ true
     → items_size (map_items (λ b. lay_over done es b) (items_below base)) ≤ size (lay done s (array es) base)
 over_size done s es base is =
     let both : items_size (join_items (map_items (λ b. lay_over done es b) (items_below base)) (lay_new done es (items_below base)))
@@ -133,7 +133,7 @@ over_size done s es base is =
     = joined_size (map_items (λ b. lay_over done es b) (items_below base)) (lay_new done es (items_below base)) in
     rw is (omega arith)
 
-pub new_size : (done : Members) (s : Spot) (es : Items) (base : Option Data) → lists_members s ≡ true
+pub new_size : (done : Members) (s : Place) (es : Items) (base : Option Data) → lists_members s ≡ true
     → items_size (lay_new done es (items_below base)) ≤ size (lay done s (array es) base)
 new_size done s es base is =
     let both : items_size (join_items (map_items (λ b. lay_over done es b) (items_below base)) (lay_new done es (items_below base)))

@@ -5,7 +5,7 @@ use Rattle.serde_json.specs.Data.{Data, null, Members, no_members, member, put}
 use Rattle.serde_json.specs.Events.{members_len}
 use Rattle.serde_json.specs.Find.{get_member}
 use Rattle.serde_json.proofs.Views.{get_member-put, get_member-put_other}
-use Rattle.conf_inherit.specs.declared.spot.Spot.TheVariants.{FieldType}
+use Rattle.conf_table.specs.declared.place.Place.TheVariants as places
 use Rattle.conf_inherit.specs.Named.{all_named, has}
 use Rattle.conf_inherit.specs.Names.{IsInOrder, NoClash}
 use Rattle.conf_inherit.specs.Rounds.{Outcomes, has_outcome, is_over, outcome, concluded, step, round, all_over, next_round, rounds, no_outcomes, Reached, at_first, turned, is_settled, all_settled}
@@ -74,8 +74,8 @@ module _ (al : Members) where
   over_along : (st next : Outcomes) → ((n : List ℕ) → has_outcome st n ≡ true → has_outcome next n ≡ true) → (n : List ℕ) → is_over al st n ≡ true → is_over al next n ≡ true
   over_along st next more n h = elim (or_split (has_outcome st n) (not (has al n)) h) [ inl e ↦ or_first (has_outcome next n) (not (has al n)) (more n e) | inr e ↦ or_second (has_outcome next n) (not (has al n)) e ]
 
-  due_along : (st next : Outcomes) → ((n : List ℕ) → has_outcome st n ≡ true → has_outcome next n ≡ true) → (w : Data) → all_named (is_over al st) FieldType w ≡ true → all_named (is_over al next) FieldType w ≡ true
-  due_along st next more w h = named_along (is_over al st) (is_over al next) (over_along st next more) FieldType w h
+  due_along : (st next : Outcomes) → ((n : List ℕ) → has_outcome st n ≡ true → has_outcome next n ≡ true) → (w : Data) → all_named (is_over al st) places.FieldType w ≡ true → all_named (is_over al next) places.FieldType w ≡ true
+  due_along st next more w h = named_along (is_over al st) (is_over al next) (over_along st next more) places.FieldType w h
 
   outcome_kept : (st next : Outcomes) → Agrees st next → (n : List ℕ) → has_outcome st n ≡ true → has_outcome next n ≡ true
   outcome_kept st next agrees n h = same_outcome st next n (agrees n h) ∙ h
@@ -96,28 +96,28 @@ module _ (al : Members) where
         never e false f = f
         never e true f = absurd (not_both (has al m) e (own m (or_first (has next.done m) (has next.refused m) f)))
 
-    outcome_same : (w : Data) → all_named (is_over al st) FieldType w ≡ true → outcome al next.done w ≡ outcome al st.done w
-    outcome_same w due = go (all_named (has st.done) FieldType w) refl
+    outcome_same : (w : Data) → all_named (is_over al st) places.FieldType w ≡ true → outcome al next.done w ≡ outcome al st.done w
+    outcome_same w due = go (all_named (has st.done) places.FieldType w) refl
       where
-        none : all_named (has st.done) FieldType w ≡ false → (t : Bool) → all_named (has next.done) FieldType w ≡ t → outcome al next.done w ≡ outcome al st.done w
+        none : all_named (has st.done) places.FieldType w ≡ false → (t : Bool) → all_named (has next.done) places.FieldType w ≡ t → outcome al next.done w ≡ outcome al st.done w
         none e false f = rw (f, e) refl
         none e true f =
-            let (m, x, free) = blocked (has st.done) w FieldType e in
-            absurd (true≢false (sym (mentioned (has next.done) m w FieldType f x) ∙ still_missing m (mentioned (is_over al st) m w FieldType due x) free))
+            let (m, x, free) = blocked (has st.done) w places.FieldType e in
+            absurd (true≢false (sym (mentioned (has next.done) m w places.FieldType f x) ∙ still_missing m (mentioned (is_over al st) m w places.FieldType due x) free))
 
-        go : (t : Bool) → all_named (has st.done) FieldType w ≡ t → outcome al next.done w ≡ outcome al st.done w
-        go false e = none e (all_named (has next.done) FieldType w) refl
+        go : (t : Bool) → all_named (has st.done) places.FieldType w ≡ t → outcome al next.done w ≡ outcome al st.done w
+        go false e = none e (all_named (has next.done) places.FieldType w) refl
         go true e =
-            let f = more_named st.done next.done kept_done FieldType w e in
-            let inner = kept_inner st.done next.done kept_done al w FieldType no_members e in
-            let laid = kept_lay st.done next.done kept_done w FieldType None e in
+            let f = more_named st.done next.done kept_done places.FieldType w e in
+            let inner = kept_inner st.done next.done kept_done al w places.FieldType no_members e in
+            let laid = kept_lay st.done next.done kept_done w places.FieldType None e in
             rw (f, e, inner, laid) refl
 
   -- ---- what holds of each state
 
   -- the outcome of an alias is that of its type, all that it names having one
   pub record Comes (st : Outcomes) (k : List ℕ) (w : Data) : Type 0 where
-    pub due : all_named (is_over al st) FieldType w ≡ true
+    pub due : all_named (is_over al st) places.FieldType w ≡ true
     pub value : get_member k st.done ≡ outcome al st.done w
     pub mark : get_member k st.refused ≡ mark_of (outcome al st.done w)
 
@@ -127,7 +127,7 @@ module _ (al : Members) where
     pub done_order : IsInOrder st.done
     pub refused_order : IsInOrder st.refused
 
-  module _ (k : List ℕ) (w : Data) (st : Outcomes) (is : get_member k al ≡ Some w) (free : has_outcome st k ≡ false) (due : all_named (is_over al st) FieldType w ≡ true) (sound : IsSound st) where
+  module _ (k : List ℕ) (w : Data) (st : Outcomes) (is : get_member k al ≡ Some w) (free : has_outcome st k ≡ false) (due : all_named (is_over al st) places.FieldType w ≡ true) (sound : IsSound st) where
     abbrev next : Outcomes
     next = concluded k st (outcome al st.done w)
 
@@ -141,7 +141,7 @@ module _ (al : Members) where
         at (same e) = ap (has al) e ∙ ap is_some is
         at (other apart) = sound.own n (sym (same_outcome st next n (concluded_other k st (outcome al st.done w) n apart)) ∙ h)
 
-    same_next : (v : Data) → all_named (is_over al st) FieldType v ≡ true → outcome al next.done v ≡ outcome al st.done v
+    same_next : (v : Data) → all_named (is_over al st) places.FieldType v ≡ true → outcome al next.done v ≡ outcome al st.done v
     same_next v h = outcome_same st next agrees_next own_next v h
 
     comes_here : Comes next k w
@@ -181,10 +181,10 @@ module _ (al : Members) where
     sound_next = record { own = own_next; comes = comes_next; done_order = done_next (outcome al st.done w); refused_order = refused_next (outcome al st.done w) }
 
   -- what a conclusion keeps, a turn keeps
-  by_turn : (P : Outcomes → Type 0) (k : List ℕ) (w : Data) (st : Outcomes) → P st → (has_outcome st k ≡ false → all_named (is_over al st) FieldType w ≡ true → P (concluded k st (outcome al st.done w))) → P (step al k w st)
-  by_turn P k w st stays goes = go (has_outcome st k) refl (all_named (is_over al st) FieldType w) refl
+  by_turn : (P : Outcomes → Type 0) (k : List ℕ) (w : Data) (st : Outcomes) → P st → (has_outcome st k ≡ false → all_named (is_over al st) places.FieldType w ≡ true → P (concluded k st (outcome al st.done w))) → P (step al k w st)
+  by_turn P k w st stays goes = go (has_outcome st k) refl (all_named (is_over al st) places.FieldType w) refl
     where
-      go : (t : Bool) → has_outcome st k ≡ t → (u : Bool) → all_named (is_over al st) FieldType w ≡ u → P (step al k w st)
+      go : (t : Bool) → has_outcome st k ≡ t → (u : Bool) → all_named (is_over al st) places.FieldType w ≡ u → P (step al k w st)
       go true a u b = rw a stays
       go false a false b = rw (a, b) stays
       go false a true b = rw (a, b) (goes a b)
@@ -201,10 +201,10 @@ module _ (al : Members) where
   -- ---- a state in which no alias that is due waits
 
   abbrev pub IsSettled : Outcomes → Type 0
-  IsSettled st = (k : List ℕ) (w : Data) → get_member k al ≡ Some w → all_named (is_over al st) FieldType w ≡ true → has_outcome st k ≡ true
+  IsSettled st = (k : List ℕ) (w : Data) → get_member k al ≡ Some w → all_named (is_over al st) places.FieldType w ≡ true → has_outcome st k ≡ true
 
   module _ (last : Outcomes) (sound : IsSound last) (settled : IsSettled last) where
-    agrees_turn : (k : List ℕ) (w : Data) (st : Outcomes) → get_member k al ≡ Some w → Agrees st last → has_outcome st k ≡ false → all_named (is_over al st) FieldType w ≡ true
+    agrees_turn : (k : List ℕ) (w : Data) (st : Outcomes) → get_member k al ≡ Some w → Agrees st last → has_outcome st k ≡ false → all_named (is_over al st) places.FieldType w ≡ true
         → Agrees (concluded k st (outcome al st.done w)) last
     agrees_turn k w st is agrees free due n h = at (meets n k)
       where
@@ -278,30 +278,30 @@ module _ (al : Members) where
   concluded_has k st (Some r) = or_first (has (put k r st.done) k) (has st.refused k) (is_put k r st.done)
 
   -- an alias that is due has its outcome after its turn
-  due_step : (k : List ℕ) (w : Data) (st : Outcomes) → all_named (is_over al st) FieldType w ≡ true → has_outcome (step al k w st) k ≡ true
+  due_step : (k : List ℕ) (w : Data) (st : Outcomes) → all_named (is_over al st) places.FieldType w ≡ true → has_outcome (step al k w st) k ≡ true
   due_step k w st due = go (has_outcome st k) refl
     where
       go : (t : Bool) → has_outcome st k ≡ t → has_outcome (step al k w st) k ≡ true
       go true a = kept_step k w st k a
       go false a = rw (a, due) (concluded_has k st (outcome al st.done w))
 
-  due_round : (ms : Members) (st : Outcomes) (k : List ℕ) (w : Data) → get_member k ms ≡ Some w → all_named (is_over al st) FieldType w ≡ true → has_outcome (round al ms st) k ≡ true
+  due_round : (ms : Members) (st : Outcomes) (k : List ℕ) (w : Data) → get_member k ms ≡ Some w → all_named (is_over al st) places.FieldType w ≡ true → has_outcome (round al ms st) k ≡ true
   due_round no_members st k w is due = cc
   due_round (member l d ms) st k w is due = at (meets k l) (due_round ms (step al l d st) k w)
     where
-      at : Meets k l → (get_member k ms ≡ Some w → all_named (is_over al (step al l d st)) FieldType w ≡ true → has_outcome (round al ms (step al l d st)) k ≡ true) → has_outcome (round al ms (step al l d st)) k ≡ true
+      at : Meets k l → (get_member k ms ≡ Some w → all_named (is_over al (step al l d st)) places.FieldType w ≡ true → has_outcome (round al ms (step al l d st)) k ≡ true) → has_outcome (round al ms (step al l d st)) k ≡ true
       at (same e) later =
           let one : d ≡ w = same_value d w (sym (get_same k l d ms e) ∙ is) in
-          let turn : has_outcome (step al l d st) l ≡ true = due_step l d st (subst (λ x. all_named (is_over al st) FieldType x ≡ true) (sym one) due) in
+          let turn : has_outcome (step al l d st) l ≡ true = due_step l d st (subst (λ x. all_named (is_over al st) places.FieldType x ≡ true) (sym one) due) in
           kept_round ms (step al l d st) k (ap (has_outcome (step al l d st)) e ∙ turn)
       at (other apart) later = later (sym (get_other k l d ms apart) ∙ is) (due_along st (step al l d st) (kept_step l d st) w due)
 
   -- ---- a state that is settled, and one that is not
 
   settled_step : (k : List ℕ) (w : Data) (st : Outcomes) → is_settled al st k w ≡ true → step al k w st ≡ st
-  settled_step k w st h = go (has_outcome st k) refl (all_named (is_over al st) FieldType w) refl
+  settled_step k w st h = go (has_outcome st k) refl (all_named (is_over al st) places.FieldType w) refl
     where
-      go : (t : Bool) → has_outcome st k ≡ t → (u : Bool) → all_named (is_over al st) FieldType w ≡ u → step al k w st ≡ st
+      go : (t : Bool) → has_outcome st k ≡ t → (u : Bool) → all_named (is_over al st) places.FieldType w ≡ u → step al k w st ≡ st
       go true a u b = rw a refl
       go false a false b = rw (a, b) refl
       go false a true b = absurd (true≢false (sym (rw (a, b) at h)))
@@ -314,7 +314,7 @@ module _ (al : Members) where
   over_settled : (ms : Members) (st : Outcomes) → all_over ms st ≡ true → all_settled al ms st ≡ true
   over_settled no_members st h = refl
   over_settled (member k w ms) st h =
-      let one : is_settled al st k w ≡ true = or_first (has_outcome st k) (not (all_named (is_over al st) FieldType w)) (and_first (has_outcome st k) (all_over ms st) h) in
+      let one : is_settled al st k w ≡ true = or_first (has_outcome st k) (not (all_named (is_over al st) places.FieldType w)) (and_first (has_outcome st k) (all_over ms st) h) in
       rw one (over_settled ms st (and_second (has_outcome st k) (all_over ms st) h))
 
   each_settled : (ms : Members) (st : Outcomes) → all_settled al ms st ≡ true → AllEntries (λ k w. is_settled al st k w ≡ true) ms
@@ -323,17 +323,17 @@ module _ (al : Members) where
 
   pub is_settled_state : (st : Outcomes) → all_settled al al st ≡ true → IsSettled st
   is_settled_state st h k w is due =
-      elim (or_split (has_outcome st k) (not (all_named (is_over al st) FieldType w)) (entry_found (λ k w. is_settled al st k w ≡ true) al (each_settled al st h) k w is)) [ inl e ↦ e | inr e ↦ absurd (not_both (all_named (is_over al st) FieldType w) e due) ]
+      elim (or_split (has_outcome st k) (not (all_named (is_over al st) places.FieldType w)) (entry_found (λ k w. is_settled al st k w ≡ true) al (each_settled al st h) k w is)) [ inl e ↦ e | inr e ↦ absurd (not_both (all_named (is_over al st) places.FieldType w) e due) ]
 
   -- an alias that is due and has no outcome
   abbrev Waits : Outcomes → Type 0
-  Waits st = (k : List ℕ) × (w : Data) × (get_member k al ≡ Some w) × (has_outcome st k ≡ false) × (all_named (is_over al st) FieldType w ≡ true)
+  Waits st = (k : List ℕ) × (w : Data) × (get_member k al ≡ Some w) × (has_outcome st k ≡ false) × (all_named (is_over al st) places.FieldType w ≡ true)
 
   unsettled : (ms : Members) (st : Outcomes) → AllEntries (λ k w. get_member k al ≡ Some w) ms → all_settled al ms st ≡ false → Waits st
   unsettled no_members st each h = absurd (true≢false h)
-  unsettled (member k w ms) st each h = go (has_outcome st k) refl (all_named (is_over al st) FieldType w) refl (unsettled ms st each.1)
+  unsettled (member k w ms) st each h = go (has_outcome st k) refl (all_named (is_over al st) places.FieldType w) refl (unsettled ms st each.1)
     where
-      go : (t : Bool) → has_outcome st k ≡ t → (u : Bool) → all_named (is_over al st) FieldType w ≡ u → (all_settled al ms st ≡ false → Waits st) → Waits st
+      go : (t : Bool) → has_outcome st k ≡ t → (u : Bool) → all_named (is_over al st) places.FieldType w ≡ u → (all_settled al ms st ≡ false → Waits st) → Waits st
       go true a u b later = later (rw a at h)
       go false a false b later = later (rw (a, b) at h)
       go false a true b later = (k, w, each.0, a, b)

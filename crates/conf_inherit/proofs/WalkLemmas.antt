@@ -4,9 +4,9 @@ use Rattle.serde_json.specs.Data.{Data, null, boolean, number, string, array, ob
 use Rattle.serde_json.specs.Events.{members_len}
 use Rattle.serde_json.specs.Find.{get_member}
 use Rattle.serde_json.proofs.Views.{get_member-put_other}
-use Rattle.conf_inherit.specs.declared.spot.Spot.{Spot}
-use Rattle.conf_inherit.specs.declared.spot.Spot.TheVariants.{FieldType}
-use Rattle.conf_inherit.specs.Spot.{spot_under, spot_of_items, names_alias}
+use Rattle.conf_table.specs.declared.place.Place.{Place}
+use Rattle.conf_table.specs.declared.place.Place.TheVariants as places
+use Rattle.conf_inherit.specs.FieldPlaces.{place_under, place_of_items, names_alias}
 use Rattle.conf_inherit.specs.AliasFlaws.{all_alias_flaws}
 use Rattle.conf_inherit.specs.Circle.{Mentions, MentionsInItems, MentionsInMembers, Walks}
 use Rattle.conf_inherit.specs.Flaws.{flaws}
@@ -23,7 +23,7 @@ use Rattle.conf_inherit.proofs.RoundLemmas.{is_put, is_still, by_round, no_value
 
 -- ---- what a value names passes a test that every name in it passes
 
-passes_text : (p : List ℕ → Bool) (s : Spot) (n : List ℕ) → Names s → all_named p s (string n) ≡ true → p n ≡ true
+passes_text : (p : List ℕ → Bool) (s : Place) (n : List ℕ) → Names s → all_named p s (string n) ≡ true → p n ≡ true
 passes_text p s n (inl is) h = rw is at h
 passes_text p s n (inr is) h = go (names_alias s) refl
   where
@@ -32,23 +32,23 @@ passes_text p s n (inr is) h = go (names_alias s) refl
     go false e = rw (e, is) at h
 
 mutual
-  pub mentioned : (p : List ℕ → Bool) (m : List ℕ) (v : Data) (s : Spot) → all_named p s v ≡ true → Mentions m s v → p m ≡ true
+  pub mentioned : (p : List ℕ → Bool) (m : List ℕ) (v : Data) (s : Place) → all_named p s v ≡ true → Mentions m s v → p m ≡ true
   mentioned p m null s h x = absurd x
   mentioned p m (boolean b) s h x = absurd x
   mentioned p m (number n) s h x = absurd x
   mentioned p m (string n) s h (names, is) = ap p (sym is) ∙ passes_text p s n names h
-  mentioned p m (array ds) s h x = mentioned_in_items p m ds (spot_of_items s) h x
+  mentioned p m (array ds) s h x = mentioned_in_items p m ds (place_of_items s) h x
   mentioned p m (object ms) s h x = mentioned_in_members p m ms s h x
 
-  mentioned_in_items : (p : List ℕ → Bool) (m : List ℕ) (ds : Items) (s : Spot) → all_named_in_items p s ds ≡ true → MentionsInItems m s ds → p m ≡ true
+  mentioned_in_items : (p : List ℕ → Bool) (m : List ℕ) (ds : Items) (s : Place) → all_named_in_items p s ds ≡ true → MentionsInItems m s ds → p m ≡ true
   mentioned_in_items p m no_items s h x = absurd x
   mentioned_in_items p m (item d ds) s h (inl x) = mentioned p m d s (and_first (all_named p s d) (all_named_in_items p s ds) h) x
   mentioned_in_items p m (item d ds) s h (inr x) = mentioned_in_items p m ds s (and_second (all_named p s d) (all_named_in_items p s ds) h) x
 
-  mentioned_in_members : (p : List ℕ → Bool) (m : List ℕ) (ms : Members) (s : Spot) → all_named_in_members p s ms ≡ true → MentionsInMembers m s ms → p m ≡ true
+  mentioned_in_members : (p : List ℕ → Bool) (m : List ℕ) (ms : Members) (s : Place) → all_named_in_members p s ms ≡ true → MentionsInMembers m s ms → p m ≡ true
   mentioned_in_members p m no_members s h x = absurd x
-  mentioned_in_members p m (member k d ms) s h (inl x) = mentioned p m d (spot_under s k) (and_first (all_named p (spot_under s k) d) (all_named_in_members p s ms) h) x
-  mentioned_in_members p m (member k d ms) s h (inr x) = mentioned_in_members p m ms s (and_second (all_named p (spot_under s k) d) (all_named_in_members p s ms) h) x
+  mentioned_in_members p m (member k d ms) s h (inl x) = mentioned p m d (place_under s k) (and_first (all_named p (place_under s k) d) (all_named_in_members p s ms) h) x
+  mentioned_in_members p m (member k d ms) s h (inr x) = mentioned_in_members p m ms s (and_second (all_named p (place_under s k) d) (all_named_in_members p s ms) h) x
 
 -- ---- how many names pass a test
 
@@ -101,7 +101,7 @@ module _ (al : Members) where
   abbrev Short : Outcomes → Type 0
   Short st = (n : ℕ) (k : List ℕ) → has st.done k ≡ true → Walks al n k → n < count (has st.done) al
 
-  short_resolved : (k : List ℕ) (w r : Data) (st : Outcomes) → get_member k al ≡ Some w → has st.done k ≡ false → all_named (has st.done) FieldType w ≡ true → Short st → Short (concluded k st (Some r))
+  short_resolved : (k : List ℕ) (w r : Data) (st : Outcomes) → get_member k al ≡ Some w → has st.done k ≡ false → all_named (has st.done) places.FieldType w ≡ true → Short st → Short (concluded k st (Some r))
   short_resolved k w r st is open_k named short n q h walk = at (meets q k)
     where
       grows : count (has st.done) al < count (has (put k r st.done)) al
@@ -112,7 +112,7 @@ module _ (al : Members) where
       of_alias (suc n) (v, m, is', x, rest) =
           let g : Some v ≡ Some w = sym is' ∙ is in
           let one : v ≡ w = cc in
-          let before : n < count (has st.done) al = short n m (mentioned (has st.done) m w FieldType named (subst (Mentions m FieldType) one x)) rest in
+          let before : n < count (has st.done) al = short n m (mentioned (has st.done) m w places.FieldType named (subst (Mentions m places.FieldType) one x)) rest in
           omega (arith, grows)
 
       at : Meets q k → n < count (has (put k r st.done)) al
@@ -121,17 +121,17 @@ module _ (al : Members) where
           let before : n < count (has st.done) al = short n q (ap is_some (sym (get_member-put_other q k r st.done apart)) ∙ h) walk in
           omega (arith, grows)
 
-  outcome_named : (done : Members) (w r : Data) → outcome al done w ≡ Some r → all_named (has done) FieldType w ≡ true
-  outcome_named done w r h = go (all_named (has done) FieldType w && is_empty (flaws al (Some done) FieldType false no_members w)) refl
+  outcome_named : (done : Members) (w r : Data) → outcome al done w ≡ Some r → all_named (has done) places.FieldType w ≡ true
+  outcome_named done w r h = go (all_named (has done) places.FieldType w && is_empty (flaws al (Some done) places.FieldType false no_members w)) refl
     where
-      go : (t : Bool) → (all_named (has done) FieldType w && is_empty (flaws al (Some done) FieldType false no_members w)) ≡ t → all_named (has done) FieldType w ≡ true
-      go true e = and_first (all_named (has done) FieldType w) (is_empty (flaws al (Some done) FieldType false no_members w)) e
+      go : (t : Bool) → (all_named (has done) places.FieldType w && is_empty (flaws al (Some done) places.FieldType false no_members w)) ≡ t → all_named (has done) places.FieldType w ≡ true
+      go true e = and_first (all_named (has done) places.FieldType w) (is_empty (flaws al (Some done) places.FieldType false no_members w)) e
       go false e = absurd (no_value r (rw e at h))
 
   short_step : (k : List ℕ) (w : Data) (st : Outcomes) → get_member k al ≡ Some w → Short st → Short (step al k w st)
-  short_step k w st is short = go (has_outcome st k) refl (all_named (is_over al st) FieldType w) refl (outcome al st.done w) refl
+  short_step k w st is short = go (has_outcome st k) refl (all_named (is_over al st) places.FieldType w) refl (outcome al st.done w) refl
     where
-      go : (t : Bool) → has_outcome st k ≡ t → (u : Bool) → all_named (is_over al st) FieldType w ≡ u → (o : Option Data) → outcome al st.done w ≡ o → Short (step al k w st)
+      go : (t : Bool) → has_outcome st k ≡ t → (u : Bool) → all_named (is_over al st) places.FieldType w ≡ u → (o : Option Data) → outcome al st.done w ≡ o → Short (step al k w st)
       go true a u b o e = rw a short
       go false a false b o e = rw (a, b) short
       go false a true b None e = rw (a, b, e) short

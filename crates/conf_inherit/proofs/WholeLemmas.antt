@@ -1,5 +1,5 @@
 -- The aliases in a configuration as they stand in its parts, and that each was resolved as it is laid, and is sound.
-use Rattle.std.proofs.Common.{◌≡◌, ◌&&◌, ◌<◌, ◌++◌, ℕ, List, [], map, Option, Some, None, option_and_then, Result, Ok, Err, is_some, Bool, true, false, true≢false, if◌then◌else◌, codes, refl, sym, ap, ◌∙◌, subst, arith}
+use Rattle.std.proofs.Common.{◌≡◌, ◌&&◌, ◌||◌, not, ◌<◌, ◌++◌, ℕ, List, [], map, Option, Some, None, option_and_then, Result, Ok, Err, is_some, Bool, true, false, true≢false, refl, sym, ap, ◌∙◌, subst, arith}
 use Rattle.std.specs.Prelude.{⊤}
 use Rattle.std.specs.Str.{bytes_eq}
 use Rattle.std.proofs.lemmas.Slice.Eq.{bytes_eq-Decides}
@@ -7,8 +7,9 @@ use Rattle.serde_json.specs.Data.{Data, null, boolean, number, string, array, ob
 use Rattle.serde_json.specs.Find.{get, get_member}
 use Rattle.conf_tree.specs.Flaw.{Flaw, key, within}
 use Rattle.conf_tree.specs.Walk.{refusal}
-use Rattle.conf_inherit.specs.declared.spot.Spot.{Spot}
-use Rattle.conf_inherit.specs.declared.spot.Spot.TheVariants.{Root, Trace, TraceType, TraceFeatures, Aliases, StreamTypes, StreamType, StreamFeatures, PacketFeatures, EventRecordFeatures, EventTypes, EventType, FieldType, MemberList, ExtraMembers, Entry, MemberValue, Plain}
+use Rattle.conf_table.specs.declared.place.Place.{Place}
+use Rattle.conf_table.specs.declared.place.Place.TheVariants as places
+use Rattle.conf_table.specs.Table.{rows_of, entries_of, content_under, place_in}
 use Rattle.conf_inherit.specs.AliasFlaws.{all_alias_flaws}
 use Rattle.conf_inherit.specs.Flaws.{flaws, type_flaws}
 use Rattle.conf_inherit.specs.Laying.{lay, lay_base, lay_members}
@@ -18,14 +19,16 @@ use Rattle.conf_inherit.specs.Names.{NoClash}
 use Rattle.conf_inherit.specs.Places.{place_flaws, inner_places, member_places}
 use Rattle.conf_inherit.specs.Resolution.{trace_name, type_name, aliases_name, aliases_of, members_or_none, from_aliases}
 use Rattle.conf_inherit.specs.Rounds.{Outcomes, has_outcome, is_empty, outcome, rounds, no_outcomes, Reached}
-use Rattle.conf_inherit.specs.Spot.{inherit_name, field_type_name, spot_under, spot_of_items, spot_in_trace_type, spot_in_stream_type, spot_in_event_type, spot_in_type, spot_in_stream_features, spot_in_trace_features, spot_in_packet_features, spot_in_event_record_features, names_alias, is_base_name, lists_extra_members, leads_on}
+use Rattle.conf_inherit.specs.FieldPlaces.{field_place, place_under, place_of_items, names_alias, is_base_name, lists_extra_members, leads_on}
 use Rattle.conf_inherit.specs.Whole.{holds_aliases, way_to_aliases, aliases_at, without, OfAliases, AreLaid, HasLaid, HasSound}
 use Rattle.serde_json.proofs.Views.{get_member-put_other}
+use Rattle.conf_inherit.proofs.FieldPlaceLemmas.{trace_place, trace_type_place, aliases_place}
 use Rattle.conf_inherit.proofs.InOrder.{same_members}
 use Rattle.conf_inherit.proofs.LayingLemmas.{Meets, same, other, meets, get_other, get_same, put_found, in_order_put, in_order_lay, lay_members-absent, lay_members-found}
 use Rattle.conf_inherit.proofs.LimitLemmas.{fitting_value}
 use Rattle.conf_inherit.proofs.ListLemmas.{AllEntries, all_along, found_each}
 use Rattle.conf_inherit.proofs.PlaceLemmas.{place_of_type}
+use Rattle.conf_inherit.proofs.PlacesUnder.{true_under, under_place}
 use Rattle.conf_inherit.proofs.ReadyLemmas.{and_left, and_right}
 use Rattle.conf_inherit.proofs.ResolveLemmas.{no_flaws}
 use Rattle.conf_inherit.proofs.RoundLemmas.{HasRoot, empty_flaws, rounds_root, all_done, some_of, fitting_ok, no_value}
@@ -33,127 +36,111 @@ use Rattle.conf_inherit.proofs.TurnLemmas.{reached_sound, rounds_reached, or_fir
 
 -- ---- the parts of a configuration
 
--- at a spot no value has the aliases in it
-data IsFlat (s : Spot) : Type 0 where
-  is_flat : ((d : Data) → aliases_at s d ≡ None) → IsFlat s
+abbrev on_way : Option (List ℕ) → List ℕ → Bool
+on_way None k = false
+on_way (Some n) k = bytes_eq k n
 
-none_at : (s : Spot) → IsFlat s → (d : Data) → aliases_at s d ≡ None
-none_at s (is_flat h) d = h d
+abbrev is_way : Place → List ℕ → Bool
+is_way s k = on_way (way_to_aliases s) k
 
-either : (t : Bool) (a b : Spot) → IsFlat a → IsFlat b → IsFlat (if t then a else b)
-either true a b x y = x
-either false a b x y = y
+-- a name leads to what holds no aliases, or it is the one that leads to them
+abbrev flat_or_way : Place → List ℕ → Place → Bool
+flat_or_way s k t = not (holds_aliases t) || is_way s k
 
--- below the other spots there are no aliases
-flat_below : (s : Spot) (k : List ℕ) → way_to_aliases s ≡ None → IsFlat (spot_under s k)
-unfolding way_to_aliases spot_under spot_in_stream_type spot_in_event_type spot_in_type spot_in_stream_features spot_in_trace_features spot_in_packet_features spot_in_event_record_features
-flat_below Root k way = let bad : Some trace_name ≡ None = way in cc
-flat_below Trace k way = let bad : Some type_name ≡ None = way in cc
-flat_below TraceType k way = let bad : Some aliases_name ≡ None = way in cc
-flat_below TraceFeatures k way = either (bytes_eq k (codes "magic-field-type")) FieldType _ (is_flat (λ d. refl)) (either (bytes_eq k (codes "uuid-field-type")) FieldType _ (is_flat (λ d. refl)) (either (bytes_eq k (codes "data-stream-type-id-field-type")) FieldType _ (is_flat (λ d. refl)) (is_flat (λ d. refl))))
-flat_below StreamType k way = either (bytes_eq k (codes "$features")) StreamFeatures _ (is_flat (λ d. refl)) (either (bytes_eq k (codes "packet-context-field-type-extra-members")) ExtraMembers _ (is_flat (λ d. refl)) (either (bytes_eq k (codes "event-record-common-context-field-type")) FieldType _ (is_flat (λ d. refl)) (either (bytes_eq k (codes "event-record-types")) EventTypes _ (is_flat (λ d. refl)) (is_flat (λ d. refl)))))
-flat_below StreamFeatures k way = either (bytes_eq k (codes "packet")) PacketFeatures _ (is_flat (λ d. refl)) (either (bytes_eq k (codes "event-record")) EventRecordFeatures _ (is_flat (λ d. refl)) (is_flat (λ d. refl)))
-flat_below PacketFeatures k way = either (bytes_eq k (codes "total-size-field-type")) FieldType _ (is_flat (λ d. refl)) (either (bytes_eq k (codes "content-size-field-type")) FieldType _ (is_flat (λ d. refl)) (either (bytes_eq k (codes "beginning-timestamp-field-type")) FieldType _ (is_flat (λ d. refl)) (either (bytes_eq k (codes "end-timestamp-field-type")) FieldType _ (is_flat (λ d. refl)) (either (bytes_eq k (codes "discarded-event-records-counter-snapshot-field-type")) FieldType _ (is_flat (λ d. refl)) (either (bytes_eq k (codes "sequence-number-field-type")) FieldType _ (is_flat (λ d. refl)) (is_flat (λ d. refl)))))))
-flat_below EventRecordFeatures k way = either (bytes_eq k (codes "type-id-field-type")) FieldType _ (is_flat (λ d. refl)) (either (bytes_eq k (codes "timestamp-field-type")) FieldType _ (is_flat (λ d. refl)) (is_flat (λ d. refl)))
-flat_below EventType k way = either (bytes_eq k (codes "specific-context-field-type")) FieldType _ (is_flat (λ d. refl)) (either (bytes_eq k (codes "payload-field-type")) FieldType _ (is_flat (λ d. refl)) (is_flat (λ d. refl)))
-flat_below FieldType k way = either (bytes_eq k (codes "members")) MemberList _ (is_flat (λ d. refl)) (either (bytes_eq k field_type_name) FieldType _ (is_flat (λ d. refl)) (either (bytes_eq k (codes "element-field-type")) FieldType _ (is_flat (λ d. refl)) (either (bytes_eq k inherit_name) FieldType _ (is_flat (λ d. refl)) (is_flat (λ d. refl)))))
-flat_below MemberValue k way = either (bytes_eq k (codes "members")) MemberList _ (is_flat (λ d. refl)) (either (bytes_eq k field_type_name) FieldType _ (is_flat (λ d. refl)) (either (bytes_eq k (codes "element-field-type")) FieldType _ (is_flat (λ d. refl)) (either (bytes_eq k inherit_name) FieldType _ (is_flat (λ d. refl)) (is_flat (λ d. refl)))))
-flat_below _ k way = is_flat (λ d. refl)
+under_flat_or_way : (s : Place) (k : List ℕ) → flat_or_way s k (place_under s k) ≡ true
+unfolding true_under entries_of rows_of place_in field_place holds_aliases way_to_aliases trace_name type_name aliases_name
+under_flat_or_way s k = under_place (flat_or_way s) k s (at s)
+  where
+    at : (s : Place) → true_under (flat_or_way s) k s ≡ true
+    at places.Root = refl
+    at _ = refl
+
+no_aliases_at : (s : Place) (d : Data) → holds_aliases s ≡ false → aliases_at s d ≡ None
+unfolding holds_aliases
+no_aliases_at places.Root d none = absurd (true≢false none)
+no_aliases_at places.Trace d none = absurd (true≢false none)
+no_aliases_at places.TraceType d none = absurd (true≢false none)
+no_aliases_at places.FieldTypeAliases d none = absurd (true≢false none)
+no_aliases_at _ d none = refl
 
 module _ (P : Members → Type 0) where
-  of_none : (s : Spot) (d : Data) → aliases_at s d ≡ None → OfAliases P s d
-  of_none s d none ms at = let bad : None ≡ Some (object ms) = sym none ∙ at in cc
+  of_none : (s : Place) (d : Data) → holds_aliases s ≡ false → OfAliases P s d
+  of_none s d none ms at = let bad : None ≡ Some (object ms) = sym (no_aliases_at s d none) ∙ at in cc
 
-  under_root : (k : List ℕ) (d : Data) (ms : Members) → get_member k ms ≡ Some d → OfAliases P Root (object ms) → OfAliases P (spot_under Root k) d
-  unfolding spot_under trace_name
-  under_root k d ms is h = go (bytes_eq k (codes "trace")) refl
-    where
-      go : (t : Bool) → bytes_eq k (codes "trace") ≡ t → OfAliases P (spot_under Root k) d
-      go true e =
-          let found : get_member (codes "trace") ms ≡ Some d = subst (λ n. get_member n ms ≡ Some d) ((bytes_eq-Decides k (codes "trace")).0 e) is in
-          rw e (λ al at. h al (ap (λ o. option_and_then (get aliases_name) (option_and_then (get type_name) o)) found ∙ at))
-      go false e = rw e (of_none Plain d refl)
-
-  under_trace : (k : List ℕ) (d : Data) (ms : Members) → get_member k ms ≡ Some d → OfAliases P Trace (object ms) → OfAliases P (spot_under Trace k) d
-  unfolding spot_under type_name
-  under_trace k d ms is h = go (bytes_eq k (codes "type")) refl
-    where
-      go : (t : Bool) → bytes_eq k (codes "type") ≡ t → OfAliases P (spot_under Trace k) d
-      go true e =
-          let found : get_member (codes "type") ms ≡ Some d = subst (λ n. get_member n ms ≡ Some d) ((bytes_eq-Decides k (codes "type")).0 e) is in
-          rw e (λ al at. h al (ap (λ o. option_and_then (get aliases_name) o) found ∙ at))
-      go false e = rw e (of_none Plain d refl)
-
-  under_type : (k : List ℕ) (d : Data) (ms : Members) → get_member k ms ≡ Some d → OfAliases P TraceType (object ms) → OfAliases P (spot_under TraceType k) d
-  unfolding spot_under spot_in_trace_type aliases_name
-  under_type k d ms is h = go (bytes_eq k (codes "$features")) refl (bytes_eq k (codes "$field-type-aliases")) refl (bytes_eq k (codes "data-stream-types")) refl
-    where
-      go : (t : Bool) → bytes_eq k (codes "$features") ≡ t → (u : Bool) → bytes_eq k (codes "$field-type-aliases") ≡ u → (w : Bool) → bytes_eq k (codes "data-stream-types") ≡ w → OfAliases P (spot_under TraceType k) d
-      go true a u b w c = rw a (of_none TraceFeatures d refl)
-      go false a true b w c =
-          let found : get_member (codes "$field-type-aliases") ms ≡ Some d = subst (λ n. get_member n ms ≡ Some d) ((bytes_eq-Decides k (codes "$field-type-aliases")).0 b) is in
-          rw (a, b) (λ al at. h al (found ∙ at))
-      go false a false b true c = rw (a, b, c) (of_none StreamTypes d refl)
-      go false a false b false c = rw (a, b, c) (of_none Plain d refl)
+  -- the property of that name
+  of_way : (s : Place) (k : List ℕ) (d : Data) (ms : Members) → get_member k ms ≡ Some d → is_way s k ≡ true → OfAliases P s (object ms) → OfAliases P (place_under s k) d
+  unfolding way_to_aliases
+  of_way places.Root k d ms is way h =
+      let same = (bytes_eq-Decides k trace_name).0 way in
+      subst (λ t. OfAliases P t d) (sym (ap (place_under places.Root) same ∙ trace_place))
+      (λ al at. h al (ap (λ o. option_and_then (get aliases_name) (option_and_then (get type_name) o)) (subst (λ n. get_member n ms ≡ Some d) same is) ∙ at))
+  of_way places.Trace k d ms is way h =
+      let same = (bytes_eq-Decides k type_name).0 way in
+      subst (λ t. OfAliases P t d) (sym (ap (place_under places.Trace) same ∙ trace_type_place))
+      (λ al at. h al (ap (λ o. option_and_then (get aliases_name) o) (subst (λ n. get_member n ms ≡ Some d) same is) ∙ at))
+  of_way places.TraceType k d ms is way h =
+      let same = (bytes_eq-Decides k aliases_name).0 way in
+      subst (λ t. OfAliases P t d) (sym (ap (place_under places.TraceType) same ∙ aliases_place)) (λ al at. h al (subst (λ n. get_member n ms ≡ Some d) same is ∙ at))
+  of_way _ k d ms is way h = absurd (true≢false (sym way))
 
   -- what holds of the aliases in an object holds of those in its properties
-  pub of_property : (s : Spot) (k : List ℕ) (d : Data) (ms : Members) → get_member k ms ≡ Some d → OfAliases P s (object ms) → OfAliases P (spot_under s k) d
-  unfolding way_to_aliases
-  of_property Root k d ms is h = under_root k d ms is h
-  of_property Trace k d ms is h = under_trace k d ms is h
-  of_property TraceType k d ms is h = under_type k d ms is h
-  of_property s k d ms is h = of_none (spot_under s k) d (none_at (spot_under s k) (flat_below s k refl) d)
+  pub of_property : (s : Place) (k : List ℕ) (d : Data) (ms : Members) → get_member k ms ≡ Some d → OfAliases P s (object ms) → OfAliases P (place_under s k) d
+  of_property s k d ms is h = go (holds_aliases (place_under s k)) refl (under_flat_or_way s k)
+    where
+      go : (holds : Bool) → holds_aliases (place_under s k) ≡ holds → flat_or_way s k (place_under s k) ≡ true → OfAliases P (place_under s k) d
+      go true holds way = of_way s k d ms is (rw holds at way) h
+      go false none way = of_none (place_under s k) d none
 
   -- there are none in an entry of a list
-  pub of_item : (s : Spot) (d : Data) → OfAliases P (spot_of_items s) d
-  unfolding spot_of_items
-  of_item MemberList d = of_none Entry d refl
-  of_item ExtraMembers d = of_none Entry d refl
-  of_item s d = of_none Plain d refl
+  pub of_item : (s : Place) (d : Data) → OfAliases P (place_of_items s) d
+  unfolding place_of_items holds_aliases
+  of_item places.Members d = of_none places.Entry d refl
+  of_item places.ExtraMembers d = of_none places.Entry d refl
+  of_item s d = of_none places.Ignored d refl
 
 -- an object that has the aliases, and has no property that leads to them, is their object
-pub laid_themselves : (done : Members) (s : Spot) (ms : Members) → way_to_aliases s ≡ None → holds_aliases s ≡ true → HasLaid done s (object ms) → done ≡ lay_members done s ms no_members
+pub laid_themselves : (done : Members) (s : Place) (ms : Members) → way_to_aliases s ≡ None → holds_aliases s ≡ true → HasLaid done s (object ms) → done ≡ lay_members done s ms no_members
 unfolding way_to_aliases holds_aliases
-laid_themselves done Root ms way above h = let bad : Some trace_name ≡ None = way in cc
-laid_themselves done Trace ms way above h = let bad : Some type_name ≡ None = way in cc
-laid_themselves done TraceType ms way above h = let bad : Some aliases_name ≡ None = way in cc
-laid_themselves done Aliases ms way above h = h ms refl
+laid_themselves done places.Root ms way above h = let bad : Some trace_name ≡ None = way in cc
+laid_themselves done places.Trace ms way above h = let bad : Some type_name ≡ None = way in cc
+laid_themselves done places.TraceType ms way above h = let bad : Some aliases_name ≡ None = way in cc
+laid_themselves done places.FieldTypeAliases ms way above h = h ms refl
 laid_themselves done _ ms way above h = absurd (true≢false (sym above))
 
 -- how many objects lead from here to the aliases
-pub levels : Spot → ℕ
-levels Root = 3
-levels Trace = 2
-levels TraceType = 1
+pub levels : Place → ℕ
+levels places.Root = 3
+levels places.Trace = 2
+levels places.TraceType = 1
 levels _ = 0
 
-fewer_at : (s : Spot) (n k : List ℕ) → way_to_aliases s ≡ Some n → way_to_aliases s ≡ Some k → levels (spot_under s n) < levels s → levels (spot_under s k) < levels s
+fewer_at : (s : Place) (n k : List ℕ) → way_to_aliases s ≡ Some n → way_to_aliases s ≡ Some k → levels (place_under s n) < levels s → levels (place_under s k) < levels s
 fewer_at s n k one way h =
     let both : Some n ≡ Some k = sym one ∙ way in
     let same : n ≡ k = cc in
-    subst (λ x. levels (spot_under s x) < levels s) same h
+    subst (λ x. levels (place_under s x) < levels s) same h
 
-pub fewer_levels : (s : Spot) (k : List ℕ) → way_to_aliases s ≡ Some k → levels (spot_under s k) < levels s
-unfolding way_to_aliases levels spot_under spot_in_trace_type trace_name type_name aliases_name
-fewer_levels Root k way = fewer_at Root trace_name k refl way (omega arith)
-fewer_levels Trace k way = fewer_at Trace type_name k refl way (omega arith)
-fewer_levels TraceType k way = fewer_at TraceType aliases_name k refl way (omega arith)
+pub fewer_levels : (s : Place) (k : List ℕ) → way_to_aliases s ≡ Some k → levels (place_under s k) < levels s
+unfolding way_to_aliases levels place_under content_under entries_of rows_of place_in field_place trace_name type_name aliases_name
+fewer_levels places.Root k way = fewer_at places.Root trace_name k refl way (omega arith)
+fewer_levels places.Trace k way = fewer_at places.Trace type_name k refl way (omega arith)
+fewer_levels places.TraceType k way = fewer_at places.TraceType aliases_name k refl way (omega arith)
 fewer_levels _ k way = let bad : None ≡ Some k = way in cc
 
 -- such an object inherits nothing
-pub no_base : (s : Spot) (k : List ℕ) → holds_aliases s ≡ true → is_base_name s k ≡ false
+pub no_base : (s : Place) (k : List ℕ) → holds_aliases s ≡ true → is_base_name s k ≡ false
 unfolding holds_aliases is_base_name
-no_base Root k h = refl
-no_base Trace k h = refl
-no_base TraceType k h = refl
-no_base Aliases k h = refl
+no_base places.Root k h = refl
+no_base places.Trace k h = refl
+no_base places.TraceType k h = refl
+no_base places.FieldTypeAliases k h = refl
 no_base _ k h = absurd (true≢false (sym h))
 
-no_lay_base : (done : Members) (s : Spot) (ms : Members) → holds_aliases s ≡ true → lay_base done s ms None ≡ None
+no_lay_base : (done : Members) (s : Place) (ms : Members) → holds_aliases s ≡ true → lay_base done s ms None ≡ None
 no_lay_base done s no_members h = refl
 no_lay_base done s (member k d ms) h = rw (no_base s k h) (no_lay_base done s ms h)
 
-pub laid_object : (done : Members) (s : Spot) (ms : Members) → holds_aliases s ≡ true → lay done s (object ms) None ≡ object (lay_members done s ms no_members)
+pub laid_object : (done : Members) (s : Place) (ms : Members) → holds_aliases s ≡ true → lay done s (object ms) None ≡ object (lay_members done s ms no_members)
 laid_object done s ms h = rw (no_lay_base done s ms h) refl
 
 -- ---- the properties beside one name
@@ -178,7 +165,7 @@ without_none k (member l d ms) h = go (bytes_eq l k) refl (meets k l) (without_n
     go true is (other away) rest = absurd (away (sym ((bytes_eq-Decides l k).0 is)))
     go false is (other away) rest = rw is (ap (member l d) (rest (sym (get_other k l d ms away) ∙ h)))
 
-laid_same : (done : Members) (s : Spot) (q : List ℕ) (ms ns : Members) → holds_aliases s ≡ true → get_member q ms ≡ get_member q ns → get_member q (lay_members done s ms no_members) ≡ get_member q (lay_members done s ns no_members)
+laid_same : (done : Members) (s : Place) (q : List ℕ) (ms ns : Members) → holds_aliases s ≡ true → get_member q ms ≡ get_member q ns → get_member q (lay_members done s ms no_members) ≡ get_member q (lay_members done s ns no_members)
 laid_same done s q ms ns above both = go (get_member q ms) refl
   where
     go : (o : Option Data) → get_member q ms ≡ o → get_member q (lay_members done s ms no_members) ≡ get_member q (lay_members done s ns no_members)
@@ -186,13 +173,13 @@ laid_same done s q ms ns above both = go (get_member q ms) refl
     go (Some v) e = lay_members-found done s q v ms no_members (no_base s q above) e ∙ sym (lay_members-found done s q v ns no_members (no_base s q above) (sym both ∙ e))
 
 -- the property of the name, put to the others
-pub put_beside : (done : Members) (s : Spot) (k : List ℕ) (d : Data) (ms : Members) → holds_aliases s ≡ true → get_member k ms ≡ Some d
-    → put k (lay done (spot_under s k) d None) (lay_members done s (without k ms) no_members) ≡ lay_members done s ms no_members
+pub put_beside : (done : Members) (s : Place) (k : List ℕ) (d : Data) (ms : Members) → holds_aliases s ≡ true → get_member k ms ≡ Some d
+    → put k (lay done (place_under s k) d None) (lay_members done s (without k ms) no_members) ≡ lay_members done s ms no_members
 put_beside done s k d ms above is =
     same_members (put k over beside) (lay_members done s ms no_members) (in_order_put k over beside (in_order_lay done s (without k ms) no_members tt)) (in_order_lay done s ms no_members tt) (λ q. at q (meets q k))
   where
     over : Data
-    over = lay done (spot_under s k) d None
+    over = lay done (place_under s k) d None
 
     beside : Members
     beside = lay_members done s (without k ms) no_members
@@ -203,12 +190,12 @@ put_beside done s k d ms above is =
 
 -- ---- the resolved aliases
 
-laid_outcome : (al done : Members) (w r : Data) → outcome al done w ≡ Some r → lay done FieldType w None ≡ r
-laid_outcome al done w r h = go (all_named (has done) FieldType w && is_empty (flaws al (Some done) FieldType false no_members w)) refl
+laid_outcome : (al done : Members) (w r : Data) → outcome al done w ≡ Some r → lay done places.FieldType w None ≡ r
+laid_outcome al done w r h = go (all_named (has done) places.FieldType w && is_empty (flaws al (Some done) places.FieldType false no_members w)) refl
   where
-    go : (t : Bool) → (all_named (has done) FieldType w && is_empty (flaws al (Some done) FieldType false no_members w)) ≡ t → lay done FieldType w None ≡ r
+    go : (t : Bool) → (all_named (has done) places.FieldType w && is_empty (flaws al (Some done) places.FieldType false no_members w)) ≡ t → lay done places.FieldType w None ≡ r
     go false is = absurd (no_value r (rw is at h))
-    go true is = fitting_value (lay done FieldType w None) r (fitting_ok (fitting (lay done FieldType w None)) r (rw is at h))
+    go true is = fitting_value (lay done places.FieldType w None) r (fitting_ok (fitting (lay done places.FieldType w None)) r (rw is at h))
 
 no_done : (al : Members) (st : Outcomes) (q : List ℕ) → (has_outcome st q ≡ true → has al q ≡ true) → get_member q al ≡ None → get_member q st.done ≡ None
 no_done al st q own none = go (get_member q st.done) refl
@@ -218,9 +205,9 @@ no_done al st q own none = go (get_member q st.done) refl
     go (Some r) e = absurd (true≢false (sym (own (or_first (has st.done q) (has st.refused q) (ap is_some e))) ∙ ap is_some none))
 
 -- an alias is a field type
-alias_laid : (done : Members) (q : List ℕ) (w : Data) (al : Members) → get_member q al ≡ Some w → get_member q (lay_members done Aliases al no_members) ≡ Some (lay done FieldType w None)
-unfolding spot_under is_base_name
-alias_laid done q w al is = lay_members-found done Aliases q w al no_members refl is
+alias_laid : (done : Members) (q : List ℕ) (w : Data) (al : Members) → get_member q al ≡ Some w → get_member q (lay_members done places.FieldTypeAliases al no_members) ≡ Some (lay done places.FieldType w None)
+unfolding place_under content_under entries_of rows_of place_in field_place is_base_name
+alias_laid done q w al is = lay_members-found done places.FieldTypeAliases q w al no_members refl is
 
 module _ (al : Members) (n : ℕ) (st : Outcomes) (apart : NoClash al) (turned : st ≡ rounds al n no_outcomes) (sound : refusal (all_alias_flaws al st al) ≡ Ok tt) where
   reached : Reached al st
@@ -238,29 +225,29 @@ module _ (al : Members) (n : ℕ) (st : Outcomes) (apart : NoClash al) (turned :
   -- and as it is laid
   are_laid : AreLaid st.done al
   are_laid =
-      same_members st.done (lay_members st.done Aliases al no_members) (reached_sound al reached).done_order (in_order_lay st.done Aliases al no_members tt) (λ q. at q (get_member q al) refl)
+      same_members st.done (lay_members st.done places.FieldTypeAliases al no_members) (reached_sound al reached).done_order (in_order_lay st.done places.FieldTypeAliases al no_members tt) (λ q. at q (get_member q al) refl)
     where
-      at : (q : List ℕ) (o : Option Data) → get_member q al ≡ o → get_member q st.done ≡ get_member q (lay_members st.done Aliases al no_members)
-      at q None e = no_done al st q ((reached_sound al reached).own q) e ∙ sym (lay_members-absent st.done Aliases q al no_members e)
+      at : (q : List ℕ) (o : Option Data) → get_member q al ≡ o → get_member q st.done ≡ get_member q (lay_members st.done places.FieldTypeAliases al no_members)
+      at q None e = no_done al st q ((reached_sound al reached).own q) e ∙ sym (lay_members-absent st.done places.FieldTypeAliases q al no_members e)
       at q (Some w) e =
           let found = found_alias q w e in
           found.2 ∙ ap Some (sym (laid_outcome al st.done w found.0 found.1)) ∙ sym (alias_laid st.done q w al e)
 
 -- ---- what was found to be sound
 
-sound_outcome : (al done : Members) (w r : Data) → outcome al done w ≡ Some r → type_flaws al done FieldType w ≡ []
-sound_outcome al done w r h = go (all_named (has done) FieldType w && is_empty (flaws al (Some done) FieldType false no_members w)) refl
+sound_outcome : (al done : Members) (w r : Data) → outcome al done w ≡ Some r → type_flaws al done places.FieldType w ≡ []
+sound_outcome al done w r h = go (all_named (has done) places.FieldType w && is_empty (flaws al (Some done) places.FieldType false no_members w)) refl
   where
-    go : (t : Bool) → (all_named (has done) FieldType w && is_empty (flaws al (Some done) FieldType false no_members w)) ≡ t → type_flaws al done FieldType w ≡ []
+    go : (t : Bool) → (all_named (has done) places.FieldType w && is_empty (flaws al (Some done) places.FieldType false no_members w)) ≡ t → type_flaws al done places.FieldType w ≡ []
     go false is = absurd (no_value r (rw is at h))
     go true is =
-        let named = and_left (all_named (has done) FieldType w) (is_empty (flaws al (Some done) FieldType false no_members w)) is in
-        let none = empty_flaws (flaws al (Some done) FieldType false no_members w) (and_right (all_named (has done) FieldType w) (is_empty (flaws al (Some done) FieldType false no_members w)) is) in
-        let fits : fitting (lay done FieldType w None) ≡ Ok r = fitting_ok (fitting (lay done FieldType w None)) r (rw is at h) in
-        ap (λ fs. fs ++ limit_flaws done FieldType w) none ∙ rw (named, fits) refl
+        let named = and_left (all_named (has done) places.FieldType w) (is_empty (flaws al (Some done) places.FieldType false no_members w)) is in
+        let none = empty_flaws (flaws al (Some done) places.FieldType false no_members w) (and_right (all_named (has done) places.FieldType w) (is_empty (flaws al (Some done) places.FieldType false no_members w)) is) in
+        let fits : fitting (lay done places.FieldType w None) ≡ Ok r = fitting_ok (fitting (lay done places.FieldType w None)) r (rw is at h) in
+        ap (λ fs. fs ++ limit_flaws done places.FieldType w) none ∙ rw (named, fits) refl
 
 -- a field type has no places below it
-no_places : (al done : Members) (w : Data) → inner_places al done FieldType w ≡ []
+no_places : (al done : Members) (w : Data) → inner_places al done places.FieldType w ≡ []
 unfolding lists_extra_members leads_on
 no_places al done null = refl
 no_places al done (boolean b) = refl
@@ -269,40 +256,40 @@ no_places al done (string n) = refl
 no_places al done (array es) = refl
 no_places al done (object ms) = refl
 
-sound_place : (al done : Members) (k : List ℕ) (w : Data) → type_flaws al done FieldType w ≡ [] → (place_flaws al done (spot_under Aliases k) w ++ inner_places al done (spot_under Aliases k) w) ≡ []
-unfolding spot_under names_alias
-sound_place al done k w sound = ap (λ fs. fs ++ inner_places al done FieldType w) (place_of_type al done FieldType w refl ∙ sound) ∙ no_places al done w
+sound_place : (al done : Members) (k : List ℕ) (w : Data) → type_flaws al done places.FieldType w ≡ [] → (place_flaws al done (place_under places.FieldTypeAliases k) w ++ inner_places al done (place_under places.FieldTypeAliases k) w) ≡ []
+unfolding place_under content_under entries_of rows_of place_in field_place names_alias
+sound_place al done k w sound = ap (λ fs. fs ++ inner_places al done places.FieldType w) (place_of_type al done places.FieldType w refl ∙ sound) ∙ no_places al done w
 
-sound_places : (al done ms : Members) → AllEntries (λ k w. type_flaws al done FieldType w ≡ []) ms → member_places al done Aliases ms ≡ []
+sound_places : (al done ms : Members) → AllEntries (λ k w. type_flaws al done places.FieldType w ≡ []) ms → member_places al done places.FieldTypeAliases ms ≡ []
 sound_places al done no_members each = refl
 sound_places al done (member k w ms) each =
-    ap (λ fs. map (within (key k)) fs ++ member_places al done Aliases ms) (sound_place al done k w each.0) ∙ sound_places al done ms each.1
+    ap (λ fs. map (within (key k)) fs ++ member_places al done places.FieldTypeAliases ms) (sound_place al done k w each.0) ∙ sound_places al done ms each.1
 
 sound_of : (a : Result ⊤ Flaw) → from_aliases a ≡ Ok tt → a ≡ Ok tt
 sound_of (Ok x) h = refl
 sound_of (Err f) h = cc
 
 -- so are those of the configuration
-pub whole_laid : (t : Data) (al : Members) (n : ℕ) (st : Outcomes) → al ≡ aliases_of t → NoClash al → st ≡ rounds al n no_outcomes → from_aliases (refusal (all_alias_flaws al st al)) ≡ Ok tt → HasLaid st.done Root t
+pub whole_laid : (t : Data) (al : Members) (n : ℕ) (st : Outcomes) → al ≡ aliases_of t → NoClash al → st ≡ rounds al n no_outcomes → from_aliases (refusal (all_alias_flaws al st al)) ≡ Ok tt → HasLaid st.done places.Root t
 whole_laid t al n st own apart turned sound ms at =
     let same : al ≡ ms = own ∙ ap members_or_none at in
     subst (AreLaid st.done) same (are_laid al n st apart turned (sound_of (refusal (all_alias_flaws al st al)) sound))
 
-pub whole_sound : (t : Data) (al : Members) (n : ℕ) (st : Outcomes) → al ≡ aliases_of t → NoClash al → st ≡ rounds al n no_outcomes → from_aliases (refusal (all_alias_flaws al st al)) ≡ Ok tt → HasSound al st.done Root t
+pub whole_sound : (t : Data) (al : Members) (n : ℕ) (st : Outcomes) → al ≡ aliases_of t → NoClash al → st ≡ rounds al n no_outcomes → from_aliases (refusal (all_alias_flaws al st al)) ≡ Ok tt → HasSound al st.done places.Root t
 whole_sound t al n st own apart turned sound ms at =
     let same : al ≡ ms = own ∙ ap members_or_none at in
-    subst (λ x. member_places al st.done Aliases x ≡ []) same (sound_places al st.done al (all_along (λ k w. get_member k al ≡ Some w) (λ k w. type_flaws al st.done FieldType w ≡ []) each al (found_each al apart)))
+    subst (λ x. member_places al st.done places.FieldTypeAliases x ≡ []) same (sound_places al st.done al (all_along (λ k w. get_member k al ≡ Some w) (λ k w. type_flaws al st.done places.FieldType w ≡ []) each al (found_each al apart)))
   where
-    each : (k : List ℕ) (w : Data) → get_member k al ≡ Some w → type_flaws al st.done FieldType w ≡ []
+    each : (k : List ℕ) (w : Data) → get_member k al ≡ Some w → type_flaws al st.done places.FieldType w ≡ []
     each k w is =
         let found = found_alias al n st apart turned (sound_of (refusal (all_alias_flaws al st al)) sound) k w is in
         sound_outcome al st.done w found.0 found.1
 
 -- where the aliases are sound, nothing is wrong at the places in them
-pub sound_here : (al done : Members) (s : Spot) (v : Data) (ms : Members) → s ≡ Aliases → v ≡ object ms → HasSound al done s v → refusal (inner_places al done s v) ≡ Ok tt
+pub sound_here : (al done : Members) (s : Place) (v : Data) (ms : Members) → s ≡ places.FieldTypeAliases → v ≡ object ms → HasSound al done s v → refusal (inner_places al done s v) ≡ Ok tt
 unfolding leads_on
-sound_here al done s v ms here is = subst (λ x. HasSound al done x v → refusal (inner_places al done x v) ≡ Ok tt) (sym here) (subst (λ x. HasSound al done Aliases x → refusal (inner_places al done Aliases x) ≡ Ok tt) (sym is) (λ h. ap refusal (h ms refl)))
+sound_here al done s v ms here is = subst (λ x. HasSound al done x v → refusal (inner_places al done x v) ≡ Ok tt) (sym here) (subst (λ x. HasSound al done places.FieldTypeAliases x → refusal (inner_places al done places.FieldTypeAliases x) ≡ Ok tt) (sym is) (λ h. ap refusal (h ms refl)))
 
 -- an entry of a list has no aliases in it
-pub sound_item : (al done : Members) (s t : Spot) (v : Data) (ms : Members) → t ≡ spot_of_items s → aliases_at t v ≡ Some (object ms) → member_places al done Aliases ms ≡ []
-sound_item al done s t v ms is at = of_item (λ ns. member_places al done Aliases ns ≡ []) s v ms (ap (λ x. aliases_at x v) (sym is) ∙ at)
+pub sound_item : (al done : Members) (s t : Place) (v : Data) (ms : Members) → t ≡ place_of_items s → aliases_at t v ≡ Some (object ms) → member_places al done places.FieldTypeAliases ms ≡ []
+sound_item al done s t v ms is at = of_item (λ ns. member_places al done places.FieldTypeAliases ns ≡ []) s v ms (ap (λ x. aliases_at x v) (sym is) ∙ at)

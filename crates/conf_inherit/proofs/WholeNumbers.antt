@@ -3,8 +3,8 @@ use Rattle.std.proofs.Common.{◌≡◌, ◌||◌, ℕ, List, [], ◌∷◌, Opt
 use Rattle.serde_json.specs.Data.{Data, null, boolean, number, string, array, object, Items, no_items, item, Members, no_members, member}
 use Rattle.serde_json.specs.Find.{get, get_member}
 use Rattle.serde_json.specs.Written.{has_float, items_have_float, members_have_float}
-use Rattle.conf_inherit.specs.declared.spot.Spot.{Spot}
-use Rattle.conf_inherit.specs.Spot.{is_base_name}
+use Rattle.conf_table.specs.declared.place.Place.{Place}
+use Rattle.conf_inherit.specs.FieldPlaces.{is_base_name}
 use Rattle.conf_inherit.specs.Names.{IsInOrder, properties_of, items_in, entries_of, join_members, join_items, cons_some, values_in, entry_values, joined}
 use Rattle.conf_inherit.specs.Looks.{Chain, nothing, alias, member_alias, heir, own, a_list, plain, Looks, looks, Shows, a_scalar, an_object, the_members, a_join, Entries, no_entry, an_entry, base_of, if_objects, if_lists, values_at}
 use Rattle.conf_inherit.proofs.InOrder.{get_first, get_none}
@@ -37,11 +37,11 @@ pub member_whole : (k : List ℕ) (d : Data) (ms : Members) → members_have_flo
 member_whole k d no_members w h = cc
 member_whole k d (member l e ms) w h = member_whole_at k l e d ms (meets k l) h (left (has_float e) (members_have_float ms) w) (member_whole k d ms (right (has_float e) (members_have_float ms) w))
 
-base_whole_at : (s : Spot) (k : List ℕ) (d b : Data) (ms : Members) → (t : Bool) → is_base_name s k ≡ t → base_of s (member k d ms) ≡ Some b → IsWhole d → (base_of s ms ≡ Some b → IsWhole b) → IsWhole b
+base_whole_at : (s : Place) (k : List ℕ) (d b : Data) (ms : Members) → (t : Bool) → is_base_name s k ≡ t → base_of s (member k d ms) ≡ Some b → IsWhole d → (base_of s ms ≡ Some b → IsWhole b) → IsWhole b
 base_whole_at s k d b ms true is h here later = let g : Some d ≡ Some b = rw is at h in let one : d ≡ b = cc in subst IsWhole one here
 base_whole_at s k d b ms false is h here later = later (rw is at h)
 
-base_whole : (s : Spot) (b : Data) (ms : Members) → members_have_float ms ≡ false → base_of s ms ≡ Some b → IsWhole b
+base_whole : (s : Place) (b : Data) (ms : Members) → members_have_float ms ≡ false → base_of s ms ≡ Some b → IsWhole b
 base_whole s b no_members w h = cc
 base_whole s b (member k d ms) w h = base_whole_at s k d b ms (is_base_name s k) refl h (left (has_float d) (members_have_float ms) w) (base_whole s b ms (right (has_float d) (members_have_float ms) w))
 
@@ -79,7 +79,7 @@ values_whole : (k : List ℕ) (ds : List Data) → AreWhole ds → AreWhole (val
 values_whole k [] w = tt
 values_whole k (d ∷ ds) w = cons_whole (get k d) (values_in k ds) (λ e h. get_whole k d e w.0 h) (values_whole k ds w.1)
 
-values_at_whole : (s : Spot) (k : List ℕ) (ds : List Data) → AreWhole ds → AreWhole (values_at s k ds)
+values_at_whole : (s : Place) (k : List ℕ) (ds : List Data) → AreWhole ds → AreWhole (values_at s k ds)
 values_at_whole s k ds w = go (is_base_name s k) refl
   where
     go : (t : Bool) → is_base_name s k ≡ t → AreWhole (values_at s k ds)
@@ -131,7 +131,7 @@ by_names (member k d rs) o f = neither (has_float d) (members_have_float rs) (f 
     none_there q r e h = let g : get_member k rs ≡ Some r = subst (λ x. get_member x rs ≡ Some r) e h in let n = get_none k rs o.0 in let bad : Some r ≡ None = sym g ∙ n in cc
 
 module _ (al : Members) (whole : members_have_float al ≡ false) where
-  chain_whole : {s : Spot} {vs cs : List Data} → Chain al s vs cs → AreWhole vs → AreWhole cs
+  chain_whole : {s : Place} {vs cs : List Data} → Chain al s vs cs → AreWhole vs → AreWhole cs
   chain_whole nothing w = tt
   chain_whole (alias {n = n} {w = v} p q c) w = chain_whole c (member_whole n v al whole q, tt)
   chain_whole (member_alias p) w = (refl, tt)
@@ -141,10 +141,10 @@ module _ (al : Members) (whole : members_have_float al ≡ false) where
   chain_whole (plain p) w = (w.0, tt)
 
   mutual
-    pub looks_whole : {s : Spot} {vs : List Data} {r : Data} → Looks al s vs r → AreWhole vs → IsWhole r
+    pub looks_whole : {s : Place} {vs : List Data} {r : Data} → Looks al s vs r → AreWhole vs → IsWhole r
     looks_whole (looks c h) w = shows_whole h (chain_whole c w)
 
-    shows_whole : {s : Spot} {cs : List Data} {r : Data} → Shows al s cs r → AreWhole cs → IsWhole r
+    shows_whole : {s : Place} {cs : List Data} {r : Data} → Shows al s cs r → AreWhole cs → IsWhole r
     shows_whole (a_scalar p) w = w.0
     shows_whole {s} (an_object {ms = ms} {rs = rs} {cs = cs} o f g) w = by_names rs o (λ k r h. looks_whole (f k r h) (values_at_whole s k (object ms ∷ cs) w))
     shows_whole (the_members {es = es} {cs = cs} m e) w = list_whole e w

@@ -4,7 +4,7 @@ use Rattle.serde_json.specs.Data.{Data, null, Members, no_members, member, put}
 use Rattle.conf_tree.specs.Flaw.{Flaw, key, here, within}
 use Rattle.conf_tree.specs.Walk.{refusal}
 use Rattle.conf_tree.specs.declared.fault_kind.FaultKind.TheVariants.{InheritCycle}
-use Rattle.conf_inherit.specs.declared.spot.Spot.TheVariants.{FieldType}
+use Rattle.conf_table.specs.declared.place.Place.TheVariants as places
 use Rattle.conf_inherit.specs.Flaws.{type_flaws}
 use Rattle.conf_inherit.specs.Named.{has}
 use Rattle.conf_inherit.specs.Rounds.{Outcomes, has_outcome}
@@ -26,8 +26,8 @@ first_or_circle (Err own) (Err first) = if is_same_flaw own first then own ∷ [
 abbrev pub alias_flaws : Members → Outcomes → List ℕ → Data → List Flaw
 alias_flaws al st k w =
     if has st.done k then []
-    else if has st.refused k then type_flaws al st.done FieldType w
-    else first_or_circle (refusal (type_flaws al st.done FieldType w)) (refusal (type_flaws (over_names al st no_members) st.done FieldType w))
+    else if has st.refused k then type_flaws al st.done places.FieldType w
+    else first_or_circle (refusal (type_flaws al st.done places.FieldType w)) (refusal (type_flaws (over_names al st no_members) st.done places.FieldType w))
 
 abbrev pub all_alias_flaws : Members → Outcomes → Members → List Flaw
 all_alias_flaws al st no_members = []

@@ -1,4 +1,4 @@
-pub mod Spot
+pub mod FieldPlaces
 pub mod Names
 pub mod Looks
 pub mod Laying
@@ -8,6 +8,7 @@ pub mod Named
 pub mod Size
 pub mod Nesting
 pub mod Limits
+pub mod Found
 pub mod Flaws
 pub mod Rounds
 pub mod Circle

@@ -5,8 +5,8 @@ use Rattle.serde_json.specs.Data.{Data, null, boolean, number, string, array, ob
 use Rattle.conf_tree.specs.Flaw.{Flaw, here}
 use Rattle.conf_tree.specs.declared.fault_kind.FaultKind.{FaultKind}
 use Rattle.conf_tree.specs.declared.fault_kind.FaultKind.TheVariants.{TooDeep, Limit}
-use Rattle.conf_inherit.specs.declared.spot.Spot.{Spot}
-use Rattle.conf_inherit.specs.Spot.{spot_under, spot_of_items, is_base_name}
+use Rattle.conf_table.specs.declared.place.Place.{Place}
+use Rattle.conf_inherit.specs.FieldPlaces.{place_under, place_of_items, is_base_name}
 use Rattle.conf_inherit.specs.Laying.{lay}
 use Rattle.conf_inherit.specs.Named.{all_named, has}
 use Rattle.conf_inherit.specs.Nesting.{nests}
@@ -39,23 +39,23 @@ passed (Ok r) = []
 passed (Err kind) = here kind ∷ []
 
 -- the limit that a type passes, if it resolves
-abbrev pub limit_flaws : Members → Spot → Data → List Flaw
+abbrev pub limit_flaws : Members → Place → Data → List Flaw
 limit_flaws done s v = if all_named (has done) s v then passed (fitting (lay done s v None)) else []
 
 abbrev mutual
   -- d is the value of a `$inherit`, anywhere in a value
-  pub Inherits : Data → Spot → Data → Type 0
+  pub Inherits : Data → Place → Data → Type 0
   Inherits d s null = ⊥
   Inherits d s (boolean b) = ⊥
   Inherits d s (number n) = ⊥
   Inherits d s (string n) = ⊥
-  Inherits d s (array es) = InheritsInItems d (spot_of_items s) es
+  Inherits d s (array es) = InheritsInItems d (place_of_items s) es
   Inherits d s (object ms) = InheritsInMembers d s ms
 
-  pub InheritsInItems : Data → Spot → Items → Type 0
+  pub InheritsInItems : Data → Place → Items → Type 0
   InheritsInItems d s no_items = ⊥
   InheritsInItems d s (item e es) = Inherits d s e ⊎ InheritsInItems d s es
 
-  pub InheritsInMembers : Data → Spot → Members → Type 0
+  pub InheritsInMembers : Data → Place → Members → Type 0
   InheritsInMembers d s no_members = ⊥
-  InheritsInMembers d s (member k e ms) = (((is_base_name s k ≡ true) × (d ≡ e)) ⊎ Inherits d (spot_under s k) e) ⊎ InheritsInMembers d s ms
+  InheritsInMembers d s (member k e ms) = (((is_base_name s k ≡ true) × (d ≡ e)) ⊎ Inherits d (place_under s k) e) ⊎ InheritsInMembers d s ms

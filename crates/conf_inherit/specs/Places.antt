@@ -6,8 +6,8 @@ use Rattle.serde_json.specs.Data.{Data, null, boolean, number, string, array, ob
 use Rattle.serde_json.specs.Events.{items_len}
 use Rattle.conf_tree.specs.Flaw.{Flaw, key, index, here, within}
 use Rattle.conf_tree.specs.declared.fault_kind.FaultKind.TheVariants.{Limit}
-use Rattle.conf_inherit.specs.declared.spot.Spot.{Spot}
-use Rattle.conf_inherit.specs.Spot.{spot_under, spot_of_items, names_alias, names_member_type, lists_extra_members, leads_on}
+use Rattle.conf_table.specs.declared.place.Place.{Place}
+use Rattle.conf_inherit.specs.FieldPlaces.{place_under, place_of_items, names_alias, names_member_type, lists_extra_members, leads_on}
 use Rattle.conf_inherit.specs.Flaws.{own_flaws, flaws, type_flaws, mark}
 use Rattle.conf_inherit.specs.Limits.{limit_flaws}
 
@@ -20,7 +20,7 @@ too_many (array es) = if nat_lt max_extra_members (items_len es) then here Limit
 too_many _ = []
 
 -- what is wrong with a value as a whole that stands at a place of field types, or that lists extra members
-unfoldable pub place_flaws : Members → Members → Spot → Data → List Flaw
+unfoldable pub place_flaws : Members → Members → Place → Data → List Flaw
 place_flaws al done s v =
     if names_alias s then type_flaws al done s v
     else if names_member_type s then limit_flaws done s v
@@ -29,7 +29,7 @@ place_flaws al done s v =
 
 abbrev mutual
   -- the flaws at the places in a value
-  pub inner_places : Members → Members → Spot → Data → List Flaw
+  pub inner_places : Members → Members → Place → Data → List Flaw
   inner_places al done s null = []
   inner_places al done s (boolean b) = []
   inner_places al done s (number n) = []
@@ -38,12 +38,12 @@ abbrev mutual
   inner_places al done s (object ms) = if leads_on s then member_places al done s ms else []
 
   -- the entries of a list of extra members from place i on; `seen` has the names of those before them
-  pub item_places : Members → Members → Spot → ℕ → Members → Items → List Flaw
+  pub item_places : Members → Members → Place → ℕ → Members → Items → List Flaw
   item_places al done s i seen no_items = []
   item_places al done s i seen (item e es) =
-      map (within (index i)) (flaws al (Some done) (spot_of_items s) false seen e ++ inner_places al done (spot_of_items s) e) ++ item_places al done s (suc i) (mark e seen) es
+      map (within (index i)) (flaws al (Some done) (place_of_items s) false seen e ++ inner_places al done (place_of_items s) e) ++ item_places al done s (suc i) (mark e seen) es
 
-  pub member_places : Members → Members → Spot → Members → List Flaw
+  pub member_places : Members → Members → Place → Members → List Flaw
   member_places al done s no_members = []
   member_places al done s (member k d ms) =
-      map (within (key k)) (place_flaws al done (spot_under s k) d ++ inner_places al done (spot_under s k) d) ++ member_places al done s ms
+      map (within (key k)) (place_flaws al done (place_under s k) d ++ inner_places al done (place_under s k) d) ++ member_places al done s ms

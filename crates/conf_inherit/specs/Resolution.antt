@@ -1,6 +1,6 @@
 -- The resolution of a configuration: its aliases, and the tree in which each property has the value that is
 -- looked up for it.
-use Rattle.std.specs.Prelude.{ℕ, List, [], ◌∷◌, Option, None, Some, option_and_then, codes, false, Result, Ok, Err, ⊤}
+use Rattle.std.specs.Prelude.{ℕ, List, [], ◌∷◌, Option, None, Some, option_and_then, codes, Result, Ok, Err, ⊤}
 use Rattle.serde_json.specs.Data.{Data, object, Members, no_members}
 use Rattle.serde_json.specs.Find.{get}
 use Rattle.serde_json.specs.Events.{members_len}
@@ -8,12 +8,11 @@ use Rattle.conf_tree.specs.Flaw.{Flaw, key, within}
 use Rattle.conf_tree.specs.Reading.{◌>>=◌}
 use Rattle.conf_tree.specs.Walk.{refusal}
 use Rattle.conf_inherit.specs.AliasFlaws.{all_alias_flaws}
-use Rattle.conf_inherit.specs.Flaws.{flaws}
 use Rattle.conf_inherit.specs.Laying.{lay}
 use Rattle.conf_inherit.specs.Nesting.{deep_flaws}
 use Rattle.conf_inherit.specs.Places.{inner_places}
 use Rattle.conf_inherit.specs.Rounds.{Outcomes, rounds, no_outcomes}
-use Rattle.conf_inherit.specs.declared.spot.Spot.TheVariants.{Root}
+use Rattle.conf_table.specs.declared.place.Place.TheVariants as places
 use Rattle.conf_inherit.specs.Looks.{Looks}
 
 abbrev pub members_or_none : Option Data → Members
@@ -35,7 +34,7 @@ aliases_of t = members_or_none (option_and_then (get aliases_name) (option_and_t
 
 -- r is t with every inheritance resolved
 abbrev pub Resolves : Data → Data → Type 0
-Resolves t r = Looks (aliases_of t) Root (t ∷ []) r
+Resolves t r = Looks (aliases_of t) places.Root (t ∷ []) r
 
 -- ---- what `resolve` answers: the first fault in walk order, the aliases before all else, or the resolved tree
 
@@ -51,10 +50,10 @@ from_aliases (Err flaw) = Err (in_aliases flaw)
 abbrev pub if_shallow : Data → Result Data Flaw
 if_shallow r = refusal (deep_flaws r 32) >>= (λ a. Ok r)
 
--- the limits are judged at the places, so that the pass over the whole leaves them out
+-- beside the aliases and the places no value has a meaning, so nothing else is judged but the levels of the whole
 abbrev pub resolution_after : Members → Outcomes → Data → Result Data Flaw
 resolution_after al st t =
-    from_aliases (refusal (all_alias_flaws al st al)) >>= (λ a. refusal (inner_places al st.done Root t) >>= (λ b. refusal (flaws al None Root false no_members t) >>= (λ c. if_shallow (lay st.done Root t None))))
+    from_aliases (refusal (all_alias_flaws al st al)) >>= (λ a. refusal (inner_places al st.done places.Root t) >>= (λ b. if_shallow (lay st.done places.Root t None)))
 
 abbrev pub resolution_under : Members → Data → Result Data Flaw
 resolution_under al t = resolution_after al (rounds al (members_len al) no_outcomes) t

@@ -5,7 +5,7 @@ use Rattle.serde_json.specs.Data.{Data, null, Members, no_members, member, put}
 use Rattle.serde_json.specs.Find.{get_member}
 use Rattle.conf_tree.specs.Flaw.{Flaw}
 use Rattle.conf_tree.specs.declared.fault_kind.FaultKind.{FaultKind}
-use Rattle.conf_inherit.specs.declared.spot.Spot.TheVariants.{FieldType}
+use Rattle.conf_table.specs.declared.place.Place.TheVariants as places
 use Rattle.conf_inherit.specs.Flaws.{flaws}
 use Rattle.conf_inherit.specs.Laying.{lay}
 use Rattle.conf_inherit.specs.Limits.{fitting}
@@ -35,7 +35,7 @@ if_fitting (Err kind) = None
 -- the resolved alias, if all that it names is resolved, it has no flaw and it fits
 abbrev pub outcome : Members → Members → Data → Option Data
 outcome al done w =
-    if all_named (has done) FieldType w && is_empty (flaws al (Some done) FieldType false no_members w) then if_fitting (fitting (lay done FieldType w None)) else None
+    if all_named (has done) places.FieldType w && is_empty (flaws al (Some done) places.FieldType false no_members w) then if_fitting (fitting (lay done places.FieldType w None)) else None
 
 abbrev pub concluded : List ℕ → Outcomes → Option Data → Outcomes
 concluded k st None = record { done = st.done; refused = put k null st.refused }
@@ -44,7 +44,7 @@ concluded k st (Some r) = record { done = put k r st.done; refused = st.refused 
 abbrev pub step : Members → List ℕ → Data → Outcomes → Outcomes
 step al k w st =
     if has_outcome st k then st
-    else if all_named (is_over al st) FieldType w then concluded k st (outcome al st.done w)
+    else if all_named (is_over al st) places.FieldType w then concluded k st (outcome al st.done w)
     else st
 
 -- one round over the aliases
@@ -78,7 +78,7 @@ pub data Reached (al : Members) : Outcomes → Type 0 where
 
 -- an alias has an outcome, or it names one that has none
 abbrev pub is_settled : Members → Outcomes → List ℕ → Data → Bool
-is_settled al st k w = has_outcome st k || not (all_named (is_over al st) FieldType w)
+is_settled al st k w = has_outcome st k || not (all_named (is_over al st) places.FieldType w)
 
 abbrev pub all_settled : Members → Members → Outcomes → Bool
 all_settled al no_members st = true

@@ -2,18 +2,18 @@
 use Rattle.std.specs.Prelude.{◌&&◌, List, [], ◌∷◌, Bool, true, false, nat_eq}
 use Rattle.std.specs.Bool.{beq}
 use Rattle.std.specs.Str.{bytes_eq}
-use Rattle.conf_tree.specs.Flaw.{Flaw, Place, key, index}
+use Rattle.conf_tree.specs.Flaw.{Flaw, Place as Step, key, index}
 use Rattle.conf_tree.specs.declared.fault_kind.FaultKind.{FaultKind}
 use Rattle.conf_tree.specs.declared.fault_kind.FaultKind.TheVariants.{NoSuchAlias}
 
 -- two steps lead to the same place
-abbrev pub is_same_step : Place → Place → Bool
+abbrev pub is_same_step : Step → Step → Bool
 is_same_step (key m) (key n) = bytes_eq m n
 is_same_step (key m) (index j) = false
 is_same_step (index i) (key n) = false
 is_same_step (index i) (index j) = nat_eq i j
 
-abbrev pub is_same_path : List Place → List Place → Bool
+abbrev pub is_same_path : List Step → List Step → Bool
 is_same_path [] [] = true
 is_same_path [] (q ∷ qs) = false
 is_same_path (p ∷ ps) [] = false

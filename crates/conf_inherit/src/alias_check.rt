@@ -9,11 +9,11 @@ ghost use Rattle.conf_inherit.specs.AliasOutcomes.{outcomes_of};
 ghost use Rattle.conf_inherit.specs.AliasFlaws.{over_names, first_or_circle, alias_flaws, all_alias_flaws};
 ghost use Rattle.conf_inherit.specs.Flaws.{type_flaws};
 
-use crate::Spot;
 use crate::flaws::check_type;
 use crate::outcomes::AliasOutcomes;
-use crate::property::has;
+use crate::property::{has, put_property};
 use crate::same::is_same_fault;
+use conf_table::Place;
 use conf_tree::{ConfFault, FaultKind};
 use serde_json::{Map, Value};
 use std::alloc::{AllocError, Global};
@@ -30,7 +30,7 @@ fn names_over(
     let mut over = Map::new(alloc);
     for (name, _value) in aliases.iter() {
         if outcomes.has_outcome(name.as_str()) {
-            drop(over.insert(name.clone()?, Value::Null)?);
+            drop(put_property(&mut over, name, Value::Null)?);
         }
     }
     Ok(over)
@@ -46,14 +46,14 @@ fn check_circle(
     over: &Map<String, Value>,
 ) -> Result<(), ConfFault>
     requires { depth (view value.now) ≤ 28 }
-    ensures first { Gives (λ _. tt) result (refusal (first_or_circle (refusal (type_flaws (members_view aliases.now.entries) (members_view resolved.now.entries) Spot.FieldType (view value.now))) (refusal (type_flaws (members_view over.now.entries) (members_view resolved.now.entries) Spot.FieldType (view value.now))))) }
+    ensures first { Gives (λ _. tt) result (refusal (first_or_circle (refusal (type_flaws (members_view aliases.now.entries) (members_view resolved.now.entries) Place.FieldType (view value.now))) (refusal (type_flaws (members_view over.now.entries) (members_view resolved.now.entries) Place.FieldType (view value.now))))) }
     ensures short { IfErr result (λ fault. array_vec_len fault.path ≤ 28) }
 {
-    if let Err(own) = check_type(alloc, value, Spot::FieldType, 28, aliases, resolved) {
+    if let Err(own) = check_type(alloc, value, Place::FieldType, 28, aliases, resolved) {
         if own.is_memory() {
             return Err(own);
         }
-        if let Err(first) = check_type(alloc, value, Spot::FieldType, 28, over, resolved) {
+        if let Err(first) = check_type(alloc, value, Place::FieldType, 28, over, resolved) {
             if first.is_memory() {
                 return Err(first);
             }
@@ -84,7 +84,7 @@ fn check_alias(
         return Ok(());
     }
     if has(&outcomes.refused, name) {
-        return check_type(alloc, value, Spot::FieldType, 28, aliases, resolved);
+        return check_type(alloc, value, Place::FieldType, 28, aliases, resolved);
     }
     check_circle(alloc, value, aliases, resolved, over)
 }

@@ -6,23 +6,29 @@ ghost use Rattle.serde_json.specs.Find.{get_member};
 ghost use Rattle.serde_json.specs.View.{view, items_view, members_view};
 ghost use Rattle.conf_tree.specs.Reading.{Gives};
 ghost use Rattle.conf_tree.specs.Walk.{refusal};
-ghost use Rattle.conf_inherit.specs.Spot.{spot_under, is_entry};
+ghost use Rattle.conf_inherit.specs.FieldPlaces.{place_under, is_entry};
+ghost use Rattle.conf_inherit.specs.Found.{Finds, FindsKind, steps_found};
 ghost use Rattle.conf_inherit.specs.Flaws.{is_wrong, is_no_list, is_no_entry, is_no_member, is_unknown, own_flaws, base_flaws, flaws, type_flaws, inner_flaws, item_flaws, member_flaws, mark, mark_names};
 
-use crate::Spot;
-use crate::limits::check_limits;
+use crate::field_places::{
+    is_base_name, is_entry, lists_members, names_alias, names_member_type, place_of_items,
+    place_under,
+};
+use crate::found::Found;
+use crate::limits::{check_limits, refuse_past_limit};
 use crate::property::property;
+use conf_table::Place;
 use conf_tree::{ConfFault, FaultKind};
 use serde_json::{Map, Value};
 use std::alloc::{AllocError, Global};
 
-/// Whether a value is of another kind than its spot asks for.
-fn is_wrong(value: &Value, spot: Spot) -> bool
-    ensures { result ≡ is_wrong spot (view value.now) }
+/// Whether a value is of another kind than its place asks for.
+fn is_wrong(value: &Value, place: Place) -> bool
+    ensures { result ≡ is_wrong place (view value.now) }
 {
-    (spot.lists_members() && is_no_list(value))
-        || (spot.is_entry() && is_no_entry(value))
-        || (spot.names_member_type() && is_no_member(value))
+    (lists_members(place) && is_no_list(value))
+        || (is_entry(place) && is_no_entry(value))
+        || (names_member_type(place) && is_no_member(value))
 }
 
 /// Whether a value is neither a list nor null.
@@ -50,12 +56,12 @@ fn is_no_member(value: &Value) -> bool
 }
 
 /// Whether a value is a text that names no alias, where it has to.
-fn is_unknown(value: &Value, spot: Spot, aliases: &Map<String, Value>) -> bool
-    ensures { result ≡ is_unknown (members_view aliases.now.entries) spot (view value.now) }
+fn is_unknown(value: &Value, place: Place, aliases: &Map<String, Value>) -> bool
+    ensures { result ≡ is_unknown (members_view aliases.now.entries) place (view value.now) }
 {
     match value {
         Value::String(name) => {
-            (spot.names_alias() || spot.names_member_type())
+            (names_alias(place) || names_member_type(place))
                 && property(aliases, name.as_str()).is_none()
         }
         _ => false,
@@ -65,21 +71,20 @@ fn is_unknown(value: &Value, spot: Spot, aliases: &Map<String, Value>) -> bool
 /// Refuses the first flaw of a value itself, where its name may be taken.
 pub(crate) fn check_itself(
     value: &Value,
-    spot: Spot,
+    place: Place,
     taken: bool,
     aliases: &Map<String, Value>,
-) -> Result<(), ConfFault>
-    ensures first { Gives (λ _. tt) result (refusal (own_flaws (members_view aliases.now.entries) spot taken (view value.now))) }
-    ensures short { IfErr result (λ fault. array_vec_len fault.path ≡ 0) }
+) -> Result<(), FaultKind>
+    ensures first { FindsKind result (refusal (own_flaws (members_view aliases.now.entries) place taken (view value.now))) }
 {
-    if is_wrong(value, spot) {
-        return Err(ConfFault::here(FaultKind::WrongKind));
+    if is_wrong(value, place) {
+        return Err(FaultKind::WrongKind);
     }
-    if is_unknown(value, spot, aliases) {
-        return Err(ConfFault::here(FaultKind::NoSuchAlias));
+    if is_unknown(value, place, aliases) {
+        return Err(FaultKind::NoSuchAlias);
     }
     if taken {
-        return Err(ConfFault::here(FaultKind::NameClash));
+        return Err(FaultKind::NameClash);
     }
     Ok(())
 }
@@ -113,46 +118,46 @@ fn mark_names(members: &Map<String, Value>, seen: &mut Map<String, Value>) -> Re
 pub(crate) fn check_flaws(
     alloc: Global,
     value: &Value,
-    spot: Spot,
+    place: Place,
     taken: bool,
     seen: &Map<String, Value>,
     levels: usize,
     aliases: &Map<String, Value>,
     resolved: Option<&Map<String, Value>>,
-) -> Result<(), ConfFault>
+) -> Result<(), Found>
     requires nested { depth (view value.now) ≤ levels }
     requires shallow { levels ≤ 32 }
-    ensures first { Gives (λ _. tt) result (refusal (flaws (members_view aliases.now.entries) (option_map (λ m. members_view m.now.entries) resolved.entry) spot taken (members_view seen.now.entries) (view value.now))) }
-    ensures short { IfErr result (λ fault. array_vec_len fault.path ≤ levels) }
+    ensures first { Finds result (refusal (flaws (members_view aliases.now.entries) (option_map (λ m. members_view m.now.entries) resolved.entry) place taken (members_view seen.now.entries) (view value.now))) }
+    ensures short { IfErr result (λ fault. steps_found fault ≤ levels) }
 {
-    if let Err(fault) = check_itself(value, spot, taken, aliases) {
-        return Err(fault);
+    if let Err(kind) = check_itself(value, place, taken, aliases) {
+        return Err(Found::here(alloc, kind));
     }
-    check_inner(alloc, value, spot, seen, levels, aliases, resolved)
+    check_inner(alloc, value, place, seen, levels, aliases, resolved)
 }
 
 #[cycle(flaws)]
 fn check_inner(
     alloc: Global,
     value: &Value,
-    spot: Spot,
+    place: Place,
     seen: &Map<String, Value>,
     levels: usize,
     aliases: &Map<String, Value>,
     resolved: Option<&Map<String, Value>>,
-) -> Result<(), ConfFault>
+) -> Result<(), Found>
     requires nested { depth (view value.now) ≤ levels }
     requires shallow { levels ≤ 32 }
-    ensures first { Gives (λ _. tt) result (refusal (inner_flaws (members_view aliases.now.entries) (option_map (λ m. members_view m.now.entries) resolved.entry) spot (members_view seen.now.entries) (view value.now))) }
-    ensures short { IfErr result (λ fault. array_vec_len fault.path ≤ levels) }
+    ensures first { Finds result (refusal (inner_flaws (members_view aliases.now.entries) (option_map (λ m. members_view m.now.entries) resolved.entry) place (members_view seen.now.entries) (view value.now))) }
+    ensures short { IfErr result (λ fault. steps_found fault ≤ levels) }
 {
     match value {
         Value::Null | Value::Bool(_) | Value::Number(_) | Value::String(_) => Ok(()),
-        Value::Array(items) => check_items(alloc, items, spot, levels - 1, aliases, resolved),
+        Value::Array(items) => check_items(alloc, items, place, levels - 1, aliases, resolved),
         Value::Object(members) => check_members(
             alloc,
             members,
-            spot,
+            place,
             seen,
             levels - 1,
             aliases,
@@ -165,32 +170,32 @@ fn check_inner(
 fn check_items(
     alloc: Global,
     items: &Vec<Value>,
-    spot: Spot,
+    place: Place,
     levels: usize,
     aliases: &Map<String, Value>,
     resolved: Option<&Map<String, Value>>,
-) -> Result<(), ConfFault>
+) -> Result<(), Found>
     requires nested { items_depth (items_view items.now.items) ≤ levels }
     requires shallow { levels < 32 }
-    ensures first { Gives (λ _. tt) result (refusal (item_flaws (members_view aliases.now.entries) (option_map (λ m. members_view m.now.entries) resolved.entry) spot 0 no_members (items_view items.now.items))) }
-    ensures short { IfErr result (λ fault. array_vec_len fault.path ≤ levels + 1) }
+    ensures first { Finds result (refusal (item_flaws (members_view aliases.now.entries) (option_map (λ m. members_view m.now.entries) resolved.entry) place 0 no_members (items_view items.now.items))) }
+    ensures short { IfErr result (λ fault. steps_found fault ≤ levels + 1) }
 {
     let mut seen = Map::new(alloc);
     for (index, item) in items.iter().enumerate() {
         if let Err(fault) = check_flaws(
             alloc,
             item,
-            spot.of_items(),
+            place_of_items(place),
             false,
             &seen,
             levels,
             aliases,
             resolved,
         ) {
-            return Err(fault.inside(index));
+            return Err(fault.inside(alloc, index));
         }
         if mark(item, &mut seen).is_err() {
-            return Err(ConfFault::here(FaultKind::OutOfMemory));
+            return Err(Found::here(alloc, FaultKind::OutOfMemory));
         }
     }
     Ok(())
@@ -200,23 +205,23 @@ fn check_items(
 fn check_members(
     alloc: Global,
     members: &Map<String, Value>,
-    spot: Spot,
+    place: Place,
     seen: &Map<String, Value>,
     levels: usize,
     aliases: &Map<String, Value>,
     resolved: Option<&Map<String, Value>>,
-) -> Result<(), ConfFault>
+) -> Result<(), Found>
     requires nested { members_depth (members_view members.now.entries) ≤ levels }
     requires shallow { levels < 32 }
-    ensures first { Gives (λ _. tt) result (refusal (member_flaws (members_view aliases.now.entries) (option_map (λ m. members_view m.now.entries) resolved.entry) spot (members_view seen.now.entries) (members_view members.now.entries))) }
-    ensures short { IfErr result (λ fault. array_vec_len fault.path ≤ levels + 1) }
+    ensures first { Finds result (refusal (member_flaws (members_view aliases.now.entries) (option_map (λ m. members_view m.now.entries) resolved.entry) place (members_view seen.now.entries) (members_view members.now.entries))) }
+    ensures short { IfErr result (λ fault. steps_found fault ≤ levels + 1) }
 {
     for (name, member) in members.iter() {
         if let Err(fault) = check_member(
             alloc,
             name.as_str(),
             member,
-            spot,
+            place,
             seen,
             levels,
             aliases,
@@ -236,26 +241,29 @@ fn check_member(
     alloc: Global,
     name: &str,
     member: &Value,
-    spot: Spot,
+    place: Place,
     seen: &Map<String, Value>,
     levels: usize,
     aliases: &Map<String, Value>,
     resolved: Option<&Map<String, Value>>,
-) -> Result<(), ConfFault>
+) -> Result<(), Found>
     requires nested { depth (view member.now) ≤ levels }
     requires shallow { levels < 32 }
-    ensures first { Gives (λ _. tt) result (refusal (flaws (members_view aliases.now.entries) (option_map (λ m. members_view m.now.entries) resolved.entry) (spot_under spot name.now) (is_entry spot && is_some (get_member name.now (members_view seen.now.entries))) no_members (view member.now) ++ base_flaws (option_map (λ m. members_view m.now.entries) resolved.entry) spot name.now (view member.now))) }
-    ensures short { IfErr result (λ fault. array_vec_len fault.path ≤ levels) }
+    ensures first { Finds result (refusal (flaws (members_view aliases.now.entries) (option_map (λ m. members_view m.now.entries) resolved.entry) (place_under place name.now) (is_entry place && is_some (get_member name.now (members_view seen.now.entries))) no_members (view member.now) ++ base_flaws (option_map (λ m. members_view m.now.entries) resolved.entry) place name.now (view member.now))) }
+    ensures short { IfErr result (λ fault. steps_found fault ≤ levels) }
 {
-    let taken = is_taken(name, spot, seen);
+    let taken = is_taken(name, place, seen);
     let nothing = Map::new(alloc);
-    let inner = spot.under(name);
+    let inner = place_under(place, name);
     if let Err(fault) = check_flaws(
         alloc, member, inner, taken, &nothing, levels, aliases, resolved,
     ) {
         return Err(fault);
     }
-    check_base(alloc, name, member, spot, resolved)
+    match check_base(alloc, name, member, place, resolved) {
+        Ok(()) => Ok(()),
+        Err(kind) => Err(Found::here(alloc, kind)),
+    }
 }
 
 /// Refuses the limit that a property's value passes by itself, if the object inherits from it.
@@ -263,16 +271,15 @@ fn check_base(
     alloc: Global,
     name: &str,
     member: &Value,
-    spot: Spot,
+    place: Place,
     resolved: Option<&Map<String, Value>>,
-) -> Result<(), ConfFault>
-    ensures first { Gives (λ _. tt) result (refusal (base_flaws (option_map (λ m. members_view m.now.entries) resolved.entry) spot name.now (view member.now))) }
-    ensures short { IfErr result (λ fault. array_vec_len fault.path ≡ 0) }
+) -> Result<(), FaultKind>
+    ensures first { FindsKind result (refusal (base_flaws (option_map (λ m. members_view m.now.entries) resolved.entry) place name.now (view member.now))) }
 {
     match resolved {
         Some(resolved) => {
-            if spot.is_base_name(name) {
-                return check_limits(alloc, member, Spot::FieldType, resolved);
+            if is_base_name(place, name) {
+                return refuse_past_limit(alloc, member, Place::FieldType, resolved);
             }
             Ok(())
         }
@@ -281,30 +288,33 @@ fn check_base(
 }
 
 /// Whether the name of an entry is taken by one before it.
-fn is_taken(name: &str, spot: Spot, seen: &Map<String, Value>) -> bool
-    ensures { result ≡ (is_entry spot && is_some (get_member name.now (members_view seen.now.entries))) }
+fn is_taken(name: &str, place: Place, seen: &Map<String, Value>) -> bool
+    ensures { result ≡ (is_entry place && is_some (get_member name.now (members_view seen.now.entries))) }
 {
-    spot.is_entry() && property(seen, name).is_some()
+    is_entry(place) && property(seen, name).is_some()
 }
 
 /// Refuses the first flaw of a value as a whole.
 pub(crate) fn check_value(
     alloc: Global,
     value: &Value,
-    spot: Spot,
+    place: Place,
     levels: usize,
     aliases: &Map<String, Value>,
     resolved: Option<&Map<String, Value>>,
 ) -> Result<(), ConfFault>
     requires nested { depth (view value.now) ≤ levels }
     requires shallow { levels ≤ 32 }
-    ensures first { Gives (λ _. tt) result (refusal (flaws (members_view aliases.now.entries) (option_map (λ m. members_view m.now.entries) resolved.entry) spot false no_members (view value.now))) }
+    ensures first { Gives (λ _. tt) result (refusal (flaws (members_view aliases.now.entries) (option_map (λ m. members_view m.now.entries) resolved.entry) place false no_members (view value.now))) }
     ensures short { IfErr result (λ fault. array_vec_len fault.path ≤ levels) }
 {
     let nothing = Map::new(alloc);
-    check_flaws(
-        alloc, value, spot, false, &nothing, levels, aliases, resolved,
-    )
+    match check_flaws(
+        alloc, value, place, false, &nothing, levels, aliases, resolved,
+    ) {
+        Ok(()) => Ok(()),
+        Err(found) => Err(found.into_fault()),
+    }
 }
 
 /// Refuses the first flaw of a field type, or else the limit that it passes.
@@ -312,18 +322,18 @@ pub(crate) fn check_value(
 pub(crate) fn check_type(
     alloc: Global,
     value: &Value,
-    spot: Spot,
+    place: Place,
     levels: usize,
     aliases: &Map<String, Value>,
     resolved: &Map<String, Value>,
 ) -> Result<(), ConfFault>
     requires nested { depth (view value.now) ≤ levels }
     requires shallow { levels ≤ 32 }
-    ensures first { Gives (λ _. tt) result (refusal (type_flaws (members_view aliases.now.entries) (members_view resolved.now.entries) spot (view value.now))) }
+    ensures first { Gives (λ _. tt) result (refusal (type_flaws (members_view aliases.now.entries) (members_view resolved.now.entries) place (view value.now))) }
     ensures short { IfErr result (λ fault. array_vec_len fault.path ≤ levels) }
 {
-    if let Err(fault) = check_value(alloc, value, spot, levels, aliases, Some(resolved)) {
+    if let Err(fault) = check_value(alloc, value, place, levels, aliases, Some(resolved)) {
         return Err(fault);
     }
-    check_limits(alloc, value, spot, resolved)
+    check_limits(alloc, value, place, resolved)
 }

@@ -5,7 +5,7 @@ ghost use Rattle.serde_json.specs.Events.{members_len};
 ghost use Rattle.conf_tree.specs.Flaw.{Flaw};
 ghost use Rattle.conf_tree.specs.Walk.{IsTreeOf, refusal};
 ghost use Rattle.conf_tree.specs.declared.fault_kind.FaultKind.{FaultKind};
-ghost use Rattle.conf_inherit.specs.declared.spot.Spot.{Spot};
+ghost use Rattle.conf_table.specs.declared.place.Place.{Place};
 ghost use Rattle.conf_inherit.specs.Circle.{Walks};
 ghost use Rattle.conf_inherit.specs.Faults.{Leads, RefusalHolds};
 ghost use Rattle.conf_inherit.specs.Flaws.{flaws, type_flaws};
@@ -51,16 +51,16 @@ pub fn circle_is_refused()
 /// At a place nothing is refused exactly where the type there has no other flaw, and it, and each value of a `$inherit`
 /// in it, is within the limits by itself, as far as all aliases that it names are resolved.
 pub fn type_fits()
-    ensures { (al done : Members) (s : Spot) (v : Data) → type_flaws al done s v ≡ []
+    ensures { (al done : Members) (s : Place) (v : Data) → type_flaws al done s v ≡ []
         ↔ ((flaws al None s false no_members v ≡ [])
         × (all_named (has done) s v ≡ true → Fits (lay done s v None))
-        × ((d : Data) → Inherits d s v → all_named (has done) Spot.FieldType d ≡ true → Fits (lay done Spot.FieldType d None))) }
+        × ((d : Data) → Inherits d s v → all_named (has done) Place.FieldType d ≡ true → Fits (lay done Place.FieldType d None))) }
 {}
 
 /// Where a field type is refused for a limit, the type that the path leads to is past the limit of that kind: it itself,
 /// or the value of a `$inherit` in it.
 pub fn limit_is_passed()
-    ensures { (al done : Members) (v : Data) (flaw : Flaw) → refusal (type_flaws al done Spot.FieldType v) ≡ Err flaw
+    ensures { (al done : Members) (v : Data) (flaw : Flaw) → refusal (type_flaws al done Place.FieldType v) ≡ Err flaw
         → (flaw.kind ≡ FaultKind.Limit) ⊎ (flaw.kind ≡ FaultKind.TooDeep)
-        → (d : Data) × Leads Spot.FieldType v flaw.path Spot.FieldType d × (all_named (has done) Spot.FieldType d ≡ true) × Exceeds flaw.kind (lay done Spot.FieldType d None) }
+        → (d : Data) × Leads Place.FieldType v flaw.path Place.FieldType d × (all_named (has done) Place.FieldType d ≡ true) × Exceeds flaw.kind (lay done Place.FieldType d None) }
 {}

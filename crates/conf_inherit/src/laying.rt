@@ -7,11 +7,14 @@ ghost use Rattle.conf_inherit.specs.Laying.{lay, lay_base, lay_members, lay_over
 ghost use Rattle.conf_inherit.specs.Names.{properties_of, items_in, names_of, entries_of, join_items, map_items};
 ghost use Rattle.conf_inherit.specs.Size.{size, items_size, members_size, Within, Leaves, IsDue};
 
-use crate::Spot;
 use crate::base::{items_under, join, properties_below, properties_in};
 use crate::entry_index::EntryIndex;
-use crate::property::{into_property, property, single, take_property};
+use crate::field_places::{
+    is_base_name, lists_members, names_alias, names_member_type, place_under,
+};
+use crate::property::{into_property, property, put_property, single, take_property};
 use crate::size::{Stop, take};
+use conf_table::Place;
 use serde_json::{Map, Value};
 use std::alloc::{AllocError, Global};
 
@@ -26,20 +29,20 @@ pub(crate) fn copy_alias(aliases: &Map<String, Value>, name: &str) -> Result<Val
 }
 
 /// A text laid over anything.
-#[tactic(auto, unfolding(crate::specs::Spot::field_type_name))]
+#[tactic(auto, unfolding(crate::specs::FieldPlaces::field_type_name))]
 fn lay_name(
     alloc: Global,
     aliases: &Map<String, Value>,
-    spot: Spot,
+    place: Place,
     name: &String,
 ) -> Result<Value, AllocError>
     ensures { IfOk result (λ laid. view laid
-        ≡ lay_text (members_view aliases.now.entries) spot (string_bytes name.now)) }
+        ≡ lay_text (members_view aliases.now.entries) place (string_bytes name.now)) }
 {
-    if spot.names_alias() {
+    if names_alias(place) {
         return copy_alias(aliases, name.as_str());
     }
-    if spot.names_member_type() {
+    if names_member_type(place) {
         let alias = copy_alias(aliases, name.as_str())?;
         return single(alloc, String::from_str(alloc, "field-type")?, alias);
     }
@@ -52,18 +55,18 @@ fn lay_name(
 #[cycle(laying)]
 pub(crate) fn lay(
     alloc: Global,
-    spot: Spot,
+    place: Place,
     value: &Value,
     base: Option<Value>,
     aliases: &Map<String, Value>,
     limit: Option<usize>,
 ) -> Result<Value, Stop>
     ensures laid { IfOk result (λ laid. view laid
-        ≡ lay (members_view aliases.now.entries) spot (view value.now) (option_map view base)) }
+        ≡ lay (members_view aliases.now.entries) place (view value.now) (option_map view base)) }
     ensures within { IfOk result (λ laid. Within limit (size (view laid))) }
-    ensures past { IfErr result (λ stop. IsDue stop limit (size (lay (members_view aliases.now.entries) spot (view value.now) (option_map view base)))) }
+    ensures past { IfErr result (λ stop. IsDue stop limit (size (lay (members_view aliases.now.entries) place (view value.now) (option_map view base)))) }
 {
-    let laid = lay_value(alloc, spot, value, base, aliases, limit)?;
+    let laid = lay_value(alloc, place, value, base, aliases, limit)?;
     let _left = take(&laid, limit)?;
     Ok(laid)
 }
@@ -72,23 +75,23 @@ pub(crate) fn lay(
 #[cycle(laying)]
 fn lay_value(
     alloc: Global,
-    spot: Spot,
+    place: Place,
     value: &Value,
     base: Option<Value>,
     aliases: &Map<String, Value>,
     limit: Option<usize>,
 ) -> Result<Value, Stop>
     ensures laid { IfOk result (λ laid. view laid
-        ≡ lay (members_view aliases.now.entries) spot (view value.now) (option_map view base)) }
-    ensures past { IfErr result (λ stop. IsDue stop limit (size (lay (members_view aliases.now.entries) spot (view value.now) (option_map view base)))) }
+        ≡ lay (members_view aliases.now.entries) place (view value.now) (option_map view base)) }
+    ensures past { IfErr result (λ stop. IsDue stop limit (size (lay (members_view aliases.now.entries) place (view value.now) (option_map view base)))) }
 {
     match value {
         Value::Null => Ok(Value::Null),
         Value::Bool(flag) => Ok(Value::Bool(*flag)),
         Value::Number(number) => Ok(Value::Number(*number)),
-        Value::String(name) => Ok(lay_name(alloc, aliases, spot, name)?),
-        Value::Array(items) => lay_list(alloc, spot, items, base, aliases, limit),
-        Value::Object(members) => lay_object(alloc, spot, members, base, aliases, limit),
+        Value::String(name) => Ok(lay_name(alloc, aliases, place, name)?),
+        Value::Array(items) => lay_list(alloc, place, items, base, aliases, limit),
+        Value::Object(members) => lay_object(alloc, place, members, base, aliases, limit),
     }
 }
 
@@ -96,21 +99,21 @@ fn lay_value(
 #[cycle(laying)]
 fn lay_object(
     alloc: Global,
-    spot: Spot,
+    place: Place,
     members: &Map<String, Value>,
     base: Option<Value>,
     aliases: &Map<String, Value>,
     limit: Option<usize>,
 ) -> Result<Value, Stop>
     ensures laid { IfOk result (λ laid. view laid
-        ≡ lay (members_view aliases.now.entries) spot (object (members_view members.now.entries)) (option_map view base)) }
-    ensures past { IfErr result (λ stop. IsDue stop limit (size (lay (members_view aliases.now.entries) spot (object (members_view members.now.entries)) (option_map view base)))) }
+        ≡ lay (members_view aliases.now.entries) place (object (members_view members.now.entries)) (option_map view base)) }
+    ensures past { IfErr result (λ stop. IsDue stop limit (size (lay (members_view aliases.now.entries) place (object (members_view members.now.entries)) (option_map view base)))) }
 {
-    let below = match lay_inherited(alloc, spot, members, aliases)? {
+    let below = match lay_inherited(alloc, place, members, aliases)? {
         Some(inherited) => properties_in(alloc, inherited),
         None => properties_below(alloc, base),
     };
-    let laid = lay_properties(alloc, spot, members, below, aliases, limit)?;
+    let laid = lay_properties(alloc, place, members, below, aliases, limit)?;
     Ok(Value::Object(laid))
 }
 
@@ -118,18 +121,18 @@ fn lay_object(
 #[cycle(laying)]
 fn lay_inherited(
     alloc: Global,
-    spot: Spot,
+    place: Place,
     members: &Map<String, Value>,
     aliases: &Map<String, Value>,
 ) -> Result<Option<Value>, Stop>
     ensures found { IfOk result (λ found. MatchOption found
-        ((base : Option Data) → lay_base (members_view aliases.now.entries) spot (members_view members.now.entries) base ≡ base)
-        (λ b. (base : Option Data) → lay_base (members_view aliases.now.entries) spot (members_view members.now.entries) base ≡ Some (view b))) }
+        ((base : Option Data) → lay_base (members_view aliases.now.entries) place (members_view members.now.entries) base ≡ base)
+        (λ b. (base : Option Data) → lay_base (members_view aliases.now.entries) place (members_view members.now.entries) base ≡ Some (view b))) }
     ensures memory { IfErr result (λ stop. stop ≡ Stop.Memory) }
 {
     for (name, value) in members.iter() {
-        if spot.is_base_name(name.as_str()) {
-            return Ok(Some(lay(alloc, Spot::FieldType, value, None, aliases, None)?));
+        if is_base_name(place, name.as_str()) {
+            return Ok(Some(lay(alloc, Place::FieldType, value, None, aliases, None)?));
         }
     }
     Ok(None)
@@ -139,29 +142,29 @@ fn lay_inherited(
 #[cycle(laying)]
 fn lay_properties(
     alloc: Global,
-    spot: Spot,
+    place: Place,
     members: &Map<String, Value>,
     below: Map<String, Value>,
     aliases: &Map<String, Value>,
     limit: Option<usize>,
 ) -> Result<Map<String, Value>, Stop>
     ensures laid { IfOk result (λ laid. members_view laid.entries
-        ≡ lay_members (members_view aliases.now.entries) spot (members_view members.now.entries) (members_view below.entries)) }
-    ensures past { IfErr result (λ stop. IsDue stop limit (members_size (lay_members (members_view aliases.now.entries) spot (members_view members.now.entries) (members_view below.entries)))) }
+        ≡ lay_members (members_view aliases.now.entries) place (members_view members.now.entries) (members_view below.entries)) }
+    ensures past { IfErr result (λ stop. IsDue stop limit (members_size (lay_members (members_view aliases.now.entries) place (members_view members.now.entries) (members_view below.entries)))) }
 {
     let mut laid = below;
     for (name, value) in members.iter().rev() {
-        if !spot.is_base_name(name.as_str()) {
+        if !is_base_name(place, name.as_str()) {
             let base = take_property(&mut laid, name.as_str());
             let over = lay(
                 alloc,
-                spot.under(name.as_str()),
+                place_under(place, name.as_str()),
                 value,
                 base,
                 aliases,
                 limit,
             )?;
-            drop(laid.insert(name.clone()?, over)?);
+            drop(put_property(&mut laid, name, over)?);
         }
     }
     Ok(laid)
@@ -171,18 +174,18 @@ fn lay_properties(
 #[cycle(laying)]
 fn lay_list(
     alloc: Global,
-    spot: Spot,
+    place: Place,
     items: &Vec<Value>,
     base: Option<Value>,
     aliases: &Map<String, Value>,
     limit: Option<usize>,
 ) -> Result<Value, Stop>
     ensures laid { IfOk result (λ laid. view laid
-        ≡ lay (members_view aliases.now.entries) spot (array (items_view items.now.items)) (option_map view base)) }
-    ensures past { IfErr result (λ stop. IsDue stop limit (size (lay (members_view aliases.now.entries) spot (array (items_view items.now.items)) (option_map view base)))) }
+        ≡ lay (members_view aliases.now.entries) place (array (items_view items.now.items)) (option_map view base)) }
+    ensures past { IfErr result (λ stop. IsDue stop limit (size (lay (members_view aliases.now.entries) place (array (items_view items.now.items)) (option_map view base)))) }
 {
     let below = items_under(alloc, base);
-    if spot.lists_members() {
+    if lists_members(place) {
         let mut added = Vec::new(alloc);
         push_new_entries(alloc, items, &below, &mut added, aliases, limit)?;
         let mut entries = lay_over_entries(alloc, items, below, aliases, limit)?;
@@ -271,7 +274,7 @@ fn lay_over_entry(
     for (name, value) in members.iter() {
         if entry.get(name.as_str()).is_some() {
             let base = into_property(entry, name.as_str());
-            let laid = lay(alloc, Spot::MemberValue, value, base, aliases, limit)?;
+            let laid = lay(alloc, Place::Member, value, base, aliases, limit)?;
             return Ok(single(alloc, name.clone()?, laid)?);
         }
     }
@@ -340,7 +343,7 @@ fn push_new_entry(
     let mut room = limit;
     for (name, value) in members.iter() {
         if !base.has(name.as_str()) {
-            let laid = lay(alloc, Spot::MemberValue, value, None, aliases, room)?;
+            let laid = lay(alloc, Place::Member, value, None, aliases, room)?;
             let entry = single(alloc, name.clone()?, laid)?;
             room = take(&entry, room)?;
             entries.push(entry)?;

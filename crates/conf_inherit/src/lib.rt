@@ -5,7 +5,9 @@ mod alias_check;
 mod asked;
 mod base;
 mod entry_index;
+mod field_places;
 mod flaws;
+mod found;
 mod law;
 mod laying;
 mod limits;
@@ -19,7 +21,6 @@ mod resolution;
 mod rounds;
 mod same;
 mod size;
-mod spot;
 mod whole;
 
 pub use law::{
@@ -27,4 +28,3 @@ pub use law::{
     resolution_or_fault, resolutions_faultless, type_fits,
 };
 pub use resolution::resolve;
-pub(crate) use spot::Spot;

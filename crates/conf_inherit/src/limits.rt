@@ -5,16 +5,18 @@ ghost use Rattle.serde_json.specs.Data.{string};
 ghost use Rattle.serde_json.specs.View.{view, members_view};
 ghost use Rattle.conf_tree.specs.Reading.{Gives};
 ghost use Rattle.conf_tree.specs.Walk.{refusal};
+ghost use Rattle.conf_inherit.specs.Found.{FindsKind};
 ghost use Rattle.conf_inherit.specs.Laying.{lay, resolved};
 ghost use Rattle.conf_inherit.specs.Limits.{fitting, passed, limit_flaws};
 
-use crate::Spot;
 use crate::asked::Asked;
+use crate::field_places::names_alias;
 use crate::laying::lay;
 use crate::named::all_named;
 use crate::nesting::nests;
 use crate::property::property;
 use crate::size::{Stop, count};
+use conf_table::Place;
 use conf_tree::{ConfFault, FaultKind};
 use serde_json::{Map, Value};
 use std::alloc::{AllocError, Global};
@@ -25,29 +27,43 @@ const MAX_VALUES: usize = 4096;
 /// The most levels of its objects and lists.
 const MAX_LEVELS: usize = 32;
 
-/// Refuses a field type that passes a limit, if all aliases that it names are resolved. One that is the name of an
-/// alias is not copied.
+/// Refuses a field type that passes a limit, if all aliases that it names are resolved.
 pub(crate) fn check_limits(
     alloc: Global,
     value: &Value,
-    spot: Spot,
+    place: Place,
     resolved: &Map<String, Value>,
 ) -> Result<(), ConfFault>
-    ensures first { Gives (λ _. tt) result (refusal (limit_flaws (members_view resolved.now.entries) spot (view value.now))) }
+    ensures first { Gives (λ _. tt) result (refusal (limit_flaws (members_view resolved.now.entries) place (view value.now))) }
     ensures short { IfErr result (λ fault. array_vec_len fault.path ≡ 0) }
 {
-    if !all_named(value, spot, Asked::IsResolved(resolved)) {
+    match refuse_past_limit(alloc, value, place, resolved) {
+        Ok(()) => Ok(()),
+        Err(kind) => Err(ConfFault::here(kind)),
+    }
+}
+
+/// Refuses a field type that passes a limit, as `check_limits` does. One that is the name of an alias is not copied.
+pub(crate) fn refuse_past_limit(
+    alloc: Global,
+    value: &Value,
+    place: Place,
+    resolved: &Map<String, Value>,
+) -> Result<(), FaultKind>
+    ensures first { FindsKind result (refusal (limit_flaws (members_view resolved.now.entries) place (view value.now))) }
+{
+    if !all_named(value, place, Asked::IsResolved(resolved)) {
         return Ok(());
     }
-    if spot.names_alias() {
+    if names_alias(place) {
         if let Value::String(name) = value {
             return check_alias_limits(resolved, name.as_str());
         }
     }
-    match fit(alloc, value, spot, resolved) {
+    match fit(alloc, value, place, resolved) {
         Ok(Ok(_)) => Ok(()),
-        Ok(Err(kind)) => Err(ConfFault::here(kind)),
-        Err(_) => Err(ConfFault::here(FaultKind::OutOfMemory)),
+        Ok(Err(kind)) => Err(kind),
+        Err(_) => Err(FaultKind::OutOfMemory),
     }
 }
 
@@ -56,14 +72,14 @@ pub(crate) fn check_limits(
 pub(crate) fn fit(
     alloc: Global,
     value: &Value,
-    spot: Spot,
+    place: Place,
     resolved: &Map<String, Value>,
 ) -> Result<Result<Value, FaultKind>, AllocError>
     ensures { IfOk result (λ answer. MatchResult answer
-        (λ laid. fitting (lay (members_view resolved.now.entries) spot (view value.now) None) ≡ Ok (view laid))
-        (λ kind. fitting (lay (members_view resolved.now.entries) spot (view value.now) None) ≡ Err kind)) }
+        (λ laid. fitting (lay (members_view resolved.now.entries) place (view value.now) None) ≡ Ok (view laid))
+        (λ kind. fitting (lay (members_view resolved.now.entries) place (view value.now) None) ≡ Err kind)) }
 {
-    match lay(alloc, spot, value, None, resolved, Some(MAX_VALUES)) {
+    match lay(alloc, place, value, None, resolved, Some(MAX_VALUES)) {
         Ok(laid) => {
             if !nests(&laid, MAX_LEVELS) {
                 return Ok(Err(FaultKind::TooDeep));
@@ -76,10 +92,9 @@ pub(crate) fn fit(
 }
 
 /// Refuses a resolved alias that passes a limit.
-#[tactic(auto, unfolding(crate::specs::Spot::names_alias))]
-fn check_alias_limits(aliases: &Map<String, Value>, name: &str) -> Result<(), ConfFault>
-    ensures first { Gives (λ _. tt) result (refusal (passed (fitting (lay (members_view aliases.now.entries) Spot.FieldType (string name.now) None)))) }
-    ensures short { IfErr result (λ fault. array_vec_len fault.path ≡ 0) }
+#[tactic(auto, unfolding(crate::specs::FieldPlaces::names_alias))]
+fn check_alias_limits(aliases: &Map<String, Value>, name: &str) -> Result<(), FaultKind>
+    ensures first { FindsKind result (refusal (passed (fitting (lay (members_view aliases.now.entries) Place.FieldType (string name.now) None)))) }
 {
     match property(aliases, name) {
         Some(alias) => check_fits(alias),
@@ -88,15 +103,14 @@ fn check_alias_limits(aliases: &Map<String, Value>, name: &str) -> Result<(), Co
 }
 
 /// Refuses a resolved type that passes a limit.
-fn check_fits(value: &Value) -> Result<(), ConfFault>
-    ensures first { Gives (λ _. tt) result (refusal (passed (fitting (view value.now)))) }
-    ensures short { IfErr result (λ fault. array_vec_len fault.path ≡ 0) }
+fn check_fits(value: &Value) -> Result<(), FaultKind>
+    ensures first { FindsKind result (refusal (passed (fitting (view value.now)))) }
 {
     if count(value, MAX_VALUES).is_none() {
-        return Err(ConfFault::here(FaultKind::Limit));
+        return Err(FaultKind::Limit);
     }
     if !nests(value, MAX_LEVELS) {
-        return Err(ConfFault::here(FaultKind::TooDeep));
+        return Err(FaultKind::TooDeep);
     }
     Ok(())
 }

@@ -4,32 +4,33 @@ ghost use Rattle.serde_json.specs.View.{view, items_view, members_view};
 ghost use Rattle.conf_inherit.specs.Asked.{passes};
 ghost use Rattle.conf_inherit.specs.Named.{all_named, all_named_in_items, all_named_in_members};
 
-use crate::Spot;
 use crate::asked::Asked;
+use crate::field_places::{names_alias, names_member_type, place_of_items, place_under};
+use conf_table::Place;
 use serde_json::{Map, Value};
 use std::alloc::AllocError;
 
 /// Whether every text of a value that names an alias passes the test.
 #[cycle(named)]
-pub(crate) fn all_named(value: &Value, spot: Spot, asked: Asked) -> bool
-    ensures { result ≡ all_named (passes asked.entry) spot (view value.now) }
+pub(crate) fn all_named(value: &Value, place: Place, asked: Asked) -> bool
+    ensures { result ≡ all_named (passes asked.entry) place (view value.now) }
 {
     match value {
         Value::Null | Value::Bool(_) | Value::Number(_) => true,
         Value::String(name) => {
-            !(spot.names_alias() || spot.names_member_type()) || asked.passes(name.as_str())
+            !(names_alias(place) || names_member_type(place)) || asked.passes(name.as_str())
         }
-        Value::Array(items) => all_named_in_items(items, spot.of_items(), asked),
-        Value::Object(members) => all_named_in_members(members, spot, asked),
+        Value::Array(items) => all_named_in_items(items, place_of_items(place), asked),
+        Value::Object(members) => all_named_in_members(members, place, asked),
     }
 }
 
 #[cycle(named)]
-fn all_named_in_items(items: &Vec<Value>, spot: Spot, asked: Asked) -> bool
-    ensures { result ≡ all_named_in_items (passes asked.entry) spot (items_view items.now.items) }
+fn all_named_in_items(items: &Vec<Value>, place: Place, asked: Asked) -> bool
+    ensures { result ≡ all_named_in_items (passes asked.entry) place (items_view items.now.items) }
 {
     for item in items {
-        if !all_named(item, spot, asked) {
+        if !all_named(item, place, asked) {
             return false;
         }
     }
@@ -37,11 +38,11 @@ fn all_named_in_items(items: &Vec<Value>, spot: Spot, asked: Asked) -> bool
 }
 
 #[cycle(named)]
-fn all_named_in_members(members: &Map<String, Value>, spot: Spot, asked: Asked) -> bool
-    ensures { result ≡ all_named_in_members (passes asked.entry) spot (members_view members.now.entries) }
+fn all_named_in_members(members: &Map<String, Value>, place: Place, asked: Asked) -> bool
+    ensures { result ≡ all_named_in_members (passes asked.entry) place (members_view members.now.entries) }
 {
     for (name, member) in members.iter() {
-        if !all_named(member, spot.under(name.as_str()), asked) {
+        if !all_named(member, place_under(place, name.as_str()), asked) {
             return false;
         }
     }
@@ -52,30 +53,30 @@ fn all_named_in_members(members: &Map<String, Value>, spot: Spot, asked: Asked) 
 #[cycle(naming)]
 pub(crate) fn push_named(
     value: &Value,
-    spot: Spot,
+    place: Place,
     names: &mut Vec<String>,
 ) -> Result<(), AllocError> {
     match value {
         Value::Null | Value::Bool(_) | Value::Number(_) => Ok(()),
         Value::String(name) => {
-            if spot.names_alias() || spot.names_member_type() {
+            if names_alias(place) || names_member_type(place) {
                 names.push(name.clone()?)?;
             }
             Ok(())
         }
-        Value::Array(items) => push_named_in_items(items, spot.of_items(), names),
-        Value::Object(members) => push_named_in_members(members, spot, names),
+        Value::Array(items) => push_named_in_items(items, place_of_items(place), names),
+        Value::Object(members) => push_named_in_members(members, place, names),
     }
 }
 
 #[cycle(naming)]
 fn push_named_in_items(
     items: &Vec<Value>,
-    spot: Spot,
+    place: Place,
     names: &mut Vec<String>,
 ) -> Result<(), AllocError> {
     for item in items {
-        push_named(item, spot, names)?;
+        push_named(item, place, names)?;
     }
     Ok(())
 }
@@ -83,11 +84,11 @@ fn push_named_in_items(
 #[cycle(naming)]
 fn push_named_in_members(
     members: &Map<String, Value>,
-    spot: Spot,
+    place: Place,
     names: &mut Vec<String>,
 ) -> Result<(), AllocError> {
     for (name, member) in members.iter() {
-        push_named(member, spot.under(name.as_str()), names)?;
+        push_named(member, place_under(place, name.as_str()), names)?;
     }
     Ok(())
 }

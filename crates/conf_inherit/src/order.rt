@@ -1,8 +1,8 @@
 //! The order in which aliases depend on one another.
 
-use crate::Spot;
 use crate::named::push_named;
 use crate::property::has;
+use conf_table::Place;
 use serde_json::{Map, Value};
 use std::alloc::{AllocError, Global};
 use std::collections::BTreeMap;
@@ -85,7 +85,7 @@ fn bases_of(
     aliases: &Map<String, Value>,
 ) -> Result<Vec<String>, AllocError> {
     let mut named = Vec::new(alloc);
-    push_named(value, Spot::FieldType, &mut named)?;
+    push_named(value, Place::FieldType, &mut named)?;
     let mut bases = Vec::new(alloc);
     for name in named {
         if has(aliases, name.as_str()) {

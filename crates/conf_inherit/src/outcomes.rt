@@ -1,5 +1,5 @@
 //! What became of the aliases so far.
-use crate::property::has;
+use crate::property::{has, put_property};
 use serde_json::{Map, Value};
 use std::alloc::{AllocError, Global};
 
@@ -39,7 +39,7 @@ impl AliasOutcomes {
     pub(crate) fn resolve(&mut self, name: &String, alias: Value) -> Result<(), AllocError>
         ensures { OnOk result (outcomes_of self.new ≡ concluded (string_bytes name.now) (outcomes_of self.old) (Some (view alias))) }
     {
-        drop(self.resolved.insert(name.clone()?, alias)?);
+        drop(put_property(&mut self.resolved, name, alias)?);
         Ok(())
     }
 
@@ -47,7 +47,7 @@ impl AliasOutcomes {
     pub(crate) fn refuse(&mut self, name: &String) -> Result<(), AllocError>
         ensures { OnOk result (outcomes_of self.new ≡ concluded (string_bytes name.now) (outcomes_of self.old) None) }
     {
-        drop(self.refused.insert(name.clone()?, Value::Null)?);
+        drop(put_property(&mut self.refused, name, Value::Null)?);
         Ok(())
     }
 }

@@ -6,13 +6,16 @@ ghost use Rattle.serde_json.specs.View.{view, items_view, members_view};
 ghost use Rattle.conf_tree.specs.Reading.{Gives};
 ghost use Rattle.conf_tree.specs.Walk.{refusal};
 ghost use Rattle.conf_inherit.specs.Flaws.{own_flaws, flaws};
-ghost use Rattle.conf_inherit.specs.Spot.{spot_of_items};
+ghost use Rattle.conf_inherit.specs.FieldPlaces.{place_of_items};
 ghost use Rattle.conf_inherit.specs.Places.{too_many, place_flaws, inner_places, item_places, member_places};
 ghost use Rattle.conf_inherit.specs.Whole.{HasSound};
 
-use crate::Spot;
+use crate::field_places::{
+    leads_on, lists_extra_members, names_alias, names_member_type, place_of_items, place_under,
+};
 use crate::flaws::{check_flaws, check_itself, check_type, mark};
 use crate::limits::check_limits;
+use conf_table::Place;
 use conf_tree::{ConfFault, FaultKind};
 use serde_json::{Map, Value};
 use std::alloc::Global;
@@ -45,14 +48,17 @@ fn check_length(items: &Vec<Value>) -> Result<(), ConfFault>
 
 /// Refuses a list of extra members that is too long, or a value that is none.
 #[tactic(auto, using(crate::proofs::FlawLemmas::refused_later))]
-fn check_extra(value: &Value, spot: Spot, aliases: &Map<String, Value>) -> Result<(), ConfFault>
-    ensures first { Gives (λ _. tt) result (refusal (too_many (view value.now) ++ own_flaws (members_view aliases.now.entries) spot false (view value.now))) }
+fn check_extra(value: &Value, place: Place, aliases: &Map<String, Value>) -> Result<(), ConfFault>
+    ensures first { Gives (λ _. tt) result (refusal (too_many (view value.now) ++ own_flaws (members_view aliases.now.entries) place false (view value.now))) }
     ensures short { IfErr result (λ fault. array_vec_len fault.path ≡ 0) }
 {
     if let Err(fault) = check_count(value) {
         return Err(fault);
     }
-    check_itself(value, spot, false, aliases)
+    match check_itself(value, place, false, aliases) {
+        Ok(()) => Ok(()),
+        Err(kind) => Err(ConfFault::here(kind)),
+    }
 }
 
 /// Refuses what is wrong with a value as a whole that stands at a place of field types.
@@ -60,24 +66,24 @@ fn check_extra(value: &Value, spot: Spot, aliases: &Map<String, Value>) -> Resul
 fn check_place(
     alloc: Global,
     value: &Value,
-    spot: Spot,
+    place: Place,
     levels: usize,
     aliases: &Map<String, Value>,
     resolved: &Map<String, Value>,
 ) -> Result<(), ConfFault>
     requires nested { depth (view value.now) ≤ levels }
     requires shallow { levels ≤ 32 }
-    ensures first { Gives (λ _. tt) result (refusal (place_flaws (members_view aliases.now.entries) (members_view resolved.now.entries) spot (view value.now))) }
+    ensures first { Gives (λ _. tt) result (refusal (place_flaws (members_view aliases.now.entries) (members_view resolved.now.entries) place (view value.now))) }
     ensures short { IfErr result (λ fault. array_vec_len fault.path ≤ levels) }
 {
-    if spot.names_alias() {
-        return check_type(alloc, value, spot, levels, aliases, resolved);
+    if names_alias(place) {
+        return check_type(alloc, value, place, levels, aliases, resolved);
     }
-    if spot.names_member_type() {
-        return check_limits(alloc, value, spot, resolved);
+    if names_member_type(place) {
+        return check_limits(alloc, value, place, resolved);
     }
-    if spot.lists_extra_members() {
-        return check_extra(value, spot, aliases);
+    if lists_extra_members(place) {
+        return check_extra(value, place, aliases);
     }
     Ok(())
 }
@@ -87,31 +93,31 @@ fn check_place(
 pub(crate) fn check_places(
     alloc: Global,
     value: &Value,
-    spot: Spot,
+    place: Place,
     levels: usize,
     aliases: &Map<String, Value>,
     resolved: &Map<String, Value>,
 ) -> Result<(), ConfFault>
     requires nested { depth (view value.now) ≤ levels }
     requires shallow { levels ≤ 32 }
-    requires sound { HasSound (members_view aliases.now.entries) (members_view resolved.now.entries) spot (view value.now) }
-    ensures first { Gives (λ _. tt) result (refusal (inner_places (members_view aliases.now.entries) (members_view resolved.now.entries) spot (view value.now))) }
+    requires sound { HasSound (members_view aliases.now.entries) (members_view resolved.now.entries) place (view value.now) }
+    ensures first { Gives (λ _. tt) result (refusal (inner_places (members_view aliases.now.entries) (members_view resolved.now.entries) place (view value.now))) }
     ensures short { IfErr result (λ fault. array_vec_len fault.path ≤ levels) }
 {
     match value {
         Value::Null | Value::Bool(_) | Value::Number(_) | Value::String(_) => Ok(()),
         Value::Array(items) => {
-            if spot.lists_extra_members() {
-                return check_item_places(alloc, items, spot, levels - 1, aliases, resolved);
+            if lists_extra_members(place) {
+                return check_item_places(alloc, items, place, levels - 1, aliases, resolved);
             }
             Ok(())
         }
         Value::Object(members) => {
-            if let Spot::Aliases = spot {
+            if let Place::FieldTypeAliases = place {
                 return Ok(());
             }
-            if spot.leads_on() {
-                return check_member_places(alloc, members, spot, levels - 1, aliases, resolved);
+            if leads_on(place) {
+                return check_member_places(alloc, members, place, levels - 1, aliases, resolved);
             }
             Ok(())
         }
@@ -123,19 +129,19 @@ pub(crate) fn check_places(
 fn check_item_places(
     alloc: Global,
     items: &Vec<Value>,
-    spot: Spot,
+    place: Place,
     levels: usize,
     aliases: &Map<String, Value>,
     resolved: &Map<String, Value>,
 ) -> Result<(), ConfFault>
     requires nested { items_depth (items_view items.now.items) ≤ levels }
     requires shallow { levels < 32 }
-    ensures first { Gives (λ _. tt) result (refusal (item_places (members_view aliases.now.entries) (members_view resolved.now.entries) spot 0 no_members (items_view items.now.items))) }
+    ensures first { Gives (λ _. tt) result (refusal (item_places (members_view aliases.now.entries) (members_view resolved.now.entries) place 0 no_members (items_view items.now.items))) }
     ensures short { IfErr result (λ fault. array_vec_len fault.path ≤ levels + 1) }
 {
     let mut seen = Map::new(alloc);
     for (index, item) in items.iter().enumerate() {
-        if let Err(fault) = check_entry(alloc, item, spot, &seen, levels, aliases, resolved) {
+        if let Err(fault) = check_entry(alloc, item, place, &seen, levels, aliases, resolved) {
             return Err(fault.inside(index));
         }
         if mark(item, &mut seen).is_err() {
@@ -145,14 +151,14 @@ fn check_item_places(
     Ok(())
 }
 
-/// Refuses the first flaw of an entry of a list at the spot, or else the limit that its field type passes. `seen` has the names of
+/// Refuses the first flaw of an entry of a list at the place, or else the limit that its field type passes. `seen` has the names of
 /// the entries before it.
 #[cycle(places)]
 #[tactic(auto, using(crate::proofs::FlawLemmas::refused_first, crate::proofs::FlawLemmas::refused_later))]
 fn check_entry(
     alloc: Global,
     value: &Value,
-    spot: Spot,
+    place: Place,
     seen: &Map<String, Value>,
     levels: usize,
     aliases: &Map<String, Value>,
@@ -160,13 +166,13 @@ fn check_entry(
 ) -> Result<(), ConfFault>
     requires nested { depth (view value.now) ≤ levels }
     requires shallow { levels ≤ 32 }
-    ensures first { Gives (λ _. tt) result (refusal (flaws (members_view aliases.now.entries) (Some (members_view resolved.now.entries)) (spot_of_items spot) false (members_view seen.now.entries) (view value.now) ++ inner_places (members_view aliases.now.entries) (members_view resolved.now.entries) (spot_of_items spot) (view value.now))) }
+    ensures first { Gives (λ _. tt) result (refusal (flaws (members_view aliases.now.entries) (Some (members_view resolved.now.entries)) (place_of_items place) false (members_view seen.now.entries) (view value.now) ++ inner_places (members_view aliases.now.entries) (members_view resolved.now.entries) (place_of_items place) (view value.now))) }
     ensures short { IfErr result (λ fault. array_vec_len fault.path ≤ levels) }
 {
-    let entry = spot.of_items();
+    let entry = place_of_items(place);
     let known = Some(resolved);
-    if let Err(fault) = check_flaws(alloc, value, entry, false, seen, levels, aliases, known) {
-        return Err(fault);
+    if let Err(found) = check_flaws(alloc, value, entry, false, seen, levels, aliases, known) {
+        return Err(found.into_fault());
     }
     check_places(alloc, value, entry, levels, aliases, resolved)
 }
@@ -176,22 +182,22 @@ fn check_entry(
 fn check_member_places(
     alloc: Global,
     members: &Map<String, Value>,
-    spot: Spot,
+    place: Place,
     levels: usize,
     aliases: &Map<String, Value>,
     resolved: &Map<String, Value>,
 ) -> Result<(), ConfFault>
     requires nested { members_depth (members_view members.now.entries) ≤ levels }
     requires shallow { levels < 32 }
-    requires sound { HasSound (members_view aliases.now.entries) (members_view resolved.now.entries) spot (object (members_view members.now.entries)) }
-    ensures first { Gives (λ _. tt) result (refusal (member_places (members_view aliases.now.entries) (members_view resolved.now.entries) spot (members_view members.now.entries))) }
+    requires sound { HasSound (members_view aliases.now.entries) (members_view resolved.now.entries) place (object (members_view members.now.entries)) }
+    ensures first { Gives (λ _. tt) result (refusal (member_places (members_view aliases.now.entries) (members_view resolved.now.entries) place (members_view members.now.entries))) }
     ensures short { IfErr result (λ fault. array_vec_len fault.path ≤ levels + 1) }
 {
     for (name, member) in members.iter() {
         if let Err(fault) = check_place_and_inner(
             alloc,
             member,
-            spot.under(name.as_str()),
+            place_under(place, name.as_str()),
             levels,
             aliases,
             resolved,
@@ -208,19 +214,19 @@ fn check_member_places(
 fn check_place_and_inner(
     alloc: Global,
     value: &Value,
-    spot: Spot,
+    place: Place,
     levels: usize,
     aliases: &Map<String, Value>,
     resolved: &Map<String, Value>,
 ) -> Result<(), ConfFault>
     requires nested { depth (view value.now) ≤ levels }
     requires shallow { levels ≤ 32 }
-    requires sound { HasSound (members_view aliases.now.entries) (members_view resolved.now.entries) spot (view value.now) }
-    ensures first { Gives (λ _. tt) result (refusal (place_flaws (members_view aliases.now.entries) (members_view resolved.now.entries) spot (view value.now) ++ inner_places (members_view aliases.now.entries) (members_view resolved.now.entries) spot (view value.now))) }
+    requires sound { HasSound (members_view aliases.now.entries) (members_view resolved.now.entries) place (view value.now) }
+    ensures first { Gives (λ _. tt) result (refusal (place_flaws (members_view aliases.now.entries) (members_view resolved.now.entries) place (view value.now) ++ inner_places (members_view aliases.now.entries) (members_view resolved.now.entries) place (view value.now))) }
     ensures short { IfErr result (λ fault. array_vec_len fault.path ≤ levels) }
 {
-    if let Err(fault) = check_place(alloc, value, spot, levels, aliases, resolved) {
+    if let Err(fault) = check_place(alloc, value, place, levels, aliases, resolved) {
         return Err(fault);
     }
-    check_places(alloc, value, spot, levels, aliases, resolved)
+    check_places(alloc, value, place, levels, aliases, resolved)
 }

@@ -1,5 +1,5 @@
 //! The properties of JSON objects, by name.
-ghost use Rattle.std.specs.Prelude.{◌≡◌, string_bytes, IfOk, option_map, option_and_then};
+ghost use Rattle.std.specs.Prelude.{◌≡◌, string_bytes, IfOk, OnOk, option_map, option_and_then};
 ghost use Rattle.serde_json.specs.Data.{Data, object, member, no_members, put};
 ghost use Rattle.serde_json.specs.Find.{get, get_member};
 ghost use Rattle.serde_json.specs.View.{view, members_view};
@@ -25,6 +25,20 @@ pub(crate) fn take_property(members: &mut Map<String, Value>, name: &str) -> Opt
     match members.get_mut(name) {
         Some(value) => Some(replace(value, Value::Null)),
         None => None,
+    }
+}
+
+/// Puts a value into a property, and answers what was there. The name is copied only where it is new.
+pub(crate) fn put_property(
+    members: &mut Map<String, Value>,
+    name: &String,
+    value: Value,
+) -> Result<Option<Value>, AllocError>
+    ensures { OnOk result (members_view members.new.entries ≡ put (string_bytes name.now) (view value) (members_view members.old.entries)) }
+{
+    match members.get_mut(name.as_str()) {
+        Some(place) => Ok(Some(replace(place, value))),
+        None => Ok(members.insert(name.clone()?, value)?),
     }
 }
 

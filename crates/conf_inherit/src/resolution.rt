@@ -19,15 +19,14 @@ ghost use Rattle.serde_json.specs.View.{view, members_view};
 ghost use Rattle.serde_json.specs.Written.{has_float};
 ghost use Rattle.conf_inherit.specs.Resolution.{trace_name, type_name, aliases_name, aliases_of, Resolves, in_aliases, from_aliases, if_shallow, resolution_after, resolution};
 
-use crate::Spot;
 use crate::alias_check::check_aliases;
-use crate::flaws::check_value;
 use crate::nesting::{check_nesting, nests};
 use crate::outcomes::AliasOutcomes;
 use crate::places::check_places;
 use crate::rounds::settle_aliases;
 use crate::size::Stop;
 use crate::whole::lay_whole;
+use conf_table::Place;
 use conf_tree::{ConfFault, FaultKind, Tree};
 use serde_json::{Map, Value};
 use std::alloc::Global;
@@ -90,10 +89,10 @@ fn check_all_aliases(
 /// for the whole.
 #[tactic(auto, using(crate::proofs::ResolveLemmas::shallow_as_it_is))]
 fn lay_all(alloc: Global, value: &Value, resolved: Map<String, Value>) -> Result<Value, ConfFault>
-    requires { HasLaid (members_view resolved.entries) Spot.Root (view value.now) }
-    ensures first { Gives view result (if_shallow (lay (members_view resolved.entries) Spot.Root (view value.now) None)) }
+    requires { HasLaid (members_view resolved.entries) Place.Root (view value.now) }
+    ensures first { Gives view result (if_shallow (lay (members_view resolved.entries) Place.Root (view value.now) None)) }
 {
-    match lay_whole(alloc, Spot::Root, value, resolved) {
+    match lay_whole(alloc, Place::Root, value, resolved) {
         Ok(resolved) => {
             // A fault is large, so the walk that may have one is made only where it has.
             if !nests(&resolved, 32) {
@@ -125,11 +124,7 @@ fn resolve_after(
     if let Err(fault) = check_all_aliases(alloc, aliases, &outcomes) {
         return Err(fault);
     }
-    if let Err(fault) = check_places(alloc, value, Spot::Root, 32, aliases, &outcomes.resolved) {
-        return Err(fault);
-    }
-    // The limits were judged at the places.
-    if let Err(fault) = check_value(alloc, value, Spot::Root, 32, aliases, None) {
+    if let Err(fault) = check_places(alloc, value, Place::Root, 32, aliases, &outcomes.resolved) {
         return Err(fault);
     }
     let AliasOutcomes {

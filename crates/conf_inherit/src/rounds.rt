@@ -7,10 +7,9 @@ ghost use Rattle.conf_tree.specs.Flaw.{IsMemory};
 ghost use Rattle.conf_inherit.specs.AliasOutcomes.{outcomes_of};
 ghost use Rattle.conf_inherit.specs.Flaws.{flaws};
 ghost use Rattle.conf_inherit.specs.Names.{NoClash};
-ghost use Rattle.conf_inherit.specs.Named.{all_named};
+ghost use Rattle.conf_inherit.specs.Named.{all_named, has};
 ghost use Rattle.conf_inherit.specs.Rounds.{is_over, is_empty, outcome, step, round, all_settled, rounds, no_outcomes, Reached};
 
-use crate::Spot;
 use crate::asked::Asked;
 use crate::flaws::check_value;
 use crate::limits::fit;
@@ -18,6 +17,7 @@ use crate::named::all_named;
 use crate::order::dependency_order;
 use crate::outcomes::AliasOutcomes;
 use crate::property::property;
+use conf_table::Place;
 use conf_tree::{ConfFault, FaultKind};
 use serde_json::{Map, Value};
 use std::alloc::Global;
@@ -31,10 +31,10 @@ fn is_sound(
 ) -> Result<bool, ConfFault>
     requires { depth (view value.now) ≤ 32 }
     ensures sound { IfOk result (λ sound. sound
-        ≡ is_empty (flaws (members_view aliases.now.entries) (Some (members_view resolved.now.entries)) Spot.FieldType false no_members (view value.now))) }
+        ≡ is_empty (flaws (members_view aliases.now.entries) (Some (members_view resolved.now.entries)) Place.FieldType false no_members (view value.now))) }
     ensures memory { IfErr result IsMemory }
 {
-    if let Err(fault) = check_value(alloc, value, Spot::FieldType, 32, aliases, Some(resolved)) {
+    if let Err(fault) = check_value(alloc, value, Place::FieldType, 32, aliases, Some(resolved)) {
         if fault.is_memory() {
             return Err(fault);
         }
@@ -43,25 +43,27 @@ fn is_sound(
     Ok(true)
 }
 
-/// The resolved alias, unless it can't be resolved.
+/// The resolved alias, unless it can't be resolved. `known` says whether all that it names is resolved.
 fn outcome(
     alloc: Global,
     value: &Value,
+    known: bool,
     aliases: &Map<String, Value>,
     resolved: &Map<String, Value>,
 ) -> Result<Option<Value>, ConfFault>
-    requires { depth (view value.now) ≤ 32 }
+    requires nested { depth (view value.now) ≤ 32 }
+    requires known { known ≡ all_named (has (members_view resolved.now.entries)) Place.FieldType (view value.now) }
     ensures answer { IfOk result (λ answer. option_map view answer
         ≡ outcome (members_view aliases.now.entries) (members_view resolved.now.entries) (view value.now)) }
     ensures memory { IfErr result IsMemory }
 {
-    if !all_named(value, Spot::FieldType, Asked::IsResolved(resolved)) {
+    if !known {
         return Ok(None);
     }
     if !is_sound(alloc, value, aliases, resolved)? {
         return Ok(None);
     }
-    match fit(alloc, value, Spot::FieldType, resolved) {
+    match fit(alloc, value, Place::FieldType, resolved) {
         Ok(Ok(alias)) => Ok(Some(alias)),
         Ok(Err(_)) => Ok(None),
         Err(_) => Err(ConfFault::here(FaultKind::OutOfMemory)),
@@ -69,6 +71,7 @@ fn outcome(
 }
 
 /// Gives an alias its outcome, if all that it names have theirs.
+#[tactic(auto, using(crate::proofs::RoundLemmas::resolved_due))]
 fn step(
     alloc: Global,
     name: &String,
@@ -84,10 +87,12 @@ fn step(
     if outcomes.has_outcome(name.as_str()) {
         return Ok(());
     }
-    if !is_due(value, aliases, outcomes) {
+    let resolved = &outcomes.resolved;
+    let known = all_named(value, Place::FieldType, Asked::IsResolved(resolved));
+    if !known && !is_due(value, aliases, outcomes) {
         return Ok(());
     }
-    let noted = match outcome(alloc, value, aliases, &outcomes.resolved)? {
+    let noted = match outcome(alloc, value, known, aliases, resolved)? {
         Some(alias) => outcomes.resolve(name, alias),
         None => outcomes.refuse(name),
     };
@@ -99,9 +104,9 @@ fn step(
 
 /// Whether all aliases that a value names have an outcome.
 fn is_due(value: &Value, aliases: &Map<String, Value>, outcomes: &AliasOutcomes) -> bool
-    ensures { result ≡ all_named (is_over (members_view aliases.now.entries) (outcomes_of outcomes.now)) Spot.FieldType (view value.now) }
+    ensures { result ≡ all_named (is_over (members_view aliases.now.entries) (outcomes_of outcomes.now)) Place.FieldType (view value.now) }
 {
-    all_named(value, Spot::FieldType, Asked::IsOver { aliases, outcomes })
+    all_named(value, Place::FieldType, Asked::IsOver { aliases, outcomes })
 }
 
 /// One round over the aliases.

@@ -5,10 +5,11 @@ ghost use Rattle.serde_json.specs.View.{view, members_view};
 ghost use Rattle.conf_inherit.specs.Laying.{lay, lay_members};
 ghost use Rattle.conf_inherit.specs.Whole.{holds_aliases, without, HasLaid};
 
-use crate::Spot;
+use crate::field_places::{holds_aliases, place_under, way_to_aliases};
 use crate::laying::lay;
-use crate::property::property;
+use crate::property::{property, put_property};
 use crate::size::Stop;
+use conf_table::Place;
 use serde_json::{Map, Value};
 use std::alloc::Global;
 
@@ -17,19 +18,19 @@ use std::alloc::Global;
 #[cycle(whole)]
 pub(crate) fn lay_whole(
     alloc: Global,
-    spot: Spot,
+    place: Place,
     value: &Value,
     resolved: Map<String, Value>,
 ) -> Result<Value, Stop>
-    ensures laid { IfOk result (λ laid. HasLaid (members_view resolved.entries) spot (view value.now)
-        → view laid ≡ lay (members_view resolved.entries) spot (view value.now) None) }
+    ensures laid { IfOk result (λ laid. HasLaid (members_view resolved.entries) place (view value.now)
+        → view laid ≡ lay (members_view resolved.entries) place (view value.now) None) }
     ensures memory { IfErr result (λ stop. stop ≡ Stop.Memory) }
 {
     match value {
-        Value::Object(members) if spot.holds_aliases() => Ok(Value::Object(lay_whole_members(
-            alloc, spot, members, resolved,
+        Value::Object(members) if holds_aliases(place) => Ok(Value::Object(lay_whole_members(
+            alloc, place, members, resolved,
         )?)),
-        _ => lay(alloc, spot, value, None, &resolved, None),
+        _ => lay(alloc, place, value, None, &resolved, None),
     }
 }
 
@@ -38,21 +39,21 @@ pub(crate) fn lay_whole(
 #[cycle(whole)]
 fn lay_whole_members(
     alloc: Global,
-    spot: Spot,
+    place: Place,
     members: &Map<String, Value>,
     resolved: Map<String, Value>,
 ) -> Result<Map<String, Value>, Stop>
-    ensures laid { IfOk result (λ laid. holds_aliases spot ≡ true → HasLaid (members_view resolved.entries) spot (object (members_view members.now.entries))
-        → members_view laid.entries ≡ lay_members (members_view resolved.entries) spot (members_view members.now.entries) no_members) }
+    ensures laid { IfOk result (λ laid. holds_aliases place ≡ true → HasLaid (members_view resolved.entries) place (object (members_view members.now.entries))
+        → members_view laid.entries ≡ lay_members (members_view resolved.entries) place (members_view members.now.entries) no_members) }
     ensures memory { IfErr result (λ stop. stop ≡ Stop.Memory) }
 {
-    let Some(way) = spot.way_to_aliases() else {
+    let Some(way) = way_to_aliases(place) else {
         return Ok(resolved);
     };
-    let mut laid = lay_beside(alloc, spot, way, members, &resolved)?;
+    let mut laid = lay_beside(alloc, place, way, members, &resolved)?;
     match property(members, way) {
         Some(value) => {
-            let over = lay_whole(alloc, spot.under(way), value, resolved)?;
+            let over = lay_whole(alloc, place_under(place, way), value, resolved)?;
             drop(laid.insert(String::from_str(alloc, way)?, over)?);
             Ok(laid)
         }
@@ -63,13 +64,13 @@ fn lay_whole_members(
 /// The properties of such an object beside that of one name.
 fn lay_beside(
     alloc: Global,
-    spot: Spot,
+    place: Place,
     way: &str,
     members: &Map<String, Value>,
     resolved: &Map<String, Value>,
 ) -> Result<Map<String, Value>, Stop>
-    ensures laid { IfOk result (λ laid. holds_aliases spot ≡ true
-        → members_view laid.entries ≡ lay_members (members_view resolved.now.entries) spot (without way.now (members_view members.now.entries)) no_members) }
+    ensures laid { IfOk result (λ laid. holds_aliases place ≡ true
+        → members_view laid.entries ≡ lay_members (members_view resolved.now.entries) place (without way.now (members_view members.now.entries)) no_members) }
     ensures memory { IfErr result (λ stop. stop ≡ Stop.Memory) }
 {
     let mut laid = Map::new(alloc);
@@ -77,13 +78,13 @@ fn lay_beside(
         if name.as_str() != way {
             let over = lay(
                 alloc,
-                spot.under(name.as_str()),
+                place_under(place, name.as_str()),
                 value,
                 None,
                 resolved,
                 None,
             )?;
-            drop(laid.insert(name.clone()?, over)?);
+            drop(put_property(&mut laid, name, over)?);
         }
     }
     Ok(laid)

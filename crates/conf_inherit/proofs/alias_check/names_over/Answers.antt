@@ -2,7 +2,6 @@ use Rattle.std.proofs.Common.{◌≡◌, ◌||◌, string_bytes, sym, ap, ◌∙
 use Rattle.serde_json.specs.Data.{Data, Members, member, null, put}
 use Rattle.serde_json.specs.View.{view, members_view}
 use Rattle.serde_json.specs.declared.value.Value.{Null, the_lemmas}
-use Rattle.serde_json.proofs.Views.{members_view-insert_entry}
 use Rattle.conf_inherit.specs.AliasOutcomes.{outcomes_of}
 use Rattle.conf_inherit.specs.AliasFlaws.{over_names}
 use Rattle.conf_inherit.specs.Named.{has}
@@ -22,7 +21,7 @@ outcome st h i e = sym h ∙ i ∙ ap (λ x. has st.done x || has st.refused x) 
 pub loop-name-preserved-then-has_outcome : goal.loop-name-preserved-then-has_outcome
 loop-name-preserved-then-has_outcome c =
     ap (over_names (members_view c.next.new.self) (outcomes_of c.args.outcomes.now))
-    (ap members_view c.in_ok-insert.ensures.entries ∙ members_view-insert_entry c.loop-name.over.entries c.in_ok-clone.field-0 Null ∙ ap (λ d. put (string_bytes c.in_ok-clone.field-0) d (members_view c.loop-name.over.entries)) view-null ∙ ap (λ x. put x null (members_view c.loop-name.over.entries)) c.in_ok-clone.ensures.cases)
+    (c.in_ok-put_property.ensures ∙ ap (λ d. put (string_bytes c.in-Some.name.now) d (members_view c.loop-name.over.entries)) view-null)
     ∙ one_over (string_bytes c.in-Some.name.now) (view c.in-Some._value.now) (members_view c.next.new.self) (outcomes_of c.args.outcomes.now) (members_view c.loop-name.over.entries) (outcome (outcomes_of c.args.outcomes.now) c.if-has_outcome.true c.has_outcome.ensures c.as_str.ensures.value)
     ∙ ap (λ es. over_names (members_view es) (outcomes_of c.args.outcomes.now) (members_view c.loop-name.over.entries)) (sym c.in-Some.ensures.steps)
     ∙ c.loop-name.invariant

@@ -11,4 +11,4 @@ pub returns-in-Err-clause-first : goal.returns-in-Err-clause-first
 returns-in-Err-clause-first c =
     let v = view c.args.value.now in
     let done = members_view c.args.resolved.now.entries in
-    elim c.in-Err.ensures.first [ inl memory ↦ inl memory | inr flawed ↦ inr (refused_first (flaws (members_view c.args.aliases.now.entries) (Some done) c.args.spot false no_members v) (limit_flaws done c.args.spot v) (flaw_of c.in-Err.fault) flawed) ]
+    elim c.in-Err.ensures.first [ inl memory ↦ inl memory | inr flawed ↦ inr (refused_first (flaws (members_view c.args.aliases.now.entries) (Some done) c.args.place false no_members v) (limit_flaws done c.args.place v) (flaw_of c.in-Err.fault) flawed) ]

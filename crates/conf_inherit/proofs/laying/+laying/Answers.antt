@@ -4,15 +4,15 @@ use Rattle.std.proofs.lemmas.List.{at_drop_all}
 use Rattle.std.specs.Vec.Iter.{into_iter_items}
 use Rattle.serde_json.specs.Data.{Data, Items, no_items, item, array, object, member, no_members, put}
 use Rattle.serde_json.specs.View.{view, items_view, members_view}
-use Rattle.conf_inherit.specs.declared.spot.Spot.TheVariants.{MemberValue}
+use Rattle.conf_table.specs.declared.place.Place.TheVariants as places
 use Rattle.conf_inherit.specs.Laying.{lay, items_below, has_entry, lay_members, lay_over, lay_over_entry, lay_new, lay_new_member}
 use Rattle.conf_inherit.specs.EntryIndex.{lay_over_found}
 use Rattle.std.specs.Result.{IfOk, IfErr}
 use Rattle.conf_inherit.specs.Names.{map_items, join_items}
 use Rattle.conf_inherit.proofs.ItemLemmas.{join_none, join_pushed, join_appended, new_member_fresh, lay_members-first}
-use Rattle.serde_json.proofs.Views.{Entry, members_view-insert_entry, view-Array}
+use Rattle.serde_json.proofs.Views.{Entry, view-Array}
 use Rattle.serde_json.specs.Find.{get_member}
-use Rattle.conf_inherit.specs.Spot.{spot_under, is_base_name, lists_members}
+use Rattle.conf_inherit.specs.FieldPlaces.{place_under, is_base_name, lists_members}
 use Rattle.std.proofs.lemmas.Result.{err_from_is_err_and}
 use Rattle.conf_inherit.specs.Names.{NoClash}
 use Rattle.conf_inherit.proofs.ResolveLemmas.{apart_of}
@@ -47,7 +47,7 @@ push_new_entry-loop-name-preserved-in_ok-push t c =
     let n = string_bytes c.in-Some.name.now in
     let d = view c.in-Some.value.now in
     let fresh : has_entry n seen ≡ false = let e = c.has.ensures in let f = c.if-not-has.true in let g = c.as_str.ensures.value in ap (λ x. has_entry x seen) (sym g) ∙ sym e ∙ f in
-    let made : view c.in_ok-entry.entry ≡ object (member n (lay done MemberValue d None) no_members) = c.in_ok-entry.ensures ∙ ap (λ x. object (member x (view c.in_ok-laid.laid) no_members)) c.in_ok-clone.ensures.cases ∙ ap (λ x. object (member n x no_members)) c.in_ok-laid.ensures.laid in
+    let made : view c.in_ok-entry.entry ≡ object (member n (lay done places.Member d None) no_members) = c.in_ok-entry.ensures ∙ ap (λ x. object (member x (view c.in_ok-laid.laid) no_members)) c.in_ok-clone.ensures.cases ∙ ap (λ x. object (member n x no_members)) c.in_ok-laid.ensures.laid in
     let left = λ (rest : Items). lay_new_member done (members_view c.next.new.self) seen rest in
     let split : items_size (lay_new_member done (members_view c.loop-name.name-iterator) seen no_items) ≡ size (view c.in_ok-entry.entry) + items_size (left no_items)
     = ap (λ es. items_size (lay_new_member done (members_view es) seen no_items)) c.in-Some.ensures.steps
@@ -72,7 +72,7 @@ pub lay_properties-returns-clause-laid : goal.lay_properties-returns-clause-laid
 lay_properties-returns-clause-laid t c =
     let aliases = members_view c.args.aliases.now.entries in
     let whole : c.loop-name.invariant.0 ≡ c.args.members.now.entries = sym (c.loop-name.invariant.1 ∙ ap (λ xs. xs ++ c.loop-name.invariant.0) c.in-None.ensures.steps.0) in
-    c.loop-name.invariant.2 ∙ ap (λ es. lay_members aliases c.args.spot (members_view es) (members_view c.args.below.entries)) whole
+    c.loop-name.invariant.2 ∙ ap (λ es. lay_members aliases c.args.place (members_view es) (members_view c.args.below.entries)) whole
 
 pub lay_properties-loop-name-preserved-then-not-is_base_name : goal.lay_properties-loop-name-preserved-then-not-is_base_name
 lay_properties-loop-name-preserved-then-not-is_base_name t c =
@@ -84,41 +84,39 @@ lay_properties-loop-name-preserved-then-not-is_base_name t c =
     let below = members_view c.args.below.entries in
     let split : c.args.members.now.entries ≡ c.next.new.self.iter ++ e ∷ inv.0 = inv.1 ∙ ap (λ xs. xs ++ inv.0) c.in-Some.ensures.steps ∙ append_assoc c.next.new.self.iter (e ∷ []) inv.0 in
     let apart : NoClash (members_view c.args.members.now.entries) = apart_of c.args.members.now.entries c.iter.ensures.ordered in
-    let spot : c.under.result ≡ spot_under c.args.spot n = c.under.ensures ∙ ap (spot_under c.args.spot) c.as_str-then-not-is_base_name-2.ensures.value in
+    let place : c.place_under.result ≡ place_under c.args.place n = c.place_under.ensures ∙ ap (place_under c.args.place) c.as_str-then-not-is_base_name-2.ensures.value in
     let absent : get_member n (members_view inv.0) ≡ None = absent_after c.next.new.self.iter e inv.0 c.args.members.now.entries split apart in
     let found : option_map view c.take_property-base.result ≡ get_member n below
     = c.take_property-base.ensures.found ∙ ap (λ x. get_member x (members_view c.loop-name.laid.entries)) c.as_str-then-not-is_base_name.ensures.value
-    ∙ ap (get_member n) inv.2 ∙ lay_members-absent done c.args.spot n (members_view inv.0) below absent in
-    let over : view c.in_ok-over.over ≡ lay done (spot_under c.args.spot n) d (get_member n below) = c.in_ok-over.ensures.laid ∙ ap (λ x. lay done x d (option_map view c.take_property-base.result)) spot ∙ ap (lay done (spot_under c.args.spot n) d) found in
-    let laid = lay done (spot_under c.args.spot n) d (get_member n below) in
+    ∙ ap (get_member n) inv.2 ∙ lay_members-absent done c.args.place n (members_view inv.0) below absent in
+    let over : view c.in_ok-over.over ≡ lay done (place_under c.args.place n) d (get_member n below) = c.in_ok-over.ensures.laid ∙ ap (λ x. lay done x d (option_map view c.take_property-base.result)) place ∙ ap (lay done (place_under c.args.place n) d) found in
+    let laid = lay done (place_under c.args.place n) d (get_member n below) in
     let same : put n laid (members_view c.take_property-base.new.members.entries) ≡ put n laid (members_view c.loop-name.laid.entries)
     = subst (λ x. put x laid (members_view c.take_property-base.new.members.entries) ≡ put x laid (members_view c.loop-name.laid.entries)) c.as_str-then-not-is_base_name.ensures.value (c.take_property-base.ensures.others laid) in
-    let no_base : is_base_name c.args.spot n ≡ false = ap (is_base_name c.args.spot) (sym c.as_str.ensures.value) ∙ sym c.is_base_name.ensures ∙ c.if-not-is_base_name.true in (
+    let no_base : is_base_name c.args.place n ≡ false = ap (is_base_name c.args.place) (sym c.as_str.ensures.value) ∙ sym c.is_base_name.ensures ∙ c.if-not-is_base_name.true in (
       e ∷ inv.0,
       split,
-      ap members_view c.in_ok-insert.ensures.entries
-          ∙ members_view-insert_entry c.take_property-base.new.members.entries c.in_ok-clone.field-0 c.in_ok-over.over
-          ∙ ap (λ x. put x (view c.in_ok-over.over) (members_view c.take_property-base.new.members.entries)) c.in_ok-clone.ensures.cases
+      c.in_ok-put_property.ensures
           ∙ ap (λ x. put n x (members_view c.take_property-base.new.members.entries)) over
           ∙ same
-          ∙ ap (put n (lay done (spot_under c.args.spot n) d (get_member n below))) inv.2
-          ∙ sym (lay_members-first done c.args.spot n d (members_view inv.0) below no_base),
+          ∙ ap (put n (lay done (place_under c.args.place n) d (get_member n below))) inv.2
+          ∙ sym (lay_members-first done c.args.place n d (members_view inv.0) below no_base),
     )
 
 pub lay_list-returns-in_err-entries-clause-past : goal.lay_list-returns-in_err-entries-clause-past
 lay_list-returns-in_err-entries-clause-past t c =
     let p = err_from_is_err_and c.from_residual-in_err-entries.result c.from_residual-in_err-entries.ensures.1 in
-    let is : lists_members c.args.spot ≡ true = sym c.lists_members.ensures ∙ c.if-lists_members.true in
+    let is : lists_members c.args.place ≡ true = sym c.lists_members.ensures ∙ c.if-lists_members.true in
     rw (p.1, p.2)
-    (due_more c.in_err-entries.field-0.0 c.args.limit _ _ (over_size (members_view c.args.aliases.now.entries) c.args.spot (items_view c.args.items.now.items) (option_map view c.args.base) is)
+    (due_more c.in_err-entries.field-0.0 c.args.limit _ _ (over_size (members_view c.args.aliases.now.entries) c.args.place (items_view c.args.items.now.items) (option_map view c.args.base) is)
     (rw c.items_under-below.ensures at c.in_err-entries.ensures.past))
 
 pub lay_list-returns-in_err-push_new_entries-clause-past : goal.lay_list-returns-in_err-push_new_entries-clause-past
 lay_list-returns-in_err-push_new_entries-clause-past t c =
     let p = err_from_is_err_and c.from_residual.result c.from_residual.ensures.1 in
-    let is : lists_members c.args.spot ≡ true = sym c.lists_members.ensures ∙ c.if-lists_members.true in
+    let is : lists_members c.args.place ≡ true = sym c.lists_members.ensures ∙ c.if-lists_members.true in
     rw (p.1, p.2)
-    (due_more c.in_err-push_new_entries.field-0.0 c.args.limit _ _ (new_size (members_view c.args.aliases.now.entries) c.args.spot (items_view c.args.items.now.items) (option_map view c.args.base) is)
+    (due_more c.in_err-push_new_entries.field-0.0 c.args.limit _ _ (new_size (members_view c.args.aliases.now.entries) c.args.place (items_view c.args.items.now.items) (option_map view c.args.base) is)
     (rw c.items_under-below.ensures at c.in_err-push_new_entries.ensures.past))
 
 pub lay_properties-returns-in_err-over-clause-past : goal.lay_properties-returns-in_err-over-clause-past
@@ -132,15 +130,15 @@ lay_properties-returns-in_err-over-clause-past t c =
     let below = members_view c.args.below.entries in
     let split : c.args.members.now.entries ≡ c.next.new.self.iter ++ e ∷ inv.0 = inv.1 ∙ ap (λ xs. xs ++ inv.0) c.in-Some.ensures.steps ∙ append_assoc c.next.new.self.iter (e ∷ []) inv.0 in
     let apart : NoClash (members_view c.args.members.now.entries) = apart_of c.args.members.now.entries c.iter.ensures.ordered in
-    let spot : c.under.result ≡ spot_under c.args.spot n = c.under.ensures ∙ ap (spot_under c.args.spot) c.as_str-then-not-is_base_name-2.ensures.value in
+    let place : c.place_under.result ≡ place_under c.args.place n = c.place_under.ensures ∙ ap (place_under c.args.place) c.as_str-then-not-is_base_name-2.ensures.value in
     let absent : get_member n (members_view inv.0) ≡ None = absent_after c.next.new.self.iter e inv.0 c.args.members.now.entries split apart in
     let found : option_map view c.take_property-base.result ≡ get_member n below
     = c.take_property-base.ensures.found ∙ ap (λ x. get_member x (members_view c.loop-name.laid.entries)) c.as_str-then-not-is_base_name.ensures.value
-    ∙ ap (get_member n) inv.2 ∙ lay_members-absent done c.args.spot n (members_view inv.0) below absent in
-    let no_base : is_base_name c.args.spot n ≡ false = ap (is_base_name c.args.spot) (sym c.as_str.ensures.value) ∙ sym c.is_base_name.ensures ∙ c.if-not-is_base_name.true in
-    let part = property_size done c.args.spot n d (members_view c.args.members.now.entries) below no_base (found_among c.next.new.self.iter e inv.0 c.args.members.now.entries split apart) in
+    ∙ ap (get_member n) inv.2 ∙ lay_members-absent done c.args.place n (members_view inv.0) below absent in
+    let no_base : is_base_name c.args.place n ≡ false = ap (is_base_name c.args.place) (sym c.as_str.ensures.value) ∙ sym c.is_base_name.ensures ∙ c.if-not-is_base_name.true in
+    let part = property_size done c.args.place n d (members_view c.args.members.now.entries) below no_base (found_among c.next.new.self.iter e inv.0 c.args.members.now.entries split apart) in
     rw (p.1, p.2)
-    (due_more c.in_err-over.field-0.0 c.args.limit _ _ part (rw (spot, found) at c.in_err-over.ensures.past))
+    (due_more c.in_err-over.field-0.0 c.args.limit _ _ part (rw (place, found) at c.in_err-over.ensures.past))
 
 pub lay_over-returns-in-Some-clause-laid : goal.lay_over-returns-in-Some-clause-laid
 lay_over-returns-in-Some-clause-laid t c =
@@ -224,13 +222,13 @@ lay_list-returns-then-lists_members-clause-laid t c =
     = c.in_ok-push_new_entries.ensures.laid
     ∙ ap (λ vs. join_items (items_view vs) (lay_new done own (items_view c.items_under-below.result.items))) c.new-added.ensures.items
     ∙ ap (lay_new done own) below in
-    let is : lists_members c.args.spot ≡ true = sym c.lists_members.ensures ∙ c.if-lists_members.true in
+    let is : lists_members c.args.place ≡ true = sym c.lists_members.ensures ∙ c.if-lists_members.true in
     view-Array c.append.new.self
     ∙ ap (λ vs. array (items_view vs)) c.in_ok-append.ensures.items
     ∙ ap array (join_appended entries added)
     ∙ ap (λ x. array (join_items x (items_view added))) laid
     ∙ ap (λ x. array (join_items (map_items over (items_below base)) x)) new
-    ∙ sym (lay_entries done c.args.spot own base is)
+    ∙ sym (lay_entries done c.args.place own base is)
 
 pub push_new_entries-returns-in_err-room-clause-past : goal.push_new_entries-returns-in_err-room-clause-past
 push_new_entries-returns-in_err-room-clause-past t c =

@@ -51,12 +51,12 @@ decreases-push_new_entry l = 5 * goal.size-push_new_entry l + 2
 -- the properties that are left inherit what all of them do
 abbrev pub invariant-lay_inherited-loop-name : goal.invariant-lay_inherited-loop-name
 invariant-lay_inherited-loop-name l =
-    (base : Option Data) → lay_base (members_view l.aliases.entries) l.spot (members_view l.members.entries) base ≡ lay_base (members_view l.aliases.entries) l.spot (members_view l.name-iterator) base
+    (base : Option Data) → lay_base (members_view l.aliases.entries) l.place (members_view l.members.entries) base ≡ lay_base (members_view l.aliases.entries) l.place (members_view l.name-iterator) base
 
 -- the properties that came so far, which are the last ones, are laid over the base
 abbrev pub invariant-lay_properties-loop-name : goal.invariant-lay_properties-loop-name
 invariant-lay_properties-loop-name l =
-    (done : List Entry) × (l.members.entries ≡ l.name-iterator.iter ++ done) × (members_view l.laid.entries ≡ lay_members (members_view l.aliases.entries) l.spot (members_view done) (members_view l.fn.below.entries))
+    (done : List Entry) × (l.members.entries ≡ l.name-iterator.iter ++ done) × (members_view l.laid.entries ≡ lay_members (members_view l.aliases.entries) l.place (members_view done) (members_view l.fn.below.entries))
 
 -- the entries so far, and what is left of the base laid over; the room is what those so far leave
 abbrev pub invariant-lay_over_entries-loop-entry : goal.invariant-lay_over_entries-loop-entry

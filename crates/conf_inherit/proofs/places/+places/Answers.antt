@@ -2,8 +2,8 @@ use Rattle.std.proofs.Common.{arith, ◌≡◌, ◌≤◌, [], Some, Err, false,
 use Rattle.serde_json.specs.Data.{object, members_depth}
 use Rattle.serde_json.specs.Find.{get_member}
 use Rattle.serde_json.proofs.Views.{view-Object}
-use Rattle.conf_inherit.specs.declared.spot.Spot.TheVariants.{Aliases}
-use Rattle.conf_inherit.specs.Spot.{spot_under, spot_of_items}
+use Rattle.conf_table.specs.declared.place.Place.TheVariants as places
+use Rattle.conf_inherit.specs.FieldPlaces.{place_under, place_of_items}
 use Rattle.conf_inherit.specs.Whole.{HasSound}
 use Rattle.conf_inherit.proofs.ListLemmas.{AllEntries, all_along, found_each}
 use Rattle.conf_inherit.proofs.ResolveLemmas.{apart_of}
@@ -12,6 +12,7 @@ use Rattle.conf_tree.specs.Flaw.{flaw_of}
 use Rattle.conf_tree.specs.Walk.{refusal}
 use Rattle.serde_json.specs.View.{view, members_view}
 use Rattle.conf_inherit.specs.Flaws.{flaws}
+use Rattle.conf_inherit.specs.Found.{flaw_found}
 use Rattle.conf_inherit.specs.Places.{place_flaws, inner_places, member_places}
 use Rattle.conf_inherit.proofs.FlawLemmas.{refused_first}
 use Rattle.conf_inherit.proofs.places.+places.Goals as goal
@@ -21,7 +22,7 @@ check_place_and_inner-returns-in-Err-clause-first t c =
     let al = members_view c.args.aliases.now.entries in
     let done = members_view c.args.resolved.now.entries in
     let v = view c.args.value.now in
-    elim c.in-Err.ensures.first [ inl memory ↦ inl memory | inr flawed ↦ inr (refused_first (place_flaws al done c.args.spot v) (inner_places al done c.args.spot v) (flaw_of c.in-Err.fault) flawed) ]
+    elim c.in-Err.ensures.first [ inl memory ↦ inl memory | inr flawed ↦ inr (refused_first (place_flaws al done c.args.place v) (inner_places al done c.args.place v) (flaw_of c.in-Err.fault) flawed) ]
 
 pub check_entry-returns-in-Err-clause-first : goal.check_entry-returns-in-Err-clause-first
 check_entry-returns-in-Err-clause-first t c =
@@ -29,35 +30,35 @@ check_entry-returns-in-Err-clause-first t c =
     let done = members_view c.args.resolved.now.entries in
     let seen = members_view c.args.seen.now.entries in
     let v = view c.args.value.now in
-    let s = spot_of_items c.args.spot in
-    elim c.in-Err.ensures.first [ inl memory ↦ inl memory | inr flawed ↦ inr (refused_first (flaws al (Some done) s false seen v) (inner_places al done s v) (flaw_of c.in-Err.fault) (subst (λ x. refusal (flaws al (Some done) x false seen v) ≡ Err (flaw_of c.in-Err.fault)) c.of_items-entry.ensures flawed)) ]
+    let s = place_of_items c.args.place in
+    elim c.in-Err.ensures.first [ inl memory ↦ inl (c.into_fault.ensures.flaw ∙ memory) | inr flawed ↦ inr (refused_first (flaws al (Some done) s false seen v) (inner_places al done s v) (flaw_found c.in-Err.found) (subst (λ x. refusal (flaws al (Some done) x false seen v) ≡ Err (flaw_found c.in-Err.found)) c.place_of_items-entry.ensures flawed) ∙ ap (λ f. Err f) (sym c.into_fault.ensures.flaw)) ]
 
 pub check_entry-check_places-requires : goal.check_entry-check_places-requires
 check_entry-check_places-requires t c =
     let al = members_view c.args.aliases.now.entries in
     let done = members_view c.args.resolved.now.entries in
-    let sound : HasSound al done c.of_items-entry.result (view c.args.value.now) = λ ms at. sound_item al done c.args.spot c.of_items-entry.result (view c.args.value.now) ms c.of_items-entry.ensures at in
+    let sound : HasSound al done c.place_of_items-entry.result (view c.args.value.now) = λ ms at. sound_item al done c.args.place c.place_of_items-entry.result (view c.args.value.now) ms c.place_of_items-entry.ensures at in
     let d = c.decreases in
     (omega (arith, d), (c.requires.nested, (c.requires.shallow, sound)))
 
-pub check_places-returns-in-Aliases-clause-first : goal.check_places-returns-in-Aliases-clause-first
-check_places-returns-in-Aliases-clause-first t c =
+pub check_places-returns-in-FieldTypeAliases-clause-first : goal.check_places-returns-in-FieldTypeAliases-clause-first
+check_places-returns-in-FieldTypeAliases-clause-first t c =
     let al = members_view c.args.aliases.now.entries in
     let done = members_view c.args.resolved.now.entries in
     let ms = members_view c.in-Object.members.entries in
     let is : view c.args.value.now ≡ object ms = ap view c.in-Object.is ∙ view-Object c.in-Object.members in
-    sound_here al done c.args.spot (view c.args.value.now) ms c.in-Aliases.is is c.requires.sound
+    sound_here al done c.args.place (view c.args.value.now) ms c.in-FieldTypeAliases.is is c.requires.sound
 
 pub check_member_places-loop-name-init : goal.check_member_places-loop-name-init
 check_member_places-loop-name-init t c =
     let al = members_view c.args.aliases.now.entries in
     let done = members_view c.args.resolved.now.entries in
-    let s = c.args.spot in
+    let s = c.args.place in
     let ms = members_view c.args.members.now.entries in
     let is : c.args.members.now.entries ≡ c.into_iter-name-iterator.result = sym c.iter-name-items.ensures.rest ∙ sym c.into_iter-name-iterator.ensures.into_iter_gives in
     let found = found_each ms (apart_of c.args.members.now.entries c.iter-name-items.ensures.ordered) in
-    let each = all_along (λ k d. get_member k ms ≡ Some d) (λ k d. HasSound al done (spot_under s k) d) (λ k d at. of_property (λ ns. member_places al done Aliases ns ≡ []) s k d ms at c.requires.sound) ms found in (
+    let each = all_along (λ k d. get_member k ms ≡ Some d) (λ k d. HasSound al done (place_under s k) d) (λ k d at. of_property (λ ns. member_places al done places.FieldTypeAliases ns ≡ []) s k d ms at c.requires.sound) ms found in (
       subst (λ es. members_depth (members_view es) ≤ c.args.levels) is c.requires.nested,
-      subst (λ es. AllEntries (λ k d. HasSound al done (spot_under s k) d) (members_view es)) is each,
+      subst (λ es. AllEntries (λ k d. HasSound al done (place_under s k) d) (members_view es)) is each,
       ap (λ es. member_places al done s (members_view es)) is,
     )

@@ -3,7 +3,7 @@ use Rattle.conf_inherit.proofs.WholeLemmas.{levels}
 use Rattle.conf_inherit.proofs.whole.+whole.Given as goal
 
 abbrev pub decreases-lay_whole : goal.decreases-lay_whole
-decreases-lay_whole l = 2 * levels l.spot + 1
+decreases-lay_whole l = 2 * levels l.place + 1
 
 abbrev pub decreases-lay_whole_members : goal.decreases-lay_whole_members
-decreases-lay_whole_members l = 2 * levels l.spot
+decreases-lay_whole_members l = 2 * levels l.place

@@ -1,0 +1,115 @@
+-- Where some names lead, and what the places of a field type and of a member's value have in common.
+use Rattle.std.proofs.Common.{◌≡◌, ℕ, List, Some, Bool, true, false, true≢false, refl, sym, subst, bytes_eq}
+use Rattle.std.proofs.lemmas.Slice.Eq.{bytes_eq-Decides}
+use Rattle.serde_json.specs.Data.{Data, Members, no_members, member}
+use Rattle.conf_table.specs.declared.place.Place.{Place}
+use Rattle.conf_table.specs.declared.place.Place.TheVariants as places
+use Rattle.conf_table.specs.Table.{rows_of, entries_of, content_under, place_in}
+use Rattle.conf_inherit.specs.FieldPlaces.{field_place, place_under, place_in_type, place_of_items, names_alias, names_member_type, is_base_name, lists_members, is_entry, inherit_name, field_type_name}
+use Rattle.conf_inherit.specs.Looks.{base_of}
+use Rattle.conf_inherit.specs.Resolution.{trace_name, type_name, aliases_name}
+
+-- ---- where some names lead
+
+pub trace_place : place_under places.Root trace_name ≡ places.Trace
+unfolding place_under content_under entries_of rows_of place_in field_place trace_name
+trace_place = refl
+
+pub trace_type_place : place_under places.Trace type_name ≡ places.TraceType
+unfolding place_under content_under entries_of rows_of place_in field_place type_name
+trace_type_place = refl
+
+pub aliases_place : place_under places.TraceType aliases_name ≡ places.FieldTypeAliases
+unfolding place_under content_under entries_of rows_of place_in field_place aliases_name
+aliases_place = refl
+
+pub alias_place_under : (k : List ℕ) → place_under places.FieldTypeAliases k ≡ places.FieldType
+unfolding place_under content_under entries_of rows_of place_in field_place
+alias_place_under k = refl
+
+pub entry_place : (n : List ℕ) → place_under places.Entry n ≡ places.Member
+unfolding place_under content_under entries_of rows_of place_in field_place
+entry_place n = refl
+
+pub ignored_under : (k : List ℕ) → place_under places.Ignored k ≡ places.Ignored
+unfolding place_under content_under place_in field_place
+ignored_under k = refl
+
+pub type_place : place_under places.FieldType field_type_name ≡ places.FieldType
+unfolding place_under place_in_type field_type_name
+type_place = refl
+
+pub member_type_place : place_under places.Member field_type_name ≡ places.FieldType
+unfolding place_under place_in_type field_type_name
+member_type_place = refl
+
+-- ---- places by what they are
+
+pub alias_place : (s : Place) → names_alias s ≡ true → s ≡ places.FieldType
+unfolding names_alias
+alias_place places.FieldType h = refl
+alias_place _ h = absurd (true≢false (sym h))
+
+pub member_value_place : (s : Place) → names_member_type s ≡ true → s ≡ places.Member
+unfolding names_member_type
+member_value_place places.Member h = refl
+member_value_place _ h = absurd (true≢false (sym h))
+
+pub list_place : (s : Place) → lists_members s ≡ true → place_of_items s ≡ places.Entry
+unfolding lists_members place_of_items
+list_place places.Members h = refl
+list_place places.ExtraMembers h = refl
+list_place _ h = absurd (true≢false (sym h))
+
+-- an entry stands in a members list
+pub entry_list : (s : Place) → is_entry (place_of_items s) ≡ true → lists_members s ≡ true
+unfolding lists_members place_of_items is_entry
+entry_list places.Members h = refl
+entry_list places.ExtraMembers h = refl
+entry_list _ h = absurd (true≢false (sym h))
+
+pub type_is_no_base : is_base_name places.Member field_type_name ≡ false
+unfolding is_base_name field_type_name inherit_name
+type_is_no_base = refl
+
+pub alias_field : names_alias places.FieldType ≡ true
+unfolding names_alias
+alias_field = refl
+
+pub no_alias_member : names_alias places.Member ≡ false
+unfolding names_alias
+no_alias_member = refl
+
+pub member_field : names_member_type places.Member ≡ true
+unfolding names_member_type
+member_field = refl
+
+-- an object inherits only where a field type stands, and the two places lead on alike
+pub record SamePlace (s : Place) : Type 0 where
+  pub under : (k : List ℕ) → place_under s k ≡ place_under places.FieldType k
+  pub base : (k : List ℕ) → is_base_name s k ≡ is_base_name places.FieldType k
+
+base_name_place : (s : Place) (k : List ℕ) → is_base_name s k ≡ true → SamePlace s
+unfolding place_under is_base_name
+base_name_place places.FieldType k h = record { under = λ q. refl; base = λ q. refl }
+base_name_place places.Member k h = record { under = λ q. refl; base = λ q. refl }
+base_name_place _ k h = absurd (true≢false (sym h))
+
+base_place_at : (k : List ℕ) → bytes_eq k inherit_name ≡ true → place_in_type k ≡ places.FieldType
+unfolding place_in_type inherit_name field_type_name
+base_place_at k h = subst (λ x. place_in_type x ≡ places.FieldType) (sym ((bytes_eq-Decides k inherit_name).0 h)) refl
+
+-- what an object inherits from is a field type
+pub base_place : (s : Place) (k : List ℕ) → is_base_name s k ≡ true → place_under s k ≡ places.FieldType
+unfolding is_base_name place_under
+base_place places.FieldType k h = base_place_at k h
+base_place places.Member k h = base_place_at k h
+base_place _ k h = absurd (true≢false (sym h))
+
+pub inheriting_place : (s : Place) (ms : Members) (b : Data) → base_of s ms ≡ Some b → SamePlace s
+inheriting_place s no_members b h = cc
+inheriting_place s (member k d ms) b h = go _ refl (inheriting_place s ms b)
+  where
+    go : (t : Bool) → is_base_name s k ≡ t → (base_of s ms ≡ Some b → SamePlace s) → SamePlace s
+    go true is rest = base_name_place s k is
+    go false is rest = rest (rw is at h)

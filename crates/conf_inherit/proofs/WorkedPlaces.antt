@@ -1,0 +1,96 @@
+-- Worked rows of where each name leads: those names of the table that lead to field types, and nothing else does.
+use Rattle.std.proofs.Common.{◌≡◌, ◌||◌, ℕ, Bool, true, false, true≢false, if◌then◌else◌, List, [], ◌∷◌, refl, sym, ap, ◌∙◌, bytes_eq}
+use Rattle.std.proofs.lemmas.Slice.Eq.{bytes_eq-Decides}
+use Rattle.std.specs.Prelude.{codes}
+use Rattle.conf_table.specs.declared.place.Place.{Place}
+use Rattle.conf_table.specs.declared.place.Place.TheVariants as places
+use Rattle.conf_table.specs.Table.{rows_of, entries_of, content_under, place_in}
+use Rattle.conf_inherit.specs.FieldPlaces.{field_place, place_in_type, place_under, field_type_name, inherit_name, leads_on, names_alias, names_member_type, lists_members}
+use Rattle.conf_inherit.proofs.PlacesUnder.{true_under, under_place}
+
+-- the names that lead on from an object, and where each leads
+abbrev rows : Place → List (List ℕ × Place)
+rows places.Root = (codes "trace", places.Trace) ∷ []
+rows places.Trace = (codes "type", places.TraceType) ∷ []
+rows places.TraceType = (codes "$features", places.TraceFeatures) ∷ (codes "$field-type-aliases", places.FieldTypeAliases) ∷ (codes "data-stream-types", places.StreamTypes) ∷ []
+rows places.TraceFeatures = (codes "magic-field-type", places.FieldType) ∷ (codes "uuid-field-type", places.FieldType) ∷ (codes "data-stream-type-id-field-type", places.FieldType) ∷ []
+rows places.StreamType =
+    (codes "$features", places.StreamFeatures) ∷ (codes "packet-context-field-type-extra-members", places.ExtraMembers)
+    ∷ (codes "event-record-common-context-field-type", places.FieldType) ∷ (codes "event-record-types", places.EventTypes) ∷ []
+rows places.StreamFeatures = (codes "packet", places.PacketFeatures) ∷ (codes "event-record", places.EventRecordFeatures) ∷ []
+rows places.PacketFeatures =
+    (codes "total-size-field-type", places.FieldType) ∷ (codes "content-size-field-type", places.FieldType) ∷ (codes "beginning-timestamp-field-type", places.FieldType)
+    ∷ (codes "end-timestamp-field-type", places.FieldType) ∷ (codes "discarded-event-records-counter-snapshot-field-type", places.FieldType) ∷ (codes "sequence-number-field-type", places.FieldType) ∷ []
+rows places.EventRecordFeatures = (codes "type-id-field-type", places.FieldType) ∷ (codes "timestamp-field-type", places.FieldType) ∷ []
+rows places.EventType = (codes "specific-context-field-type", places.FieldType) ∷ (codes "payload-field-type", places.FieldType) ∷ []
+rows places.FieldType = (codes "members", places.Members) ∷ (codes "field-type", places.FieldType) ∷ (codes "element-field-type", places.FieldType) ∷ (codes "$inherit", places.FieldType) ∷ []
+rows places.Member = (codes "members", places.Members) ∷ (codes "field-type", places.FieldType) ∷ (codes "element-field-type", places.FieldType) ∷ (codes "$inherit", places.FieldType) ∷ []
+rows _ = []
+
+abbrev in_rows : List (List ℕ × Place) → List ℕ → Place
+in_rows [] k = places.Ignored
+in_rows (r ∷ rs) k = if bytes_eq k r.0 then r.1 else in_rows rs k
+
+-- where a name leads: in a map any name to an entry
+abbrev led : Place → List ℕ → Place
+led places.FieldTypeAliases k = places.FieldType
+led places.StreamTypes k = places.StreamType
+led places.EventTypes k = places.EventType
+led places.Entry k = places.Member
+led s k = in_rows (rows s) k
+
+abbrev is_ignored : Place → Bool
+is_ignored places.Ignored = true
+is_ignored _ = false
+
+abbrev is_named : List ℕ → List (List ℕ × Place) → Bool
+is_named k [] = false
+is_named k (r ∷ rs) = bytes_eq k r.0 || is_named k rs
+
+-- each of the names leads where its row says
+abbrev AreLed : Place → List (List ℕ × Place) → Type 0
+AreLed s [] = Unit {0}
+AreLed s (r ∷ rs) = (place_under s r.0 ≡ r.1) × AreLed s rs
+
+ignored_there : (t : Place) → (is_ignored t || false) ≡ true → t ≡ places.Ignored
+ignored_there places.Ignored h = refl
+ignored_there _ h = absurd (true≢false (sym h))
+
+module _ (s : Place) (k : List ℕ) where
+  along_rows : (rs : List (List ℕ × Place)) → AreLed s rs → (is_ignored (place_under s k) || is_named k rs) ≡ true → place_under s k ≡ in_rows rs k
+  along_rows [] each h = ignored_there (place_under s k) h
+  along_rows (r ∷ rs) each h = go (bytes_eq k r.0) refl (along_rows rs each.1)
+    where
+      go : (b : Bool) → bytes_eq k r.0 ≡ b → ((is_ignored (place_under s k) || is_named k rs) ≡ true → place_under s k ≡ in_rows rs k) → place_under s k ≡ in_rows (r ∷ rs) k
+      go true is rest = rw is (ap (place_under s) ((bytes_eq-Decides k r.0).0 is) ∙ each.0)
+      go false is rest = rw is (rest (rw is at h))
+
+  by_rows : AreLed s (rows s) → true_under (λ n t. is_ignored t || is_named n (rows s)) k s ≡ true → place_under s k ≡ in_rows (rows s) k
+  by_rows each all = along_rows (rows s) each (under_place (λ n t. is_ignored t || is_named n (rows s)) k s all)
+
+-- a place that inheritance knows
+abbrev is_known : Place → Bool
+is_known s = leads_on s || (names_alias s || (names_member_type s || (lists_members s || is_ignored s)))
+
+-- from each of them every name leads where the rows say
+known_led : (s : Place) (k : List ℕ) → is_known s ≡ true → place_under s k ≡ led s k
+unfolding place_under place_in_type field_type_name inherit_name content_under entries_of rows_of place_in field_place true_under leads_on names_alias names_member_type lists_members
+known_led places.Root k h = by_rows places.Root k (refl, tt) refl
+known_led places.Trace k h = by_rows places.Trace k (refl, tt) refl
+known_led places.TraceType k h = by_rows places.TraceType k (refl, (refl, (refl, tt))) refl
+known_led places.TraceFeatures k h = by_rows places.TraceFeatures k (refl, (refl, (refl, tt))) refl
+known_led places.FieldTypeAliases k h = refl
+known_led places.StreamTypes k h = refl
+known_led places.StreamType k h = by_rows places.StreamType k (refl, (refl, (refl, (refl, tt)))) refl
+known_led places.StreamFeatures k h = by_rows places.StreamFeatures k (refl, (refl, tt)) refl
+known_led places.PacketFeatures k h = by_rows places.PacketFeatures k (refl, (refl, (refl, (refl, (refl, (refl, tt)))))) refl
+known_led places.EventRecordFeatures k h = by_rows places.EventRecordFeatures k (refl, (refl, tt)) refl
+known_led places.EventTypes k h = refl
+known_led places.EventType k h = by_rows places.EventType k (refl, (refl, tt)) refl
+known_led places.FieldType k h = refl
+known_led places.Members k h = refl
+known_led places.ExtraMembers k h = refl
+known_led places.Entry k h = refl
+known_led places.Member k h = refl
+known_led places.Ignored k h = refl
+known_led _ k h = absurd (true≢false (sym h))
