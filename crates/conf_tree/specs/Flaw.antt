@@ -27,7 +27,7 @@ text_of_place (index i) = decimal i
 
 -- the flaw that a fault tells of
 abbrev pub flaw_of : ConfFault → Flaw
-flaw_of fault = record { path = map place_of fault.path.items; kind = fault.kind }
+flaw_of fault = record { path = map place_of fault.path; kind = fault.kind }
 
 -- a flaw of the value itself
 abbrev pub here : FaultKind → Flaw

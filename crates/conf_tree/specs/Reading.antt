@@ -31,12 +31,6 @@ flaw_at Here flaw = flaw
 flaw_at (Property name) flaw = within (key name.now) flaw
 flaw_at (Item i) flaw = within (index i) flaw
 
--- how many steps the path to it has
-abbrev pub steps_to : At → ℕ
-steps_to Here = 0
-steps_to (Property name) = 1
-steps_to (Item i) = 1
-
 abbrev pub reading_at : {A : Type 0} → At → Result A Flaw → Result A Flaw
 reading_at place (Ok x) = Ok x
 reading_at place (Err flaw) = Err (flaw_at place flaw)

@@ -14,21 +14,19 @@ pub enum At<'a> {
 }
 
 impl At<'_> {
-    ghost use Rattle.std.specs.Prelude.{◌≡◌, ◌≤◌, ◌⊎◌};
-    ghost use Rattle.arrayvec.specs.ArrayVec.{array_vec_len};
+    ghost use Rattle.std.specs.Prelude.{◌≡◌, ◌⊎◌};
     ghost use Rattle.conf_tree.specs.Flaw.{flaw_of, here, IsMemory};
-    ghost use Rattle.conf_tree.specs.Reading.{flaw_at, steps_to};
+    ghost use Rattle.conf_tree.specs.Reading.{flaw_at};
 
-    /// A fault of the value that stands here, or want of memory for the copy of a name.
+    /// A fault of the value that stands here, or want of memory for the step.
     pub fn fault(self, alloc: Global, kind: FaultKind) -> ConfFault
-        ensures flaw { IsMemory result ⊎ (flaw_of result ≡ flaw_at self.entry (here kind)) }
-        ensures steps { array_vec_len result.path ≤ steps_to self.entry }
+        ensures { IsMemory result ⊎ (flaw_of result ≡ flaw_at self.entry (here kind)) }
     {
-        let fault = ConfFault::here(kind);
+        let fault = ConfFault::here(alloc, kind);
         match self {
             At::Here => fault,
             At::Property(name) => fault.in_property(alloc, name),
-            At::Item(index) => fault.inside(index),
+            At::Item(index) => fault.inside(alloc, index),
         }
     }
 }

@@ -1,35 +1,36 @@
 //! A fault of a configuration: what is wrong, and where.
-ghost use Rattle.std.specs.Prelude.{◌≡◌, ◌+◌, ◌<◌, ◌≤◌, ◌⊎◌, ◌↔◌, IsTrue};
-ghost use Rattle.arrayvec.specs.ArrayVec.{array_vec_len};
+ghost use Rattle.std.specs.Prelude.{◌≡◌, ◌⊎◌, ◌↔◌, IsTrue};
 
-use crate::{FaultKind, Step};
-use arrayvec::ArrayVec;
+use crate::{FaultKind, Path, Step};
 use std::alloc::Global;
 use std::fmt;
-
-/// The most steps that a path has, which is also the most levels of objects and lists in a configuration.
-pub const MAX_STEPS: usize = 32;
 
 /// Why a configuration was refused.
 #[derive(Debug, Drop)]
 pub struct ConfFault {
-    /// The steps from the outermost value to the place, outermost first. Want of memory has no place.
-    pub path: ArrayVec<Step, MAX_STEPS>,
+    /// The way from the outermost value to the place. Want of memory has no place.
+    pub path: Path,
     pub kind: FaultKind,
 }
 
 impl ConfFault {
-    ghost use Rattle.conf_tree.specs.Flaw.{flaw_of, here, within, key, index as item, IsMemory};
+    ghost use Rattle.conf_tree.specs.Flaw.{flaw_of, here, within, key, index as item, place_of, IsMemory};
 
     /// A fault of the value itself that is being read.
-    pub fn here(kind: FaultKind) -> ConfFault
-        ensures flaw { flaw_of result ≡ here kind }
-        ensures steps { array_vec_len result.path ≡ 0 }
+    pub fn here(alloc: Global, kind: FaultKind) -> ConfFault
+        ensures { flaw_of result ≡ here kind }
     {
         ConfFault {
-            path: ArrayVec::new(),
+            path: Path::new(alloc),
             kind,
         }
+    }
+
+    /// Want of memory.
+    pub fn memory(alloc: Global) -> ConfFault
+        ensures { IsMemory result }
+    {
+        ConfFault::here(alloc, FaultKind::OutOfMemory)
     }
 
     /// Whether memory ran out, of which the configuration is innocent.
@@ -39,39 +40,38 @@ impl ConfFault {
         self.kind == FaultKind::OutOfMemory && self.path.is_empty()
     }
 
-    /// The same fault, seen from the list whose item at `index` has it. Want of memory stays without a place.
-    pub fn inside(self, index: usize) -> ConfFault
-        requires { array_vec_len self.path < MAX_STEPS }
-        ensures moved { IsMemory self ⊎ (flaw_of result ≡ within (item index) (flaw_of self)) }
+    /// The same fault, seen from the list whose item at `index` has it, or want of memory for the step.
+    /// Want of memory stays without a place.
+    pub fn inside(self, alloc: Global, index: usize) -> ConfFault
+        ensures moved { IsMemory result ⊎ (flaw_of result ≡ within (item index) (flaw_of self)) }
         ensures memory { IsMemory self → IsMemory result }
-        ensures steps { array_vec_len result.path ≤ array_vec_len self.path + 1 }
     {
-        if self.is_memory() {
-            return self;
-        }
-        let ConfFault { mut path, kind } = self;
-        path.insert(0, Step::Index(index));
-        ConfFault { path, kind }
+        self.behind(alloc, Step::Index(index))
     }
 
-    /// The same fault, seen from the object whose property `name` has it, or want of memory for the copy of the name.
+    /// The same fault, seen from the object whose property `name` has it, or want of memory for the step.
     /// Want of memory stays without a place.
     pub fn in_property(self, alloc: Global, name: &str) -> ConfFault
-        requires { array_vec_len self.path < MAX_STEPS }
         ensures moved { IsMemory result ⊎ (flaw_of result ≡ within (key name.now) (flaw_of self)) }
         ensures memory { IsMemory self → IsMemory result }
-        ensures steps { array_vec_len result.path ≤ array_vec_len self.path + 1 }
+    {
+        match String::from_str(alloc, name) {
+            Ok(name) => self.behind(alloc, Step::Key(name)),
+            Err(_) => ConfFault::memory(alloc),
+        }
+    }
+
+    fn behind(self, alloc: Global, step: Step) -> ConfFault
+        ensures moved { IsMemory result ⊎ (flaw_of result ≡ within (place_of step) (flaw_of self)) }
+        ensures memory { IsMemory self → IsMemory result }
     {
         if self.is_memory() {
             return self;
         }
-        let ConfFault { mut path, kind } = self;
-        match String::from_str(alloc, name) {
-            Ok(key) => {
-                path.insert(0, Step::Key(key));
-                ConfFault { path, kind }
-            }
-            Err(_) => ConfFault::here(FaultKind::OutOfMemory),
+        let ConfFault { path, kind } = self;
+        match path.behind(step) {
+            Ok(path) => ConfFault { path, kind },
+            Err(_) => ConfFault::memory(alloc),
         }
     }
 }

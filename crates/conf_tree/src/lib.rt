@@ -5,17 +5,19 @@ mod at;
 mod fault;
 mod fault_kind;
 mod lookup;
+mod path;
 mod read;
 mod step;
 mod tree;
 mod walk;
 
 pub use at::At;
-pub use fault::{ConfFault, MAX_STEPS};
+pub use fault::ConfFault;
 pub use fault_kind::FaultKind;
 pub use lookup::{
     flag, list, needed, object, optional, optional_flag, optional_text, optional_whole, text, whole,
 };
+pub use path::Path;
 pub use read::read_tree;
 pub use step::Step;
 pub use tree::Tree;

@@ -1,9 +1,8 @@
 //! Typed look-ups in a tree, whose faults say where the value stands.
-ghost use Rattle.std.specs.Prelude.{◌≡◌, ◌≤◌, IfErr, option_map};
-ghost use Rattle.arrayvec.specs.ArrayVec.{array_vec_len};
+ghost use Rattle.std.specs.Prelude.{◌≡◌, option_map};
 ghost use Rattle.serde_json.specs.Find.{get_member};
 ghost use Rattle.serde_json.specs.View.{view, items_view, members_view};
-ghost use Rattle.conf_tree.specs.Reading.{Gives, reading_at, steps_to, object_of, list_of, text_of, whole_of, flag_of, needed as needed_of, optional as optional_of, optional_as};
+ghost use Rattle.conf_tree.specs.Reading.{Gives, reading_at, object_of, list_of, text_of, whole_of, flag_of, needed as needed_of, optional as optional_of, optional_as};
 
 use crate::{At, ConfFault, FaultKind};
 use serde_json::{Map, Value};
@@ -15,9 +14,8 @@ pub fn object<'v>(
     at: At<'_>,
     value: &'v Value,
 ) -> Result<&'v Map<String, Value>, ConfFault>
-    ensures reading { Gives (λ m. members_view m.now.entries) result
+    ensures { Gives (λ m. members_view m.now.entries) result
         (reading_at at.entry (object_of (view value.now))) }
-    ensures steps { IfErr result (λ fault. array_vec_len fault.path ≤ steps_to at.entry) }
 {
     match value.as_object() {
         Some(members) => Ok(members),
@@ -27,9 +25,8 @@ pub fn object<'v>(
 
 /// The items of the list that `value` is, which stands at `at`.
 pub fn list<'v>(alloc: Global, at: At<'_>, value: &'v Value) -> Result<&'v Vec<Value>, ConfFault>
-    ensures reading { Gives (λ v. items_view v.now.items) result
+    ensures { Gives (λ v. items_view v.now.items) result
         (reading_at at.entry (list_of (view value.now))) }
-    ensures steps { IfErr result (λ fault. array_vec_len fault.path ≤ steps_to at.entry) }
 {
     match value.as_array() {
         Some(items) => Ok(items),
@@ -39,8 +36,7 @@ pub fn list<'v>(alloc: Global, at: At<'_>, value: &'v Value) -> Result<&'v Vec<V
 
 /// The text that `value` is, which stands at `at`.
 pub fn text<'v>(alloc: Global, at: At<'_>, value: &'v Value) -> Result<&'v str, ConfFault>
-    ensures reading { Gives (λ s. s.now) result (reading_at at.entry (text_of (view value.now))) }
-    ensures steps { IfErr result (λ fault. array_vec_len fault.path ≤ steps_to at.entry) }
+    ensures { Gives (λ s. s.now) result (reading_at at.entry (text_of (view value.now))) }
 {
     match value.as_str() {
         Some(text) => Ok(text),
@@ -50,8 +46,7 @@ pub fn text<'v>(alloc: Global, at: At<'_>, value: &'v Value) -> Result<&'v str, 
 
 /// The flag that `value` is, which stands at `at`.
 pub fn flag(alloc: Global, at: At<'_>, value: &Value) -> Result<bool, ConfFault>
-    ensures reading { Gives (λ b. b) result (reading_at at.entry (flag_of (view value.now))) }
-    ensures steps { IfErr result (λ fault. array_vec_len fault.path ≤ steps_to at.entry) }
+    ensures { Gives (λ b. b) result (reading_at at.entry (flag_of (view value.now))) }
 {
     match value.as_bool() {
         Some(flag) => Ok(flag),
@@ -68,8 +63,7 @@ pub fn whole(
     low: i128,
     high: i128,
 ) -> Result<i128, ConfFault>
-    ensures reading { Gives (λ z. z) result (reading_at at.entry (whole_of low high (view value.now))) }
-    ensures steps { IfErr result (λ fault. array_vec_len fault.path ≤ steps_to at.entry) }
+    ensures { Gives (λ z. z) result (reading_at at.entry (whole_of low high (view value.now))) }
 {
     let Some(number) = value.as_number() else {
         return Err(at.fault(alloc, FaultKind::WrongKind));
@@ -90,9 +84,8 @@ pub fn needed<'v>(
     members: &'v Map<String, Value>,
     name: &str,
 ) -> Result<&'v Value, ConfFault>
-    ensures reading { Gives (λ v. view v.now) result
+    ensures { Gives (λ v. view v.now) result
         (needed_of name.now (members_view members.now.entries)) }
-    ensures steps { IfErr result (λ fault. array_vec_len fault.path ≤ 1) }
 {
     match member(members, name) {
         Some(value) => Ok(value),
@@ -118,9 +111,8 @@ pub fn optional_whole(
     low: i128,
     high: i128,
 ) -> Result<Option<i128>, ConfFault>
-    ensures reading { Gives (λ z. z) result
+    ensures { Gives (λ z. z) result
         (optional_as name.now (whole_of low high) (members_view members.now.entries)) }
-    ensures steps { IfErr result (λ fault. array_vec_len fault.path ≤ 1) }
 {
     match optional(members, name) {
         Some(value) => Ok(Some(whole(alloc, At::Property(name), value, low, high)?)),
@@ -135,9 +127,8 @@ pub fn optional_flag(
     members: &Map<String, Value>,
     name: &str,
 ) -> Result<Option<bool>, ConfFault>
-    ensures reading { Gives (λ b. b) result
+    ensures { Gives (λ b. b) result
         (optional_as name.now flag_of (members_view members.now.entries)) }
-    ensures steps { IfErr result (λ fault. array_vec_len fault.path ≤ 1) }
 {
     match optional(members, name) {
         Some(value) => Ok(Some(flag(alloc, At::Property(name), value)?)),
@@ -152,9 +143,8 @@ pub fn optional_text<'v>(
     members: &'v Map<String, Value>,
     name: &str,
 ) -> Result<Option<&'v str>, ConfFault>
-    ensures reading { Gives (option_map (λ s. s.now)) result
+    ensures { Gives (option_map (λ s. s.now)) result
         (optional_as name.now text_of (members_view members.now.entries)) }
-    ensures steps { IfErr result (λ fault. array_vec_len fault.path ≤ 1) }
 {
     match optional(members, name) {
         Some(value) => Ok(Some(text(alloc, At::Property(name), value)?)),

@@ -5,8 +5,7 @@ ghost use Rattle.serde_json.specs.View.{view};
 ghost use Rattle.conf_tree.specs.Flaw.{flaw_of, IsMemory};
 ghost use Rattle.conf_tree.specs.Walk.{IsTreeOf, IsFirstFlaw, Reads, FlawHolds, max_levels};
 
-use crate::fault::MAX_STEPS;
-use crate::walk::check_value;
+use crate::walk::{MAX_LEVELS, check_value};
 use crate::{ConfFault, FaultKind, Tree};
 use serde_json::Value;
 use std::alloc::Global;
@@ -32,11 +31,11 @@ pub fn read_tree(alloc: Global, text: &[u8]) -> Result<Tree, ConfFault>
         Ok(value) => value,
         Err(error) => {
             if error.is_memory() {
-                return Err(ConfFault::here(FaultKind::OutOfMemory));
+                return Err(ConfFault::memory(alloc));
             }
-            return Err(ConfFault::here(FaultKind::NotJson));
+            return Err(ConfFault::here(alloc, FaultKind::NotJson));
         }
     };
-    check_value(alloc, &value, MAX_STEPS)?;
+    check_value(alloc, &value, MAX_LEVELS)?;
     Ok(Tree { value })
 }

@@ -1,43 +1,42 @@
 //! The walk over a value that finds the first place which is nested too deep or holds no whole number.
-ghost use Rattle.std.specs.Prelude.{◌≡◌, ◌≤◌, ◌<◌, ◌+◌, IfOk, IfErr};
+ghost use Rattle.std.specs.Prelude.{◌≡◌, IfOk};
 ghost use Rattle.serde_json.specs.Data.{object};
 ghost use Rattle.serde_json.specs.View.{view, items_view, members_view};
-ghost use Rattle.arrayvec.specs.ArrayVec.{array_vec_len};
 ghost use Rattle.conf_tree.specs.Order.{Ascends, ItemsAscend};
 ghost use Rattle.conf_tree.specs.Reading.{Gives};
 ghost use Rattle.conf_tree.specs.Walk.{flaws, item_flaws, member_flaws, refusal};
 
-use crate::fault::MAX_STEPS;
 use crate::{ConfFault, FaultKind};
 use serde_json::{Map, Value};
 use std::alloc::Global;
 
+/// The most levels of objects and lists in a configuration.
+pub(crate) const MAX_LEVELS: usize = 32;
+
 /// Refuses a value that nests deeper than `levels`, or that holds a number which is no whole one of 64 bits.
 #[cycle(walk)]
 pub(crate) fn check_value(alloc: Global, value: &Value, levels: usize) -> Result<(), ConfFault>
-    requires { levels ≤ MAX_STEPS }
     ensures first { Gives (λ _. tt) result (refusal (flaws (view value.now) levels)) }
     ensures ordered { IfOk result (λ _. Ascends (view value.now)) }
-    ensures short { IfErr result (λ fault. array_vec_len fault.path ≤ levels) }
 {
     match value {
         Value::Null | Value::Bool(_) | Value::String(_) => Ok(()),
         Value::Number(number) => {
             if number.is_f64() {
-                Err(ConfFault::here(FaultKind::NotWhole))
+                Err(ConfFault::here(alloc, FaultKind::NotWhole))
             } else {
                 Ok(())
             }
         }
         Value::Array(items) => {
             if levels == 0 {
-                return Err(ConfFault::here(FaultKind::TooDeep));
+                return Err(ConfFault::here(alloc, FaultKind::TooDeep));
             }
             check_items(alloc, items, levels - 1)
         }
         Value::Object(members) => {
             if levels == 0 {
-                return Err(ConfFault::here(FaultKind::TooDeep));
+                return Err(ConfFault::here(alloc, FaultKind::TooDeep));
             }
             check_members(alloc, members, levels - 1)
         }
@@ -46,15 +45,13 @@ pub(crate) fn check_value(alloc: Global, value: &Value, levels: usize) -> Result
 
 #[cycle(walk)]
 fn check_items(alloc: Global, items: &Vec<Value>, levels: usize) -> Result<(), ConfFault>
-    requires { levels < MAX_STEPS }
     ensures first { Gives (λ _. tt) result
         (refusal (item_flaws (items_view items.now.items) 0 levels)) }
     ensures ordered { IfOk result (λ _. ItemsAscend (items_view items.now.items)) }
-    ensures short { IfErr result (λ fault. array_vec_len fault.path ≤ levels + 1) }
 {
     for (index, item) in items.iter().enumerate() {
         if let Err(fault) = check_value(alloc, item, levels) {
-            return Err(fault.inside(index));
+            return Err(fault.inside(alloc, index));
         }
     }
     Ok(())
@@ -66,11 +63,9 @@ fn check_members(
     members: &Map<String, Value>,
     levels: usize,
 ) -> Result<(), ConfFault>
-    requires { levels < MAX_STEPS }
     ensures first { Gives (λ _. tt) result
         (refusal (member_flaws (members_view members.now.entries) levels)) }
     ensures ordered { IfOk result (λ _. Ascends (object (members_view members.now.entries))) }
-    ensures short { IfErr result (λ fault. array_vec_len fault.path ≤ levels + 1) }
 {
     for (name, member) in members.iter() {
         if let Err(fault) = check_value(alloc, member, levels) {
