@@ -1,5 +1,5 @@
 -- Laws of spans of bits: zero from one position up to another, and unchanged outside of it.
-use Rattle.std.proofs.Common.{◌≡◌, ◌≢◌, ◌⊎◌, ℕ, ◌+◌, ◌≤◌, refl, ap, ◌∙◌, inl, inr, arith}
+use Rattle.std.proofs.Common.{◌⊎◌, ℕ, ◌≤◌, refl, ◌∙◌, inl, inr, arith}
 use Rattle.std.proofs.lemmas.Bool.{cases_lt}
 use Rattle.ctf_types.specs.Bits.{AreZero, SameOutside}
 
@@ -7,11 +7,6 @@ use Rattle.ctf_types.specs.Bits.{AreZero, SameOutside}
 pub AreZero-none : (b : ℕ → ℕ) (at : ℕ) → AreZero b at at
 unfolding AreZero
 AreZero-none b at p low high = absurd (omega arith)
-
--- one zero bit
-pub AreZero-bit : (b : ℕ → ℕ) (at : ℕ) → b at ≡ 0 → AreZero b at (at + 1)
-unfolding AreZero
-AreZero-bit b at bit p low high = let here : p ≡ at = omega arith in ap b here ∙ bit
 
 -- two zero spans, one after the other
 pub AreZero-join : (b : ℕ → ℕ) (from middle to : ℕ) → AreZero b from middle → AreZero b middle to → AreZero b from to
@@ -30,27 +25,10 @@ pub AreZero-grow : (b c : ℕ → ℕ) (from middle to : ℕ) → AreZero b from
 AreZero-grow b c from middle to zeros same more =
     AreZero-join c from middle to (AreZero-outside b c from middle middle to same (inl (omega arith)) zeros) more
 
--- a part of a zero span is zero
-pub AreZero-part : (b : ℕ → ℕ) (from to low high : ℕ) → AreZero b from to → from ≤ low → high ≤ to → AreZero b low high
-unfolding AreZero
-AreZero-part b from to low high zeros start end p after below = zeros p (omega arith) (omega arith)
-
 -- nothing changed
 pub SameOutside-none : (b : ℕ → ℕ) (from to : ℕ) → SameOutside b b from to
 unfolding SameOutside
 SameOutside-none b from to p outside = refl
-
--- one bit changed at most
-pub SameOutside-bit : (b c : ℕ → ℕ) (at : ℕ) → ((p : ℕ) → p ≢ at → b p ≡ c p) → SameOutside b c at (at + 1)
-unfolding SameOutside
-SameOutside-bit b c at others p (inl before) = others p (omega arith)
-SameOutside-bit b c at others p (inr after) = others p (omega arith)
-
--- what is unchanged outside of a span is unchanged outside of a wider one
-pub SameOutside-wider : (b c : ℕ → ℕ) (from to low high : ℕ) → SameOutside b c from to → low ≤ from → to ≤ high → SameOutside b c low high
-unfolding SameOutside
-SameOutside-wider b c from to low high same start end p (inl before) = same p (inl (omega arith))
-SameOutside-wider b c from to low high same start end p (inr after) = same p (inr (omega arith))
 
 -- one change after another, in a span that covers both
 pub SameOutside-then : (old middle new : ℕ → ℕ) (from to a b c d : ℕ) → SameOutside middle old a b → SameOutside new middle c d

@@ -1,6 +1,5 @@
 //! The judgement of a resolved configuration.
 ghost use Rattle.std.specs.Prelude.{◌≡◌, ◌≤◌, ◌⊎◌, [], Some, IsSome, IfOk, IfErr, codes};
-ghost use Rattle.serde_json.specs.Data.{depth};
 ghost use Rattle.serde_json.specs.View.{view};
 ghost use Rattle.ctf_types.specs.AllowedConfig.{IsConfig};
 ghost use Rattle.conf_tree.specs.Flaw.{flaw_of, key, here, within, IsMemory};
@@ -25,7 +24,7 @@ use uuid::Uuid;
 fn header_fault(alloc: Global, name: &str, kind: FaultKind) -> ConfFault
     ensures { IsMemory result ⊎ (flaw_of result ≡ header_flaw name.now kind) }
 {
-    ConfFault::here(kind)
+    ConfFault::here(alloc, kind)
         .in_property(alloc, name)
         .in_property(alloc, "$features")
         .in_property(alloc, "type")
@@ -36,7 +35,7 @@ fn header_fault(alloc: Global, name: &str, kind: FaultKind) -> ConfFault
 fn number_fault(alloc: Global) -> ConfFault
     ensures { IsMemory result ⊎ (flaw_of result ≡ in_type_is (within (key (codes "uuid")) (here NoUuid))) }
 {
-    ConfFault::here(FaultKind::NoUuid)
+    ConfFault::here(alloc, FaultKind::NoUuid)
         .in_property(alloc, "uuid")
         .in_property(alloc, "type")
         .in_property(alloc, "trace")
@@ -46,7 +45,7 @@ fn number_fault(alloc: Global) -> ConfFault
 fn order_fault(alloc: Global) -> ConfFault
     ensures { IsMemory result ⊎ (flaw_of result ≡ in_type_is (here TwoOrders)) }
 {
-    ConfFault::here(FaultKind::TwoOrders)
+    ConfFault::here(alloc, FaultKind::TwoOrders)
         .in_property(alloc, "type")
         .in_property(alloc, "trace")
 }
@@ -54,7 +53,7 @@ fn order_fault(alloc: Global) -> ConfFault
 /// Refuses a number field that does not hold the largest number of a data stream type.
 #[tactic(auto, unfolding(crate::specs::Judgement::stream_number_fits))]
 fn stream_number_fits(alloc: Global, config: &Config) -> Result<(), ConfFault>
-    ensures reading { Gives (λ _. tt) result (stream_number_fits_is config.now) }
+    ensures { Gives (λ _. tt) result (stream_number_fits_is config.now) }
 {
     let largest = config.streams.len().saturating_sub(1);
     if holds(largest, &config.header.stream_id) {
@@ -71,7 +70,7 @@ fn stream_number_fits(alloc: Global, config: &Config) -> Result<(), ConfFault>
 /// Refuses an identifier that is to be handed in and is not.
 #[tactic(auto, unfolding(crate::specs::Judgement::number_given))]
 fn number_given(alloc: Global, draft: &Draft) -> Result<(), ConfFault>
-    ensures reading { Gives (λ _. tt) result (number_given_is draft.now) }
+    ensures { Gives (λ _. tt) result (number_given_is draft.now) }
 {
     if draft.lacks_number {
         Err(number_fault(alloc))
@@ -83,7 +82,7 @@ fn number_given(alloc: Global, draft: &Draft) -> Result<(), ConfFault>
 /// Refuses the field of an identifier that is not there.
 #[tactic(auto, unfolding(crate::specs::Judgement::identifier_given))]
 fn identifier_given(alloc: Global, config: &Config) -> Result<(), ConfFault>
-    ensures reading { Gives (λ _. tt) result (identifier_given_is config.now) }
+    ensures { Gives (λ _. tt) result (identifier_given_is config.now) }
 {
     if config.header.uuid.is_some() && config.uuid.is_none() {
         Err(header_fault(alloc, "uuid-field-type", FaultKind::NoUuid))
@@ -95,7 +94,7 @@ fn identifier_given(alloc: Global, config: &Config) -> Result<(), ConfFault>
 /// Refuses two byte orders.
 #[tactic(auto, unfolding(crate::specs::Judgement::one_order))]
 fn one_order(alloc: Global, draft: &Draft) -> Result<(), ConfFault>
-    ensures reading { Gives (λ _. tt) result (one_order_is draft.now) }
+    ensures { Gives (λ _. tt) result (one_order_is draft.now) }
 {
     if draft.two_orders {
         Err(order_fault(alloc))
@@ -106,7 +105,7 @@ fn one_order(alloc: Global, draft: &Draft) -> Result<(), ConfFault>
 
 #[tactic(auto, unfolding(crate::specs::Judgement::sizes_and_bits))]
 fn sizes_and_bits(alloc: Global, config: &Config) -> Result<(), ConfFault>
-    ensures reading { Gives (λ _. tt) result (sizes_and_bits_is config.now) }
+    ensures { Gives (λ _. tt) result (sizes_and_bits_is config.now) }
 {
     stream_number_fits(alloc, config)?;
     check_streams(alloc, StreamRule::NumbersFit, config)?;
@@ -116,7 +115,7 @@ fn sizes_and_bits(alloc: Global, config: &Config) -> Result<(), ConfFault>
 
 #[tactic(auto, unfolding(crate::specs::Judgement::clocks_and_identifier))]
 fn clocks_and_identifier(alloc: Global, draft: &Draft) -> Result<(), ConfFault>
-    ensures reading { Gives (λ _. tt) result (clocks_and_identifier_is draft.now) }
+    ensures { Gives (λ _. tt) result (clocks_and_identifier_is draft.now) }
 {
     check_streams(alloc, StreamRule::ClocksAreThere, &draft.config)?;
     number_given(alloc, draft)?;
@@ -126,8 +125,7 @@ fn clocks_and_identifier(alloc: Global, draft: &Draft) -> Result<(), ConfFault>
 
 #[tactic(auto, unfolding(crate::specs::Judgement::limits_and_orders))]
 fn limits_and_orders(alloc: Global, value: &Value, draft: &Draft) -> Result<(), ConfFault>
-    requires { depth (view value.now) ≤ 32 }
-    ensures reading { Gives (λ _. tt) result (limits_and_orders_is (view value.now) draft.now) }
+    ensures { Gives (λ _. tt) result (limits_and_orders_is (view value.now) draft.now) }
 {
     check_limits(alloc, value)?;
     one_order(alloc, draft)?;
@@ -137,8 +135,7 @@ fn limits_and_orders(alloc: Global, value: &Value, draft: &Draft) -> Result<(), 
 
 #[tactic(auto, unfolding(crate::specs::Judgement::whole))]
 fn whole(alloc: Global, value: &Value, draft: &Draft) -> Result<(), ConfFault>
-    requires { depth (view value.now) ≤ 32 }
-    ensures reading { Gives (λ _. tt) result (whole_is (view value.now) draft.now) }
+    ensures { Gives (λ _. tt) result (whole_is (view value.now) draft.now) }
 {
     sizes_and_bits(alloc, &draft.config)?;
     clocks_and_identifier(alloc, draft)?;
@@ -152,7 +149,7 @@ fn draft(alloc: Global, number: Option<Uuid>, value: &Value) -> Result<Draft, Co
     ensures says { IfOk result (λ draft. draft_of_value number (view value.now) ≡ Some draft) }
     ensures memory { IfErr result (λ fault. IsMemory fault) }
 {
-    draft_of(alloc, number, value).map_err(|_| ConfFault::here(FaultKind::OutOfMemory))
+    draft_of(alloc, number, value).map_err(|_| ConfFault::memory(alloc))
 }
 
 /// The configuration that the tree is.

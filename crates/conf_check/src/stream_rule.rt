@@ -1,7 +1,6 @@
 //! What the parts of a configuration have to be together, stream type by stream type.
 ghost use Rattle.std.specs.Prelude.{◌≡◌, ◌≤◌, ◌⊎◌, ◌||◌, ◌-◌, nat_lt, is_some, is_none, length, codes, IfErr};
 ghost use Rattle.std.specs.List.{list_all, list_any};
-ghost use Rattle.arrayvec.specs.ArrayVec.{array_vec_len};
 ghost use Rattle.ctf_types.specs.FieldTypes.{chain_of};
 ghost use Rattle.conf_tree.specs.Flaw.{flaw_of, IsMemory};
 ghost use Rattle.conf_tree.specs.Reading.{Gives};
@@ -30,8 +29,7 @@ pub(crate) enum StreamRule {
 /// The fault of a feature, seen from its data stream type.
 #[tactic(auto, unfolding(crate::specs::StreamRules::feature_flaw))]
 fn feature_fault(alloc: Global, group: &str, name: &str, kind: FaultKind) -> ConfFault
-    ensures flaw { IsMemory result ⊎ (flaw_of result ≡ feature_flaw group.now name.now kind) }
-    ensures steps { array_vec_len result.path ≤ 3 }
+    ensures { IsMemory result ⊎ (flaw_of result ≡ feature_flaw group.now name.now kind) }
 {
     At::Property(name)
         .fault(alloc, kind)
@@ -55,8 +53,7 @@ pub(crate) fn holds(largest: usize, feature: &Option<IntType>) -> bool
 
 #[tactic(auto, unfolding(crate::specs::StreamRules::numbers_fit))]
 fn numbers_fit(alloc: Global, stream: &StreamType) -> Result<(), ConfFault>
-    ensures reading { Gives (λ _. tt) result (numbers_fit_is stream.now) }
-    ensures steps { IfErr result (λ fault. array_vec_len fault.path ≤ 3) }
+    ensures { Gives (λ _. tt) result (numbers_fit_is stream.now) }
 {
     let largest = stream.events.len().saturating_sub(1);
     if holds(largest, &stream.event_header.id) {
@@ -130,8 +127,7 @@ fn event_has_bits(event: &EventType) -> bool
 
 #[tactic(auto, unfolding(crate::specs::StreamRules::event_bits))]
 fn event_bits(alloc: Global, header: bool, event: &EventType) -> Result<(), ConfFault>
-    ensures reading { Gives (λ _. tt) result (event_bits_is header event.now) }
-    ensures steps { IfErr result (λ fault. array_vec_len fault.path ≤ 1) }
+    ensures { Gives (λ _. tt) result (event_bits_is header event.now) }
 {
     if header || event_has_bits(event) {
         Ok(())
@@ -141,8 +137,7 @@ fn event_bits(alloc: Global, header: bool, event: &EventType) -> Result<(), Conf
 }
 
 fn events_bits(alloc: Global, header: bool, events: &ListOf<EventType>) -> Result<(), ConfFault>
-    ensures reading { Gives (λ _. tt) result (events_bits_is header events.now) }
-    ensures steps { IfErr result (λ fault. array_vec_len fault.path ≤ 1) }
+    ensures { Gives (λ _. tt) result (events_bits_is header events.now) }
 {
     for event in events.as_slice() {
         event_bits(alloc, header, event)?;
@@ -152,8 +147,7 @@ fn events_bits(alloc: Global, header: bool, events: &ListOf<EventType>) -> Resul
 
 #[tactic(auto, unfolding(crate::specs::StreamRules::records_have_bits))]
 fn records_have_bits(alloc: Global, stream: &StreamType) -> Result<(), ConfFault>
-    ensures reading { Gives (λ _. tt) result (records_have_bits_is stream.now) }
-    ensures steps { IfErr result (λ fault. array_vec_len fault.path ≤ 2) }
+    ensures { Gives (λ _. tt) result (records_have_bits_is stream.now) }
 {
     match events_bits(alloc, header_has_bits(stream), &stream.events) {
         Ok(()) => Ok(()),
@@ -191,9 +185,8 @@ fn timestamp_clocked(
     group: &str,
     name: &str,
 ) -> Result<(), ConfFault>
-    ensures reading { Gives (λ _. tt) result
+    ensures { Gives (λ _. tt) result
         (timestamp_clocked_is clock.now feature.now group.now name.now) }
-    ensures steps { IfErr result (λ fault. array_vec_len fault.path ≤ 3) }
 {
     if clock.is_some() || feature.is_none() {
         Ok(())
@@ -204,8 +197,7 @@ fn timestamp_clocked(
 
 #[tactic(auto, unfolding(crate::specs::StreamRules::record_clocked))]
 fn record_clocked(alloc: Global, stream: &StreamType) -> Result<(), ConfFault>
-    ensures reading { Gives (λ _. tt) result (record_clocked_is stream.now) }
-    ensures steps { IfErr result (λ fault. array_vec_len fault.path ≤ 3) }
+    ensures { Gives (λ _. tt) result (record_clocked_is stream.now) }
 {
     let clock = &stream.default_clock;
     let feature = &stream.event_header.timestamp;
@@ -220,8 +212,7 @@ fn record_clocked(alloc: Global, stream: &StreamType) -> Result<(), ConfFault>
 
 #[tactic(auto, unfolding(crate::specs::StreamRules::begin_clocked))]
 fn begin_clocked(alloc: Global, stream: &StreamType) -> Result<(), ConfFault>
-    ensures reading { Gives (λ _. tt) result (begin_clocked_is stream.now) }
-    ensures steps { IfErr result (λ fault. array_vec_len fault.path ≤ 3) }
+    ensures { Gives (λ _. tt) result (begin_clocked_is stream.now) }
 {
     let clock = &stream.default_clock;
     let feature = &stream.context.timestamp_begin;
@@ -236,8 +227,7 @@ fn begin_clocked(alloc: Global, stream: &StreamType) -> Result<(), ConfFault>
 
 #[tactic(auto, unfolding(crate::specs::StreamRules::end_clocked))]
 fn end_clocked(alloc: Global, stream: &StreamType) -> Result<(), ConfFault>
-    ensures reading { Gives (λ _. tt) result (end_clocked_is stream.now) }
-    ensures steps { IfErr result (λ fault. array_vec_len fault.path ≤ 3) }
+    ensures { Gives (λ _. tt) result (end_clocked_is stream.now) }
 {
     let clock = &stream.default_clock;
     let feature = &stream.context.timestamp_end;
@@ -246,8 +236,7 @@ fn end_clocked(alloc: Global, stream: &StreamType) -> Result<(), ConfFault>
 
 #[tactic(auto, unfolding(crate::specs::StreamRules::timestamps_clocked))]
 fn timestamps_clocked(alloc: Global, stream: &StreamType) -> Result<(), ConfFault>
-    ensures reading { Gives (λ _. tt) result (timestamps_clocked_is stream.now) }
-    ensures steps { IfErr result (λ fault. array_vec_len fault.path ≤ 3) }
+    ensures { Gives (λ _. tt) result (timestamps_clocked_is stream.now) }
 {
     record_clocked(alloc, stream)?;
     begin_clocked(alloc, stream)?;
@@ -261,8 +250,7 @@ fn clocks_are_there(
     clocks: &ListOf<ClockType>,
     stream: &StreamType,
 ) -> Result<(), ConfFault>
-    ensures reading { Gives (λ _. tt) result (clocks_are_there_is clocks.now stream.now) }
-    ensures steps { IfErr result (λ fault. array_vec_len fault.path ≤ 3) }
+    ensures { Gives (λ _. tt) result (clocks_are_there_is clocks.now stream.now) }
 {
     if !clock_is_there(clocks, &stream.default_clock) {
         return Err(At::Property("$default-clock-type-name").fault(alloc, FaultKind::NoClock));
@@ -295,8 +283,7 @@ fn has_record_size(begin: &Option<IntType>, feature: &Option<IntType>) -> bool
 /// Refuses the timestamp `name` of packets, if it is on and has not 64 bits.
 #[tactic(auto, unfolding(crate::specs::StreamRules::packet_sized))]
 fn packet_sized(alloc: Global, feature: &Option<IntType>, name: &str) -> Result<(), ConfFault>
-    ensures reading { Gives (λ _. tt) result (packet_sized_is feature.now name.now) }
-    ensures steps { IfErr result (λ fault. array_vec_len fault.path ≤ 3) }
+    ensures { Gives (λ _. tt) result (packet_sized_is feature.now name.now) }
 {
     if is_whole(feature) {
         Ok(())
@@ -307,8 +294,7 @@ fn packet_sized(alloc: Global, feature: &Option<IntType>, name: &str) -> Result<
 
 #[tactic(auto, unfolding(crate::specs::StreamRules::record_sized))]
 fn record_sized(alloc: Global, stream: &StreamType) -> Result<(), ConfFault>
-    ensures reading { Gives (λ _. tt) result (record_sized_is stream.now) }
-    ensures steps { IfErr result (λ fault. array_vec_len fault.path ≤ 3) }
+    ensures { Gives (λ _. tt) result (record_sized_is stream.now) }
 {
     if has_record_size(
         &stream.context.timestamp_begin,
@@ -327,8 +313,7 @@ fn record_sized(alloc: Global, stream: &StreamType) -> Result<(), ConfFault>
 
 #[tactic(auto, unfolding(crate::specs::StreamRules::begin_sized))]
 fn begin_sized(alloc: Global, stream: &StreamType) -> Result<(), ConfFault>
-    ensures reading { Gives (λ _. tt) result (begin_sized_is stream.now) }
-    ensures steps { IfErr result (λ fault. array_vec_len fault.path ≤ 3) }
+    ensures { Gives (λ _. tt) result (begin_sized_is stream.now) }
 {
     let feature = &stream.context.timestamp_begin;
     packet_sized(alloc, feature, "beginning-timestamp-field-type")
@@ -336,8 +321,7 @@ fn begin_sized(alloc: Global, stream: &StreamType) -> Result<(), ConfFault>
 
 #[tactic(auto, unfolding(crate::specs::StreamRules::end_sized))]
 fn end_sized(alloc: Global, stream: &StreamType) -> Result<(), ConfFault>
-    ensures reading { Gives (λ _. tt) result (end_sized_is stream.now) }
-    ensures steps { IfErr result (λ fault. array_vec_len fault.path ≤ 3) }
+    ensures { Gives (λ _. tt) result (end_sized_is stream.now) }
 {
     let feature = &stream.context.timestamp_end;
     packet_sized(alloc, feature, "end-timestamp-field-type")
@@ -345,8 +329,7 @@ fn end_sized(alloc: Global, stream: &StreamType) -> Result<(), ConfFault>
 
 #[tactic(auto, unfolding(crate::specs::StreamRules::timestamps_sized))]
 fn timestamps_sized(alloc: Global, stream: &StreamType) -> Result<(), ConfFault>
-    ensures reading { Gives (λ _. tt) result (timestamps_sized_is stream.now) }
-    ensures steps { IfErr result (λ fault. array_vec_len fault.path ≤ 3) }
+    ensures { Gives (λ _. tt) result (timestamps_sized_is stream.now) }
 {
     record_sized(alloc, stream)?;
     begin_sized(alloc, stream)?;
@@ -361,8 +344,7 @@ fn judged(
     clocks: &ListOf<ClockType>,
     stream: &StreamType,
 ) -> Result<(), ConfFault>
-    ensures reading { Gives (λ _. tt) result (judged_is rule clocks.now stream.now) }
-    ensures steps { IfErr result (λ fault. array_vec_len fault.path ≤ 3) }
+    ensures { Gives (λ _. tt) result (judged_is rule clocks.now stream.now) }
 {
     match rule {
         StreamRule::NumbersFit => numbers_fit(alloc, stream),
@@ -379,8 +361,7 @@ fn judged_by_name(
     clocks: &ListOf<ClockType>,
     stream: &StreamType,
 ) -> Result<(), ConfFault>
-    ensures reading { Gives (λ _. tt) result (judged_by_name_is rule clocks.now stream.now) }
-    ensures steps { IfErr result (λ fault. array_vec_len fault.path ≤ 4) }
+    ensures { Gives (λ _. tt) result (judged_by_name_is rule clocks.now stream.now) }
 {
     match judged(alloc, rule, clocks, stream) {
         Ok(()) => Ok(()),
@@ -394,8 +375,7 @@ fn all_judged(
     clocks: &ListOf<ClockType>,
     streams: &ListOf<StreamType>,
 ) -> Result<(), ConfFault>
-    ensures reading { Gives (λ _. tt) result (all_judged_is rule clocks.now streams.now) }
-    ensures steps { IfErr result (λ fault. array_vec_len fault.path ≤ 4) }
+    ensures { Gives (λ _. tt) result (all_judged_is rule clocks.now streams.now) }
 {
     for stream in streams.as_slice() {
         judged_by_name(alloc, rule, clocks, stream)?;
@@ -410,8 +390,7 @@ pub(crate) fn check_streams(
     rule: StreamRule,
     config: &Config,
 ) -> Result<(), ConfFault>
-    ensures reading { Gives (λ _. tt) result (streams_judged_is rule config.now) }
-    ensures steps { IfErr result (λ fault. array_vec_len fault.path ≤ 7) }
+    ensures { Gives (λ _. tt) result (streams_judged_is rule config.now) }
 {
     match all_judged(alloc, rule, &config.clocks, &config.streams) {
         Ok(()) => Ok(()),

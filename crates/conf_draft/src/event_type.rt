@@ -8,8 +8,8 @@ ghost use Rattle.conf_draft.specs.Lookups.{natural_of as natural_of_value};
 
 use crate::lookup::object;
 use crate::structure::structure;
-use conf_tree::optional;
-use conf_values::{as_natural, member};
+use conf_tree::{member, optional};
+use conf_values::as_natural;
 use ctf_types::{EventType, ListOf, Text};
 use serde_json::{Map, Value};
 use std::alloc::{AllocError, Global};

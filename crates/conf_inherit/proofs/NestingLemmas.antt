@@ -33,29 +33,6 @@ mutual
       (shallow_nests d levels (part_empty (within (key k)) (deep_flaws d levels) (deep_member_flaws ms levels) h))
       (shallow_members ms levels (rest_empty (within (key k)) (deep_flaws d levels) (deep_member_flaws ms levels) h))
 
-mutual
-  pub nested_shallow : (d : Data) (levels : ℕ) → nests d levels ≡ true → deep_flaws d levels ≡ []
-  nested_shallow null levels h = refl
-  nested_shallow (boolean b) levels h = refl
-  nested_shallow (number n) levels h = refl
-  nested_shallow (string s) levels h = refl
-  nested_shallow (array ds) zero h = absurd (true≢false (sym h))
-  nested_shallow (array ds) (suc levels) h = nested_items 0 ds levels h
-  nested_shallow (object ms) zero h = absurd (true≢false (sym h))
-  nested_shallow (object ms) (suc levels) h = nested_members ms levels h
-
-  nested_items : (i : ℕ) (ds : Items) (levels : ℕ) → items_nest ds levels ≡ true → deep_item_flaws i ds levels ≡ []
-  nested_items i no_items levels h = refl
-  nested_items i (item d ds) levels h =
-      ap (λ fs. map (within (index i)) fs ++ deep_item_flaws (suc i) ds levels) (nested_shallow d levels (and_left (nests d levels) (items_nest ds levels) h))
-      ∙ nested_items (suc i) ds levels (and_right (nests d levels) (items_nest ds levels) h)
-
-  nested_members : (ms : Members) (levels : ℕ) → members_nest ms levels ≡ true → deep_member_flaws ms levels ≡ []
-  nested_members no_members levels h = refl
-  nested_members (member k d ms) levels h =
-      ap (λ fs. map (within (key k)) fs ++ deep_member_flaws ms levels) (nested_shallow d levels (and_left (nests d levels) (members_nest ms levels) h))
-      ∙ nested_members ms levels (and_right (nests d levels) (members_nest ms levels) h)
-
 -- what is too deep in a part is too deep in the whole
 in_list : (es : Items) (i : ℕ) (e : Data) (levels : ℕ) (f : Flaw) → get_item i es ≡ Some e → (g : Flaw) × (f ≡ within (index i) g) × PassesDepth levels e g → PassesDepth (suc levels) (array es) f
 in_list es i e levels f there (g, is, (kind, (found, leads, nested, steps))) =

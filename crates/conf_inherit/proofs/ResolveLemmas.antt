@@ -1,5 +1,5 @@
 -- The parts of a resolution together.
-use Rattle.std.proofs.Common.{◌≡◌, ◌<◌, ◌≤◌, ℕ, zero, suc, max, List, [], ◌∷◌, Option, Some, None, option_and_then, Result, Ok, Err, String, Global, true, false, true≢false, Less, refl, sym, ap, ◌∙◌, subst, string_cmp, string_bytes, arith}
+use Rattle.std.proofs.Common.{◌≡◌, ◌≤◌, ℕ, zero, suc, List, [], ◌∷◌, Option, Some, None, option_and_then, Result, Ok, Err, String, Global, true, false, true≢false, Less, refl, sym, ap, ◌∙◌, subst, string_cmp, string_bytes, arith}
 use Rattle.std.specs.List.{AllByRecursion}
 use Rattle.std.specs.List.Sorted.{IsStrictlySortedBy}
 use Rattle.std.specs.Map.{keys_of}
@@ -25,11 +25,10 @@ use Rattle.conf_inherit.specs.Places.{inner_places}
 use Rattle.conf_inherit.specs.Named.{has}
 use Rattle.conf_inherit.specs.Rounds.{Outcomes, rounds, no_outcomes}
 use Rattle.conf_inherit.proofs.InOrder.{get_none}
-use Rattle.conf_inherit.proofs.LayingLemmas.{Meets, same, other, meets, get_other, get_same}
 use Rattle.conf_inherit.proofs.LaysOver.{lays}
 use Rattle.conf_inherit.proofs.ListLemmas.{found_each}
 use Rattle.conf_inherit.proofs.NamedLemmas.{named}
-use Rattle.conf_inherit.proofs.NestingLemmas.{shallow_nests, nested_shallow}
+use Rattle.conf_inherit.proofs.NestingLemmas.{shallow_nests}
 use Rattle.conf_inherit.proofs.ReadyLemmas.{ready, front_empty, back_empty, and_left, and_right}
 use Rattle.conf_inherit.proofs.RoundLemmas.{HasRoot, rounds_resolved, rounds_root, all_done}
 use Rattle.conf_inherit.proofs.SoundPlaces.{flawless}
@@ -83,25 +82,6 @@ mutual
 
 -- ---- the aliases are part of the configuration
 
-member_below_at : (k l : List ℕ) (d e : Data) (ms : Members) → Meets k l → get_member k (member l d ms) ≡ Some e → (get_member k ms ≡ Some e → depth e ≤ members_depth ms) → depth e ≤ members_depth (member l d ms)
-member_below_at k l d e ms (same f) h later =
-    let g : Some d ≡ Some e = sym (get_same k l d ms f) ∙ h in
-    let one : d ≡ e = cc in
-    subst (λ x. depth x ≤ members_depth (member l d ms)) one (let small : depth d ≤ max (depth d) (members_depth ms) = omega arith in small)
-member_below_at k l d e ms (other apart) h later = let rest : depth e ≤ members_depth ms = later (sym (get_other k l d ms apart) ∙ h) in omega arith
-
-pub member_below : (k : List ℕ) (e : Data) (ms : Members) → get_member k ms ≡ Some e → depth e ≤ members_depth ms
-member_below k e no_members h = cc
-member_below k e (member l d ms) h = member_below_at k l d e ms (meets k l) h (member_below k e ms)
-
-below : (k : List ℕ) (d e : Data) → get k d ≡ Some e → depth e < depth d
-below k (object ms) e h = let b : depth e ≤ members_depth ms = member_below k e ms h in omega arith
-below k null e h = cc
-below k (boolean b) e h = cc
-below k (number n) e h = cc
-below k (string n) e h = cc
-below k (array es) e h = cc
-
 part_whole : (k : List ℕ) (d e : Data) → IsWhole d → get k d ≡ Some e → IsWhole e
 part_whole k (object ms) e w h = member_whole k e ms w h
 part_whole k null e w h = cc
@@ -110,38 +90,31 @@ part_whole k (number n) e w h = cc
 part_whole k (string n) e w h = cc
 part_whole k (array es) e w h = cc
 
--- a value that an option has is so deep, and whole
-record IsPart (room : ℕ) (o : Option Data) : Type 0 where
-  pub shallow : (d : Data) → o ≡ Some d → depth d ≤ room
-  pub whole : (d : Data) → o ≡ Some d → IsWhole d
+-- a value that an option has is whole
+abbrev IsWholePart : Option Data → Type 0
+IsWholePart o = (d : Data) → o ≡ Some d → IsWhole d
 
-part_of : (k : List ℕ) (room : ℕ) (o : Option Data) → IsPart (suc room) o → IsPart room (option_and_then (get k) o)
-part_of k room None p = record { shallow = λ d h. cc; whole = λ d h. cc }
-part_of k room (Some c) p = record {
-  shallow = λ d h. let b : depth d < depth c = below k c d h in let s : depth c ≤ suc room = p.shallow c refl in omega arith;
-  whole = λ d h. part_whole k c d (p.whole c refl) h;
-}
+part_of : (k : List ℕ) (o : Option Data) → IsWholePart o → IsWholePart (option_and_then (get k) o)
+part_of k None p d h = cc
+part_of k (Some c) p d h = part_whole k c d (p c refl) h
 
-members_part : (room : ℕ) (o : Option Data) → IsPart (suc room) o → (members_depth (members_or_none o) ≤ room) × (members_have_float (members_or_none o) ≡ false)
-members_part room None p = (omega arith, refl)
-members_part room (Some (object ms)) p = (let s : suc (members_depth ms) ≤ suc room = p.shallow (object ms) refl in omega arith, p.whole (object ms) refl)
-members_part room (Some null) p = (omega arith, refl)
-members_part room (Some (boolean b)) p = (omega arith, refl)
-members_part room (Some (number n)) p = (omega arith, refl)
-members_part room (Some (string n)) p = (omega arith, refl)
-members_part room (Some (array es)) p = (omega arith, refl)
+members_part : (o : Option Data) → IsWholePart o → members_have_float (members_or_none o) ≡ false
+members_part None p = refl
+members_part (Some (object ms)) p = p (object ms) refl
+members_part (Some null) p = refl
+members_part (Some (boolean b)) p = refl
+members_part (Some (number n)) p = refl
+members_part (Some (string n)) p = refl
+members_part (Some (array es)) p = refl
 
-pub aliases_part : (t : Data) → depth t ≤ 32 → IsWhole t → (members_depth (aliases_of t) ≤ 28) × (members_have_float (aliases_of t) ≡ false)
-aliases_part t d w =
-    let here : IsPart 32 (Some t) = record { shallow = λ e h. let same : t ≡ e = cc in subst (λ x. depth x ≤ 32) same d; whole = λ e h. let same : t ≡ e = cc in subst IsWhole same w } in
-    members_part 28 (option_and_then (get aliases_name) (option_and_then (get type_name) (get trace_name t)))
-    (part_of aliases_name 29 (option_and_then (get type_name) (get trace_name t)) (part_of type_name 30 (get trace_name t) (part_of trace_name 31 (Some t) here)))
+aliases_part : (t : Data) → IsWhole t → members_have_float (aliases_of t) ≡ false
+aliases_part t w =
+    let here : IsWholePart (Some t) = λ e h. let same : t ≡ e = cc in subst IsWhole same w in
+    let types = part_of type_name (get trace_name t) (part_of trace_name (Some t) here) in
+    members_part (option_and_then (get aliases_name) (option_and_then (get type_name) (get trace_name t))) (part_of aliases_name (option_and_then (get type_name) (get trace_name t)) types)
 
-pub resolved_whole : (t r : Data) → depth t ≤ 32 → has_float t ≡ false → Resolves t r → has_float r ≡ false
-resolved_whole t r d w l = looks_whole (aliases_of t) (aliases_part t d w).1 l (w, tt)
-
-pub shallow_as_it_is : (r : Data) → nests r 32 ≡ true → if_shallow r ≡ Ok r
-shallow_as_it_is r h = ap (λ fs. refusal fs >>= (λ a. Ok r)) (nested_shallow r 32 h)
+pub resolved_whole : (t r : Data) → has_float t ≡ false → Resolves t r → has_float r ≡ false
+resolved_whole t r w l = looks_whole (aliases_of t) (aliases_part t w) l (w, tt)
 
 -- ---- the names of a map are in order
 

@@ -8,7 +8,6 @@ pub mod Named
 pub mod Size
 pub mod Nesting
 pub mod Limits
-pub mod Found
 pub mod Flaws
 pub mod Rounds
 pub mod Circle

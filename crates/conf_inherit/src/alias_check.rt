@@ -1,6 +1,5 @@
 //! The first fault of the aliases, in byte order of their names.
 ghost use Rattle.std.specs.Prelude.{◌≡◌, ◌≤◌, ◌<◌, IfOk, IfErr, string_bytes};
-ghost use Rattle.arrayvec.specs.ArrayVec.{array_vec_len};
 ghost use Rattle.serde_json.specs.Data.{depth, members_depth, no_members};
 ghost use Rattle.serde_json.specs.View.{view, members_view};
 ghost use Rattle.conf_tree.specs.Reading.{Gives};
@@ -45,15 +44,13 @@ fn check_circle(
     resolved: &Map<String, Value>,
     over: &Map<String, Value>,
 ) -> Result<(), ConfFault>
-    requires { depth (view value.now) ≤ 28 }
     ensures first { Gives (λ _. tt) result (refusal (first_or_circle (refusal (type_flaws (members_view aliases.now.entries) (members_view resolved.now.entries) Place.FieldType (view value.now))) (refusal (type_flaws (members_view over.now.entries) (members_view resolved.now.entries) Place.FieldType (view value.now))))) }
-    ensures short { IfErr result (λ fault. array_vec_len fault.path ≤ 28) }
 {
-    if let Err(own) = check_type(alloc, value, Place::FieldType, 28, aliases, resolved) {
+    if let Err(own) = check_type(alloc, value, Place::FieldType, aliases, resolved) {
         if own.is_memory() {
             return Err(own);
         }
-        if let Err(first) = check_type(alloc, value, Place::FieldType, 28, over, resolved) {
+        if let Err(first) = check_type(alloc, value, Place::FieldType, over, resolved) {
             if first.is_memory() {
                 return Err(first);
             }
@@ -62,7 +59,7 @@ fn check_circle(
             }
         }
     }
-    Err(ConfFault::here(FaultKind::InheritCycle))
+    Err(ConfFault::here(alloc, FaultKind::InheritCycle))
 }
 
 /// Refuses the first fault of an alias, where `over` has the names of the aliases with an outcome.
@@ -74,17 +71,15 @@ fn check_alias(
     outcomes: &AliasOutcomes,
     over: &Map<String, Value>,
 ) -> Result<(), ConfFault>
-    requires nested { depth (view value.now) ≤ 28 }
     requires over { members_view over.now.entries ≡ over_names (members_view aliases.now.entries) (outcomes_of outcomes.now) no_members }
     ensures first { Gives (λ _. tt) result (refusal (alias_flaws (members_view aliases.now.entries) (outcomes_of outcomes.now) name.now (view value.now))) }
-    ensures short { IfErr result (λ fault. array_vec_len fault.path ≤ 28) }
 {
     let resolved = &outcomes.resolved;
     if has(resolved, name) {
         return Ok(());
     }
     if has(&outcomes.refused, name) {
-        return check_type(alloc, value, Place::FieldType, 28, aliases, resolved);
+        return check_type(alloc, value, Place::FieldType, aliases, resolved);
     }
     check_circle(alloc, value, aliases, resolved, over)
 }
@@ -96,10 +91,8 @@ fn check_each(
     outcomes: &AliasOutcomes,
     over: &Map<String, Value>,
 ) -> Result<(), ConfFault>
-    requires nested { members_depth (members_view aliases.now.entries) ≤ 28 }
     requires over { members_view over.now.entries ≡ over_names (members_view aliases.now.entries) (outcomes_of outcomes.now) no_members }
     ensures first { Gives (λ _. tt) result (refusal (all_alias_flaws (members_view aliases.now.entries) (outcomes_of outcomes.now) (members_view aliases.now.entries))) }
-    ensures short { IfErr result (λ fault. array_vec_len fault.path ≤ 29) }
 {
     for (name, value) in aliases.iter() {
         if let Err(fault) = check_alias(alloc, name.as_str(), value, aliases, outcomes, over) {
@@ -115,12 +108,10 @@ pub(crate) fn check_aliases(
     aliases: &Map<String, Value>,
     outcomes: &AliasOutcomes,
 ) -> Result<(), ConfFault>
-    requires { members_depth (members_view aliases.now.entries) ≤ 28 }
     ensures first { Gives (λ _. tt) result (refusal (all_alias_flaws (members_view aliases.now.entries) (outcomes_of outcomes.now) (members_view aliases.now.entries))) }
-    ensures short { IfErr result (λ fault. array_vec_len fault.path ≤ 29) }
 {
     match names_over(alloc, aliases, outcomes) {
         Ok(over) => check_each(alloc, aliases, outcomes, &over),
-        Err(_) => Err(ConfFault::here(FaultKind::OutOfMemory)),
+        Err(_) => Err(ConfFault::memory(alloc)),
     }
 }

@@ -1,21 +1,18 @@
 //! The first flaw of a value, in walk order.
 ghost use Rattle.std.specs.Prelude.{◌≡◌, ◌+◌, ◌≤◌, ◌<◌, ◌&&◌, ◌++◌, Some, false, IfErr, IfOk, OnOk, is_some, option_map};
-ghost use Rattle.arrayvec.specs.ArrayVec.{array_vec_len};
 ghost use Rattle.serde_json.specs.Data.{depth, items_depth, members_depth, array, object, no_members};
 ghost use Rattle.serde_json.specs.Find.{get_member};
 ghost use Rattle.serde_json.specs.View.{view, items_view, members_view};
 ghost use Rattle.conf_tree.specs.Reading.{Gives};
 ghost use Rattle.conf_tree.specs.Walk.{refusal};
 ghost use Rattle.conf_inherit.specs.FieldPlaces.{place_under, is_entry};
-ghost use Rattle.conf_inherit.specs.Found.{Finds, FindsKind, steps_found};
 ghost use Rattle.conf_inherit.specs.Flaws.{is_wrong, is_no_list, is_no_entry, is_no_member, is_unknown, own_flaws, base_flaws, flaws, type_flaws, inner_flaws, item_flaws, member_flaws, mark, mark_names};
 
 use crate::field_places::{
     is_base_name, is_entry, lists_members, names_alias, names_member_type, place_of_items,
     place_under,
 };
-use crate::found::Found;
-use crate::limits::{check_limits, refuse_past_limit};
+use crate::limits::check_limits;
 use crate::property::property;
 use conf_table::Place;
 use conf_tree::{ConfFault, FaultKind};
@@ -70,21 +67,22 @@ fn is_unknown(value: &Value, place: Place, aliases: &Map<String, Value>) -> bool
 
 /// Refuses the first flaw of a value itself, where its name may be taken.
 pub(crate) fn check_itself(
+    alloc: Global,
     value: &Value,
     place: Place,
     taken: bool,
     aliases: &Map<String, Value>,
-) -> Result<(), FaultKind>
-    ensures first { FindsKind result (refusal (own_flaws (members_view aliases.now.entries) place taken (view value.now))) }
+) -> Result<(), ConfFault>
+    ensures first { Gives (λ _. tt) result (refusal (own_flaws (members_view aliases.now.entries) place taken (view value.now))) }
 {
     if is_wrong(value, place) {
-        return Err(FaultKind::WrongKind);
+        return Err(ConfFault::here(alloc, FaultKind::WrongKind));
     }
     if is_unknown(value, place, aliases) {
-        return Err(FaultKind::NoSuchAlias);
+        return Err(ConfFault::here(alloc, FaultKind::NoSuchAlias));
     }
     if taken {
-        return Err(FaultKind::NameClash);
+        return Err(ConfFault::here(alloc, FaultKind::NameClash));
     }
     Ok(())
 }
@@ -111,8 +109,7 @@ fn mark_names(members: &Map<String, Value>, seen: &mut Map<String, Value>) -> Re
 }
 
 /// Refuses the first flaw of a value and all that is in it, the limits that the values of `$inherit` pass among them
-/// where the resolved aliases are given. `seen` has the names of the entries before it, and the value nests at most
-/// `levels` deep.
+/// where the resolved aliases are given. `seen` has the names of the entries before it.
 #[cycle(flaws)]
 #[tactic(auto, using(crate::proofs::FlawLemmas::refused_first, crate::proofs::FlawLemmas::refused_later))]
 pub(crate) fn check_flaws(
@@ -121,19 +118,15 @@ pub(crate) fn check_flaws(
     place: Place,
     taken: bool,
     seen: &Map<String, Value>,
-    levels: usize,
     aliases: &Map<String, Value>,
     resolved: Option<&Map<String, Value>>,
-) -> Result<(), Found>
-    requires nested { depth (view value.now) ≤ levels }
-    requires shallow { levels ≤ 32 }
-    ensures first { Finds result (refusal (flaws (members_view aliases.now.entries) (option_map (λ m. members_view m.now.entries) resolved.entry) place taken (members_view seen.now.entries) (view value.now))) }
-    ensures short { IfErr result (λ fault. steps_found fault ≤ levels) }
+) -> Result<(), ConfFault>
+    ensures first { Gives (λ _. tt) result (refusal (flaws (members_view aliases.now.entries) (option_map (λ m. members_view m.now.entries) resolved.entry) place taken (members_view seen.now.entries) (view value.now))) }
 {
-    if let Err(kind) = check_itself(value, place, taken, aliases) {
-        return Err(Found::here(alloc, kind));
+    if let Err(fault) = check_itself(alloc, value, place, taken, aliases) {
+        return Err(fault);
     }
-    check_inner(alloc, value, place, seen, levels, aliases, resolved)
+    check_inner(alloc, value, place, seen, aliases, resolved)
 }
 
 #[cycle(flaws)]
@@ -142,27 +135,15 @@ fn check_inner(
     value: &Value,
     place: Place,
     seen: &Map<String, Value>,
-    levels: usize,
     aliases: &Map<String, Value>,
     resolved: Option<&Map<String, Value>>,
-) -> Result<(), Found>
-    requires nested { depth (view value.now) ≤ levels }
-    requires shallow { levels ≤ 32 }
-    ensures first { Finds result (refusal (inner_flaws (members_view aliases.now.entries) (option_map (λ m. members_view m.now.entries) resolved.entry) place (members_view seen.now.entries) (view value.now))) }
-    ensures short { IfErr result (λ fault. steps_found fault ≤ levels) }
+) -> Result<(), ConfFault>
+    ensures first { Gives (λ _. tt) result (refusal (inner_flaws (members_view aliases.now.entries) (option_map (λ m. members_view m.now.entries) resolved.entry) place (members_view seen.now.entries) (view value.now))) }
 {
     match value {
         Value::Null | Value::Bool(_) | Value::Number(_) | Value::String(_) => Ok(()),
-        Value::Array(items) => check_items(alloc, items, place, levels - 1, aliases, resolved),
-        Value::Object(members) => check_members(
-            alloc,
-            members,
-            place,
-            seen,
-            levels - 1,
-            aliases,
-            resolved,
-        ),
+        Value::Array(items) => check_items(alloc, items, place, aliases, resolved),
+        Value::Object(members) => check_members(alloc, members, place, seen, aliases, resolved),
     }
 }
 
@@ -171,14 +152,10 @@ fn check_items(
     alloc: Global,
     items: &Vec<Value>,
     place: Place,
-    levels: usize,
     aliases: &Map<String, Value>,
     resolved: Option<&Map<String, Value>>,
-) -> Result<(), Found>
-    requires nested { items_depth (items_view items.now.items) ≤ levels }
-    requires shallow { levels < 32 }
-    ensures first { Finds result (refusal (item_flaws (members_view aliases.now.entries) (option_map (λ m. members_view m.now.entries) resolved.entry) place 0 no_members (items_view items.now.items))) }
-    ensures short { IfErr result (λ fault. steps_found fault ≤ levels + 1) }
+) -> Result<(), ConfFault>
+    ensures first { Gives (λ _. tt) result (refusal (item_flaws (members_view aliases.now.entries) (option_map (λ m. members_view m.now.entries) resolved.entry) place 0 no_members (items_view items.now.items))) }
 {
     let mut seen = Map::new(alloc);
     for (index, item) in items.iter().enumerate() {
@@ -188,14 +165,13 @@ fn check_items(
             place_of_items(place),
             false,
             &seen,
-            levels,
             aliases,
             resolved,
         ) {
             return Err(fault.inside(alloc, index));
         }
         if mark(item, &mut seen).is_err() {
-            return Err(Found::here(alloc, FaultKind::OutOfMemory));
+            return Err(ConfFault::memory(alloc));
         }
     }
     Ok(())
@@ -207,14 +183,10 @@ fn check_members(
     members: &Map<String, Value>,
     place: Place,
     seen: &Map<String, Value>,
-    levels: usize,
     aliases: &Map<String, Value>,
     resolved: Option<&Map<String, Value>>,
-) -> Result<(), Found>
-    requires nested { members_depth (members_view members.now.entries) ≤ levels }
-    requires shallow { levels < 32 }
-    ensures first { Finds result (refusal (member_flaws (members_view aliases.now.entries) (option_map (λ m. members_view m.now.entries) resolved.entry) place (members_view seen.now.entries) (members_view members.now.entries))) }
-    ensures short { IfErr result (λ fault. steps_found fault ≤ levels + 1) }
+) -> Result<(), ConfFault>
+    ensures first { Gives (λ _. tt) result (refusal (member_flaws (members_view aliases.now.entries) (option_map (λ m. members_view m.now.entries) resolved.entry) place (members_view seen.now.entries) (members_view members.now.entries))) }
 {
     for (name, member) in members.iter() {
         if let Err(fault) = check_member(
@@ -223,7 +195,6 @@ fn check_members(
             member,
             place,
             seen,
-            levels,
             aliases,
             resolved,
         ) {
@@ -243,27 +214,18 @@ fn check_member(
     member: &Value,
     place: Place,
     seen: &Map<String, Value>,
-    levels: usize,
     aliases: &Map<String, Value>,
     resolved: Option<&Map<String, Value>>,
-) -> Result<(), Found>
-    requires nested { depth (view member.now) ≤ levels }
-    requires shallow { levels < 32 }
-    ensures first { Finds result (refusal (flaws (members_view aliases.now.entries) (option_map (λ m. members_view m.now.entries) resolved.entry) (place_under place name.now) (is_entry place && is_some (get_member name.now (members_view seen.now.entries))) no_members (view member.now) ++ base_flaws (option_map (λ m. members_view m.now.entries) resolved.entry) place name.now (view member.now))) }
-    ensures short { IfErr result (λ fault. steps_found fault ≤ levels) }
+) -> Result<(), ConfFault>
+    ensures first { Gives (λ _. tt) result (refusal (flaws (members_view aliases.now.entries) (option_map (λ m. members_view m.now.entries) resolved.entry) (place_under place name.now) (is_entry place && is_some (get_member name.now (members_view seen.now.entries))) no_members (view member.now) ++ base_flaws (option_map (λ m. members_view m.now.entries) resolved.entry) place name.now (view member.now))) }
 {
     let taken = is_taken(name, place, seen);
     let nothing = Map::new(alloc);
     let inner = place_under(place, name);
-    if let Err(fault) = check_flaws(
-        alloc, member, inner, taken, &nothing, levels, aliases, resolved,
-    ) {
+    if let Err(fault) = check_flaws(alloc, member, inner, taken, &nothing, aliases, resolved) {
         return Err(fault);
     }
-    match check_base(alloc, name, member, place, resolved) {
-        Ok(()) => Ok(()),
-        Err(kind) => Err(Found::here(alloc, kind)),
-    }
+    check_base(alloc, name, member, place, resolved)
 }
 
 /// Refuses the limit that a property's value passes by itself, if the object inherits from it.
@@ -273,13 +235,13 @@ fn check_base(
     member: &Value,
     place: Place,
     resolved: Option<&Map<String, Value>>,
-) -> Result<(), FaultKind>
-    ensures first { FindsKind result (refusal (base_flaws (option_map (λ m. members_view m.now.entries) resolved.entry) place name.now (view member.now))) }
+) -> Result<(), ConfFault>
+    ensures first { Gives (λ _. tt) result (refusal (base_flaws (option_map (λ m. members_view m.now.entries) resolved.entry) place name.now (view member.now))) }
 {
     match resolved {
         Some(resolved) => {
             if is_base_name(place, name) {
-                return refuse_past_limit(alloc, member, Place::FieldType, resolved);
+                return check_limits(alloc, member, Place::FieldType, resolved);
             }
             Ok(())
         }
@@ -299,22 +261,13 @@ pub(crate) fn check_value(
     alloc: Global,
     value: &Value,
     place: Place,
-    levels: usize,
     aliases: &Map<String, Value>,
     resolved: Option<&Map<String, Value>>,
 ) -> Result<(), ConfFault>
-    requires nested { depth (view value.now) ≤ levels }
-    requires shallow { levels ≤ 32 }
     ensures first { Gives (λ _. tt) result (refusal (flaws (members_view aliases.now.entries) (option_map (λ m. members_view m.now.entries) resolved.entry) place false no_members (view value.now))) }
-    ensures short { IfErr result (λ fault. array_vec_len fault.path ≤ levels) }
 {
     let nothing = Map::new(alloc);
-    match check_flaws(
-        alloc, value, place, false, &nothing, levels, aliases, resolved,
-    ) {
-        Ok(()) => Ok(()),
-        Err(found) => Err(found.into_fault()),
-    }
+    check_flaws(alloc, value, place, false, &nothing, aliases, resolved)
 }
 
 /// Refuses the first flaw of a field type, or else the limit that it passes.
@@ -323,16 +276,12 @@ pub(crate) fn check_type(
     alloc: Global,
     value: &Value,
     place: Place,
-    levels: usize,
     aliases: &Map<String, Value>,
     resolved: &Map<String, Value>,
 ) -> Result<(), ConfFault>
-    requires nested { depth (view value.now) ≤ levels }
-    requires shallow { levels ≤ 32 }
     ensures first { Gives (λ _. tt) result (refusal (type_flaws (members_view aliases.now.entries) (members_view resolved.now.entries) place (view value.now))) }
-    ensures short { IfErr result (λ fault. array_vec_len fault.path ≤ levels) }
 {
-    if let Err(fault) = check_value(alloc, value, place, levels, aliases, Some(resolved)) {
+    if let Err(fault) = check_value(alloc, value, place, aliases, Some(resolved)) {
         return Err(fault);
     }
     check_limits(alloc, value, place, resolved)

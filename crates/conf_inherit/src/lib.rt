@@ -7,13 +7,11 @@ mod base;
 mod entry_index;
 mod field_places;
 mod flaws;
-mod found;
 mod law;
 mod laying;
 mod limits;
 mod named;
 mod nesting;
-mod order;
 mod outcomes;
 mod places;
 mod property;
@@ -21,6 +19,7 @@ mod resolution;
 mod rounds;
 mod same;
 mod size;
+mod turns;
 mod whole;
 
 pub use law::{

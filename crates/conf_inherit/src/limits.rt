@@ -1,11 +1,9 @@
 //! The limits of a field type, once it is resolved.
 ghost use Rattle.std.specs.Prelude.{◌≡◌, Ok, Err, None, IfErr, IfOk, MatchResult};
-ghost use Rattle.arrayvec.specs.ArrayVec.{array_vec_len};
 ghost use Rattle.serde_json.specs.Data.{string};
 ghost use Rattle.serde_json.specs.View.{view, members_view};
 ghost use Rattle.conf_tree.specs.Reading.{Gives};
 ghost use Rattle.conf_tree.specs.Walk.{refusal};
-ghost use Rattle.conf_inherit.specs.Found.{FindsKind};
 ghost use Rattle.conf_inherit.specs.Laying.{lay, resolved};
 ghost use Rattle.conf_inherit.specs.Limits.{fitting, passed, limit_flaws};
 
@@ -27,7 +25,8 @@ const MAX_VALUES: usize = 4096;
 /// The most levels of its objects and lists.
 const MAX_LEVELS: usize = 32;
 
-/// Refuses a field type that passes a limit, if all aliases that it names are resolved.
+/// Refuses a field type that passes a limit, if all aliases that it names are resolved. One that is the name of an
+/// alias is not copied.
 pub(crate) fn check_limits(
     alloc: Global,
     value: &Value,
@@ -35,35 +34,19 @@ pub(crate) fn check_limits(
     resolved: &Map<String, Value>,
 ) -> Result<(), ConfFault>
     ensures first { Gives (λ _. tt) result (refusal (limit_flaws (members_view resolved.now.entries) place (view value.now))) }
-    ensures short { IfErr result (λ fault. array_vec_len fault.path ≡ 0) }
-{
-    match refuse_past_limit(alloc, value, place, resolved) {
-        Ok(()) => Ok(()),
-        Err(kind) => Err(ConfFault::here(kind)),
-    }
-}
-
-/// Refuses a field type that passes a limit, as `check_limits` does. One that is the name of an alias is not copied.
-pub(crate) fn refuse_past_limit(
-    alloc: Global,
-    value: &Value,
-    place: Place,
-    resolved: &Map<String, Value>,
-) -> Result<(), FaultKind>
-    ensures first { FindsKind result (refusal (limit_flaws (members_view resolved.now.entries) place (view value.now))) }
 {
     if !all_named(value, place, Asked::IsResolved(resolved)) {
         return Ok(());
     }
     if names_alias(place) {
         if let Value::String(name) = value {
-            return check_alias_limits(resolved, name.as_str());
+            return check_alias_limits(alloc, resolved, name.as_str());
         }
     }
     match fit(alloc, value, place, resolved) {
         Ok(Ok(_)) => Ok(()),
-        Ok(Err(kind)) => Err(kind),
-        Err(_) => Err(FaultKind::OutOfMemory),
+        Ok(Err(kind)) => Err(ConfFault::here(alloc, kind)),
+        Err(_) => Err(ConfFault::memory(alloc)),
     }
 }
 
@@ -93,24 +76,28 @@ pub(crate) fn fit(
 
 /// Refuses a resolved alias that passes a limit.
 #[tactic(auto, unfolding(crate::specs::FieldPlaces::names_alias))]
-fn check_alias_limits(aliases: &Map<String, Value>, name: &str) -> Result<(), FaultKind>
-    ensures first { FindsKind result (refusal (passed (fitting (lay (members_view aliases.now.entries) Place.FieldType (string name.now) None)))) }
+fn check_alias_limits(
+    alloc: Global,
+    aliases: &Map<String, Value>,
+    name: &str,
+) -> Result<(), ConfFault>
+    ensures first { Gives (λ _. tt) result (refusal (passed (fitting (lay (members_view aliases.now.entries) Place.FieldType (string name.now) None)))) }
 {
     match property(aliases, name) {
-        Some(alias) => check_fits(alias),
+        Some(alias) => check_fits(alloc, alias),
         None => Ok(()),
     }
 }
 
 /// Refuses a resolved type that passes a limit.
-fn check_fits(value: &Value) -> Result<(), FaultKind>
-    ensures first { FindsKind result (refusal (passed (fitting (view value.now)))) }
+fn check_fits(alloc: Global, value: &Value) -> Result<(), ConfFault>
+    ensures first { Gives (λ _. tt) result (refusal (passed (fitting (view value.now)))) }
 {
     if count(value, MAX_VALUES).is_none() {
-        return Err(FaultKind::Limit);
+        return Err(ConfFault::here(alloc, FaultKind::Limit));
     }
     if !nests(value, MAX_LEVELS) {
-        return Err(FaultKind::TooDeep);
+        return Err(ConfFault::here(alloc, FaultKind::TooDeep));
     }
     Ok(())
 }

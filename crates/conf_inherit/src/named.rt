@@ -6,6 +6,8 @@ ghost use Rattle.conf_inherit.specs.Named.{all_named, all_named_in_items, all_na
 
 use crate::asked::Asked;
 use crate::field_places::{names_alias, names_member_type, place_of_items, place_under};
+use crate::outcomes::AliasOutcomes;
+use crate::property::has;
 use conf_table::Place;
 use serde_json::{Map, Value};
 use std::alloc::AllocError;
@@ -49,46 +51,69 @@ fn all_named_in_members(members: &Map<String, Value>, place: Place, asked: Asked
     true
 }
 
-/// Adds the texts of a value that name an alias.
+/// Adds the texts of a value that name an alias without an outcome, until there are so many.
 #[cycle(naming)]
-pub(crate) fn push_named(
+pub(crate) fn push_waiting(
     value: &Value,
     place: Place,
+    most: usize,
+    aliases: &Map<String, Value>,
+    outcomes: &AliasOutcomes,
     names: &mut Vec<String>,
 ) -> Result<(), AllocError> {
     match value {
         Value::Null | Value::Bool(_) | Value::Number(_) => Ok(()),
         Value::String(name) => {
-            if names_alias(place) || names_member_type(place) {
+            if (names_alias(place) || names_member_type(place))
+                && has(aliases, name.as_str())
+                && !outcomes.has_outcome(name.as_str())
+            {
                 names.push(name.clone()?)?;
             }
             Ok(())
         }
-        Value::Array(items) => push_named_in_items(items, place_of_items(place), names),
-        Value::Object(members) => push_named_in_members(members, place, names),
+        Value::Array(items) => {
+            push_waiting_in_items(items, place_of_items(place), most, aliases, outcomes, names)
+        }
+        Value::Object(members) => {
+            push_waiting_in_members(members, place, most, aliases, outcomes, names)
+        }
     }
 }
 
 #[cycle(naming)]
-fn push_named_in_items(
+fn push_waiting_in_items(
     items: &Vec<Value>,
     place: Place,
+    most: usize,
+    aliases: &Map<String, Value>,
+    outcomes: &AliasOutcomes,
     names: &mut Vec<String>,
 ) -> Result<(), AllocError> {
     for item in items {
-        push_named(item, place, names)?;
+        if names.len() >= most {
+            return Ok(());
+        }
+        push_waiting(item, place, most, aliases, outcomes, names)?;
     }
     Ok(())
 }
 
 #[cycle(naming)]
-fn push_named_in_members(
+fn push_waiting_in_members(
     members: &Map<String, Value>,
     place: Place,
+    most: usize,
+    aliases: &Map<String, Value>,
+    outcomes: &AliasOutcomes,
     names: &mut Vec<String>,
 ) -> Result<(), AllocError> {
     for (name, member) in members.iter() {
-        push_named(member, place_under(place, name.as_str()), names)?;
+        if names.len() >= most {
+            return Ok(());
+        }
+        let inner = place_under(place, name.as_str());
+        push_waiting(member, inner, most, aliases, outcomes, names)?;
     }
     Ok(())
 }

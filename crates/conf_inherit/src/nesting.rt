@@ -1,6 +1,5 @@
 //! How deep objects and lists nest.
 ghost use Rattle.std.specs.Prelude.{◌≡◌, ◌≤◌, ◌<◌, ◌+◌, IfErr};
-ghost use Rattle.arrayvec.specs.ArrayVec.{array_vec_len};
 ghost use Rattle.serde_json.specs.View.{view, items_view, members_view};
 ghost use Rattle.conf_tree.specs.Reading.{Gives};
 ghost use Rattle.conf_tree.specs.Walk.{refusal};
@@ -49,21 +48,19 @@ fn members_nest(members: &Map<String, Value>, levels: usize) -> bool
 /// Refuses the first object or list that stands inside so many others, in walk order.
 #[cycle(deepness)]
 pub(crate) fn check_nesting(alloc: Global, value: &Value, levels: usize) -> Result<(), ConfFault>
-    requires { levels ≤ 32 }
     ensures first { Gives (λ _. tt) result (refusal (deep_flaws (view value.now) levels)) }
-    ensures short { IfErr result (λ fault. array_vec_len fault.path ≤ levels) }
 {
     match value {
         Value::Null | Value::Bool(_) | Value::Number(_) | Value::String(_) => Ok(()),
         Value::Array(items) => {
             if levels == 0 {
-                return Err(ConfFault::here(FaultKind::TooDeep));
+                return Err(ConfFault::here(alloc, FaultKind::TooDeep));
             }
             check_items_nesting(alloc, items, levels - 1)
         }
         Value::Object(members) => {
             if levels == 0 {
-                return Err(ConfFault::here(FaultKind::TooDeep));
+                return Err(ConfFault::here(alloc, FaultKind::TooDeep));
             }
             check_members_nesting(alloc, members, levels - 1)
         }
@@ -72,13 +69,11 @@ pub(crate) fn check_nesting(alloc: Global, value: &Value, levels: usize) -> Resu
 
 #[cycle(deepness)]
 fn check_items_nesting(alloc: Global, items: &Vec<Value>, levels: usize) -> Result<(), ConfFault>
-    requires { levels < 32 }
     ensures first { Gives (λ _. tt) result (refusal (deep_item_flaws 0 (items_view items.now.items) levels)) }
-    ensures short { IfErr result (λ fault. array_vec_len fault.path ≤ levels + 1) }
 {
     for (index, item) in items.iter().enumerate() {
         if let Err(fault) = check_nesting(alloc, item, levels) {
-            return Err(fault.inside(index));
+            return Err(fault.inside(alloc, index));
         }
     }
     Ok(())
@@ -90,9 +85,7 @@ fn check_members_nesting(
     members: &Map<String, Value>,
     levels: usize,
 ) -> Result<(), ConfFault>
-    requires { levels < 32 }
     ensures first { Gives (λ _. tt) result (refusal (deep_member_flaws (members_view members.now.entries) levels)) }
-    ensures short { IfErr result (λ fault. array_vec_len fault.path ≤ levels + 1) }
 {
     for (name, member) in members.iter() {
         if let Err(fault) = check_nesting(alloc, member, levels) {

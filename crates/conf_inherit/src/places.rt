@@ -1,6 +1,5 @@
 //! The first fault at the places of a configuration where field types stand, in walk order.
 ghost use Rattle.std.specs.Prelude.{◌≡◌, ◌+◌, ◌≤◌, ◌<◌, ◌++◌, Some, IfErr, false};
-ghost use Rattle.arrayvec.specs.ArrayVec.{array_vec_len};
 ghost use Rattle.serde_json.specs.Data.{depth, items_depth, members_depth, array, object, no_members};
 ghost use Rattle.serde_json.specs.View.{view, items_view, members_view};
 ghost use Rattle.conf_tree.specs.Reading.{Gives};
@@ -25,40 +24,39 @@ const MAX_EXTRA_MEMBERS: usize = 256;
 
 /// Refuses a members list with more entries than a packet context may have extra members.
 #[tactic(auto, using(crate::proofs::PlaceLemmas::count_past, crate::proofs::PlaceLemmas::count_within), unfolding(crate::specs::Places::too_many))]
-fn check_count(value: &Value) -> Result<(), ConfFault>
+fn check_count(alloc: Global, value: &Value) -> Result<(), ConfFault>
     ensures first { Gives (λ _. tt) result (refusal (too_many (view value.now))) }
-    ensures short { IfErr result (λ fault. array_vec_len fault.path ≡ 0) }
 {
     match value {
-        Value::Array(items) => check_length(items),
+        Value::Array(items) => check_length(alloc, items),
         _ => Ok(()),
     }
 }
 
 #[tactic(auto, using(crate::proofs::PlaceLemmas::count_past, crate::proofs::PlaceLemmas::count_within))]
-fn check_length(items: &Vec<Value>) -> Result<(), ConfFault>
+fn check_length(alloc: Global, items: &Vec<Value>) -> Result<(), ConfFault>
     ensures first { Gives (λ _. tt) result (refusal (too_many (array (items_view items.now.items)))) }
-    ensures short { IfErr result (λ fault. array_vec_len fault.path ≡ 0) }
 {
     if items.len() > MAX_EXTRA_MEMBERS {
-        return Err(ConfFault::here(FaultKind::Limit));
+        return Err(ConfFault::here(alloc, FaultKind::Limit));
     }
     Ok(())
 }
 
 /// Refuses a list of extra members that is too long, or a value that is none.
 #[tactic(auto, using(crate::proofs::FlawLemmas::refused_later))]
-fn check_extra(value: &Value, place: Place, aliases: &Map<String, Value>) -> Result<(), ConfFault>
+fn check_extra(
+    alloc: Global,
+    value: &Value,
+    place: Place,
+    aliases: &Map<String, Value>,
+) -> Result<(), ConfFault>
     ensures first { Gives (λ _. tt) result (refusal (too_many (view value.now) ++ own_flaws (members_view aliases.now.entries) place false (view value.now))) }
-    ensures short { IfErr result (λ fault. array_vec_len fault.path ≡ 0) }
 {
-    if let Err(fault) = check_count(value) {
+    if let Err(fault) = check_count(alloc, value) {
         return Err(fault);
     }
-    match check_itself(value, place, false, aliases) {
-        Ok(()) => Ok(()),
-        Err(kind) => Err(ConfFault::here(kind)),
-    }
+    check_itself(alloc, value, place, false, aliases)
 }
 
 /// Refuses what is wrong with a value as a whole that stands at a place of field types.
@@ -67,48 +65,40 @@ fn check_place(
     alloc: Global,
     value: &Value,
     place: Place,
-    levels: usize,
     aliases: &Map<String, Value>,
     resolved: &Map<String, Value>,
 ) -> Result<(), ConfFault>
-    requires nested { depth (view value.now) ≤ levels }
-    requires shallow { levels ≤ 32 }
     ensures first { Gives (λ _. tt) result (refusal (place_flaws (members_view aliases.now.entries) (members_view resolved.now.entries) place (view value.now))) }
-    ensures short { IfErr result (λ fault. array_vec_len fault.path ≤ levels) }
 {
     if names_alias(place) {
-        return check_type(alloc, value, place, levels, aliases, resolved);
+        return check_type(alloc, value, place, aliases, resolved);
     }
     if names_member_type(place) {
         return check_limits(alloc, value, place, resolved);
     }
     if lists_extra_members(place) {
-        return check_extra(value, place, aliases);
+        return check_extra(alloc, value, place, aliases);
     }
     Ok(())
 }
 
-/// Refuses the first fault at the places in a value, which nests at most `levels` deep. The aliases are judged already.
+/// Refuses the first fault at the places in a value. The aliases are judged already.
 #[cycle(places)]
 pub(crate) fn check_places(
     alloc: Global,
     value: &Value,
     place: Place,
-    levels: usize,
     aliases: &Map<String, Value>,
     resolved: &Map<String, Value>,
 ) -> Result<(), ConfFault>
-    requires nested { depth (view value.now) ≤ levels }
-    requires shallow { levels ≤ 32 }
     requires sound { HasSound (members_view aliases.now.entries) (members_view resolved.now.entries) place (view value.now) }
     ensures first { Gives (λ _. tt) result (refusal (inner_places (members_view aliases.now.entries) (members_view resolved.now.entries) place (view value.now))) }
-    ensures short { IfErr result (λ fault. array_vec_len fault.path ≤ levels) }
 {
     match value {
         Value::Null | Value::Bool(_) | Value::Number(_) | Value::String(_) => Ok(()),
         Value::Array(items) => {
             if lists_extra_members(place) {
-                return check_item_places(alloc, items, place, levels - 1, aliases, resolved);
+                return check_item_places(alloc, items, place, aliases, resolved);
             }
             Ok(())
         }
@@ -117,7 +107,7 @@ pub(crate) fn check_places(
                 return Ok(());
             }
             if leads_on(place) {
-                return check_member_places(alloc, members, place, levels - 1, aliases, resolved);
+                return check_member_places(alloc, members, place, aliases, resolved);
             }
             Ok(())
         }
@@ -130,22 +120,18 @@ fn check_item_places(
     alloc: Global,
     items: &Vec<Value>,
     place: Place,
-    levels: usize,
     aliases: &Map<String, Value>,
     resolved: &Map<String, Value>,
 ) -> Result<(), ConfFault>
-    requires nested { items_depth (items_view items.now.items) ≤ levels }
-    requires shallow { levels < 32 }
     ensures first { Gives (λ _. tt) result (refusal (item_places (members_view aliases.now.entries) (members_view resolved.now.entries) place 0 no_members (items_view items.now.items))) }
-    ensures short { IfErr result (λ fault. array_vec_len fault.path ≤ levels + 1) }
 {
     let mut seen = Map::new(alloc);
     for (index, item) in items.iter().enumerate() {
-        if let Err(fault) = check_entry(alloc, item, place, &seen, levels, aliases, resolved) {
-            return Err(fault.inside(index));
+        if let Err(fault) = check_entry(alloc, item, place, &seen, aliases, resolved) {
+            return Err(fault.inside(alloc, index));
         }
         if mark(item, &mut seen).is_err() {
-            return Err(ConfFault::here(FaultKind::OutOfMemory));
+            return Err(ConfFault::memory(alloc));
         }
     }
     Ok(())
@@ -160,21 +146,17 @@ fn check_entry(
     value: &Value,
     place: Place,
     seen: &Map<String, Value>,
-    levels: usize,
     aliases: &Map<String, Value>,
     resolved: &Map<String, Value>,
 ) -> Result<(), ConfFault>
-    requires nested { depth (view value.now) ≤ levels }
-    requires shallow { levels ≤ 32 }
     ensures first { Gives (λ _. tt) result (refusal (flaws (members_view aliases.now.entries) (Some (members_view resolved.now.entries)) (place_of_items place) false (members_view seen.now.entries) (view value.now) ++ inner_places (members_view aliases.now.entries) (members_view resolved.now.entries) (place_of_items place) (view value.now))) }
-    ensures short { IfErr result (λ fault. array_vec_len fault.path ≤ levels) }
 {
     let entry = place_of_items(place);
     let known = Some(resolved);
-    if let Err(found) = check_flaws(alloc, value, entry, false, seen, levels, aliases, known) {
-        return Err(found.into_fault());
+    if let Err(fault) = check_flaws(alloc, value, entry, false, seen, aliases, known) {
+        return Err(fault);
     }
-    check_places(alloc, value, entry, levels, aliases, resolved)
+    check_places(alloc, value, entry, aliases, resolved)
 }
 
 /// Refuses the first fault at the places in an object's properties.
@@ -183,22 +165,17 @@ fn check_member_places(
     alloc: Global,
     members: &Map<String, Value>,
     place: Place,
-    levels: usize,
     aliases: &Map<String, Value>,
     resolved: &Map<String, Value>,
 ) -> Result<(), ConfFault>
-    requires nested { members_depth (members_view members.now.entries) ≤ levels }
-    requires shallow { levels < 32 }
     requires sound { HasSound (members_view aliases.now.entries) (members_view resolved.now.entries) place (object (members_view members.now.entries)) }
     ensures first { Gives (λ _. tt) result (refusal (member_places (members_view aliases.now.entries) (members_view resolved.now.entries) place (members_view members.now.entries))) }
-    ensures short { IfErr result (λ fault. array_vec_len fault.path ≤ levels + 1) }
 {
     for (name, member) in members.iter() {
         if let Err(fault) = check_place_and_inner(
             alloc,
             member,
             place_under(place, name.as_str()),
-            levels,
             aliases,
             resolved,
         ) {
@@ -215,18 +192,14 @@ fn check_place_and_inner(
     alloc: Global,
     value: &Value,
     place: Place,
-    levels: usize,
     aliases: &Map<String, Value>,
     resolved: &Map<String, Value>,
 ) -> Result<(), ConfFault>
-    requires nested { depth (view value.now) ≤ levels }
-    requires shallow { levels ≤ 32 }
     requires sound { HasSound (members_view aliases.now.entries) (members_view resolved.now.entries) place (view value.now) }
     ensures first { Gives (λ _. tt) result (refusal (place_flaws (members_view aliases.now.entries) (members_view resolved.now.entries) place (view value.now) ++ inner_places (members_view aliases.now.entries) (members_view resolved.now.entries) place (view value.now))) }
-    ensures short { IfErr result (λ fault. array_vec_len fault.path ≤ levels) }
 {
-    if let Err(fault) = check_place(alloc, value, place, levels, aliases, resolved) {
+    if let Err(fault) = check_place(alloc, value, place, aliases, resolved) {
         return Err(fault);
     }
-    check_places(alloc, value, place, levels, aliases, resolved)
+    check_places(alloc, value, place, aliases, resolved)
 }

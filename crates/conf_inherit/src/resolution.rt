@@ -1,7 +1,6 @@
 //! Resolves the inheritance of a configuration.
 ghost use Rattle.std.specs.Prelude.{◌≡◌, ◌≤◌, ◌⊎◌, Option, None, IfOk, IfErr, false, option_map, option_and_then};
-ghost use Rattle.arrayvec.specs.ArrayVec.{array_vec_len};
-ghost use Rattle.serde_json.specs.Data.{depth, no_members, members_depth};
+ghost use Rattle.serde_json.specs.Data.{no_members};
 ghost use Rattle.conf_tree.specs.Flaw.{flaw_of, IsMemory};
 ghost use Rattle.conf_tree.specs.Order.{Ascends};
 ghost use Rattle.conf_tree.specs.Reading.{Gives};
@@ -20,7 +19,7 @@ ghost use Rattle.serde_json.specs.Written.{has_float};
 ghost use Rattle.conf_inherit.specs.Resolution.{trace_name, type_name, aliases_name, aliases_of, Resolves, in_aliases, from_aliases, if_shallow, resolution_after, resolution};
 
 use crate::alias_check::check_aliases;
-use crate::nesting::{check_nesting, nests};
+use crate::nesting::check_nesting;
 use crate::outcomes::AliasOutcomes;
 use crate::places::check_places;
 use crate::rounds::settle_aliases;
@@ -60,7 +59,6 @@ fn aliases_in(value: &Value) -> Option<&Map<String, Value>>
 /// The fault of an alias, seen from the configuration.
 #[tactic(auto, unfolding(crate::specs::Resolution::trace_name, crate::specs::Resolution::type_name, crate::specs::Resolution::aliases_name))]
 fn in_aliases(alloc: Global, fault: ConfFault) -> ConfFault
-    requires { array_vec_len fault.path ≤ 29 }
     ensures moved { IsMemory fault ⊎ IsMemory result ⊎ (flaw_of result ≡ in_aliases (flaw_of fault)) }
     ensures memory { IsMemory fault → IsMemory result }
 {
@@ -76,7 +74,6 @@ fn check_all_aliases(
     aliases: &Map<String, Value>,
     outcomes: &AliasOutcomes,
 ) -> Result<(), ConfFault>
-    requires { members_depth (members_view aliases.now.entries) ≤ 28 }
     ensures first { Gives (λ _. tt) result (from_aliases (refusal (all_alias_flaws (members_view aliases.now.entries) (outcomes_of outcomes.now) (members_view aliases.now.entries)))) }
 {
     if let Err(fault) = check_aliases(alloc, aliases, outcomes) {
@@ -87,22 +84,18 @@ fn check_all_aliases(
 
 /// The resolved configuration, unless it nests too deep. Each field type in it is within the limits, so none holds
 /// for the whole.
-#[tactic(auto, using(crate::proofs::ResolveLemmas::shallow_as_it_is))]
 fn lay_all(alloc: Global, value: &Value, resolved: Map<String, Value>) -> Result<Value, ConfFault>
     requires { HasLaid (members_view resolved.entries) Place.Root (view value.now) }
     ensures first { Gives view result (if_shallow (lay (members_view resolved.entries) Place.Root (view value.now) None)) }
 {
     match lay_whole(alloc, Place::Root, value, resolved) {
         Ok(resolved) => {
-            // A fault is large, so the walk that may have one is made only where it has.
-            if !nests(&resolved, 32) {
-                if let Err(fault) = check_nesting(alloc, &resolved, 32) {
-                    return Err(fault);
-                }
+            if let Err(fault) = check_nesting(alloc, &resolved, 32) {
+                return Err(fault);
             }
             Ok(resolved)
         }
-        Err(Stop::Memory) => Err(ConfFault::here(FaultKind::OutOfMemory)),
+        Err(Stop::Memory) => Err(ConfFault::memory(alloc)),
         Err(Stop::Limit) => unreachable!(),
     }
 }
@@ -114,8 +107,6 @@ fn resolve_after(
     aliases: &Map<String, Value>,
     outcomes: AliasOutcomes,
 ) -> Result<Value, ConfFault>
-    requires nested { depth (view value.now) ≤ 32 }
-    requires shallow { members_depth (members_view aliases.now.entries) ≤ 28 }
     requires own { members_view aliases.now.entries ≡ aliases_of (view value.now) }
     requires apart { NoClash (members_view aliases.now.entries) }
     requires settled { outcomes_of outcomes ≡ rounds (members_view aliases.now.entries) (btree_map_len aliases.now) no_outcomes }
@@ -124,7 +115,7 @@ fn resolve_after(
     if let Err(fault) = check_all_aliases(alloc, aliases, &outcomes) {
         return Err(fault);
     }
-    if let Err(fault) = check_places(alloc, value, Place::Root, 32, aliases, &outcomes.resolved) {
+    if let Err(fault) = check_places(alloc, value, Place::Root, aliases, &outcomes.resolved) {
         return Err(fault);
     }
     let AliasOutcomes {
@@ -140,7 +131,6 @@ fn resolve_under(
     value: &Value,
     aliases: &Map<String, Value>,
 ) -> Result<Tree, ConfFault>
-    requires nested { depth (view value.now) ≤ 32 }
     requires whole { has_float (view value.now) ≡ false }
     requires ordered { Ascends (view value.now) }
     requires own { members_view aliases.now.entries ≡ aliases_of (view value.now) }

@@ -14,9 +14,9 @@ use crate::asked::Asked;
 use crate::flaws::check_value;
 use crate::limits::fit;
 use crate::named::all_named;
-use crate::order::dependency_order;
 use crate::outcomes::AliasOutcomes;
 use crate::property::property;
+use crate::turns::Turns;
 use conf_table::Place;
 use conf_tree::{ConfFault, FaultKind};
 use serde_json::{Map, Value};
@@ -29,12 +29,11 @@ fn is_sound(
     aliases: &Map<String, Value>,
     resolved: &Map<String, Value>,
 ) -> Result<bool, ConfFault>
-    requires { depth (view value.now) ≤ 32 }
     ensures sound { IfOk result (λ sound. sound
         ≡ is_empty (flaws (members_view aliases.now.entries) (Some (members_view resolved.now.entries)) Place.FieldType false no_members (view value.now))) }
     ensures memory { IfErr result IsMemory }
 {
-    if let Err(fault) = check_value(alloc, value, Place::FieldType, 32, aliases, Some(resolved)) {
+    if let Err(fault) = check_value(alloc, value, Place::FieldType, aliases, Some(resolved)) {
         if fault.is_memory() {
             return Err(fault);
         }
@@ -51,7 +50,6 @@ fn outcome(
     aliases: &Map<String, Value>,
     resolved: &Map<String, Value>,
 ) -> Result<Option<Value>, ConfFault>
-    requires nested { depth (view value.now) ≤ 32 }
     requires known { known ≡ all_named (has (members_view resolved.now.entries)) Place.FieldType (view value.now) }
     ensures answer { IfOk result (λ answer. option_map view answer
         ≡ outcome (members_view aliases.now.entries) (members_view resolved.now.entries) (view value.now)) }
@@ -66,7 +64,7 @@ fn outcome(
     match fit(alloc, value, Place::FieldType, resolved) {
         Ok(Ok(alias)) => Ok(Some(alias)),
         Ok(Err(_)) => Ok(None),
-        Err(_) => Err(ConfFault::here(FaultKind::OutOfMemory)),
+        Err(_) => Err(ConfFault::memory(alloc)),
     }
 }
 
@@ -79,7 +77,6 @@ fn step(
     aliases: &Map<String, Value>,
     outcomes: &mut AliasOutcomes,
 ) -> Result<(), ConfFault>
-    requires { depth (view value.now) ≤ 32 }
     ensures stepped { OnOk result (outcomes_of outcomes.new
         ≡ step (members_view aliases.now.entries) (string_bytes name.now) (view value.now) (outcomes_of outcomes.old)) }
     ensures memory { IfErr result IsMemory }
@@ -97,7 +94,7 @@ fn step(
         None => outcomes.refuse(name),
     };
     if noted.is_err() {
-        return Err(ConfFault::here(FaultKind::OutOfMemory));
+        return Err(ConfFault::memory(alloc));
     }
     Ok(())
 }
@@ -115,7 +112,6 @@ fn round(
     aliases: &Map<String, Value>,
     outcomes: &mut AliasOutcomes,
 ) -> Result<(), ConfFault>
-    requires { members_depth (members_view aliases.now.entries) ≤ 32 }
     ensures turned { OnOk result (outcomes_of outcomes.new
         ≡ round (members_view aliases.now.entries) (members_view aliases.now.entries) (outcomes_of outcomes.old)) }
     ensures memory { IfErr result IsMemory }
@@ -138,23 +134,47 @@ fn all_settled(aliases: &Map<String, Value>, outcomes: &AliasOutcomes) -> bool
     true
 }
 
+/// Gives an alias that came up its turn, if those that it names had theirs.
+fn take_turn(
+    alloc: Global,
+    name: &String,
+    turns: &mut Turns,
+    aliases: &Map<String, Value>,
+    outcomes: &mut AliasOutcomes,
+) -> Result<(), ConfFault>
+    ensures reached { OnOk result (Reached (members_view aliases.now.entries) (outcomes_of outcomes.old) → Reached (members_view aliases.now.entries) (outcomes_of outcomes.new)) }
+    ensures memory { IfErr result IsMemory }
+{
+    let Some(value) = property(aliases, name.as_str()) else {
+        return Ok(());
+    };
+    match turns.is_due(alloc, name, value, aliases, outcomes) {
+        Ok(true) => {
+            step(alloc, name, value, aliases, outcomes)?;
+            Ok(())
+        }
+        Ok(false) => Ok(()),
+        Err(_) => Err(ConfFault::memory(alloc)),
+    }
+}
+
 /// Gives the aliases their turns, each behind those that it names.
 fn take_turns(
     alloc: Global,
     aliases: &Map<String, Value>,
     outcomes: &mut AliasOutcomes,
 ) -> Result<(), ConfFault>
-    requires { members_depth (members_view aliases.now.entries) ≤ 32 }
     ensures reached { OnOk result (Reached (members_view aliases.now.entries) (outcomes_of outcomes.old) → Reached (members_view aliases.now.entries) (outcomes_of outcomes.new)) }
     ensures memory { IfErr result IsMemory }
 {
-    let Ok(order) = dependency_order(alloc, aliases) else {
-        return Err(ConfFault::here(FaultKind::OutOfMemory));
+    let Ok(mut turns) = Turns::new(alloc, aliases) else {
+        return Err(ConfFault::memory(alloc));
     };
-    for name in &order {
-        if let Some(value) = property(aliases, name.as_str()) {
-            step(alloc, name, value, aliases, outcomes)?;
-        }
+    for _turn in 0..u64::MAX {
+        let Some(name) = turns.pop() else {
+            return Ok(());
+        };
+        take_turn(alloc, &name, &mut turns, aliases, outcomes)?;
     }
     Ok(())
 }
@@ -167,7 +187,6 @@ fn round_if_due(
     aliases: &Map<String, Value>,
     outcomes: &mut AliasOutcomes,
 ) -> Result<bool, ConfFault>
-    requires { members_depth (members_view aliases.now.entries) ≤ 32 }
     ensures settled { IfOk result (λ settled. settled ≡ all_settled (members_view aliases.now.entries) (members_view aliases.now.entries) (outcomes_of outcomes.old)) }
     ensures turned { OnOk result (outcomes_of outcomes.new
         ≡ round (members_view aliases.now.entries) (members_view aliases.now.entries) (outcomes_of outcomes.old)) }
@@ -187,7 +206,6 @@ pub(crate) fn settle_aliases(
     alloc: Global,
     aliases: &Map<String, Value>,
 ) -> Result<AliasOutcomes, ConfFault>
-    requires { members_depth (members_view aliases.now.entries) ≤ 32 }
     ensures apart { NoClash (members_view aliases.now.entries) }
     ensures settled { IfOk result (λ outcomes. outcomes_of outcomes
         ≡ rounds (members_view aliases.now.entries) (btree_map_len aliases.now) no_outcomes) }

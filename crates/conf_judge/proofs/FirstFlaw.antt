@@ -1,7 +1,7 @@
 -- The first of several flaws.
-use Rattle.std.proofs.Common.{◌≡◌, ◌++◌, false, List, [], ◌∷◌, map, Result, Ok, Err, refl, ap, ◌∙◌}
+use Rattle.std.proofs.Common.{◌≡◌, ◌++◌, false, List, [], ◌∷◌, Result, Ok, Err, refl, ◌∙◌}
 use Rattle.std.specs.Prelude.{⊤}
-use Rattle.conf_tree.specs.Flaw.{Flaw, Place, within}
+use Rattle.conf_tree.specs.Flaw.{Flaw}
 use Rattle.conf_tree.specs.Walk.{refusal}
 use Rattle.serde_json.specs.Data.{Data, null, boolean, number, string, array, object}
 use Rattle.conf_table.specs.declared.row.Content.{Content}
@@ -33,15 +33,6 @@ told_later (Err g) ys e = cc
 pub told_alone : (r : Result ⊤ Flaw) → refusal (told_by r) ≡ r
 told_alone (Ok tt) = refl
 told_alone (Err g) = refl
-
--- the first flaw of a part is the first, seen from the whole
-pub refused_part : (p : Place) (xs ys : List Flaw) (f : Flaw) → refusal xs ≡ Err f → refusal (map (within p) xs ++ ys) ≡ Err (within p f)
-refused_part p [] ys f e = cc
-refused_part p (x ∷ xs) ys f e = let same : x ≡ f = cc in ap (λ g. Err (within p g)) same
-
-pub sound_part : (p : Place) (xs ys : List Flaw) → refusal xs ≡ Ok tt → map (within p) xs ++ ys ≡ ys
-sound_part p [] ys e = refl
-sound_part p (x ∷ xs) ys e = cc
 
 -- a value that is no place holds nothing that is judged
 pub nothing_held : (k : Known) (content : Content) (d : Data) → is_place content ≡ false → inner_flaws k content d ≡ []

@@ -1,6 +1,5 @@
 //! The class of a field type: what it leads to, and whether it can stand at a place.
 ghost use Rattle.std.specs.Prelude.{◌≡◌, ◌≤◌, IfErr, option_map};
-ghost use Rattle.arrayvec.specs.ArrayVec.{array_vec_len};
 ghost use Rattle.serde_json.specs.View.{view, members_view};
 ghost use Rattle.conf_tree.specs.Reading.{Gives};
 ghost use Rattle.conf_judge.specs.Flaws.{other_class as other_class_of, class_rule};
@@ -8,8 +7,7 @@ ghost use Rattle.conf_judge.specs.Names.{class_of as class_of_members, class_sai
 
 use crate::places::is_position;
 use conf_table::{Place, class_place};
-use conf_tree::{At, ConfFault, FaultKind, needed, text};
-use conf_values::member;
+use conf_tree::{At, ConfFault, FaultKind, member, needed, text};
 use serde_json::{Map, Value};
 use std::alloc::Global;
 
@@ -20,8 +18,7 @@ pub(crate) fn check_class(
     place: Place,
     members: &Map<String, Value>,
 ) -> Result<(), ConfFault>
-    ensures reading { Gives (λ _. tt) result (class_rule place (members_view members.now.entries)) }
-    ensures steps { IfErr result (λ fault. array_vec_len fault.path ≤ 1) }
+    ensures { Gives (λ _. tt) result (class_rule place (members_view members.now.entries)) }
 {
     if !is_position(place) {
         return Ok(());
@@ -33,7 +30,7 @@ pub(crate) fn check_class(
             if place.admits(class) {
                 Ok(())
             } else {
-                Err(ConfFault::here(other_class(place)))
+                Err(ConfFault::here(alloc, other_class(place)))
             }
         }
         None => Err(At::Property("class").fault(alloc, FaultKind::OutOfRange)),

@@ -1,7 +1,5 @@
 //! What kind of value stands at a place that holds others.
 ghost use Rattle.std.specs.Prelude.{◌≡◌, ◌≤◌, IfErr};
-ghost use Rattle.arrayvec.specs.ArrayVec.{array_vec_len};
-ghost use Rattle.serde_json.specs.Data.{depth};
 ghost use Rattle.serde_json.specs.View.{view, items_view, members_view};
 ghost use Rattle.conf_tree.specs.Reading.{Gives};
 ghost use Rattle.conf_judge.specs.Forms.{any_object, any_list, some_items, some_members, one_member, some_list, some_object, entry, feature, size_feature, form_of, itself_of};
@@ -23,8 +21,7 @@ pub(crate) fn check_itself(
     content: Content,
     value: &Value,
 ) -> Result<(), ConfFault>
-    ensures reading { Gives (λ _. tt) result (itself_of (known_of around.entry) content (view value.now)) }
-    ensures steps { IfErr result (λ fault. array_vec_len fault.path ≤ depth (view value.now)) }
+    ensures { Gives (λ _. tt) result (itself_of (known_of around.entry) content (view value.now)) }
 {
     match content {
         Content::At(place) => check_form(alloc, around, place, value),
@@ -39,8 +36,7 @@ fn check_form(
     place: Place,
     value: &Value,
 ) -> Result<(), ConfFault>
-    ensures reading { Gives (λ _. tt) result (form_of (known_of around.entry) place (view value.now)) }
-    ensures steps { IfErr result (λ fault. array_vec_len fault.path ≤ depth (view value.now)) }
+    ensures { Gives (λ _. tt) result (form_of (known_of around.entry) place (view value.now)) }
 {
     match place {
         Place::Members | Place::ExtraMembers => check_any_list(alloc, value),
@@ -59,8 +55,7 @@ fn check_form(
 
 #[tactic(auto, unfolding(crate::specs::Forms::any_list))]
 fn check_any_list(alloc: Global, value: &Value) -> Result<(), ConfFault>
-    ensures reading { Gives (λ _. tt) result (any_list (view value.now)) }
-    ensures steps { IfErr result (λ fault. array_vec_len fault.path ≡ 0) }
+    ensures { Gives (λ _. tt) result (any_list (view value.now)) }
 {
     let _ = list(alloc, At::Here, value)?;
     Ok(())
@@ -68,8 +63,7 @@ fn check_any_list(alloc: Global, value: &Value) -> Result<(), ConfFault>
 
 #[tactic(auto, unfolding(crate::specs::Forms::any_object))]
 fn check_any_object(alloc: Global, value: &Value) -> Result<(), ConfFault>
-    ensures reading { Gives (λ _. tt) result (any_object (view value.now)) }
-    ensures steps { IfErr result (λ fault. array_vec_len fault.path ≡ 0) }
+    ensures { Gives (λ _. tt) result (any_object (view value.now)) }
 {
     let _ = object(alloc, At::Here, value)?;
     Ok(())
@@ -77,19 +71,17 @@ fn check_any_object(alloc: Global, value: &Value) -> Result<(), ConfFault>
 
 #[tactic(auto, unfolding(crate::specs::Forms::some_list))]
 fn check_some_list(alloc: Global, value: &Value) -> Result<(), ConfFault>
-    ensures reading { Gives (λ _. tt) result (some_list (view value.now)) }
-    ensures steps { IfErr result (λ fault. array_vec_len fault.path ≡ 0) }
+    ensures { Gives (λ _. tt) result (some_list (view value.now)) }
 {
-    check_some_items(list(alloc, At::Here, value)?)
+    check_some_items(alloc, list(alloc, At::Here, value)?)
 }
 
 #[tactic(auto, using(crate::proofs::Sizes::items_there))]
-fn check_some_items(items: &Vec<Value>) -> Result<(), ConfFault>
-    ensures reading { Gives (λ _. tt) result (some_items (items_view items.now.items)) }
-    ensures steps { IfErr result (λ fault. array_vec_len fault.path ≡ 0) }
+fn check_some_items(alloc: Global, items: &Vec<Value>) -> Result<(), ConfFault>
+    ensures { Gives (λ _. tt) result (some_items (items_view items.now.items)) }
 {
     if items.is_empty() {
-        Err(ConfFault::here(FaultKind::OutOfRange))
+        Err(ConfFault::here(alloc, FaultKind::OutOfRange))
     } else {
         Ok(())
     }
@@ -97,19 +89,17 @@ fn check_some_items(items: &Vec<Value>) -> Result<(), ConfFault>
 
 #[tactic(auto, unfolding(crate::specs::Forms::some_object))]
 fn check_some_object(alloc: Global, value: &Value) -> Result<(), ConfFault>
-    ensures reading { Gives (λ _. tt) result (some_object (view value.now)) }
-    ensures steps { IfErr result (λ fault. array_vec_len fault.path ≡ 0) }
+    ensures { Gives (λ _. tt) result (some_object (view value.now)) }
 {
-    check_some_members(object(alloc, At::Here, value)?)
+    check_some_members(alloc, object(alloc, At::Here, value)?)
 }
 
 #[tactic(auto, using(crate::proofs::Sizes::members_there))]
-fn check_some_members(members: &Map<String, Value>) -> Result<(), ConfFault>
-    ensures reading { Gives (λ _. tt) result (some_members (members_view members.now.entries)) }
-    ensures steps { IfErr result (λ fault. array_vec_len fault.path ≡ 0) }
+fn check_some_members(alloc: Global, members: &Map<String, Value>) -> Result<(), ConfFault>
+    ensures { Gives (λ _. tt) result (some_members (members_view members.now.entries)) }
 {
     if members.is_empty() {
-        Err(ConfFault::here(FaultKind::OutOfRange))
+        Err(ConfFault::here(alloc, FaultKind::OutOfRange))
     } else {
         Ok(())
     }
@@ -118,29 +108,26 @@ fn check_some_members(members: &Map<String, Value>) -> Result<(), ConfFault>
 /// An object of one property.
 #[tactic(auto, unfolding(crate::specs::Forms::entry))]
 fn check_entry(alloc: Global, value: &Value) -> Result<(), ConfFault>
-    ensures reading { Gives (λ _. tt) result (entry (view value.now)) }
-    ensures steps { IfErr result (λ fault. array_vec_len fault.path ≡ 0) }
+    ensures { Gives (λ _. tt) result (entry (view value.now)) }
 {
-    check_one_member(object(alloc, At::Here, value)?)
+    check_one_member(alloc, object(alloc, At::Here, value)?)
 }
 
 #[tactic(auto, using(crate::proofs::Sizes::just_one, crate::proofs::Sizes::not_one))]
-fn check_one_member(members: &Map<String, Value>) -> Result<(), ConfFault>
-    ensures reading { Gives (λ _. tt) result (one_member (members_view members.now.entries)) }
-    ensures steps { IfErr result (λ fault. array_vec_len fault.path ≡ 0) }
+fn check_one_member(alloc: Global, members: &Map<String, Value>) -> Result<(), ConfFault>
+    ensures { Gives (λ _. tt) result (one_member (members_view members.now.entries)) }
 {
     if members.len() == 1 {
         Ok(())
     } else {
-        Err(ConfFault::here(FaultKind::WrongKind))
+        Err(ConfFault::here(alloc, FaultKind::WrongKind))
     }
 }
 
 /// On, off, or a type of its own.
 #[tactic(auto, unfolding(crate::specs::Forms::feature))]
 fn check_feature(alloc: Global, value: &Value) -> Result<(), ConfFault>
-    ensures reading { Gives (λ _. tt) result (feature (view value.now)) }
-    ensures steps { IfErr result (λ fault. array_vec_len fault.path ≡ 0) }
+    ensures { Gives (λ _. tt) result (feature (view value.now)) }
 {
     match value {
         Value::Bool(_) => Ok(()),
@@ -153,12 +140,11 @@ fn check_feature(alloc: Global, value: &Value) -> Result<(), ConfFault>
 /// On, or a type of its own.
 #[tactic(auto, unfolding(crate::specs::Forms::size_feature))]
 fn check_size_feature(alloc: Global, value: &Value) -> Result<(), ConfFault>
-    ensures reading { Gives (λ _. tt) result (size_feature (view value.now)) }
-    ensures steps { IfErr result (λ fault. array_vec_len fault.path ≡ 0) }
+    ensures { Gives (λ _. tt) result (size_feature (view value.now)) }
 {
     match value {
         Value::Bool(true) => Ok(()),
-        Value::Bool(false) => Err(ConfFault::here(FaultKind::OutOfRange)),
+        Value::Bool(false) => Err(ConfFault::here(alloc, FaultKind::OutOfRange)),
         Value::Null | Value::Number(_) | Value::String(_) | Value::Array(_) | Value::Object(_) => {
             check_any_object(alloc, value)
         }

@@ -1,8 +1,6 @@
 //! The first flaw of an object, in the order of a walk: an object before its content, what is missing before what is there, and
 //! properties in byte order of their names.
 ghost use Rattle.std.specs.Prelude.{◌≡◌, ◌≤◌, ◌<◌, ◌+◌, IfErr};
-ghost use Rattle.arrayvec.specs.ArrayVec.{array_vec_len};
-ghost use Rattle.serde_json.specs.Data.{depth, items_depth, members_depth};
 ghost use Rattle.serde_json.specs.View.{view, items_view, members_view};
 ghost use Rattle.conf_tree.specs.Reading.{Gives};
 ghost use Rattle.conf_tree.specs.Walk.{refusal};
@@ -36,9 +34,7 @@ use std::alloc::Global;
 /// The tree stays as it is, and the fault has the way from the whole configuration to the value, or to the property that is
 /// missing or unknown. Where memory is wanting for this, that is the fault. A resolved tree nests no deeper than 32.
 pub fn check_objects(alloc: Global, value: &Value) -> Result<(), ConfFault>
-    requires nested { depth (view value.now) ≤ 32 }
-    ensures first { Gives (λ _. tt) result (refusal (configuration_flaws (view value.now))) }
-    ensures steps { IfErr result (λ fault. array_vec_len fault.path ≤ depth (view value.now)) }
+    ensures { Gives (λ _. tt) result (refusal (configuration_flaws (view value.now))) }
 {
     let nothing = Map::new(alloc);
     let around = Around {
@@ -59,9 +55,7 @@ fn check_content(
     content: Content,
     value: &Value,
 ) -> Result<(), ConfFault>
-    requires nested { depth (view value.now) ≤ 32 }
-    ensures first { Gives (λ _. tt) result (refusal (content_flaws (known_of around.entry) content (view value.now))) }
-    ensures steps { IfErr result (λ fault. array_vec_len fault.path ≤ depth (view value.now)) }
+    ensures { Gives (λ _. tt) result (refusal (content_flaws (known_of around.entry) content (view value.now))) }
 {
     check_itself(alloc, around, content, value)?;
     check_inner(alloc, around, content, value)
@@ -76,9 +70,7 @@ fn check_inner(
     content: Content,
     value: &Value,
 ) -> Result<(), ConfFault>
-    requires nested { depth (view value.now) ≤ 32 }
-    ensures first { Gives (λ _. tt) result (refusal (inner_flaws (known_of around.entry) content (view value.now))) }
-    ensures steps { IfErr result (λ fault. array_vec_len fault.path ≤ depth (view value.now)) }
+    ensures { Gives (λ _. tt) result (refusal (inner_flaws (known_of around.entry) content (view value.now))) }
 {
     match content {
         Content::At(place) => check_held(alloc, around, place, value),
@@ -93,9 +85,7 @@ fn check_held(
     place: Place,
     value: &Value,
 ) -> Result<(), ConfFault>
-    requires nested { depth (view value.now) ≤ 32 }
-    ensures first { Gives (λ _. tt) result (refusal (inner_flaws (known_of around.entry) (contents.At place) (view value.now))) }
-    ensures steps { IfErr result (λ fault. array_vec_len fault.path ≤ depth (view value.now)) }
+    ensures { Gives (λ _. tt) result (refusal (inner_flaws (known_of around.entry) (contents.At place) (view value.now))) }
 {
     match value {
         Value::Null | Value::Bool(_) | Value::Number(_) | Value::String(_) => Ok(()),
@@ -111,19 +101,17 @@ fn check_items(
     place: Place,
     items: &Vec<Value>,
 ) -> Result<(), ConfFault>
-    requires nested { items_depth (items_view items.now.items) < 32 }
-    ensures first { Gives (λ _. tt) result (refusal (item_flaws (known_of around.entry) place (names_beside_of place) 0 (items_view items.now.items))) }
-    ensures steps { IfErr result (λ fault. array_vec_len fault.path ≤ items_depth (items_view items.now.items) + 1) }
+    ensures { Gives (λ _. tt) result (refusal (item_flaws (known_of around.entry) place (names_beside_of place) 0 (items_view items.now.items))) }
 {
     let Ok(mut taken) = names_beside(alloc, place) else {
-        return Err(ConfFault::here(FaultKind::OutOfMemory));
+        return Err(ConfFault::memory(alloc));
     };
     for (index, item) in items.iter().enumerate() {
         if let Err(fault) = check_item(alloc, around, place, item, &taken) {
-            return Err(fault.inside(index));
+            return Err(fault.inside(alloc, index));
         }
         if take_names(alloc, &mut taken, item).is_err() {
-            return Err(ConfFault::here(FaultKind::OutOfMemory));
+            return Err(ConfFault::memory(alloc));
         }
     }
     Ok(())
@@ -138,9 +126,7 @@ fn check_item(
     item: &Value,
     taken: &Map<String, Value>,
 ) -> Result<(), ConfFault>
-    requires nested { depth (view item.now) ≤ 32 }
-    ensures first { Gives (λ _. tt) result (refusal (content_flaws (with_taken (members_view taken.now.entries) (known_of around.entry)) (item_content_of place) (view item.now))) }
-    ensures steps { IfErr result (λ fault. array_vec_len fault.path ≤ depth (view item.now)) }
+    ensures { Gives (λ _. tt) result (refusal (content_flaws (with_taken (members_view taken.now.entries) (known_of around.entry)) (item_content_of place) (view item.now))) }
 {
     let here = Around { taken, ..around };
     check_content(alloc, here, item_content(place), item)
@@ -154,15 +140,13 @@ fn check_object(
     place: Place,
     members: &Map<String, Value>,
 ) -> Result<(), ConfFault>
-    requires nested { members_depth (members_view members.now.entries) < 32 }
-    ensures first { Gives (λ _. tt) result (refusal (flaws_of_object (known_of around.entry) place (members_view members.now.entries))) }
-    ensures steps { IfErr result (λ fault. array_vec_len fault.path ≤ members_depth (members_view members.now.entries) + 1) }
+    ensures { Gives (λ _. tt) result (refusal (flaws_of_object (known_of around.entry) place (members_view members.now.entries))) }
 {
     let own = place_of_properties(place, members);
     check_class(alloc, place, members)?;
     check_present(alloc, own, members)?;
     check_members(alloc, around.inside(own, members), own, members)?;
-    check_shape(place, members)
+    check_shape(alloc, place, members)
 }
 
 #[cycle(judge)]
@@ -172,9 +156,7 @@ fn check_members(
     place: Place,
     members: &Map<String, Value>,
 ) -> Result<(), ConfFault>
-    requires nested { members_depth (members_view members.now.entries) < 32 }
-    ensures first { Gives (λ _. tt) result (refusal (member_flaws (known_of around.entry) place (members_view members.now.entries))) }
-    ensures steps { IfErr result (λ fault. array_vec_len fault.path ≤ members_depth (members_view members.now.entries) + 1) }
+    ensures { Gives (λ _. tt) result (refusal (member_flaws (known_of around.entry) place (members_view members.now.entries))) }
 {
     let mut here = around;
     for (name, value) in members.iter() {
@@ -195,12 +177,10 @@ fn check_property(
     name: &str,
     value: &Value,
 ) -> Result<(), ConfFault>
-    requires nested { depth (view value.now) ≤ 32 }
-    ensures first { Gives (λ _. tt) result (refusal (property_flaws (known_of around.entry) place name.now (resolved_content_of place name.now) (view value.now) (inner_flaws (known_of around.entry) (content_or_any (resolved_content_of place name.now)) (view value.now)))) }
-    ensures steps { IfErr result (λ fault. array_vec_len fault.path ≤ depth (view value.now)) }
+    ensures { Gives (λ _. tt) result (refusal (property_flaws (known_of around.entry) place name.now (resolved_content_of place name.now) (view value.now) (inner_flaws (known_of around.entry) (content_or_any (resolved_content_of place name.now)) (view value.now)))) }
 {
     let Some(content) = resolved_content(place, name) else {
-        return Err(ConfFault::here(FaultKind::Unknown));
+        return Err(ConfFault::here(alloc, FaultKind::Unknown));
     };
     if is_left_out(place, name, value) {
         return Ok(());

@@ -2,7 +2,6 @@
 ghost use Rattle.std.specs.Prelude.{◌≡◌, ◌≤◌, IfErr, map, option_map};
 ghost use Rattle.std.specs.List.{list_any};
 ghost use Rattle.std.specs.Str.{bytes_eq};
-ghost use Rattle.arrayvec.specs.ArrayVec.{array_vec_len};
 ghost use Rattle.serde_json.specs.Find.{get_member};
 ghost use Rattle.serde_json.specs.View.{view, members_view};
 ghost use Rattle.conf_tree.specs.Reading.{Gives};
@@ -11,8 +10,8 @@ ghost use Rattle.conf_judge.specs.Leaves.{only_if, whole_from, power_of, is_powe
 
 use crate::around::Around;
 use conf_table::{Content, class_place, words_in};
-use conf_tree::{At, ConfFault, FaultKind, flag, text, whole};
-use conf_values::{is_printable, member, parsed};
+use conf_tree::{At, ConfFault, FaultKind, flag, member, text, whole};
+use conf_values::{is_printable, parsed};
 use serde_json::{Map, Value};
 use std::alloc::Global;
 
@@ -24,8 +23,7 @@ pub(crate) fn check_leaf(
     content: Content,
     value: &Value,
 ) -> Result<(), ConfFault>
-    ensures reading { Gives (λ _. tt) result (leaf_of (known_of around.entry) content (view value.now)) }
-    ensures steps { IfErr result (λ fault. array_vec_len fault.path ≡ 0) }
+    ensures { Gives (λ _. tt) result (leaf_of (known_of around.entry) content (view value.now)) }
 {
     match content {
         Content::Whole { low, high } => check_whole(alloc, value, low, high),
@@ -49,21 +47,19 @@ pub(crate) fn check_leaf(
 }
 
 /// Refuses as out of range what does not fit.
-pub(crate) fn check_that(fits: bool) -> Result<(), ConfFault>
-    ensures reading { Gives (λ _. tt) result (only_if fits) }
-    ensures steps { IfErr result (λ fault. array_vec_len fault.path ≡ 0) }
+pub(crate) fn check_that(alloc: Global, fits: bool) -> Result<(), ConfFault>
+    ensures { Gives (λ _. tt) result (only_if fits) }
 {
     if fits {
         Ok(())
     } else {
-        Err(ConfFault::here(FaultKind::OutOfRange))
+        Err(ConfFault::here(alloc, FaultKind::OutOfRange))
     }
 }
 
 #[tactic(auto, unfolding(crate::specs::Leaves::whole_from))]
 fn check_whole(alloc: Global, value: &Value, low: i128, high: i128) -> Result<(), ConfFault>
-    ensures reading { Gives (λ _. tt) result (whole_from low high (view value.now)) }
-    ensures steps { IfErr result (λ fault. array_vec_len fault.path ≡ 0) }
+    ensures { Gives (λ _. tt) result (whole_from low high (view value.now)) }
 {
     let _ = whole(alloc, At::Here, value, low, high)?;
     Ok(())
@@ -75,11 +71,10 @@ const LARGEST_POWER: u64 = 9_223_372_036_854_775_808;
 /// The powers of two of 64 bits are the divisors of the largest of them.
 #[tactic(auto, unfolding(crate::specs::Leaves::power_of))]
 fn check_power_of_two(alloc: Global, value: &Value) -> Result<(), ConfFault>
-    ensures reading { Gives (λ _. tt) result (power_of (view value.now)) }
-    ensures steps { IfErr result (λ fault. array_vec_len fault.path ≡ 0) }
+    ensures { Gives (λ _. tt) result (power_of (view value.now)) }
 {
     let number = whole(alloc, At::Here, value, 1, 18_446_744_073_709_551_615)?;
-    check_that(is_power_of_two(number))
+    check_that(alloc, is_power_of_two(number))
 }
 
 fn is_power_of_two(number: i128) -> bool
@@ -93,8 +88,7 @@ fn is_power_of_two(number: i128) -> bool
 
 #[tactic(auto, unfolding(crate::specs::Leaves::any_flag))]
 fn check_flag(alloc: Global, value: &Value) -> Result<(), ConfFault>
-    ensures reading { Gives (λ _. tt) result (any_flag (view value.now)) }
-    ensures steps { IfErr result (λ fault. array_vec_len fault.path ≡ 0) }
+    ensures { Gives (λ _. tt) result (any_flag (view value.now)) }
 {
     let _ = flag(alloc, At::Here, value)?;
     Ok(())
@@ -103,17 +97,15 @@ fn check_flag(alloc: Global, value: &Value) -> Result<(), ConfFault>
 /// A flag that is true, where another before it is.
 #[tactic(auto, unfolding(crate::specs::Leaves::one_flag))]
 fn check_one_flag(alloc: Global, has_default: bool, value: &Value) -> Result<(), ConfFault>
-    ensures reading { Gives (λ _. tt) result (one_flag has_default (view value.now)) }
-    ensures steps { IfErr result (λ fault. array_vec_len fault.path ≡ 0) }
+    ensures { Gives (λ _. tt) result (one_flag has_default (view value.now)) }
 {
     let is_default = flag(alloc, At::Here, value)?;
-    check_that(!(is_default && has_default))
+    check_that(alloc, !(is_default && has_default))
 }
 
 #[tactic(auto, unfolding(crate::specs::Leaves::any_text))]
 fn check_any_text(alloc: Global, value: &Value) -> Result<(), ConfFault>
-    ensures reading { Gives (λ _. tt) result (any_text (view value.now)) }
-    ensures steps { IfErr result (λ fault. array_vec_len fault.path ≡ 0) }
+    ensures { Gives (λ _. tt) result (any_text (view value.now)) }
 {
     let _ = text(alloc, At::Here, value)?;
     Ok(())
@@ -122,35 +114,31 @@ fn check_any_text(alloc: Global, value: &Value) -> Result<(), ConfFault>
 /// A text that people read.
 #[tactic(auto, unfolding(crate::specs::Leaves::printable))]
 fn check_printable(alloc: Global, value: &Value) -> Result<(), ConfFault>
-    ensures reading { Gives (λ _. tt) result (printable (view value.now)) }
-    ensures steps { IfErr result (λ fault. array_vec_len fault.path ≡ 0) }
+    ensures { Gives (λ _. tt) result (printable (view value.now)) }
 {
-    check_that(is_printable(text(alloc, At::Here, value)?))
+    check_that(alloc, is_printable(text(alloc, At::Here, value)?))
 }
 
 #[tactic(auto, unfolding(crate::specs::Leaves::identifier))]
 fn check_identifier(alloc: Global, value: &Value) -> Result<(), ConfFault>
-    ensures reading { Gives (λ _. tt) result (identifier (view value.now)) }
-    ensures steps { IfErr result (λ fault. array_vec_len fault.path ≡ 0) }
+    ensures { Gives (λ _. tt) result (identifier (view value.now)) }
 {
-    check_that(parsed(text(alloc, At::Here, value)?).is_some())
+    check_that(alloc, parsed(text(alloc, At::Here, value)?).is_some())
 }
 
 #[tactic(auto, unfolding(crate::specs::Leaves::identifier_or_auto))]
 fn check_identifier_or_auto(alloc: Global, value: &Value) -> Result<(), ConfFault>
-    ensures reading { Gives (λ _. tt) result (identifier_or_auto (view value.now)) }
-    ensures steps { IfErr result (λ fault. array_vec_len fault.path ≡ 0) }
+    ensures { Gives (λ _. tt) result (identifier_or_auto (view value.now)) }
 {
     let text = text(alloc, At::Here, value)?;
-    check_that(text == "auto" || parsed(text).is_some())
+    check_that(alloc, text == "auto" || parsed(text).is_some())
 }
 
 #[tactic(auto, unfolding(crate::specs::Leaves::word_among))]
 fn check_word(alloc: Global, words: &'static [&'static str], value: &Value) -> Result<(), ConfFault>
-    ensures reading { Gives (λ _. tt) result (word_among (map (λ w. w.now) words.now) (view value.now)) }
-    ensures steps { IfErr result (λ fault. array_vec_len fault.path ≡ 0) }
+    ensures { Gives (λ _. tt) result (word_among (map (λ w. w.now) words.now) (view value.now)) }
 {
-    check_that(is_among(words, text(alloc, At::Here, value)?))
+    check_that(alloc, is_among(words, text(alloc, At::Here, value)?))
 }
 
 fn is_among(words: &'static [&'static str], word: &str) -> bool
@@ -166,19 +154,17 @@ fn is_among(words: &'static [&'static str], word: &str) -> bool
 
 #[tactic(auto, unfolding(crate::specs::Leaves::class_word))]
 fn check_class(alloc: Global, value: &Value) -> Result<(), ConfFault>
-    ensures reading { Gives (λ _. tt) result (class_word (view value.now)) }
-    ensures steps { IfErr result (λ fault. array_vec_len fault.path ≡ 0) }
+    ensures { Gives (λ _. tt) result (class_word (view value.now)) }
 {
-    check_that(class_place(text(alloc, At::Here, value)?).is_some())
+    check_that(alloc, class_place(text(alloc, At::Here, value)?).is_some())
 }
 
 #[tactic(auto, unfolding(crate::specs::Leaves::whole_or_text))]
 fn check_whole_or_text(alloc: Global, value: &Value, low: i128, high: i128) -> Result<(), ConfFault>
-    ensures reading { Gives (λ _. tt) result (whole_or_text low high (view value.now)) }
-    ensures steps { IfErr result (λ fault. array_vec_len fault.path ≡ 0) }
+    ensures { Gives (λ _. tt) result (whole_or_text low high (view value.now)) }
 {
     match value {
-        Value::String(text) => check_that(is_printable(text.as_str())),
+        Value::String(text) => check_that(alloc, is_printable(text.as_str())),
         Value::Null | Value::Bool(_) | Value::Number(_) | Value::Array(_) | Value::Object(_) => {
             check_whole(alloc, value, low, high)
         }
@@ -193,13 +179,12 @@ fn check_level(
     value: &Value,
     high: i128,
 ) -> Result<(), ConfFault>
-    ensures reading { Gives (λ _. tt) result (level (or_none (option_map (λ m. members_view m.now.entries) levels.entry)) high (view value.now)) }
-    ensures steps { IfErr result (λ fault. array_vec_len fault.path ≡ 0) }
+    ensures { Gives (λ _. tt) result (level (or_none (option_map (λ m. members_view m.now.entries) levels.entry)) high (view value.now)) }
 {
     match value {
         Value::String(name) => match level_named(levels, name.as_str()) {
             Some(level) => check_whole(alloc, level, 0, high),
-            None => Err(ConfFault::here(FaultKind::NoSuchAlias)),
+            None => Err(ConfFault::here(alloc, FaultKind::NoSuchAlias)),
         },
         Value::Null | Value::Bool(_) | Value::Number(_) | Value::Array(_) | Value::Object(_) => {
             check_whole(alloc, value, 0, high)

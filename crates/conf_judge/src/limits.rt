@@ -1,7 +1,5 @@
 //! The first limit of size that a configuration passes, in the order of a walk.
 ghost use Rattle.std.specs.Prelude.{◌≡◌, ◌≤◌, ◌<◌, ◌+◌, ◌++◌, IfErr};
-ghost use Rattle.arrayvec.specs.ArrayVec.{array_vec_len};
-ghost use Rattle.serde_json.specs.Data.{depth, items_depth, members_depth};
 ghost use Rattle.serde_json.specs.View.{view, items_view, members_view};
 ghost use Rattle.conf_tree.specs.Reading.{Gives};
 ghost use Rattle.conf_tree.specs.Walk.{refusal};
@@ -27,21 +25,18 @@ use std::alloc::Global;
 /// The tree stays as it is, and the fault has the way from the whole configuration to the value, or to the label. Where memory is
 /// wanting for this, that is the fault. A resolved tree nests no deeper than 32.
 pub fn check_limits(alloc: Global, value: &Value) -> Result<(), ConfFault>
-    requires nested { depth (view value.now) ≤ 32 }
-    ensures first { Gives (λ _. tt) result (refusal (configuration_limits (view value.now))) }
-    ensures steps { IfErr result (λ fault. array_vec_len fault.path ≤ depth (view value.now)) }
+    ensures { Gives (λ _. tt) result (refusal (configuration_limits (view value.now))) }
 {
     check_content(alloc, Content::At(Place::Root), value)
 }
 
-fn check_limit(fits: bool) -> Result<(), ConfFault>
-    ensures reading { Gives (λ _. tt) result (within_limit fits) }
-    ensures steps { IfErr result (λ fault. array_vec_len fault.path ≡ 0) }
+fn check_limit(alloc: Global, fits: bool) -> Result<(), ConfFault>
+    ensures { Gives (λ _. tt) result (within_limit fits) }
 {
     if fits {
         Ok(())
     } else {
-        Err(ConfFault::here(FaultKind::Limit))
+        Err(ConfFault::here(alloc, FaultKind::Limit))
     }
 }
 
@@ -49,20 +44,16 @@ fn check_limit(fits: bool) -> Result<(), ConfFault>
 #[cycle(limits)]
 #[tactic(auto, using(crate::proofs::FirstFlaw::told_first, crate::proofs::FirstFlaw::told_later))]
 fn check_content(alloc: Global, content: Content, value: &Value) -> Result<(), ConfFault>
-    requires nested { depth (view value.now) ≤ 32 }
-    ensures first { Gives (λ _. tt) result (refusal (content_limits content (view value.now))) }
-    ensures steps { IfErr result (λ fault. array_vec_len fault.path ≤ depth (view value.now)) }
+    ensures { Gives (λ _. tt) result (refusal (content_limits content (view value.now))) }
 {
-    check_limit(fits(content, value))?;
+    check_limit(alloc, fits(content, value))?;
     check_inner(alloc, content, value)
 }
 
 #[cycle(limits)]
 #[tactic(auto, using(crate::proofs::FirstFlaw::nothing_limited))]
 fn check_inner(alloc: Global, content: Content, value: &Value) -> Result<(), ConfFault>
-    requires nested { depth (view value.now) ≤ 32 }
-    ensures first { Gives (λ _. tt) result (refusal (inner_limits content (view value.now))) }
-    ensures steps { IfErr result (λ fault. array_vec_len fault.path ≤ depth (view value.now)) }
+    ensures { Gives (λ _. tt) result (refusal (inner_limits content (view value.now))) }
 {
     match content {
         Content::At(place) => check_held(alloc, place, value),
@@ -72,9 +63,7 @@ fn check_inner(alloc: Global, content: Content, value: &Value) -> Result<(), Con
 
 #[cycle(limits)]
 fn check_held(alloc: Global, place: Place, value: &Value) -> Result<(), ConfFault>
-    requires nested { depth (view value.now) ≤ 32 }
-    ensures first { Gives (λ _. tt) result (refusal (inner_limits (contents.At place) (view value.now))) }
-    ensures steps { IfErr result (λ fault. array_vec_len fault.path ≤ depth (view value.now)) }
+    ensures { Gives (λ _. tt) result (refusal (inner_limits (contents.At place) (view value.now))) }
 {
     match value {
         Value::Null | Value::Bool(_) | Value::Number(_) | Value::String(_) => Ok(()),
@@ -87,13 +76,11 @@ fn check_held(alloc: Global, place: Place, value: &Value) -> Result<(), ConfFaul
 
 #[cycle(limits)]
 fn check_items(alloc: Global, place: Place, items: &Vec<Value>) -> Result<(), ConfFault>
-    requires nested { items_depth (items_view items.now.items) < 32 }
-    ensures first { Gives (λ _. tt) result (refusal (item_limits place 0 (items_view items.now.items))) }
-    ensures steps { IfErr result (λ fault. array_vec_len fault.path ≤ items_depth (items_view items.now.items) + 1) }
+    ensures { Gives (λ _. tt) result (refusal (item_limits place 0 (items_view items.now.items))) }
 {
     for (index, item) in items.iter().enumerate() {
         if let Err(fault) = check_content(alloc, item_content(place), item) {
-            return Err(fault.inside(index));
+            return Err(fault.inside(alloc, index));
         }
     }
     Ok(())
@@ -101,9 +88,7 @@ fn check_items(alloc: Global, place: Place, items: &Vec<Value>) -> Result<(), Co
 
 #[cycle(limits)]
 fn check_members(alloc: Global, place: Place, members: &Map<String, Value>) -> Result<(), ConfFault>
-    requires nested { members_depth (members_view members.now.entries) < 32 }
-    ensures first { Gives (λ _. tt) result (refusal (member_limits place (members_view members.now.entries))) }
-    ensures steps { IfErr result (λ fault. array_vec_len fault.path ≤ members_depth (members_view members.now.entries) + 1) }
+    ensures { Gives (λ _. tt) result (refusal (member_limits place (members_view members.now.entries))) }
 {
     for (name, value) in members.iter() {
         if let Err(fault) = check_property(alloc, place, name.as_str(), value) {
@@ -126,10 +111,8 @@ fn content_or_any(place: Place, name: &str) -> Content
 #[cycle(limits)]
 #[tactic(auto, using(crate::proofs::FirstFlaw::told_first, crate::proofs::FirstFlaw::told_later))]
 fn check_property(alloc: Global, place: Place, name: &str, value: &Value) -> Result<(), ConfFault>
-    requires nested { depth (view value.now) ≤ 32 }
-    ensures first { Gives (λ _. tt) result (refusal (told_by (within_limit (key_fits_of place name.now)) ++ content_limits (content_or_any_of (content_under place name.now)) (view value.now))) }
-    ensures steps { IfErr result (λ fault. array_vec_len fault.path ≤ depth (view value.now)) }
+    ensures { Gives (λ _. tt) result (refusal (told_by (within_limit (key_fits_of place name.now)) ++ content_limits (content_or_any_of (content_under place name.now)) (view value.now))) }
 {
-    check_limit(key_fits(place, name))?;
+    check_limit(alloc, key_fits(place, name))?;
     check_content(alloc, content_or_any(place, name), value)
 }

@@ -1,6 +1,5 @@
 //! The names of the entries of maps, and those that members take.
 ghost use Rattle.std.specs.Prelude.{◌≡◌, ◌≤◌, ◌||◌, IfOk, IfErr, OnOk, string_bytes, option_map, map};
-ghost use Rattle.arrayvec.specs.ArrayVec.{array_vec_len};
 ghost use Rattle.serde_json.specs.View.{view, members_view};
 ghost use Rattle.ctf_types.specs.Shown.{length_name as length_name_of};
 ghost use Rattle.conf_tree.specs.Flaw.{IsMemory};
@@ -16,8 +15,8 @@ use crate::around::Around;
 use crate::class::class_of;
 use crate::leaf::check_that;
 use conf_table::{Keys, Place, entries};
-use conf_tree::{ConfFault, FaultKind};
-use conf_values::{check_name, check_plain_name, is_printable, member};
+use conf_tree::{ConfFault, FaultKind, member};
+use conf_values::{check_name, check_plain_name, is_printable};
 use serde_json::{Map, Value};
 use std::alloc::{AllocError, Global};
 
@@ -30,8 +29,7 @@ pub(crate) fn check_key(
     name: &str,
     value: &Value,
 ) -> Result<(), ConfFault>
-    ensures reading { Gives (λ _. tt) result (key_of (known_of around.entry) place name.now (view value.now)) }
-    ensures steps { IfErr result (λ fault. array_vec_len fault.path ≡ 0) }
+    ensures { Gives (λ _. tt) result (key_of (known_of around.entry) place name.now (view value.now)) }
 {
     match entries(place) {
         Some(entries) => check_key_by(alloc, around, place, entries.keys, name, value),
@@ -48,28 +46,26 @@ fn check_key_by(
     name: &str,
     value: &Value,
 ) -> Result<(), ConfFault>
-    ensures reading { Gives (λ _. tt) result (key_by (known_of around.entry) place keys name.now (view value.now)) }
-    ensures steps { IfErr result (λ fault. array_vec_len fault.path ≡ 0) }
+    ensures { Gives (λ _. tt) result (key_by (known_of around.entry) place keys name.now (view value.now)) }
 {
     match keys {
-        Keys::Name => check_name(name),
+        Keys::Name => check_name(alloc, name),
         Keys::PlainName => {
-            check_plain_name(name)?;
+            check_plain_name(alloc, name)?;
             match place {
                 Place::Entry => check_free(alloc, around.taken, name, value),
                 _ => Ok(()),
             }
         }
-        Keys::Label => check_label(name),
+        Keys::Label => check_label(alloc, name),
         Keys::Index => Ok(()),
     }
 }
 
-fn check_label(label: &str) -> Result<(), ConfFault>
-    ensures reading { Gives (λ _. tt) result (only_if (is_printable_of label.now)) }
-    ensures steps { IfErr result (λ fault. array_vec_len fault.path ≡ 0) }
+fn check_label(alloc: Global, label: &str) -> Result<(), ConfFault>
+    ensures { Gives (λ _. tt) result (only_if (is_printable_of label.now)) }
 {
-    check_that(is_printable(label))
+    check_that(alloc, is_printable(label))
 }
 
 /// Refuses the name of a member that another has taken, its own or its length's.
@@ -80,12 +76,11 @@ fn check_free(
     name: &str,
     value: &Value,
 ) -> Result<(), ConfFault>
-    ensures reading { Gives (λ _. tt) result (free_of (members_view taken.now.entries) name.now (view value.now)) }
-    ensures steps { IfErr result (λ fault. array_vec_len fault.path ≡ 0) }
+    ensures { Gives (λ _. tt) result (free_of (members_view taken.now.entries) name.now (view value.now)) }
 {
     let length_is_taken = length_is_taken(alloc, taken, name, is_dynamic(value))?;
     if is_taken(taken, name) || length_is_taken {
-        Err(ConfFault::here(FaultKind::NameClash))
+        Err(ConfFault::here(alloc, FaultKind::NameClash))
     } else {
         Ok(())
     }
@@ -105,14 +100,13 @@ fn length_is_taken(
 ) -> Result<bool, ConfFault>
     ensures is { IfOk result (λ b. b ≡ length_is_taken_of dynamic (members_view taken.now.entries) name.now) }
     ensures memory { IfErr result IsMemory }
-    ensures steps { IfErr result (λ fault. array_vec_len fault.path ≡ 0) }
 {
     if !dynamic {
         return Ok(false);
     }
     match length_name(alloc, name) {
         Ok(length) => Ok(is_taken(taken, length.as_str())),
-        Err(_) => Err(ConfFault::here(FaultKind::OutOfMemory)),
+        Err(_) => Err(ConfFault::memory(alloc)),
     }
 }
 

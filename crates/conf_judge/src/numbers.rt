@@ -1,14 +1,12 @@
 //! The ranges of an enumeration, and the numbers that its integer can hold.
 ghost use Rattle.std.specs.Prelude.{◌≡◌, ◌≤◌, ◌^◌, IfErr, pos};
-ghost use Rattle.arrayvec.specs.ArrayVec.{array_vec_len};
-ghost use Rattle.serde_json.specs.Data.{depth};
 ghost use Rattle.serde_json.specs.View.{view, items_view, members_view};
 ghost use Rattle.conf_tree.specs.Flaw.{index as item};
 ghost use Rattle.conf_tree.specs.Reading.{Gives, at};
 ghost use Rattle.conf_judge.specs.Numbers.{natural_in as natural_in_of, end_of, pair_of, range_of, inside_of, numbers_of as numbers_of_size, numbers_in as numbers_in_of, is_inside as is_inside_of};
 
-use conf_tree::{At, ConfFault, FaultKind, whole};
-use conf_values::{as_natural, member};
+use conf_tree::{At, ConfFault, FaultKind, member, whole};
+use conf_values::as_natural;
 use serde_json::{Map, Value};
 use std::alloc::Global;
 
@@ -84,16 +82,14 @@ pub(crate) fn natural_in(members: &Map<String, Value>, name: &str) -> Option<u64
 }
 
 fn end_at(alloc: Global, value: &Value, index: usize) -> Result<i128, ConfFault>
-    ensures reading { Gives (λ z. z) result (at (item index) (end_of (view value.now))) }
-    ensures steps { IfErr result (λ fault. array_vec_len fault.path ≤ 1) }
+    ensures { Gives (λ z. z) result (at (item index) (end_of (view value.now))) }
 {
     whole(alloc, At::Item(index), value, LOWEST, HIGHEST)
 }
 
 #[tactic(auto, using(crate::proofs::Sizes::pair_few, crate::proofs::Sizes::pair_many), unfolding(crate::specs::Numbers::pair_of))]
 fn pair(alloc: Global, items: &Vec<Value>) -> Result<Span, ConfFault>
-    ensures reading { Gives (λ s. s) result (pair_of (items_view items.now.items)) }
-    ensures steps { IfErr result (λ fault. array_vec_len fault.path ≤ 1) }
+    ensures { Gives (λ s. s) result (pair_of (items_view items.now.items)) }
 {
     match items.as_slice() {
         [first, second] => {
@@ -101,15 +97,14 @@ fn pair(alloc: Global, items: &Vec<Value>) -> Result<Span, ConfFault>
             let high = end_at(alloc, second, 1)?;
             Ok(Span { low, high })
         }
-        [] | [_] | [_, _, _, ..] => Err(ConfFault::here(FaultKind::WrongKind)),
+        [] | [_] | [_, _, _, ..] => Err(ConfFault::here(alloc, FaultKind::WrongKind)),
     }
 }
 
 /// The range that a number or a pair of numbers is.
 #[tactic(auto, unfolding(crate::specs::Numbers::range_of))]
 fn range(alloc: Global, value: &Value) -> Result<Span, ConfFault>
-    ensures reading { Gives (λ s. s) result (range_of (view value.now)) }
-    ensures steps { IfErr result (λ fault. array_vec_len fault.path ≤ depth (view value.now)) }
+    ensures { Gives (λ s. s) result (range_of (view value.now)) }
 {
     match value {
         Value::Array(items) => pair(alloc, items),
@@ -133,12 +128,11 @@ fn is_inside(numbers: Span, range: Span) -> bool
 /// Refuses a value that is no range inside these numbers.
 #[tactic(auto, unfolding(crate::specs::Numbers::inside_of))]
 pub(crate) fn check_range(alloc: Global, numbers: Span, value: &Value) -> Result<(), ConfFault>
-    ensures reading { Gives (λ _. tt) result (inside_of numbers (view value.now)) }
-    ensures steps { IfErr result (λ fault. array_vec_len fault.path ≤ depth (view value.now)) }
+    ensures { Gives (λ _. tt) result (inside_of numbers (view value.now)) }
 {
     if is_inside(numbers, range(alloc, value)?) {
         Ok(())
     } else {
-        Err(ConfFault::here(FaultKind::OutOfRange))
+        Err(ConfFault::here(alloc, FaultKind::OutOfRange))
     }
 }

@@ -1,14 +1,12 @@
 //! Which properties an object has: those that have to be there, those that cannot be, and those that a null leaves out.
 ghost use Rattle.std.specs.Prelude.{◌≡◌, ◌≤◌, IfErr, map};
-ghost use Rattle.arrayvec.specs.ArrayVec.{array_vec_len};
 ghost use Rattle.serde_json.specs.View.{view, members_view};
 ghost use Rattle.conf_tree.specs.Reading.{Gives};
 ghost use Rattle.conf_table.specs.Table.{told_of};
 ghost use Rattle.conf_judge.specs.Flaws.{rows_there, orders_there as orders_there_of, all_there, resolved_content as resolved_content_of, is_left_out as is_left_out_of};
 
 use conf_table::{Content, Place, Presence, Row, content, presence, rows};
-use conf_tree::{At, ConfFault, FaultKind, optional};
-use conf_values::member;
+use conf_tree::{At, ConfFault, FaultKind, member, optional};
 use serde_json::{Map, Value};
 use std::alloc::Global;
 
@@ -19,8 +17,7 @@ pub(crate) fn check_present(
     place: Place,
     members: &Map<String, Value>,
 ) -> Result<(), ConfFault>
-    ensures reading { Gives (λ _. tt) result (all_there place (members_view members.now.entries)) }
-    ensures steps { IfErr result (λ fault. array_vec_len fault.path ≤ 1) }
+    ensures { Gives (λ _. tt) result (all_there place (members_view members.now.entries)) }
 {
     check_rows(alloc, rows(place), members)?;
     check_orders(alloc, place, members)
@@ -31,8 +28,7 @@ fn check_rows(
     rows: &'static [Row],
     members: &Map<String, Value>,
 ) -> Result<(), ConfFault>
-    ensures reading { Gives (λ _. tt) result (rows_there (members_view members.now.entries) (map told_of rows.now)) }
-    ensures steps { IfErr result (λ fault. array_vec_len fault.path ≤ 1) }
+    ensures { Gives (λ _. tt) result (rows_there (members_view members.now.entries) (map told_of rows.now)) }
 {
     for (name, presence, _) in rows {
         if matches!(presence, Presence::Needed) && member(members, *name).is_none() {
@@ -45,8 +41,7 @@ fn check_rows(
 /// Refuses a trace type without a byte order.
 #[tactic(auto, unfolding(crate::specs::Flaws::orders_there))]
 fn check_orders(alloc: Global, place: Place, members: &Map<String, Value>) -> Result<(), ConfFault>
-    ensures reading { Gives (λ _. tt) result (orders_there_of place (members_view members.now.entries)) }
-    ensures steps { IfErr result (λ fault. array_vec_len fault.path ≤ 1) }
+    ensures { Gives (λ _. tt) result (orders_there_of place (members_view members.now.entries)) }
 {
     match place {
         Place::TraceType => {

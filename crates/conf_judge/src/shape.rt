@@ -1,6 +1,5 @@
 //! What a field type is as a whole, once its properties are as they should be.
 ghost use Rattle.std.specs.Prelude.{◌≡◌, ◌≤◌, IfErr, option_map};
-ghost use Rattle.arrayvec.specs.ArrayVec.{array_vec_len};
 ghost use Rattle.serde_json.specs.Data.{object};
 ghost use Rattle.serde_json.specs.View.{view, members_view};
 ghost use Rattle.conf_tree.specs.Reading.{Gives};
@@ -10,22 +9,29 @@ use crate::class::class_of;
 use crate::leaf::check_that;
 use crate::numbers::natural_in;
 use conf_table::Place;
-use conf_tree::{ConfFault, optional};
-use conf_values::{as_natural, member};
+use conf_tree::{ConfFault, member, optional};
+use conf_values::as_natural;
 use serde_json::{Map, Value};
+use std::alloc::Global;
 
 /// Refuses a field type that cannot stand at this place, though its class can.
 #[tactic(auto, unfolding(crate::specs::Shapes::shape_of))]
-pub(crate) fn check_shape(place: Place, members: &Map<String, Value>) -> Result<(), ConfFault>
-    ensures reading { Gives (λ _. tt) result (shape_of place (members_view members.now.entries)) }
-    ensures steps { IfErr result (λ fault. array_vec_len fault.path ≡ 0) }
+pub(crate) fn check_shape(
+    alloc: Global,
+    place: Place,
+    members: &Map<String, Value>,
+) -> Result<(), ConfFault>
+    ensures { Gives (λ _. tt) result (shape_of place (members_view members.now.entries)) }
 {
-    check_that(match place {
-        Place::MagicFeature => is_number(natural_in(members, "size"), 32),
-        Place::IdentifierFeature => is_identifier(members),
-        Place::DynamicElementType => have_bits(members),
-        _ => true,
-    })
+    check_that(
+        alloc,
+        match place {
+            Place::MagicFeature => is_number(natural_in(members, "size"), 32),
+            Place::IdentifierFeature => is_identifier(members),
+            Place::DynamicElementType => have_bits(members),
+            _ => true,
+        },
+    )
 }
 
 fn is_number(found: Option<u64>, number: u64) -> bool

@@ -1,4 +1,3 @@
 mod Flaws
 mod Rows
-pub mod Readings
 mod Ordered

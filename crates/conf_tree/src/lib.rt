@@ -15,7 +15,8 @@ pub use at::At;
 pub use fault::ConfFault;
 pub use fault_kind::FaultKind;
 pub use lookup::{
-    flag, list, needed, object, optional, optional_flag, optional_text, optional_whole, text, whole,
+    flag, list, member, needed, object, optional, optional_flag, optional_text, optional_whole,
+    text, whole,
 };
 pub use path::Path;
 pub use read::read_tree;

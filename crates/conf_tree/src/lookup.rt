@@ -78,6 +78,14 @@ pub fn whole(
     }
 }
 
+/// The value of the property `name`, if it is there. It may be null.
+pub fn member<'v>(members: &'v Map<String, Value>, name: &str) -> Option<&'v Value>
+    ensures { option_map (λ v. view v.now) result
+        ≡ get_member name.now (members_view members.now.entries) }
+{
+    members.get(name)
+}
+
 /// The value of the property `name`, which has to be there. It may be null.
 pub fn needed<'v>(
     alloc: Global,
@@ -150,11 +158,4 @@ pub fn optional_text<'v>(
         Some(value) => Ok(Some(text(alloc, At::Property(name), value)?)),
         None => Ok(None),
     }
-}
-
-fn member<'v>(members: &'v Map<String, Value>, name: &str) -> Option<&'v Value>
-    ensures { option_map (λ v. view v.now) result
-        ≡ get_member name.now (members_view members.now.entries) }
-{
-    members.get(name)
 }

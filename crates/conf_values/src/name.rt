@@ -2,24 +2,23 @@
 ghost use Rattle.std.specs.Prelude.{◌≡◌, IfErr};
 ghost use Rattle.std.specs.List.{list_any};
 ghost use Rattle.std.specs.Str.{bytes_eq};
-ghost use Rattle.arrayvec.specs.ArrayVec.{array_vec_len};
 ghost use Rattle.conf_tree.specs.Reading.{Gives};
 ghost use Rattle.ctf_types.specs.Names.{unused_keywords, used_keywords};
 ghost use Rattle.conf_values.specs.Name.{name_of, plain_name_of, is_reserved as is_reserved_of};
 
 use conf_tree::{ConfFault, FaultKind};
 use ctf_types::is_identifier;
+use std::alloc::Global;
 
 /// Refuses a name that is no identifier of 255 bytes at most.
 #[tactic(auto, unfolding(crate::specs::Name::name_of))]
-pub fn check_name(name: &str) -> Result<(), ConfFault>
-    ensures reading { Gives (λ _. tt) result (name_of name.now) }
-    ensures steps { IfErr result (λ fault. array_vec_len fault.path ≡ 0) }
+pub fn check_name(alloc: Global, name: &str) -> Result<(), ConfFault>
+    ensures { Gives (λ _. tt) result (name_of name.now) }
 {
     if is_identifier(name) && name.len() <= 255 {
         Ok(())
     } else {
-        Err(ConfFault::here(FaultKind::BadName))
+        Err(ConfFault::here(alloc, FaultKind::BadName))
     }
 }
 
@@ -78,13 +77,12 @@ fn is_reserved(word: &str) -> bool
 
 /// Refuses a name that is no identifier of 255 bytes at most, or that is a reserved word.
 #[tactic(auto, unfolding(crate::specs::Name::plain_name_of))]
-pub fn check_plain_name(name: &str) -> Result<(), ConfFault>
-    ensures reading { Gives (λ _. tt) result (plain_name_of name.now) }
-    ensures steps { IfErr result (λ fault. array_vec_len fault.path ≡ 0) }
+pub fn check_plain_name(alloc: Global, name: &str) -> Result<(), ConfFault>
+    ensures { Gives (λ _. tt) result (plain_name_of name.now) }
 {
-    check_name(name)?;
+    check_name(alloc, name)?;
     if is_reserved(name) {
-        Err(ConfFault::here(FaultKind::ReservedName))
+        Err(ConfFault::here(alloc, FaultKind::ReservedName))
     } else {
         Ok(())
     }

@@ -132,10 +132,3 @@ pub numbers_from-none : (n : ℕ) (text : List ℕ) → length text ≡ 0 → (n
 unfolding numbers_from without_empty_end
 numbers_from-none n [] e numbers = ap Ok (append-nil numbers)
 numbers_from-none n (c ∷ text) e numbers = absurd (omega arith)
-
-pub numbers_from-start : (text : List ℕ) → numbers_from 1 (lines_of text) ≡ joined [] (numbers_from 1 (lines_of text))
-numbers_from-start text = go (numbers_from 1 (lines_of text))
-  where
-    go : (found : Result (List ℕ) ℕ) → found ≡ joined [] found
-    go (Ok found) = refl
-    go (Err n) = refl

@@ -180,9 +180,6 @@ each_once b v h x =
     let p = part_of_total (λ (u : View). times x u.drawn) h.1 h.2 v h.3 in
     omega (arith, a, p)
 
-pub rise : (b : Bounds) (v : View) → Shows b v → Rises v.drawn
-rise b v h = (h.4.each h.2 v h.3).0
-
 pub quota_fits : (b : Bounds) (v : View) → Shows b v → v.quota < 2 ^ 64
 quota_fits b v h =
     let p = part_of_total (λ (u : View). u.quota) h.1 h.2 v h.3 in

@@ -62,12 +62,6 @@ adding_refused c bytes s names f {n} {t} {b} {x} name type size extras free is =
     (subst (λ v. first_fault (name_fault names n) c t b x ≡ first_fault (name_fault names n) c t b v) extras refl))) in
     is ∙ same ∙ adding_fault (name_fault names s.name) c bytes s free
 
-pub resuming_fault : (name : Option NameFault) (c : Config) (bytes : ℕ) (s : ScriptStream) (p : ResumePoint) → name ≡ None
-    → unwrap_or (known_fault name (start_fault c s.type_name bytes s.extras) (is_other p.stream (type_number c s.type_name))) (add_fault.Stream NoMemory)
-    ≡ unwrap_or (fault_of c bytes (s, Some p)) (add_fault.Stream NoMemory)
-resuming_fault name c bytes s p free =
-    ap (λ (o : Option NameFault). unwrap_or (known_fault o (start_fault c s.type_name bytes s.extras) (is_other p.stream (type_number c s.type_name))) (add_fault.Stream NoMemory)) free
-
 -- and one without has earlier packets of its own type
 right_type : (start : Option StreamFault) (other : Bool) → known_fault None start other ≡ None → other ≡ false
 right_type (Some f) other h = absurd (let k : Some (add_fault.Stream f) ≡ None = h in cc)

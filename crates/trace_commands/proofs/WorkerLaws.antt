@@ -1,6 +1,6 @@
 -- The workers of a script's streams: their clock, their acts, and the lines of what they were told.
 use Rattle.std.proofs.Common.{◌≡◌, ◌<◌, ◌≤◌, ◌+◌, ◌*◌, ◌^◌, ℕ, zero, suc, Bool, true, false, ◌&&◌, if◌then◌else◌, List, [], ◌∷◌, ◌++◌, Option, None, Some, length, take, take_all, nat_eq, nat_lt, refl, sym, subst, ap, ap₂, ◌∙◌, append_assoc, append-nil, add-one, arith}
-use Rattle.std.proofs.Math.Nat.{mul-suc, mul-le-mul, mul-le-mul_left}
+use Rattle.std.proofs.Math.Nat.{mul-suc, mul-le-mul}
 use Rattle.std.proofs.lemmas.Bool.Decides.{nat_tests}
 use Rattle.std.proofs.lemmas.Option.{same_Some}
 use Rattle.std.proofs.lemmas.List.Elements.{All-nil, All-cons, All-head, All-tail}
@@ -79,14 +79,6 @@ few_readings s q free low =
     omega (arith, most)
 
 -- ---- seats
-
--- a quota is left for each worker that is to come
-pub share_left : (q i n left : ℕ) → left + q * i ≡ q * n → i < n → q ≤ left
-share_left q i n left e low =
-    let up : suc i ≤ n = omega (arith, low) in
-    let more = mul-le-mul_left q up in
-    let next = mul-suc q i in
-    omega (arith, e, more, next)
 
 share_taken : (q i n left less : ℕ) → left + q * i ≡ q * n → less + q ≡ left → less + q * (i + 1) ≡ q * n
 share_taken q i n left less e step = rw add-one (let next = mul-suc q i in omega (arith, e, step, next))

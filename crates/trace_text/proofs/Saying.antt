@@ -71,12 +71,6 @@ nothing a p = record {
   stays = λ fault e. (e, Appends-nil a);
 }
 
--- after a fault any text is said by saying nothing
-pub stopped : {a b : Option (List ℕ)} {p q : Page} {t : List ℕ} (u : List ℕ) (fault : PrintFault) → Says a p b q t → q.fault ≡ Some fault → Says a p b q (t ++ u)
-stopped {a} {b} {p} {q} {t} u fault s e = record {
-  told = λ o. never q.fault fault o e;
-  front = λ o. subst (λ (v : List ℕ). AppendsFront a b v) (append_assoc p.bytes.items t u) (front_longer a b (p.bytes.items ++ t) u (s.front o));
-  stays = s.stays;
 }
 
 -- two texts

@@ -9,8 +9,7 @@ ghost use Rattle.trace_text.specs.ScriptReading.{Gives, wanted, holds};
 
 use crate::script_fault::ScriptFaultKind;
 use crate::script_object::ScriptObject;
-use conf_tree::optional;
-use conf_values::member;
+use conf_tree::{member, optional};
 use serde_json::{Map, Value};
 
 /// The properties of the object that a value is.

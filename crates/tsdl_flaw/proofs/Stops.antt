@@ -1,9 +1,7 @@
 -- A stop in a part is a stop in the whole.
 use native.Mathlib.Omega.{arith}
-use Rattle.std.proofs.Common.{◌≡◌, ℕ, ◌+◌, ◌≤◌, List, [], ◌∷◌, ◌++◌, length, refl, sym, ap, ◌∙◌, subst, append_assoc, length-append, string_bytes, inl}
-use Rattle.std.specs.List.{flat_map}
+use Rattle.std.proofs.Common.{◌≡◌, ℕ, ◌+◌, ◌≤◌, List, [], ◌++◌, length, refl, sym, ap, ◌∙◌, subst, append_assoc, length-append, string_bytes, inl}
 use Rattle.std.proofs.lemmas.List.{append-nil}
-use Rattle.std.proofs.lemmas.Grind.{flat_map-append}
 use Rattle.std.specs.declared.alloc.Global.{Global}
 use Rattle.std.specs.declared.string.String.{String}
 use Rattle.tsdl_grammar.specs.declared.atom.Atom.{Atom}
@@ -44,18 +42,6 @@ in_parts front pre own behind at place (stops.Fault f) e s = λ bound.
     let b : at + (length pre + (length own + length behind)) ≤ most = subst (λ (n : ℕ). at + n ≤ most) (length-append pre (own ++ behind) ∙ ap (λ (n : ℕ). length pre + n) (length-append own behind)) bound in
     fault_in_parts front pre own behind at place f (e bound) (s (let same = e bound in omega arith))
 in_parts front pre own behind at place stops.NoMemory e s = tt
-
--- before others
-pub with_more : (front own behind : List Atom) (at : ℕ) (stop : Stop) → StopsIn front at own stop → StopsIn front at (own ++ behind) stop
-with_more front own behind at stop s = in_parts front [] own behind at at stop (λ bound. omega arith) (subst (λ (l : List Atom). StopsIn l at own stop) (sym (append-nil front)) s)
-
--- in one of a list of trees
-pub in_list : {X : Type 0} (toks : X → List Atom) (front : List Atom) (done : List X) (x : X) (others : List X) (at place : ℕ) (stop : Stop)
-    → IsBehind at (flat_map toks done) (flat_map toks (done ++ x ∷ others)) place → StopsIn (front ++ flat_map toks done) place (toks x) stop → StopsIn front at (flat_map toks (done ++ x ∷ others)) stop
-in_list toks front done x others at place stop e s =
-    let same : flat_map toks (done ++ x ∷ others) ≡ flat_map toks done ++ (toks x ++ flat_map toks others) = flat_map-append toks done (x ∷ others) in
-    subst (λ (l : List Atom). StopsIn front at l stop) (sym same)
-    (in_parts front (flat_map toks done) (toks x) (flat_map toks others) at place stop (subst (λ (l : List Atom). IsBehind at (flat_map toks done) l place) same e) s)
 
 -- ---- one piece
 

@@ -1,7 +1,6 @@
 -- The magic line, blanks, and one item after the other at the front of bytes.
-use Rattle.std.proofs.Common.{◌≡◌, ℕ, true, List, [], ◌∷◌, ◌++◌, Some, refl, sym, ap, subst, ◌∙◌, append_assoc}
-use Rattle.std.specs.List.{flat_map, list_all}
-use Rattle.std.proofs.lemmas.List.Concat.{flat_map-cons}
+use Rattle.std.proofs.Common.{◌≡◌, ℕ, true, List, [], ◌∷◌, ◌++◌, Some, refl}
+use Rattle.std.specs.List.{list_all}
 use Rattle.tsdl_grammar.specs.declared.piece.Piece.TheVariants as pieces
 use Rattle.tsdl_grammar.specs.declared.atom.Atom.{Atom}
 use Rattle.tsdl_grammar.specs.Bytes.{is_blank}
@@ -24,13 +23,3 @@ magic rest meant s = piece pieces.Comment magic_line rest meant (magic_at rest) 
 pub blanks : (bs rest : List ℕ) (meant : List Atom) → list_all is_blank bs ≡ true → Spells rest meant → Spells (bs ++ rest) meant
 blanks [] rest meant h s = s
 blanks (b ∷ bs) rest meant h s = let both = and_true (is_blank b) (list_all is_blank bs) h in blank b (bs ++ rest) meant both.0 (blanks bs rest meant both.1 s)
-
--- one item after the other in front, where each alone may stand in front of anything
-pub items : {A : Type 0} (write : A → List ℕ) (toks : A → List Atom) → ((x : A) (rest : List ℕ) (meant : List Atom) → Spells rest meant → Spells (write x ++ rest) (toks x ++ meant))
-    → (xs : List A) (rest : List ℕ) (meant : List Atom) → Spells rest meant → Spells (flat_map write xs ++ rest) (flat_map toks xs ++ meant)
-items write toks one [] rest meant s = s
-items write toks one (x ∷ xs) rest meant s =
-    let bytes : flat_map write (x ∷ xs) ++ rest ≡ write x ++ (flat_map write xs ++ rest) = ap (λ (w : List ℕ). w ++ rest) (flat_map-cons write x xs) ∙ append_assoc (write x) (flat_map write xs) rest in
-    let atoms : flat_map toks (x ∷ xs) ++ meant ≡ toks x ++ (flat_map toks xs ++ meant) = ap (λ (w : List Atom). w ++ meant) (flat_map-cons toks x xs) ∙ append_assoc (toks x) (flat_map toks xs) meant in
-    subst (λ (w : List ℕ). Spells w (flat_map toks (x ∷ xs) ++ meant)) (sym bytes)
-    (subst (λ (w : List Atom). Spells (write x ++ (flat_map write xs ++ rest)) w) (sym atoms) (one x (flat_map write xs ++ rest) (flat_map toks xs ++ meant) (items write toks one xs rest meant s)))

@@ -22,11 +22,6 @@ le-digits_from base n (b ∷ bytes) h =
       | inr le ↦ rw (digits_stop base n b bytes le) (omega arith)
     ]
 
--- a loop's exit at a byte that is no digit
-pub ends_at : (base n total : ℕ) (bytes : List ℕ) → 1 ≤ length bytes → (digit_value (get_or bytes 0 0) < base → ⊥) → digits_from base n bytes ≡ total → n ≡ total
-ends_at base n total [] l h e = absurd (omega arith)
-ends_at base n total (b ∷ bytes) l h e = sym (digits_stop base n b bytes (omega arith)) ∙ e
-
 -- a loop's step over a digit, and the least that the total is then
 pub goes_on : (base n total : ℕ) (bytes : List ℕ) → 1 ≤ length bytes → digit_value (get_or bytes 0 0) < base → digits_from base n bytes ≡ total → digits_from base (n * base + digit_value (get_or bytes 0 0)) (drop 1 bytes) ≡ total
 goes_on base n total [] l h e = absurd (omega arith)

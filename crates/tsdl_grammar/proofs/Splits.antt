@@ -7,7 +7,7 @@ use Rattle.tsdl_grammar.specs.declared.piece.Piece.{Piece}
 use Rattle.tsdl_grammar.specs.declared.piece.Piece.TheVariants as pieces
 use Rattle.tsdl_grammar.specs.declared.piece.Cut.{Cut}
 use Rattle.tsdl_grammar.specs.Pieces.{piece_at}
-use Rattle.tsdl_grammar.specs.Tokens.{Splits, token_of, tokens_from, Rises, Stuck, StopsAt, Tokenizes, HasTokens}
+use Rattle.tsdl_grammar.specs.Tokens.{Splits, token_of, tokens_from, Rises, Stuck, Tokenizes, HasTokens}
 
 -- the bytes of some pieces
 abbrev pub lens : List Cut → ℕ
@@ -25,9 +25,6 @@ pub record Progress (text rest : List ℕ) (at : ℕ) (found : List Token) : Typ
   pub place : at ≡ lens cuts
   pub whole : at + length rest ≡ length text
   pub rises : Rises 0 found at
-
-pub starts : (text : List ℕ) → Progress text text 0 []
-starts text = record { cuts = []; splits = refl; tokens = refl; place = refl; whole = omega arith; rises = omega arith }
 
 Splits-push : (text : List ℕ) (cuts : List Cut) (c : Cut) (rest : List ℕ) → Splits text cuts rest → piece_at rest ≡ Some c → Splits text (cuts ++ c ∷ []) (drop c.len rest)
 Splits-push text [] c rest s e = (ap piece_at s ∙ e, ap (drop c.len) s)
@@ -72,9 +69,6 @@ nothing_at_the_end = refl
 
 pub is_done : (text : List ℕ) (at : ℕ) (found : List Token) → Progress text [] at found → Tokenizes text found × Rises 0 found (length text)
 is_done text at found p = ((p.cuts, p.splits, p.tokens), Rises-widen 0 found at (length text) p.rises (omega (arith, p.whole)))
-
-pub is_stuck : (text rest : List ℕ) (at : ℕ) (found : List Token) → Progress text rest at found → Stuck rest → StopsAt text at
-is_stuck text rest at found p s = (p.cuts, rest, p.splits, s, p.whole)
 
 same_piece : (r : Option Cut) (c d : Cut) → r ≡ Some c → r ≡ Some d → c ≡ d
 same_piece r c d e f = cc

@@ -49,10 +49,6 @@ by_number_all P number (x ∷ xs) ys all e =
     let a = bind_some (by_number number xs) (λ zs. insert_numbered number x zs) ys e in
     insert_all P number x a.0 ys all.0 (by_number_all P number xs a.0 all.1 a.1) a.2
 
-rise_tail : {A : Type 0} (number : A → ℕ) (x : A) (xs : List A) → NumbersRise number (x ∷ xs) → NumbersRise number xs
-rise_tail number x [] r = tt
-rise_tail number x (y ∷ xs) r = r.1
-
 above_all : {A : Type 0} (number : A → ℕ) (n : ℕ) (x : A) (xs : List A) → n < number x → NumbersRise number (x ∷ xs)
     → AllByRecursion (λ k. nat_cmp n k ≡ Less) (map number (x ∷ xs))
 above_all number n x [] h r = (sym (nat_cmp_is n (number x) Less h), tt)

@@ -89,9 +89,6 @@ names_clock clocks (values.Number n) name e = absurd cc
 names_clock clocks (values.Text s) name e = absurd cc
 names_clock clocks (values.Name n) name e = in_clocks clocks (words_of n) name e
 
-same_inner : {A : Type 0} (x y : A) → Some (Some x) ≡ Some (Some y) → x ≡ y
-same_inner x y e = cc
-
 pub mapped : (known : Known) (attrs : List Attribute) (t : IntType) → int_meaning known attrs ≡ Some t → IsMappedTo known.clocks t
 mapped known attrs t e name h = by (attr (codes "map") attrs) ((says_integer known attrs t e).clock ∙ ap (λ (o : Option (List ℕ)). Some o) h)
   where

@@ -1,5 +1,5 @@
 -- How many elements arrays in one another have: at least 1, and as many as any of them.
-use Rattle.std.proofs.Common.{◌≡◌, ℕ, ◌*◌, ◌<◌, ◌≤◌, ◌^◌, false, List, [], ◌∷◌, length, get_or, drop, max, leb, sym, ap, ◌∙◌, arith}
+use Rattle.std.proofs.Common.{◌≡◌, ℕ, ◌*◌, ◌<◌, ◌≤◌, ◌^◌, false, List, [], ◌∷◌, length, get_or, max, leb, sym, ap, ◌∙◌, arith}
 use Rattle.std.proofs.Math.Nat.{mul-le-mul_left, mul-le-mul_right}
 use Rattle.std.proofs.lemmas.Bool.Decides.{nat_tests}
 use Rattle.tsdl_grammar.specs.MemberMeaning.{elements_of}
@@ -13,10 +13,6 @@ product_above a b h = omega (arith, mul-le-mul_right b h)
 pub one_at_least : (ns : List ℕ) → 1 ≤ elements_of ns
 one_at_least [] = omega arith
 one_at_least (n ∷ ns) = omega (arith, product_at_least (max 1 n) (elements_of ns) (one_at_least ns))
-
-pub others_at_most : (ns : List ℕ) → elements_of (drop 1 ns) ≤ elements_of ns
-others_at_most [] = omega arith
-others_at_most (n ∷ ns) = let one : 1 ≤ max 1 n = omega arith in product_above (max 1 n) (elements_of ns) one
 
 pub first_at_most : (ns : List ℕ) → get_or ns 0 0 ≤ elements_of ns
 first_at_most [] = omega arith

@@ -104,9 +104,6 @@ pub next_brackets : (before : List (List ℕ × MemberType)) (bs : List Bracket)
 next_brackets before bs i x new h is s =
     subst (λ (l : List Bracket). AreBrackets before l new) (sym (take_more bs i x h ∙ ap (λ (y : Bracket). take i bs ++ y ∷ []) (sym is))) s
 
-pub no_brackets : (before : List (List ℕ × MemberType)) (l : Lengths) → l.is_sequence ≡ false → l.count ≡ 0 → l.elements ≡ 1 → AreBrackets before [] l
-no_brackets before l plain none one = record { numbers = []; counted = none; made = one; few = omega arith; small = omega arith; shape = inl (plain, refl) }
-
 -- ---- the type
 
 lengths_are : (ns : List ℕ) → length ns ≤ 8 → elements_of ns ≤ 1048576 → are_lengths ns ≡ true

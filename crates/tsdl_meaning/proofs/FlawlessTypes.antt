@@ -62,9 +62,6 @@ next_own allowed asked all i a before after h is s adds =
     subst (λ (l : List Attribute). Own allowed asked l after) (sym (take_more all i a h ∙ ap (λ (x : Attribute). take i all ++ x ∷ []) (sym is)))
     (own_more allowed asked (take i all) a before after s adds)
 
-pub no_own : (allowed : List (List (List ℕ))) (asked : Asked) (names : BTreeSet (String Global)) → Own allowed asked [] names
-no_own allowed asked names = record { among = refl; fit = refl; once = refl; kept = tt }
-
 only_these : (allowed : List (List (List ℕ))) (asked : Asked) (all : List Attribute) (names : BTreeSet (String Global)) → Own allowed asked all names → has_only allowed all ≡ true
 only_these allowed asked all names s = and_both (are_distinct (attr_names all)) (list_all (λ a. is_among allowed (words_of a.name)) all) s.once s.among
 
@@ -77,15 +74,6 @@ passes_of P (Some y) x e f = let same : y ≡ x = cc in ap P (sym same) ∙ e
 there_of : {A : Type 0} (P : A → Bool) (o : Option A) → option_map_or P o false ≡ true → is_some o ≡ true
 there_of P None e = absurd cc
 there_of P (Some x) e = refl
-
--- a number that stands for an alignment
-pub number_aligned : (o : Option ℕ) → IsSome (o >>= λ a. provided (nat_lt 0 a && (4096 % a == 0)) (Some a)) → option_map_or (λ n. nat_lt 0 n && (4096 % n == 0)) o false ≡ true
-number_aligned None e = absurd cc
-number_aligned (Some a) e = held (nat_lt 0 a && (4096 % a == 0)) e
-  where
-    held : (b : Bool) → is_some (provided b (Some a)) ≡ true → b ≡ true
-    held true h = refl
-    held false h = absurd cc
 
 -- a word that is `native` is a byte order, whatever the trace's is
 native_word : (order : ByteOrder) (w : List ℕ) → list_any (bytes_eq w) (codes "native" ∷ []) ≡ true → list_any (bytes_eq w) (order_words order) ≡ true

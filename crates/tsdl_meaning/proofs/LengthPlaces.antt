@@ -1,14 +1,8 @@
 -- The first member that may hold a length.
-use Rattle.std.proofs.Common.{◌≡◌, ℕ, ◌<◌, ltb, Bool, true, false, List, Some, None, length, get_or, slice_get, refl, sym, ap, ◌∙◌, arith}
-use Rattle.std.specs.Option.{option_map}
+use Rattle.std.proofs.Common.{◌≡◌, ℕ, ◌<◌, ltb, Bool, true, false, List, Some, None, length, get_or, refl, arith}
 use Rattle.std.specs.List.{position, position_or_len}
 use Rattle.std.proofs.lemmas.Bool.Decides.{nat_tests}
 use Rattle.std.proofs.lemmas.List.Sums.{position_or_len_is}
-use Rattle.std.proofs.lemmas.Option.{slice_get-get_or, same_Some}
-
--- a part of the item at an index
-pub part_at : {A B : Type 0} (part : A → B) (xs : List A) (i : ℕ) (d : A) (y : B) → i < length xs → option_map part (slice_get xs i) ≡ Some y → part (get_or xs i d) ≡ y
-part_at part xs i d y h e = same_Some (part (get_or xs i d)) y (sym (ap (option_map part) (slice_get-get_or xs i d h)) ∙ e)
 
 within : (i n : ℕ) → i < n → ltb i n ≡ true
 within i n h = grind (arith, nat_tests)

@@ -19,7 +19,7 @@ use Rattle.tsdl_flaw.specs.Limits.{IsRangeTooMany, IsPassed}
 use Rattle.tsdl_flaw.specs.Places.{StandsBehind}
 use Rattle.tsdl_meaning.specs.Judged.{StopsAmong, StopsWhere}
 use Rattle.tsdl_flaw.specs.Stopping.{StopsIn}
-use Rattle.tsdl_flaw.proofs.Parts.{stops_after, stops_item, behind_item}
+use Rattle.tsdl_flaw.proofs.Parts.{stops_after, stops_item}
 use Rattle.tsdl_meaning.specs.Judging.{IsBehindBrace}
 
 label_length : (l : Label) → length (label_toks l) ≡ 1
@@ -86,13 +86,6 @@ at_label x front after at stop s =
     let own = (mark marks.Equals ∷ number_toks x.low) ++ (high_toks x.high ++ after) in
     let e : entry_toks x ++ after ≡ label_toks x.label ++ own = simp append_assoc in
     subst (λ (l : List Atom). StopsIn front at l stop) (sym e) (s own)
-
--- the place behind one more range
-pub next_range : (first : Entry) (others : List Entry) (i : ℕ) (x : Entry) (at next place n behind : ℕ) → i < length others → x ≡ get_or others i x → StandsBehind at (range_before first others i) next
-    → place ≡ min (next + 1) most → HasLength (entry_toks x) n → behind ≡ min (place + n) most → StandsBehind at (range_before first others (i + 1)) behind
-next_range first others i x at next place n behind h is stands passes counts ends =
-    let more : HasLength (next_entry_toks x) (min (n + 1) most) = λ fits. let c : n ≡ length (entry_toks x) = counts (omega arith) in omega arith in
-    behind_item next_entry_toks others i x (entry_toks first) at next (min (n + 1) most) behind h is stands more (omega arith)
 
 -- ---- enumerations
 

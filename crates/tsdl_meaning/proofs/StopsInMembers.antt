@@ -34,9 +34,6 @@ use Rattle.tsdl_meaning.proofs.StopsInBrackets.{word_unread}
 
 -- ---- the parts of a member
 
-after_name : MemberTree → List Atom → List Atom
-after_name t behind = flat_map bracket_toks t.brackets ++ mark marks.Semicolon ∷ behind
-
 shape : (k b behind : List Atom) (w z : Atom) → (k ++ (w ∷ b) ++ (z ∷ [])) ++ behind ≡ k ++ (w ∷ (b ++ z ∷ behind))
 shape k b behind w z = simp append_assoc
 
@@ -137,15 +134,6 @@ member_many done members kind w front same many ends =
     let l : length members ≡ length done = sym (length-map members (λ m. m.0)) ∙ ap (λ (ns : List (List ℕ)). length ns) same ∙ length-map done (λ t. t.name) in
     let it : IsMemberTooMany front (word w ∷ []) = record { members = done; kind = kind; name = w; ends = ends; many = omega arith; here = refl } in
     inl it
-
-map_more : {A B : Type 0} (f : A → B) (xs : List A) (x : A) → map f (xs ++ x ∷ []) ≡ map f xs ++ f x ∷ []
-map_more f [] x = refl
-map_more f (y ∷ xs) x = ap (λ (ys : List _). f y ∷ ys) (map_more f xs x)
-
--- one more member
-pub one_member : (done : List MemberTree) (t : MemberTree) (old new : List (List ℕ × MemberType)) (m : MemberType) → AreMembers done old → new ≡ old ++ (t.name, m) ∷ [] → AreMembers (done ++ t ∷ []) new
-one_member done t old new m same adds =
-    ap names_in adds ∙ map_more (λ p. p.0) old (t.name, m) ∙ ap (λ (ns : List (List ℕ)). ns ++ t.name ∷ []) same ∙ sym (map_more (λ s. s.name) done t)
 
 -- a member that is not suited
 pub unsuited_stop : (t : MemberTree) (front behind : List Atom) (at n passed end : ℕ) (s : String Global) (remedy : Remedy) → string_bytes s ≡ t.name → HasLength (flat_map bracket_toks t.brackets) n

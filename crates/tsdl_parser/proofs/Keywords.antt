@@ -31,9 +31,6 @@ pub record Read (ts rest : List Atom) (index : ℕ) : Type 0 where
   pub place : length front ≡ index
   pub read : list_all is_read front ≡ true
 
-pub nothing_read : (ts : List Atom) → Read ts ts 0
-nothing_read ts = record { front = []; whole = refl; place = refl; read = refl }
-
 -- one more is read
 pub reads_on : (ts : List Atom) (a : Atom) (rest : List Atom) (index : ℕ) → Read ts (a ∷ rest) index → is_read a ≡ true → Read ts rest (index + 1)
 reads_on ts a rest index r e = record {

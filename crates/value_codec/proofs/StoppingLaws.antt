@@ -37,9 +37,6 @@ pub never_err : {A B E : Type 0} (r : Result A E) (g : A → B) (e : E) → (r >
 never_err (Ok x) g e h = absurd (cc)
 never_err (Err d) g e h = ap Err (one_err d e h)
 
-still_err : {A B E : Type 0} (r : Result A E) (f : A → Result B E) (e : E) → r ≡ Err e → (r >>= f) ≡ Err e
-still_err r f e h = rw h refl
-
 tested_err : {A E : Type 0} (c : Bool) (x : A) (f e : E) → cond c (Ok x) (Err f) ≡ Err e → (c ≡ false) × (e ≡ f)
 tested_err true x f e h = absurd (cc)
 tested_err false x f e h = (refl, cc)

@@ -10,16 +10,16 @@ use Rattle.conf_check.proofs.judgement.judge.Goals as goal
 pub draft-requires : goal.draft-requires
 draft-requires c =
     let d = view c.args.tree.value in
-    tree_said c.args.number d (none_refused (configuration_flaws d) c.in_ok-check_objects.ensures.first)
+    tree_said c.args.number d (none_refused (configuration_flaws d) c.in_ok-check_objects.ensures)
 
 pub returns-in_err-whole-clause-first : goal.returns-in_err-whole-clause-first
 returns-in_err-whole-clause-first c =
     let p = err_from_is_err_and c.from_residual-in_err-whole.result c.from_residual-in_err-whole.ensures.1 in
     rw (p.1, p.2)
-    (first_of_the_whole (view c.args.tree.value) c.args.number c.in_ok-draft.draft c.in_err-whole.field-0.0 c.in_ok-check_objects.ensures.first c.in_ok-draft.ensures.says c.in_err-whole.ensures.reading)
+    (first_of_the_whole (view c.args.tree.value) c.args.number c.in_ok-draft.draft c.in_err-whole.field-0.0 c.in_ok-check_objects.ensures c.in_ok-draft.ensures.says c.in_err-whole.ensures)
 
 pub returns-clause-allowed : goal.returns-clause-allowed
 returns-clause-allowed c =
     let d = view c.args.tree.value in
     configuration_allowed d c.args.number c.in_ok-draft.draft.config c.args.tree.ordered
-    (record { draft = c.in_ok-draft.draft; no_flaw = none_refused (configuration_flaws d) c.in_ok-check_objects.ensures.first; says = c.in_ok-draft.ensures.says; passes = c.in_ok-whole.ensures.reading; config_is = refl })
+    (record { draft = c.in_ok-draft.draft; no_flaw = none_refused (configuration_flaws d) c.in_ok-check_objects.ensures; says = c.in_ok-draft.ensures.says; passes = c.in_ok-whole.ensures; config_is = refl })

@@ -1,5 +1,4 @@
-use Rattle.std.proofs.Common.{◌≤◌, string_bytes, inl, inr, Err, sym, ap, ◌∙◌, subst, arith}
-use Rattle.serde_json.specs.Data.{members_depth}
+use Rattle.std.proofs.Common.{string_bytes, inl, inr, Err, sym, ap, ◌∙◌}
 use Rattle.serde_json.specs.View.{view, members_view}
 use Rattle.conf_tree.specs.Flaw.{flaw_of, key, within}
 use Rattle.conf_tree.specs.Walk.{refusal}
@@ -8,23 +7,25 @@ use Rattle.conf_inherit.specs.AliasFlaws.{alias_flaws, all_alias_flaws}
 use Rattle.conf_inherit.proofs.FlawLemmas.{refused_part, sound_part}
 use Rattle.conf_inherit.proofs.alias_check.check_each.Goals as goal
 
-pub returns-in-Err-clause-first : goal.returns-in-Err-clause-first
-returns-in-Err-clause-first c =
+pub returns-in-Err : goal.returns-in-Err
+returns-in-Err c =
     let al = members_view c.args.aliases.now.entries in
     let st = outcomes_of c.args.outcomes.now in
     let name = string_bytes c.in-Some.name.now in
     let value = view c.in-Some.value.now in
-    elim c.in_property.ensures.moved [
-      | inl memory ↦ inl memory
-      | inr moved ↦ elim c.in-Err.ensures.first [
-        | inl memory ↦ inl (c.in_property.ensures.memory memory)
-        | inr flawed ↦ inr (
-            ap refusal (c.loop-name.invariant.1 ∙ ap (λ es. all_alias_flaws al st (members_view es)) c.in-Some.ensures.steps)
-            ∙ refused_part (key name) (alias_flaws al st name value) (all_alias_flaws al st (members_view c.next.new.self)) (flaw_of c.in-Err.fault) (ap (λ k. refusal (alias_flaws al st k value)) (sym c.as_str.ensures.value) ∙ flawed)
-            ∙ ap (λ f. Err f) (sym (moved ∙ ap (λ k. within (key k) (flaw_of c.in-Err.fault)) c.as_str-in-Err.ensures.value))
-            )
-      ]
-    ]
+    record {
+      first = elim c.in_property.ensures.moved [
+        | inl memory ↦ inl memory
+        | inr moved ↦ elim c.in-Err.ensures.first [
+          | inl memory ↦ inl (c.in_property.ensures.memory memory)
+          | inr flawed ↦ inr (
+              ap refusal (c.loop-name.invariant ∙ ap (λ es. all_alias_flaws al st (members_view es)) c.in-Some.ensures.steps)
+              ∙ refused_part (key name) (alias_flaws al st name value) (all_alias_flaws al st (members_view c.next.new.self)) (flaw_of c.in-Err.fault) (ap (λ k. refusal (alias_flaws al st k value)) (sym c.as_str.ensures.value) ∙ flawed)
+              ∙ ap (λ f. Err f) (sym (moved ∙ ap (λ k. within (key k) (flaw_of c.in-Err.fault)) c.as_str-in-Err.ensures.value))
+              )
+        ]
+      ];
+    }
 
 pub loop-name-preserved : goal.loop-name-preserved
 loop-name-preserved c =
@@ -32,8 +33,5 @@ loop-name-preserved c =
     let st = outcomes_of c.args.outcomes.now in
     let name = string_bytes c.in-Some.name.now in
     let value = view c.in-Some.value.now in
-    let deep = subst (λ es. members_depth (members_view es) ≤ 28) c.in-Some.ensures.steps c.loop-name.invariant.0 in (
-      omega arith,
-      c.loop-name.invariant.1 ∙ ap (λ es. all_alias_flaws al st (members_view es)) c.in-Some.ensures.steps
-          ∙ sound_part (key name) (alias_flaws al st name value) (all_alias_flaws al st (members_view c.next.new.self)) (ap (λ k. refusal (alias_flaws al st k value)) (sym c.as_str.ensures.value) ∙ c.in_default.ensures.first),
-    )
+    c.loop-name.invariant ∙ ap (λ es. all_alias_flaws al st (members_view es)) c.in-Some.ensures.steps
+    ∙ sound_part (key name) (alias_flaws al st name value) (all_alias_flaws al st (members_view c.next.new.self)) (ap (λ k. refusal (alias_flaws al st k value)) (sym c.as_str.ensures.value) ∙ c.in_default.ensures.first)

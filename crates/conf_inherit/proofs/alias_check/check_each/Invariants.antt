@@ -1,5 +1,4 @@
-use Rattle.std.proofs.Common.{◌≡◌, ◌≤◌}
-use Rattle.serde_json.specs.Data.{members_depth}
+use Rattle.std.proofs.Common.{◌≡◌}
 use Rattle.serde_json.specs.View.{members_view}
 use Rattle.conf_inherit.specs.AliasOutcomes.{outcomes_of}
 use Rattle.conf_inherit.specs.AliasFlaws.{all_alias_flaws}
@@ -8,4 +7,4 @@ use Rattle.conf_inherit.proofs.alias_check.check_each.Given as goal
 -- the aliases that are left have all the flaws
 abbrev pub invariant-loop-name : goal.invariant-loop-name
 invariant-loop-name l =
-    (members_depth (members_view l.name-iterator) ≤ 28) × (all_alias_flaws (members_view l.aliases.entries) (outcomes_of l.outcomes) (members_view l.aliases.entries) ≡ all_alias_flaws (members_view l.aliases.entries) (outcomes_of l.outcomes) (members_view l.name-iterator))
+    all_alias_flaws (members_view l.aliases.entries) (outcomes_of l.outcomes) (members_view l.aliases.entries) ≡ all_alias_flaws (members_view l.aliases.entries) (outcomes_of l.outcomes) (members_view l.name-iterator)

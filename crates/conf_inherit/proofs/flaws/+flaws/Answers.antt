@@ -1,31 +1,26 @@
-use Rattle.std.proofs.Common.{◌&&◌, ◌++◌, ◌≤◌, ℕ, List, Err, is_some, option_map, string_bytes, inl, inr, sym, ap, ◌∙◌, subst, arith}
-use Rattle.conf_tree.specs.Flaw.{Flaw, here, key, within}
+use Rattle.std.proofs.Common.{◌&&◌, ◌++◌, ℕ, List, Err, is_some, option_map, string_bytes, inl, inr, sym, ap, ◌∙◌}
+use Rattle.conf_tree.specs.Flaw.{Flaw, flaw_of, key, within}
 use Rattle.conf_tree.specs.Walk.{refusal}
-use Rattle.serde_json.specs.Data.{members_depth, no_members}
+use Rattle.serde_json.specs.Data.{no_members}
 use Rattle.serde_json.specs.Find.{get_member}
 use Rattle.serde_json.specs.View.{view, members_view}
-use Rattle.conf_inherit.specs.Found.{flaw_found}
 use Rattle.conf_inherit.specs.Flaws.{own_flaws, base_flaws, flaws, inner_flaws, member_flaws}
 use Rattle.conf_inherit.specs.FieldPlaces.{place_under, is_entry}
 use Rattle.conf_inherit.proofs.FlawLemmas.{refused_first, refused_part, sound_part}
 use Rattle.conf_inherit.proofs.flaws.+flaws.Goals as goal
 
-pub check_flaws-returns-in-Err-clause-first : goal.check_flaws-returns-in-Err-clause-first
-check_flaws-returns-in-Err-clause-first t c =
+pub check_flaws-returns-in-Err : goal.check_flaws-returns-in-Err
+check_flaws-returns-in-Err t c =
     let al = members_view c.args.aliases.now.entries in
     let known = option_map (λ m. members_view m.now.entries) c.args.resolved in
     let own = own_flaws al c.args.place c.args.taken (view c.args.value.now) in
     let inner = inner_flaws al known c.args.place (members_view c.args.seen.now.entries) (view c.args.value.now) in
-    elim c.here.ensures.flaw [
-      | inl lost ↦ inl lost
-      | inr is ↦ elim c.in-Err.ensures.first [
-        | inl memory ↦ inl (is ∙ ap here memory)
-        | inr flawed ↦ inr (refused_first own inner (flaw_found c.here.result) (flawed ∙ ap (λ f. Err f) (sym is)))
-      ]
-    ]
+    record {
+      first = elim c.in-Err.ensures.first [ inl memory ↦ inl memory | inr flawed ↦ inr (refused_first own inner (flaw_of c.in-Err.fault) flawed) ];
+    }
 
-pub check_members-returns-in-Err-clause-first : goal.check_members-returns-in-Err-clause-first
-check_members-returns-in-Err-clause-first t c =
+pub check_members-returns-in-Err : goal.check_members-returns-in-Err
+check_members-returns-in-Err t c =
     let al = members_view c.args.aliases.now.entries in
     let known = option_map (λ m. members_view m.now.entries) c.args.resolved in
     let place = c.args.place in
@@ -33,17 +28,19 @@ check_members-returns-in-Err-clause-first t c =
     let name = string_bytes c.in-Some.name.now in
     let value = view c.in-Some.member.now in
     let part : List ℕ → List Flaw = λ k. flaws al known (place_under place k) (is_entry place && is_some (get_member k seen)) no_members value ++ base_flaws known place k value in
-    elim c.in_property.ensures.moved [
-      | inl memory ↦ inl memory
-      | inr moved ↦ elim c.in-Err.ensures.first [
-        | inl memory ↦ inl (c.in_property.ensures.memory memory)
-        | inr flawed ↦ inr (
-            ap refusal (c.loop-name.invariant.1 ∙ ap (λ es. member_flaws al known place seen (members_view es)) c.in-Some.ensures.steps)
-            ∙ refused_part (key name) (part name) (member_flaws al known place seen (members_view c.next.new.self)) (flaw_found c.in-Err.fault) (ap (λ k. refusal (part k)) (sym c.as_str.ensures.value) ∙ flawed)
-            ∙ ap (λ f. Err f) (sym (moved ∙ ap (λ k. within (key k) (flaw_found c.in-Err.fault)) c.as_str-in-Err.ensures.value))
-            )
-      ]
-    ]
+    record {
+      first = elim c.in_property.ensures.moved [
+        | inl memory ↦ inl memory
+        | inr moved ↦ elim c.in-Err.ensures.first [
+          | inl memory ↦ inl (c.in_property.ensures.memory memory)
+          | inr flawed ↦ inr (
+              ap refusal (c.loop-name.invariant ∙ ap (λ es. member_flaws al known place seen (members_view es)) c.in-Some.ensures.steps)
+              ∙ refused_part (key name) (part name) (member_flaws al known place seen (members_view c.next.new.self)) (flaw_of c.in-Err.fault) (ap (λ k. refusal (part k)) (sym c.as_str.ensures.value) ∙ flawed)
+              ∙ ap (λ f. Err f) (sym (moved ∙ ap (λ k. within (key k) (flaw_of c.in-Err.fault)) c.as_str-in-Err.ensures.value))
+              )
+        ]
+      ];
+    }
 
 pub check_members-loop-name-preserved : goal.check_members-loop-name-preserved
 check_members-loop-name-preserved t c =
@@ -54,8 +51,5 @@ check_members-loop-name-preserved t c =
     let name = string_bytes c.in-Some.name.now in
     let value = view c.in-Some.member.now in
     let part : List ℕ → List Flaw = λ k. flaws al known (place_under place k) (is_entry place && is_some (get_member k seen)) no_members value ++ base_flaws known place k value in
-    let deep = subst (λ es. members_depth (members_view es) ≤ c.args.levels) c.in-Some.ensures.steps c.loop-name.invariant.0 in (
-      omega arith,
-      c.loop-name.invariant.1 ∙ ap (λ es. member_flaws al known place seen (members_view es)) c.in-Some.ensures.steps
-          ∙ sound_part (key name) (part name) (member_flaws al known place seen (members_view c.next.new.self)) (ap (λ k. refusal (part k)) (sym c.as_str.ensures.value) ∙ c.in_default.ensures.first),
-    )
+    c.loop-name.invariant ∙ ap (λ es. member_flaws al known place seen (members_view es)) c.in-Some.ensures.steps
+    ∙ sound_part (key name) (part name) (member_flaws al known place seen (members_view c.next.new.self)) (ap (λ k. refusal (part k)) (sym c.as_str.ensures.value) ∙ c.in_default.ensures.first)

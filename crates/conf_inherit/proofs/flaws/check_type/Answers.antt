@@ -7,8 +7,10 @@ use Rattle.conf_inherit.specs.Limits.{limit_flaws}
 use Rattle.conf_inherit.proofs.FlawLemmas.{refused_first}
 use Rattle.conf_inherit.proofs.flaws.check_type.Goals as goal
 
-pub returns-in-Err-clause-first : goal.returns-in-Err-clause-first
-returns-in-Err-clause-first c =
+pub returns-in-Err : goal.returns-in-Err
+returns-in-Err c =
     let v = view c.args.value.now in
     let done = members_view c.args.resolved.now.entries in
-    elim c.in-Err.ensures.first [ inl memory ↦ inl memory | inr flawed ↦ inr (refused_first (flaws (members_view c.args.aliases.now.entries) (Some done) c.args.place false no_members v) (limit_flaws done c.args.place v) (flaw_of c.in-Err.fault) flawed) ]
+    record {
+      first = elim c.in-Err.ensures.first [ inl memory ↦ inl memory | inr flawed ↦ inr (refused_first (flaws (members_view c.args.aliases.now.entries) (Some done) c.args.place false no_members v) (limit_flaws done c.args.place v) (flaw_of c.in-Err.fault) flawed) ];
+    }

@@ -1,5 +1,5 @@
-use Rattle.std.proofs.Common.{arith, ◌≡◌, ◌≤◌, [], Some, Err, false, inl, inr, sym, ap, ◌∙◌, subst}
-use Rattle.serde_json.specs.Data.{object, members_depth}
+use Rattle.std.proofs.Common.{arith, ◌≡◌, [], Some, Err, false, inl, inr, sym, ap, ◌∙◌, subst}
+use Rattle.serde_json.specs.Data.{object}
 use Rattle.serde_json.specs.Find.{get_member}
 use Rattle.serde_json.proofs.Views.{view-Object}
 use Rattle.conf_table.specs.declared.place.Place.TheVariants as places
@@ -12,26 +12,29 @@ use Rattle.conf_tree.specs.Flaw.{flaw_of}
 use Rattle.conf_tree.specs.Walk.{refusal}
 use Rattle.serde_json.specs.View.{view, members_view}
 use Rattle.conf_inherit.specs.Flaws.{flaws}
-use Rattle.conf_inherit.specs.Found.{flaw_found}
 use Rattle.conf_inherit.specs.Places.{place_flaws, inner_places, member_places}
 use Rattle.conf_inherit.proofs.FlawLemmas.{refused_first}
 use Rattle.conf_inherit.proofs.places.+places.Goals as goal
 
-pub check_place_and_inner-returns-in-Err-clause-first : goal.check_place_and_inner-returns-in-Err-clause-first
-check_place_and_inner-returns-in-Err-clause-first t c =
+pub check_place_and_inner-returns-in-Err : goal.check_place_and_inner-returns-in-Err
+check_place_and_inner-returns-in-Err t c =
     let al = members_view c.args.aliases.now.entries in
     let done = members_view c.args.resolved.now.entries in
     let v = view c.args.value.now in
-    elim c.in-Err.ensures.first [ inl memory ↦ inl memory | inr flawed ↦ inr (refused_first (place_flaws al done c.args.place v) (inner_places al done c.args.place v) (flaw_of c.in-Err.fault) flawed) ]
+    record {
+      first = elim c.in-Err.ensures.first [ inl memory ↦ inl memory | inr flawed ↦ inr (refused_first (place_flaws al done c.args.place v) (inner_places al done c.args.place v) (flaw_of c.in-Err.fault) flawed) ];
+    }
 
-pub check_entry-returns-in-Err-clause-first : goal.check_entry-returns-in-Err-clause-first
-check_entry-returns-in-Err-clause-first t c =
+pub check_entry-returns-in-Err : goal.check_entry-returns-in-Err
+check_entry-returns-in-Err t c =
     let al = members_view c.args.aliases.now.entries in
     let done = members_view c.args.resolved.now.entries in
     let seen = members_view c.args.seen.now.entries in
     let v = view c.args.value.now in
     let s = place_of_items c.args.place in
-    elim c.in-Err.ensures.first [ inl memory ↦ inl (c.into_fault.ensures.flaw ∙ memory) | inr flawed ↦ inr (refused_first (flaws al (Some done) s false seen v) (inner_places al done s v) (flaw_found c.in-Err.found) (subst (λ x. refusal (flaws al (Some done) x false seen v) ≡ Err (flaw_found c.in-Err.found)) c.place_of_items-entry.ensures flawed) ∙ ap (λ f. Err f) (sym c.into_fault.ensures.flaw)) ]
+    record {
+      first = elim c.in-Err.ensures.first [ inl memory ↦ inl memory | inr flawed ↦ inr (refused_first (flaws al (Some done) s false seen v) (inner_places al done s v) (flaw_of c.in-Err.fault) (subst (λ x. refusal (flaws al (Some done) x false seen v) ≡ Err (flaw_of c.in-Err.fault)) c.place_of_items-entry.ensures flawed)) ];
+    }
 
 pub check_entry-check_places-requires : goal.check_entry-check_places-requires
 check_entry-check_places-requires t c =
@@ -39,15 +42,17 @@ check_entry-check_places-requires t c =
     let done = members_view c.args.resolved.now.entries in
     let sound : HasSound al done c.place_of_items-entry.result (view c.args.value.now) = λ ms at. sound_item al done c.args.place c.place_of_items-entry.result (view c.args.value.now) ms c.place_of_items-entry.ensures at in
     let d = c.decreases in
-    (omega (arith, d), (c.requires.nested, (c.requires.shallow, sound)))
+    (omega (arith, d), sound)
 
-pub check_places-returns-in-FieldTypeAliases-clause-first : goal.check_places-returns-in-FieldTypeAliases-clause-first
-check_places-returns-in-FieldTypeAliases-clause-first t c =
+pub check_places-returns-in-FieldTypeAliases : goal.check_places-returns-in-FieldTypeAliases
+check_places-returns-in-FieldTypeAliases t c =
     let al = members_view c.args.aliases.now.entries in
     let done = members_view c.args.resolved.now.entries in
     let ms = members_view c.in-Object.members.entries in
     let is : view c.args.value.now ≡ object ms = ap view c.in-Object.is ∙ view-Object c.in-Object.members in
-    sound_here al done c.args.place (view c.args.value.now) ms c.in-FieldTypeAliases.is is c.requires.sound
+    record {
+      first = sound_here al done c.args.place (view c.args.value.now) ms c.in-FieldTypeAliases.is is c.requires.sound;
+    }
 
 pub check_member_places-loop-name-init : goal.check_member_places-loop-name-init
 check_member_places-loop-name-init t c =
@@ -58,7 +63,6 @@ check_member_places-loop-name-init t c =
     let is : c.args.members.now.entries ≡ c.into_iter-name-iterator.result = sym c.iter-name-items.ensures.rest ∙ sym c.into_iter-name-iterator.ensures.into_iter_gives in
     let found = found_each ms (apart_of c.args.members.now.entries c.iter-name-items.ensures.ordered) in
     let each = all_along (λ k d. get_member k ms ≡ Some d) (λ k d. HasSound al done (place_under s k) d) (λ k d at. of_property (λ ns. member_places al done places.FieldTypeAliases ns ≡ []) s k d ms at c.requires.sound) ms found in (
-      subst (λ es. members_depth (members_view es) ≤ c.args.levels) is c.requires.nested,
       subst (λ es. AllEntries (λ k d. HasSound al done (place_under s k) d) (members_view es)) is each,
       ap (λ es. member_places al done s (members_view es)) is,
     )

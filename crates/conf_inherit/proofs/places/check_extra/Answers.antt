@@ -6,7 +6,9 @@ use Rattle.conf_inherit.specs.Places.{too_many}
 use Rattle.conf_inherit.proofs.FlawLemmas.{refused_first}
 use Rattle.conf_inherit.proofs.places.check_extra.Goals as goal
 
-pub returns-in-Err-clause-first : goal.returns-in-Err-clause-first
-returns-in-Err-clause-first c =
+pub returns-in-Err : goal.returns-in-Err
+returns-in-Err c =
     let v = view c.args.value.now in
-    elim c.in-Err.ensures.first [ inl memory ↦ inl memory | inr flawed ↦ inr (refused_first (too_many v) (own_flaws (members_view c.args.aliases.now.entries) c.args.place false v) (flaw_of c.in-Err.fault) flawed) ]
+    record {
+      first = elim c.in-Err.ensures.first [ inl memory ↦ inl memory | inr flawed ↦ inr (refused_first (too_many v) (own_flaws (members_view c.args.aliases.now.entries) c.args.place false v) (flaw_of c.in-Err.fault) flawed) ];
+    }

@@ -9,7 +9,8 @@ lay_all-requires c =
     whole_laid (view c.args.value.now) (members_view c.args.aliases.now.entries) (btree_map_len c.args.aliases.now) (outcomes_of c.args.outcomes) c.requires.own c.requires.apart c.requires.settled
     c.in_default.ensures.first
 
-pub check_places-requires-clause-sound : goal.check_places-requires-clause-sound
-check_places-requires-clause-sound c =
-    whole_sound (view c.args.value.now) (members_view c.args.aliases.now.entries) (btree_map_len c.args.aliases.now) (outcomes_of c.args.outcomes) c.requires.own c.requires.apart c.requires.settled
-    c.in_default.ensures.first
+pub check_places-requires : goal.check_places-requires
+check_places-requires c = record {
+  sound = whole_sound (view c.args.value.now) (members_view c.args.aliases.now.entries) (btree_map_len c.args.aliases.now) (outcomes_of c.args.outcomes) c.requires.own c.requires.apart c.requires.settled
+      c.in_default.ensures.first;
+}

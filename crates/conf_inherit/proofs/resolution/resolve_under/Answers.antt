@@ -1,5 +1,4 @@
-use Rattle.std.proofs.Common.{◌≤◌, sym, ◌∙◌, subst, arith}
-use Rattle.serde_json.specs.Data.{members_depth}
+use Rattle.std.proofs.Common.{◌∙◌, subst}
 use Rattle.serde_json.specs.View.{view, members_view}
 use Rattle.std.proofs.Common.{inl, inr}
 use Rattle.std.specs.BTreeMap.{btree_map_len}
@@ -8,17 +7,9 @@ use Rattle.conf_inherit.specs.AliasOutcomes.{outcomes_of}
 use Rattle.conf_inherit.specs.Names.{NoClash}
 use Rattle.conf_tree.specs.Flaw.{flaw_of}
 use Rattle.conf_inherit.proofs.RefusalLemmas.{refusal_holds}
-use Rattle.conf_inherit.proofs.ResolveLemmas.{aliases_part, resolution_is, resolution_sound, depth-nests, resolved_whole}
+use Rattle.conf_inherit.proofs.ResolveLemmas.{resolution_is, resolution_sound, depth-nests, resolved_whole}
 use Rattle.conf_inherit.proofs.AscendingNames.{resolved_ascends}
 use Rattle.conf_inherit.proofs.resolution.resolve_under.Goals as goal
-
-pub settle_aliases-requires : goal.settle_aliases-requires
-settle_aliases-requires c =
-    let shallow : members_depth (members_view c.args.aliases.now.entries) ≤ 28 = subst (λ m. members_depth m ≤ 28) (sym c.requires.own) (aliases_part (view c.args.value.now) c.requires.nested c.requires.whole).0 in
-    omega arith
-
-pub resolve_after-requires-clause-shallow : goal.resolve_after-requires-clause-shallow
-resolve_after-requires-clause-shallow c = subst (λ m. members_depth m ≤ 28) (sym c.requires.own) (aliases_part (view c.args.value.now) c.requires.nested c.requires.whole).0
 
 pub returns-in-Ok-clause-first : goal.returns-in-Ok-clause-first
 returns-in-Ok-clause-first c =
@@ -36,7 +27,7 @@ invariant_of-result c =
     let sound = resolution_sound (view c.args.value.now) (view c.in-Ok.value) (subst NoClash c.requires.own c.in_ok-outcomes.ensures.apart) (is ∙ c.in-Ok.ensures.first) in
     record {
       nested = depth-nests (view c.in-Ok.value) 32 sound.1;
-      whole = resolved_whole (view c.args.value.now) (view c.in-Ok.value) c.requires.nested c.requires.whole sound.0;
+      whole = resolved_whole (view c.args.value.now) (view c.in-Ok.value) c.requires.whole sound.0;
       ordered = resolved_ascends (view c.args.value.now) (view c.in-Ok.value) c.requires.ordered sound.0;
     }
 
