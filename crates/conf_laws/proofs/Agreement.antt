@@ -1,25 +1,66 @@
 -- What a judge knows around a value is what the value stands in.
-use Rattle.std.proofs.Common.{◌≡◌, ◌⊎◌, ◌↔◌, ◌||◌, ℕ, zero, suc, Bool, true, false, List, [], ◌∷◌, Contains, Option, Some, None, is_some, Ordering, Less, Equal, Greater, nat_cmp, inl, inr, refl, sym, ap, subst, ◌∙◌, arith}
+use Rattle.std.proofs.Common.{◌≡◌, ◌⊎◌, ◌+◌, ◌<◌, ℕ, zero, suc, Some, inl, inr, sym, ap, subst, ◌∙◌, arith, ◌↔◌, ◌||◌, Bool, true, false, List, [], ◌∷◌, Contains, Option, is_some, refl}
 use Rattle.std.specs.Prelude.{codes, unwrap_or, option_map}
-use Rattle.std.specs.Ordering.{match_ordering}
-use Rattle.std.specs.Cmp.Lexicographic.{slice_cmp}
-use Rattle.std.proofs.lemmas.Bool.{false≢true, or_cases, or_left, or_right}
-use Rattle.serde_json.specs.Data.{Data, null, boolean, number, string, array, object, Items, no_items, item, Members, no_members, member, put}
-use Rattle.serde_json.specs.Events.{items_len}
-use Rattle.serde_json.specs.Find.{get_member}
-use Rattle.ctf_types.specs.Packets.{own_names}
-use Rattle.ctf_types.specs.Shown.{length_name}
-use Rattle.conf_tree.specs.Reading.{optional}
-use Rattle.conf_tree.specs.Walk.{HasMember}
-use Rattle.conf_table.specs.declared.place.Place.{Place}
-use Rattle.conf_table.specs.declared.place.Place.TheVariants as places
-use Rattle.conf_judge.specs.Known.{Known, nothing, inside, behind, with_taken, is_true, says_default}
-use Rattle.conf_judge.specs.Names.{class_of, class_of_type, class_of_member, is_dynamic_array, is_dynamic, take, take_each, take_length, take_all, names_beside, with_names, is_taken}
-use Rattle.conf_judge.specs.Numbers.{all_numbers, numbers_in}
 use Rattle.conf_laws.specs.Around.{Around, member_of, item_of, levels_around, SaysDefault, HasDefault, IsBehindDefault, enumeration_around, IsDynamic, TakesName, IsBeside, IsTaken}
-use Rattle.conf_laws.proofs.Items.{ItemParts, HasItem, before_found, found_before}
-use Rattle.conf_laws.proofs.Readings.{same_name}
-use Rattle.std.proofs.lemmas.Cmp.{nat_list_cmp_total, tied_itself}
+use Rattle.conf_laws.proofs.TableWords.{Place}
+use Rattle.conf_laws.proofs.TableWords.places
+use Rattle.conf_laws.proofs.JudgeWords.{Known, nothing, inside, behind, with_taken, is_true, says_default, class_of, class_of_type, class_of_member, is_dynamic_array, is_dynamic, take, take_each, take_length, take_all, names_beside, with_names, is_taken, all_numbers, numbers_in}
+use Rattle.conf_laws.proofs.TreeWords.{optional, HasMember, get_member-put, get_member-put_other, Data, Items, no_items, item, null, boolean, object, Members, no_members, member, items_len, get_item, get_member}
+use Rattle.conf_laws.proofs.StdWords.{cases_lt, false≢true, or_cases, or_left, or_right, bytes_eq, bytes_eq-Decides}
+use Rattle.conf_laws.proofs.Readings.{by_test}
+use Rattle.conf_laws.proofs.DraftWords.{own_names, length_name}
+
+-- all items are those before, the nearest first, and then the rest
+pub data ItemParts (all : Items) : Items → Items → Type 0 where
+  at_the_first : ItemParts all no_items all
+  behind_item : (before : Items) (d : Data) (rest : Items) → ItemParts all before (item d rest) → ItemParts all (item d before) rest
+
+abbrev pub HasItem : Data → Items → Type 0
+HasItem d no_items = ⊥
+HasItem d (item e ds) = (d ≡ e) ⊎ HasItem d ds
+
+-- an item of the rest is found behind those before
+item_at : (all before rest : Items) → ItemParts all before rest → (j : ℕ) → get_item (j + items_len before) all ≡ get_item j rest
+item_at all before rest ItemParts.at_the_first j = ap (λ i. get_item i all) (omega arith)
+item_at all before rest (ItemParts.behind_item b d r parts) j =
+    let same : j + suc (items_len b) ≡ suc j + items_len b = omega arith in
+    ap (λ i. get_item i all) same ∙ item_at all b (item d r) parts (suc j)
+
+pub item_found : (all before rest : Items) (d : Data) → ItemParts all before (item d rest) → get_item (items_len before) all ≡ Some d
+item_found all before rest d parts = let same : items_len before ≡ 0 + items_len before = omega arith in ap (λ i. get_item i all) same ∙ item_at all before (item d rest) parts 0
+
+-- what stands before has a smaller index
+abbrev pub HasEarlier : Items → ℕ → Data → Type 0
+HasEarlier all i d = (j : ℕ) × (j < i) × (get_item j all ≡ Some d)
+
+pub before_found : (all before rest : Items) (d : Data) → ItemParts all before rest → HasItem d before → HasEarlier all (items_len before) d
+before_found all before rest d ItemParts.at_the_first has = absurd has
+before_found all before rest d (ItemParts.behind_item b e r parts) (inl same) = (items_len b, omega arith, item_found all b r e parts ∙ ap Some (sym same))
+before_found all before rest d (ItemParts.behind_item b e r parts) (inr has) = let earlier = before_found all b (item e r) d parts has in (earlier.0, omega (arith, earlier.1), earlier.2)
+
+pub found_before : (all before rest : Items) (d : Data) (j : ℕ) → ItemParts all before rest → j < items_len before → get_item j all ≡ Some d → HasItem d before
+found_before all before rest d j ItemParts.at_the_first less is = absurd (omega (arith, less))
+found_before all before rest d j (ItemParts.behind_item b e r parts) less is = elim (cases_lt j (items_len b)) [
+  | inl small ↦ inr (found_before all b (item e r) d j parts small is)
+  | inr large ↦ inl (last (omega (arith, less, large)))
+]
+  where
+    last : j ≡ items_len b → d ≡ e
+    last same = let found : get_item j all ≡ Some e = ap (λ i. get_item i all) same ∙ item_found all b r e parts in cc
+
+-- an item of an index stands behind those with a smaller one
+abbrev pub Stands : Items → ℕ → Data → Type 0
+Stands all i d = (before : Items) × (rest : Items) × ItemParts all before (item d rest) × (items_len before ≡ i)
+
+stands_from : (all before rest : Items) (d : Data) (j : ℕ) → ItemParts all before rest → get_item j rest ≡ Some d → Stands all (j + items_len before) d
+stands_from all before no_items d j parts is = absurd cc
+stands_from all before (item e rest) d zero parts is = let same : e ≡ d = cc in (before, rest, subst (λ x. ItemParts all before (item x rest)) same parts, omega arith)
+stands_from all before (item e rest) d (suc j) parts is =
+    let later = stands_from all (item e before) rest d j (ItemParts.behind_item before e rest parts) is in
+    (later.0, later.1, later.2, later.3 ∙ omega arith)
+
+pub stands : (all : Items) (d : Data) (i : ℕ) → get_item i all ≡ Some d → Stands all i d
+stands all d i is = let there = stands_from all no_items all d i ItemParts.at_the_first is in (there.0, there.1, there.2, there.3 ∙ omega arith)
 
 abbrev pub IsTrue : Bool → Type 0
 IsTrue b = b ≡ true
@@ -36,22 +77,12 @@ nothing_agrees = record { levels = refl; second = (λ e. false≢true e, λ h. a
 -- ---- a data stream type that says that it is the default
 
 true_there : (o : Option Data) → is_true o ≡ true → o ≡ Some (boolean true)
-true_there None e = absurd cc
-true_there (Some null) e = absurd cc
 true_there (Some (boolean true)) e = refl
-true_there (Some (boolean false)) e = absurd cc
-true_there (Some (number n)) e = absurd cc
-true_there (Some (string s)) e = absurd cc
-true_there (Some (array ds)) e = absurd cc
-true_there (Some (object ms)) e = absurd cc
+true_there _ e = absurd cc
 
 says_told : (d : Data) → says_default d ≡ true → SaysDefault d
-says_told null e = absurd cc
-says_told (boolean b) e = absurd cc
-says_told (number n) e = absurd cc
-says_told (string s) e = absurd cc
-says_told (array ds) e = absurd cc
 says_told (object ms) e = (ms, refl, true_there (optional (codes "$is-default") ms) e)
+says_told _ e = absurd cc
 
 told_says : (d : Data) → SaysDefault d → says_default d ≡ true
 told_says d (ms, is, flag) = subst (λ x. says_default x ≡ true) (sym is) (ap is_true flag)
@@ -98,85 +129,42 @@ module _ (around : Around) (ms before : Members) (name : List ℕ) (d : Data) wh
 
 -- ---- names that are taken
 
-abbrev found_at : Ordering → Data → Option Data → Option Data
-found_at o d rest = match_ordering o rest (Some d) rest
+-- one alternative, then another, and what they are together
+joined : {T U V A B C : Type 0} → (T ↔ (A ⊎ U)) → (U ↔ (B ⊎ V)) → (A ⊎ B → C) → (C → A ⊎ B) → T ↔ (C ⊎ V)
+joined a b f g = (
+  λ t. elim (a.0 t) [ inl x ↦ inl (f (inl x)) | inr u ↦ elim (b.0 u) [ inl y ↦ inl (f (inr y)) | inr v ↦ inr v ] ],
+  λ p. elim p [ inl c ↦ elim (g c) [ inl x ↦ a.1 (inl x) | inr y ↦ a.1 (inr (b.1 (inl y))) ] | inr v ↦ a.1 (inr (b.1 (inr v))) ],
+)
 
-is_taken_step : (name l : List ℕ) (e : Data) (ms : Members) → IsTrue (is_taken (member l e ms) name) ↔ ((name ≡ l) ⊎ IsTrue (is_taken ms name))
-is_taken_step name l e ms = (λ t. there (slice_cmp nat_cmp name l) refl t, back)
-  where
-    there : (o : Ordering) → slice_cmp nat_cmp name l ≡ o → IsTrue (is_some (found_at o e (get_member name ms))) → (name ≡ l) ⊎ IsTrue (is_taken ms name)
-    there Less c t = inr t
-    there Equal c t = inl (same_name name l c)
-    there Greater c t = inr t
-
-    still : (o : Ordering) → IsTrue (is_taken ms name) → IsTrue (is_some (found_at o e (get_member name ms)))
-    still Less t = t
-    still Equal t = refl
-    still Greater t = t
-
-    back : (name ≡ l) ⊎ IsTrue (is_taken ms name) → IsTrue (is_taken (member l e ms) name)
-    back (inl same) = ap (λ o. is_some (found_at o e (get_member name ms))) (ap (slice_cmp nat_cmp name) (sym same) ∙ tied_itself nat_list_cmp_total name)
-    back (inr t) = still (slice_cmp nat_cmp name l) t
-
-taken_put : (name k : List ℕ) (ms : Members) → IsTrue (is_taken (take k ms) name) ↔ ((name ≡ k) ⊎ IsTrue (is_taken ms name))
-taken_put name k no_members = is_taken_step name k null no_members
-taken_put name k (member l e ms) = at_order (slice_cmp nat_cmp k l) refl (taken_put name k ms)
-  where
-    at_order : (o : Ordering) → slice_cmp nat_cmp k l ≡ o → IsTrue (is_taken (take k ms) name) ↔ ((name ≡ k) ⊎ IsTrue (is_taken ms name))
-        → IsTrue (is_taken (match_ordering o (member k null (member l e ms)) (member l null ms) (member l e (put k null ms))) name) ↔ ((name ≡ k) ⊎ IsTrue (is_taken (member l e ms) name))
-    at_order Less c h = is_taken_step name k null (member l e ms)
-    at_order Equal c h =
-        let same = same_name k l c in
-        let new = is_taken_step name l null ms in
-        let old = is_taken_step name l e ms in (
-          λ t. elim (new.0 t) [ inl is ↦ inl (is ∙ sym same) | inr rest ↦ inr (old.1 (inr rest)) ],
-          λ p. elim p [ inl is ↦ new.1 (inl (is ∙ same)) | inr t ↦ new.1 (old.0 t) ],
-        )
-    at_order Greater c h =
-        let new = is_taken_step name l e (put k null ms) in
-        let old = is_taken_step name l e ms in (
-          λ t. elim (new.0 t) [ inl is ↦ inr (old.1 (inl is)) | inr rest ↦ elim (h.0 rest) [ inl is ↦ inl is | inr r ↦ inr (old.1 (inr r)) ] ],
-          λ p. elim p [ inl is ↦ new.1 (inr (h.1 (inl is))) | inr t ↦ elim (old.0 t) [ inl is ↦ new.1 (inl is) | inr r ↦ new.1 (inr (h.1 (inr r))) ] ],
-        )
-
-none_contained : (name : List ℕ) → Contains [] name → ⊥
-none_contained name (i, lt, is) = omega (arith, lt)
+pub taken_put : (name k : List ℕ) (ms : Members) → IsTrue (is_taken (take k ms) name) ↔ ((name ≡ k) ⊎ IsTrue (is_taken ms name))
+taken_put name k ms =
+    by_test (λ (b : Bool). IsTrue (is_taken (take k ms) name) ↔ ((name ≡ k) ⊎ IsTrue (is_taken ms name))) (bytes_eq name k)
+    (λ is. let same = (bytes_eq-Decides name k).0 is in (λ t. inl same, λ p. ap (λ n. is_taken (take k ms) n) same ∙ ap (λ o. is_some o) (get_member-put k null ms))) (λ is.
+    let other : ¬ (name ≡ k) = λ same. false≢true (sym is ∙ (bytes_eq-Decides name k).1 same) in
+    let found = ap (λ o. is_some o) (get_member-put_other name k null ms other) in
+    (λ t. inr (sym found ∙ t), λ p. elim p [ inl same ↦ absurd (other same) | inr t ↦ found ∙ t ]))
 
 each_taken : (names : List (List ℕ)) (taken : Members) (name : List ℕ) → IsTrue (is_taken (take_each names taken) name) ↔ (Contains names name ⊎ IsTrue (is_taken taken name))
-each_taken [] taken name = (λ t. inr t, λ p. elim p [ inl c ↦ absurd (none_contained name c) | inr t ↦ t ])
-each_taken (n ∷ names) taken name = further (each_taken names (take n taken) name) (taken_put name n taken)
+each_taken [] taken name = (λ t. inr t, λ p. elim p [ inl (i, lt, is) ↦ absurd (omega (arith, lt)) | inr t ↦ t ])
+each_taken (n ∷ names) taken name = joined (each_taken names (take n taken) name) (taken_put name n taken) (λ p. elim p [ inl c ↦ (suc c.0, omega (arith, c.1), c.2) | inr is ↦ (0, omega arith, sym is) ]) back
   where
-    further : {T T1 : Type 0} → (T ↔ (Contains names name ⊎ T1)) → (T1 ↔ ((name ≡ n) ⊎ IsTrue (is_taken taken name))) → T ↔ (Contains (n ∷ names) name ⊎ IsTrue (is_taken taken name))
-    further {T = T} a b = (λ t. elim (a.0 t) [ inl c ↦ inl (suc c.0, omega (arith, c.1), c.2) | inr u ↦ elim (b.0 u) [ inl is ↦ inl (0, omega arith, sym is) | inr v ↦ inr v ] ], back)
-      where
-        back : Contains (n ∷ names) name ⊎ IsTrue (is_taken taken name) → T
-        back (inl (zero, lt, is)) = a.1 (inr (b.1 (inl (sym is))))
-        back (inl (suc i, lt, is)) = a.1 (inl (i, omega (arith, lt), is))
-        back (inr v) = a.1 (inr (b.1 (inr v)))
+    back : Contains (n ∷ names) name → Contains names name ⊎ (name ≡ n)
+    back (zero, lt, is) = inr (sym is)
+    back (suc i, lt, is) = inl (i, omega (arith, lt), is)
 
 -- ---- dynamic arrays
 
 pub array_told : (o : Option Place) → is_dynamic_array o ≡ true → o ≡ Some places.DynamicArray
-array_told None e = absurd cc
 array_told (Some places.DynamicArray) e = refl
-array_told (Some _) e = absurd cc
+array_told _ e = absurd cc
 
 type_told : (o : Option Data) → class_of_type o ≡ Some places.DynamicArray → (type : Members) × (o ≡ Some (object type)) × (class_of type ≡ Some places.DynamicArray)
-type_told None e = absurd cc
-type_told (Some null) e = absurd cc
-type_told (Some (boolean b)) e = absurd cc
-type_told (Some (number n)) e = absurd cc
-type_told (Some (string s)) e = absurd cc
-type_told (Some (array ds)) e = absurd cc
 type_told (Some (object ms)) e = (ms, refl, e)
+type_told _ e = absurd cc
 
 member_told : (d : Data) → class_of_member d ≡ Some places.DynamicArray → IsDynamic d
-member_told null e = absurd cc
-member_told (boolean b) e = absurd cc
-member_told (number n) e = absurd cc
-member_told (string s) e = absurd cc
-member_told (array ds) e = absurd cc
 member_told (object ms) e = let t = type_told (get_member (codes "field-type") ms) e in (ms, t.0, refl, t.1, t.2)
+member_told _ e = absurd cc
 
 pub dynamic_told : (d : Data) → is_dynamic d ≡ true → IsDynamic d
 unfolding is_dynamic
@@ -194,43 +182,30 @@ length_taken true d k name taken is =
     (λ t. elim (put.0 t) [ inl same ↦ inl (dynamic_told d is, same) | inr u ↦ inr u ], λ p. elim p [ inl (dynamic, same) ↦ put.1 (inl same) | inr u ↦ put.1 (inr u) ])
 length_taken false d k name taken is = (λ t. inr t, λ p. elim p [ inl (dynamic, same) ↦ absurd (false≢true (sym is ∙ told_dynamic d dynamic)) | inr u ↦ u ])
 
--- the members of an entry take the name
+-- a member takes the name, and the members of an entry do
+abbrev TakesAs : List ℕ → Data → List ℕ → Type 0
+TakesAs k d name = (name ≡ k) ⊎ (IsDynamic d × (name ≡ length_name k))
+
 abbrev MembersTake : Members → List ℕ → Type 0
-MembersTake ms name = (k : List ℕ) × (d : Data) × HasMember k d ms × ((name ≡ k) ⊎ (IsDynamic d × (name ≡ length_name k)))
+MembersTake ms name = (k : List ℕ) × (d : Data) × HasMember k d ms × TakesAs k d name
 
 all_taken : (ms taken : Members) (name : List ℕ) → IsTrue (is_taken (take_all ms taken) name) ↔ (MembersTake ms name ⊎ IsTrue (is_taken taken name))
 all_taken no_members taken name = (λ t. inr t, λ p. elim p [ inl (k, d, has, is) ↦ absurd has | inr t ↦ t ])
 all_taken (member k d ms) taken name =
-    further (all_taken ms (take k (take_length (is_dynamic d) k taken)) name) (taken_put name k (take_length (is_dynamic d) k taken)) (length_taken (is_dynamic d) d k name taken refl)
+    joined (all_taken ms (take k (take_length (is_dynamic d) k taken)) name)
+    (joined {C = TakesAs k d name} (taken_put name k (take_length (is_dynamic d) k taken)) (length_taken (is_dynamic d) d k name taken refl) (λ p. p) (λ p. p))
+    (λ p. elim p [ inl (l, e, has, named) ↦ (l, e, inr has, named) | inr named ↦ (k, d, inl (refl, refl), named) ]) back
   where
-    further : {T T1 T2 : Type 0} → (T ↔ (MembersTake ms name ⊎ T1)) → (T1 ↔ ((name ≡ k) ⊎ T2)) → (T2 ↔ ((IsDynamic d × (name ≡ length_name k)) ⊎ IsTrue (is_taken taken name))) → T ↔ (MembersTake (member k d ms) name ⊎ IsTrue (is_taken taken name))
-    further {T = T} a b c = (there, back)
-      where
-        there : T → MembersTake (member k d ms) name ⊎ IsTrue (is_taken taken name)
-        there t = elim (a.0 t) [
-          | inl (l, e, has, is) ↦ inl (l, e, inr has, is)
-          | inr u ↦ elim (b.0 u) [
-            | inl same ↦ inl (k, d, inl (refl, refl), inl same)
-            | inr v ↦ elim (c.0 v) [ inl long ↦ inl (k, d, inl (refl, refl), inr long) | inr w ↦ inr w ]
-          ]
-        ]
-
-        back : MembersTake (member k d ms) name ⊎ IsTrue (is_taken taken name) → T
-        back (inl (l, e, inl same, inl is)) = a.1 (inr (b.1 (inl (is ∙ same.0))))
-        back (inl (l, e, inl same, inr (dynamic, is))) = a.1 (inr (b.1 (inr (c.1 (inl (subst IsDynamic same.1 dynamic, is ∙ ap length_name same.0))))))
-        back (inl (l, e, inr has, is)) = a.1 (inl (l, e, has, is))
-        back (inr w) = a.1 (inr (b.1 (inr (c.1 (inr w)))))
+    back : MembersTake (member k d ms) name → MembersTake ms name ⊎ TakesAs k d name
+    back (l, e, inl same, named) = inr (subst (λ x. TakesAs x d name) same.0 (subst (λ x. TakesAs l x name) same.1 named))
+    back (l, e, inr has, named) = inl (l, e, has, named)
 
 entry_taken : (d : Data) (taken : Members) (name : List ℕ) → IsTrue (is_taken (with_names d taken) name) ↔ (TakesName d name ⊎ IsTrue (is_taken taken name))
 entry_taken (object ms) taken name = let all = all_taken ms taken name in (λ t. elim (all.0 t) [ inl m ↦ inl (ms, m.0, m.1, refl, m.2, m.3) | inr u ↦ inr u ], λ p. elim p [ inl takes ↦ all.1 (inl (those takes)) | inr u ↦ all.1 (inr u) ])
   where
     those : TakesName (object ms) name → MembersTake ms name
     those (ns, k, d, is, has, named) = let same : ns ≡ ms = cc in (k, d, subst (HasMember k d) same has, named)
-entry_taken null taken name = (λ t. inr t, λ p. elim p [ inl (ms, k, d, is, has, named) ↦ absurd cc | inr u ↦ u ])
-entry_taken (boolean b) taken name = (λ t. inr t, λ p. elim p [ inl (ms, k, d, is, has, named) ↦ absurd cc | inr u ↦ u ])
-entry_taken (number n) taken name = (λ t. inr t, λ p. elim p [ inl (ms, k, d, is, has, named) ↦ absurd cc | inr u ↦ u ])
-entry_taken (string s) taken name = (λ t. inr t, λ p. elim p [ inl (ms, k, d, is, has, named) ↦ absurd cc | inr u ↦ u ])
-entry_taken (array ds) taken name = (λ t. inr t, λ p. elim p [ inl (ms, k, d, is, has, named) ↦ absurd cc | inr u ↦ u ])
+entry_taken _ taken name = (λ t. inr t, λ p. elim p [ inl (ms, k, d, is, has, named) ↦ absurd cc | inr u ↦ u ])
 
 -- an entry before takes the name
 abbrev IsTakenIn : Items → List ℕ → Type 0
@@ -238,40 +213,33 @@ IsTakenIn before name = (entry : Data) × HasItem entry before × TakesName entr
 
 -- the names that are taken at an item of a list at this place, behind these
 abbrev pub Takes : Members → Place → Items → Type 0
-Takes taken place before = (name : List ℕ) → IsTrue (is_taken taken name) ↔ (IsBeside place name ⊎ IsTakenIn before name)
+Takes taken place before = (name : List ℕ) → IsTrue (is_taken taken name) ↔ (IsTakenIn before name ⊎ IsBeside place name)
 
 pub takes_beside : (place : Place) → Takes (names_beside place) place no_items
 unfolding names_beside
 takes_beside places.ExtraMembers = λ name. let each = each_taken own_names no_members name in
-    (λ t. elim (each.0 t) [ inl c ↦ inl c | inr none ↦ absurd (false≢true none) ], λ p. elim p [ inl c ↦ each.1 (inl c) | inr (entry, has, named) ↦ absurd has ])
-takes_beside _ = λ name. (λ t. absurd (false≢true t), λ p. elim p [ inl none ↦ absurd none | inr (entry, has, named) ↦ absurd has ])
+    (λ t. elim (each.0 t) [ inl c ↦ inr c | inr none ↦ absurd (false≢true none) ], λ p. elim p [ inl (entry, has, named) ↦ absurd has | inr c ↦ each.1 (inl c) ])
+takes_beside _ = λ name. (λ t. absurd (false≢true t), λ p. elim p [ inl (entry, has, named) ↦ absurd has | inr none ↦ absurd none ])
 
 pub takes_further : (taken : Members) (place : Place) (before : Items) (d : Data) → Takes taken place before → Takes (with_names d taken) place (item d before)
-takes_further taken place before d h = λ name. further name (entry_taken d taken name) (h name)
+takes_further taken place before d h = λ name. joined (entry_taken d taken name) (h name)
+    (λ p. elim p [ inl takes ↦ (d, inl refl, takes) | inr (entry, has, named) ↦ (entry, inr has, named) ]) (back name)
   where
-    further : (name : List ℕ) → (IsTrue (is_taken (with_names d taken) name) ↔ (TakesName d name ⊎ IsTrue (is_taken taken name))) → (IsTrue (is_taken taken name) ↔ (IsBeside place name ⊎ IsTakenIn before name))
-        → IsTrue (is_taken (with_names d taken) name) ↔ (IsBeside place name ⊎ IsTakenIn (item d before) name)
-    further name a b = (there, back)
-      where
-        there : IsTrue (is_taken (with_names d taken) name) → IsBeside place name ⊎ IsTakenIn (item d before) name
-        there t = elim (a.0 t) [ inl takes ↦ inr (d, inl refl, takes) | inr u ↦ elim (b.0 u) [ inl beside ↦ inl beside | inr (entry, has, named) ↦ inr (entry, inr has, named) ] ]
-
-        back : IsBeside place name ⊎ IsTakenIn (item d before) name → IsTrue (is_taken (with_names d taken) name)
-        back (inl beside) = a.1 (inr (b.1 (inl beside)))
-        back (inr (entry, inl same, named)) = a.1 (inl (subst (λ e. TakesName e name) same named))
-        back (inr (entry, inr has, named)) = a.1 (inr (b.1 (inr (entry, has, named))))
+    back : (name : List ℕ) → IsTakenIn (item d before) name → TakesName d name ⊎ IsTakenIn before name
+    back name (entry, inl same, named) = inl (subst (λ e. TakesName e name) same named)
+    back name (entry, inr has, named) = inr (entry, has, named)
 
 -- what is taken at an item is what the items before it in its list take
 pub item_agrees : (k : Known) (around : Around) (taken : Members) (place : Place) (all before rest : Items) → Agrees k around → Takes taken place before → ItemParts all before rest → Agrees (with_taken taken k) (item_of place all (items_len before) ∷ around)
 item_agrees k around taken place all before rest h takes parts = record { levels = h.levels; second = h.second; numbers = h.numbers; taken = taken_so }
   where
-    there : (name : List ℕ) → IsBeside place name ⊎ IsTakenIn before name → IsTaken (item_of place all (items_len before) ∷ around) name
-    there name (inl beside) = inl beside
-    there name (inr (entry, has, named)) = let earlier = before_found all before rest entry parts has in inr (earlier.0, entry, earlier.1, earlier.2, named)
+    there : (name : List ℕ) → IsTakenIn before name ⊎ IsBeside place name → IsTaken (item_of place all (items_len before) ∷ around) name
+    there name (inr beside) = inl beside
+    there name (inl (entry, has, named)) = let earlier = before_found all before rest entry parts has in inr (earlier.0, entry, earlier.1, earlier.2, named)
 
-    back : (name : List ℕ) → IsTaken (item_of place all (items_len before) ∷ around) name → IsBeside place name ⊎ IsTakenIn before name
-    back name (inl beside) = inl beside
-    back name (inr (j, entry, less, is, named)) = inr (entry, found_before all before rest entry j parts less is, named)
+    back : (name : List ℕ) → IsTaken (item_of place all (items_len before) ∷ around) name → IsTakenIn before name ⊎ IsBeside place name
+    back name (inl beside) = inr beside
+    back name (inr (j, entry, less, is, named)) = inl (entry, found_before all before rest entry j parts less is, named)
 
     taken_so : (name : List ℕ) → IsTrue (is_taken taken name) ↔ IsTaken (item_of place all (items_len before) ∷ around) name
     taken_so name = (λ t. there name ((takes name).0 t), λ p. (takes name).1 (back name p))

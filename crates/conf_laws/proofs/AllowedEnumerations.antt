@@ -1,39 +1,200 @@
--- An enumeration that has no flaw and passes no limit is one that the rules allow.
-use Rattle.std.proofs.Common.{◌≡◌, ◌≢◌, ℕ, ◌<◌, ◌≤◌, Bool, true, false, List, length, All, Option, Some, None, Ok, refl, sym, ap, subst, ◌∙◌, arith}
-use Rattle.std.specs.Prelude.{int_le, ◌&&◌, codes, unwrap_or}
-use Rattle.std.specs.Int.Signed.{le_z_yes}
-use Rattle.std.proofs.lemmas.Bool.{and_parts, leb-true}
-use Rattle.std.proofs.lemmas.Float.{T_from_true}
-use Rattle.std.proofs.lemmas.List.Elements.{All-from_recursion, All-weaker}
-use Rattle.serde_json.specs.Data.{Data, null, boolean, number, string, array, object, Members, no_members, member}
-use Rattle.serde_json.specs.Find.{get_member}
-use Rattle.ctf_types.specs.declared.EnumType.{EnumType}
-use Rattle.ctf_types.specs.declared.IntType.{IntType}
-use Rattle.ctf_types.specs.declared.Mapping.{Mapping}
-use Rattle.ctf_types.specs.AllowedConfig.{lowest, highest, IsRangeOf, LabelsInOrder, IsEnumeration}
-use Rattle.ctf_types.specs.Names.{IsConfigText}
-use Rattle.conf_tree.specs.Reading.{given}
-use Rattle.conf_table.specs.declared.place.Place.{Place as Kind}
-use Rattle.conf_table.specs.declared.place.Place.TheVariants as places
-use Rattle.conf_table.specs.declared.row.Content.TheVariants.{At}
-use Rattle.conf_table.specs.declared.row.Presence.TheVariants.{Needed}
-use Rattle.conf_table.specs.Table.{content_under, presence_under, entries_of, rows_of}
-use Rattle.conf_judge.specs.Flaws.{resolved_content, all_there}
-use Rattle.conf_judge.specs.Forms.{itself_of, form_of, some_object}
-use Rattle.conf_judge.specs.Known.{Known, inside, behind}
-use Rattle.conf_judge.specs.Limits.{ranges_fit}
+-- Names, texts, integers and enumerations that have no flaw and pass no limit are ones that the rules allow.
+use Rattle.std.proofs.Common.{◌≡◌, ℕ, ◌||◌, ◌&&◌, true, List, length, Ok, arith, ◌==◌, ◌%◌, Bool, false, Some, None, nat_lt, sym, ap, ◌≢◌, ℤ, pos, suc, ◌<◌, ◌≤◌, [], ◌∷◌, ◌++◌, Less, Equal, Greater, nat_cmp, refl, subst, ◌∙◌, length-append, All, Option}
+use Rattle.std.specs.Prelude.{nat_le, int_le, codes, unwrap_or}
+use Rattle.conf_draft.specs.Integers.{made, align_of}
 use Rattle.conf_judge.specs.Limits as limits
-use Rattle.conf_judge.specs.Numbers.{natural_in, numbers_of, numbers_in, numbers_or_all}
-use Rattle.conf_judge.specs.Places.{place_of_properties, is_position, own_place}
-use Rattle.conf_draft.specs.Enumerations.{enumeration, labels_in, mappings_or_none, with_mappings}
-use Rattle.conf_draft.specs.Integers.{integer, size_of}
-use Rattle.conf_draft.specs.Lookups.{object_of, object as object_at}
-use Rattle.conf_laws.proofs.AllowedIntegers.{integer_says}
-use Rattle.conf_laws.proofs.AllowedRanges.{IsGoodMapping, labels_good, labels_in_order, labels_few, some_range}
-use Rattle.conf_laws.proofs.Properties.{AreGood, IsGoodAt, good_object, own_properties, IsOwn, ranges_are_few, needed_at}
-use Rattle.conf_laws.proofs.Steps.{mapped_some, same_natural}
-use Rattle.conf_laws.proofs.Rows.{Leads, needed_there}
-use Rattle.conf_laws.proofs.Ranges.{some_size}
+use Rattle.conf_laws.proofs.Numbers.{lowest_end, highest_end, ReadSo, read_so, some_size}
+use Rattle.conf_laws.proofs.Properties.{AreGoodItems, IsGoodEntry, entry_in, plain_rest, good_items, item_first, item_rest, AreGood, IsGoodAt, good_object, own_properties, ranges_are_few, needed_at}
+use Rattle.conf_laws.proofs.Readings.{under_no_test, proved_some, was_so, all_joined, mapped_some, same_natural}
+use Rattle.conf_laws.proofs.Sound.{needed_there}
+use Rattle.conf_laws.proofs.Table.{MapPlace, is_map, is_plain, Property, leads, needed_by, mappings_own}
+use Rattle.conf_laws.specs.ValueFlaws.{IsPair}
+use Rattle.conf_laws.proofs.TableWords.{entries_of, Place, At}
+use Rattle.conf_laws.proofs.TableWords.places
+use Rattle.conf_laws.proofs.JudgeWords.{all_there, itself_of, form_of, some_list, some_object, Known, with_taken, inside, key_fits, count_of, ranges_fit, key_of, key_by, names_beside, with_names, end_of, range_of, is_inside, inside_of, natural_in, numbers_of, numbers_in, numbers_or_all, item_content}
+use Rattle.conf_laws.proofs.TreeWords.{here, AllAbove, IsInOrder, whole_of, whole_or_not, given, OutOfRange, both_read, is_passed, name_of, is_reserved, plain_name_of, is_printable, Members, Data, number, array, Num, unsigned, negative, float, Items, no_items, item, no_members, member, object, items_len, as_integer, as_array, get_member}
+use Rattle.conf_laws.proofs.StdWords.{nat_tests, and_parts, or_parts, leb-true, nat_list_cmp_total, tied_itself, T_from_true, All-from_recursion, All-weaker, same_Some, slice_cmp, le_z_yes, list_any, AllByRecursion, bytes_eq}
+use Rattle.conf_laws.proofs.DraftWords.{whole, low, high, ranges_in, ranges_of, labels_in, enumeration, mappings_or_none, with_mappings, integer, size_of, base_of, object_of, object as object_at, IsPlainUnsigned, LabelsInOrder, lowest, highest, IsRangeOf, IsEnumeration, is_identifier, unused_keywords, used_keywords, IsConfigName, IsPlainName, IsConfigText, Base, EnumType, IntType, Mapping}
+
+pub config_name : (name : List ℕ) → name_of name ≡ Ok tt → IsConfigName name
+unfolding name_of
+config_name name e =
+    let p = is_passed (is_identifier name && nat_le (length name) 255) tt tt _ e in
+    let q = and_parts (is_identifier name) (nat_le (length name) 255) p.0 in
+    let short : nat_le (length name) 255 ≡ true = q.1 in
+    record { identifier = q.0; short = grind (arith, nat_tests) }
+
+pub plain_name : (name : List ℕ) → plain_name_of name ≡ Ok tt → IsPlainName name
+unfolding plain_name_of is_reserved
+plain_name name e =
+    let named_well = both_read (name_of name) _ tt e in
+    let free = or_parts (list_any (bytes_eq name) unused_keywords) (list_any (bytes_eq name) used_keywords) (under_no_test (list_any (bytes_eq name) unused_keywords || list_any (bytes_eq name) used_keywords) tt tt _ named_well.2) in
+    record { named = config_name name named_well.1; no_unused_keyword = free.0; no_used_keyword = free.1 }
+
+-- a text that people read
+pub config_text : (s : List ℕ) → is_printable s ≡ true → nat_le (length s) 4096 ≡ true → IsConfigText s
+config_text s e limit = record { short = leb-true (length s) 4096 limit; printable = e }
+
+pub record IsMade (size align : ℕ) (signed : Bool) (t : IntType) : Type 0 where
+  pub size_is : t.size ≡ size
+  pub align_is : t.align ≡ align
+  pub sign_is : t.signed ≡ signed
+  pub no_clock : t.clock ≡ None
+
+made_says : (size align : ℕ) (signed : Bool) (base : Base) (t : IntType) → made size align signed base ≡ Some t → IsMade size align signed t
+unfolding made
+made_says size align signed base t e =
+    let a = proved_some (nat_lt 0 size) _ t e in
+    let b = proved_some (nat_le size 64) _ t a.1 in
+    let c = proved_some (nat_lt 0 align) _ t b.1 in
+    let d = proved_some (4096 % align == 0) _ t c.1 in
+    let same = same_Some _ t d.1 in
+    record { size_is = ap (λ x. x.size) (sym same); align_is = ap (λ x. x.align) (sym same); sign_is = ap (λ x. x.signed) (sym same); no_clock = ap (λ x. x.clock) (sym same) }
+
+pub integer_says : (signed : Bool) (ms : Members) (t : IntType) → integer signed ms ≡ Some t → IsMade (size_of ms) (align_of ms) signed t
+unfolding integer
+integer_says signed ms t e = made_says (size_of ms) (align_of ms) signed (base_of ms) t e
+
+pub unsigned_says : (ms : Members) (t : IntType) → integer false ms ≡ Some t → IsPlainUnsigned t
+unsigned_says ms t e = let made = integer_says false ms t e in (made.sign_is, made.no_clock)
+
+-- ---- one range
+
+end_says : (n : Num) (x : ℤ) → whole_or_not lowest_end highest_end (as_integer n) ≡ Ok x → whole (Some (number n)) ≡ x
+end_says (unsigned m) x e = (is_passed (int_le lowest_end (pos m) && int_le (pos m) highest_end) (pos m) x _ e).1
+end_says (negative z) x e = (is_passed (int_le lowest_end z && int_le z highest_end) z x _ e).1
+end_says (float f) x e = absurd cc
+
+end_is : (d : Data) (x : ℤ) → end_of d ≡ Ok x → whole (Some d) ≡ x
+unfolding whole_of
+end_is (number n) x e = end_says n x e
+end_is _ x e = absurd cc
+
+one_end : (d : Data) (z : ℤ) → as_array d ≡ None → end_of d ≡ Ok z → (z ≡ low d) × (z ≡ high d)
+one_end (array ds) z none e = absurd cc
+one_end d z none e = let one = sym (end_is d z e) in (one, one)
+
+two_ends : (d a b : Data) → IsPair d a b → (low d ≡ whole (Some a)) × (high d ≡ whole (Some b))
+two_ends (array ds) a b pair = let same : ds ≡ item a (item b no_items) = cc in (ap (λ x. low (array x)) same, ap (λ x. high (array x)) same)
+two_ends _ a b pair = absurd cc
+
+range_is : (d : Data) (x y : ℤ) → ReadSo d x y → (x ≡ low d) × (y ≡ high d)
+range_is d x y (ReadSo.one_number z none e) = one_end d z none e
+range_is d x y (ReadSo.two_numbers a b z w pair e f) = let ends = two_ends d a b pair in (sym (end_is a z e) ∙ sym ends.0, sym (end_is b w f) ∙ sym ends.1)
+
+-- from low to high, not empty and inside the numbers that are known
+abbrev pub is_known : Known → ℤ → ℤ → Bool
+is_known k low high = int_le low high && int_le k.numbers.low low && int_le high k.numbers.high
+
+range_inside : (k : Known) (d : Data) → inside_of k.numbers d ≡ Ok tt → is_known k (low d) (high d) ≡ true
+unfolding inside_of is_inside
+range_inside k d e =
+    let read = both_read (range_of d) _ tt e in
+    let passed = is_passed (is_inside k.numbers read.0) tt tt (here OutOfRange) read.2 in
+    let ends = range_is d read.0.low read.0.high (read_so d read.0 read.1) in
+    subst (λ x. is_known k x (high d) ≡ true) ends.0 (subst (λ y. is_known k read.0.low y ≡ true) ends.1 passed.0)
+
+-- ---- the ranges of a label
+
+-- a range inside these numbers, under a label that people read
+pub record IsGoodMapping (k : Known) (m : Mapping) : Type 0 where
+  pub inside : is_known k m.low m.high ≡ true
+  pub text : IsConfigText m.label
+
+ranges_good : (k : Known) (label : List ℕ) (taken : Members) (i : ℕ) (ds : Items) → IsConfigText label → AreGoodItems k places.Ranges taken i ds → AllByRecursion (IsGoodMapping k) (ranges_in label ds)
+unfolding item_content itself_of form_of
+ranges_good k label taken i no_items text h = tt
+ranges_good k label taken i (item d ds) text h = (
+  record { inside = range_inside (with_taken taken k) d ((item_first k places.Ranges taken i d ds h).sound.itself); text = text },
+  ranges_good k label (with_names d taken) (suc i) ds text (item_rest k places.Ranges taken i d ds h),
+)
+
+-- ---- the labels
+
+label_good : (k : Known) (label : List ℕ) (d : Data) (ms : Members) → AreGood k places.Mappings (member label d ms) → IsGoodEntry k places.Mappings label (At places.Ranges) d
+label_good k label d ms h = entry_in k places.Mappings label (At places.Ranges) d ms (is_map MapPlace.mappings) h
+
+own_good : (k : Known) (label : List ℕ) (d : Data) → IsConfigText label → IsGoodAt k (At places.Ranges) d → AllByRecursion (IsGoodMapping k) (ranges_of label d)
+own_good k label (array ds) text h = ranges_good k label (names_beside places.Ranges) 0 ds text (good_items k places.Ranges ds h)
+own_good k label _ text h = tt
+
+pub labels_good : (k : Known) (labels : Members) → AreGood k places.Mappings labels → AllByRecursion (IsGoodMapping k) (labels_in labels)
+unfolding key_of key_by key_fits entries_of
+labels_good k no_members h = tt
+labels_good k (member label d ms) h =
+    let entry = label_good k label d ms h in
+    all_joined (IsGoodMapping k) (ranges_of label d) (labels_in ms) (own_good k label d (config_text label (was_so _ entry.named) entry.short) entry.value) (labels_good k ms (plain_rest k places.Mappings label d ms (is_plain MapPlace.mappings) h))
+
+-- ---- how many there are
+
+some_here : (k : Known) (label : List ℕ) (d : Data) → itself_of k (At places.Ranges) d ≡ Ok tt → 0 < length (ranges_of label d)
+unfolding itself_of form_of some_list
+some_here k label (array (item d ds)) e = omega arith
+some_here k label _ e = absurd cc
+
+pub some_range : (k : Known) (labels : Members) → labels ≢ no_members → AreGood k places.Mappings labels → 0 < length (labels_in labels)
+some_range k no_members some h = absurd (some refl)
+some_range k (member label d ms) some h =
+    let first = some_here k label d (label_good k label d ms h).value.sound.itself in
+    omega (arith, first, length-append (ranges_of label d) (labels_in ms))
+
+ranges_counted : (label : List ℕ) (ds : Items) → length (ranges_in label ds) ≡ items_len ds
+ranges_counted label no_items = refl
+ranges_counted label (item d ds) = ap suc (ranges_counted label ds)
+
+own_few : (label : List ℕ) (d : Data) → length (ranges_of label d) ≤ count_of d
+own_few label (array ds) = omega (arith, ranges_counted label ds)
+own_few label _ = omega arith
+
+pub labels_few : (labels : Members) → length (labels_in labels) ≤ limits.ranges_in labels
+labels_few no_members = omega arith
+labels_few (member label d ms) = omega (arith, labels_few ms, own_few label d, length-append (ranges_of label d) (labels_in ms))
+
+-- ---- the order of labels
+
+abbrev NotAbove : List ℕ → List ℕ → Type 0
+NotAbove a b = slice_cmp nat_cmp a b ≢ Greater
+
+-- this label is above none of them
+abbrev NoneBelow : List ℕ → List Mapping → Type 0
+NoneBelow label ms = AllByRecursion (λ m. NotAbove label m.label) ms
+
+abbrev AllLabelled : List ℕ → List Mapping → Type 0
+AllLabelled label ms = AllByRecursion (λ m. m.label ≡ label) ms
+
+ranges_labelled : (label : List ℕ) (ds : Items) → AllLabelled label (ranges_in label ds)
+ranges_labelled label no_items = tt
+ranges_labelled label (item d ds) = (refl, ranges_labelled label ds)
+
+own_labelled : (label : List ℕ) (d : Data) → AllLabelled label (ranges_of label d)
+own_labelled label (array ds) = ranges_labelled label ds
+own_labelled label _ = tt
+
+labelled_below : (k label : List ℕ) (ms : List Mapping) → slice_cmp nat_cmp k label ≡ Less → AllLabelled label ms → NoneBelow k ms
+labelled_below k label [] below h = tt
+labelled_below k label (m ∷ ms) below h = (λ g. let b : slice_cmp nat_cmp k m.label ≡ Less = subst (λ x. slice_cmp nat_cmp k x ≡ Less) (sym h.0) below in cc, labelled_below k label ms below h.1)
+
+labels_below : (k : List ℕ) (labels : Members) → AllAbove k labels → NoneBelow k (labels_in labels)
+labels_below k no_members above = tt
+labels_below k (member label d ms) above =
+    all_joined (λ m. NotAbove k m.label) (ranges_of label d) (labels_in ms) (labelled_below k label (ranges_of label d) above.0 (own_labelled label d)) (labels_below k ms above.1)
+
+same_not_above : (a b label : List ℕ) → a ≡ label → b ≡ label → NotAbove a b
+same_not_above a b label p q = λ g. let e : slice_cmp nat_cmp a b ≡ Equal = subst (λ x. slice_cmp nat_cmp x b ≡ Equal) (sym p) (subst (λ x. slice_cmp nat_cmp label x ≡ Equal) (sym q) (tied_itself nat_list_cmp_total label)) in cc
+
+-- the ranges of a label before those of the labels that are not below it
+in_order_joined : (label : List ℕ) (own rest : List Mapping) → AllLabelled label own → NoneBelow label rest → LabelsInOrder rest → LabelsInOrder (own ++ rest)
+unfolding LabelsInOrder
+in_order_joined label [] rest labelled below h = h
+in_order_joined label (a ∷ []) [] labelled below h = tt
+in_order_joined label (a ∷ []) (b ∷ rest) labelled below h = (subst (λ x. NotAbove x b.label) (sym labelled.0) below.0, h)
+in_order_joined label (a ∷ b ∷ own) rest labelled below h = (same_not_above a.label b.label label labelled.0 labelled.1.0, in_order_joined label (b ∷ own) rest labelled.1 below h)
+
+pub labels_in_order : (labels : Members) → IsInOrder labels → LabelsInOrder (labels_in labels)
+unfolding LabelsInOrder
+labels_in_order no_members order = tt
+labels_in_order (member label d ms) order =
+    in_order_joined label (ranges_of label d) (labels_in ms) (own_labelled label d) (labels_below label ms order.0) (labels_in_order ms order.1)
 
 -- ---- the mappings as they are listed
 
@@ -44,25 +205,17 @@ record AreMappings (k : Known) (ms : List Mapping) : Type 0 where
   some : 0 < length ms
   few : length ms ≤ 1024
 
-module _ where
-  labels_own : IsOwn places.Mappings
-  unfolding place_of_properties is_position own_place inside
-  labels_own = record { own = λ ms. refl; known = λ k ms. refl }
-
-  few_ranges : (labels : Members) → ranges_fit places.Mappings (object labels) ≡ true → limits.ranges_in labels ≤ 1024
-  unfolding ranges_fit
-  few_ranges labels e = leb-true (limits.ranges_in labels) 1024 e
-
 not_empty : (k : Known) (labels : Members) → itself_of k (At places.Mappings) (object labels) ≡ Ok tt → labels ≢ no_members
 unfolding itself_of form_of some_object
 not_empty k no_members e = absurd cc
 not_empty k (member label d ms) e = λ same. absurd cc
 
 mappings_good : (k : Known) (labels : Members) → IsGoodAt k (At places.Mappings) (object labels) → AreMappings k (labels_in labels)
+unfolding ranges_fit
 mappings_good k labels h =
     let whole = good_object k places.Mappings labels h in
-    let good = own_properties k places.Mappings labels labels_own whole in
-    let few = few_ranges labels (ranges_are_few places.Mappings (object labels) whole.fitting) in
+    let good = own_properties k places.Mappings labels mappings_own whole in
+    let few = leb-true (limits.ranges_in labels) 1024 (ranges_are_few places.Mappings (object labels) whole.fitting) in
     record {
       each = All-from_recursion (IsGoodMapping k) (labels_in labels) (labels_good k labels good);
       in_order = labels_in_order labels whole.in_order;
@@ -80,26 +233,13 @@ record HasMappings (k : Known) (ms : Members) : Type 0 where
 
 labels_there : (k : Known) (ms : Members) (d : Data) → get_member (codes "mappings") ms ≡ Some d → IsGoodAt k (At places.Mappings) d → HasMappings k ms
 unfolding object_at itself_of form_of some_object
-labels_there k ms null is h = absurd (let e = h.sound.itself in cc)
-labels_there k ms (boolean b) is h = absurd (let e = h.sound.itself in cc)
-labels_there k ms (number n) is h = absurd (let e = h.sound.itself in cc)
-labels_there k ms (string s) is h = absurd (let e = h.sound.itself in cc)
-labels_there k ms (array ds) is h = absurd (let e = h.sound.itself in cc)
 labels_there k ms (object labels) is h = record { labels = labels; there = ap (λ o. object_of (given o)) is; good = h }
+labels_there k ms _ is h = absurd (let e = h.sound.itself in cc)
 
-has_mappings : (k : Known) (place : Kind) (ms : Members) → Leads place (codes "mappings") (At places.Mappings) → presence_under place (codes "mappings") ≡ Some Needed → all_there place ms ≡ Ok tt → AreGood k place ms → HasMappings k ms
-has_mappings k place ms leads needed there h =
-    let found = needed_there place (codes "mappings") ms needed there in
-    labels_there k ms found.0 found.1 (needed_at k place (codes "mappings") (At places.Mappings) ms found.0 leads needed h found.1)
-
-module _ (k : Known) (ms : Members) where
-  unsigned_mappings : all_there places.UnsignedEnumeration ms ≡ Ok tt → AreGood k places.UnsignedEnumeration ms → HasMappings k ms
-  unfolding behind resolved_content content_under presence_under entries_of rows_of
-  unsigned_mappings there h = has_mappings k places.UnsignedEnumeration ms (record { plain = λ d j. refl; resolved = refl; under = refl }) refl there h
-
-  signed_mappings : all_there places.SignedEnumeration ms ≡ Ok tt → AreGood k places.SignedEnumeration ms → HasMappings k ms
-  unfolding behind resolved_content content_under presence_under entries_of rows_of
-  signed_mappings there h = has_mappings k places.SignedEnumeration ms (record { plain = λ d j. refl; resolved = refl; under = refl }) refl there h
+has_mappings : (k : Known) (place : Place) (ms : Members) → Property true place (codes "mappings") (At places.Mappings) → all_there place ms ≡ Ok tt → AreGood k place ms → HasMappings k ms
+has_mappings k place ms property there h =
+    let found = needed_there place (codes "mappings") ms (needed_by property) there in
+    labels_there k ms found.0 found.1 (needed_at k place (codes "mappings") (At places.Mappings) ms found.0 (leads property) (needed_by property) h found.1)
 
 -- ---- the numbers of the integer
 
@@ -147,8 +287,8 @@ enumeration_allowed k signed ms t known h e =
 
 pub unsigned_allowed : (k : Known) (ms : Members) (t : EnumType) → all_there places.UnsignedEnumeration ms ≡ Ok tt → AreGood (inside places.UnsignedEnumeration ms k) places.UnsignedEnumeration ms → enumeration false ms ≡ Some t → IsEnumeration t
 unfolding inside
-unsigned_allowed k ms t there h e = enumeration_allowed _ false ms t refl (unsigned_mappings _ ms there h) e
+unsigned_allowed k ms t there h e = enumeration_allowed _ false ms t refl (has_mappings _ places.UnsignedEnumeration ms Property.unsigned_mappings there h) e
 
 pub signed_allowed : (k : Known) (ms : Members) (t : EnumType) → all_there places.SignedEnumeration ms ≡ Ok tt → AreGood (inside places.SignedEnumeration ms k) places.SignedEnumeration ms → enumeration true ms ≡ Some t → IsEnumeration t
 unfolding inside
-signed_allowed k ms t there h e = enumeration_allowed _ true ms t refl (signed_mappings _ ms there h) e
+signed_allowed k ms t there h e = enumeration_allowed _ true ms t refl (has_mappings _ places.SignedEnumeration ms Property.signed_mappings there h) e

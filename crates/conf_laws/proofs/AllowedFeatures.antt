@@ -1,36 +1,20 @@
 -- Features that have no flaw have types that the rules allow.
-use Rattle.std.proofs.Common.{◌≡◌, ℕ, ◌&&◌, Bool, true, false, List, Option, Some, None, is_some, Ok, refl, sym, ap, subst, ◌∙◌}
+use Rattle.std.proofs.Common.{◌≡◌, ℕ, ◌&&◌, Bool, true, false, List, Option, Some, None, is_some, refl, sym, ap, subst, ◌∙◌}
 use Rattle.std.specs.Prelude.{codes, option_map, option_and_then, unwrap_or}
-use Rattle.std.proofs.lemmas.Bool.{and_parts}
-use Rattle.serde_json.specs.Data.{Data, null, boolean, number, string, array, object, Members, no_members}
-use Rattle.serde_json.specs.Find.{get_member}
-use Rattle.ctf_types.specs.AllowedConfig.{OnlyIf, IsPlainUnsigned}
-use Rattle.ctf_types.specs.declared.ContextFeatures.{ContextFeatures}
-use Rattle.ctf_types.specs.declared.EventFeatures.{EventFeatures}
-use Rattle.ctf_types.specs.declared.HeaderFeatures.{HeaderFeatures}
-use Rattle.ctf_types.specs.declared.IntType.{IntType}
-use Rattle.conf_tree.specs.Reading.{optional}
-use Rattle.conf_table.specs.declared.place.Place.{Place as Kind}
-use Rattle.conf_table.specs.declared.place.Place.TheVariants as places
-use Rattle.conf_table.specs.declared.row.Content.TheVariants.{At}
-use Rattle.conf_values.specs.Scalar.{as_natural}
-use Rattle.conf_judge.specs.Known.{Known}
+use Rattle.conf_draft.specs.Integers.{align_of}
 use Rattle.conf_judge.specs.Names as judged
-use Rattle.conf_judge.specs.Numbers.{natural_in}
-use Rattle.conf_judge.specs.Shapes.{shape_of, is_number, is_eight, is_byte, is_identifier, is_unsigned_integer}
-use Rattle.conf_draft.specs.Alignments.{alignment_of, alignment}
-use Rattle.conf_draft.specs.Features.{number_type, magic_type, byte_type, if_on, own, feature_of, feature, byte_of, identifier_of, identifier, or_number, size, mapped, timestamp, or_empty, header_with, header_of, context_with, context_of, context, event_header_with, event_header_of, event_header}
-use Rattle.conf_draft.specs.Integers.{integer, size_of, align_of, default_align}
-use Rattle.conf_draft.specs.Lookups.{natural, natural_of, object as object_at}
-use Rattle.conf_laws.proofs.AllowedIntegers.{integer_says, unsigned_says}
+use Rattle.conf_laws.proofs.AllowedEnumerations.{integer_says, unsigned_says}
+use Rattle.conf_laws.proofs.Numbers.{number_told}
 use Rattle.conf_laws.proofs.Properties.{AreGood, IsOwn, good_object, own_properties, property_at, by_good_object}
-use Rattle.conf_laws.proofs.Sound.{optional_there}
-use Rattle.conf_laws.proofs.Steps.{mapped_some, same_natural}
-use Rattle.std.proofs.lemmas.Option.{same_Some}
-use Rattle.conf_laws.proofs.Readings.{was_so}
-use Rattle.conf_laws.proofs.Rows.{Leads}
-use Rattle.conf_laws.proofs.FeatureObjects.{magic_leads, uuid_leads}
-use Rattle.conf_laws.proofs.Naturals.{number_told}
+use Rattle.conf_laws.proofs.Readings.{mapped_some, same_natural, was_so}
+use Rattle.conf_laws.proofs.Sound.{optional_there, Leads}
+use Rattle.conf_laws.proofs.Table.{Property, leads}
+use Rattle.conf_laws.proofs.TableWords.{Place, At}
+use Rattle.conf_laws.proofs.TableWords.places
+use Rattle.conf_laws.proofs.JudgeWords.{Known, natural_in, shape_of, is_number, is_eight, is_byte, is_identifier, is_unsigned_integer}
+use Rattle.conf_laws.proofs.TreeWords.{optional, as_natural, Data, boolean, object, Members, get_member}
+use Rattle.conf_laws.proofs.StdWords.{and_parts, same_Some}
+use Rattle.conf_laws.proofs.DraftWords.{alignment_of, alignment, number_type, magic_type, byte_type, if_on, own, feature_of, feature, byte_of, identifier_of, identifier, or_number, size, mapped, timestamp, or_empty, header_with, header_of, context_with, context_of, context, event_header_with, event_header_of, event_header, integer, size_of, default_align, natural, natural_of, object as object_at, OnlyIf, IsPlainUnsigned, ContextFeatures, EventFeatures, HeaderFeatures, IntType}
 
 -- ---- the type that a feature has: the one that it says itself, or its default
 
@@ -44,13 +28,9 @@ own_only P (Some y) t from e = λ x is. subst P (same_Some y x (same_Some (Some 
 
 -- of a value that was found
 feature_only : (P : IntType → Type 0) (b : Bool) (s : IntType) (o : Option Data) (t : Option IntType) → P s → ((ms : Members) (x : IntType) → o ≡ Some (object ms) → integer false ms ≡ Some x → P x) → feature_of b s o ≡ Some t → OnlyIf t P
-feature_only P b s None t ps from e = on_or_off P b s t ps e
-feature_only P b s (Some null) t ps from e = on_or_off P b s t ps e
 feature_only P b s (Some (boolean c)) t ps from e = on_or_off P c s t ps e
-feature_only P b s (Some (number n)) t ps from e = on_or_off P b s t ps e
-feature_only P b s (Some (string w)) t ps from e = on_or_off P b s t ps e
-feature_only P b s (Some (array ds)) t ps from e = on_or_off P b s t ps e
 feature_only P b s (Some (object ms)) t ps from e = own_only P (integer false ms) t (λ x is. from ms x refl is) e
+feature_only P b s _ t ps from e = on_or_off P b s t ps e
 
 feature_says : (P : IntType → Type 0) (name : List ℕ) (b : Bool) (s : IntType) (ms : Members) (t : Option IntType) → P s → ((inner : Members) (x : IntType) → optional name ms ≡ Some (object inner) → integer false inner ≡ Some x → P x)
     → feature name b s ms ≡ Some t → OnlyIf t P
@@ -100,22 +80,11 @@ size_is ms t n e is = (integer_says false ms t e).size_is ∙ ap (λ o. unwrap_o
 abbrev pub IsMagic : IntType → Type 0
 IsMagic t = IsPlainUnsigned t × (t.size ≡ 32)
 
-module _ where
-  magic_shape : (ms : Members) → shape_of places.MagicFeature ms ≡ Ok tt → is_number (natural_in (codes "size") ms) 32 ≡ true
-  unfolding shape_of
-  magic_shape ms e = was_so _ e
-
-  identifier_shape : (ms : Members) → shape_of places.IdentifierFeature ms ≡ Ok tt → is_byte (get_member (codes "element-field-type") ms) ≡ true
-  unfolding shape_of is_identifier
-  identifier_shape ms e = (and_parts (is_number (natural_in (codes "length") ms) 16) (is_byte (get_member (codes "element-field-type") ms)) (was_so _ e)).1
-
 magic_good : (k : Known) (ms inner : Members) (t : IntType) → AreGood k places.TraceFeatures ms → optional (codes "magic-field-type") ms ≡ Some (object inner) → integer false inner ≡ Some t → IsMagic t
+unfolding shape_of
 magic_good k ms inner t h there e =
-    let good = good_object k places.MagicFeature inner (property_at k places.TraceFeatures (codes "magic-field-type") (At places.MagicFeature) ms (object inner) magic_leads h there) in
-    (unsigned_says inner t e, size_is inner t 32 e (magic_shape inner good.sound.shape))
-
-magic_allowed : (k : Known) (ms : Members) (t : Option IntType) → AreGood k places.TraceFeatures ms → feature (codes "magic-field-type") true magic_type ms ≡ Some t → OnlyIf t IsMagic
-magic_allowed k ms t h e = feature_says IsMagic (codes "magic-field-type") true magic_type ms t ((refl, refl), refl) (λ inner x there is. magic_good k ms inner x h there is) e
+    let good = good_object k places.MagicFeature inner (property_at k places.TraceFeatures (codes "magic-field-type") (At places.MagicFeature) ms (object inner) (leads Property.magic) h there) in
+    (unsigned_says inner t e, size_is inner t 32 e (was_so _ good.sound.shape))
 
 -- ---- the identifier
 
@@ -136,13 +105,8 @@ byte_good ms t e is =
     (unsigned_says ms t is, size, says.align_is ∙ eight_aligned (optional (codes "alignment") ms) (size_of ms) q.1 (sym says.size_is ∙ size))
 
 byte_only : (o : Option Data) (t : Option IntType) → ((ms : Members) (x : IntType) → o ≡ Some (object ms) → integer false ms ≡ Some x → IsByte x) → byte_of o ≡ Some t → OnlyIf t IsByte
-byte_only None t from e = absurd cc
-byte_only (Some null) t from e = absurd cc
-byte_only (Some (boolean b)) t from e = absurd cc
-byte_only (Some (number n)) t from e = absurd cc
-byte_only (Some (string s)) t from e = absurd cc
-byte_only (Some (array ds)) t from e = absurd cc
 byte_only (Some (object ms)) t from e = own_only IsByte (integer false ms) t (λ x is. from ms x refl is) e
+byte_only _ t from e = absurd cc
 
 -- of an array whose elements are bytes
 array_good : (ms : Members) (t : Option IntType) → is_byte (get_member (codes "element-field-type") ms) ≡ true → byte_of (optional (codes "element-field-type") ms) ≡ Some t → OnlyIf t IsByte
@@ -154,27 +118,20 @@ byte_default : IsByte byte_type
 byte_default = ((refl, refl), refl, refl)
 
 identifier_only : (b : Bool) (o : Option Data) (t : Option IntType) → ((ms : Members) → o ≡ Some (object ms) → is_byte (get_member (codes "element-field-type") ms) ≡ true) → identifier_of b o ≡ Some t → OnlyIf t IsByte
-identifier_only b None t from e = on_or_off IsByte b byte_type t byte_default e
-identifier_only b (Some null) t from e = on_or_off IsByte b byte_type t byte_default e
 identifier_only b (Some (boolean c)) t from e = on_or_off IsByte c byte_type t byte_default e
-identifier_only b (Some (number n)) t from e = on_or_off IsByte b byte_type t byte_default e
-identifier_only b (Some (string w)) t from e = on_or_off IsByte b byte_type t byte_default e
-identifier_only b (Some (array ds)) t from e = on_or_off IsByte b byte_type t byte_default e
 identifier_only b (Some (object ms)) t from e = array_good ms t (from ms refl) e
+identifier_only b _ t from e = on_or_off IsByte b byte_type t byte_default e
 
 identifier_allowed : (k : Known) (b : Bool) (ms : Members) (t : Option IntType) → AreGood k places.TraceFeatures ms → identifier (codes "uuid-field-type") b ms ≡ Some t → OnlyIf t IsByte
-unfolding identifier
+unfolding identifier shape_of is_identifier
 identifier_allowed k b ms t h e =
     identifier_only b (optional (codes "uuid-field-type") ms) t
-    (λ inner there. identifier_shape inner (good_object k places.IdentifierFeature inner (property_at k places.TraceFeatures (codes "uuid-field-type") (At places.IdentifierFeature) ms (object inner) uuid_leads h there)).sound.shape) e
+    (λ inner there. ((and_parts (is_number (natural_in (codes "length") inner) 16) (is_byte (get_member (codes "element-field-type") inner)) (was_so _ (good_object k places.IdentifierFeature inner (property_at k places.TraceFeatures (codes "uuid-field-type") (At places.IdentifierFeature) ms (object inner) (leads Property.uuid) h there)).sound.shape)).1)) e
 
 -- ---- the features of an object; what is left out is as an empty object
 
-none_good : (k : Known) (place : Kind) → AreGood k place no_members
-none_good k place = record { flaws = refl; limits = refl; in_order = tt; ascend = tt }
-
-pub or_empty_good : (k : Known) (place : Kind) (name : List ℕ) (inner : Kind) (ms : Members) → Leads place name (At inner) → IsOwn inner → AreGood k place ms → AreGood k inner (or_empty (object_at name ms))
-or_empty_good k place name inner ms leads own h = by_good_object k place name inner ms leads h (λ o. AreGood k inner (or_empty o)) (none_good k inner) (λ x good. own_properties k inner x own good)
+pub or_empty_good : (k : Known) (place : Place) (name : List ℕ) (inner : Place) (ms : Members) → Leads place name (At inner) → IsOwn inner → AreGood k place ms → AreGood k inner (or_empty (object_at name ms))
+or_empty_good k place name inner ms leads own h = by_good_object k place name inner ms leads h (λ o. AreGood k inner (or_empty o)) (record { flaws = refl; limits = refl; in_order = tt; ascend = tt }) (λ x good. own_properties k inner x own good)
 
 -- ---- a packet's header
 
@@ -184,18 +141,16 @@ pub record IsHeader (f : HeaderFeatures) : Type 0 where
   pub stream_id : OnlyIf f.stream_id IsPlainUnsigned
 
 header_says : (a b c : Option (Option IntType)) (f : HeaderFeatures) → header_with a b c ≡ Some f → (a ≡ Some f.magic) × (b ≡ Some f.uuid) × (c ≡ Some f.stream_id)
-header_says None b c f e = absurd cc
-header_says (Some x) None c f e = absurd cc
-header_says (Some x) (Some y) None f e = absurd cc
 header_says (Some x) (Some y) (Some z) f e =
     let same = same_Some _ f e in (ap (λ r. Some r.magic) same, ap (λ r. Some r.uuid) same, ap (λ r. Some r.stream_id) same)
+header_says _ _ _ f e = absurd cc
 
 pub header_allowed : (k : Known) (has : Bool) (ms : Members) (f : HeaderFeatures) → AreGood k places.TraceFeatures ms → header_of has ms ≡ Some f → IsHeader f
 unfolding header_of
 header_allowed k has ms f h e =
     let says = header_says _ _ _ f e in
     record {
-      magic = magic_allowed k ms f.magic h says.0;
+      magic = (feature_says IsMagic (codes "magic-field-type") true magic_type ms f.magic ((refl, refl), refl) (λ inner x there is. magic_good k ms inner x h there is) says.0);
       uuid = identifier_allowed k has ms f.uuid h says.1;
       stream_id = feature_allowed (codes "data-stream-type-id-field-type") true ms f.stream_id says.2;
     }
@@ -210,31 +165,12 @@ pub record IsContext (clock : Option (List ℕ)) (f : ContextFeatures) : Type 0 
   pub events_discarded : OnlyIf f.events_discarded IsPlainUnsigned
   pub packet_seq_num : OnlyIf f.packet_seq_num IsPlainUnsigned
 
-record ContextSays (a b : Option IntType) (c d e g : Option (Option IntType)) (f : ContextFeatures) : Type 0 where
-  packet_size : a ≡ Some f.packet_size
-  content_size : b ≡ Some f.content_size
-  timestamp_begin : c ≡ Some f.timestamp_begin
-  timestamp_end : d ≡ Some f.timestamp_end
-  events_discarded : e ≡ Some f.events_discarded
-  packet_seq_num : g ≡ Some f.packet_seq_num
-
-context_says : (a b : Option IntType) (c d e g : Option (Option IntType)) (f : ContextFeatures) → context_with a b c d e g ≡ Some f → ContextSays a b c d e g f
-context_says None b c d e g f is = absurd cc
-context_says (Some a) None c d e g f is = absurd cc
-context_says (Some a) (Some b) None d e g f is = absurd cc
-context_says (Some a) (Some b) (Some c) None e g f is = absurd cc
-context_says (Some a) (Some b) (Some c) (Some d) None g f is = absurd cc
-context_says (Some a) (Some b) (Some c) (Some d) (Some e) None f is = absurd cc
+context_says : (a b : Option IntType) (c d e g : Option (Option IntType)) (f : ContextFeatures) → context_with a b c d e g ≡ Some f
+    → (a ≡ Some f.packet_size) × (b ≡ Some f.content_size) × (c ≡ Some f.timestamp_begin) × (d ≡ Some f.timestamp_end) × (e ≡ Some f.events_discarded) × (g ≡ Some f.packet_seq_num)
 context_says (Some a) (Some b) (Some c) (Some d) (Some e) (Some g) f is =
     let same = same_Some _ f is in
-    record {
-      packet_size = ap (λ r. Some r.packet_size) same;
-      content_size = ap (λ r. Some r.content_size) same;
-      timestamp_begin = ap (λ r. Some r.timestamp_begin) same;
-      timestamp_end = ap (λ r. Some r.timestamp_end) same;
-      events_discarded = ap (λ r. Some r.events_discarded) same;
-      packet_seq_num = ap (λ r. Some r.packet_seq_num) same;
-    }
+    (ap (λ r. Some r.packet_size) same, ap (λ r. Some r.content_size) same, ap (λ r. Some r.timestamp_begin) same, ap (λ r. Some r.timestamp_end) same, ap (λ r. Some r.events_discarded) same, ap (λ r. Some r.packet_seq_num) same)
+context_says _ _ _ _ _ _ f is = absurd cc
 
 pub context_allowed : (clock : Option (List ℕ)) (ms : Members) (f : ContextFeatures) → context clock ms ≡ Some f → IsContext clock f
 unfolding context context_of
@@ -242,12 +178,12 @@ context_allowed clock features f e =
     let ms = or_empty (object_at (codes "packet") features) in
     let says = context_says _ _ _ _ _ _ f e in
     record {
-      packet_size = size_allowed (codes "total-size-field-type") ms f.packet_size says.packet_size;
-      content_size = size_allowed (codes "content-size-field-type") ms f.content_size says.content_size;
-      timestamp_begin = timestamp_allowed clock (codes "beginning-timestamp-field-type") ms f.timestamp_begin says.timestamp_begin;
-      timestamp_end = timestamp_allowed clock (codes "end-timestamp-field-type") ms f.timestamp_end says.timestamp_end;
-      events_discarded = feature_allowed (codes "discarded-event-records-counter-snapshot-field-type") true ms f.events_discarded says.events_discarded;
-      packet_seq_num = feature_allowed (codes "sequence-number-field-type") false ms f.packet_seq_num says.packet_seq_num;
+      packet_size = size_allowed (codes "total-size-field-type") ms f.packet_size says.0;
+      content_size = size_allowed (codes "content-size-field-type") ms f.content_size says.1;
+      timestamp_begin = timestamp_allowed clock (codes "beginning-timestamp-field-type") ms f.timestamp_begin says.2;
+      timestamp_end = timestamp_allowed clock (codes "end-timestamp-field-type") ms f.timestamp_end says.3;
+      events_discarded = feature_allowed (codes "discarded-event-records-counter-snapshot-field-type") true ms f.events_discarded says.4;
+      packet_seq_num = feature_allowed (codes "sequence-number-field-type") false ms f.packet_seq_num says.5;
     }
 
 -- ---- an event record's header
@@ -257,9 +193,8 @@ pub record IsEventHeader (clock : Option (List ℕ)) (f : EventFeatures) : Type 
   pub timestamp : OnlyIf f.timestamp (IsOfClock clock)
 
 event_header_says : (a b : Option (Option IntType)) (f : EventFeatures) → event_header_with a b ≡ Some f → (a ≡ Some f.id) × (b ≡ Some f.timestamp)
-event_header_says None b f e = absurd cc
-event_header_says (Some x) None f e = absurd cc
 event_header_says (Some x) (Some y) f e = let same = same_Some _ f e in (ap (λ r. Some r.id) same, ap (λ r. Some r.timestamp) same)
+event_header_says _ _ f e = absurd cc
 
 pub event_header_allowed : (clock : Option (List ℕ)) (ms : Members) (f : EventFeatures) → event_header clock ms ≡ Some f → IsEventHeader clock f
 unfolding event_header event_header_of

@@ -1,39 +1,215 @@
--- Structures and extra members that have no flaw and pass no limit are ones that the rules allow.
-use Rattle.std.proofs.Common.{◌≡◌, ◌==◌, ◌%◌, ℕ, true, false, List, [], All, Option, Some, None, nat_lt, refl, sym, ap, subst, ◌∙◌, arith}
-use Rattle.std.specs.Prelude.{codes, nat_le}
-use Rattle.std.specs.List.{IsDistinct, list_any}
-use Rattle.std.specs.Str.{bytes_eq}
-use Rattle.std.proofs.lemmas.List.Elements.{All-nil, All-from_recursion}
-use Rattle.serde_json.specs.Data.{array, Items, Members}
-use Rattle.serde_json.specs.Events.{items_len}
-use Rattle.ctf_types.specs.declared.MemberType.{MemberType}
-use Rattle.ctf_types.specs.declared.StructType.{StructType}
-use Rattle.ctf_types.specs.AllowedConfig.{IsConfigMember, AreConfigMembers, IsConfigStruct}
-use Rattle.ctf_types.specs.Members.{names_in}
-use Rattle.ctf_types.specs.Names.{IsPlainName}
-use Rattle.ctf_types.specs.Packets.{own_names}
-use Rattle.ctf_types.specs.Shown.{shown_members}
-use Rattle.conf_table.specs.declared.place.Place.{Place as Kind}
-use Rattle.conf_table.specs.declared.place.Place.TheVariants as places
-use Rattle.conf_table.specs.declared.row.Content.TheVariants.{At}
-use Rattle.conf_table.specs.Table.{entries_of}
-use Rattle.conf_judge.specs.Known.{Known, inside}
-use Rattle.conf_judge.specs.Limits.{fits}
-use Rattle.conf_judge.specs.Names.{names_beside}
-use Rattle.conf_judge.specs.Places.{item_content, is_position}
-use Rattle.conf_draft.specs.Lookups.{list}
-use Rattle.conf_draft.specs.Members.{members_behind}
-use Rattle.conf_draft.specs.Structures.{made, align_for, align_of, members_or_none, listed, structure_of, structure_or_none, structure, extra_members}
-use Rattle.conf_laws.proofs.AllowedMembers.{AreRead, all_read}
-use Rattle.conf_laws.proofs.Entries.{good_items}
-use Rattle.conf_laws.proofs.MemberNames.{AreTaken, AreApart, shown_of, none_named}
-use Rattle.conf_laws.proofs.Properties.{AreGood, IsGood, IsGoodAt, properties_at, list_in, entries_fit, by_good_object}
-use Rattle.conf_laws.proofs.Steps.{then_some, proved_some}
-use Rattle.std.proofs.lemmas.Option.{same_Some}
-use Rattle.conf_laws.proofs.Classes.{class_place, type_sound}
-use Rattle.conf_laws.proofs.Rows.{Leads}
-use Rattle.conf_laws.proofs.Structures.{members_lead, members_list, extras_list, structure_class}
-use Rattle.std.proofs.lemmas.Bool.{leb-true}
+-- Members lists, structures and extra members that have no flaw and pass no limit are ones that the rules allow.
+use Rattle.std.proofs.Common.{◌≡◌, ℕ, suc, ◌+◌, Bool, true, false, cond, List, [], ◌∷◌, ◌++◌, length, All, Option, Some, None, is_some, refl, sym, ap, subst, ◌∙◌, arith, length-append, ◌==◌, ◌%◌, nat_lt}
+use Rattle.std.specs.Prelude.{codes, option_map, nat_le}
+use Rattle.conf_draft.specs.Members as drafts
+use Rattle.conf_judge.specs.Names as judged
+use Rattle.conf_laws.proofs.Agreement.{array_told}
+use Rattle.conf_laws.proofs.AllowedEnumerations.{plain_name}
+use Rattle.conf_laws.proofs.AllowedFields.{field_allowed, bits_allowed, nest_allowed}
+use Rattle.conf_laws.proofs.Properties.{IsGoodEntry, AreGoodItems, entry_in, item_first, item_rest, AreGood, IsGoodAt, good_object, properties_at, own_properties, property_at, arrays_are_few, needed_at, good_items, IsGood, list_in, entries_fit, by_good_object}
+use Rattle.conf_laws.proofs.Readings.{mapped_some, then_some, was_so, element_is, proved_some}
+use Rattle.conf_laws.proofs.Sound.{optional_there, class_same, class_place, type_sound, Leads}
+use Rattle.conf_laws.proofs.Structures.{names_of, AreTaken, AreFree, AreNamed, takes_itself, all_still_taken, one_more_named, with_member, keeps_taken, entry_shape, name_judged, name_free, AreApart, shown_of, none_named, members_list, extras_list, structure_class}
+use Rattle.conf_laws.proofs.Table.{Property, leads, needed_by, ObjectPlace, is_own, entry_own, MapPlace, is_map}
+use Rattle.conf_laws.proofs.TableWords.{entries_of, Place, At}
+use Rattle.conf_laws.proofs.TableWords.places
+use Rattle.conf_laws.proofs.JudgeWords.{itself_of, form_of, Known, inside, with_taken, fits, arrays_fit, is_outermost, elements, is_taken, length_is_taken, take, with_names, names_beside, item_content, is_position, shape_of, has_bits}
+use Rattle.conf_laws.proofs.TreeWords.{optional, both_read, plain_name_of, Data, object, Items, no_items, item, Members, no_members, member, array, items_len, get_member}
+use Rattle.conf_laws.proofs.StdWords.{leb-true, All-push, All-nil, All-from_recursion, same_Some, list_any, IsDistinct, bytes_eq}
+use Rattle.conf_laws.proofs.DraftWords.{class_of, field_type, element, list, member_type, told_type, member_of, behind_named, behind_entry, members_behind, made, align_for, align_of, members_or_none, listed, structure_of, structure_or_none, structure, extra_members, IsConfigMember, AreConfigMembers, IsConfigStruct, names_in, IsPlainName, own_names, length_name, shown_members, FieldType, Auto, Plain, Dyn, MemberType, StructType}
+
+-- ---- the type of a member
+
+some_there : {A : Type 0} (o : Option A) → is_some o ≡ true → (x : A) × (o ≡ Some x)
+some_there None e = absurd cc
+some_there (Some x) e = (x, refl)
+
+-- the elements of a dynamic array
+record IsElement (k : Known) (t : FieldType) : Type 0 where
+  value : Data
+  good : IsGoodAt k (At places.DynamicElementType) value
+  is : field_type value ≡ Some t
+
+element_there : (k : Known) (ms : Members) (t : FieldType) → AreGood k places.DynamicArray ms → element ms ≡ Some t → IsElement k t
+element_there k ms t h e =
+    let read = then_some field_type (get_member (codes "element-field-type") ms) t (sym (element_is ms) ∙ e) in
+    record { value = read.0; good = needed_at k places.DynamicArray (codes "element-field-type") (At places.DynamicElementType) ms read.0 (leads Property.dynamic_element) (needed_by Property.dynamic_element) h read.1; is = read.2 }
+
+element_bits : (k : Known) (d : Data) (t : FieldType) → IsGoodAt k (At places.DynamicElementType) d → field_type d ≡ Some t → has_bits d ≡ true
+unfolding shape_of
+element_bits k (object ms) t h e = was_so _ (good_object k places.DynamicElementType ms h).sound.shape
+element_bits k _ t h e = refl
+
+plain_allowed : (k : Known) (d : Data) (t : FieldType) → IsGoodAt k (At places.MemberType) d → field_type d ≡ Some t → IsConfigMember (Plain t)
+unfolding fits arrays_fit is_outermost is_position
+plain_allowed k d t h e =
+    let nests = some_there (elements 8 d) (arrays_are_few places.MemberType d h.within.fitting) in
+    let allowed = field_allowed d k places.MemberType t refl h e in
+    (allowed.leaf, nest_allowed d t allowed nests.0 nests.1)
+
+dynamic_allowed : (k : Known) (ms : Members) (t : FieldType) → AreGood k places.DynamicArray ms → element ms ≡ Some t → IsConfigMember (Dyn t Auto)
+unfolding fits arrays_fit is_outermost is_position
+dynamic_allowed k ms t h e =
+    let inner = element_there k ms t h e in
+    let nests = some_there (elements 8 inner.value) (arrays_are_few places.DynamicElementType inner.value inner.good.within.fitting) in
+    let allowed = field_allowed inner.value k places.DynamicElementType t refl inner.good inner.is in
+    ((allowed.leaf, nest_allowed inner.value t allowed nests.0 nests.1), bits_allowed inner.value t allowed (element_bits k inner.value t inner.good inner.is))
+
+same_dynamic : (o : Option Place) → judged.is_dynamic_array o ≡ drafts.is_dynamic_array o
+same_dynamic None = refl
+same_dynamic (Some places.DynamicArray) = refl
+same_dynamic (Some _) = refl
+
+-- what is said of a member's type, by whether it is a dynamic array
+abbrev IsTyped : Bool → Members → MemberType → Type 0
+IsTyped true ms m = (t : FieldType) × (element ms ≡ Some t) × (Dyn t Auto ≡ m)
+IsTyped false ms m = (t : FieldType) × (field_type (object ms) ≡ Some t) × (Plain t ≡ m)
+
+typed : (ms : Members) (m : MemberType) → member_type ms ≡ Some m → IsTyped (drafts.is_dynamic_array (class_of ms)) ms m
+unfolding member_type
+typed ms m e = go (drafts.is_dynamic_array (class_of ms)) e
+  where
+    go : (b : Bool) → cond b (option_map (λ t. Dyn t Auto) (element ms)) (option_map (λ t. Plain t) (field_type (object ms))) ≡ Some m → IsTyped b ms m
+    go true e = mapped_some (λ t. Dyn t Auto) (element ms) m e
+    go false e = mapped_some (λ t. Plain t) (field_type (object ms)) m e
+
+member_type_allowed : (k : Known) (ms : Members) (m : MemberType) → IsGoodAt k (At places.MemberType) (object ms) → member_type ms ≡ Some m → IsConfigMember m
+unfolding is_position inside
+member_type_allowed k ms m h e = go (drafts.is_dynamic_array (class_of ms)) refl (typed ms m e)
+  where
+    go : (b : Bool) → drafts.is_dynamic_array (class_of ms) ≡ b → IsTyped b ms m → IsConfigMember m
+    go false is (t, there, same) = subst IsConfigMember same (plain_allowed k (object ms) t h there)
+    go true is (t, there, same) =
+        let class = array_told (class_of ms) (same_dynamic (class_of ms) ∙ is) in
+        let own = properties_at k places.MemberType places.DynamicArray ms (class_place places.MemberType ms places.DynamicArray refl class) (good_object k places.MemberType ms h) in
+        subst IsConfigMember same (dynamic_allowed k ms t own there)
+
+-- ---- one entry
+
+entry_good : (k : Known) (name : List ℕ) (value : Data) → IsGoodAt k (At places.Entry) (object (member name value no_members)) → IsGoodEntry k places.Entry name (At places.Member) value
+entry_good k name value h =
+    entry_in k places.Entry name (At places.Member) value no_members (is_map MapPlace.entry) (own_properties k places.Entry (member name value no_members) entry_own (good_object k places.Entry (member name value no_members) h))
+
+-- ---- what an entry tells of
+
+-- the object that a member's type is
+record Tells (d : Data) (m : MemberType) : Type 0 where
+  told : Members
+  type : Members
+  is : d ≡ object told
+  there : optional (codes "field-type") told ≡ Some (object type)
+  says : member_type type ≡ Some m
+
+told_there : (told : Members) (o : Option Data) (m : MemberType) → optional (codes "field-type") told ≡ o → told_type o ≡ Some m → Tells (object told) m
+told_there told (Some (object ms)) m is e = record { told = told; type = ms; is = refl; there = is; says = e }
+told_there told _ m is e = absurd cc
+
+member_tells : (d : Data) (m : MemberType) → member_of d ≡ Some m → Tells d m
+member_tells (object told) m e = told_there told (optional (codes "field-type") told) m refl e
+member_tells _ m e = absurd cc
+
+type_allowed : (k : Known) (d : Data) (m : MemberType) → IsGoodAt k (At places.Member) d → Tells d m → IsConfigMember m
+type_allowed k d m h tells =
+    let good = good_object k places.Member tells.told (subst (λ x. IsGoodAt k (At places.Member) x) tells.is h) in
+    let own = own_properties k places.Member tells.told (is_own ObjectPlace.member) good in
+    member_type_allowed k tells.type m (property_at k places.Member (codes "field-type") (At places.MemberType) tells.told (object tells.type) (leads Property.type_of_member) own tells.there) tells.says
+
+-- ---- its names
+
+dynamic_is : (d : Data) (m : MemberType) (tells : Tells d m) → judged.is_dynamic d ≡ drafts.is_dynamic_array (class_of tells.type)
+unfolding judged.is_dynamic
+dynamic_is d m tells =
+    ap (λ x. judged.is_dynamic_array (judged.class_of_member x)) tells.is
+    ∙ ap (λ o. judged.is_dynamic_array (judged.class_of_type o)) (optional_there (codes "field-type") tells.told (object tells.type) tells.there).0
+    ∙ same_dynamic (judged.class_of tells.type)
+    ∙ ap (λ o. drafts.is_dynamic_array o) (class_same tells.type)
+
+abbrev names_by : Bool → List ℕ → List (List ℕ)
+names_by true name = length_name name ∷ name ∷ []
+names_by false name = name ∷ []
+
+names_typed : (b : Bool) (name : List ℕ) (ms : Members) (m : MemberType) → IsTyped b ms m → names_by b name ≡ names_of (name, m)
+names_typed true name ms m (t, there, same) = ap (λ x. names_of (name, x)) same
+names_typed false name ms m (t, there, same) = ap (λ x. names_of (name, x)) same
+
+names_are : (name : List ℕ) (d : Data) (m : MemberType) → Tells d m → names_by (judged.is_dynamic d) name ≡ names_of (name, m)
+names_are name d m tells = ap (λ b. names_by b name) (dynamic_is d m tells) ∙ names_typed (drafts.is_dynamic_array (class_of tells.type)) name tells.type m (typed tells.type m tells.says)
+
+free_by : (taken : Members) (name : List ℕ) (b : Bool) → is_taken taken name ≡ false → length_is_taken b taken name ≡ false → AreFree taken (names_by b name)
+free_by taken name true own long = (long, (own, tt))
+free_by taken name false own long = (own, tt)
+
+takes_names : (name : List ℕ) (b : Bool) (taken : Members) → AreTaken (with_member name b taken) (names_by b name)
+takes_names name true taken = ((all_still_taken name (take (length_name name) taken) (length_name name ∷ []) (takes_itself (length_name name) taken, tt)).0, (takes_itself name (take (length_name name) taken), tt))
+takes_names name false taken = (takes_itself name taken, tt)
+
+-- ---- the list
+
+record Follows (done more : List (List ℕ × MemberType)) (name : List ℕ) (d : Data) : Type 0 where
+  type : MemberType
+  tells : member_of d ≡ Some type
+  is : done ++ (name, type) ∷ [] ≡ more
+
+follows_by : (done more : List (List ℕ × MemberType)) (name : List ℕ) (d : Data) (o : Option MemberType) → member_of d ≡ o → drafts.behind done name o ≡ Some more → Follows done more name d
+unfolding drafts.behind
+follows_by done more name d None is e = absurd cc
+follows_by done more name d (Some t) is e = go (list_any (bytes_eq name) (names_in done)) e
+  where
+    go : (b : Bool) → cond b None (Some (done ++ (name, t) ∷ [])) ≡ Some more → Follows done more name d
+    go true e = absurd cc
+    go false e = record { type = t; tells = is; is = same_Some (done ++ (name, t) ∷ []) more e }
+
+follows : (done more : List (List ℕ × MemberType)) (name : List ℕ) (d : Data) → behind_entry done (object (member name d no_members)) ≡ Some more → Follows done more name d
+follows done more name d e =
+    let read = then_some (λ xs. behind_named xs no_members) (drafts.behind done name (member_of d)) more e in
+    follows_by done more name d (member_of d) refl (read.1 ∙ read.2)
+
+pub record AreRead (before : List (List ℕ)) (ms : List (List ℕ × MemberType)) (taken : Members) : Type 0 where
+  pub types : All (λ m. IsConfigMember m.1) ms
+  pub named : AreNamed before ms taken
+
+one_more : (k : Known) (before : List (List ℕ)) (done more : List (List ℕ × MemberType)) (taken : Members) (name : List ℕ) (d : Data)
+    → AreRead before done taken → IsGoodAt (with_taken taken k) (At places.Entry) (object (member name d no_members)) → Follows done more name d → AreRead before more (with_member name (judged.is_dynamic d) taken)
+one_more k before done more taken name d h good next =
+    let entry = entry_good (with_taken taken k) name d good in
+    let tells = member_tells d next.type next.tells in
+    let judged_well = both_read (plain_name_of name) _ tt (name_judged (with_taken taken k) name d entry.named) in
+    let names = names_are name d next.type tells in
+    let b = judged.is_dynamic d in
+    subst (λ l. AreRead before l (with_member name b taken)) next.is
+    (record {
+      types = All-push (λ (m : List ℕ × MemberType). IsConfigMember m.1) done (name, next.type) h.types (type_allowed (with_taken taken k) d next.type entry.value tells);
+      named = one_more_named before done taken (with_member name b taken) name next.type h.named (plain_name name judged_well.1) (subst (λ l. AreFree taken l) names (let p = name_free taken name d judged_well.2 in free_by taken name (judged.is_dynamic d) p.0 p.1))
+          (λ ns t. keeps_taken name b taken ns t) (subst (λ l. AreTaken (with_member name b taken) l) names (takes_names name b taken));
+    })
+
+-- the items from place i on, where these members are before them
+pub record AreAllRead (before : List (List ℕ)) (done ms : List (List ℕ × MemberType)) (ds : Items) : Type 0 where
+  pub taken : Members
+  pub read : AreRead before ms taken
+  pub counted : length ms ≡ length done + items_len ds
+
+module _ (k : Known) (place : Place) (before : List (List ℕ)) (entries : item_content place ≡ At places.Entry) where
+  pub all_read : (done ms : List (List ℕ × MemberType)) (taken : Members) (i : ℕ) (ds : Items) → AreRead before done taken → AreGoodItems k place taken i ds → members_behind done ds ≡ Some ms → AreAllRead before done ms ds
+  unfolding itself_of form_of
+  all_read done ms taken i no_items h good e =
+      let same = same_Some done ms e in
+      record { taken = taken; read = subst (λ l. AreRead before l taken) same h; counted = omega (arith, ap (λ l. length l) (sym same)) }
+  all_read done ms taken i (item d ds) h good e = go (entry_shape d (first.sound.itself)) (λ more after read rest next. all_read more ms after (suc i) ds read rest next)
+    where
+      first : IsGoodAt (with_taken taken k) (At places.Entry) d
+      first = subst (λ c. IsGoodAt (with_taken taken k) c d) entries (item_first k place taken i d ds good)
+
+      go : (name : List ℕ) × (x : Data) × (d ≡ object (member name x no_members)) → ((more : List (List ℕ × MemberType)) (after : Members) → AreRead before more after → AreGoodItems k place after (suc i) ds → members_behind more ds ≡ Some ms → AreAllRead before more ms ds) → AreAllRead before done ms (item d ds)
+      go (name, value, is) later =
+          let step = then_some (λ xs. members_behind xs ds) (behind_entry done d) ms e in
+          let next = follows done step.0 name value (ap (λ x. behind_entry done x) (sym is) ∙ step.1) in
+          let read = one_more k before done step.0 taken name value h (subst (λ x. IsGoodAt (with_taken taken k) (At places.Entry) x) is first) next in
+          let rest = subst (λ x. AreGoodItems k place (with_names x taken) (suc i) ds) is (item_rest k place taken i d ds good) in
+          let all = later step.0 (with_member name (judged.is_dynamic value) taken) read rest step.2 in
+          let counted = all.counted in
+          let longer = ap (λ l. length l) (sym next.is) in
+          record { taken = all.taken; read = all.read; counted = omega (arith, counted, longer, length-append done ((name, next.type) ∷ [])) }
 
 -- ---- a structure that is made
 
@@ -51,9 +227,6 @@ made_says members align s e =
 
 -- ---- members lists
 
-none_read : (before : List (List ℕ)) (taken : Members) → AreTaken taken before → AreRead before [] taken
-none_read before taken h = record { types = All-nil (λ m. IsConfigMember m.1); named = none_named before taken h }
-
 -- a members list, apart from names that were taken before
 record AreAllowed (before : List (List ℕ)) (ms : List (List ℕ × MemberType)) : Type 0 where
   members : AreConfigMembers ms
@@ -63,36 +236,15 @@ no_members_allowed : (before : List (List ℕ)) → AreAllowed before []
 unfolding shown_members IsDistinct
 no_members_allowed before = record { members = record { types = All-nil (λ m. IsConfigMember m.1); names = All-nil IsPlainName; distinct = tt; few = omega arith }; free = tt }
 
-items_allowed : (k : Known) (place : Kind) (before : List (List ℕ)) (ds : Items) (ms : List (List ℕ × MemberType)) → item_content place ≡ At places.Entry → AreTaken (names_beside place) before → nat_le (items_len ds) 256 ≡ true → IsGoodAt k (At place) (array ds) → members_behind [] ds ≡ Some ms → AreAllowed before ms
+items_allowed : (k : Known) (place : Place) (before : List (List ℕ)) (ds : Items) (ms : List (List ℕ × MemberType)) → item_content place ≡ At places.Entry → AreTaken (names_beside place) before → nat_le (items_len ds) 256 ≡ true → IsGoodAt k (At place) (array ds) → members_behind [] ds ≡ Some ms → AreAllowed before ms
 items_allowed k place before ds ms entries taken few good e =
-    let all = all_read k place before entries [] ms (names_beside place) 0 ds (none_read before (names_beside place) taken) (good_items k place ds good) e in
+    let all = all_read k place before entries [] ms (names_beside place) 0 ds (record { types = All-nil (λ m. IsConfigMember m.1); named = none_named before (names_beside place) taken }) (good_items k place ds good) e in
     let counted = all.counted in
     let short = leb-true (items_len ds) 256 few in
     record {
       members = record { types = all.read.types; names = all.read.named.names; distinct = all.read.named.distinct; few = omega (arith, counted, short) };
       free = all.read.named.free;
     }
-
-module _ where
-  members_few : (k : Known) (ds : Items) → IsGoodAt k (At places.Members) (array ds) → nat_le (items_len ds) 256 ≡ true
-  unfolding entries_of fits
-  members_few k ds h = entries_fit places.Members (array ds) h.within.fitting
-
-  extras_few : (k : Known) (ds : Items) → IsGoodAt k (At places.ExtraMembers) (array ds) → nat_le (items_len ds) 256 ≡ true
-  unfolding entries_of fits
-  extras_few k ds h = entries_fit places.ExtraMembers (array ds) h.within.fitting
-
-  own_names_taken : AreTaken (names_beside places.ExtraMembers) own_names
-  unfolding names_beside
-  own_names_taken = (refl, (refl, (refl, (refl, (refl, (refl, tt))))))
-
-  structure_known : (k : Known) (ms : Members) → inside places.Structure ms k ≡ k
-  unfolding inside
-  structure_known k ms = refl
-
-  structure_position : is_position places.StructureType ≡ true
-  unfolding is_position
-  structure_position = refl
 
 -- what is listed, of a list that was found
 found_allowed : (before : List (List ℕ)) (o : Option Items) (ms : List (List ℕ × MemberType)) → ((ds : Items) → o ≡ Some ds → members_behind [] ds ≡ Some ms → AreAllowed before ms) → members_or_none o ≡ Some ms → AreAllowed before ms
@@ -102,10 +254,10 @@ found_allowed before (Some ds) ms each e = each ds refl e
 -- ---- structures
 
 members_listed : (k : Known) (ms : Members) (members : List (List ℕ × MemberType)) → AreGood k places.Structure ms → listed (codes "members") ms ≡ Some members → AreAllowed [] members
-unfolding listed
+unfolding listed entries_of fits
 members_listed k ms members h e =
     found_allowed [] (list (codes "members") ms) members
-    (λ ds there read. let good = list_in k places.Structure (codes "members") places.Members ms ds members_lead h there in items_allowed k places.Members [] ds members members_list.entries tt (members_few k ds good) good read) e
+    (λ ds there read. let good = list_in k places.Structure (codes "members") places.Members ms ds (leads Property.members) h there in items_allowed k places.Members [] ds members members_list.entries tt (entries_fit places.Members (array ds) good.within.fitting) good read) e
 
 -- a structure without members aligns nothing
 struct_of : (members : List (List ℕ × MemberType)) (align : ℕ) (s : StructType) → AreAllowed [] members → made members (align_for members align) ≡ Some s → IsConfigStruct s
@@ -117,16 +269,15 @@ struct_of members align s h e =
     }
 
 object_allowed : (k : Known) (ms : Members) (s : StructType) → IsGood k places.StructureType ms → structure_of ms ≡ Some s → IsConfigStruct s
-unfolding structure_of
+unfolding structure_of is_position inside
 object_allowed k ms s h e =
-    let type = type_sound k places.StructureType ms structure_position h.sound in
+    let type = type_sound k places.StructureType ms refl h.sound in
     let class = type.is ∙ ap (λ c. Some c) (structure_class type.class type.may_stand) in
-    let own = properties_at k places.StructureType places.Structure ms (class_place places.StructureType ms places.Structure structure_position class) h in
-    let good = subst (λ j. AreGood j places.Structure ms) (structure_known k ms) own in
+    let own = properties_at k places.StructureType places.Structure ms (class_place places.StructureType ms places.Structure refl class) h in
     let read = then_some (λ members. made members (align_for members (align_of ms))) (listed (codes "members") ms) s e in
-    struct_of read.0 (align_of ms) s (members_listed k ms read.0 good read.1) read.2
+    struct_of read.0 (align_of ms) s (members_listed k ms read.0 own read.1) read.2
 
-pub structure_allowed : (k : Known) (place : Kind) (name : List ℕ) (ms : Members) (s : StructType) → Leads place name (At places.StructureType) → AreGood k place ms → structure name ms ≡ Some s → IsConfigStruct s
+pub structure_allowed : (k : Known) (place : Place) (name : List ℕ) (ms : Members) (s : StructType) → Leads place name (At places.StructureType) → AreGood k place ms → structure name ms ≡ Some s → IsConfigStruct s
 unfolding structure
 structure_allowed k place name ms s leads h e =
     by_good_object k place name places.StructureType ms leads h (λ o. structure_or_none o ≡ Some s → IsConfigStruct s) (λ f. struct_of [] 1 s (no_members_allowed []) f) (λ inner good f. object_allowed k inner s good f) e
@@ -147,10 +298,10 @@ extras_of members s h e =
       no_own_name = subst (λ l. All (λ name. list_any (bytes_eq name) own_names ≡ false) (names_in (shown_members 0 l))) (sym says.members_are) (All-from_recursion (λ name. list_any (bytes_eq name) own_names ≡ false) (shown_of members) h.free);
     }
 
-pub extras_allowed : (k : Known) (place : Kind) (name : List ℕ) (ms : Members) (s : StructType) → Leads place name (At places.ExtraMembers) → AreGood k place ms → extra_members name ms ≡ Some s → AreExtras s
-unfolding extra_members listed
+pub extras_allowed : (k : Known) (place : Place) (name : List ℕ) (ms : Members) (s : StructType) → Leads place name (At places.ExtraMembers) → AreGood k place ms → extra_members name ms ≡ Some s → AreExtras s
+unfolding extra_members listed entries_of fits names_beside
 extras_allowed k place name ms s leads h e =
     let read = then_some (λ members. made members 1) (members_or_none (list name ms)) s e in
     let allowed = found_allowed own_names (list name ms) read.0
-    (λ ds there found. let good = list_in k place name places.ExtraMembers ms ds leads h there in items_allowed k places.ExtraMembers own_names ds read.0 extras_list.entries own_names_taken (extras_few k ds good) good found) read.1 in
+    (λ ds there found. let good = list_in k place name places.ExtraMembers ms ds leads h there in items_allowed k places.ExtraMembers own_names ds read.0 extras_list.entries ((refl, (refl, (refl, (refl, (refl, (refl, tt))))))) (entries_fit places.ExtraMembers (array ds) good.within.fitting) good found) read.1 in
     extras_of read.0 s allowed read.2

@@ -1,46 +1,191 @@
 -- What a configuration says that has no flaw, passes no limit and keeps the rules over the whole is what the rules allow.
-use Rattle.std.proofs.Common.{◌≡◌, ℕ, List, [], ◌∷◌, map, Option, Some, None, refl, sym, ap, subst, ◌∙◌}
-use Rattle.std.specs.Prelude.{codes}
-use Rattle.std.specs.List.{AllByRecursion}
-use Rattle.std.proofs.lemmas.List.Elements.{All-from_recursion, recursion_from_All}
-use Rattle.serde_json.specs.Data.{Data, null, boolean, number, string, array, object, Members}
-use Rattle.ctf_types.specs.AllowedConfig.{OnlyIf, IsTimestamp, IsRecordTimestamp, IsEventType, IsStreamType, IsConfig, IsEnvironmentValue}
-use Rattle.ctf_types.specs.Names.{IsPlainName}
-use Rattle.ctf_types.specs.declared.ClockType.{ClockType}
-use Rattle.ctf_types.specs.declared.Config.{Config}
-use Rattle.ctf_types.specs.declared.EnvironmentEntry.{EnvironmentEntry}
-use Rattle.ctf_types.specs.declared.EventType.{EventType}
-use Rattle.ctf_types.specs.declared.HeaderFeatures.{HeaderFeatures}
-use Rattle.ctf_types.specs.declared.IntType.{IntType}
-use Rattle.ctf_types.specs.declared.StreamType.{StreamType}
-use Rattle.conf_tree.specs.Reading.{optional}
-use Rattle.conf_table.specs.declared.place.Place.TheVariants as places
-use Rattle.conf_table.specs.declared.row.Content.TheVariants.{At}
-use Rattle.conf_table.specs.Table.{content_under, presence_under, entries_of, rows_of}
-use Rattle.conf_judge.specs.Flaws.{resolved_content, configuration_flaws}
-use Rattle.conf_judge.specs.Known.{Known, nothing, inside, behind, members_or_none}
-use Rattle.conf_judge.specs.Limits.{configuration_limits}
-use Rattle.conf_draft.specs.declared.draft.Draft.{Draft}
-use Rattle.conf_draft.specs.Clocks.{clock_types}
-use Rattle.conf_draft.specs.Environments.{environment}
-use Rattle.conf_draft.specs.Features.{or_empty, header}
-use Rattle.conf_draft.specs.Lookups.{object_of, object as object_at}
-use Rattle.conf_draft.specs.Traces.{draft_from, draft_with, draft_of_type, draft_of_trace, draft_of_root, draft_of}
-use Rattle.conf_tree.specs.Order.{Ascends}
-use Rattle.conf_laws.specs.Rules.{TellsClock, TellsRecordClock, RecordHasBits, KeepsStreamRules, KeepsRules}
-use Rattle.conf_laws.proofs.AllowedClocks.{AreClocks, clocks_allowed}
-use Rattle.conf_laws.proofs.AllowedEnvironment.{IsEntry, IsEnvironment, environment_allowed}
-use Rattle.conf_laws.proofs.AllowedEvents.{IsGoodEvent}
-use Rattle.conf_laws.proofs.AllowedFeatures.{IsOfClock, IsHeader, or_empty_good, header_allowed}
-use Rattle.conf_laws.proofs.AllowedStreams.{IsGoodStream, AreGoodStreams, streams_allowed}
-use Rattle.conf_laws.proofs.Properties.{IsGood, IsGoodAt, IsOwn, good_object, properties_at, own_properties, object_in}
-use Rattle.conf_laws.proofs.Sound.{content_sound}
-use Rattle.conf_laws.proofs.Steps.{then_some}
-use Rattle.conf_laws.proofs.Within.{content_within}
-use Rattle.std.proofs.lemmas.Option.{same_Some}
-use Rattle.conf_laws.proofs.Rows.{Leads}
-use Rattle.conf_laws.proofs.Traces.{features_lead, streams_lead, type_leads, root_leads, type_object, trace_object, root_object}
-use Rattle.conf_laws.proofs.FeatureObjects.{trace_features}
+use Rattle.std.proofs.Common.{Bool, ◌≡◌, ℕ, pos, ◌<◌, ◌^◌, true, List, [], ◌∷◌, ◌++◌, Option, Some, None, Ok, refl, sym, ap, subst, ◌∙◌, arith, map}
+use Rattle.std.specs.Prelude.{option_and_then, codes, nat_le}
+use Rattle.conf_draft.specs.Streams.{entry_behind as stream_entry_behind}
+use Rattle.conf_laws.proofs.AllowedEnumerations.{config_name}
+use Rattle.conf_laws.proofs.AllowedFeatures.{IsContext, IsEventHeader, context_allowed, event_header_allowed, IsHeader, or_empty_good, header_allowed}
+use Rattle.conf_laws.proofs.AllowedMaps.{AreAllowed, AreUnder, none_under, none_allowed, map_allowed, IsOneMore, map_read, AreClocks, clocks_allowed, IsEnvironment, environment_allowed}
+use Rattle.conf_laws.proofs.AllowedStructures.{structure_allowed, AreExtras, extras_allowed}
+use Rattle.conf_laws.proofs.Numbers.{natural_is_in}
+use Rattle.conf_laws.proofs.Properties.{names_of, entry_in, entry_object, AreGood, IsGood, own_properties, property_at, entries_fit, by_good_object, entry_rest, IsGoodAt, good_object, properties_at, object_in, content_within}
+use Rattle.conf_laws.proofs.Readings.{then_some, by_found}
+use Rattle.conf_laws.proofs.Sound.{Leads, content_sound}
+use Rattle.conf_laws.proofs.Table.{Property, leads, ObjectPlace, is_object, is_own, MapPlace, is_map, type_object}
+use Rattle.conf_laws.specs.Rules.{KeepsStreamRules, KeepsRules}
+use Rattle.conf_laws.proofs.TableWords.{entries_of, Place, At, Level}
+use Rattle.conf_laws.proofs.TableWords.places
+use Rattle.conf_laws.proofs.JudgeWords.{configuration_flaws, itself_of, Known, behind, nothing, inside, members_or_none, leaf_of, level, level_or_none, whole_from, configuration_limits, key_of, key_by}
+use Rattle.conf_laws.proofs.TreeWords.{no_members, Ascends, optional, as_natural, Data, string, object, Members, member, members_len, get_member}
+use Rattle.conf_laws.proofs.StdWords.{All-map, same_Some}
+use Rattle.conf_laws.proofs.DraftWords.{clock_types, environment, level_of, event_with, event_type, event_behind, entry_behind, events_behind, events_or_none, event_types, or_empty, header, natural_of, object as object_at, object_of, stream_with, features_of, clock_of, stream_type, stream_behind, streams_behind, streams_or_none, stream_types, draft_from, draft_with, draft_of_type, draft_of_trace, draft_of_root, draft_of, Draft, IsConfigStruct, IsStreamType, IsConfig, IsConfigName, IsPlainName, ClockType, Config, ContextFeatures, EnvironmentEntry, EventFeatures, EventType, HeaderFeatures, StreamType, StructType}
+
+-- ---- maps of types that are read one behind another
+
+-- each entry of such a map, an object, is read as a type, which is put behind those that are done
+module _ {A : Type 0} {b : Bool} {place inner : Place} (named : A → List ℕ) (good : A → Type 0) (map : MapPlace b place (At inner)) (one : ObjectPlace inner) (made : Members → List ℕ → Members → Option A)
+    (entry : Members → List A → List ℕ → Data → Option (List A)) (walk : Members → List A → Members → Option (List A)) (ends : (l : Members) (done : List A) → walk l done no_members ≡ Some done)
+    (goes : (l : Members) (done : List A) (name : List ℕ) (d : Data) (ms : Members) → walk l done (member name d ms) ≡ option_and_then (λ more. walk l more ms) (entry l done name d))
+    (reads : (l : Members) (done : List A) (name : List ℕ) (ms : Members) → entry l done name (object ms) ≡ option_and_then (λ x. Some (done ++ x ∷ [])) (made l name ms))
+    (keeps : (d : Data) (k : Known) → (behind place d k).levels ≡ k.levels)
+    (allowed : (k : Known) (name : List ℕ) (d : Data) (ms : Members) (x : A) → key_of k place name d ≡ Ok tt → AreGood k inner ms → made k.levels name ms ≡ Some x → (named x ≡ name) × good x) where
+  types_read : (k : Known) (ms : Members) (xs : List A) → AreGood k place ms → walk k.levels [] ms ≡ Some xs → AreUnder named good (names_of ms) xs
+  types_read k ms xs h e =
+      map_read named good (walk k.levels) (entry k.levels) (ends k.levels) (goes k.levels) (λ ns. (j : Known) × (j.levels ≡ k.levels) × AreGood j place ns) each ms [] xs [] (k, refl, h) (none_under named good) e
+    where
+      each : (name : List ℕ) (d : Data) (ns : Members) → (j : Known) × (j.levels ≡ k.levels) × AreGood j place (member name d ns)
+          → ((j : Known) × (j.levels ≡ k.levels) × AreGood j place ns) × ((done more : List A) → entry k.levels done name d ≡ Some more → IsOneMore named good name done more)
+      each name d ns (j, is, own) = (
+        (behind place d j, keeps d j ∙ is, entry_rest j place name d ns own),
+        λ done more f.
+            let first = entry_in j place name (At inner) d ns (is_map map) own in
+            let value = entry_object j inner d ((is_object one).form j d) first.value in
+            let read = then_some (λ x. Some (done ++ x ∷ [])) (made k.levels name value.0) more (sym (reads k.levels done name value.0) ∙ ap (λ x. entry k.levels done name x) (sym value.1) ∙ f) in
+            let new = allowed j name d value.0 read.0 first.named (own_properties j inner value.0 (is_own one) value.2) (ap (λ l. made l name value.0) is ∙ read.1) in
+            record { new = read.0; more = same_Some _ more read.2; name_is = new.0; is_good = new.1 },
+      )
+
+-- ---- log levels
+
+abbrev highest : ℕ
+highest = 9223372036854775807
+
+small : (d : Data) (n : ℕ) → whole_from (pos 0) (pos highest) d ≡ Ok tt → as_natural d ≡ Some n → n < 2 ^ 63
+small d n judged is = let b = (natural_is_in 0 highest d n (omega arith) judged is).1 in omega (arith, b)
+
+alias_small : (o : Option Data) (n : ℕ) → level_or_none (pos highest) o ≡ Ok tt → natural_of o ≡ Some n → n < 2 ^ 63
+alias_small None n judged is = absurd cc
+alias_small (Some d) n judged is = small d n judged is
+
+level_small : (levels : Members) (d : Data) (n : ℕ) → level levels (pos highest) d ≡ Ok tt → level_of levels (Some d) ≡ Some n → n < 2 ^ 63
+unfolding level
+level_small levels (string name) n judged is = alias_small (get_member name levels) n judged is
+level_small levels d n judged is = small d n judged is
+
+level_allowed : (k : Known) (ms : Members) (n : ℕ) → AreGood k places.EventType ms → level_of k.levels (optional (codes "log-level") ms) ≡ Some n → n < 2 ^ 63
+unfolding itself_of leaf_of
+level_allowed k ms n h e =
+    by_found (λ (o : Option Data). level_of k.levels o ≡ Some n → n < 2 ^ 63) (optional (codes "log-level") ms)
+    (λ is e. absurd cc) (λ d is e. level_small k.levels d n ((property_at k places.EventType (codes "log-level") (Level (pos highest)) ms d (leads Property.level) h is).sound.itself) e) e
+
+-- ---- one event record type
+
+-- what the rules say of an event record type, but for its bits
+pub record IsGoodEvent (e : EventType) : Type 0 where
+  pub name : IsConfigName e.name
+  pub log_level : (n : ℕ) → e.log_level ≡ Some n → n < 2 ^ 63
+  pub specific : IsConfigStruct e.specific
+  pub payload : IsConfigStruct e.payload
+
+event_says : (name : List ℕ) (level : Option ℕ) (a b : Option StructType) (e : EventType) → event_with name level a b ≡ Some e → (name ≡ e.name) × (level ≡ e.log_level) × (a ≡ Some e.specific) × (b ≡ Some e.payload)
+event_says name level (Some x) (Some y) e is = let same = same_Some _ e is in (ap (λ r. r.name) same, ap (λ r. r.log_level) same, ap (λ r. Some r.specific) same, ap (λ r. Some r.payload) same)
+event_says name level _ _ e is = absurd cc
+
+-- good, and of this name
+abbrev IsUnder : List ℕ → EventType → Type 0
+IsUnder name e = (e.name ≡ name) × IsGoodEvent e
+
+event_allowed : (k : Known) (name : List ℕ) (ms : Members) (e : EventType) → IsConfigName name → AreGood k places.EventType ms → event_type k.levels name ms ≡ Some e → IsUnder name e
+unfolding event_type
+event_allowed k name ms e named h is =
+    let says = event_says name (level_of k.levels (optional (codes "log-level") ms)) _ _ e is in (
+      sym says.0,
+      record {
+        name = subst IsConfigName says.0 named;
+        log_level = λ n there. level_allowed k ms n h (says.1 ∙ there);
+        specific = structure_allowed k places.EventType (codes "specific-context-field-type") ms e.specific (leads Property.specific) h says.2;
+        payload = structure_allowed k places.EventType (codes "payload-field-type") ms e.payload (leads Property.payload) h says.3;
+      },
+    )
+
+-- ---- all of them
+
+events_few : (k : Known) (ms : Members) → IsGood k places.EventTypes ms → nat_le (members_len ms) 1024 ≡ true
+unfolding entries_of
+events_few k ms h = entries_fit places.EventTypes (object ms) h.fitting
+
+abbrev event_name : EventType → List ℕ
+event_name e = e.name
+
+events_read : (k : Known) (ms : Members) (es : List EventType) → AreGood k places.EventTypes ms → events_behind k.levels [] ms ≡ Some es → AreUnder event_name IsGoodEvent (names_of ms) es
+unfolding key_of key_by entries_of behind
+events_read k ms es h e =
+    types_read event_name IsGoodEvent MapPlace.event_types ObjectPlace.event_type event_type entry_behind events_behind (λ l done. refl) (λ l done name d ms. refl)
+    (λ l done name ms. by_found (λ o. event_behind done o ≡ option_and_then (λ x. Some (done ++ x ∷ [])) o) (event_type l name ms) (λ is. refl) (λ x is. refl)) (λ d j. refl)
+    (λ j name d ms x judged good is. event_allowed j name ms x (config_name name judged) good is) k ms es h e
+
+abbrev pub AreGoodEvents : List EventType → Type 0
+AreGoodEvents es = AreAllowed event_name IsGoodEvent 1024 es
+
+pub events_allowed : (k : Known) (place : Place) (ms : Members) (es : List EventType) → Leads place (codes "event-record-types") (At places.EventTypes) → AreGood k place ms → event_types k.levels ms ≡ Some es → AreGoodEvents es
+unfolding event_types
+events_allowed k place ms es leads h e =
+    by_good_object k place (codes "event-record-types") places.EventTypes ms leads h (λ o. events_or_none k.levels o ≡ Some es → AreGoodEvents es)
+    (λ f. subst AreGoodEvents (same_Some [] es f) (none_allowed event_name IsGoodEvent 1024))
+    (λ x good f. map_allowed event_name IsGoodEvent 1024 x es good.in_order (events_few k x good) (events_read k x es (own_properties k places.EventTypes x (is_own ObjectPlace.event_types) good) f)) e
+
+-- ---- one data stream type
+
+-- what the rules say of a data stream type by itself
+pub record IsGoodStream (s : StreamType) : Type 0 where
+  pub name : IsConfigName s.name
+  pub context : IsContext s.default_clock s.context
+  pub extras : AreExtras s.extras
+  pub event_header : IsEventHeader s.default_clock s.event_header
+  pub common : IsConfigStruct s.common
+  pub events : AreGoodEvents s.events
+
+stream_says : (name : List ℕ) (clock : Option (List ℕ)) (a : Option ContextFeatures) (b : Option StructType) (c : Option EventFeatures) (d : Option StructType) (e : Option (List EventType)) (s : StreamType) → stream_with name clock a b c d e ≡ Some s
+    → (name ≡ s.name) × (clock ≡ s.default_clock) × (a ≡ Some s.context) × (b ≡ Some s.extras) × (c ≡ Some s.event_header) × (d ≡ Some s.common) × (e ≡ Some s.events)
+stream_says name clock (Some a) (Some b) (Some c) (Some d) (Some e) s is =
+    let same = same_Some _ s is in
+    (ap (λ r. r.name) same, ap (λ r. r.default_clock) same, ap (λ r. Some r.context) same, ap (λ r. Some r.extras) same, ap (λ r. Some r.event_header) same, ap (λ r. Some r.common) same, ap (λ r. Some r.events) same)
+stream_says name clock _ _ _ _ _ s is = absurd cc
+
+-- good, and of this name
+abbrev IsStreamUnder : List ℕ → StreamType → Type 0
+IsStreamUnder name s = (s.name ≡ name) × IsGoodStream s
+
+stream_allowed : (k : Known) (name : List ℕ) (ms : Members) (s : StreamType) → IsConfigName name → AreGood k places.StreamType ms → stream_type k.levels name ms ≡ Some s → IsStreamUnder name s
+unfolding stream_type
+stream_allowed k name ms s named h e =
+    let says = stream_says name (clock_of ms) _ _ _ _ _ s e in (
+      sym says.0,
+      record {
+        name = subst IsConfigName says.0 named;
+        context = subst (λ c. IsContext c s.context) says.1 (context_allowed (clock_of ms) (features_of ms) s.context says.2);
+        extras = extras_allowed k places.StreamType (codes "packet-context-field-type-extra-members") ms s.extras (leads Property.extras) h says.3;
+        event_header = subst (λ c. IsEventHeader c s.event_header) says.1 (event_header_allowed (clock_of ms) (features_of ms) s.event_header says.4);
+        common = structure_allowed k places.StreamType (codes "event-record-common-context-field-type") ms s.common (leads Property.common) h says.5;
+        events = events_allowed k places.StreamType ms s.events (leads Property.event_types) h says.6;
+      },
+    )
+
+-- ---- all of them
+
+streams_few : (k : Known) (ms : Members) → IsGood k places.StreamTypes ms → nat_le (members_len ms) 64 ≡ true
+unfolding entries_of
+streams_few k ms h = entries_fit places.StreamTypes (object ms) h.fitting
+
+abbrev stream_name : StreamType → List ℕ
+stream_name s = s.name
+
+streams_read : (k : Known) (ms : Members) (ss : List StreamType) → AreGood k places.StreamTypes ms → streams_behind k.levels [] ms ≡ Some ss → AreUnder stream_name IsGoodStream (names_of ms) ss
+unfolding key_of key_by entries_of behind
+streams_read k ms ss h e =
+    types_read stream_name IsGoodStream MapPlace.stream_types ObjectPlace.stream_type stream_type stream_entry_behind streams_behind (λ l done. refl) (λ l done name d ms. refl)
+    (λ l done name ms. by_found (λ o. stream_behind done o ≡ option_and_then (λ x. Some (done ++ x ∷ [])) o) (stream_type l name ms) (λ is. refl) (λ x is. refl)) (λ d j. refl)
+    (λ j name d ms x judged good is. stream_allowed j name ms x (config_name name judged) good is) k ms ss h e
+
+abbrev pub AreGoodStreams : List StreamType → Type 0
+AreGoodStreams ss = AreAllowed stream_name IsGoodStream 64 ss
+
+pub streams_allowed : (k : Known) (place : Place) (ms : Members) (ss : List StreamType) → Leads place (codes "data-stream-types") (At places.StreamTypes) → AreGood k place ms → k.levels ≡ or_empty (object_at (codes "$log-level-aliases") ms) → stream_types ms ≡ Some ss → AreGoodStreams ss
+unfolding stream_types
+streams_allowed k place ms ss leads h levels e =
+    by_good_object k place (codes "data-stream-types") places.StreamTypes ms leads h (λ o. streams_or_none k.levels o ≡ Some ss → AreGoodStreams ss)
+    (λ f. subst AreGoodStreams (same_Some [] ss f) (none_allowed stream_name IsGoodStream 64))
+    (λ x good f. map_allowed stream_name IsGoodStream 64 x ss good.in_order (streams_few k x good) (streams_read k x ss (own_properties k places.StreamTypes x (is_own ObjectPlace.stream_types) good) f))
+    (subst (λ l. streams_or_none l (object_at (codes "data-stream-types") ms) ≡ Some ss) (sym levels) e)
 
 -- ---- the parts by themselves
 
@@ -50,116 +195,51 @@ pub record IsGoodConfig (c : Config) : Type 0 where
   pub header : IsHeader c.header
   pub streams : AreGoodStreams c.streams
 
-module _ where
-  clocks_lead : Leads places.TraceType (codes "clock-types") (At places.ClockTypes)
-  unfolding behind resolved_content content_under presence_under entries_of rows_of
-  clocks_lead = record { plain = λ d k. refl; resolved = refl; under = refl }
-
-  features_own : IsOwn places.TraceFeatures
-  unfolding inside
-  features_own = record { own = trace_features.own; known = λ k ms. refl }
-
-  type_levels : (k : Known) (ms : Members) → (inside places.TraceType ms k).levels ≡ members_or_none (optional (codes "$log-level-aliases") ms)
-  unfolding inside
-  type_levels k ms = refl
-
 levels_same : (o : Option Data) → members_or_none o ≡ or_empty (object_of o)
-levels_same None = refl
-levels_same (Some null) = refl
-levels_same (Some (boolean b)) = refl
-levels_same (Some (number n)) = refl
-levels_same (Some (string s)) = refl
-levels_same (Some (array ds)) = refl
 levels_same (Some (object ms)) = refl
+levels_same _ = refl
 
-levels_are : (k : Known) (ms : Members) → (inside places.TraceType ms k).levels ≡ or_empty (object_at (codes "$log-level-aliases") ms)
-unfolding object_at
-levels_are k ms = type_levels k ms ∙ levels_same (optional (codes "$log-level-aliases") ms)
-
--- the header, and the stream types, of a draft
-record DraftSays (given : Option (List ℕ)) (entries : List EnvironmentEntry) (ms : Members) (a : Option HeaderFeatures) (b : Option (List StreamType)) (draft : Draft) : Type 0 where
-  header : a ≡ Some draft.config.header
-  streams : b ≡ Some draft.config.streams
-  entries_are : draft.config.environment ≡ entries
-  clocks_are : draft.config.clocks ≡ clock_types ms
-
-draft_says : (given : Option (List ℕ)) (entries : List EnvironmentEntry) (ms : Members) (a : Option HeaderFeatures) (b : Option (List StreamType)) (draft : Draft) → draft_with given entries ms a b ≡ Some draft → DraftSays given entries ms a b draft
-draft_says given entries ms None b draft e = absurd cc
-draft_says given entries ms (Some h) None draft e = absurd cc
+draft_says : (given : Option (List ℕ)) (entries : List EnvironmentEntry) (ms : Members) (a : Option HeaderFeatures) (b : Option (List StreamType)) (draft : Draft) → draft_with given entries ms a b ≡ Some draft
+    → (a ≡ Some draft.config.header) × (b ≡ Some draft.config.streams) × (draft.config.environment ≡ entries) × (draft.config.clocks ≡ clock_types ms)
 draft_says given entries ms (Some h) (Some ss) draft e =
-    let same = same_Some (draft_from given entries (clock_types ms) h ss ms) draft e in
-    record {
-      header = ap (λ r. Some r.config.header) same;
-      streams = ap (λ r. Some r.config.streams) same;
-      entries_are = ap (λ r. r.config.environment) (sym same);
-      clocks_are = ap (λ r. r.config.clocks) (sym same);
-    }
+    let same = same_Some (draft_from given entries (clock_types ms) h ss ms) draft e in (ap (λ r. Some r.config.header) same, ap (λ r. Some r.config.streams) same, ap (λ r. r.config.environment) (sym same), ap (λ r. r.config.clocks) (sym same))
+draft_says given entries ms _ _ draft e = absurd cc
 
 type_allowed : (k : Known) (given : Option (List ℕ)) (entries : List EnvironmentEntry) (ms : Members) (draft : Draft) → IsEnvironment entries → IsGood k places.TraceType ms → draft_of_type given entries ms ≡ Some draft → IsGoodConfig draft.config
-unfolding draft_of_type header
+unfolding draft_of_type header object_at inside
 type_allowed k given entries ms draft env h e =
     let j = inside places.TraceType ms k in
     let good = properties_at k places.TraceType places.TraceType ms (type_object.own ms) h in
     let says = draft_says given entries ms _ _ draft e in
-    let features = or_empty_good j places.TraceType (codes "$features") places.TraceFeatures ms features_lead features_own good in
+    let features = or_empty_good j places.TraceType (codes "$features") places.TraceFeatures ms (leads Property.trace_features) (is_own ObjectPlace.trace_features) good in
     record {
-      environment = subst IsEnvironment (sym says.entries_are) env;
-      clocks = subst AreClocks (sym says.clocks_are) (clocks_allowed j places.TraceType ms clocks_lead good);
-      header = header_allowed j _ _ draft.config.header features says.header;
-      streams = streams_allowed j places.TraceType ms draft.config.streams streams_lead good (levels_are k ms) says.streams;
+      environment = subst IsEnvironment (sym says.2) env;
+      clocks = subst AreClocks (sym says.3) (clocks_allowed j places.TraceType ms (leads Property.clock_types) good);
+      header = header_allowed j _ _ draft.config.header features says.0;
+      streams = streams_allowed j places.TraceType ms draft.config.streams (leads Property.stream_types) good (levels_same (optional (codes "$log-level-aliases") ms)) says.1;
     }
 
 -- ---- the trace and the configuration around it
 
-module _ where
-  trace_own : IsOwn places.Trace
-  unfolding inside
-  trace_own = record { own = trace_object.own; known = λ k ms. refl }
-
-  environment_leads : Leads places.Trace (codes "environment") (At places.Environment)
-  unfolding behind resolved_content content_under presence_under entries_of rows_of
-  environment_leads = record { plain = λ d k. refl; resolved = refl; under = refl }
-
-  root_own : IsOwn places.Root
-  unfolding inside
-  root_own = record { own = root_object.own; known = λ k ms. refl }
-
 trace_allowed : (k : Known) (given : Option (List ℕ)) (ms : Members) (draft : Draft) → IsGood k places.Trace ms → draft_of_trace given ms ≡ Some draft → IsGoodConfig draft.config
 unfolding draft_of_trace
 trace_allowed k given ms draft h e =
-    let good = own_properties k places.Trace ms trace_own h in
+    let good = own_properties k places.Trace ms (is_own ObjectPlace.trace) h in
     let read = then_some (draft_of_type given (environment ms)) (object_at (codes "type") ms) draft e in
-    type_allowed k given (environment ms) read.0 draft (environment_allowed k places.Trace ms environment_leads good) (object_in k places.Trace (codes "type") places.TraceType ms read.0 type_leads good read.1) read.2
+    type_allowed k given (environment ms) read.0 draft (environment_allowed k places.Trace ms (leads Property.environment) good) (object_in k places.Trace (codes "type") places.TraceType ms read.0 (leads Property.trace_type) good read.1) read.2
 
 root_allowed : (k : Known) (given : Option (List ℕ)) (ms : Members) (draft : Draft) → IsGood k places.Root ms → draft_of_root given ms ≡ Some draft → IsGoodConfig draft.config
 unfolding draft_of_root
 root_allowed k given ms draft h e =
-    let good = own_properties k places.Root ms root_own h in
+    let good = own_properties k places.Root ms (is_own ObjectPlace.root) h in
     let read = then_some (draft_of_trace given) (object_at (codes "trace") ms) draft e in
-    trace_allowed k given read.0 draft (object_in k places.Root (codes "trace") places.Trace ms read.0 root_leads good read.1) read.2
-
-good_whole : (d : Data) → Ascends d → configuration_flaws d ≡ [] → configuration_limits d ≡ [] → IsGoodAt nothing (At places.Root) d
-good_whole d ascends flaws limits = record { sound = content_sound nothing (At places.Root) d flaws; within = content_within (At places.Root) d limits; ascends = ascends }
+    trace_allowed k given read.0 draft (object_in k places.Root (codes "trace") places.Trace ms read.0 (leads Property.trace) good read.1) read.2
 
 good_config : (given : Option (List ℕ)) (d : Data) (draft : Draft) → IsGoodAt nothing (At places.Root) d → draft_of given d ≡ Some draft → IsGoodConfig draft.config
-good_config given null draft h e = absurd cc
-good_config given (boolean b) draft h e = absurd cc
-good_config given (number n) draft h e = absurd cc
-good_config given (string s) draft h e = absurd cc
-good_config given (array ds) draft h e = absurd cc
 good_config given (object ms) draft h e = root_allowed nothing given ms draft (good_object nothing places.Root ms h) e
+good_config given _ draft h e = absurd cc
 
 -- ---- with the rules over the whole
-
-timestamp_is : (clock : Option (List ℕ)) (o : Option IntType) → OnlyIf o (IsOfClock clock) → OnlyIf o (TellsClock clock) → OnlyIf o (IsTimestamp clock)
-timestamp_is clock o own rules = λ t is. let a = own t is in let b = rules t is in (a.0, b.0, b.1, a.1)
-
-record_timestamp_is : (clock : Option (List ℕ)) (begin o : Option IntType) → OnlyIf o (IsOfClock clock) → OnlyIf o (TellsRecordClock clock begin) → OnlyIf o (IsRecordTimestamp clock begin)
-record_timestamp_is clock begin o own rules = λ t is. let a = own t is in let b = rules t is in (a.0, b.0, b.1, b.2, a.1)
-
-events_are : (s : StreamType) (es : List EventType) → AllByRecursion IsGoodEvent es → AllByRecursion (RecordHasBits s) es → AllByRecursion (IsEventType s) es
-events_are s [] good bits = tt
-events_are s (e ∷ es) good bits = (record { name = good.0.name; log_level = good.0.log_level; specific = good.0.specific; payload = good.0.payload; has_bits = bits.0 }, events_are s es good.1 bits.1)
 
 stream_is : (clocks : List (List ℕ)) (s : StreamType) → IsGoodStream s → KeepsStreamRules clocks s → IsStreamType clocks s
 stream_is clocks s good rules = record {
@@ -167,8 +247,8 @@ stream_is clocks s good rules = record {
   default_clock = rules.default_clock;
   packet_size = good.context.packet_size;
   content_size = good.context.content_size;
-  timestamp_begin = timestamp_is s.default_clock s.context.timestamp_begin good.context.timestamp_begin rules.timestamp_begin;
-  timestamp_end = timestamp_is s.default_clock s.context.timestamp_end good.context.timestamp_end rules.timestamp_end;
+  timestamp_begin = λ t is. let a = good.context.timestamp_begin t is in let b = rules.timestamp_begin t is in (a.0, b.0, b.1, a.1);
+  timestamp_end = λ t is. let a = good.context.timestamp_end t is in let b = rules.timestamp_end t is in (a.0, b.0, b.1, a.1);
   events_discarded = good.context.events_discarded;
   packet_seq_num = good.context.packet_seq_num;
   extras = good.extras.members;
@@ -176,46 +256,31 @@ stream_is clocks s good rules = record {
   no_own_name = good.extras.no_own_name;
   id = good.event_header.id;
   id_holds = rules.id_holds;
-  timestamp = record_timestamp_is s.default_clock s.context.timestamp_begin s.event_header.timestamp good.event_header.timestamp rules.timestamp;
+  timestamp = λ t is. let a = good.event_header.timestamp t is in let b = rules.timestamp t is in (a.0, b.0, b.1, b.2, a.1);
   common = good.common;
-  events = All-from_recursion (IsEventType s) s.events (events_are s s.events (recursion_from_All IsGoodEvent s.events good.events.each) (recursion_from_All (RecordHasBits s) s.events rules.has_bits));
+  events = λ i e at. let good = good.events.each i e at in record { name = good.name; log_level = good.log_level; specific = good.specific; payload = good.payload; has_bits = rules.has_bits i e at };
   events_in_order = good.events.in_order;
   events_few = good.events.few;
 }
 
-streams_are : (clocks : List (List ℕ)) (ss : List StreamType) → AllByRecursion IsGoodStream ss → AllByRecursion (KeepsStreamRules clocks) ss → AllByRecursion (IsStreamType clocks) ss
-streams_are clocks [] good rules = tt
-streams_are clocks (s ∷ ss) good rules = (stream_is clocks s good.0 rules.0, streams_are clocks ss good.1 rules.1)
-
-names_plain : (es : List EnvironmentEntry) → AllByRecursion IsEntry es → AllByRecursion IsPlainName (map (λ e. e.name) es)
-names_plain [] h = tt
-names_plain (e ∷ es) h = (h.0.0, names_plain es h.1)
-
-values_allowed : (es : List EnvironmentEntry) → AllByRecursion IsEntry es → AllByRecursion (λ e. IsEnvironmentValue e.value) es
-values_allowed [] h = tt
-values_allowed (e ∷ es) h = (h.0.1, values_allowed es h.1)
-
 config_allowed : (c : Config) → IsGoodConfig c → KeepsRules c → IsConfig c
-config_allowed c good rules =
-    let entries = recursion_from_All IsEntry c.environment good.environment.each in
-    let clocks = map (λ (k : ClockType). k.name) c.clocks in
-    record {
-      environment_names = All-from_recursion IsPlainName (map (λ e. e.name) c.environment) (names_plain c.environment entries);
-      environment_values = All-from_recursion (λ e. IsEnvironmentValue e.value) c.environment (values_allowed c.environment entries);
-      environment_in_order = good.environment.in_order;
-      environment_few = good.environment.few;
-      clocks = good.clocks.each;
-      clocks_in_order = good.clocks.in_order;
-      clocks_few = good.clocks.few;
-      magic = good.header.magic;
-      uuid = good.header.uuid;
-      uuid_is_there = rules.uuid_is_there;
-      stream_id = good.header.stream_id;
-      stream_id_holds = rules.stream_id_holds;
-      streams = All-from_recursion (IsStreamType clocks) c.streams (streams_are clocks c.streams (recursion_from_All IsGoodStream c.streams good.streams.each) (recursion_from_All (KeepsStreamRules clocks) c.streams rules.streams));
-      streams_in_order = good.streams.in_order;
-      streams_few = good.streams.few;
-    }
+config_allowed c good rules = record {
+  environment_names = All-map IsPlainName (λ e. e.name) c.environment (λ i e at. (good.environment.each i e at).0);
+  environment_values = λ i e at. (good.environment.each i e at).1;
+  environment_in_order = good.environment.in_order;
+  environment_few = good.environment.few;
+  clocks = good.clocks.each;
+  clocks_in_order = good.clocks.in_order;
+  clocks_few = good.clocks.few;
+  magic = good.header.magic;
+  uuid = good.header.uuid;
+  uuid_is_there = rules.uuid_is_there;
+  stream_id = good.header.stream_id;
+  stream_id_holds = rules.stream_id_holds;
+  streams = λ i s at. stream_is (map (λ (k : ClockType). k.name) c.clocks) _ (good.streams.each i s at) (rules.streams i s at);
+  streams_in_order = good.streams.in_order;
+  streams_few = good.streams.few;
+}
 
 pub draft_allowed : (given : Option (List ℕ)) (d : Data) (draft : Draft) → Ascends d → configuration_flaws d ≡ [] → configuration_limits d ≡ [] → draft_of given d ≡ Some draft → KeepsRules draft.config → IsConfig draft.config
-draft_allowed given d draft ascends flaws limits e rules = config_allowed draft.config (good_config given d draft (good_whole d ascends flaws limits) e) rules
+draft_allowed given d draft ascends flaws limits e rules = config_allowed draft.config (good_config given d draft (record { sound = content_sound nothing (At places.Root) d flaws; within = content_within (At places.Root) d limits; ascends = ascends }) e) rules

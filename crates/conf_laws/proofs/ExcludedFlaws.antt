@@ -1,33 +1,104 @@
 -- Where the walk over a configuration's objects tells of nothing, the table knows of no flaw.
-use Rattle.std.proofs.Common.{◌≡◌, ℕ, false, cond, List, [], ◌∷◌, Some, None, is_some, Ok, inl, inr, refl, sym, ap, subst, ◌∙◌}
+use Rattle.std.proofs.Common.{◌≡◌, ◌⊎◌, ℕ, zero, suc, true, false, not, List, [], ◌∷◌, Contains, Option, Some, None, is_some, Ok, Err, inl, inr, refl, sym, ap, subst, ◌∙◌, arith, cond}
 use Rattle.std.specs.Prelude.{codes}
-use Rattle.serde_json.specs.Data.{Data, array, object, Items, no_items, item, Members, no_members, member}
-use Rattle.serde_json.specs.Events.{items_len}
-use Rattle.conf_tree.specs.Flaw.{Flaw}
-use Rattle.conf_tree.specs.Walk.{HasMember, refusal}
-use Rattle.conf_table.specs.declared.place.Place.{Place}
-use Rattle.conf_table.specs.declared.place.Place.TheVariants as places
-use Rattle.conf_table.specs.declared.row.Content.{Content}
-use Rattle.conf_table.specs.declared.row.Content.TheVariants.{At}
-use Rattle.conf_table.specs.declared.row.Entries.{Entries}
-use Rattle.conf_table.specs.declared.row.Keys.{Keys}
-use Rattle.conf_table.specs.declared.row.Keys.TheVariants as keys
-use Rattle.conf_table.specs.Table.{rows_of, entries_of, is_by_index, under_entries, told_under, content_under, presence_under}
-use Rattle.conf_judge.specs.Flaws.{told_by, all_there, may_inherit, resolved_content, is_left_out, content_or_any, property_flaws, inner_flaws, item_flaws, member_flaws, content_flaws, configuration_flaws}
-use Rattle.conf_judge.specs.Forms.{itself_of}
-use Rattle.conf_judge.specs.Known.{Known, nothing, inside, behind, with_taken}
-use Rattle.conf_judge.specs.Names.{names_beside, with_names}
-use Rattle.conf_judge.specs.Places.{place_of_properties, item_content}
-use Rattle.conf_laws.specs.Around.{Around, Parts, HasBehind, member_of, item_of}
-use Rattle.conf_laws.specs.ValueFlaws.{IsNoKey, IsNoNameAt}
-use Rattle.conf_laws.specs.TableFlaws.{HasNotItsRows, IsFlawOf}
-use Rattle.conf_laws.proofs.Sound.{told_none, both_none, ObjectSound, PropertySound, object_sound, property_here, first_flaws, first_item}
-use Rattle.conf_laws.proofs.Agreement.{Agrees, nothing_agrees, inside_agrees, behind_agrees, Takes, takes_beside, takes_further, item_agrees}
-use Rattle.conf_laws.proofs.Items.{ItemParts, stands}
-use Rattle.conf_laws.proofs.TakenProperties.{is_property, is_none, left_not}
-use Rattle.conf_laws.proofs.ExcludedForms.{value_excluded, at_name_excluded}
-use Rattle.conf_laws.proofs.ExcludedObjects.{class_at_excluded, missing_excluded, no_order_excluded, shape_excluded}
-use Rattle.conf_laws.proofs.Rows.{nothing_inherited}
+use Rattle.conf_laws.proofs.Agreement.{Agrees, nothing_agrees, inside_agrees, behind_agrees, Takes, takes_beside, takes_further, item_agrees, ItemParts, stands}
+use Rattle.conf_laws.proofs.ExcludedValues.{class_word_listed, value_excluded, at_name_excluded}
+use Rattle.conf_laws.proofs.Numbers.{number_told}
+use Rattle.conf_laws.proofs.Readings.{was_so, element_bits, some_none, some_same, by_found}
+use Rattle.conf_laws.proofs.Sound.{optional_there, HasClass, has_class, class_there, unsigned_told, told_none, both_none, ObjectSound, PropertySound, object_sound, property_here, first_flaws, first_item, nothing_inherited}
+use Rattle.conf_laws.proofs.TableFlawLaws.{number_found, is_property, is_none, left_not}
+use Rattle.conf_laws.proofs.ValueFlawLaws.{number_there}
+use Rattle.conf_laws.specs.Around.{HasNumber, Around, Parts, HasBehind, member_of, item_of}
+use Rattle.conf_laws.specs.TableFlaws.{IsNoClassAt, IsByte, IsIdentifier, HasNoBits, IsNoShapeAt, HasNotItsRows, IsFlawOf}
+use Rattle.conf_laws.specs.ValueFlaws.{words_of_classes, IsNoKey, IsNoNameAt}
+use Rattle.conf_laws.proofs.TableWords.{class_words, admits_class, Told, rows_of, entries_of, is_by_index, under_entries, told_under, content_under, presence_under, Place, At, Content, Entries, Keys}
+use Rattle.conf_laws.proofs.TableWords.places
+use Rattle.conf_laws.proofs.TableWords.keys
+use Rattle.conf_laws.proofs.TableWords.presences
+use Rattle.conf_laws.proofs.JudgeWords.{class_rule, row_there, rows_there, orders_there, all_there, told_by, may_inherit, resolved_content, is_left_out, content_or_any, property_flaws, inner_flaws, item_flaws, member_flaws, content_flaws, configuration_flaws, itself_of, Known, nothing, inside, behind, with_taken, class_of, names_beside, with_names, natural_in, is_position, place_of_properties, item_content, is_number, is_unsigned_integer, is_static_array, is_eight, is_byte, is_identifier, has_bits, element_has_bits, shape_of}
+use Rattle.conf_laws.proofs.TreeWords.{Flaw, key, here, within, needed, optional, HasMember, refusal, Missing, both_read, IsNoWordOf, as_natural, Data, object, Members, array, Items, no_items, item, no_members, member, items_len, get_member, as_str}
+use Rattle.conf_laws.proofs.StdWords.{and-false, true≢false, false≢true, and_parts, option_map_or}
+
+-- ---- the class
+
+no_word_excluded : (place : Place) (ms : Members) (d : Data) (f : Flaw) → HasClass place ms → get_member (codes "class") ms ≡ Some d → ¬ IsNoWordOf words_of_classes d f
+no_word_excluded place ms d f c there (IsNoWordOf.no_text none) = some_none (as_str c.value) c.word c.text (ap as_str (some_same (get_member (codes "class") ms) c.value d c.there there) ∙ none)
+no_word_excluded place ms d f c there (IsNoWordOf.another_word s is other) =
+    let value : c.value ≡ d = some_same (get_member (codes "class") ms) c.value d c.there there in
+    let same : c.word ≡ s = some_same (as_str d) c.word s (ap as_str (sym value) ∙ c.text) is in
+    other (subst (Contains words_of_classes) same (class_word_listed class_words c.word (ap is_some c.found)))
+
+admitted_excluded : (place : Place) (ms : Members) (class : Place) → class_rule place ms ≡ Ok tt → is_position place ≡ true → class_of ms ≡ Some class → admits_class place class ≡ false → ⊥
+admitted_excluded place ms class e is said other =
+    let c = has_class place ms is e in
+    let same : c.class ≡ class = some_same (class_of ms) c.class class (class_there place ms c) said in
+    true≢false (sym c.may_stand ∙ ap (admits_class place) same ∙ other)
+
+pub class_at_excluded : (place : Place) (ms : Members) (flaw : Flaw) → class_rule place ms ≡ Ok tt → ¬ IsNoClassAt place ms flaw
+unfolding is_position
+class_at_excluded place ms flaw e (IsNoClassAt.no_class is (inl (none, same))) = let c = has_class place ms is e in some_none (get_member (codes "class") ms) c.value c.there none
+class_at_excluded place ms flaw e (IsNoClassAt.no_class is (inr (d, f, there, wrong, same))) = no_word_excluded place ms d f (has_class place ms is e) there wrong
+class_at_excluded place ms flaw e (IsNoClassAt.another_class class is elsewhere said other) = admitted_excluded place ms class e is said other
+class_at_excluded place ms flaw e (IsNoClassAt.no_array class identifier said other) = admitted_excluded place ms class e (ap is_position identifier ∙ refl) said other
+
+-- ---- what is missing
+
+module _ (ms : Members) where
+  row_excluded : {P : Type 0} (row : Told) → row_there ms row ≡ Ok tt → row.presence ≡ presences.Needed → get_member row.name ms ≡ None → P
+  row_excluded row e needed none = let f : row_there ms row ≡ Err (within (key row.name) (here Missing)) = rw (needed, none) refl in absurd cc
+
+  rows_excluded : {P : Type 0} (rows : List Told) (row : Told) → rows_there ms rows ≡ Ok tt → Contains rows row → row.presence ≡ presences.Needed → get_member row.name ms ≡ None → P
+  rows_excluded [] row e (i, lt, is) needed none = absurd (omega (arith, lt))
+  rows_excluded (r ∷ rows) row e (zero, lt, is) needed none = let here_read = both_read (row_there ms r) _ tt e in row_excluded row (subst (λ x. row_there ms x ≡ Ok tt) is here_read.1) needed none
+  rows_excluded (r ∷ rows) row e (suc i, lt, is) needed none = let later = both_read (row_there ms r) _ tt e in rows_excluded rows row later.2 (i, omega (arith, lt), is) needed none
+
+  pub missing_excluded : {P : Type 0} (place : Place) (row : Told) → all_there place ms ≡ Ok tt → Contains (rows_of place) row → row.presence ≡ presences.Needed → get_member row.name ms ≡ None → P
+  unfolding all_there
+  missing_excluded place row e among needed none = let r = both_read (rows_there ms (rows_of place)) _ tt e in rows_excluded (rows_of place) row r.1 among needed none
+
+  pub no_order_excluded : {P : Type 0} (place : Place) → all_there place ms ≡ Ok tt → place ≡ places.TraceType → optional (codes "trace-byte-order") ms ≡ None → optional (codes "native-byte-order") ms ≡ None → P
+  unfolding all_there orders_there
+  no_order_excluded place e is a b = let r = both_read (rows_there ms (rows_of place)) _ tt e in let f = rw (a, b) at (subst (λ p. orders_there p ms ≡ Ok tt) is r.2) in absurd cc
+
+-- ---- what a field type is as a whole
+
+number_has : (name : List ℕ) (ms : Members) (n : ℕ) → is_number (natural_in name ms) n ≡ true → HasNumber name ms n
+number_has name ms n e = number_there name ms n (number_told (natural_in name ms) n e)
+
+eight_told : (ms : Members) → is_eight (optional (codes "alignment") ms) ≡ true → (optional (codes "alignment") ms ≡ None) ⊎ HasNumber (codes "alignment") ms 8
+eight_told ms e =
+    by_found (λ (o : Option Data). is_eight o ≡ true → (optional (codes "alignment") ms ≡ None) ⊎ HasNumber (codes "alignment") ms 8) (optional (codes "alignment") ms)
+    (λ is f. inl is) (λ d is f. inr (d, (optional_there (codes "alignment") ms d is).0, number_told (as_natural d) 8 f)) e
+
+byte_told : (o : Option Data) → is_byte o ≡ true → (element : Members) × (o ≡ Some (object element)) × IsByte element
+byte_told (Some (object ms)) e =
+    let p = and_parts (is_unsigned_integer (class_of ms)) _ e in
+    let q = and_parts (is_number (natural_in (codes "size") ms) 8) (is_eight (optional (codes "alignment") ms)) p.1 in
+    (ms, refl, (unsigned_told (class_of ms) p.0, number_has (codes "size") ms 8 q.0, eight_told ms q.1))
+byte_told _ e = absurd cc
+
+identifier_told : (ms : Members) → is_identifier ms ≡ true → IsIdentifier ms
+unfolding is_identifier
+identifier_told ms e =
+    let p = and_parts (is_number (natural_in (codes "length") ms) 16) (is_byte (get_member (codes "element-field-type") ms)) e in
+    let byte = byte_told (get_member (codes "element-field-type") ms) p.1 in
+    (byte.0, number_has (codes "length") ms 16 p.0, byte.1, byte.2)
+
+no_bits_found : (d : Data) → HasNoBits d → has_bits d ≡ false
+no_bits_found d (HasNoBits.an_empty_array ms class length) =
+    let none : is_number (natural_in (codes "length") ms) 0 ≡ true = ap (λ o. is_number o 0) (number_found (codes "length") ms 0 length) in
+    let static : is_static_array (class_of ms) ≡ true = ap is_static_array class in
+    rw (static, none) refl
+no_bits_found d (HasNoBits.an_array_of_such ms element class there such) =
+    let static : is_static_array (class_of ms) ≡ true = ap is_static_array class in
+    let none : element_has_bits ms ≡ false = element_bits ms ∙ ap (λ o. option_map_or has_bits o true) there ∙ no_bits_found element such in
+    rw (static, none) (and-false (not (is_number (natural_in (codes "length") ms) 0)))
+
+pub shape_excluded : (place : Place) (ms : Members) (flaw : Flaw) → shape_of place ms ≡ Ok tt → ¬ IsNoShapeAt place ms flaw
+unfolding shape_of
+shape_excluded place ms flaw e (IsNoShapeAt.no_magic_number is other) = other (number_has (codes "size") ms 32 (was_so (is_number (natural_in (codes "size") ms) 32) (subst (λ p. shape_of p ms ≡ Ok tt) is e)))
+shape_excluded place ms flaw e (IsNoShapeAt.no_identifier is other) = other (identifier_told ms (was_so (is_identifier ms) (subst (λ p. shape_of p ms ≡ Ok tt) is e)))
+shape_excluded place ms flaw e (IsNoShapeAt.no_bits is such) = false≢true (sym (no_bits_found (object ms) such) ∙ was_so (has_bits (object ms)) (subst (λ p. shape_of p ms ≡ Ok tt) is e))
 
 -- ---- at a member
 
@@ -96,23 +167,18 @@ entry_content place name entries is =
     let inherits : may_inherit place ≡ false = ap is_some (no_rows place (codes "$inherit") entries is) in
     nothing_inherited place name inherits ∙ plain_content place name entries is
 
-entry_stays : (place : Place) (name : List ℕ) (d : Data) (entries : Entries) → entries_of place ≡ Some entries → is_left_out place name d ≡ false
-unfolding is_left_out
-entry_stays place name d entries is = rw (no_rows place name entries is) refl
-
 -- what has names is found by names
 by_name : (by : Keys) (around : Around) (place : Place) (name : List ℕ) (d : Data) (flaw : Flaw) → IsNoKey around place by name d flaw → is_by_index by ≡ false
-by_name keys.Name around place name d flaw wrong = refl
-by_name keys.PlainName around place name d flaw wrong = refl
-by_name keys.Label around place name d flaw wrong = refl
 by_name keys.Index around place name d flaw wrong = absurd wrong
+by_name _ around place name d flaw wrong = refl
 
 module _ (around : Around) (place : Place) (all : Members) where
   name_clear : (before : Members) (name : List ℕ) (d : Data) (flaw : Flaw) → HasBehind before name d all → Reached around place all no_members all → ¬ IsNoNameAt around place name d flaw
+  unfolding is_left_out
   name_clear before name d flaw (rest, parts) start (entries, is, wrong) =
       let r = reached around place all before (member name d rest) parts start in
       let content : resolved_content place name ≡ Some entries.content = entry_content place name entries is ∙ ap (λ b. cond b None (Some entries.content)) (by_name entries.keys around place name d flaw wrong) in
-      let clear = value_clear around place all before name d rest entries.content r content (entry_stays place name d entries is) in
+      let clear = value_clear around place all before name d rest entries.content r content (rw (no_rows place name entries is) refl) in
       at_name_excluded r.known around r.agrees.taken place name d flaw clear.named (entries, is, wrong)
 
   rows_clear : (flaw : Flaw) → all_there place all ≡ Ok tt → Reached around place all no_members all → ¬ HasNotItsRows place all flaw
@@ -140,7 +206,7 @@ module _ (around : Around) (k : Known) (h : Agrees k around) (place : Place) (al
 
   item_reached : (before rest : Items) → ItemParts all before rest → ItemReached no_items all → ItemReached before rest
   item_reached before rest ItemParts.at_the_first start = start
-  item_reached before rest (ItemParts.behind b d r parts) start = item_further b d rest (item_reached b (item d rest) parts start)
+  item_reached before rest (ItemParts.behind_item b d r parts) start = item_further b d rest (item_reached b (item d rest) parts start)
 
   item_clear : (before : Items) (d : Data) (rest : Items) (r : ItemReached before (item d rest)) → content_flaws (with_taken r.taken k) (item_content place) d ≡ []
   item_clear before d rest r = (first_item k place r.taken (items_len before) d rest r.clear).0

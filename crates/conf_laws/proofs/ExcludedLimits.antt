@@ -1,37 +1,24 @@
 -- Where the walk over a configuration tells of no limit, it passes none by the table.
 use Rattle.std.proofs.Common.{◌≡◌, ◌/◌, ◌%◌, ◌==◌, ◌<◌, ℕ, zero, suc, true, false, List, [], length, Some, None, is_some, inl, inr, refl, sym, ap, subst, ◌∙◌, arith, Ok}
 use Rattle.std.specs.Prelude.{nat_le, nat_eq}
-use Rattle.std.proofs.lemmas.Bool.{false≢true, or_from, lt-leb, ne_eqb, and_left, and_right}
-use Rattle.serde_json.specs.Data.{Data, null, boolean, number, string, array, object, Items, no_items, item, Members, no_members, member}
-use Rattle.serde_json.specs.Find.{get_item}
-use Rattle.conf_tree.specs.Flaw.{Flaw}
-use Rattle.conf_tree.specs.Walk.{HasMember, refusal}
-use Rattle.conf_table.specs.declared.place.Place.{Place}
-use Rattle.conf_table.specs.declared.place.Place.TheVariants as places
-use Rattle.conf_table.specs.declared.row.Content.{Content}
-use Rattle.conf_table.specs.declared.row.Content.TheVariants as contents
-use Rattle.conf_table.specs.declared.row.Entries.{Entries}
-use Rattle.conf_table.specs.declared.row.Keys.TheVariants.{Label}
-use Rattle.conf_table.specs.Table.{entries_of}
-use Rattle.conf_judge.specs.Flaws.{told_by, content_or_any}
-use Rattle.conf_judge.specs.Limits.{within_limit, bytes_fit, divides, power_fits, elements, is_outermost, arrays_fit, count_of, at_most, ranges_of, ranges_fit, place_fits, fits, is_label, key_fits, item_limits, member_limits, content_limits, configuration_limits}
-use Rattle.conf_judge.specs.Places.{place_of_properties, item_content}
-use Rattle.conf_laws.specs.TableLimits.{PassesAt, IsLongText, IsNoPowerUpTo, PassesBy, PassesLimitOf}
-use Rattle.conf_laws.proofs.Sound.{both_none}
-use Rattle.conf_laws.proofs.Within.{within_none, limits_at, first_limits, first_item_limits}
-use Rattle.conf_laws.proofs.ArrayLimitLaws.{not_counted}
 use Rattle.conf_laws.proofs.ExcludedFlaws.{none_refused}
 use Rattle.conf_laws.proofs.ExcludedValues.{divided}
+use Rattle.conf_laws.proofs.Properties.{within_none, limits_at, first_limits, first_item_limits}
+use Rattle.conf_laws.proofs.Sound.{both_none}
+use Rattle.conf_laws.proofs.TableLimitLaws.{not_counted}
+use Rattle.conf_laws.specs.TableLimits.{PassesAt, IsLongText, IsNoPowerUpTo, PassesBy, PassesLimitOf}
+use Rattle.conf_laws.proofs.TableWords.{entries_of, Place, Content, Entries, Label}
+use Rattle.conf_laws.proofs.TableWords.places
+use Rattle.conf_laws.proofs.TableWords.contents
+use Rattle.conf_laws.proofs.JudgeWords.{told_by, content_or_any, within_limit, bytes_fit, divides, power_fits, elements, is_outermost, arrays_fit, count_of, at_most, ranges_of, ranges_fit, place_fits, fits, is_label, key_fits, item_limits, member_limits, content_limits, configuration_limits, place_of_properties, item_content}
+use Rattle.conf_laws.proofs.TreeWords.{Flaw, HasMember, refusal, Data, string, array, object, Items, no_items, item, Members, no_members, member, get_item}
+use Rattle.conf_laws.proofs.StdWords.{false≢true, or_from, lt-leb, ne_eqb, and_left, and_right}
 
 -- ---- a value by itself
 
 long_fails : (most : ℕ) (d : Data) → IsLongText most d → bytes_fit most d ≡ false
 long_fails most (string t) (s, is, long) = let same : t ≡ s = cc in lt-leb (length t) most (subst (λ x. most < length x) (sym same) long)
-long_fails most null (s, is, long) = absurd cc
-long_fails most (boolean b) (s, is, long) = absurd cc
-long_fails most (number n) (s, is, long) = absurd cc
-long_fails most (array ds) (s, is, long) = absurd cc
-long_fails most (object ms) (s, is, long) = absurd cc
+long_fails most _ (s, is, long) = absurd cc
 
 power_fails : (high : ℕ) (d : Data) → IsNoPowerUpTo high d → power_fits high d ≡ false
 unfolding power_fits
@@ -47,15 +34,11 @@ module _ (place : Place) (d : Data) where
   unfolding arrays_fit
   arrays_fail outermost none = rw outermost (ap is_some none)
 
-ranges_fail : (place : Place) (d : Data) → place ≡ places.Mappings → 1024 < ranges_of d → ranges_fit place d ≡ false
-unfolding ranges_fit
-ranges_fail place d is more = subst (λ p. ranges_fit p d ≡ false) (sym is) (lt-leb (ranges_of d) 1024 more)
-
 at_fails : (place : Place) (d : Data) → PassesAt place d → place_fits place d ≡ false
-unfolding place_fits
+unfolding place_fits ranges_fit
 at_fails place d (PassesAt.too_many_entries entries most is number_is more) =
     and_right (arrays_fit place d) _ (and_left (at_most (entries_of place) (count_of d)) (ranges_fit place d) (entries_fail place d entries most is number_is more))
-at_fails place d (PassesAt.too_many_ranges is more) = and_right (arrays_fit place d) _ (and_right (at_most (entries_of place) (count_of d)) (ranges_fit place d) (ranges_fail place d is more))
+at_fails place d (PassesAt.too_many_ranges is more) = and_right (arrays_fit place d) _ (and_right (at_most (entries_of place) (count_of d)) (ranges_fit place d) (subst (λ p. ranges_fit p d ≡ false) (sym is) (lt-leb (ranges_of d) 1024 more)))
 at_fails place d (PassesAt.too_many_elements outermost many) = and_left (arrays_fit place d) _ (arrays_fail place d outermost (not_counted d many))
 
 by_fails : (content : Content) (d : Data) → PassesBy content d → fits content d ≡ false

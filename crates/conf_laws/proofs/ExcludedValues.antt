@@ -1,63 +1,45 @@
--- A value of which nothing is told by itself is what its row says that it is, and so is the name of an entry.
-use Rattle.std.proofs.Common.{◌≡◌, ◌⊎◌, ◌+◌, ◌*◌, ◌/◌, ◌≤◌, ◌<◌, ◌^◌, ◌%◌, ◌==◌, ◌&&◌, ◌||◌, ℕ, zero, suc, ℤ, pos, negsuc, ◌<ℤ◌, Bool, true, false, not, cond, List, [], ◌∷◌, map, Contains, Option, Some, None, is_some, Result, Ok, inl, inr, refl, sym, ap, subst, ◌∙◌, arith}
-use Rattle.std.specs.Prelude.{codes, nat_le, nat_lt, nat_eq, int_le}
-use Rattle.std.specs.List.{list_any}
-use Rattle.std.specs.Str.{bytes_eq}
-use Rattle.std.proofs.lemmas.Bool.{true≢false, false≢true, and_parts, or_from, or_cases, ltb-true, lt-leb, ne_eqb, eqb-true}
-use Rattle.std.proofs.lemmas.List.Folds.{list_all_at}
-use Rattle.std.proofs.lemmas.Slice.Eq.{bytes_eq-Decides}
-use Rattle.std.proofs.Math.Nat.{mul-zero, zero-mul, suc-mul, add-mul, mul-add, two-pow-succ, one-le-mul}
-use borrow.Author.Differences.{le-true, lt_out}
-use Rattle.serde_json.specs.Data.{Data, null, boolean, number, string, array, object, Num, float, Members}
-use Rattle.serde_json.specs.Find.{get_member, as_str, as_bool, as_number, as_integer}
+-- A value of which nothing is told by itself is what its row says that it is, and of the kind of its place; and a name of which nothing
+-- is told is one that the entry can have.
+use Rattle.std.proofs.Common.{◌≡◌, ◌⊎◌, ◌+◌, ◌*◌, ◌/◌, ◌≤◌, ◌<◌, ◌^◌, ◌%◌, ◌==◌, ◌&&◌, ◌||◌, ℕ, zero, suc, ℤ, pos, negsuc, ◌<ℤ◌, Bool, true, false, cond, List, [], ◌∷◌, map, Contains, Some, is_some, Ok, inl, inr, refl, sym, ap, subst, ◌∙◌, arith, ◌↔◌, length}
+use Rattle.std.specs.Prelude.{codes, nat_le, nat_lt, nat_eq, int_le, unwrap_or, option_map}
 use Rattle.uuid.specs.Text.{parsed}
-use Rattle.conf_tree.specs.Flaw.{Flaw}
-use Rattle.conf_tree.specs.Reading.{◌>>=◌, wanted, whole_of}
-use Rattle.conf_table.specs.Classes.{ClassWord, class_words, class_in}
-use Rattle.conf_values.specs.LeafFlaws.{IsNoText, IsNoFlag, IsNoWhole, IsNoConfigText, IsNoUuid, IsNoWordOf, IsControl}
-use Rattle.conf_values.specs.Scalar.{is_printable, uuid_in}
-use Rattle.conf_values.proofs.LeafFlawLaws.{wanted_found, listed}
-use Rattle.conf_values.proofs.Steps.{both_read}
-use Rattle.conf_judge.specs.Known.{Known}
-use Rattle.conf_judge.specs.Leaves.{only_if, whole_from, is_power_of_two, power_of, any_flag, one_flag, any_text, printable, identifier, identifier_or_auto, word_among, class_word, whole_or_text, level_or_none, level}
-use Rattle.conf_laws.specs.Around.{Around}
-use Rattle.conf_laws.specs.ValueFlaws.{IsPowerOfTwo, IsNoPowerOfTwo, IsNoLevel, IsNoWholeOrText, IsNoDefault, IsWhole, words_of_classes}
-use Rattle.conf_laws.proofs.Agreement.{Agrees}
-use Rattle.conf_laws.proofs.Readings.{was_so}
-use Rattle.conf_laws.proofs.Steps.{some_none, some_same}
-use Rattle.conf_laws.proofs.Naturals.{whole_read}
-
--- ---- steps
-
-pub found : {A B : Type 0} (o : Option A) (next : A → Result B Flaw) (y : B) → (wanted o >>= next) ≡ Ok y → (x : A) × (o ≡ Some x) × (next x ≡ Ok y)
-found o next y e = let r = both_read (wanted o) next y e in (r.0, wanted_found o r.0 r.1, r.2)
+use borrow.Author.Differences.{le-true, lt_out}
+use Rattle.conf_laws.proofs.Agreement.{Agrees, IsTrue, told_dynamic}
+use Rattle.conf_laws.proofs.Numbers.{whole_read, whole_there, lowest_end, highest_end, ReadSo, read_so, end_whole, some_size}
+use Rattle.conf_laws.proofs.Readings.{was_so, under_no_test, some_none, some_same, by_test}
+use Rattle.conf_laws.proofs.TableFlawLaws.{number_found}
+use Rattle.conf_laws.proofs.ValueFlawLaws.{has_by_bytes}
+use Rattle.conf_laws.specs.Around.{Around, enumeration_around, HasBits, IsTaken}
+use Rattle.conf_laws.specs.ValueFlaws.{IsPowerOfTwo, IsNoPowerOfTwo, IsNoLevel, IsNoWholeOrText, IsNoDefault, IsWhole, words_of_classes, IsPair, IsRange, IsNoRange, IsNoSomeList, IsNoSomeObject, IsNoEntry, IsNoFeature, IsNoSizeFeature, IsNoneAt, IsNoValueOf, IsNoMemberName, IsNoLabel, IsNoKey, IsNoNameAt}
+use Rattle.conf_laws.proofs.TableWords.{ClassWord, class_words, class_in, words_of, Place, Content, Keys}
+use Rattle.conf_laws.proofs.TableWords.places
+use Rattle.conf_laws.proofs.TableWords.contents
+use Rattle.conf_laws.proofs.TableWords.keys
+use Rattle.conf_laws.proofs.JudgeWords.{any_object, any_list, one_member, some_list, some_object, entry, feature, size_feature, form_of, itself_of, Known, only_if, whole_from, is_power_of_two, power_of, any_flag, one_flag, any_text, printable, identifier, identifier_or_auto, word_among, class_word, whole_or_text, level, leaf_of, is_dynamic, is_taken, length_is_taken, free_of, is_entry, plain_of, key_by, key_in, key_of, all_numbers, numbers_of, numbers_or_all, numbers_in, end_of, range_of, is_inside, inside_of}
+use Rattle.conf_laws.proofs.TreeWords.{Flaw, here, whole_of, OutOfRange, BadName, ReservedName, NameClash, listed, both_read, is_passed, IsNoText, IsNoFlag, IsNoWhole, IsNoConfigText, IsNoUuid, IsNoWordOf, IsControl, IsNoObject, IsNoList, IsNoName, IsNoPlainName, name_of, is_reserved, plain_name_of, is_printable, uuid_in, Data, boolean, string, array, Members, Items, no_items, item, no_members, member, items_len, members_len, as_str, as_number, as_integer, as_array}
+use Rattle.conf_laws.proofs.StdWords.{mul-zero, zero-mul, suc-mul, add-mul, mul-add, two-pow-succ, one-le-mul, true≢false, false≢true, and_parts, or_from, or_cases, ltb-true, lt-leb, ne_eqb, eqb-true, or_parts, leb-true, list_all_at, same_Some, bytes_eq-Decides, list_any, bytes_eq}
+use Rattle.conf_laws.proofs.DraftWords.{lowest, highest, is_identifier, unused_keywords, used_keywords, length_name}
 
 -- ---- numbers
 
 -- two orders that cannot both be
-pub not_both_ways : (a b : ℤ) → int_le a b ≡ true → b <ℤ a → ⊥
+not_both_ways : (a b : ℤ) → int_le a b ≡ true → b <ℤ a → ⊥
 not_both_ways a b e less = omega (arith, le-true a b e, lt_out b a less)
 
-within_excluded : (low high : ℤ) (d : Data) (m : Num) (x : ℤ) (flaw : Flaw) → as_number d ≡ Some m → as_integer m ≡ Some x → int_le low x ≡ true → int_le x high ≡ true → ¬ IsNoWhole low high d flaw
-within_excluded low high d m x flaw is whole least most (IsNoWhole.no_number none) = some_none (as_number d) m is none
-within_excluded low high d m x flaw is whole least most (IsNoWhole.a_fraction y there) = let same : m ≡ float y = some_same (as_number d) m (float y) is there in some_none (as_integer m) x whole (ap as_integer same)
-within_excluded low high d m x flaw is whole least most (IsNoWhole.too_small n z there integer small) =
-    let same : m ≡ n = some_same (as_number d) m n is there in
-    let equal : x ≡ z = some_same (as_integer n) x z (ap as_integer (sym same) ∙ whole) integer in
-    not_both_ways low z (ap (int_le low) (sym equal) ∙ least) small
-within_excluded low high d m x flaw is whole least most (IsNoWhole.too_large n z there integer large) =
-    let same : m ≡ n = some_same (as_number d) m n is there in
-    let equal : x ≡ z = some_same (as_integer n) x z (ap as_integer (sym same) ∙ whole) integer in
-    not_both_ways z high (ap (λ y. int_le y high) (sym equal) ∙ most) large
+read_excluded : (low high : ℤ) (d : Data) (z : ℤ) (flaw : Flaw) → whole_of low high d ≡ Ok z → ¬ IsNoWhole low high d flaw
+unfolding whole_of
+read_excluded low high d z flaw e (IsNoWhole.no_number none) = absurd (let h = rw none at e in cc)
+read_excluded low high d z flaw e (IsNoWhole.a_fraction y is) = absurd (let h = rw is at e in cc)
+read_excluded low high d z flaw e (IsNoWhole.too_small m y is whole small) =
+    let p = whole_there low high (Some y) z (rw (is, whole) at e) in not_both_ways low y (subst (λ x. int_le low x ≡ true) (sym (same_Some y z p.0)) p.1) small
+read_excluded low high d z flaw e (IsNoWhole.too_large m y is whole large) =
+    let p = whole_there low high (Some y) z (rw (is, whole) at e) in not_both_ways y high (subst (λ x. int_le x high ≡ true) (sym (same_Some y z p.0)) p.2) large
 
-pub read_excluded : (low high : ℤ) (d : Data) (z : ℤ) (flaw : Flaw) → whole_of low high d ≡ Ok z → ¬ IsNoWhole low high d flaw
-read_excluded low high d z flaw e = let r = whole_read low high d z e in within_excluded low high d r.whole.0 z flaw r.whole.1 r.whole.2 r.least r.most
-
-pub whole_excluded : (low high : ℤ) (d : Data) (flaw : Flaw) → whole_from low high d ≡ Ok tt → ¬ IsNoWhole low high d flaw
+whole_excluded : (low high : ℤ) (d : Data) (flaw : Flaw) → whole_from low high d ≡ Ok tt → ¬ IsNoWhole low high d flaw
 unfolding whole_from
 whole_excluded low high d flaw e = let r = both_read (whole_of low high d) _ tt e in read_excluded low high d r.0 flaw r.1
 
-pub whole_same : (d : Data) (x z : ℤ) → IsWhole d x → IsWhole d z → x ≡ z
+whole_same : (d : Data) (x z : ℤ) → IsWhole d x → IsWhole d z → x ≡ z
 whole_same d x z (m, is, whole) (n, there, integer) = let same : m ≡ n = some_same (as_number d) m n is there in some_same (as_integer n) x z (ap as_integer (sym same) ∙ whole) integer
 
 -- ---- the divisors of a power of two are powers of two
@@ -119,144 +101,285 @@ a_power (pos n) e =
     (power.0, ap pos power.1)
 a_power (negsuc n) e = absurd cc
 
-pub power_excluded : (d : Data) (flaw : Flaw) → power_of d ≡ Ok tt → ¬ IsNoPowerOfTwo d flaw
+power_excluded : (d : Data) (flaw : Flaw) → power_of d ≡ Ok tt → ¬ IsNoPowerOfTwo d flaw
 unfolding power_of
-power_excluded d flaw e wrong = go flaw (both_read (whole_of (pos 1) (pos 18446744073709551615) d) _ tt e) wrong
-  where
-    go : (f : Flaw) → (z : ℤ) × (whole_of (pos 1) (pos 18446744073709551615) d ≡ Ok z) × (only_if (is_power_of_two z) ≡ Ok tt) → ¬ IsNoPowerOfTwo d f
-    go f (z, read, tested) (IsNoPowerOfTwo.no_number none) = read_excluded (pos 1) (pos 18446744073709551615) d z f read none
-    go f (z, read, tested) (IsNoPowerOfTwo.no_power m y is whole other) =
-        let same : z ≡ y = whole_same d z y (whole_read (pos 1) (pos 18446744073709551615) d z read).whole (m, is, whole) in
-        other (subst IsPowerOfTwo same (a_power z (was_so (is_power_of_two z) tested)))
+power_excluded d flaw e (IsNoPowerOfTwo.no_number none) = let r = both_read (whole_of (pos 1) (pos 18446744073709551615) d) _ tt e in read_excluded (pos 1) (pos 18446744073709551615) d r.0 flaw r.1 none
+power_excluded d flaw e (IsNoPowerOfTwo.no_power m y is whole other) =
+    let r = both_read (whole_of (pos 1) (pos 18446744073709551615) d) _ tt e in
+    other (subst IsPowerOfTwo (whole_same d r.0 y (whole_read (pos 1) (pos 18446744073709551615) d r.0 r.1).whole (m, is, whole)) (a_power r.0 (was_so (is_power_of_two r.0) r.2)))
 
 -- ---- flags
 
-no_flag_excluded : (d : Data) (b : Bool) (flaw : Flaw) → as_bool d ≡ Some b → ¬ IsNoFlag d flaw
-no_flag_excluded d b flaw is (IsNoFlag.no_flag none) = some_none (as_bool d) b is none
-
-pub flag_excluded : (d : Data) (flaw : Flaw) → any_flag d ≡ Ok tt → ¬ IsNoFlag d flaw
+flag_excluded : (d : Data) (flaw : Flaw) → any_flag d ≡ Ok tt → ¬ IsNoFlag d flaw
 unfolding any_flag
-flag_excluded d flaw e = let r = found (as_bool d) _ tt e in no_flag_excluded d r.0 flaw r.1
+flag_excluded d flaw e (IsNoFlag.no_flag none) = absurd (let h = rw none at e in cc)
 
-pub default_excluded : (k : Known) (around : Around) → Agrees k around → (d : Data) (flaw : Flaw) → one_flag k.has_default d ≡ Ok tt → ¬ IsNoDefault around d flaw
+default_excluded : (k : Known) (around : Around) → Agrees k around → (d : Data) (flaw : Flaw) → one_flag k.has_default d ≡ Ok tt → ¬ IsNoDefault around d flaw
 unfolding one_flag
-default_excluded k around h d flaw e wrong = go flaw (found (as_bool d) _ tt e) wrong
-  where
-    clash : (b before : Bool) → b ≡ true → before ≡ true → not (b && before) ≡ true → ⊥
-    clash true true p q f = false≢true f
-    clash true false p q f = false≢true q
-    clash false before p q f = false≢true p
-
-    go : (f : Flaw) → (b : Bool) × (as_bool d ≡ Some b) × (only_if (not (b && k.has_default)) ≡ Ok tt) → ¬ IsNoDefault around d f
-    go f (b, is, tested) (IsNoDefault.no_flag none) = no_flag_excluded d b f is none
-    go f (b, is, tested) (IsNoDefault.a_second there behind) = clash b k.has_default (some_same (as_bool d) b true is there) (h.second.1 behind) (was_so (not (b && k.has_default)) tested)
+default_excluded k around h d flaw e (IsNoDefault.no_flag (IsNoFlag.no_flag none)) = absurd (let f = rw none at e in cc)
+default_excluded k around h d flaw e (IsNoDefault.a_second is behind) = let before : k.has_default ≡ true = h.second.1 behind in absurd (let f = rw (is, before) at e in cc)
 
 -- ---- texts
 
-pub any_text_excluded : (d : Data) (flaw : Flaw) → any_text d ≡ Ok tt → ¬ IsNoText d flaw
+any_text_excluded : (d : Data) (flaw : Flaw) → any_text d ≡ Ok tt → ¬ IsNoText d flaw
 unfolding any_text
-any_text_excluded d flaw e (IsNoText.no_text none) = let r = found (as_str d) _ tt e in some_none (as_str d) r.0 r.1 none
+any_text_excluded d flaw e (IsNoText.no_text none) = absurd (let h = rw none at e in cc)
 
 -- no character of a text that is shown is one of control
-pub shown_character : (s : List ℕ) (c : ℕ) → is_printable s ≡ true → Contains s c → ¬ IsControl c
+shown_character : (s : List ℕ) (c : ℕ) → is_printable s ≡ true → Contains s c → ¬ IsControl c
 shown_character s c e (k, among, is) control =
     let small : nat_le 32 c ≡ false = lt-leb 32 c control.0 in
     let tested : (nat_le 32 c || nat_eq c 10 || nat_eq c 9) ≡ false = or_from (nat_le 32 c || nat_eq c 10) (nat_eq c 9) (or_from (nat_le 32 c) (nat_eq c 10) small (ne_eqb c 10 control.1)) (ne_eqb c 9 control.2) in
     true≢false (sym e ∙ list_all_at (λ x. nat_le 32 x || nat_eq x 10 || nat_eq x 9) s k c among (ap (λ x. nat_le 32 x || nat_eq x 10 || nat_eq x 9) is ∙ tested))
 
-shown_excluded : (d : Data) (s : List ℕ) (flaw : Flaw) → as_str d ≡ Some s → is_printable s ≡ true → ¬ IsNoConfigText d flaw
-shown_excluded d s flaw is shown (IsNoConfigText.no_text none) = some_none (as_str d) s is none
-shown_excluded d s flaw is shown (IsNoConfigText.has_control r c there among control) = shown_character r c (ap is_printable (sym (some_same (as_str d) s r is there)) ∙ shown) among control
-
-pub printable_excluded : (d : Data) (flaw : Flaw) → printable d ≡ Ok tt → ¬ IsNoConfigText d flaw
+printable_excluded : (d : Data) (flaw : Flaw) → printable d ≡ Ok tt → ¬ IsNoConfigText d flaw
 unfolding printable
-printable_excluded d flaw e = let r = found (as_str d) _ tt e in shown_excluded d r.0 flaw r.1 (was_so (is_printable r.0) r.2)
+printable_excluded d flaw e (IsNoConfigText.no_text none) = absurd (let h = rw none at e in cc)
+printable_excluded d flaw e (IsNoConfigText.has_control s c is among control) = shown_character s c (was_so (is_printable s) (rw is at e)) among control
 
-uuid_excluded : (d : Data) (s : List ℕ) (flaw : Flaw) → as_str d ≡ Some s → is_some (uuid_in s) ≡ true → ¬ IsNoUuid d flaw
-unfolding uuid_in
-uuid_excluded d s flaw is read (IsNoUuid.no_text none) = some_none (as_str d) s is none
-uuid_excluded d s flaw is read (IsNoUuid.no_uuid r there none) = true≢false (sym read ∙ ap (λ x. is_some (parsed x)) (some_same (as_str d) s r is there) ∙ ap is_some none)
+identifier_excluded : (d : Data) (flaw : Flaw) → identifier d ≡ Ok tt → ¬ IsNoUuid d flaw
+unfolding identifier uuid_in
+identifier_excluded d flaw e (IsNoUuid.no_text none) = absurd (let h = rw none at e in cc)
+identifier_excluded d flaw e (IsNoUuid.no_uuid s is none) = absurd (let h = rw (is, none) at e in cc)
 
-pub identifier_excluded : (d : Data) (flaw : Flaw) → identifier d ≡ Ok tt → ¬ IsNoUuid d flaw
-unfolding identifier
-identifier_excluded d flaw e = let r = found (as_str d) _ tt e in uuid_excluded d r.0 flaw r.1 (was_so (is_some (uuid_in r.0)) r.2)
-
-pub choice_excluded : (d : Data) (flaw : Flaw) → identifier_or_auto d ≡ Ok tt → (as_str d ≡ Some (codes "auto") → ⊥) → ¬ IsNoUuid d flaw
-unfolding identifier_or_auto
-choice_excluded d flaw e other = go (found (as_str d) _ tt e)
-  where
-    go : (s : List ℕ) × (as_str d ≡ Some s) × (only_if (bytes_eq s (codes "auto") || is_some (uuid_in s)) ≡ Ok tt) → ¬ IsNoUuid d flaw
-    go (s, is, tested) wrong = elim (or_cases (bytes_eq s (codes "auto")) (is_some (uuid_in s)) (was_so _ tested)) [
-      | inl auto ↦ other (is ∙ ap Some ((bytes_eq-Decides s (codes "auto")).0 auto))
-      | inr read ↦ uuid_excluded d s flaw is read wrong
-    ]
+choice_excluded : (d : Data) (flaw : Flaw) → identifier_or_auto d ≡ Ok tt → (as_str d ≡ Some (codes "auto") → ⊥) → ¬ IsNoUuid d flaw
+unfolding identifier_or_auto uuid_in
+choice_excluded d flaw e other (IsNoUuid.no_text none) = absurd (let h = rw none at e in cc)
+choice_excluded d flaw e other (IsNoUuid.no_uuid s is none) = elim (or_cases (bytes_eq s (codes "auto")) (is_some (parsed s)) (was_so _ (rw is at e))) [
+  | inl auto ↦ other (is ∙ ap Some ((bytes_eq-Decides s (codes "auto")).0 auto))
+  | inr read ↦ true≢false (sym read ∙ ap is_some none)
+]
 
 -- ---- words
 
-pub word_excluded : (words : List (List ℕ)) (d : Data) (flaw : Flaw) → word_among words d ≡ Ok tt → ¬ IsNoWordOf words d flaw
+word_excluded : (words : List (List ℕ)) (d : Data) (flaw : Flaw) → word_among words d ≡ Ok tt → ¬ IsNoWordOf words d flaw
 unfolding word_among
-word_excluded words d flaw e (IsNoWordOf.no_text none) = let r = found (as_str d) _ tt e in some_none (as_str d) r.0 r.1 none
-word_excluded words d flaw e (IsNoWordOf.another_word s is other) =
-    let r = found (as_str d) _ tt e in
-    other (subst (Contains words) (some_same (as_str d) r.0 s r.1 is) (listed words r.0 (was_so (list_any (bytes_eq r.0) words) r.2)))
+word_excluded words d flaw e (IsNoWordOf.no_text none) = absurd (let h = rw none at e in cc)
+word_excluded words d flaw e (IsNoWordOf.another_word s is other) = other (listed words s (was_so (list_any (bytes_eq s) words) (rw is at e)))
 
 pub class_word_listed : (cs : List ClassWord) (w : List ℕ) → is_some (class_in w cs) ≡ true → Contains (map (λ c. c.word) cs) w
 class_word_listed [] w e = absurd cc
-class_word_listed (c ∷ cs) w e = go (bytes_eq c.word w) refl e (class_word_listed cs w)
-  where
-    go : (b : Bool) → bytes_eq c.word w ≡ b → is_some (cond b (Some c.place) (class_in w cs)) ≡ true → (is_some (class_in w cs) ≡ true → Contains (map (λ x. x.word) cs) w) → Contains (map (λ x. x.word) (c ∷ cs)) w
-    go true is f later = (0, omega arith, (bytes_eq-Decides c.word w).0 is)
-    go false is f later = let there = later f in (suc there.0, omega (arith, there.1), there.2)
+class_word_listed (c ∷ cs) w e =
+    by_test (λ (b : Bool). is_some (cond b (Some c.place) (class_in w cs)) ≡ true → (is_some (class_in w cs) ≡ true → Contains (map (λ x. x.word) cs) w) → Contains (map (λ x. x.word) (c ∷ cs)) w) (bytes_eq c.word w)
+    (λ is f later. (0, omega arith, (bytes_eq-Decides c.word w).0 is)) (λ is f later. let there = later f in (suc there.0, omega (arith, there.1), there.2)) e (class_word_listed cs w)
 
-pub class_excluded : (d : Data) (flaw : Flaw) → class_word d ≡ Ok tt → ¬ IsNoWordOf words_of_classes d flaw
+class_excluded : (d : Data) (flaw : Flaw) → class_word d ≡ Ok tt → ¬ IsNoWordOf words_of_classes d flaw
 unfolding class_word
-class_excluded d flaw e (IsNoWordOf.no_text none) = let r = found (as_str d) _ tt e in some_none (as_str d) r.0 r.1 none
-class_excluded d flaw e (IsNoWordOf.another_word s is other) =
-    let r = found (as_str d) _ tt e in
-    other (subst (Contains words_of_classes) (some_same (as_str d) r.0 s r.1 is) (class_word_listed class_words r.0 (was_so (is_some (class_in r.0 class_words)) r.2)))
+class_excluded d flaw e (IsNoWordOf.no_text none) = absurd (let h = rw none at e in cc)
+class_excluded d flaw e (IsNoWordOf.another_word s is other) = other (class_word_listed class_words s (was_so (is_some (class_in s class_words)) (rw is at e)))
 
 -- ---- a number or a text
 
-no_text_in : {P : Type 0} (d : Data) → as_str d ≡ None → is_some (as_str d) ≡ true → P
-no_text_in d none some = absurd (false≢true (sym (ap is_some none) ∙ some))
+whole_or_text_excluded : (low high : ℤ) (d : Data) (flaw : Flaw) → whole_or_text low high d ≡ Ok tt → ¬ IsNoWholeOrText low high d flaw
+unfolding whole_or_text printable
+whole_or_text_excluded low high (string s) flaw e (IsNoWholeOrText.no_number none wrong) = absurd cc
+whole_or_text_excluded low high (string s) flaw e (IsNoWholeOrText.has_control some text) = printable_excluded (string s) flaw e text
+whole_or_text_excluded low high d flaw e (IsNoWholeOrText.no_number none wrong) = whole_excluded low high d flaw e wrong
+whole_or_text_excluded low high d flaw e (IsNoWholeOrText.has_control some text) = absurd cc
 
-number_excluded : (low high : ℤ) (d : Data) (flaw : Flaw) → as_str d ≡ None → whole_from low high d ≡ Ok tt → ¬ IsNoWholeOrText low high d flaw
-number_excluded low high d flaw no_text e (IsNoWholeOrText.no_number none wrong) = whole_excluded low high d flaw e wrong
-number_excluded low high d flaw no_text e (IsNoWholeOrText.has_control some wrong) = no_text_in d no_text some
-
-pub whole_or_text_excluded : (low high : ℤ) (d : Data) (flaw : Flaw) → whole_or_text low high d ≡ Ok tt → ¬ IsNoWholeOrText low high d flaw
-unfolding whole_or_text
-whole_or_text_excluded low high (string s) flaw e wrong = go flaw wrong
-  where
-    go : (f : Flaw) → ¬ IsNoWholeOrText low high (string s) f
-    go f (IsNoWholeOrText.no_number none wrong_number) = absurd cc
-    go f (IsNoWholeOrText.has_control some text) = shown_excluded (string s) s f refl (was_so (is_printable s) e) text
-whole_or_text_excluded low high null flaw e wrong = number_excluded low high null flaw refl e wrong
-whole_or_text_excluded low high (boolean b) flaw e wrong = number_excluded low high (boolean b) flaw refl e wrong
-whole_or_text_excluded low high (number n) flaw e wrong = number_excluded low high (number n) flaw refl e wrong
-whole_or_text_excluded low high (array ds) flaw e wrong = number_excluded low high (array ds) flaw refl e wrong
-whole_or_text_excluded low high (object ms) flaw e wrong = number_excluded low high (object ms) flaw refl e wrong
-
-no_level_excluded : (levels : Members) (high : ℤ) (d : Data) (flaw : Flaw) → as_str d ≡ None → whole_from (pos 0) high d ≡ Ok tt → ¬ IsNoLevel levels high d flaw
-no_level_excluded levels high d flaw no_text e (IsNoLevel.no_level none wrong) = whole_excluded (pos 0) high d flaw e wrong
-no_level_excluded levels high d flaw no_text e (IsNoLevel.no_alias name is none) = some_none (as_str d) name is no_text
-no_level_excluded levels high d flaw no_text e (IsNoLevel.alias_is_no_level name a is there wrong) = some_none (as_str d) name is no_text
-
-alias_excluded : (levels : Members) (high : ℤ) (s : List ℕ) (flaw : Flaw) → level_or_none high (get_member s levels) ≡ Ok tt → ¬ IsNoLevel levels high (string s) flaw
-alias_excluded levels high s flaw e (IsNoLevel.no_level none wrong) = absurd cc
-alias_excluded levels high s flaw e (IsNoLevel.no_alias name is none) =
-    let same : s ≡ name = cc in
-    let read : level_or_none high None ≡ Ok tt = ap (level_or_none high) (sym none) ∙ ap (λ n. level_or_none high (get_member n levels)) (sym same) ∙ e in
-    absurd cc
-alias_excluded levels high s flaw e (IsNoLevel.alias_is_no_level name a is there wrong) =
-    let same : s ≡ name = cc in
-    whole_excluded (pos 0) high a flaw (ap (level_or_none high) (sym there) ∙ ap (λ n. level_or_none high (get_member n levels)) (sym same) ∙ e) wrong
-
-pub level_excluded : (levels : Members) (high : ℤ) (d : Data) (flaw : Flaw) → level levels high d ≡ Ok tt → ¬ IsNoLevel levels high d flaw
+level_excluded : (levels : Members) (high : ℤ) (d : Data) (flaw : Flaw) → level levels high d ≡ Ok tt → ¬ IsNoLevel levels high d flaw
 unfolding level
-level_excluded levels high (string s) flaw e wrong = alias_excluded levels high s flaw e wrong
-level_excluded levels high null flaw e wrong = no_level_excluded levels high null flaw refl e wrong
-level_excluded levels high (boolean b) flaw e wrong = no_level_excluded levels high (boolean b) flaw refl e wrong
-level_excluded levels high (number n) flaw e wrong = no_level_excluded levels high (number n) flaw refl e wrong
-level_excluded levels high (array ds) flaw e wrong = no_level_excluded levels high (array ds) flaw refl e wrong
-level_excluded levels high (object ms) flaw e wrong = no_level_excluded levels high (object ms) flaw refl e wrong
+level_excluded levels high (string s) flaw e (IsNoLevel.no_level none wrong) = absurd cc
+level_excluded levels high (string s) flaw e (IsNoLevel.no_alias name is none) = let same : name ≡ s = cc in let there = rw same at none in absurd (let h = rw there at e in cc)
+level_excluded levels high (string s) flaw e (IsNoLevel.alias_is_no_level name a is there wrong) = let same : name ≡ s = cc in let found = rw same at there in whole_excluded (pos 0) high a flaw (rw found at e) wrong
+level_excluded levels high d flaw e (IsNoLevel.no_level none wrong) = whole_excluded (pos 0) high d flaw e wrong
+level_excluded levels high d flaw e (IsNoLevel.no_alias name is none) = absurd cc
+level_excluded levels high d flaw e (IsNoLevel.alias_is_no_level name a is there wrong) = absurd cc
+
+-- ---- values that hold others
+
+object_excluded : (d : Data) (flaw : Flaw) → any_object d ≡ Ok tt → ¬ IsNoObject d flaw
+unfolding any_object
+object_excluded d flaw e (IsNoObject.no_object none) = absurd (let h = rw none at e in cc)
+
+list_excluded : (d : Data) (flaw : Flaw) → any_list d ≡ Ok tt → ¬ IsNoList d flaw
+unfolding any_list
+list_excluded d flaw e (IsNoList.no_list none) = absurd (let h = rw none at e in cc)
+
+some_list_excluded : (d : Data) (flaw : Flaw) → some_list d ≡ Ok tt → ¬ IsNoSomeList d flaw
+unfolding some_list
+some_list_excluded d flaw e (IsNoSomeList.no_list (IsNoList.no_list none)) = absurd (let h = rw none at e in cc)
+some_list_excluded d flaw e (IsNoSomeList.has_none is) = absurd (let h = rw is at e in cc)
+
+some_object_excluded : (d : Data) (flaw : Flaw) → some_object d ≡ Ok tt → ¬ IsNoSomeObject d flaw
+unfolding some_object
+some_object_excluded d flaw e (IsNoSomeObject.no_object (IsNoObject.no_object none)) = absurd (let h = rw none at e in cc)
+some_object_excluded d flaw e (IsNoSomeObject.has_none is) = absurd (let h = rw is at e in cc)
+
+one_counted : (ms : Members) → one_member ms ≡ Ok tt → members_len ms ≡ 1
+one_counted (member k d no_members) e = refl
+one_counted _ e = absurd cc
+
+entry_excluded : (d : Data) (flaw : Flaw) → entry d ≡ Ok tt → ¬ IsNoEntry d flaw
+unfolding entry
+entry_excluded d flaw e (IsNoEntry.no_object (IsNoObject.no_object none)) = absurd (let h = rw none at e in cc)
+entry_excluded d flaw e (IsNoEntry.not_one_property ms is other) = other (one_counted ms (rw is at e))
+
+feature_excluded : (d : Data) (flaw : Flaw) → feature d ≡ Ok tt → ¬ IsNoFeature d flaw
+unfolding feature
+feature_excluded (boolean b) flaw e (none, wrong) = absurd cc
+feature_excluded d flaw e (none, wrong) = object_excluded d flaw e wrong
+
+size_excluded : (d : Data) (flaw : Flaw) → size_feature d ≡ Ok tt → ¬ IsNoSizeFeature d flaw
+unfolding size_feature
+size_excluded (boolean true) flaw e (IsNoSizeFeature.no_feature (none, wrong)) = absurd cc
+size_excluded (boolean true) flaw e (IsNoSizeFeature.is_off is) = absurd cc
+size_excluded (boolean false) flaw e wrong = absurd cc
+size_excluded d flaw e (IsNoSizeFeature.no_feature (none, wrong)) = object_excluded d flaw e wrong
+size_excluded d flaw e (IsNoSizeFeature.is_off is) = absurd cc
+
+-- ---- ranges
+
+list_no_number : {P : Type 0} (d : Data) (ds : Items) (z : ℤ) → as_array d ≡ Some ds → IsWhole d z → P
+list_no_number (array es) ds z is (m, number_is, integer) = absurd cc
+list_no_number _ ds z is whole = absurd cc
+
+firsts : (d a b c e : Data) → IsPair d a b → IsPair d c e → (a ≡ c) × (b ≡ e)
+firsts d a b c e p q = let same = some_same (as_array d) (item a (item b no_items)) (item c (item e no_items)) p q in (cc, cc)
+
+-- a range that was read is the one that the value is
+range_same : (d : Data) (x y low high : ℤ) → ReadSo d x y → IsRange d low high → (x ≡ low) × (y ≡ high)
+range_same d x y low high (ReadSo.one_number z none read) (IsRange.one_number w whole) = let same = whole_same d z w (end_whole d z read) whole in (same, same)
+range_same d x y low high (ReadSo.one_number z none read) (IsRange.two_numbers a b l h pair first second) = some_none (as_array d) (item a (item b no_items)) pair none
+range_same d x y low high (ReadSo.two_numbers a b z w pair first second) (IsRange.one_number v whole) = list_no_number d (item a (item b no_items)) v pair whole
+range_same d x y low high (ReadSo.two_numbers a b z w pair first second) (IsRange.two_numbers c e l h other third fourth) =
+    let same = firsts d a b c e pair other in
+    (whole_same c z l (subst (λ v. IsWhole v z) same.0 (end_whole a z first)) third, whole_same e w h (subst (λ v. IsWhole v w) same.1 (end_whole b w second)) fourth)
+
+module _ (around : Around) where
+  numbers_there : (signed : Bool) (n : ℕ) → HasBits around signed n → unwrap_or (option_map (λ (e : Bool × Members). numbers_in e.0 e.1) (enumeration_around around)) all_numbers ≡ numbers_of signed n
+  unfolding numbers_in
+  numbers_there signed n (ms, is, has, least, most) =
+      ap (λ o. unwrap_or (option_map (λ (e : Bool × Members). numbers_in e.0 e.1) o) all_numbers) is ∙ ap (numbers_or_all signed) (number_found (codes "size") ms n has)
+
+  -- a range from x to y that was read, inside the numbers from least to most
+  record Inside (least most x y : ℤ) : Type 0 where
+    ascends : int_le x y ≡ true
+    above : int_le least x ≡ true
+    below : int_le y most ≡ true
+
+  inside_so : (numbers range : _) → is_inside numbers range ≡ true → Inside numbers.low numbers.high range.low range.high
+  unfolding is_inside
+  inside_so numbers range e =
+      let p = and_parts (int_le range.low range.high && int_le numbers.low range.low) (int_le range.high numbers.high) e in
+      let q = and_parts (int_le range.low range.high) (int_le numbers.low range.low) p.0 in
+      record { ascends = q.0; above = q.1; below = p.1 }
+
+  -- the numbers that the enumeration has are these
+  abbrev AreNumbers : ℤ → ℤ → Type 0
+  AreNumbers least most = (signed : Bool) (n : ℕ) → HasBits around signed n → (least ≡ lowest signed n) × (most ≡ highest signed n)
+
+  inside_excluded : (d : Data) (flaw : Flaw) (least most x y : ℤ) → AreNumbers least most → ReadSo d x y → Inside least most x y → ¬ IsNoRange around d flaw
+  inside_excluded d flaw least most x y are (ReadSo.one_number z none first) within (IsNoRange.wrong_number list wrong) = read_excluded lowest_end highest_end d z flaw first wrong
+  inside_excluded d flaw least most x y are (ReadSo.two_numbers a b z w pair first second) within (IsNoRange.wrong_number list wrong) = some_none (as_array d) (item a (item b no_items)) pair list
+  inside_excluded d flaw least most x y are (ReadSo.one_number z none first) within (IsNoRange.no_pair ds is other) = some_none (as_array d) ds is none
+  inside_excluded d flaw least most x y are (ReadSo.two_numbers a b z w pair first second) within (IsNoRange.no_pair ds is other) = other (ap items_len (some_same (as_array d) ds (item a (item b no_items)) is pair))
+  inside_excluded d flaw least most x y are (ReadSo.one_number z none first) within (IsNoRange.wrong_low a b f pair wrong) = some_none (as_array d) (item a (item b no_items)) pair none
+  inside_excluded d flaw least most x y are (ReadSo.two_numbers a b z w pair first second) within (IsNoRange.wrong_low c e f other wrong) = read_excluded lowest_end highest_end c z f (subst (λ v. end_of v ≡ Ok z) (firsts d a b c e pair other).0 first) wrong
+  inside_excluded d flaw least most x y are (ReadSo.one_number z none first) within (IsNoRange.wrong_high a b f pair wrong) = some_none (as_array d) (item a (item b no_items)) pair none
+  inside_excluded d flaw least most x y are (ReadSo.two_numbers a b z w pair first second) within (IsNoRange.wrong_high c e f other wrong) = read_excluded lowest_end highest_end e w f (subst (λ v. end_of v ≡ Ok w) (firsts d a b c e pair other).1 second) wrong
+  inside_excluded d flaw least most x y are read within (IsNoRange.low_above_high low high is less) =
+      let same = range_same d x y low high read is in
+      not_both_ways low high (sym (ap (int_le low) same.1) ∙ sym (ap (λ z. int_le z y) same.0) ∙ within.ascends) less
+  inside_excluded d flaw least most x y are read within (IsNoRange.below_the_integer low high signed n is bits less) =
+      let same = range_same d x y low high read is in
+      let numbers = are signed n bits in
+      not_both_ways (lowest signed n) low (sym (ap (int_le (lowest signed n)) same.0) ∙ sym (ap (λ z. int_le z x) numbers.0) ∙ within.above) less
+  inside_excluded d flaw least most x y are read within (IsNoRange.above_the_integer low high signed n is bits less) =
+      let same = range_same d x y low high read is in
+      let numbers = are signed n bits in
+      not_both_ways high (highest signed n) (sym (ap (λ z. int_le z (highest signed n)) same.1) ∙ sym (ap (int_le y) numbers.1) ∙ within.below) less
+
+  range_excluded : (numbers : _) → numbers ≡ unwrap_or (option_map (λ (e : Bool × Members). numbers_in e.0 e.1) (enumeration_around around)) all_numbers
+      → (d : Data) (flaw : Flaw) → inside_of numbers d ≡ Ok tt → ¬ IsNoRange around d flaw
+  unfolding inside_of
+  range_excluded numbers agrees d flaw e =
+      let range = both_read (range_of d) _ tt e in
+      let within = is_passed (is_inside numbers range.0) tt tt (here OutOfRange) range.2 in
+      inside_excluded d flaw numbers.low numbers.high range.0.low range.0.high
+      (λ signed n bits.
+      let same = agrees ∙ numbers_there signed n bits in
+      let ends = some_size signed n bits.3 bits.4 in
+      (ap (λ s. s.low) same ∙ ends.0, ap (λ s. s.high) same ∙ ends.1))
+      (read_so d range.0 range.1) (inside_so numbers range.0 within.0)
+
+-- ---- all values
+
+module _ (k : Known) (around : Around) (h : Agrees k around) where
+  none_excluded : (place : Place) (d : Data) (flaw : Flaw) → form_of k place d ≡ Ok tt → ¬ IsNoneAt around place d flaw
+  unfolding form_of
+  none_excluded places.Members d flaw e = list_excluded d flaw e
+  none_excluded places.ExtraMembers d flaw e = list_excluded d flaw e
+  none_excluded places.Ranges d flaw e = some_list_excluded d flaw e
+  none_excluded places.Range d flaw e = range_excluded around k.numbers h.numbers d flaw e
+  none_excluded places.Entry d flaw e = entry_excluded d flaw e
+  none_excluded places.Mappings d flaw e = some_object_excluded d flaw e
+  none_excluded places.Feature d flaw e = feature_excluded d flaw e
+  none_excluded places.MagicFeature d flaw e = feature_excluded d flaw e
+  none_excluded places.IdentifierFeature d flaw e = feature_excluded d flaw e
+  none_excluded places.SizeFeature d flaw e = size_excluded d flaw e
+  none_excluded places.Scalar d flaw e = λ none. none
+  none_excluded places.Ignored d flaw e = λ none. none
+  none_excluded _ d flaw e = object_excluded d flaw e
+
+  pub value_excluded : (content : Content) (d : Data) (flaw : Flaw) → itself_of k content d ≡ Ok tt → ¬ IsNoValueOf around content d flaw
+  unfolding itself_of leaf_of
+  value_excluded (contents.Whole low high) d flaw e = whole_excluded low high d flaw e
+  value_excluded (contents.PowerOfTwo high) d flaw e = power_excluded d flaw e
+  value_excluded contents.Flag d flaw e = flag_excluded d flaw e
+  value_excluded contents.OneFlag d flaw e = default_excluded k around h d flaw e
+  value_excluded (contents.Text most) d flaw e = printable_excluded d flaw e
+  value_excluded contents.ClockName d flaw e = any_text_excluded d flaw e
+  value_excluded contents.Identifier d flaw e = identifier_excluded d flaw e
+  value_excluded contents.IdentifierOrAuto d flaw e = λ wrong. choice_excluded d flaw e wrong.0 wrong.1
+  value_excluded (contents.Word words) d flaw e = word_excluded (words_of words) d flaw e
+  value_excluded contents.Class d flaw e = class_excluded d flaw e
+  value_excluded (contents.WholeOrText low high most) d flaw e = whole_or_text_excluded low high d flaw e
+  value_excluded (contents.Level high) d flaw e = level_excluded _ high d flaw (ap (λ levels. level levels high d) (sym h.levels) ∙ e)
+  value_excluded (contents.At place) d flaw e = none_excluded place d flaw e
+  value_excluded contents.Anything d flaw e = λ none. none
+
+-- ---- the names of entries
+
+name_excluded : (name : List ℕ) (flaw : Flaw) → name_of name ≡ Ok tt → ¬ IsNoName name flaw
+unfolding name_of
+name_excluded name flaw e (IsNoName.no_identifier none) = absurd (let h = rw none at e in cc)
+name_excluded name flaw e (IsNoName.too_long long) =
+    let p = and_parts (is_identifier name) (nat_le (length name) 255) (is_passed (is_identifier name && nat_le (length name) 255) tt tt (here BadName) e).0 in omega (arith, leb-true (length name) 255 p.1, long)
+
+plain_excluded : (name : List ℕ) (flaw : Flaw) → plain_name_of name ≡ Ok tt → ¬ IsNoPlainName name flaw
+unfolding plain_name_of is_reserved
+plain_excluded name flaw e (IsNoPlainName.no_name g none) = name_excluded name g (both_read (name_of name) _ tt e).1 none
+plain_excluded name flaw e (IsNoPlainName.a_reserved_word reserved) =
+    let free = or_parts (list_any (bytes_eq name) unused_keywords) (list_any (bytes_eq name) used_keywords) (under_no_test _ tt tt (here ReservedName) (both_read (name_of name) _ tt e).2) in
+    elim reserved [ inl there ↦ false≢true (sym free.0 ∙ has_by_bytes unused_keywords name there) | inr there ↦ false≢true (sym free.1 ∙ has_by_bytes used_keywords name there) ]
+
+label_excluded : (name : List ℕ) (flaw : Flaw) → only_if (is_printable name) ≡ Ok tt → ¬ IsNoLabel name flaw
+label_excluded name flaw e (IsNoLabel.has_control c among control) = shown_character name c (was_so (is_printable name) e) among control
+
+module _ (k : Known) (around : Around) (h : (name : List ℕ) → IsTrue (is_taken k.taken name) ↔ IsTaken around name) where
+  member_excluded : (name : List ℕ) (d : Data) (flaw : Flaw) → plain_name_of name ≡ Ok tt → (is_taken k.taken name ≡ false) × (length_is_taken (is_dynamic d) k.taken name ≡ false) → ¬ IsNoMemberName around name d flaw
+  member_excluded name d flaw plain free (IsNoMemberName.no_name wrong) = plain_excluded name flaw plain wrong
+  member_excluded name d flaw plain free (IsNoMemberName.name_clash taken) = false≢true (sym free.0 ∙ (h name).1 taken)
+  member_excluded name d flaw plain free (IsNoMemberName.length_clash dynamic taken) =
+      false≢true (sym free.1 ∙ ap (λ b. length_is_taken b k.taken name) (told_dynamic d dynamic) ∙ (h (length_name name)).1 taken)
+
+  plain_key : (place : Place) (name : List ℕ) (d : Data) (flaw : Flaw) → plain_of k (is_entry place) name d ≡ Ok tt → ¬ IsNoKey around place keys.PlainName name d flaw
+  unfolding plain_of free_of
+  plain_key places.Entry name d flaw e =
+      let r = both_read (plain_name_of name) _ tt e in
+      let plain : plain_name_of name ≡ Ok tt = r.1 in
+      let free = or_parts (is_taken k.taken name) (length_is_taken (is_dynamic d) k.taken name) (under_no_test (is_taken k.taken name || length_is_taken (is_dynamic d) k.taken name) tt tt (here NameClash) r.2) in
+      member_excluded name d flaw plain free
+  plain_key _ name d flaw e = plain_excluded name flaw e
+
+  key_excluded : (place : Place) (by : Keys) (name : List ℕ) (d : Data) (flaw : Flaw) → key_by k place by name d ≡ Ok tt → ¬ IsNoKey around place by name d flaw
+  unfolding key_by
+  key_excluded place keys.Name name d flaw e = name_excluded name flaw e
+  key_excluded place keys.PlainName name d flaw e = plain_key place name d flaw e
+  key_excluded place keys.Label name d flaw e = label_excluded name flaw e
+  key_excluded place keys.Index name d flaw e = λ none. none
+
+  pub at_name_excluded : (place : Place) (name : List ℕ) (d : Data) (flaw : Flaw) → key_of k place name d ≡ Ok tt → ¬ IsNoNameAt around place name d flaw
+  unfolding key_of
+  at_name_excluded place name d flaw e (entries, is, wrong) = key_excluded place entries.keys name d flaw (ap (λ o. key_in k place o name d) (sym is) ∙ e) wrong

@@ -1,35 +1,84 @@
--- Objects of a configuration that have no flaw and pass no limit, whose names are in order, and what stands at their properties.
-use Rattle.std.proofs.Common.{◌≡◌, ◌&&◌, ℕ, true, List, [], Some, Ok, subst, Option, None, refl}
-use Rattle.std.proofs.lemmas.Bool.{and_parts}
-use Rattle.serde_json.specs.Data.{Data, array, object, Items, Members}
-use Rattle.conf_tree.specs.Reading.{optional}
-use Rattle.conf_table.specs.declared.place.Place.{Place as Kind}
-use Rattle.conf_table.specs.declared.row.Content.{Content}
-use Rattle.conf_table.specs.declared.row.Content.TheVariants.{At}
-use Rattle.conf_table.specs.Table.{entries_of, presence_under}
-use Rattle.conf_judge.specs.Flaws.{all_there, member_flaws}
-use Rattle.conf_judge.specs.Known.{Known, inside}
-use Rattle.conf_judge.specs.Limits.{member_limits, fits, place_fits, arrays_fit, at_most, count_of, ranges_fit}
-use Rattle.conf_judge.specs.Places.{place_of_properties}
-use Rattle.conf_draft.specs.Lookups.{list, object as object_at}
-use Rattle.conf_tree.specs.Order.{IsInOrder, MembersAscend, Ascends}
-use Rattle.conf_laws.proofs.Sound.{ObjectSound, ContentSound, object_sound, optional_there, optional_sound, property_sound}
-use Rattle.conf_laws.proofs.Within.{ContentWithin, property_within}
-use Rattle.conf_laws.proofs.Ascending.{ascends_given, ascends_found}
-use Rattle.conf_laws.proofs.Steps.{object_said, list_said}
-use Rattle.conf_laws.proofs.Rows.{Leads, needed_kept}
-use Rattle.conf_table.specs.declared.row.Presence.TheVariants.{Needed}
-use Rattle.serde_json.specs.Find.{get_member}
+-- Objects of a configuration that have no flaw and pass no limit, whose names are in order, and what stands at their properties, as
+-- entries of maps, and as items of lists.
+use Rattle.std.proofs.Common.{◌≡◌, ◌++◌, ℕ, Bool, true, false, List, [], Some, refl, subst, suc, ◌∷◌, length, Less, nat_cmp, ap, ◌&&◌, Ok, Option, None, sym, ◌∙◌}
+use Rattle.conf_laws.proofs.Readings.{at_found, object_said, list_said, by_found}
+use Rattle.conf_laws.proofs.Sound.{both_none, first_none, optional_there, ObjectSound, ContentSound, object_sound, optional_sound, property_sound, Leads, needed_kept, IsPlain, content_sound, property_here, first_flaws, is_object, first_item, IsMapOf, map_content}
+use Rattle.conf_laws.proofs.TableWords.{content_under, entries_of, presence_under, Place, At, Content, Needed}
+use Rattle.conf_laws.proofs.JudgeWords.{told_by, content_or_any, all_there, member_flaws, resolved_content, is_left_out, item_flaws, itself_of, any_object, Known, inside, behind, with_taken, within_limit, fits, inner_limits, member_limits, key_fits, content_limits, item_limits, place_fits, arrays_fit, at_most, count_of, ranges_fit, key_of, names_beside, with_names, item_content, place_of_properties}
+use Rattle.conf_laws.proofs.TreeWords.{Flaw, key, within, index, AllAbove, IsInOrder, Ascends, MembersAscend, ItemsAscend, optional, Data, Members, member, Items, item, no_members, array, object, members_len, get_member}
+use Rattle.conf_laws.proofs.StdWords.{and_parts, slice_cmp, IsStrictlySortedBy, AllByRecursion}
+use Rattle.conf_laws.proofs.DraftWords.{list, object as object_at, InByteOrder}
+
+pub within_none : (b : Bool) → told_by (within_limit b) ≡ [] → b ≡ true
+within_none true e = refl
+within_none false e = absurd cc
+
+-- a value, and what it holds
+pub record ContentWithin (content : Content) (d : Data) : Type 0 where
+  pub fitting : fits content d ≡ true
+  pub inner : inner_limits content d ≡ []
+
+pub content_within : (content : Content) (d : Data) → told_by (within_limit (fits content d)) ++ inner_limits content d ≡ [] → ContentWithin content d
+content_within content d e = let both = both_none (told_by (within_limit (fits content d))) _ e in record { fitting = within_none _ both.0; inner = both.1 }
+
+-- ---- a property
+
+pub record PropertyWithin (place : Place) (name : List ℕ) (content : Content) (d : Data) : Type 0 where
+  pub value : ContentWithin content d
+  pub short : key_fits place name ≡ true
+
+-- the limits that a property passes, seen from its value
+abbrev pub limits_at : Place → List ℕ → Data → List Flaw
+limits_at place name d = told_by (within_limit (key_fits place name)) ++ (told_by (within_limit (fits (content_or_any (content_under place name)) d)) ++ inner_limits (content_or_any (content_under place name)) d)
+
+pub within_here : (place : Place) (name : List ℕ) (content : Content) (d : Data) → content_under place name ≡ Some content → limits_at place name d ≡ [] → PropertyWithin place name content d
+within_here place name content d under l =
+    let both = both_none (told_by (within_limit (key_fits place name))) _ l in
+    let inner : told_by (within_limit (fits content d)) ++ inner_limits content d ≡ [] =
+    subst (λ o. told_by (within_limit (fits (content_or_any o) d)) ++ inner_limits (content_or_any o) d ≡ []) under both.1 in
+    record { value = content_within content d inner; short = within_none _ both.0 }
+
+-- the first property, and those behind it
+pub first_limits : (place : Place) (name : List ℕ) (d : Data) (ms : Members) → member_limits place (member name d ms) ≡ [] → (limits_at place name d ≡ []) × (member_limits place ms ≡ [])
+first_limits place name d ms l = first_none (within (key name)) (limits_at place name d) _ l
+
+-- the first item of a list, and those behind it
+pub first_item_limits : (place : Place) (i : ℕ) (d : Data) (ds : Items) → item_limits place i (item d ds) ≡ [] → (content_limits (item_content place) d ≡ []) × (item_limits place (suc i) ds ≡ [])
+first_item_limits place i d ds e = first_none (within (index i)) (content_limits (item_content place) d) _ e
+
+pub property_within : (place : Place) (name : List ℕ) (content : Content) (ms : Members) (d : Data) → content_under place name ≡ Some content → member_limits place ms ≡ [] → get_member name ms ≡ Some d → PropertyWithin place name content d
+property_within place name content ms d under l found =
+    within_here place name content d under (at_found (λ xs. member_limits place xs ≡ []) (λ n x. limits_at place n x ≡ []) (first_limits place) name ms d l found)
+
+pub ascends_found : (name : List ℕ) (ms : Members) (d : Data) → MembersAscend ms → get_member name ms ≡ Some d → Ascends d
+ascends_found name ms d h is = at_found MembersAscend (λ n x. Ascends x) (λ n x xs each. each) name ms d h is
+
+abbrev pub names_of : Members → List (List ℕ)
+names_of no_members = []
+names_of (member k d ms) = k ∷ names_of ms
+
+all_above : (k : List ℕ) (ms : Members) → AllAbove k ms → AllByRecursion (λ l. slice_cmp nat_cmp k l ≡ Less) (names_of ms)
+all_above k no_members h = tt
+all_above k (member l d ms) h = (h.0, all_above k ms h.1)
+
+pub sorted_names : (ms : Members) → IsInOrder ms → InByteOrder (names_of ms)
+unfolding IsStrictlySortedBy
+sorted_names no_members h = tt
+sorted_names (member k d ms) h = (all_above k ms h.0, sorted_names ms h.1)
+
+pub names_counted : (ms : Members) → length (names_of ms) ≡ members_len ms
+names_counted no_members = refl
+names_counted (member k d ms) = ap suc (names_counted ms)
 
 -- the properties of an object at this place
-pub record AreGood (k : Known) (place : Kind) (ms : Members) : Type 0 where
+pub record AreGood (k : Known) (place : Place) (ms : Members) : Type 0 where
   pub flaws : member_flaws k place ms ≡ []
   pub limits : member_limits place ms ≡ []
   pub in_order : IsInOrder ms
   pub ascend : MembersAscend ms
 
 -- an object at a place
-pub record IsGood (k : Known) (place : Kind) (ms : Members) : Type 0 where
+pub record IsGood (k : Known) (place : Place) (ms : Members) : Type 0 where
   pub sound : ObjectSound k place ms
   pub fitting : place_fits place (object ms) ≡ true
   pub limits : member_limits (place_of_properties place ms) ms ≡ []
@@ -42,19 +91,19 @@ pub record IsGoodAt (k : Known) (content : Content) (d : Data) : Type 0 where
   pub within : ContentWithin content d
   pub ascends : Ascends d
 
-pub good_object : (k : Known) (place : Kind) (ms : Members) → IsGoodAt k (At place) (object ms) → IsGood k place ms
+pub good_object : (k : Known) (place : Place) (ms : Members) → IsGoodAt k (At place) (object ms) → IsGood k place ms
 unfolding fits
 good_object k place ms h = record { sound = object_sound k place ms h.sound.inner; fitting = h.within.fitting; limits = h.within.inner; in_order = h.ascends.0; ascend = h.ascends.1 }
 
 -- ---- where a property leads
 
 -- an object whose place says which properties it has, around which nothing more is known
-pub record IsOwn (place : Kind) : Type 0 where
+pub record IsOwn (place : Place) : Type 0 where
   pub own : (ms : Members) → place_of_properties place ms ≡ place
   pub known : (k : Known) (ms : Members) → inside place ms k ≡ k
 
 -- the properties of an object, where its class or its place says which they are
-pub properties_at : (k : Known) (place own : Kind) (ms : Members) → place_of_properties place ms ≡ own → IsGood k place ms → AreGood (inside own ms k) own ms
+pub properties_at : (k : Known) (place own : Place) (ms : Members) → place_of_properties place ms ≡ own → IsGood k place ms → AreGood (inside own ms k) own ms
 properties_at k place own ms is h = record {
   flaws = subst (λ p. member_flaws (inside p ms k) p ms ≡ []) is h.sound.members;
   limits = subst (λ p. member_limits p ms ≡ []) is h.limits;
@@ -62,51 +111,97 @@ properties_at k place own ms is h = record {
   ascend = h.ascend;
 }
 
-pub there_at : (k : Known) (place own : Kind) (ms : Members) → place_of_properties place ms ≡ own → IsGood k place ms → all_there own ms ≡ Ok tt
+pub there_at : (k : Known) (place own : Place) (ms : Members) → place_of_properties place ms ≡ own → IsGood k place ms → all_there own ms ≡ Ok tt
 there_at k place own ms is h = subst (λ p. all_there p ms ≡ Ok tt) is h.sound.there
 
-pub own_properties : (k : Known) (place : Kind) (ms : Members) → IsOwn place → IsGood k place ms → AreGood k place ms
+pub own_properties : (k : Known) (place : Place) (ms : Members) → IsOwn place → IsGood k place ms → AreGood k place ms
 own_properties k place ms is h = subst (λ j. AreGood j place ms) (is.known k ms) (properties_at k place place ms (is.own ms) h)
 
 -- what a property is that is there
-pub property_at : (k : Known) (place : Kind) (name : List ℕ) (content : Content) (ms : Members) (d : Data) → Leads place name content → AreGood k place ms → optional name ms ≡ Some d → IsGoodAt k content d
+pub property_at : (k : Known) (place : Place) (name : List ℕ) (content : Content) (ms : Members) (d : Data) → Leads place name content → AreGood k place ms → optional name ms ≡ Some d → IsGoodAt k content d
 property_at k place name content ms d leads h there = record {
   sound = (optional_sound k place name content ms d leads.plain leads.resolved h.flaws there).value;
   within = (property_within place name content ms d leads.under h.limits (optional_there name ms d there).0).value;
-  ascends = ascends_given name ms d h.ascend there;
+  ascends = (ascends_found name ms d h.ascend (optional_there name ms d there).0);
 }
 
 -- what a needed property is
-pub needed_at : (k : Known) (place : Kind) (name : List ℕ) (content : Content) (ms : Members) (d : Data) → Leads place name content → presence_under place name ≡ Some Needed → AreGood k place ms → get_member name ms ≡ Some d → IsGoodAt k content d
+pub needed_at : (k : Known) (place : Place) (name : List ℕ) (content : Content) (ms : Members) (d : Data) → Leads place name content → presence_under place name ≡ Some Needed → AreGood k place ms → get_member name ms ≡ Some d → IsGoodAt k content d
 needed_at k place name content ms d leads needed h found = record {
   sound = (property_sound k place name content ms d leads.plain leads.resolved h.flaws found (needed_kept place name d needed)).value;
   within = (property_within place name content ms d leads.under h.limits found).value;
   ascends = ascends_found name ms d h.ascend found;
 }
 
-pub object_in : (k : Known) (place : Kind) (name : List ℕ) (inner : Kind) (ms found : Members) → Leads place name (At inner) → AreGood k place ms → object_at name ms ≡ Some found → IsGood k inner found
+pub object_in : (k : Known) (place : Place) (name : List ℕ) (inner : Place) (ms found : Members) → Leads place name (At inner) → AreGood k place ms → object_at name ms ≡ Some found → IsGood k inner found
 object_in k place name inner ms found leads h there = good_object k inner found (property_at k place name (At inner) ms (object found) leads h (object_said name ms found there))
 
 -- what holds of no object and of each good one holds of a property
-pub by_good_object : (k : Known) (place : Kind) (name : List ℕ) (inner : Kind) (ms : Members) → Leads place name (At inner) → AreGood k place ms → (P : Option Members → Type 0) → P None → ((x : Members) → IsGood k inner x → P (Some x)) → P (object_at name ms)
-by_good_object k place name inner ms leads h P without with = go (object_at name ms) refl
-  where
-    go : (o : Option Members) → object_at name ms ≡ o → P o
-    go None is = without
-    go (Some x) is = with x (object_in k place name inner ms x leads h is)
+pub by_good_object : (k : Known) (place : Place) (name : List ℕ) (inner : Place) (ms : Members) → Leads place name (At inner) → AreGood k place ms → (P : Option Members → Type 0) → P None → ((x : Members) → IsGood k inner x → P (Some x)) → P (object_at name ms)
+by_good_object k place name inner ms leads h P without with =
+    by_found (λ (o : Option Members). P o) (object_at name ms) (λ is. without) (λ x is. with x (object_in k place name inner ms x leads h is))
 
-pub list_in : (k : Known) (place : Kind) (name : List ℕ) (inner : Kind) (ms : Members) (found : Items) → Leads place name (At inner) → AreGood k place ms → list name ms ≡ Some found → IsGoodAt k (At inner) (array found)
+pub list_in : (k : Known) (place : Place) (name : List ℕ) (inner : Place) (ms : Members) (found : Items) → Leads place name (At inner) → AreGood k place ms → list name ms ≡ Some found → IsGoodAt k (At inner) (array found)
 list_in k place name inner ms found leads h there = property_at k place name (At inner) ms (array found) leads h (list_said name ms found there)
 
 -- no more entries than the place allows
-pub entries_fit : (place : Kind) (d : Data) → place_fits place d ≡ true → at_most (entries_of place) (count_of d) ≡ true
+pub entries_fit : (place : Place) (d : Data) → place_fits place d ≡ true → at_most (entries_of place) (count_of d) ≡ true
 unfolding place_fits
 entries_fit place d e = (and_parts (at_most (entries_of place) (count_of d)) (ranges_fit place d) (and_parts (arrays_fit place d) (at_most (entries_of place) (count_of d) && ranges_fit place d) e).1).0
 
-pub ranges_are_few : (place : Kind) (d : Data) → place_fits place d ≡ true → ranges_fit place d ≡ true
+pub ranges_are_few : (place : Place) (d : Data) → place_fits place d ≡ true → ranges_fit place d ≡ true
 unfolding place_fits
 ranges_are_few place d e = (and_parts (at_most (entries_of place) (count_of d)) (ranges_fit place d) (and_parts (arrays_fit place d) (at_most (entries_of place) (count_of d) && ranges_fit place d) e).1).1
 
-pub arrays_are_few : (place : Kind) (d : Data) → place_fits place d ≡ true → arrays_fit place d ≡ true
+pub arrays_are_few : (place : Place) (d : Data) → place_fits place d ≡ true → arrays_fit place d ≡ true
 unfolding place_fits
 arrays_are_few place d e = (and_parts (arrays_fit place d) (at_most (entries_of place) (count_of d) && ranges_fit place d) e).0
+
+-- ---- entries
+
+pub record IsGoodEntry (k : Known) (place : Place) (name : List ℕ) (content : Content) (d : Data) : Type 0 where
+  pub value : IsGoodAt k content d
+  pub named : key_of k place name d ≡ Ok tt
+  pub short : key_fits place name ≡ true
+
+module _ (k : Known) (place : Place) (name : List ℕ) (d : Data) (ms : Members) where
+  entry_first : (content : Content) → resolved_content place name ≡ Some content → content_under place name ≡ Some content → is_left_out place name d ≡ false → AreGood k place (member name d ms) → IsGoodEntry k place name content d
+  entry_first content is under there h =
+      let sound = property_here k place name content d is there (first_flaws k place name d ms h.flaws).0 in
+      let within = within_here place name content d under (first_limits place name d ms h.limits).0 in
+      record { value = record { sound = sound.value; within = within.value; ascends = h.ascend.0 }; named = sound.named; short = within.short }
+
+  pub entry_rest : AreGood k place (member name d ms) → AreGood (behind place d k) place ms
+  entry_rest h = record { flaws = (first_flaws k place name d ms h.flaws).1; limits = (first_limits place name d ms h.limits).1; in_order = h.in_order.1; ascend = h.ascend.1 }
+
+pub entry_in : (k : Known) (place : Place) (name : List ℕ) (content : Content) (d : Data) (ms : Members) → IsMapOf place content → AreGood k place (member name d ms) → IsGoodEntry k place name content d
+entry_in k place name content d ms is h = entry_first k place name d ms content (map_content place name content is) (is.under name) (is.stays name d) h
+
+pub plain_rest : (k : Known) (place : Place) (name : List ℕ) (d : Data) (ms : Members) → IsPlain place → AreGood k place (member name d ms) → AreGood k place ms
+plain_rest k place name d ms plain h = subst (λ j. AreGood j place ms) (plain d k) (entry_rest k place name d ms h)
+
+pub entry_object : (k : Known) (place : Place) (d : Data) → itself_of k (At place) d ≡ any_object d → IsGoodAt k (At place) d → (ms : Members) × (d ≡ object ms) × IsGood k place ms
+entry_object k place d is h =
+    let inner = is_object d (sym is ∙ h.sound.itself) in
+    (inner.0, inner.1, good_object k place inner.0 (subst (λ x. IsGoodAt k (At place) x) inner.1 h))
+
+-- ---- items
+
+pub record AreGoodItems (k : Known) (place : Place) (taken : Members) (i : ℕ) (ds : Items) : Type 0 where
+  pub flaws : item_flaws k place taken i ds ≡ []
+  pub limits : item_limits place i ds ≡ []
+  pub ascend : ItemsAscend ds
+
+pub good_items : (k : Known) (place : Place) (ds : Items) → IsGoodAt k (At place) (array ds) → AreGoodItems k place (names_beside place) 0 ds
+good_items k place ds h = record { flaws = h.sound.inner; limits = h.within.inner; ascend = h.ascends }
+
+module _ (k : Known) (place : Place) (taken : Members) (i : ℕ) (d : Data) (ds : Items) where
+  pub item_first : AreGoodItems k place taken i (item d ds) → IsGoodAt (with_taken taken k) (item_content place) d
+  item_first h = record {
+    sound = content_sound (with_taken taken k) (item_content place) d (first_item k place taken i d ds h.flaws).0;
+    within = content_within (item_content place) d (first_item_limits place i d ds h.limits).0;
+    ascends = h.ascend.0;
+  }
+
+  pub item_rest : AreGoodItems k place taken i (item d ds) → AreGoodItems k place (with_names d taken) (suc i) ds
+  item_rest h = record { flaws = (first_item k place taken i d ds h.flaws).1; limits = (first_item_limits place i d ds h.limits).1; ascend = h.ascend.1 }

@@ -1,18 +1,104 @@
--- What readings say that have no flaw.
-use Rattle.std.proofs.Common.{◌≡◌, ℕ, Bool, true, false, cond, List, Option, Some, None, Ok, Err, Ordering, Less, Equal, Greater, nat_cmp, is_eq, refl, sym, ap, subst, ◌∙◌}
-use Rattle.std.specs.Str.{bytes_eq}
-use Rattle.std.specs.Ordering.{match_ordering}
-use Rattle.std.specs.Cmp.Lexicographic.{slice_cmp}
-use Rattle.std.proofs.lemmas.Bool.{false≢true}
-use Rattle.std.proofs.lemmas.Cmp.{nat_list_cmp_total, tied_itself}
-use Rattle.std.proofs.lemmas.Map.Text.{is_eq-slice_cmp}
-use Rattle.std.proofs.lemmas.Slice.Eq.{bytes_eq-Decides}
-use Rattle.serde_json.specs.Data.{Data, null, boolean, number, string, array, object, Members, no_members, member}
-use Rattle.serde_json.specs.Find.{get_member}
-use Rattle.conf_tree.specs.Flaw.{Flaw}
-use Rattle.conf_tree.specs.Reading.{optional, given}
-use Rattle.conf_judge.specs.Flaws.{is_null}
-use Rattle.conf_judge.specs.Leaves.{only_if}
+-- What small steps and readings say that went well; what is computed from the first property of a name; and what holds of a field type
+-- where it holds of its element.
+use Rattle.std.proofs.Common.{◌≡◌, ℕ, Bool, true, false, List, Option, Some, None, refl, ap, IsSome, [], ◌∷◌, ◌++◌, cond, Ok, Err, Ordering, Less, Equal, Greater, nat_cmp, is_eq, sym, subst, ◌∙◌}
+use Rattle.std.specs.Prelude.{option_map, option_and_then, codes}
+use Rattle.conf_laws.proofs.JudgeWords.{is_null, only_if, times, elements, elements_in_array, natural_in, natural_or_none, has_bits, element_has_bits}
+use Rattle.conf_laws.proofs.TreeWords.{Flaw, given, optional, proved, as_natural, Data, string, array, object, Items, Members, null, no_members, member, get_member}
+use Rattle.conf_laws.proofs.StdWords.{false≢true, nat_list_cmp_total, tied_itself, is_eq-slice_cmp, same_Some, bytes_eq-Decides, slice_cmp, AllByRecursion, option_map_or, match_ordering, bytes_eq}
+use Rattle.conf_laws.proofs.DraftWords.{field_type, element, natural, natural_of, word, word_of, object_of, list_of, list, object as object_at}
+
+pub proved_some : {A : Type 0} (b : Bool) (f : b ≡ true → Option A) (x : A) → proved b f ≡ Some x → (h : b ≡ true) × (f h ≡ Some x)
+proved_some true f x e = (refl, e)
+proved_some false f x e = absurd cc
+
+pub mapped_some : {A B : Type 0} (f : A → B) (o : Option A) (y : B) → option_map f o ≡ Some y → (x : A) × (o ≡ Some x) × (f x ≡ y)
+mapped_some f None y e = absurd cc
+mapped_some f (Some x) y e = (x, refl, same_Some (f x) y e)
+
+pub then_some : {A B : Type 0} (f : A → Option B) (o : Option A) (y : B) → option_and_then f o ≡ Some y → (x : A) × (o ≡ Some x) × (f x ≡ Some y)
+then_some f None y e = absurd cc
+then_some f (Some x) y e = (x, refl, e)
+
+pub some_none : {A P : Type 0} (o : Option A) (x : A) → o ≡ Some x → o ≡ None → P
+some_none o x p q = absurd cc
+
+pub some_same : {A : Type 0} (o : Option A) (x y : A) → o ≡ Some x → o ≡ Some y → x ≡ y
+some_same o x y p q = cc
+
+-- ---- by what a test says, and by what is found
+
+pub by_test : (P : Bool → Type 0) (b : Bool) → (b ≡ true → P true) → (b ≡ false → P false) → P b
+by_test P true holds fails = holds refl
+by_test P false holds fails = fails refl
+
+pub by_found : {A : Type 0} (P : Option A → Type 0) (o : Option A) → (o ≡ None → P None) → ((x : A) → o ≡ Some x → P (Some x)) → P o
+by_found P None without with = without refl
+by_found P (Some x) without with = with x refl
+
+-- ---- the other way round
+
+pub proved_there : {A : Type 0} (b : Bool) (f : b ≡ true → Option A) → b ≡ true → ((h : b ≡ true) → IsSome (f h)) → IsSome (proved b f)
+proved_there true f e g = g refl
+proved_there false f e g = absurd cc
+
+pub mapped_there : {A B : Type 0} (f : A → B) (o : Option A) → IsSome o → IsSome (option_map f o)
+mapped_there f None h = absurd (false≢true h)
+mapped_there f (Some x) h = refl
+
+pub then_there : {A B : Type 0} (f : A → Option B) (o : Option A) → IsSome o → ((x : A) → IsSome (f x)) → IsSome (option_and_then f o)
+then_there f None h each = absurd (false≢true h)
+then_there f (Some x) h each = each x
+
+-- ---- lists
+
+pub all_joined : {A : Type 0} (P : A → Type 0) (xs ys : List A) → AllByRecursion P xs → AllByRecursion P ys → AllByRecursion P (xs ++ ys)
+all_joined P [] ys h k = k
+all_joined P (x ∷ xs) ys h k = (h.0, all_joined P xs ys h.1 k)
+
+-- ---- what a look-up says of the property
+
+object_there : (o : Option Data) (ms : Members) → object_of o ≡ Some ms → o ≡ Some (object ms)
+object_there (Some (object ns)) ms e = ap (λ x. Some (object x)) (same_Some ns ms e)
+object_there _ ms e = absurd cc
+
+pub object_said : (name : List ℕ) (ms inner : Members) → object_at name ms ≡ Some inner → optional name ms ≡ Some (object inner)
+unfolding object_at
+object_said name ms inner e = object_there (optional name ms) inner e
+
+list_there : (o : Option Data) (ds : Items) → list_of o ≡ Some ds → o ≡ Some (array ds)
+list_there (Some (array es)) ds e = ap (λ x. Some (array x)) (same_Some es ds e)
+list_there _ ds e = absurd cc
+
+pub list_said : (name : List ℕ) (ms : Members) (ds : Items) → list name ms ≡ Some ds → optional name ms ≡ Some (array ds)
+unfolding list
+list_said name ms ds e = list_there (optional name ms) ds e
+
+word_there : (o : Option Data) (w : List ℕ) → word_of o ≡ Some w → o ≡ Some (string w)
+word_there (Some (string s)) w e = ap (λ x. Some (string x)) (same_Some s w e)
+word_there _ w e = absurd cc
+
+pub word_said : (name : List ℕ) (ms : Members) (w : List ℕ) → word name ms ≡ Some w → optional name ms ≡ Some (string w)
+unfolding word
+word_said name ms w e = word_there (optional name ms) w e
+
+natural_there : (o : Option Data) (n : ℕ) → natural_of o ≡ Some n → (d : Data) × (o ≡ Some d) × (natural_of (Some d) ≡ Some n)
+natural_there None n e = absurd cc
+natural_there (Some d) n e = (d, refl, e)
+
+pub natural_said : (name : List ℕ) (ms : Members) (n : ℕ) → natural name ms ≡ Some n → (d : Data) × (optional name ms ≡ Some d) × (natural_of (Some d) ≡ Some n)
+unfolding natural
+natural_said name ms n e = natural_there (optional name ms) n e
+
+-- ---- the judge's look-ups and the draft's
+
+given_natural : (o : Option Data) → natural_of (given o) ≡ natural_or_none o
+unfolding as_natural
+given_natural (Some (object ns)) = refl
+given_natural _ = refl
+
+pub same_natural : (name : List ℕ) (ms : Members) → natural name ms ≡ natural_in name ms
+unfolding natural natural_in
+same_natural name ms = given_natural (get_member name ms)
 
 -- ---- tests
 
@@ -30,11 +116,7 @@ under_no_test false x y flaw e = refl
 module _ (name : List ℕ) (ms : Members) where
   given_itself : (d : Data) → is_null d ≡ false → given (Some d) ≡ Some d
   given_itself null e = absurd cc
-  given_itself (boolean b) e = refl
-  given_itself (number n) e = refl
-  given_itself (string s) e = refl
-  given_itself (array ds) e = refl
-  given_itself (object os) e = refl
+  given_itself _ e = refl
 
   -- what is there and is not null
   pub optional_found : (d : Data) → get_member name ms ≡ Some d → is_null d ≡ false → optional name ms ≡ Some d
@@ -79,3 +161,32 @@ module _ (P : Members → Type 0) (Q : List ℕ → Data → Type 0) (each : (k 
       go Less c f later = later f
       go Greater c f later = later f
       go Equal c f later = let value : e ≡ d = cc in subst (λ x. Q name x) value (subst (λ n. Q n e) (sym (same_name name k c)) (each k e ms h).0)
+
+pub element_is : (ms : Members) → element ms ≡ option_and_then field_type (get_member (codes "element-field-type") ms)
+element_is ms = at_name (codes "element-field-type") element (option_and_then field_type) refl (λ k d rest. refl) ms
+
+pub element_bits : (ms : Members) → element_has_bits ms ≡ option_map_or has_bits (get_member (codes "element-field-type") ms) true
+element_bits ms = at_name (codes "element-field-type") element_has_bits (λ o. option_map_or has_bits o true) refl (λ k d rest. refl) ms
+
+module _ (levels : ℕ) (count : Option ℕ) where
+  -- the elements of an array of so many, where this is what each of them is
+  abbrev pub of_element : Option Data → Option ℕ
+  of_element None = count
+  of_element (Some element) = times count (elements levels element)
+
+  pub in_array : (ms : Members) → elements_in_array levels count ms ≡ of_element (get_member (codes "element-field-type") ms)
+  in_array ms = at_name (codes "element-field-type") (elements_in_array levels count) of_element refl (λ k d rest. refl) ms
+
+module _ (P : Data → Type 0) (step : (d : Data) → ((ms : Members) (x : Data) → d ≡ object ms → get_member (codes "element-field-type") ms ≡ Some x → P x) → P d) where
+  abbrev Each : Members → Type 0
+  Each no_members = Unit
+  Each (member k d ms) = P d × Each ms
+
+  mutual
+    pub by_element : (d : Data) → P d
+    by_element (object ms) = step (object ms) (λ ns x is there. at_found Each (λ n y. P y) (λ n y rest h. h) (codes "element-field-type") ms x (each ms) (let same : ms ≡ ns = cc in rw same there))
+    by_element d = step d (λ ns x is there. absurd cc)
+
+    each : (ms : Members) → Each ms
+    each no_members = tt
+    each (member k d ms) = (by_element d, each ms)

@@ -1,22 +1,14 @@
--- What an object and its properties are that have no flaw.
-use Rattle.std.proofs.Common.{◌≡◌, ◌++◌, ℕ, Bool, true, false, cond, List, [], ◌∷◌, map, Option, Some, None, Result, Ok, Err, refl, sym, subst, ◌∙◌, suc}
-use Rattle.std.specs.Prelude.{⊤}
-use Rattle.serde_json.specs.Data.{Data, null, boolean, number, string, array, object, Members, member, Items, item}
-use Rattle.serde_json.specs.Find.{get_member}
-use Rattle.conf_tree.specs.Flaw.{Flaw, key, within, index}
-use Rattle.conf_tree.specs.Reading.{optional, given}
-use Rattle.conf_table.specs.declared.place.Place.{Place as Kind}
-use Rattle.conf_table.specs.declared.row.Content.{Content}
-use Rattle.conf_table.specs.declared.row.Content.TheVariants.{At}
-use Rattle.conf_table.specs.declared.row.Presence.{Presence}
-use Rattle.conf_table.specs.Table.{presence_under}
-use Rattle.conf_judge.specs.Flaws.{told_by, class_rule, all_there, resolved_content, is_left_out, left_out, is_needed, is_null, property_flaws, content_or_any, inner_flaws, member_flaws, content_flaws, item_flaws}
-use Rattle.conf_judge.specs.Forms.{itself_of, any_object}
-use Rattle.conf_judge.specs.Known.{Known, inside, behind, with_taken}
-use Rattle.conf_judge.specs.Names.{key_of, with_names}
-use Rattle.conf_judge.specs.Places.{place_of_properties, item_content}
-use Rattle.conf_judge.specs.Shapes.{shape_of}
-use Rattle.conf_laws.proofs.Readings.{at_found}
+-- What an object and its properties are that have no flaw: its class may stand where it stands, a needed property is there, and each
+-- property that is there is what its row asks for.
+use Rattle.std.proofs.Common.{arith, ◌≡◌, ◌++◌, ℕ, Bool, true, false, cond, List, [], ◌∷◌, map, Option, Some, None, Result, Ok, Err, refl, sym, subst, ◌∙◌, suc, option_map, ap}
+use Rattle.std.specs.Prelude.{⊤, ◌&&◌, codes, unwrap_or}
+use Rattle.conf_laws.proofs.Readings.{at_found, optional_found, by_found}
+use Rattle.conf_laws.proofs.TableWords.{class_words, class_in, admits_class, presence_under, Told, rows_of, row_in, content_under, Place, At, Content, Needed, Presence}
+use Rattle.conf_laws.proofs.TableWords.places
+use Rattle.conf_laws.proofs.JudgeWords.{told_by, class_rule, all_there, resolved_content, is_left_out, left_out, is_needed, is_null, property_flaws, content_or_any, inner_flaws, member_flaws, content_flaws, item_flaws, rows_there, row_there, orders_there, may_inherit, admitted, other_class, itself_of, any_object, Known, inside, behind, with_taken, key_of, with_names, class_of as judged_class, class_said, class_named, place_of_properties, item_content, is_position, own_place, shape_of, is_unsigned_integer}
+use Rattle.conf_laws.proofs.TreeWords.{Flaw, key, within, index, here, optional, given, ◌>>=◌, at, needed, text_of, wanted_found, found_there, both_read, read_there, is_passed, Data, null, object, Members, member, Items, item, get_member, as_str}
+use Rattle.conf_laws.proofs.StdWords.{nat_tests, and-false, bytes_eq-Decides, bytes_eq}
+use Rattle.conf_laws.proofs.DraftWords.{class_of as drafted_class, class_named as drafted_named, word, word_of, object as object_in, object_of}
 
 -- ---- lists of flaws that are empty
 
@@ -28,19 +20,20 @@ pub both_none : {A : Type 0} (xs ys : List A) → xs ++ ys ≡ [] → (xs ≡ []
 both_none [] ys e = (refl, e)
 both_none (x ∷ xs) ys e = absurd cc
 
-pub none_mapped : {A B : Type 0} (f : A → B) (xs : List A) → map f xs ≡ [] → xs ≡ []
-none_mapped f [] e = refl
-none_mapped f (x ∷ xs) e = absurd cc
+-- what is told of the first, and of the rest
+pub first_none : {A B : Type 0} (f : A → B) (xs : List A) (ys : List B) → map f xs ++ ys ≡ [] → (xs ≡ []) × (ys ≡ [])
+first_none f [] ys e = (refl, e)
+first_none f (x ∷ xs) ys e = absurd cc
 
 -- ---- an object
 
-pub record ObjectSound (k : Known) (place : Kind) (ms : Members) : Type 0 where
+pub record ObjectSound (k : Known) (place : Place) (ms : Members) : Type 0 where
   pub class_fits : class_rule place ms ≡ Ok tt
   pub there : all_there (place_of_properties place ms) ms ≡ Ok tt
   pub members : member_flaws (inside (place_of_properties place ms) ms k) (place_of_properties place ms) ms ≡ []
   pub shape : shape_of place ms ≡ Ok tt
 
-pub object_sound : (k : Known) (place : Kind) (ms : Members) → inner_flaws k (At place) (object ms) ≡ [] → ObjectSound k place ms
+pub object_sound : (k : Known) (place : Place) (ms : Members) → inner_flaws k (At place) (object ms) ≡ [] → ObjectSound k place ms
 object_sound k place ms e =
     let one = both_none (told_by (class_rule place ms)) _ e in
     let two = both_none (told_by (all_there (place_of_properties place ms) ms)) _ one.1 in
@@ -56,15 +49,15 @@ pub record ContentSound (k : Known) (content : Content) (d : Data) : Type 0 wher
 pub content_sound : (k : Known) (content : Content) (d : Data) → told_by (itself_of k content d) ++ inner_flaws k content d ≡ [] → ContentSound k content d
 content_sound k content d e = let both = both_none (told_by (itself_of k content d)) _ e in record { itself = told_none _ both.0; inner = both.1 }
 
-pub record PropertySound (k : Known) (place : Kind) (name : List ℕ) (content : Content) (d : Data) : Type 0 where
+pub record PropertySound (k : Known) (place : Place) (name : List ℕ) (content : Content) (d : Data) : Type 0 where
   pub value : ContentSound k content d
   pub named : key_of k place name d ≡ Ok tt
 
 -- the flaws of a property, seen from its value
-abbrev pub flaws_at : Known → Kind → List ℕ → Data → List Flaw
+abbrev pub flaws_at : Known → Place → List ℕ → Data → List Flaw
 flaws_at k place name d = property_flaws k place name (resolved_content place name) d (inner_flaws k (content_or_any (resolved_content place name)) d)
 
-pub property_here : (k : Known) (place : Kind) (name : List ℕ) (content : Content) (d : Data) → resolved_content place name ≡ Some content → is_left_out place name d ≡ false → flaws_at k place name d ≡ [] → PropertySound k place name content d
+pub property_here : (k : Known) (place : Place) (name : List ℕ) (content : Content) (d : Data) → resolved_content place name ≡ Some content → is_left_out place name d ≡ false → flaws_at k place name d ≡ [] → PropertySound k place name content d
 property_here k place name content d is there e =
     let flaws : told_by (itself_of k content d) ++ (told_by (key_of k place name d) ++ inner_flaws k content d) ≡ [] =
     subst (λ b. cond b [] (told_by (itself_of k content d) ++ (told_by (key_of k place name d) ++ inner_flaws k content d)) ≡ []) there
@@ -74,23 +67,19 @@ property_here k place name content d is there e =
     record { value = record { itself = told_none _ one.0; inner = two.1 }; named = told_none _ two.0 }
 
 -- the first property, and those behind it
-pub first_flaws : (k : Known) (place : Kind) (name : List ℕ) (d : Data) (ms : Members) → member_flaws k place (member name d ms) ≡ [] → (flaws_at k place name d ≡ []) × (member_flaws (behind place d k) place ms ≡ [])
-first_flaws k place name d ms e =
-    let both = both_none (map (within (key name)) (flaws_at k place name d)) _ e in
-    (none_mapped (within (key name)) (flaws_at k place name d) both.0, both.1)
+pub first_flaws : (k : Known) (place : Place) (name : List ℕ) (d : Data) (ms : Members) → member_flaws k place (member name d ms) ≡ [] → (flaws_at k place name d ≡ []) × (member_flaws (behind place d k) place ms ≡ [])
+first_flaws k place name d ms e = first_none (within (key name)) (flaws_at k place name d) _ e
 
 -- the first item of a list, and those behind it
-pub first_item : (k : Known) (place : Kind) (taken : Members) (i : ℕ) (d : Data) (ds : Items) → item_flaws k place taken i (item d ds) ≡ []
+pub first_item : (k : Known) (place : Place) (taken : Members) (i : ℕ) (d : Data) (ds : Items) → item_flaws k place taken i (item d ds) ≡ []
     → (content_flaws (with_taken taken k) (item_content place) d ≡ []) × (item_flaws k place (with_names d taken) (suc i) ds ≡ [])
-first_item k place taken i d ds e =
-    let both = both_none (map (within (index i)) (content_flaws (with_taken taken k) (item_content place) d)) _ e in
-    (none_mapped (within (index i)) (content_flaws (with_taken taken k) (item_content place) d) both.0, both.1)
+first_item k place taken i d ds e = first_none (within (index i)) (content_flaws (with_taken taken k) (item_content place) d) _ e
 
 -- a place whose entries say nothing of one another
-abbrev pub IsPlain : Kind → Type 0
+abbrev pub IsPlain : Place → Type 0
 IsPlain place = (d : Data) (k : Known) → behind place d k ≡ k
 
-pub property_sound : (k : Known) (place : Kind) (name : List ℕ) (content : Content) (ms : Members) (d : Data) → IsPlain place → resolved_content place name ≡ Some content
+pub property_sound : (k : Known) (place : Place) (name : List ℕ) (content : Content) (ms : Members) (d : Data) → IsPlain place → resolved_content place name ≡ Some content
     → member_flaws k place ms ≡ [] → get_member name ms ≡ Some d → is_left_out place name d ≡ false → PropertySound k place name content d
 property_sound k place name content ms d plain is e found there =
     property_here k place name content d is there (at_found (λ xs. member_flaws k place xs ≡ []) (λ n x. flaws_at k place n x ≡ []) each name ms d e found)
@@ -106,48 +95,235 @@ optional_there name ms d e = go (get_member name ms) refl e
     go : (o : Option Data) → get_member name ms ≡ o → given o ≡ Some d → (get_member name ms ≡ Some d) × (is_null d ≡ false)
     go None f g = absurd cc
     go (Some null) f g = absurd cc
-    go (Some (boolean b)) f g = (f ∙ g, subst (λ x. is_null x ≡ false) (let same : boolean b ≡ d = cc in same) refl)
-    go (Some (number n)) f g = (f ∙ g, subst (λ x. is_null x ≡ false) (let same : number n ≡ d = cc in same) refl)
-    go (Some (string s)) f g = (f ∙ g, subst (λ x. is_null x ≡ false) (let same : string s ≡ d = cc in same) refl)
-    go (Some (array ds)) f g = (f ∙ g, subst (λ x. is_null x ≡ false) (let same : array ds ≡ d = cc in same) refl)
-    go (Some (object os)) f g = (f ∙ g, subst (λ x. is_null x ≡ false) (let same : object os ≡ d = cc in same) refl)
+    go (Some v) f g = (f ∙ g, subst (λ x. is_null x ≡ false) (let same : v ≡ d = cc in same) refl)
 
 not_left_out : (o : Option Presence) (d : Data) → is_null d ≡ false → left_out o d ≡ false
 not_left_out None d e = refl
-not_left_out (Some p) d e = go (is_needed p)
-  where
-    go : (b : Bool) → cond b false (is_null d) ≡ false
-    go true = refl
-    go false = e
-
-not_out : (place : Kind) (name : List ℕ) (d : Data) → is_null d ≡ false → is_left_out place name d ≡ false
-unfolding is_left_out
-not_out place name d e = not_left_out (presence_under place name) d e
+not_left_out (Some p) d e = grind (arith, nat_tests)
 
 -- a property that is there and is not null is sound at what it is
-pub optional_sound : (k : Known) (place : Kind) (name : List ℕ) (content : Content) (ms : Members) (d : Data) → IsPlain place → resolved_content place name ≡ Some content
+pub optional_sound : (k : Known) (place : Place) (name : List ℕ) (content : Content) (ms : Members) (d : Data) → IsPlain place → resolved_content place name ≡ Some content
     → member_flaws k place ms ≡ [] → optional name ms ≡ Some d → PropertySound k place name content d
+unfolding is_left_out
 optional_sound k place name content ms d plain is e found =
-    let o = optional_there name ms d found in property_sound k place name content ms d plain is e o.0 (not_out place name d o.1)
+    let o = optional_there name ms d found in property_sound k place name content ms d plain is e o.0 (not_left_out (presence_under place name) d o.1)
 
 -- ---- an object at a property
 
 pub is_object : (d : Data) → any_object d ≡ Ok tt → (ms : Members) × (d ≡ object ms)
 unfolding any_object
 is_object (object ms) e = (ms, refl)
-is_object null e = absurd cc
-is_object (boolean b) e = absurd cc
-is_object (number n) e = absurd cc
-is_object (string s) e = absurd cc
-is_object (array ds) e = absurd cc
+is_object _ e = absurd cc
 
 -- a value at a place of objects is an object that is sound
-pub record SoundAt (k : Known) (place : Kind) (d : Data) : Type 0 where
+pub record SoundAt (k : Known) (place : Place) (d : Data) : Type 0 where
   pub ms : Members
   pub is : d ≡ object ms
   pub sound : ObjectSound k place ms
 
-pub object_at : (k : Known) (place : Kind) (d : Data) → ContentSound k (At place) d → itself_of k (At place) d ≡ any_object d → SoundAt k place d
+pub object_at : (k : Known) (place : Place) (d : Data) → ContentSound k (At place) d → itself_of k (At place) d ≡ any_object d → SoundAt k place d
 object_at k place d h form =
     let o = is_object d (sym form ∙ h.itself) in
     record { ms = o.0; is = o.1; sound = object_sound k place o.0 (subst (λ x. inner_flaws k (At place) x ≡ []) o.1 h.inner) }
+
+-- ---- what the rows say
+
+-- a property of this place, whose entries say nothing of one another
+pub record Leads (place : Place) (name : List ℕ) (content : Content) : Type 0 where
+  pub plain : IsPlain place
+  pub resolved : resolved_content place name ≡ Some content
+  pub under : content_under place name ≡ Some content
+
+-- the properties of an object whose rows are those of this place
+pub record RowsSound (k : Known) (place : Place) (ms : Members) : Type 0 where
+  pub there : all_there place ms ≡ Ok tt
+  pub flaws : member_flaws k place ms ≡ []
+
+pub rows_sound : (k : Known) (place rows : Place) (ms : Members) → place_of_properties place ms ≡ rows → ObjectSound k place ms → RowsSound (inside rows ms k) rows ms
+rows_sound k place rows ms is h = subst (λ p. RowsSound (inside p ms k) p ms) is (record { there = h.there; flaws = h.members })
+
+-- ---- a needed property
+
+row_found : (row : Told) (ms : Members) → is_needed row.presence ≡ true → row_there ms row ≡ Ok tt → (d : Data) × (get_member row.name ms ≡ Some d)
+row_found row ms needed e =
+    by_found (λ (o : Option Data). (d : Data) × (get_member row.name ms ≡ Some d)) (get_member row.name ms) (λ f. absurd (let h = rw (needed, f) at e in cc)) (λ d f. (d, f))
+
+found_among : (name : List ℕ) (ms : Members) (rows : List Told) (row : Told) → rows_there ms rows ≡ Ok tt → row_in name rows ≡ Some row → is_needed row.presence ≡ true → (d : Data) × (get_member name ms ≡ Some d)
+found_among name ms [] row e f needed = absurd cc
+found_among name ms (r ∷ rows) row e f needed =
+    let parts = both_read (row_there ms r) (λ _. rows_there ms rows) tt e in
+    go (bytes_eq r.name name) refl f parts.1 (λ g. found_among name ms rows row parts.2 g needed)
+  where
+    go : (b : Bool) → bytes_eq r.name name ≡ b → cond b (Some r) (row_in name rows) ≡ Some row → row_there ms r ≡ Ok tt → (row_in name rows ≡ Some row → (d : Data) × (get_member name ms ≡ Some d)) → (d : Data) × (get_member name ms ≡ Some d)
+    go true is g first later =
+        let same : r ≡ row = cc in
+        let named : r.name ≡ name = (bytes_eq-Decides r.name name).0 is in
+        subst (λ n. (d : Data) × (get_member n ms ≡ Some d)) named (row_found r ms (ap (λ x. is_needed x.presence) same ∙ needed) first)
+    go false is g first later = later g
+
+module _ (place : Place) (name : List ℕ) (ms : Members) where
+  pub needed_there : presence_under place name ≡ Some Needed → all_there place ms ≡ Ok tt → (d : Data) × (get_member name ms ≡ Some d)
+  unfolding presence_under all_there
+  needed_there is there =
+      by_found (λ (o : Option Told). option_map (λ r. r.presence) o ≡ Some Needed → (d : Data) × (get_member name ms ≡ Some d)) (row_in name (rows_of place))
+      (λ f g. absurd cc) (λ row f g.
+      let same : row.presence ≡ Needed = cc in
+      let parts = both_read (rows_there ms (rows_of place)) (λ _. orders_there place ms) tt there in
+      found_among name ms (rows_of place) row parts.1 f (ap is_needed same)) is
+
+-- a needed property is never left out
+pub needed_kept : (place : Place) (name : List ℕ) (d : Data) → presence_under place name ≡ Some Needed → is_left_out place name d ≡ false
+unfolding is_left_out
+needed_kept place name d is = ap (λ o. left_out o d) is
+
+pub record NeededSound (k : Known) (place : Place) (name : List ℕ) (content : Content) (ms : Members) : Type 0 where
+  pub value : Data
+  pub found : get_member name ms ≡ Some value
+  pub sound : PropertySound k place name content value
+
+pub needed_sound : (k : Known) (place : Place) (name : List ℕ) (content : Content) (ms : Members) → Leads place name content → presence_under place name ≡ Some Needed → RowsSound k place ms
+    → NeededSound k place name content ms
+needed_sound k place name content ms leads is h =
+    let f = needed_there place name ms is h.there in
+    record { value = f.0; found = f.1; sound = property_sound k place name content ms f.0 leads.plain leads.resolved h.flaws f.1 (needed_kept place name f.0 is) }
+
+-- a property that is there and is not null
+pub given_sound : (k : Known) (place : Place) (name : List ℕ) (content : Content) (ms : Members) (d : Data) → Leads place name content → RowsSound k place ms → optional name ms ≡ Some d → PropertySound k place name content d
+given_sound k place name content ms d leads h found = optional_sound k place name content ms d leads.plain leads.resolved h.flaws found
+
+-- ---- the first property, and those behind it
+
+pub record FirstSound (k : Known) (place : Place) (name : List ℕ) (content : Content) (d : Data) (ms : Members) : Type 0 where
+  pub sound : PropertySound k place name content d
+  pub flaws : member_flaws (behind place d k) place ms ≡ []
+
+pub first_sound : (k : Known) (place : Place) (name : List ℕ) (content : Content) (d : Data) (ms : Members) → resolved_content place name ≡ Some content → is_left_out place name d ≡ false → member_flaws k place (member name d ms) ≡ [] → FirstSound k place name content d ms
+first_sound k place name content d ms is kept e =
+    let both = first_flaws k place name d ms e in record { sound = property_here k place name content d is kept both.0; flaws = both.1 }
+
+-- ---- the entries of a map
+
+-- where nothing may be inherited, each property is as the table says
+pub nothing_inherited : (place : Place) (name : List ℕ) → may_inherit place ≡ false → resolved_content place name ≡ content_under place name
+unfolding resolved_content
+nothing_inherited place name own =
+    ap (λ m. cond (bytes_eq name (codes "$inherit") && m) None (content_under place name)) own ∙ ap (λ b. cond b None (content_under place name)) (and-false (bytes_eq name (codes "$inherit")))
+
+-- each entry of a map is such, and none inherits or is left out
+pub record IsMapOf (place : Place) (content : Content) : Type 0 where
+  pub under : (name : List ℕ) → content_under place name ≡ Some content
+  pub inherits_none : may_inherit place ≡ false
+  pub stays : (name : List ℕ) (d : Data) → is_left_out place name d ≡ false
+
+pub map_content : (place : Place) (name : List ℕ) (content : Content) → IsMapOf place content → resolved_content place name ≡ Some content
+map_content place name content is = nothing_inherited place name is.inherits_none ∙ is.under name
+
+pub first_entry : (k : Known) (place : Place) (name : List ℕ) (content : Content) (d : Data) (ms : Members) → IsMapOf place content → member_flaws k place (member name d ms) ≡ [] → FirstSound k place name content d ms
+first_entry k place name content d ms is e = first_sound k place name content d ms (map_content place name content is) (is.stays name d) e
+
+-- the class that is judged by is the one that is drafted
+pub class_same : (ms : Members) → judged_class ms ≡ drafted_class ms
+unfolding judged_class drafted_class word
+class_same ms = go (get_member (codes "class") ms)
+  where
+    go : (o : Option Data) → class_said o ≡ drafted_named (word_of (given o))
+    go (Some (object os)) = refl
+    go _ = refl
+
+-- ---- a class that is admitted
+
+-- the class that a field type has where it stands
+pub record HasClass (place : Place) (ms : Members) : Type 0 where
+  pub value : Data
+  pub word : List ℕ
+  pub class : Place
+  pub there : get_member (codes "class") ms ≡ Some value
+  pub text : as_str value ≡ Some word
+  pub found : class_in word class_words ≡ Some class
+  pub may_stand : admits_class place class ≡ true
+
+admitted_class : (place : Place) (o : Option Place) → admitted place o ≡ Ok tt → (class : Place) × (o ≡ Some class) × (admits_class place class ≡ true)
+admitted_class place None e = absurd cc
+admitted_class place (Some class) e = (class, refl, (is_passed (admits_class place class) tt tt (here (other_class place)) e).0)
+
+pub has_class : (place : Place) (ms : Members) → is_position place ≡ true → class_rule place ms ≡ Ok tt → HasClass place ms
+unfolding class_rule
+has_class place ms position e =
+    let ruled = subst (λ b. cond b (needed (codes "class") ms >>= (λ d. at (key (codes "class")) (text_of d) >>= (λ w. admitted place (class_in w class_words)))) (Ok tt) ≡ Ok tt) position e in
+    let d = both_read (needed (codes "class") ms) _ tt ruled in
+    let w = both_read (at (key (codes "class")) (text_of d.0)) _ tt d.2 in
+    let c = admitted_class place (class_in w.0 class_words) w.2 in
+    record {
+      value = d.0;
+      word = w.0;
+      class = c.0;
+      there = found_there (codes "class") ms d.0 d.1;
+      text = wanted_found (as_str d.0) w.0 (read_there (key (codes "class")) (text_of d.0) w.0 w.1);
+      found = c.1;
+      may_stand = c.2;
+    }
+
+pub class_there : (place : Place) (ms : Members) (c : HasClass place ms) → judged_class ms ≡ Some c.class
+unfolding judged_class
+class_there place ms c = ap class_said c.there ∙ ap class_named c.text ∙ c.found
+
+pub unsigned_told : (o : Option Place) → is_unsigned_integer o ≡ true → o ≡ Some places.UnsignedInteger
+unsigned_told (Some places.UnsignedInteger) e = refl
+unsigned_told _ e = absurd cc
+
+-- ---- a field type where one may stand
+
+pub record TypeSound (k : Known) (place : Place) (ms : Members) : Type 0 where
+  pub class : Place
+  pub is : drafted_class ms ≡ Some class
+  pub may_stand : admits_class place class ≡ true
+  pub rows : RowsSound (inside class ms k) class ms
+  pub shape : shape_of place ms ≡ Ok tt
+
+-- the rows of a field type are those of its class
+pub class_place : (place : Place) (ms : Members) (class : Place) → is_position place ≡ true → drafted_class ms ≡ Some class → place_of_properties place ms ≡ class
+unfolding place_of_properties
+class_place place ms class position is =
+    ap (λ b. cond b (unwrap_or (judged_class ms) places.Ignored) (own_place place)) position ∙ ap (λ o. unwrap_or o places.Ignored) (class_same ms ∙ is)
+
+pub type_sound : (k : Known) (place : Place) (ms : Members) → is_position place ≡ true → ObjectSound k place ms → TypeSound k place ms
+type_sound k place ms position h =
+    let c = has_class place ms position h.class_fits in
+    let is = sym (class_same ms) ∙ class_there place ms c in
+    record { class = c.class; is = is; may_stand = c.may_stand; rows = rows_sound k place c.class ms (class_place place ms c.class position is) h; shape = h.shape }
+
+-- a place of objects with rows of its own
+pub record IsObject (place : Place) : Type 0 where
+  pub form : (k : Known) (d : Data) → itself_of k (At place) d ≡ any_object d
+  pub own : (ms : Members) → place_of_properties place ms ≡ place
+
+-- an object that is there, with its rows
+pub record Held (k : Known) (place : Place) (d : Data) : Type 0 where
+  pub ms : Members
+  pub is : d ≡ object ms
+  pub rows : RowsSound (inside place ms k) place ms
+
+pub held_at : (k : Known) (place : Place) (d : Data) → IsObject place → ContentSound k (At place) d → Held k place d
+held_at k place d o h = let s = object_at k place d h (o.form k d) in record { ms = s.ms; is = s.is; rows = rows_sound k place place s.ms (o.own s.ms) s.sound }
+
+module _ (k : Known) (around place : Place) (name : List ℕ) (ms : Members) (leads : Leads around name (At place)) (o : IsObject place) (h : RowsSound k around ms) where
+  held : (d : Data) → optional name ms ≡ Some d → Held k place d
+  held d found = held_at k place d o (given_sound k around name (At place) ms d leads h found).value
+
+  -- a needed object is there
+  pub needed_object : presence_under around name ≡ Some Needed → (os : Members) × (object_in name ms ≡ Some os) × RowsSound (inside place os k) place os
+  unfolding object_in
+  needed_object is =
+      let p = needed_sound k around name (At place) ms leads is h in
+      let s = held_at k place p.value o p.sound.value in
+      let found = optional_found name ms (object s.ms) (p.found ∙ ap Some s.is) refl in
+      (s.ms, ap object_of found, s.rows)
+
+  -- what holds of no object and of each sound one holds
+  pub by_object : (P : Option Members → Type 0) → P None → ((os : Members) → RowsSound (inside place os k) place os → P (Some os)) → P (object_in name ms)
+  unfolding object_in
+  by_object P without with = go (optional name ms) refl
+    where
+      go : (x : Option Data) → optional name ms ≡ x → P (object_of x)
+      go None f = without
+      go (Some d) f = let s = held d f in subst (λ x. P (object_of (Some x))) (sym s.is) (with s.ms s.rows)

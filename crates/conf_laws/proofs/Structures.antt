@@ -1,29 +1,247 @@
--- Structures that have no flaw say something, and so do the extra members of a packet context.
-use Rattle.std.proofs.Common.{◌≡◌, ◌%◌, ◌==◌, ℕ, true, List, [], ◌∷◌, Option, Some, None, IsSome, Ok, nat_lt, refl, sym, subst, ◌∙◌}
-use Rattle.std.specs.Prelude.{codes}
-use Rattle.std.proofs.lemmas.Bool.{false≢true}
-use Rattle.serde_json.specs.Data.{Data, null, boolean, number, string, array, object, Items, Members}
-use Rattle.serde_json.specs.Find.{as_array, as_object}
-use Rattle.ctf_types.specs.declared.MemberType.{MemberType}
-use Rattle.conf_tree.specs.Reading.{optional}
-use Rattle.conf_table.specs.declared.place.Place.{Place as Kind}
-use Rattle.conf_table.specs.declared.place.Place.TheVariants as places
-use Rattle.conf_table.specs.declared.row.Content.TheVariants.{At}
-use Rattle.conf_table.specs.Classes.{admits_class}
-use Rattle.conf_table.specs.Table.{content_under, presence_under, rows_of, entries_of}
-use Rattle.conf_judge.specs.Flaws.{resolved_content, inner_flaws}
-use Rattle.conf_judge.specs.Forms.{itself_of, form_of, any_list}
-use Rattle.conf_judge.specs.Known.{Known, inside, behind}
-use Rattle.conf_judge.specs.Names.{names_beside}
-use Rattle.conf_judge.specs.Places.{is_position, item_content}
-use Rattle.conf_draft.specs.Lookups.{object as object_in, object_of, list as list_in, list_of}
-use Rattle.conf_draft.specs.Structures.{made, align_for, members_or_none, listed, align_of, structure_of, structure_or_none, structure, extra_members}
-use Rattle.conf_laws.proofs.Alignments.{IsAlignment, alignment_or}
-use Rattle.conf_laws.proofs.Classes.{type_sound}
-use Rattle.conf_laws.proofs.MemberTypes.{list_said}
-use Rattle.conf_laws.proofs.Rows.{Leads, RowsSound, given_sound}
-use Rattle.conf_laws.proofs.Sound.{ContentSound, object_at}
-use Rattle.conf_laws.proofs.Steps.{then_there, proved_there}
+-- The names that members take are apart, and apart from names that were taken before. The members of a structure that have no flaw say
+-- something, and so do structures and the extra members of a packet context.
+use Rattle.std.proofs.Common.{◌≡◌, ℕ, ◌+◌, Bool, true, false, ◌||◌, List, [], ◌∷◌, ◌++◌, length, All, is_some, refl, sym, ap, subst, ◌∙◌, arith, length-append, append_assoc, ◌⊎◌, suc, cond, Option, Some, None, IsSome, option_map, Ok, inl, inr, ◌%◌, ◌==◌, nat_lt}
+use Rattle.std.specs.Prelude.{codes, option_and_then}
+use Rattle.conf_laws.proofs.Agreement.{taken_put}
+use Rattle.conf_laws.proofs.FieldTypes.{type_said}
+use Rattle.conf_laws.proofs.Numbers.{IsAlignment, alignment_or}
+use Rattle.conf_laws.proofs.Readings.{all_joined, under_no_test, optional_found, element_is, mapped_there, then_there, proved_there, by_found, by_test}
+use Rattle.conf_laws.proofs.Sound.{ObjectSound, ContentSound, PropertySound, object_sound, object_at, content_sound, first_item, RowsSound, rows_sound, needed_sound, first_entry, TypeSound, type_sound, Leads, given_sound}
+use Rattle.conf_laws.proofs.Table.{Property, leads, needed_by, MapPlace, is_map}
+use Rattle.conf_laws.proofs.TableWords.{admits_class, entries_of, Place, At}
+use Rattle.conf_laws.proofs.TableWords.places
+use Rattle.conf_laws.proofs.JudgeWords.{inner_flaws, item_flaws, itself_of, form_of, entry, any_list, Known, inside, with_taken, take, is_taken, take_length, key_of, key_by, plain_of, free_of, is_dynamic, with_names, length_is_taken, names_beside, is_position, own_place, place_of_properties, item_content}
+use Rattle.conf_laws.proofs.TreeWords.{optional, ◌>>=◌, both_read, plain_name_of, Members, Data, object, Items, no_items, item, no_members, member, array, get_member, as_array, as_object}
+use Rattle.conf_laws.proofs.StdWords.{false≢true, or_parts, All-push, All-nil, list_any-append, map-append, bytes_eq-Decides, IsDistinct, AllByRecursion, list_any, bytes_eq}
+use Rattle.conf_laws.proofs.DraftWords.{field_type, element, object as object_in, object_of, list as list_in, list_of, is_dynamic_array, member_type, told_type, member_of, behind as behind_done, members_behind, made, align_for, members_or_none, listed, align_of, structure_of, structure_or_none, structure, extra_members, names_in, IsPlainName, length_name, shown_members, Auto, At as AtMember, Plain, Dyn, MemberType}
+
+-- ---- what a member takes
+
+abbrev pub names_of : List ℕ × MemberType → List (List ℕ)
+names_of (name, Plain t) = name ∷ []
+names_of (name, Dyn t Auto) = length_name name ∷ name ∷ []
+names_of (name, Dyn t (AtMember i)) = name ∷ []
+
+-- the names of members as a reader shows them
+abbrev pub shown_of : List (List ℕ × MemberType) → List (List ℕ)
+shown_of ms = names_in (shown_members 0 ms)
+
+shown_last : (n : ℕ) (ms : List (List ℕ × MemberType)) (name : List ℕ) (m : MemberType) → names_in (shown_members n (ms ++ (name, m) ∷ [])) ≡ names_in (shown_members n ms) ++ names_of (name, m)
+unfolding shown_members
+shown_last n [] name (Plain t) = refl
+shown_last n [] name (Dyn t Auto) = refl
+shown_last n [] name (Dyn t (AtMember i)) = refl
+shown_last n ((other, Plain t) ∷ ms) name m = ap (λ l. other ∷ l) (shown_last (n + 1) ms name m)
+shown_last n ((other, Dyn t Auto) ∷ ms) name m = ap (λ l. length_name other ∷ other ∷ l) (shown_last (n + 2) ms name m)
+shown_last n ((other, Dyn t (AtMember i)) ∷ ms) name m = ap (λ l. other ∷ l) (shown_last (n + 1) ms name m)
+
+-- ---- names that are taken
+
+abbrev pub AreTaken : Members → List (List ℕ) → Type 0
+AreTaken taken names = AllByRecursion (λ name. is_taken taken name ≡ true) names
+
+abbrev pub AreFree : Members → List (List ℕ) → Type 0
+AreFree taken names = AllByRecursion (λ name. is_taken taken name ≡ false) names
+
+pub takes_itself : (name : List ℕ) (taken : Members) → is_taken (take name taken) name ≡ true
+takes_itself name taken = (taken_put name name taken).1 (inl refl)
+
+pub all_still_taken : (name : List ℕ) (taken : Members) (names : List (List ℕ)) → AreTaken taken names → AreTaken (take name taken) names
+all_still_taken name taken [] h = tt
+all_still_taken name taken (other ∷ names) h = ((taken_put other name taken).1 (inr h.0), all_still_taken name taken names h.1)
+
+-- with those of the member
+abbrev pub with_member : List ℕ → Bool → Members → Members
+with_member name b taken = take name (take_length b name taken)
+
+pub keeps_taken : (name : List ℕ) (b : Bool) (taken : Members) (names : List (List ℕ)) → AreTaken taken names → AreTaken (with_member name b taken) names
+keeps_taken name true taken names h = all_still_taken name (take (length_name name) taken) names (all_still_taken (length_name name) taken names h)
+keeps_taken name false taken names h = all_still_taken name taken names h
+
+-- a name that is free is none of those that are taken
+pub apart_from_taken : (taken : Members) (name : List ℕ) (names : List (List ℕ)) → is_taken taken name ≡ false → AreTaken taken names → list_any (bytes_eq name) names ≡ false
+apart_from_taken taken name [] free h = refl
+apart_from_taken taken name (other ∷ names) free h =
+    by_test (λ (b : Bool). list_any (bytes_eq name) names ≡ false → (b || list_any (bytes_eq name) names) ≡ false) (bytes_eq name other)
+    (λ is rest. absurd (false≢true (sym free ∙ subst (λ n. is_taken taken n ≡ true) (sym ((bytes_eq-Decides name other).0 is)) h.0))) (λ is rest. rest) (apart_from_taken taken name names free h.1)
+
+abbrev pub AreApart : List (List ℕ) → List (List ℕ) → Type 0
+AreApart before names = AllByRecursion (λ name. list_any (bytes_eq name) before ≡ false) names
+
+all_apart : (taken : Members) (before names : List (List ℕ)) → AreFree taken names → AreTaken taken before → AreApart before names
+all_apart taken before [] free h = tt
+all_apart taken before (name ∷ names) free h = (apart_from_taken taken name before free.0 h, all_apart taken before names free.1 h)
+
+-- ---- names apart
+
+differ : (xs ys : List ℕ) → (xs ≡ ys → ⊥) → bytes_eq xs ys ≡ false
+differ xs ys other =
+    by_test (λ (b : Bool). b ≡ false) (bytes_eq xs ys) (λ is. absurd (other ((bytes_eq-Decides xs ys).0 is))) (λ is. refl)
+
+distinct_last : (xs : List (List ℕ)) (y : List ℕ) → IsDistinct bytes_eq xs → list_any (bytes_eq y) xs ≡ false → IsDistinct bytes_eq (xs ++ y ∷ [])
+unfolding IsDistinct
+distinct_last [] y h free = (tt, tt)
+distinct_last (x ∷ xs) y h free =
+    let p = or_parts (bytes_eq y x) (list_any (bytes_eq y) xs) free in
+    (all_joined (λ z. bytes_eq x z ≡ false) xs (y ∷ []) h.0 (differ x y (λ same. false≢true (sym p.0 ∙ (bytes_eq-Decides y x).1 (sym same))), tt), distinct_last xs y h.1 p.1)
+
+distinct_more : (xs : List (List ℕ)) (name : List ℕ) (m : MemberType) → IsDistinct bytes_eq xs → AreApart xs (names_of (name, m)) → IsDistinct bytes_eq (xs ++ names_of (name, m))
+distinct_more xs name (Plain t) h free = distinct_last xs name h free.0
+distinct_more xs name (Dyn t (AtMember i)) h free = distinct_last xs name h free.0
+distinct_more xs name (Dyn t Auto) h free =
+    let first = distinct_last xs (length_name name) h free.0 in
+    let both : list_any (bytes_eq name) (xs ++ length_name name ∷ []) ≡ false = list_any-append (bytes_eq name) xs (length_name name ∷ []) ∙ rw (free.1.0, (differ name (length_name name) (λ same. let longer = ap length same in absurd (omega (arith, longer, length-append name (codes "_len")))))) refl in
+    subst (λ l. IsDistinct bytes_eq l) (append_assoc xs (length_name name ∷ []) (name ∷ [])) (distinct_last (xs ++ length_name name ∷ []) name first both)
+
+-- ---- the list
+
+-- the members so far, beside names that were taken before
+pub record AreNamed (before : List (List ℕ)) (ms : List (List ℕ × MemberType)) (taken : Members) : Type 0 where
+  pub names : All IsPlainName (names_in ms)
+  pub before_taken : AreTaken taken before
+  pub shown_taken : AreTaken taken (shown_of ms)
+  pub distinct : IsDistinct bytes_eq (shown_of ms)
+  pub free : AreApart before (shown_of ms)
+
+pub none_named : (before : List (List ℕ)) (taken : Members) → AreTaken taken before → AreNamed before [] taken
+unfolding shown_members IsDistinct
+none_named before taken h = record { names = All-nil IsPlainName; before_taken = h; shown_taken = tt; distinct = tt; free = tt }
+
+-- one more, where `after` has its names too
+pub one_more_named : (before : List (List ℕ)) (ms : List (List ℕ × MemberType)) (taken after : Members) (name : List ℕ) (m : MemberType) → AreNamed before ms taken → IsPlainName name → AreFree taken (names_of (name, m))
+    → ((names : List (List ℕ)) → AreTaken taken names → AreTaken after names) → AreTaken after (names_of (name, m)) → AreNamed before (ms ++ (name, m) ∷ []) after
+one_more_named before ms taken after name m h plain free keeps takes =
+    let shown = shown_last 0 ms name m in
+    record {
+      names = subst (λ l. All IsPlainName l) (sym (map-append (λ (e : List ℕ × MemberType). e.0) ms ((name, m) ∷ []))) (All-push IsPlainName (names_in ms) name h.names plain);
+      before_taken = keeps before h.before_taken;
+      shown_taken = subst (λ l. AreTaken after l) (sym shown) (all_joined (λ n. is_taken after n ≡ true) (shown_of ms) (names_of (name, m)) (keeps (shown_of ms) h.shown_taken) takes);
+      distinct = subst (λ l. IsDistinct bytes_eq l) (sym shown) (distinct_more (shown_of ms) name m h.distinct (all_apart taken (shown_of ms) (names_of (name, m)) free h.shown_taken));
+      free = subst (λ l. AreApart before l) (sym shown) (all_joined (λ n. list_any (bytes_eq n) before ≡ false) (shown_of ms) (names_of (name, m)) h.free (all_apart taken before (names_of (name, m)) free h.before_taken));
+    }
+
+-- ---- dynamic arrays
+
+element_said : (k : Known) (d : Data) → ContentSound k (At places.DynamicElementType) d → IsSome (field_type d)
+unfolding itself_of form_of is_position admits_class
+element_said k d h =
+    let o = object_at k places.DynamicElementType d h refl in
+    let t = type_sound k places.DynamicElementType o.ms refl o.sound in
+    subst (λ x. IsSome (field_type x)) (sym o.is) (type_said k places.DynamicElementType o.ms t (t.may_stand))
+
+array_said : (k : Known) (ms : Members) → RowsSound k places.DynamicArray ms → IsSome (element ms)
+array_said k ms h =
+    let p = needed_sound k places.DynamicArray (codes "element-field-type") (At places.DynamicElementType) ms (leads Property.dynamic_element) (needed_by Property.dynamic_element) h in
+    ap is_some (element_is ms ∙ ap (option_and_then field_type) p.found) ∙ element_said k p.value p.sound.value
+
+-- ---- the type of a member
+
+member_class : (class : Place) → admits_class places.MemberType class ≡ true → (class ≡ places.DynamicArray) ⊎ ((is_dynamic_array (Some class) ≡ false) × (admits_class places.ElementType class ≡ true))
+unfolding admits_class
+member_class places.DynamicArray a = inl refl
+member_class places.Structure a = absurd (false≢true a)
+member_class _ a = inr (refl, a)
+
+member_by : (k : Known) (ms : Members) (t : TypeSound k places.MemberType ms) → (t.class ≡ places.DynamicArray) ⊎ ((is_dynamic_array (Some t.class) ≡ false) × (admits_class places.ElementType t.class ≡ true))
+    → IsSome (cond (is_dynamic_array (Some t.class)) (option_map (λ x. Dyn x Auto) (element ms)) (option_map (λ x. Plain x) (field_type (object ms))))
+member_by k ms t (inl same) =
+    let said = array_said (inside t.class ms k) ms (subst (λ p. RowsSound (inside t.class ms k) p ms) same t.rows) in
+    subst (λ c. IsSome (cond (is_dynamic_array (Some c)) (option_map (λ x. Dyn x Auto) (element ms)) (option_map (λ x. Plain x) (field_type (object ms))))) (sym same) (mapped_there (λ x. Dyn x Auto) (element ms) said)
+member_by k ms t (inr other) =
+    subst (λ b. IsSome (cond b (option_map (λ x. Dyn x Auto) (element ms)) (option_map (λ x. Plain x) (field_type (object ms))))) (sym other.0) (mapped_there (λ x. Plain x) (field_type (object ms)) (type_said k places.MemberType ms t other.1))
+
+member_said : (k : Known) (ms : Members) → ObjectSound k places.MemberType ms → IsSome (member_type ms)
+unfolding member_type is_position
+member_said k ms h =
+    let t = type_sound k places.MemberType ms refl h in
+    subst (λ o. IsSome (cond (is_dynamic_array o) (option_map (λ x. Dyn x Auto) (element ms)) (option_map (λ x. Plain x) (field_type (object ms))))) (sym t.is) (member_by k ms t (member_class t.class t.may_stand))
+
+-- ---- the member that an entry tells of
+
+told_said : (k : Known) (told : Members) (y : Data) → get_member (codes "field-type") told ≡ Some y → ContentSound k (At places.MemberType) y → IsSome (told_type (optional (codes "field-type") told))
+unfolding itself_of form_of
+told_said k told y found h =
+    let o = object_at k places.MemberType y h refl in
+    let there = optional_found (codes "field-type") told (object o.ms) (found ∙ ap Some o.is) refl in
+    subst (λ x. IsSome (told_type x)) (sym there) (member_said k o.ms o.sound)
+
+member_there : (k : Known) (x : Data) → ContentSound k (At places.Member) x → IsSome (member_of x)
+unfolding itself_of form_of place_of_properties is_position own_place inside
+member_there k x h =
+    let o = object_at k places.Member x h refl in
+    let p = needed_sound k places.Member (codes "field-type") (At places.MemberType) o.ms (leads Property.type_of_member) (needed_by Property.type_of_member) (rows_sound k places.Member places.Member o.ms refl o.sound) in
+    subst (λ y. IsSome (member_of y)) (sym o.is) (told_said k o.ms p.value p.found p.sound.value)
+
+-- ---- an entry
+
+pub entry_shape : (d : Data) → entry d ≡ Ok tt → (name : List ℕ) × (x : Data) × (d ≡ object (member name x no_members))
+unfolding entry
+entry_shape (object (member name x no_members)) e = (name, x, refl)
+entry_shape _ e = absurd cc
+
+-- one property, whose value tells of a member
+record EntrySound (k : Known) (d : Data) : Type 0 where
+  pub name : List ℕ
+  pub told : Data
+  pub is : d ≡ object (member name told no_members)
+  pub sound : PropertySound k places.Entry name (At places.Member) told
+
+entry_sound : (k : Known) (d : Data) → ContentSound k (At places.Entry) d → EntrySound k d
+unfolding itself_of form_of place_of_properties is_position own_place inside
+entry_sound k d h =
+    let s = entry_shape d h.itself in
+    let o = object_sound k places.Entry (member s.0 s.1 no_members) (subst (λ x. inner_flaws k (At places.Entry) x ≡ []) s.2 h.inner) in
+    let r = rows_sound k places.Entry places.Entry (member s.0 s.1 no_members) refl o in
+    record { name = s.0; told = s.1; is = s.2; sound = (first_entry k places.Entry s.0 (At places.Member) s.1 no_members (is_map MapPlace.entry) r.flaws).sound }
+
+-- what is judged of its name
+pub name_judged : (k : Known) (name : List ℕ) (d : Data) → key_of k places.Entry name d ≡ Ok tt → (plain_name_of name >>= (λ ok. free_of k.taken name d)) ≡ Ok tt
+unfolding key_of key_by plain_of entries_of
+name_judged k name d e = e
+
+-- it is free, and so is that of its length
+pub name_free : (taken : Members) (name : List ℕ) (d : Data) → free_of taken name d ≡ Ok tt → (is_taken taken name ≡ false) × (length_is_taken (is_dynamic d) taken name ≡ false)
+unfolding free_of
+name_free taken name d e = or_parts (is_taken taken name) (length_is_taken (is_dynamic d) taken name) (under_no_test _ tt tt _ e)
+
+-- ---- members, one behind another
+
+-- its name is taken behind it
+more_taken : (done : List (List ℕ × MemberType)) (taken : Members) (name : List ℕ) (b : Bool) (t : MemberType) → AreTaken taken (names_in done) → AreTaken (with_member name b taken) (names_in (done ++ (name, t) ∷ []))
+more_taken done taken name b t h =
+    subst (λ l. AreTaken (with_member name b taken) l) (sym (map-append (λ (m : List ℕ × MemberType). m.0) done ((name, t) ∷ [])))
+    (all_joined (λ n. is_taken (with_member name b taken) n ≡ true) (names_in done) (name ∷ []) (keeps_taken name b taken (names_in done) h) (takes_itself name (take_length b name taken), tt))
+
+-- a member whose name is none of those before it
+behind_there : (done : List (List ℕ × MemberType)) (name : List ℕ) (o : Option MemberType) → IsSome o → list_any (bytes_eq name) (names_in done) ≡ false → (t : MemberType) × (behind_done done name o ≡ Some (done ++ (name, t) ∷ []))
+unfolding behind_done
+behind_there done name None h free = absurd (false≢true h)
+behind_there done name (Some t) h free = (t, rw free refl)
+
+-- the entries from place i on, behind members whose names are taken
+abbrev RestSaid : Known → Place → Items → Type 0
+RestSaid k place ds = (taken : Members) (i : ℕ) (done : List (List ℕ × MemberType)) → AreTaken taken (names_in done) → item_flaws k place taken i ds ≡ [] → IsSome (members_behind done ds)
+
+one_more : (k : Known) (place : Place) (ds : Items) (taken : Members) (i : ℕ) (done : List (List ℕ × MemberType)) (name : List ℕ) (told : Data) → AreTaken taken (names_in done)
+    → PropertySound (with_taken taken k) places.Entry name (At places.Member) told
+    → item_flaws k place (with_names (object (member name told no_members)) taken) (suc i) ds ≡ [] → RestSaid k place ds → IsSome (members_behind done (item (object (member name told no_members)) ds))
+one_more k place ds taken i done name told h s f rest =
+    let judged = both_read (plain_name_of name) _ tt (name_judged (with_taken taken k) name told s.named) in
+    let free = apart_from_taken taken name (names_in done) (name_free taken name told judged.2).0 h in
+    let more = behind_there done name (member_of told) (member_there (with_taken taken k) told s.value) free in
+    rw more.1 (rest _ (suc i) (done ++ (name, more.0) ∷ []) (more_taken done taken name (is_dynamic told) more.0 h) f)
+
+items_said : (ds : Items) (k : Known) (place : Place) → item_content place ≡ At places.Entry → RestSaid k place ds
+items_said no_items k place entries taken i done h f = refl
+items_said (item d ds) k place entries taken i done h f =
+    let first = first_item k place taken i d ds f in
+    let e = entry_sound (with_taken taken k) d (subst (λ c. ContentSound (with_taken taken k) c d) entries (content_sound (with_taken taken k) (item_content place) d first.0)) in
+    subst (λ x. IsSome (members_behind done (item x ds))) (sym e.is)
+    (one_more k place ds taken i done e.name e.told h e.sound (subst (λ x. item_flaws k place (with_names x taken) (suc i) ds ≡ []) e.is first.1) (items_said ds k place entries))
+
+-- all members of a list, whatever names are taken before it
+pub list_said : (ds : Items) (k : Known) (place : Place) (taken : Members) → item_content place ≡ At places.Entry → item_flaws k place taken 0 ds ≡ [] → IsSome (members_behind [] ds)
+list_said ds k place taken entries f = items_said ds k place entries taken 0 [] tt f
 
 -- ---- what a structure is made of
 
@@ -41,7 +259,7 @@ aligned (m ∷ members) align a = a
 -- ---- lists of members
 
 -- a list of entries that tell of members
-pub record IsMemberList (place : Kind) : Type 0 where
+pub record IsMemberList (place : Place) : Type 0 where
   pub form : (k : Known) (d : Data) → itself_of k (At place) d ≡ any_list d
   pub entries : item_content place ≡ At places.Entry
 
@@ -56,31 +274,20 @@ extras_list = record { form = λ k d. refl; entries = refl }
 is_list : (d : Data) → any_list d ≡ Ok tt → (ds : Items) × (d ≡ array ds)
 unfolding any_list
 is_list (array ds) e = (ds, refl)
-is_list null e = absurd cc
-is_list (boolean b) e = absurd cc
-is_list (number n) e = absurd cc
-is_list (string s) e = absurd cc
-is_list (object ms) e = absurd cc
+is_list _ e = absurd cc
 
-members_there : (k : Known) (place : Kind) (d : Data) → IsMemberList place → ContentSound k (At place) d → IsSome (members_or_none (as_array d))
+members_there : (k : Known) (place : Place) (d : Data) → IsMemberList place → ContentSound k (At place) d → IsSome (members_or_none (as_array d))
 members_there k place d m h =
     let s = is_list d (sym (m.form k d) ∙ h.itself) in
     subst (λ x. IsSome (members_or_none (as_array x))) (sym s.1)
     (list_said s.0 k place (names_beside place) m.entries (subst (λ x. inner_flaws k (At place) x ≡ []) s.1 h.inner))
 
-listed_there : (k : Known) (around place : Kind) (name : List ℕ) (ms : Members) → Leads around name (At place) → IsMemberList place → RowsSound k around ms → IsSome (listed name ms)
+listed_there : (k : Known) (around place : Place) (name : List ℕ) (ms : Members) → Leads around name (At place) → IsMemberList place → RowsSound k around ms → IsSome (listed name ms)
 unfolding listed list_in
-listed_there k around place name ms leads m h = go (optional name ms) refl
-  where
-    go : (o : Option Data) → optional name ms ≡ o → IsSome (members_or_none (list_of o))
-    go None f = refl
-    go (Some d) f = members_there k place d m (given_sound k around name (At place) ms d leads h f).value
+listed_there k around place name ms leads m h =
+    by_found (λ (o : Option Data). IsSome (members_or_none (list_of o))) (optional name ms) (λ f. refl) (λ d f. members_there k place d m (given_sound k around name (At place) ms d leads h f).value)
 
 -- ---- structures
-
-pub members_lead : Leads places.Structure (codes "members") (At places.Members)
-unfolding behind resolved_content content_under presence_under entries_of rows_of
-members_lead = record { plain = λ d k. refl; resolved = refl; under = refl }
 
 align_said : (ms : Members) → IsAlignment (align_of ms)
 unfolding align_of
@@ -89,31 +296,29 @@ align_said ms = alignment_or (codes "minimum-alignment") 1 ms no_alignment
 object_said : (k : Known) (ms : Members) → RowsSound k places.Structure ms → IsSome (structure_of ms)
 unfolding structure_of
 object_said k ms h =
-    then_there (λ members. made members (align_for members (align_of ms))) (listed (codes "members") ms) (listed_there k places.Structure places.Members (codes "members") ms members_lead members_list h)
+    then_there (λ members. made members (align_for members (align_of ms))) (listed (codes "members") ms) (listed_there k places.Structure places.Members (codes "members") ms (leads Property.members) members_list h)
     (λ members. made_there members (align_for members (align_of ms)) (aligned members (align_of ms) (align_said ms)))
 
-pub structure_class : (class : Kind) → admits_class places.StructureType class ≡ true → class ≡ places.Structure
+pub structure_class : (class : Place) → admits_class places.StructureType class ≡ true → class ≡ places.Structure
 unfolding admits_class
 structure_class places.Structure a = refl
 structure_class _ a = absurd (false≢true a)
 
-type_said : (k : Known) (d : Data) → ContentSound k (At places.StructureType) d → IsSome (structure_or_none (as_object d))
+structure_said : (k : Known) (d : Data) → ContentSound k (At places.StructureType) d → IsSome (structure_or_none (as_object d))
 unfolding itself_of form_of is_position
-type_said k d h =
+structure_said k d h =
     let o = object_at k places.StructureType d h refl in
     let t = type_sound k places.StructureType o.ms refl o.sound in
     let rows = subst (λ p. RowsSound (inside t.class o.ms k) p o.ms) (structure_class t.class t.may_stand) t.rows in
     subst (λ x. IsSome (structure_or_none (as_object x))) (sym o.is) (object_said (inside t.class o.ms k) o.ms rows)
 
-pub structure_there : (k : Known) (around : Kind) (name : List ℕ) (ms : Members) → Leads around name (At places.StructureType) → RowsSound k around ms → IsSome (structure name ms)
+pub structure_there : (k : Known) (around : Place) (name : List ℕ) (ms : Members) → Leads around name (At places.StructureType) → RowsSound k around ms → IsSome (structure name ms)
 unfolding structure object_in
-structure_there k around name ms leads h = go (optional name ms) refl
-  where
-    go : (o : Option Data) → optional name ms ≡ o → IsSome (structure_or_none (object_of o))
-    go None f = made_there [] 1 no_alignment
-    go (Some d) f = type_said k d (given_sound k around name (At places.StructureType) ms d leads h f).value
+structure_there k around name ms leads h =
+    by_found (λ (o : Option Data). IsSome (structure_or_none (object_of o))) (optional name ms)
+    (λ f. made_there [] 1 no_alignment) (λ d f. structure_said k d (given_sound k around name (At places.StructureType) ms d leads h f).value)
 
-pub extras_there : (k : Known) (around : Kind) (name : List ℕ) (ms : Members) → Leads around name (At places.ExtraMembers) → RowsSound k around ms → IsSome (extra_members name ms)
+pub extras_there : (k : Known) (around : Place) (name : List ℕ) (ms : Members) → Leads around name (At places.ExtraMembers) → RowsSound k around ms → IsSome (extra_members name ms)
 unfolding extra_members
 extras_there k around name ms leads h =
     then_there (λ members. made members 1) (listed name ms) (listed_there k around places.ExtraMembers name ms leads extras_list h) (λ members. made_there members 1 no_alignment)

@@ -1,36 +1,232 @@
 -- Each flaw of the walk over a configuration's objects is one of them by the table.
-use Rattle.std.proofs.Common.{◌≡◌, ◌++◌, ℕ, Bool, true, false, cond, List, [], ◌∷◌, map, Contains, Option, Some, None, Result, Ok, Err, inl, inr, refl, arith}
-use Rattle.std.specs.Prelude.{⊤}
-use Rattle.std.specs.List.{All}
-use Rattle.std.proofs.lemmas.List.Elements.{All-nil, All-cons, All-head, All-tail, All-append, All-weaker, All-contains}
-use Rattle.serde_json.specs.Data.{Data, null, boolean, number, string, array, object, Items, no_items, item, Members, no_members, member}
-use Rattle.serde_json.specs.Events.{items_len}
-use Rattle.conf_tree.specs.declared.fault_kind.FaultKind.TheVariants.{Unknown}
-use Rattle.conf_tree.specs.Flaw.{Flaw, key, index, here, within}
-use Rattle.conf_tree.specs.Walk.{HasMember, refusal}
-use Rattle.conf_table.specs.declared.place.Place.{Place}
-use Rattle.conf_table.specs.declared.place.Place.TheVariants as places
-use Rattle.conf_table.specs.declared.row.Content.{Content}
-use Rattle.conf_table.specs.declared.row.Content.TheVariants.{At}
-use Rattle.conf_judge.specs.Flaws.{told_by, class_rule, all_there, resolved_content, is_left_out, content_or_any, property_flaws, object_flaws, inner_flaws, item_flaws, member_flaws, configuration_flaws}
-use Rattle.conf_judge.specs.Forms.{itself_of}
-use Rattle.conf_judge.specs.Known.{Known, nothing, inside, behind, with_taken}
-use Rattle.conf_judge.specs.Names.{key_of, names_beside, with_names}
-use Rattle.conf_judge.specs.Places.{place_of_properties, item_content}
-use Rattle.conf_judge.specs.Shapes.{shape_of}
-use Rattle.conf_laws.specs.Around.{Around, Parts, member_of, item_of}
-use Rattle.conf_laws.specs.TableFlaws.{HasNotItsRows, IsFlawOf}
-use Rattle.conf_laws.proofs.Agreement.{Agrees, nothing_agrees, inside_agrees, behind_agrees, Takes, takes_beside, takes_further, item_agrees}
-use Rattle.conf_laws.proofs.Items.{ItemParts, item_found}
-use Rattle.conf_laws.proofs.TakenProperties.{property_is, none_is, not_left}
-use Rattle.conf_laws.proofs.ValueFlawLaws.{value_told, name_told}
-use Rattle.conf_laws.proofs.ObjectFlawLaws.{class_told, missing_told, shape_told}
+use Rattle.std.proofs.Common.{◌≡◌, ◌≢◌, ◌⊎◌, ◌&&◌, ℕ, Bool, true, false, cond, List, Option, Some, None, is_some, IsSome, inl, inr, refl, sym, ap, ◌∙◌, not, [], ◌∷◌, Contains, Ok, Err, arith, suc, ◌++◌, map, Result}
+use Rattle.std.specs.Prelude.{codes, ⊤}
+use Rattle.conf_laws.proofs.Agreement.{Agrees, nothing_agrees, inside_agrees, behind_agrees, Takes, takes_beside, takes_further, item_agrees, ItemParts, item_found}
+use Rattle.conf_laws.proofs.Numbers.{number_told}
+use Rattle.conf_laws.proofs.Readings.{element_bits, by_element, by_found, by_test}
+use Rattle.conf_laws.proofs.ValueFlawLaws.{either_step, not_passed, no_class_word, number_there, value_told, name_told}
+use Rattle.conf_laws.specs.Around.{HasNumber, Around, Parts, member_of, item_of}
+use Rattle.conf_laws.specs.TableFlaws.{IsPropertyOf, IsLeftOut, IsNoClassAt, HasNotItsRows, IsByte, IsIdentifier, HasNoBits, IsNoShapeAt, IsFlawOf}
+use Rattle.conf_laws.specs.ValueFlaws.{words_of_classes}
+use Rattle.conf_laws.proofs.TableWords.{class_words, class_in, admits_class, content_under, presence_under, Told, rows_of, Place, At, Content, Presence}
+use Rattle.conf_laws.proofs.TableWords.places
+use Rattle.conf_laws.proofs.TableWords.presences
+use Rattle.conf_laws.proofs.JudgeWords.{other_class, may_inherit, resolved_content, is_needed, is_null, left_out, is_left_out, admitted, class_rule, row_there, rows_there, one_there, orders_there, all_there, told_by, content_or_any, property_flaws, object_flaws, inner_flaws, item_flaws, member_flaws, configuration_flaws, itself_of, Known, nothing, inside, behind, with_taken, class_named, class_said, class_of, key_of, names_beside, with_names, natural_or_none, natural_in, is_position, place_of_properties, item_content, is_number, is_unsigned_integer, is_static_array, is_eight, is_byte, is_identifier, has_bits, element_has_bits, shape_of}
+use Rattle.conf_laws.proofs.TreeWords.{Flaw, key, here, within, index, ◌>>=◌, at, needed, optional, given, text_of, HasMember, refusal, WrongKind, OutOfRange, Missing, Unknown, same_flaw, refused_there, refused_test, wanted_refused, wanted_found, holds_of, lacks_refused, found_there, read_there, IsNoWordOf, as_natural, Data, null, object, Members, array, Items, no_items, item, no_members, member, items_len, get_member, as_str}
+use Rattle.conf_laws.proofs.StdWords.{nat_tests, true≢false, false≢true, and_parts, and_from, and_cases, or_parts, All-nil, All-cons, All-map, All-append, All-weaker, All-contains, bytes_eq-Decides, All, option_map_or, bytes_eq}
+
+-- ---- properties
+
+module _ (place : Place) (name : List ℕ) where
+  -- what an object inherits from is none of its properties
+  abbrev Inherits : Type 0
+  Inherits = (name ≡ codes "$inherit") × IsSome (presence_under place name)
+
+  inherits_told : (bytes_eq name (codes "$inherit") && may_inherit place) ≡ true → Inherits
+  inherits_told e =
+      let p = and_parts (bytes_eq name (codes "$inherit")) (may_inherit place) e in
+      let same : name ≡ codes "$inherit" = (bytes_eq-Decides name (codes "$inherit")).0 p.0 in
+      (same, ap (λ n. is_some (presence_under place n)) same ∙ p.1)
+
+  told_inherits : Inherits → (bytes_eq name (codes "$inherit") && may_inherit place) ≡ true
+  told_inherits (same, some) = and_from (bytes_eq name (codes "$inherit")) (may_inherit place) ((bytes_eq-Decides name (codes "$inherit")).1 same) (ap (λ n. is_some (presence_under place n)) (sym same) ∙ some)
+
+  pub property_is : (content : Content) → resolved_content place name ≡ Some content → IsPropertyOf place name content
+  unfolding resolved_content
+  property_is content e =
+      by_test (λ (b : Bool). cond b None (content_under place name) ≡ Some content → IsPropertyOf place name content) (bytes_eq name (codes "$inherit") && may_inherit place)
+      (λ is f. absurd cc) (λ is f. (f, λ inherits. false≢true (sym is ∙ told_inherits inherits))) e
+
+  pub is_property : (content : Content) → IsPropertyOf place name content → resolved_content place name ≡ Some content
+  unfolding resolved_content
+  is_property content (there, own) =
+      by_test (λ (b : Bool). cond b None (content_under place name) ≡ Some content) (bytes_eq name (codes "$inherit") && may_inherit place) (λ is. absurd (own (inherits_told is))) (λ is. there)
+
+  pub none_is : resolved_content place name ≡ None → (content : Content) → ¬ IsPropertyOf place name content
+  none_is none content is = some_none (resolved_content place name) content (is_property content is) none
+    where
+      some_none : (o : Option Content) (x : Content) → o ≡ Some x → o ≡ None → ⊥
+      some_none o x p q = cc
+
+  pub is_none : ((content : Content) → ¬ IsPropertyOf place name content) → resolved_content place name ≡ None
+  is_none none =
+      by_found (λ (o : Option Content). resolved_content place name ≡ None) (resolved_content place name) (λ is. is) (λ content is. absurd (none content (property_is content is)))
+
+-- ---- values that are left out
+
+null_told : (d : Data) → is_null d ≡ true → d ≡ null
+null_told null e = refl
+null_told _ e = absurd cc
+
+not_needed : (p : Presence) → is_needed p ≡ false → p ≢ presences.Needed
+not_needed p e same = true≢false (sym (ap is_needed same) ∙ e)
+
+is_not_needed : (p : Presence) → p ≢ presences.Needed → is_needed p ≡ false
+is_not_needed presences.Needed other = absurd (other refl)
+is_not_needed _ other = refl
+
+-- the value of a presence that is asked for
+left_told : (o : Option Presence) (d : Data) → left_out o d ≡ true → (d ≡ null) × ((presence : Presence) × (o ≡ Some presence) × (presence ≢ presences.Needed))
+left_told None d e = absurd cc
+left_told (Some presence) d e =
+    by_test (λ (b : Bool). cond b false (is_null d) ≡ true → (d ≡ null) × ((p : Presence) × (Some presence ≡ Some p) × (p ≢ presences.Needed))) (is_needed presence)
+    (λ is f. absurd cc) (λ is f. (null_told d f, (presence, refl, not_needed presence is))) e
+
+told_left : (presence : Presence) → presence ≢ presences.Needed → left_out (Some presence) null ≡ true
+told_left presence other = rw (is_not_needed presence other) refl
+
+module _ (place : Place) (name : List ℕ) (d : Data) where
+  pub not_left : is_left_out place name d ≡ false → ¬ IsLeftOut place name d
+  unfolding is_left_out
+  not_left e (is, (presence, there, other)) = true≢false (sym (told_left presence other) ∙ ap (left_out (Some presence)) (sym is) ∙ ap (λ o. left_out o d) (sym there) ∙ e)
+
+  pub left_not : ¬ IsLeftOut place name d → is_left_out place name d ≡ false
+  unfolding is_left_out
+  left_not other =
+      by_test (λ (b : Bool). left_out (presence_under place name) d ≡ false) (left_out (presence_under place name) d) (λ is. absurd (other (left_told (presence_under place name) d is))) (λ is. is)
+
+-- ---- a class that cannot stand where it is
+
+pub other_told : (place : Place) → ((place ≡ places.IdentifierFeature) × (other_class place ≡ OutOfRange)) ⊎ ((place ≢ places.IdentifierFeature) × (other_class place ≡ WrongKind))
+unfolding other_class
+other_told places.IdentifierFeature = inl (refl, refl)
+other_told _ = inr (λ same. absurd cc, refl)
+
+-- ---- the class
+
+module _ (place : Place) (ms : Members) (flaw : Flaw) (is : is_position place ≡ true) where
+  wrong_word : (d : Data) (f : Flaw) → get_member (codes "class") ms ≡ Some d → IsNoWordOf words_of_classes d f → flaw ≡ within (key (codes "class")) f → IsNoClassAt place ms flaw
+  wrong_word d f there wrong same = IsNoClassAt.no_class is (inr (d, f, there, wrong, same))
+
+  class_admitted : (d : Data) (w : List ℕ) (o : Option Place) → get_member (codes "class") ms ≡ Some d → as_str d ≡ Some w → class_in w class_words ≡ o → admitted place o ≡ Err flaw → IsNoClassAt place ms flaw
+  unfolding class_of
+  class_admitted d w None there text found e =
+      wrong_word d (here OutOfRange) there (IsNoWordOf.another_word w text (no_class_word class_words w (ap is_some found))) (same_flaw flaw (within (key (codes "class")) (here OutOfRange)) (admitted place None) e refl)
+  class_admitted d w (Some class) there text found e =
+      let told = refused_test (admits_class place class) tt (here (other_class place)) flaw e in
+      let said = ap class_said there ∙ ap class_named text ∙ found in
+      elim (other_told place) [
+        | inl (identifier, kind) ↦ holds_of (IsNoClassAt place ms) (here OutOfRange) flaw (told.1 ∙ ap here kind) (IsNoClassAt.no_array class identifier said told.0)
+        | inr (other, kind) ↦ holds_of (IsNoClassAt place ms) (here WrongKind) flaw (told.1 ∙ ap here kind) (IsNoClassAt.another_class class is other said told.0)
+      ]
+
+  class_refused : (needed (codes "class") ms >>= (λ d. at (key (codes "class")) (text_of d) >>= (λ w. admitted place (class_in w class_words)))) ≡ Err flaw → IsNoClassAt place ms flaw
+  class_refused e =
+      either_step (needed (codes "class") ms) _ flaw e
+      (λ r. IsNoClassAt.no_class is (inl (lacks_refused (codes "class") ms flaw r)))
+      (λ d went rest.
+      let there = found_there (codes "class") ms d went in
+      either_step (at (key (codes "class")) (text_of d)) _ flaw rest
+      (λ r.
+      let told = refused_there (key (codes "class")) (text_of d) flaw r in
+      let none = wanted_refused (as_str d) told.0 told.1 in
+      wrong_word d told.0 there (holds_of (IsNoWordOf words_of_classes d) (here WrongKind) told.0 none.1 (IsNoWordOf.no_text none.0)) told.2)
+      (λ w read r. class_admitted d w (class_in w class_words) there (wanted_found (as_str d) w (read_there (key (codes "class")) (text_of d) w read)) refl r))
+
+pub class_told : (place : Place) (ms : Members) (flaw : Flaw) → class_rule place ms ≡ Err flaw → IsNoClassAt place ms flaw
+unfolding class_rule
+class_told place ms flaw e =
+    by_test (λ (b : Bool). cond b (needed (codes "class") ms >>= (λ d. at (key (codes "class")) (text_of d) >>= (λ w. admitted place (class_in w class_words)))) (Ok tt) ≡ Err flaw → IsNoClassAt place ms flaw) (is_position place)
+    (λ is f. class_refused place ms flaw is f) (λ is f. absurd cc) e
+
+-- ---- what is missing
+
+needed_told : (p : Presence) → is_needed p ≡ true → p ≡ presences.Needed
+needed_told presences.Needed e = refl
+needed_told _ e = absurd cc
+
+module _ (ms : Members) where
+  row_told : (row : Told) (flaw : Flaw) → row_there ms row ≡ Err flaw → (row.presence ≡ presences.Needed) × (get_member row.name ms ≡ None) × (flaw ≡ within (key row.name) (here Missing))
+  row_told row flaw e = go (is_needed row.presence) refl (get_member row.name ms) refl
+    where
+      go : (b : Bool) → is_needed row.presence ≡ b → (o : Option Data) → get_member row.name ms ≡ o → (row.presence ≡ presences.Needed) × (get_member row.name ms ≡ None) × (flaw ≡ within (key row.name) (here Missing))
+      go false n o g = let f : row_there ms row ≡ Ok tt = rw n refl in absurd cc
+      go true n (Some d) g = let f : row_there ms row ≡ Ok tt = rw (n, g) refl in absurd cc
+      go true n None g = let f : row_there ms row ≡ Err (within (key row.name) (here Missing)) = rw (n, g) refl in (needed_told row.presence n, g, same_flaw flaw (within (key row.name) (here Missing)) (row_there ms row) e f)
+
+  rows_told : (rows : List Told) (flaw : Flaw) → rows_there ms rows ≡ Err flaw → (row : Told) × Contains rows row × (row.presence ≡ presences.Needed) × (get_member row.name ms ≡ None) × (flaw ≡ within (key row.name) (here Missing))
+  rows_told [] flaw e = absurd cc
+  rows_told (row ∷ rows) flaw e =
+      either_step (row_there ms row) _ flaw e
+      (λ r. let told = row_told row flaw r in (row, (0, omega arith, refl), told.0, told.1, told.2))
+      (λ x went r. let later = rows_told rows flaw r in (later.0, (suc later.1.0, omega (arith, later.1.1), later.1.2), later.2, later.3, later.4))
+
+  orders_told : (place : Place) (flaw : Flaw) → orders_there place ms ≡ Err flaw → HasNotItsRows place ms flaw
+  unfolding orders_there
+  orders_told places.TraceType flaw e = go (optional (codes "trace-byte-order") ms) refl (optional (codes "native-byte-order") ms) refl e
+    where
+      go : (o : Option Data) → optional (codes "trace-byte-order") ms ≡ o → (p : Option Data) → optional (codes "native-byte-order") ms ≡ p → one_there o p ≡ Err flaw → HasNotItsRows places.TraceType ms flaw
+      go None a None b f = holds_of (HasNotItsRows places.TraceType ms) (within (key (codes "trace-byte-order")) (here Missing)) flaw (same_flaw flaw (within (key (codes "trace-byte-order")) (here Missing)) (one_there None None) f refl) (HasNotItsRows.no_byte_order refl a b)
+      go _ a _ b f = absurd cc
+  orders_told _ flaw e = absurd cc
+
+  pub missing_told : (place : Place) (flaw : Flaw) → all_there place ms ≡ Err flaw → HasNotItsRows place ms flaw
+  unfolding all_there
+  missing_told place flaw e =
+      either_step (rows_there ms (rows_of place)) _ flaw e
+      (λ r. let told = rows_told (rows_of place) flaw r in holds_of (HasNotItsRows place ms) (within (key told.0.name) (here Missing)) flaw told.4 (HasNotItsRows.missing told.0 told.1 told.2 told.3))
+      (λ x went r. orders_told place flaw r)
+
+-- ---- what a field type is as a whole
+
+pub number_found : (name : List ℕ) (ms : Members) (n : ℕ) → HasNumber name ms n → natural_in name ms ≡ Some n
+unfolding natural_in
+number_found name ms n (d, there, is) = ap natural_or_none there ∙ is
+
+given_number : (d : Data) (n : ℕ) → as_natural d ≡ Some n → given (Some d) ≡ Some d
+unfolding as_natural
+given_number null n e = absurd cc
+given_number _ n e = refl
+
+eight_found : (ms : Members) → (optional (codes "alignment") ms ≡ None) ⊎ HasNumber (codes "alignment") ms 8 → is_eight (optional (codes "alignment") ms) ≡ true
+eight_found ms (inl none) = ap is_eight none
+eight_found ms (inr (d, there, is)) = ap is_eight (ap given there ∙ given_number d 8 is) ∙ ap (λ o. is_number o 8) is
+
+byte_found : (ms : Members) → IsByte ms → is_byte (Some (object ms)) ≡ true
+byte_found ms (class, size, align) =
+    and_from (is_unsigned_integer (class_of ms)) _ (ap is_unsigned_integer class)
+    (and_from (is_number (natural_in (codes "size") ms) 8) (is_eight (optional (codes "alignment") ms)) (ap (λ o. is_number o 8) (number_found (codes "size") ms 8 size)) (eight_found ms align))
+
+identifier_found : (ms : Members) → IsIdentifier ms → is_identifier ms ≡ true
+unfolding is_identifier
+identifier_found ms (element, length, there, byte) =
+    and_from (is_number (natural_in (codes "length") ms) 16) (is_byte (get_member (codes "element-field-type") ms)) (ap (λ o. is_number o 16) (number_found (codes "length") ms 16 length)) (ap is_byte there ∙ byte_found element byte)
+
+pub static_told : (o : Option Place) → not (is_static_array o) ≡ false → o ≡ Some places.StaticArray
+static_told (Some places.StaticArray) e = refl
+static_told _ e = absurd cc
+
+bits_told : (d : Data) → has_bits d ≡ false → HasNoBits d
+bits_told d = by_element (λ x. has_bits x ≡ false → HasNoBits x) step d
+  where
+    of_element : (ms : Members) (o : Option Data) → get_member (codes "element-field-type") ms ≡ o → ((x : Data) → get_member (codes "element-field-type") ms ≡ Some x → has_bits x ≡ false → HasNoBits x) → class_of ms ≡ Some places.StaticArray → option_map_or has_bits o true ≡ false → HasNoBits (object ms)
+    of_element ms None there inner class none = absurd cc
+    of_element ms (Some x) there inner class none = HasNoBits.an_array_of_such ms x class there (inner x there none)
+
+    step : (d : Data) → ((ms : Members) (x : Data) → d ≡ object ms → get_member (codes "element-field-type") ms ≡ Some x → has_bits x ≡ false → HasNoBits x) → has_bits d ≡ false → HasNoBits d
+    step (object ms) inner e =
+        let p = or_parts (not (is_static_array (class_of ms))) _ e in
+        let class = static_told (class_of ms) p.0 in
+        elim (and_cases (not (is_number (natural_in (codes "length") ms) 0)) (element_has_bits ms) p.1) [
+          | inl empty ↦ HasNoBits.an_empty_array ms class (number_there (codes "length") ms 0 (number_told (natural_in (codes "length") ms) 0 (let none : is_number (natural_in (codes "length") ms) 0 ≡ true = grind (arith, nat_tests) in none)))
+          | inr none ↦ of_element ms (get_member (codes "element-field-type") ms) refl (λ x there. inner ms x refl there) class (sym (element_bits ms) ∙ none)
+        ]
+    step _ inner e = absurd cc
+
+pub shape_told : (place : Place) (ms : Members) (flaw : Flaw) → shape_of place ms ≡ Err flaw → IsNoShapeAt place ms flaw
+unfolding shape_of
+shape_told places.MagicFeature ms flaw e =
+    let told = not_passed (is_number (natural_in (codes "size") ms) 32) flaw e in
+    holds_of (IsNoShapeAt places.MagicFeature ms) (here OutOfRange) flaw told.1 (IsNoShapeAt.no_magic_number refl (λ has. false≢true (sym told.0 ∙ ap (λ o. is_number o 32) (number_found (codes "size") ms 32 has))))
+shape_told places.IdentifierFeature ms flaw e =
+    let told = not_passed (is_identifier ms) flaw e in
+    holds_of (IsNoShapeAt places.IdentifierFeature ms) (here OutOfRange) flaw told.1 (IsNoShapeAt.no_identifier refl (λ is. false≢true (sym told.0 ∙ identifier_found ms is)))
+shape_told places.DynamicElementType ms flaw e =
+    let told = not_passed (has_bits (object ms)) flaw e in
+    holds_of (IsNoShapeAt places.DynamicElementType ms) (here OutOfRange) flaw told.1 (IsNoShapeAt.no_bits refl (bits_told (object ms) told.0))
+shape_told _ ms flaw e = absurd cc
 
 -- ---- lists of flaws
-
-pub mapped_all : {A B : Type 0} (P : B → Type 0) (f : A → B) (xs : List A) → All (λ x. P (f x)) xs → All P (map f xs)
-mapped_all P f [] h = All-nil P
-mapped_all P f (x ∷ xs) h = All-cons P (f x) (map f xs) (All-head (λ y. P (f y)) x xs h) (mapped_all P f xs (All-tail (λ y. P (f y)) x xs h))
 
 told_all : (P : Flaw → Type 0) (r : Result ⊤ Flaw) → ((flaw : Flaw) → r ≡ Err flaw → P flaw) → All P (told_by r)
 told_all P (Ok x) h = All-nil P
@@ -89,15 +285,10 @@ module _ (around : Around) (place : Place) (ms : Members) (held : List Flaw) whe
 
 mutual
   inner_told : (d : Data) (k : Known) (around : Around) → Agrees k around → (content : Content) → All (IsFlawOf around content d) (inner_flaws k content d)
-  inner_told null k around h content = All-nil _
-  inner_told (boolean b) k around h content = All-nil _
-  inner_told (number n) k around h content = All-nil _
-  inner_told (string s) k around h content = All-nil _
   inner_told (array ds) k around h (At place) = items_told ds k around h place ds no_items (names_beside place) (takes_beside place) ItemParts.at_the_first
-  inner_told (array ds) k around h _ = All-nil _
   inner_told (object ms) k around h (At place) =
       object_told around place ms _ (members_told ms (inside (place_of_properties place ms) ms k) around place ms no_members (inside_agrees k around h (place_of_properties place ms) ms) Parts.at_the_first)
-  inner_told (object ms) k around h _ = All-nil _
+  inner_told _ k around h _ = All-nil _
 
   items_told : (rest : Items) (k : Known) (around : Around) → Agrees k around → (place : Place) (all before : Items) (taken : Members) → Takes taken place before → ItemParts all before rest
       → All (IsFlawOf around (At place) (array all)) (item_flaws k place taken (items_len before) rest)
@@ -108,16 +299,16 @@ mutual
       let flaws = told_by (itself_of known (item_content place) d) ++ inner_flaws known (item_content place) d in
       let held = value_and_held known (item_of place all (items_len before) ∷ around) agrees (item_content place) d (inner_told d known (item_of place all (items_len before) ∷ around) agrees (item_content place)) in
       All-append (IsFlawOf around (At place) (array all)) (map (within (index (items_len before))) flaws) _
-      (mapped_all (IsFlawOf around (At place) (array all)) (within (index (items_len before))) flaws
+      (All-map (IsFlawOf around (At place) (array all)) (within (index (items_len before))) flaws
       (All-weaker (IsFlawOf (item_of place all (items_len before) ∷ around) (item_content place) d) (λ flaw. IsFlawOf around (At place) (array all) (within (index (items_len before)) flaw)) (λ flaw wrong. IsFlawOf.in_item (items_len before) d flaw (item_found all before rest d parts) wrong) flaws held))
-      (items_told rest k around h place all (item d before) (with_names d taken) (takes_further taken place before d takes) (ItemParts.behind before d rest parts))
+      (items_told rest k around h place all (item d before) (with_names d taken) (takes_further taken place before d takes) (ItemParts.behind_item before d rest parts))
 
   members_told : (rest : Members) (k : Known) (around : Around) (place : Place) (all before : Members) → Agrees k (member_of (place_of_properties place all) all before ∷ around) → Parts all before rest
       → All (IsFlawOf around (At place) (object all)) (member_flaws k (place_of_properties place all) rest)
   members_told no_members k around place all before h parts = All-nil _
   members_told (member name d rest) k around place all before h parts =
       All-append (IsFlawOf around (At place) (object all)) (map (within (key name)) _) _
-      (mapped_all (IsFlawOf around (At place) (object all)) (within (key name)) _
+      (All-map (IsFlawOf around (At place) (object all)) (within (key name)) _
       (property_told k around place all before rest name d h parts (λ content. inner_told d k (member_of (place_of_properties place all) all before ∷ around) h content)))
       (members_told rest (behind (place_of_properties place all) d k) around place all (member name d before) (behind_agrees around all before name d (place_of_properties place all) k h) (Parts.behind before name d rest parts))
 

@@ -1,53 +1,217 @@
 -- Each limit that the walk over a configuration tells of is one that it passes by the table.
-use Rattle.std.proofs.Common.{◌≡◌, ◌++◌, ◌%◌, ◌==◌, ◌<◌, ◌&&◌, ℕ, Bool, true, false, cond, List, [], length, map, Contains, Option, Some, None, is_some, inl, inr, refl, sym, ap, ◌∙◌, Err}
-use Rattle.std.specs.Prelude.{nat_le, nat_eq}
-use Rattle.std.specs.List.{All}
-use Rattle.std.proofs.lemmas.Bool.{true≢false, and_cases, or_parts, leb-false, eqb-false}
-use Rattle.std.proofs.lemmas.List.Elements.{All-nil, All-cons, All-append, All-weaker, All-contains}
-use Rattle.std.proofs.Math.Nat.{mul-mod_right}
-use Rattle.serde_json.specs.Data.{Data, null, boolean, number, string, array, object, Items, no_items, item, Members, no_members, member}
-use Rattle.serde_json.specs.Events.{items_len}
-use Rattle.conf_tree.specs.declared.fault_kind.FaultKind.TheVariants.{Limit}
-use Rattle.conf_tree.specs.Flaw.{Flaw, key, index, here, within}
-use Rattle.conf_tree.specs.Walk.{HasMember, refusal}
-use Rattle.conf_table.specs.declared.place.Place.{Place}
-use Rattle.conf_table.specs.declared.place.Place.TheVariants as places
-use Rattle.conf_table.specs.declared.row.Content.{Content}
-use Rattle.conf_table.specs.declared.row.Content.TheVariants as contents
-use Rattle.conf_table.specs.declared.row.Entries.{Entries}
-use Rattle.conf_table.specs.declared.row.Keys.{Keys}
-use Rattle.conf_table.specs.declared.row.Keys.TheVariants as keys
-use Rattle.conf_table.specs.Table.{entries_of, content_under}
-use Rattle.conf_values.specs.Scalar.{as_natural}
-use Rattle.conf_judge.specs.Flaws.{told_by, content_or_any}
-use Rattle.conf_judge.specs.Limits.{within_limit, bytes_fit, divides, power_fits, elements, is_outermost, arrays_fit, count_of, at_most, ranges_of, ranges_fit, place_fits, fits, is_label, key_fits, inner_limits, item_limits, member_limits, configuration_limits}
-use Rattle.conf_judge.specs.Places.{place_of_properties, item_content}
-use Rattle.conf_laws.specs.Around.{Parts}
-use Rattle.conf_laws.specs.TableLimits.{PassesAt, IsLongText, IsNoPowerUpTo, PassesBy, PassesLimitOf}
-use Rattle.conf_laws.proofs.Items.{ItemParts, item_found}
+use Rattle.std.proofs.Common.{◌≡◌, ◌⊎◌, ◌*◌, ◌≤◌, ◌<◌, ℕ, zero, suc, Bool, true, false, not, cond, List, [], ◌∷◌, length, Option, Some, None, inl, inr, refl, sym, ap, subst, ◌∙◌, arith, ◌++◌, ◌%◌, ◌==◌, ◌&&◌, map, Contains, is_some, Err}
+use Rattle.std.specs.Prelude.{codes, nat_le, nat_eq}
+use Rattle.conf_laws.proofs.Agreement.{ItemParts, item_found}
+use Rattle.conf_laws.proofs.Readings.{some_none, some_same, of_element, in_array, by_found, by_test}
+use Rattle.conf_laws.proofs.TableFlawLaws.{static_told, member_there, refused_among}
 use Rattle.conf_laws.proofs.ValueFlawLaws.{none_there}
-use Rattle.conf_laws.proofs.TableFlawLaws.{mapped_all, member_there, refused_among}
-use Rattle.conf_laws.proofs.ArrayLimitLaws.{elements_told}
+use Rattle.conf_laws.specs.Around.{Parts}
+use Rattle.conf_laws.specs.TableLimits.{IsArray, HasElement, Nest, product, HasTooManyElements, PassesAt, IsLongText, IsNoPowerUpTo, PassesBy, PassesLimitOf}
+use Rattle.conf_laws.proofs.TableWords.{entries_of, content_under, Place, Content, Entries, Keys}
+use Rattle.conf_laws.proofs.TableWords.places
+use Rattle.conf_laws.proofs.TableWords.contents
+use Rattle.conf_laws.proofs.TableWords.keys
+use Rattle.conf_laws.proofs.JudgeWords.{told_by, content_or_any, times, at_least_one, elements, within_limit, bytes_fit, divides, power_fits, is_outermost, arrays_fit, count_of, at_most, ranges_of, ranges_fit, place_fits, fits, is_label, key_fits, inner_limits, item_limits, member_limits, configuration_limits, class_of, natural_in, place_of_properties, item_content, is_static_array}
+use Rattle.conf_laws.proofs.TreeWords.{Flaw, key, index, here, within, HasMember, refusal, Limit, as_natural, Data, object, Members, string, array, Items, no_items, item, no_members, member, items_len, get_member}
+use Rattle.conf_laws.proofs.StdWords.{nat_tests, mul-one, one-le-mul, mul-mod_right, leb-true, leb-false, eqb-false, true≢false, and_cases, or_parts, All-nil, All-cons, All-map, All-append, All-weaker, All-contains, mul-le, cond_some, All}
+
+-- ---- the counts of one array
+
+-- the elements of a value are counted as one, or it is an array
+array_or_one : (levels : ℕ) (d : Data) → (elements levels d ≡ Some 1) ⊎ ((ms : Members) × (d ≡ object ms) × (is_static_array (class_of ms) ≡ true))
+array_or_one levels (object ms) = go (is_static_array (class_of ms)) refl levels
+  where
+    go : (b : Bool) → is_static_array (class_of ms) ≡ b → (l : ℕ) → (elements l (object ms) ≡ Some 1) ⊎ ((ns : Members) × (object ms ≡ object ns) × (is_static_array (class_of ns) ≡ true))
+    go true is l = inr (ms, refl, is)
+    go false is zero = inl (rw is refl)
+    go false is (suc l) = inl (rw is refl)
+array_or_one levels _ = inl refl
+
+-- each array counts as one at least
+some_count : (o : Option ℕ) → (n : ℕ) × (at_least_one o ≡ Some n) × (1 ≤ n)
+some_count None = (1, refl, omega arith)
+some_count (Some n) = (cond (nat_eq n 0) 1 n, refl, grind (arith, nat_tests))
+
+count_of_one : (ms : Members) (n : ℕ) → at_least_one (natural_in (codes "length") ms) ≡ Some n → 1 ≤ n
+count_of_one ms n e =
+    let some = some_count (natural_in (codes "length") ms) in
+    subst (λ m. 1 ≤ m) (some_same (at_least_one (natural_in (codes "length") ms)) some.0 n some.1 e) some.2
+
+-- the product of two counts, where it is not too large
+pub record Times (a b : Option ℕ) (m : ℕ) : Type 0 where
+  pub first : ℕ
+  pub second : ℕ
+  pub one : a ≡ Some first
+  pub two : b ≡ Some second
+  pub is : m ≡ first * second
+  pub most : m ≤ 1048576
+
+pub times_told : (a b : Option ℕ) (m : ℕ) → times a b ≡ Some m → Times a b m
+times_told (Some n) (Some k) m e =
+    let p = cond_some (nat_le (n * k) 1048576) (n * k) m e in
+    record { first = n; second = k; one = refl; two = refl; is = sym p.1; most = subst (λ x. x ≤ 1048576) p.1 (leb-true (n * k) 1048576 p.0) }
+times_told _ _ m e = absurd cc
+
+too_large_told : (n k : ℕ) → times (Some n) (Some k) ≡ None → 1048576 < n * k
+too_large_told n k e = grind (arith, nat_tests)
+
+-- ---- what is counted stands in one another
+
+module _ (ms : Members) (static : is_static_array (class_of ms) ≡ true) where
+  is_array : (n : ℕ) → at_least_one (natural_in (codes "length") ms) ≡ Some n → IsArray ms n
+  is_array n count = (static_told (class_of ms) (ap not static), count)
+
+  no_levels : elements 0 (object ms) ≡ None
+  no_levels = rw static refl
+
+  counted : (levels : ℕ) → elements (suc levels) (object ms) ≡ of_element levels (at_least_one (natural_in (codes "length") ms)) (get_member (codes "element-field-type") ms)
+  counted levels = rw static (in_array levels (at_least_one (natural_in (codes "length") ms)) ms)
+
+-- these stand in one another, and have so many elements in all
+abbrev Counts : Data → ℕ → Type 0
+Counts d m = (ns : List ℕ) × Nest d ns × (product ns ≡ m)
+
+counts_one : (d : Data) (m : ℕ) → Some 1 ≡ Some m → Counts d m
+counts_one d m e = ([], Nest.none d, cc)
+
+array_counts : (levels : ℕ) (ms : Members) (m : ℕ) → is_static_array (class_of ms) ≡ true → ((d : Data) (k : ℕ) → elements levels d ≡ Some k → Counts d k) → (o : Option Data) → get_member (codes "element-field-type") ms ≡ o
+    → of_element levels (at_least_one (natural_in (codes "length") ms)) o ≡ Some m → Counts (object ms) m
+array_counts levels ms m static inner None is f = (m ∷ [], Nest.innermost ms m (is_array ms static m f), mul-one m)
+array_counts levels ms m static inner (Some element) is f =
+    let t = times_told (at_least_one (natural_in (codes "length") ms)) (elements levels element) m f in
+    let rest = inner element t.second t.two in
+    (t.first ∷ rest.0, Nest.around_others ms t.first element rest.0 (is_array ms static t.first t.one) is rest.1, ap (λ x. t.first * x) rest.2 ∙ sym t.is)
+
+counts_of : (levels : ℕ) (d : Data) (m : ℕ) → elements levels d ≡ Some m → Counts d m
+counts_of zero d m e = elim (array_or_one 0 d) [ inl one ↦ counts_one d m (sym one ∙ e) | inr (ms, is, static) ↦ some_none (elements 0 d) m e (ap (elements 0) is ∙ no_levels ms static) ]
+counts_of (suc levels) d m e = elim (array_or_one (suc levels) d) [
+  | inl one ↦ counts_one d m (sym one ∙ e)
+  | inr (ms, is, static) ↦ subst (λ x. Counts x m) (sym is) (array_counts levels ms m static (counts_of levels) _ refl (sym (counted ms static levels) ∙ ap (elements (suc levels)) (sym is) ∙ e))
+]
+
+-- ---- what is not counted is too much
+
+abbrev IsTooDeep : ℕ → Data → Type 0
+IsTooDeep levels d = (ns : List ℕ) × Nest d ns × (levels < length ns)
+
+abbrev AreTooMany : Data → Type 0
+AreTooMany d = (ms : Members) × (element : Data) × (ns : List ℕ) × (d ≡ object ms) × HasElement ms element × Nest d ns × (1048576 < product ns)
+
+larger : (n m : ℕ) → 1 ≤ n → m ≤ n * m
+larger n m some = let more : 1 * m ≤ n * m = mul-le 1 m n m some (omega arith) in omega (arith, more)
+
+array_too_much : (levels : ℕ) (ms : Members) (n : ℕ) → IsArray ms n → 1 ≤ n → ((d : Data) → elements levels d ≡ None → IsTooDeep levels d ⊎ AreTooMany d) → (o : Option Data) → get_member (codes "element-field-type") ms ≡ o
+    → of_element levels (Some n) o ≡ None → IsTooDeep (suc levels) (object ms) ⊎ AreTooMany (object ms)
+array_too_much levels ms n is_one some inner None has f = absurd cc
+array_too_much levels ms n is_one some inner (Some element) has f = go (elements levels element) refl f
+  where
+    go : (o : Option ℕ) → elements levels element ≡ o → times (Some n) o ≡ None → IsTooDeep (suc levels) (object ms) ⊎ AreTooMany (object ms)
+    go None is g = elim (inner element is) [
+      | inl (ns, nest, deep) ↦ inl (n ∷ ns, Nest.around_others ms n element ns is_one has nest, omega (arith, deep))
+      | inr (os, other, ns, same, has_too, nest, many) ↦ let more = larger n (product ns) some in inr (ms, element, n ∷ ns, refl, has, Nest.around_others ms n element ns is_one has nest, omega (arith, many, more))
+    ]
+    go (Some k) is g =
+        let rest = counts_of levels element k is in
+        inr (ms, element, n ∷ rest.0, refl, has, Nest.around_others ms n element rest.0 is_one has rest.1, subst (λ x. 1048576 < n * x) (sym rest.2) (too_large_told n k g))
+
+too_much : (levels : ℕ) (d : Data) → elements levels d ≡ None → IsTooDeep levels d ⊎ AreTooMany d
+too_much zero d e = elim (array_or_one 0 d) [
+  | inl one ↦ some_none (elements 0 d) 1 one e
+  | inr (ms, is, static) ↦ let some = some_count (natural_in (codes "length") ms) in inl (some.0 ∷ [], subst (λ x. Nest x (some.0 ∷ [])) (sym is) (Nest.innermost ms some.0 (is_array ms static some.0 some.1)), omega arith)
+]
+too_much (suc levels) d e = elim (array_or_one (suc levels) d) [
+  | inl one ↦ some_none (elements (suc levels) d) 1 one e
+  | inr (ms, is, static) ↦
+      let some = some_count (natural_in (codes "length") ms) in
+      let none = ap (λ c. of_element levels c (get_member (codes "element-field-type") ms)) (sym some.1) ∙ sym (counted ms static levels) ∙ ap (elements (suc levels)) (sym is) ∙ e in
+      subst (λ x. IsTooDeep (suc levels) x ⊎ AreTooMany x) (sym is) (array_too_much levels ms some.0 (is_array ms static some.0 some.1) some.2 (too_much levels) _ refl none)
+]
+
+pub elements_told : (d : Data) → elements 8 d ≡ None → HasTooManyElements d
+elements_told d e = elim (too_much 8 d e) [
+  | inl (ns, nest, deep) ↦ HasTooManyElements.too_deep ns nest deep
+  | inr (ms, element, ns, is, has, nest, many) ↦ HasTooManyElements.too_many ms element ns is has nest many
+]
+
+-- ---- what stands in one another too deep, or is too much, is not counted
+
+nest_some : (d : Data) (ns : List ℕ) → Nest d ns → 1 ≤ product ns
+nest_some d ns (Nest.none e) = omega arith
+nest_some d ns (Nest.innermost ms n is_one) = one-le-mul (count_of_one ms n is_one.1) (omega arith)
+nest_some d ns (Nest.around_others ms n element rest is_one has nest) = one-le-mul (count_of_one ms n is_one.1) (nest_some element rest nest)
+
+-- what is counted has one element at least
+counted_some : (levels : ℕ) (d : Data) (m : ℕ) → elements levels d ≡ Some m → 1 ≤ m
+counted_some levels d m e = let counts = counts_of levels d m e in subst (λ x. 1 ≤ x) counts.2 (nest_some d counts.0 counts.1)
+
+-- what nests so is counted as so much at least, or is not counted
+abbrev Covers : Option ℕ → ℕ → ℕ → ℕ → Type 0
+Covers counted levels most length = (counted ≡ None) ⊎ ((m : ℕ) × (counted ≡ Some m) × (most ≤ m) × (length ≤ levels))
+
+multiplied : (n : ℕ) (o : Option ℕ) (p levels l : ℕ) → Covers o levels p l → Covers (times (Some n) o) (suc levels) (n * p) (suc l)
+multiplied n o p levels l (inl none) = inl (ap (times (Some n)) none)
+multiplied n o p levels l (inr (k, is, le, short)) = subst (λ x. Covers (times (Some n) x) (suc levels) (n * p) (suc l)) (sym is) (go (nat_le (n * k) 1048576))
+  where
+    go : (b : Bool) → Covers (cond b (Some (n * k)) None) (suc levels) (n * p) (suc l)
+    go true = inr (n * k, refl, mul-le n p n k (omega arith) le, omega (arith, short))
+    go false = inl refl
+
+covered_one : (levels : ℕ) (d : Data) → Covers (elements levels d) levels 1 0
+covered_one levels d =
+    by_found (λ (o : Option ℕ). Covers (elements levels d) levels 1 0) (elements levels d) (λ is. inl is) (λ m is. inr (m, is, counted_some levels d m is, omega arith))
+
+module _ (ms : Members) (n : ℕ) (is_one : IsArray ms n) where
+  static : is_static_array (class_of ms) ≡ true
+  static = ap is_static_array is_one.0
+
+  counted_so : (levels : ℕ) → elements (suc levels) (object ms) ≡ of_element levels (Some n) (get_member (codes "element-field-type") ms)
+  counted_so levels = counted ms static levels ∙ ap (λ c. of_element levels c (get_member (codes "element-field-type") ms)) is_one.1
+
+covered : (d : Data) (ns : List ℕ) → Nest d ns → (levels : ℕ) → Covers (elements levels d) levels (product ns) (length ns)
+covered d ns (Nest.none e) levels = covered_one levels e
+covered d ns (Nest.innermost ms n is_one) zero = inl (no_levels ms (static ms n is_one))
+covered d ns (Nest.innermost ms n is_one) (suc levels) = subst (λ o. Covers o (suc levels) (n * 1) 1) (sym (counted_so ms n is_one levels)) (go (get_member (codes "element-field-type") ms))
+  where
+    go : (o : Option Data) → Covers (of_element levels (Some n) o) (suc levels) (n * 1) 1
+    go None = inr (n, refl, omega (arith, mul-one n), omega arith)
+    go (Some element) = multiplied n (elements levels element) 1 levels 0 (covered_one levels element)
+covered d ns (Nest.around_others ms n element rest is_one has nest) zero = inl (no_levels ms (static ms n is_one))
+covered d ns (Nest.around_others ms n element rest is_one has nest) (suc levels) =
+    subst (λ o. Covers o (suc levels) (n * product rest) (suc (length rest))) (sym (counted_so ms n is_one levels ∙ ap (of_element levels (Some n)) has)) (multiplied n (elements levels element) (product rest) levels (length rest) (covered element rest nest levels))
+
+-- an array of elements that are counted has not too many
+bounded : (levels : ℕ) (ms : Members) (element : Data) (m : ℕ) → HasElement ms element → elements (suc levels) (object ms) ≡ Some m → m ≤ 1048576
+bounded levels ms element m has e = elim (array_or_one (suc levels) (object ms)) [
+  | inl one ↦ let same : 1 ≡ m = some_same (elements (suc levels) (object ms)) 1 m one e in omega (arith, same)
+  | inr (ns, is, held) ↦
+      let same : ms ≡ ns = cc in
+      let fits : is_static_array (class_of ms) ≡ true = ap (λ x. is_static_array (class_of x)) same ∙ held in
+      (times_told (at_least_one (natural_in (codes "length") ms)) (elements levels element) m (ap (of_element levels (at_least_one (natural_in (codes "length") ms))) (sym has) ∙ sym (counted ms fits levels) ∙ e)).most
+]
+
+pub not_counted : (d : Data) → HasTooManyElements d → elements 8 d ≡ None
+not_counted d (HasTooManyElements.too_deep ns nest deep) = elim (covered d ns nest 8) [
+  | inl none ↦ none
+  | inr (m, is, le, short) ↦ absurd (omega (arith, short, deep))
+]
+not_counted d (HasTooManyElements.too_many ms element ns is has nest many) = elim (covered d ns nest 8) [
+  | inl none ↦ none
+  | inr (m, counted, le, short) ↦ let most = bounded 7 ms element m has (ap (elements 8) (sym is) ∙ counted) in absurd (omega (arith, le, most, many))
+]
 
 -- ---- a value by itself
 
 long_told : (most : ℕ) (d : Data) → bytes_fit most d ≡ false → IsLongText most d
 long_told most (string s) e = (s, refl, leb-false (length s) most e)
-long_told most null e = absurd cc
-long_told most (boolean b) e = absurd cc
-long_told most (number n) e = absurd cc
-long_told most (array ds) e = absurd cc
-long_told most (object ms) e = absurd cc
+long_told most _ e = absurd cc
 
 power_told : (high : ℕ) (d : Data) → power_fits high d ≡ false → IsNoPowerUpTo high d
 unfolding power_fits
-power_told high d e = go (as_natural d) refl e
-  where
-    go : (o : Option ℕ) → as_natural d ≡ o → divides high o ≡ false → IsNoPowerUpTo high d
-    go None is f = absurd cc
-    go (Some n) is f =
-        let parts = or_parts (nat_eq n 0) (high % n == 0) f in
-        (n, is, eqb-false n 0 parts.0, λ q product. eqb-false (high % n) 0 parts.1 (ap (λ h. h % n) (sym product) ∙ mul-mod_right n q))
+power_told high d e =
+    by_found (λ (o : Option ℕ). divides high o ≡ false → IsNoPowerUpTo high d) (as_natural d)
+    (λ is f. absurd cc) (λ n is f.
+    let parts = or_parts (nat_eq n 0) (high % n == 0) f in
+    (n, is, eqb-false n 0 parts.0, λ q product. eqb-false (high % n) 0 parts.1 (ap (λ h. h % n) (sym product) ∙ mul-mod_right n q))) e
 
 module _ (place : Place) (d : Data) where
   entries_told : at_most (entries_of place) (count_of d) ≡ false → PassesAt place d
@@ -65,11 +229,8 @@ module _ (place : Place) (d : Data) where
 
   arrays_told : arrays_fit place d ≡ false → PassesAt place d
   unfolding arrays_fit
-  arrays_told e = go (is_outermost place) refl e
-    where
-      go : (b : Bool) → is_outermost place ≡ b → cond b (is_some (elements 8 d)) true ≡ false → PassesAt place d
-      go true is f = PassesAt.too_many_elements is (elements_told d (none_there (elements 8 d) f))
-      go false is f = absurd cc
+  arrays_told e =
+      by_test (λ (b : Bool). cond b (is_some (elements 8 d)) true ≡ false → PassesAt place d) (is_outermost place) (λ is f. PassesAt.too_many_elements is (elements_told d (none_there (elements 8 d) f))) (λ is f. absurd cc) e
 
 ranges_told : (place : Place) (d : Data) → ranges_fit place d ≡ false → PassesAt place d
 unfolding ranges_fit
@@ -99,17 +260,13 @@ label_told (Some entries) e = by_keys entries.keys refl
   where
     by_keys : (by : Keys) → entries.keys ≡ by → (x : Entries) × (Some entries ≡ Some x) × (x.keys ≡ keys.Label)
     by_keys keys.Label is = (entries, refl, is)
-    by_keys keys.Name is = let other : is_label (Some entries) ≡ false = rw is refl in absurd (true≢false (sym e ∙ other))
-    by_keys keys.PlainName is = let other : is_label (Some entries) ≡ false = rw is refl in absurd (true≢false (sym e ∙ other))
-    by_keys keys.Index is = let other : is_label (Some entries) ≡ false = rw is refl in absurd (true≢false (sym e ∙ other))
+    by_keys _ is = let other : is_label (Some entries) ≡ false = rw is refl in absurd (true≢false (sym e ∙ other))
 
 long_label_told : (place : Place) (name : List ℕ) → key_fits place name ≡ false → (entries : Entries) × (entries_of place ≡ Some entries) × (entries.keys ≡ keys.Label) × (4096 < length name)
 unfolding key_fits
-long_label_told place name e = go (is_label (entries_of place)) refl e
-  where
-    go : (b : Bool) → is_label (entries_of place) ≡ b → cond b (nat_le (length name) 4096) true ≡ false → (entries : Entries) × (entries_of place ≡ Some entries) × (entries.keys ≡ keys.Label) × (4096 < length name)
-    go true is f = let label = label_told (entries_of place) is in (label.0, label.1, label.2, leb-false (length name) 4096 f)
-    go false is f = absurd cc
+long_label_told place name e =
+    by_test (λ (b : Bool). cond b (nat_le (length name) 4096) true ≡ false → (entries : Entries) × (entries_of place ≡ Some entries) × (entries.keys ≡ keys.Label) × (4096 < length name)) (is_label (entries_of place))
+    (λ is f. let label = label_told (entries_of place) is in (label.0, label.1, label.2, leb-false (length name) 4096 f)) (λ is f. absurd cc) e
 
 -- ---- lists of limits
 
@@ -134,12 +291,8 @@ module _ (place : Place) (all before rest : Members) (name : List ℕ) (d : Data
   of_member held None is = nothing_in d
     where
       nothing_in : (d : Data) → All IsPassedThere (told_by (within_limit (fits contents.Anything d)) ++ inner_limits contents.Anything d)
-      nothing_in null = All-nil IsPassedThere
-      nothing_in (boolean b) = All-nil IsPassedThere
-      nothing_in (number n) = All-nil IsPassedThere
-      nothing_in (string s) = All-nil IsPassedThere
-      nothing_in (array ds) = All-nil IsPassedThere
       nothing_in (object ms) = All-nil IsPassedThere
+      nothing_in _ = All-nil IsPassedThere
   of_member held (Some content) is =
       All-weaker (PassesLimitOf content d) IsPassedThere (λ flaw passed. PassesLimitOf.in_property name d content flaw there is passed) _ (value_and_held content d (held content))
 
@@ -152,30 +305,25 @@ module _ (place : Place) (all before rest : Members) (name : List ℕ) (d : Data
 
 mutual
   inner_told : (d : Data) (content : Content) → All (PassesLimitOf content d) (inner_limits content d)
-  inner_told null content = All-nil _
-  inner_told (boolean b) content = All-nil _
-  inner_told (number n) content = All-nil _
-  inner_told (string s) content = All-nil _
   inner_told (array ds) (contents.At place) = items_told ds place ds no_items ItemParts.at_the_first
-  inner_told (array ds) _ = All-nil _
   inner_told (object ms) (contents.At place) = members_told ms place ms no_members Parts.at_the_first
-  inner_told (object ms) _ = All-nil _
+  inner_told _ _ = All-nil _
 
   items_told : (rest : Items) (place : Place) (all before : Items) → ItemParts all before rest → All (PassesLimitOf (contents.At place) (array all)) (item_limits place (items_len before) rest)
   items_told no_items place all before parts = All-nil _
   items_told (item d rest) place all before parts =
       let limits = told_by (within_limit (fits (item_content place) d)) ++ inner_limits (item_content place) d in
       All-append (PassesLimitOf (contents.At place) (array all)) (map (within (index (items_len before))) limits) _
-      (mapped_all (PassesLimitOf (contents.At place) (array all)) (within (index (items_len before))) limits
+      (All-map (PassesLimitOf (contents.At place) (array all)) (within (index (items_len before))) limits
       (All-weaker (PassesLimitOf (item_content place) d) (λ flaw. PassesLimitOf (contents.At place) (array all) (within (index (items_len before)) flaw)) (λ flaw passed. PassesLimitOf.in_item (items_len before) d flaw (item_found all before rest d parts) passed) limits
       (value_and_held (item_content place) d (inner_told d (item_content place)))))
-      (items_told rest place all (item d before) (ItemParts.behind before d rest parts))
+      (items_told rest place all (item d before) (ItemParts.behind_item before d rest parts))
 
   members_told : (rest : Members) (place : Place) (all before : Members) → Parts all before rest → All (PassesLimitOf (contents.At place) (object all)) (member_limits (place_of_properties place all) rest)
   members_told no_members place all before parts = All-nil _
   members_told (member name d rest) place all before parts =
       All-append (PassesLimitOf (contents.At place) (object all)) (map (within (key name)) _) _
-      (mapped_all (PassesLimitOf (contents.At place) (object all)) (within (key name)) _ (member_told place all before rest name d parts (λ content. inner_told d content)))
+      (All-map (PassesLimitOf (contents.At place) (object all)) (within (key name)) _ (member_told place all before rest name d parts (λ content. inner_told d content)))
       (members_told rest place all (member name d before) (Parts.behind before name d rest parts))
 
 -- each limit of a whole configuration

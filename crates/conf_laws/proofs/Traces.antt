@@ -1,92 +1,115 @@
--- A resolved configuration that has no flaw says something.
-use Rattle.std.proofs.Common.{◌≡◌, ℕ, List, [], Option, Some, None, is_some, IsSome, refl, sym, subst}
+-- A resolved configuration that has no flaw says something, and so do its data stream types and their event record types.
+use Rattle.std.proofs.Common.{Bool, ◌≡◌, ℕ, List, [], Option, Some, IsSome, refl, sym, subst, is_some}
 use Rattle.std.specs.Prelude.{codes, option_and_then}
-use Rattle.std.proofs.lemmas.Bool.{false≢true}
-use Rattle.serde_json.specs.Data.{Data, Members}
-use Rattle.ctf_types.specs.declared.EnvironmentEntry.{EnvironmentEntry}
-use Rattle.ctf_types.specs.declared.HeaderFeatures.{HeaderFeatures}
-use Rattle.ctf_types.specs.declared.StreamType.{StreamType}
-use Rattle.conf_table.specs.declared.place.Place.TheVariants as places
-use Rattle.conf_table.specs.declared.row.Content.TheVariants.{At}
-use Rattle.conf_table.specs.declared.row.Presence.TheVariants.{Needed}
-use Rattle.conf_table.specs.Table.{content_under, presence_under, rows_of, entries_of}
-use Rattle.conf_judge.specs.Flaws.{resolved_content, configuration_flaws}
-use Rattle.conf_judge.specs.Forms.{itself_of, form_of}
-use Rattle.conf_judge.specs.Known.{Known, nothing, inside, behind}
-use Rattle.conf_judge.specs.Places.{is_position, own_place, place_of_properties}
-use Rattle.conf_draft.specs.Environments.{environment}
-use Rattle.conf_draft.specs.Lookups.{word}
-use Rattle.conf_draft.specs.Traces.{draft_with, draft_of_type, draft_of_trace, draft_of_root, draft_of}
-use Rattle.conf_laws.proofs.FeatureObjects.{header_there}
-use Rattle.conf_laws.proofs.Objects.{IsObject, held_at, needed_object}
-use Rattle.conf_laws.proofs.Rows.{Leads, RowsSound}
-use Rattle.conf_laws.proofs.Sound.{content_sound}
-use Rattle.conf_laws.proofs.Streams.{streams_there}
+use Rattle.conf_draft.specs.Streams.{entry_behind as stream_entry_behind}
+use Rattle.conf_laws.proofs.Features.{no_stream_features, context_there, event_header_there, header_there}
+use Rattle.conf_laws.proofs.Readings.{then_there, by_found}
+use Rattle.conf_laws.proofs.Sound.{held_at, by_object, Leads, RowsSound, first_entry, needed_object, content_sound}
+use Rattle.conf_laws.proofs.Structures.{structure_there, extras_there}
+use Rattle.conf_laws.proofs.Table.{Property, leads, ObjectPlace, is_object, MapPlace, is_map, needed_by, type_object}
+use Rattle.conf_laws.proofs.TableWords.{Place, At}
+use Rattle.conf_laws.proofs.TableWords.places
+use Rattle.conf_laws.proofs.JudgeWords.{member_flaws, configuration_flaws, Known, inside, behind, nothing}
+use Rattle.conf_laws.proofs.TreeWords.{Data, object, Members, no_members, member}
+use Rattle.conf_laws.proofs.DraftWords.{environment, event_with, event_type, event_behind, entry_behind, events_behind, events_or_none, event_types, or_empty, context, event_header, object as object_in, word, stream_with, clock_of, features_of, stream_type, stream_behind, streams_behind, streams_or_none, stream_types, draft_with, draft_of_type, draft_of_trace, draft_of_root, draft_of, ContextFeatures, EnvironmentEntry, EventFeatures, EventType, HeaderFeatures, StreamType, StructType}
+
+-- ---- maps of types that are read one behind another
+
+-- where each entry of such a map says something, all of it does
+module _ {A : Type 0} {b : Bool} {place inner : Place} (map : MapPlace b place (At inner)) (one : ObjectPlace inner) (entry : List A → List ℕ → Data → Option (List A)) (walk : List A → Members → Option (List A))
+    (ends : (done : List A) → IsSome (walk done no_members)) (goes : (done : List A) (name : List ℕ) (d : Data) (ms : Members) → walk done (member name d ms) ≡ option_and_then (λ more. walk more ms) (entry done name d))
+    (said : (k : Known) (done : List A) (name : List ℕ) (ms : Members) → RowsSound (inside inner ms k) inner ms → IsSome (entry done name (object ms))) where
+  types_said : (ms : Members) (k : Known) (done : List A) → member_flaws k place ms ≡ [] → IsSome (walk done ms)
+  types_said no_members k done f = ends done
+  types_said (member name d ms) k done f =
+      let first = first_entry k place name (At inner) d ms (is_map map) f in
+      let h = held_at k inner d (is_object one) first.sound.value in
+      subst (λ o. IsSome o) (sym (goes done name d ms))
+      (then_there (λ more. walk more ms) (entry done name d) (subst (λ x. IsSome (entry done name x)) (sym h.is) (said k done name h.ms h.rows)) (λ more. types_said ms (behind place d k) more first.flaws))
+
+-- ---- one event record type
+
+event_parts : (name : List ℕ) (level : Option ℕ) (a b : Option StructType) → IsSome a → IsSome b → IsSome (event_with name level a b)
+event_parts name level (Some a) (Some b) x y = refl
+event_parts name level _ _ x y = absurd cc
+
+event_said : (k : Known) (levels : Members) (name : List ℕ) (ms : Members) → RowsSound k places.EventType ms → IsSome (event_type levels name ms)
+unfolding event_type
+event_said k levels name ms h = event_parts name _ _ _
+    (structure_there k places.EventType (codes "specific-context-field-type") ms (leads Property.specific) h) (structure_there k places.EventType (codes "payload-field-type") ms (leads Property.payload) h)
+
+-- ---- all of a data stream type
+
+pub events_there : (k : Known) (around : Place) (levels ms : Members) → Leads around (codes "event-record-types") (At places.EventTypes) → RowsSound k around ms → IsSome (event_types levels ms)
+unfolding event_types
+events_there k around levels ms leads h =
+    by_object k around places.EventTypes (codes "event-record-types") ms leads (is_object ObjectPlace.event_types) h (λ o. IsSome (events_or_none levels o)) refl
+    (λ os rows. types_said MapPlace.event_types ObjectPlace.event_type (entry_behind levels) (events_behind levels) (λ done. refl) (λ done name d ms. refl)
+    (λ j done name ns own. by_found (λ o. IsSome o → IsSome (event_behind done o)) (event_type levels name ns) (λ is some. some) (λ x is some. refl) (event_said (inside places.EventType ns j) levels name ns own)) os (inside places.EventTypes os k) [] rows.flaws)
+
+-- ---- one data stream type
+
+stream_parts : (name : List ℕ) (clock : Option (List ℕ)) (a : Option ContextFeatures) (b : Option StructType) (c : Option EventFeatures) (d : Option StructType) (e : Option (List EventType))
+    → IsSome a → IsSome b → IsSome c → IsSome d → IsSome e → IsSome (stream_with name clock a b c d e)
+stream_parts name clock (Some a) (Some b) (Some c) (Some d) (Some e) v w x y z = refl
+stream_parts name clock _ _ _ _ _ v w x y z = absurd cc
+
+module _ (k : Known) (ms : Members) (h : RowsSound k places.StreamType ms) where
+  context_said : (clock : Option (List ℕ)) → IsSome (context clock (features_of ms))
+  context_said clock =
+      by_object k places.StreamType places.StreamFeatures (codes "$features") ms (leads Property.stream_features) (is_object ObjectPlace.stream_features) h (λ o. IsSome (context clock (or_empty o))) (context_there k clock no_members (no_stream_features k))
+      (λ os rows. context_there (inside places.StreamFeatures os k) clock os rows)
+
+  event_header_said : (clock : Option (List ℕ)) → IsSome (event_header clock (features_of ms))
+  event_header_said clock =
+      by_object k places.StreamType places.StreamFeatures (codes "$features") ms (leads Property.stream_features) (is_object ObjectPlace.stream_features) h (λ o. IsSome (event_header clock (or_empty o)))
+      (event_header_there k clock no_members (no_stream_features k)) (λ os rows. event_header_there (inside places.StreamFeatures os k) clock os rows)
+
+  stream_said : (levels : Members) (name : List ℕ) → IsSome (stream_type levels name ms)
+  unfolding stream_type
+  stream_said levels name = stream_parts name (clock_of ms) _ _ _ _ _
+      (context_said (clock_of ms)) (extras_there k places.StreamType (codes "packet-context-field-type-extra-members") ms (leads Property.extras) h)
+      (event_header_said (clock_of ms)) (structure_there k places.StreamType (codes "event-record-common-context-field-type") ms (leads Property.common) h)
+      (events_there k places.StreamType levels ms (leads Property.event_types) h)
+
+-- ---- all of a trace type
+
+pub streams_there : (k : Known) (around : Place) (ms : Members) → Leads around (codes "data-stream-types") (At places.StreamTypes) → RowsSound k around ms → IsSome (stream_types ms)
+unfolding stream_types
+streams_there k around ms leads h =
+    by_object k around places.StreamTypes (codes "data-stream-types") ms leads (is_object ObjectPlace.stream_types) h (λ o. IsSome (streams_or_none (or_empty (object_in (codes "$log-level-aliases") ms)) o)) refl
+    (λ os rows.
+    let levels = or_empty (object_in (codes "$log-level-aliases") ms) in
+    types_said MapPlace.stream_types ObjectPlace.stream_type (stream_entry_behind levels) (streams_behind levels) (λ done. refl) (λ done name d ns. refl)
+    (λ j done name ns own. by_found (λ o. IsSome o → IsSome (stream_behind done o)) (stream_type levels name ns) (λ is some. some) (λ x is some. refl) (stream_said (inside places.StreamType ns j) ns own levels name)) os (inside places.StreamTypes os k) [] rows.flaws)
 
 -- ---- the trace type
 
 type_parts : (number : Option (List ℕ)) (entries : List EnvironmentEntry) (ms : Members) (a : Option HeaderFeatures) (b : Option (List StreamType)) → IsSome a → IsSome b → IsSome (draft_with number entries ms a b)
 type_parts number entries ms (Some a) (Some b) x y = refl
-type_parts number entries ms None b x y = absurd (false≢true x)
-type_parts number entries ms (Some a) None x y = absurd (false≢true y)
-
-pub type_object : IsObject places.TraceType
-unfolding itself_of form_of place_of_properties is_position own_place
-type_object = record { form = λ k d. refl; own = λ ms. refl }
-
-pub features_lead : Leads places.TraceType (codes "$features") (At places.TraceFeatures)
-unfolding behind resolved_content content_under presence_under entries_of rows_of
-features_lead = record { plain = λ d k. refl; resolved = refl; under = refl }
-
-pub streams_lead : Leads places.TraceType (codes "data-stream-types") (At places.StreamTypes)
-unfolding behind resolved_content content_under presence_under entries_of rows_of
-streams_lead = record { plain = λ d k. refl; resolved = refl; under = refl }
+type_parts number entries ms _ _ x y = absurd cc
 
 type_said : (k : Known) (number : Option (List ℕ)) (entries : List EnvironmentEntry) (ms : Members) → RowsSound k places.TraceType ms → IsSome (draft_of_type number entries ms)
 unfolding draft_of_type
 type_said k number entries ms h = type_parts number entries ms _ _
-    (header_there k places.TraceType (is_some (word (codes "uuid") ms)) ms features_lead h) (streams_there k places.TraceType ms streams_lead h)
+    (header_there k places.TraceType (is_some (word (codes "uuid") ms)) ms (leads Property.trace_features) h) (streams_there k places.TraceType ms (leads Property.stream_types) h)
 
 -- ---- the trace
-
-pub trace_object : IsObject places.Trace
-unfolding itself_of form_of place_of_properties is_position own_place
-trace_object = record { form = λ k d. refl; own = λ ms. refl }
-
-pub type_leads : Leads places.Trace (codes "type") (At places.TraceType)
-unfolding behind resolved_content content_under presence_under entries_of rows_of
-type_leads = record { plain = λ d k. refl; resolved = refl; under = refl }
-
-type_needed : presence_under places.Trace (codes "type") ≡ Some Needed
-unfolding presence_under rows_of
-type_needed = refl
 
 trace_said : (k : Known) (number : Option (List ℕ)) (ms : Members) → RowsSound k places.Trace ms → IsSome (draft_of_trace number ms)
 unfolding draft_of_trace
 trace_said k number ms h =
-    let t = needed_object k places.Trace places.TraceType (codes "type") ms type_leads type_object h type_needed in
+    let t = needed_object k places.Trace places.TraceType (codes "type") ms (leads Property.trace_type) type_object h (needed_by Property.trace_type) in
     subst (λ o. IsSome (option_and_then (draft_of_type number (environment ms)) o)) (sym t.1) (type_said (inside places.TraceType t.0 k) number (environment ms) t.0 t.2)
 
 -- ---- the whole configuration
 
-pub root_object : IsObject places.Root
-unfolding itself_of form_of place_of_properties is_position own_place
-root_object = record { form = λ k d. refl; own = λ ms. refl }
-
-pub root_leads : Leads places.Root (codes "trace") (At places.Trace)
-unfolding behind resolved_content content_under presence_under entries_of rows_of
-root_leads = record { plain = λ d k. refl; resolved = refl; under = refl }
-
-trace_needed : presence_under places.Root (codes "trace") ≡ Some Needed
-unfolding presence_under rows_of
-trace_needed = refl
-
 root_said : (k : Known) (number : Option (List ℕ)) (ms : Members) → RowsSound k places.Root ms → IsSome (draft_of_root number ms)
 unfolding draft_of_root
 root_said k number ms h =
-    let t = needed_object k places.Root places.Trace (codes "trace") ms root_leads trace_object h trace_needed in
+    let t = needed_object k places.Root places.Trace (codes "trace") ms (leads Property.trace) (is_object ObjectPlace.trace) h (needed_by Property.trace) in
     subst (λ o. IsSome (option_and_then (draft_of_trace number) o)) (sym t.1) (trace_said (inside places.Trace t.0 k) number t.0 t.2)
 
 pub tree_said : (number : Option (List ℕ)) (d : Data) → configuration_flaws d ≡ [] → IsSome (draft_of number d)
 tree_said number d f =
-    let h = held_at nothing places.Root d root_object (content_sound nothing (At places.Root) d f) in subst (λ x. IsSome (draft_of number x)) (sym h.is) (root_said (inside places.Root h.ms nothing) number h.ms h.rows)
+    let h = held_at nothing places.Root d (is_object ObjectPlace.root) (content_sound nothing (At places.Root) d f) in subst (λ x. IsSome (draft_of number x)) (sym h.is) (root_said (inside places.Root h.ms nothing) number h.ms h.rows)

@@ -1,47 +1,21 @@
 -- What is told of a value by itself, and of the name of an entry, is a flaw of it.
-use Rattle.std.proofs.Common.{◌≡◌, ◌≢◌, ◌⊎◌, ◌↔◌, ◌≤◌, ◌<◌, ◌^◌, ◌&&◌, ◌||◌, ℕ, zero, suc, ℤ, pos, Bool, true, false, not, cond, List, [], ◌∷◌, map, Contains, Option, Some, None, is_some, Result, Ok, Err, inl, inr, refl, sym, ap, subst, ◌∙◌, arith, get_or}
+use Rattle.std.proofs.Common.{◌≡◌, ◌≢◌, ◌⊎◌, ◌↔◌, ◌≤◌, ◌^◌, ◌&&◌, ◌||◌, ℕ, zero, suc, ℤ, pos, Bool, true, false, not, cond, List, [], ◌∷◌, map, Contains, Option, Some, None, is_some, Result, Ok, Err, inl, inr, refl, sym, ap, subst, ◌∙◌, arith, get_or}
 use Rattle.std.specs.Prelude.{codes, unwrap_or, option_map, nat_lt, nat_eq, int_le}
-use Rattle.std.specs.List.{list_any}
-use Rattle.std.specs.Str.{bytes_eq}
-use Rattle.std.proofs.lemmas.Bool.{true≢false, false≢true, and_cases, or_parts, or_cases, cases_lt, eqb-false, ltb-false, agree_below_at}
-use Rattle.std.proofs.lemmas.List.Folds.{list_any_at}
-use Rattle.std.proofs.lemmas.Slice.Eq.{bytes_eq-Decides}
-use Rattle.std.proofs.Math.Pow.{pow_mono}
-use borrow.Author.Differences.{le-true, le-false, below_in}
-use Rattle.serde_json.specs.Data.{Data, null, boolean, number, string, array, object, Items, no_items, item, Members, no_members, member}
-use Rattle.serde_json.specs.Events.{items_len}
-use Rattle.serde_json.specs.Find.{get_member, as_object, as_array, as_str, as_bool}
 use Rattle.uuid.specs.Text.{parsed}
-use Rattle.ctf_types.specs.AllowedConfig.{lowest, highest}
-use Rattle.ctf_types.specs.Shown.{length_name}
-use Rattle.conf_tree.specs.declared.fault_kind.FaultKind.TheVariants.{WrongKind, OutOfRange, NameClash, NoSuchAlias}
-use Rattle.conf_tree.specs.Flaw.{Flaw, index, here, within}
-use Rattle.conf_tree.specs.Reading.{◌>>=◌, at, object_of, list_of, text_of, flag_of, whole_of}
-use Rattle.conf_table.specs.declared.place.Place.{Place}
-use Rattle.conf_table.specs.declared.place.Place.TheVariants as places
-use Rattle.conf_table.specs.declared.row.Content.{Content}
-use Rattle.conf_table.specs.declared.row.Content.TheVariants as contents
-use Rattle.conf_table.specs.declared.row.Entries.{Entries}
-use Rattle.conf_table.specs.declared.row.Keys.{Keys}
-use Rattle.conf_table.specs.declared.row.Keys.TheVariants as keys
-use Rattle.conf_table.specs.Classes.{ClassWord, class_words, class_in}
-use Rattle.conf_table.specs.Table.{entries_of}
-use Rattle.conf_table.specs.Words.{words_of}
-use Rattle.conf_values.specs.LeafFlaws.{IsNoObject, IsNoList, IsNoText, IsNoFlag, IsNoWhole, IsNoConfigText, IsNoUuid, IsNoWordOf}
-use Rattle.conf_values.specs.Name.{plain_name_of}
-use Rattle.conf_values.specs.Scalar.{is_printable, uuid_in}
-use Rattle.conf_values.proofs.LeafFlawLaws.{same_flaw, refused_here_or_next, refused_there, refused_test, refused_where, wanted_refused, wanted_found, none_refused, holds_of, object_refused, list_refused, text_refused, flag_refused, whole_refused, control_there, name_refused, plain_name_refused}
-use Rattle.conf_judge.specs.Forms.{any_object, any_list, some_items, some_members, one_member, some_list, some_object, entry, feature, size_feature, form_of, itself_of}
-use Rattle.conf_judge.specs.Known.{Known}
-use Rattle.conf_judge.specs.Leaves.{only_if, whole_from, is_power_of_two, power_of, any_flag, one_flag, any_text, printable, identifier, identifier_or_auto, word_among, class_word, whole_or_text, level_or_none, level, leaf_of}
-use Rattle.conf_judge.specs.Names.{is_dynamic, is_taken, length_is_taken, free_of, is_entry, plain_of, key_by, key_in, key_of}
-use Rattle.conf_judge.specs.Numbers.{all_numbers, natural_or_none, natural_in, numbers_of, numbers_or_all, numbers_in, end_of, pair_of, single_of, range_of, is_inside, inside_of}
+use borrow.Author.Differences.{le-true, le-false, below_in}
+use Rattle.conf_laws.proofs.Agreement.{Agrees, IsTrue, dynamic_told}
+use Rattle.conf_laws.proofs.Numbers.{whole_read, lowest_end, highest_end, ReadSo, read_so}
+use Rattle.conf_laws.proofs.Readings.{some_none, some_same, by_found}
 use Rattle.conf_laws.specs.Around.{Around, enumeration_around, HasNumber, HasBits, IsTaken}
 use Rattle.conf_laws.specs.ValueFlaws.{IsPowerOfTwo, IsNoPowerOfTwo, IsNoLevel, IsNoWholeOrText, IsNoDefault, IsRange, IsNoRange, IsNoSomeList, IsNoSomeObject, IsNoEntry, IsNoFeature, IsNoSizeFeature, IsNoneAt, words_of_classes, IsNoValueOf, IsNoMemberName, IsNoLabel, IsNoKey, IsNoNameAt}
-use Rattle.conf_laws.proofs.Agreement.{Agrees, IsTrue, dynamic_told}
-use Rattle.conf_laws.proofs.Steps.{some_none, some_same}
-use Rattle.conf_laws.proofs.Naturals.{whole_read}
-use Rattle.conf_laws.proofs.Ranges.{lowest_end, highest_end, ReadSo, read_so}
+use Rattle.conf_laws.proofs.TableWords.{ClassWord, class_words, class_in, entries_of, words_of, Place, Content, Entries, Keys}
+use Rattle.conf_laws.proofs.TableWords.places
+use Rattle.conf_laws.proofs.TableWords.contents
+use Rattle.conf_laws.proofs.TableWords.keys
+use Rattle.conf_laws.proofs.JudgeWords.{any_object, any_list, some_items, some_members, one_member, some_list, some_object, entry, feature, size_feature, form_of, itself_of, Known, only_if, whole_from, is_power_of_two, power_of, any_flag, one_flag, any_text, printable, identifier, identifier_or_auto, word_among, class_word, whole_or_text, level_or_none, level, leaf_of, is_dynamic, is_taken, length_is_taken, free_of, is_entry, plain_of, key_by, key_in, key_of, all_numbers, natural_or_none, natural_in, numbers_of, numbers_or_all, numbers_in, end_of, pair_of, single_of, range_of, is_inside, inside_of}
+use Rattle.conf_laws.proofs.TreeWords.{Flaw, index, here, within, ◌>>=◌, at, object_of, list_of, text_of, flag_of, whole_of, WrongKind, OutOfRange, NameClash, NoSuchAlias, same_flaw, refused_here_or_next, refused_there, refused_test, refused_where, wanted_refused, wanted_found, none_refused, holds_of, object_refused, list_refused, text_refused, flag_refused, whole_refused, control_there, name_refused, plain_name_refused, IsNoObject, IsNoWhole, IsNoConfigText, IsNoUuid, IsNoWordOf, plain_name_of, is_printable, uuid_in, Data, boolean, string, array, Items, no_items, item, Members, no_members, member, items_len, get_member, as_object, as_array, as_str, as_bool}
+use Rattle.conf_laws.proofs.StdWords.{pow_mono, true≢false, false≢true, and_cases, or_parts, or_cases, cases_lt, eqb-false, ltb-false, agree_below_at, list_any_at, bytes_eq-Decides, list_any, bytes_eq}
+use Rattle.conf_laws.proofs.DraftWords.{lowest, highest, length_name}
 
 -- ---- steps
 
@@ -71,13 +45,10 @@ whole_told : (low high : ℤ) (d : Data) (flaw : Flaw) → whole_from low high d
 unfolding whole_from
 whole_told low high d flaw e = only_step (whole_of low high d) (λ z. tt) flaw e (whole_refused low high d flaw)
 
-power_is_one : (k : ℕ) → k < 64 → is_power_of_two (pos (2 ^ k)) ≡ true
-power_is_one k l = agree_below_at (λ j. is_power_of_two (pos (2 ^ j))) (λ j. true) 64 k refl l
-
 no_power : (z : ℤ) → int_le z (pos 18446744073709551615) ≡ true → is_power_of_two z ≡ false → ¬ IsPowerOfTwo z
 no_power z most e (k, is) =
     elim (cases_lt k 64) [
-      | inl small ↦ false≢true (sym e ∙ ap is_power_of_two is ∙ power_is_one k small)
+      | inl small ↦ false≢true (sym e ∙ ap is_power_of_two is ∙ (agree_below_at (λ j. is_power_of_two (pos (2 ^ j))) (λ j. true) 64 k refl small))
       | inr large ↦
           let above : 2 ^ 64 ≤ 2 ^ k = pow_mono large in
           let below : int_le (pos (2 ^ k)) (pos 18446744073709551615) ≡ true = ap (λ x. int_le x (pos 18446744073709551615)) (sym is) ∙ most in
@@ -96,14 +67,9 @@ power_told d flaw e =
 
 -- ---- flags and texts
 
-flag_told : (d : Data) (flaw : Flaw) → any_flag d ≡ Err flaw → IsNoFlag d flaw
-unfolding any_flag
-flag_told d flaw e = only_step (flag_of d) (λ b. tt) flaw e (flag_refused d flaw)
-
 both_true : (b before : Bool) → not (b && before) ≡ false → (b ≡ true) × (before ≡ true)
 both_true true true e = (refl, refl)
-both_true true false e = absurd cc
-both_true false before e = absurd cc
+both_true _ _ e = absurd cc
 
 default_told : (k : Known) (around : Around) → Agrees k around → (d : Data) (flaw : Flaw) → one_flag k.has_default d ≡ Err flaw → IsNoDefault around d flaw
 unfolding one_flag
@@ -115,16 +81,8 @@ default_told k around h d flaw e =
     let both = both_true b k.has_default told.0 in
     holds_of (IsNoDefault around d) (here OutOfRange) flaw told.1 (IsNoDefault.a_second (wanted_found (as_bool d) b went ∙ ap Some both.0) (h.second.0 both.1)))
 
-any_text_told : (d : Data) (flaw : Flaw) → any_text d ≡ Err flaw → IsNoText d flaw
-unfolding any_text
-any_text_told d flaw e = only_step (text_of d) (λ s. tt) flaw e (text_refused d flaw)
-
 control_told : (d : Data) (s : List ℕ) (flaw : Flaw) → as_str d ≡ Some s → is_printable s ≡ false → flaw ≡ here OutOfRange → IsNoConfigText d flaw
 control_told d s flaw is fails same = let control = control_there s fails in holds_of (IsNoConfigText d) (here OutOfRange) flaw same (IsNoConfigText.has_control s control.0 is control.1 control.2)
-
-printable_told : (d : Data) (flaw : Flaw) → printable d ≡ Err flaw → IsNoConfigText d flaw
-unfolding printable
-printable_told d flaw e = text_told is_printable d flaw e (λ none same. holds_of (IsNoConfigText d) (here WrongKind) flaw same (IsNoConfigText.no_text none)) (λ s is fails same. control_told d s flaw is fails same)
 
 pub none_there : {A : Type 0} (o : Option A) → is_some o ≡ false → o ≡ None
 none_there None e = refl
@@ -136,10 +94,6 @@ uuid_told d s flaw is fails same = holds_of (IsNoUuid d) (here OutOfRange) flaw 
 
 no_uuid_text : (d : Data) (flaw : Flaw) → as_str d ≡ None → flaw ≡ here WrongKind → IsNoUuid d flaw
 no_uuid_text d flaw none same = holds_of (IsNoUuid d) (here WrongKind) flaw same (IsNoUuid.no_text none)
-
-identifier_told : (d : Data) (flaw : Flaw) → identifier d ≡ Err flaw → IsNoUuid d flaw
-unfolding identifier
-identifier_told d flaw e = text_told (λ s. is_some (uuid_in s)) d flaw e (no_uuid_text d flaw) (λ s is fails same. uuid_told d s flaw is fails same)
 
 choice_told : (d : Data) (flaw : Flaw) → identifier_or_auto d ≡ Err flaw → (as_str d ≢ Some (codes "auto")) × IsNoUuid d flaw
 unfolding identifier_or_auto
@@ -183,11 +137,7 @@ class_told d flaw e = text_told (λ s. is_some (class_in s class_words)) d flaw 
 whole_or_text_told : (low high : ℤ) (d : Data) (flaw : Flaw) → whole_or_text low high d ≡ Err flaw → IsNoWholeOrText low high d flaw
 unfolding whole_or_text
 whole_or_text_told low high (string s) flaw e = let told = not_passed (is_printable s) flaw e in IsNoWholeOrText.has_control refl (control_told (string s) s flaw refl told.0 told.1)
-whole_or_text_told low high null flaw e = IsNoWholeOrText.no_number refl (whole_told low high null flaw e)
-whole_or_text_told low high (boolean b) flaw e = IsNoWholeOrText.no_number refl (whole_told low high (boolean b) flaw e)
-whole_or_text_told low high (number n) flaw e = IsNoWholeOrText.no_number refl (whole_told low high (number n) flaw e)
-whole_or_text_told low high (array ds) flaw e = IsNoWholeOrText.no_number refl (whole_told low high (array ds) flaw e)
-whole_or_text_told low high (object ms) flaw e = IsNoWholeOrText.no_number refl (whole_told low high (object ms) flaw e)
+whole_or_text_told low high d flaw e = IsNoWholeOrText.no_number refl (whole_told low high d flaw e)
 
 alias_told : (levels : Members) (high : ℤ) (s : List ℕ) (flaw : Flaw) (o : Option Data) → get_member s levels ≡ o → level_or_none high o ≡ Err flaw → IsNoLevel levels high (string s) flaw
 alias_told levels high s flaw None is e = holds_of (IsNoLevel levels high (string s)) (here NoSuchAlias) flaw (same_flaw flaw (here NoSuchAlias) (level_or_none high None) e refl) (IsNoLevel.no_alias s refl is)
@@ -196,11 +146,7 @@ alias_told levels high s flaw (Some a) is e = IsNoLevel.alias_is_no_level s a re
 level_told : (levels : Members) (high : ℤ) (d : Data) (flaw : Flaw) → level levels high d ≡ Err flaw → IsNoLevel levels high d flaw
 unfolding level
 level_told levels high (string s) flaw e = alias_told levels high s flaw (get_member s levels) refl e
-level_told levels high null flaw e = IsNoLevel.no_level refl (whole_told (pos 0) high null flaw e)
-level_told levels high (boolean b) flaw e = IsNoLevel.no_level refl (whole_told (pos 0) high (boolean b) flaw e)
-level_told levels high (number n) flaw e = IsNoLevel.no_level refl (whole_told (pos 0) high (number n) flaw e)
-level_told levels high (array ds) flaw e = IsNoLevel.no_level refl (whole_told (pos 0) high (array ds) flaw e)
-level_told levels high (object ms) flaw e = IsNoLevel.no_level refl (whole_told (pos 0) high (object ms) flaw e)
+level_told levels high d flaw e = IsNoLevel.no_level refl (whole_told (pos 0) high d flaw e)
 
 -- ---- values that hold others
 
@@ -208,25 +154,13 @@ object_told : (d : Data) (flaw : Flaw) → any_object d ≡ Err flaw → IsNoObj
 unfolding any_object
 object_told d flaw e = only_step (object_of d) (λ ms. tt) flaw e (object_refused d flaw)
 
-list_told : (d : Data) (flaw : Flaw) → any_list d ≡ Err flaw → IsNoList d flaw
-unfolding any_list
-list_told d flaw e = only_step (list_of d) (λ ds. tt) flaw e (list_refused d flaw)
-
 no_items_told : (d : Data) (ds : Items) (flaw : Flaw) → as_array d ≡ Some ds → some_items ds ≡ Err flaw → IsNoSomeList d flaw
 no_items_told d no_items flaw is e = holds_of (IsNoSomeList d) (here OutOfRange) flaw (same_flaw flaw (here OutOfRange) (some_items no_items) e refl) (IsNoSomeList.has_none is)
 no_items_told d (item a ds) flaw is e = absurd cc
 
-some_list_told : (d : Data) (flaw : Flaw) → some_list d ≡ Err flaw → IsNoSomeList d flaw
-unfolding some_list
-some_list_told d flaw e = either_step (list_of d) some_items flaw e (λ r. IsNoSomeList.no_list (list_refused d flaw r)) (λ ds went r. no_items_told d ds flaw (wanted_found (as_array d) ds went) r)
-
 no_members_told : (d : Data) (ms : Members) (flaw : Flaw) → as_object d ≡ Some ms → some_members ms ≡ Err flaw → IsNoSomeObject d flaw
 no_members_told d no_members flaw is e = holds_of (IsNoSomeObject d) (here OutOfRange) flaw (same_flaw flaw (here OutOfRange) (some_members no_members) e refl) (IsNoSomeObject.has_none is)
 no_members_told d (member k a ms) flaw is e = absurd cc
-
-some_object_told : (d : Data) (flaw : Flaw) → some_object d ≡ Err flaw → IsNoSomeObject d flaw
-unfolding some_object
-some_object_told d flaw e = either_step (object_of d) some_members flaw e (λ r. IsNoSomeObject.no_object (object_refused d flaw r)) (λ ms went r. no_members_told d ms flaw (wanted_found (as_object d) ms went) r)
 
 not_one_told : (d : Data) (ms : Members) (flaw : Flaw) → as_object d ≡ Some ms → one_member ms ≡ Err flaw → IsNoEntry d flaw
 not_one_told d no_members flaw is e = holds_of (IsNoEntry d) (here WrongKind) flaw (same_flaw flaw (here WrongKind) (one_member no_members) e refl) (IsNoEntry.not_one_property no_members is (λ one. omega (arith, one)))
@@ -234,28 +168,16 @@ not_one_told d (member k a no_members) flaw is e = absurd cc
 not_one_told d (member k a (member l b ms)) flaw is e =
     holds_of (IsNoEntry d) (here WrongKind) flaw (same_flaw flaw (here WrongKind) (one_member (member k a (member l b ms))) e refl) (IsNoEntry.not_one_property (member k a (member l b ms)) is (λ one. omega (arith, one)))
 
-entry_told : (d : Data) (flaw : Flaw) → entry d ≡ Err flaw → IsNoEntry d flaw
-unfolding entry
-entry_told d flaw e = either_step (object_of d) one_member flaw e (λ r. IsNoEntry.no_object (object_refused d flaw r)) (λ ms went r. not_one_told d ms flaw (wanted_found (as_object d) ms went) r)
-
 feature_told : (d : Data) (flaw : Flaw) → feature d ≡ Err flaw → IsNoFeature d flaw
 unfolding feature
 feature_told (boolean b) flaw e = absurd cc
-feature_told null flaw e = (refl, object_told null flaw e)
-feature_told (number n) flaw e = (refl, object_told (number n) flaw e)
-feature_told (string s) flaw e = (refl, object_told (string s) flaw e)
-feature_told (array ds) flaw e = (refl, object_told (array ds) flaw e)
-feature_told (object ms) flaw e = (refl, object_told (object ms) flaw e)
+feature_told d flaw e = (refl, object_told d flaw e)
 
 size_told : (d : Data) (flaw : Flaw) → size_feature d ≡ Err flaw → IsNoSizeFeature d flaw
 unfolding size_feature
 size_told (boolean true) flaw e = absurd cc
 size_told (boolean false) flaw e = holds_of (IsNoSizeFeature (boolean false)) (here OutOfRange) flaw (same_flaw flaw (here OutOfRange) (size_feature (boolean false)) e refl) (IsNoSizeFeature.is_off refl)
-size_told null flaw e = IsNoSizeFeature.no_feature (refl, object_told null flaw e)
-size_told (number n) flaw e = IsNoSizeFeature.no_feature (refl, object_told (number n) flaw e)
-size_told (string s) flaw e = IsNoSizeFeature.no_feature (refl, object_told (string s) flaw e)
-size_told (array ds) flaw e = IsNoSizeFeature.no_feature (refl, object_told (array ds) flaw e)
-size_told (object ms) flaw e = IsNoSizeFeature.no_feature (refl, object_told (object ms) flaw e)
+size_told d flaw e = IsNoSizeFeature.no_feature (refl, object_told d flaw e)
 
 -- ---- ranges
 
@@ -277,11 +199,8 @@ range_read d range e = range_known d range.low range.high (read_so d range e)
 
 pub number_there : (name : List ℕ) (ms : Members) (n : ℕ) → natural_in name ms ≡ Some n → HasNumber name ms n
 unfolding natural_in
-number_there name ms n e = go (get_member name ms) refl e
-  where
-    go : (o : Option Data) → get_member name ms ≡ o → natural_or_none o ≡ Some n → HasNumber name ms n
-    go None is f = absurd cc
-    go (Some d) is f = (d, is, f)
+number_there name ms n e =
+    by_found (λ (o : Option Data). natural_or_none o ≡ Some n → HasNumber name ms n) (get_member name ms) (λ is f. absurd cc) (λ d is f. (d, is, f)) e
 
 module _ (around : Around) where
   no_pair_told : (ds : Items) (flaw : Flaw) → items_len ds ≢ 2 → flaw ≡ here WrongKind → IsNoRange around (array ds) flaw
@@ -306,28 +225,18 @@ module _ (around : Around) where
   no_range_told : (d : Data) (flaw : Flaw) → range_of d ≡ Err flaw → IsNoRange around d flaw
   unfolding range_of
   no_range_told (array ds) flaw e = pair_told ds flaw e
-  no_range_told null flaw e = single_told null flaw refl e
-  no_range_told (boolean b) flaw e = single_told (boolean b) flaw refl e
-  no_range_told (number n) flaw e = single_told (number n) flaw refl e
-  no_range_told (string s) flaw e = single_told (string s) flaw refl e
-  no_range_told (object ms) flaw e = single_told (object ms) flaw refl e
+  no_range_told d flaw e = single_told d flaw refl e
 
   -- what holds of the numbers of the enumeration around a value, where they are not all
   sized : {P : Type 0} (test : _ → Bool) → test all_numbers ≡ true → ((signed : Bool) (n : ℕ) → HasBits around signed n → test (record { low = lowest signed n; high = highest signed n }) ≡ false → P) → test (unwrap_or (option_map (λ (e : Bool × Members). numbers_in e.0 e.1) (enumeration_around around)) all_numbers) ≡ false → P
   unfolding numbers_in numbers_of
   sized {P = P} test all sized_so = by_enumeration (enumeration_around around) refl
     where
-      some : (n : ℕ) → nat_eq n 0 ≡ false → 1 ≤ n
-      some n p = let other = eqb-false n 0 p in omega (arith, other)
-
-      most : (n : ℕ) → nat_lt 64 n ≡ false → n ≤ 64
-      most n q = let at_most = ltb-false 64 n q in omega (arith, at_most)
-
       by_size : (signed : Bool) (ms : Members) (n : ℕ) → enumeration_around around ≡ Some (signed, ms) → HasNumber (codes "size") ms n → (a b : Bool) → nat_eq n 0 ≡ a → nat_lt 64 n ≡ b
           → test (cond (a || b) all_numbers (record { low = lowest signed n; high = highest signed n })) ≡ false → P
       by_size signed ms n is has true b p q e = absurd (true≢false (sym all ∙ e))
       by_size signed ms n is has false true p q e = absurd (true≢false (sym all ∙ e))
-      by_size signed ms n is has false false p q e = sized_so signed n (ms, is, has, some n p, most n q) e
+      by_size signed ms n is has false false p q e = sized_so signed n (ms, is, has, (let other = eqb-false n 0 p in omega (arith, other)), (let most = ltb-false 64 n q in omega (arith, most))) e
 
       by_number : (signed : Bool) (ms : Members) → enumeration_around around ≡ Some (signed, ms) → (o : Option ℕ) → natural_in (codes "size") ms ≡ o → test (numbers_or_all signed o) ≡ false → P
       by_number signed ms is None found e = absurd (true≢false (sym all ∙ e))
@@ -366,13 +275,13 @@ module _ (around : Around) where
 
 module _ (k : Known) (around : Around) (h : Agrees k around) where
   none_told : (place : Place) (d : Data) (flaw : Flaw) → form_of k place d ≡ Err flaw → IsNoneAt around place d flaw
-  unfolding form_of
-  none_told places.Members d flaw e = list_told d flaw e
-  none_told places.ExtraMembers d flaw e = list_told d flaw e
-  none_told places.Ranges d flaw e = some_list_told d flaw e
+  unfolding form_of some_list some_object entry any_list
+  none_told places.Members d flaw e = only_step (list_of d) (λ ds. tt) flaw e (list_refused d flaw)
+  none_told places.ExtraMembers d flaw e = only_step (list_of d) (λ ds. tt) flaw e (list_refused d flaw)
+  none_told places.Ranges d flaw e = either_step (list_of d) some_items flaw e (λ r. IsNoSomeList.no_list (list_refused d flaw r)) (λ ds went r. no_items_told d ds flaw (wanted_found (as_array d) ds went) r)
   none_told places.Range d flaw e = range_told around k.numbers h.numbers d flaw e
-  none_told places.Entry d flaw e = entry_told d flaw e
-  none_told places.Mappings d flaw e = some_object_told d flaw e
+  none_told places.Entry d flaw e = either_step (object_of d) one_member flaw e (λ r. IsNoEntry.no_object (object_refused d flaw r)) (λ ms went r. not_one_told d ms flaw (wanted_found (as_object d) ms went) r)
+  none_told places.Mappings d flaw e = either_step (object_of d) some_members flaw e (λ r. IsNoSomeObject.no_object (object_refused d flaw r)) (λ ms went r. no_members_told d ms flaw (wanted_found (as_object d) ms went) r)
   none_told places.Feature d flaw e = feature_told d flaw e
   none_told places.MagicFeature d flaw e = feature_told d flaw e
   none_told places.IdentifierFeature d flaw e = feature_told d flaw e
@@ -382,14 +291,14 @@ module _ (k : Known) (around : Around) (h : Agrees k around) where
   none_told _ d flaw e = object_told d flaw e
 
   pub value_told : (content : Content) (d : Data) (flaw : Flaw) → itself_of k content d ≡ Err flaw → IsNoValueOf around content d flaw
-  unfolding itself_of leaf_of
+  unfolding itself_of leaf_of any_flag any_text printable identifier
   value_told (contents.Whole low high) d flaw e = whole_told low high d flaw e
   value_told (contents.PowerOfTwo high) d flaw e = power_told d flaw e
-  value_told contents.Flag d flaw e = flag_told d flaw e
+  value_told contents.Flag d flaw e = only_step (flag_of d) (λ b. tt) flaw e (flag_refused d flaw)
   value_told contents.OneFlag d flaw e = default_told k around h d flaw e
-  value_told (contents.Text most) d flaw e = printable_told d flaw e
-  value_told contents.ClockName d flaw e = any_text_told d flaw e
-  value_told contents.Identifier d flaw e = identifier_told d flaw e
+  value_told (contents.Text most) d flaw e = text_told is_printable d flaw e (λ none same. holds_of (IsNoConfigText d) (here WrongKind) flaw same (IsNoConfigText.no_text none)) (λ s is fails same. control_told d s flaw is fails same)
+  value_told contents.ClockName d flaw e = only_step (text_of d) (λ s. tt) flaw e (text_refused d flaw)
+  value_told contents.Identifier d flaw e = text_told (λ s. is_some (uuid_in s)) d flaw e (no_uuid_text d flaw) (λ s is fails same. uuid_told d s flaw is fails same)
   value_told contents.IdentifierOrAuto d flaw e = choice_told d flaw e
   value_told (contents.Word words) d flaw e = word_told (words_of words) d flaw e
   value_told contents.Class d flaw e = class_told d flaw e

@@ -51,7 +51,7 @@ fn refuses_a_configuration(rt: HostRuntime) -> Result<(), Fail> {
             if fault.is_memory() {
                 return Err(Fail::new(fault));
             }
-            assert!(rt; fault.path.len() == 2);
+            assert!(rt; fault.path.as_slice().len() == 2);
             Ok(())
         }
     }

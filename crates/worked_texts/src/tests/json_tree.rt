@@ -322,7 +322,7 @@ static KINDS: &[(FaultKind, &str)] = &[
 
 /// A fault of this kind at a place in two steps, as it prints.
 fn printed_fault(alloc: Global, kind: FaultKind) -> Result<String, AllocError> {
-    let fault = ConfFault::here(kind).inside(12);
+    let fault = ConfFault::here(alloc, kind).inside(alloc, 12);
     let fault = fault.in_property(alloc, "members");
     format!(in alloc; "{fault}")
 }

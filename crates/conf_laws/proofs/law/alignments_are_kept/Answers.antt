@@ -1,4 +1,4 @@
-use Rattle.conf_laws.proofs.Alignments.{integer_kept, structure_kept}
+use Rattle.conf_laws.proofs.Numbers.{integer_kept, structure_kept}
 use Rattle.conf_laws.proofs.law.alignments_are_kept.Goals as goal
 
 pub returns-clause-integers : goal.returns-clause-integers

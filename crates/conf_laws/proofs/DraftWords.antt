@@ -1,0 +1,57 @@
+-- The words of drafts and of what they say that the proofs speak of.
+unfoldable pub use Rattle.conf_draft.specs.Alignments.{alignment}
+pub use Rattle.conf_draft.specs.Alignments.{alignment_of, is_alignment}
+unfoldable pub use Rattle.conf_draft.specs.Clocks.{clock_type, clock_types}
+pub use Rattle.conf_draft.specs.Clocks.{clock_or_none, clocks_in, clocks_or_none}
+unfoldable pub use Rattle.conf_draft.specs.Enumerations.{enumeration}
+pub use Rattle.conf_draft.specs.Enumerations.{high, labels_in, low, mappings_or_none, ranges_in, ranges_of, whole, with_mappings}
+unfoldable pub use Rattle.conf_draft.specs.Environments.{environment}
+pub use Rattle.conf_draft.specs.Environments.{entries_in, entries_or_none, entry_value}
+unfoldable pub use Rattle.conf_draft.specs.Events.{event_type, event_types}
+pub use Rattle.conf_draft.specs.Events.{entry_behind, event_behind, event_with, events_behind, events_or_none, level_of}
+unfoldable pub use Rattle.conf_draft.specs.Features.{context, context_of, event_header, event_header_of, feature, header, header_of, identifier, mapped, size, timestamp}
+pub use Rattle.conf_draft.specs.Features.{byte_of, byte_type, context_with, event_header_with, feature_of, header_with, identifier_of, if_on, magic_type, number_type, or_empty, or_number, own}
+unfoldable pub use Rattle.conf_draft.specs.FieldTypes.{class_of, length_of, of_class}
+pub use Rattle.conf_draft.specs.FieldTypes.{class_named, element, field_type, static}
+unfoldable pub use Rattle.conf_draft.specs.Integers.{base_of, integer, size_of}
+pub use Rattle.conf_draft.specs.Integers.{default_align}
+unfoldable pub use Rattle.conf_draft.specs.Lookups.{list, natural, object, word}
+pub use Rattle.conf_draft.specs.Lookups.{list_of, natural_of, object_of, word_of}
+unfoldable pub use Rattle.conf_draft.specs.Members.{behind, member_type}
+pub use Rattle.conf_draft.specs.Members.{behind_entry, behind_named, is_dynamic_array, member_of, members_behind, told_type}
+unfoldable pub use Rattle.conf_draft.specs.Streams.{stream_type, stream_types}
+pub use Rattle.conf_draft.specs.Streams.{clock_of, features_of, stream_behind, stream_with, streams_behind, streams_or_none}
+unfoldable pub use Rattle.conf_draft.specs.Structures.{align_of, extra_members, listed, made, structure, structure_of}
+pub use Rattle.conf_draft.specs.Structures.{align_for, members_or_none, structure_or_none}
+unfoldable pub use Rattle.conf_draft.specs.Traces.{asks_number, draft_of_root, draft_of_trace, draft_of_type}
+pub use Rattle.conf_draft.specs.Traces.{draft_from, draft_of, draft_with}
+pub use Rattle.conf_draft.specs.declared.draft.Draft.{Draft}
+unfoldable pub use Rattle.ctf_types.specs.Allowed.{elements_of}
+pub use Rattle.ctf_types.specs.Allowed.{HasBits, IsNest}
+unfoldable pub use Rattle.ctf_types.specs.AllowedConfig.{LabelsInOrder}
+pub use Rattle.ctf_types.specs.AllowedConfig.{AreConfigMembers, InByteOrder, IsClockType, IsConfig, IsConfigLeaf, IsConfigMember, IsConfigStruct, IsEnumeration, IsEnvironmentValue, IsPlainUnsigned, IsRangeOf, IsStreamType, OnlyIf, highest, lowest}
+pub use Rattle.ctf_types.specs.FieldTypes.{chain_of}
+pub use Rattle.ctf_types.specs.Members.{names_in}
+unfoldable pub use Rattle.ctf_types.specs.Names.{is_identifier}
+pub use Rattle.ctf_types.specs.Names.{IsConfigName, IsConfigText, IsPlainName, unused_keywords, used_keywords}
+pub use Rattle.ctf_types.specs.Packets.{own_names}
+unfoldable pub use Rattle.ctf_types.specs.Shown.{shown_members}
+pub use Rattle.ctf_types.specs.Shown.{length_name}
+pub use Rattle.ctf_types.specs.declared.Base.{Base}
+pub use Rattle.ctf_types.specs.declared.ClockType.{ClockType}
+pub use Rattle.ctf_types.specs.declared.Config.{Config}
+pub use Rattle.ctf_types.specs.declared.ContextFeatures.{ContextFeatures}
+pub use Rattle.ctf_types.specs.declared.EnumType.{EnumType}
+pub use Rattle.ctf_types.specs.declared.EnvironmentEntry.{EnvironmentEntry}
+pub use Rattle.ctf_types.specs.declared.EventFeatures.{EventFeatures}
+pub use Rattle.ctf_types.specs.declared.EventType.{EventType}
+pub use Rattle.ctf_types.specs.declared.FieldType.TheVariants.{Enum, Int, Static, Str}
+pub use Rattle.ctf_types.specs.declared.FieldType.{FieldType}
+pub use Rattle.ctf_types.specs.declared.HeaderFeatures.{HeaderFeatures}
+pub use Rattle.ctf_types.specs.declared.IntType.{IntType}
+pub use Rattle.ctf_types.specs.declared.Length.TheVariants.{At, Auto}
+pub use Rattle.ctf_types.specs.declared.Mapping.{Mapping}
+pub use Rattle.ctf_types.specs.declared.MemberType.TheVariants.{Dyn, Plain}
+pub use Rattle.ctf_types.specs.declared.MemberType.{MemberType}
+pub use Rattle.ctf_types.specs.declared.StreamType.{StreamType}
+pub use Rattle.ctf_types.specs.declared.StructType.{StructType}

@@ -1,0 +1,164 @@
+-- A whole number that is in its range is a natural number in it; what a range that was read says; and the alignments of fields, where one
+-- that passes no limit is the very number that is read.
+use Rattle.std.proofs.Common.{◌≡◌, ◌≤◌, ℕ, ℤ, pos, negsuc, true, false, List, Option, Some, Ok, nat_le, leb-true, le-leb, arith, refl, sym, ap, subst, ◌∙◌, None, ◌<◌, Bool, ◌%◌, ◌==◌, cond}
+use Rattle.std.specs.Prelude.{◌&&◌, int_le, nat_lt, nat_eq, ◌||◌, codes, option_and_then, unwrap_or}
+use Rattle.conf_draft.specs.Integers as integers
+use Rattle.conf_draft.specs.Structures as structures
+use Rattle.conf_laws.proofs.Readings.{optional_found}
+use Rattle.conf_laws.proofs.Sound.{Leads, RowsSound, needed_sound}
+use Rattle.conf_laws.specs.ValueFlaws.{IsWhole, IsPair}
+use Rattle.conf_laws.proofs.TableWords.{presence_under, Place, Whole, Needed}
+use Rattle.conf_laws.proofs.JudgeWords.{is_null, itself_of, Known, leaf_of, whole_from, is_power_of_two, divides, numbers_of, end_of, pair_of, single_of, range_of, is_number}
+use Rattle.conf_laws.proofs.TreeWords.{here, index, whole_of, whole_or_not, wanted, at, OutOfRange, wanted_found, both_read, is_passed, read_there, ok_same, as_natural, natural_or_none, integer_or_none, Data, number, Num, Members, array, Items, no_items, item, get_member, as_integer, as_number, as_array}
+use Rattle.conf_laws.proofs.StdWords.{nat_tests, false≢true, and_parts, eqb-true, same_Some}
+use Rattle.conf_laws.proofs.DraftWords.{is_alignment, alignment_of, alignment, natural, natural_of, lowest, highest}
+
+pub whole_there : (low high : ℤ) (found : Option ℤ) (z : ℤ) → whole_or_not low high found ≡ Ok z → (found ≡ Some z) × (int_le low z ≡ true) × (int_le z high ≡ true)
+whole_there low high None z e = absurd cc
+whole_there low high (Some y) z e =
+    let p = is_passed (int_le low y && int_le y high) y z (here OutOfRange) e in
+    let b = and_parts (int_le low y) (int_le y high) p.0 in
+    (ap Some p.1, ap (int_le low) (sym p.1) ∙ b.0, ap (λ x. int_le x high) (sym p.1) ∙ b.1)
+
+-- a whole number that was read, and that it is between its bounds
+pub record WholeRead (low high : ℤ) (d : Data) (z : ℤ) : Type 0 where
+  pub whole : IsWhole d z
+  pub least : int_le low z ≡ true
+  pub most : int_le z high ≡ true
+
+pub whole_read : (low high : ℤ) (d : Data) (z : ℤ) → whole_of low high d ≡ Ok z → WholeRead low high d z
+unfolding whole_of
+whole_read low high d z e =
+    let m = both_read (wanted (as_number d)) (λ n. whole_or_not low high (as_integer n)) z e in
+    let there = whole_there low high (as_integer m.0) z m.2 in
+    record { whole = (m.0, wanted_found (as_number d) m.0 m.1, there.0); least = there.1; most = there.2 }
+
+-- the value is a whole number from low to high, a natural number
+record NaturalIn (low high : ℕ) (d : Data) : Type 0 where
+  n : ℕ
+  is : as_natural d ≡ Some n
+  above : nat_le low n ≡ true
+  below : nat_le n high ≡ true
+  there : is_null d ≡ false
+
+number_there : (d : Data) (m : Num) → as_number d ≡ Some m → is_null d ≡ false
+number_there (number n) m e = refl
+number_there _ m e = absurd cc
+
+natural_of_whole : (low high : ℕ) (d : Data) (z : ℤ) → WholeRead (pos low) (pos high) d z → high ≤ 18446744073709551615 → NaturalIn low high d
+unfolding as_natural
+natural_of_whole low high d (pos n) r most =
+    let small : nat_le n 18446744073709551615 ≡ true = le-leb n 18446744073709551615 (let b = leb-true n high r.most in omega arith) in
+    record { n = n; is = ap natural_or_none (ap integer_or_none r.whole.1 ∙ r.whole.2) ∙ rw small refl; above = r.least; below = r.most; there = number_there d r.whole.0 r.whole.1 }
+natural_of_whole low high d (negsuc n) r most = absurd (false≢true r.least)
+
+natural_read : (low high : ℕ) (d : Data) → whole_from (pos low) (pos high) d ≡ Ok tt → high ≤ 18446744073709551615 → NaturalIn low high d
+unfolding whole_from
+natural_read low high d e most =
+    let read = both_read (whole_of (pos low) (pos high) d) (λ z. Ok tt) tt e in natural_of_whole low high d read.0 (whole_read (pos low) (pos high) d read.0 read.1) most
+
+pub natural_is_in : (low high : ℕ) (d : Data) (n : ℕ) → high ≤ 18446744073709551615 → whole_from (pos low) (pos high) d ≡ Ok tt → as_natural d ≡ Some n → (low ≤ n) × (n ≤ high)
+natural_is_in low high d n most e is =
+    let r = natural_read low high d e most in
+    let same = same_Some r.n n (sym r.is ∙ is) in
+    (subst (λ x. low ≤ x) same (leb-true low r.n r.above), subst (λ x. x ≤ high) same (leb-true r.n high r.below))
+
+-- a property that is such a number
+natural_said : (low high : ℕ) (name : List ℕ) (ms : Members) (d : Data) → get_member name ms ≡ Some d → (h : NaturalIn low high d) → natural name ms ≡ Some h.n
+unfolding natural
+natural_said low high name ms d found h = ap natural_of (optional_found name ms d found h.there) ∙ h.is
+
+pub needed_natural : (k : Known) (place : Place) (name : List ℕ) (low high : ℕ) (ms : Members) → Leads place name (Whole (pos low) (pos high)) → presence_under place name ≡ Some Needed → RowsSound k place ms
+    → high ≤ 18446744073709551615 → (n : ℕ) × (natural name ms ≡ Some n) × (nat_le low n ≡ true) × (nat_le n high ≡ true)
+unfolding itself_of leaf_of
+needed_natural k place name low high ms leads is h most =
+    let p = needed_sound k place name (Whole (pos low) (pos high)) ms leads is h in
+    let r = natural_read low high p.value p.sound.value.itself most in
+    (r.n, natural_said low high name ms p.value p.found r, r.above, r.below)
+
+-- ---- a number that is told
+
+pub number_told : (o : Option ℕ) (n : ℕ) → is_number o n ≡ true → o ≡ Some n
+number_told None n e = absurd cc
+number_told (Some m) n e = ap Some (eqb-true m n e)
+
+abbrev pub lowest_end : ℤ
+lowest_end = negsuc 9223372036854775807
+
+abbrev pub highest_end : ℤ
+highest_end = pos 18446744073709551615
+
+-- what was read as a range: a number, or a list of two
+pub data ReadSo (d : Data) : ℤ → ℤ → Type 0 where
+  one_number : (x : ℤ) → as_array d ≡ None → end_of d ≡ Ok x → ReadSo d x x
+  two_numbers : (a b : Data) (x y : ℤ) → IsPair d a b → end_of a ≡ Ok x → end_of b ≡ Ok y → ReadSo d x y
+
+single_so : (d : Data) (range : _) → single_of d ≡ Ok range → as_array d ≡ None → ReadSo d range.low range.high
+single_so d range e none =
+    let x = both_read (end_of d) _ range e in
+    subst (λ r. ReadSo d r.low r.high) (ok_same (record { low = x.0; high = x.0 }) range x.2) (ReadSo.one_number x.0 none x.1)
+
+pair_so : (ds : Items) (range : _) → pair_of ds ≡ Ok range → ReadSo (array ds) range.low range.high
+unfolding pair_of
+pair_so (item a (item b no_items)) range e =
+    let x = both_read (at (index 0) (end_of a)) _ range e in
+    let y = both_read (at (index 1) (end_of b)) _ range x.2 in
+    subst (λ r. ReadSo (array (item a (item b no_items))) r.low r.high) (ok_same (record { low = x.0; high = y.0 }) range y.2)
+    (ReadSo.two_numbers a b x.0 y.0 refl (read_there (index 0) (end_of a) x.0 x.1) (read_there (index 1) (end_of b) y.0 y.1))
+pair_so _ range e = absurd cc
+
+pub read_so : (d : Data) (range : _) → range_of d ≡ Ok range → ReadSo d range.low range.high
+unfolding range_of
+read_so (array ds) range e = pair_so ds range e
+read_so d range e = single_so d range e refl
+
+pub end_whole : (d : Data) (x : ℤ) → end_of d ≡ Ok x → IsWhole d x
+end_whole d x e = (whole_read lowest_end highest_end d x e).whole
+
+-- ---- the numbers of an integer
+
+pub some_size : (signed : Bool) (size : ℕ) → 0 < size → size ≤ 64 → ((numbers_of signed size).low ≡ lowest signed size) × ((numbers_of signed size).high ≡ highest signed size)
+unfolding numbers_of
+some_size signed size some most =
+    let a : nat_eq size 0 ≡ false = grind (arith, nat_tests) in
+    let b : nat_lt 64 size ≡ false = grind (arith, nat_tests) in
+    rw (a, b) (refl, refl)
+
+-- a power of two up to 4,096
+pub record IsAlignment (n : ℕ) : Type 0 where
+  pub positive : nat_lt 0 n ≡ true
+  pub power : (4096 % n == 0) ≡ true
+
+-- a property that is one, or another where it counts as left out
+pub alignment_or : (name : List ℕ) (otherwise : ℕ) (ms : Members) → IsAlignment otherwise → IsAlignment (unwrap_or (alignment name ms) otherwise)
+unfolding alignment
+alignment_or name otherwise ms default = go (natural name ms)
+  where
+    tested : (n : ℕ) (b : Bool) → is_alignment n ≡ b → IsAlignment (unwrap_or (cond b (Some n) None) otherwise)
+    tested n true is = let parts = and_parts (nat_lt 0 n) (4096 % n == 0) is in record { positive = parts.0; power = parts.1 }
+    tested n false is = default
+
+    go : (o : Option ℕ) → IsAlignment (unwrap_or (option_and_then alignment_of o) otherwise)
+    go None = default
+    go (Some n) = tested n (is_alignment n) refl
+
+-- ---- within the limit
+
+no_zero : (n : ℕ) (b : Bool) → nat_lt 0 n ≡ true → (nat_eq n 0 || b) ≡ true → b ≡ true
+no_zero n b some e = grind (arith, nat_tests)
+
+module _ (ms : Members) (n : ℕ) (power : is_power_of_two (pos n) ≡ true) (fits : divides 4096 (Some n) ≡ true) where
+  kept : (name : List ℕ) → natural name ms ≡ Some n → alignment name ms ≡ Some n
+  unfolding alignment
+  kept name is =
+      let some = (and_parts (nat_lt 0 n) _ power).0 in
+      let divisor : (4096 % n == 0) ≡ true = no_zero n (4096 % n == 0) some fits in
+      ap (option_and_then alignment_of) is ∙ rw (some, divisor) refl
+
+  pub integer_kept : natural (codes "alignment") ms ≡ Some n → integers.align_of ms ≡ n
+  unfolding integers.align_of
+  integer_kept is = ap (λ o. unwrap_or o (integers.default_align (integers.size_of ms))) (kept (codes "alignment") is)
+
+  pub structure_kept : natural (codes "minimum-alignment") ms ≡ Some n → structures.align_of ms ≡ n
+  unfolding structures.align_of
+  structure_kept is = ap (λ o. unwrap_or o 1) (kept (codes "minimum-alignment") is)
