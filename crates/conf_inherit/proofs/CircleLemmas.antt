@@ -11,7 +11,8 @@ use Rattle.conf_inherit.specs.Named.{all_named, all_named_in_items, all_named_in
 use Rattle.conf_inherit.specs.Rounds.{has_outcome, Outcomes, is_over, outcome, concluded, step, round, all_over, next_round, rounds, no_outcomes}
 use Rattle.conf_inherit.proofs.ListLemmas.{AllEntries, all_along}
 use Rattle.conf_inherit.proofs.RoundLemmas.{is_put, is_still, some_of, entry_found}
-use Rattle.conf_inherit.proofs.NamedLemmas.{either_false, and_first, and_second}
+use Rattle.conf_inherit.proofs.NamedLemmas.{either_false}
+use Rattle.conf_inherit.proofs.ReadyLemmas.{and_left, and_right}
 
 -- ---- a name that keeps a value from its turn
 
@@ -131,8 +132,8 @@ module _ (al : Members) where
   all_closed : (ms : Members) (st : Outcomes) → all_over ms st ≡ true → AllEntries (λ k w. IsOpen st k → ⊥) ms
   all_closed no_members st h = tt
   all_closed (member k w ms) st h = (
-    λ o. true≢false (sym (and_first (has_outcome st k) (all_over ms st) h) ∙ either_or (has st.done k) (has st.refused k) o.0 o.1),
-    all_closed ms st (and_second (has_outcome st k) (all_over ms st) h),
+    λ o. true≢false (sym (and_left (has_outcome st k) (all_over ms st) h) ∙ either_or (has st.done k) (has st.refused k) o.0 o.1),
+    all_closed ms st (and_right (has_outcome st k) (all_over ms st) h),
   )
 
   waits_next : (k : List ℕ) (w : Data) (st : Outcomes) → get_member k al ≡ Some w → IsOpen (next_round al st) k → (m : List ℕ) × Mentions m places.FieldType w × (has al m ≡ true) × IsOpen st m

@@ -32,19 +32,6 @@ has_place i n (item e es) = go (is_some (get n e)) refl (has_place (suc i) n es)
     go true is rest = rw is refl
     go false is rest = rw is rest
 
--- what is noted before comes first
-pub or_later : (a b c : Option ℕ) → option_or (option_or a b) c ≡ option_or a (option_or b c)
-or_later None b c = refl
-or_later (Some i) b c = refl
-
--- the first place is the next entry's, or else a later one
-pub next_place : (i : ℕ) (n : List ℕ) (e : Data) (es : Items) → place_from i n (item e es) ≡ option_or (place_if n e i) (place_from (suc i) n es)
-next_place i n e es = go (is_some (get n e)) refl
-  where
-    go : (t : Bool) → is_some (get n e) ≡ t → place_from i n (item e es) ≡ option_or (place_if n e i) (place_from (suc i) n es)
-    go true is = rw is refl
-    go false is = rw is refl
-
 -- what is noted at a name that had no place
 pub noted_new : (old new : List ℕ → Option ℕ) (k : List ℕ) (place : ℕ) (d : Data) (ms : Members) → ((n : List ℕ) → new n ≡ update bytes_eq old k (Some place) n) → is_some (old k) ≡ false
     → (n : List ℕ) → option_or (new n) (place_if n (object ms) place) ≡ option_or (old n) (place_if n (object (member k d ms)) place)
@@ -119,25 +106,6 @@ lower_first i (Some j) h = rw (not_before i j h) refl
 lower_second : (i : ℕ) (o q : Option ℕ) → AtLeast (suc i) o → q ≡ Some i → lower o q ≡ Some i
 lower_second i None q h e = e
 lower_second i (Some p) q h e = rw (e, is_before i p h) refl
-
--- the lower of three places
-pub lower_later : (a b c : Option ℕ) → lower (lower a b) c ≡ lower a (lower b c)
-lower_later None b c = refl
-lower_later (Some i) None c = refl
-lower_later (Some i) (Some j) None = go (nat_lt j i) refl
-  where
-    go : (t : Bool) → nat_lt j i ≡ t → lower (lower (Some i) (Some j)) None ≡ lower (Some i) (lower (Some j) None)
-    go true is = rw is refl
-    go false is = rw is refl
-lower_later (Some i) (Some j) (Some k) = go (nat_lt j i) refl (nat_lt k j) refl (nat_lt k i) refl
-  where
-    go : (t : Bool) → nat_lt j i ≡ t → (u : Bool) → nat_lt k j ≡ u → (w : Bool) → nat_lt k i ≡ w → lower (lower (Some i) (Some j)) (Some k) ≡ lower (Some i) (lower (Some j) (Some k))
-    go true a true b true c = rw (a, b, c) refl
-    go true a true b false c = absurd (let bad : ⊥ = grind (arith, nat_tests, a, b, c) in bad)
-    go true a false b w c = rw (a, b, a) refl
-    go false a true b w c = rw (a, b) refl
-    go false a false b true c = absurd (let bad : ⊥ = grind (arith, nat_tests, a, b, c) in bad)
-    go false a false b false c = rw (a, b, c, a) refl
 
 -- names that have the same places have the same lowest one
 pub same_lowest : (f g : List ℕ → Option ℕ) → ((n : List ℕ) → f n ≡ g n) → (d : Data) → lowest_of f d ≡ lowest_of g d

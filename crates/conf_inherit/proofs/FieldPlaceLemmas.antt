@@ -35,10 +35,6 @@ pub ignored_under : (k : List ℕ) → place_under places.Ignored k ≡ places.I
 unfolding place_under content_under place_in field_place
 ignored_under k = refl
 
-pub type_place : place_under places.FieldType field_type_name ≡ places.FieldType
-unfolding place_under place_in_type field_type_name
-type_place = refl
-
 pub member_type_place : place_under places.Member field_type_name ≡ places.FieldType
 unfolding place_under place_in_type field_type_name
 member_type_place = refl

@@ -12,7 +12,8 @@ use Rattle.conf_inherit.specs.Limits.{fitting, passed, limit_flaws}
 use Rattle.conf_inherit.specs.Named.{all_named, all_named_in_items, all_named_in_members, has}
 use Rattle.conf_inherit.specs.Names.{join_items, map_items}
 use Rattle.conf_inherit.proofs.FunctionLemmas.{same_function}
-use Rattle.conf_inherit.proofs.NamedLemmas.{and_first, and_second, named_along}
+use Rattle.conf_inherit.proofs.NamedLemmas.{named_along}
+use Rattle.conf_inherit.proofs.ReadyLemmas.{and_left, and_right}
 use Rattle.conf_inherit.proofs.FieldPlaceLemmas.{list_place, entry_place, base_place}
 
 module _ (done more : Members) (kept : (n : List ℕ) → has done n ≡ true → get_member n more ≡ get_member n done) where
@@ -54,8 +55,8 @@ module _ (done more : Members) (kept : (n : List ℕ) → has done n ≡ true �
     kept_base : (ms : Members) (s : Place) (base : Option Data) → all_named_in_members (has done) s ms ≡ true → lay_base more s ms base ≡ lay_base done s ms base
     kept_base no_members s base h = refl
     kept_base (member k d ms) s base h =
-        go (is_base_name s k) refl (λ is. kept_lay d places.FieldType None (subst (λ t. all_named (has done) t d ≡ true) (base_place s k is) (and_first (all_named (has done) (place_under s k) d) (all_named_in_members (has done) s ms) h)))
-        (kept_base ms s base (and_second (all_named (has done) (place_under s k) d) (all_named_in_members (has done) s ms) h))
+        go (is_base_name s k) refl (λ is. kept_lay d places.FieldType None (subst (λ t. all_named (has done) t d ≡ true) (base_place s k is) (and_left (all_named (has done) (place_under s k) d) (all_named_in_members (has done) s ms) h)))
+        (kept_base ms s base (and_right (all_named (has done) (place_under s k) d) (all_named_in_members (has done) s ms) h))
       where
         go : (t : Bool) → is_base_name s k ≡ t → (is_base_name s k ≡ true → lay more places.FieldType d None ≡ lay done places.FieldType d None) → lay_base more s ms base ≡ lay_base done s ms base
             → lay_base more s (member k d ms) base ≡ lay_base done s (member k d ms) base
@@ -65,8 +66,8 @@ module _ (done more : Members) (kept : (n : List ℕ) → has done n ≡ true �
     kept_members : (ms : Members) (s : Place) (base : Members) → all_named_in_members (has done) s ms ≡ true → lay_members more s ms base ≡ lay_members done s ms base
     kept_members no_members s base h = refl
     kept_members (member k d ms) s base h =
-        go (is_base_name s k) refl (kept_lay d (place_under s k) (get_member k base) (and_first (all_named (has done) (place_under s k) d) (all_named_in_members (has done) s ms) h))
-        (kept_members ms s base (and_second (all_named (has done) (place_under s k) d) (all_named_in_members (has done) s ms) h))
+        go (is_base_name s k) refl (kept_lay d (place_under s k) (get_member k base) (and_left (all_named (has done) (place_under s k) d) (all_named_in_members (has done) s ms) h))
+        (kept_members ms s base (and_right (all_named (has done) (place_under s k) d) (all_named_in_members (has done) s ms) h))
       where
         go : (t : Bool) → is_base_name s k ≡ t → lay more (place_under s k) d (get_member k base) ≡ lay done (place_under s k) d (get_member k base) → lay_members more s ms base ≡ lay_members done s ms base
             → lay_members more s (member k d ms) base ≡ lay_members done s (member k d ms) base
@@ -75,8 +76,8 @@ module _ (done more : Members) (kept : (n : List ℕ) → has done n ≡ true �
 
     kept_over : (es : Items) → all_named_in_items (has done) places.Entry es ≡ true → (b : Data) → lay_over more es b ≡ lay_over done es b
     kept_over no_items h b = refl
-    kept_over (item e es) h b = kept_over_entry e b (lay_over more es b) (lay_over done es b) (and_first (all_named (has done) places.Entry e) (all_named_in_items (has done) places.Entry es) h)
-        (kept_over es (and_second (all_named (has done) places.Entry e) (all_named_in_items (has done) places.Entry es) h) b)
+    kept_over (item e es) h b = kept_over_entry e b (lay_over more es b) (lay_over done es b) (and_left (all_named (has done) places.Entry e) (all_named_in_items (has done) places.Entry es) h)
+        (kept_over es (and_right (all_named (has done) places.Entry e) (all_named_in_items (has done) places.Entry es) h) b)
 
     kept_over_entry : (e b rest last : Data) → IsNamed places.Entry e → rest ≡ last → lay_over_entry more e b rest ≡ lay_over_entry done e b last
     kept_over_entry null b rest last h same = same
@@ -89,8 +90,8 @@ module _ (done more : Members) (kept : (n : List ℕ) → has done n ≡ true �
     kept_over_member : (ms : Members) (b rest last : Data) → all_named_in_members (has done) places.Entry ms ≡ true → rest ≡ last → lay_over_member more ms b rest ≡ lay_over_member done ms b last
     kept_over_member no_members b rest last h same = same
     kept_over_member (member n d ms) b rest last h same =
-        go (is_some (get n b)) refl (kept_lay d places.Member (get n b) (subst (λ t. all_named (has done) t d ≡ true) (entry_place n) (and_first (all_named (has done) (place_under places.Entry n) d) (all_named_in_members (has done) places.Entry ms) h)))
-        (kept_over_member ms b rest last (and_second (all_named (has done) (place_under places.Entry n) d) (all_named_in_members (has done) places.Entry ms) h) same)
+        go (is_some (get n b)) refl (kept_lay d places.Member (get n b) (subst (λ t. all_named (has done) t d ≡ true) (entry_place n) (and_left (all_named (has done) (place_under places.Entry n) d) (all_named_in_members (has done) places.Entry ms) h)))
+        (kept_over_member ms b rest last (and_right (all_named (has done) (place_under places.Entry n) d) (all_named_in_members (has done) places.Entry ms) h) same)
       where
         go : (t : Bool) → is_some (get n b) ≡ t → lay more places.Member d (get n b) ≡ lay done places.Member d (get n b) → lay_over_member more ms b rest ≡ lay_over_member done ms b last
             → lay_over_member more (member n d ms) b rest ≡ lay_over_member done (member n d ms) b last
@@ -99,8 +100,8 @@ module _ (done more : Members) (kept : (n : List ℕ) → has done n ≡ true �
 
     kept_new : (es seen : Items) → all_named_in_items (has done) places.Entry es ≡ true → lay_new more es seen ≡ lay_new done es seen
     kept_new no_items seen h = refl
-    kept_new (item e es) seen h = kept_new_entry e seen (lay_new more es seen) (lay_new done es seen) (and_first (all_named (has done) places.Entry e) (all_named_in_items (has done) places.Entry es) h)
-        (kept_new es seen (and_second (all_named (has done) places.Entry e) (all_named_in_items (has done) places.Entry es) h))
+    kept_new (item e es) seen h = kept_new_entry e seen (lay_new more es seen) (lay_new done es seen) (and_left (all_named (has done) places.Entry e) (all_named_in_items (has done) places.Entry es) h)
+        (kept_new es seen (and_right (all_named (has done) places.Entry e) (all_named_in_items (has done) places.Entry es) h))
 
     kept_new_entry : (e : Data) (seen rest last : Items) → IsNamed places.Entry e → rest ≡ last → lay_new_entry more e seen rest ≡ lay_new_entry done e seen last
     kept_new_entry null seen rest last h same = same
@@ -113,8 +114,8 @@ module _ (done more : Members) (kept : (n : List ℕ) → has done n ≡ true �
     kept_new_member : (ms : Members) (seen rest last : Items) → all_named_in_members (has done) places.Entry ms ≡ true → rest ≡ last → lay_new_member more ms seen rest ≡ lay_new_member done ms seen last
     kept_new_member no_members seen rest last h same = same
     kept_new_member (member n d ms) seen rest last h same =
-        go (has_entry n seen) refl (kept_lay d places.Member None (subst (λ t. all_named (has done) t d ≡ true) (entry_place n) (and_first (all_named (has done) (place_under places.Entry n) d) (all_named_in_members (has done) places.Entry ms) h)))
-        (kept_new_member ms seen rest last (and_second (all_named (has done) (place_under places.Entry n) d) (all_named_in_members (has done) places.Entry ms) h) same)
+        go (has_entry n seen) refl (kept_lay d places.Member None (subst (λ t. all_named (has done) t d ≡ true) (entry_place n) (and_left (all_named (has done) (place_under places.Entry n) d) (all_named_in_members (has done) places.Entry ms) h)))
+        (kept_new_member ms seen rest last (and_right (all_named (has done) (place_under places.Entry n) d) (all_named_in_members (has done) places.Entry ms) h) same)
       where
         go : (t : Bool) → has_entry n seen ≡ t → lay more places.Member d None ≡ lay done places.Member d None → lay_new_member more ms seen rest ≡ lay_new_member done ms seen last
             → lay_new_member more (member n d ms) seen rest ≡ lay_new_member done (member n d ms) seen last
@@ -146,19 +147,19 @@ module _ (done more : Members) (kept : (n : List ℕ) → has done n ≡ true �
       kept_item_flaws no_items s i seen h = refl
       kept_item_flaws (item e es) s i seen h =
           ap (λ x. map (within (index i)) (own_flaws al (place_of_items s) false e ++ x) ++ item_flaws al (Some more) s (suc i) (mark e seen) es)
-          (kept_inner e (place_of_items s) seen (and_first (all_named (has done) (place_of_items s) e) (all_named_in_items (has done) (place_of_items s) es) h))
+          (kept_inner e (place_of_items s) seen (and_left (all_named (has done) (place_of_items s) e) (all_named_in_items (has done) (place_of_items s) es) h))
           ∙ ap (λ x. map (within (index i)) (own_flaws al (place_of_items s) false e ++ inner_flaws al (Some done) (place_of_items s) seen e) ++ x)
-          (kept_item_flaws es s (suc i) (mark e seen) (and_second (all_named (has done) (place_of_items s) e) (all_named_in_items (has done) (place_of_items s) es) h))
+          (kept_item_flaws es s (suc i) (mark e seen) (and_right (all_named (has done) (place_of_items s) e) (all_named_in_items (has done) (place_of_items s) es) h))
 
       kept_member_flaws : (ms : Members) (s : Place) (seen : Members) → all_named_in_members (has done) s ms ≡ true → member_flaws al (Some more) s seen ms ≡ member_flaws al (Some done) s seen ms
       kept_member_flaws no_members s seen h = refl
       kept_member_flaws (member k d ms) s seen h =
           let own = own_flaws al (place_under s k) (is_entry s && is_some (get_member k seen)) d in
-          let one = and_first (all_named (has done) (place_under s k) d) (all_named_in_members (has done) s ms) h in
+          let one = and_left (all_named (has done) (place_under s k) d) (all_named_in_members (has done) s ms) h in
           ap (λ x. map (within (key k)) ((own ++ x) ++ base_flaws (Some more) s k d) ++ member_flaws al (Some more) s seen ms) (kept_inner d (place_under s k) no_members one)
           ∙ ap (λ x. map (within (key k)) ((own ++ inner_flaws al (Some done) (place_under s k) no_members d) ++ x) ++ member_flaws al (Some more) s seen ms) (kept_base_flaws s k d one)
           ∙ ap (λ x. map (within (key k)) ((own ++ inner_flaws al (Some done) (place_under s k) no_members d) ++ base_flaws (Some done) s k d) ++ x)
-          (kept_member_flaws ms s seen (and_second (all_named (has done) (place_under s k) d) (all_named_in_members (has done) s ms) h))
+          (kept_member_flaws ms s seen (and_right (all_named (has done) (place_under s k) d) (all_named_in_members (has done) s ms) h))
 
     -- the flaws of a type stay the same
     pub kept_flaws : (s : Place) (v : Data) → IsNamed s v → type_flaws al more s v ≡ type_flaws al done s v

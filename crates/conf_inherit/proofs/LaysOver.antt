@@ -8,7 +8,7 @@ use Rattle.conf_table.specs.declared.place.Place.TheVariants as places
 use Rattle.conf_inherit.specs.FieldPlaces.{place_under, names_alias, names_member_type, is_base_name, lists_members, field_type_name}
 use Rattle.conf_inherit.specs.Names.{IsInOrder, NoClash, properties_of, items_in, entries_of, names_of, new_names, join_members, join_items, map_items, cons_some, values_in, entry_values, member_names, joined}
 use Rattle.conf_inherit.specs.Looks.{Chain, nothing, alias, member_alias, heir, own, a_list, plain, Looks, looks, Shows, a_scalar, an_object, the_members, a_join, Entries, no_entry, an_entry, base_of, if_objects, if_lists, values_at, IsPlain, AreResolved}
-use Rattle.conf_inherit.specs.Laying.{lay, has_entry, lay_base, lay_members, lay_over, lay_new, lay_new_member, lay_text, members_below, items_below}
+use Rattle.conf_inherit.specs.Laying.{lay, has_entry, lay_base, lay_members, lay_over, lay_new, lay_new_member, lay_text, members_below}
 use Rattle.conf_inherit.specs.Ready.{Names, IsReady, AreReady, HasReady}
 use Rattle.conf_inherit.proofs.FieldPlaceLemmas.{alias_place, member_value_place, list_place, entry_place, member_type_place, type_is_no_base, alias_field, base_place, SamePlace, inheriting_place}
 use Rattle.conf_inherit.proofs.LayingLemmas.{Meets, same, other, meets, get_other, get_same, lay_base-own, lay_base-heir, in_order_lay, lay_members-base, lay_members-absent, lay_members-found}
@@ -280,11 +280,6 @@ module _ (al done : Members) where
         → (lists_members s ≡ true → (n : List ℕ) (d : Data) → get_member n (entries_of es) ≡ Some d → Lays al done places.Member d) → Lays al done s (array es)
     lays_list s es apart each vs base stands = go (lists_members s) refl base stands
       where
-        list_laid : Option Data → Data
-        list_laid base =
-            if lists_members s then array (join_items (map_items (λ b. lay_over done es b) (items_below base)) (lay_new done es (items_below base)))
-            else array (join_items (items_below base) es)
-
         go : (t : Bool) → lists_members s ≡ t → (base : Option Data) → StandsFor al s vs base → Looks al s (array es ∷ vs) (lay done s (array es) base)
         go true is None e = rw is (looks (a_list (subst (λ x. Chain al s x []) (sym e) nothing)) (list_shown s es no_items [] is (apart is) (each is) no_entry))
         go true is (Some b) (looks {cs = cs} c h) = rw is (looks (a_list c) (list_shown s es (items_in b) (if_lists cs) is (apart is) (each is) (base_entries is h)))

@@ -17,8 +17,7 @@ pub mod NestingLemmas
 pub mod LimitLemmas
 pub mod RoundLemmas
 pub mod PlaceLemmas
-pub mod WholeNumbers
-pub mod AscendingNames
+pub mod LookedUp
 pub mod ResolveLemmas
 pub mod CircleLemmas
 pub mod WalkLemmas

@@ -137,9 +137,6 @@ any_append n (x ∷ xs) ys h = go (bytes_eq n x) refl (any_append n xs ys)
     go true is rest = absurd (true≢false (rw is at h))
     go false is rest = let r = rest (rw is at h) in (rw is r.0, r.1)
 
-same_bytes : (n : List ℕ) → bytes_eq n n ≡ true
-same_bytes n = (bytes_eq-Decides n n).1 refl
-
 -- a name that was not seen, and is not new, is no name of the list
 new_absent : (n : List ℕ) (seen : List (List ℕ)) (ms : Members) → list_any (bytes_eq n) seen ≡ false → list_any (bytes_eq n) (new_names seen (names_of ms)) ≡ false → get_member n ms ≡ None
 new_absent n seen no_members h i = refl

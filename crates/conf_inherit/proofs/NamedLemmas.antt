@@ -7,7 +7,7 @@ use Rattle.conf_table.specs.declared.place.Place.{Place}
 use Rattle.conf_inherit.specs.FieldPlaces.{place_under, place_of_items, names_alias, names_member_type, is_entry}
 use Rattle.conf_inherit.specs.Flaws.{is_unknown, own_flaws, base_flaws, inner_flaws, item_flaws, member_flaws, mark}
 use Rattle.conf_inherit.specs.Named.{all_named, all_named_in_items, all_named_in_members, has}
-use Rattle.conf_inherit.proofs.ReadyLemmas.{part_empty, rest_empty, front_empty, back_empty, not_unknown}
+use Rattle.conf_inherit.proofs.ReadyLemmas.{part_empty, rest_empty, front_empty, back_empty, not_unknown, and_left, and_right}
 
 pub both : (a b : Bool) → a ≡ true → b ≡ true → (a && b) ≡ true
 both true b h i = i
@@ -16,14 +16,6 @@ both false b h i = h
 pub either_false : (a b : Bool) → (a && b) ≡ false → (a ≡ false) ⊎ (b ≡ false)
 either_false true b h = inr h
 either_false false b h = inl refl
-
-pub and_first : (a b : Bool) → (a && b) ≡ true → a ≡ true
-and_first true b h = refl
-and_first false b h = h
-
-pub and_second : (a b : Bool) → (a && b) ≡ true → b ≡ true
-and_second true b h = h
-and_second false b h = absurd (true≢false (sym h))
 
 -- the name of an alias that one test passes and another doesn't
 abbrev pub Between : (List ℕ → Bool) → (List ℕ → Bool) → Type 0
@@ -48,14 +40,14 @@ mutual
   between_items : (p q : List ℕ → Bool) (s : Place) (ds : Items) → all_named_in_items p s ds ≡ true → all_named_in_items q s ds ≡ false → Between p q
   between_items p q s no_items h i = absurd (true≢false i)
   between_items p q s (item d ds) h i = between_either p q (all_named q s d) (all_named_in_items q s ds) i
-      (λ f. between p q s d (and_first (all_named p s d) (all_named_in_items p s ds) h) f)
-      (λ f. between_items p q s ds (and_second (all_named p s d) (all_named_in_items p s ds) h) f)
+      (λ f. between p q s d (and_left (all_named p s d) (all_named_in_items p s ds) h) f)
+      (λ f. between_items p q s ds (and_right (all_named p s d) (all_named_in_items p s ds) h) f)
 
   between_members : (p q : List ℕ → Bool) (s : Place) (ms : Members) → all_named_in_members p s ms ≡ true → all_named_in_members q s ms ≡ false → Between p q
   between_members p q s no_members h i = absurd (true≢false i)
   between_members p q s (member k d ms) h i = between_either p q (all_named q (place_under s k) d) (all_named_in_members q s ms) i
-      (λ f. between p q (place_under s k) d (and_first (all_named p (place_under s k) d) (all_named_in_members p s ms) h) f)
-      (λ f. between_members p q s ms (and_second (all_named p (place_under s k) d) (all_named_in_members p s ms) h) f)
+      (λ f. between p q (place_under s k) d (and_left (all_named p (place_under s k) d) (all_named_in_members p s ms) h) f)
+      (λ f. between_members p q s ms (and_right (all_named p (place_under s k) d) (all_named_in_members p s ms) h) f)
 
 -- a text without a flaw passes a test that all aliases pass
 module _ (al : Members) (rs : Option Members) (p : List ℕ → Bool) (passes : (n : List ℕ) → has al n ≡ true → p n ≡ true) where
@@ -120,14 +112,14 @@ mutual
   both_in_items : (p q : List ℕ → Bool) (s : Place) (ds : Items) → all_named_in_items p s ds ≡ true → all_named_in_items q s ds ≡ true → all_named_in_items (λ n. p n && q n) s ds ≡ true
   both_in_items p q s no_items h i = refl
   both_in_items p q s (item d ds) h i = both (all_named (λ n. p n && q n) s d) (all_named_in_items (λ n. p n && q n) s ds)
-      (both_named p q s d (and_first (all_named p s d) (all_named_in_items p s ds) h) (and_first (all_named q s d) (all_named_in_items q s ds) i))
-      (both_in_items p q s ds (and_second (all_named p s d) (all_named_in_items p s ds) h) (and_second (all_named q s d) (all_named_in_items q s ds) i))
+      (both_named p q s d (and_left (all_named p s d) (all_named_in_items p s ds) h) (and_left (all_named q s d) (all_named_in_items q s ds) i))
+      (both_in_items p q s ds (and_right (all_named p s d) (all_named_in_items p s ds) h) (and_right (all_named q s d) (all_named_in_items q s ds) i))
 
   both_in_members : (p q : List ℕ → Bool) (s : Place) (ms : Members) → all_named_in_members p s ms ≡ true → all_named_in_members q s ms ≡ true → all_named_in_members (λ n. p n && q n) s ms ≡ true
   both_in_members p q s no_members h i = refl
   both_in_members p q s (member k d ms) h i = both (all_named (λ n. p n && q n) (place_under s k) d) (all_named_in_members (λ n. p n && q n) s ms)
-      (both_named p q (place_under s k) d (and_first (all_named p (place_under s k) d) (all_named_in_members p s ms) h) (and_first (all_named q (place_under s k) d) (all_named_in_members q s ms) i))
-      (both_in_members p q s ms (and_second (all_named p (place_under s k) d) (all_named_in_members p s ms) h) (and_second (all_named q (place_under s k) d) (all_named_in_members q s ms) i))
+      (both_named p q (place_under s k) d (and_left (all_named p (place_under s k) d) (all_named_in_members p s ms) h) (and_left (all_named q (place_under s k) d) (all_named_in_members q s ms) i))
+      (both_in_members p q s ms (and_right (all_named p (place_under s k) d) (all_named_in_members p s ms) h) (and_right (all_named q (place_under s k) d) (all_named_in_members q s ms) i))
 
 -- names that pass a test pass each that is passed more often
 pub named_along : (p q : List ℕ → Bool) → ((n : List ℕ) → p n ≡ true → q n ≡ true) → (s : Place) (v : Data) → all_named p s v ≡ true → all_named q s v ≡ true

@@ -1,5 +1,5 @@
 -- What stands too deep in a value: nothing just where it nests at most so deep, and else what its path leads to.
-use Rattle.std.proofs.Common.{◌≡◌, ◌+◌, ◌++◌, inl, inr, ℕ, zero, suc, List, [], ◌∷◌, map, Some, true, true≢false, refl, sym, ap, ◌∙◌, subst, arith}
+use Rattle.std.proofs.Common.{◌≡◌, ◌+◌, inl, inr, ℕ, zero, suc, List, [], ◌∷◌, map, Some, true, refl, sym, ap, subst, arith}
 use Rattle.serde_json.specs.Data.{Data, null, boolean, number, string, array, object, Items, no_items, item, Members, no_members, member}
 use Rattle.serde_json.specs.Find.{get_item}
 use Rattle.conf_tree.specs.Flaw.{Flaw, key, index, here, within}
@@ -8,7 +8,7 @@ use Rattle.conf_tree.specs.declared.fault_kind.FaultKind.TheVariants.{TooDeep}
 use Rattle.conf_inherit.specs.Nesting.{nests, items_nest, members_nest, deep_flaws, deep_item_flaws, deep_member_flaws, PassesDepth}
 use Rattle.conf_inherit.proofs.FaultLemmas.{Among, among_within, first_or_rest, Aligned, aligned_here, aligned_next}
 use Rattle.conf_inherit.proofs.NamedLemmas.{both}
-use Rattle.conf_inherit.proofs.ReadyLemmas.{part_empty, rest_empty, and_left, and_right}
+use Rattle.conf_inherit.proofs.ReadyLemmas.{part_empty, rest_empty}
 
 mutual
   pub shallow_nests : (d : Data) (levels : ℕ) → deep_flaws d levels ≡ [] → nests d levels ≡ true

@@ -9,7 +9,8 @@ use Rattle.conf_inherit.specs.Nesting.{nests, items_nest, members_nest}
 use Rattle.conf_inherit.specs.Size.{size, items_size, members_size}
 use Rattle.conf_inherit.proofs.InOrder.{get_first, get_none, equal_names, above_turned, above_through}
 use Rattle.conf_inherit.proofs.LayingLemmas.{Meets, same, other, meets, get_other, get_same}
-use Rattle.conf_inherit.proofs.NamedLemmas.{both, and_first, and_second}
+use Rattle.conf_inherit.proofs.NamedLemmas.{both}
+use Rattle.conf_inherit.proofs.ReadyLemmas.{and_left, and_right}
 use Rattle.conf_inherit.proofs.SizeLemmas.{joined_size, member_size}
 
 pub some_is_none : {A : Type 0} (x : A) → Some x ≡ None → ⊥
@@ -65,11 +66,11 @@ no_larger_object ms ns h = record { few = (let a : members_size ms ≤ members_s
 pub next_item : (d e : Data) (ds es : Items) → NoLarger d e → NoLargerItems ds es → NoLargerItems (item d ds) (item e es)
 next_item d e ds es h i = record {
   few = (let a : size d ≤ size e = h.few in let b : items_size ds ≤ items_size es = i.few in omega arith);
-  flat = λ levels n. both (nests d levels) (items_nest ds levels) (h.flat levels (and_first (nests e levels) (items_nest es levels) n)) (i.flat levels (and_second (nests e levels) (items_nest es levels) n));
+  flat = λ levels n. both (nests d levels) (items_nest ds levels) (h.flat levels (and_left (nests e levels) (items_nest es levels) n)) (i.flat levels (and_right (nests e levels) (items_nest es levels) n));
 }
 
 pub one_more : (e : Data) (ds es : Items) → NoLargerItems ds es → NoLargerItems ds (item e es)
-one_more e ds es i = record { few = (let b : items_size ds ≤ items_size es = i.few in omega arith); flat = λ levels n. i.flat levels (and_second (nests e levels) (items_nest es levels) n) }
+one_more e ds es i = record { few = (let b : items_size ds ≤ items_size es = i.few in omega arith); flat = λ levels n. i.flat levels (and_right (nests e levels) (items_nest es levels) n) }
 
 pub no_item : (es : Items) → NoLargerItems no_items es
 no_item es = record { few = omega arith; flat = λ levels n. refl }
@@ -79,21 +80,17 @@ pub turned_items : (d e : Data) (ds : Items) → NoLargerItems (item d (item e d
 turned_items d e ds = record {
   few = omega arith;
   flat = λ levels n.
-      let first = and_first (nests e levels) (nests d levels && items_nest ds levels) n in
-      let later = and_second (nests e levels) (nests d levels && items_nest ds levels) n in
-      both (nests d levels) (nests e levels && items_nest ds levels) (and_first (nests d levels) (items_nest ds levels) later)
-      (both (nests e levels) (items_nest ds levels) first (and_second (nests d levels) (items_nest ds levels) later));
+      let first = and_left (nests e levels) (nests d levels && items_nest ds levels) n in
+      let later = and_right (nests e levels) (nests d levels && items_nest ds levels) n in
+      both (nests d levels) (nests e levels && items_nest ds levels) (and_left (nests d levels) (items_nest ds levels) later)
+      (both (nests e levels) (items_nest ds levels) first (and_right (nests d levels) (items_nest ds levels) later));
 }
 
 pub joined_nest : (a b : Items) (levels : ℕ) → items_nest (join_items a b) levels ≡ true → (items_nest a levels ≡ true) × (items_nest b levels ≡ true)
 joined_nest no_items b levels n = (refl, n)
 joined_nest (item d a) b levels n =
-    let rest = joined_nest a b levels (and_second (nests d levels) (items_nest (join_items a b) levels) n) in
-    (both (nests d levels) (items_nest a levels) (and_first (nests d levels) (items_nest (join_items a b) levels) n) rest.0, rest.1)
-
-pub nest_joined : (a b : Items) (levels : ℕ) → items_nest a levels ≡ true → items_nest b levels ≡ true → items_nest (join_items a b) levels ≡ true
-nest_joined no_items b levels n m = m
-nest_joined (item d a) b levels n m = both (nests d levels) (items_nest (join_items a b) levels) (and_first (nests d levels) (items_nest a levels) n) (nest_joined a b levels (and_second (nests d levels) (items_nest a levels) n) m)
+    let rest = joined_nest a b levels (and_right (nests d levels) (items_nest (join_items a b) levels) n) in
+    (both (nests d levels) (items_nest a levels) (and_left (nests d levels) (items_nest (join_items a b) levels) n) rest.0, rest.1)
 
 pub joined_behind : (a ds es : Items) → NoLargerItems ds es → NoLargerItems ds (join_items a es)
 joined_behind a ds es h = record {
@@ -122,11 +119,11 @@ Covers ms ns = (k : List ℕ) (d : Data) → get_member k ms ≡ Some d → (e :
 pub next_property : (k l : List ℕ) (d e : Data) (ms ns : Members) → NoLarger d e → NoLargerMembers ms ns → NoLargerMembers (member k d ms) (member l e ns)
 next_property k l d e ms ns h i = record {
   few = (let a : size d ≤ size e = h.few in let b : members_size ms ≤ members_size ns = i.few in omega arith);
-  flat = λ levels n. both (nests d levels) (members_nest ms levels) (h.flat levels (and_first (nests e levels) (members_nest ns levels) n)) (i.flat levels (and_second (nests e levels) (members_nest ns levels) n));
+  flat = λ levels n. both (nests d levels) (members_nest ms levels) (h.flat levels (and_left (nests e levels) (members_nest ns levels) n)) (i.flat levels (and_right (nests e levels) (members_nest ns levels) n));
 }
 
 further_property : (l : List ℕ) (e : Data) (ms ns : Members) → NoLargerMembers ms ns → NoLargerMembers ms (member l e ns)
-further_property l e ms ns i = record { few = (let b : members_size ms ≤ members_size ns = i.few in omega arith); flat = λ levels n. i.flat levels (and_second (nests e levels) (members_nest ns levels) n) }
+further_property l e ms ns i = record { few = (let b : members_size ms ≤ members_size ns = i.few in omega arith); flat = λ levels n. i.flat levels (and_right (nests e levels) (members_nest ns levels) n) }
 
 pub no_property : (ns : Members) → NoLargerMembers no_members ns
 no_property ns = record { few = omega arith; flat = λ levels n. refl }
@@ -184,15 +181,15 @@ mutual
 
   items_nest_more : (ds : Items) (levels : ℕ) → items_nest ds levels ≡ true → items_nest ds (suc levels) ≡ true
   items_nest_more no_items levels h = refl
-  items_nest_more (item d ds) levels h = both (nests d (suc levels)) (items_nest ds (suc levels)) (nests_more d levels (and_first (nests d levels) (items_nest ds levels) h)) (items_nest_more ds levels (and_second (nests d levels) (items_nest ds levels) h))
+  items_nest_more (item d ds) levels h = both (nests d (suc levels)) (items_nest ds (suc levels)) (nests_more d levels (and_left (nests d levels) (items_nest ds levels) h)) (items_nest_more ds levels (and_right (nests d levels) (items_nest ds levels) h))
 
   members_nest_more : (ms : Members) (levels : ℕ) → members_nest ms levels ≡ true → members_nest ms (suc levels) ≡ true
   members_nest_more no_members levels h = refl
-  members_nest_more (member k d ms) levels h = both (nests d (suc levels)) (members_nest ms (suc levels)) (nests_more d levels (and_first (nests d levels) (members_nest ms levels) h)) (members_nest_more ms levels (and_second (nests d levels) (members_nest ms levels) h))
+  members_nest_more (member k d ms) levels h = both (nests d (suc levels)) (members_nest ms (suc levels)) (nests_more d levels (and_left (nests d levels) (members_nest ms levels) h)) (members_nest_more ms levels (and_right (nests d levels) (members_nest ms levels) h))
 
 member_nests_at : (k l : List ℕ) (d e : Data) (ms : Members) (levels : ℕ) → Meets k l → get_member k (member l d ms) ≡ Some e → members_nest (member l d ms) levels ≡ true → (get_member k ms ≡ Some e → members_nest ms levels ≡ true → nests e levels ≡ true) → nests e levels ≡ true
-member_nests_at k l d e ms levels (same f) h n later = subst (λ x. nests x levels ≡ true) (value_same d e (sym (get_same k l d ms f) ∙ h)) (and_first (nests d levels) (members_nest ms levels) n)
-member_nests_at k l d e ms levels (other apart) h n later = later (sym (get_other k l d ms apart) ∙ h) (and_second (nests d levels) (members_nest ms levels) n)
+member_nests_at k l d e ms levels (same f) h n later = subst (λ x. nests x levels ≡ true) (value_same d e (sym (get_same k l d ms f) ∙ h)) (and_left (nests d levels) (members_nest ms levels) n)
+member_nests_at k l d e ms levels (other apart) h n later = later (sym (get_other k l d ms apart) ∙ h) (and_right (nests d levels) (members_nest ms levels) n)
 
 member_nests : (k : List ℕ) (e : Data) (ms : Members) (levels : ℕ) → get_member k ms ≡ Some e → members_nest ms levels ≡ true → nests e levels ≡ true
 member_nests k e no_members levels h n = absurd (some_is_none e (sym h))
@@ -205,4 +202,4 @@ property_fits k e ms h (few, flat) = ((let a : size e ≤ members_size ms = memb
 -- a list of one item that is no larger than a list that fits
 pub item_fits : (e : Data) (ds : Items) → NoLargerItems (item e no_items) ds → Fits (array ds) → Fits e
 item_fits e ds h (few, flat) =
-    ((let a : size e + 0 ≤ items_size ds = h.few in omega arith), nests_more e 31 (and_first (nests e 31) true (h.flat 31 flat)))
+    ((let a : size e + 0 ≤ items_size ds = h.few in omega arith), nests_more e 31 (and_left (nests e 31) true (h.flat 31 flat)))

@@ -4,9 +4,8 @@ use Rattle.std.specs.List.{AllByRecursion}
 use Rattle.std.specs.List.Sorted.{IsStrictlySortedBy}
 use Rattle.std.specs.Map.{keys_of}
 use Rattle.serde_json.specs.Data.{Data, null, boolean, number, string, array, object, Items, no_items, item, Members, no_members, member, depth, items_depth, members_depth}
-use Rattle.serde_json.specs.Find.{get, get_member, as_object}
+use Rattle.serde_json.specs.Find.{as_object}
 use Rattle.serde_json.specs.View.{members_view}
-use Rattle.serde_json.specs.Written.{has_float, members_have_float}
 use Rattle.serde_json.proofs.Views.{Entry}
 use Rattle.conf_tree.specs.Flaw.{Flaw}
 use Rattle.conf_tree.specs.Walk.{refusal}
@@ -17,7 +16,7 @@ use Rattle.conf_inherit.specs.Laying.{lay}
 use Rattle.conf_inherit.specs.Looks.{Looks, AreResolved}
 use Rattle.conf_inherit.specs.Names.{AllAbove, NoClash}
 use Rattle.conf_inherit.specs.Nesting.{nests, items_nest, members_nest, deep_flaws}
-use Rattle.conf_inherit.specs.Resolution.{members_or_none, trace_name, type_name, aliases_name, aliases_of, Resolves, from_aliases, if_shallow, resolution_after, resolution_under, resolution}
+use Rattle.conf_inherit.specs.Resolution.{members_or_none, aliases_of, Resolves, from_aliases, if_shallow, resolution_after, resolution_under, resolution}
 use Rattle.std.specs.Prelude.{⊤}
 use Rattle.conf_tree.specs.Reading.{◌>>=◌}
 use Rattle.serde_json.specs.Events.{members_len}
@@ -32,7 +31,6 @@ use Rattle.conf_inherit.proofs.NestingLemmas.{shallow_nests}
 use Rattle.conf_inherit.proofs.ReadyLemmas.{ready, front_empty, back_empty, and_left, and_right}
 use Rattle.conf_inherit.proofs.RoundLemmas.{HasRoot, rounds_resolved, rounds_root, all_done}
 use Rattle.conf_inherit.proofs.SoundPlaces.{flawless}
-use Rattle.conf_inherit.proofs.WholeNumbers.{IsWhole, looks_whole, member_whole}
 
 pub no_flaws : (fs : List Flaw) → refusal fs ≡ Ok tt → fs ≡ []
 no_flaws [] h = refl
@@ -79,42 +77,6 @@ mutual
       let one : depth d ≤ levels = depth-nests d levels (and_left (nests d levels) (members_nest ms levels) h) in
       let rest : members_depth ms ≤ levels = depth-members_nest ms levels (and_right (nests d levels) (members_nest ms levels) h) in
       omega arith
-
--- ---- the aliases are part of the configuration
-
-part_whole : (k : List ℕ) (d e : Data) → IsWhole d → get k d ≡ Some e → IsWhole e
-part_whole k (object ms) e w h = member_whole k e ms w h
-part_whole k null e w h = cc
-part_whole k (boolean b) e w h = cc
-part_whole k (number n) e w h = cc
-part_whole k (string n) e w h = cc
-part_whole k (array es) e w h = cc
-
--- a value that an option has is whole
-abbrev IsWholePart : Option Data → Type 0
-IsWholePart o = (d : Data) → o ≡ Some d → IsWhole d
-
-part_of : (k : List ℕ) (o : Option Data) → IsWholePart o → IsWholePart (option_and_then (get k) o)
-part_of k None p d h = cc
-part_of k (Some c) p d h = part_whole k c d (p c refl) h
-
-members_part : (o : Option Data) → IsWholePart o → members_have_float (members_or_none o) ≡ false
-members_part None p = refl
-members_part (Some (object ms)) p = p (object ms) refl
-members_part (Some null) p = refl
-members_part (Some (boolean b)) p = refl
-members_part (Some (number n)) p = refl
-members_part (Some (string n)) p = refl
-members_part (Some (array es)) p = refl
-
-aliases_part : (t : Data) → IsWhole t → members_have_float (aliases_of t) ≡ false
-aliases_part t w =
-    let here : IsWholePart (Some t) = λ e h. let same : t ≡ e = cc in subst IsWhole same w in
-    let types = part_of type_name (get trace_name t) (part_of trace_name (Some t) here) in
-    members_part (option_and_then (get aliases_name) (option_and_then (get type_name) (get trace_name t))) (part_of aliases_name (option_and_then (get type_name) (get trace_name t)) types)
-
-pub resolved_whole : (t r : Data) → has_float t ≡ false → Resolves t r → has_float r ≡ false
-resolved_whole t r w l = looks_whole (aliases_of t) (aliases_part t w) l (w, tt)
 
 -- ---- the names of a map are in order
 

@@ -50,13 +50,6 @@ pub past_due : (stop : Stop) (limit : Option ℕ) (n : ℕ) → stop ≡ Limit �
 past_due stop limit n e h = rw e h
 
 -- without a limit, a stop is for want of memory
-pub memory_only : (stop : Stop) (n : ℕ) → IsDue stop None n → stop ≡ Memory
-memory_only Memory n h = refl
-memory_only Limit n h = absurd h
-
-pub memory_due : (stop : Stop) (limit : Option ℕ) (n : ℕ) → stop ≡ Memory → IsDue stop limit n
-memory_due stop limit n e = rw e tt
-
 -- the room is what a limit leaves, where a whole has so many values and so many of them are still to come
 pub record IsCounted (limit room : Option ℕ) (whole rest : ℕ) : Type 0 where
   pub taken : ℕ
@@ -140,10 +133,6 @@ new_size done s es base is =
     ≡ items_size (map_items (λ b. lay_over done es b) (items_below base)) + items_size (lay_new done es (items_below base))
     = joined_size (map_items (λ b. lay_over done es b) (items_below base)) (lay_new done es (items_below base)) in
     rw is (omega arith)
-
-pub pushed_size : (vs : List Value) (v : Value) → items_size (items_view (vs ++ v ∷ [])) ≡ items_size (items_view vs) + size (view v)
-pushed_size [] v = omega arith
-pushed_size (w ∷ vs) v = let rest : items_size (items_view (vs ++ v ∷ [])) ≡ items_size (items_view vs) + size (view v) = pushed_size vs v in omega arith
 
 -- the new entries of an object, before the others
 new_member_size : (done ms : Members) (seen rest : Items) → items_size (lay_new_member done ms seen rest) ≡ items_size (lay_new_member done ms seen no_items) + items_size rest

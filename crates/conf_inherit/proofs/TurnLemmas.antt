@@ -14,7 +14,8 @@ use Rattle.conf_inherit.proofs.InOrder.{same_members}
 use Rattle.conf_inherit.proofs.KeptLemmas.{more_named, kept_lay, kept_inner}
 use Rattle.conf_inherit.proofs.LayingLemmas.{Meets, same, other, meets, get_other, get_same, in_order_put}
 use Rattle.conf_inherit.proofs.ListLemmas.{AllEntries, found_each}
-use Rattle.conf_inherit.proofs.NamedLemmas.{and_first, and_second, named_along}
+use Rattle.conf_inherit.proofs.NamedLemmas.{named_along}
+use Rattle.conf_inherit.proofs.ReadyLemmas.{and_left, and_right}
 use Rattle.conf_inherit.proofs.RoundLemmas.{by_round, entry_found, is_put, or_left_false, or_right_false}
 use Rattle.conf_inherit.proofs.WalkLemmas.{count, count_all, count_new, mentioned}
 
@@ -309,17 +310,17 @@ module _ (al : Members) where
   pub settled_round : (ms : Members) (st : Outcomes) → all_settled al ms st ≡ true → round al ms st ≡ st
   settled_round no_members st h = refl
   settled_round (member k w ms) st h =
-      ap (round al ms) (settled_step k w st (and_first (is_settled al st k w) (all_settled al ms st) h)) ∙ settled_round ms st (and_second (is_settled al st k w) (all_settled al ms st) h)
+      ap (round al ms) (settled_step k w st (and_left (is_settled al st k w) (all_settled al ms st) h)) ∙ settled_round ms st (and_right (is_settled al st k w) (all_settled al ms st) h)
 
   over_settled : (ms : Members) (st : Outcomes) → all_over ms st ≡ true → all_settled al ms st ≡ true
   over_settled no_members st h = refl
   over_settled (member k w ms) st h =
-      let one : is_settled al st k w ≡ true = or_first (has_outcome st k) (not (all_named (is_over al st) places.FieldType w)) (and_first (has_outcome st k) (all_over ms st) h) in
-      rw one (over_settled ms st (and_second (has_outcome st k) (all_over ms st) h))
+      let one : is_settled al st k w ≡ true = or_first (has_outcome st k) (not (all_named (is_over al st) places.FieldType w)) (and_left (has_outcome st k) (all_over ms st) h) in
+      rw one (over_settled ms st (and_right (has_outcome st k) (all_over ms st) h))
 
   each_settled : (ms : Members) (st : Outcomes) → all_settled al ms st ≡ true → AllEntries (λ k w. is_settled al st k w ≡ true) ms
   each_settled no_members st h = tt
-  each_settled (member k w ms) st h = (and_first (is_settled al st k w) (all_settled al ms st) h, each_settled ms st (and_second (is_settled al st k w) (all_settled al ms st) h))
+  each_settled (member k w ms) st h = (and_left (is_settled al st k w) (all_settled al ms st) h, each_settled ms st (and_right (is_settled al st k w) (all_settled al ms st) h))
 
   pub is_settled_state : (st : Outcomes) → all_settled al al st ≡ true → IsSettled st
   is_settled_state st h k w is due =

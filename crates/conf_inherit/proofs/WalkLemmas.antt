@@ -17,7 +17,7 @@ use Rattle.conf_inherit.specs.Named.{all_named, all_named_in_items, all_named_in
 use Rattle.conf_inherit.specs.Rounds.{has_outcome, Outcomes, is_over, is_empty, outcome, concluded, step, round, rounds, no_outcomes}
 use Rattle.conf_inherit.proofs.LayingLemmas.{Meets, same, other, meets, get_other}
 use Rattle.conf_inherit.proofs.ListLemmas.{AllEntries, found_each}
-use Rattle.conf_inherit.proofs.NamedLemmas.{and_second, and_first}
+use Rattle.conf_inherit.proofs.ReadyLemmas.{and_right, and_left}
 use Rattle.conf_inherit.proofs.ResolveLemmas.{no_flaws, aliases_sound}
 use Rattle.conf_inherit.proofs.RoundLemmas.{is_put, is_still, by_round, no_value, or_left_false, rounds_root, all_done}
 
@@ -42,13 +42,13 @@ mutual
 
   mentioned_in_items : (p : List ℕ → Bool) (m : List ℕ) (ds : Items) (s : Place) → all_named_in_items p s ds ≡ true → MentionsInItems m s ds → p m ≡ true
   mentioned_in_items p m no_items s h x = absurd x
-  mentioned_in_items p m (item d ds) s h (inl x) = mentioned p m d s (and_first (all_named p s d) (all_named_in_items p s ds) h) x
-  mentioned_in_items p m (item d ds) s h (inr x) = mentioned_in_items p m ds s (and_second (all_named p s d) (all_named_in_items p s ds) h) x
+  mentioned_in_items p m (item d ds) s h (inl x) = mentioned p m d s (and_left (all_named p s d) (all_named_in_items p s ds) h) x
+  mentioned_in_items p m (item d ds) s h (inr x) = mentioned_in_items p m ds s (and_right (all_named p s d) (all_named_in_items p s ds) h) x
 
   mentioned_in_members : (p : List ℕ → Bool) (m : List ℕ) (ms : Members) (s : Place) → all_named_in_members p s ms ≡ true → MentionsInMembers m s ms → p m ≡ true
   mentioned_in_members p m no_members s h x = absurd x
-  mentioned_in_members p m (member k d ms) s h (inl x) = mentioned p m d (place_under s k) (and_first (all_named p (place_under s k) d) (all_named_in_members p s ms) h) x
-  mentioned_in_members p m (member k d ms) s h (inr x) = mentioned_in_members p m ms s (and_second (all_named p (place_under s k) d) (all_named_in_members p s ms) h) x
+  mentioned_in_members p m (member k d ms) s h (inl x) = mentioned p m d (place_under s k) (and_left (all_named p (place_under s k) d) (all_named_in_members p s ms) h) x
+  mentioned_in_members p m (member k d ms) s h (inr x) = mentioned_in_members p m ms s (and_right (all_named p (place_under s k) d) (all_named_in_members p s ms) h) x
 
 -- ---- how many names pass a test
 
@@ -125,7 +125,7 @@ module _ (al : Members) where
   outcome_named done w r h = go (all_named (has done) places.FieldType w && is_empty (flaws al (Some done) places.FieldType false no_members w)) refl
     where
       go : (t : Bool) → (all_named (has done) places.FieldType w && is_empty (flaws al (Some done) places.FieldType false no_members w)) ≡ t → all_named (has done) places.FieldType w ≡ true
-      go true e = and_first (all_named (has done) places.FieldType w) (is_empty (flaws al (Some done) places.FieldType false no_members w)) e
+      go true e = and_left (all_named (has done) places.FieldType w) (is_empty (flaws al (Some done) places.FieldType false no_members w)) e
       go false e = absurd (no_value r (rw e at h))
 
   short_step : (k : List ℕ) (w : Data) (st : Outcomes) → get_member k al ≡ Some w → Short st → Short (step al k w st)

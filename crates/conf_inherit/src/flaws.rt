@@ -1,6 +1,6 @@
 //! The first flaw of a value, in walk order.
-ghost use Rattle.std.specs.Prelude.{◌≡◌, ◌+◌, ◌≤◌, ◌<◌, ◌&&◌, ◌++◌, Some, false, IfErr, IfOk, OnOk, is_some, option_map};
-ghost use Rattle.serde_json.specs.Data.{depth, items_depth, members_depth, array, object, no_members};
+ghost use Rattle.std.specs.Prelude.{◌≡◌, ◌+◌, ◌&&◌, ◌++◌, false, OnOk, is_some, option_map};
+ghost use Rattle.serde_json.specs.Data.{no_members};
 ghost use Rattle.serde_json.specs.Find.{get_member};
 ghost use Rattle.serde_json.specs.View.{view, items_view, members_view};
 ghost use Rattle.conf_tree.specs.Reading.{Gives};
@@ -222,9 +222,7 @@ fn check_member(
     let taken = is_taken(name, place, seen);
     let nothing = Map::new(alloc);
     let inner = place_under(place, name);
-    if let Err(fault) = check_flaws(alloc, member, inner, taken, &nothing, aliases, resolved) {
-        return Err(fault);
-    }
+    check_flaws(alloc, member, inner, taken, &nothing, aliases, resolved)?;
     check_base(alloc, name, member, place, resolved)
 }
 
@@ -281,8 +279,6 @@ pub(crate) fn check_type(
 ) -> Result<(), ConfFault>
     ensures first { Gives (λ _. tt) result (refusal (type_flaws (members_view aliases.now.entries) (members_view resolved.now.entries) place (view value.now))) }
 {
-    if let Err(fault) = check_value(alloc, value, place, aliases, Some(resolved)) {
-        return Err(fault);
-    }
+    check_value(alloc, value, place, aliases, Some(resolved))?;
     check_limits(alloc, value, place, resolved)
 }

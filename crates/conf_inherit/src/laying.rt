@@ -1,10 +1,9 @@
 //! Lays a value over the resolved value of what it inherits from.
-ghost use Rattle.std.specs.Prelude.{◌≡◌, string_bytes, IfOk, IfErr, OnOk, MatchOption, Option, None, Some, option_map};
+ghost use Rattle.std.specs.Prelude.{◌≡◌, string_bytes, IfOk, IfErr, OnOk, MatchOption, Option, Some, option_map};
 ghost use Rattle.serde_json.specs.Data.{Data, object, array, Items, no_items};
-ghost use Rattle.serde_json.specs.Find.{get, get_member};
 ghost use Rattle.serde_json.specs.View.{view, items_view, members_view};
-ghost use Rattle.conf_inherit.specs.Laying.{lay, lay_base, lay_members, lay_over, lay_over_entry, lay_over_member, lay_new, lay_new_entry, lay_new_member, lay_text, resolved, members_below, items_below};
-ghost use Rattle.conf_inherit.specs.Names.{properties_of, items_in, names_of, entries_of, join_items, map_items};
+ghost use Rattle.conf_inherit.specs.Laying.{lay, lay_base, lay_members, lay_over, lay_over_entry, lay_over_member, lay_new, lay_new_entry, lay_new_member, lay_text, resolved};
+ghost use Rattle.conf_inherit.specs.Names.{join_items, map_items};
 ghost use Rattle.conf_inherit.specs.Size.{size, items_size, members_size, Within, Leaves, IsDue};
 
 use crate::base::{items_under, join, properties_below, properties_in};

@@ -1,5 +1,5 @@
 //! The limits of a field type, once it is resolved.
-ghost use Rattle.std.specs.Prelude.{◌≡◌, Ok, Err, None, IfErr, IfOk, MatchResult};
+ghost use Rattle.std.specs.Prelude.{◌≡◌, Ok, Err, None, IfOk, MatchResult};
 ghost use Rattle.serde_json.specs.Data.{string};
 ghost use Rattle.serde_json.specs.View.{view, members_view};
 ghost use Rattle.conf_tree.specs.Reading.{Gives};

@@ -1,6 +1,6 @@
 //! The first fault at the places of a configuration where field types stand, in walk order.
-ghost use Rattle.std.specs.Prelude.{◌≡◌, ◌+◌, ◌≤◌, ◌<◌, ◌++◌, Some, IfErr, false};
-ghost use Rattle.serde_json.specs.Data.{depth, items_depth, members_depth, array, object, no_members};
+ghost use Rattle.std.specs.Prelude.{◌+◌, ◌++◌, Some, false};
+ghost use Rattle.serde_json.specs.Data.{array, object, no_members};
 ghost use Rattle.serde_json.specs.View.{view, items_view, members_view};
 ghost use Rattle.conf_tree.specs.Reading.{Gives};
 ghost use Rattle.conf_tree.specs.Walk.{refusal};
@@ -53,9 +53,7 @@ fn check_extra(
 ) -> Result<(), ConfFault>
     ensures first { Gives (λ _. tt) result (refusal (too_many (view value.now) ++ own_flaws (members_view aliases.now.entries) place false (view value.now))) }
 {
-    if let Err(fault) = check_count(alloc, value) {
-        return Err(fault);
-    }
+    check_count(alloc, value)?;
     check_itself(alloc, value, place, false, aliases)
 }
 
@@ -153,9 +151,7 @@ fn check_entry(
 {
     let entry = place_of_items(place);
     let known = Some(resolved);
-    if let Err(fault) = check_flaws(alloc, value, entry, false, seen, aliases, known) {
-        return Err(fault);
-    }
+    check_flaws(alloc, value, entry, false, seen, aliases, known)?;
     check_places(alloc, value, entry, aliases, resolved)
 }
 
@@ -198,8 +194,6 @@ fn check_place_and_inner(
     requires sound { HasSound (members_view aliases.now.entries) (members_view resolved.now.entries) place (view value.now) }
     ensures first { Gives (λ _. tt) result (refusal (place_flaws (members_view aliases.now.entries) (members_view resolved.now.entries) place (view value.now) ++ inner_places (members_view aliases.now.entries) (members_view resolved.now.entries) place (view value.now))) }
 {
-    if let Err(fault) = check_place(alloc, value, place, aliases, resolved) {
-        return Err(fault);
-    }
+    check_place(alloc, value, place, aliases, resolved)?;
     check_places(alloc, value, place, aliases, resolved)
 }

@@ -1,5 +1,5 @@
 //! The properties of JSON objects, by name.
-ghost use Rattle.std.specs.Prelude.{◌≡◌, string_bytes, IfOk, OnOk, option_map, option_and_then};
+ghost use Rattle.std.specs.Prelude.{◌≡◌, string_bytes, IfOk, OnOk, option_map};
 ghost use Rattle.serde_json.specs.Data.{Data, object, member, no_members, put};
 ghost use Rattle.serde_json.specs.Find.{get, get_member};
 ghost use Rattle.serde_json.specs.View.{view, members_view};

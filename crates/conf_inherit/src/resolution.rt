@@ -1,6 +1,5 @@
 //! Resolves the inheritance of a configuration.
-ghost use Rattle.std.specs.Prelude.{◌≡◌, ◌≤◌, ◌⊎◌, Option, None, IfOk, IfErr, false, option_map, option_and_then};
-ghost use Rattle.serde_json.specs.Data.{no_members};
+ghost use Rattle.std.specs.Prelude.{◌≡◌, ◌⊎◌, None, IfOk, IfErr, false, option_map, option_and_then};
 ghost use Rattle.conf_tree.specs.Flaw.{flaw_of, IsMemory};
 ghost use Rattle.conf_tree.specs.Order.{Ascends};
 ghost use Rattle.conf_tree.specs.Reading.{Gives};
@@ -90,9 +89,7 @@ fn lay_all(alloc: Global, value: &Value, resolved: Map<String, Value>) -> Result
 {
     match lay_whole(alloc, Place::Root, value, resolved) {
         Ok(resolved) => {
-            if let Err(fault) = check_nesting(alloc, &resolved, 32) {
-                return Err(fault);
-            }
+            check_nesting(alloc, &resolved, 32)?;
             Ok(resolved)
         }
         Err(Stop::Memory) => Err(ConfFault::memory(alloc)),
@@ -112,12 +109,8 @@ fn resolve_after(
     requires settled { outcomes_of outcomes ≡ rounds (members_view aliases.now.entries) (btree_map_len aliases.now) no_outcomes }
     ensures first { Gives view result (resolution_after (members_view aliases.now.entries) (outcomes_of outcomes) (view value.now)) }
 {
-    if let Err(fault) = check_all_aliases(alloc, aliases, &outcomes) {
-        return Err(fault);
-    }
-    if let Err(fault) = check_places(alloc, value, Place::Root, aliases, &outcomes.resolved) {
-        return Err(fault);
-    }
+    check_all_aliases(alloc, aliases, &outcomes)?;
+    check_places(alloc, value, Place::Root, aliases, &outcomes.resolved)?;
     let AliasOutcomes {
         resolved,
         refused: _,

@@ -1,6 +1,6 @@
 //! Resolves the aliases in the order in which they depend on one another.
-ghost use Rattle.std.specs.Prelude.{◌≡◌, ◌≤◌, false, Some, OnOk, IfOk, IfErr, option_map, string_bytes};
-ghost use Rattle.serde_json.specs.Data.{depth, members_depth, no_members};
+ghost use Rattle.std.specs.Prelude.{◌≡◌, false, Some, OnOk, IfOk, IfErr, option_map, string_bytes};
+ghost use Rattle.serde_json.specs.Data.{no_members};
 ghost use Rattle.serde_json.specs.View.{view, members_view};
 ghost use Rattle.std.specs.BTreeMap.{btree_map_len};
 ghost use Rattle.conf_tree.specs.Flaw.{IsMemory};

@@ -1,40 +1,16 @@
-use Rattle.std.proofs.Common.{arith, ◌≡◌, [], Some, Err, false, inl, inr, sym, ap, ◌∙◌, subst}
+use Rattle.std.proofs.Common.{arith, ◌≡◌, [], Some, sym, ap, ◌∙◌, subst}
 use Rattle.serde_json.specs.Data.{object}
 use Rattle.serde_json.specs.Find.{get_member}
 use Rattle.serde_json.proofs.Views.{view-Object}
 use Rattle.conf_table.specs.declared.place.Place.TheVariants as places
-use Rattle.conf_inherit.specs.FieldPlaces.{place_under, place_of_items}
+use Rattle.conf_inherit.specs.FieldPlaces.{place_under}
 use Rattle.conf_inherit.specs.Whole.{HasSound}
 use Rattle.conf_inherit.proofs.ListLemmas.{AllEntries, all_along, found_each}
 use Rattle.conf_inherit.proofs.ResolveLemmas.{apart_of}
 use Rattle.conf_inherit.proofs.WholeLemmas.{of_property, sound_item, sound_here}
-use Rattle.conf_tree.specs.Flaw.{flaw_of}
-use Rattle.conf_tree.specs.Walk.{refusal}
 use Rattle.serde_json.specs.View.{view, members_view}
-use Rattle.conf_inherit.specs.Flaws.{flaws}
-use Rattle.conf_inherit.specs.Places.{place_flaws, inner_places, member_places}
-use Rattle.conf_inherit.proofs.FlawLemmas.{refused_first}
+use Rattle.conf_inherit.specs.Places.{member_places}
 use Rattle.conf_inherit.proofs.places.+places.Goals as goal
-
-pub check_place_and_inner-returns-in-Err : goal.check_place_and_inner-returns-in-Err
-check_place_and_inner-returns-in-Err t c =
-    let al = members_view c.args.aliases.now.entries in
-    let done = members_view c.args.resolved.now.entries in
-    let v = view c.args.value.now in
-    record {
-      first = elim c.in-Err.ensures.first [ inl memory ↦ inl memory | inr flawed ↦ inr (refused_first (place_flaws al done c.args.place v) (inner_places al done c.args.place v) (flaw_of c.in-Err.fault) flawed) ];
-    }
-
-pub check_entry-returns-in-Err : goal.check_entry-returns-in-Err
-check_entry-returns-in-Err t c =
-    let al = members_view c.args.aliases.now.entries in
-    let done = members_view c.args.resolved.now.entries in
-    let seen = members_view c.args.seen.now.entries in
-    let v = view c.args.value.now in
-    let s = place_of_items c.args.place in
-    record {
-      first = elim c.in-Err.ensures.first [ inl memory ↦ inl memory | inr flawed ↦ inr (refused_first (flaws al (Some done) s false seen v) (inner_places al done s v) (flaw_of c.in-Err.fault) (subst (λ x. refusal (flaws al (Some done) x false seen v) ≡ Err (flaw_of c.in-Err.fault)) c.place_of_items-entry.ensures flawed)) ];
-    }
 
 pub check_entry-check_places-requires : goal.check_entry-check_places-requires
 check_entry-check_places-requires t c =

@@ -7,8 +7,8 @@ use Rattle.conf_inherit.specs.AliasOutcomes.{outcomes_of}
 use Rattle.conf_inherit.specs.Names.{NoClash}
 use Rattle.conf_tree.specs.Flaw.{flaw_of}
 use Rattle.conf_inherit.proofs.RefusalLemmas.{refusal_holds}
-use Rattle.conf_inherit.proofs.ResolveLemmas.{resolution_is, resolution_sound, depth-nests, resolved_whole}
-use Rattle.conf_inherit.proofs.AscendingNames.{resolved_ascends}
+use Rattle.conf_inherit.proofs.ResolveLemmas.{resolution_is, resolution_sound, depth-nests}
+use Rattle.conf_inherit.proofs.LookedUp.{resolved_ascends, resolved_whole}
 use Rattle.conf_inherit.proofs.resolution.resolve_under.Goals as goal
 
 pub returns-in-Ok-clause-first : goal.returns-in-Ok-clause-first
