@@ -71,8 +71,6 @@ nothing a p = record {
   stays = λ fault e. (e, Appends-nil a);
 }
 
-}
-
 -- two texts
 pub more : {a b c : Option (List ℕ)} {p q r : Page} {t u : List ℕ} → Says a p b q t → Says b q c r u → Says a p c r (t ++ u)
 more {a} {b} {c} {p} {q} {r} {t} {u} s v = record {
