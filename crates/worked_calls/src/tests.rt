@@ -4,6 +4,7 @@ mod again;
 mod bits;
 mod clocks;
 mod codec;
+mod expected;
 mod fixtures;
 mod merging;
 mod platform;

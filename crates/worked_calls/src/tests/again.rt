@@ -4,11 +4,13 @@
 ghost use Rattle.std.specs.Prelude.{IfOk};
 ghost use Rattle.ctf_types.specs.AllowedConfig.{IsConfig};
 
+use crate::tests::expected::{holds, same, same_text};
 use crate::tests::fixtures::configured;
 use ctf_types::{ByteOrder, Bytes, Config, Duplicate, StructType, Value, Values};
 use packet_collector::Collector;
 use packet_writer::PacketBuf;
 use std::alloc::{AllocError, Global};
+use std::process::Abort;
 use std::test::Fail;
 use thread_stream::{NotMade, PacketAnswer, Stream, StreamFault};
 use trace_clock::{TickClock, TickSeat};
@@ -60,14 +62,18 @@ fn copied_values(alloc: Global, values: &Values) -> Result<Values, Fail> {
 static COPIED: &str =
     "Values { items: [Unsigned(1), Text(Bytes { bytes: [97] }), List(Values { items: [Signed(-2)] })] } List(Values { items: [Unsigned(1), Text(Bytes { bytes: [97] }), List(Values { items: [Signed(-2)] })] })";
 
+/// The values, and the copy of a list of their copies.
+fn shown_copies(alloc: Global, values: &Values) -> Result<String, Fail> {
+    let copied = copied_values(alloc, values)?;
+    let one = copied_value(alloc, &Value::List(copied))?;
+    Ok(format!(in alloc; "{values:?} {one:?}")?)
+}
+
 #[test]
 fn copies_values(rt: HostRuntime) -> Result<(), Fail> {
-    let alloc = rt.alloc();
-    let values = some_values(alloc)?;
-    let copied = copied_values(alloc, &values)?;
-    let one = copied_value(alloc, &Value::List(copied))?;
-    let found = format!(in alloc; "{values:?} {one:?}")?;
-    assert_eq!(rt; found.as_str(), COPIED);
+    let values = some_values(rt.alloc())?;
+    let found = shown_copies(rt.alloc(), &values)?;
+    same_text(&rt, found.as_str(), COPIED, "copies");
     Ok(())
 }
 
@@ -95,10 +101,9 @@ fn lists_grow(rt: HostRuntime) -> Result<(), Fail> {
     for number in 0..20 {
         put(&mut values, Value::Unsigned(number))?;
         extended(&mut bytes, b"abc")?;
-        assert_eq!(rt;
-            (values.len() as u64, bytes.as_slice().len()),
-            (number + 1, values.len().saturating_mul(3))
-        );
+        let found = (values.len() as u64, bytes.as_slice().len());
+        let expected = (number + 1, values.len().saturating_mul(3));
+        same(&rt, found, expected, "values and bytes");
     }
     Ok(())
 }
@@ -117,6 +122,8 @@ const STRUCTURE: &[u8] = &[2, 0x48, 0x69, 0, 5, 6];
 
 static READ: &str =
     "(Values { items: [Unsigned(2), Text(Bytes { bytes: [72, 105] }), List(Values { items: [Unsigned(5), Unsigned(6)] })] }, 48)";
+
+static LIST: &str = "(List(Values { items: [Unsigned(5), Unsigned(6)] }), 48)";
 
 fn struct_of(alloc: Global, bytes: &[u8], s: &StructType) -> Result<(Values, u64), Fail> {
     if bytes.len() != 6 {
@@ -150,18 +157,24 @@ fn list_of(
     }
 }
 
+fn shown_struct(alloc: Global, s: &StructType) -> Result<String, Fail> {
+    let read = struct_of(alloc, STRUCTURE, s)?;
+    Ok(format!(in alloc; "{read:?}")?)
+}
+
+fn shown_list(alloc: Global, s: &StructType) -> Result<String, Fail> {
+    let before = [Value::Unsigned(2), Value::Unsigned(0)];
+    let read = list_of(alloc, STRUCTURE, s, &before)?;
+    Ok(format!(in alloc; "{read:?}")?)
+}
+
 #[test]
 fn reads_structures(rt: HostRuntime) -> Result<(), Fail> {
-    let alloc = rt.alloc();
-    let s = structure(alloc)?;
-    let read = struct_of(alloc, STRUCTURE, &s)?;
-    assert_eq!(rt; format!(in alloc; "{read:?}")?.as_str(), READ);
-    let before = [Value::Unsigned(2), Value::Unsigned(0)];
-    let read = list_of(alloc, STRUCTURE, &s, &before)?;
-    assert_eq!(rt;
-        format!(in alloc; "{read:?}")?.as_str(),
-        "(List(Values { items: [Unsigned(5), Unsigned(6)] }), 48)"
-    );
+    let s = structure(rt.alloc())?;
+    let read = shown_struct(rt.alloc(), &s)?;
+    same_text(&rt, read.as_str(), READ, "a structure");
+    let list = shown_list(rt.alloc(), &s)?;
+    same_text(&rt, list.as_str(), LIST, "its third member");
     Ok(())
 }
 
@@ -204,38 +217,49 @@ fn seat(alloc: Global) -> Result<TickSeat, Fail> {
 
 #[test]
 fn makes_platforms(rt: HostRuntime) -> Result<(), Fail> {
-    let alloc = rt.alloc();
-    let bytes = buffer(alloc)?.len();
-    let full = back_end(alloc)?.full_count();
-    let is_empty = sink(alloc)?.bytes().is_empty();
-    let mut seat = seat(alloc)?;
+    let bytes = buffer(rt.alloc())?.len();
+    let full = back_end(rt.alloc())?.full_count();
+    let is_empty = sink(rt.alloc())?.bytes().is_empty();
+    same(&rt, (bytes, full, is_empty), (16, 0, true), "platforms");
+    let mut seat = seat(rt.alloc())?;
     let readings = [seat.read(), seat.read()];
-    assert_eq!(rt; (bytes, full, is_empty), (16, 0, true));
-    assert_eq!(rt; readings, [Ok(3), Ok(4)]);
+    same(&rt, readings, [Ok(3), Ok(4)], "readings");
     Ok(())
 }
 
-/// A sink that grows: one that faulted has what it had.
+/// Six bytes are put behind so many, once more where they were refused: a sink that faulted has what it had.
+fn appends_six(rt: &impl Abort, sink: &mut MemorySink, had: usize) {
+    if sink.append(b"abcdef").is_err() {
+        let found = (sink.bytes().len(), sink.fault_count());
+        same(rt, found, (had, 1), "a sink that faulted");
+        same(rt, sink.append(b"abcdef"), Ok(()), "once more");
+    }
+    same(rt, sink.bytes().len(), had.saturating_add(6), "bytes");
+}
+
+fn begins_twice(bytes: &[u8]) -> bool {
+    bytes.starts_with(b"abcdefabcdef")
+}
+
+/// A sink that grows.
 #[test]
 fn appends_what_was_refused(rt: HostRuntime) -> Result<(), Fail> {
     let mut sink = MemorySink::new(rt.alloc());
     for count in 0..20 {
-        if sink.append(b"abcdef").is_err() {
-            assert_eq!(rt; (sink.bytes().len(), sink.fault_count()), (count * 6, 1));
-            assert_eq!(rt; sink.append(b"abcdef"), Ok(()));
-        }
-        assert_eq!(rt; sink.bytes().len(), count * 6 + 6);
+        appends_six(&rt, &mut sink, count * 6);
     }
-    assert!(rt; sink.bytes().starts_with(b"abcdefabcdef"));
+    holds(&rt, begins_twice(sink.bytes()), "the bytes");
     Ok(())
 }
+
+type ListStream = Stream<ListClock, ListBackEnd>;
 
 /// A stream of what was handed back.
 fn begun_again(
     alloc: Global,
     config: &Config,
     refused: NotMade<ListClock, ListBackEnd>,
-) -> Result<Stream<ListClock, ListBackEnd>, Fail>
+) -> Result<ListStream, Fail>
     requires { IsConfig config.now }
 {
     let NotMade {
@@ -250,14 +274,15 @@ fn begun_again(
     at_last(Stream::new(alloc, config, "s", clock, back_end, extras))
 }
 
-fn begun(
-    alloc: Global,
-    config: &Config,
-    clock: ListClock,
-    back_end: ListBackEnd,
-) -> Result<Stream<ListClock, ListBackEnd>, Fail>
+fn list_clock(alloc: Global) -> Result<ListClock, Fail> {
+    Ok(ListClock::new(Vec::new(alloc)).ok_or("readings that fall")?)
+}
+
+fn begun(alloc: Global, config: &Config) -> Result<ListStream, Fail>
     requires { IsConfig config.now }
 {
+    let clock = list_clock(alloc)?;
+    let back_end = back_end(alloc)?;
     match Stream::new(alloc, config, "s", clock, back_end, Values::new(alloc)) {
         Ok(stream) => Ok(stream),
         Err(refused) => begun_again(alloc, config, refused),
@@ -277,18 +302,35 @@ fn copied(alloc: Global, config: &Config) -> Result<Config, Fail>
     }
 }
 
-#[test]
-fn makes_a_stream_of_a_copy(rt: HostRuntime) -> Result<(), Fail> {
-    let alloc = rt.alloc();
+fn begun_of_copy(alloc: Global, config: &Config) -> Result<ListStream, Fail>
+    requires { IsConfig config.now }
+{
+    let copied = copied(alloc, config)?;
+    begun(alloc, &copied)
+}
+
+fn stream_of_copy(alloc: Global) -> Result<ListStream, Fail> {
     let config = configured(alloc, SMALL)?;
-    let copied = copied(alloc, &config)?;
-    let clock = ListClock::new(Vec::new(alloc)).ok_or("readings that fall")?;
-    let back_end = back_end(alloc)?;
-    let mut stream = begun(alloc, &copied, clock, back_end)?;
+    begun_of_copy(alloc, &config)
+}
+
+/// What opening and closing a packet answer, and whether it is there then.
+fn goes_round(stream: &mut ListStream) -> (PacketAnswer, PacketAnswer, bool) {
     let opened = stream.open_packet();
     let closed = stream.close_packet();
-    assert_eq!(rt; [opened, closed], [PacketAnswer::Done; 2]);
-    assert!(rt; stream.take().is_some());
+    (opened, closed, stream.take().is_some())
+}
+
+fn round_of_copy(alloc: Global) -> Result<(PacketAnswer, PacketAnswer, bool), Fail> {
+    let mut stream = stream_of_copy(alloc)?;
+    Ok(goes_round(&mut stream))
+}
+
+#[test]
+fn makes_a_stream_of_a_copy(rt: HostRuntime) -> Result<(), Fail> {
+    let found = round_of_copy(rt.alloc())?;
+    let expected = (PacketAnswer::Done, PacketAnswer::Done, true);
+    same(&rt, found, expected, "a packet");
     Ok(())
 }
 
@@ -300,13 +342,24 @@ fn added(collector: &mut Collector<MemorySink>, sink: MemorySink) -> Result<usiz
     }
 }
 
+/// One more sink is added at this place.
+fn is_added(
+    rt: &impl Abort,
+    alloc: Global,
+    collector: &mut Collector<MemorySink>,
+    place: usize,
+) -> Result<(), Fail> {
+    let added = added(collector, MemorySink::new(alloc))?;
+    same(rt, added, place, "a sink's place");
+    Ok(())
+}
+
 #[test]
 fn adds_sinks(rt: HostRuntime) -> Result<(), Fail> {
     let mut collector = Collector::new(rt.alloc());
     for place in 0..10 {
-        let sink = MemorySink::new(rt.alloc());
-        assert_eq!(rt; added(&mut collector, sink)?, place);
+        is_added(&rt, rt.alloc(), &mut collector, place)?;
     }
-    assert_eq!(rt; collector.into_sinks().len(), 10);
+    same(&rt, collector.into_sinks().len(), 10, "all sinks");
     Ok(())
 }

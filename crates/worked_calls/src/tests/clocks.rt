@@ -1,35 +1,65 @@
 //! One clock for many threads: its readings are given once each, up to the quota of each seat. A clock with a floor.
 
-ghost use Rattle.std.specs.Prelude.{◌≡◌};
+ghost use Rattle.std.specs.Prelude.{◌≡◌, ◌+◌, ◌<◌, ◌^◌, IfOk};
 ghost use Rattle.trace_clock.specs.Seats.{SameClock, clock_of, told_clock};
 
+use crate::tests::expected::{holds, same};
 use std::alloc::{AllocError, Global};
+use std::process::Abort;
 use std::test::Fail;
-use std::thread;
+use std::thread::{self, Threads};
 use trace_clock::{ClockFault, FloorClock, TickClock, TickSeat, Told, join_all};
 use trace_platform::{Clock, ClockSpent, ListClock};
 
+/// A reading, or that there is none.
+type Reading = Result<u64, ClockSpent>;
+
+fn are_read(rt: &impl Abort, found: &[Reading], expected: &[Reading]) {
+    assert_eq!(rt; found, expected);
+}
+
+/// Two seats of one clock of so many readings from here on, with these quotas.
+pub fn two_seats(
+    alloc: Global,
+    start: u64,
+    total: u64,
+    first: u64,
+    second: u64,
+) -> Result<(TickSeat, TickSeat), Fail>
+    requires { start + total < 2 ^ 64 }
+    ensures { IfOk result (λ p. clock_of p.0 ≡ clock_of p.1) }
+{
+    let mut clock = TickClock::new(alloc, start, total)?;
+    let first = clock.seat(alloc, first)?;
+    let second = clock.seat(alloc, second)?;
+    Ok((first, second))
+}
+
+/// A seat of two readings, and whether its clock of three then refuses another such.
+fn seat_and_refusal(alloc: Global) -> Result<(TickSeat, bool), Fail> {
+    let mut clock = TickClock::new(alloc, 0, 3)?;
+    let seat = clock.seat(alloc, 2)?;
+    let refused = matches!(clock.seat(alloc, 2), Err(ClockFault::QuotaSpent));
+    Ok((seat, refused))
+}
+
 #[test]
 fn gives_no_more_readings_than_its_total(rt: HostRuntime) -> Result<(), Fail> {
-    let mut clock = TickClock::new(rt.alloc(), 0, 3)?;
-    let mut seat = clock.seat(rt.alloc(), 2)?;
-    assert!(rt; matches!(clock.seat(rt.alloc(), 2), Err(ClockFault::QuotaSpent)));
+    let (mut seat, refused) = seat_and_refusal(rt.alloc())?;
+    holds(&rt, refused, "a quota that the clock has not");
     let readings = [seat.read(), seat.read(), seat.read()];
-    assert_eq!(rt; readings, [Ok(0), Ok(1), Err(ClockSpent)]);
-    assert_eq!(rt; seat.spent_count(), 1);
+    are_read(&rt, &readings, &[Ok(0), Ok(1), Err(ClockSpent)]);
+    same(&rt, seat.spent_count(), 1, "readings that were refused");
     Ok(())
 }
 
 #[test]
 fn gives_each_reading_to_one_seat(rt: HostRuntime) -> Result<(), Fail> {
-    let mut clock = TickClock::new(rt.alloc(), 10, 4)?;
-    let mut first = clock.seat(rt.alloc(), 2)?;
-    let mut second = clock.seat(rt.alloc(), 2)?;
-    drop(clock);
+    let (mut first, mut second) = two_seats(rt.alloc(), 10, 4, 2, 2)?;
     let readings = [first.read(), second.read(), second.read(), first.read()];
-    assert_eq!(rt; readings, [Ok(10), Ok(11), Ok(12), Ok(13)]);
+    are_read(&rt, &readings, &[Ok(10), Ok(11), Ok(12), Ok(13)]);
     let spent = [first.read(), second.read()];
-    assert_eq!(rt; spent, [Err(ClockSpent), Err(ClockSpent)]);
+    are_read(&rt, &spent, &[Err(ClockSpent), Err(ClockSpent)]);
     Ok(())
 }
 
@@ -43,23 +73,31 @@ fn read_all(alloc: Global, mut seat: TickSeat) -> Result<Vec<u64>, AllocError> {
     Ok(readings)
 }
 
-#[test]
-fn gives_each_reading_to_one_thread(rt: HostRuntime) -> Result<(), Fail> {
-    let alloc = rt.alloc();
-    let mut clock = TickClock::new(alloc, 5, 2000)?;
-    let here = clock.seat(alloc, 1000)?;
-    let there = clock.seat(alloc, 1000)?;
+/// All readings of two seats, each read in a thread of its own, in rising order.
+fn read_in_threads(
+    rt: &impl Threads,
+    alloc: Global,
+    here: TickSeat,
+    there: TickSeat,
+) -> Result<Vec<u64>, Fail> {
     let (all, other) = thread::join(
-        &rt,
+        rt,
         move || read_all(alloc, here),
         move || read_all(alloc, there),
     );
     let mut all = all?;
     all.extend_from_slice(&other?)?;
     all.sort()?;
-    assert!(rt; all.len() == 2000);
-    for i in 0..2000 {
-        assert!(rt; all[i] == i as u64 + 5);
+    Ok(all)
+}
+
+#[test]
+fn gives_each_reading_to_one_thread(rt: HostRuntime) -> Result<(), Fail> {
+    let (here, there) = two_seats(rt.alloc(), 5, 2000, 1000, 1000)?;
+    let all = read_in_threads(&rt, rt.alloc(), here, there)?;
+    holds(&rt, all.len() == 2000, "all readings");
+    for (i, reading) in all.iter().enumerate() {
+        holds(&rt, *reading == i as u64 + 5, "each reading once");
     }
     Ok(())
 }
@@ -81,66 +119,66 @@ fn reading_after(seat: &mut TickSeat, told: Told) -> Result<u64, ClockSpent>
 
 #[test]
 fn reads_after_what_was_told(rt: HostRuntime) -> Result<(), Fail> {
-    let alloc = rt.alloc();
-    let mut clock = TickClock::new(alloc, 0, 6)?;
-    let mut first = clock.seat(alloc, 3)?;
-    let mut second = clock.seat(alloc, 3)?;
+    let (mut first, mut second) = two_seats(rt.alloc(), 0, 6, 3, 3)?;
     let before = reading(&mut first);
-    let told = first.tell(alloc)?;
+    let told = first.tell(rt.alloc())?;
     let readings = [before, second.read_after(told), first.read()];
-    assert_eq!(rt; readings, [Ok(0), Ok(1), Ok(2)]);
+    are_read(&rt, &readings, &[Ok(0), Ok(1), Ok(2)]);
     Ok(())
 }
 
 #[test]
 fn refuses_after_being_told_where_the_quota_is_spent(rt: HostRuntime) -> Result<(), Fail> {
-    let alloc = rt.alloc();
-    let mut clock = TickClock::new(alloc, 0, 1)?;
-    let mut first = clock.seat(alloc, 1)?;
-    let mut second = clock.seat(alloc, 0)?;
-    let told = first.tell(alloc)?;
+    let (mut first, mut second) = two_seats(rt.alloc(), 0, 1, 1, 0)?;
+    let told = first.tell(rt.alloc())?;
     let spent = second.read_after(told);
-    assert_eq!(rt; (spent, second.spent_count()), (Err(ClockSpent), 1));
-    assert_eq!(rt; first.read(), Ok(0));
+    same(&rt, second.spent_count(), 1, "readings that were refused");
+    are_read(&rt, &[spent, first.read()], &[Err(ClockSpent), Ok(0)]);
     Ok(())
 }
 
 #[test]
 fn a_seat_that_joins_brings_its_quota(rt: HostRuntime) -> Result<(), Fail> {
-    let alloc = rt.alloc();
-    let mut clock = TickClock::new(alloc, 0, 3)?;
-    let mut first = clock.seat(alloc, 2)?;
-    let mut second = clock.seat(alloc, 1)?;
+    let (mut first, mut second) = two_seats(rt.alloc(), 0, 3, 2, 1)?;
     let before = reading(&mut first);
-    let told = first.tell(alloc)?;
+    let told = first.tell(rt.alloc())?;
     let after = reading_after(&mut second, told);
     second.join(first);
     let readings = [before, after, second.read(), second.read()];
-    assert_eq!(rt; readings, [Ok(0), Ok(1), Ok(2), Err(ClockSpent)]);
+    are_read(&rt, &readings, &[Ok(0), Ok(1), Ok(2), Err(ClockSpent)]);
     Ok(())
 }
 
-#[test]
-fn all_seats_join_the_first(rt: HostRuntime) -> Result<(), Fail> {
-    let alloc = rt.alloc();
+/// A seat that two more joined, of a clock of three readings.
+fn joined(alloc: Global) -> Result<TickSeat, Fail> {
     let mut clock = TickClock::new(alloc, 0, 3)?;
     let first = clock.seat(alloc, 1)?;
     let second = clock.seat(alloc, 1)?;
     let third = clock.seat(alloc, 1)?;
     let others = vec![in alloc; second, third]?;
-    let mut all = join_all(first, others);
+    Ok(join_all(first, others))
+}
+
+#[test]
+fn all_seats_join_the_first(rt: HostRuntime) -> Result<(), Fail> {
+    let mut all = joined(rt.alloc())?;
     let readings = [all.read(), all.read(), all.read(), all.read()];
-    assert_eq!(rt; readings, [Ok(0), Ok(1), Ok(2), Err(ClockSpent)]);
+    are_read(&rt, &readings, &[Ok(0), Ok(1), Ok(2), Err(ClockSpent)]);
     Ok(())
+}
+
+/// A clock of the readings 3 and 9 with the floor 5.
+fn floor_clock(alloc: Global) -> Result<FloorClock<ListClock>, Fail> {
+    let readings = vec![in alloc; 3, 9]?;
+    let clock = ListClock::new(readings).ok_or("these never fall")?;
+    Ok(FloorClock::new(clock, 5))
 }
 
 #[test]
 fn a_floor_clock_begins_at_its_floor(rt: HostRuntime) -> Result<(), Fail> {
-    let readings = vec![in rt.alloc(); 3, 9]?;
-    let clock = ListClock::new(readings).ok_or("these never fall")?;
-    let mut clock = FloorClock::new(clock, 5);
+    let mut clock = floor_clock(rt.alloc())?;
     let readings = [clock.read(), clock.read(), clock.read()];
-    assert_eq!(rt; readings, [Ok(5), Ok(9), Err(ClockSpent)]);
-    assert_eq!(rt; clock.spent_count(), 1);
+    are_read(&rt, &readings, &[Ok(5), Ok(9), Err(ClockSpent)]);
+    same(&rt, clock.spent_count(), 1, "readings that were refused");
     Ok(())
 }

@@ -45,6 +45,18 @@ fn member(alloc: Global, kind: Kind) -> Result<MemberType, Fail>
 }
 
 /// One more member, whose name is not taken yet.
+fn add(alloc: Global, members: &mut Members, name: &str, member: MemberType) -> Result<(), Fail>
+    requires automatic { AreAutomatic members.old }
+    requires member { IsAutomatic member }
+    ensures { AreAutomatic members.new }
+{
+    if members.contains(name) {
+        return Err("a name twice".into());
+    }
+    let name = Text::from_str(alloc, name)?;
+    Ok(members.push(name, member)?)
+}
+
 fn with(
     alloc: Global,
     mut members: Members,
@@ -55,11 +67,7 @@ fn with(
     requires member { IsAutomatic member }
     ensures { IfOk result (λ m. AreAutomatic m) }
 {
-    if members.contains(name) {
-        return Err("a name twice".into());
-    }
-    let name = Text::from_str(alloc, name)?;
-    members.push(name, member)?;
+    add(alloc, &mut members, name, member)?;
     Ok(members)
 }
 

@@ -3,8 +3,9 @@
 
 ghost use Rattle.std.specs.Prelude.{IfOk, ◌≡◌, ◌<◌, length};
 
+use crate::tests::expected::{holds, same};
 use crate::tests::fixtures::{Datum, values};
-use crate::tests::traced::{Traced, Turns, WORKS, traced};
+use crate::tests::traced::{Traced, Turns, WORKS, parts_of, traced};
 use ctf_types::{ArgFault, Args, Values};
 use packet_collector::{Collected, Collector, FinishAnswer, collect_into};
 use std::alloc::Global;
@@ -56,7 +57,7 @@ static EXTRAS: &[&[Datum]] = &[
     &[Datum::Unsigned(256), Datum::Text(b"x")],
 ];
 
-static TURNS: Turns = Turns {
+const TURNS: Turns = Turns {
     reading: &[
         Turn::Fails,
         Turn::Fails,
@@ -89,7 +90,7 @@ static TURNS: Turns = Turns {
 };
 
 /// The last packet comes back, and the clock refuses the reading at the end.
-static LEAVES: Turns = Turns {
+const LEAVES: Turns = Turns {
     reading: &[Turn::Works, Turn::Fails],
     looking: &[],
     handing: &[Turn::Fails],
@@ -151,20 +152,14 @@ struct Needs {
     faulted: bool,
 }
 
-/// A stream whose last packet comes back, one that ends whole, and one that is taken apart.
-#[derive(Drop)]
-struct Ending {
-    leaving: Traced,
-    whole: Traced,
-    idle: Traced,
-}
+/// How the platforms of four streams answer: the first is called for each row, one ends with its packet left, one ends whole, and one is taken apart.
+static ALL_TURNS: &[Turns] = &[TURNS, LEAVES, WORKS, WORKS];
 
 /// What all calls need: all of it is made before them.
 #[derive(Drop)]
 struct Made {
     needs: Needs,
-    stream: Traced,
-    ending: Ending,
+    streams: Vec<Traced>,
     collector: Collector<Sink>,
 }
 
@@ -210,15 +205,12 @@ fn all_needed(alloc: Global) -> Result<Needs, Fail> {
     })
 }
 
-fn streams_that_end(alloc: Global) -> Result<Ending, Fail> {
-    let leaving = traced(alloc, &LEAVES)?;
-    let whole = traced(alloc, &WORKS)?;
-    let idle = traced(alloc, &WORKS)?;
-    Ok(Ending {
-        leaving,
-        whole,
-        idle,
-    })
+fn streams(alloc: Global) -> Result<Vec<Traced>, Fail> {
+    let mut streams = Vec::new(alloc);
+    for turns in ALL_TURNS {
+        streams.push(traced(alloc, turns)?)?;
+    }
+    Ok(streams)
 }
 
 fn collector(alloc: Global) -> Result<Collector<Sink>, Fail>
@@ -237,12 +229,10 @@ fn all_made(alloc: Global) -> Result<Made, Fail>
 {
     let collector = collector(alloc)?;
     let needs = all_needed(alloc)?;
-    let ending = streams_that_end(alloc)?;
-    let stream = traced(alloc, &TURNS)?;
+    let streams = streams(alloc)?;
     Ok(Made {
         needs,
-        stream,
-        ending,
+        streams,
         collector,
     })
 }
@@ -306,9 +296,21 @@ fn answers(needs: &mut Needs, stream: &mut Traced, call: &Call) -> bool {
 
 fn calls_each_row(rt: &impl Abort, needs: &mut Needs, stream: &mut Traced) {
     for (number, call) in CALLS.iter().enumerate() {
-        let answers = answers(needs, stream, call);
-        assert!(rt; answers, "call {number}");
+        answers_row(rt, answers(needs, stream, call), number);
     }
+}
+
+fn answers_row(rt: &impl Abort, answers: bool, number: usize) {
+    assert!(rt; answers, "call {number}");
+}
+
+/// The first stream is called for each row. Whether there is one.
+fn first_calls_each_row(rt: &impl Abort, needs: &mut Needs, streams: &mut [Traced]) -> bool {
+    if streams.is_empty() {
+        return false;
+    }
+    calls_each_row(rt, needs, &mut streams[0]);
+    true
 }
 
 /// The end of a stream, whose clock is let go.
@@ -318,11 +320,12 @@ fn end_of(stream: Traced) -> StreamEnd<ScriptedBackEnd> {
     end
 }
 
-/// A stream with a packet open ends: whether the packet is left behind.
-fn leaves_its_packet(rt: &impl Abort, stream: Traced) -> bool {
+/// A stream opens a packet and ends: whether it is left behind.
+fn leaves_its_packet(stream: Traced) -> bool {
     let mut stream = stream;
-    assert_eq!(rt; open(&mut stream), PacketAnswer::Done);
-    end_of(stream).left.is_some()
+    let opened = open(&mut stream);
+    let is_left = end_of(stream).left.is_some();
+    opened == PacketAnswer::Done && is_left
 }
 
 fn collect(collector: &mut Collector<Sink>, stream: &mut Traced) -> Collected
@@ -339,44 +342,69 @@ fn finish(collector: Collector<Sink>, end: StreamEnd<ScriptedBackEnd>) -> Finish
     collector.finish_own(0, end)
 }
 
+/// What opening, closing and opening again answer, and what the collector takes in between, twice.
+fn collects(
+    collector: &mut Collector<Sink>,
+    stream: &mut Traced,
+) -> ([PacketAnswer; 3], [Collected; 2])
+    requires { 0 < length collector.old }
+    ensures { length collector.new ≡ length collector.old }
+{
+    let opened = open(stream);
+    let closed = close(stream);
+    let first = collect(collector, stream);
+    let second = collect(collector, stream);
+    ([opened, closed, open(stream)], [first, second])
+}
+
+/// Whether the end has no packet left, and how the collector finishes with it.
+fn finishes(collector: Collector<Sink>, stream: Traced) -> (bool, FinishAnswer)
+    requires { 0 < length collector }
+{
+    let end = end_of(stream);
+    let leaves_none = end.left.is_none();
+    (leaves_none, finish(collector, end))
+}
+
 /// A stream closes a packet, which a collector takes, and ends with the next one open, which the collector has no room for.
 fn ends(rt: &impl Abort, stream: Traced, collector: Collector<Sink>)
     requires { 0 < length collector }
 {
     let mut stream = stream;
     let mut collector = collector;
-    let opened = open(&mut stream);
-    let closed = close(&mut stream);
-    let first = collect(&mut collector, &mut stream);
-    let second = collect(&mut collector, &mut stream);
-    let again = open(&mut stream);
-    assert_eq!(rt; [opened, closed, again], [PacketAnswer::Done; 3]);
-    assert_eq!(rt; [first, second], [Collected::Took(0), Collected::Nothing]);
-    let end = end_of(stream);
-    let leaves_none = end.left.is_none();
-    assert_eq!(rt;
-        (leaves_none, finish(collector, end)),
-        (true, FinishAnswer::Faulted)
-    );
+    let (answers, collected) = collects(&mut collector, &mut stream);
+    same(rt, answers, [PacketAnswer::Done; 3], "packets");
+    let want = [Collected::Took(0), Collected::Nothing];
+    same(rt, collected, want, "what is collected");
+    let finished = finishes(collector, stream);
+    same(rt, finished, (true, FinishAnswer::Faulted), "the end");
 }
 
-fn gives_its_parts_back(stream: Traced) {
-    if stream.is_idle() {
-        drop(stream.into_parts());
+/// Whether the last stream ends so. The collector is used up.
+fn last_ends(rt: &impl Abort, streams: &mut Vec<Traced>, collector: Collector<Sink>) -> bool
+    requires { 0 < length collector }
+{
+    match streams.pop() {
+        Some(stream) => {
+            ends(rt, stream, collector);
+            true
+        }
+        None => false,
     }
 }
 
-fn each_ends(rt: &impl Abort, streams: Ending, collector: Collector<Sink>)
-    requires { 0 < length collector }
-{
-    let Ending {
-        leaving,
-        whole,
-        idle,
-    } = streams;
-    assert!(rt; leaves_its_packet(rt, leaving));
-    ends(rt, whole, collector);
-    gives_its_parts_back(idle);
+fn last_gives_its_parts_back(streams: &mut Vec<Traced>) -> bool {
+    match streams.pop() {
+        Some(stream) => parts_of(stream).is_some(),
+        None => false,
+    }
+}
+
+fn last_leaves_its_packet(streams: &mut Vec<Traced>) -> bool {
+    match streams.pop() {
+        Some(stream) => leaves_its_packet(stream),
+        None => false,
+    }
 }
 
 #[test]
@@ -389,13 +417,18 @@ fn makes_streams(rt: HostRuntime) -> Result<(), Fail> {
 fn makes_streams_and_calls_each_row(rt: HostRuntime) -> Result<(), Fail> {
     let Made {
         needs,
-        stream,
-        ending,
+        streams,
         collector,
     } = all_made(rt.alloc())?;
     let mut needs = needs;
-    let mut stream = stream;
-    calls_each_row(&rt, &mut needs, &mut stream);
-    each_ends(&rt, ending, collector);
+    let mut streams = streams;
+    let called = first_calls_each_row(&rt, &mut needs, &mut streams);
+    holds(&rt, called, "a stream for each row");
+    let given_back = last_gives_its_parts_back(&mut streams);
+    holds(&rt, given_back, "an idle stream");
+    let ended = last_ends(&rt, &mut streams, collector);
+    holds(&rt, ended, "a stream that ends whole");
+    let left = last_leaves_its_packet(&mut streams);
+    holds(&rt, left, "a packet is left");
     Ok(())
 }

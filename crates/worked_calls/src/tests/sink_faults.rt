@@ -1,7 +1,10 @@
 //! What no clause says: a sink faults where its writer fails, takes no byte or stops, or where memory is refused, and there alone.
 
+use crate::tests::expected::{holds, same};
 use std::alloc::Global;
+use std::fmt::Debug;
 use std::io::{Error, ErrorKind, Result as IoResult, Write};
+use std::process::Abort;
 use std::test::Fail;
 use trace_platform::{MemorySink, Sink, SinkFault, StoppingWriter, WriterSink};
 
@@ -111,13 +114,25 @@ fn answering(alloc: Global, answers: &'static [Answer]) -> WriterSink<AnsweringW
     })
 }
 
+/// What an appending of six bytes answers, how often the sink has faulted then, and what its writer took.
+fn appended(alloc: Global, answers: &'static [Answer]) -> (Result<(), SinkFault>, u64, Vec<u8>) {
+    let mut sink = answering(alloc, answers);
+    let answer = sink.append(b"abcdef");
+    let faults = sink.fault_count();
+    (answer, faults, sink.into_writer().taken)
+}
+
+fn is_appended(rt: &impl Abort, alloc: Global, (shows, answers, want, taken): &Row) {
+    let (answer, faults, bytes) = appended(alloc, answers);
+    let wanted = (*want, u64::from(want.is_err()));
+    same(rt, (answer, faults), wanted, shows);
+    same(rt, bytes.as_slice(), *taken, shows);
+}
+
 #[test]
 fn faults_where_a_write_fails_or_takes_nothing(rt: HostRuntime) -> Result<(), Fail> {
-    for (shows, answers, want, taken) in ROWS {
-        let mut sink = answering(rt.alloc(), answers);
-        let answer = (sink.append(b"abcdef"), sink.fault_count());
-        assert_eq!(rt; answer, (*want, u64::from(want.is_err())), "{shows}");
-        assert_eq!(rt; sink.into_writer().taken.as_slice(), *taken, "{shows}");
+    for row in ROWS {
+        is_appended(&rt, rt.alloc(), row);
     }
     Ok(())
 }
@@ -127,27 +142,34 @@ fn writes_nothing_where_there_are_no_bytes(rt: HostRuntime) -> Result<(), Fail> 
     let mut sink = answering(rt.alloc(), &[Answer::Fails(ErrorKind::BrokenPipe)]);
     let answers = [sink.append(b""), sink.append(b"a"), sink.append(b"b")];
     let want = [Ok(()), Err(SinkFault), Ok(())];
-    assert_eq!(rt; answers, want, "a sink that faulted is not closed");
+    same(&rt, answers, want, "a sink that faulted is not closed");
     Ok(())
+}
+
+/// Whether bytes are appended where a writer has room for so many, and what it took.
+fn appended_with_room(alloc: Global, bytes: &[u8], room: usize) -> (bool, Vec<u8>) {
+    let mut sink = WriterSink::new(StoppingWriter::new(alloc, room, 4));
+    let is_appended = sink.append(bytes).is_ok();
+    (is_appended, sink.into_writer().bytes)
+}
+
+fn is_appended_with_room(rt: &impl Abort, alloc: Global, bytes: &[u8], room: usize) {
+    let (is_appended, taken) = appended_with_room(alloc, bytes, room);
+    let front = bytes.get(..room).unwrap_or(bytes);
+    same_with_room(rt, is_appended, room >= bytes.len(), room);
+    same_with_room(rt, taken.as_slice(), front, room);
+}
+
+/// Both are equal; else the test fails at this room.
+fn same_with_room<T: PartialEq + Debug + Drop>(rt: &impl Abort, found: T, want: T, room: usize) {
+    assert_eq!(rt; found, want, "room for {room} bytes");
 }
 
 #[test]
 fn faults_where_the_writer_stops(rt: HostRuntime) -> Result<(), Fail> {
     let bytes: &[u8] = b"abcdef";
     for room in 0..bytes.len() + 2 {
-        let mut sink = WriterSink::new(StoppingWriter::new(rt.alloc(), room, 4));
-        let answer = sink.append(bytes);
-        assert_eq!(rt;
-            answer.is_ok(),
-            room >= bytes.len(),
-            "room for {room} bytes"
-        );
-        let front = &bytes[..room.min(bytes.len())];
-        assert_eq!(rt;
-            sink.into_writer().bytes.as_slice(),
-            front,
-            "room for {room} bytes"
-        );
+        is_appended_with_room(&rt, rt.alloc(), bytes, room);
     }
     Ok(())
 }
@@ -157,9 +179,9 @@ fn faults_where_the_writer_stops(rt: HostRuntime) -> Result<(), Fail> {
 fn takes_all_where_memory_is_given(rt: HostRuntime) -> Result<(), Fail> {
     let mut sink = MemorySink::new(rt.alloc());
     for _ in 0..100 {
-        assert_eq!(rt; sink.append(b"abcdef"), Ok(()));
+        holds(&rt, sink.append(b"abcdef").is_ok(), "six bytes more");
     }
-    assert_eq!(rt; sink.fault_count(), 0);
-    assert_eq!(rt; sink.into_bytes().len(), 600);
+    same(&rt, sink.fault_count(), 0, "faults");
+    same(&rt, sink.into_bytes().len(), 600, "bytes");
     Ok(())
 }

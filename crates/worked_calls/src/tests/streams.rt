@@ -1,11 +1,13 @@
 //! What no clause says: with ample memory a stream is made and takes other extra members, it tells of itself, and it gives its parts back.
 
+use crate::tests::expected::{holds, same, same_text};
 use crate::tests::fixtures::{Datum, values};
-use crate::tests::traced::{Traced, Turns, traced};
-use std::alloc::Global;
+use crate::tests::traced::{Traced, Turns, parts_of, traced};
+use ctf_types::Values;
+use std::alloc::{AllocError, Global};
 use std::test::Fail;
 use thread_stream::PacketAnswer;
-use trace_platform::{BackEnd, Clock, PacketSource, Turn};
+use trace_platform::{BackEnd, Clock, PacketSource, ScriptedBackEnd, ScriptedClock, Turn};
 
 /// The first packet comes back.
 static COMES_BACK: Turns = Turns {
@@ -44,39 +46,62 @@ fn enabled(stream: &mut Traced) -> [bool; 3] {
     [first, second, stream.is_enabled()]
 }
 
-/// What an idle stream gives back: a reading of its clock, how often its back end was full, and its extra members.
-fn parts(alloc: Global, stream: Traced) -> Result<String, Fail> {
-    if !stream.is_idle() {
-        return Err("a packet is in hand".into());
-    }
-    let (mut clock, back_end, extras) = stream.into_parts();
+/// A reading of a clock, how often a back end was full, and extra members.
+fn shown(
+    alloc: Global,
+    clock: &mut ScriptedClock,
+    back_end: &ScriptedBackEnd,
+    extras: &Values,
+) -> Result<String, AllocError> {
     let reading = clock.read();
-    let shown = format!(in alloc;
-        "{reading:?} {} {:?}",
-        back_end.full_count(),
-        extras.as_slice()
-    )?;
-    Ok(shown)
+    let full = back_end.full_count();
+    format!(in alloc; "{reading:?} {full} {:?}", extras.as_slice())
+}
+
+/// What an idle stream gives back.
+fn parts(alloc: Global, stream: Traced) -> Result<String, Fail> {
+    match parts_of(stream) {
+        None => Err("a packet is in hand".into()),
+        Some((mut clock, back_end, extras)) => Ok(shown(alloc, &mut clock, &back_end, &extras)?),
+    }
+}
+
+/// Whether a stream takes these extra members.
+fn takes(stream: &mut Traced, extras: Values) -> bool {
+    stream.set_extras(extras).is_ok()
+}
+
+/// What a stream tells of itself, whether tracing is enabled, and how its packets go round.
+fn tells(stream: &mut Traced, extras: Values) -> ((u64, bool), [bool; 3], bool, Round) {
+    let itself = (stream.packet_bits(), stream.is_idle());
+    let enabled = enabled(stream);
+    let takes = takes(stream, extras);
+    (itself, enabled, takes, goes_round(stream))
+}
+
+fn other_extras(alloc: Global) -> Result<Values, AllocError> {
+    values(alloc, &[Datum::Unsigned(2), Datum::Text(b"yz")])
 }
 
 #[test]
 fn gives_its_parts_back(rt: HostRuntime) -> Result<(), Fail> {
-    let extras = values(rt.alloc(), &[Datum::Unsigned(2), Datum::Text(b"yz")])?;
+    let extras = other_extras(rt.alloc())?;
     let mut stream = traced(rt.alloc(), &COMES_BACK)?;
-    assert_eq!(rt; (stream.packet_bits(), stream.is_idle()), (512, true));
-    assert_eq!(rt; enabled(&mut stream), [true, false, true]);
-    assert!(rt; stream.set_extras(extras).is_ok());
-    let round = goes_round(&mut stream);
-    let want = (
-        [PacketAnswer::Done; 4],
-        [false, false, true],
-        [true, true, false],
-    );
-    assert_eq!(rt; round, want);
+    let told = tells(&mut stream, extras);
     let parts = parts(rt.alloc(), stream)?;
-    assert_eq!(rt;
-        parts.as_str(),
-        "Ok(5) 1 [Unsigned(2), Text(Bytes { bytes: [121, 122] })]"
-    );
+    let (itself, enabled, takes, round) = told;
+    same(&rt, itself, (512, true), "bits of a packet, and idle");
+    same(&rt, enabled, [true, false, true], "enabled");
+    holds(&rt, takes, "other extra members");
+    same(&rt, round, ROUND, "two packets");
+    same_text(&rt, parts.as_str(), PARTS, "its parts");
     Ok(())
 }
+
+const ROUND: Round = (
+    [PacketAnswer::Done; 4],
+    [false, false, true],
+    [true, true, false],
+);
+
+static PARTS: &str = "Ok(5) 1 [Unsigned(2), Text(Bytes { bytes: [121, 122] })]";

@@ -6,6 +6,8 @@ ghost use Rattle.ctf_types.specs.AllowedConfig.{IsConfig};
 ghost use Rattle.thread_stream.specs.Telling.{HasHistory};
 ghost use Rattle.trace_clock.specs.Seats.{clock_of};
 
+use crate::tests::clocks::two_seats;
+use crate::tests::expected::{holds, same};
 use crate::tests::fixtures::{Datum, configured, values};
 use crate::tests::traced::TRACED;
 use ctf_types::{ArgFault, Args, Config, Values};
@@ -14,49 +16,51 @@ use std::test::Fail;
 use thread_stream::{
     Stream, Verdict, Why, calls_are_walks, packets_in_turn, seats_stay_at_their_clock,
 };
-use trace_clock::{TickClock, TickSeat};
+use trace_clock::TickSeat;
 use trace_platform::{BackEnd, ListBackEnd};
 
-fn begun<B: BackEnd + Drop>(
-    alloc: Global,
-    config: &Config,
-    seat: TickSeat,
-    back_end: B,
-) -> Result<Stream<TickSeat, B>, Fail>
+type Seated = Stream<TickSeat, ListBackEnd>;
+
+fn begun(alloc: Global, config: &Config, seat: TickSeat) -> Result<Seated, Fail>
     requires { IsConfig config.now }
-    ensures history { IfOk result (λ a. HasHistory B.BackEnd a) }
+    ensures history { IfOk result (λ a. HasHistory ⟦<ListBackEnd as BackEnd>⟧ a) }
     ensures clock { IfOk result (λ a. clock_of a.clock ≡ clock_of seat) }
 {
     let extras = values(alloc, &[Datum::Unsigned(1), Datum::Text(b"x")])?;
+    let back_end = ListBackEnd::new(alloc, 3, 64)?;
     match Stream::new(alloc, config, "s", seat, back_end, extras) {
         Ok(stream) => Ok(stream),
         Err(refused) => Err(Fail::new(refused.fault)),
     }
 }
 
-/// Two streams at one clock, whose seats have these quotas.
-fn both<B: BackEnd + Drop>(
-    alloc: Global,
-    back_ends: (B, B),
-    quotas: (u64, u64),
-) -> Result<(Stream<TickSeat, B>, Stream<TickSeat, B>), Fail>
-    ensures history { IfOk result (λ p. HasHistory B.BackEnd p.0) }
-    ensures clock { IfOk result (λ p. clock_of p.0.clock ≡ clock_of p.1.clock) }
-{
-    let config = configured(alloc, TRACED)?;
-    let mut clock = TickClock::new(alloc, 0, 6)?;
-    let first_seat = clock.seat(alloc, quotas.0)?;
-    let second_seat = clock.seat(alloc, quotas.1)?;
-    let (first_end, second_end) = back_ends;
-    let first = begun(alloc, &config, first_seat, first_end)?;
-    let second = begun(alloc, &config, second_seat, second_end)?;
-    Ok((first, second))
+/// Two streams at one clock.
+#[derive(Drop)]
+struct Two {
+    first: Seated,
+    second: Seated,
 }
 
-fn back_ends(alloc: Global) -> Result<(ListBackEnd, ListBackEnd), Fail> {
-    let first = ListBackEnd::new(alloc, 3, 64)?;
-    let second = ListBackEnd::new(alloc, 3, 64)?;
-    Ok((first, second))
+fn both_begun(alloc: Global, config: &Config, seats: (TickSeat, TickSeat)) -> Result<Two, Fail>
+    requires config { IsConfig config.now }
+    requires seats { clock_of seats.0 ≡ clock_of seats.1 }
+    ensures history { IfOk result (λ t. HasHistory ⟦<ListBackEnd as BackEnd>⟧ t.first) }
+    ensures clock { IfOk result (λ t. clock_of t.first.clock ≡ clock_of t.second.clock) }
+{
+    let (first_seat, second_seat) = seats;
+    let first = begun(alloc, config, first_seat)?;
+    let second = begun(alloc, config, second_seat)?;
+    Ok(Two { first, second })
+}
+
+/// Two streams at one clock, whose seats have these quotas.
+fn both(alloc: Global, first: u64, second: u64) -> Result<Two, Fail>
+    ensures history { IfOk result (λ t. HasHistory ⟦<ListBackEnd as BackEnd>⟧ t.first) }
+    ensures clock { IfOk result (λ t. clock_of t.first.clock ≡ clock_of t.second.clock) }
+{
+    let seats = two_seats(alloc, 0, 6, first, second)?;
+    let config = configured(alloc, TRACED)?;
+    both_begun(alloc, &config, seats)
 }
 
 fn number(alloc: Global, n: i64) -> Result<Args, Fail> {
@@ -79,76 +83,146 @@ fn traced<B: BackEnd>(stream: &mut Stream<TickSeat, B>, args: &Args) -> Verdict
     stream.trace(0, args)
 }
 
+/// What the first stream answers before it tells: both stay at their clock.
+fn first_traces(two: &mut Two, args: &Args) -> Verdict
+    requires history { HasHistory ⟦<ListBackEnd as BackEnd>⟧ two.old.first }
+    requires clock { clock_of two.old.first.clock ≡ clock_of two.old.second.clock }
+    ensures { clock_of two.new.first.clock ≡ clock_of two.new.second.clock }
+{
+    traced(&mut two.first, args)
+}
+
+/// What the second stream answers to a call after what the first told, where it could tell.
+fn second_traces_after(alloc: Global, two: &mut Two, args: &Args) -> Option<Verdict>
+    requires { clock_of two.old.first.clock ≡ clock_of two.old.second.clock }
+{
+    match two.first.tell(alloc) {
+        Ok(told) => Some(two.second.trace_after(told, 0, args)),
+        Err(_) => None,
+    }
+}
+
+/// What a stream answers, of which no more is said.
+fn traces(stream: &mut Seated, args: &Args) -> Verdict {
+    stream.trace(0, args)
+}
+
+/// Which calls two streams are made.
+#[derive(Clone, Copy)]
+enum Calls {
+    None,
+    /// The first traces, the second after what the first told, and the first again.
+    InTurn,
+    /// The second after what the first told, and the first behind it.
+    FirstBehind,
+    /// The second after what the first told, and the second once more.
+    SecondBehind,
+}
+
+type Verdicts = [Option<Verdict>; 3];
+
+fn in_turn(alloc: Global, two: &mut Two, args: &Args) -> Verdicts
+    requires history { HasHistory ⟦<ListBackEnd as BackEnd>⟧ two.old.first }
+    requires clock { clock_of two.old.first.clock ≡ clock_of two.old.second.clock }
+{
+    let before = first_traces(two, args);
+    let after = second_traces_after(alloc, two, args);
+    [Some(before), after, Some(traces(&mut two.first, args))]
+}
+
+fn first_behind(alloc: Global, two: &mut Two, told: &Args, args: &Args) -> Verdicts
+    requires { clock_of two.old.first.clock ≡ clock_of two.old.second.clock }
+{
+    let after = second_traces_after(alloc, two, told);
+    [None, after, Some(traces(&mut two.first, args))]
+}
+
+fn second_behind(alloc: Global, two: &mut Two, told: &Args, args: &Args) -> Verdicts
+    requires { clock_of two.old.first.clock ≡ clock_of two.old.second.clock }
+{
+    let after = second_traces_after(alloc, two, told);
+    [None, after, Some(traces(&mut two.second, args))]
+}
+
+/// What is answered to these calls, of which the one after what was told has arguments of its own.
+fn verdicts(alloc: Global, two: &mut Two, calls: Calls, told: &Args, args: &Args) -> Verdicts
+    requires history { HasHistory ⟦<ListBackEnd as BackEnd>⟧ two.old.first }
+    requires clock { clock_of two.old.first.clock ≡ clock_of two.old.second.clock }
+{
+    match calls {
+        Calls::None => [None; 3],
+        Calls::InTurn => in_turn(alloc, two, args),
+        Calls::FirstBehind => first_behind(alloc, two, told, args),
+        Calls::SecondBehind => second_behind(alloc, two, told, args),
+    }
+}
+
+/// Whether a packet is open once two streams of these quotas are made, what they answer to calls, and how many of them the second has discarded then.
+fn answers(
+    alloc: Global,
+    (first, second): (u64, u64),
+    calls: Calls,
+    told: &Args,
+    args: &Args,
+) -> Result<(bool, Verdicts, u64), Fail> {
+    let mut two = both(alloc, first, second)?;
+    let are_open = are_open(&two);
+    let verdicts = verdicts(alloc, &mut two, calls, told, args);
+    Ok((are_open, verdicts, two.second.discarded_count()))
+}
+
+fn are_open(two: &Two) -> bool {
+    two.first.packet_is_open() || two.second.packet_is_open()
+}
+
 #[test]
 fn makes_two_streams_at_one_clock(rt: HostRuntime) -> Result<(), Fail> {
-    let alloc = rt.alloc();
-    let args = number(alloc, 5)?;
-    let streams = both(alloc, back_ends(alloc)?, (3, 3))?;
-    assert!(rt; !streams.0.packet_is_open() && !streams.1.packet_is_open());
-    drop(args);
+    let args = number(rt.alloc(), 5)?;
+    let (are_open, _, _) = answers(rt.alloc(), (3, 3), Calls::None, &args, &args)?;
+    holds(&rt, !are_open, "no packet is open");
     Ok(())
 }
 
-/// What the second stream answers to a call after what the first told.
-fn traced_after<B: BackEnd>(
-    alloc: Global,
-    first: &mut Stream<TickSeat, B>,
-    second: &mut Stream<TickSeat, B>,
-    args: &Args,
-) -> Result<Verdict, Fail>
-    requires { clock_of first.old.clock ≡ clock_of second.old.clock }
-{
-    let told = first.tell(alloc)?;
-    Ok(second.trace_after(told, 0, args))
-}
+static IN_TURN: Verdicts = [
+    Some(Verdict::Accepted(Some(0))),
+    Some(Verdict::Accepted(Some(1))),
+    Some(Verdict::Accepted(Some(2))),
+];
 
 #[test]
 fn traces_after_what_was_told(rt: HostRuntime) -> Result<(), Fail> {
-    let alloc = rt.alloc();
-    let args = number(alloc, 5)?;
-    let (mut first, mut second) = both(alloc, back_ends(alloc)?, (3, 3))?;
-    let before = traced(&mut first, &args);
-    let after = traced_after(alloc, &mut first, &mut second, &args)?;
-    let behind = first.trace(0, &args);
-    assert_eq!(rt;
-        [before, after, behind],
-        [
-            Verdict::Accepted(Some(0)),
-            Verdict::Accepted(Some(1)),
-            Verdict::Accepted(Some(2)),
-        ]
-    );
+    let args = number(rt.alloc(), 5)?;
+    let (_, found, _) = answers(rt.alloc(), (3, 3), Calls::InTurn, &args, &args)?;
+    same(&rt, found, IN_TURN, "three calls");
     Ok(())
 }
+
+static SPENT: Verdicts = [
+    None,
+    Some(Verdict::Discarded(Why::ClockSpent)),
+    Some(Verdict::Accepted(Some(0))),
+];
 
 #[test]
 fn spends_what_was_told_where_the_clock_is_spent(rt: HostRuntime) -> Result<(), Fail> {
-    let alloc = rt.alloc();
-    let args = number(alloc, 5)?;
-    let (mut first, mut second) = both(alloc, back_ends(alloc)?, (1, 0))?;
-    let after = traced_after(alloc, &mut first, &mut second, &args)?;
-    assert_eq!(rt;
-        (after, second.discarded_count()),
-        (Verdict::Discarded(Why::ClockSpent), 1)
-    );
-    assert_eq!(rt; first.trace(0, &args), Verdict::Accepted(Some(0)));
+    let args = number(rt.alloc(), 5)?;
+    let (_, found, discarded) = answers(rt.alloc(), (1, 0), Calls::FirstBehind, &args, &args)?;
+    same(&rt, found, SPENT, "two calls");
+    same(&rt, discarded, 1, "calls that the second discarded");
     Ok(())
 }
 
+static REFUSED: Verdicts = [
+    None,
+    Some(Verdict::Misuse(ArgFault::Range)),
+    Some(Verdict::Accepted(Some(0))),
+];
+
 #[test]
 fn reads_nothing_for_a_call_that_is_refused_before_the_clock(rt: HostRuntime) -> Result<(), Fail> {
-    let alloc = rt.alloc();
-    let large = number(alloc, 40000)?;
-    let small = number(alloc, 5)?;
-    let (mut first, mut second) = both(alloc, back_ends(alloc)?, (1, 1))?;
-    let refused = traced_after(alloc, &mut first, &mut second, &large)?;
-    let behind = second.trace(0, &small);
-    assert_eq!(rt;
-        [refused, behind],
-        [
-            Verdict::Misuse(ArgFault::Range),
-            Verdict::Accepted(Some(0)),
-        ]
-    );
+    let large = number(rt.alloc(), 40000)?;
+    let small = number(rt.alloc(), 5)?;
+    let (_, found, _) = answers(rt.alloc(), (1, 1), Calls::SecondBehind, &large, &small)?;
+    same(&rt, found, REFUSED, "two calls");
     Ok(())
 }

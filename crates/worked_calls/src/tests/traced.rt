@@ -3,7 +3,7 @@
 ghost use Rattle.ctf_types.specs.AllowedConfig.{IsConfig};
 
 use crate::tests::fixtures::{Datum, configured, values};
-use ctf_types::Config;
+use ctf_types::{Config, Values};
 use std::alloc::Global;
 use std::test::Fail;
 use thread_stream::Stream;
@@ -30,7 +30,7 @@ pub struct Turns {
 }
 
 /// Every call works.
-pub static WORKS: Turns = Turns {
+pub const WORKS: Turns = Turns {
     reading: &[],
     looking: &[],
     handing: &[],
@@ -72,4 +72,12 @@ fn started(alloc: Global, config: &Config, turns: &Turns) -> Result<Traced, Fail
 pub fn traced(alloc: Global, turns: &Turns) -> Result<Traced, Fail> {
     let config = configured(alloc, TRACED)?;
     started(alloc, &config, turns)
+}
+
+/// A clock, a back end and extra members: what an idle stream gives back.
+pub fn parts_of(stream: Traced) -> Option<(ScriptedClock, ScriptedBackEnd, Values)> {
+    if !stream.is_idle() {
+        return None;
+    }
+    Some(stream.into_parts())
 }

@@ -4,9 +4,11 @@ mod containers;
 mod copies;
 mod refills;
 
+use crate::tests::expected::same;
 use crate::tests::fixtures::{Datum, Kind, configured, structure, values};
 use ctf_types::{
-    ArgFault, Args, Base, IntType, Values, align_of, call_faults, fits, members_size, size_from,
+    ArgFault, Args, Base, Config, IntType, StreamType, StructType, Value, Values, align_of,
+    call_faults, fits, members_size, size_from,
 };
 use std::alloc::Global;
 use std::process::Abort;
@@ -27,8 +29,12 @@ static INTEGERS: &[(u8, u32, bool)] = &[
 fn integers_within_their_ranges(rt: HostRuntime) {
     for (size, align, there) in INTEGERS {
         let int = IntType::new(*size, *align, false, Base::Dec);
-        assert_eq!(rt; int.is_some(), *there, "{size} bits, alignment {align}");
+        is_there(&rt, int.is_some(), *there, *size, *align);
     }
+}
+
+fn is_there(rt: &impl Abort, found: bool, there: bool, size: u8, align: u32) {
+    assert_eq!(rt; found, there, "{size} bits, alignment {align}");
 }
 
 /// A structure's members, values, and their first fault.
@@ -72,22 +78,36 @@ fn first_faults(rt: HostRuntime) -> Result<(), Fail> {
 fn has_fault(rt: &impl Abort, alloc: Global, (kinds, data, expected): &Row) -> Result<(), Fail> {
     let s = structure(alloc, kinds)?;
     let given = values(alloc, data)?;
-    assert_eq!(rt; fits(&s, given.as_slice()), *expected, "{given:?}");
+    same_fault(rt, fits(&s, given.as_slice()), *expected, &given);
     Ok(())
+}
+
+/// Both are equal; else the test fails at these values.
+fn same_fault(
+    rt: &impl Abort,
+    found: Result<(), ArgFault>,
+    expected: Result<(), ArgFault>,
+    given: &Values,
+) {
+    assert_eq!(rt; found, expected, "{given:?}");
+}
+
+/// What is said of sizes: from bit 0, from bit 8, of the members alone, and the alignment.
+fn sizes(s: &StructType, values: &[Value]) -> (Option<u64>, Option<u64>, Option<u64>, u32) {
+    (
+        size_from(s, values, 0),
+        size_from(s, values, 8),
+        members_size(s, 0, values, 0),
+        align_of(s),
+    )
 }
 
 #[test]
 fn sizes_up_to_the_longest_packet(rt: HostRuntime) -> Result<(), Fail> {
-    let alloc = rt.alloc();
-    let longest = structure(alloc, &[Kind::Array(1 << 20, 8, 8)])?;
-    let zeros = values(alloc, &[Datum::Zeros(1 << 20)])?;
-    let sizes = (
-        size_from(&longest, zeros.as_slice(), 0),
-        size_from(&longest, zeros.as_slice(), 8),
-        members_size(&longest, 0, zeros.as_slice(), 0),
-        align_of(&longest),
-    );
-    assert_eq!(rt; sizes, (Some(1 << 23), None, Some(1 << 23), 8));
+    let longest = structure(rt.alloc(), &[Kind::Array(1 << 20, 8, 8)])?;
+    let zeros = values(rt.alloc(), &[Datum::Zeros(1 << 20)])?;
+    let found = sizes(&longest, zeros.as_slice());
+    same(&rt, found, (Some(1 << 23), None, Some(1 << 23), 8), "sizes");
     Ok(())
 }
 
@@ -103,18 +123,33 @@ static CALLS: &[(usize, &[Datum], Result<(), ArgFault>)] = &[
     (0, &[Datum::Unsigned(255)], Ok(())),
 ];
 
-#[test]
-fn first_faults_of_a_call(rt: HostRuntime) -> Result<(), Fail> {
-    let alloc = rt.alloc();
-    let config = configured(alloc, SMALL)?;
+/// A call with this payload has this fault.
+fn call_has_fault(
+    rt: &impl Abort,
+    alloc: Global,
+    stream: &StreamType,
+    (event, data, expected): &(usize, &[Datum], Result<(), ArgFault>),
+) -> Result<(), Fail> {
+    let args = Args {
+        common: Values::new(alloc),
+        specific: Values::new(alloc),
+        payload: values(alloc, data)?,
+    };
+    let found = call_faults(stream, *event, &args);
+    same_fault(rt, found, *expected, &args.payload);
+    Ok(())
+}
+
+fn calls_have_faults(rt: &impl Abort, alloc: Global, config: &Config) -> Result<(), Fail> {
     let stream = config.streams.get(0).ok_or("no stream")?;
-    for (event, data, expected) in CALLS {
-        let args = Args {
-            common: Values::new(alloc),
-            specific: Values::new(alloc),
-            payload: values(alloc, data)?,
-        };
-        assert_eq!(rt; call_faults(stream, *event, &args), *expected, "{args:?}");
+    for call in CALLS {
+        call_has_fault(rt, alloc, stream, call)?;
     }
     Ok(())
+}
+
+#[test]
+fn first_faults_of_a_call(rt: HostRuntime) -> Result<(), Fail> {
+    let config = configured(rt.alloc(), SMALL)?;
+    calls_have_faults(&rt, rt.alloc(), &config)
 }

@@ -1,32 +1,58 @@
 //! Structures read from bytes.
 
-use ctf_types::{ByteOrder, Duplicate, StructType, Value};
-use std::alloc::Global;
+use crate::tests::expected::same_text;
+use ctf_types::{ByteOrder, StructType, Value};
+use std::alloc::{AllocError, Global};
 use std::process::Abort;
 use std::test::Fail;
 use tsdl_reader::read_metadata;
 use value_codec::{read_member, read_struct};
 
+/// A metadata text whose packet header has these members.
+fn text_of(alloc: Global, members: &str) -> Result<String, AllocError> {
+    format!(in alloc;
+        "/* CTF 1.8 */ trace{{byte_order=le;major=1;minor=8;packet.header:=struct{{{members}}};}};"
+    )
+}
+
 /// The structure of these members in the metadata language.
 fn structure(alloc: Global, members: &str) -> Result<StructType, Fail> {
-    let text = format!(in alloc;
-        "/* CTF 1.8 */ trace{{byte_order=le;major=1;minor=8;packet.header:=struct{{{members}}};}};"
-    )?;
-    let metadata = read_metadata(alloc, text.as_str().as_bytes())?;
-    Ok(metadata.header.copy(alloc)?)
+    let text = text_of(alloc, members)?;
+    Ok(read_metadata(alloc, text.as_str().as_bytes())?.header)
 }
 
 /// A structure's members, the byte order, all the bytes, and what is read: the values and the bit where they end, or the fault.
 type Row = (&'static str, ByteOrder, &'static [u8], &'static str);
 
-fn are_read(rt: &impl Abort, alloc: Global, rows: &[Row]) -> Result<(), Fail> {
-    for (members, order, bytes, expected) in rows {
-        let s = structure(alloc, members)?;
-        assert!(rt; bytes.len() < 1000);
-        let read = read_struct(alloc, bytes, 0, 8 * bytes.len() as u64, *order, &s);
-        let shown = format!(in alloc; "{read:?}")?;
-        assert_eq!(rt; shown.as_str(), *expected, "{members} {order:?} {bytes:?}");
+/// What a structure is read as from fewer than 1000 bytes.
+fn read(
+    alloc: Global,
+    s: &StructType,
+    order: ByteOrder,
+    bytes: &[u8],
+) -> Result<String, AllocError> {
+    if bytes.len() >= 1000 {
+        return String::from_str(alloc, "too many bytes");
     }
+    let read = read_struct(alloc, bytes, 0, 8 * bytes.len() as u64, order, s);
+    format!(in alloc; "{read:?}")
+}
+
+fn are_read(rt: &impl Abort, alloc: Global, rows: &[Row]) -> Result<(), Fail> {
+    for row in rows {
+        is_read(rt, alloc, row)?;
+    }
+    Ok(())
+}
+
+fn is_read(
+    rt: &impl Abort,
+    alloc: Global,
+    (members, order, bytes, expected): &Row,
+) -> Result<(), Fail> {
+    let s = structure(alloc, members)?;
+    let shown = read(alloc, &s, *order, bytes)?;
+    same_text(rt, shown.as_str(), expected, members);
     Ok(())
 }
 
@@ -52,15 +78,21 @@ fn reads_integers_in_both_orders(rt: HostRuntime) -> Result<(), Fail> {
     are_read(&rt, rt.alloc(), INTEGERS)
 }
 
+/// What the second member is read as behind a first one of 3 bits with the value 5.
+fn read_second(alloc: Global, s: &StructType) -> Result<String, AllocError> {
+    if s.members.len() < 2 {
+        return String::from_str(alloc, "no second member");
+    }
+    let before = [Value::Unsigned(5)];
+    let read = read_member(alloc, &[0x8d], 3, 8, ByteOrder::Little, s, 1, &before);
+    format!(in alloc; "{read:?}")
+}
+
 #[test]
 fn reads_a_member_after_those_before_it(rt: HostRuntime) -> Result<(), Fail> {
-    let alloc = rt.alloc();
-    let s = structure(alloc, THREE_AND_FIVE)?;
-    assert!(&rt; 1 < s.members.len());
-    let before = [Value::Unsigned(5)];
-    let read = read_member(alloc, &[0x8d], 3, 8, ByteOrder::Little, &s, 1, &before);
-    let shown = format!(in alloc; "{read:?}")?;
-    assert_eq!(&rt; shown.as_str(), "Ok((Unsigned(17), 8))");
+    let s = structure(rt.alloc(), THREE_AND_FIVE)?;
+    let shown = read_second(rt.alloc(), &s)?;
+    same_text(&rt, shown.as_str(), "Ok((Unsigned(17), 8))", THREE_AND_FIVE);
     Ok(())
 }
 

@@ -3,9 +3,10 @@
 ghost use Rattle.std.specs.Prelude.{◌≤◌, ◌*◌, length, IfOk};
 ghost use Rattle.ctf_types.specs.Laws.{AreAutomatic};
 
+use crate::tests::expected::same_text;
 use crate::tests::fixtures::{Datum, Kind, structure, values};
-use ctf_types::{ByteOrder, StructType, Value, fits, size_from};
-use std::alloc::Global;
+use ctf_types::{ByteOrder, StructType, Value, Values, fits, size_from};
+use std::alloc::{AllocError, Global};
 use std::process::Abort;
 use std::test::Fail;
 use value_codec::{read_struct, write_struct};
@@ -22,17 +23,43 @@ type Row = (
 
 /// The values of each row make its bytes, and are read from them again.
 fn are_written_and_read(rt: &impl Abort, alloc: Global, rows: &[Row]) -> Result<(), Fail> {
-    for (kinds, order, at, data, end, expected) in rows {
-        let s = structure(alloc, kinds)?;
-        let given = values(alloc, data)?;
-        let bytes = written(alloc, &s, *order, *at, given.as_slice(), *end)?;
-        let read = read_struct(alloc, bytes.as_slice(), *at, *end, *order, &s);
-        let bytes = bytes.as_slice().get(..expected.len());
-        let found = format!(in alloc; "{bytes:?} {read:?}")?;
-        let wanted = format!(in alloc; "Some({expected:?}) Ok(({given:?}, {end}))")?;
-        assert_eq!(rt; found.as_str(), wanted.as_str(), "{order:?}");
+    for row in rows {
+        is_written_and_read(rt, alloc, row)?;
     }
     Ok(())
+}
+
+fn is_written_and_read(rt: &impl Abort, alloc: Global, row: &Row) -> Result<(), Fail> {
+    let s = structure(alloc, row.0)?;
+    let given = values(alloc, row.3)?;
+    let found = written_and_read(alloc, &s, given.as_slice(), row)?;
+    let wanted = wanted(alloc, &given, row)?;
+    same_text(rt, found.as_str(), wanted.as_str(), "bytes and values");
+    Ok(())
+}
+
+/// The bytes that the row's values make, as many as it has, and what is read from them.
+fn written_and_read(
+    alloc: Global,
+    s: &StructType,
+    given: &[Value],
+    row: &Row,
+) -> Result<String, Fail>
+    requires { AreAutomatic s.now.members }
+{
+    let (_, order, at, _, end, expected) = row;
+    let bytes = written(alloc, s, *order, *at, given, *end)?;
+    let read = read_struct(alloc, bytes.as_slice(), *at, *end, *order, s);
+    let bytes = bytes.as_slice().get(..expected.len());
+    Ok(format!(in alloc; "{bytes:?} {read:?} {order:?}")?)
+}
+
+fn wanted(
+    alloc: Global,
+    given: &Values,
+    (_, order, _, _, end, expected): &Row,
+) -> Result<String, AllocError> {
+    format!(in alloc; "Some({expected:?}) Ok(({given:?}, {end})) {order:?}")
 }
 
 /// Zero bytes, with these values written from a bit up to another.

@@ -1,5 +1,6 @@
 //! A caller that traces again and again makes its arguments once: numbers are set and texts refilled in place, with no memory asked for.
 
+use crate::tests::expected::{holds, same_text};
 use crate::tests::fixtures::{Datum, values};
 use ctf_types::Args;
 use std::alloc::{AllocError, Global};
@@ -27,12 +28,22 @@ fn set(args: &mut Args, unsigned: u64, signed: i64, text: &[u8]) -> bool {
     args.payload.refill_text(0, text)
 }
 
+fn shown(alloc: Global, args: &Args) -> Result<String, AllocError> {
+    format!(in alloc; "{args:?}")
+}
+
 /// The arguments are those of this call.
-fn holds(rt: &impl Abort, alloc: Global, args: &Args, call: Call) -> Result<(), Fail> {
-    let found = format!(in alloc; "{args:?}")?;
-    let expected = format!(in alloc; "{:?}", arguments(alloc, call)?)?;
-    assert_eq!(rt; found.as_str(), expected.as_str());
+fn are_those_of(rt: &impl Abort, alloc: Global, args: &Args, call: Call) -> Result<(), Fail> {
+    let found = shown(alloc, args)?;
+    let expected = shown(alloc, &arguments(alloc, call)?)?;
+    same_text(rt, found.as_str(), expected.as_str(), "arguments");
     Ok(())
+}
+
+/// Arguments that are set to those of a call hold them.
+fn is_set(rt: &impl Abort, alloc: Global, args: &mut Args, call: Call) -> Result<(), Fail> {
+    holds(rt, set(args, call.0, call.1, call.2), "room for the text");
+    are_those_of(rt, alloc, args, call)
 }
 
 static CALLS: &[Call] = &[
@@ -44,24 +55,20 @@ static CALLS: &[Call] = &[
 
 #[test]
 fn arguments_are_set_in_place(rt: HostRuntime) -> Result<(), Fail> {
-    let alloc = rt.alloc();
-    let mut args = arguments(alloc, (0, 0, b"the longest"))?;
+    let mut args = arguments(rt.alloc(), (0, 0, b"the longest"))?;
     for call in CALLS {
-        assert!(rt; set(&mut args, call.0, call.1, call.2));
-        holds(&rt, alloc, &args, *call)?;
+        is_set(&rt, rt.alloc(), &mut args, *call)?;
     }
-    assert!(rt;
-        !set(&mut args, 5, 5, &[b'x'; 4096]),
-        "more than was ever held"
-    );
-    holds(&rt, alloc, &args, (5, 5, b"the longest"))
+    let is_set = set(&mut args, 5, 5, &[b'x'; 4096]);
+    holds(&rt, !is_set, "more than was ever held");
+    are_those_of(&rt, rt.alloc(), &args, (5, 5, b"the longest"))
 }
 
 #[test]
 fn a_number_is_not_refilled(rt: HostRuntime) -> Result<(), Fail> {
     let mut values = values(rt.alloc(), &[Datum::Unsigned(7)])?;
     if values.len() == 1 {
-        assert!(rt; !values.refill_text(0, b""));
+        holds(&rt, !values.refill_text(0, b""), "a number");
     }
     Ok(())
 }
