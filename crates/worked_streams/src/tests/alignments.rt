@@ -3,6 +3,7 @@
 use crate::tests::stream_files::{Source, metadata_of};
 use ctf_types::{Config, Metadata, align_of};
 use std::alloc::Global;
+use std::process::Abort;
 use std::test::Fail;
 use worked_fixtures::{Changes, SMALL, small};
 
@@ -77,11 +78,26 @@ static PAYLOADS: &[(&str, Changes, u32)] = &[
 #[test]
 fn aligns_structures(rt: HostRuntime) -> Result<(), Fail> {
     for (shows, changes, align) in PAYLOADS {
-        let configured = configured_align(rt.alloc(), *changes)?;
-        let read = read_align(rt.alloc(), *changes)?;
-        assert_eq!(rt; (configured, read), (Some(*align), Some(*align)), "{shows}");
+        aligns(&rt, rt.alloc(), shows, *changes, *align)?;
     }
     Ok(())
+}
+
+/// The payload has this alignment, in the configuration and read back.
+fn aligns(
+    rt: &impl Abort,
+    alloc: Global,
+    shows: &str,
+    changes: Changes,
+    align: u32,
+) -> Result<(), Fail> {
+    is_aligned(rt, shows, configured_align(alloc, changes)?, align);
+    is_aligned(rt, shows, read_align(alloc, changes)?, align);
+    Ok(())
+}
+
+fn is_aligned(rt: &impl Abort, shows: &str, found: Option<u32>, align: u32) {
+    assert_eq!(rt; found, Some(align), "{shows}");
 }
 
 /// The alignment of the payload of the configuration's first event record type.

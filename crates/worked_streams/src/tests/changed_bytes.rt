@@ -79,14 +79,33 @@ fn reads_each_byte(
 
 #[test]
 fn reads_files_that_are_cut_or_changed(rt: HostRuntime) -> Result<(), Fail> {
-    let alloc = rt.alloc();
     for (text, changes, digits) in FILES {
-        let metadata = metadata_of(alloc, Source::Written(text, *changes, None))?;
-        let mut file = bytes_of(alloc, digits)?;
-        reads_each_cut(&rt, alloc, &metadata, file.as_slice())?;
-        reads_each_place(&rt, alloc, &metadata, file.as_mut_slice())?;
+        reads_file(
+            &rt,
+            rt.alloc(),
+            Source::Written(text, *changes, None),
+            digits,
+        )?;
     }
     Ok(())
+}
+
+fn reads_file(rt: &impl Abort, alloc: Global, source: Source, digits: &str) -> Result<(), Fail> {
+    let metadata = metadata_of(alloc, source)?;
+    reads_digits(rt, alloc, &metadata, digits)
+}
+
+fn reads_digits(
+    rt: &impl Abort,
+    alloc: Global,
+    metadata: &Metadata,
+    digits: &str,
+) -> Result<(), Fail>
+    requires { IsMetadata metadata.now }
+{
+    let mut file = bytes_of(alloc, digits)?;
+    reads_each_cut(rt, alloc, metadata, file.as_slice())?;
+    reads_each_place(rt, alloc, metadata, file.as_mut_slice())
 }
 
 fn reads_each_place(

@@ -3,6 +3,7 @@
 use crate::tests::found_in_files::Told;
 use crate::tests::stream_files::{Source, Table, all_tell, metadata_text};
 use std::alloc::Global;
+use std::process::Abort;
 use std::test::Fail;
 use tsdl_reader::read_metadata;
 use worked_fixtures::Changes;
@@ -255,9 +256,13 @@ static OTHER_CONTEXTS: &[(Changes, &str)] = &[
 fn refuses_packets_whose_times_are_no_unsigned_integers(rt: HostRuntime) -> Result<(), Fail> {
     for (changes, kind) in OTHER_CONTEXTS {
         let found = refusal(rt.alloc(), *changes)?;
-        assert_eq!(rt; found.as_str(), *kind, "{changes:?}");
+        is_of_kind(&rt, *changes, found.as_str(), kind);
     }
     Ok(())
+}
+
+fn is_of_kind(rt: &impl Abort, changes: Changes, found: &str, kind: &str) {
+    assert_eq!(rt; found, kind, "{changes:?}");
 }
 
 /// The kind of the fault of the metadata text with these words.

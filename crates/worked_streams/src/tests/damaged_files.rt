@@ -1,14 +1,14 @@
 //! Stream files with bytes that nobody wrote, and files whose writer stopped.
 
 use crate::tests::found_in_files::Told;
-use crate::tests::rings::stream;
+use crate::tests::rings::{ListStream, list_stream};
 use crate::tests::stream_files::{Source, Table, all_tell, told_of};
 use packet_collector::{Collected, collect_into};
 use std::alloc::Global;
 use std::process::Abort;
 use std::test::Fail;
-use thread_stream::{PacketAnswer, Stream, Verdict};
-use trace_platform::{ListBackEnd, ListClock, StoppingWriter, WriterSink};
+use thread_stream::{PacketAnswer, Verdict};
+use trace_platform::{StoppingWriter, WriterSink};
 use worked_fixtures::{Changes, Datum, SMALL, bytes_of, payload};
 
 /// A header of 4 bytes, a context of 8, and records of a byte each.
@@ -60,19 +60,21 @@ static STOPPED: &[(usize, &str)] = &[(20, "[2] Torn(16)"), (16, "[2] Whole")];
 const TWO_PACKETS: &str = "c11ffcc1 80000000 70000000 01020000 c11ffcc1 80000000 70000000 01020000";
 
 /// A stream with two packets of two records each, both closed.
-fn two_packets(rt: &impl Abort, alloc: Global) -> Result<Stream<ListClock, ListBackEnd>, Fail> {
-    let mut stream = stream(alloc, ListBackEnd::new(alloc, 2, 16)?)?;
-    for _ in 0..2 {
-        assert!(rt; closes_a_packet(alloc, &mut stream)?);
-    }
+fn two_packets(rt: &impl Abort, alloc: Global) -> Result<ListStream, Fail> {
+    let mut stream = list_stream(alloc)?;
+    closes_both(rt, alloc, &mut stream)?;
     Ok(stream)
 }
 
+fn closes_both(rt: &impl Abort, alloc: Global, stream: &mut ListStream) -> Result<(), Fail> {
+    for _ in 0..2 {
+        assert!(rt; closes_a_packet(alloc, stream)?);
+    }
+    Ok(())
+}
+
 /// Whether a packet of the records 1 and 2 is closed.
-pub fn closes_a_packet(
-    alloc: Global,
-    stream: &mut Stream<ListClock, ListBackEnd>,
-) -> Result<bool, Fail> {
+pub fn closes_a_packet(alloc: Global, stream: &mut ListStream) -> Result<bool, Fail> {
     let first = payload(alloc, &[Datum::Unsigned(1)])?;
     let second = payload(alloc, &[Datum::Unsigned(2)])?;
     Ok(
@@ -86,28 +88,47 @@ pub fn closes_a_packet(
 fn collected(rt: &impl Abort, alloc: Global, room: usize) -> Result<Vec<u8>, Fail> {
     let mut stream = two_packets(rt, alloc)?;
     let mut sink = WriterSink::new(StoppingWriter::new(alloc, room, 5));
-    let mut faulted = false;
-    for answer in [Collected::Took(0), Collected::Faulted, Collected::Faulted] {
-        assert_eq!(rt; collect_into(&mut sink, &mut faulted, &mut stream), answer);
-    }
+    stops(rt, &mut sink, &mut stream);
     Ok(sink.into_writer().bytes)
+}
+
+/// The sink takes the first packet and faults at the second.
+fn stops(rt: &impl Abort, sink: &mut WriterSink<StoppingWriter>, stream: &mut ListStream) {
+    let mut faulted = false;
+    for want in [Collected::Took(0), Collected::Faulted, Collected::Faulted] {
+        is_answered(rt, collect_into(sink, &mut faulted, stream), want);
+    }
+}
+
+/// A collection is answered so.
+pub fn is_answered(rt: &impl Abort, found: Collected, want: Collected) {
+    assert_eq!(rt; found, want);
 }
 
 #[test]
 fn reads_the_front_that_a_stopped_writer_took(rt: HostRuntime) -> Result<(), Fail> {
     for (room, want) in STOPPED {
         let found = front_found(&rt, rt.alloc(), *room)?;
-        assert_eq!(rt; found.as_str(), *want, "room for {room} bytes");
+        is_found(&rt, *room, found.as_str(), want);
     }
     Ok(())
 }
 
+fn is_found(rt: &impl Abort, room: usize, found: &str, want: &str) {
+    assert_eq!(rt; found, want, "room for {room} bytes");
+}
+
 /// What a reader finds in the front of both packets for which a writer had room.
 fn front_found(rt: &impl Abort, alloc: Global, room: usize) -> Result<String, Fail> {
-    let written = collected(rt, alloc, room)?;
-    let all = bytes_of(alloc, TWO_PACKETS)?;
-    assert!(rt; written.len() == room && all.starts_with(written.as_slice()));
-    let digits = hex::encode(alloc, written.as_slice())?;
+    let digits = front(rt, alloc, room)?;
     let source = Source::Written(SMALL, &[], None);
     told_of(alloc, source, Told::Counts, digits.as_str())
+}
+
+/// The front of both packets for which a writer had room, in hexadecimal.
+fn front(rt: &impl Abort, alloc: Global, room: usize) -> Result<String, Fail> {
+    let all = bytes_of(alloc, TWO_PACKETS)?;
+    let written = collected(rt, alloc, room)?;
+    assert!(rt; written.len() == room && all.starts_with(written.as_slice()));
+    Ok(hex::encode(alloc, written.as_slice())?)
 }

@@ -3,6 +3,7 @@
 use crate::tests::rings::{FIRST, SECOND, packet};
 use packet_collector::{FinishAnswer, finish_into};
 use std::alloc::Global;
+use std::process::Abort;
 use std::test::Fail;
 use thread_stream::StreamEnd;
 use trace_platform::{BackEnd, ListBackEnd, MemorySink, ScriptedSource};
@@ -26,19 +27,49 @@ static ENDS: &[(bool, FinishAnswer, &[&str])] = &[
 /// A packet waits in the source, and another was left behind.
 #[test]
 fn lets_the_last_packet_go_where_the_end_is_declined(rt: HostRuntime) -> Result<(), Fail> {
-    let alloc = rt.alloc();
     for (given, want, packets) in ENDS {
-        let mut sink = MemorySink::new(alloc);
-        let mut faulted = false;
-        let end = StreamEnd {
-            left: Some(packet(alloc, 2)?),
-            done: *given,
-        };
-        let answer = finish_into(&mut sink, &mut faulted, &mut source(alloc)?, end);
-        assert_eq!(rt; answer, *want);
-        assert!(rt; !faulted);
-        let bytes = bytes_of(alloc, packets.concat(alloc)?.as_str())?;
-        assert_eq!(rt; sink.bytes(), bytes.as_slice());
+        let packets = packets.concat(rt.alloc())?;
+        gathers(&rt, rt.alloc(), *given, *want, packets.as_str())?;
     }
     Ok(())
+}
+
+fn gathers(
+    rt: &impl Abort,
+    alloc: Global,
+    given: bool,
+    want: FinishAnswer,
+    packets: &str,
+) -> Result<(), Fail> {
+    let bytes = bytes_of(alloc, packets)?;
+    let source = source(alloc)?;
+    let left = packet(alloc, 2)?;
+    ends(
+        rt,
+        MemorySink::new(alloc),
+        source,
+        StreamEnd {
+            left: Some(left),
+            done: given,
+        },
+        want,
+        bytes.as_slice(),
+    );
+    Ok(())
+}
+
+/// What is answered at this end, and what the sink has then.
+fn ends(
+    rt: &impl Abort,
+    mut sink: MemorySink,
+    mut source: ScriptedSource,
+    end: StreamEnd<bool>,
+    want: FinishAnswer,
+    bytes: &[u8],
+) {
+    let mut faulted = false;
+    let answer = finish_into(&mut sink, &mut faulted, &mut source, end);
+    assert_eq!(rt; answer, want);
+    assert!(rt; !faulted);
+    assert_eq!(rt; sink.bytes(), bytes);
 }

@@ -89,15 +89,14 @@ const COUNTED: Changes = &[("CONTEXT", "SIZES U8 events_discarded; U8 packet_seq
 
 #[test]
 fn finds_no_gap_in_300_packets(rt: HostRuntime) -> Result<(), Fail> {
-    let digits = packets_of_300(rt.alloc())?;
-    let found = told_of(
-        rt.alloc(),
-        Source::Words(COUNTED),
-        Told::Gaps,
-        digits.as_str(),
-    )?;
+    let found = gaps_of_300(rt.alloc())?;
     assert_eq!(rt; found.as_str(), "Some(0)");
     Ok(())
+}
+
+fn gaps_of_300(alloc: Global) -> Result<String, Fail> {
+    let digits = packets_of_300(alloc)?;
+    told_of(alloc, Source::Words(COUNTED), Told::Gaps, digits.as_str())
 }
 
 /// Their counts are 0 in the first and then 257, and their numbers 0 to 299, as far as fields of 8 bits hold them.

@@ -1,9 +1,11 @@
 //! Lengths of 2^32 - 1 in short files: elements are made one by one as they are read, so a file makes no more of them than it has bits. The script beside the gate
 //! counts the bytes of memory that are asked for.
 
-use crate::tests::stream_files::{Source, ending, metadata_of};
-use ctf_types::Text;
-use packet_reader::{PacketFault, StreamEnding, read_stream_from};
+ghost use Rattle.ctf_types.specs.Allowed.{IsMetadata};
+
+use crate::tests::stream_files::{Source, ending_of, metadata_of, stream_count};
+use ctf_types::{Metadata, Text};
+use packet_reader::{PacketFault, ReadStop, StreamEnding, read_stream_from};
 use std::alloc::Global;
 use std::process::Abort;
 use std::test::Fail;
@@ -93,28 +95,41 @@ fn file(alloc: Global, bytes: u16) -> Result<Vec<u8>, Fail> {
 
 /// How many packets a file of so many bytes gives, and how it ends.
 fn at_once(alloc: Global, changes: Changes, bytes: u16) -> Result<(usize, StreamEnding), Fail> {
-    let metadata = metadata_of(alloc, Source::Words(changes))?;
     let file = file(alloc, bytes)?;
-    Ok(ending(alloc, &metadata, file.as_slice())?)
+    ending_of(alloc, Source::Words(changes), file.as_slice())
 }
 
 /// The same packet by packet.
 fn in_turn(alloc: Global, changes: Changes, bytes: u16) -> Result<(usize, StreamEnding), Fail> {
-    let metadata = metadata_of(alloc, Source::Words(changes))?;
     let file = file(alloc, bytes)?;
-    let name = Text::from_str(alloc, "a")?;
-    let read = read_stream_from(alloc, &metadata, name, file.as_slice())?;
+    let metadata = metadata_of(alloc, Source::Words(changes))?;
+    Ok(ending_in_turn(alloc, &metadata, file.as_slice())?)
+}
+
+fn ending_in_turn(
+    alloc: Global,
+    metadata: &Metadata,
+    file: &[u8],
+) -> Result<(usize, StreamEnding), ReadStop>
+    requires { IsMetadata metadata.now }
+{
+    let read = read_stream_from(alloc, metadata, Text::from_str(alloc, "a")?, file)?;
     Ok((read.packets.len(), read.end))
 }
 
 /// No packet is given in files of each length, and each ends so.
 fn ends(rt: &impl Abort, alloc: Global, row: &Row) -> Result<(), Fail> {
-    let want = (0, row.1);
     for bytes in LENGTHS {
-        let whole = at_once(alloc, row.0, bytes)?;
-        let parts = in_turn(alloc, row.0, bytes)?;
-        assert_eq!(rt; (whole, parts), (want, want), "{bytes} bytes, {row:?}");
+        ends_at(rt, alloc, row, bytes)?;
     }
+    Ok(())
+}
+
+fn ends_at(rt: &impl Abort, alloc: Global, row: &Row, bytes: u16) -> Result<(), Fail> {
+    let want = (0, row.1);
+    let whole = at_once(alloc, row.0, bytes)?;
+    let parts = in_turn(alloc, row.0, bytes)?;
+    assert_eq!(rt; (whole, parts), (want, want), "{bytes} bytes, {row:?}");
     Ok(())
 }
 
@@ -128,31 +143,35 @@ fn reads_as_far_as_the_file_goes(rt: HostRuntime) -> Result<(), Fail> {
 
 #[test]
 fn makes_what_is_needed(rt: HostRuntime) -> Result<(), Fail> {
-    let metadata = metadata_of(rt.alloc(), Source::Words(NESTED))?;
-    assert_eq!(rt; metadata.streams.len(), 1);
+    assert_eq!(rt; stream_count(rt.alloc(), Source::Words(NESTED))?, 1);
     Ok(())
+}
+
+/// A record passes the content.
+fn passes(rt: &impl Abort, ending: StreamEnding) {
+    assert_eq!(rt; ending, PAST);
 }
 
 #[test]
 fn reads_bits_in_a_short_file(rt: HostRuntime) -> Result<(), Fail> {
-    assert_eq!(rt; at_once(rt.alloc(), BITS, 100)?.1, PAST);
+    passes(&rt, at_once(rt.alloc(), BITS, 100)?.1);
     Ok(())
 }
 
 #[test]
 fn reads_bits_in_a_long_file(rt: HostRuntime) -> Result<(), Fail> {
-    assert_eq!(rt; at_once(rt.alloc(), BITS, 10_000)?.1, PAST);
+    passes(&rt, at_once(rt.alloc(), BITS, 10_000)?.1);
     Ok(())
 }
 
 #[test]
 fn reads_nested_bits(rt: HostRuntime) -> Result<(), Fail> {
-    assert_eq!(rt; at_once(rt.alloc(), NESTED, 2000)?.1, PAST);
+    passes(&rt, at_once(rt.alloc(), NESTED, 2000)?.1);
     Ok(())
 }
 
 #[test]
 fn reads_bits_packet_by_packet(rt: HostRuntime) -> Result<(), Fail> {
-    assert_eq!(rt; in_turn(rt.alloc(), BITS, 10_000)?.1, PAST);
+    passes(&rt, in_turn(rt.alloc(), BITS, 10_000)?.1);
     Ok(())
 }

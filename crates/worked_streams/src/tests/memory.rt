@@ -1,8 +1,8 @@
 //! Calls that take memory, each answering want of memory in the words `out of memory` wherever a request is refused, and tracing, which takes none:
 //! the script beside the gate refuses each request of these tests in turn, and counts those of tracing.
 
-use crate::tests::rings::{RingStream, makes_empty, stream};
-use crate::tests::stream_files::{Source, ending, metadata_of};
+use crate::tests::rings::{ListStream, RingStream, list_stream, makes_empty, stream};
+use crate::tests::stream_files::{Source, ending_of, stream_count};
 use crate::tests::stream_steps::collects_any;
 use conf_check::configure;
 use ctf_types::Args;
@@ -12,8 +12,8 @@ use packet_ring::{RingEnd, ring};
 use std::alloc::Global;
 use std::process::Abort;
 use std::test::Fail;
-use thread_stream::{Stream, Verdict};
-use trace_platform::{ListBackEnd, ListClock, MemorySink, PacketSource};
+use thread_stream::Verdict;
+use trace_platform::{MemorySink, PacketSource};
 use worked_fixtures::{Changes, Datum, SMALL, configuration, granted, payload};
 
 /// Clocks, features with types of their own, enumerations, arrays, extra members, an environment, and aliases that inherit from others.
@@ -34,9 +34,14 @@ const FILE: &[u8] = &[
 
 #[test]
 fn makes_a_configuration(rt: HostRuntime) -> Result<(), Fail> {
-    let config = configuration(rt.alloc(), RICH)?;
-    assert_eq!(rt; config.streams.len(), 2);
+    assert_eq!(rt; configured_streams(rt.alloc())?, 2);
     Ok(())
+}
+
+/// How many stream types the configuration has.
+fn configured_streams(alloc: Global) -> Result<usize, Fail> {
+    let config = configuration(alloc, RICH)?;
+    Ok(config.streams.len())
 }
 
 /// Its last fault, two byte orders, is found behind all readings of its objects.
@@ -45,29 +50,33 @@ fn refuses_a_configuration(rt: HostRuntime) -> Result<(), Fail> {
     let alloc = rt.alloc();
     let both = r#""trace-byte-order":"be","native-byte-order""#;
     let text = granted(RICH.replace(alloc, r#""native-byte-order""#, both))?;
-    match configure(alloc, text.as_str().as_bytes(), None) {
+    assert!(rt; refusal_length(alloc, text.as_str())? == 2);
+    Ok(())
+}
+
+/// How many steps the path of the refusal of this text has.
+fn refusal_length(alloc: Global, text: &str) -> Result<usize, Fail> {
+    match configure(alloc, text.as_bytes(), None) {
         Ok(_) => Err(Fail::new("two byte orders")),
         Err(fault) => {
             if fault.is_memory() {
                 return Err(Fail::new(fault));
             }
-            assert!(rt; fault.path.as_slice().len() == 2);
-            Ok(())
+            Ok(fault.path.as_slice().len())
         }
     }
 }
 
 #[test]
 fn writes_and_reads_metadata(rt: HostRuntime) -> Result<(), Fail> {
-    let metadata = metadata_of(rt.alloc(), Source::Written(RICH, &[], None))?;
-    assert_eq!(rt; metadata.streams.len(), 2);
+    let streams = stream_count(rt.alloc(), Source::Written(RICH, &[], None))?;
+    assert_eq!(rt; streams, 2);
     Ok(())
 }
 
 #[test]
 fn reads_strings_and_lists(rt: HostRuntime) -> Result<(), Fail> {
-    let metadata = metadata_of(rt.alloc(), Source::Written(SMALL, WITH_LISTS, None))?;
-    let found = ending(rt.alloc(), &metadata, FILE)?;
+    let found = ending_of(rt.alloc(), Source::Written(SMALL, WITH_LISTS, None), FILE)?;
     assert_eq!(rt; found, (1, StreamEnding::Whole));
     Ok(())
 }
@@ -85,15 +94,23 @@ fn traces_a_thousand_records(rt: HostRuntime) -> Result<(), Fail> {
 /// Traces so many records with one list of arguments, and takes each packet as it is closed.
 fn traces(rt: &impl Abort, alloc: Global, records: u32) -> Result<(), Fail> {
     let args = payload(alloc, &[Datum::Unsigned(7)])?;
-    let mut stream = stream(alloc, ListBackEnd::new(alloc, 2, 16)?)?;
-    for _ in 0..records {
-        assert_eq!(rt; traced(&mut stream, &args), Verdict::Accepted(None));
-    }
+    let mut stream = list_stream(alloc)?;
+    traces_each(rt, &mut stream, &args, records);
     Ok(())
 }
 
+fn traces_each(rt: &impl Abort, stream: &mut ListStream, args: &Args, records: u32) {
+    for _ in 0..records {
+        is_accepted(rt, traced(stream, args));
+    }
+}
+
+fn is_accepted(rt: &impl Abort, answer: Verdict) {
+    assert_eq!(rt; answer, Verdict::Accepted(None));
+}
+
 /// What is answered to a call; a packet that it closed is taken, and its buffer goes back.
-fn traced(stream: &mut Stream<ListClock, ListBackEnd>, args: &Args) -> Verdict {
+fn traced(stream: &mut ListStream, args: &Args) -> Verdict {
     let answer = stream.trace(0, args);
     collects_any(stream);
     answer
@@ -114,11 +131,20 @@ fn traces_over_a_ring(rt: &impl Abort, alloc: Global, records: u32) -> Result<()
     let args = payload(alloc, &[Datum::Unsigned(7)])?;
     let (back_end, mut ring_end) = ring(alloc, 1, 16)?;
     let mut stream = stream(alloc, back_end)?;
-    for _ in 0..records {
-        let answer = traced_over_a_ring(&mut stream, &mut ring_end, &args);
-        assert_eq!(rt; answer, Verdict::Accepted(None));
-    }
+    traces_each_over_a_ring(rt, &mut stream, &mut ring_end, &args, records);
     Ok(())
+}
+
+fn traces_each_over_a_ring(
+    rt: &impl Abort,
+    stream: &mut RingStream,
+    ring_end: &mut RingEnd,
+    args: &Args,
+    records: u32,
+) {
+    for _ in 0..records {
+        is_accepted(rt, traced_over_a_ring(stream, ring_end, args));
+    }
 }
 
 fn traced_over_a_ring(stream: &mut RingStream, ring_end: &mut RingEnd, args: &Args) -> Verdict {
@@ -137,11 +163,23 @@ fn collects_300_packets_over_a_ring(rt: HostRuntime) -> Result<(), Fail> {
     let mut sink = MemorySink::with_capacity(alloc, 300 * 16)?;
     let (back_end, mut ring_end) = ring(alloc, 1, 16)?;
     let mut stream = stream(alloc, back_end)?;
+    collects_each(&rt, &mut stream, &mut ring_end, &mut sink);
+    Ok(())
+}
+
+fn collects_each(
+    rt: &impl Abort,
+    stream: &mut RingStream,
+    ring_end: &mut RingEnd,
+    sink: &mut MemorySink,
+) {
     let mut faulted = false;
     for number in 0..300 {
-        let made = makes_empty(&mut stream);
-        let answer = collect_into(&mut sink, &mut faulted, &mut ring_end);
-        assert_eq!(rt; (made, answer), (true, Collected::Took(number)));
+        let made = makes_empty(stream);
+        is_taken(rt, made, collect_into(sink, &mut faulted, ring_end), number);
     }
-    Ok(())
+}
+
+fn is_taken(rt: &impl Abort, made: bool, answer: Collected, number: u64) {
+    assert_eq!(rt; (made, answer), (true, Collected::Took(number)));
 }

@@ -1,10 +1,13 @@
 //! A stream file read packet by packet, from a reader that gives few bytes at a time or fails on the way.
 
+ghost use Rattle.ctf_types.specs.Allowed.{IsMetadata};
+
 use crate::tests::stream_files::{Source, metadata_of};
 use ctf_types::{ListOf, Metadata, ReadPacket, Text, Values};
 use packet_reader::{ReadStop, StreamEnding, StreamReader};
-use std::alloc::Global;
+use std::alloc::{AllocError, Global};
 use std::io::{Error, ErrorKind, Read, Result as ReadResult};
+use std::process::Abort;
 use std::test::Fail;
 use worked_fixtures::{SMALL, bytes_of};
 
@@ -61,8 +64,14 @@ type Answers = ([Result<Option<usize>, ReadStop>; 3], Option<StreamEnding>);
 
 fn answers(alloc: Global, input: Pieces) -> Result<Answers, Fail> {
     let metadata = metadata_of(alloc, Source::Written(SMALL, &[], None))?;
+    Ok(answers_by(alloc, &metadata, input)?)
+}
+
+fn answers_by(alloc: Global, metadata: &Metadata, input: Pieces) -> Result<Answers, AllocError>
+    requires { IsMetadata metadata.now }
+{
     let name = Text::from_str(alloc, "a")?;
-    let mut reader = StreamReader::new(alloc, &metadata, name, input);
+    let mut reader = StreamReader::new(alloc, metadata, name, input);
     let first = next_records(&mut reader);
     let second = next_records(&mut reader);
     let third = next_records(&mut reader);
@@ -73,14 +82,18 @@ fn answers(alloc: Global, input: Pieces) -> Result<Answers, Fail> {
 fn reads_few_bytes_at_a_time(rt: HostRuntime) -> Result<(), Fail> {
     for piece in [1, 7] {
         let found = answers(rt.alloc(), reader_of(rt.alloc(), piece, 20, false)?)?;
-        let calls = [Ok(Some(2)), Ok(None), Ok(None)];
-        assert_eq!(rt;
-            found,
-            (calls, Some(StreamEnding::Torn(16))),
-            "{piece} bytes"
-        );
+        is_cut(&rt, piece, &found);
     }
     Ok(())
+}
+
+fn is_cut(rt: &impl Abort, piece: usize, found: &Answers) {
+    let calls = [Ok(Some(2)), Ok(None), Ok(None)];
+    assert_eq!(rt;
+        *found,
+        (calls, Some(StreamEnding::Torn(16))),
+        "{piece} bytes"
+    );
 }
 
 #[test]
@@ -100,19 +113,36 @@ fn refills_the_packet_in_hand(rt: HostRuntime) -> Result<(), Fail> {
 
 /// Whether each of three calls fills the packet, and how many records it has then.
 fn refills(alloc: Global) -> Result<[(bool, usize); 3], Fail> {
-    let metadata = metadata_of(alloc, Source::Written(SMALL, &[], None))?;
-    let name = Text::from_str(alloc, "a")?;
     let input = reader_of(alloc, 7, 20, false)?;
+    let metadata = metadata_of(alloc, Source::Written(SMALL, &[], None))?;
+    Ok(refills_by(alloc, &metadata, input)?)
+}
+
+fn refills_by(
+    alloc: Global,
+    metadata: &Metadata,
+    input: Pieces,
+) -> Result<[(bool, usize); 3], ReadStop>
+    requires { IsMetadata metadata.now }
+{
+    let name = Text::from_str(alloc, "a")?;
     let mut packet = no_packet(alloc);
-    let mut reader = StreamReader::new(alloc, &metadata, name, input);
-    let first = refilled(&mut reader, &mut packet)?;
-    let second = refilled(&mut reader, &mut packet)?;
-    let third = refilled(&mut reader, &mut packet)?;
+    let mut reader = StreamReader::new(alloc, metadata, name, input);
+    three_refills(&mut reader, &mut packet)
+}
+
+fn three_refills(
+    reader: &mut StreamReader<'_, Pieces>,
+    packet: &mut ReadPacket,
+) -> Result<[(bool, usize); 3], ReadStop> {
+    let first = refilled(reader, packet)?;
+    let second = refilled(reader, packet)?;
+    let third = refilled(reader, packet)?;
     Ok([first, second, third])
 }
 
-fn refilled<R: Read>(
-    reader: &mut StreamReader<'_, R>,
+fn refilled(
+    reader: &mut StreamReader<'_, Pieces>,
     packet: &mut ReadPacket,
 ) -> Result<(bool, usize), ReadStop> {
     let given = reader.next_packet_into(packet)?;

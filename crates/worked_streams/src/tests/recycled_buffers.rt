@@ -1,10 +1,12 @@
 //! Buffers that go round between a stream and a collector over a ring.
 
-use crate::tests::damaged_files::closes_a_packet;
-use crate::tests::rings::{makes_empty, opened, stream};
+use crate::tests::damaged_files::{closes_a_packet, is_answered};
+use crate::tests::rings::{ListStream, RingStream, makes_empty, opened, stream};
 use crate::tests::stream_steps::collects as takes;
 use packet_collector::{Collected, collect_into};
 use packet_ring::{RingEnd, ring};
+use std::alloc::Global;
+use std::process::Abort;
 use std::test::Fail;
 use thread_stream::PacketAnswer;
 use trace_platform::{ListBackEnd, MemorySink, Script, ScriptedSink, Turn};
@@ -16,24 +18,49 @@ fn collects(sink: &mut ScriptedSink, faulted: &mut bool, ring_end: &mut RingEnd)
 /// The buffer of the packet at which the sink faults goes back, and no packet is taken afterwards: two more are closed, of which one is held.
 #[test]
 fn gives_back_the_buffer_at_a_fault_of_the_sink(rt: HostRuntime) -> Result<(), Fail> {
-    let alloc = rt.alloc();
+    let mut sink = failing_sink(rt.alloc())?;
+    gives_back_over_a_ring(&rt, rt.alloc(), &mut sink)
+}
+
+fn failing_sink(alloc: Global) -> Result<ScriptedSink, Fail> {
+    let script = Script::new(vec![in alloc; Turn::Fails]?);
+    Ok(ScriptedSink::new(MemorySink::new(alloc), script, 0))
+}
+
+fn gives_back_over_a_ring(
+    rt: &impl Abort,
+    alloc: Global,
+    sink: &mut ScriptedSink,
+) -> Result<(), Fail> {
     let (back_end, mut ring_end) = ring(alloc, 1, 16)?;
     let mut stream = stream(alloc, back_end)?;
-    let script = Script::new(vec![in alloc; Turn::Fails]?);
-    let mut sink = ScriptedSink::new(MemorySink::new(alloc), script, 0);
-    let mut faulted = false;
-    assert!(rt; makes_empty(&mut stream));
-    let answer = collects(&mut sink, &mut faulted, &mut ring_end);
-    assert_eq!(rt; answer, Collected::Faulted);
-    for _ in 0..2 {
-        assert!(rt; makes_empty(&mut stream));
-    }
-    for _ in 0..2 {
-        let full = opened(&mut stream);
-        let answer = collects(&mut sink, &mut faulted, &mut ring_end);
-        assert_eq!(rt; (full, answer), (PacketAnswer::Full, Collected::Faulted));
-    }
+    gives_back(rt, &mut stream, &mut ring_end, sink);
     Ok(())
+}
+
+fn gives_back(
+    rt: &impl Abort,
+    stream: &mut RingStream,
+    ring_end: &mut RingEnd,
+    sink: &mut ScriptedSink,
+) {
+    let mut faulted = false;
+    assert!(rt; makes_empty(stream));
+    is_answered(
+        rt,
+        collects(sink, &mut faulted, ring_end),
+        Collected::Faulted,
+    );
+    assert!(rt; makes_empty(stream));
+    assert!(rt; makes_empty(stream));
+    for _ in 0..2 {
+        let full = opened(stream);
+        stays_full(rt, full, collects(sink, &mut faulted, ring_end));
+    }
+}
+
+fn stays_full(rt: &impl Abort, full: PacketAnswer, answer: Collected) {
+    assert_eq!(rt; (full, answer), (PacketAnswer::Full, Collected::Faulted));
 }
 
 /// What stood in a buffer is in no packet.
@@ -41,13 +68,11 @@ fn gives_back_the_buffer_at_a_fault_of_the_sink(rt: HostRuntime) -> Result<(), F
 fn shows_nothing_of_what_stood_in_a_buffer(rt: HostRuntime) -> Result<(), Fail> {
     let back_end = ListBackEnd::filled(rt.alloc(), 1, 16, 0xff)?;
     let mut stream = stream(rt.alloc(), back_end)?;
-    assert!(rt; closes_a_packet(rt.alloc(), &mut stream)?);
-    assert!(rt;
-        takes(
-            rt.alloc(),
-            &mut stream,
-            "c11ffcc1 80000000 70000000 01020000"
-        )?
-    );
+    shows_its_records(&rt, rt.alloc(), &mut stream)
+}
+
+fn shows_its_records(rt: &impl Abort, alloc: Global, stream: &mut ListStream) -> Result<(), Fail> {
+    assert!(rt; closes_a_packet(alloc, stream)?);
+    assert!(rt; takes(alloc, stream, "c11ffcc1 80000000 70000000 01020000")?);
     Ok(())
 }

@@ -1,12 +1,15 @@
 //! Where a trace goes on behind a stream file, and what a stream that goes on there adds to the file.
 
+ghost use Rattle.ctf_types.specs.Allowed.{IsMetadata};
+
 use crate::tests::found_in_files::Told;
 use crate::tests::gaps::packets_of_300;
 use crate::tests::short_timestamps::{ONE_BIT, PAUSED_FIRST, PAUSED_SECOND, SHORT};
 use crate::tests::stream_files::{Source, Table, all_tell, metadata_of, read};
-use crate::tests::stream_steps::{Round, START, Start, Step, list_back_end, runs};
+use crate::tests::stream_steps::{Round, START, Start, Step, runs_over_a_list};
+use ctf_types::Metadata;
 use packet_reader::{ResumePoint, gaps, resume_point};
-use std::alloc::Global;
+use std::alloc::{AllocError, Global};
 use std::process::Abort;
 use std::test::Fail;
 use thread_stream::{PacketAnswer, Verdict};
@@ -192,25 +195,39 @@ fn goes_on_where_numbers_went_round(rt: HostRuntime) -> Result<(), Fail> {
 /// Behind the file, in hexadecimal, stands the row's point, and a stream that goes on there adds what the row says.
 fn goes_on(rt: &impl Abort, alloc: Global, row: &Row, file: &str) -> Result<(), Fail> {
     let (point, _) = behind(alloc, &row.start, file)?;
-    assert_eq!(rt; point, Some(row.point), "{}", row.shows);
+    is_at(rt, row.shows, point, row.point);
     adds(rt, alloc, row)?;
-    let whole = format!(in alloc; "{file} {}", row.more)?;
-    let found = behind(alloc, &row.start, whole.as_str())?;
-    assert_eq!(rt; found, (Some(row.behind), row.gaps), "{}", row.shows);
+    let (point, gaps) = behind_more(alloc, row, file)?;
+    is_at(rt, row.shows, point, row.behind);
+    assert_eq!(rt; gaps, row.gaps, "{}", row.shows);
     Ok(())
 }
 
+fn is_at(rt: &impl Abort, shows: &str, found: Option<ResumePoint>, want: ResumePoint) {
+    assert_eq!(rt; found, Some(want), "{shows}");
+}
+
+/// The same behind the file with what the row adds.
+fn behind_more(alloc: Global, row: &Row, file: &str) -> Result<Behind, Fail> {
+    let whole = format!(in alloc; "{file} {}", row.more)?;
+    behind(alloc, &row.start, whole.as_str())
+}
+
 /// The point behind a file, and how many of its packets have not the number after that of the packet before them.
-fn behind(
-    alloc: Global,
-    start: &Start,
-    file: &str,
-) -> Result<(Option<ResumePoint>, Option<u64>), Fail> {
+type Behind = (Option<ResumePoint>, Option<u64>);
+
+fn behind(alloc: Global, start: &Start, file: &str) -> Result<Behind, Fail> {
+    let bytes = bytes_of(alloc, file)?;
     let source = Source::Written(start.text, start.changes, start.number);
     let metadata = metadata_of(alloc, source)?;
-    let bytes = bytes_of(alloc, file)?;
-    let read = read(alloc, &metadata, bytes.as_slice())?;
-    Ok((resume_point(&metadata, &read), gaps(&metadata, &read)))
+    Ok(behind_bytes(alloc, &metadata, bytes.as_slice())?)
+}
+
+fn behind_bytes(alloc: Global, metadata: &Metadata, bytes: &[u8]) -> Result<Behind, AllocError>
+    requires { IsMetadata metadata.now }
+{
+    let read = read(alloc, metadata, bytes)?;
+    Ok((resume_point(metadata, &read), gaps(metadata, &read)))
 }
 
 /// A stream that goes on at the row's point answers its steps.
@@ -219,9 +236,7 @@ fn adds(rt: &impl Abort, alloc: Global, row: &Row) -> Result<(), Fail> {
         goes_on: Some((row.point.sequence, row.point.discarded)),
         ..row.start
     };
-    let back_end = list_back_end(alloc, &start)?;
-    runs(rt, alloc, back_end, &(row.shows, start, row.steps))?;
-    Ok(())
+    runs_over_a_list(rt, alloc, &(row.shows, start, row.steps))
 }
 
 const TORN_FILE: &str = r#"

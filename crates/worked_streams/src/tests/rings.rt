@@ -1,12 +1,14 @@
 //! A ring of packets, with both its ends in one thread: what comes back and what goes round.
 
 ghost use Rattle.std.specs.Prelude.{◌≡◌};
+ghost use Rattle.ctf_types.specs.AllowedConfig.{IsConfig};
 ghost use Rattle.packet_ring.specs.Taking.{SameRing};
 
-use ctf_types::{Args, Values};
+use ctf_types::{Args, Config, Values};
 use packet_ring::{RingBackEnd, RingEnd, ring};
 use packet_writer::Packet;
 use std::alloc::Global;
+use std::process::Abort;
 use std::test::Fail;
 use thread_stream::{PacketAnswer, Stream, Verdict, Why};
 use trace_platform::{BackEnd, ListBackEnd, ListClock, PacketSource};
@@ -14,16 +16,34 @@ use worked_fixtures::{Datum, bytes_of, payload, small};
 
 pub type RingStream = Stream<ListClock, RingBackEnd>;
 
+pub type ListStream = Stream<ListClock, ListBackEnd>;
+
 const EMPTY: &str = "c11ffcc1 80000000 60000000 00000000";
 
 /// A stream of the small configuration over this back end.
 pub fn stream<B: BackEnd + Drop>(alloc: Global, back_end: B) -> Result<Stream<ListClock, B>, Fail> {
-    let config = small(alloc, &[])?;
     let clock = ListClock::new(Vec::new(alloc)).ok_or("readings that fall")?;
-    match Stream::new(alloc, &config, "s", clock, back_end, Values::new(alloc)) {
+    let config = small(alloc, &[])?;
+    begun(alloc, &config, clock, back_end)
+}
+
+fn begun<B: BackEnd + Drop>(
+    alloc: Global,
+    config: &Config,
+    clock: ListClock,
+    back_end: B,
+) -> Result<Stream<ListClock, B>, Fail>
+    requires { IsConfig config.now }
+{
+    match Stream::new(alloc, config, "s", clock, back_end, Values::new(alloc)) {
         Ok(stream) => Ok(stream),
         Err(refused) => Err(Fail::new(refused.fault)),
     }
+}
+
+/// A stream of the small configuration over a list of two buffers of 16 bytes.
+pub fn list_stream(alloc: Global) -> Result<ListStream, Fail> {
+    stream(alloc, ListBackEnd::new(alloc, 2, 16)?)
 }
 
 /// Whether the next packet is these bytes; its buffer goes back.
@@ -85,30 +105,47 @@ fn answers(
 
 #[test]
 fn holds_the_packet_that_a_ring_hands_back(rt: HostRuntime) -> Result<(), Fail> {
-    let alloc = rt.alloc();
-    let args = payload(alloc, &[Datum::Unsigned(9)])?;
-    let empty = bytes_of(alloc, EMPTY)?;
-    let nine = bytes_of(alloc, NINE)?;
+    let args = payload(rt.alloc(), &[Datum::Unsigned(9)])?;
+    let empty = bytes_of(rt.alloc(), EMPTY)?;
+    let nine = bytes_of(rt.alloc(), NINE)?;
+    holds(&rt, rt.alloc(), empty.as_slice(), nine.as_slice(), &args)
+}
+
+/// A full ring of one place hands the second packet back, and a call with these arguments leaves the third behind.
+fn holds(
+    rt: &impl Abort,
+    alloc: Global,
+    empty: &[u8],
+    nine: &[u8],
+    args: &Args,
+) -> Result<(), Fail> {
     let (back_end, mut ring_end) = ring(alloc, 1, 16)?;
     let mut stream = stream(alloc, back_end)?;
     assert!(rt; makes_empty(&mut stream));
     assert!(rt; makes_empty(&mut stream));
-    let answers = answers(&mut stream, &mut ring_end, empty.as_slice(), &args);
+    are_of_a_full_ring(rt, answers(&mut stream, &mut ring_end, empty, args));
+    assert!(rt; leaves(stream, nine));
+    assert!(rt; ends(&mut ring_end, empty));
+    Ok(())
+}
+
+fn are_of_a_full_ring(rt: &impl Abort, answers: (PacketAnswer, Verdict, bool, Verdict)) {
     let lost = Verdict::Discarded(Why::BackEndFull);
     assert_eq!(rt;
         answers,
         (PacketAnswer::Full, lost, true, Verdict::Accepted(None))
     );
-    assert!(rt; leaves(stream, nine.as_slice()));
-    assert!(rt; ends(&mut ring_end, empty.as_slice()));
-    Ok(())
 }
 
 /// A closed packet of 16 bytes with this number.
 pub fn packet(alloc: Global, number: u64) -> Result<Packet, Fail> {
     let args = payload(alloc, &[Datum::Unsigned(number)])?;
-    let mut stream = stream(alloc, ListBackEnd::new(alloc, 1, 16)?)?;
-    stream.trace(0, &args);
+    let mut stream = list_stream(alloc)?;
+    closed_packet(&mut stream, &args)
+}
+
+fn closed_packet(stream: &mut ListStream, args: &Args) -> Result<Packet, Fail> {
+    stream.trace(0, args);
     stream.close_packet();
     Ok(stream.take().ok_or("no packet")?)
 }
@@ -159,21 +196,36 @@ fn hands(alloc: Global, back_end: &mut RingBackEnd, number: u64) -> Result<bool,
     Ok(back_end.hand_over(packet).is_ok())
 }
 
+/// Each of three packets is taken or handed back.
+fn hands_three(rt: &impl Abort, alloc: Global, back_end: &mut RingBackEnd) -> Result<(), Fail> {
+    for (number, want) in [(1, true), (2, true), (3, false)] {
+        is_handed(rt, number, hands(alloc, back_end, number)?, want);
+    }
+    Ok(())
+}
+
+fn is_handed(rt: &impl Abort, number: u64, found: bool, want: bool) {
+    assert_eq!(rt; found, want, "packet {number}");
+}
+
 #[test]
 fn hands_back_a_packet_while_its_places_are_taken(rt: HostRuntime) -> Result<(), Fail> {
-    let alloc = rt.alloc();
-    let first = bytes_of(alloc, FIRST)?;
-    let second = bytes_of(alloc, SECOND)?;
+    let first = bytes_of(rt.alloc(), FIRST)?;
+    let second = bytes_of(rt.alloc(), SECOND)?;
+    hands_back_a_third(&rt, rt.alloc(), first.as_slice(), second.as_slice())
+}
+
+/// A ring of two places has these two packets, and no third.
+fn hands_back_a_third(
+    rt: &impl Abort,
+    alloc: Global,
+    first: &[u8],
+    second: &[u8],
+) -> Result<(), Fail> {
     let (mut back_end, mut ring_end) = ring(alloc, 2, 16)?;
-    for (number, want) in [(1, true), (2, true), (3, false)] {
-        assert_eq!(rt;
-            hands(alloc, &mut back_end, number)?,
-            want,
-            "packet {number}"
-        );
-    }
-    assert!(rt; takes(&mut ring_end, first.as_slice()));
-    assert!(rt; takes(&mut ring_end, second.as_slice()));
+    hands_three(rt, alloc, &mut back_end)?;
+    assert!(rt; takes(&mut ring_end, first));
+    assert!(rt; takes(&mut ring_end, second));
     assert!(rt; ring_end.take().is_none());
     Ok(())
 }

@@ -46,17 +46,17 @@ pub enum Source {
 /// The metadata text of this source.
 pub fn metadata_text(alloc: Global, source: Source) -> Result<String, Fail> {
     match source {
-        Source::Words(changes) => Ok(replaced(alloc, changes)?),
+        Source::Words(changes) => replaced(alloc, changes),
         Source::Written(text, changes, number) => written(alloc, text, changes, number),
     }
 }
 
-fn replaced(alloc: Global, changes: Changes) -> Result<String, AllocError> {
+fn replaced(alloc: Global, changes: Changes) -> Result<String, Fail> {
     let mut text = String::from_str(alloc, SMALL_METADATA)?;
     for (word, meaning) in changes {
         text = text.replace(alloc, *word, meaning)?;
     }
-    plain(alloc, text)
+    Ok(plain(alloc, text)?)
 }
 
 fn plain(alloc: Global, text: String) -> Result<String, AllocError> {
@@ -94,6 +94,12 @@ pub fn read(alloc: Global, metadata: &Metadata, bytes: &[u8]) -> Result<ReadStre
     read_stream(alloc, metadata, Text::from_str(alloc, "a")?, bytes)
 }
 
+/// How many stream types the metadata of this source has.
+pub fn stream_count(alloc: Global, source: Source) -> Result<usize, Fail> {
+    let metadata = metadata_of(alloc, source)?;
+    Ok(metadata.streams.len())
+}
+
 /// How many packets a reader finds in these bytes, and how they end.
 pub fn ending(
     alloc: Global,
@@ -120,11 +126,20 @@ pub fn all_tell(rt: &impl Abort, alloc: Global, tables: &[Table]) -> Result<(), 
 
 fn files_tell(rt: &impl Abort, alloc: Global, table: &Table) -> Result<(), Fail> {
     for line in table.2.trim().lines() {
-        let (shows, digits, want) = file_line(line).ok_or("a line without a file or an answer")?;
-        let found = told_of(alloc, table.0, table.1, digits)?;
-        assert_eq!(rt; found.as_str(), want, "{shows}");
+        file_tells(rt, alloc, table, line)?;
     }
     Ok(())
+}
+
+fn file_tells(rt: &impl Abort, alloc: Global, table: &Table, line: &str) -> Result<(), Fail> {
+    let (shows, digits, want) = file_line(line).ok_or("a line without a file or an answer")?;
+    let found = told_of(alloc, table.0, table.1, digits)?;
+    is_told(rt, shows, found.as_str(), want);
+    Ok(())
+}
+
+fn is_told(rt: &impl Abort, shows: &str, found: &str, want: &str) {
+    assert_eq!(rt; found, want, "{shows}");
 }
 
 /// What a file shows, its bytes in hexadecimal, and what is told of it.
@@ -137,7 +152,29 @@ fn file_line(line: &str) -> Option<(&str, &str, &str)> {
 /// What is told of a file in hexadecimal.
 pub fn told_of(alloc: Global, source: Source, what: Told, digits: &str) -> Result<String, Fail> {
     let metadata = metadata_of(alloc, source)?;
+    told_by(alloc, &metadata, what, digits)
+}
+
+fn told_by(alloc: Global, metadata: &Metadata, what: Told, digits: &str) -> Result<String, Fail>
+    requires { IsMetadata metadata.now }
+{
     let bytes = bytes_of(alloc, digits)?;
-    let read = read(alloc, &metadata, bytes.as_slice())?;
-    Ok(shown(alloc, what, &metadata, &read)?)
+    Ok(found(alloc, metadata, what, bytes.as_slice())?)
+}
+
+fn found(alloc: Global, metadata: &Metadata, what: Told, bytes: &[u8]) -> Result<String, AllocError>
+    requires { IsMetadata metadata.now }
+{
+    let read = read(alloc, metadata, bytes)?;
+    shown(alloc, what, metadata, &read)
+}
+
+/// How many packets a reader finds in these bytes by the metadata of this source, and how they end.
+pub fn ending_of(
+    alloc: Global,
+    source: Source,
+    bytes: &[u8],
+) -> Result<(usize, StreamEnding), Fail> {
+    let metadata = metadata_of(alloc, source)?;
+    Ok(ending(alloc, &metadata, bytes)?)
 }

@@ -74,9 +74,15 @@ pub type Row = (&'static str, Start, &'static [Round]);
 /// Each row runs over lists.
 pub fn all_run(rt: &impl Abort, alloc: Global, rows: &[Row]) -> Result<(), Fail> {
     for row in rows {
-        let back_end = list_back_end(alloc, &row.1)?;
-        runs(rt, alloc, back_end, row)?;
+        runs_over_a_list(rt, alloc, row)?;
     }
+    Ok(())
+}
+
+/// A row runs over a list.
+pub fn runs_over_a_list(rt: &impl Abort, alloc: Global, row: &Row) -> Result<(), Fail> {
+    let back_end = list_back_end(alloc, &row.1)?;
+    runs(rt, alloc, back_end, row)?;
     Ok(())
 }
 
@@ -87,11 +93,21 @@ pub fn runs<B: OwnBackEnd + Drop>(
     back_end: B,
     row: &Row,
 ) -> Result<Stream<ListClock, B>, Fail> {
-    let mut stream = made(alloc, &row.1, back_end)??;
-    for (times, steps) in row.2 {
-        repeats(rt, alloc, &mut stream, row.0, *times, steps)?;
-    }
+    let mut stream = made(alloc, &row.1, back_end)?;
+    takes_rounds(rt, alloc, &mut stream, row)?;
     Ok(stream)
+}
+
+fn takes_rounds<B: OwnBackEnd>(
+    rt: &impl Abort,
+    alloc: Global,
+    stream: &mut Stream<ListClock, B>,
+    row: &Row,
+) -> Result<(), Fail> {
+    for (times, steps) in row.2 {
+        repeats(rt, alloc, stream, row.0, *times, steps)?;
+    }
+    Ok(())
 }
 
 fn repeats<B: OwnBackEnd>(
@@ -116,10 +132,13 @@ fn takes_steps<B: OwnBackEnd>(
     steps: &[Step],
 ) -> Result<(), Fail> {
     for (number, step) in steps.iter().enumerate() {
-        let answers = answers(alloc, stream, step)?;
-        assert!(rt; answers, "{shows}: step {number}");
+        is_as_said(rt, shows, number, answers(alloc, stream, step)?);
     }
     Ok(())
+}
+
+fn is_as_said(rt: &impl Abort, shows: &str, number: usize, answers: bool) {
+    assert!(rt; answers, "{shows}: step {number}");
 }
 
 /// Whether a step answers what it says.
@@ -212,15 +231,31 @@ pub fn collects_any<B: OwnBackEnd>(stream: &mut Stream<ListClock, B>) -> bool {
     }
 }
 
-/// The stream, or why none is made.
-pub fn made<B: OwnBackEnd + Drop>(
+fn made<B: OwnBackEnd + Drop>(
     alloc: Global,
     start: &Start,
     back_end: B,
-) -> Result<Result<Stream<ListClock, B>, StreamFault>, Fail> {
+) -> Result<Stream<ListClock, B>, Fail> {
     let config = configuration(alloc, start)?;
     let (clock, extras) = parts(alloc, start)?;
-    Ok(begun(alloc, start, &config, clock, back_end, extras))
+    match begun(alloc, start, &config, clock, back_end, extras) {
+        Ok(stream) => Ok(stream),
+        Err(fault) => Err(Fail::new(fault)),
+    }
+}
+
+/// Why no stream over a list is made, where none is.
+pub fn start_fault(alloc: Global, start: &Start) -> Result<Option<StreamFault>, Fail> {
+    let config = configuration(alloc, start)?;
+    fault_by(alloc, start, &config)
+}
+
+fn fault_by(alloc: Global, start: &Start, config: &Config) -> Result<Option<StreamFault>, Fail>
+    requires { IsConfig config.now }
+{
+    let back_end = list_back_end(alloc, start)?;
+    let (clock, extras) = parts(alloc, start)?;
+    Ok(begun(alloc, start, config, clock, back_end, extras).err())
 }
 
 /// A clock of the readings, and the extra members.
@@ -261,6 +296,7 @@ fn configuration(alloc: Global, start: &Start) -> Result<Config, Fail>
     configured(alloc, text.as_str(), start.number)
 }
 
+/// The buffers of the start, in a list.
 pub fn list_back_end(alloc: Global, start: &Start) -> Result<ListBackEnd, Fail> {
     let buffers = start.buffers;
     let bytes = start.bytes;

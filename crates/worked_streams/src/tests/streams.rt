@@ -1,10 +1,11 @@
 //! Streams: what each call answers, and the bytes of the packets.
 
 use crate::tests::stream_steps::{
-    Round, Row, START, Start, Step, all_run, list_back_end, made, runs,
+    Round, Row, START, Start, Step, all_run, list_back_end, runs, start_fault,
 };
 use ctf_types::ArgFault;
 use std::alloc::Global;
+use std::process::Abort;
 use std::test::Fail;
 use thread_stream::{PacketAnswer, Stream, StreamFault, Verdict, Why};
 use trace_platform::{ListBackEnd, ListClock, PacketSource, Script, ScriptedBackEnd, Turn};
@@ -291,13 +292,20 @@ static HANDED_BACK: Row = (
 
 #[test]
 fn holds_a_packet_that_comes_back(rt: HostRuntime) -> Result<(), Fail> {
-    let alloc = rt.alloc();
-    let looking = Script::new(Vec::new(alloc));
-    let handing = Script::new(Vec::from_slice(alloc, &[Turn::Fails])?);
-    let list = list_back_end(alloc, &HANDED_BACK.1)?;
-    let back_end = ScriptedBackEnd::new(list, looking, handing);
-    runs(&rt, alloc, back_end, &HANDED_BACK)?;
+    runs_handed_back(&rt, rt.alloc())
+}
+
+fn runs_handed_back(rt: &impl Abort, alloc: Global) -> Result<(), Fail> {
+    runs(rt, alloc, handing_back(alloc)?, &HANDED_BACK)?;
     Ok(())
+}
+
+/// A list that hands the first packet back.
+fn handing_back(alloc: Global) -> Result<ScriptedBackEnd, Fail> {
+    let fails = Vec::from_slice(alloc, &[Turn::Fails])?;
+    let list = list_back_end(alloc, &HANDED_BACK.1)?;
+    let looking = Script::new(Vec::new(alloc));
+    Ok(ScriptedBackEnd::new(list, looking, Script::new(fails)))
 }
 
 /// Two event records in a packet that stays open.
@@ -315,15 +323,16 @@ static UNFINISHED: Row = (
 
 #[test]
 fn finishes_an_open_packet(rt: HostRuntime) -> Result<(), Fail> {
-    let stream = runs(
-        &rt,
-        rt.alloc(),
-        list_back_end(rt.alloc(), &START)?,
-        &UNFINISHED,
-    )?;
     let bytes = bytes_of(rt.alloc(), "c11ffcc1 80000000 70000000 01020000")?;
-    assert!(rt; hands_over_at_the_end(stream, bytes.as_slice()));
+    assert!(rt; finishes(&rt, rt.alloc(), bytes.as_slice())?);
     Ok(())
+}
+
+/// Whether the unfinished stream hands these bytes over at its end.
+fn finishes(rt: &impl Abort, alloc: Global, bytes: &[u8]) -> Result<bool, Fail> {
+    let back_end = list_back_end(alloc, &START)?;
+    let stream = runs(rt, alloc, back_end, &UNFINISHED)?;
+    Ok(hands_over_at_the_end(stream, bytes))
 }
 
 /// Whether the stream's end leaves no packet, and hands one of these bytes over.
@@ -371,13 +380,11 @@ static STARTS: &[(Start, Option<StreamFault>)] = &[
 #[test]
 fn refuses_to_start(rt: HostRuntime) -> Result<(), Fail> {
     for (start, fault) in STARTS {
-        let found = start_fault(rt.alloc(), start)?;
-        assert_eq!(rt; found, *fault, "{fault:?}");
+        is_refused(&rt, start_fault(rt.alloc(), start)?, *fault);
     }
     Ok(())
 }
 
-fn start_fault(alloc: Global, start: &Start) -> Result<Option<StreamFault>, Fail> {
-    let back_end = list_back_end(alloc, start)?;
-    Ok(made(alloc, start, back_end)?.err())
+fn is_refused(rt: &impl Abort, found: Option<StreamFault>, fault: Option<StreamFault>) {
+    assert_eq!(rt; found, fault, "{fault:?}");
 }

@@ -8,6 +8,7 @@ use crate::tests::stream_files::{metadata_of as read_back, read};
 use ctf_types::{Config, Metadata, Text};
 use packet_reader::{ReadStop, ReadStream, StreamEnding, read_stream_from};
 use std::alloc::Global;
+use std::process::Abort;
 use std::test::Fail;
 use tsdl_reader::read_metadata;
 use tsdl_writer::write_metadata;
@@ -29,9 +30,14 @@ fn counts(alloc: Global, text: &str) -> Result<(usize, usize), Fail> {
             if said.as_str() != OUT_OF_MEMORY {
                 return Err(Fail::new(fault.kind));
             }
-            Ok(counted(&at_last(read_metadata(alloc, text.as_bytes()))?))
+            counts_at_last(alloc, text)
         }
     }
+}
+
+fn counts_at_last(alloc: Global, text: &str) -> Result<(usize, usize), Fail> {
+    let metadata = at_last(read_metadata(alloc, text.as_bytes()))?;
+    Ok(counted(&metadata))
 }
 
 fn counted(metadata: &Metadata) -> (usize, usize) {
@@ -40,15 +46,21 @@ fn counted(metadata: &Metadata) -> (usize, usize) {
 
 #[test]
 fn writes_and_reads_metadata(rt: HostRuntime) -> Result<(), Fail> {
-    let config = configuration(rt.alloc(), CLOCKED)?;
-    let written = written(rt.alloc(), &config)?;
+    let written = written_of_clocked(rt.alloc())?;
     let counts = counts(rt.alloc(), written.as_str())?;
     assert_eq!(rt; counts, (1, 1));
     Ok(())
 }
 
+fn written_of_clocked(alloc: Global) -> Result<String, Fail> {
+    let config = configuration(alloc, CLOCKED)?;
+    written(alloc, &config)
+}
+
 /// How many packets the stream file has, how it ends, and whether its clock is `clk`.
-fn seen(read: &ReadStream) -> (usize, StreamEnding, bool) {
+type Seen = (usize, StreamEnding, bool);
+
+fn seen(read: &ReadStream) -> Seen {
     let clock = read.clock.as_ref().map_or("", |name| name.as_str());
     (read.packets.len(), read.end, clock == "clk")
 }
@@ -89,10 +101,30 @@ fn bytes(alloc: Global) -> Result<Vec<u8>, Fail> {
 #[test]
 fn reads_a_stream_file(rt: HostRuntime) -> Result<(), Fail> {
     let metadata = read_back(rt.alloc(), METADATA)?;
-    let bytes = bytes(rt.alloc())?;
-    let first = seen(&stream_of(rt.alloc(), &metadata, bytes.as_slice())?);
-    let second = seen(&stream_from(rt.alloc(), &metadata, bytes.as_slice())?);
+    reads_twice(&rt, rt.alloc(), &metadata)
+}
+
+fn reads_twice(rt: &impl Abort, alloc: Global, metadata: &Metadata) -> Result<(), Fail>
+    requires { IsMetadata metadata.now }
+{
+    let bytes = bytes(alloc)?;
+    let first = seen_at_once(alloc, metadata, bytes.as_slice())?;
+    let second = seen_in_turn(alloc, metadata, bytes.as_slice())?;
     let want = (1, StreamEnding::Torn(64), true);
     assert_eq!(rt; (first, second), (want, want));
     Ok(())
+}
+
+fn seen_at_once(alloc: Global, metadata: &Metadata, bytes: &[u8]) -> Result<Seen, Fail>
+    requires { IsMetadata metadata.now }
+{
+    let read = stream_of(alloc, metadata, bytes)?;
+    Ok(seen(&read))
+}
+
+fn seen_in_turn(alloc: Global, metadata: &Metadata, bytes: &[u8]) -> Result<Seen, Fail>
+    requires { IsMetadata metadata.now }
+{
+    let read = stream_from(alloc, metadata, bytes)?;
+    Ok(seen(&read))
 }

@@ -75,14 +75,37 @@ fn collected(collector: &mut Collector<MemorySink>, ring_end: &mut RingEnd) -> C
 
 #[test]
 fn collects_a_packet_over_a_ring(rt: HostRuntime) -> Result<(), Fail> {
-    let alloc = rt.alloc();
+    let answers = answers(rt.alloc())?;
+    assert_eq!(rt; answers, (true, Collected::Took(0)));
+    Ok(())
+}
+
+/// Whether a packet without event records is made, and what is answered to its collection.
+fn answers(alloc: Global) -> Result<(bool, Collected), Fail> {
     let text = changed(alloc, SMALL, &[])?;
     let config = configuration(alloc, text.as_str())?;
+    answers_by(alloc, &config)
+}
+
+fn answers_by(alloc: Global, config: &Config) -> Result<(bool, Collected), Fail>
+    requires { IsConfig config.now }
+{
     let mut collector = collector(alloc)?;
-    let (back_end, mut ring_end) = both_ends(alloc)?;
-    let mut stream = begun(alloc, &config, back_end)?;
+    let (back_end, ring_end) = both_ends(alloc)?;
+    answers_over(alloc, config, &mut collector, back_end, ring_end)
+}
+
+fn answers_over(
+    alloc: Global,
+    config: &Config,
+    collector: &mut Collector<MemorySink>,
+    back_end: RingBackEnd,
+    mut ring_end: RingEnd,
+) -> Result<(bool, Collected), Fail>
+    requires config { IsConfig config.now }
+    requires sink { 0 < length collector.old }
+{
+    let mut stream = begun(alloc, config, back_end)?;
     let made = makes_empty(&mut stream);
-    let answer = collected(&mut collector, &mut ring_end);
-    assert_eq!(rt; (made, answer), (true, Collected::Took(0)));
-    Ok(())
+    Ok((made, collected(collector, &mut ring_end)))
 }

@@ -1,42 +1,64 @@
 //! Readers of stream files. A reader that stopped for want of memory answers the same from then on.
 
+ghost use Rattle.ctf_types.specs.Allowed.{IsMetadata};
+
 use super::super::{FILE, METADATA, OUT_OF_MEMORY};
 use crate::tests::packet_by_packet::next_records;
 use crate::tests::stream_files::metadata_of;
-use ctf_types::Text;
+use ctf_types::{Metadata, Text};
 use packet_reader::{ReadStop, StreamEnding, StreamReader};
-use std::io::Read;
+use std::alloc::Global;
 use std::process::Abort;
 use std::test::Fail;
 use worked_fixtures::bytes_of;
 
 /// The next packet, or None; where memory is wanting each later call says so too, and no end is told.
-fn goes_on<R: Read>(
+fn goes_on(
     rt: &impl Abort,
-    reader: &mut StreamReader<'_, R>,
+    reader: &mut StreamReader<'_, &[u8]>,
     want: Option<usize>,
 ) -> Result<(), Fail> {
     let answer = next_records(reader);
     if answer == Err(ReadStop::OutOfMemory) {
-        for _ in 0..3 {
-            assert_eq!(rt; next_records(reader), answer);
-        }
-        assert_eq!(rt; reader.end(), None);
+        stays_stopped(rt, reader);
         return Err(Fail::new(OUT_OF_MEMORY));
     }
-    assert_eq!(rt; answer, Ok(want));
+    is_answered(rt, answer, Ok(want));
     Ok(())
+}
+
+fn stays_stopped(rt: &impl Abort, reader: &mut StreamReader<'_, &[u8]>) {
+    for _ in 0..3 {
+        is_answered(rt, next_records(reader), Err(ReadStop::OutOfMemory));
+    }
+    assert_eq!(rt; reader.end(), None);
+}
+
+/// How many records a packet has, no packet, or a stop.
+type Records = Result<Option<usize>, ReadStop>;
+
+fn is_answered(rt: &impl Abort, found: Records, want: Records) {
+    assert_eq!(rt; found, want);
 }
 
 #[test]
 fn reads_packet_by_packet(rt: HostRuntime) -> Result<(), Fail> {
-    let alloc = rt.alloc();
-    let metadata = metadata_of(alloc, METADATA)?;
+    let metadata = metadata_of(rt.alloc(), METADATA)?;
+    reads_by(&rt, rt.alloc(), &metadata)
+}
+
+fn reads_by(rt: &impl Abort, alloc: Global, metadata: &Metadata) -> Result<(), Fail>
+    requires { IsMetadata metadata.now }
+{
     let bytes = bytes_of(alloc, FILE)?;
     let name = Text::from_str(alloc, "t0")?;
-    let mut reader = StreamReader::new(alloc, &metadata, name, bytes.as_slice());
+    let mut reader = StreamReader::new(alloc, metadata, name, bytes.as_slice());
+    reads_to_the_end(rt, &mut reader)
+}
+
+fn reads_to_the_end(rt: &impl Abort, reader: &mut StreamReader<'_, &[u8]>) -> Result<(), Fail> {
     for want in [Some(2), None, None] {
-        goes_on(&rt, &mut reader, want)?;
+        goes_on(rt, reader, want)?;
     }
     assert_eq!(rt; reader.end(), Some(StreamEnding::Whole));
     Ok(())
