@@ -5,8 +5,7 @@ ghost use Rattle.ctf_types.specs.Allowed.{IsMetadata};
 
 use crate::tests::expected::same;
 use crate::tests::failing_readers::{Failing, named_input};
-use crate::tests::printed_traces;
-use crate::tests::printed_traces::{Row, TRACES, metadata_of, trace_of};
+use crate::tests::printed_traces::{Row, TRACES, metadata_of, printed_whole, trace_of};
 use ctf_types::Metadata;
 use packet_reader::ReadStop;
 use std::alloc::{AllocError, Global};
@@ -47,10 +46,21 @@ fn printed(
     room: usize,
 ) -> Result<Printed, Fail> {
     let (text, changes, files, _) = row;
-    let metadata = known(alloc, text, changes)?;
     let streams = inputs(alloc, files, fails)?;
+    let metadata = known(alloc, text, changes)?;
+    printed_into(alloc, &metadata, streams, room)
+}
+
+fn printed_into(
+    alloc: Global,
+    metadata: &Metadata,
+    streams: Vec<(String, Failing)>,
+    room: usize,
+) -> Result<Printed, Fail>
+    requires { IsMetadata metadata.now }
+{
     let mut writer = StoppingWriter::new(alloc, room, 7);
-    let answer = print_trace_from(alloc, &metadata, streams, &mut writer);
+    let answer = print_trace_from(alloc, metadata, streams, &mut writer);
     match String::from_utf8(writer.bytes) {
         Ok(said) => Ok((said, answer)),
         Err(fault) => Err(Fail::new(fault)),
@@ -87,8 +97,7 @@ fn known(alloc: Global, text: &str, changes: Changes) -> Result<Metadata, Fail>
 fn prints_what_is_printed_of_the_trace(rt: HostRuntime) -> Result<(), Fail> {
     for row in TRACES {
         let (said, files) = all_printed(rt.alloc(), *row)?;
-        let trace = trace_of(rt.alloc(), row.0, row.1, row.2)?;
-        let expected = shown_trace(rt.alloc(), &trace)?;
+        let expected = shown_whole(rt.alloc(), *row)?;
         same(&rt, files.as_str(), expected.as_str(), row.2);
         same(&rt, said.as_str().trim(), row.3.trim(), row.2);
     }
@@ -117,6 +126,12 @@ fn shown_files(alloc: Global, files: &[PrintedFile]) -> Result<String, AllocErro
     Ok(text)
 }
 
+/// The same of the trace that is read of a row's files.
+fn shown_whole(alloc: Global, row: Row) -> Result<String, Fail> {
+    let trace = trace_of(alloc, row.0, row.1, row.2)?;
+    Ok(shown_trace(alloc, &trace)?)
+}
+
 fn shown_trace(alloc: Global, trace: &ReadTrace) -> Result<String, AllocError> {
     let mut text = String::new(alloc);
     for stream in trace.streams.as_slice() {
@@ -129,8 +144,7 @@ fn shown_trace(alloc: Global, trace: &ReadTrace) -> Result<String, AllocError> {
 #[test]
 fn tells_files_in_turns(rt: HostRuntime) -> Result<(), Fail> {
     let (text, changes, files, want) = IN_TURNS;
-    let trace = trace_of(rt.alloc(), text, changes, files)?;
-    let expected = printed_traces::printed(rt.alloc(), &trace)?;
+    let expected = printed_whole(rt.alloc(), text, changes, files)?;
     let (said, _files) = all_printed(rt.alloc(), IN_TURNS)?;
     same(&rt, said.as_str(), expected.as_str(), files);
     same(&rt, said.as_str().trim(), want.trim(), files);

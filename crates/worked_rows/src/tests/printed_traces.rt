@@ -2,6 +2,7 @@
 
 use crate::tests::expected::same;
 use std::alloc::Global;
+use std::process::Abort;
 use std::test::Fail;
 use trace_platform::StoppingWriter;
 use trace_stack::{ReadTrace, read_trace};
@@ -110,15 +111,25 @@ stream a: packets 1, records 2, discarded -, gaps -, end Whole
 #[test]
 fn prints_what_was_read(rt: HostRuntime) -> Result<(), Fail> {
     for (text, changes, files, want) in TRACES {
-        let trace = trace_of(rt.alloc(), text, changes, files)?;
-        let printed = printed(rt.alloc(), &trace)?;
+        let printed = printed_whole(rt.alloc(), text, changes, files)?;
         same(&rt, printed.as_str().trim(), want.trim(), *files);
     }
     Ok(())
 }
 
+/// What is printed of a trace that is read of these files.
+pub fn printed_whole(
+    alloc: Global,
+    text: &str,
+    changes: Changes,
+    files: &str,
+) -> Result<String, Fail> {
+    let trace = trace_of(alloc, text, changes, files)?;
+    printed(alloc, &trace)
+}
+
 /// What is printed of a trace.
-pub fn printed(alloc: Global, trace: &ReadTrace) -> Result<String, Fail> {
+fn printed(alloc: Global, trace: &ReadTrace) -> Result<String, Fail> {
     let mut writer = StoppingWriter::new(alloc, usize::MAX, 7);
     print_trace(alloc, trace, &mut writer)?;
     Ok(String::from_utf8(writer.bytes)?)
@@ -129,13 +140,18 @@ fn a_writer_that_stops_has_a_front_of_the_text(rt: HostRuntime) -> Result<(), Fa
     let (text, changes, files, want) = TRACES[1];
     let trace = trace_of(rt.alloc(), text, changes, files)?;
     for room in [0, 1, 17, 18, 101] {
-        let mut writer = StoppingWriter::new(rt.alloc(), room, 16);
-        let answer = print_trace(rt.alloc(), &trace, &mut writer);
-        same(&rt, answer.err(), Some(PrintFault::Writer), room);
-        let front = want.trim_start().as_bytes().get(..room);
-        same(&rt, Some(writer.bytes.as_slice()), front, room);
+        has_a_front(&rt, rt.alloc(), &trace, want.trim_start(), room);
     }
     Ok(())
+}
+
+/// A writer with so much room has a front of the text of the trace.
+fn has_a_front(rt: &impl Abort, alloc: Global, trace: &ReadTrace, want: &str, room: usize) {
+    let mut writer = StoppingWriter::new(alloc, room, 16);
+    let answer = print_trace(alloc, trace, &mut writer);
+    same(rt, answer.err(), Some(PrintFault::Writer), room);
+    let front = want.as_bytes().get(..room);
+    same(rt, Some(writer.bytes.as_slice()), front, room);
 }
 
 pub fn trace_of(

@@ -11,8 +11,9 @@ use ctf_types::Config;
 use std::alloc::Global;
 use std::test::Fail;
 use trace_platform::{ListBackEnd, ListClock};
-use trace_stack::Event;
+use trace_stack::{Answer, Event};
 use trace_text::read_script;
+use tsdl_writer::write_metadata;
 use worked_fixtures::{CLOCKED, configuration, granted};
 
 /// What a call says that is out of memory, whatever it has for that itself.
@@ -44,6 +45,12 @@ fn clocked(alloc: Global) -> Result<Config, Fail>
     configuration(alloc, CLOCKED)
 }
 
+/// The configuration's metadata.
+fn metadata_text(alloc: Global) -> Result<String, Fail> {
+    let config = clocked(alloc)?;
+    granted(write_metadata(alloc, &config))
+}
+
 fn clock(alloc: Global, readings: &[u64]) -> Result<ListClock, Fail> {
     let readings = granted(Vec::from_slice(alloc, readings))?;
     Ok(ListClock::new(readings).ok_or("readings that fall")?)
@@ -54,6 +61,21 @@ fn two_buffers(alloc: Global) -> Result<ListBackEnd, Fail>
     ensures { IfOk result (λ b. b.waiting ≡ []) }
 {
     Ok(ListBackEnd::new(alloc, 2, 64)?)
+}
+
+/// The stream's file under its name.
+fn one_file(alloc: Global, bytes: Vec<u8>) -> Result<Vec<(String, Vec<u8>)>, Fail> {
+    let name = granted(String::from_str(alloc, "t0"))?;
+    let mut files = Vec::new(alloc);
+    if files.push((name, bytes)).is_err() {
+        return Err(Fail::new(OUT_OF_MEMORY));
+    }
+    Ok(files)
+}
+
+/// Answers in words.
+fn shown(alloc: Global, answers: &[Answer]) -> Result<String, Fail> {
+    granted(format!(in alloc; "{answers:?}"))
 }
 
 /// The events of the script.

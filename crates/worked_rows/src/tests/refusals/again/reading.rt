@@ -1,6 +1,6 @@
 //! Calls that read scripts and whole traces, and print them.
 
-use super::super::{FILE, OUT_OF_MEMORY, PRINTED, SCRIPT, clocked};
+use super::super::{FILE, OUT_OF_MEMORY, PRINTED, SCRIPT, metadata_text, one_file};
 use crate::tests::expected::same;
 use conf_check::configure;
 use ctf_types::Config;
@@ -9,7 +9,6 @@ use std::process::Abort;
 use std::test::Fail;
 use trace_stack::{ReadTrace, TraceFault, read_trace, read_trace_from};
 use trace_text::{PrintFault, Script, ScriptFaultKind, print_trace, read_script};
-use tsdl_writer::write_metadata;
 use worked_fixtures::{CLOCKED, bytes_of, granted};
 
 /// A call was refused for want of memory twice.
@@ -98,7 +97,7 @@ fn printed(rt: &impl Abort, alloc: Global, trace: &ReadTrace) -> Result<Vec<u8>,
 
 #[test]
 fn reads_and_prints_a_trace(rt: HostRuntime) -> Result<(), Fail> {
-    let metadata = granted(write_metadata(rt.alloc(), &clocked(rt.alloc())?))?;
+    let metadata = metadata_text(rt.alloc())?;
     prints_from_a_reader(&rt, rt.alloc(), metadata.as_str())?;
     prints_from_bytes(&rt, rt.alloc(), metadata.as_str())
 }
@@ -106,25 +105,18 @@ fn reads_and_prints_a_trace(rt: HostRuntime) -> Result<(), Fail> {
 fn prints_from_a_reader(rt: &impl Abort, alloc: Global, metadata: &str) -> Result<(), Fail> {
     let bytes = bytes_of(alloc, FILE)?;
     let trace = trace_from(alloc, metadata, bytes.as_slice())?;
-    let text = printed(rt, alloc, &trace)?;
-    same(rt, text.as_slice(), PRINTED.as_bytes(), "from a reader");
-    Ok(())
+    prints(rt, alloc, &trace, "from a reader")
 }
 
 fn prints_from_bytes(rt: &impl Abort, alloc: Global, metadata: &str) -> Result<(), Fail> {
-    let files = one_file(alloc)?;
+    let files = one_file(alloc, bytes_of(alloc, FILE)?)?;
     let trace = trace_of(alloc, metadata, &files)?;
-    let text = printed(rt, alloc, &trace)?;
-    same(rt, text.as_slice(), PRINTED.as_bytes(), "from bytes");
-    Ok(())
+    prints(rt, alloc, &trace, "from bytes")
 }
 
-fn one_file(alloc: Global) -> Result<Vec<(String, Vec<u8>)>, Fail> {
-    let bytes = bytes_of(alloc, FILE)?;
-    let name = granted(String::from_str(alloc, "t0"))?;
-    let mut files = Vec::new(alloc);
-    if files.push((name, bytes)).is_err() {
-        return Err(Fail::new(OUT_OF_MEMORY));
-    }
-    Ok(files)
+/// All of the trace is printed.
+fn prints(rt: &impl Abort, alloc: Global, trace: &ReadTrace, row: &str) -> Result<(), Fail> {
+    let text = printed(rt, alloc, trace)?;
+    same(rt, text.as_slice(), PRINTED.as_bytes(), row);
+    Ok(())
 }

@@ -2,7 +2,7 @@
 
 ghost use Rattle.std.specs.Prelude.{◌≡◌, []};
 
-use super::super::{ANSWERS, FILE, clock, clocked, events, two_buffers};
+use super::super::{ANSWERS, FILE, clock, clocked, events, shown, two_buffers};
 use crate::tests::expected::same;
 use crate::tests::session_steps::are_below;
 use ctf_types::Values;
@@ -123,12 +123,25 @@ fn ran(rt: &impl Abort, alloc: Global) -> Result<Listed, Fail> {
     let config = clocked(alloc)?;
     let events = events(alloc, &config)?;
     let mut session = Session::new(alloc, config);
-    adds(alloc, &mut session)?;
-    has_metadata(rt, &session)?;
-    let answers = runs(&mut session, events.as_slice())?;
-    let found = granted(format!(in alloc; "{:?}", answers.as_slice()))?;
+    match drives(rt, alloc, &mut session, events.as_slice()) {
+        Ok(()) => Ok(session),
+        Err(fault) => Err(fault),
+    }
+}
+
+/// The session takes the script's stream and answers its events.
+fn drives(
+    rt: &impl Abort,
+    alloc: Global,
+    session: &mut Listed,
+    events: &[Event],
+) -> Result<(), Fail> {
+    adds(alloc, session)?;
+    has_metadata(rt, session)?;
+    let answers = runs(session, events)?;
+    let found = shown(alloc, answers.as_slice())?;
     same(rt, found.as_str(), ANSWERS, "answers");
-    Ok(session)
+    Ok(())
 }
 
 fn has_metadata(rt: &impl Abort, session: &Listed) -> Result<(), Fail> {

@@ -1,7 +1,8 @@
 //! A script that is read, run, read back and printed.
 
 use super::super::{
-    ANSWERS, FAULTED, FILE, OUT_OF_MEMORY, PRINTED, clock, clocked, events, two_buffers,
+    ANSWERS, FAULTED, FILE, OUT_OF_MEMORY, PRINTED, clock, clocked, events, one_file, shown,
+    two_buffers,
 };
 use crate::tests::expected::same;
 use crate::tests::session_steps::are_below;
@@ -29,6 +30,15 @@ fn started(alloc: Global) -> Result<Listed, Fail> {
     }
 }
 
+/// What the events answer, in words.
+fn answered(alloc: Global, session: &mut Listed, events: &[Event]) -> Result<String, Fail> {
+    if !are_below(events, session.stream_count()) {
+        return Err("no such stream".into());
+    }
+    let answers = granted(run_events(session, events))?;
+    shown(alloc, answers.as_slice())
+}
+
 /// Whether the sink had no memory: else each event is answered as ever.
 fn runs(
     rt: &impl Abort,
@@ -36,11 +46,7 @@ fn runs(
     session: &mut Listed,
     events: &[Event],
 ) -> Result<bool, Fail> {
-    if !are_below(events, session.stream_count()) {
-        return Err("no such stream".into());
-    }
-    let answers = granted(run_events(session, events))?;
-    let found = granted(format!(in alloc; "{:?}", answers.as_slice()))?;
+    let found = answered(alloc, session, events)?;
     let faulted = found.as_str() == FAULTED;
     let expected = if faulted { FAULTED } else { ANSWERS };
     same(rt, found.as_str(), expected, "answers");
@@ -70,16 +76,11 @@ fn file_of(rt: &impl Abort, session: Listed, faulted: bool) -> Result<Vec<u8>, F
 
 /// What is printed of the trace of this file. Where memory is wanting, a front of it is.
 fn prints(rt: &impl Abort, alloc: Global, metadata: &str, file: Vec<u8>) -> Result<(), Fail> {
-    let mut files = Vec::new(alloc);
-    let name = granted(String::from_str(alloc, "t0"))?;
-    if files.push((name, file)).is_err() {
-        return Err(Fail::new(OUT_OF_MEMORY));
+    let files = one_file(alloc, file)?;
+    match read_trace(alloc, metadata.as_bytes(), &files) {
+        Ok(trace) => is_printed(rt, alloc, &trace),
+        Err(fault) => Err(Fail::new(fault)),
     }
-    let trace = match read_trace(alloc, metadata.as_bytes(), &files) {
-        Ok(trace) => trace,
-        Err(fault) => return Err(Fail::new(fault)),
-    };
-    is_printed(rt, alloc, &trace)
 }
 
 fn is_printed(rt: &impl Abort, alloc: Global, trace: &ReadTrace) -> Result<(), Fail> {
@@ -100,12 +101,38 @@ fn is_printed(rt: &impl Abort, alloc: Global, trace: &ReadTrace) -> Result<(), F
 #[test]
 fn runs_a_script_and_prints_its_trace(rt: HostRuntime) -> Result<(), Fail> {
     let alloc = rt.alloc();
-    let mut session = started(alloc)?;
-    let metadata = granted(session.metadata())?;
-    let events = events(alloc, &clocked(alloc)?)?;
-    let want = bytes_of(alloc, FILE)?;
-    let faulted = runs(&rt, alloc, &mut session, events.as_slice())?;
-    let file = file_of(&rt, session, faulted)?;
-    same(&rt, file.as_slice(), want.as_slice(), "the file");
+    let (metadata, file) = recorded(&rt, alloc, started(alloc)?)?;
+    has_all(&rt, alloc, file.as_slice())?;
     prints(&rt, alloc, metadata.as_str(), file)
+}
+
+/// The metadata of a session, and the stream's file behind the script's events.
+fn recorded(rt: &impl Abort, alloc: Global, session: Listed) -> Result<(String, Vec<u8>), Fail> {
+    let mut session = session;
+    let (metadata, faulted) = driven(rt, alloc, &mut session)?;
+    match file_of(rt, session, faulted) {
+        Ok(file) => Ok((metadata, file)),
+        Err(fault) => Err(fault),
+    }
+}
+
+/// The metadata of a session that runs the script's events, and whether its sink had no memory.
+fn driven(rt: &impl Abort, alloc: Global, session: &mut Listed) -> Result<(String, bool), Fail> {
+    let metadata = granted(session.metadata())?;
+    let events = script_events(alloc)?;
+    match runs(rt, alloc, session, events.as_slice()) {
+        Ok(faulted) => Ok((metadata, faulted)),
+        Err(fault) => Err(fault),
+    }
+}
+
+fn script_events(alloc: Global) -> Result<Vec<Event>, Fail> {
+    let config = clocked(alloc)?;
+    events(alloc, &config)
+}
+
+fn has_all(rt: &impl Abort, alloc: Global, file: &[u8]) -> Result<(), Fail> {
+    let want = bytes_of(alloc, FILE)?;
+    same(rt, file, want.as_slice(), "the file");
+    Ok(())
 }

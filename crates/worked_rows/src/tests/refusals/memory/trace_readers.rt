@@ -1,16 +1,15 @@
 //! A trace that is read from readers.
 
-use super::super::{FILE, OUT_OF_MEMORY, clocked};
+use super::super::{FILE, OUT_OF_MEMORY, metadata_text};
 use crate::tests::expected::same;
 use std::test::Fail;
 use trace_stack::{TraceFault, read_trace_from};
-use tsdl_writer::write_metadata;
 use worked_fixtures::{bytes_of, granted};
 
 #[test]
 fn reads_a_trace_from_readers(rt: HostRuntime) -> Result<(), Fail> {
     let alloc = rt.alloc();
-    let text = granted(write_metadata(alloc, &clocked(alloc)?))?;
+    let text = metadata_text(alloc)?;
     let bytes = bytes_of(alloc, FILE)?;
     let mut streams = Vec::new(alloc);
     let name = granted(String::from_str(alloc, "t0"))?;
