@@ -33,12 +33,15 @@ class Copy:
                 with open(f"{below}/{name}", encoding="utf-8") as it:
                     self.sources[os.path.relpath(f"{below}/{name}", self.folder)] = it.read()
         self.functions = functions_of(self.sources)
-        self.layout = Layout(self.sources, [])
+        self.layout = self.laid_out([])
         self.is_program = "src/main.rt" in self.sources
+
+    def laid_out(self, edits):
+        return Layout(self.sources, edits, f"{self.folder}/proofs")
 
     def lay_out(self, edits):
         """Gives each edit a copy of its function."""
-        self.layout = Layout(self.sources, edits)
+        self.layout = self.laid_out(edits)
         self.sources, self.functions = self.layout.sources, self.layout.functions
 
     def words(self, functions):

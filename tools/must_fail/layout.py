@@ -1,7 +1,8 @@
 """Each edit in a copy of its function, which stands behind the function under a name of its own. Nothing calls a copy, so the edits of a crate stand side
 by side: several of one function, and those of a function and of one that it calls. A copy has its function's clauses, and its proof is the function's under
-the new name; one copy without an edit shows that they are proved so. A trait's methods, functions that call themselves or stand in a cycle, and `main`
-have no copy: an edit of them stands in the function itself."""
+the new name. Where the function has a proof of its own, one copy without an edit shows that it is proved so; where it has none, a copy differs in its name
+alone, and the function itself is checked. A trait's methods, functions that call themselves or stand in a cycle, and `main` have no copy: an edit of them
+stands in the function itself."""
 import os
 import re
 
@@ -12,15 +13,20 @@ def can_be_copied(function):
     return not (function.trait or function.cycle or function.calls_itself or function.name == "main")
 
 
+def proof_of(path, proofs):
+    """Where the proof of a function lies, if it has one of its own."""
+    return f"{proofs}/{path.replace('::', '/')}"
+
+
 def renamed(line, name, new_name):
     """A line with a function's new name where it has the head of the function."""
     return re.sub(rf"\bfn {name}\b", f"fn {new_name}", line)
 
 
 class Layout:
-    """The sources of a crate with copies behind each function that an edit touches. The edits then speak of their copies."""
+    """The sources of a crate with copies behind each function that an edit touches. The edits then speak of their copies. The proofs lie in a folder."""
 
-    def __init__(self, sources, edits):
+    def __init__(self, sources, edits, proofs):
         # by a copy's path its function's; by edit (None for the copy without one) and function the copy's name, and the line where the copy begins
         self.copied, self.names, self.begins = {}, {}, {}
         # by place in the sources, where the line is now
@@ -28,7 +34,8 @@ class Layout:
         self.in_place = [edit for edit in edits if not all(map(can_be_copied, edit.functions))]
         for number, edit in enumerate(edits):
             for function in filter(can_be_copied, edit.functions):
-                self.names.setdefault((None, function), f"{function.name}_unedited")
+                if os.path.isdir(proof_of(function.path(), proofs)):
+                    self.names.setdefault((None, function), f"{function.name}_unedited")
                 self.names[edit, function] = f"{function.name}_edit_{number}"
         behind = {}
         for (edit, function), name in self.names.items():
@@ -71,7 +78,7 @@ class Layout:
     def copy_proofs(self, crate, folder):
         """Writes the proofs of the copies beside those of their functions, in this copy of the crate's folder."""
         for copy, path in self.copied.items():
-            own, other = (f"{folder}/proofs/{it.replace('::', '/')}" for it in (path, copy))
+            own, other = (proof_of(it, f"{folder}/proofs") for it in (path, copy))
             if not os.path.isdir(own):
                 continue
             names = [f"Rattle.{crate}.proofs.{it.replace('::', '.')}." for it in (path, copy)]
