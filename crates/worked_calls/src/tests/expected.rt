@@ -18,5 +18,5 @@ pub fn same_bytes(rt: &impl Abort, found: &[u8], expected: &[u8], what: &str) {
 
 /// What is said of a row holds.
 pub fn holds(rt: &impl Abort, is_so: bool, what: &str) {
-    assert!(rt; is_so, "{what}");
+    same(rt, is_so, true, what);
 }
