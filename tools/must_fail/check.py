@@ -33,15 +33,11 @@ class Copy:
                 with open(f"{below}/{name}", encoding="utf-8") as it:
                     self.sources[os.path.relpath(f"{below}/{name}", self.folder)] = it.read()
         self.functions = functions_of(self.sources)
-        self.layout = self.laid_out([])
         self.is_program = "src/main.rt" in self.sources
 
-    def laid_out(self, edits):
-        return Layout(self.sources, edits, f"{self.folder}/proofs")
-
     def lay_out(self, edits):
-        """Gives each edit a copy of its function."""
-        self.layout = self.laid_out(edits)
+        """Gives each edit a copy of its function, and takes by its contract what none touches."""
+        self.layout = Layout(self.sources, edits)
         self.sources, self.functions = self.layout.sources, self.layout.functions
 
     def words(self, functions):
@@ -77,7 +73,7 @@ class Copy:
             for part in PARTS:
                 if os.path.isdir(f"{self.folder}/{part}"):
                     shutil.copytree(f"{self.folder}/{part}", f"{copy}/{part}")
-            self.layout.copy_proofs(self.crate, copy)
+            self.layout.lay_out_proofs(self.crate, copy)
             for file, text in {**self.sources, **applied(edits, self.sources)}.items():
                 with open(f"{copy}/{file}", "w", encoding="utf-8") as it:
                     it.write(text)

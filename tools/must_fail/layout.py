@@ -1,11 +1,11 @@
 """Each edit in a copy of its function, which stands behind the function under a name of its own. Nothing calls a copy, so the edits of a crate stand side
 by side: several of one function, and those of a function and of one that it calls. A copy has its function's clauses, and its proof is the function's under
-the new name. Where the function has a proof of its own, one copy without an edit shows that it is proved so; where it has none, a copy differs in its name
-alone, and the function itself is checked. A trait's methods, functions that call themselves or stand in a cycle, and `main` have no copy: an edit of them
-stands in the function itself."""
+the new name; one copy without an edit shows that the function is proved so. A trait's methods, functions that call themselves or stand in a cycle, and
+`main` have no copy: an edit of them stands in the function itself. Every other function is taken by its contract."""
 import os
 import re
 
+from must_fail.by_contract import can_be_taken, leave_open, taken_by_contract
 from must_fail.source import functions_of
 
 
@@ -24,31 +24,44 @@ def renamed(line, name, new_name):
 
 
 class Layout:
-    """The sources of a crate with copies behind each function that an edit touches. The edits then speak of their copies. The proofs lie in a folder."""
+    """The sources of a crate with copies behind each function that an edit touches. The edits then speak of their copies."""
 
-    def __init__(self, sources, edits, proofs):
-        # by a copy's path its function's; by edit (None for the copy without one) and function the copy's name, and the line where the copy begins
-        self.copied, self.names, self.begins = {}, {}, {}
-        # by place in the sources, where the line is now
-        self.moved = {}
+    def __init__(self, sources, edits):
         self.in_place = [edit for edit in edits if not all(map(can_be_copied, edit.functions))]
+        touched = list(dict.fromkeys(it for edit in edits for it in edit.functions))
+        # by edit (None for the copy without one) and function the copy's name; by a copy's path its function's
+        self.names = {(None, it): f"{it.name}_unedited" for it in touched if can_be_copied(it)}
         for number, edit in enumerate(edits):
-            for function in filter(can_be_copied, edit.functions):
-                if os.path.isdir(proof_of(function.path(), proofs)):
-                    self.names.setdefault((None, function), f"{function.name}_unedited")
-                self.names[edit, function] = f"{function.name}_edit_{number}"
+            self.names |= {(edit, it): f"{it.name}_edit_{number}" for it in edit.functions if can_be_copied(it)}
+        self.copied = {it.named(name).path(): it.path() for (_, it), name in self.names.items()}
+        # by edit and function the line where the copy begins; by place in the sources, where the line is now
+        self.begins, self.moved = {}, {}
         behind = {}
-        for (edit, function), name in self.names.items():
-            behind.setdefault((function.file, function.lines(sources[function.file])[1] - 1), []).append((edit, function))
-            self.copied[function.named(name).path()] = function.path()
-        self.sources = {file: self.with_copies(file, text, behind) for file, text in sources.items()}
+        for edit, it in self.names:
+            behind.setdefault((it.file, it.lines(sources[it.file])[1] - 1), []).append((edit, it))
+        copied = {file: self.with_copies(file, text, behind) for file, text in sources.items()}
+        self.taken = self.not_tried(functions_of(copied), [it for it in touched if not can_be_copied(it)])
+        self.sources = {file: taken_by_contract(text, self.taken[file]) for file, text in copied.items()}
         self.functions = functions_of(self.sources)
         by_path = {it.path(): it for found in self.functions.values() for it in found}
-        touched = dict.fromkeys(it for edit in edits for it in edit.functions)
         # what is checked as it is
         self.unedited = [by_path[it.named(self.names.get((None, it), it.name)).path()] for it in touched]
         for edit in edits:
             self.move(edit, sources, by_path)
+
+    def not_tried(self, functions, in_place):
+        """Of these functions (by file) those that are neither copies nor tried in their place, nor in a cycle with one that is."""
+        cycles = {(it.module, it.cycle) for it in in_place if it.cycle}
+        tried = {*self.copied, *(it.path() for it in in_place)}
+
+        def is_taken(function):
+            return can_be_taken(function) and function.path() not in tried and (function.module, function.cycle) not in cycles
+
+        return {file: list(filter(is_taken, found)) for file, found in functions.items()}
+
+    def taken_paths(self):
+        """The paths of what is taken by its contract."""
+        return {it.path() for found in self.taken.values() for it in found}
 
     def with_copies(self, file, text, behind):
         """The text of a file with the copies that stand behind each place."""
@@ -75,8 +88,8 @@ class Layout:
                     lines[file, to] = renamed(new, function.name, name)
         edit.lines, edit.functions = lines, touched
 
-    def copy_proofs(self, crate, folder):
-        """Writes the proofs of the copies beside those of their functions, in this copy of the crate's folder."""
+    def lay_out_proofs(self, crate, folder):
+        """Writes the proofs of the copies beside those of their functions, in this copy of the crate's folder, and leaves those open that are not tried."""
         for copy, path in self.copied.items():
             own, other = (proof_of(it, f"{folder}/proofs") for it in (path, copy))
             if not os.path.isdir(own):
@@ -88,3 +101,5 @@ class Layout:
                     text = it.read()
                 with open(f"{other}/{name}", "w", encoding="utf-8") as it:
                     it.write(text.replace(*names))
+        for function in (it for found in self.taken.values() for it in found):
+            leave_open(function, crate, f"{folder}/proofs")

@@ -3,7 +3,7 @@ import re
 from dataclasses import dataclass
 
 # What a check says where a text names what is not there any more, or rests on what was refused. It shows nothing of a contract.
-VANISHED = re.compile(r"has no field|is not in scope|has no `|was not admitted|is no name|which is not proved")
+VANISHED = re.compile(r"has no field|is not in scope|has no `|was not admitted|is no name|which (?:is|are) not proved")
 PLACED = re.compile(r"(?:note: )?(?:\./)?(\S+?):(\d+):\d+: (.*)")
 REFUSED, WAITS, LEFT_PROVED, NAME_ALONE, ELSEWHERE, UNREAD, LATE = range(7)
 WORDS = {
@@ -31,23 +31,26 @@ def came_to_its_end(said):
 
 
 def is_proved(said, crate, function):
-    """Whether nothing of the function is left to prove."""
-    return re.search(rf"(?m)^fn {re.escape(crate)}::{re.escape(function.path())}: (no holes|proved)$", said) is not None
+    """Whether nothing of the function itself is left to prove: the holes of a copy are in the proofs of what is taken by its contract."""
+    return re.search(rf"(?m)^fn {re.escape(crate)}::{re.escape(function.path())}: (no holes|proved|depends on a hole in .*)$", said) is not None
 
 
-def waits(said, crate, function):
-    """Whether its goals were not tried because a function that it calls is not proved."""
-    return re.search(rf"(?m)^fn {re.escape(crate)}::{re.escape(function.path())}: .*which is not proved", said) is not None
+def waits(said, crate, function, taken):
+    """Whether its goals were not tried because a function that it calls is not proved, and is none of those taken by their contracts."""
+    line = re.search(rf"(?m)^fn {re.escape(crate)}::{re.escape(function.path())}: .*?it calls (.*), which (?:is|are) not proved", said)
+    return line is not None and any(it.partition("::")[2] not in taken for it in re.findall("`([^`]+)`", line[1]))
 
 
-def outcome(said, crate, functions, sources):
-    """What a check that came to its end says of an edit of these functions. Each change is of one line, so the lines of the unedited sources hold."""
+def outcome(said, crate, functions, sources, taken):
+    """What a check that came to its end says of an edit of these functions, where others are taken by their contracts. Each change is of one line, so the
+    lines of the unedited sources hold."""
     found = [own_lines(said, crate, sources[it.file], it) for it in functions]
+    waiting = any(waits(said, crate, it, taken) for it in functions)
     for kind in (REFUSED, NAME_ALONE):
         line = next((lines[kind] for lines in found if kind in lines), None)
-        if line and (kind == REFUSED or not any(waits(said, crate, it) for it in functions)):
+        if line and (kind == REFUSED or not waiting):
             return Outcome(kind, line)
-    if any(waits(said, crate, it) for it in functions):
+    if waiting:
         return Outcome(WAITS)
     return Outcome(LEFT_PROVED if all(is_proved(said, crate, it) for it in functions) else ELSEWHERE)
 
