@@ -1,95 +1,36 @@
-//! A stream in a thread of its own, which ends before the last collection: a packet is held while the ring is full, and the packet that is left comes last.
+//! A stream in a thread of its own, which ends before the last collection.
 
 ghost use Rattle.std.specs.Prelude.{◌≡◌, false, IfSome};
+ghost use Rattle.ctf_types.specs.AllowedConfig.{IsConfig};
 ghost use Rattle.packet_ring.specs.declared.ring_done.RingDone.{RingDone};
 ghost use Rattle.packet_ring.specs.declared.ring_end.RingEnd.{RingEnd};
 ghost use Rattle.packet_ring.specs.Opening.{AreEnds};
 ghost use Rattle.packet_ring.specs.Taking.{IsOwn};
-ghost use Rattle.worked_threads.specs.Rings.{IsAtRing, StaysAtRing};
+ghost use Rattle.worked_threads.specs.Rings.{StaysAtRing};
 
+use crate::tests::expected::same;
+use crate::tests::ring_stream::{
+    Lane, PACKETS, RingStream, begun, collected, ended, fills, gathered, traced,
+};
 use crate::tests::thread_gates::Flag;
-use ctf_types::{Args, Values};
-use packet_collector::{Collected, FinishAnswer, collect_into, finish_into};
+use ctf_types::{Args, Config};
+use packet_collector::{Collected, FinishAnswer};
 use packet_ring::{RingBackEnd, RingDone, RingEnd, ring};
 use std::alloc::Global;
+use std::process::Abort;
 use std::test::Fail;
 use std::thread;
 use std::thread::Threads;
 use std::time::Clock;
-use thread_stream::{PacketAnswer, Stream, StreamEnd, Verdict, Why};
+use thread_stream::{StreamEnd, Verdict};
 use trace_platform::{ListClock, MemorySink};
 use worked_fixtures::{Datum, SMALL, bytes_of, changed, config_of, payload};
-
-type RingStream = Stream<ListClock, RingBackEnd>;
-
-/// Two packets without event records, and one with 9.
-const PACKETS: &str =
-    "c11ffcc1 80000000 60000000 00000000 c11ffcc1 80000000 60000000 00000000 c11ffcc1 80000000 68000000 09000000";
 
 /// What two threads tell each other: that the ring is full, and that a packet was collected.
 #[derive(Drop)]
 struct Flags {
     full: Flag,
     collected: Flag,
-}
-
-/// A stream of the small configuration over this end of a ring.
-fn begun(alloc: Global, back_end: RingBackEnd) -> Option<RingStream>
-    ensures { IfSome result (λ a. (e : RingEnd) → AreEnds back_end e → IsAtRing a e) }
-{
-    let text = changed(alloc, SMALL, &[]).ok()?;
-    let config = config_of(alloc, text.as_str())?;
-    let clock = ListClock::new(Vec::new(alloc))?;
-    match Stream::new(alloc, &config, "s", clock, back_end, Values::new(alloc)) {
-        Ok(stream) => Some(stream),
-        Err(_) => None,
-    }
-}
-
-fn opened(stream: &mut RingStream) -> PacketAnswer
-    ensures { StaysAtRing stream.old stream.new }
-{
-    stream.open_packet()
-}
-
-fn closed(stream: &mut RingStream) -> PacketAnswer
-    ensures { StaysAtRing stream.old stream.new }
-{
-    stream.close_packet()
-}
-
-fn traced(stream: &mut RingStream, args: &Args) -> Verdict
-    ensures { StaysAtRing stream.old stream.new }
-{
-    stream.trace(0, args)
-}
-
-/// What the stream leaves belongs to the other end of its ring, which is not settled yet.
-fn ended(stream: RingStream) -> StreamEnd<RingDone>
-    ensures { (e : RingEnd) → IsAtRing stream e → e.settled ≡ false → IsOwn e result.done }
-{
-    let (end, _clock) = stream.finish();
-    end
-}
-
-/// A packet without event records. It answers whether the stream said so.
-fn makes_empty(stream: &mut RingStream) -> bool
-    ensures { StaysAtRing stream.old stream.new }
-{
-    let first = opened(stream);
-    let second = closed(stream);
-    first == PacketAnswer::Done && second == PacketAnswer::Done
-}
-
-/// Calls until the ring is full and a packet is held.
-fn fills(stream: &mut RingStream, args: &Args) -> bool
-    ensures { StaysAtRing stream.old stream.new }
-{
-    let first = makes_empty(stream);
-    let second = makes_empty(stream);
-    let full = opened(stream);
-    let lost = traced(stream, args);
-    first && second && full == PacketAnswer::Full && lost == Verdict::Discarded(Why::BackEndFull)
 }
 
 /// The calls of the stream, and whether each answer was the wanted one.
@@ -101,54 +42,62 @@ fn traces<C: Clock>(
 ) -> Option<(bool, StreamEnd<RingDone>)>
     ensures { IfSome result (λ r. (e : RingEnd) → AreEnds back_end e → e.settled ≡ false → IsOwn e r.1.done) }
 {
-    let mut stream = begun(alloc, back_end)?;
     let args = payload(alloc, &[Datum::Unsigned(9)]).ok()?;
-    let filled = fills(&mut stream, &args);
-    flags.full.raise();
-    let seen = flags.collected.is_seen(clock);
-    let last = traced(&mut stream, &args);
-    let end = ended(stream);
-    Some((filled && seen && last == Verdict::Accepted(None), end))
+    let config = small(alloc)?;
+    traces_by(clock, flags, alloc, &config, back_end, &args)
 }
 
-/// A sink with its mark, and the end of a ring that its packets come from.
-#[derive(Drop)]
-struct Lane {
-    sink: MemorySink,
-    faulted: bool,
-    ring_end: RingEnd,
+fn small(alloc: Global) -> Option<Config>
+    ensures { IfSome result (λ c. IsConfig c) }
+{
+    let text = changed(alloc, SMALL, &[]).ok()?;
+    config_of(alloc, text.as_str())
+}
+
+fn traces_by<C: Clock>(
+    clock: &C,
+    flags: &Flags,
+    alloc: Global,
+    config: &Config,
+    back_end: RingBackEnd,
+    args: &Args,
+) -> Option<(bool, StreamEnd<RingDone>)>
+    requires { IsConfig config.now }
+    ensures { IfSome result (λ r. (e : RingEnd) → AreEnds back_end e → e.settled ≡ false → IsOwn e r.1.done) }
+{
+    let readings = ListClock::new(Vec::new(alloc))?;
+    let Ok(mut stream) = begun(alloc, config, readings, back_end) else {
+        return None;
+    };
+    let as_wanted = traces_in_turn(clock, flags, &mut stream, args);
+    let end = ended(stream);
+    Some((as_wanted, end))
+}
+
+/// An event record follows the packets once one of them was collected.
+fn traces_in_turn<C: Clock>(clock: &C, flags: &Flags, stream: &mut RingStream, args: &Args) -> bool
+    ensures { StaysAtRing stream.old stream.new }
+{
+    let filled = fills(stream, args);
+    flags.full.raise();
+    let seen = flags.collected.is_seen(clock);
+    let last = traced(stream, args);
+    filled && seen && last == Verdict::Accepted(None)
 }
 
 /// One collection, once the ring is full, and whether it took the first packet.
 fn collects<C: Clock>(clock: &C, flags: &Flags, alloc: Global, ring_end: RingEnd) -> (bool, Lane)
     ensures { (done : RingDone) → IsOwn ring_end done → IsOwn result.1.ring_end done }
 {
-    let mut sink = MemorySink::new(alloc);
-    let mut faulted = false;
-    let mut source = ring_end;
-    let seen = flags.full.is_seen(clock);
-    let answer = collect_into(&mut sink, &mut faulted, &mut source);
-    flags.collected.raise();
-    let lane = Lane {
-        sink,
-        faulted,
-        ring_end: source,
-    };
-    (seen && answer == Collected::Took(0), lane)
-}
-
-/// The last collection, and what the sink has then.
-fn gathered(lane: Lane, end: StreamEnd<RingDone>) -> (FinishAnswer, MemorySink)
-    requires { IsOwn lane.ring_end end.done }
-{
-    let Lane {
-        mut sink,
-        mut faulted,
+    let mut lane = Lane {
+        sink: MemorySink::new(alloc),
+        faulted: false,
         ring_end,
-    } = lane;
-    let mut source = ring_end;
-    let answer = finish_into(&mut sink, &mut faulted, &mut source, end);
-    (answer, sink)
+    };
+    let seen = flags.full.is_seen(clock);
+    let answer = collected(&mut lane);
+    flags.collected.raise();
+    (seen && answer == Collected::Took(0), lane)
 }
 
 /// The stream in one thread and the sink in another; once both have ended the sink is gathered. None where an answer was not the wanted one.
@@ -174,18 +123,25 @@ fn in_two_threads<R: Threads + Clock + Sync>(
         { collects(rt, flags, alloc, ring_end) },
     );
     let (as_wanted, end) = traced?;
-    let (took, lane) = collected;
+    let (took, mut lane) = collected;
     if !as_wanted || !took {
         return None;
     }
-    Some(gathered(lane, end))
+    let answer = gathered(&mut lane, end);
+    Some((answer, lane.sink))
 }
 
 #[test]
 fn gathers_what_a_thread_left_behind(rt: HostRuntime) -> Result<(), Fail> {
     let alloc = rt.alloc();
     let (answer, sink) = in_two_threads(&rt, alloc).ok_or("an answer was another one")?;
-    assert_eq!(rt; answer, FinishAnswer::Settled);
-    assert_eq!(rt; sink.bytes(), bytes_of(alloc, PACKETS)?.as_slice());
+    same(&rt, answer, FinishAnswer::Settled, "the last collection");
+    has_all(&rt, alloc, sink.bytes())
+}
+
+/// These are the bytes of all packets.
+fn has_all(rt: &impl Abort, alloc: Global, found: &[u8]) -> Result<(), Fail> {
+    let want = bytes_of(alloc, PACKETS)?;
+    same(rt, found, want.as_slice(), "the packets");
     Ok(())
 }

@@ -5,12 +5,16 @@ ghost use Rattle.ctf_types.specs.AllowedConfig.{IsConfig};
 ghost use Rattle.thread_stream.specs.Telling.{HasHistory};
 ghost use Rattle.trace_clock.specs.Seats.{clock_of};
 
+use crate::tests::clocked_streams::read_back;
+use crate::tests::expected::same;
+use crate::tests::thread_steps::two_seats;
 use ctf_types::{Args, Config, Values};
 use packet_collector::collect_into;
 use packet_ring::{RingBackEnd, RingEnd, ring};
 use rtrb::{Consumer, Producer, RingBuffer};
 use std::alloc::Global;
 use std::marker::Brand;
+use std::process::Abort;
 use std::test::Fail;
 use std::thread;
 use std::thread::Threads;
@@ -18,30 +22,34 @@ use std::time::{Clock, Duration};
 use thread_stream::{Stream, Verdict, calls_are_walks, packets_in_turn, seats_stay_at_their_clock};
 use trace_clock::{Clocked, Message, TickClock, TickSeat};
 use trace_platform::{BackEnd, MemorySink};
-use trace_stack::{ReadTrace, position, read_trace};
-use tsdl_writer::write_metadata;
-use worked_fixtures::{CLOCKED, Datum, changed, config_of, payload};
+use trace_stack::{ReadTrace, position};
+use worked_fixtures::{CLOCKED, Datum, config_of, payload};
 
 type Seated = Stream<TickSeat, RingBackEnd>;
 
-fn clocked(alloc: Global) -> Option<Config>
-    ensures { IfSome result (λ c. IsConfig c) }
-{
-    let text = changed(alloc, CLOCKED, &[]).ok()?;
-    config_of(alloc, text.as_str())
+/// A stream over a ring, and the other end of that ring.
+#[derive(Drop)]
+struct OverRing {
+    stream: Seated,
+    ring_end: RingEnd,
 }
 
-fn begun<B: BackEnd + Drop>(
-    alloc: Global,
-    seat: TickSeat,
-    back_end: B,
-) -> Option<Stream<TickSeat, B>>
-    ensures history { IfSome result (λ a. HasHistory B.BackEnd a) }
-    ensures clock { IfSome result (λ a. clock_of a.clock ≡ clock_of seat) }
+fn begun(alloc: Global, seat: TickSeat) -> Option<OverRing>
+    ensures history { IfSome result (λ a. HasHistory ⟦<RingBackEnd as BackEnd>⟧ a.stream) }
+    ensures clock { IfSome result (λ a. clock_of a.stream.clock ≡ clock_of seat) }
 {
-    let config = clocked(alloc)?;
-    match Stream::new(alloc, &config, "s", seat, back_end, Values::new(alloc)) {
-        Ok(stream) => Some(stream),
+    let config = config_of(alloc, CLOCKED)?;
+    begun_by(alloc, &config, seat)
+}
+
+fn begun_by(alloc: Global, config: &Config, seat: TickSeat) -> Option<OverRing>
+    requires { IsConfig config.now }
+    ensures history { IfSome result (λ a. HasHistory ⟦<RingBackEnd as BackEnd>⟧ a.stream) }
+    ensures clock { IfSome result (λ a. clock_of a.stream.clock ≡ clock_of seat) }
+{
+    let (back_end, ring_end) = ring(alloc, 1, 64).ok()?;
+    match Stream::new(alloc, config, "s", seat, back_end, Values::new(alloc)) {
+        Ok(stream) => Some(OverRing { stream, ring_end }),
         Err(_) => None,
     }
 }
@@ -62,7 +70,8 @@ fn number(alloc: Global, n: i64) -> Option<Args> {
 }
 
 /// The bytes of the stream's only packet.
-fn collected(alloc: Global, stream: Seated, ring_end: RingEnd) -> Vec<u8> {
+fn collected(alloc: Global, over: OverRing) -> Vec<u8> {
+    let OverRing { stream, ring_end } = over;
     let (end, _seat) = stream.finish();
     let mut sink = MemorySink::new(alloc);
     let mut faulted = false;
@@ -72,49 +81,21 @@ fn collected(alloc: Global, stream: Seated, ring_end: RingEnd) -> Vec<u8> {
     sink.into_bytes()
 }
 
-fn read_back(alloc: Global, first: Vec<u8>, second: Vec<u8>) -> Result<ReadTrace, Fail> {
-    let config = clocked(alloc).ok_or("no configuration")?;
-    let metadata = write_metadata(alloc, &config)?;
-    let mut files = Vec::new(alloc);
-    files.push((String::from_str(alloc, "t0")?, first))?;
-    files.push((String::from_str(alloc, "t1")?, second))?;
-    Ok(read_trace(alloc, metadata.as_bytes(), &files)?)
-}
-
-/// Two streams at one clock, and the other ends of their rings.
-#[derive(Drop)]
-struct Two {
-    first: Seated,
-    first_end: RingEnd,
-    second: Seated,
-    second_end: RingEnd,
-}
-
-/// Two seats of one clock, of three readings each.
-fn seats(alloc: Global) -> Option<(TickSeat, TickSeat)>
-    ensures { IfSome result (λ p. clock_of p.0 ≡ clock_of p.1) }
+fn both(alloc: Global) -> Option<(OverRing, OverRing)>
+    ensures history { IfSome result (λ p. HasHistory ⟦<RingBackEnd as BackEnd>⟧ p.0.stream) }
+    ensures clock { IfSome result (λ p. clock_of p.0.stream.clock ≡ clock_of p.1.stream.clock) }
 {
-    let mut clock = TickClock::new(alloc, 0, 6).ok()?;
-    let first = clock.seat(alloc, 3).ok()?;
-    let second = clock.seat(alloc, 3).ok()?;
+    let (first, second) = seats(alloc)?;
+    let first = begun(alloc, first)?;
+    let second = begun(alloc, second)?;
     Some((first, second))
 }
 
-fn both(alloc: Global) -> Option<Two>
-    ensures history { IfSome result (λ t. HasHistory ⟦<RingBackEnd as BackEnd>⟧ t.first) }
-    ensures clock { IfSome result (λ t. clock_of t.first.clock ≡ clock_of t.second.clock) }
+fn seats(alloc: Global) -> Option<(TickSeat, TickSeat)>
+    ensures { IfSome result (λ p. clock_of p.0 ≡ clock_of p.1) }
 {
-    let (first_seat, second_seat) = seats(alloc)?;
-    let (first_back_end, first_end) = ring(alloc, 1, 64).ok()?;
-    let (second_back_end, second_end) = ring(alloc, 1, 64).ok()?;
-    let first = begun(alloc, first_seat, first_back_end)?;
-    let second = begun(alloc, second_seat, second_back_end)?;
-    Some(Two {
-        first,
-        first_end,
-        second,
-        second_end,
-    })
+    let clock = TickClock::new(alloc, 0, 6).ok()?;
+    two_seats(alloc, clock).ok()
 }
 
 /// The first traces 5 and tells, the second traces 6 after that, and then the first traces 7: what each was answered.
@@ -122,28 +103,21 @@ fn in_turn(alloc: Global, first: &mut Seated, second: &mut Seated) -> Option<[Ve
     requires history { HasHistory ⟦<RingBackEnd as BackEnd>⟧ first.old }
     requires clock { clock_of first.old.clock ≡ clock_of second.old.clock }
 {
-    let five = number(alloc, 5)?;
+    let before = traced(first, &number(alloc, 5)?);
     let six = number(alloc, 6)?;
-    let seven = number(alloc, 7)?;
-    let before = traced(first, &five);
     let told = first.tell(alloc).ok()?;
     let after = second.trace_after(told, 0, &six);
-    let last = first.trace(0, &seven);
+    let last = first.trace(0, &number(alloc, 7)?);
     Some([before, after, last])
 }
 
 /// What both are answered, and the bytes of both.
 fn in_one_thread(alloc: Global) -> Option<([Verdict; 3], Vec<u8>, Vec<u8>)> {
-    let Two {
-        mut first,
-        first_end,
-        mut second,
-        second_end,
-    } = both(alloc)?;
-    let answers = in_turn(alloc, &mut first, &mut second)?;
-    let first_bytes = collected(alloc, first, first_end);
-    let second_bytes = collected(alloc, second, second_end);
-    Some((answers, first_bytes, second_bytes))
+    let (mut first, mut second) = both(alloc)?;
+    let answers = in_turn(alloc, &mut first.stream, &mut second.stream);
+    let first = collected(alloc, first);
+    let second = collected(alloc, second);
+    Some((answers?, first, second))
 }
 
 const ANSWERS: [Verdict; 3] = [
@@ -162,15 +136,23 @@ static PLACES: &[(usize, u64, Option<usize>)] = &[
 
 #[test]
 fn stands_between_what_was_told_and_what_came_after(rt: HostRuntime) -> Result<(), Fail> {
-    let alloc = rt.alloc();
-    let (answers, first, second) = in_one_thread(alloc).ok_or("a stream failed")?;
-    assert_eq!(rt; answers, ANSWERS);
-    let trace = read_back(alloc, first, second)?;
-    assert_eq!(rt; trace.order.len(), 3);
-    for (stream, value, want) in PLACES {
-        assert_eq!(rt; position(&trace, *stream, *value), *want);
-    }
+    let (answers, first, second) = in_one_thread(rt.alloc()).ok_or("a stream failed")?;
+    same(&rt, answers, ANSWERS, "the answers");
+    let trace = read_both(rt.alloc(), first.as_slice(), second.as_slice())?;
+    has_places(&rt, &trace);
     Ok(())
+}
+
+fn read_both(alloc: Global, first: &[u8], second: &[u8]) -> Result<ReadTrace, Fail> {
+    read_back(alloc, &[("t0", first), ("t1", second)])
+}
+
+fn has_places(rt: &impl Abort, trace: &ReadTrace) {
+    same(rt, trace.order.len(), 3, "how many records");
+    for (stream, value, want) in PLACES {
+        let place = position(trace, *stream, *value);
+        same(rt, place, *want, "the place of a record");
+    }
 }
 
 /// Traces, tells through the channel, and traces again.
@@ -181,14 +163,26 @@ fn tells<J: Clocked>(
 ) -> Option<Vec<u8>>
     requires { clock_of seat ≡ J.clock }
 {
-    let (back_end, ring_end) = ring(alloc, 1, 64).ok()?;
-    let mut stream = begun(alloc, seat, back_end)?;
-    traced(&mut stream, &number(alloc, 5)?);
-    let told = stream.tell(alloc).ok()?;
+    let mut over = begun(alloc, seat)?;
+    let told = tells_between(alloc, &mut over.stream, channel);
+    let bytes = collected(alloc, over);
+    told?;
+    Some(bytes)
+}
+
+fn tells_between<J: Clocked>(
+    alloc: Global,
+    stream: &mut Seated,
+    channel: Producer<Message<J>>,
+) -> Option<()>
+    requires history { HasHistory ⟦<RingBackEnd as BackEnd>⟧ stream.old }
+    requires clock { clock_of stream.old.clock ≡ J.clock }
+{
     let mut channel = channel;
-    channel.push(Message::new(told)).ok()?;
+    traced(stream, &number(alloc, 5)?);
+    channel.push(Message::new(stream.tell(alloc).ok()?)).ok()?;
     stream.trace(0, &number(alloc, 7)?);
-    Some(collected(alloc, stream, ring_end))
+    Some(())
 }
 
 /// The next message, within 2,000 turns of one millisecond's sleep.
@@ -212,12 +206,23 @@ fn listens<J: Clocked, C: Clock>(
 ) -> Option<(Verdict, Vec<u8>)>
     requires { clock_of seat ≡ J.clock }
 {
-    let (back_end, ring_end) = ring(alloc, 1, 64).ok()?;
-    let mut stream = begun(alloc, seat, back_end)?;
+    let mut over = begun(alloc, seat)?;
+    let answer = traced_after(clock, alloc, &mut over.stream, channel);
+    let bytes = collected(alloc, over);
+    Some((answer?, bytes))
+}
+
+fn traced_after<J: Clocked, C: Clock>(
+    clock: &C,
+    alloc: Global,
+    stream: &mut Seated,
+    channel: Consumer<Message<J>>,
+) -> Option<Verdict>
+    requires { clock_of stream.old.clock ≡ J.clock }
+{
+    let six = number(alloc, 6)?;
     let message = received(clock, channel)?;
-    let answer = stream.trace_after(message.into_told(), 0, &number(alloc, 6)?);
-    let bytes = collected(alloc, stream, ring_end);
-    Some((answer, bytes))
+    Some(stream.trace_after(message.into_told(), 0, &six))
 }
 
 /// Both streams, each in a thread of its own: the second one's answer, and the bytes of both.
@@ -246,25 +251,38 @@ fn in_two_threads<J: Clocked + Send, R: Threads + Clock>(
 }
 
 fn run_once<R: Threads + Clock>(rt: &R, alloc: Global) -> Option<(Verdict, Vec<u8>, Vec<u8>)> {
-    let mut clock = TickClock::new(alloc, 0, 6).ok()?;
-    let first = clock.seat(alloc, 3).ok()?;
-    let second = clock.seat(alloc, 3).ok()?;
+    let (first, second) = seats(alloc)?;
     in_two_threads::<Brand, R>(rt, alloc, first, second)
 }
 
 #[test]
 fn stands_behind_what_another_thread_told(rt: HostRuntime) -> Result<(), Fail> {
-    let alloc = rt.alloc();
     for _run in 0..100 {
-        let (answer, first, second) = run_once(&rt, alloc).ok_or("a stream failed")?;
-        let Verdict::Accepted(Some(reading)) = answer else {
-            return Err("the second stream's call was not accepted".into());
-        };
-        let trace = read_back(alloc, first, second)?;
-        let told = position(&trace, 0, 0).ok_or("nothing was told")?;
-        let after = position(&trace, 1, reading).ok_or("nothing was traced after that")?;
-        assert!(rt; told < after);
-        assert_eq!(rt; trace.order.len(), 3);
+        let (answer, first, second) = run_once(&rt, rt.alloc()).ok_or("a stream failed")?;
+        stands_behind(&rt, rt.alloc(), answer, first.as_slice(), second.as_slice())?;
     }
+    Ok(())
+}
+
+fn stands_behind(
+    rt: &impl Abort,
+    alloc: Global,
+    answer: Verdict,
+    first: &[u8],
+    second: &[u8],
+) -> Result<(), Fail> {
+    let Verdict::Accepted(Some(reading)) = answer else {
+        return Err("the second stream's call was not accepted".into());
+    };
+    let trace = read_both(alloc, first, second)?;
+    is_behind(rt, &trace, reading)
+}
+
+/// The record with this reading stands behind what was told.
+fn is_behind(rt: &impl Abort, trace: &ReadTrace, reading: u64) -> Result<(), Fail> {
+    let told = position(trace, 0, 0).ok_or("nothing was told")?;
+    let after = position(trace, 1, reading).ok_or("nothing was traced after that")?;
+    assert!(rt; told < after);
+    assert_eq!(rt; trace.order.len(), 3);
     Ok(())
 }

@@ -10,7 +10,7 @@ use ctf_types::Text;
 use packet_ring::ring;
 use std::alloc::Global;
 use std::test::Fail;
-use trace_clock::TickSeat;
+use trace_clock::{ClockFault, TickClock, TickSeat};
 use trace_stack::{Act, Worker};
 use worked_fixtures::{call_in_words, values_in_words};
 
@@ -41,10 +41,10 @@ pub fn worker<W: Drop>(
     if bytes == 0 || bytes > 1 << 20 {
         return Err("no such ring".into());
     }
-    let (back_end, ring_end) = ring(alloc, 1, bytes)?;
     let type_name = Text::from_str(alloc, task.type_name)?;
     let extras = values_in_words(alloc, task.extras)?;
     let acts = acts(alloc, task.calls)?;
+    let (back_end, ring_end) = ring(alloc, 1, bytes)?;
     Ok(Worker {
         type_name,
         seat,
@@ -55,6 +55,16 @@ pub fn worker<W: Drop>(
         acts,
         start: None,
     })
+}
+
+/// Two seats of the clock, of three readings each.
+pub fn two_seats(alloc: Global, clock: TickClock) -> Result<(TickSeat, TickSeat), ClockFault>
+    ensures { IfOk result (λ p. clock_of p.0 ≡ clock_of p.1) }
+{
+    let mut clock = clock;
+    let first = clock.seat(alloc, 3)?;
+    let second = clock.seat(alloc, 3)?;
+    Ok((first, second))
 }
 
 fn acts(alloc: Global, calls: &str) -> Result<Vec<Act>, Fail>

@@ -2,12 +2,15 @@
 
 ghost use Rattle.std.specs.Prelude.{◌≡◌, None, IfOk};
 ghost use Rattle.std.specs.List.{All};
+ghost use Rattle.ctf_types.specs.AllowedConfig.{IsConfig};
 ghost use Rattle.trace_clock.specs.Seats.{clock_of};
 ghost use Rattle.trace_stack.specs.Workers.{IsWorker, OfOneClock};
 
+use crate::tests::clocked_streams::{clocked, read_back};
+use crate::tests::expected::same;
 use crate::tests::thread_gates::{Collecting, Flag, FlaggingSink, Meeting, Shutting};
-use crate::tests::thread_steps::{Task, worker};
-use ctf_types::ArgFault;
+use crate::tests::thread_steps::{Task, two_seats, worker};
+use ctf_types::{ArgFault, Config};
 use packet_collector::FinishAnswer;
 use packet_reader::ReadStream;
 use std::alloc::{AllocError, Global};
@@ -15,18 +18,17 @@ use std::process::Abort;
 use std::sync::Wait;
 use std::test::Fail;
 use std::thread::Threads;
+use std::time::Clock;
 use thread_stream::StreamFault;
 use trace_clock::{TickClock, TickSeat};
 use trace_platform::{MemorySink, Sink};
 use trace_stack::{
-    Answer, Gate, NotRun, OpenGate, ReadTrace, ThreadsFault, ThreadsRun, Worker, read_trace,
-    run_threads,
+    Answer, Gate, NotRun, OpenGate, ReadTrace, ThreadsFault, ThreadsRun, Worker, run_threads,
 };
-use tsdl_writer::write_metadata;
-use worked_fixtures::{CLOCKED, SMALL, bytes_of, changed, configured, shown_streams};
+use worked_fixtures::{bytes_of, shown_streams, small};
 
 /// Two event records in one packet of 64 bytes, and one more for which the clock has no reading left.
-const TWO_RECORDS: Task = Task {
+pub const TWO_RECORDS: Task = Task {
     type_name: "s",
     bytes: 64,
     extras: "",
@@ -43,20 +45,17 @@ const BOTH_SETTLED: &[FinishAnswer] = &[FinishAnswer::Settled, FinishAnswer::Set
 /// All readings of the clock of two workers.
 const READINGS: &[u64] = &[0, 1, 2, 3, 4, 5];
 
-/// Two workers whose seats at one clock have three readings each.
-pub fn two_workers(
-    alloc: Global,
-    first: &Task,
-    second: &Task,
-) -> Result<Vec<Worker<MemorySink>>, Fail>
+/// What is left of two workers, or both as they were where they are refused.
+pub type Ran = Result<ThreadsRun<MemorySink>, NotRun<MemorySink>>;
+
+/// Two workers whose seats at one clock have three readings each. The first is told of two event records.
+pub fn two_workers(alloc: Global, second: &Task) -> Result<Vec<Worker<MemorySink>>, Fail>
     ensures workers { IfOk result (λ ws. All IsWorker ws.items) }
     ensures clock { IfOk result (λ ws. OfOneClock ws.items) }
     ensures anew { IfOk result (λ ws. All (λ w. w.start ≡ None) ws.items) }
 {
-    let mut clock = TickClock::new(alloc, 0, 6)?;
-    let first_seat = clock.seat(alloc, 3)?;
-    let second_seat = clock.seat(alloc, 3)?;
-    let first = worker(alloc, first_seat, first, MemorySink::new(alloc))?;
+    let (first_seat, second_seat) = two_seats(alloc, TickClock::new(alloc, 0, 6)?)?;
+    let first = worker(alloc, first_seat, &TWO_RECORDS, MemorySink::new(alloc))?;
     let second = worker(alloc, second_seat, second, MemorySink::new(alloc))?;
     in_one_list(alloc, first, second)
 }
@@ -78,34 +77,72 @@ fn in_one_list(
     Ok(vec![in alloc; first, second]?)
 }
 
-/// What is left of the workers, for streams of `CLOCKED` or of `SMALL`.
-#[tactic(auto, using(trace_stack::proofs::Anew::all_begin_anew))]
-fn run<R: Threads + Wait, W: Sink + Drop, G: Gate + Sync>(
+/// What is left of two workers of streams of `CLOCKED`.
+pub fn run_two<R: Threads + Wait, G: Gate + Sync>(
     rt: &R,
     alloc: Global,
-    text: &str,
+    second: &Task,
+    gate: &G,
+) -> Result<Ran, Fail> {
+    let config = clocked(alloc)?;
+    run_two_by(rt, alloc, &config, second, gate)
+}
+
+#[tactic(auto, using(trace_stack::proofs::Anew::all_begin_anew))]
+fn run_two_by<R: Threads + Wait, G: Gate + Sync>(
+    rt: &R,
+    alloc: Global,
+    config: &Config,
+    second: &Task,
+    gate: &G,
+) -> Result<Ran, Fail>
+    requires { IsConfig config.now }
+{
+    let workers = two_workers(alloc, second)?;
+    Ok(run_threads(rt, alloc, config, workers, gate))
+}
+
+/// What is left of two workers of two event records each.
+fn both_run<R: Threads + Wait, G: Gate + Sync>(
+    rt: &R,
+    alloc: Global,
+    gate: &G,
+) -> Result<ThreadsRun<MemorySink>, Fail> {
+    match run_two(rt, alloc, &TWO_RECORDS, gate)? {
+        Ok(run) => Ok(run),
+        Err(_) => Err("the workers were refused".into()),
+    }
+}
+
+/// What is left of workers of which none is refused.
+#[tactic(auto, using(trace_stack::proofs::Anew::all_begin_anew))]
+fn run_all<R: Threads + Wait, W: Sink + Drop, G: Gate + Sync>(
+    rt: &R,
+    alloc: Global,
+    config: &Config,
     workers: Vec<Worker<W>>,
     gate: &G,
-) -> Result<Result<ThreadsRun<W>, NotRun<W>>, Fail>
+) -> Result<ThreadsRun<W>, Fail>
+    requires config { IsConfig config.now }
     requires workers { All IsWorker workers.items }
     requires clock { OfOneClock workers.items }
     requires anew { All (λ w. w.start ≡ None) workers.items }
 {
-    let text = changed(alloc, text, &[])?;
-    let config = configured(alloc, text.as_str(), None)?;
-    Ok(run_threads(rt, alloc, &config, workers, gate))
+    match run_threads(rt, alloc, config, workers, gate) {
+        Ok(run) => Ok(run),
+        Err(_) => Err("the workers were refused".into()),
+    }
 }
 
-/// What is read of the sinks of streams of `CLOCKED`.
-fn read_back(alloc: Global, sinks: Vec<MemorySink>) -> Result<ReadTrace, Fail> {
-    let text = changed(alloc, CLOCKED, &[])?;
-    let config = configured(alloc, text.as_str(), None)?;
-    let metadata = write_metadata(alloc, &config)?;
-    let mut files = Vec::new(alloc);
-    for sink in sinks {
-        files.push((String::from_str(alloc, "t")?, sink.into_bytes()))?;
-    }
-    Ok(read_trace(alloc, metadata.as_bytes(), &files)?)
+/// The run ended so.
+fn ends_so<W>(
+    rt: &impl Abort,
+    run: &ThreadsRun<W>,
+    fault: Option<ThreadsFault>,
+    ends: &[FinishAnswer],
+) {
+    same(rt, run.fault, fault, "the fault");
+    same(rt, run.ends.as_slice(), ends, "the ends");
 }
 
 /// The readings of a stream's first packet: of its first two event records, and of its end.
@@ -147,25 +184,49 @@ fn as_told(
     let stream = trace.streams.get(worker).ok_or("no stream")?;
     let answers = answers.get(worker).ok_or("no answers")?;
     let readings = readings_of(stream).ok_or("fewer than two event records")?;
-    let found = format!(in alloc; "{:?}", answers.as_slice())?;
-    assert_eq!(rt; found.as_str(), told(alloc, readings)?.as_str());
+    is_told(rt, alloc, answers.as_slice(), readings)?;
     Ok(readings)
 }
 
-/// The readings of two workers, each of which was told just what is read of its stream.
-fn both_as_told(
+fn is_told(
     rt: &impl Abort,
     alloc: Global,
-    sinks: Vec<MemorySink>,
+    answers: &[Answer],
+    readings: [u64; 3],
+) -> Result<(), AllocError> {
+    let found = format!(in alloc; "{answers:?}")?;
+    let want = told(alloc, readings)?;
+    same(rt, found.as_str(), want.as_str(), "the answers");
+    Ok(())
+}
+
+/// Two workers, each of which was told just what is read of its stream, have all readings.
+fn have_all_readings(
+    rt: &impl Abort,
+    alloc: Global,
+    trace: &ReadTrace,
     answers: &[Vec<Answer>],
-) -> Result<([u64; 3], [u64; 3]), Fail> {
-    let trace = read_back(alloc, sinks)?;
-    let first = as_told(rt, alloc, &trace, answers, 0)?;
-    let second = as_told(rt, alloc, &trace, answers, 1)?;
+) -> Result<(), Fail> {
+    let first = as_told(rt, alloc, trace, answers, 0)?;
+    let second = as_told(rt, alloc, trace, answers, 1)?;
+    are_written(rt, alloc, trace, first, second)?;
+    let all = in_order(alloc, first, second)?;
+    same(rt, all.as_slice(), READINGS, "the readings");
+    Ok(())
+}
+
+/// This is read of both their streams.
+fn are_written(
+    rt: &impl Abort,
+    alloc: Global,
+    trace: &ReadTrace,
+    first: [u64; 3],
+    second: [u64; 3],
+) -> Result<(), AllocError> {
     let found = shown_streams(alloc, &trace.metadata, trace.streams.as_slice())?;
     let want = both_written(alloc, first, second)?;
-    assert_eq!(rt; found.as_str(), want.as_str());
-    Ok((first, second))
+    same(rt, found.as_str(), want.as_str(), "the streams");
+    Ok(())
 }
 
 /// What is read of both their streams.
@@ -184,23 +245,14 @@ fn in_order(alloc: Global, first: [u64; 3], second: [u64; 3]) -> Result<Vec<u64>
 
 #[test]
 fn runs_two_workers_at_once_over_one_clock(rt: HostRuntime) -> Result<(), Fail> {
-    let alloc = rt.alloc();
-    let workers = two_workers(alloc, &TWO_RECORDS, &TWO_RECORDS)?;
-    let Ok(run) = run(&rt, alloc, CLOCKED, workers, &Meeting::new(&rt))? else {
-        return Err("the workers were refused".into());
+    let run = both_run(&rt, rt.alloc(), &Meeting::new(&rt))?;
+    ends_so(&rt, &run, None, BOTH_SETTLED);
+    let [first, second] = run.sinks.as_slice() else {
+        return Err("not two sinks".into());
     };
-    let ThreadsRun {
-        answers,
-        ends,
-        sinks,
-        fault,
-    } = run;
-    assert_eq!(rt; fault, None);
-    assert_eq!(rt; ends.as_slice(), BOTH_SETTLED);
-    let (first, second) = both_as_told(&rt, alloc, sinks, answers.as_slice())?;
-    let all = in_order(alloc, first, second)?;
-    assert_eq!(rt; all.as_slice(), READINGS);
-    Ok(())
+    let files = [("t", first.bytes()), ("t", second.bytes())];
+    let trace = read_back(rt.alloc(), &files)?;
+    have_all_readings(&rt, rt.alloc(), &trace, run.answers.as_slice())
 }
 
 /// Two packets without event records.
@@ -216,21 +268,24 @@ close
 "#,
 };
 
-fn flagging<'f>(
-    alloc: Global,
-    seat: TickSeat,
-    flag: &'f Flag,
-) -> Result<Vec<Worker<FlaggingSink<'f>>>, Fail>
+fn flagging<'f>(alloc: Global, flag: &'f Flag) -> Result<Vec<Worker<FlaggingSink<'f>>>, Fail>
     ensures workers { IfOk result (λ ws. All IsWorker ws.items) }
     ensures clock { IfOk result (λ ws. OfOneClock ws.items) }
     ensures anew { IfOk result (λ ws. All (λ w. w.start ≡ None) ws.items) }
 {
+    let seat = lone_seat(alloc)?;
     let sink = FlaggingSink {
         sink: MemorySink::new(alloc),
         flag,
     };
     let worker = worker(alloc, seat, &TWO_PACKETS, sink)?;
     alone(alloc, worker)
+}
+
+/// A seat without readings.
+fn lone_seat(alloc: Global) -> Result<TickSeat, Fail> {
+    let mut clock = TickClock::new(alloc, 0, 0)?;
+    Ok(clock.seat(alloc, 0)?)
 }
 
 /// One worker.
@@ -247,61 +302,83 @@ fn alone<'f>(
     Ok(vec![in alloc; worker]?)
 }
 
+/// What is left of a worker that raises the flag, and waits for it.
+fn run_flagging<'f, R: Threads + Wait + Clock + Sync>(
+    rt: &R,
+    alloc: Global,
+    flag: &'f Flag,
+) -> Result<ThreadsRun<FlaggingSink<'f>>, Fail> {
+    let config = small(alloc, &[])?;
+    run_flagging_by(rt, alloc, &config, flag)
+}
+
+fn run_flagging_by<'f, R: Threads + Wait + Clock + Sync>(
+    rt: &R,
+    alloc: Global,
+    config: &Config,
+    flag: &'f Flag,
+) -> Result<ThreadsRun<FlaggingSink<'f>>, Fail>
+    requires { IsConfig config.now }
+{
+    let workers = flagging(alloc, flag)?;
+    run_all(rt, alloc, config, workers, &Collecting { clock: rt, flag })
+}
+
 #[test]
 fn collects_while_a_worker_runs(rt: HostRuntime) -> Result<(), Fail> {
-    let alloc = rt.alloc();
     let flag = Flag::new();
-    let seat = TickClock::new(alloc, 0, 0)?.seat(alloc, 0)?;
-    let workers = flagging(alloc, seat, &flag)?;
-    let gate = Collecting {
-        clock: &rt,
-        flag: &flag,
-    };
-    let Ok(run) = run(&rt, alloc, SMALL, workers, &gate)? else {
-        return Err("the worker was refused".into());
-    };
-    assert_eq!(rt; run.fault, None);
-    assert_eq!(rt; run.ends.as_slice(), [FinishAnswer::Settled].as_slice());
+    let run = run_flagging(&rt, rt.alloc(), &flag)?;
+    has_two_packets(&rt, rt.alloc(), &run)
+}
+
+/// The worker left two packets.
+fn has_two_packets(
+    rt: &impl Abort,
+    alloc: Global,
+    run: &ThreadsRun<FlaggingSink<'_>>,
+) -> Result<(), Fail> {
+    ends_so(rt, run, None, &[FinishAnswer::Settled]);
     let found = format!(in alloc; "{:?}", run.answers.as_slice())?;
-    assert_eq!(rt;
+    same(
+        rt,
         found.as_str(),
-        "[[Packet(Done), Packet(Done), Packet(Done), Packet(Done)]]"
+        "[[Packet(Done), Packet(Done), Packet(Done), Packet(Done)]]",
+        "the answers",
     );
+    let sink = run.sinks.first().ok_or("no sink")?;
     let want = bytes_of(
         alloc,
         "c11ffcc1 80000000 60000000 00000000 c11ffcc1 80000000 60000000 00000000",
     )?;
-    let sink = run.sinks.first().ok_or("no sink")?;
-    assert_eq!(rt; sink.sink.bytes(), want.as_slice());
+    same(rt, sink.sink.bytes(), want.as_slice(), "the packets");
     Ok(())
 }
 
 #[test]
 fn tells_that_the_gate_shut(rt: HostRuntime) -> Result<(), Fail> {
-    let alloc = rt.alloc();
-    let workers = two_workers(alloc, &TWO_RECORDS, &TWO_RECORDS)?;
-    let Ok(run) = run(&rt, alloc, CLOCKED, workers, &Shutting { calls: 1 })? else {
-        return Err("the workers were refused".into());
-    };
-    assert_eq!(rt; run.fault, Some(ThreadsFault::GateShut));
-    assert_eq!(rt; run.ends.as_slice(), BOTH_SETTLED);
-    for answers in run.answers.as_slice() {
-        assert_eq!(rt; answers.len(), 1);
-    }
+    let run = both_run(&rt, rt.alloc(), &Shutting { calls: 1 })?;
+    ends_so(&rt, &run, Some(ThreadsFault::GateShut), BOTH_SETTLED);
+    are_answered_once(&rt, run.answers.as_slice());
     Ok(())
+}
+
+fn are_answered_once(rt: &impl Abort, answers: &[Vec<Answer>]) {
+    for answers in answers {
+        same(rt, answers.len(), 1, "how many answers");
+    }
+}
+
+fn run_none<R: Threads + Wait>(rt: &R, alloc: Global) -> Result<ThreadsRun<MemorySink>, Fail> {
+    let config = small(alloc, &[])?;
+    run_all(rt, alloc, &config, Vec::new(alloc), &OpenGate)
 }
 
 #[test]
 fn runs_no_worker_where_there_is_none(rt: HostRuntime) -> Result<(), Fail> {
-    let alloc = rt.alloc();
-    let workers: Vec<Worker<MemorySink>> = Vec::new(alloc);
-    let Ok(run) = run(&rt, alloc, SMALL, workers, &OpenGate)? else {
-        return Err("an empty list was refused".into());
-    };
-    assert_eq!(rt; run.fault, None);
-    assert_eq!(rt; run.answers.len(), 0);
-    assert_eq!(rt; run.ends.len(), 0);
-    assert_eq!(rt; run.sinks.len(), 0);
+    let run = run_none(&rt, rt.alloc())?;
+    ends_so(&rt, &run, None, &[]);
+    let left = (run.answers.len(), run.sinks.len());
+    same(&rt, left, (0, 0), "how many answers and sinks");
     Ok(())
 }
 
@@ -343,18 +420,39 @@ static REFUSED: &[(&str, Task, StreamFault)] = &[
 
 #[test]
 fn hands_all_back_before_the_first_thread(rt: HostRuntime) -> Result<(), Fail> {
-    let alloc = rt.alloc();
     for (shows, task, fault) in REFUSED {
-        let workers = two_workers(alloc, &TWO_RECORDS, task)?;
-        let Err(refused) = run(&rt, alloc, CLOCKED, workers, &OpenGate)? else {
-            return Err("the workers were run".into());
-        };
-        assert_eq!(rt; refused.fault, *fault, "{shows}");
-        assert_eq!(rt; refused.workers.len(), 2, "{shows}");
-        for worker in refused.workers.as_slice() {
-            assert_eq!(rt; worker.acts.len(), 4, "{shows}");
-            assert_eq!(rt; worker.sink.bytes().len(), 0, "{shows}");
-        }
+        are_refused(&rt, rt.alloc(), shows, task, *fault)?;
     }
     Ok(())
+}
+
+fn are_refused<R: Threads + Wait + Abort>(
+    rt: &R,
+    alloc: Global,
+    shows: &str,
+    second: &Task,
+    fault: StreamFault,
+) -> Result<(), Fail> {
+    match run_two(rt, alloc, second, &OpenGate)? {
+        Ok(_) => Err("the workers were run".into()),
+        Err(refused) => {
+            are_handed_back(rt, &refused, fault, shows);
+            Ok(())
+        }
+    }
+}
+
+/// Both workers were refused for this fault, and are as they were.
+pub fn are_handed_back(
+    rt: &impl Abort,
+    refused: &NotRun<MemorySink>,
+    fault: StreamFault,
+    shows: &str,
+) {
+    same(rt, refused.fault, fault, shows);
+    same(rt, refused.workers.len(), 2, shows);
+    for worker in refused.workers.as_slice() {
+        let left = (worker.acts.len(), worker.sink.bytes().len());
+        same(rt, left, (4, 0), shows);
+    }
 }

@@ -7,8 +7,8 @@ use Rattle.packet_ring.specs.Taking.{IsOwn}
 use Rattle.thread_stream.specs.declared.finishing.StreamEnd.{StreamEnd}
 use Rattle.worked_threads.proofs.tests.ended_threads.in_two_threads.Goals as goal
 
-pub gathered-requires : goal.gathered-requires
-gathered-requires g c =
+pub gathered-answer-requires : goal.gathered-answer-requires
+gathered-answer-requires g c =
     let ends = c.in-Ok.ensures.unused in
     let own = subst (λ (o : Option (Bool × StreamEnd RingDone)). IfSome o (λ r. (e : RingEnd) → AreEnds c.in-Ok.back_end e → e.settled ≡ false → IsOwn e r.1.done))
     c.in_ok-as_wanted.was c.join-traced.ensures.first in

@@ -4,7 +4,7 @@ use Rattle.thread_stream.proofs.Walking.{slot_in_turn, finishes_walk, finishes_a
 use Rattle.trace_platform.specs.Readings.{Reads}
 use Rattle.trace_stack.specs.OverRings.{ring_platform}
 use Rattle.trace_stack.proofs.RingRuns.{through_ends}
-use Rattle.worked_threads.proofs.tests.ended_threads.ended.Goals as goal
+use Rattle.worked_threads.proofs.tests.ring_stream.ended.Goals as goal
 
 pub returns : goal.returns
 returns c e (s, h, stands, ends) open_still =

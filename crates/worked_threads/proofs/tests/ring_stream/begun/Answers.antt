@@ -1,7 +1,7 @@
 use Rattle.std.proofs.Common.{sym, subst}
 use Rattle.packet_ring.specs.declared.ring_back_end.RingBackEnd.{RingBackEnd}
 use Rattle.packet_ring.specs.Opening.{AreEnds}
-use Rattle.worked_threads.proofs.tests.ended_threads.begun.Goals as goal
+use Rattle.worked_threads.proofs.tests.ring_stream.begun.Goals as goal
 
 pub returns-in-Ok : goal.returns-in-Ok
 returns-in-Ok c e ends =

@@ -1,0 +1,9 @@
+//! What was found beside what is expected.
+
+use std::fmt::Debug;
+use std::process::Abort;
+
+/// Both are equal; else the test fails with these words.
+pub fn same<T: PartialEq + Debug + Drop>(rt: &impl Abort, found: T, expected: T, what: &str) {
+    assert_eq!(rt; found, expected, "{what}");
+}
