@@ -6,6 +6,7 @@ mod clock_values;
 mod context_faults;
 mod damaged_files;
 mod declined_ends;
+mod expected;
 mod found_in_files;
 mod gaps;
 mod header_faults;

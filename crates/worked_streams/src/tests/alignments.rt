@@ -1,5 +1,6 @@
 //! Alignments of structures, in a configuration and in the metadata that is read from its text.
 
+use crate::tests::expected::same;
 use crate::tests::stream_files::{Source, metadata_of};
 use ctf_types::{Config, Metadata, align_of};
 use std::alloc::Global;
@@ -91,13 +92,9 @@ fn aligns(
     changes: Changes,
     align: u32,
 ) -> Result<(), Fail> {
-    is_aligned(rt, shows, configured_align(alloc, changes)?, align);
-    is_aligned(rt, shows, read_align(alloc, changes)?, align);
+    same(rt, configured_align(alloc, changes)?, Some(align), shows);
+    same(rt, read_align(alloc, changes)?, Some(align), shows);
     Ok(())
-}
-
-fn is_aligned(rt: &impl Abort, shows: &str, found: Option<u32>, align: u32) {
-    assert_eq!(rt; found, Some(align), "{shows}");
 }
 
 /// The alignment of the payload of the configuration's first event record type.

@@ -3,6 +3,7 @@
 ghost use Rattle.std.specs.Prelude.{◌≡◌, ◌<◌, length};
 ghost use Rattle.ctf_types.specs.Allowed.{IsMetadata};
 
+use crate::tests::expected::same;
 use crate::tests::stream_files::{Source, ending, metadata_of};
 use ctf_types::Metadata;
 use packet_reader::StreamEnding;
@@ -46,7 +47,7 @@ fn reads_each_cut(
     for end in 0..file.len() {
         let (packets, ending) = ending(alloc, metadata, &file[..end])?;
         let is_whole = ending == StreamEnding::Whole;
-        assert_eq!(rt; (packets, is_whole), (0, end == 0), "{end} bytes");
+        same(rt, (packets, is_whole), (0, end == 0), end);
     }
     Ok(())
 }
@@ -67,11 +68,8 @@ fn reads_each_byte(
     for byte in 0..=255 {
         file[place] = byte;
         let (packets, ending) = ending(alloc, metadata, file)?;
-        let is_whole = ending == StreamEnding::Whole;
-        assert!(rt;
-            packets == 1 || packets == 0 && !is_whole,
-            "{byte} at {place}"
-        );
+        let is_none = packets == 0 && ending != StreamEnding::Whole;
+        same(rt, packets == 1 || is_none, true, (byte, place));
     }
     file[place] = own;
     Ok(())

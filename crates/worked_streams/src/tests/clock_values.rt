@@ -1,9 +1,9 @@
 //! Clock values that a reader finds in a stream file: which ones it compares, and when.
 
+use crate::tests::expected::same;
 use crate::tests::found_in_files::Told;
 use crate::tests::stream_files::{Source, Table, all_tell, metadata_text};
 use std::alloc::Global;
-use std::process::Abort;
 use std::test::Fail;
 use tsdl_reader::read_metadata;
 use worked_fixtures::Changes;
@@ -256,13 +256,9 @@ static OTHER_CONTEXTS: &[(Changes, &str)] = &[
 fn refuses_packets_whose_times_are_no_unsigned_integers(rt: HostRuntime) -> Result<(), Fail> {
     for (changes, kind) in OTHER_CONTEXTS {
         let found = refusal(rt.alloc(), *changes)?;
-        is_of_kind(&rt, *changes, found.as_str(), kind);
+        same(&rt, found.as_str(), *kind, *changes);
     }
     Ok(())
-}
-
-fn is_of_kind(rt: &impl Abort, changes: Changes, found: &str, kind: &str) {
-    assert_eq!(rt; found, kind, "{changes:?}");
 }
 
 /// The kind of the fault of the metadata text with these words.

@@ -1,5 +1,6 @@
 //! Stream files with bytes that nobody wrote, and files whose writer stopped.
 
+use crate::tests::expected::same;
 use crate::tests::found_in_files::Told;
 use crate::tests::rings::{ListStream, list_stream};
 use crate::tests::stream_files::{Source, Table, all_tell, told_of};
@@ -59,16 +60,10 @@ static STOPPED: &[(usize, &str)] = &[(20, "[2] Torn(16)"), (16, "[2] Whole")];
 
 const TWO_PACKETS: &str = "c11ffcc1 80000000 70000000 01020000 c11ffcc1 80000000 70000000 01020000";
 
-/// A stream with two packets of two records each, both closed.
-fn two_packets(rt: &impl Abort, alloc: Global) -> Result<ListStream, Fail> {
-    let mut stream = list_stream(alloc)?;
-    closes_both(rt, alloc, &mut stream)?;
-    Ok(stream)
-}
-
+/// Two packets of two records each are closed.
 fn closes_both(rt: &impl Abort, alloc: Global, stream: &mut ListStream) -> Result<(), Fail> {
     for _ in 0..2 {
-        assert!(rt; closes_a_packet(alloc, stream)?);
+        same(rt, closes_a_packet(alloc, stream)?, true, "a packet");
     }
     Ok(())
 }
@@ -86,9 +81,19 @@ pub fn closes_a_packet(alloc: Global, stream: &mut ListStream) -> Result<bool, F
 
 /// What a writer has of both packets that takes 5 bytes at a time, and no more than there is room for.
 fn collected(rt: &impl Abort, alloc: Global, room: usize) -> Result<Vec<u8>, Fail> {
-    let mut stream = two_packets(rt, alloc)?;
+    let mut stream = list_stream(alloc)?;
+    collected_of(rt, alloc, &mut stream, room)
+}
+
+fn collected_of(
+    rt: &impl Abort,
+    alloc: Global,
+    stream: &mut ListStream,
+    room: usize,
+) -> Result<Vec<u8>, Fail> {
+    closes_both(rt, alloc, stream)?;
     let mut sink = WriterSink::new(StoppingWriter::new(alloc, room, 5));
-    stops(rt, &mut sink, &mut stream);
+    stops(rt, &mut sink, stream);
     Ok(sink.into_writer().bytes)
 }
 
@@ -96,26 +101,18 @@ fn collected(rt: &impl Abort, alloc: Global, room: usize) -> Result<Vec<u8>, Fai
 fn stops(rt: &impl Abort, sink: &mut WriterSink<StoppingWriter>, stream: &mut ListStream) {
     let mut faulted = false;
     for want in [Collected::Took(0), Collected::Faulted, Collected::Faulted] {
-        is_answered(rt, collect_into(sink, &mut faulted, stream), want);
+        let answer = collect_into(sink, &mut faulted, stream);
+        same(rt, answer, want, "collected");
     }
-}
-
-/// A collection is answered so.
-pub fn is_answered(rt: &impl Abort, found: Collected, want: Collected) {
-    assert_eq!(rt; found, want);
 }
 
 #[test]
 fn reads_the_front_that_a_stopped_writer_took(rt: HostRuntime) -> Result<(), Fail> {
     for (room, want) in STOPPED {
         let found = front_found(&rt, rt.alloc(), *room)?;
-        is_found(&rt, *room, found.as_str(), want);
+        same(&rt, found.as_str(), *want, *room);
     }
     Ok(())
-}
-
-fn is_found(rt: &impl Abort, room: usize, found: &str, want: &str) {
-    assert_eq!(rt; found, want, "room for {room} bytes");
 }
 
 /// What a reader finds in the front of both packets for which a writer had room.
@@ -127,8 +124,13 @@ fn front_found(rt: &impl Abort, alloc: Global, room: usize) -> Result<String, Fa
 
 /// The front of both packets for which a writer had room, in hexadecimal.
 fn front(rt: &impl Abort, alloc: Global, room: usize) -> Result<String, Fail> {
-    let all = bytes_of(alloc, TWO_PACKETS)?;
     let written = collected(rt, alloc, room)?;
-    assert!(rt; written.len() == room && all.starts_with(written.as_slice()));
+    is_a_front(rt, alloc, written.as_slice(), room)?;
     Ok(hex::encode(alloc, written.as_slice())?)
+}
+
+fn is_a_front(rt: &impl Abort, alloc: Global, written: &[u8], room: usize) -> Result<(), Fail> {
+    let all = bytes_of(alloc, TWO_PACKETS)?;
+    same(rt, Some(written), all.as_slice().get(..room), room);
+    Ok(())
 }

@@ -1,5 +1,6 @@
 //! What a collector gathers by the end of a stream, where that end is given and where it is declined.
 
+use crate::tests::expected::same;
 use crate::tests::rings::{FIRST, SECOND, packet};
 use packet_collector::{FinishAnswer, finish_into};
 use std::alloc::Global;
@@ -41,35 +42,22 @@ fn gathers(
     want: FinishAnswer,
     packets: &str,
 ) -> Result<(), Fail> {
+    let mut sink = MemorySink::new(alloc);
+    let answer = ended(alloc, &mut sink, given)?;
+    same(rt, answer, (want, false), given);
     let bytes = bytes_of(alloc, packets)?;
-    let source = source(alloc)?;
-    let left = packet(alloc, 2)?;
-    ends(
-        rt,
-        MemorySink::new(alloc),
-        source,
-        StreamEnd {
-            left: Some(left),
-            done: given,
-        },
-        want,
-        bytes.as_slice(),
-    );
+    same(rt, sink.bytes(), bytes.as_slice(), given);
     Ok(())
 }
 
-/// What is answered at this end, and what the sink has then.
-fn ends(
-    rt: &impl Abort,
-    mut sink: MemorySink,
-    mut source: ScriptedSource,
-    end: StreamEnd<bool>,
-    want: FinishAnswer,
-    bytes: &[u8],
-) {
+/// What is answered at the end of a stream that left the second packet behind, and whether the sink faulted.
+fn ended(alloc: Global, sink: &mut MemorySink, given: bool) -> Result<(FinishAnswer, bool), Fail> {
+    let mut source = source(alloc)?;
+    let end = StreamEnd {
+        left: Some(packet(alloc, 2)?),
+        done: given,
+    };
     let mut faulted = false;
-    let answer = finish_into(&mut sink, &mut faulted, &mut source, end);
-    assert_eq!(rt; answer, want);
-    assert!(rt; !faulted);
-    assert_eq!(rt; sink.bytes(), bytes);
+    let answer = finish_into(sink, &mut faulted, &mut source, end);
+    Ok((answer, faulted))
 }

@@ -3,7 +3,8 @@
 
 ghost use Rattle.ctf_types.specs.Allowed.{IsMetadata};
 
-use crate::tests::stream_files::{Source, ending_of, metadata_of, stream_count};
+use crate::tests::expected::same;
+use crate::tests::stream_files::{Source, counted, ending_of, metadata_of, stream_count};
 use ctf_types::{Metadata, Text};
 use packet_reader::{PacketFault, ReadStop, StreamEnding, read_stream_from};
 use std::alloc::Global;
@@ -87,9 +88,7 @@ fn file(alloc: Global, bytes: u16) -> Result<Vec<u8>, Fail> {
     file.extend_from_slice(&[0xc1, 0x1f, 0xfc, 0xc1])?;
     file.extend_from_slice(&bits)?;
     file.extend_from_slice(&bits)?;
-    for _ in 12..bytes {
-        file.push(0xff)?;
-    }
+    file.resize(usize::from(bytes), 0xff)?;
     Ok(file)
 }
 
@@ -101,20 +100,30 @@ fn at_once(alloc: Global, changes: Changes, bytes: u16) -> Result<(usize, Stream
 
 /// The same packet by packet.
 fn in_turn(alloc: Global, changes: Changes, bytes: u16) -> Result<(usize, StreamEnding), Fail> {
-    let file = file(alloc, bytes)?;
     let metadata = metadata_of(alloc, Source::Words(changes))?;
-    Ok(ending_in_turn(alloc, &metadata, file.as_slice())?)
+    ending_in_turn(alloc, &metadata, bytes)
 }
 
 fn ending_in_turn(
+    alloc: Global,
+    metadata: &Metadata,
+    bytes: u16,
+) -> Result<(usize, StreamEnding), Fail>
+    requires { IsMetadata metadata.now }
+{
+    let file = file(alloc, bytes)?;
+    Ok(ending_from(alloc, metadata, file.as_slice())?)
+}
+
+fn ending_from(
     alloc: Global,
     metadata: &Metadata,
     file: &[u8],
 ) -> Result<(usize, StreamEnding), ReadStop>
     requires { IsMetadata metadata.now }
 {
-    let read = read_stream_from(alloc, metadata, Text::from_str(alloc, "a")?, file)?;
-    Ok((read.packets.len(), read.end))
+    let name = Text::from_str(alloc, "a")?;
+    Ok(counted(read_stream_from(alloc, metadata, name, file)?))
 }
 
 /// No packet is given in files of each length, and each ends so.
@@ -129,7 +138,7 @@ fn ends_at(rt: &impl Abort, alloc: Global, row: &Row, bytes: u16) -> Result<(), 
     let want = (0, row.1);
     let whole = at_once(alloc, row.0, bytes)?;
     let parts = in_turn(alloc, row.0, bytes)?;
-    assert_eq!(rt; (whole, parts), (want, want), "{bytes} bytes, {row:?}");
+    same(rt, (whole, parts), (want, want), (bytes, row));
     Ok(())
 }
 
@@ -143,35 +152,31 @@ fn reads_as_far_as_the_file_goes(rt: HostRuntime) -> Result<(), Fail> {
 
 #[test]
 fn makes_what_is_needed(rt: HostRuntime) -> Result<(), Fail> {
-    assert_eq!(rt; stream_count(rt.alloc(), Source::Words(NESTED))?, 1);
+    let streams = stream_count(rt.alloc(), Source::Words(NESTED))?;
+    same(&rt, streams, 1, "streams");
     Ok(())
-}
-
-/// A record passes the content.
-fn passes(rt: &impl Abort, ending: StreamEnding) {
-    assert_eq!(rt; ending, PAST);
 }
 
 #[test]
 fn reads_bits_in_a_short_file(rt: HostRuntime) -> Result<(), Fail> {
-    passes(&rt, at_once(rt.alloc(), BITS, 100)?.1);
+    same(&rt, at_once(rt.alloc(), BITS, 100)?.1, PAST, "bits");
     Ok(())
 }
 
 #[test]
 fn reads_bits_in_a_long_file(rt: HostRuntime) -> Result<(), Fail> {
-    passes(&rt, at_once(rt.alloc(), BITS, 10_000)?.1);
+    same(&rt, at_once(rt.alloc(), BITS, 10_000)?.1, PAST, "bits");
     Ok(())
 }
 
 #[test]
 fn reads_nested_bits(rt: HostRuntime) -> Result<(), Fail> {
-    passes(&rt, at_once(rt.alloc(), NESTED, 2000)?.1);
+    same(&rt, at_once(rt.alloc(), NESTED, 2000)?.1, PAST, "bits");
     Ok(())
 }
 
 #[test]
 fn reads_bits_packet_by_packet(rt: HostRuntime) -> Result<(), Fail> {
-    passes(&rt, in_turn(rt.alloc(), BITS, 10_000)?.1);
+    same(&rt, in_turn(rt.alloc(), BITS, 10_000)?.1, PAST, "bits");
     Ok(())
 }

@@ -1,14 +1,15 @@
 //! Calls that take memory, each answering want of memory in the words `out of memory` wherever a request is refused, and tracing, which takes none:
 //! the script beside the gate refuses each request of these tests in turn, and counts those of tracing.
 
-use crate::tests::rings::{ListStream, RingStream, list_stream, makes_empty, stream};
+use crate::tests::expected::same;
+use crate::tests::rings::{ListStream, RingStream, list_stream, makes_empty, ring_stream};
 use crate::tests::stream_files::{Source, ending_of, stream_count};
 use crate::tests::stream_steps::collects_any;
 use conf_check::configure;
 use ctf_types::Args;
 use packet_collector::{Collected, collect_into};
 use packet_reader::StreamEnding;
-use packet_ring::{RingEnd, ring};
+use packet_ring::RingEnd;
 use std::alloc::Global;
 use std::process::Abort;
 use std::test::Fail;
@@ -34,7 +35,7 @@ const FILE: &[u8] = &[
 
 #[test]
 fn makes_a_configuration(rt: HostRuntime) -> Result<(), Fail> {
-    assert_eq!(rt; configured_streams(rt.alloc())?, 2);
+    same(&rt, configured_streams(rt.alloc())?, 2, "stream types");
     Ok(())
 }
 
@@ -50,7 +51,7 @@ fn refuses_a_configuration(rt: HostRuntime) -> Result<(), Fail> {
     let alloc = rt.alloc();
     let both = r#""trace-byte-order":"be","native-byte-order""#;
     let text = granted(RICH.replace(alloc, r#""native-byte-order""#, both))?;
-    assert!(rt; refusal_length(alloc, text.as_str())? == 2);
+    same(&rt, refusal_length(alloc, text.as_str())?, 2, "steps");
     Ok(())
 }
 
@@ -70,14 +71,14 @@ fn refusal_length(alloc: Global, text: &str) -> Result<usize, Fail> {
 #[test]
 fn writes_and_reads_metadata(rt: HostRuntime) -> Result<(), Fail> {
     let streams = stream_count(rt.alloc(), Source::Written(RICH, &[], None))?;
-    assert_eq!(rt; streams, 2);
+    same(&rt, streams, 2, "stream types");
     Ok(())
 }
 
 #[test]
 fn reads_strings_and_lists(rt: HostRuntime) -> Result<(), Fail> {
     let found = ending_of(rt.alloc(), Source::Written(SMALL, WITH_LISTS, None), FILE)?;
-    assert_eq!(rt; found, (1, StreamEnding::Whole));
+    same(&rt, found, (1, StreamEnding::Whole), "a packet");
     Ok(())
 }
 
@@ -93,20 +94,25 @@ fn traces_a_thousand_records(rt: HostRuntime) -> Result<(), Fail> {
 
 /// Traces so many records with one list of arguments, and takes each packet as it is closed.
 fn traces(rt: &impl Abort, alloc: Global, records: u32) -> Result<(), Fail> {
-    let args = payload(alloc, &[Datum::Unsigned(7)])?;
     let mut stream = list_stream(alloc)?;
-    traces_each(rt, &mut stream, &args, records);
+    traces_each(rt, alloc, &mut stream, records)
+}
+
+fn traces_each(
+    rt: &impl Abort,
+    alloc: Global,
+    stream: &mut ListStream,
+    records: u32,
+) -> Result<(), Fail> {
+    let args = payload(alloc, &[Datum::Unsigned(7)])?;
+    for _ in 0..records {
+        is_accepted(rt, traced(stream, &args));
+    }
     Ok(())
 }
 
-fn traces_each(rt: &impl Abort, stream: &mut ListStream, args: &Args, records: u32) {
-    for _ in 0..records {
-        is_accepted(rt, traced(stream, args));
-    }
-}
-
 fn is_accepted(rt: &impl Abort, answer: Verdict) {
-    assert_eq!(rt; answer, Verdict::Accepted(None));
+    same(rt, answer, Verdict::Accepted(None), "a call");
 }
 
 /// What is answered to a call; a packet that it closed is taken, and its buffer goes back.
@@ -128,23 +134,22 @@ fn traces_a_thousand_records_over_a_ring(rt: HostRuntime) -> Result<(), Fail> {
 
 /// Traces so many records over a ring of one place, and takes each packet as it is closed.
 fn traces_over_a_ring(rt: &impl Abort, alloc: Global, records: u32) -> Result<(), Fail> {
-    let args = payload(alloc, &[Datum::Unsigned(7)])?;
-    let (back_end, mut ring_end) = ring(alloc, 1, 16)?;
-    let mut stream = stream(alloc, back_end)?;
-    traces_each_over_a_ring(rt, &mut stream, &mut ring_end, &args, records);
-    Ok(())
+    let (mut stream, mut ring_end) = ring_stream(alloc)?;
+    traces_each_over_a_ring(rt, alloc, &mut stream, &mut ring_end, records)
 }
 
 fn traces_each_over_a_ring(
     rt: &impl Abort,
+    alloc: Global,
     stream: &mut RingStream,
     ring_end: &mut RingEnd,
-    args: &Args,
     records: u32,
-) {
+) -> Result<(), Fail> {
+    let args = payload(alloc, &[Datum::Unsigned(7)])?;
     for _ in 0..records {
-        is_accepted(rt, traced_over_a_ring(stream, ring_end, args));
+        is_accepted(rt, traced_over_a_ring(stream, ring_end, &args));
     }
+    Ok(())
 }
 
 fn traced_over_a_ring(stream: &mut RingStream, ring_end: &mut RingEnd, args: &Args) -> Verdict {
@@ -159,11 +164,13 @@ fn traced_over_a_ring(stream: &mut RingStream, ring_end: &mut RingEnd, args: &Ar
 /// made, whichever request is refused: there is none.
 #[test]
 fn collects_300_packets_over_a_ring(rt: HostRuntime) -> Result<(), Fail> {
-    let alloc = rt.alloc();
-    let mut sink = MemorySink::with_capacity(alloc, 300 * 16)?;
-    let (back_end, mut ring_end) = ring(alloc, 1, 16)?;
-    let mut stream = stream(alloc, back_end)?;
-    collects_each(&rt, &mut stream, &mut ring_end, &mut sink);
+    let mut sink = MemorySink::with_capacity(rt.alloc(), 300 * 16)?;
+    collects_over_a_ring(&rt, rt.alloc(), &mut sink)
+}
+
+fn collects_over_a_ring(rt: &impl Abort, alloc: Global, sink: &mut MemorySink) -> Result<(), Fail> {
+    let (mut stream, mut ring_end) = ring_stream(alloc)?;
+    collects_each(rt, &mut stream, &mut ring_end, sink);
     Ok(())
 }
 
@@ -176,10 +183,7 @@ fn collects_each(
     let mut faulted = false;
     for number in 0..300 {
         let made = makes_empty(stream);
-        is_taken(rt, made, collect_into(sink, &mut faulted, ring_end), number);
+        let answer = collect_into(sink, &mut faulted, ring_end);
+        same(rt, (made, answer), (true, Collected::Took(number)), number);
     }
-}
-
-fn is_taken(rt: &impl Abort, made: bool, answer: Collected, number: u64) {
-    assert_eq!(rt; (made, answer), (true, Collected::Took(number)));
 }

@@ -2,12 +2,12 @@
 
 ghost use Rattle.ctf_types.specs.Allowed.{IsMetadata};
 
+use crate::tests::expected::same;
 use crate::tests::stream_files::{Source, metadata_of};
 use ctf_types::{ListOf, Metadata, ReadPacket, Text, Values};
 use packet_reader::{ReadStop, StreamEnding, StreamReader};
-use std::alloc::{AllocError, Global};
+use std::alloc::Global;
 use std::io::{Error, ErrorKind, Read, Result as ReadResult};
-use std::process::Abort;
 use std::test::Fail;
 use worked_fixtures::{SMALL, bytes_of};
 
@@ -62,15 +62,22 @@ pub fn next_records<R: Read>(reader: &mut StreamReader<'_, R>) -> Result<Option<
 /// What three calls of a reader answer: each so many records, no packet or a stop, and then how the file ends.
 type Answers = ([Result<Option<usize>, ReadStop>; 3], Option<StreamEnding>);
 
-fn answers(alloc: Global, input: Pieces) -> Result<Answers, Fail> {
+fn answers(alloc: Global, piece: usize, room: usize, fails: bool) -> Result<Answers, Fail> {
     let metadata = metadata_of(alloc, Source::Written(SMALL, &[], None))?;
-    Ok(answers_by(alloc, &metadata, input)?)
+    answers_by(alloc, &metadata, piece, room, fails)
 }
 
-fn answers_by(alloc: Global, metadata: &Metadata, input: Pieces) -> Result<Answers, AllocError>
+fn answers_by(
+    alloc: Global,
+    metadata: &Metadata,
+    piece: usize,
+    room: usize,
+    fails: bool,
+) -> Result<Answers, Fail>
     requires { IsMetadata metadata.now }
 {
     let name = Text::from_str(alloc, "a")?;
+    let input = reader_of(alloc, piece, room, fails)?;
     let mut reader = StreamReader::new(alloc, metadata, name, input);
     let first = next_records(&mut reader);
     let second = next_records(&mut reader);
@@ -81,51 +88,40 @@ fn answers_by(alloc: Global, metadata: &Metadata, input: Pieces) -> Result<Answe
 #[test]
 fn reads_few_bytes_at_a_time(rt: HostRuntime) -> Result<(), Fail> {
     for piece in [1, 7] {
-        let found = answers(rt.alloc(), reader_of(rt.alloc(), piece, 20, false)?)?;
-        is_cut(&rt, piece, &found);
+        let found = answers(rt.alloc(), piece, 20, false)?;
+        let calls = [Ok(Some(2)), Ok(None), Ok(None)];
+        same(&rt, found, (calls, Some(StreamEnding::Torn(16))), piece);
     }
     Ok(())
-}
-
-fn is_cut(rt: &impl Abort, piece: usize, found: &Answers) {
-    let calls = [Ok(Some(2)), Ok(None), Ok(None)];
-    assert_eq!(rt;
-        *found,
-        (calls, Some(StreamEnding::Torn(16))),
-        "{piece} bytes"
-    );
 }
 
 #[test]
 fn keeps_a_fault_of_the_reader(rt: HostRuntime) -> Result<(), Fail> {
     let fault = ReadStop::ReaderFault;
-    let found = answers(rt.alloc(), reader_of(rt.alloc(), 20, 16, true)?)?;
-    assert_eq!(rt; found, ([Ok(Some(2)), Err(fault), Err(fault)], None));
+    let found = answers(rt.alloc(), 20, 16, true)?;
+    let calls = [Ok(Some(2)), Err(fault), Err(fault)];
+    same(&rt, found, (calls, None), "a fault");
     Ok(())
 }
 
 #[test]
 fn refills_the_packet_in_hand(rt: HostRuntime) -> Result<(), Fail> {
     let found = refills(rt.alloc())?;
-    assert_eq!(rt; found, [(true, 2), (false, 0), (false, 0)]);
+    same(&rt, found, [(true, 2), (false, 0), (false, 0)], "calls");
     Ok(())
 }
 
 /// Whether each of three calls fills the packet, and how many records it has then.
 fn refills(alloc: Global) -> Result<[(bool, usize); 3], Fail> {
-    let input = reader_of(alloc, 7, 20, false)?;
     let metadata = metadata_of(alloc, Source::Written(SMALL, &[], None))?;
-    Ok(refills_by(alloc, &metadata, input)?)
+    refills_by(alloc, &metadata)
 }
 
-fn refills_by(
-    alloc: Global,
-    metadata: &Metadata,
-    input: Pieces,
-) -> Result<[(bool, usize); 3], ReadStop>
+fn refills_by(alloc: Global, metadata: &Metadata) -> Result<[(bool, usize); 3], Fail>
     requires { IsMetadata metadata.now }
 {
     let name = Text::from_str(alloc, "a")?;
+    let input = reader_of(alloc, 7, 20, false)?;
     let mut packet = no_packet(alloc);
     let mut reader = StreamReader::new(alloc, metadata, name, input);
     three_refills(&mut reader, &mut packet)
@@ -134,7 +130,7 @@ fn refills_by(
 fn three_refills(
     reader: &mut StreamReader<'_, Pieces>,
     packet: &mut ReadPacket,
-) -> Result<[(bool, usize); 3], ReadStop> {
+) -> Result<[(bool, usize); 3], Fail> {
     let first = refilled(reader, packet)?;
     let second = refilled(reader, packet)?;
     let third = refilled(reader, packet)?;

@@ -1,10 +1,11 @@
 //! Buffers that go round between a stream and a collector over a ring.
 
-use crate::tests::damaged_files::{closes_a_packet, is_answered};
-use crate::tests::rings::{ListStream, RingStream, makes_empty, opened, stream};
+use crate::tests::damaged_files::closes_a_packet;
+use crate::tests::expected::same;
+use crate::tests::rings::{ListStream, RingStream, makes_empty, opened, ring_stream, stream};
 use crate::tests::stream_steps::collects as takes;
 use packet_collector::{Collected, collect_into};
-use packet_ring::{RingEnd, ring};
+use packet_ring::RingEnd;
 use std::alloc::Global;
 use std::process::Abort;
 use std::test::Fail;
@@ -32,8 +33,7 @@ fn gives_back_over_a_ring(
     alloc: Global,
     sink: &mut ScriptedSink,
 ) -> Result<(), Fail> {
-    let (back_end, mut ring_end) = ring(alloc, 1, 16)?;
-    let mut stream = stream(alloc, back_end)?;
+    let (mut stream, mut ring_end) = ring_stream(alloc)?;
     gives_back(rt, &mut stream, &mut ring_end, sink);
     Ok(())
 }
@@ -46,21 +46,20 @@ fn gives_back(
 ) {
     let mut faulted = false;
     assert!(rt; makes_empty(stream));
-    is_answered(
-        rt,
-        collects(sink, &mut faulted, ring_end),
-        Collected::Faulted,
-    );
+    let answer = collects(sink, &mut faulted, ring_end);
+    same(rt, answer, Collected::Faulted, "collected");
     assert!(rt; makes_empty(stream));
     assert!(rt; makes_empty(stream));
     for _ in 0..2 {
         let full = opened(stream);
-        stays_full(rt, full, collects(sink, &mut faulted, ring_end));
+        let answers = (full, collects(sink, &mut faulted, ring_end));
+        same(
+            rt,
+            answers,
+            (PacketAnswer::Full, Collected::Faulted),
+            "full",
+        );
     }
-}
-
-fn stays_full(rt: &impl Abort, full: PacketAnswer, answer: Collected) {
-    assert_eq!(rt; (full, answer), (PacketAnswer::Full, Collected::Faulted));
 }
 
 /// What stood in a buffer is in no packet.

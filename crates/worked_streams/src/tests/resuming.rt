@@ -2,6 +2,7 @@
 
 ghost use Rattle.ctf_types.specs.Allowed.{IsMetadata};
 
+use crate::tests::expected::same;
 use crate::tests::found_in_files::Told;
 use crate::tests::gaps::packets_of_300;
 use crate::tests::short_timestamps::{ONE_BIT, PAUSED_FIRST, PAUSED_SECOND, SHORT};
@@ -9,7 +10,7 @@ use crate::tests::stream_files::{Source, Table, all_tell, metadata_of, read};
 use crate::tests::stream_steps::{Round, START, Start, Step, runs_over_a_list};
 use ctf_types::Metadata;
 use packet_reader::{ResumePoint, gaps, resume_point};
-use std::alloc::{AllocError, Global};
+use std::alloc::Global;
 use std::process::Abort;
 use std::test::Fail;
 use thread_stream::{PacketAnswer, Verdict};
@@ -180,9 +181,9 @@ static BEHIND_300_PACKETS: Row = Row {
 #[test]
 fn goes_on_behind_a_file(rt: HostRuntime) -> Result<(), Fail> {
     let alloc = rt.alloc();
-    let paused = format!(in alloc; "{PAUSED_FIRST} {PAUSED_SECOND}")?;
     goes_on(&rt, alloc, &BEHIND_A_DISCARDED_CALL, COUNTED_FILE)?;
     goes_on(&rt, alloc, &BEHIND_NO_PACKET, "")?;
+    let paused = format!(in alloc; "{PAUSED_FIRST} {PAUSED_SECOND}")?;
     goes_on(&rt, alloc, &BEHIND_SHORT_TIMESTAMPS, paused.as_str())
 }
 
@@ -195,16 +196,11 @@ fn goes_on_where_numbers_went_round(rt: HostRuntime) -> Result<(), Fail> {
 /// Behind the file, in hexadecimal, stands the row's point, and a stream that goes on there adds what the row says.
 fn goes_on(rt: &impl Abort, alloc: Global, row: &Row, file: &str) -> Result<(), Fail> {
     let (point, _) = behind(alloc, &row.start, file)?;
-    is_at(rt, row.shows, point, row.point);
+    same(rt, point, Some(row.point), row.shows);
     adds(rt, alloc, row)?;
-    let (point, gaps) = behind_more(alloc, row, file)?;
-    is_at(rt, row.shows, point, row.behind);
-    assert_eq!(rt; gaps, row.gaps, "{}", row.shows);
+    let found = behind_more(alloc, row, file)?;
+    same(rt, found, (Some(row.behind), row.gaps), row.shows);
     Ok(())
-}
-
-fn is_at(rt: &impl Abort, shows: &str, found: Option<ResumePoint>, want: ResumePoint) {
-    assert_eq!(rt; found, Some(want), "{shows}");
 }
 
 /// The same behind the file with what the row adds.
@@ -217,13 +213,19 @@ fn behind_more(alloc: Global, row: &Row, file: &str) -> Result<Behind, Fail> {
 type Behind = (Option<ResumePoint>, Option<u64>);
 
 fn behind(alloc: Global, start: &Start, file: &str) -> Result<Behind, Fail> {
-    let bytes = bytes_of(alloc, file)?;
     let source = Source::Written(start.text, start.changes, start.number);
     let metadata = metadata_of(alloc, source)?;
-    Ok(behind_bytes(alloc, &metadata, bytes.as_slice())?)
+    behind_file(alloc, &metadata, file)
 }
 
-fn behind_bytes(alloc: Global, metadata: &Metadata, bytes: &[u8]) -> Result<Behind, AllocError>
+fn behind_file(alloc: Global, metadata: &Metadata, file: &str) -> Result<Behind, Fail>
+    requires { IsMetadata metadata.now }
+{
+    let bytes = bytes_of(alloc, file)?;
+    behind_bytes(alloc, metadata, bytes.as_slice())
+}
+
+fn behind_bytes(alloc: Global, metadata: &Metadata, bytes: &[u8]) -> Result<Behind, Fail>
     requires { IsMetadata metadata.now }
 {
     let read = read(alloc, metadata, bytes)?;

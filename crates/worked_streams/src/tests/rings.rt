@@ -4,6 +4,7 @@ ghost use Rattle.std.specs.Prelude.{◌≡◌};
 ghost use Rattle.ctf_types.specs.AllowedConfig.{IsConfig};
 ghost use Rattle.packet_ring.specs.Taking.{SameRing};
 
+use crate::tests::expected::same;
 use ctf_types::{Args, Config, Values};
 use packet_ring::{RingBackEnd, RingEnd, ring};
 use packet_writer::Packet;
@@ -22,19 +23,18 @@ const EMPTY: &str = "c11ffcc1 80000000 60000000 00000000";
 
 /// A stream of the small configuration over this back end.
 pub fn stream<B: BackEnd + Drop>(alloc: Global, back_end: B) -> Result<Stream<ListClock, B>, Fail> {
-    let clock = ListClock::new(Vec::new(alloc)).ok_or("readings that fall")?;
     let config = small(alloc, &[])?;
-    begun(alloc, &config, clock, back_end)
+    begun(alloc, &config, back_end)
 }
 
 fn begun<B: BackEnd + Drop>(
     alloc: Global,
     config: &Config,
-    clock: ListClock,
     back_end: B,
 ) -> Result<Stream<ListClock, B>, Fail>
     requires { IsConfig config.now }
 {
+    let clock = ListClock::new(Vec::new(alloc)).ok_or("readings that fall")?;
     match Stream::new(alloc, config, "s", clock, back_end, Values::new(alloc)) {
         Ok(stream) => Ok(stream),
         Err(refused) => Err(Fail::new(refused.fault)),
@@ -44,6 +44,13 @@ fn begun<B: BackEnd + Drop>(
 /// A stream of the small configuration over a list of two buffers of 16 bytes.
 pub fn list_stream(alloc: Global) -> Result<ListStream, Fail> {
     stream(alloc, ListBackEnd::new(alloc, 2, 16)?)
+}
+
+/// A stream of the small configuration over a ring of one place, and the ring's other end.
+pub fn ring_stream(alloc: Global) -> Result<(RingStream, RingEnd), Fail> {
+    let (back_end, ring_end) = ring(alloc, 1, 16)?;
+    let stream = stream(alloc, back_end)?;
+    Ok((stream, ring_end))
 }
 
 /// Whether the next packet is these bytes; its buffer goes back.
@@ -119,33 +126,42 @@ fn holds(
     nine: &[u8],
     args: &Args,
 ) -> Result<(), Fail> {
-    let (back_end, mut ring_end) = ring(alloc, 1, 16)?;
-    let mut stream = stream(alloc, back_end)?;
-    assert!(rt; makes_empty(&mut stream));
-    assert!(rt; makes_empty(&mut stream));
-    are_of_a_full_ring(rt, answers(&mut stream, &mut ring_end, empty, args));
-    assert!(rt; leaves(stream, nine));
-    assert!(rt; ends(&mut ring_end, empty));
+    let (mut stream, mut ring_end) = ring_stream(alloc)?;
+    fills(rt, &mut stream, &mut ring_end, empty, args);
+    same(rt, leaves(stream, nine), true, "the packet that is left");
+    same(rt, ends(&mut ring_end, empty), true, "the last packet");
     Ok(())
 }
 
-fn are_of_a_full_ring(rt: &impl Abort, answers: (PacketAnswer, Verdict, bool, Verdict)) {
+/// Two packets fill the ring.
+fn fills(
+    rt: &impl Abort,
+    stream: &mut RingStream,
+    ring_end: &mut RingEnd,
+    empty: &[u8],
+    args: &Args,
+) {
+    same(rt, makes_empty(stream), true, "a packet");
+    same(rt, makes_empty(stream), true, "a second packet");
     let lost = Verdict::Discarded(Why::BackEndFull);
-    assert_eq!(rt;
-        answers,
-        (PacketAnswer::Full, lost, true, Verdict::Accepted(None))
+    let want = (PacketAnswer::Full, lost, true, Verdict::Accepted(None));
+    same(
+        rt,
+        answers(stream, ring_end, empty, args),
+        want,
+        "a full ring",
     );
 }
 
 /// A closed packet of 16 bytes with this number.
 pub fn packet(alloc: Global, number: u64) -> Result<Packet, Fail> {
-    let args = payload(alloc, &[Datum::Unsigned(number)])?;
     let mut stream = list_stream(alloc)?;
-    closed_packet(&mut stream, &args)
+    closed_packet(alloc, &mut stream, number)
 }
 
-fn closed_packet(stream: &mut ListStream, args: &Args) -> Result<Packet, Fail> {
-    stream.trace(0, args);
+fn closed_packet(alloc: Global, stream: &mut ListStream, number: u64) -> Result<Packet, Fail> {
+    let args = payload(alloc, &[Datum::Unsigned(number)])?;
+    stream.trace(0, &args);
     stream.close_packet();
     Ok(stream.take().ok_or("no packet")?)
 }
@@ -187,7 +203,7 @@ fn hands_over_in_order_and_settles(rt: HostRuntime) -> Result<(), Fail> {
     let first = packet(rt.alloc(), 1)?;
     let second = packet(rt.alloc(), 2)?;
     let answers = hands_over(rt.alloc(), first, second)?;
-    assert_eq!(rt; answers, [true; 8]);
+    same(&rt, answers, [true; 8], "answers");
     Ok(())
 }
 
@@ -199,13 +215,9 @@ fn hands(alloc: Global, back_end: &mut RingBackEnd, number: u64) -> Result<bool,
 /// Each of three packets is taken or handed back.
 fn hands_three(rt: &impl Abort, alloc: Global, back_end: &mut RingBackEnd) -> Result<(), Fail> {
     for (number, want) in [(1, true), (2, true), (3, false)] {
-        is_handed(rt, number, hands(alloc, back_end, number)?, want);
+        same(rt, hands(alloc, back_end, number)?, want, number);
     }
     Ok(())
-}
-
-fn is_handed(rt: &impl Abort, number: u64, found: bool, want: bool) {
-    assert_eq!(rt; found, want, "packet {number}");
 }
 
 #[test]
@@ -224,8 +236,13 @@ fn hands_back_a_third(
 ) -> Result<(), Fail> {
     let (mut back_end, mut ring_end) = ring(alloc, 2, 16)?;
     hands_three(rt, alloc, &mut back_end)?;
-    assert!(rt; takes(&mut ring_end, first));
-    assert!(rt; takes(&mut ring_end, second));
-    assert!(rt; ring_end.take().is_none());
+    gives_both(rt, &mut ring_end, first, second);
     Ok(())
+}
+
+/// A ring gives these two packets, and no more.
+fn gives_both(rt: &impl Abort, ring_end: &mut RingEnd, first: &[u8], second: &[u8]) {
+    let both = (takes(ring_end, first), takes(ring_end, second));
+    let no_more = ring_end.take().is_none();
+    same(rt, (both, no_more), ((true, true), true), "packets");
 }

@@ -3,8 +3,9 @@
 ghost use Rattle.std.specs.Prelude.{IfOk};
 ghost use Rattle.ctf_types.specs.Allowed.{IsMetadata};
 
+use crate::tests::expected::same;
 use crate::tests::found_in_files::{Told, shown};
-use ctf_types::{Metadata, Text};
+use ctf_types::{Config, Metadata, Text};
 use packet_reader::{ReadStream, StreamEnding, read_stream};
 use std::alloc::{AllocError, Global};
 use std::process::Abort;
@@ -18,7 +19,7 @@ const SMALL_METADATA: &str =
     r#"/* CTF 1.8 */ trace { major = 1; minor = 8; byte_order = le; IDENTITY packet.header := struct { HEADER }; }; stream { id = STREAM; packet.context := struct { CONTEXT }; event.header := struct { RECORD }; event.context := struct { COMMON }; }; event { name = "e"; id = EVENT; stream_id = STREAM; context := struct { SPECIFIC }; fields := struct { FIELDS }; }; BLOCKS"#;
 
 /// What a word of `SMALL_METADATA` is where a table says nothing of it.
-static PLAIN: &[(&str, &str)] = &[
+static PLAIN: Changes = &[
     ("IDENTITY", ""),
     ("HEADER", "U32 magic;"),
     ("STREAM", "0"),
@@ -35,7 +36,7 @@ static PLAIN: &[(&str, &str)] = &[
 ];
 
 /// What metadata is read from.
-#[derive(Clone, Copy, Debug)]
+#[derive(Clone, Copy)]
 pub enum Source {
     /// `SMALL_METADATA` with these words in the place of its own.
     Words(Changes),
@@ -46,22 +47,19 @@ pub enum Source {
 /// The metadata text of this source.
 pub fn metadata_text(alloc: Global, source: Source) -> Result<String, Fail> {
     match source {
-        Source::Words(changes) => replaced(alloc, changes),
+        Source::Words(changes) => Ok(spelled(alloc, changes)?),
         Source::Written(text, changes, number) => written(alloc, text, changes, number),
     }
 }
 
-fn replaced(alloc: Global, changes: Changes) -> Result<String, Fail> {
-    let mut text = String::from_str(alloc, SMALL_METADATA)?;
-    for (word, meaning) in changes {
-        text = text.replace(alloc, *word, meaning)?;
-    }
-    Ok(plain(alloc, text)?)
+fn spelled(alloc: Global, changes: Changes) -> Result<String, AllocError> {
+    let text = String::from_str(alloc, SMALL_METADATA)?;
+    replaced(alloc, replaced(alloc, text, changes)?, PLAIN)
 }
 
-fn plain(alloc: Global, text: String) -> Result<String, AllocError> {
+fn replaced(alloc: Global, text: String, words: Changes) -> Result<String, AllocError> {
     let mut text = text;
-    for (word, meaning) in PLAIN {
+    for (word, meaning) in words {
         text = text.replace(alloc, *word, meaning)?;
     }
     Ok(text)
@@ -74,8 +72,16 @@ fn written(
     number: Option<u128>,
 ) -> Result<String, Fail> {
     let text = changed(alloc, text, changes)?;
-    let config = configured(alloc, text.as_str(), number)?;
-    Ok(write_metadata(alloc, &config)?)
+    written_of(alloc, text.as_str(), number)
+}
+
+fn written_of(alloc: Global, text: &str, number: Option<u128>) -> Result<String, Fail> {
+    let config = configured(alloc, text, number)?;
+    text_of(alloc, &config)
+}
+
+fn text_of(alloc: Global, config: &Config) -> Result<String, Fail> {
+    Ok(write_metadata(alloc, config)?)
 }
 
 /// The metadata that is read from this source.
@@ -105,11 +111,15 @@ pub fn ending(
     alloc: Global,
     metadata: &Metadata,
     bytes: &[u8],
-) -> Result<(usize, StreamEnding), AllocError>
+) -> Result<(usize, StreamEnding), Fail>
     requires { IsMetadata metadata.now }
 {
-    let read = read(alloc, metadata, bytes)?;
-    Ok((read.packets.len(), read.end))
+    Ok(counted(read(alloc, metadata, bytes)?))
+}
+
+/// How many packets a reader found, and how they end.
+pub fn counted(read: ReadStream) -> (usize, StreamEnding) {
+    (read.packets.len(), read.end)
 }
 
 /// Metadata, what is told of each file by it, and the files, a line each: what the file shows, its bytes in hexadecimal, and what is told, as
@@ -134,12 +144,8 @@ fn files_tell(rt: &impl Abort, alloc: Global, table: &Table) -> Result<(), Fail>
 fn file_tells(rt: &impl Abort, alloc: Global, table: &Table, line: &str) -> Result<(), Fail> {
     let (shows, digits, want) = file_line(line).ok_or("a line without a file or an answer")?;
     let found = told_of(alloc, table.0, table.1, digits)?;
-    is_told(rt, shows, found.as_str(), want);
+    same(rt, found.as_str(), want, shows);
     Ok(())
-}
-
-fn is_told(rt: &impl Abort, shows: &str, found: &str, want: &str) {
-    assert_eq!(rt; found, want, "{shows}");
 }
 
 /// What a file shows, its bytes in hexadecimal, and what is told of it.
@@ -176,5 +182,5 @@ pub fn ending_of(
     bytes: &[u8],
 ) -> Result<(usize, StreamEnding), Fail> {
     let metadata = metadata_of(alloc, source)?;
-    Ok(ending(alloc, &metadata, bytes)?)
+    ending(alloc, &metadata, bytes)
 }

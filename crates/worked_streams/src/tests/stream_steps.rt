@@ -3,6 +3,7 @@
 ghost use Rattle.std.specs.Prelude.{IfOk};
 ghost use Rattle.ctf_types.specs.AllowedConfig.{IsConfig};
 
+use crate::tests::expected::same;
 use ctf_types::{Config, Values};
 use std::alloc::Global;
 use std::process::Abort;
@@ -82,23 +83,12 @@ pub fn all_run(rt: &impl Abort, alloc: Global, rows: &[Row]) -> Result<(), Fail>
 /// A row runs over a list.
 pub fn runs_over_a_list(rt: &impl Abort, alloc: Global, row: &Row) -> Result<(), Fail> {
     let back_end = list_back_end(alloc, &row.1)?;
-    runs(rt, alloc, back_end, row)?;
-    Ok(())
-}
-
-/// The stream of a row over this back end behind its steps, each of which answers what it says.
-pub fn runs<B: OwnBackEnd + Drop>(
-    rt: &impl Abort,
-    alloc: Global,
-    back_end: B,
-    row: &Row,
-) -> Result<Stream<ListClock, B>, Fail> {
     let mut stream = made(alloc, &row.1, back_end)?;
-    takes_rounds(rt, alloc, &mut stream, row)?;
-    Ok(stream)
+    takes_rounds(rt, alloc, &mut stream, row)
 }
 
-fn takes_rounds<B: OwnBackEnd>(
+/// The stream takes the steps of a row, each of which answers what it says.
+pub fn takes_rounds<B: OwnBackEnd>(
     rt: &impl Abort,
     alloc: Global,
     stream: &mut Stream<ListClock, B>,
@@ -132,13 +122,9 @@ fn takes_steps<B: OwnBackEnd>(
     steps: &[Step],
 ) -> Result<(), Fail> {
     for (number, step) in steps.iter().enumerate() {
-        is_as_said(rt, shows, number, answers(alloc, stream, step)?);
+        same(rt, answers(alloc, stream, step)?, true, (shows, number));
     }
     Ok(())
-}
-
-fn is_as_said(rt: &impl Abort, shows: &str, number: usize, answers: bool) {
-    assert!(rt; answers, "{shows}: step {number}");
 }
 
 /// Whether a step answers what it says.
@@ -231,14 +217,26 @@ pub fn collects_any<B: OwnBackEnd>(stream: &mut Stream<ListClock, B>) -> bool {
     }
 }
 
-fn made<B: OwnBackEnd + Drop>(
+/// The stream of a start over this back end.
+pub fn made<B: OwnBackEnd + Drop>(
     alloc: Global,
     start: &Start,
     back_end: B,
 ) -> Result<Stream<ListClock, B>, Fail> {
     let config = configuration(alloc, start)?;
+    made_by(alloc, start, &config, back_end)
+}
+
+fn made_by<B: OwnBackEnd + Drop>(
+    alloc: Global,
+    start: &Start,
+    config: &Config,
+    back_end: B,
+) -> Result<Stream<ListClock, B>, Fail>
+    requires { IsConfig config.now }
+{
     let (clock, extras) = parts(alloc, start)?;
-    match begun(alloc, start, &config, clock, back_end, extras) {
+    match begun(alloc, start, config, clock, back_end, extras) {
         Ok(stream) => Ok(stream),
         Err(fault) => Err(Fail::new(fault)),
     }

@@ -1,7 +1,8 @@
 //! Streams: what each call answers, and the bytes of the packets.
 
+use crate::tests::expected::same;
 use crate::tests::stream_steps::{
-    Round, Row, START, Start, Step, all_run, list_back_end, runs, start_fault,
+    Round, Row, START, Start, Step, all_run, list_back_end, made, start_fault, takes_rounds,
 };
 use ctf_types::ArgFault;
 use std::alloc::Global;
@@ -296,8 +297,8 @@ fn holds_a_packet_that_comes_back(rt: HostRuntime) -> Result<(), Fail> {
 }
 
 fn runs_handed_back(rt: &impl Abort, alloc: Global) -> Result<(), Fail> {
-    runs(rt, alloc, handing_back(alloc)?, &HANDED_BACK)?;
-    Ok(())
+    let mut stream = made(alloc, &HANDED_BACK.1, handing_back(alloc)?)?;
+    takes_rounds(rt, alloc, &mut stream, &HANDED_BACK)
 }
 
 /// A list that hands the first packet back.
@@ -324,14 +325,16 @@ static UNFINISHED: Row = (
 #[test]
 fn finishes_an_open_packet(rt: HostRuntime) -> Result<(), Fail> {
     let bytes = bytes_of(rt.alloc(), "c11ffcc1 80000000 70000000 01020000")?;
-    assert!(rt; finishes(&rt, rt.alloc(), bytes.as_slice())?);
+    let handed_over = finishes(&rt, rt.alloc(), bytes.as_slice())?;
+    same(&rt, handed_over, true, "a packet");
     Ok(())
 }
 
 /// Whether the unfinished stream hands these bytes over at its end.
 fn finishes(rt: &impl Abort, alloc: Global, bytes: &[u8]) -> Result<bool, Fail> {
     let back_end = list_back_end(alloc, &START)?;
-    let stream = runs(rt, alloc, back_end, &UNFINISHED)?;
+    let mut stream = made(alloc, &UNFINISHED.1, back_end)?;
+    takes_rounds(rt, alloc, &mut stream, &UNFINISHED)?;
     Ok(hands_over_at_the_end(stream, bytes))
 }
 
@@ -380,11 +383,7 @@ static STARTS: &[(Start, Option<StreamFault>)] = &[
 #[test]
 fn refuses_to_start(rt: HostRuntime) -> Result<(), Fail> {
     for (start, fault) in STARTS {
-        is_refused(&rt, start_fault(rt.alloc(), start)?, *fault);
+        same(&rt, start_fault(rt.alloc(), start)?, *fault, *fault);
     }
     Ok(())
-}
-
-fn is_refused(rt: &impl Abort, found: Option<StreamFault>, fault: Option<StreamFault>) {
-    assert_eq!(rt; found, fault, "{fault:?}");
 }

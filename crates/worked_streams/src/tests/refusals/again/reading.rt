@@ -4,6 +4,7 @@ ghost use Rattle.ctf_types.specs.Allowed.{IsMetadata};
 
 use super::super::{FILE, METADATA, OUT_OF_MEMORY};
 use super::at_last;
+use crate::tests::expected::same;
 use crate::tests::stream_files::{metadata_of as read_back, read};
 use ctf_types::{Config, Metadata, Text};
 use packet_reader::{ReadStop, ReadStream, StreamEnding, read_stream_from};
@@ -24,7 +25,7 @@ fn written(alloc: Global, config: &Config) -> Result<String, Fail> {
 /// How many streams and clocks the metadata has.
 fn counts(alloc: Global, text: &str) -> Result<(usize, usize), Fail> {
     match read_metadata(alloc, text.as_bytes()) {
-        Ok(metadata) => Ok(counted(&metadata)),
+        Ok(metadata) => Ok(counted(metadata)),
         Err(fault) => {
             let said = format!(in alloc; "{}", fault.kind)?;
             if said.as_str() != OUT_OF_MEMORY {
@@ -36,11 +37,10 @@ fn counts(alloc: Global, text: &str) -> Result<(usize, usize), Fail> {
 }
 
 fn counts_at_last(alloc: Global, text: &str) -> Result<(usize, usize), Fail> {
-    let metadata = at_last(read_metadata(alloc, text.as_bytes()))?;
-    Ok(counted(&metadata))
+    Ok(counted(at_last(read_metadata(alloc, text.as_bytes()))?))
 }
 
-fn counted(metadata: &Metadata) -> (usize, usize) {
+fn counted(metadata: Metadata) -> (usize, usize) {
     (metadata.streams.len(), metadata.clocks.len())
 }
 
@@ -48,7 +48,7 @@ fn counted(metadata: &Metadata) -> (usize, usize) {
 fn writes_and_reads_metadata(rt: HostRuntime) -> Result<(), Fail> {
     let written = written_of_clocked(rt.alloc())?;
     let counts = counts(rt.alloc(), written.as_str())?;
-    assert_eq!(rt; counts, (1, 1));
+    same(&rt, counts, (1, 1), "streams and clocks");
     Ok(())
 }
 
@@ -60,7 +60,7 @@ fn written_of_clocked(alloc: Global) -> Result<String, Fail> {
 /// How many packets the stream file has, how it ends, and whether its clock is `clk`.
 type Seen = (usize, StreamEnding, bool);
 
-fn seen(read: &ReadStream) -> Seen {
+fn seen(read: ReadStream) -> Seen {
     let clock = read.clock.as_ref().map_or("", |name| name.as_str());
     (read.packets.len(), read.end, clock == "clk")
 }
@@ -111,20 +111,18 @@ fn reads_twice(rt: &impl Abort, alloc: Global, metadata: &Metadata) -> Result<()
     let first = seen_at_once(alloc, metadata, bytes.as_slice())?;
     let second = seen_in_turn(alloc, metadata, bytes.as_slice())?;
     let want = (1, StreamEnding::Torn(64), true);
-    assert_eq!(rt; (first, second), (want, want));
+    same(rt, (first, second), (want, want), "a torn file");
     Ok(())
 }
 
 fn seen_at_once(alloc: Global, metadata: &Metadata, bytes: &[u8]) -> Result<Seen, Fail>
     requires { IsMetadata metadata.now }
 {
-    let read = stream_of(alloc, metadata, bytes)?;
-    Ok(seen(&read))
+    Ok(seen(stream_of(alloc, metadata, bytes)?))
 }
 
 fn seen_in_turn(alloc: Global, metadata: &Metadata, bytes: &[u8]) -> Result<Seen, Fail>
     requires { IsMetadata metadata.now }
 {
-    let read = stream_from(alloc, metadata, bytes)?;
-    Ok(seen(&read))
+    Ok(seen(stream_from(alloc, metadata, bytes)?))
 }

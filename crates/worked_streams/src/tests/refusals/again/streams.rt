@@ -4,6 +4,7 @@ ghost use Rattle.std.specs.Prelude.{◌<◌, length, IfOk};
 ghost use Rattle.ctf_types.specs.AllowedConfig.{IsConfig};
 
 use super::at_last;
+use crate::tests::expected::same;
 use crate::tests::rings::{RingStream, makes_empty};
 use ctf_types::{Config, Values};
 use packet_collector::{Collected, Collector};
@@ -76,14 +77,13 @@ fn collected(collector: &mut Collector<MemorySink>, ring_end: &mut RingEnd) -> C
 #[test]
 fn collects_a_packet_over_a_ring(rt: HostRuntime) -> Result<(), Fail> {
     let answers = answers(rt.alloc())?;
-    assert_eq!(rt; answers, (true, Collected::Took(0)));
+    same(&rt, answers, (true, Collected::Took(0)), "a packet");
     Ok(())
 }
 
 /// Whether a packet without event records is made, and what is answered to its collection.
 fn answers(alloc: Global) -> Result<(bool, Collected), Fail> {
-    let text = changed(alloc, SMALL, &[])?;
-    let config = configuration(alloc, text.as_str())?;
+    let config = configuration(alloc, changed(alloc, SMALL, &[])?.as_str())?;
     answers_by(alloc, &config)
 }
 

@@ -3,6 +3,7 @@
 ghost use Rattle.ctf_types.specs.Allowed.{IsMetadata};
 
 use super::super::{FILE, METADATA, OUT_OF_MEMORY};
+use crate::tests::expected::same;
 use crate::tests::packet_by_packet::next_records;
 use crate::tests::stream_files::metadata_of;
 use ctf_types::{Metadata, Text};
@@ -23,22 +24,16 @@ fn goes_on(
         stays_stopped(rt, reader);
         return Err(Fail::new(OUT_OF_MEMORY));
     }
-    is_answered(rt, answer, Ok(want));
+    same(rt, answer, Ok(want), "a packet");
     Ok(())
 }
 
 fn stays_stopped(rt: &impl Abort, reader: &mut StreamReader<'_, &[u8]>) {
     for _ in 0..3 {
-        is_answered(rt, next_records(reader), Err(ReadStop::OutOfMemory));
+        let answer = next_records(reader);
+        same(rt, answer, Err(ReadStop::OutOfMemory), "a stopped reader");
     }
-    assert_eq!(rt; reader.end(), None);
-}
-
-/// How many records a packet has, no packet, or a stop.
-type Records = Result<Option<usize>, ReadStop>;
-
-fn is_answered(rt: &impl Abort, found: Records, want: Records) {
-    assert_eq!(rt; found, want);
+    same(rt, reader.end(), None, "the end of a stopped reader");
 }
 
 #[test]
@@ -60,6 +55,6 @@ fn reads_to_the_end(rt: &impl Abort, reader: &mut StreamReader<'_, &[u8]>) -> Re
     for want in [Some(2), None, None] {
         goes_on(rt, reader, want)?;
     }
-    assert_eq!(rt; reader.end(), Some(StreamEnding::Whole));
+    same(rt, reader.end(), Some(StreamEnding::Whole), "the end");
     Ok(())
 }
