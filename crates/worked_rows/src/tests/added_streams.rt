@@ -37,14 +37,18 @@ static ADDED: &[(&str, &str, &str, &str)] = &[
 #[test]
 fn refuses_streams_by_their_first_fault(rt: HostRuntime) -> Result<(), Fail> {
     let mut session = small_session(rt.alloc())?;
+    all_added(&rt, rt.alloc(), &mut session)
+}
+
+fn all_added(rt: &impl Abort, alloc: Global, session: &mut Prepared) -> Result<(), Fail> {
     for (shows, name, type_name, want) in ADDED {
         let source = Source {
             name: *name,
             type_name: *type_name,
             ..SOURCE
         };
-        let fault = with(rt.alloc(), &mut session, &source)?;
-        same(&rt, fault.as_str(), *want, *shows);
+        let fault = with(alloc, session, &source)?;
+        same(rt, fault.as_str(), *want, *shows);
     }
     Ok(())
 }
@@ -52,12 +56,20 @@ fn refuses_streams_by_their_first_fault(rt: HostRuntime) -> Result<(), Fail> {
 #[test]
 fn takes_64_streams(rt: HostRuntime) -> Result<(), Fail> {
     let mut session = small_session(rt.alloc())?;
+    takes_64(&rt, rt.alloc(), &mut session)
+}
+
+fn takes_64(rt: &impl Abort, alloc: Global, session: &mut Prepared) -> Result<(), Fail> {
     for number in 0..64 {
-        let name = format!(in rt.alloc(); "s{number}")?;
-        is_added(&rt, rt.alloc(), &mut session, (name.as_str(), ""))?;
+        let name = format!(in alloc; "s{number}")?;
+        is_added(rt, alloc, session, (name.as_str(), ""))?;
     }
+    refuses_more(rt, alloc, session)
+}
+
+fn refuses_more(rt: &impl Abort, alloc: Global, session: &mut Prepared) -> Result<(), Fail> {
     for row in BEHIND_64 {
-        is_added(&rt, rt.alloc(), &mut session, *row)?;
+        is_added(rt, alloc, session, *row)?;
     }
     Ok(())
 }

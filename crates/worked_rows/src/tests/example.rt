@@ -1,8 +1,9 @@
 //! The library as its user calls it: one stream is traced, and its file is read back.
 
+use crate::tests::expected::same;
 use conf_check::configure;
 use ctf_types::{Args, Value, Values};
-use packet_reader::StreamEnding;
+use packet_reader::{ReadStream, StreamEnding};
 use std::alloc::Global;
 use std::process::Abort;
 use std::test::Fail;
@@ -28,23 +29,39 @@ const CONFIGURATION: &str = r#"{"trace": {"type": {
 
 #[test]
 fn traces_a_stream_and_reads_it_back(rt: HostRuntime) -> Result<(), Fail> {
-    let alloc = rt.alloc();
-    let (metadata, files) = recorded(&rt, alloc)?;
-    let trace = read_trace(alloc, metadata.as_bytes(), &files)?;
-    for read in trace.streams.as_slice() {
-        assert_eq!(rt; read.end, StreamEnding::Whole);
-        assert_eq!(rt; read.packets.len(), 1);
-    }
+    let (metadata, files) = recorded(&rt, rt.alloc())?;
+    reads_back(&rt, rt.alloc(), metadata.as_str(), &files)
+}
+
+fn reads_back(
+    rt: &impl Abort,
+    alloc: Global,
+    metadata: &str,
+    files: &[(String, Vec<u8>)],
+) -> Result<(), Fail> {
+    let trace = read_trace(alloc, metadata.as_bytes(), files)?;
+    have_one_packet(rt, trace.streams.as_slice());
     Ok(())
+}
+
+fn have_one_packet(rt: &impl Abort, streams: &[ReadStream]) {
+    for read in streams {
+        same(rt, read.end, StreamEnding::Whole, "end");
+        same(rt, read.packets.len(), 1, "packets");
+    }
 }
 
 /// What a reader needs of a session: the metadata, and the stream files by their names.
 fn recorded(rt: &impl Abort, alloc: Global) -> Result<(String, Files), Fail> {
     let mut session = Session::new(alloc, configure(alloc, CONFIGURATION.as_bytes(), None)?);
-    let metadata = session.metadata()?;
-    add_and_trace(rt, alloc, &mut session)?;
-    let finished = session.finish_all().map_err(|_session| "out of memory")?;
-    Ok((metadata, files_of(alloc, finished)?))
+    let metadata = driven(rt, alloc, &mut session)?;
+    let files = files_of(alloc, session)?;
+    Ok((metadata, files))
+}
+
+fn driven(rt: &impl Abort, alloc: Global, session: &mut Listed) -> Result<String, Fail> {
+    add_and_trace(rt, alloc, session)?;
+    Ok(session.metadata()?)
 }
 
 fn add_and_trace(rt: &impl Abort, alloc: Global, session: &mut Listed) -> Result<(), Fail> {
@@ -62,11 +79,18 @@ fn add_and_trace(rt: &impl Abort, alloc: Global, session: &mut Listed) -> Result
     let act = Act::Trace(0, args);
     let answers = run_events(session, &[Event { stream, act }])?;
     let want = [Answer::Traced(Verdict::Accepted(Some(10)))];
-    assert_eq!(rt; answers.as_slice(), want.as_slice());
+    same(rt, answers.as_slice(), want.as_slice(), "answers");
     Ok(())
 }
 
-fn files_of(alloc: Global, finished: FinishedSession<MemorySink>) -> Result<Files, Fail> {
+fn files_of(alloc: Global, session: Listed) -> Result<Files, Fail> {
+    match session.finish_all() {
+        Ok(finished) => named(alloc, finished),
+        Err(_) => Err("out of memory".into()),
+    }
+}
+
+fn named(alloc: Global, finished: FinishedSession<MemorySink>) -> Result<Files, Fail> {
     let mut files = Vec::new(alloc);
     for sink in finished.sinks {
         files.push((String::from_str(alloc, "room")?, sink.into_bytes()))?;

@@ -1,13 +1,13 @@
 //! Whole traces, read from readers of which one fails on the way: the first one in the list is answered, and nothing is given.
 
 use crate::tests::expected::same;
+use crate::tests::printed_traces::metadata_of;
 use packet_reader::ReadStop;
 use std::alloc::Global;
 use std::io::{Error, ErrorKind, Read, Result as ReadResult};
 use std::test::Fail;
 use trace_stack::{TraceFault, read_trace_from};
-use tsdl_writer::write_metadata;
-use worked_fixtures::{bytes_of, small};
+use worked_fixtures::{SMALL, bytes_of};
 
 /// A packet of 16 bytes with two records, and the front of a second.
 const CUT: &str = "c11ffcc1 80000000 70000000 01020000 c11ffcc1";
@@ -54,31 +54,27 @@ pub fn named_input(
     digits: &str,
     room: usize,
 ) -> Result<(String, Failing), Fail> {
-    let name = String::from_str(alloc, name)?;
-    match bytes_of(alloc, digits) {
-        Ok(bytes) => Ok((
-            name,
-            Failing {
-                bytes,
-                given: 0,
-                room,
-            },
-        )),
-        Err(fault) => Err(fault),
-    }
+    let input = Failing {
+        bytes: bytes_of(alloc, digits)?,
+        given: 0,
+        room,
+    };
+    Ok((String::from_str(alloc, name)?, input))
 }
 
 /// The fault of a trace whose readers give so many bytes of `CUT` before they fail; None where it is read.
 fn fault_of(alloc: Global, rooms: &[usize]) -> Result<Option<TraceFault>, Fail> {
-    let metadata = write_metadata(alloc, &small(alloc, &[])?)?;
+    let metadata = metadata_of(alloc, SMALL, &[])?;
+    let streams = inputs(alloc, rooms)?;
+    Ok(read_trace_from(alloc, metadata.as_bytes(), streams).err())
+}
+
+fn inputs(alloc: Global, rooms: &[usize]) -> Result<Vec<(String, Failing)>, Fail> {
     let mut streams = Vec::new(alloc);
     for room in rooms {
         streams.push(named_input(alloc, "a", CUT, *room)?)?;
     }
-    match read_trace_from(alloc, metadata.as_bytes(), streams) {
-        Ok(_) => Ok(None),
-        Err(fault) => Ok(Some(fault)),
-    }
+    Ok(streams)
 }
 
 #[test]

@@ -1,13 +1,17 @@
 //! A session from its beginning on, and its trace read back: each of its calls that takes memory.
 
 ghost use Rattle.std.specs.Prelude.{◌≡◌, [], IfOk};
+ghost use Rattle.ctf_types.specs.AllowedConfig.{IsConfig};
 
 use crate::tests::expected::same;
+use crate::tests::refusals::one_file;
+use ctf_types::Config;
 use packet_collector::FinishAnswer;
 use std::alloc::Global;
+use std::process::Abort;
 use std::test::Fail;
 use trace_platform::{ListBackEnd, ListClock, MemorySink};
-use trace_stack::{Act, Event, FinishedSession, Session, read_trace, run_events};
+use trace_stack::{Act, Event, FinishedSession, ReadTrace, Session, read_trace, run_events};
 use worked_fixtures::{Datum, SMALL, changed, configuration, granted, payload, values};
 
 /// Each packet says a number of its own.
@@ -17,27 +21,42 @@ type Listed = Session<ListClock, ListBackEnd, MemorySink>;
 
 #[test]
 fn records_a_session_and_reads_it(rt: HostRuntime) -> Result<(), Fail> {
-    let alloc = rt.alloc();
-    let mut session = started(alloc)?;
-    let metadata = granted(session.metadata())?;
-    run(alloc, &mut session)?;
-    let files = files_of(alloc, session)?;
-    match read_trace(alloc, metadata.as_bytes(), &files) {
+    let (metadata, files) = recorded(rt.alloc())?;
+    match read_trace(rt.alloc(), metadata.as_bytes(), &files) {
         Ok(trace) => {
-            same(&rt, trace.streams.len(), 1, "streams");
-            same(&rt, trace.order.len(), 2, "records");
+            has_two_records(&rt, &trace);
             Ok(())
         }
         Err(fault) => Err(Fail::new(fault)),
     }
 }
 
-/// A session with one stream.
-fn started(alloc: Global) -> Result<Listed, Fail> {
+/// The trace is of one stream with two event records.
+pub fn has_two_records(rt: &impl Abort, trace: &ReadTrace) {
+    same(rt, trace.streams.len(), 1, "streams");
+    same(rt, trace.order.len(), 2, "records");
+}
+
+/// The metadata of a session, and its stream files.
+fn recorded(alloc: Global) -> Result<(String, Vec<(String, Vec<u8>)>), Fail> {
+    let mut session = Session::new(alloc, config(alloc)?);
+    let metadata = run(alloc, &mut session)?;
+    let files = files_of(alloc, session)?;
+    Ok((metadata, files))
+}
+
+fn config(alloc: Global) -> Result<Config, Fail>
+    ensures { IfOk result (λ c. IsConfig c) }
+{
     let text = granted(changed(alloc, SMALL, &[("EXTRAS", EXTRAS)]))?;
-    let mut session = Session::new(alloc, configuration(alloc, text.as_str())?);
-    add_stream(alloc, &mut session)?;
-    Ok(session)
+    configuration(alloc, text.as_str())
+}
+
+/// The metadata of a session to which a stream is added that traces.
+fn run(alloc: Global, session: &mut Listed) -> Result<String, Fail> {
+    add_stream(alloc, session)?;
+    trace(alloc, session)?;
+    granted(session.metadata())
 }
 
 fn add_stream(alloc: Global, session: &mut Listed) -> Result<(), Fail> {
@@ -60,13 +79,13 @@ fn two_buffers(alloc: Global) -> Result<ListBackEnd, Fail>
 }
 
 /// Traces a call into each of two packets, which have different extra members.
-fn run(alloc: Global, session: &mut Listed) -> Result<(), Fail> {
-    let extras = granted(values(alloc, &[Datum::Unsigned(2)]))?;
+fn trace(alloc: Global, session: &mut Listed) -> Result<(), Fail> {
     let first = granted(payload(alloc, &[Datum::Unsigned(7)]))?;
-    let second = granted(payload(alloc, &[Datum::Unsigned(8)]))?;
     act(session, Act::Trace(0, first))?;
     act(session, Act::ClosePacket)?;
+    let extras = granted(values(alloc, &[Datum::Unsigned(2)]))?;
     act(session, Act::Extras(extras))?;
+    let second = granted(payload(alloc, &[Datum::Unsigned(8)]))?;
     act(session, Act::Trace(0, second))
 }
 
@@ -87,12 +106,6 @@ fn files_of(alloc: Global, session: Listed) -> Result<Vec<(String, Vec<u8>)>, Fa
     if !answers.as_slice().contains(&FinishAnswer::Settled) {
         return Err("out of memory".into());
     }
-    let mut files = Vec::new(alloc);
-    for sink in sinks {
-        let name = granted(String::from_str(alloc, "a"))?;
-        if files.push((name, sink.into_bytes())).is_err() {
-            return Err("out of memory".into());
-        }
-    }
-    Ok(files)
+    let sink = sinks.into_iter().next().ok_or("no sink")?;
+    one_file(alloc, sink.into_bytes())
 }

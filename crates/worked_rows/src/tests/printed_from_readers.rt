@@ -9,6 +9,7 @@ use crate::tests::printed_traces::{Row, TRACES, metadata_of, printed_whole, trac
 use ctf_types::Metadata;
 use packet_reader::ReadStop;
 use std::alloc::{AllocError, Global};
+use std::process::Abort;
 use std::test::Fail;
 use trace_platform::StoppingWriter;
 use trace_stack::ReadTrace;
@@ -45,26 +46,23 @@ fn printed(
     fails: Option<(usize, usize)>,
     room: usize,
 ) -> Result<Printed, Fail> {
-    let (text, changes, files, _) = row;
-    let streams = inputs(alloc, files, fails)?;
-    let metadata = known(alloc, text, changes)?;
-    printed_into(alloc, &metadata, streams, room)
+    let metadata = known(alloc, row.0, row.1)?;
+    printed_into(alloc, &metadata, row.2, fails, room)
 }
 
 fn printed_into(
     alloc: Global,
     metadata: &Metadata,
-    streams: Vec<(String, Failing)>,
+    files: &str,
+    fails: Option<(usize, usize)>,
     room: usize,
 ) -> Result<Printed, Fail>
     requires { IsMetadata metadata.now }
 {
+    let streams = inputs(alloc, files, fails)?;
     let mut writer = StoppingWriter::new(alloc, room, 7);
     let answer = print_trace_from(alloc, metadata, streams, &mut writer);
-    match String::from_utf8(writer.bytes) {
-        Ok(said) => Ok((said, answer)),
-        Err(fault) => Err(Fail::new(fault)),
-    }
+    Ok((String::from_utf8(writer.bytes)?, answer))
 }
 
 /// Readers of these files, of which one at a place fails once it gave so many bytes.
@@ -96,11 +94,16 @@ fn known(alloc: Global, text: &str, changes: Changes) -> Result<Metadata, Fail>
 #[test]
 fn prints_what_is_printed_of_the_trace(rt: HostRuntime) -> Result<(), Fail> {
     for row in TRACES {
-        let (said, files) = all_printed(rt.alloc(), *row)?;
-        let expected = shown_whole(rt.alloc(), *row)?;
-        same(&rt, files.as_str(), expected.as_str(), row.2);
-        same(&rt, said.as_str().trim(), row.3.trim(), row.2);
+        is_printed(&rt, rt.alloc(), *row)?;
     }
+    Ok(())
+}
+
+fn is_printed(rt: &impl Abort, alloc: Global, row: Row) -> Result<(), Fail> {
+    let (said, files) = all_printed(alloc, row)?;
+    let expected = shown_whole(alloc, row)?;
+    let found = (files.as_str(), said.as_str().trim());
+    same(rt, found, (expected.as_str(), row.3.trim()), row.2);
     Ok(())
 }
 
@@ -129,10 +132,10 @@ fn shown_files(alloc: Global, files: &[PrintedFile]) -> Result<String, AllocErro
 /// The same of the trace that is read of a row's files.
 fn shown_whole(alloc: Global, row: Row) -> Result<String, Fail> {
     let trace = trace_of(alloc, row.0, row.1, row.2)?;
-    Ok(shown_trace(alloc, &trace)?)
+    shown_trace(alloc, &trace)
 }
 
-fn shown_trace(alloc: Global, trace: &ReadTrace) -> Result<String, AllocError> {
+fn shown_trace(alloc: Global, trace: &ReadTrace) -> Result<String, Fail> {
     let mut text = String::new(alloc);
     for stream in trace.streams.as_slice() {
         let packets = stream.packets.as_slice().len();
@@ -146,8 +149,8 @@ fn tells_files_in_turns(rt: HostRuntime) -> Result<(), Fail> {
     let (text, changes, files, want) = IN_TURNS;
     let expected = printed_whole(rt.alloc(), text, changes, files)?;
     let (said, _files) = all_printed(rt.alloc(), IN_TURNS)?;
-    same(&rt, said.as_str(), expected.as_str(), files);
-    same(&rt, said.as_str().trim(), want.trim(), files);
+    let found = (said.as_str(), said.as_str().trim());
+    same(&rt, found, (expected.as_str(), want.trim()), files);
     Ok(())
 }
 
@@ -167,9 +170,8 @@ fn a_reader_that_fails_leaves_a_front(rt: HostRuntime) -> Result<(), Fail> {
     for (place, room, lines) in [(0, 0, 0), (0, 64, 3), (1, 100, 4), (1, 64, 4)] {
         let (found, _, is_front, fault) = front(rt.alloc(), Some((place, room)), usize::MAX)?;
         let expected = ReadingFault::Reader(place, ReadStop::ReaderFault);
-        same(&rt, fault, Some(expected), (place, room));
-        same(&rt, is_front, true, (place, room));
-        same(&rt, found, lines, (place, room));
+        let want = (lines, true, Some(expected));
+        same(&rt, (found, is_front, fault), want, (place, room));
     }
     Ok(())
 }
@@ -178,9 +180,8 @@ fn a_reader_that_fails_leaves_a_front(rt: HostRuntime) -> Result<(), Fail> {
 fn a_writer_that_fails_leaves_a_front(rt: HostRuntime) -> Result<(), Fail> {
     for room in [0, 1, 24, 25, 300] {
         let (_, bytes, is_front, fault) = front(rt.alloc(), None, room)?;
-        same(&rt, fault, Some(ReadingFault::Writer), room);
-        same(&rt, is_front, true, room);
-        same(&rt, bytes, room, room);
+        let want = (room, true, Some(ReadingFault::Writer));
+        same(&rt, (bytes, is_front, fault), want, room);
     }
     Ok(())
 }

@@ -1,6 +1,7 @@
 //! Traces that were read, printed.
 
 use crate::tests::expected::same;
+use ctf_types::Config;
 use std::alloc::Global;
 use std::process::Abort;
 use std::test::Fail;
@@ -148,10 +149,9 @@ fn a_writer_that_stops_has_a_front_of_the_text(rt: HostRuntime) -> Result<(), Fa
 /// A writer with so much room has a front of the text of the trace.
 fn has_a_front(rt: &impl Abort, alloc: Global, trace: &ReadTrace, want: &str, room: usize) {
     let mut writer = StoppingWriter::new(alloc, room, 16);
-    let answer = print_trace(alloc, trace, &mut writer);
-    same(rt, answer.err(), Some(PrintFault::Writer), room);
-    let front = want.as_bytes().get(..room);
-    same(rt, Some(writer.bytes.as_slice()), front, room);
+    let answer = print_trace(alloc, trace, &mut writer).err();
+    let want = (Some(PrintFault::Writer), want.as_bytes().get(..room));
+    same(rt, (answer, Some(writer.bytes.as_slice())), want, room);
 }
 
 pub fn trace_of(
@@ -161,6 +161,10 @@ pub fn trace_of(
     files: &str,
 ) -> Result<ReadTrace, Fail> {
     let metadata = metadata_of(alloc, text, changes)?;
+    trace_by(alloc, metadata.as_str(), files)
+}
+
+fn trace_by(alloc: Global, metadata: &str, files: &str) -> Result<ReadTrace, Fail> {
     let streams = files_of(alloc, files)?;
     Ok(read_trace(alloc, metadata.as_bytes(), &streams)?)
 }
@@ -168,8 +172,16 @@ pub fn trace_of(
 /// The metadata of a configuration's text with changes.
 pub fn metadata_of(alloc: Global, text: &str, changes: Changes) -> Result<String, Fail> {
     let text = changed(alloc, text, changes)?;
-    let config = configured(alloc, text.as_str(), None)?;
-    Ok(write_metadata(alloc, &config)?)
+    written_of(alloc, text.as_str())
+}
+
+fn written_of(alloc: Global, text: &str) -> Result<String, Fail> {
+    let config = configured(alloc, text, None)?;
+    text_of(alloc, &config)
+}
+
+fn text_of(alloc: Global, config: &Config) -> Result<String, Fail> {
+    Ok(write_metadata(alloc, config)?)
 }
 
 /// The stream files of a trace, a line each.
@@ -184,8 +196,5 @@ fn files_of(alloc: Global, files: &str) -> Result<Vec<(String, Vec<u8>)>, Fail> 
 fn file_of(alloc: Global, line: &str) -> Result<(String, Vec<u8>), Fail> {
     let (name, digits) = line.split_once(": ").ok_or("a line without a file")?;
     let name = String::from_str(alloc, name)?;
-    match bytes_of(alloc, digits) {
-        Ok(bytes) => Ok((name, bytes)),
-        Err(fault) => Err(fault),
-    }
+    Ok((name, bytes_of(alloc, digits)?))
 }

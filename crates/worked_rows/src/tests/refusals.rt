@@ -7,14 +7,16 @@ ghost use Rattle.ctf_types.specs.AllowedConfig.{IsConfig};
 mod again;
 mod memory;
 
+use crate::tests::expected::same;
 use ctf_types::Config;
 use std::alloc::Global;
+use std::process::Abort;
 use std::test::Fail;
 use trace_platform::{ListBackEnd, ListClock};
 use trace_stack::{Answer, Event};
 use trace_text::read_script;
 use tsdl_writer::write_metadata;
-use worked_fixtures::{CLOCKED, configuration, granted};
+use worked_fixtures::{CLOCKED, bytes_of, configuration, granted};
 
 /// What a call says that is out of memory, whatever it has for that itself.
 const OUT_OF_MEMORY: &str = "out of memory";
@@ -63,8 +65,8 @@ fn two_buffers(alloc: Global) -> Result<ListBackEnd, Fail>
     Ok(ListBackEnd::new(alloc, 2, 64)?)
 }
 
-/// The stream's file under its name.
-fn one_file(alloc: Global, bytes: Vec<u8>) -> Result<Vec<(String, Vec<u8>)>, Fail> {
+/// A stream's file, or what gives its bytes, under a name.
+pub fn one_file<T: Drop>(alloc: Global, bytes: T) -> Result<Vec<(String, T)>, Fail> {
     let name = granted(String::from_str(alloc, "t0"))?;
     let mut files = Vec::new(alloc);
     if files.push((name, bytes)).is_err() {
@@ -73,12 +75,24 @@ fn one_file(alloc: Global, bytes: Vec<u8>) -> Result<Vec<(String, Vec<u8>)>, Fai
     Ok(files)
 }
 
+/// The bytes are those of the stream's file.
+fn is_the_file(rt: &impl Abort, alloc: Global, bytes: &[u8]) -> Result<(), Fail> {
+    let want = bytes_of(alloc, FILE)?;
+    same(rt, bytes, want.as_slice(), "the file");
+    Ok(())
+}
+
 /// Answers in words.
 fn shown(alloc: Global, answers: &[Answer]) -> Result<String, Fail> {
     granted(format!(in alloc; "{answers:?}"))
 }
 
 /// The events of the script.
+fn script_events(alloc: Global) -> Result<Vec<Event>, Fail> {
+    let config = clocked(alloc)?;
+    events(alloc, &config)
+}
+
 fn events(alloc: Global, config: &Config) -> Result<Vec<Event>, Fail> {
     match read_script(alloc, config, SCRIPT.as_bytes()) {
         Ok(script) => Ok(script.events.into_vec()),

@@ -1,8 +1,10 @@
 //! Sessions whose streams go on behind the packets that their files have, and streams that are refused there.
 
 use crate::tests::expected::same;
-use crate::tests::session_steps::{RUN, Run, SOURCE, Source, with, without_streams};
+use crate::tests::session_steps::{Prepared, RUN, Run, SOURCE, Source, with, without_streams};
 use crate::tests::sessions::{Row, TWO_TYPES, all_run};
+use std::alloc::Global;
+use std::process::Abort;
 use std::test::Fail;
 use worked_fixtures::configured;
 
@@ -109,9 +111,13 @@ static ADDED: &[(&str, Source, &str)] = &[
 fn refuses_streams_behind_packets_of_others(rt: HostRuntime) -> Result<(), Fail> {
     let config = configured(rt.alloc(), TWO_TYPES, None)?;
     let mut session = without_streams(rt.alloc(), config);
+    all_added(&rt, rt.alloc(), &mut session)
+}
+
+fn all_added(rt: &impl Abort, alloc: Global, session: &mut Prepared) -> Result<(), Fail> {
     for (shows, source, want) in ADDED {
-        let fault = with(rt.alloc(), &mut session, source)?;
-        same(&rt, fault.as_str(), *want, *shows);
+        let fault = with(alloc, session, source)?;
+        same(rt, fault.as_str(), *want, *shows);
     }
     Ok(())
 }

@@ -15,12 +15,13 @@ const WHOLE: &str =
 
 #[test]
 fn reads_streams_and_events(rt: HostRuntime) -> Result<(), Fail> {
-    let alloc = rt.alloc();
-    let config = configured(alloc, CLOCKED, None)?;
-    says(
-        &rt,
-        alloc,
-        &config,
+    let config = configured(rt.alloc(), CLOCKED, None)?;
+    all_say(&rt, rt.alloc(), &config, SAID)
+}
+
+/// Texts and what they say.
+static SAID: &[(&str, &str)] = &[
+    (
         WHOLE,
         r#"t0 s [10, 11, 12] []
 0 trace 0 [] [] [Signed(-2)]
@@ -28,15 +29,7 @@ fn reads_streams_and_events(rt: HostRuntime) -> Result<(), Fail> {
 0 close
 0 collect
 "#,
-    )?;
-    for (text, want) in SAID {
-        says(&rt, alloc, &config, text, want)?;
-    }
-    Ok(())
-}
-
-/// Texts and what they say.
-static SAID: &[(&str, &str)] = &[
+    ),
     (r#" {"events":[],"streams":[]} "#, ""),
     (
         r#"{"streams":[{"type":"s","name":"b","clock":null,"extras":null},{"name":"a","type":"s","clock":[0,0,18446744073709551615],"extras":[1,-1,"x",[2,[-3]]]},{"name":"a","type":"s"}],"events":[{"open":"a"},{"enable":"b"},{"disable":"a"}]}"#,
@@ -60,19 +53,17 @@ a s [] []
 
 #[test]
 fn reads_values_by_their_fields(rt: HostRuntime) -> Result<(), Fail> {
-    let alloc = rt.alloc();
-    let config = small(alloc, WITH_BITS)?;
-    says(
-        &rt,
-        alloc,
-        &config,
-        r#"{"streams":[{"name":"a","type":"s"}],"events":[{"trace":"a","event":"e","payload":[1,[0,1]]},{"trace":"a","event":"e","payload":[[-1],-1]}]}"#,
-        r#"a s [] []
+    let config = small(rt.alloc(), WITH_BITS)?;
+    all_say(&rt, rt.alloc(), &config, SAID_OF_BITS)
+}
+
+static SAID_OF_BITS: &[(&str, &str)] = &[(
+    r#"{"streams":[{"name":"a","type":"s"}],"events":[{"trace":"a","event":"e","payload":[1,[0,1]]},{"trace":"a","event":"e","payload":[[-1],-1]}]}"#,
+    r#"a s [] []
 0 trace 0 [] [] [Unsigned(1), List(Values { items: [Unsigned(0), Unsigned(1)] })]
 0 trace 0 [] [] [List(Values { items: [Signed(-1)] }), Signed(-1)]
 "#,
-    )
-}
+)];
 
 /// What stands in the place of a piece of the whole script, and the fault: its index and its kind.
 static FAULTS: &[(Changes, &str)] = &[
@@ -182,14 +173,26 @@ static FAULTS: &[(Changes, &str)] = &[
 
 #[test]
 fn tells_the_first_fault(rt: HostRuntime) -> Result<(), Fail> {
-    let alloc = rt.alloc();
-    let config = configured(alloc, CLOCKED, None)?;
+    let config = configured(rt.alloc(), CLOCKED, None)?;
+    refuses_all(&rt, rt.alloc(), &config)
+}
+
+fn refuses_all(rt: &impl Abort, alloc: Global, config: &Config) -> Result<(), Fail> {
+    refuses_changes(rt, alloc, config)?;
+    refuses_others(rt, alloc, config)
+}
+
+fn refuses_changes(rt: &impl Abort, alloc: Global, config: &Config) -> Result<(), Fail> {
     for (changes, want) in FAULTS {
         let text = changed(alloc, WHOLE, *changes)?;
-        refuses(&rt, alloc, &config, text.as_bytes(), want)?;
+        refuses(rt, alloc, config, text.as_bytes(), want)?;
     }
+    Ok(())
+}
+
+fn refuses_others(rt: &impl Abort, alloc: Global, config: &Config) -> Result<(), Fail> {
     for (text, want) in NO_SCRIPTS {
-        refuses(&rt, alloc, &config, text, want)?;
+        refuses(rt, alloc, config, text, want)?;
     }
     Ok(())
 }
@@ -205,15 +208,19 @@ static NO_SCRIPTS: &[(&[u8], &str)] = &[
 #[test]
 fn names_the_first_refused_stream(rt: HostRuntime) -> Result<(), Fail> {
     let config = configured(rt.alloc(), CLOCKED, None)?;
+    are_named(&rt, rt.alloc(), &config)
+}
+
+fn are_named(rt: &impl Abort, alloc: Global, config: &Config) -> Result<(), Fail> {
     for (names, want) in NAMES {
-        let found = fault_of_names(rt.alloc(), &config, names)?;
-        same(&rt, found, *want, *names);
+        let found = fault_of_names(alloc, config, names)?;
+        same(rt, found, *want, *names);
     }
     Ok(())
 }
 
 /// The first refused stream of a script with these names.
-fn fault_of_names(
+pub fn fault_of_names(
     alloc: Global,
     config: &Config,
     names: &str,
@@ -243,6 +250,18 @@ static NAMES: &[(&str, Option<(usize, NameFault)>)] = &[
         Some((64, NameFault::TooMany)),
     ),
 ];
+
+fn all_say(
+    rt: &impl Abort,
+    alloc: Global,
+    config: &Config,
+    rows: &[(&str, &str)],
+) -> Result<(), Fail> {
+    for (text, want) in rows {
+        says(rt, alloc, config, text, want)?;
+    }
+    Ok(())
+}
 
 /// A text says what these lines say.
 fn says(

@@ -71,10 +71,13 @@ pub const RUN: Run = Run {
     ends: "[Settled]",
 };
 
-/// A session that ended: the stream files by their names, with what they had before, and what is read from them.
+/// Stream files by their names.
+pub type Files = Vec<(String, Vec<u8>)>;
+
+/// A session that ended: the stream files, with what they had before, and what is read from them.
 #[derive(Drop)]
 pub struct Ended {
-    pub files: Vec<(String, Vec<u8>)>,
+    pub files: Files,
     pub trace: ReadTrace,
 }
 
@@ -157,18 +160,13 @@ fn platform(alloc: Global, source: &Source) -> Result<(ListClock, ListBackEnd), 
 {
     let readings = Vec::from_slice(alloc, source.readings)?;
     let clock = ListClock::new(readings).ok_or("readings that fall")?;
-    match back_end(alloc, source.buffers, source.bytes) {
-        Ok(back_end) => Ok((clock, back_end)),
-        Err(fault) => Err(fault),
-    }
+    let back_end = back_end(alloc, source.buffers, source.bytes)?;
+    Ok((clock, back_end))
 }
 
 fn sink_and_extras(alloc: Global, source: &Source) -> Result<(ScriptedSink, Values), Fail> {
     let sink = sink(alloc, source.faults)?;
-    match values_in_words(alloc, source.extras) {
-        Ok(extras) => Ok((sink, extras)),
-        Err(fault) => Err(fault),
-    }
+    Ok((sink, values_in_words(alloc, source.extras)?))
 }
 
 /// The point behind what the stream's file has, which has no clock values.
@@ -209,19 +207,36 @@ fn sink(alloc: Global, faults: bool) -> Result<ScriptedSink, AllocError> {
 
 /// A run to its end. Each call answers what its line says, and what its sinks hold is read by its metadata.
 pub fn run_to_end(rt: &impl Abort, alloc: Global, run: &Run) -> Result<Ended, Fail> {
-    let prepared = started(rt, alloc, run)?;
-    let metadata = prepared.metadata()?;
-    let files = files_of(rt, alloc, prepared, run)?;
+    let (metadata, files) = recorded(rt, alloc, run)?;
     let trace = read_trace(alloc, metadata.as_bytes(), &files)?;
     Ok(Ended { files, trace })
 }
 
-fn started(rt: &impl Abort, alloc: Global, run: &Run) -> Result<Prepared, Fail> {
+/// The metadata of a session behind a run, and its stream files.
+fn recorded(rt: &impl Abort, alloc: Global, run: &Run) -> Result<(String, Files), Fail> {
+    let mut session = without_streams(alloc, config_of(alloc, run)?);
+    let metadata = driven(rt, alloc, &mut session, run)?;
+    let files = files_of(rt, alloc, session, run)?;
+    Ok((metadata, files))
+}
+
+fn config_of(alloc: Global, run: &Run) -> Result<Config, Fail>
+    ensures { IfOk result (λ c. IsConfig c) }
+{
     let text = changed(alloc, run.text, run.changes)?;
-    let config = configured(alloc, text.as_str(), None)?;
-    let mut session = without_streams(alloc, config);
-    add_all(rt, alloc, &mut session, run)?;
-    Ok(session)
+    configured(alloc, text.as_str(), None)
+}
+
+/// The metadata of a session that takes the calls of a run.
+fn driven(
+    rt: &impl Abort,
+    alloc: Global,
+    session: &mut Prepared,
+    run: &Run,
+) -> Result<String, Fail> {
+    add_all(rt, alloc, session, run)?;
+    takes_rounds(rt, alloc, session, run)?;
+    Ok(session.metadata()?)
 }
 
 /// Adds all streams of a run.
@@ -229,6 +244,18 @@ fn add_all(rt: &impl Abort, alloc: Global, session: &mut Prepared, run: &Run) ->
     for source in run.streams {
         let fault = added(alloc, session, source.name, source)?;
         same(rt, fault, None, run.shows);
+    }
+    Ok(())
+}
+
+fn takes_rounds(
+    rt: &impl Abort,
+    alloc: Global,
+    session: &mut Prepared,
+    run: &Run,
+) -> Result<(), Fail> {
+    for (times, calls) in run.rounds {
+        repeats(rt, alloc, session, *times, calls, run.shows)?;
     }
     Ok(())
 }
@@ -256,12 +283,26 @@ fn runs(
     shows: &str,
 ) -> Result<(), Fail> {
     let events = events(alloc, calls)?;
-    if !are_below(&events, prepared.stream_count()) {
+    let answers = answered(prepared, events.as_slice())?;
+    same(rt, answers.len(), events.len(), shows);
+    all_answer(rt, alloc, calls, answers.as_slice(), shows)
+}
+
+fn answered(prepared: &mut Prepared, events: &[Event]) -> Result<Vec<Answer>, Fail> {
+    if !are_below(events, prepared.stream_count()) {
         return Err("no such stream".into());
     }
-    let answers = run_events(prepared, &events)?;
-    same(rt, answers.len(), events.len(), shows);
-    for (line, answer) in calls.trim().lines().zip(answers.as_slice()) {
+    Ok(run_events(prepared, events)?)
+}
+
+fn all_answer(
+    rt: &impl Abort,
+    alloc: Global,
+    calls: &str,
+    answers: &[Answer],
+    shows: &str,
+) -> Result<(), Fail> {
+    for (line, answer) in calls.trim().lines().zip(answers) {
         answers_so(rt, alloc, line, answer, shows)?;
     }
     Ok(())
@@ -311,32 +352,27 @@ fn answers_so(
 }
 
 /// The stream files of a session behind the calls of a run.
-fn files_of(
-    rt: &impl Abort,
-    alloc: Global,
-    prepared: Prepared,
-    run: &Run,
-) -> Result<Vec<(String, Vec<u8>)>, Fail> {
-    let mut prepared = prepared;
-    for (times, calls) in run.rounds {
-        repeats(rt, alloc, &mut prepared, *times, calls, run.shows)?;
+fn files_of(rt: &impl Abort, alloc: Global, prepared: Prepared, run: &Run) -> Result<Files, Fail> {
+    match prepared.finish_all() {
+        Ok(finished) => ends_so(rt, alloc, &finished, run),
+        Err(_) => Err("out of memory".into()),
     }
-    let Ok(finished) = prepared.finish_all() else {
-        return Err("out of memory".into());
-    };
-    named(rt, alloc, finished, run)
 }
 
-fn named(
+fn ends_so(
     rt: &impl Abort,
     alloc: Global,
-    finished: FinishedSession<ScriptedSink>,
+    finished: &FinishedSession<ScriptedSink>,
     run: &Run,
-) -> Result<Vec<(String, Vec<u8>)>, Fail> {
+) -> Result<Files, Fail> {
     let ends = format!(in alloc; "{:?}", finished.answers.as_slice())?;
     same(rt, ends.as_str(), run.ends, ("ends", run.shows));
+    named(alloc, run.streams, finished.sinks.as_slice())
+}
+
+fn named(alloc: Global, streams: &[Source], sinks: &[ScriptedSink]) -> Result<Files, Fail> {
     let mut files = Vec::new(alloc);
-    for (source, sink) in run.streams.iter().zip(finished.sinks) {
+    for (source, sink) in streams.iter().zip(sinks) {
         files.push(file_of(alloc, source, sink.sink.bytes())?)?;
     }
     Ok(files)
@@ -346,8 +382,5 @@ fn named(
 fn file_of(alloc: Global, source: &Source, behind: &[u8]) -> Result<(String, Vec<u8>), Fail> {
     let mut bytes = bytes_of(alloc, source.earlier)?;
     bytes.extend_from_slice(behind)?;
-    match String::from_str(alloc, source.name) {
-        Ok(name) => Ok((name, bytes)),
-        Err(_) => Err("out of memory".into()),
-    }
+    Ok((String::from_str(alloc, source.name)?, bytes))
 }

@@ -363,10 +363,14 @@ fn runs_two_streams_by_turns(rt: HostRuntime) -> Result<(), Fail> {
 
 pub fn all_run(rt: &impl Abort, alloc: Global, rows: &[Row]) -> Result<(), Fail> {
     for row in rows {
-        let ended = run_to_end(rt, alloc, &row.0)?;
-        ends_so(rt, alloc, &ended, row)?;
+        runs(rt, alloc, row)?;
     }
     Ok(())
+}
+
+fn runs(rt: &impl Abort, alloc: Global, row: &Row) -> Result<(), Fail> {
+    let ended = run_to_end(rt, alloc, &row.0)?;
+    ends_so(rt, alloc, &ended, row)
 }
 
 fn ends_so(rt: &impl Abort, alloc: Global, ended: &Ended, row: &Row) -> Result<(), Fail> {

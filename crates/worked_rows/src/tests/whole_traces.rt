@@ -3,8 +3,9 @@
 use crate::tests::expected::same;
 use crate::tests::printed_traces::trace_of;
 use std::alloc::Global;
+use std::fmt::Debug;
 use std::test::Fail;
-use trace_stack::{TraceFault, read_trace};
+use trace_stack::{ReadTrace, TraceFault, read_trace};
 use worked_fixtures::{CLOCKED, SMALL, shown_streams};
 
 /// `SMALL` or `CLOCKED`, the stream files of a trace, a line each with a file's name and its bytes in hexadecimal, and what is read of them.
@@ -53,6 +54,10 @@ fn reads_each_file_as_far_as_its_packets_lie(rt: HostRuntime) -> Result<(), Fail
 
 fn shown_trace(alloc: Global, text: &'static str, files: &str) -> Result<String, Fail> {
     let trace = trace_of(alloc, text, &[], files)?;
+    shown(alloc, &trace)
+}
+
+fn shown(alloc: Global, trace: &ReadTrace) -> Result<String, Fail> {
     Ok(shown_streams(alloc, &trace.metadata, trace.streams.as_slice())?)
 }
 
@@ -79,8 +84,12 @@ fn refuses_a_text_that_denotes_no_metadata(rt: HostRuntime) -> Result<(), Fail> 
 fn refusal(alloc: Global, text: &str) -> Result<String, Fail> {
     match read_trace(alloc, text.as_bytes(), &[]) {
         Ok(_) => Err("such a text was read".into()),
-        Err(TraceFault::Metadata(fault)) => Ok(format!(in alloc; "{:?}", fault.kind)?),
+        Err(TraceFault::Metadata(fault)) => in_words(alloc, &fault.kind),
         Err(TraceFault::Reader(_, _)) => Err("a reader failed where there is none".into()),
         Err(TraceFault::OutOfMemory) => Err("out of memory".into()),
     }
+}
+
+fn in_words(alloc: Global, kind: &impl Debug) -> Result<String, Fail> {
+    Ok(format!(in alloc; "{kind:?}")?)
 }

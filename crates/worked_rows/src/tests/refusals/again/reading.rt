@@ -1,6 +1,6 @@
 //! Calls that read scripts and whole traces, and print them.
 
-use super::super::{FILE, OUT_OF_MEMORY, PRINTED, SCRIPT, metadata_text, one_file};
+use super::super::{FILE, PRINTED, SCRIPT, metadata_text, one_file};
 use crate::tests::expected::same;
 use conf_check::configure;
 use ctf_types::Config;
@@ -43,9 +43,13 @@ fn script_of(alloc: Global, config: &Config) -> Result<Script, Fail> {
 #[test]
 fn reads_a_configuration_and_a_script(rt: HostRuntime) -> Result<(), Fail> {
     let config = config_of(rt.alloc(), CLOCKED)?;
-    let script = script_of(rt.alloc(), &config)?;
-    same(&rt, script.streams.len(), 1, "streams");
-    same(&rt, script.events.len(), 4, "events");
+    reads_a_script(&rt, rt.alloc(), &config)
+}
+
+fn reads_a_script(rt: &impl Abort, alloc: Global, config: &Config) -> Result<(), Fail> {
+    let script = script_of(alloc, config)?;
+    let counts = (script.streams.len(), script.events.len());
+    same(rt, counts, (1, 4), "streams and events");
     Ok(())
 }
 
@@ -59,24 +63,17 @@ fn trace_of(alloc: Global, metadata: &str, files: &[(String, Vec<u8>)]) -> Resul
 
 /// The same from a reader, which is made anew.
 fn trace_from(alloc: Global, metadata: &str, bytes: &[u8]) -> Result<ReadTrace, Fail> {
-    let first = one_reader(alloc, bytes)?;
-    let second = one_reader(alloc, bytes)?;
-    match read_trace_from(alloc, metadata.as_bytes(), first) {
+    let streams = one_file(alloc, bytes)?;
+    match read_trace_from(alloc, metadata.as_bytes(), streams) {
         Ok(trace) => Ok(trace),
-        Err(TraceFault::OutOfMemory) => {
-            at_last(read_trace_from(alloc, metadata.as_bytes(), second))
-        }
+        Err(TraceFault::OutOfMemory) => trace_at_last(alloc, metadata, bytes),
         Err(fault) => Err(Fail::new(fault)),
     }
 }
 
-fn one_reader(alloc: Global, bytes: &[u8]) -> Result<Vec<(String, &[u8])>, Fail> {
-    let name = granted(String::from_str(alloc, "t0"))?;
-    let mut streams = Vec::new(alloc);
-    if streams.push((name, bytes)).is_err() {
-        return Err(Fail::new(OUT_OF_MEMORY));
-    }
-    Ok(streams)
+fn trace_at_last(alloc: Global, metadata: &str, bytes: &[u8]) -> Result<ReadTrace, Fail> {
+    let streams = one_file(alloc, bytes)?;
+    at_last(read_trace_from(alloc, metadata.as_bytes(), streams))
 }
 
 /// What is printed. The refused call printed a front of it.

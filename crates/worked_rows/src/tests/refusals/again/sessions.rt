@@ -2,7 +2,7 @@
 
 ghost use Rattle.std.specs.Prelude.{◌≡◌, []};
 
-use super::super::{ANSWERS, FILE, clock, clocked, events, shown, two_buffers};
+use super::super::{ANSWERS, clock, clocked, is_the_file, script_events, shown, two_buffers};
 use crate::tests::expected::same;
 use crate::tests::session_steps::are_below;
 use ctf_types::Values;
@@ -13,7 +13,7 @@ use std::test::Fail;
 use thread_stream::StreamFault;
 use trace_platform::{ListBackEnd, ListClock, MemorySink};
 use trace_stack::{AddFault, Answer, Event, FinishedSession, NotAdded, Session, run_events};
-use worked_fixtures::{bytes_of, granted};
+use worked_fixtures::granted;
 
 type Listed = Session<ListClock, ListBackEnd, MemorySink>;
 
@@ -93,55 +93,44 @@ fn finished(session: Listed) -> Result<FinishedSession<MemorySink>, Fail> {
     }
 }
 
-/// The one sink has this file.
+/// The one sink has the stream's file.
 fn has_all(
     rt: &impl Abort,
-    finished: FinishedSession<MemorySink>,
-    file: &[u8],
+    alloc: Global,
+    finished: &FinishedSession<MemorySink>,
 ) -> Result<(), Fail> {
-    let FinishedSession { sinks, answers } = finished;
-    same(
-        rt,
-        answers.as_slice(),
-        [FinishAnswer::Settled].as_slice(),
-        "ends",
-    );
-    let sink = sinks.into_iter().next().ok_or("no sink")?;
-    same(rt, sink.bytes(), file, "the file");
-    Ok(())
+    let ends = [FinishAnswer::Settled];
+    same(rt, finished.answers.as_slice(), ends.as_slice(), "ends");
+    let sink = finished.sinks.as_slice().first().ok_or("no sink")?;
+    is_the_file(rt, alloc, sink.bytes())
 }
 
 #[test]
 fn records_a_session(rt: HostRuntime) -> Result<(), Fail> {
-    let file = bytes_of(rt.alloc(), FILE)?;
-    let finished = finished(ran(&rt, rt.alloc())?)?;
-    has_all(&rt, finished, file.as_slice())
+    let finished = recorded(&rt, rt.alloc())?;
+    has_all(&rt, rt.alloc(), &finished)
 }
 
-/// The session behind the events.
-fn ran(rt: &impl Abort, alloc: Global) -> Result<Listed, Fail> {
-    let config = clocked(alloc)?;
-    let events = events(alloc, &config)?;
-    let mut session = Session::new(alloc, config);
-    match drives(rt, alloc, &mut session, events.as_slice()) {
-        Ok(()) => Ok(session),
-        Err(fault) => Err(fault),
-    }
+/// The end of a session behind the script's events.
+fn recorded(rt: &impl Abort, alloc: Global) -> Result<FinishedSession<MemorySink>, Fail> {
+    let mut session = Session::new(alloc, clocked(alloc)?);
+    drives(rt, alloc, &mut session)?;
+    finished(session)
 }
 
 /// The session takes the script's stream and answers its events.
-fn drives(
-    rt: &impl Abort,
-    alloc: Global,
-    session: &mut Listed,
-    events: &[Event],
-) -> Result<(), Fail> {
+fn drives(rt: &impl Abort, alloc: Global, session: &mut Listed) -> Result<(), Fail> {
     adds(alloc, session)?;
     has_metadata(rt, session)?;
-    let answers = runs(session, events)?;
-    let found = shown(alloc, answers.as_slice())?;
+    let found = answered(alloc, session)?;
     same(rt, found.as_str(), ANSWERS, "answers");
     Ok(())
+}
+
+/// What the script's events answer, in words.
+fn answered(alloc: Global, session: &mut Listed) -> Result<String, Fail> {
+    let events = script_events(alloc)?;
+    shown(alloc, runs(session, events.as_slice())?.as_slice())
 }
 
 fn has_metadata(rt: &impl Abort, session: &Listed) -> Result<(), Fail> {

@@ -1,8 +1,8 @@
 //! A script that is read, run, read back and printed.
 
 use super::super::{
-    ANSWERS, FAULTED, FILE, OUT_OF_MEMORY, PRINTED, clock, clocked, events, one_file, shown,
-    two_buffers,
+    ANSWERS, FAULTED, OUT_OF_MEMORY, PRINTED, clock, clocked, is_the_file, one_file, script_events,
+    shown, two_buffers,
 };
 use crate::tests::expected::same;
 use crate::tests::session_steps::are_below;
@@ -12,41 +12,40 @@ use std::alloc::Global;
 use std::process::Abort;
 use std::test::Fail;
 use trace_platform::{ListBackEnd, ListClock, MemorySink};
-use trace_stack::{Event, FinishedSession, ReadTrace, Session, read_trace, run_events};
+use trace_stack::{Answer, Event, FinishedSession, ReadTrace, Session, read_trace, run_events};
 use trace_text::{PrintFault, print_trace};
-use worked_fixtures::{bytes_of, granted};
+use worked_fixtures::granted;
 
 type Listed = Session<ListClock, ListBackEnd, MemorySink>;
 
-/// A session with the script's stream.
-fn started(alloc: Global) -> Result<Listed, Fail> {
-    let mut session = Session::new(alloc, clocked(alloc)?);
+/// Adds the script's stream.
+fn adds(alloc: Global, session: &mut Listed) -> Result<(), Fail> {
     let clock = clock(alloc, &[10, 11, 12])?;
     let back_end = two_buffers(alloc)?;
     let extras = Values::new(alloc);
     match session.add_stream("t0", "s", clock, back_end, MemorySink::new(alloc), extras) {
-        Ok(_) => Ok(session),
+        Ok(_) => Ok(()),
         Err(refused) => Err(Fail::new(refused.fault)),
     }
 }
 
 /// What the events answer, in words.
-fn answered(alloc: Global, session: &mut Listed, events: &[Event]) -> Result<String, Fail> {
-    if !are_below(events, session.stream_count()) {
-        return Err("no such stream".into());
-    }
-    let answers = granted(run_events(session, events))?;
+fn answered(alloc: Global, session: &mut Listed) -> Result<String, Fail> {
+    let events = script_events(alloc)?;
+    let answers = answers(session, events.as_slice())?;
     shown(alloc, answers.as_slice())
 }
 
+fn answers(session: &mut Listed, events: &[Event]) -> Result<Vec<Answer>, Fail> {
+    if !are_below(events, session.stream_count()) {
+        return Err("no such stream".into());
+    }
+    granted(run_events(session, events))
+}
+
 /// Whether the sink had no memory: else each event is answered as ever.
-fn runs(
-    rt: &impl Abort,
-    alloc: Global,
-    session: &mut Listed,
-    events: &[Event],
-) -> Result<bool, Fail> {
-    let found = answered(alloc, session, events)?;
+fn runs(rt: &impl Abort, alloc: Global, session: &mut Listed) -> Result<bool, Fail> {
+    let found = answered(alloc, session)?;
     let faulted = found.as_str() == FAULTED;
     let expected = if faulted { FAULTED } else { ANSWERS };
     same(rt, found.as_str(), expected, "answers");
@@ -101,38 +100,22 @@ fn is_printed(rt: &impl Abort, alloc: Global, trace: &ReadTrace) -> Result<(), F
 #[test]
 fn runs_a_script_and_prints_its_trace(rt: HostRuntime) -> Result<(), Fail> {
     let alloc = rt.alloc();
-    let (metadata, file) = recorded(&rt, alloc, started(alloc)?)?;
-    has_all(&rt, alloc, file.as_slice())?;
+    let (metadata, file) = recorded(&rt, alloc)?;
+    is_the_file(&rt, alloc, file.as_slice())?;
     prints(&rt, alloc, metadata.as_str(), file)
 }
 
 /// The metadata of a session, and the stream's file behind the script's events.
-fn recorded(rt: &impl Abort, alloc: Global, session: Listed) -> Result<(String, Vec<u8>), Fail> {
-    let mut session = session;
+fn recorded(rt: &impl Abort, alloc: Global) -> Result<(String, Vec<u8>), Fail> {
+    let mut session = Session::new(alloc, clocked(alloc)?);
     let (metadata, faulted) = driven(rt, alloc, &mut session)?;
-    match file_of(rt, session, faulted) {
-        Ok(file) => Ok((metadata, file)),
-        Err(fault) => Err(fault),
-    }
+    let file = file_of(rt, session, faulted)?;
+    Ok((metadata, file))
 }
 
 /// The metadata of a session that runs the script's events, and whether its sink had no memory.
 fn driven(rt: &impl Abort, alloc: Global, session: &mut Listed) -> Result<(String, bool), Fail> {
-    let metadata = granted(session.metadata())?;
-    let events = script_events(alloc)?;
-    match runs(rt, alloc, session, events.as_slice()) {
-        Ok(faulted) => Ok((metadata, faulted)),
-        Err(fault) => Err(fault),
-    }
-}
-
-fn script_events(alloc: Global) -> Result<Vec<Event>, Fail> {
-    let config = clocked(alloc)?;
-    events(alloc, &config)
-}
-
-fn has_all(rt: &impl Abort, alloc: Global, file: &[u8]) -> Result<(), Fail> {
-    let want = bytes_of(alloc, FILE)?;
-    same(rt, file, want.as_slice(), "the file");
-    Ok(())
+    adds(alloc, session)?;
+    let faulted = runs(rt, alloc, session)?;
+    Ok((granted(session.metadata())?, faulted))
 }
