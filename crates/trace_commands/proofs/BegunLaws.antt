@@ -19,7 +19,7 @@ use Rattle.thread_stream.specs.Starting.{start_fault, stream_named}
 use Rattle.trace_stack.specs.declared.adding.AddFault.{AddFault}
 use Rattle.trace_stack.specs.declared.adding.AddFault.TheVariants as add_fault
 use Rattle.trace_stack.specs.declared.names.NameFault.{NameFault}
-use Rattle.trace_stack.specs.Adding.{first_fault, known_fault}
+use Rattle.trace_stack.specs.Adding.{known_fault}
 use Rattle.trace_stack.specs.StreamNames.{name_fault}
 use Rattle.trace_stack.specs.Points.{IsOf, is_other, no_point, type_number}
 use Rattle.trace_stack.proofs.Fronts.{map-take-more, take-more}
@@ -40,27 +40,22 @@ of_one (Some n) number h = same_number n number h
 pub no_fault : (start : Option StreamFault) (other : Bool) → start ≡ None → other ≡ false → known_fault None start other ≡ None
 no_fault start other none is = subst (λ (o : Option StreamFault). known_fault None o other ≡ None) (sym none) (subst (λ (b : Bool). known_fault None None b ≡ None) (sym is) refl)
 
--- without earlier packets it is the stream's own, or want of memory
-own_fault : (start : Option StreamFault) → add_fault.Stream (unwrap_or start NoMemory) ≡ unwrap_or (known_fault None start false) (add_fault.Stream NoMemory)
-own_fault None = refl
-own_fault (Some f) = refl
+stream_of_point : (p : Option ResumePoint) → (unwrap_or p no_point).stream ≡ stream_at p
+stream_of_point None = refl
+stream_of_point (Some p) = refl
 
-pub adding_fault : (name : Option NameFault) (c : Config) (bytes : ℕ) (s : ScriptStream) → name ≡ None
-    → first_fault name c s.type_name bytes s.extras ≡ unwrap_or (fault_of c bytes (s, None)) (add_fault.Stream NoMemory)
-adding_fault name c bytes s free =
-    ap (λ (o : Option NameFault). first_fault o c s.type_name bytes s.extras) free ∙ own_fault (start_fault c s.type_name bytes s.extras)
-
--- so is what a session that was handed equal parts answers
-pub adding_refused : (c : Config) (bytes : ℕ) (s : ScriptStream) (names : List (List ℕ)) (f : AddFault) {n t : List ℕ} {b : ℕ} {x : List Datum}
-    → n ≡ s.name → t ≡ s.type_name → b ≡ bytes → x ≡ s.extras → name_fault names s.name ≡ None → f ≡ first_fault (name_fault names n) c t b x
-    → f ≡ unwrap_or (fault_of c bytes (s, None)) (add_fault.Stream NoMemory)
-adding_refused c bytes s names f {n} {t} {b} {x} name type size extras free is =
-    let same : first_fault (name_fault names n) c t b x ≡ first_fault (name_fault names s.name) c s.type_name bytes s.extras =
-    subst (λ v. first_fault (name_fault names n) c t b x ≡ first_fault (name_fault names v) c s.type_name bytes s.extras) name
-    (subst (λ v. first_fault (name_fault names n) c t b x ≡ first_fault (name_fault names n) c v bytes s.extras) type
-    (subst (λ v. first_fault (name_fault names n) c t b x ≡ first_fault (name_fault names n) c t v s.extras) size
-    (subst (λ v. first_fault (name_fault names n) c t b x ≡ first_fault (name_fault names n) c t b v) extras refl))) in
-    is ∙ same ∙ adding_fault (name_fault names s.name) c bytes s free
+-- so is what a session that was handed equal parts answers, or want of memory
+pub resuming_refused : (c : Config) (bytes : ℕ) (s : ScriptStream) (o : Option ResumePoint) (names : List (List ℕ)) (f : AddFault) {n t : List ℕ} {b : ℕ} {x : List Datum} {p : ResumePoint}
+    → n ≡ s.name → t ≡ s.type_name → b ≡ bytes → x ≡ s.extras → p ≡ unwrap_or o no_point → name_fault names s.name ≡ None
+    → f ≡ unwrap_or (known_fault (name_fault names n) (start_fault c t b x) (is_other p.stream (type_number c t))) (add_fault.Stream NoMemory)
+    → f ≡ unwrap_or (fault_of c bytes (s, o)) (add_fault.Stream NoMemory)
+resuming_refused c bytes s o names f {n} {t} {b} {x} {p} name type size extras point free is =
+    let of : Option NameFault → List ℕ → ℕ → List Datum → Option ℕ → AddFault =
+    λ named type bytes extras earlier. unwrap_or (known_fault named (start_fault c type bytes extras) (is_other earlier (type_number c type))) (add_fault.Stream NoMemory) in
+    let named : name_fault names n ≡ None = ap (λ (l : List ℕ). name_fault names l) name ∙ free in
+    let earlier : p.stream ≡ stream_at o = ap (λ (q : ResumePoint). q.stream) point ∙ stream_of_point o in
+    let same : of (name_fault names n) t b x p.stream ≡ of None s.type_name bytes s.extras (stream_at o) = cc in
+    is ∙ same
 
 -- and one without has earlier packets of its own type
 right_type : (start : Option StreamFault) (other : Bool) → known_fault None start other ≡ None → other ≡ false

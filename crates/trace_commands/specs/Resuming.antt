@@ -25,6 +25,11 @@ abbrev pub RefusesAt : List ℕ → NotResumed → Type 0
 RefusesAt path (Refused line) = IsFaultLine path line.items
 RefusesAt path (Failed failure) = Unit {0}
 
+-- what was read of a file does not end whole, which a line of it says, or what failed
+abbrev pub RefusesEnd : List ℕ → ReadStream → NotResumed → Type 0
+RefusesEnd folder found (Refused line) = (is_whole found.end ≡ false) × IsEndLine folder found.name (length found.packets) found.end line.items
+RefusesEnd folder found (Failed failure) = Unit {0}
+
 module _ {File : Type 0} (remaining : File → Option (List ℕ)) where
   -- ---- metadata
 

@@ -23,16 +23,25 @@ pub fn push_fault(
     text: &[u8],
     fault: &ScriptFault,
 ) -> Result<(), AllocError> {
-    let script = match Value::from_slice(alloc, text) {
-        Ok(script) => script,
-        Err(_) => return Err(AllocError),
-    };
-    let place = faulty_place(alloc, config, &script, fault)?;
+    match Value::from_slice(alloc, text) {
+        Ok(script) => push_fault_in(alloc, said, config, &script, fault),
+        Err(_) => Err(AllocError),
+    }
+}
+
+fn push_fault_in(
+    alloc: Global,
+    said: &mut Vec<u8>,
+    config: &Config,
+    script: &Value,
+    fault: &ScriptFault,
+) -> Result<(), AllocError> {
+    let place = faulty_place(alloc, config, script, fault)?;
     push_place(alloc, said, &place, fault.at)?;
-    push_blamed(alloc, said, &script, &place, fault.kind)?;
+    push_blamed(alloc, said, script, &place, fault.kind)?;
     let kind = format!(in alloc; ": {}", fault.kind)?;
     said.extend_from_slice(kind.as_bytes())?;
-    push_known(alloc, said, config, &script, &place, fault.kind)
+    push_known(alloc, said, config, script, &place, fault.kind)
 }
 
 /// The entry that has the fault: that of a stream, where the streams alone have one.

@@ -12,7 +12,7 @@ use crate::shared_clock::seat_for;
 use command_words::Quota;
 use packet_reader::ResumePoint;
 use packet_ring::ring;
-use plain_lists::Duplicate;
+use plain_lists::{Duplicate, both};
 use std::alloc::{AllocError, Global};
 use std::collections::VecDeque;
 use std::io::Write;
@@ -68,10 +68,10 @@ fn worker_of<F: Write + Drop>(
     ensures seat { IfOk result (λ w. w.seat ≡ seat) }
     ensures worker { IfOk result (IsWorkerOf sizes events.now number (stream.now, start)) }
 {
-    let (back_end, ring_end) = ring(alloc, sizes.buffers, sizes.bytes)?;
-    let type_name = stream.type_name.copy(alloc)?;
-    let extras = stream.extras.copy(alloc)?;
-    let acts = acts_of(alloc, events, number)?;
+    let ends = ring(alloc, sizes.buffers, sizes.bytes);
+    let texts = both(stream.type_name.copy(alloc), stream.extras.copy(alloc));
+    let said = both(texts, acts_of(alloc, events, number));
+    let ((back_end, ring_end), ((type_name, extras), acts)) = both(ends, said)?;
     Ok(Worker {
         type_name,
         start,
