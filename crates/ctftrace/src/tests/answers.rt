@@ -1,13 +1,15 @@
 //! The rows of the first path.
 
-use crate::tests::expected::same;
+use crate::tests::answered::is_answer;
 use number_packets::first_path;
 use std::alloc::Global;
 use std::process::Abort;
 use std::test::Fail;
 
 /// Input, output, errors and status.
-static ROWS: &[(&str, &str, &str, u8)] = &[
+type Row = (&'static str, &'static str, &'static str, u8);
+
+static ROWS: &[Row] = &[
     (
         "1\n2\n",
         "c11ffcc1800000007000000001020000\nread: 1 2\n",
@@ -35,13 +37,11 @@ fn answers_to_numbers(rt: HostRuntime) -> Result<(), Fail> {
 fn answers_so(
     rt: &impl Abort,
     alloc: Global,
-    (text, output, errors, status): &(&str, &str, &str, u8),
+    (text, output, errors, status): &Row,
 ) -> Result<(), Fail> {
     let mut printed = Vec::new(alloc);
     let mut said = Vec::new(alloc);
-    let answered = first_path(alloc, &mut text.as_bytes(), &mut printed, &mut said);
-    same(rt, answered, *status, *text, "ends with");
-    same(rt, std::str::from_utf8(&printed)?, *output, *text, "prints");
-    same(rt, std::str::from_utf8(&said)?, *errors, *text, "says");
-    Ok(())
+    let ends = first_path(alloc, &mut text.as_bytes(), &mut printed, &mut said);
+    let answer = (*output, *errors, *status);
+    is_answer(rt, *text, (&printed, &said, ends), answer)
 }

@@ -13,7 +13,7 @@ const JSON: &str =
     r#"{"trace":{"type":{"trace-byte-order":"le","$features":{"data-stream-type-id-field-type":false},"data-stream-types":{"s":{"$features":{"packet":{"total-size-field-type":{"class":"uint","size":32},"content-size-field-type":{"class":"uint","size":32},"discarded-event-records-counter-snapshot-field-type":false},"event-record":{"type-id-field-type":false}},"event-record-types":{"e":{"payload-field-type":{"class":"struct","members":[{"v":{"field-type":{"class":"uint","size":8}}}]}}}}}}}}"#;
 
 /// The metadata text of a configuration, and a line for each stream type: its name, and whether it has no default clock and no extra members, with their alignment.
-fn described(alloc: Global, config: &Config) -> Result<String, AllocError> {
+fn described(alloc: Global, config: &Config) -> Result<String, Fail> {
     let mut text = write_metadata(alloc, config)?;
     for stream in config.streams.as_slice() {
         let name = stream.name.as_str();
@@ -25,21 +25,22 @@ fn described(alloc: Global, config: &Config) -> Result<String, AllocError> {
 
 fn configured(alloc: Global) -> Result<String, Fail> {
     match configure(alloc, JSON.as_bytes(), None) {
-        Ok(config) => Ok(described(alloc, &config)?),
+        Ok(config) => described(alloc, &config),
         Err(fault) => Err(Fail::new(fault)),
     }
 }
 
 fn own_text(alloc: Global) -> Result<String, AllocError> {
-    write_metadata(alloc, &small_config(alloc)?)
+    let mut text = write_metadata(alloc, &small_config(alloc)?)?;
+    text.push_str("s true 1\n")?;
+    Ok(text)
 }
 
 /// They have the same metadata text, which says all of a configuration but the names of the stream types and of their default clocks, and these are the same.
 #[test]
 fn is_configured_by_its_json(rt: HostRuntime) -> Result<(), Fail> {
+    let expected = own_text(rt.alloc())?;
     let found = configured(rt.alloc())?;
-    let text = own_text(rt.alloc())?;
-    let expected = format!(in rt.alloc(); "{text}s true 1\n")?;
     same(&rt, found.as_str(), expected.as_str(), JSON, "configures");
     Ok(())
 }

@@ -1,5 +1,6 @@
 //! A write that fails while `trace` runs: the status is 3, a line names the file, and the file has a front of what it was to have.
 
+use crate::tests::Host;
 use crate::tests::answered::Answer;
 use crate::tests::expected::same;
 use crate::tests::row_files::{remove_all, write_both};
@@ -166,8 +167,8 @@ pub struct Outcome {
 }
 
 /// Runs the words where the file at this path has room for so many bytes, and each takes so many by one write.
-pub fn traced<R: Files + AllocGlobal + Clone + Threads + Wait>(
-    rt: &R,
+pub fn traced(
+    rt: &impl Host,
     words: &[&str],
     path: &str,
     (room, piece): (usize, usize),
@@ -193,9 +194,9 @@ pub fn traced<R: Files + AllocGlobal + Clone + Threads + Wait>(
 }
 
 /// What the words print and say over these files, and the status.
-fn run_over<R: Files + AllocGlobal + Clone + Threads + Wait>(
+fn run_over(
     alloc: Global,
-    files: &NarrowFiles<'_, R>,
+    files: &NarrowFiles<'_, impl Host>,
     words: &[&str],
 ) -> (Vec<u8>, Vec<u8>, u8) {
     let mut printed = Vec::new(alloc);
@@ -281,22 +282,34 @@ fn says_which_file_takes_no_more(rt: HostRuntime) -> Result<(), Fail> {
     Ok(())
 }
 
-fn stops_in_each_room<R: Files + AllocGlobal + Clone + Threads + Wait + Abort>(
-    rt: &R,
-    row: &Row,
-) -> Result<(), Fail> {
+fn stops_in_each_room(rt: &impl Host, row: &Row) -> Result<(), Fail> {
     let whole = hex::decode(rt.alloc(), row.bytes)?;
+    stops_within(rt, row, whole.as_slice())?;
+    Ok(())
+}
+
+fn stops_within(rt: &impl Host, row: &Row, whole: &[u8]) -> IoResult<()> {
     for room in [0, 1, 17, 63, 64] {
-        let traced = traced(rt, row.words, "narrow/t0", (room, usize::MAX))?;
+        stops_in_room(rt, row, whole, room)?;
         remove_all(rt, &[], "narrow")?;
-        let answer = if room < whole.len() {
-            (row.torn, "ctftrace: narrow/t0: a write failed\n", 3)
-        } else {
-            (row.whole, "", 0)
-        };
-        let front = front_of(whole.as_slice(), room);
-        is_told(rt, &traced, answer, front, (room, row.words));
     }
+    Ok(())
+}
+
+fn stops_in_room(rt: &impl Host, row: &Row, whole: &[u8], room: usize) -> IoResult<()> {
+    let traced = traced(rt, row.words, "narrow/t0", (room, usize::MAX))?;
+    let answer = if room < whole.len() {
+        (row.torn, "ctftrace: narrow/t0: a write failed\n", 3)
+    } else {
+        (row.whole, "", 0)
+    };
+    is_told(
+        rt,
+        &traced,
+        answer,
+        front_of(whole, room),
+        (room, row.words),
+    );
     Ok(())
 }
 
@@ -307,18 +320,20 @@ fn says_that_the_metadata_takes_no_more(rt: HostRuntime) -> Result<(), Fail> {
         ("narrow.json", CLOCKED),
         ("narrow_script.json", CLOCKED_SCRIPT),
     )?;
-    let traced = traced(&rt, WORDS, "narrow/metadata", (12, usize::MAX))?;
+    stops_in_metadata(&rt)?;
     remove_all(&rt, &[], "narrow")?;
+    Ok(())
+}
+
+fn stops_in_metadata(rt: &impl Host) -> IoResult<()> {
+    let traced = traced(rt, WORDS, "narrow/metadata", (12, usize::MAX))?;
     let answer = ("", "ctftrace: narrow/metadata: a write failed\n", 3);
-    is_told(&rt, &traced, answer, b"/* CTF 1.8 *", (12, WORDS));
+    is_told(rt, &traced, answer, b"/* CTF 1.8 *", (12, WORDS));
     Ok(())
 }
 
 /// Whether these words ask for progress, and their status.
-fn asks_for_progress<R: Files + AllocGlobal + Clone + Threads + Wait>(
-    rt: &R,
-    words: &[&str],
-) -> (bool, u8) {
+fn asks_for_progress(rt: &impl Host, words: &[&str]) -> (bool, u8) {
     let is_asked = Cell::new(false);
     let files = NarrowFiles {
         rt,

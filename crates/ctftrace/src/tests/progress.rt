@@ -64,12 +64,16 @@ fn said(alloc: Global, is_watched: bool, is_wanted: bool) -> IoResult<String> {
 }
 
 fn write_and_read(alloc: Global, files: &CountedFiles<'_, Ticking>) -> IoResult<()> {
-    let mut output = files.counted(Vec::new(alloc));
+    write_five_times(&mut files.counted(Vec::new(alloc)))?;
+    let mut input = files.counted(b"abc".as_slice());
+    input.read(&mut [0u8; 8])?;
+    Ok(())
+}
+
+fn write_five_times<W: Write>(output: &mut W) -> IoResult<()> {
     for _ in 0..5 {
         output.write(b"four")?;
     }
-    let mut input = files.counted(b"abc".as_slice());
-    input.read(&mut [0u8; 8])?;
     Ok(())
 }
 

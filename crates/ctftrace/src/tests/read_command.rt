@@ -2,17 +2,14 @@
 
 use crate::tests::answered::{answers, answers_to_all};
 use crate::tests::expected::same;
-use crate::tests::row_files::{write, write_digits};
-use crate::tests::run_quietly;
+use crate::tests::row_files::{write, write_digits_in};
 use crate::tests::stopped_output::front_of;
+use crate::tests::{Host, run_quietly};
 use number_packets::small_config;
 use std::alloc::{AllocError, Global};
 use std::fs;
-use std::io::Eprint;
-use std::rt::{Clock, Files};
-use std::sync::Wait;
+use std::io::Result as IoResult;
 use std::test::Fail;
-use std::thread::Threads;
 use trace_platform::StoppingWriter;
 use tsdl_writer::write_metadata;
 
@@ -65,18 +62,23 @@ static ROWS: &[Row] = &[
 
 /// Makes a folder with the small configuration's metadata and these files.
 fn make_folder(
-    rt: &HostRuntime,
+    rt: &impl Host,
     folder: &str,
     files: &[(&'static str, &'static str)],
 ) -> Result<(), Fail> {
     fs::create_dir(rt, folder)?;
-    let path = format!(in rt.alloc(); "{folder}/metadata")?;
-    write(rt, path.as_str(), small_text(rt.alloc())?.as_str())?;
+    write_small(rt, folder)?;
     for (name, digits) in files {
-        let path = format!(in rt.alloc(); "{folder}/{name}")?;
-        write_digits(rt, path.as_str(), digits)?;
+        write_digits_in(rt, folder, name, digits)?;
     }
     Ok(())
+}
+
+/// Writes the small configuration's metadata into the folder.
+fn write_small(rt: &impl Host, folder: &str) -> IoResult<()> {
+    let text = small_text(rt.alloc())?;
+    let path = format!(in rt.alloc(); "{folder}/metadata")?;
+    write(rt, path.as_str(), text.as_str())
 }
 
 /// The small configuration's metadata.
@@ -146,10 +148,7 @@ fn prints_a_front_where_a_write_fails(rt: HostRuntime) -> Result<(), Fail> {
 }
 
 /// What is printed of the folder where there is room for so many bytes, whether nothing is said, and the status.
-fn front_read<X: Files + Clock + Eprint + AllocGlobal + Clone + Threads + Wait>(
-    rt: &X,
-    room: usize,
-) -> (Vec<u8>, bool, u8) {
+fn front_read(rt: &impl Host, room: usize) -> (Vec<u8>, bool, u8) {
     let mut printed = StoppingWriter::new(rt.alloc(), room, 7);
     let mut said = Vec::new(rt.alloc());
     let words = &["read", "front"];

@@ -1,20 +1,16 @@
 //! Traces that go on in their folder: what `trace --resume` answers, what then stands in the folder, and what `read` prints of it.
 
-use crate::tests::answered::{answers, answers_to_all, tells};
+use crate::tests::answered::{answers, answers_to_all, joined, tells};
 use crate::tests::expected::same;
 use crate::tests::row_files::{
     check_files, digits_of, remove_all, write, write_both, write_digits,
 };
-use crate::tests::run_quietly;
 use crate::tests::short_timestamps::BYTE;
 use crate::tests::trace_command::{CLOCKED, CLOCKED_BYTES, CLOCKED_SCRIPT};
+use crate::tests::{Host, run_quietly};
 use std::alloc::{AllocError, Global};
-use std::io::Eprint;
-use std::process::Abort;
-use std::rt::{Clock, Files};
-use std::sync::Wait;
+use std::io::Result as IoResult;
 use std::test::Fail;
-use std::thread::Threads;
 
 /// One stream type with one event record type of a byte, whose packets count lost event records in 32 bits.
 const COUNTED: &str =
@@ -245,10 +241,7 @@ fn goes_on_in_a_folder(rt: HostRuntime) -> Result<(), Fail> {
 }
 
 /// All runs of a row, one after the other.
-fn run_all<X: Files + Clock + Eprint + AllocGlobal + Clone + Drop + Abort + Threads + Wait>(
-    rt: &X,
-    row: &Row,
-) -> Result<(), Fail> {
+fn run_all(rt: &impl Host, row: &Row) -> Result<(), Fail> {
     for run in row.runs {
         write_both(rt, ("conf.json", row.config), ("script.json", run.script))?;
         run_once(rt, row.shows, run)?;
@@ -257,11 +250,7 @@ fn run_all<X: Files + Clock + Eprint + AllocGlobal + Clone + Drop + Abort + Thre
 }
 
 /// One run, and what is in the folder behind it.
-fn run_once<X: Files + Clock + Eprint + AllocGlobal + Clone + Drop + Abort + Threads + Wait>(
-    rt: &X,
-    shows: &str,
-    run: &Run,
-) -> Result<(), Fail> {
+fn run_once(rt: &impl Host, shows: &str, run: &Run) -> Result<(), Fail> {
     let words = (FILES.as_slice(), run.words);
     answers_to_all(rt, shows, words, (run.output, run.errors, run.status))?;
     check_files(rt, "again", shows, run.left)
@@ -289,9 +278,7 @@ fn numbers_go_round(rt: HostRuntime) -> Result<(), Fail> {
 const ROUND: [&str; 4] = ["trace", "conf.json", "script.json", "round"];
 
 /// Makes a folder, and in it a file of 300 packets.
-fn makes_300_packets<
-    X: Files + Clock + Eprint + AllocGlobal + Clone + Drop + Abort + Threads + Wait,
->(rt: &X) -> Result<(), Fail> {
+fn makes_300_packets(rt: &impl Host) -> Result<(), Fail> {
     let script = r#"{"streams":[],"events":[]}"#;
     write_both(rt, ("conf.json", NARROW), ("script.json", script))?;
     answers(rt, "an empty folder", ROUND.as_slice(), ("", "", 0))?;
@@ -300,10 +287,9 @@ fn makes_300_packets<
 }
 
 /// The file has one packet more.
-fn has_301_packets<X: Files + AllocGlobal + Abort>(rt: &X) -> Result<(), Fail> {
+fn has_301_packets(rt: &impl Host) -> Result<(), Fail> {
+    let digits = packets_of_301(rt.alloc())?;
     let found = digits_of(rt, "round/a")?;
-    let mut digits = packets_of_300(rt.alloc())?;
-    digits.push_str("c11ffcc18000000070000000012c0000")?;
     same(
         rt,
         found.as_str(),
@@ -312,6 +298,12 @@ fn has_301_packets<X: Files + AllocGlobal + Abort>(rt: &X) -> Result<(), Fail> {
         "has the bytes",
     );
     Ok(())
+}
+
+fn packets_of_301(alloc: Global) -> Result<String, AllocError> {
+    let mut digits = packets_of_300(alloc)?;
+    digits.push_str("c11ffcc18000000070000000012c0000")?;
+    Ok(digits)
 }
 
 /// 300 packets of 16 bytes without event records, numbered from 0, in hexadecimal; one event record was lost behind the first.
@@ -366,67 +358,71 @@ fn reads_like_one_trace(rt: HostRuntime) -> Result<(), Fail> {
 }
 
 /// Traces the parts one behind the other, and all at once.
-fn traces_parts_and_whole<
-    X: Files + Clock + Eprint + AllocGlobal + Clone + Drop + Abort + Threads + Wait,
->(rt: &X) -> Result<(), Fail> {
-    let (clock, events) = traces_parts(rt)?;
-    traces(rt, (clock.as_str(), events.as_str()), "whole", &[])
+fn traces_parts_and_whole(rt: &impl Host) -> Result<(), Fail> {
+    for (readings, events, more) in PARTS {
+        traces(rt, (readings, events), "parts", more)?;
+    }
+    let (readings, events) = whole(rt.alloc())?;
+    traces(rt, (readings.as_str(), events.as_str()), "whole", &[])
 }
 
 /// Both folders have the same bytes, of which there are some, and read alike.
-fn parts_are_the_whole<
-    X: Files + Clock + Eprint + AllocGlobal + Clone + Drop + Abort + Threads + Wait,
->(rt: &X, config: &str) -> Result<(), Fail> {
-    let parts = digits_of(rt, "parts/t0")?;
-    let whole = digits_of(rt, "whole/t0")?;
-    same(rt, parts.as_str(), whole.as_str(), config, "has the bytes");
-    same(rt, whole.is_empty(), false, config, "has no bytes");
+fn parts_are_the_whole(rt: &impl Host, config: &str) -> Result<(), Fail> {
+    have_same_bytes(rt, config)?;
     let text = text_of(rt, "parts")?;
     answers(rt, config, &["read", "whole"], (text.as_str(), "", 0))
 }
 
-/// Traces the parts into one folder, one behind the other, and gives the readings and the events of all.
-fn traces_parts<X: Files + Clock + Eprint + AllocGlobal + Clone + Drop + Abort + Threads + Wait>(
-    rt: &X,
-) -> Result<(String, String), Fail> {
-    let mut clock = String::new(rt.alloc());
-    let mut events = String::new(rt.alloc());
-    for (readings, part, more) in PARTS {
-        if !clock.is_empty() {
-            clock.push(',')?;
-            events.push(',')?;
-        }
-        clock.push_str(readings)?;
-        events.push_str(part)?;
-        traces(rt, (readings, part), "parts", more)?;
+fn have_same_bytes(rt: &impl Host, config: &str) -> IoResult<()> {
+    let parts = digits_of(rt, "parts/t0")?;
+    let whole = digits_of(rt, "whole/t0")?;
+    same(rt, parts.as_str(), whole.as_str(), config, "has the bytes");
+    same(rt, whole.is_empty(), false, config, "has no bytes");
+    Ok(())
+}
+
+/// The readings and the events of all parts.
+fn whole(alloc: Global) -> Result<(String, String), AllocError> {
+    let mut all = (String::new(alloc), String::new(alloc));
+    for (readings, events, _) in PARTS {
+        add_part(&mut all.0, readings)?;
+        add_part(&mut all.1, events)?;
     }
-    Ok((clock, events))
+    Ok(all)
+}
+
+/// Puts the part behind those that are there.
+fn add_part(all: &mut String, part: &str) -> Result<(), AllocError> {
+    if !all.is_empty() {
+        all.push(',')?;
+    }
+    all.push_str(part)
 }
 
 /// Traces these events by these readings into the folder.
-fn traces<X: Files + Clock + Eprint + AllocGlobal + Clone + Drop + Abort + Threads + Wait>(
-    rt: &X,
+fn traces(
+    rt: &impl Host,
     (readings, events): (&str, &str),
     folder: &str,
     more: &[&str],
 ) -> Result<(), Fail> {
-    let script = format!(in rt.alloc();
-        "{{\"streams\":[{{\"name\":\"t0\",\"type\":\"s\",\"clock\":[{readings}]}}],\"events\":[{events}]}}"
-    )?;
-    write(rt, "script.json", script.as_str())?;
-    let mut words = Vec::new(rt.alloc());
-    words.extend_from_slice(&["trace", "conf.json", "script.json", folder, "--packet=64"])?;
-    words.extend_from_slice(more)?;
+    write_script(rt, readings, events)?;
+    let words = ["trace", "conf.json", "script.json", folder, "--packet=64"];
+    let words = joined(rt.alloc(), &words, more)?;
     let (_, is_told, status) = tells(rt, words.as_slice());
     same(rt, (is_told, status), (false, 0), folder, "says, ends with");
     Ok(())
 }
 
+fn write_script(rt: &impl Host, readings: &str, events: &str) -> IoResult<()> {
+    let script = format!(in rt.alloc();
+        "{{\"streams\":[{{\"name\":\"t0\",\"type\":\"s\",\"clock\":[{readings}]}}],\"events\":[{events}]}}"
+    )?;
+    write(rt, "script.json", script.as_str())
+}
+
 /// What `read` prints of the folder.
-fn text_of<X: Files + Clock + Eprint + AllocGlobal + Clone + Drop + Abort + Threads + Wait>(
-    rt: &X,
-    folder: &str,
-) -> Result<String, Fail> {
+fn text_of(rt: &impl Host, folder: &str) -> Result<String, Fail> {
     let mut printed = Vec::new(rt.alloc());
     let mut said = Vec::new(rt.alloc());
     let words = &["read", folder];

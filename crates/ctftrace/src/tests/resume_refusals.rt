@@ -1,17 +1,14 @@
 //! Folders in which a trace does not go on: what `trace --resume` says of them, and that it leaves each byte.
 
+use crate::tests::Host;
 use crate::tests::answered::{answers, answers_to_all};
 use crate::tests::expected::same;
 use crate::tests::row_files::{digits_of, remove, remove_all, write, write_both, write_digits};
 use crate::tests::trace_command::SMALL;
 use std::alloc::AllocError;
 use std::fs;
-use std::io::{Eprint, Result as IoResult};
-use std::process::Abort;
-use std::rt::{Clock, Files};
-use std::sync::Wait;
+use std::io::Result as IoResult;
 use std::test::Fail;
-use std::thread::Threads;
 
 /// What is in the folder where a trace does not go on.
 enum Found {
@@ -97,20 +94,26 @@ const THREE: &str =
 fn leaves_what_is_there(rt: HostRuntime) -> Result<(), Fail> {
     for refusal in REFUSALS {
         make(&rt, refusal)?;
-        let before = contents(&rt)?;
         write(&rt, "script.json", THREE)?;
-        refuses(&rt, refusal, &["--resume"], before.as_str())?;
-        refuses(&rt, refusal, &["--resume", "--workers"], before.as_str())?;
+        stays(&rt, refusal)?;
         remove_found(&rt, &refusal.found)?;
     }
     Ok(())
 }
 
+fn stays(rt: &impl Host, refusal: &Refusal) -> Result<(), Fail> {
+    let before = contents(rt)?;
+    refuses_both(rt, refusal, before.as_str())
+}
+
+/// By streams and by workers.
+fn refuses_both(rt: &impl Host, refusal: &Refusal, before: &str) -> Result<(), Fail> {
+    refuses(rt, refusal, &["--resume"], before)?;
+    refuses(rt, refusal, &["--resume", "--workers"], before)
+}
+
 /// Traces into the folder, and changes what is there.
-fn make<X: Files + Clock + Eprint + AllocGlobal + Clone + Drop + Abort + Threads + Wait>(
-    rt: &X,
-    refusal: &Refusal,
-) -> Result<(), Fail> {
+fn make(rt: &impl Host, refusal: &Refusal) -> Result<(), Fail> {
     write_both(rt, ("conf.json", SMALL), ("script.json", TWO))?;
     let made = &["trace", "conf.json", "script.json", "kept", "--packet=16"];
     answers(rt, refusal.shows, made, ("0 Accepted\n", "", 0))?;
@@ -126,11 +129,7 @@ fn make<X: Files + Clock + Eprint + AllocGlobal + Clone + Drop + Abort + Threads
 }
 
 /// Puts these bytes in the place of a file's, or nothing.
-fn change<X: Files + AllocGlobal>(
-    rt: &X,
-    name: &str,
-    bytes: Option<&'static str>,
-) -> Result<(), Fail> {
+fn change(rt: &impl Host, name: &str, bytes: Option<&'static str>) -> Result<(), Fail> {
     let path = format!(in rt.alloc(); "kept/{name}")?;
     remove(rt, &[path.as_str()])?;
     match bytes {
@@ -140,13 +139,13 @@ fn change<X: Files + AllocGlobal>(
 }
 
 /// Puts a folder in the place of a file.
-fn put_folder<X: Files + AllocGlobal>(rt: &X, name: &str) -> IoResult<()> {
+fn put_folder(rt: &impl Host, name: &str) -> IoResult<()> {
     let path = format!(in rt.alloc(); "kept/{name}")?;
     remove(rt, &[path.as_str()])?;
     fs::create_dir(rt, path.as_str())
 }
 
-fn remove_found<X: Files + AllocGlobal>(rt: &X, found: &Found) -> IoResult<()> {
+fn remove_found(rt: &impl Host, found: &Found) -> IoResult<()> {
     remove(rt, &["conf.json", "script.json"])?;
     match found {
         Found::Nothing => Ok(()),
@@ -156,7 +155,7 @@ fn remove_found<X: Files + AllocGlobal>(rt: &X, found: &Found) -> IoResult<()> {
 }
 
 /// What stands under each name, in hexadecimal.
-fn contents<X: Files + AllocGlobal>(rt: &X) -> Result<String, AllocError> {
+fn contents(rt: &impl Host) -> Result<String, AllocError> {
     let mut text = String::new(rt.alloc());
     for path in ["kept", "kept/metadata", "kept/a", "kept/b", "kept/c"] {
         writeln!(text, "{}", content(rt, path)?)?;
@@ -165,7 +164,7 @@ fn contents<X: Files + AllocGlobal>(rt: &X) -> Result<String, AllocError> {
 }
 
 /// What stands under a name, or why it is not read.
-fn content<X: Files + AllocGlobal>(rt: &X, path: &str) -> Result<String, AllocError> {
+fn content(rt: &impl Host, path: &str) -> Result<String, AllocError> {
     match digits_of(rt, path) {
         Ok(digits) => Ok(digits),
         Err(fault) => format!(in rt.alloc(); "{:?}", fault.kind()),
@@ -176,12 +175,7 @@ fn content<X: Files + AllocGlobal>(rt: &X, path: &str) -> Result<String, AllocEr
 const AGAIN: [&str; 4] = ["trace", "conf.json", "script.json", "kept"];
 
 /// The trace does not go on, the row's line says so, and all that was there stays.
-fn refuses<X: Files + Clock + Eprint + AllocGlobal + Clone + Drop + Abort + Threads + Wait>(
-    rt: &X,
-    refusal: &Refusal,
-    more: &[&str],
-    before: &str,
-) -> Result<(), Fail> {
+fn refuses(rt: &impl Host, refusal: &Refusal, more: &[&str], before: &str) -> Result<(), Fail> {
     let answer = ("", refusal.errors, refusal.status);
     answers_to_all(rt, refusal.shows, (AGAIN.as_slice(), more), answer)?;
     let behind = contents(rt)?;

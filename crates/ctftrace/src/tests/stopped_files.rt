@@ -4,16 +4,13 @@
 use crate::tests::expected::same;
 use crate::tests::narrow_files::{Outcome, is_told, traced};
 use crate::tests::row_files::{remove_all, write_both};
-use crate::tests::run_quietly;
 use crate::tests::stopped_output::front_of;
 use crate::tests::trace_command::SMALL;
+use crate::tests::{Host, run_quietly};
 use std::alloc::{AllocError, Global};
-use std::io::{Eprint, Result as IoResult};
+use std::io::Result as IoResult;
 use std::process::Abort;
-use std::rt::{Clock, Files};
-use std::sync::Wait;
 use std::test::Fail;
-use std::thread::Threads;
 
 /// Two packets of two event records.
 const SCRIPT: &str =
@@ -95,17 +92,35 @@ fn leaves_the_front_of_a_stream_that_its_file_took(rt: HostRuntime) -> Result<()
     Ok(())
 }
 
-fn stops_at_each_byte<
-    X: Files + Clock + Eprint + AllocGlobal + Clone + Drop + Abort + Threads + Wait,
->(rt: &X, words: &[&str], printed: &[&str; 3]) -> Result<(), Fail> {
+fn stops_at_each_byte(rt: &impl Host, words: &[&str], printed: &[&str; 3]) -> Result<(), Fail> {
     let all = hex::decode(rt.alloc(), BYTES)?;
+    stops_in_each_room(rt, words, printed, all.as_slice())
+}
+
+fn stops_in_each_room(
+    rt: &impl Host,
+    words: &[&str],
+    printed: &[&str; 3],
+    all: &[u8],
+) -> Result<(), Fail> {
     for room in 0..=all.len() {
         let printed = printed.get(room / PACKET).ok_or("more than two packets")?;
-        let traced = traced(rt, words, "stopped/a", (room, PIECE))?;
-        is_as_far(rt, &traced, printed, (room, words), all.as_slice());
+        traces_as_far(rt, words, room, printed, all)?;
         reads_as_far(rt, room)?;
         remove_all(rt, &[], "stopped")?;
     }
+    Ok(())
+}
+
+fn traces_as_far(
+    rt: &impl Host,
+    words: &[&str],
+    room: usize,
+    printed: &str,
+    all: &[u8],
+) -> IoResult<()> {
+    let traced = traced(rt, words, "stopped/a", (room, PIECE))?;
+    is_as_far(rt, &traced, printed, (room, words), all);
     Ok(())
 }
 
@@ -126,10 +141,8 @@ fn is_as_far(rt: &impl Abort, traced: &Outcome, printed: &str, row: (usize, &[&s
 }
 
 /// What is read of the folder is what its file had room for.
-fn reads_as_far<X: Files + Clock + Eprint + AllocGlobal + Clone + Drop + Abort + Threads + Wait>(
-    rt: &X,
-    room: usize,
-) -> Result<(), Fail> {
+fn reads_as_far(rt: &impl Host, room: usize) -> Result<(), Fail> {
+    let expected = read_of(rt.alloc(), room)?;
     let mut printed = Vec::new(rt.alloc());
     let mut said = Vec::new(rt.alloc());
     let words = &["read", "stopped"];
@@ -141,7 +154,6 @@ fn reads_as_far<X: Files + Clock + Eprint + AllocGlobal + Clone + Drop + Abort +
         room,
         "bytes: read ends with",
     );
-    let expected = read_of(rt.alloc(), room)?;
     same(
         rt,
         printed.as_slice(),
@@ -153,10 +165,7 @@ fn reads_as_far<X: Files + Clock + Eprint + AllocGlobal + Clone + Drop + Abort +
 }
 
 /// Traces where the file of the metadata has room for so many bytes. The folder is removed.
-fn with_metadata<X: Files + AllocGlobal + Clone + Threads + Wait>(
-    rt: &X,
-    room: usize,
-) -> IoResult<Outcome> {
+fn with_metadata(rt: &impl Host, room: usize) -> IoResult<Outcome> {
     let traced = traced(rt, WORDS, "stopped/metadata", (room, PIECE))?;
     remove_all(rt, &[], "stopped")?;
     Ok(traced)
@@ -172,11 +181,15 @@ fn leaves_the_front_of_the_metadata_that_its_file_took(rt: HostRuntime) -> Resul
     )?;
     let whole = with_metadata(&rt, usize::MAX)?;
     same(&rt, whole.status, 0, WORDS, "end with");
+    stops_in_metadata(&rt, whole.bytes.as_slice())?;
+    Ok(())
+}
+
+fn stops_in_metadata(rt: &impl Host, whole: &[u8]) -> IoResult<()> {
     let answer = ("", "ctftrace: stopped/metadata: a write failed\n", 3);
-    for room in 0..whole.bytes.len() {
-        let traced = with_metadata(&rt, room)?;
-        let front = front_of(whole.bytes.as_slice(), room);
-        is_told(&rt, &traced, answer, front, (room, WORDS));
+    for room in 0..whole.len() {
+        let traced = with_metadata(rt, room)?;
+        is_told(rt, &traced, answer, front_of(whole, room), (room, WORDS));
     }
     Ok(())
 }

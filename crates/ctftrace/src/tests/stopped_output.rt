@@ -3,15 +3,12 @@
 
 use crate::tests::expected::same;
 use crate::tests::row_files::{remove_all, write_both, write_digits};
-use crate::tests::run_quietly;
 use crate::tests::trace_command::{CLOCKED, CLOCKED_BYTES, CLOCKED_SCRIPT};
+use crate::tests::{Host, run_quietly};
 use std::fs;
-use std::io::{Eprint, Result as IoResult};
+use std::io::Result as IoResult;
 use std::process::Abort;
-use std::rt::{Clock, Files};
-use std::sync::Wait;
 use std::test::Fail;
-use std::thread::Threads;
 use trace_platform::StoppingWriter;
 
 /// How many bytes a write takes.
@@ -85,9 +82,7 @@ struct Told {
 }
 
 /// Makes what the words of the rows name.
-fn make_files<X: Files + Clock + Eprint + AllocGlobal + Clone + Threads + Wait>(
-    rt: &X,
-) -> Result<(), Fail> {
+fn make_files(rt: &impl Host) -> Result<(), Fail> {
     write_both(rt, ("out.json", NUMBERED), ("out_clocked.json", CLOCKED))?;
     write_both(
         rt,
@@ -95,31 +90,36 @@ fn make_files<X: Files + Clock + Eprint + AllocGlobal + Clone + Threads + Wait>(
         ("out_bad.json", "{"),
     )?;
     make_folder(rt, "out_bad", "out_bad/metadata", b"no metadata")?;
+    make_trace(rt)?;
+    write_digits(rt, "out_trace/t0", CLOCKED_BYTES)
+}
+
+/// Makes a folder with the metadata of the configuration with a clock.
+fn make_trace(rt: &impl Host) -> IoResult<()> {
     let words = &["metadata", "out_clocked.json"];
-    let metadata = answered(rt, words, "", usize::MAX, usize::MAX)?;
+    let told = answered(rt, words, "", usize::MAX, usize::MAX)?;
     make_folder(
         rt,
         "out_trace",
         "out_trace/metadata",
-        metadata.printed.as_slice(),
-    )?;
-    write_digits(rt, "out_trace/t0", CLOCKED_BYTES)
+        told.printed.as_slice(),
+    )
 }
 
 /// Makes a folder with one file.
-fn make_folder<X: Files>(rt: &X, folder: &str, path: &str, bytes: &[u8]) -> IoResult<()> {
+fn make_folder(rt: &impl Host, folder: &str, path: &str, bytes: &[u8]) -> IoResult<()> {
     fs::create_dir(rt, folder)?;
     fs::write(rt, path, bytes)
 }
 
-fn remove_files<X: Files + AllocGlobal>(rt: &X) -> IoResult<()> {
+fn remove_files(rt: &impl Host) -> IoResult<()> {
     remove_all(rt, &["out.json", "out_clocked.json"], "out_bad")?;
     remove_all(rt, &["out_script.json", "out_bad.json"], "out_trace")
 }
 
 /// Runs the words where the output has room for so many bytes, and the stream of errors too. The folder that they make is removed.
-fn answered<X: Files + Clock + Eprint + AllocGlobal + Clone + Threads + Wait>(
-    rt: &X,
+fn answered(
+    rt: &impl Host,
     words: &[&str],
     made: &str,
     room: usize,
@@ -140,7 +140,7 @@ fn answered<X: Files + Clock + Eprint + AllocGlobal + Clone + Threads + Wait>(
 }
 
 /// The bytes of a file in the folder that was made.
-fn made_bytes<X: Files + AllocGlobal>(rt: &X, made: &str) -> IoResult<Vec<u8>> {
+fn made_bytes(rt: &impl Host, made: &str) -> IoResult<Vec<u8>> {
     if made.is_empty() {
         return Ok(Vec::new(rt.alloc()));
     }
@@ -153,22 +153,21 @@ fn made_bytes<X: Files + AllocGlobal>(rt: &X, made: &str) -> IoResult<Vec<u8>> {
 fn prints_a_front_where_the_output_stops(rt: HostRuntime) -> Result<(), Fail> {
     make_files(&rt)?;
     for (words, made) in ROWS {
-        let whole = answered(&rt, words, made, usize::MAX, usize::MAX)?;
-        same(&rt, whole.status, 0, *words, "end with");
-        same(&rt, whole.said.len(), 0, *words, "say so many bytes");
-        print_fronts(&rt, words, made, &whole)?;
+        stops_printing(&rt, words, made)?;
     }
     remove_files(&rt)?;
     Ok(())
 }
 
+fn stops_printing(rt: &impl Host, words: &[&str], made: &str) -> IoResult<()> {
+    let whole = answered(rt, words, made, usize::MAX, usize::MAX)?;
+    same(rt, whole.status, 0, words, "end with");
+    same(rt, whole.said.len(), 0, words, "say so many bytes");
+    print_fronts(rt, words, made, &whole)
+}
+
 /// Each room that is too small has a front of the whole.
-fn print_fronts<X: Files + Clock + Eprint + AllocGlobal + Clone + Drop + Abort + Threads + Wait>(
-    rt: &X,
-    words: &[&str],
-    made: &str,
-    whole: &Told,
-) -> IoResult<()> {
+fn print_fronts(rt: &impl Host, words: &[&str], made: &str, whole: &Told) -> IoResult<()> {
     for room in 0..whole.printed.len() {
         let front = answered(rt, words, made, room, usize::MAX)?;
         is_a_front(rt, whole, &front, (room, words));
@@ -201,21 +200,21 @@ fn is_a_front(rt: &impl Abort, whole: &Told, front: &Told, row: (usize, &[&str])
 fn says_a_front_where_the_errors_stop(rt: HostRuntime) -> Result<(), Fail> {
     make_files(&rt)?;
     for (words, status) in FAULTS {
-        let whole = answered(&rt, words, "", usize::MAX, usize::MAX)?;
-        same(&rt, whole.status, *status, *words, "end with");
-        same(&rt, whole.printed.len(), 0, *words, "print so many bytes");
-        say_fronts(&rt, words, whole.said.as_slice())?;
+        stops_saying(&rt, words, *status)?;
     }
     remove_files(&rt)?;
     Ok(())
 }
 
+fn stops_saying(rt: &impl Host, words: &[&str], status: u8) -> IoResult<()> {
+    let whole = answered(rt, words, "", usize::MAX, usize::MAX)?;
+    same(rt, whole.status, status, words, "end with");
+    same(rt, whole.printed.len(), 0, words, "print so many bytes");
+    say_fronts(rt, words, whole.said.as_slice())
+}
+
 /// Each room that is too small has a front of what is said.
-fn say_fronts<X: Files + Clock + Eprint + AllocGlobal + Clone + Drop + Abort + Threads + Wait>(
-    rt: &X,
-    words: &[&str],
-    whole: &[u8],
-) -> IoResult<()> {
+fn say_fronts(rt: &impl Host, words: &[&str], whole: &[u8]) -> IoResult<()> {
     for room in 0..whole.len() {
         let front = answered(rt, words, "", usize::MAX, room)?;
         let row = (room, words);

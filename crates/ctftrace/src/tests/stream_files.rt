@@ -3,6 +3,7 @@
 use crate::tests::expected::same;
 use number_packets::{read_bytes, small_config, trace_packet};
 use packet_reader::ReadStream;
+use packet_writer::Packet;
 use std::alloc::{AllocError, Global};
 use std::test::Fail;
 
@@ -61,7 +62,11 @@ fn reads_stream_files(rt: HostRuntime) -> Result<(), Fail> {
 fn read(alloc: Global, digits: &str) -> Result<(String, String), Fail> {
     let bytes = hex::decode(alloc, digits)?;
     let read = read_bytes(alloc, bytes.as_slice())?;
-    let counts = record_counts(alloc, &read)?;
+    described(alloc, &read)
+}
+
+fn described(alloc: Global, read: &ReadStream) -> Result<(String, String), Fail> {
+    let counts = record_counts(alloc, read)?;
     let end = format!(in alloc; "{:?}", read.end)?;
     Ok((counts, end))
 }
@@ -91,7 +96,11 @@ fn closes_a_packet_without_records(rt: HostRuntime) -> Result<(), Fail> {
 
 /// The number and the bytes of a packet without records.
 fn closed(alloc: Global) -> Result<(u64, String), Fail> {
-    let config = small_config(alloc)?;
-    let packet = trace_packet(alloc, &config, 7, &[])?;
+    let packet = packet(alloc)?;
     Ok((packet.sequence(), hex::encode(alloc, packet.bytes())?))
+}
+
+fn packet(alloc: Global) -> Result<Packet, AllocError> {
+    let config = small_config(alloc)?;
+    trace_packet(alloc, &config, 7, &[])
 }

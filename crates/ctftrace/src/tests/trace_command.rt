@@ -1,15 +1,11 @@
 //! The rows of `trace`: what is printed, what is said of faults, the status, and what then stands in the folder.
 
+use crate::tests::Host;
 use crate::tests::answered::{answers, answers_to_all};
 use crate::tests::expected::same;
 use crate::tests::row_files::{check_files, remove, remove_all, write_both};
 use std::fs;
-use std::io::Eprint;
-use std::process::Abort;
-use std::rt::{Clock, Files};
-use std::sync::Wait;
 use std::test::Fail;
-use std::thread::Threads;
 
 /// One stream type with one event record type of a byte.
 pub const SMALL: &str =
@@ -259,10 +255,7 @@ fn traces(rt: HostRuntime) -> Result<(), Fail> {
 }
 
 /// What stands in the folder is what the row says. The folder is removed.
-fn check_left<X: Files + Clock + Eprint + AllocGlobal + Clone + Drop + Abort + Threads + Wait>(
-    rt: &X,
-    row: &Row,
-) -> Result<(), Fail> {
+fn check_left(rt: &impl Host, row: &Row) -> Result<(), Fail> {
     match row.left {
         Left::Nothing => {
             same(
@@ -283,10 +276,7 @@ fn check_left<X: Files + Clock + Eprint + AllocGlobal + Clone + Drop + Abort + T
 }
 
 /// The metadata is what the command that prints it prints.
-fn check_metadata<X: Files + Clock + Eprint + AllocGlobal + Clone + Drop + Abort + Threads + Wait>(
-    rt: &X,
-    row: &str,
-) -> Result<(), Fail> {
+fn check_metadata(rt: &impl Host, row: &str) -> Result<(), Fail> {
     let written = fs::read(rt, "new/metadata")?;
     let text = std::str::from_utf8(&written)?;
     answers(rt, row, &["metadata", "conf.json"], (text, "", 0))

@@ -1,15 +1,11 @@
 //! The rows of `trace --workers`: what is printed, what is said of faults, the status, and what `read` then prints of the folder.
 
+use crate::tests::Host;
 use crate::tests::answered::{answers, answers_to_all, tells};
 use crate::tests::expected::same;
 use crate::tests::row_files::{remove, remove_all, write_both};
 use std::fs;
-use std::io::Eprint;
-use std::process::Abort;
-use std::rt::{Clock, Files};
-use std::sync::Wait;
 use std::test::Fail;
-use std::thread::Threads;
 
 /// One stream type with one event record type of a byte.
 const SMALL: &str =
@@ -122,10 +118,7 @@ fn traces_by_workers(rt: HostRuntime) -> Result<(), Fail> {
 }
 
 /// What is read of the folder is what the row says. All files are removed.
-fn reads<X: Files + Clock + Eprint + AllocGlobal + Clone + Drop + Abort + Threads + Wait>(
-    rt: &X,
-    row: &Row,
-) -> Result<(), Fail> {
+fn reads(rt: &impl Host, row: &Row) -> Result<(), Fail> {
     let files = &["conf.json", "script.json"];
     if fs::exists(rt, "new")? {
         answers(rt, row.shows, &["read", "new"], (row.read, "", 0))?;
