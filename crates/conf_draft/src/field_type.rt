@@ -1,10 +1,9 @@
 //! Field types that may stand anywhere in a structure (barectf 3.1, "Field type objects").
 ghost use Rattle.std.specs.Prelude.{◌≡◌, ◌≤◌, Some, IsSome, IfOk};
-ghost use Rattle.serde_json.specs.Data.{object};
 ghost use Rattle.serde_json.specs.View.{view, members_view};
 ghost use Rattle.ctf_types.specs.declared.FieldType.TheVariants as fields;
 ghost use Rattle.ctf_types.specs.FieldTypes.{chain_of};
-ghost use Rattle.conf_draft.specs.FieldTypes.{class_of as class_of_members, length_of, field_type as field_type_of_data, element as element_of};
+ghost use Rattle.conf_draft.specs.FieldTypes.{class_of as class_of_members, length_of, of_class as of_class_of, field_type as field_type_of_data, element as element_of};
 
 use crate::enumeration::enumeration;
 use crate::integer::integer;
@@ -32,22 +31,23 @@ fn field_type(alloc: Global, value: &Value) -> Result<FieldType, AllocError>
     ensures { IfOk result (λ t. field_type_of_data (view value.now) ≡ Some t) }
 {
     match value {
-        Value::Object(members) => field_type_of(alloc, members),
+        Value::Object(members) => of_class(alloc, class_of(members), members),
         _ => unreachable!(),
     }
 }
 
-/// The field type that an object is.
+/// The field type that an object of this class is.
 #[cycle(field_type)]
 #[tactic(auto, unfolding(crate::specs::FieldTypes::of_class))]
-pub(crate) fn field_type_of(
+pub(crate) fn of_class(
     alloc: Global,
+    class: Option<Place>,
     members: &Map<String, Value>,
 ) -> Result<FieldType, AllocError>
-    requires { IsSome (field_type_of_data (object (members_view members.now.entries))) }
-    ensures { IfOk result (λ t. field_type_of_data (object (members_view members.now.entries)) ≡ Some t) }
+    requires { IsSome (of_class_of class (members_view members.now.entries) (element_of (members_view members.now.entries))) }
+    ensures { IfOk result (λ t. of_class_of class (members_view members.now.entries) (element_of (members_view members.now.entries)) ≡ Some t) }
 {
-    match class_of(members) {
+    match class {
         Some(Place::UnsignedInteger) => Ok(FieldType::Int(integer(false, members))),
         Some(Place::SignedInteger) => Ok(FieldType::Int(integer(true, members))),
         Some(Place::UnsignedEnumeration) => {

@@ -15,7 +15,8 @@ pub(crate) fn integer(signed: bool, members: &Map<String, Value>) -> IntType
     requires { IsSome (integer_of signed (members_view members.now.entries)) }
     ensures { integer_of signed (members_view members.now.entries) ≡ Some result }
 {
-    made(size(members), align(members), signed, base(members))
+    let size = size(members);
+    made(size, align(size, members), signed, base(members))
 }
 
 /// The integer type of this size and this alignment in bits.
@@ -37,11 +38,13 @@ fn size(members: &Map<String, Value>) -> u64
     natural(members, "size").unwrap_or(0)
 }
 
+/// The alignment in bits of an integer of this size.
 #[tactic(auto, unfolding(crate::specs::Integers::align_of))]
-fn align(members: &Map<String, Value>) -> u64
+fn align(size: u64, members: &Map<String, Value>) -> u64
+    requires { size ≡ size_of (members_view members.now.entries) }
     ensures { result ≡ align_of (members_view members.now.entries) }
 {
-    alignment(members, "alignment").unwrap_or(default_align(size(members)))
+    alignment(members, "alignment").unwrap_or(default_align(size))
 }
 
 /// The alignment in bits of an integer of this size that has none of its own.

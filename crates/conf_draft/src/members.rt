@@ -3,7 +3,7 @@ ghost use Rattle.std.specs.Prelude.{◌≡◌, [], Some, IsSome, IfOk, OnOk, opt
 ghost use Rattle.serde_json.specs.View.{view, items_view, members_view};
 ghost use Rattle.conf_draft.specs.Members.{member_type as member_type_in, told_type as told_type_of, member_of as member_of_value, behind, behind_named, behind_entry, members_behind};
 
-use crate::field_type::{class_of, element, field_type_of};
+use crate::field_type::{class_of, element, of_class};
 use conf_table::Place;
 use conf_tree::optional;
 use ctf_types::{Length, MemberType, Members, Text};
@@ -92,6 +92,6 @@ fn member_type(alloc: Global, members: &Map<String, Value>) -> Result<MemberType
 {
     match class_of(members) {
         Some(Place::DynamicArray) => Ok(MemberType::Dyn(element(alloc, members)?, Length::Auto)),
-        _ => Ok(MemberType::Plain(field_type_of(alloc, members)?)),
+        class => Ok(MemberType::Plain(of_class(alloc, class, members)?)),
     }
 }

@@ -14,12 +14,12 @@ use serde_json::{Map, Value};
 pub(crate) struct Around<'a> {
     /// The log level aliases of the trace type, if it has some.
     pub(crate) levels: Option<&'a Map<String, Value>>,
-    /// Whether a data stream type before this one is the default.
-    pub(crate) has_default: bool,
     /// The numbers that the enumeration's integer can hold.
     pub(crate) numbers: Span,
     /// The names that the members before this one have, each with a null.
     pub(crate) taken: &'a Map<String, Value>,
+    /// Whether a data stream type before this one is the default.
+    pub(crate) has_default: bool,
 }
 
 impl<'a> Around<'a> {

@@ -1,34 +1,36 @@
 //! The class of a field type: what it leads to, and whether it can stand at a place.
-ghost use Rattle.std.specs.Prelude.{◌≡◌, ◌≤◌, IfErr, option_map};
+ghost use Rattle.std.specs.Prelude.{◌≡◌, IfOk, option_map};
 ghost use Rattle.serde_json.specs.View.{view, members_view};
 ghost use Rattle.conf_tree.specs.Reading.{Gives};
 ghost use Rattle.conf_judge.specs.Flaws.{other_class as other_class_of, class_rule};
 ghost use Rattle.conf_judge.specs.Names.{class_of as class_of_members, class_said as class_said_of, class_named as class_named_of};
+ghost use Rattle.conf_judge.specs.Places.{place_of_properties};
 
-use crate::places::is_position;
+use crate::places::{is_position, own_place};
 use conf_table::{Place, class_place};
 use conf_tree::{At, ConfFault, FaultKind, member, needed, text};
 use serde_json::{Map, Value};
 use std::alloc::Global;
 
-/// Refuses a field type without a class, or of one that cannot stand at this place.
-#[tactic(auto, unfolding(crate::specs::Flaws::class_rule))]
-pub(crate) fn check_class(
+/// The place whose properties an object has. Refuses a field type without a class, or of one that cannot stand at this place.
+#[tactic(auto, unfolding(crate::specs::Flaws::class_rule, crate::specs::Names::class_of, crate::specs::Places::place_of_properties))]
+pub(crate) fn classed_place(
     alloc: Global,
     place: Place,
     members: &Map<String, Value>,
-) -> Result<(), ConfFault>
-    ensures { Gives (λ _. tt) result (class_rule place (members_view members.now.entries)) }
+) -> Result<Place, ConfFault>
+    ensures refused { Gives (λ _. tt) result (class_rule place (members_view members.now.entries)) }
+    ensures own { IfOk result (λ own. own ≡ place_of_properties place (members_view members.now.entries)) }
 {
     if !is_position(place) {
-        return Ok(());
+        return Ok(own_place(place));
     }
     let value = needed(alloc, members, "class")?;
     let word = text(alloc, At::Property("class"), value)?;
     match class_place(word) {
         Some(class) => {
             if place.admits(class) {
-                Ok(())
+                Ok(class)
             } else {
                 Err(ConfFault::here(alloc, other_class(place)))
             }

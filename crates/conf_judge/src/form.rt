@@ -17,13 +17,13 @@ use std::alloc::Global;
 #[tactic(auto, unfolding(crate::specs::Forms::itself_of))]
 pub(crate) fn check_itself(
     alloc: Global,
-    around: Around<'_>,
-    content: Content,
+    around: &Around<'_>,
+    content: &Content,
     value: &Value,
 ) -> Result<(), ConfFault>
-    ensures { Gives (λ _. tt) result (itself_of (known_of around.entry) content (view value.now)) }
+    ensures { Gives (λ _. tt) result (itself_of (known_of around.now) content.now (view value.now)) }
 {
-    match content {
+    match *content {
         Content::At(place) => check_form(alloc, around, place, value),
         _ => check_leaf(alloc, around, content, value),
     }
@@ -32,11 +32,11 @@ pub(crate) fn check_itself(
 #[tactic(auto, unfolding(crate::specs::Forms::form_of))]
 fn check_form(
     alloc: Global,
-    around: Around<'_>,
+    around: &Around<'_>,
     place: Place,
     value: &Value,
 ) -> Result<(), ConfFault>
-    ensures { Gives (λ _. tt) result (form_of (known_of around.entry) place (view value.now)) }
+    ensures { Gives (λ _. tt) result (form_of (known_of around.now) place (view value.now)) }
 {
     match place {
         Place::Members | Place::ExtraMembers => check_any_list(alloc, value),

@@ -6,16 +6,16 @@ ghost use Rattle.conf_tree.specs.Reading.{Gives};
 ghost use Rattle.conf_tree.specs.Walk.{refusal};
 ghost use Rattle.conf_table.specs.declared.row.Content.TheVariants as contents;
 ghost use Rattle.conf_judge.specs.Flaws.{resolved_content as resolved_content_of, inner_flaws, item_flaws, member_flaws, flaws_of_object, property_flaws, content_or_any, content_flaws, configuration_flaws};
-ghost use Rattle.conf_judge.specs.Known.{known_of, with_taken};
+ghost use Rattle.conf_judge.specs.Known.{known_of, inside as inside_of, with_taken};
 ghost use Rattle.conf_judge.specs.Names.{names_beside as names_beside_of};
 ghost use Rattle.conf_judge.specs.Places.{item_content as item_content_of};
 
 use crate::around::Around;
-use crate::class::check_class;
+use crate::class::classed_place;
 use crate::form::check_itself;
 use crate::names::{check_key, names_beside, take_names};
 use crate::numbers::ALL;
-use crate::places::{item_content, place_of_properties};
+use crate::places::item_content;
 use crate::presence::{check_present, is_left_out, resolved_content};
 use crate::shape::check_shape;
 use conf_table::{Content, Place};
@@ -43,7 +43,7 @@ pub fn check_objects(alloc: Global, value: &Value) -> Result<(), ConfFault>
         numbers: ALL,
         taken: &nothing,
     };
-    check_content(alloc, around, Content::At(Place::Root), value)
+    check_content(alloc, &around, &Content::At(Place::Root), value)
 }
 
 /// Refuses the first flaw of a value.
@@ -51,11 +51,11 @@ pub fn check_objects(alloc: Global, value: &Value) -> Result<(), ConfFault>
 #[tactic(auto, using(crate::proofs::FirstFlaw::told_first, crate::proofs::FirstFlaw::told_later))]
 fn check_content(
     alloc: Global,
-    around: Around<'_>,
-    content: Content,
+    around: &Around<'_>,
+    content: &Content,
     value: &Value,
 ) -> Result<(), ConfFault>
-    ensures { Gives (λ _. tt) result (refusal (content_flaws (known_of around.entry) content (view value.now))) }
+    ensures { Gives (λ _. tt) result (refusal (content_flaws (known_of around.now) content.now (view value.now))) }
 {
     check_itself(alloc, around, content, value)?;
     check_inner(alloc, around, content, value)
@@ -66,13 +66,13 @@ fn check_content(
 #[tactic(auto, using(crate::proofs::FirstFlaw::nothing_held))]
 fn check_inner(
     alloc: Global,
-    around: Around<'_>,
-    content: Content,
+    around: &Around<'_>,
+    content: &Content,
     value: &Value,
 ) -> Result<(), ConfFault>
-    ensures { Gives (λ _. tt) result (refusal (inner_flaws (known_of around.entry) content (view value.now))) }
+    ensures { Gives (λ _. tt) result (refusal (inner_flaws (known_of around.now) content.now (view value.now))) }
 {
-    match content {
+    match *content {
         Content::At(place) => check_held(alloc, around, place, value),
         _ => Ok(()),
     }
@@ -81,11 +81,11 @@ fn check_inner(
 #[cycle(judge)]
 fn check_held(
     alloc: Global,
-    around: Around<'_>,
+    around: &Around<'_>,
     place: Place,
     value: &Value,
 ) -> Result<(), ConfFault>
-    ensures { Gives (λ _. tt) result (refusal (inner_flaws (known_of around.entry) (contents.At place) (view value.now))) }
+    ensures { Gives (λ _. tt) result (refusal (inner_flaws (known_of around.now) (contents.At place) (view value.now))) }
 {
     match value {
         Value::Null | Value::Bool(_) | Value::Number(_) | Value::String(_) => Ok(()),
@@ -97,11 +97,11 @@ fn check_held(
 #[cycle(judge)]
 fn check_items(
     alloc: Global,
-    around: Around<'_>,
+    around: &Around<'_>,
     place: Place,
     items: &Vec<Value>,
 ) -> Result<(), ConfFault>
-    ensures { Gives (λ _. tt) result (refusal (item_flaws (known_of around.entry) place (names_beside_of place) 0 (items_view items.now.items))) }
+    ensures { Gives (λ _. tt) result (refusal (item_flaws (known_of around.now) place (names_beside_of place) 0 (items_view items.now.items))) }
 {
     let Ok(mut taken) = names_beside(alloc, place) else {
         return Err(ConfFault::memory(alloc));
@@ -110,7 +110,8 @@ fn check_items(
         if let Err(fault) = check_item(alloc, around, place, item, &taken) {
             return Err(fault.inside(alloc, index));
         }
-        if take_names(alloc, &mut taken, item).is_err() {
+        // Behind the last item there is none that could have a name that it takes.
+        if index + 1 < items.len() && take_names(alloc, &mut taken, item).is_err() {
             return Err(ConfFault::memory(alloc));
         }
     }
@@ -121,46 +122,45 @@ fn check_items(
 #[cycle(judge)]
 fn check_item(
     alloc: Global,
-    around: Around<'_>,
+    around: &Around<'_>,
     place: Place,
     item: &Value,
     taken: &Map<String, Value>,
 ) -> Result<(), ConfFault>
-    ensures { Gives (λ _. tt) result (refusal (content_flaws (with_taken (members_view taken.now.entries) (known_of around.entry)) (item_content_of place) (view item.now))) }
+    ensures { Gives (λ _. tt) result (refusal (content_flaws (with_taken (members_view taken.now.entries) (known_of around.now)) (item_content_of place) (view item.now))) }
 {
-    let here = Around { taken, ..around };
-    check_content(alloc, here, item_content(place), item)
+    let here = Around { taken, ..*around };
+    check_content(alloc, &here, &item_content(place), item)
 }
 
 #[cycle(judge)]
 #[tactic(auto, using(crate::proofs::FirstFlaw::class_first, crate::proofs::FirstFlaw::missing_first, crate::proofs::FirstFlaw::held_first, crate::proofs::FirstFlaw::shape_last))]
 fn check_object(
     alloc: Global,
-    around: Around<'_>,
+    around: &Around<'_>,
     place: Place,
     members: &Map<String, Value>,
 ) -> Result<(), ConfFault>
-    ensures { Gives (λ _. tt) result (refusal (flaws_of_object (known_of around.entry) place (members_view members.now.entries))) }
+    ensures { Gives (λ _. tt) result (refusal (flaws_of_object (known_of around.now) place (members_view members.now.entries))) }
 {
-    let own = place_of_properties(place, members);
-    check_class(alloc, place, members)?;
+    let own = classed_place(alloc, place, members)?;
     check_present(alloc, own, members)?;
-    check_members(alloc, around.inside(own, members), own, members)?;
+    check_members(alloc, around, own, members)?;
     check_shape(alloc, place, members)
 }
 
 #[cycle(judge)]
 fn check_members(
     alloc: Global,
-    around: Around<'_>,
+    around: &Around<'_>,
     place: Place,
     members: &Map<String, Value>,
 ) -> Result<(), ConfFault>
-    ensures { Gives (λ _. tt) result (refusal (member_flaws (known_of around.entry) place (members_view members.now.entries))) }
+    ensures { Gives (λ _. tt) result (refusal (member_flaws (inside_of place (members_view members.now.entries) (known_of around.now)) place (members_view members.now.entries))) }
 {
-    let mut here = around;
+    let mut here = around.inside(place, members);
     for (name, value) in members.iter() {
-        if let Err(fault) = check_property(alloc, here, place, name.as_str(), value) {
+        if let Err(fault) = check_property(alloc, &here, place, name.as_str(), value) {
             return Err(fault.in_property(alloc, name.as_str()));
         }
         here = here.behind(place, value);
@@ -172,12 +172,12 @@ fn check_members(
 #[tactic(auto, using(crate::proofs::FirstFlaw::told_first, crate::proofs::FirstFlaw::told_later))]
 fn check_property(
     alloc: Global,
-    around: Around<'_>,
+    around: &Around<'_>,
     place: Place,
     name: &str,
     value: &Value,
 ) -> Result<(), ConfFault>
-    ensures { Gives (λ _. tt) result (refusal (property_flaws (known_of around.entry) place name.now (resolved_content_of place name.now) (view value.now) (inner_flaws (known_of around.entry) (content_or_any (resolved_content_of place name.now)) (view value.now)))) }
+    ensures { Gives (λ _. tt) result (refusal (property_flaws (known_of around.now) place name.now (resolved_content_of place name.now) (view value.now) (inner_flaws (known_of around.now) (content_or_any (resolved_content_of place name.now)) (view value.now)))) }
 {
     let Some(content) = resolved_content(place, name) else {
         return Err(ConfFault::here(alloc, FaultKind::Unknown));

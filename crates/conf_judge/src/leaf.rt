@@ -19,13 +19,13 @@ use std::alloc::Global;
 #[tactic(auto, unfolding(crate::specs::Leaves::leaf_of))]
 pub(crate) fn check_leaf(
     alloc: Global,
-    around: Around<'_>,
-    content: Content,
+    around: &Around<'_>,
+    content: &Content,
     value: &Value,
 ) -> Result<(), ConfFault>
-    ensures { Gives (λ _. tt) result (leaf_of (known_of around.entry) content (view value.now)) }
+    ensures { Gives (λ _. tt) result (leaf_of (known_of around.now) content.now (view value.now)) }
 {
-    match content {
+    match *content {
         Content::Whole { low, high } => check_whole(alloc, value, low, high),
         Content::PowerOfTwo { high: _ } => check_power_of_two(alloc, value),
         Content::Flag => check_flag(alloc, value),

@@ -10,7 +10,7 @@ ghost use Rattle.conf_judge.specs.Limits.{within_limit, key_fits as key_fits_of,
 
 use crate::places::{item_content, place_of_properties};
 use crate::size::{fits, key_fits};
-use conf_table::{Content, Place, content};
+use conf_table::{Content, Place, content_at};
 use conf_tree::{ConfFault, FaultKind};
 use serde_json::{Map, Value};
 use std::alloc::Global;
@@ -27,7 +27,7 @@ use std::alloc::Global;
 pub fn check_limits(alloc: Global, value: &Value) -> Result<(), ConfFault>
     ensures { Gives (λ _. tt) result (refusal (configuration_limits (view value.now))) }
 {
-    check_content(alloc, Content::At(Place::Root), value)
+    check_content(alloc, &Content::At(Place::Root), value)
 }
 
 fn check_limit(alloc: Global, fits: bool) -> Result<(), ConfFault>
@@ -43,8 +43,8 @@ fn check_limit(alloc: Global, fits: bool) -> Result<(), ConfFault>
 /// Refuses the first limit that a value passes, or what it holds.
 #[cycle(limits)]
 #[tactic(auto, using(crate::proofs::FirstFlaw::told_first, crate::proofs::FirstFlaw::told_later))]
-fn check_content(alloc: Global, content: Content, value: &Value) -> Result<(), ConfFault>
-    ensures { Gives (λ _. tt) result (refusal (content_limits content (view value.now))) }
+fn check_content(alloc: Global, content: &Content, value: &Value) -> Result<(), ConfFault>
+    ensures { Gives (λ _. tt) result (refusal (content_limits content.now (view value.now))) }
 {
     check_limit(alloc, fits(content, value))?;
     check_inner(alloc, content, value)
@@ -52,10 +52,10 @@ fn check_content(alloc: Global, content: Content, value: &Value) -> Result<(), C
 
 #[cycle(limits)]
 #[tactic(auto, using(crate::proofs::FirstFlaw::nothing_limited))]
-fn check_inner(alloc: Global, content: Content, value: &Value) -> Result<(), ConfFault>
-    ensures { Gives (λ _. tt) result (refusal (inner_limits content (view value.now))) }
+fn check_inner(alloc: Global, content: &Content, value: &Value) -> Result<(), ConfFault>
+    ensures { Gives (λ _. tt) result (refusal (inner_limits content.now (view value.now))) }
 {
-    match content {
+    match *content {
         Content::At(place) => check_held(alloc, place, value),
         _ => Ok(()),
     }
@@ -79,7 +79,7 @@ fn check_items(alloc: Global, place: Place, items: &Vec<Value>) -> Result<(), Co
     ensures { Gives (λ _. tt) result (refusal (item_limits place 0 (items_view items.now.items))) }
 {
     for (index, item) in items.iter().enumerate() {
-        if let Err(fault) = check_content(alloc, item_content(place), item) {
+        if let Err(fault) = check_content(alloc, &item_content(place), item) {
             return Err(fault.inside(alloc, index));
         }
     }
@@ -98,13 +98,15 @@ fn check_members(alloc: Global, place: Place, members: &Map<String, Value>) -> R
     Ok(())
 }
 
+static ANYTHING: Content = Content::Anything;
+
 /// What a property is, anything where it is unknown.
-fn content_or_any(place: Place, name: &str) -> Content
-    ensures { result ≡ content_or_any_of (content_under place name.now) }
+fn content_or_any(place: Place, name: &str) -> &'static Content
+    ensures { result.now ≡ content_or_any_of (content_under place name.now) }
 {
-    match content(place, name) {
+    match content_at(place, name) {
         Some(content) => content,
-        None => Content::Anything,
+        None => &ANYTHING,
     }
 }
 

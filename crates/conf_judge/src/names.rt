@@ -14,7 +14,7 @@ ghost use Rattle.conf_values.specs.Scalar.{is_printable as is_printable_of};
 use crate::around::Around;
 use crate::class::class_of;
 use crate::leaf::check_that;
-use conf_table::{Keys, Place, entries};
+use conf_table::{Keys, Place, entries_at};
 use conf_tree::{ConfFault, FaultKind, member};
 use conf_values::{check_name, check_plain_name, is_printable};
 use serde_json::{Map, Value};
@@ -24,14 +24,14 @@ use std::alloc::{AllocError, Global};
 #[tactic(auto, unfolding(crate::specs::Names::key_of))]
 pub(crate) fn check_key(
     alloc: Global,
-    around: Around<'_>,
+    around: &Around<'_>,
     place: Place,
     name: &str,
     value: &Value,
 ) -> Result<(), ConfFault>
-    ensures { Gives (λ _. tt) result (key_of (known_of around.entry) place name.now (view value.now)) }
+    ensures { Gives (λ _. tt) result (key_of (known_of around.now) place name.now (view value.now)) }
 {
-    match entries(place) {
+    match entries_at(place) {
         Some(entries) => check_key_by(alloc, around, place, entries.keys, name, value),
         None => Ok(()),
     }
@@ -40,13 +40,13 @@ pub(crate) fn check_key(
 #[tactic(auto, unfolding(crate::specs::Names::key_by, crate::specs::Names::plain_of))]
 fn check_key_by(
     alloc: Global,
-    around: Around<'_>,
+    around: &Around<'_>,
     place: Place,
     keys: Keys,
     name: &str,
     value: &Value,
 ) -> Result<(), ConfFault>
-    ensures { Gives (λ _. tt) result (key_by (known_of around.entry) place keys name.now (view value.now)) }
+    ensures { Gives (λ _. tt) result (key_by (known_of around.now) place keys name.now (view value.now)) }
 {
     match keys {
         Keys::Name => check_name(alloc, name),

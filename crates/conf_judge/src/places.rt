@@ -51,7 +51,7 @@ pub(crate) fn is_position(place: Place) -> bool
 
 /// The place whose properties an object has: an alias is judged where it is used, and what is no object has none.
 #[tactic(auto, unfolding(crate::specs::Places::own_place))]
-fn own_place(place: Place) -> Place
+pub(crate) fn own_place(place: Place) -> Place
     ensures { result ≡ own_place_of place }
 {
     match place {

@@ -1,11 +1,11 @@
 //! Which properties an object has: those that have to be there, those that cannot be, and those that a null leaves out.
-ghost use Rattle.std.specs.Prelude.{◌≡◌, ◌≤◌, IfErr, map};
+ghost use Rattle.std.specs.Prelude.{◌≡◌, ◌≤◌, IfErr, map, option_map};
 ghost use Rattle.serde_json.specs.View.{view, members_view};
 ghost use Rattle.conf_tree.specs.Reading.{Gives};
 ghost use Rattle.conf_table.specs.Table.{told_of};
 ghost use Rattle.conf_judge.specs.Flaws.{rows_there, orders_there as orders_there_of, all_there, resolved_content as resolved_content_of, is_left_out as is_left_out_of};
 
-use conf_table::{Content, Place, Presence, Row, content, presence, rows};
+use conf_table::{Content, Place, Presence, Row, content_at, presence, rows};
 use conf_tree::{At, ConfFault, FaultKind, member, optional};
 use serde_json::{Map, Value};
 use std::alloc::Global;
@@ -61,13 +61,13 @@ fn check_orders(alloc: Global, place: Place, members: &Map<String, Value>) -> Re
 
 /// What the property `name` of a resolved object is. None is an unknown property, as `$inherit` is by now.
 #[tactic(auto, unfolding(crate::specs::Flaws::resolved_content))]
-pub(crate) fn resolved_content(place: Place, name: &str) -> Option<Content>
-    ensures { result ≡ resolved_content_of place name.now }
+pub(crate) fn resolved_content(place: Place, name: &str) -> Option<&'static Content>
+    ensures { option_map (λ c. c.now) result ≡ resolved_content_of place name.now }
 {
     if name == "$inherit" && presence(place, "$inherit").is_some() {
         None
     } else {
-        content(place, name)
+        content_at(place, name)
     }
 }
 
@@ -76,8 +76,11 @@ pub(crate) fn resolved_content(place: Place, name: &str) -> Option<Content>
 pub(crate) fn is_left_out(place: Place, name: &str, value: &Value) -> bool
     ensures { result ≡ is_left_out_of place name.now (view value.now) }
 {
+    if !value.is_null() {
+        return false;
+    }
     match presence(place, name) {
-        Some(presence) => !matches!(presence, Presence::Needed) && value.is_null(),
+        Some(presence) => !matches!(presence, Presence::Needed),
         None => false,
     }
 }

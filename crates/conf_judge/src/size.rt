@@ -1,5 +1,5 @@
 //! Whether a value is within the limits of its content, whatever it holds.
-ghost use Rattle.std.specs.Prelude.{◌≡◌, nat_le};
+ghost use Rattle.std.specs.Prelude.{◌≡◌, nat_le, option_map};
 ghost use Rattle.serde_json.specs.Data.{object};
 ghost use Rattle.serde_json.specs.View.{view, items_view, members_view};
 ghost use Rattle.serde_json.specs.Events.{items_len, members_len};
@@ -7,17 +7,17 @@ ghost use Rattle.conf_judge.specs.Limits.{bytes_fit as bytes_fit_of, power_fits 
 
 use crate::class::class_of;
 use crate::numbers::natural_in;
-use conf_table::{Content, Entries, Keys, MAX_RANGES, MAX_TEXT_BYTES, Place, entries};
+use conf_table::{Content, Entries, Keys, MAX_RANGES, MAX_TEXT_BYTES, Place, entries_at};
 use conf_values::as_natural;
 use ctf_types::{MAX_ARRAYS, MAX_ELEMENTS};
 use serde_json::{Map, Value};
 
 /// Whether a value is within the limits of its content.
 #[tactic(auto, unfolding(crate::specs::Limits::fits))]
-pub(crate) fn fits(content: Content, value: &Value) -> bool
-    ensures { result ≡ fits_of content (view value.now) }
+pub(crate) fn fits(content: &Content, value: &Value) -> bool
+    ensures { result ≡ fits_of content.now (view value.now) }
 {
-    match content {
+    match *content {
         Content::Text { most_bytes }
         | Content::WholeOrText {
             low: _,
@@ -54,7 +54,9 @@ fn power_fits(high: u64, value: &Value) -> bool
 fn place_fits(place: Place, value: &Value) -> bool
     ensures { result ≡ place_fits_of place (view value.now) }
 {
-    arrays_fit(place, value) && at_most(entries(place), count_of(value)) && ranges_fit(place, value)
+    arrays_fit(place, value)
+        && at_most(entries_at(place), count_of(value))
+        && ranges_fit(place, value)
 }
 
 /// Whether field types stand at a place that no array is around.
@@ -167,8 +169,8 @@ fn entries_in(members: &Map<String, Value>) -> usize
     members.len()
 }
 
-fn at_most(entries: Option<Entries>, count: usize) -> bool
-    ensures { result ≡ at_most_of entries count }
+fn at_most(entries: Option<&'static Entries>, count: usize) -> bool
+    ensures { result ≡ at_most_of (option_map (λ e. e.now) entries.entry) count }
 {
     match entries {
         Some(entries) => match entries.most {
@@ -218,9 +220,11 @@ fn few_ranges_in(members: &Map<String, Value>) -> bool
 pub(crate) fn key_fits(place: Place, name: &str) -> bool
     ensures { result ≡ key_fits_of place name.now }
 {
-    match entries(place) {
-        Some(entries) => !matches!(entries.keys, Keys::Label)
-            || name.len() as u64 <= MAX_TEXT_BYTES,
+    if name.len() as u64 <= MAX_TEXT_BYTES {
+        return true;
+    }
+    match entries_at(place) {
+        Some(entries) => !matches!(entries.keys, Keys::Label),
         None => true,
     }
 }

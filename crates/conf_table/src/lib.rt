@@ -17,5 +17,5 @@ pub use laws::{known_by_rows, one_row_a_name};
 pub use limits::{MAX_RANGES, MAX_TEXT_BYTES};
 pub use place::Place;
 pub use row::{Content, Entries, Keys, Presence, Row};
-pub use table::{content, entries, has_property, presence, rows, under};
+pub use table::{content, content_at, entries, entries_at, has_property, presence, rows, under};
 pub use words::{Words, words_in};

@@ -4,7 +4,7 @@ use crate::objects::{HIGHEST, HIGHEST_UNSIGNED, LOWEST};
 use crate::{Content, Entries, Keys, MAX_TEXT_BYTES, Place};
 use ctf_types::MAX_ENVIRONMENT;
 
-pub(crate) const ENVIRONMENT: Entries = Entries {
+pub(crate) static ENVIRONMENT: Entries = Entries {
     keys: Keys::PlainName,
     most: Some(MAX_ENVIRONMENT as u64),
     content: Content::WholeOrText {
@@ -14,13 +14,13 @@ pub(crate) const ENVIRONMENT: Entries = Entries {
     },
 };
 
-pub(crate) const FIELD_TYPE_ALIASES: Entries = Entries {
+pub(crate) static FIELD_TYPE_ALIASES: Entries = Entries {
     keys: Keys::Name,
     most: Some(1024),
     content: Content::At(Place::FieldType),
 };
 
-pub(crate) const LOG_LEVEL_ALIASES: Entries = Entries {
+pub(crate) static LOG_LEVEL_ALIASES: Entries = Entries {
     keys: Keys::Name,
     most: Some(1024),
     content: Content::Whole {
@@ -29,55 +29,55 @@ pub(crate) const LOG_LEVEL_ALIASES: Entries = Entries {
     },
 };
 
-pub(crate) const CLOCK_TYPES: Entries = Entries {
+pub(crate) static CLOCK_TYPES: Entries = Entries {
     keys: Keys::PlainName,
     most: Some(64),
     content: Content::At(Place::ClockType),
 };
 
-pub(crate) const STREAM_TYPES: Entries = Entries {
+pub(crate) static STREAM_TYPES: Entries = Entries {
     keys: Keys::Name,
     most: Some(64),
     content: Content::At(Place::StreamType),
 };
 
-pub(crate) const EVENT_TYPES: Entries = Entries {
+pub(crate) static EVENT_TYPES: Entries = Entries {
     keys: Keys::Name,
     most: Some(1024),
     content: Content::At(Place::EventType),
 };
 
-pub(crate) const ENTRY: Entries = Entries {
+pub(crate) static ENTRY: Entries = Entries {
     keys: Keys::PlainName,
     most: Some(1),
     content: Content::At(Place::Member),
 };
 
-pub(crate) const MAPPINGS: Entries = Entries {
+pub(crate) static MAPPINGS: Entries = Entries {
     keys: Keys::Label,
     most: None,
     content: Content::At(Place::Ranges),
 };
 
-pub(crate) const EXTRA_MEMBERS: Entries = Entries {
+pub(crate) static EXTRA_MEMBERS: Entries = Entries {
     keys: Keys::Index,
     most: Some(256),
     content: Content::At(Place::Entry),
 };
 
-pub(crate) const MEMBERS: Entries = Entries {
+pub(crate) static MEMBERS: Entries = Entries {
     keys: Keys::Index,
     most: Some(256),
     content: Content::At(Place::Entry),
 };
 
-pub(crate) const RANGES: Entries = Entries {
+pub(crate) static RANGES: Entries = Entries {
     keys: Keys::Index,
     most: None,
     content: Content::At(Place::Range),
 };
 
-pub(crate) const RANGE: Entries = Entries {
+pub(crate) static RANGE: Entries = Entries {
     keys: Keys::Index,
     most: Some(2),
     content: Content::Whole {

@@ -56,22 +56,22 @@ pub fn rows(place: Place) -> &'static [Row]
 
 /// What a map or a list holds. No other place holds entries.
 #[tactic(auto, unfolding(crate::specs::Table::entries_of))]
-pub fn entries(place: Place) -> Option<Entries>
-    ensures { result ≡ entries_of place }
+pub fn entries_at(place: Place) -> Option<&'static Entries>
+    ensures { option_map (λ e. e.now) result ≡ entries_of place }
 {
     match place {
-        Place::Environment => Some(maps::ENVIRONMENT),
-        Place::FieldTypeAliases => Some(maps::FIELD_TYPE_ALIASES),
-        Place::LogLevelAliases => Some(maps::LOG_LEVEL_ALIASES),
-        Place::ClockTypes => Some(maps::CLOCK_TYPES),
-        Place::StreamTypes => Some(maps::STREAM_TYPES),
-        Place::EventTypes => Some(maps::EVENT_TYPES),
-        Place::Entry => Some(maps::ENTRY),
-        Place::Mappings => Some(maps::MAPPINGS),
-        Place::ExtraMembers => Some(maps::EXTRA_MEMBERS),
-        Place::Members => Some(maps::MEMBERS),
-        Place::Ranges => Some(maps::RANGES),
-        Place::Range => Some(maps::RANGE),
+        Place::Environment => Some(&maps::ENVIRONMENT),
+        Place::FieldTypeAliases => Some(&maps::FIELD_TYPE_ALIASES),
+        Place::LogLevelAliases => Some(&maps::LOG_LEVEL_ALIASES),
+        Place::ClockTypes => Some(&maps::CLOCK_TYPES),
+        Place::StreamTypes => Some(&maps::STREAM_TYPES),
+        Place::EventTypes => Some(&maps::EVENT_TYPES),
+        Place::Entry => Some(&maps::ENTRY),
+        Place::Mappings => Some(&maps::MAPPINGS),
+        Place::ExtraMembers => Some(&maps::EXTRA_MEMBERS),
+        Place::Members => Some(&maps::MEMBERS),
+        Place::Ranges => Some(&maps::RANGES),
+        Place::Range => Some(&maps::RANGE),
         Place::Root
         | Place::Trace
         | Place::TraceType
@@ -106,27 +106,46 @@ pub fn entries(place: Place) -> Option<Entries>
     }
 }
 
+/// A copy of what a map or a list holds.
+pub fn entries(place: Place) -> Option<Entries>
+    ensures { result ≡ entries_of place }
+{
+    let entries = entries_at(place)?;
+    Some(*entries)
+}
+
+/// What is judged at no place.
+static ANYTHING: Content = Content::Anything;
+
 /// What the value of the property `name` is, where there is one: by its row, or as each entry of a map.
 #[tactic(auto, unfolding(crate::specs::Table::content_under))]
-pub fn content(place: Place, name: &str) -> Option<Content>
-    ensures { result ≡ content_under place name.now }
+pub fn content_at(place: Place, name: &str) -> Option<&'static Content>
+    ensures { option_map (λ c. c.now) result ≡ content_under place name.now }
 {
     if place == Place::Ignored {
-        return Some(Content::Anything);
+        return Some(&ANYTHING);
     }
-    match entries(place) {
+    match entries_at(place) {
         Some(entries) => {
             if entries.keys == Keys::Index {
                 None
             } else {
-                Some(entries.content)
+                Some(&entries.content)
             }
         }
         None => {
             let (_, _, content) = row_in(rows(place), name)?;
-            Some(*content)
+            Some(content)
         }
     }
+}
+
+/// A copy of what the value of the property `name` is.
+pub fn content(place: Place, name: &str) -> Option<Content>
+    ensures { result ≡ content_under place name.now }
+{
+    let content = content_at(place, name)?;
+    Some(*content)
 }
 
 /// The row of a name.

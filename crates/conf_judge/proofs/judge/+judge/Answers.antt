@@ -10,10 +10,10 @@ use Rattle.conf_judge.proofs.judge.+judge.Goals as goal
 
 pub check_held-returns-in-Array : goal.check_held-returns-in-Array
 check_held-returns-in-Array t c =
-    subst (λ d. Gives (λ _. tt) c.check_items.result (refusal (inner_flaws (known_of c.args.around) (At c.args.place) d)))
+    subst (λ d. Gives (λ _. tt) c.check_items.result (refusal (inner_flaws (known_of c.args.around.now) (At c.args.place) d)))
     (sym (ap view c.in-Array.is ∙ view-Array c.in-Array.items)) c.check_items.ensures
 
 pub check_held-returns-in-Object : goal.check_held-returns-in-Object
 check_held-returns-in-Object t c =
-    subst (λ d. Gives (λ _. tt) c.check_object.result (refusal (inner_flaws (known_of c.args.around) (At c.args.place) d)))
+    subst (λ d. Gives (λ _. tt) c.check_object.result (refusal (inner_flaws (known_of c.args.around.now) (At c.args.place) d)))
     (sym (ap view c.in-Object.is ∙ view-Object c.in-Object.members)) c.check_object.ensures

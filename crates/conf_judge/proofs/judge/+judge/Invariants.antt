@@ -2,7 +2,7 @@ use Rattle.std.proofs.Common.{◌≡◌, ◌≤◌, ◌+◌, ◌*◌, drop}
 use Rattle.serde_json.specs.Data.{items_depth, members_depth}
 use Rattle.serde_json.specs.View.{items_view, members_view}
 use Rattle.conf_judge.specs.Flaws.{item_flaws, member_flaws}
-use Rattle.conf_judge.specs.Known.{known_of}
+use Rattle.conf_judge.specs.Known.{known_of, inside}
 use Rattle.conf_judge.specs.Names.{names_beside}
 use Rattle.conf_judge.proofs.judge.+judge.Given as goal
 
@@ -16,7 +16,7 @@ invariant-check_items-loop-index l =
 abbrev pub invariant-check_members-loop-name : goal.invariant-check_members-loop-name
 invariant-check_members-loop-name l =
     (members_depth (members_view l.name-iterator) ≤ members_depth (members_view l.members.entries))
-    × (member_flaws (known_of l.around) l.place (members_view l.members.entries) ≡ member_flaws (known_of l.here) l.place (members_view l.name-iterator))
+    × (member_flaws (inside l.place (members_view l.members.entries) (known_of l.around)) l.place (members_view l.members.entries) ≡ member_flaws (known_of l.here) l.place (members_view l.name-iterator))
 
 abbrev pub decreases-check_content : goal.decreases-check_content
 decreases-check_content l = 8 * goal.size-check_content l + 2
