@@ -1,7 +1,6 @@
 //! Reads scripts: the streams of a session, and what they are to do; and prints traces that were read.
 #![tactic(auto)]
 
-mod file_clock;
 mod file_counts;
 mod head_order;
 mod names;
