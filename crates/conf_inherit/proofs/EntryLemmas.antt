@@ -1,8 +1,8 @@
 -- What an index of entries answers is what a search of the entries answers.
-use Rattle.std.proofs.Common.{Bor, ◌≡◌, ◌+◌, ◌≤◌, ◌||◌, ℕ, suc, List, Option, Some, None, option_map, is_some, nat_lt, if◌then◌else◌, Bool, true, false, true≢false, refl, sym, ap, ◌∙◌, subst, arith}
+use Rattle.std.proofs.Common.{Bor, ◌≡◌, ◌+◌, ◌≤◌, ◌||◌, ℕ, suc, List, [], ◌∷◌, length, Option, Some, None, option_map, is_some, nat_lt, if◌then◌else◌, Bool, true, false, true≢false, refl, sym, ap, ◌∙◌, subst, arith}
 use Rattle.std.proofs.lemmas.Bool.Decides.{nat_tests}
 use Rattle.std.proofs.lemmas.Slice.Eq.{bytes_eq-Decides}
-use Rattle.std.specs.List.{IsAmong}
+use Rattle.std.specs.List.{IsAmong, push}
 use Rattle.std.specs.Map.{update}
 use Rattle.std.specs.Option.{option_or, IfSome}
 use Rattle.std.specs.Slice.{IsItemAt}
@@ -18,10 +18,6 @@ use Rattle.conf_inherit.proofs.InOrder.{get_first}
 use Rattle.conf_inherit.proofs.LayingLemmas.{Meets, same, other, meets, get_other, get_same}
 use Rattle.conf_inherit.proofs.ItemLemmas.{differs}
 
-none_of : (o : Option ℕ) → is_some o ≡ false → o ≡ None
-none_of None h = refl
-none_of (Some x) h = absurd (true≢false h)
-
 -- ---- the first place of a name
 
 pub has_place : (i : ℕ) (n : List ℕ) (es : Items) → is_some (place_from i n es) ≡ has_entry n es
@@ -32,35 +28,47 @@ has_place i n (item e es) = go (is_some (get n e)) refl (has_place (suc i) n es)
     go true is rest = rw is refl
     go false is rest = rw is rest
 
--- what is noted at a name that had no place
-pub noted_new : (old new : List ℕ → Option ℕ) (k : List ℕ) (place : ℕ) (d : Data) (ms : Members) → ((n : List ℕ) → new n ≡ update bytes_eq old k (Some place) n) → is_some (old k) ≡ false
-    → (n : List ℕ) → option_or (new n) (place_if n (object ms) place) ≡ option_or (old n) (place_if n (object (member k d ms)) place)
-noted_new old new k place d ms put fresh n = go (meets n k)
+-- one entry more at the end of a list
+pub place_pushed : (i : ℕ) (n : List ℕ) (vs : List Value) (v : Value) → place_from i n (items_view (push vs v)) ≡ option_or (place_from i n (items_view vs)) (place_if n (view v) (i + length vs))
+place_pushed i n [] v = let e : i ≡ i + 0 = omega arith in ap (place_if n (view v)) e
+place_pushed i n (w ∷ vs) v = go (is_some (get n (view w))) refl (place_pushed (suc i) n vs v)
   where
-    go : Meets n k → option_or (new n) (place_if n (object ms) place) ≡ option_or (old n) (place_if n (object (member k d ms)) place)
+    shifted : place_if n (view v) (suc i + length vs) ≡ place_if n (view v) (i + suc (length vs))
+    shifted = let e : suc i + length vs ≡ i + suc (length vs) = omega arith in ap (place_if n (view v)) e
+
+    go : (t : Bool) → is_some (get n (view w)) ≡ t
+        → place_from (suc i) n (items_view (push vs v)) ≡ option_or (place_from (suc i) n (items_view vs)) (place_if n (view v) (suc i + length vs))
+        → place_from i n (items_view (push (w ∷ vs) v)) ≡ option_or (place_from i n (items_view (w ∷ vs))) (place_if n (view v) (i + suc (length vs)))
+    go true is later = rw is refl
+    go false is later = rw is (later ∙ ap (option_or (place_from (suc i) n (items_view vs))) shifted)
+
+pub length_pushed : (vs : List Value) (v : Value) → length (push vs v) ≡ length vs + 1
+length_pushed [] v = refl
+length_pushed (w ∷ vs) v = let e : suc (length vs + 1) ≡ suc (length vs) + 1 = omega arith in ap suc (length_pushed vs v) ∙ e
+
+pub or_assoc : (a b c : Option ℕ) → option_or (option_or a b) c ≡ option_or a (option_or b c)
+or_assoc None b c = refl
+or_assoc (Some i) b c = refl
+
+-- once a name is noted, the names that are left are still to be noted
+pub noted : (old new : List ℕ → Option ℕ) (k : List ℕ) (place : ℕ) (d : Data) (ms : Members) → ((n : List ℕ) → new n ≡ update bytes_eq old k (Some place) n)
+    → (n : List ℕ) → option_or (place_if n (object ms) place) (new n) ≡ option_or (place_if n (object (member k d ms)) place) (old n)
+noted old new k place d ms put n = go (meets n k)
+  where
+    again : (b : Bool) → option_or (if b then Some place else None) (Some place) ≡ Some place
+    again true = refl
+    again false = refl
+
+    go : Meets n k → option_or (place_if n (object ms) place) (new n) ≡ option_or (place_if n (object (member k d ms)) place) (old n)
     go (same e) =
         let eq : bytes_eq k n ≡ true = (bytes_eq-Decides k n).1 (sym e) in
         let made : new n ≡ Some place = put n ∙ rw eq refl in
-        let none : old n ≡ None = none_of (old n) (ap (λ x. is_some (old x)) e ∙ fresh) in
         let found : place_if n (object (member k d ms)) place ≡ Some place = let f = get_same n k d ms e in rw f refl in
-        rw (made, none, found) refl
+        ap (option_or (place_if n (object ms) place)) made ∙ again (is_some (get n (object ms))) ∙ sym (ap (λ o. option_or o (old n)) found)
     go (other apart) =
         let eq : bytes_eq k n ≡ false = differs k n (λ e. apart (sym e)) (bytes_eq k n) refl in
         let kept : new n ≡ old n = put n ∙ rw eq refl in
-        ap (λ o. option_or o (place_if n (object ms) place)) kept ∙ ap (λ o. option_or (old n) (if is_some o then Some place else None)) (sym (get_other n k d ms apart))
-
--- a name that had a place keeps it
-pub noted_old : (old : List ℕ → Option ℕ) (k : List ℕ) (place : ℕ) (d : Data) (ms : Members) → is_some (old k) ≡ true
-    → (n : List ℕ) → option_or (old n) (place_if n (object ms) place) ≡ option_or (old n) (place_if n (object (member k d ms)) place)
-noted_old old k place d ms there n = go (meets n k)
-  where
-    kept : (o a b : Option ℕ) → is_some o ≡ true → option_or o a ≡ option_or o b
-    kept None a b h = absurd (true≢false (sym h))
-    kept (Some p) a b h = refl
-
-    go : Meets n k → option_or (old n) (place_if n (object ms) place) ≡ option_or (old n) (place_if n (object (member k d ms)) place)
-    go (same e) = kept (old n) _ _ (ap (λ x. is_some (old x)) e ∙ there)
-    go (other apart) = ap (λ o. option_or (old n) (if is_some o then Some place else None)) (sym (get_other n k d ms apart))
+        ap (option_or (place_if n (object ms) place)) kept ∙ ap (λ o. option_or (if is_some o then Some place else None) (old n)) (sym (get_other n k d ms apart))
 
 abbrev AtLeast : ℕ → Option ℕ → Type 0
 AtLeast i None = Unit {0}

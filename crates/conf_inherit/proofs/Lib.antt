@@ -8,6 +8,7 @@ pub mod EntryLemmas
 pub mod SizeLemmas
 pub mod LaysOver
 pub mod FlawLemmas
+pub mod SeenLemmas
 pub mod FunctionLemmas
 pub mod ReadyLemmas
 pub mod NamedLemmas
@@ -33,7 +34,9 @@ pub mod SoundPlaces
 pub mod ExcludedInheritance
 pub mod RefusalLemmas
 pub mod TurnLemmas
+pub mod SpentLemmas
 pub mod WholeLemmas
+pub mod TakenLemmas
 pub mod WrittenLemmas
 pub mod WorkedPlaces
 pub mod WorkedRows

@@ -47,7 +47,7 @@ new_entries done no_items seen = refl
 new_entries done (item e es) seen = new_entry done e seen (lay_new done es seen) ∙ ap (lay_new_member done (properties_of e) seen) (new_entries done es seen) ∙ sym (new_join done (properties_of e) (entries_of es) seen no_items)
 
 -- a list has an entry of the name where one of its names is that
-get_property : (n : List ℕ) (e : Data) → get n e ≡ get_member n (properties_of e)
+pub get_property : (n : List ℕ) (e : Data) → get n e ≡ get_member n (properties_of e)
 get_property n (object ms) = refl
 get_property n null = refl
 get_property n (boolean x) = refl

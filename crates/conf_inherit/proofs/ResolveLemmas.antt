@@ -1,10 +1,9 @@
 -- The parts of a resolution together.
-use Rattle.std.proofs.Common.{◌≡◌, ◌≤◌, ℕ, zero, suc, List, [], ◌∷◌, Option, Some, None, option_and_then, Result, Ok, Err, String, Global, true, false, true≢false, Less, refl, sym, ap, ◌∙◌, subst, string_cmp, string_bytes, arith}
+use Rattle.std.proofs.Common.{◌≡◌, ◌≤◌, ℕ, zero, suc, List, [], ◌∷◌, None, Result, Ok, Err, String, Global, true, false, true≢false, Less, refl, sym, ap, ◌∙◌, subst, string_cmp, string_bytes, arith}
 use Rattle.std.specs.List.{AllByRecursion}
 use Rattle.std.specs.List.Sorted.{IsStrictlySortedBy}
 use Rattle.std.specs.Map.{keys_of}
 use Rattle.serde_json.specs.Data.{Data, null, boolean, number, string, array, object, Items, no_items, item, Members, no_members, member, depth, items_depth, members_depth}
-use Rattle.serde_json.specs.Find.{as_object}
 use Rattle.serde_json.specs.View.{members_view}
 use Rattle.serde_json.proofs.Views.{Entry}
 use Rattle.conf_tree.specs.Flaw.{Flaw}
@@ -16,7 +15,7 @@ use Rattle.conf_inherit.specs.Laying.{lay}
 use Rattle.conf_inherit.specs.Looks.{Looks, AreResolved}
 use Rattle.conf_inherit.specs.Names.{AllAbove, NoClash}
 use Rattle.conf_inherit.specs.Nesting.{nests, items_nest, members_nest, deep_flaws}
-use Rattle.conf_inherit.specs.Resolution.{members_or_none, aliases_of, Resolves, from_aliases, if_shallow, resolution_after, resolution_under, resolution}
+use Rattle.conf_inherit.specs.Resolution.{aliases_of, Resolves, from_aliases, if_shallow, resolution_after, resolution_under, resolution}
 use Rattle.std.specs.Prelude.{⊤}
 use Rattle.conf_tree.specs.Reading.{◌>>=◌}
 use Rattle.serde_json.specs.Events.{members_len}
@@ -88,26 +87,6 @@ pub apart_of : (es : List Entry) → IsStrictlySortedBy string_cmp (keys_of es) 
 unfolding IsStrictlySortedBy
 apart_of [] h = tt
 apart_of (e ∷ es) h = (get_none (string_bytes e.0) (members_view es) (above_of e.0 es h.0), apart_of es h.1)
-
--- ---- where the aliases are found
-
-pub members_found : (o : Option Data) (ms : Members) → Some ms ≡ option_and_then as_object o → ms ≡ members_or_none o
-members_found None ms h = cc
-members_found (Some (object ns)) ms h = cc
-members_found (Some null) ms h = cc
-members_found (Some (boolean b)) ms h = cc
-members_found (Some (number n)) ms h = cc
-members_found (Some (string n)) ms h = cc
-members_found (Some (array es)) ms h = cc
-
-pub members_missing : (o : Option Data) → None ≡ option_and_then as_object o → no_members ≡ members_or_none o
-members_missing None h = refl
-members_missing (Some (object ns)) h = let bad : None ≡ Some ns = h in cc
-members_missing (Some null) h = refl
-members_missing (Some (boolean b)) h = refl
-members_missing (Some (number n)) h = refl
-members_missing (Some (string n)) h = refl
-members_missing (Some (array es)) h = refl
 
 -- ---- the answer
 

@@ -1,10 +1,10 @@
--- The aliases in a configuration as they stand in its parts, and that each was resolved as it is laid, and is sound.
-use Rattle.std.proofs.Common.{◌≡◌, ◌&&◌, ◌||◌, not, ◌<◌, ◌++◌, ℕ, List, [], map, Option, Some, None, option_and_then, Result, Ok, Err, is_some, Bool, true, false, true≢false, refl, sym, ap, ◌∙◌, subst, arith}
+-- The aliases of a configuration: that each was resolved as it is laid, and is sound.
+use Rattle.std.proofs.Common.{◌≡◌, ◌&&◌, ◌<◌, ◌++◌, ℕ, List, [], map, Option, Some, None, Result, Ok, Err, is_some, Bool, true, false, true≢false, refl, sym, ap, ◌∙◌, subst, arith}
 use Rattle.std.specs.Prelude.{⊤}
 use Rattle.std.specs.Str.{bytes_eq}
 use Rattle.std.proofs.lemmas.Slice.Eq.{bytes_eq-Decides}
 use Rattle.serde_json.specs.Data.{Data, null, boolean, number, string, array, object, Members, no_members, member, put}
-use Rattle.serde_json.specs.Find.{get, get_member}
+use Rattle.serde_json.specs.Find.{get_member}
 use Rattle.conf_tree.specs.Flaw.{Flaw, key, within}
 use Rattle.conf_tree.specs.Walk.{refusal}
 use Rattle.conf_table.specs.declared.place.Place.{Place}
@@ -17,95 +17,22 @@ use Rattle.conf_inherit.specs.Limits.{fitting, limit_flaws}
 use Rattle.conf_inherit.specs.Named.{all_named, has}
 use Rattle.conf_inherit.specs.Names.{NoClash}
 use Rattle.conf_inherit.specs.Places.{place_flaws, inner_places, member_places}
-use Rattle.conf_inherit.specs.Resolution.{trace_name, type_name, aliases_name, aliases_of, members_or_none, from_aliases}
+use Rattle.conf_inherit.specs.Resolution.{trace_name, type_name, aliases_name, from_aliases}
 use Rattle.conf_inherit.specs.Rounds.{Outcomes, has_outcome, is_empty, outcome, rounds, no_outcomes, Reached}
-use Rattle.conf_inherit.specs.FieldPlaces.{field_place, place_under, place_of_items, names_alias, is_base_name, lists_extra_members, leads_on}
-use Rattle.conf_inherit.specs.Whole.{holds_aliases, way_to_aliases, aliases_at, without, OfAliases, AreLaid, HasLaid, HasSound}
+use Rattle.conf_inherit.specs.FieldPlaces.{field_place, place_under, names_alias, is_base_name, lists_extra_members, leads_on}
+use Rattle.conf_inherit.specs.Whole.{holds_aliases, way_to_aliases, without, AreLaid}
 use Rattle.serde_json.proofs.Views.{get_member-put_other}
-use Rattle.conf_inherit.proofs.FieldPlaceLemmas.{trace_place, trace_type_place, aliases_place}
 use Rattle.conf_inherit.proofs.InOrder.{same_members}
 use Rattle.conf_inherit.proofs.LayingLemmas.{Meets, same, other, meets, get_other, get_same, put_found, in_order_put, in_order_lay, lay_members-absent, lay_members-found}
 use Rattle.conf_inherit.proofs.LimitLemmas.{fitting_value}
 use Rattle.conf_inherit.proofs.ListLemmas.{AllEntries, all_along, found_each}
 use Rattle.conf_inherit.proofs.PlaceLemmas.{place_of_type}
-use Rattle.conf_inherit.proofs.PlacesUnder.{true_under, under_place}
 use Rattle.conf_inherit.proofs.ReadyLemmas.{and_left, and_right}
 use Rattle.conf_inherit.proofs.ResolveLemmas.{no_flaws}
 use Rattle.conf_inherit.proofs.RoundLemmas.{HasRoot, empty_flaws, rounds_root, all_done, some_of, fitting_ok, no_value}
 use Rattle.conf_inherit.proofs.TurnLemmas.{reached_sound, rounds_reached, or_first}
 
--- ---- the parts of a configuration
-
-abbrev on_way : Option (List ℕ) → List ℕ → Bool
-on_way None k = false
-on_way (Some n) k = bytes_eq k n
-
-abbrev is_way : Place → List ℕ → Bool
-is_way s k = on_way (way_to_aliases s) k
-
--- a name leads to what holds no aliases, or it is the one that leads to them
-abbrev flat_or_way : Place → List ℕ → Place → Bool
-flat_or_way s k t = not (holds_aliases t) || is_way s k
-
-under_flat_or_way : (s : Place) (k : List ℕ) → flat_or_way s k (place_under s k) ≡ true
-unfolding true_under entries_of rows_of place_in field_place holds_aliases way_to_aliases trace_name type_name aliases_name
-under_flat_or_way s k = under_place (flat_or_way s) k s (at s)
-  where
-    at : (s : Place) → true_under (flat_or_way s) k s ≡ true
-    at places.Root = refl
-    at _ = refl
-
-no_aliases_at : (s : Place) (d : Data) → holds_aliases s ≡ false → aliases_at s d ≡ None
-unfolding holds_aliases
-no_aliases_at places.Root d none = absurd (true≢false none)
-no_aliases_at places.Trace d none = absurd (true≢false none)
-no_aliases_at places.TraceType d none = absurd (true≢false none)
-no_aliases_at places.FieldTypeAliases d none = absurd (true≢false none)
-no_aliases_at _ d none = refl
-
-module _ (P : Members → Type 0) where
-  of_none : (s : Place) (d : Data) → holds_aliases s ≡ false → OfAliases P s d
-  of_none s d none ms at = let bad : None ≡ Some (object ms) = sym (no_aliases_at s d none) ∙ at in cc
-
-  -- the property of that name
-  of_way : (s : Place) (k : List ℕ) (d : Data) (ms : Members) → get_member k ms ≡ Some d → is_way s k ≡ true → OfAliases P s (object ms) → OfAliases P (place_under s k) d
-  unfolding way_to_aliases
-  of_way places.Root k d ms is way h =
-      let same = (bytes_eq-Decides k trace_name).0 way in
-      subst (λ t. OfAliases P t d) (sym (ap (place_under places.Root) same ∙ trace_place))
-      (λ al at. h al (ap (λ o. option_and_then (get aliases_name) (option_and_then (get type_name) o)) (subst (λ n. get_member n ms ≡ Some d) same is) ∙ at))
-  of_way places.Trace k d ms is way h =
-      let same = (bytes_eq-Decides k type_name).0 way in
-      subst (λ t. OfAliases P t d) (sym (ap (place_under places.Trace) same ∙ trace_type_place))
-      (λ al at. h al (ap (λ o. option_and_then (get aliases_name) o) (subst (λ n. get_member n ms ≡ Some d) same is) ∙ at))
-  of_way places.TraceType k d ms is way h =
-      let same = (bytes_eq-Decides k aliases_name).0 way in
-      subst (λ t. OfAliases P t d) (sym (ap (place_under places.TraceType) same ∙ aliases_place)) (λ al at. h al (subst (λ n. get_member n ms ≡ Some d) same is ∙ at))
-  of_way _ k d ms is way h = absurd (true≢false (sym way))
-
-  -- what holds of the aliases in an object holds of those in its properties
-  pub of_property : (s : Place) (k : List ℕ) (d : Data) (ms : Members) → get_member k ms ≡ Some d → OfAliases P s (object ms) → OfAliases P (place_under s k) d
-  of_property s k d ms is h = go (holds_aliases (place_under s k)) refl (under_flat_or_way s k)
-    where
-      go : (holds : Bool) → holds_aliases (place_under s k) ≡ holds → flat_or_way s k (place_under s k) ≡ true → OfAliases P (place_under s k) d
-      go true holds way = of_way s k d ms is (rw holds at way) h
-      go false none way = of_none (place_under s k) d none
-
-  -- there are none in an entry of a list
-  pub of_item : (s : Place) (d : Data) → OfAliases P (place_of_items s) d
-  unfolding place_of_items holds_aliases
-  of_item places.Members d = of_none places.Entry d refl
-  of_item places.ExtraMembers d = of_none places.Entry d refl
-  of_item s d = of_none places.Ignored d refl
-
--- an object that has the aliases, and has no property that leads to them, is their object
-pub laid_themselves : (done : Members) (s : Place) (ms : Members) → way_to_aliases s ≡ None → holds_aliases s ≡ true → HasLaid done s (object ms) → done ≡ lay_members done s ms no_members
-unfolding way_to_aliases holds_aliases
-laid_themselves done places.Root ms way above h = let bad : Some trace_name ≡ None = way in cc
-laid_themselves done places.Trace ms way above h = let bad : Some type_name ≡ None = way in cc
-laid_themselves done places.TraceType ms way above h = let bad : Some aliases_name ≡ None = way in cc
-laid_themselves done places.FieldTypeAliases ms way above h = h ms refl
-laid_themselves done _ ms way above h = absurd (true≢false (sym above))
+-- ---- an object that has the aliases in it
 
 -- how many objects lead from here to the aliases
 pub levels : Place → ℕ
@@ -269,27 +196,15 @@ sound_of : (a : Result ⊤ Flaw) → from_aliases a ≡ Ok tt → a ≡ Ok tt
 sound_of (Ok x) h = refl
 sound_of (Err f) h = cc
 
--- so are those of the configuration
-pub whole_laid : (t : Data) (al : Members) (n : ℕ) (st : Outcomes) → al ≡ aliases_of t → NoClash al → st ≡ rounds al n no_outcomes → from_aliases (refusal (all_alias_flaws al st al)) ≡ Ok tt → HasLaid st.done places.Root t
-whole_laid t al n st own apart turned sound ms at =
-    let same : al ≡ ms = own ∙ ap members_or_none at in
-    subst (AreLaid st.done) same (are_laid al n st apart turned (sound_of (refusal (all_alias_flaws al st al)) sound))
+-- so are all together
+pub whole_laid : (al : Members) (n : ℕ) (st : Outcomes) → NoClash al → st ≡ rounds al n no_outcomes → from_aliases (refusal (all_alias_flaws al st al)) ≡ Ok tt → AreLaid st.done al
+whole_laid al n st apart turned sound = are_laid al n st apart turned (sound_of (refusal (all_alias_flaws al st al)) sound)
 
-pub whole_sound : (t : Data) (al : Members) (n : ℕ) (st : Outcomes) → al ≡ aliases_of t → NoClash al → st ≡ rounds al n no_outcomes → from_aliases (refusal (all_alias_flaws al st al)) ≡ Ok tt → HasSound al st.done places.Root t
-whole_sound t al n st own apart turned sound ms at =
-    let same : al ≡ ms = own ∙ ap members_or_none at in
-    subst (λ x. member_places al st.done places.FieldTypeAliases x ≡ []) same (sound_places al st.done al (all_along (λ k w. get_member k al ≡ Some w) (λ k w. type_flaws al st.done places.FieldType w ≡ []) each al (found_each al apart)))
+pub whole_sound : (al : Members) (n : ℕ) (st : Outcomes) → NoClash al → st ≡ rounds al n no_outcomes → from_aliases (refusal (all_alias_flaws al st al)) ≡ Ok tt → member_places al st.done places.FieldTypeAliases al ≡ []
+whole_sound al n st apart turned sound =
+    sound_places al st.done al (all_along (λ k w. get_member k al ≡ Some w) (λ k w. type_flaws al st.done places.FieldType w ≡ []) each al (found_each al apart))
   where
     each : (k : List ℕ) (w : Data) → get_member k al ≡ Some w → type_flaws al st.done places.FieldType w ≡ []
     each k w is =
         let found = found_alias al n st apart turned (sound_of (refusal (all_alias_flaws al st al)) sound) k w is in
         sound_outcome al st.done w found.0 found.1
-
--- where the aliases are sound, nothing is wrong at the places in them
-pub sound_here : (al done : Members) (s : Place) (v : Data) (ms : Members) → s ≡ places.FieldTypeAliases → v ≡ object ms → HasSound al done s v → refusal (inner_places al done s v) ≡ Ok tt
-unfolding leads_on
-sound_here al done s v ms here is = subst (λ x. HasSound al done x v → refusal (inner_places al done x v) ≡ Ok tt) (sym here) (subst (λ x. HasSound al done places.FieldTypeAliases x → refusal (inner_places al done places.FieldTypeAliases x) ≡ Ok tt) (sym is) (λ h. ap refusal (h ms refl)))
-
--- an entry of a list has no aliases in it
-pub sound_item : (al done : Members) (s t : Place) (v : Data) (ms : Members) → t ≡ place_of_items s → aliases_at t v ≡ Some (object ms) → member_places al done places.FieldTypeAliases ms ≡ []
-sound_item al done s t v ms is at = of_item (λ ns. member_places al done places.FieldTypeAliases ns ≡ []) s v ms (ap (λ x. aliases_at x v) (sym is) ∙ at)

@@ -1,8 +1,9 @@
 -- The entries of a members list by their names.
 use Rattle.std.specs.Prelude.{◌≡◌, ℕ, suc, List, Option, None, Some, is_some, nat_lt, if◌then◌else◌}
-use Rattle.std.specs.BTreeMap.{BTreeMap, get_by_text}
-use Rattle.std.specs.declared.alloc.Global.{Global}
-use Rattle.std.specs.declared.string.String.{String}
+use Rattle.std.specs.Borrow.{Bor}
+use Rattle.std.specs.BTreeMap.{BTreeMap, get_by}
+use Rattle.std.specs.Cmp.Lexicographic.{slice_cmp}
+use Rattle.std.specs.Ordering.{nat_cmp}
 use Rattle.serde_json.specs.Data.{Data, object, Items, no_items, item, Members, no_members, member}
 use Rattle.serde_json.specs.Find.{get}
 use Rattle.conf_inherit.specs.Laying.{lay_over_entry}
@@ -16,9 +17,13 @@ abbrev pub place_from : ℕ → List ℕ → Items → Option ℕ
 place_from i n no_items = None
 place_from i n (item e es) = if is_some (get n e) then Some i else place_from (suc i) n es
 
+-- the place that an index has of a name
+abbrev pub place_at : BTreeMap (Bor (List ℕ)) ℕ → List ℕ → Option ℕ
+place_at places n = get_by (λ k. slice_cmp nat_cmp n k.now) places
+
 -- an index has the place of the first entry of each name
-abbrev pub HasPlaces : BTreeMap (String Global) ℕ → Items → Type 0
-HasPlaces places es = (n : List ℕ) → get_by_text places n ≡ place_from 0 n es
+abbrev pub HasPlaces : BTreeMap (Bor (List ℕ)) ℕ → Items → Type 0
+HasPlaces places es = (n : List ℕ) → place_at places n ≡ place_from 0 n es
 
 -- the lower of two places, where there are any
 abbrev pub lower : Option ℕ → Option ℕ → Option ℕ

@@ -9,7 +9,9 @@ pub mod Size
 pub mod Nesting
 pub mod Limits
 pub mod Flaws
+pub mod SeenNames
 pub mod Rounds
+pub mod Spent
 pub mod Circle
 pub mod SameFlaw
 pub mod AliasFlaws

@@ -1,12 +1,11 @@
--- A whole configuration, whose aliases are laid already.
-use Rattle.std.specs.Prelude.{◌≡◌, ℕ, List, [], Option, None, Some, option_and_then, Bool, true, false, if◌then◌else◌}
+-- A whole configuration, whose aliases are taken out and laid beside the rest.
+use Rattle.std.specs.Prelude.{◌≡◌, ℕ, List, Option, None, Some, option_and_then, Bool, true, false, if◌then◌else◌}
 use Rattle.std.specs.Str.{bytes_eq}
 use Rattle.serde_json.specs.Data.{Data, object, Members, no_members, member}
 use Rattle.serde_json.specs.Find.{get}
 use Rattle.conf_table.specs.declared.place.Place.{Place}
 use Rattle.conf_table.specs.declared.place.Place.TheVariants as places
 use Rattle.conf_inherit.specs.Laying.{lay_members}
-use Rattle.conf_inherit.specs.Places.{member_places}
 use Rattle.conf_inherit.specs.Resolution.{trace_name, type_name, aliases_name}
 
 -- an object has the aliases in it, or is their object
@@ -32,21 +31,31 @@ aliases_at places.TraceType v = get aliases_name v
 aliases_at places.FieldTypeAliases v = Some v
 aliases_at _ v = None
 
--- what holds of the aliases in a value, if there are any
-abbrev pub OfAliases : (Members → Type 0) → Place → Data → Type 0
-OfAliases P s v = (ms : Members) → aliases_at s v ≡ Some (object ms) → P ms
+-- the properties, with f of the value of one name, if it is there
+abbrev pub with_property : List ℕ → (Data → Data) → Members → Members
+with_property n f no_members = no_members
+with_property n f (member k d ms) = if bytes_eq k n then member k (f d) ms else member k d (with_property n f ms)
+
+abbrev pub in_property : List ℕ → (Data → Data) → Data → Data
+in_property n f (object ms) = object (with_property n f ms)
+in_property n f d = d
+
+-- the object of these properties, in the place of another object
+abbrev pub in_object : Members → Data → Data
+in_object al (object ms) = object al
+in_object al d = d
+
+-- a value with these aliases in the place of its own, if it has any
+unfoldable pub with_aliases : Place → Members → Data → Data
+with_aliases places.Root al v = in_property trace_name (in_property type_name (in_property aliases_name (in_object al))) v
+with_aliases places.Trace al v = in_property type_name (in_property aliases_name (in_object al)) v
+with_aliases places.TraceType al v = in_property aliases_name (in_object al) v
+with_aliases places.FieldTypeAliases al v = in_object al v
+with_aliases _ al v = v
 
 -- the resolved aliases are the aliases as they are laid
 abbrev pub AreLaid : Members → Members → Type 0
-AreLaid done ms = done ≡ lay_members done places.FieldTypeAliases ms no_members
-
--- the aliases in a value are laid already
-abbrev pub HasLaid : Members → Place → Data → Type 0
-HasLaid done s v = OfAliases (AreLaid done) s v
-
--- nothing is wrong at the aliases in a value
-abbrev pub HasSound : Members → Members → Place → Data → Type 0
-HasSound al done s v = OfAliases (λ ms. member_places al done places.FieldTypeAliases ms ≡ []) s v
+AreLaid done al = done ≡ lay_members done places.FieldTypeAliases al no_members
 
 -- the properties of other names than n
 abbrev pub without : List ℕ → Members → Members

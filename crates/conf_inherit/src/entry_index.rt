@@ -2,10 +2,9 @@
 ghost use Rattle.std.specs.Prelude.{◌≡◌, ℕ, List, IfOk, IfSome, OnOk, option_map};
 ghost use Rattle.std.specs.List.{IsAmong};
 ghost use Rattle.std.specs.Option.{option_or};
-ghost use Rattle.std.specs.BTreeMap.{get_by_text};
 ghost use Rattle.serde_json.specs.Data.{Members, object};
 ghost use Rattle.serde_json.specs.View.{view, items_view, members_view};
-ghost use Rattle.conf_inherit.specs.EntryIndex.{HasPlaces, place_if, lower, lowest, lowest_of, lay_over_found};
+ghost use Rattle.conf_inherit.specs.EntryIndex.{HasPlaces, place_at, place_if, lower, lowest, lowest_of, lay_over_found};
 ghost use Rattle.conf_inherit.specs.Laying.{has_entry, lay_over};
 
 use serde_json::{Map, Value};
@@ -16,7 +15,7 @@ use std::collections::BTreeMap;
 #[derive(Drop)]
 pub(crate) struct EntryIndex<'a> {
     entries: &'a Vec<Value>,
-    places: BTreeMap<String, usize>,
+    places: BTreeMap<&'a str, usize>,
     ghost placed: { HasPlaces places (items_view entries.now.items) },
 }
 
@@ -26,7 +25,9 @@ impl<'a> EntryIndex<'a> {
         ensures { IfOk result (λ made. made.entries.now ≡ entries.now) }
     {
         let mut places = BTreeMap::new(alloc);
-        for (place, entry) in entries.iter().enumerate() {
+        let mut place = entries.len();
+        for entry in entries.iter().rev() {
+            place -= 1;
             note(entry, place, &mut places)?;
         }
         Ok(EntryIndex { entries, places })
@@ -52,9 +53,13 @@ impl<'a> EntryIndex<'a> {
     }
 }
 
-/// Notes the place of an entry at its names, if they have none.
-fn note(entry: &Value, place: usize, places: &mut BTreeMap<String, usize>) -> Result<(), AllocError>
-    ensures { OnOk result ((n : List ℕ) → get_by_text places.new n ≡ option_or (get_by_text places.old n) (place_if n (view entry.now) place)) }
+/// Notes the place of an entry at its names, also where they have one.
+fn note<'a>(
+    entry: &'a Value,
+    place: usize,
+    places: &mut BTreeMap<&'a str, usize>,
+) -> Result<(), AllocError>
+    ensures { OnOk result ((n : List ℕ) → place_at places.new n ≡ option_or (place_if n (view entry.now) place) (place_at places.old n)) }
 {
     match entry {
         Value::Object(members) => note_names(members, place, places),
@@ -62,24 +67,22 @@ fn note(entry: &Value, place: usize, places: &mut BTreeMap<String, usize>) -> Re
     }
 }
 
-fn note_names(
-    members: &Map<String, Value>,
+fn note_names<'a>(
+    members: &'a Map<String, Value>,
     place: usize,
-    places: &mut BTreeMap<String, usize>,
+    places: &mut BTreeMap<&'a str, usize>,
 ) -> Result<(), AllocError>
-    ensures { OnOk result ((n : List ℕ) → get_by_text places.new n ≡ option_or (get_by_text places.old n) (place_if n (object (members_view members.now.entries)) place)) }
+    ensures { OnOk result ((n : List ℕ) → place_at places.new n ≡ option_or (place_if n (object (members_view members.now.entries)) place) (place_at places.old n)) }
 {
     for (name, _value) in members.iter() {
-        if !places.contains_key(name.as_str()) {
-            drop(places.insert(name.clone()?, place)?);
-        }
+        drop(places.insert(name.as_str(), place)?);
     }
     Ok(())
 }
 
 /// The lowest place that a name of the value has.
-fn lowest_place(places: &BTreeMap<String, usize>, value: &Value) -> Option<usize>
-    ensures { result ≡ lowest_of (λ n. get_by_text places.now n) (view value.now) }
+fn lowest_place(places: &BTreeMap<&str, usize>, value: &Value) -> Option<usize>
+    ensures { result ≡ lowest_of (λ n. place_at places.now n) (view value.now) }
 {
     match value {
         Value::Object(members) => lowest_among(places, members),
@@ -87,8 +90,8 @@ fn lowest_place(places: &BTreeMap<String, usize>, value: &Value) -> Option<usize
     }
 }
 
-fn lowest_among(places: &BTreeMap<String, usize>, members: &Map<String, Value>) -> Option<usize>
-    ensures { result ≡ lowest (λ n. get_by_text places.now n) (members_view members.now.entries) }
+fn lowest_among(places: &BTreeMap<&str, usize>, members: &Map<String, Value>) -> Option<usize>
+    ensures { result ≡ lowest (λ n. place_at places.now n) (members_view members.now.entries) }
 {
     let mut lowest = None;
     for (name, _value) in members.iter() {

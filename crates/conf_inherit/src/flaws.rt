@@ -3,6 +3,7 @@ ghost use Rattle.std.specs.Prelude.{◌≡◌, ◌+◌, ◌&&◌, ◌++◌, fals
 ghost use Rattle.serde_json.specs.Data.{no_members};
 ghost use Rattle.serde_json.specs.Find.{get_member};
 ghost use Rattle.serde_json.specs.View.{view, items_view, members_view};
+ghost use Rattle.conf_inherit.specs.SeenNames.{seen_names};
 ghost use Rattle.conf_tree.specs.Reading.{Gives};
 ghost use Rattle.conf_tree.specs.Walk.{refusal};
 ghost use Rattle.conf_inherit.specs.FieldPlaces.{place_under, is_entry};
@@ -18,6 +19,7 @@ use conf_table::Place;
 use conf_tree::{ConfFault, FaultKind};
 use serde_json::{Map, Value};
 use std::alloc::{AllocError, Global};
+use std::collections::BTreeMap;
 
 /// Whether a value is of another kind than its place asks for.
 fn is_wrong(value: &Value, place: Place) -> bool
@@ -88,9 +90,8 @@ pub(crate) fn check_itself(
 }
 
 /// Adds the name of an entry to those of the entries so far.
-pub(crate) fn mark(entry: &Value, seen: &mut Map<String, Value>) -> Result<(), AllocError>
-    ensures { OnOk result (members_view seen.new.entries
-        ≡ mark (view entry.now) (members_view seen.old.entries)) }
+pub(crate) fn mark<'a>(entry: &'a Value, seen: &mut BTreeMap<&'a str, ()>) -> Result<(), AllocError>
+    ensures { OnOk result (seen_names seen.new ≡ mark (view entry.now) (seen_names seen.old)) }
 {
     match entry {
         Value::Object(members) => mark_names(members, seen),
@@ -98,12 +99,15 @@ pub(crate) fn mark(entry: &Value, seen: &mut Map<String, Value>) -> Result<(), A
     }
 }
 
-fn mark_names(members: &Map<String, Value>, seen: &mut Map<String, Value>) -> Result<(), AllocError>
-    ensures { OnOk result (members_view seen.new.entries
-        ≡ mark_names (members_view members.now.entries) (members_view seen.old.entries)) }
+fn mark_names<'a>(
+    members: &'a Map<String, Value>,
+    seen: &mut BTreeMap<&'a str, ()>,
+) -> Result<(), AllocError>
+    ensures { OnOk result (seen_names seen.new
+        ≡ mark_names (members_view members.now.entries) (seen_names seen.old)) }
 {
     for (name, _value) in members.iter() {
-        drop(seen.insert(name.clone()?, Value::Null)?);
+        drop(seen.insert(name.as_str(), ())?);
     }
     Ok(())
 }
@@ -117,11 +121,11 @@ pub(crate) fn check_flaws(
     value: &Value,
     place: Place,
     taken: bool,
-    seen: &Map<String, Value>,
+    seen: &BTreeMap<&str, ()>,
     aliases: &Map<String, Value>,
     resolved: Option<&Map<String, Value>>,
 ) -> Result<(), ConfFault>
-    ensures first { Gives (λ _. tt) result (refusal (flaws (members_view aliases.now.entries) (option_map (λ m. members_view m.now.entries) resolved.entry) place taken (members_view seen.now.entries) (view value.now))) }
+    ensures first { Gives (λ _. tt) result (refusal (flaws (members_view aliases.now.entries) (option_map (λ m. members_view m.now.entries) resolved.entry) place taken (seen_names seen.now) (view value.now))) }
 {
     if let Err(fault) = check_itself(alloc, value, place, taken, aliases) {
         return Err(fault);
@@ -134,11 +138,11 @@ fn check_inner(
     alloc: Global,
     value: &Value,
     place: Place,
-    seen: &Map<String, Value>,
+    seen: &BTreeMap<&str, ()>,
     aliases: &Map<String, Value>,
     resolved: Option<&Map<String, Value>>,
 ) -> Result<(), ConfFault>
-    ensures first { Gives (λ _. tt) result (refusal (inner_flaws (members_view aliases.now.entries) (option_map (λ m. members_view m.now.entries) resolved.entry) place (members_view seen.now.entries) (view value.now))) }
+    ensures first { Gives (λ _. tt) result (refusal (inner_flaws (members_view aliases.now.entries) (option_map (λ m. members_view m.now.entries) resolved.entry) place (seen_names seen.now) (view value.now))) }
 {
     match value {
         Value::Null | Value::Bool(_) | Value::Number(_) | Value::String(_) => Ok(()),
@@ -157,7 +161,7 @@ fn check_items(
 ) -> Result<(), ConfFault>
     ensures first { Gives (λ _. tt) result (refusal (item_flaws (members_view aliases.now.entries) (option_map (λ m. members_view m.now.entries) resolved.entry) place 0 no_members (items_view items.now.items))) }
 {
-    let mut seen = Map::new(alloc);
+    let mut seen = BTreeMap::new(alloc);
     for (index, item) in items.iter().enumerate() {
         if let Err(fault) = check_flaws(
             alloc,
@@ -182,11 +186,11 @@ fn check_members(
     alloc: Global,
     members: &Map<String, Value>,
     place: Place,
-    seen: &Map<String, Value>,
+    seen: &BTreeMap<&str, ()>,
     aliases: &Map<String, Value>,
     resolved: Option<&Map<String, Value>>,
 ) -> Result<(), ConfFault>
-    ensures first { Gives (λ _. tt) result (refusal (member_flaws (members_view aliases.now.entries) (option_map (λ m. members_view m.now.entries) resolved.entry) place (members_view seen.now.entries) (members_view members.now.entries))) }
+    ensures first { Gives (λ _. tt) result (refusal (member_flaws (members_view aliases.now.entries) (option_map (λ m. members_view m.now.entries) resolved.entry) place (seen_names seen.now) (members_view members.now.entries))) }
 {
     for (name, member) in members.iter() {
         if let Err(fault) = check_member(
@@ -213,14 +217,14 @@ fn check_member(
     name: &str,
     member: &Value,
     place: Place,
-    seen: &Map<String, Value>,
+    seen: &BTreeMap<&str, ()>,
     aliases: &Map<String, Value>,
     resolved: Option<&Map<String, Value>>,
 ) -> Result<(), ConfFault>
-    ensures first { Gives (λ _. tt) result (refusal (flaws (members_view aliases.now.entries) (option_map (λ m. members_view m.now.entries) resolved.entry) (place_under place name.now) (is_entry place && is_some (get_member name.now (members_view seen.now.entries))) no_members (view member.now) ++ base_flaws (option_map (λ m. members_view m.now.entries) resolved.entry) place name.now (view member.now))) }
+    ensures first { Gives (λ _. tt) result (refusal (flaws (members_view aliases.now.entries) (option_map (λ m. members_view m.now.entries) resolved.entry) (place_under place name.now) (is_entry place && is_some (get_member name.now (seen_names seen.now))) no_members (view member.now) ++ base_flaws (option_map (λ m. members_view m.now.entries) resolved.entry) place name.now (view member.now))) }
 {
     let taken = is_taken(name, place, seen);
-    let nothing = Map::new(alloc);
+    let nothing = BTreeMap::new(alloc);
     let inner = place_under(place, name);
     check_flaws(alloc, member, inner, taken, &nothing, aliases, resolved)?;
     check_base(alloc, name, member, place, resolved)
@@ -248,10 +252,10 @@ fn check_base(
 }
 
 /// Whether the name of an entry is taken by one before it.
-fn is_taken(name: &str, place: Place, seen: &Map<String, Value>) -> bool
-    ensures { result ≡ (is_entry place && is_some (get_member name.now (members_view seen.now.entries))) }
+fn is_taken(name: &str, place: Place, seen: &BTreeMap<&str, ()>) -> bool
+    ensures { result ≡ (is_entry place && is_some (get_member name.now (seen_names seen.now))) }
 {
-    is_entry(place) && property(seen, name).is_some()
+    is_entry(place) && seen.contains_key(name)
 }
 
 /// Refuses the first flaw of a value as a whole.
@@ -264,7 +268,7 @@ pub(crate) fn check_value(
 ) -> Result<(), ConfFault>
     ensures first { Gives (λ _. tt) result (refusal (flaws (members_view aliases.now.entries) (option_map (λ m. members_view m.now.entries) resolved.entry) place false no_members (view value.now))) }
 {
-    let nothing = Map::new(alloc);
+    let nothing = BTreeMap::new(alloc);
     check_flaws(alloc, value, place, false, &nothing, aliases, resolved)
 }
 

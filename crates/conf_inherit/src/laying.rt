@@ -11,7 +11,7 @@ use crate::entry_index::EntryIndex;
 use crate::field_places::{
     is_base_name, lists_members, names_alias, names_member_type, place_under,
 };
-use crate::property::{into_property, property, put_property, single, take_property};
+use crate::property::{only, property, put_property, single, take_property};
 use crate::size::{Stop, take};
 use conf_table::Place;
 use serde_json::{Map, Value};
@@ -260,6 +260,7 @@ fn lay_over_item(
 
 /// The entry of the base, with what these properties have for its name over it.
 #[cycle(laying)]
+#[tactic(auto, using(crate::proofs::ListLemmas::get_property))]
 fn lay_over_entry(
     alloc: Global,
     members: &Map<String, Value>,
@@ -272,9 +273,10 @@ fn lay_over_entry(
 {
     for (name, value) in members.iter() {
         if entry.get(name.as_str()).is_some() {
-            let base = into_property(entry, name.as_str());
+            let mut own = properties_in(alloc, entry);
+            let base = take_property(&mut own, name.as_str());
             let laid = lay(alloc, Place::Member, value, base, aliases, limit)?;
-            return Ok(single(alloc, name.clone()?, laid)?);
+            return Ok(only(alloc, own, name, laid)?);
         }
     }
     Ok(entry)

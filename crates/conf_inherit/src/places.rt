@@ -1,13 +1,13 @@
 //! The first fault at the places of a configuration where field types stand, in walk order.
 ghost use Rattle.std.specs.Prelude.{◌+◌, ◌++◌, Some, false};
-ghost use Rattle.serde_json.specs.Data.{array, object, no_members};
+ghost use Rattle.serde_json.specs.Data.{array, no_members};
 ghost use Rattle.serde_json.specs.View.{view, items_view, members_view};
+ghost use Rattle.conf_inherit.specs.SeenNames.{seen_names};
 ghost use Rattle.conf_tree.specs.Reading.{Gives};
 ghost use Rattle.conf_tree.specs.Walk.{refusal};
 ghost use Rattle.conf_inherit.specs.Flaws.{own_flaws, flaws};
 ghost use Rattle.conf_inherit.specs.FieldPlaces.{place_of_items};
 ghost use Rattle.conf_inherit.specs.Places.{too_many, place_flaws, inner_places, item_places, member_places};
-ghost use Rattle.conf_inherit.specs.Whole.{HasSound};
 
 use crate::field_places::{
     leads_on, lists_extra_members, names_alias, names_member_type, place_of_items, place_under,
@@ -18,6 +18,7 @@ use conf_table::Place;
 use conf_tree::{ConfFault, FaultKind};
 use serde_json::{Map, Value};
 use std::alloc::Global;
+use std::collections::BTreeMap;
 
 /// The most extra members of a packet context.
 const MAX_EXTRA_MEMBERS: usize = 256;
@@ -80,7 +81,7 @@ fn check_place(
     Ok(())
 }
 
-/// Refuses the first fault at the places in a value. The aliases are judged already.
+/// Refuses the first fault at the places in a value.
 #[cycle(places)]
 pub(crate) fn check_places(
     alloc: Global,
@@ -89,7 +90,6 @@ pub(crate) fn check_places(
     aliases: &Map<String, Value>,
     resolved: &Map<String, Value>,
 ) -> Result<(), ConfFault>
-    requires sound { HasSound (members_view aliases.now.entries) (members_view resolved.now.entries) place (view value.now) }
     ensures first { Gives (λ _. tt) result (refusal (inner_places (members_view aliases.now.entries) (members_view resolved.now.entries) place (view value.now))) }
 {
     match value {
@@ -101,9 +101,6 @@ pub(crate) fn check_places(
             Ok(())
         }
         Value::Object(members) => {
-            if let Place::FieldTypeAliases = place {
-                return Ok(());
-            }
             if leads_on(place) {
                 return check_member_places(alloc, members, place, aliases, resolved);
             }
@@ -123,7 +120,7 @@ fn check_item_places(
 ) -> Result<(), ConfFault>
     ensures first { Gives (λ _. tt) result (refusal (item_places (members_view aliases.now.entries) (members_view resolved.now.entries) place 0 no_members (items_view items.now.items))) }
 {
-    let mut seen = Map::new(alloc);
+    let mut seen = BTreeMap::new(alloc);
     for (index, item) in items.iter().enumerate() {
         if let Err(fault) = check_entry(alloc, item, place, &seen, aliases, resolved) {
             return Err(fault.inside(alloc, index));
@@ -143,11 +140,11 @@ fn check_entry(
     alloc: Global,
     value: &Value,
     place: Place,
-    seen: &Map<String, Value>,
+    seen: &BTreeMap<&str, ()>,
     aliases: &Map<String, Value>,
     resolved: &Map<String, Value>,
 ) -> Result<(), ConfFault>
-    ensures first { Gives (λ _. tt) result (refusal (flaws (members_view aliases.now.entries) (Some (members_view resolved.now.entries)) (place_of_items place) false (members_view seen.now.entries) (view value.now) ++ inner_places (members_view aliases.now.entries) (members_view resolved.now.entries) (place_of_items place) (view value.now))) }
+    ensures first { Gives (λ _. tt) result (refusal (flaws (members_view aliases.now.entries) (Some (members_view resolved.now.entries)) (place_of_items place) false (seen_names seen.now) (view value.now) ++ inner_places (members_view aliases.now.entries) (members_view resolved.now.entries) (place_of_items place) (view value.now))) }
 {
     let entry = place_of_items(place);
     let known = Some(resolved);
@@ -164,7 +161,6 @@ fn check_member_places(
     aliases: &Map<String, Value>,
     resolved: &Map<String, Value>,
 ) -> Result<(), ConfFault>
-    requires sound { HasSound (members_view aliases.now.entries) (members_view resolved.now.entries) place (object (members_view members.now.entries)) }
     ensures first { Gives (λ _. tt) result (refusal (member_places (members_view aliases.now.entries) (members_view resolved.now.entries) place (members_view members.now.entries))) }
 {
     for (name, member) in members.iter() {
@@ -191,7 +187,6 @@ fn check_place_and_inner(
     aliases: &Map<String, Value>,
     resolved: &Map<String, Value>,
 ) -> Result<(), ConfFault>
-    requires sound { HasSound (members_view aliases.now.entries) (members_view resolved.now.entries) place (view value.now) }
     ensures first { Gives (λ _. tt) result (refusal (place_flaws (members_view aliases.now.entries) (members_view resolved.now.entries) place (view value.now) ++ inner_places (members_view aliases.now.entries) (members_view resolved.now.entries) place (view value.now))) }
 {
     check_place(alloc, value, place, aliases, resolved)?;

@@ -4,6 +4,7 @@ ghost use Rattle.serde_json.specs.Data.{Data, object, member, no_members, put};
 ghost use Rattle.serde_json.specs.Find.{get, get_member};
 ghost use Rattle.serde_json.specs.View.{view, members_view};
 ghost use Rattle.conf_inherit.specs.Named.{has};
+ghost use Rattle.conf_inherit.specs.Spent.{spent};
 
 use serde_json::{Map, Value};
 use std::alloc::{AllocError, Global};
@@ -21,6 +22,7 @@ pub(crate) fn property<'v>(members: &'v Map<String, Value>, name: &str) -> Optio
 pub(crate) fn take_property(members: &mut Map<String, Value>, name: &str) -> Option<Value>
     ensures found { option_map view result ≡ get_member name.now (members_view members.old.entries) }
     ensures others { (d : Data) → put name.now d (members_view members.new.entries) ≡ put name.now d (members_view members.old.entries) }
+    ensures left { members_view members.new.entries ≡ spent name.now (members_view members.old.entries) }
 {
     match members.get_mut(name) {
         Some(value) => Some(replace(value, Value::Null)),
@@ -42,17 +44,6 @@ pub(crate) fn put_property(
     }
 }
 
-/// The value of a property, without the others.
-pub(crate) fn into_property(value: Value, name: &str) -> Option<Value>
-    ensures { option_map view result ≡ get name.now (view value) }
-{
-    match value {
-        Value::Object(mut members) => take_property(&mut members, name),
-        Value::Null | Value::Bool(_) | Value::Number(_) | Value::String(_) | Value::Array(_) =>
-            None,
-    }
-}
-
 /// An object of one property.
 pub(crate) fn single(alloc: Global, name: String, value: Value) -> Result<Value, AllocError>
     ensures { IfOk result (λ made. view made
@@ -61,6 +52,23 @@ pub(crate) fn single(alloc: Global, name: String, value: Value) -> Result<Value,
     let mut members = Map::new(alloc);
     members.insert(name, value)?;
     Ok(Value::Object(members))
+}
+
+/// An object of one property, which is what is left of one that has that property alone.
+pub(crate) fn only(
+    alloc: Global,
+    mut members: Map<String, Value>,
+    name: &String,
+    value: Value,
+) -> Result<Value, AllocError>
+    ensures { IfOk result (λ made. view made
+        ≡ object (member (string_bytes name.now) (view value) no_members)) }
+{
+    if members.len() == 1 && has(&members, name.as_str()) {
+        drop(put_property(&mut members, name, value)?);
+        return Ok(Value::Object(members));
+    }
+    single(alloc, name.clone()?, value)
 }
 
 /// Whether there is a property of the name.

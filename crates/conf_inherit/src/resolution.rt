@@ -1,5 +1,5 @@
 //! Resolves the inheritance of a configuration.
-ghost use Rattle.std.specs.Prelude.{◌≡◌, ◌⊎◌, None, IfOk, IfErr, false, option_map, option_and_then};
+ghost use Rattle.std.specs.Prelude.{◌≡◌, ◌⊎◌, ℕ, None, IfOk, IfErr, false};
 ghost use Rattle.conf_tree.specs.Flaw.{flaw_of, IsMemory};
 ghost use Rattle.conf_tree.specs.Order.{Ascends};
 ghost use Rattle.conf_tree.specs.Reading.{Gives};
@@ -10,12 +10,12 @@ ghost use Rattle.conf_inherit.specs.Faults.{RefusalHolds};
 ghost use Rattle.conf_inherit.specs.Laying.{lay};
 ghost use Rattle.conf_inherit.specs.Names.{NoClash};
 ghost use Rattle.conf_inherit.specs.Rounds.{rounds, no_outcomes};
-ghost use Rattle.conf_inherit.specs.Whole.{HasLaid};
-ghost use Rattle.std.specs.BTreeMap.{btree_map_len};
-ghost use Rattle.serde_json.specs.Find.{get, as_object};
+ghost use Rattle.conf_inherit.specs.Spent.{Spends};
+ghost use Rattle.conf_inherit.specs.Whole.{with_aliases, AreLaid};
+ghost use Rattle.serde_json.specs.Data.{Members, no_members};
 ghost use Rattle.serde_json.specs.View.{view, members_view};
 ghost use Rattle.serde_json.specs.Written.{has_float};
-ghost use Rattle.conf_inherit.specs.Resolution.{trace_name, type_name, aliases_name, aliases_of, Resolves, in_aliases, from_aliases, if_shallow, resolution_after, resolution};
+ghost use Rattle.conf_inherit.specs.Resolution.{aliases_of, Resolves, in_aliases, from_aliases, if_shallow, resolution_after, resolution};
 
 use crate::alias_check::check_aliases;
 use crate::nesting::check_nesting;
@@ -23,37 +23,11 @@ use crate::outcomes::AliasOutcomes;
 use crate::places::check_places;
 use crate::rounds::settle_aliases;
 use crate::size::Stop;
-use crate::whole::lay_whole;
+use crate::whole::{lay_whole, take_aliases};
 use conf_table::Place;
 use conf_tree::{ConfFault, FaultKind, Tree};
 use serde_json::{Map, Value};
 use std::alloc::Global;
-
-/// The value of the field type aliases.
-#[tactic(auto, unfolding(crate::specs::Resolution::trace_name, crate::specs::Resolution::type_name, crate::specs::Resolution::aliases_name))]
-fn aliases_value(value: &Value) -> Option<&Value>
-    ensures { option_map (λ x. view x.now) result
-        ≡ option_and_then (get aliases_name) (option_and_then (get type_name) (get trace_name (view value.now))) }
-{
-    match value.get("trace") {
-        Some(trace) => match trace.get("type") {
-            Some(trace_type) => trace_type.get("$field-type-aliases"),
-            None => None,
-        },
-        None => None,
-    }
-}
-
-/// The field type aliases, if there are any.
-fn aliases_in(value: &Value) -> Option<&Map<String, Value>>
-    ensures { option_map (λ m. members_view m.now.entries) result
-        ≡ option_and_then as_object (option_and_then (get aliases_name) (option_and_then (get type_name) (get trace_name (view value.now)))) }
-{
-    match aliases_value(value) {
-        Some(found) => found.as_object(),
-        None => None,
-    }
-}
 
 /// The fault of an alias, seen from the configuration.
 #[tactic(auto, unfolding(crate::specs::Resolution::trace_name, crate::specs::Resolution::type_name, crate::specs::Resolution::aliases_name))]
@@ -83,9 +57,10 @@ fn check_all_aliases(
 
 /// The resolved configuration, unless it nests too deep. Each field type in it is within the limits, so none holds
 /// for the whole.
+#[tactic(auto, unfolding(crate::specs::Whole::holds_aliases))]
 fn lay_all(alloc: Global, value: &Value, resolved: Map<String, Value>) -> Result<Value, ConfFault>
-    requires { HasLaid (members_view resolved.entries) Place.Root (view value.now) }
-    ensures first { Gives view result (if_shallow (lay (members_view resolved.entries) Place.Root (view value.now) None)) }
+    ensures first { (al : Members) → AreLaid (members_view resolved.entries) al
+        → Gives view result (if_shallow (lay (members_view resolved.entries) Place.Root (with_aliases Place.Root al (view value.now)) None)) }
 {
     match lay_whole(alloc, Place::Root, value, resolved) {
         Ok(resolved) => {
@@ -97,17 +72,17 @@ fn lay_all(alloc: Global, value: &Value, resolved: Map<String, Value>) -> Result
     }
 }
 
-/// The resolution where the aliases have these outcomes.
+/// The resolution where the aliases have these outcomes, and those that are resolved are spent.
 fn resolve_after(
     alloc: Global,
     value: &Value,
     aliases: &Map<String, Value>,
     outcomes: AliasOutcomes,
 ) -> Result<Value, ConfFault>
-    requires own { members_view aliases.now.entries ≡ aliases_of (view value.now) }
-    requires apart { NoClash (members_view aliases.now.entries) }
-    requires settled { outcomes_of outcomes ≡ rounds (members_view aliases.now.entries) (btree_map_len aliases.now) no_outcomes }
-    ensures first { Gives view result (resolution_after (members_view aliases.now.entries) (outcomes_of outcomes) (view value.now)) }
+    requires bare { with_aliases Place.Root no_members (view value.now) ≡ view value.now }
+    ensures first { (al : Members) (n : ℕ) → NoClash al → outcomes_of outcomes ≡ rounds al n no_outcomes
+        → Spends (members_view outcomes.resolved.entries) al (members_view aliases.now.entries)
+        → Gives view result (resolution_after al (outcomes_of outcomes) (with_aliases Place.Root al (view value.now))) }
 {
     check_all_aliases(alloc, aliases, &outcomes)?;
     check_places(alloc, value, Place::Root, aliases, &outcomes.resolved)?;
@@ -118,21 +93,22 @@ fn resolve_after(
     lay_all(alloc, value, resolved)
 }
 
-/// The resolution under these aliases, which are those of the configuration.
+/// The resolution of the configuration that these aliases were taken out of.
 fn resolve_under(
     alloc: Global,
     value: &Value,
-    aliases: &Map<String, Value>,
+    mut aliases: Map<String, Value>,
 ) -> Result<Tree, ConfFault>
-    requires whole { has_float (view value.now) ≡ false }
-    requires ordered { Ascends (view value.now) }
-    requires own { members_view aliases.now.entries ≡ aliases_of (view value.now) }
-    ensures resolved { IfOk result (λ tree. Resolves (view value.now) (view tree.value)) }
-    ensures refused { IfErr result (λ fault. IsMemory fault ⊎ RefusalHolds (view value.now) (flaw_of fault)) }
-    ensures first { Gives (λ tree. view tree.value) result (resolution (view value.now)) }
+    requires bare { with_aliases Place.Root no_members (view value.now) ≡ view value.now }
+    requires own { members_view aliases.entries ≡ aliases_of (with_aliases Place.Root (members_view aliases.entries) (view value.now)) }
+    requires whole { has_float (with_aliases Place.Root (members_view aliases.entries) (view value.now)) ≡ false }
+    requires ordered { Ascends (with_aliases Place.Root (members_view aliases.entries) (view value.now)) }
+    ensures resolved { IfOk result (λ tree. Resolves (with_aliases Place.Root (members_view aliases.entries) (view value.now)) (view tree.value)) }
+    ensures refused { IfErr result (λ fault. IsMemory fault ⊎ RefusalHolds (with_aliases Place.Root (members_view aliases.entries) (view value.now)) (flaw_of fault)) }
+    ensures first { Gives (λ tree. view tree.value) result (resolution (with_aliases Place.Root (members_view aliases.entries) (view value.now))) }
 {
-    let outcomes = settle_aliases(alloc, aliases)?;
-    match resolve_after(alloc, value, aliases, outcomes) {
+    let outcomes = settle_aliases(alloc, &mut aliases)?;
+    match resolve_after(alloc, value, &aliases, outcomes) {
         Ok(value) => Ok(Tree { value }),
         Err(fault) => Err(fault),
     }
@@ -143,17 +119,13 @@ fn resolve_under(
 /// fault: those of the aliases in byte order of their names, then those of the other places in walk order, and last
 /// the first place in the resolved tree that stands inside 32 objects and lists. It takes as long as the text and what
 /// its field types hold once they are resolved.
+#[tactic(auto, unfolding(crate::specs::Whole::holds_aliases))]
 pub fn resolve(alloc: Global, tree: Tree) -> Result<Tree, ConfFault>
     ensures resolved { IfOk result (λ made. Resolves (view tree.value) (view made.value)) }
     ensures refused { IfErr result (λ fault. IsMemory fault ⊎ RefusalHolds (view tree.value) (flaw_of fault)) }
     ensures first { Gives (λ made. view made.value) result (resolution (view tree.value)) }
 {
-    let Tree { value } = tree;
-    match aliases_in(&value) {
-        Some(aliases) => resolve_under(alloc, &value, aliases),
-        None => {
-            let nothing = Map::new(alloc);
-            resolve_under(alloc, &value, &nothing)
-        }
-    }
+    let Tree { mut value } = tree;
+    let aliases = take_aliases(alloc, Place::Root, &mut value);
+    resolve_under(alloc, &value, aliases)
 }

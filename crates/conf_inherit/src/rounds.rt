@@ -1,6 +1,6 @@
 //! Resolves the aliases in the order in which they depend on one another.
 ghost use Rattle.std.specs.Prelude.{◌≡◌, false, Some, OnOk, IfOk, IfErr, option_map, string_bytes};
-ghost use Rattle.serde_json.specs.Data.{no_members};
+ghost use Rattle.serde_json.specs.Data.{Members, no_members};
 ghost use Rattle.serde_json.specs.View.{view, members_view};
 ghost use Rattle.std.specs.BTreeMap.{btree_map_len};
 ghost use Rattle.conf_tree.specs.Flaw.{IsMemory};
@@ -8,14 +8,15 @@ ghost use Rattle.conf_inherit.specs.AliasOutcomes.{outcomes_of};
 ghost use Rattle.conf_inherit.specs.Flaws.{flaws};
 ghost use Rattle.conf_inherit.specs.Names.{NoClash};
 ghost use Rattle.conf_inherit.specs.Named.{all_named, has};
-ghost use Rattle.conf_inherit.specs.Rounds.{is_over, is_empty, outcome, step, round, all_settled, rounds, no_outcomes, Reached};
+ghost use Rattle.conf_inherit.specs.Rounds.{is_over, is_empty, outcome, step, round, all_settled, rounds, no_outcomes};
+ghost use Rattle.conf_inherit.specs.Spent.{Spends, TurnsLeave};
 
 use crate::asked::Asked;
 use crate::flaws::check_value;
 use crate::limits::fit;
 use crate::named::all_named;
 use crate::outcomes::AliasOutcomes;
-use crate::property::property;
+use crate::property::{has, property, take_property};
 use crate::turns::Turns;
 use conf_table::Place;
 use conf_tree::{ConfFault, FaultKind};
@@ -68,15 +69,24 @@ fn outcome(
     }
 }
 
-/// Gives an alias its outcome, if all that it names have theirs.
+/// Whether all aliases that a value names are resolved.
+fn is_known(value: &Value, outcomes: &AliasOutcomes) -> bool
+    ensures { result ≡ all_named (has (outcomes_of outcomes.now).done) Place.FieldType (view value.now) }
+{
+    all_named(value, Place::FieldType, Asked::IsResolved(&outcomes.resolved))
+}
+
+/// Gives an alias its outcome, if all that it names have theirs. `known` says whether all that it names is resolved.
 #[tactic(auto, using(crate::proofs::RoundLemmas::resolved_due))]
 fn step(
     alloc: Global,
     name: &String,
     value: &Value,
+    known: bool,
     aliases: &Map<String, Value>,
     outcomes: &mut AliasOutcomes,
 ) -> Result<(), ConfFault>
+    requires known { known ≡ all_named (has (outcomes_of outcomes.old).done) Place.FieldType (view value.now) }
     ensures stepped { OnOk result (outcomes_of outcomes.new
         ≡ step (members_view aliases.now.entries) (string_bytes name.now) (view value.now) (outcomes_of outcomes.old)) }
     ensures memory { IfErr result IsMemory }
@@ -84,12 +94,10 @@ fn step(
     if outcomes.has_outcome(name.as_str()) {
         return Ok(());
     }
-    let resolved = &outcomes.resolved;
-    let known = all_named(value, Place::FieldType, Asked::IsResolved(resolved));
     if !known && !is_due(value, aliases, outcomes) {
         return Ok(());
     }
-    let noted = match outcome(alloc, value, known, aliases, resolved)? {
+    let noted = match outcome(alloc, value, known, aliases, &outcomes.resolved)? {
         Some(alias) => outcomes.resolve(name, alias),
         None => outcomes.refuse(name),
     };
@@ -117,7 +125,8 @@ fn round(
     ensures memory { IfErr result IsMemory }
 {
     for (name, value) in aliases.iter() {
-        step(alloc, name, value, aliases, outcomes)?;
+        let known = is_known(value, outcomes);
+        step(alloc, name, value, known, aliases, outcomes)?;
     }
     Ok(())
 }
@@ -134,37 +143,44 @@ fn all_settled(aliases: &Map<String, Value>, outcomes: &AliasOutcomes) -> bool
     true
 }
 
-/// Gives an alias that came up its turn, if those that it names had theirs.
+/// Gives an alias that came up its turn, if those that it names had theirs. Once it is resolved its body is dropped,
+/// which is never read again, so that the next ones have its memory.
 fn take_turn(
     alloc: Global,
     name: &String,
     turns: &mut Turns,
-    aliases: &Map<String, Value>,
+    aliases: &mut Map<String, Value>,
     outcomes: &mut AliasOutcomes,
 ) -> Result<(), ConfFault>
-    ensures reached { OnOk result (Reached (members_view aliases.now.entries) (outcomes_of outcomes.old) → Reached (members_view aliases.now.entries) (outcomes_of outcomes.new)) }
+    ensures left { OnOk result ((al : Members) → TurnsLeave al (outcomes_of outcomes.old) (members_view aliases.old.entries) → TurnsLeave al (outcomes_of outcomes.new) (members_view aliases.new.entries)) }
     ensures memory { IfErr result IsMemory }
 {
     let Some(value) = property(aliases, name.as_str()) else {
         return Ok(());
     };
-    match turns.is_due(alloc, name, value, aliases, outcomes) {
-        Ok(true) => {
-            step(alloc, name, value, aliases, outcomes)?;
-            Ok(())
+    let known = is_known(value, outcomes);
+    if !known {
+        match turns.is_due(alloc, name, value, aliases, outcomes) {
+            Ok(true) => {}
+            Ok(false) => return Ok(()),
+            Err(_) => return Err(ConfFault::memory(alloc)),
         }
-        Ok(false) => Ok(()),
-        Err(_) => Err(ConfFault::memory(alloc)),
     }
+    step(alloc, name, value, known, aliases, outcomes)?;
+    let resolved = has(&outcomes.resolved, name.as_str());
+    if resolved {
+        drop(take_property(aliases, name.as_str()));
+    }
+    Ok(())
 }
 
 /// Gives the aliases their turns, each behind those that it names.
 fn take_turns(
     alloc: Global,
-    aliases: &Map<String, Value>,
+    aliases: &mut Map<String, Value>,
     outcomes: &mut AliasOutcomes,
 ) -> Result<(), ConfFault>
-    ensures reached { OnOk result (Reached (members_view aliases.now.entries) (outcomes_of outcomes.old) → Reached (members_view aliases.now.entries) (outcomes_of outcomes.new)) }
+    ensures left { OnOk result ((al : Members) → TurnsLeave al (outcomes_of outcomes.old) (members_view aliases.old.entries) → TurnsLeave al (outcomes_of outcomes.new) (members_view aliases.new.entries)) }
     ensures memory { IfErr result IsMemory }
 {
     let Ok(mut turns) = Turns::new(alloc, aliases) else {
@@ -200,15 +216,17 @@ fn round_if_due(
 }
 
 /// What becomes of the aliases. Each has its turn behind those that it names, and rounds over all follow until none is
-/// due: those that are left lead into a circle. What the aliases come to is the same in whatever order.
+/// due: those that are left lead into a circle. What the aliases come to is the same in whatever order. In the place of
+/// the body of an alias that is resolved, null is left.
 #[tactic(auto, using(crate::proofs::ResolveLemmas::apart_of))]
 pub(crate) fn settle_aliases(
     alloc: Global,
-    aliases: &Map<String, Value>,
+    aliases: &mut Map<String, Value>,
 ) -> Result<AliasOutcomes, ConfFault>
-    ensures apart { NoClash (members_view aliases.now.entries) }
+    ensures apart { NoClash (members_view aliases.old.entries) }
     ensures settled { IfOk result (λ outcomes. outcomes_of outcomes
-        ≡ rounds (members_view aliases.now.entries) (btree_map_len aliases.now) no_outcomes) }
+        ≡ rounds (members_view aliases.old.entries) (btree_map_len aliases.old) no_outcomes) }
+    ensures spent { IfOk result (λ outcomes. Spends (members_view outcomes.resolved.entries) (members_view aliases.old.entries) (members_view aliases.new.entries)) }
     ensures memory { IfErr result IsMemory }
 {
     let count = aliases.len();

@@ -1,20 +1,58 @@
-//! Lays a whole configuration, whose aliases are laid already.
+//! Takes the aliases out of a configuration, and lays the rest, whose aliases are laid already.
 ghost use Rattle.std.specs.Prelude.{◌≡◌, IfOk, IfErr, None, true};
-ghost use Rattle.serde_json.specs.Data.{object, no_members};
+ghost use Rattle.serde_json.specs.Data.{object, no_members, Members};
 ghost use Rattle.serde_json.specs.View.{view, members_view};
 ghost use Rattle.conf_inherit.specs.Laying.{lay, lay_members};
-ghost use Rattle.conf_inherit.specs.Whole.{holds_aliases, without, HasLaid};
+ghost use Rattle.conf_inherit.specs.Names.{properties_of};
+ghost use Rattle.conf_inherit.specs.Resolution.{members_or_none};
+ghost use Rattle.conf_inherit.specs.Whole.{holds_aliases, aliases_at, with_aliases, without, AreLaid};
 
-use crate::field_places::{holds_aliases, place_under, way_to_aliases};
+use crate::field_places::{place_under, way_to_aliases};
 use crate::laying::lay;
 use crate::property::{property, put_property};
 use crate::size::Stop;
 use conf_table::Place;
 use serde_json::{Map, Value};
 use std::alloc::Global;
+use std::mem::replace;
+
+/// Takes the aliases out of a value, which has an empty object in their place then. Where no object stands there, there
+/// are none.
+#[cycle(taking)]
+pub(crate) fn take_aliases(alloc: Global, place: Place, value: &mut Value) -> Map<String, Value>
+    requires above { holds_aliases place ≡ true }
+    ensures aliases { members_view result.entries ≡ members_or_none (aliases_at place (view value.old)) }
+    ensures bare { view value.new ≡ with_aliases place no_members (view value.old) }
+{
+    match value {
+        Value::Object(members) => take_aliases_under(alloc, place, members),
+        Value::Null | Value::Bool(_) | Value::Number(_) | Value::String(_) | Value::Array(_) =>
+            Map::new(alloc),
+    }
+}
+
+/// Takes the aliases out of an object that has them in it, or is their object.
+#[cycle(taking)]
+fn take_aliases_under(
+    alloc: Global,
+    place: Place,
+    members: &mut Map<String, Value>,
+) -> Map<String, Value>
+    requires above { holds_aliases place ≡ true }
+    ensures aliases { members_view result.entries ≡ members_or_none (aliases_at place (object (members_view members.old.entries))) }
+    ensures bare { object (members_view members.new.entries) ≡ with_aliases place no_members (object (members_view members.old.entries)) }
+{
+    let Some(way) = way_to_aliases(place) else {
+        return replace(members, Map::new(alloc));
+    };
+    match members.get_mut(way) {
+        Some(value) => take_aliases(alloc, place_under(place, way), value),
+        None => Map::new(alloc),
+    }
+}
 
 /// A value laid over nothing, where the aliases are laid already: in the place of theirs stands the object of the
-/// resolved ones.
+/// resolved ones, whatever aliases the value has.
 #[cycle(whole)]
 pub(crate) fn lay_whole(
     alloc: Global,
@@ -22,15 +60,18 @@ pub(crate) fn lay_whole(
     value: &Value,
     resolved: Map<String, Value>,
 ) -> Result<Value, Stop>
-    ensures laid { IfOk result (λ laid. HasLaid (members_view resolved.entries) place (view value.now)
-        → view laid ≡ lay (members_view resolved.entries) place (view value.now) None) }
+    requires above { holds_aliases place ≡ true }
+    ensures laid { IfOk result (λ laid. (al : Members) → AreLaid (members_view resolved.entries) al
+        → view laid ≡ lay (members_view resolved.entries) place (with_aliases place al (view value.now)) None) }
     ensures memory { IfErr result (λ stop. stop ≡ Stop.Memory) }
 {
     match value {
-        Value::Object(members) if holds_aliases(place) => Ok(Value::Object(lay_whole_members(
+        Value::Object(members) => Ok(Value::Object(lay_whole_members(
             alloc, place, members, resolved,
         )?)),
-        _ => lay(alloc, place, value, None, &resolved, None),
+        Value::Null | Value::Bool(_) | Value::Number(_) | Value::String(_) | Value::Array(_) => lay(
+            alloc, place, value, None, &resolved, None,
+        ),
     }
 }
 
@@ -43,8 +84,9 @@ fn lay_whole_members(
     members: &Map<String, Value>,
     resolved: Map<String, Value>,
 ) -> Result<Map<String, Value>, Stop>
-    ensures laid { IfOk result (λ laid. holds_aliases place ≡ true → HasLaid (members_view resolved.entries) place (object (members_view members.now.entries))
-        → members_view laid.entries ≡ lay_members (members_view resolved.entries) place (members_view members.now.entries) no_members) }
+    requires above { holds_aliases place ≡ true }
+    ensures laid { IfOk result (λ laid. (al : Members) → AreLaid (members_view resolved.entries) al
+        → members_view laid.entries ≡ lay_members (members_view resolved.entries) place (properties_of (with_aliases place al (object (members_view members.now.entries)))) no_members) }
     ensures memory { IfErr result (λ stop. stop ≡ Stop.Memory) }
 {
     let Some(way) = way_to_aliases(place) else {

@@ -1,10 +1,9 @@
 use Rattle.std.proofs.Common.{◌≡◌}
-use Rattle.std.specs.BTreeMap.{get_by_text}
 use Rattle.serde_json.specs.View.{members_view}
-use Rattle.conf_inherit.specs.EntryIndex.{lower, lowest}
+use Rattle.conf_inherit.specs.EntryIndex.{place_at, lower, lowest}
 use Rattle.conf_inherit.proofs.entry_index.lowest_among.Given as goal
 
 -- the lowest so far, or one that is left
 abbrev pub invariant-loop-name : goal.invariant-loop-name
 invariant-loop-name l =
-    lower l.lowest (lowest (λ n. get_by_text l.places n) (members_view l.name-iterator)) ≡ lowest (λ n. get_by_text l.places n) (members_view l.members.entries)
+    lower l.lowest (lowest (λ n. place_at l.places n) (members_view l.name-iterator)) ≡ lowest (λ n. place_at l.places n) (members_view l.members.entries)

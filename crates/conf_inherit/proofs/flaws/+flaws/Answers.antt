@@ -7,6 +7,7 @@ use Rattle.serde_json.specs.View.{view, members_view}
 use Rattle.conf_inherit.specs.Flaws.{own_flaws, base_flaws, flaws, inner_flaws, member_flaws}
 use Rattle.conf_inherit.specs.FieldPlaces.{place_under, is_entry}
 use Rattle.conf_inherit.proofs.FlawLemmas.{refused_first, refused_part, sound_part}
+use Rattle.conf_inherit.specs.SeenNames.{seen_names}
 use Rattle.conf_inherit.proofs.flaws.+flaws.Goals as goal
 
 pub check_flaws-returns-in-Err : goal.check_flaws-returns-in-Err
@@ -14,7 +15,7 @@ check_flaws-returns-in-Err t c =
     let al = members_view c.args.aliases.now.entries in
     let known = option_map (λ m. members_view m.now.entries) c.args.resolved in
     let own = own_flaws al c.args.place c.args.taken (view c.args.value.now) in
-    let inner = inner_flaws al known c.args.place (members_view c.args.seen.now.entries) (view c.args.value.now) in
+    let inner = inner_flaws al known c.args.place (seen_names c.args.seen.now) (view c.args.value.now) in
     record {
       first = elim c.in-Err.ensures.first [ inl memory ↦ inl memory | inr flawed ↦ inr (refused_first own inner (flaw_of c.in-Err.fault) flawed) ];
     }
@@ -24,7 +25,7 @@ check_members-returns-in-Err t c =
     let al = members_view c.args.aliases.now.entries in
     let known = option_map (λ m. members_view m.now.entries) c.args.resolved in
     let place = c.args.place in
-    let seen = members_view c.args.seen.now.entries in
+    let seen = seen_names c.args.seen.now in
     let name = string_bytes c.in-Some.name.now in
     let value = view c.in-Some.member.now in
     let part : List ℕ → List Flaw = λ k. flaws al known (place_under place k) (is_entry place && is_some (get_member k seen)) no_members value ++ base_flaws known place k value in
@@ -47,7 +48,7 @@ check_members-loop-name-preserved t c =
     let al = members_view c.args.aliases.now.entries in
     let known = option_map (λ m. members_view m.now.entries) c.args.resolved in
     let place = c.args.place in
-    let seen = members_view c.args.seen.now.entries in
+    let seen = seen_names c.args.seen.now in
     let name = string_bytes c.in-Some.name.now in
     let value = view c.in-Some.member.now in
     let part : List ℕ → List Flaw = λ k. flaws al known (place_under place k) (is_entry place && is_some (get_member k seen)) no_members value ++ base_flaws known place k value in

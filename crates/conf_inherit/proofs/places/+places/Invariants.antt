@@ -2,9 +2,7 @@ use Rattle.std.proofs.Common.{◌≡◌, ◌+◌, ◌*◌, drop}
 use Rattle.serde_json.specs.Data.{no_members}
 use Rattle.serde_json.specs.View.{items_view, members_view}
 use Rattle.conf_inherit.specs.Places.{item_places, member_places}
-use Rattle.conf_inherit.specs.FieldPlaces.{place_under}
-use Rattle.conf_inherit.specs.Whole.{HasSound}
-use Rattle.conf_inherit.proofs.ListLemmas.{AllEntries}
+use Rattle.conf_inherit.specs.SeenNames.{seen_names}
 use Rattle.conf_inherit.proofs.places.+places.Given as goal
 
 abbrev pub decreases-check_places : goal.decreases-check_places
@@ -25,10 +23,9 @@ decreases-check_member_places l = 3 * goal.size-check_member_places l + 2
 -- what is left of the list has all the flaws
 abbrev pub invariant-check_item_places-loop-index : goal.invariant-check_item_places-loop-index
 invariant-check_item_places-loop-index l =
-    item_places (members_view l.aliases.entries) (members_view l.resolved.entries) l.place 0 no_members (items_view l.items.items) ≡ item_places (members_view l.aliases.entries) (members_view l.resolved.entries) l.place l.index (members_view l.seen.entries) (items_view (drop l.index l.items.items))
+    item_places (members_view l.aliases.entries) (members_view l.resolved.entries) l.place 0 no_members (items_view l.items.items) ≡ item_places (members_view l.aliases.entries) (members_view l.resolved.entries) l.place l.index (seen_names l.seen) (items_view (drop l.index l.items.items))
 
--- what is left of the object has all the flaws, and sound aliases
+-- what is left of the object has all the flaws
 abbrev pub invariant-check_member_places-loop-name : goal.invariant-check_member_places-loop-name
 invariant-check_member_places-loop-name l =
-    AllEntries (λ k d. HasSound (members_view l.aliases.entries) (members_view l.resolved.entries) (place_under l.place k) d) (members_view l.name-iterator)
-    × (member_places (members_view l.aliases.entries) (members_view l.resolved.entries) l.place (members_view l.members.entries) ≡ member_places (members_view l.aliases.entries) (members_view l.resolved.entries) l.place (members_view l.name-iterator))
+    member_places (members_view l.aliases.entries) (members_view l.resolved.entries) l.place (members_view l.members.entries) ≡ member_places (members_view l.aliases.entries) (members_view l.resolved.entries) l.place (members_view l.name-iterator)

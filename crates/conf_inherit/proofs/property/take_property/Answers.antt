@@ -1,7 +1,10 @@
-use Rattle.std.proofs.Common.{Some, option_map, ap, ◌∙◌}
-use Rattle.serde_json.specs.Data.{put}
+use Rattle.std.proofs.Common.{◌≡◌, Some, None, option_map, sym, ap, ◌∙◌, rules}
+use Rattle.serde_json.specs.Data.{null, put}
+use Rattle.serde_json.specs.Find.{get_member}
 use Rattle.serde_json.specs.View.{view, members_view}
 use Rattle.serde_json.proofs.Views.{view-lookup}
+use Rattle.serde_json.specs.declared.value.Value.{Null, the_lemmas}
+use Rattle.conf_inherit.proofs.SpentLemmas.{written_spent, spent_none}
 use Rattle.conf_inherit.proofs.WrittenLemmas.{put_written}
 use Rattle.conf_inherit.proofs.property.take_property.Goals as goal
 
@@ -16,3 +19,17 @@ returns-in-Some-clause-others c = λ d.
 
 pub returns-in-None-clause-found : goal.returns-in-None-clause-found
 returns-in-None-clause-found c = ap (option_map view) c.in-None.ensures.value ∙ view-lookup c.args.name.now c.args.members.now.entries
+
+view-null : view Null ≡ null
+view-null = search (rules, the_lemmas)
+
+pub returns-in-Some-clause-left : goal.returns-in-Some-clause-left
+returns-in-Some-clause-left c =
+    ap members_view (c.get_mut.follows.holds c.replace.new.dest).0
+    ∙ written_spent c.args.name.now c.replace.new.dest c.args.members.now.entries (ap view c.replace.ensures.after ∙ view-null)
+
+pub returns-in-None-clause-left : goal.returns-in-None-clause-left
+returns-in-None-clause-left c =
+    let old = members_view c.args.members.now.entries in
+    let none : get_member c.args.name.now old ≡ None = sym (view-lookup c.args.name.now c.args.members.now.entries) ∙ sym (ap (option_map view) c.in-None.ensures.value) in
+    ap (λ m. members_view m.entries) c.get_mut.follows.holds-at-none ∙ sym (spent_none c.args.name.now old none)

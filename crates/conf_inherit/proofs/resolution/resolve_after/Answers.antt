@@ -1,16 +1,37 @@
+use Rattle.std.proofs.Common.{sym, subst, inl, inr}
+use Rattle.std.proofs.lemmas.Result.{err_from_is_err_and}
 use Rattle.serde_json.specs.View.{view, members_view}
-use Rattle.std.specs.BTreeMap.{btree_map_len}
+use Rattle.conf_tree.specs.Flaw.{flaw_of}
+use Rattle.conf_tree.specs.Reading.{Gives}
 use Rattle.conf_inherit.specs.AliasOutcomes.{outcomes_of}
-use Rattle.conf_inherit.proofs.WholeLemmas.{whole_laid, whole_sound}
+use Rattle.conf_inherit.proofs.TakenLemmas.{refused_alias, refused_place, aliases_laid, answered}
 use Rattle.conf_inherit.proofs.resolution.resolve_after.Goals as goal
 
-pub lay_all-requires : goal.lay_all-requires
-lay_all-requires c =
-    whole_laid (view c.args.value.now) (members_view c.args.aliases.now.entries) (btree_map_len c.args.aliases.now) (outcomes_of c.args.outcomes) c.requires.own c.requires.apart c.requires.settled
-    c.in_ok-check_all_aliases.ensures.first
+pub returns-in_err-check_all_aliases : goal.returns-in_err-check_all_aliases
+returns-in_err-check_all_aliases c = record {
+  first = λ al n apart settled spent. let p = err_from_is_err_and c.from_residual.result c.from_residual.ensures.1 in rw (p.1, p.2)
+      (elim c.in_err-check_all_aliases.ensures.first [
+        | inl memory ↦ inl memory
+        | inr flawed ↦ inr (refused_alias al (members_view c.args.aliases.now.entries) n (outcomes_of c.args.outcomes) (view c.args.value.now) c.requires.bare apart settled spent (flaw_of c.in_err-check_all_aliases.field-0.0) flawed)
+      ]);
+}
 
-pub check_places-requires : goal.check_places-requires
-check_places-requires c = record {
-  sound = whole_sound (view c.args.value.now) (members_view c.args.aliases.now.entries) (btree_map_len c.args.aliases.now) (outcomes_of c.args.outcomes) c.requires.own c.requires.apart c.requires.settled
-      c.in_ok-check_all_aliases.ensures.first;
+pub returns-in_err-check_places : goal.returns-in_err-check_places
+returns-in_err-check_places c = record {
+  first = λ al n apart settled spent. let p = err_from_is_err_and c.from_residual-in_err-check_places.result c.from_residual-in_err-check_places.ensures.1 in rw (p.1, p.2)
+      (elim c.in_err-check_places.ensures.first [
+        | inl memory ↦ inl memory
+        | inr flawed ↦ inr (refused_place al (members_view c.args.aliases.now.entries) n (outcomes_of c.args.outcomes) (view c.args.value.now) c.requires.bare apart settled spent c.in_ok-check_all_aliases.ensures.first (flaw_of c.in_err-check_places.field-0.0) flawed)
+      ]);
+}
+
+pub returns : goal.returns
+returns c = record {
+  first = λ al n apart settled spent.
+      let now = members_view c.args.aliases.now.entries in
+      let st = outcomes_of c.args.outcomes in
+      let v = view c.args.value.now in
+      let sound = c.in_ok-check_all_aliases.ensures.first in
+      subst (λ r. Gives view c.lay_all.result r) (sym (answered al now n st v c.requires.bare apart settled spent sound c.in_ok-check_places.ensures.first))
+      (c.lay_all.ensures.first al (aliases_laid al now n st v c.requires.bare apart settled spent sound));
 }

@@ -1,0 +1,327 @@
+-- What is judged of the aliases is the same where null stands in the place of resolved bodies.
+use Rattle.std.proofs.Common.{◌≡◌, ◌+◌, string_bytes, ◌&&◌, ◌||◌, ◌++◌, ◌⊎◌, inl, inr, ℕ, suc, List, [], ◌∷◌, map, Option, Some, None, is_some, Bool, true, false, not, true≢false, bytes_eq, if◌then◌else◌, is_eq, nat_cmp, refl, sym, ap, ◌∙◌, subst}
+use Rattle.std.proofs.lemmas.Slice.Eq.{bytes_eq-Decides}
+use Rattle.std.proofs.lemmas.Map.Text.{is_eq-slice_cmp}
+use Rattle.std.specs.Cmp.Lexicographic.{slice_cmp}
+use Rattle.serde_json.specs.Data.{Data, null, boolean, number, string, array, object, Items, no_items, item, Members, no_members, member, put}
+use Rattle.serde_json.specs.Find.{get_member}
+use Rattle.serde_json.specs.View.{view, members_view}
+use Rattle.serde_json.specs.declared.value.Value.{Value}
+use Rattle.serde_json.proofs.Views.{Entry}
+use Rattle.conf_tree.specs.Flaw.{Flaw, key, index, here, within}
+use Rattle.conf_tree.specs.Walk.{refusal}
+use Rattle.conf_tree.specs.declared.fault_kind.FaultKind.TheVariants.{WrongKind, NoSuchAlias, NameClash}
+use Rattle.conf_table.specs.declared.place.Place.{Place}
+use Rattle.conf_table.specs.declared.place.Place.TheVariants as places
+use Rattle.conf_inherit.specs.FieldPlaces.{place_under, place_of_items, names_alias, names_member_type, lists_extra_members, leads_on, is_entry}
+use Rattle.conf_inherit.specs.AliasFlaws.{over_names, first_or_circle, alias_flaws, all_alias_flaws}
+use Rattle.conf_inherit.specs.Flaws.{is_wrong, is_unknown, own_flaws, inner_flaws, item_flaws, member_flaws, flaws, type_flaws, mark}
+use Rattle.conf_inherit.specs.Laying.{lay}
+use Rattle.conf_inherit.specs.Limits.{fitting, limit_flaws}
+use Rattle.conf_inherit.specs.Named.{all_named, has}
+use Rattle.conf_inherit.specs.Names.{NoClash}
+use Rattle.conf_inherit.specs.Places.{too_many, place_flaws, inner_places, item_places, member_places}
+use Rattle.conf_inherit.specs.Rounds.{Outcomes, has_outcome, is_over, is_empty, if_fitting, outcome, concluded, step, round, no_outcomes, Reached, at_first, turned, is_settled, all_settled}
+use Rattle.conf_inherit.specs.Spent.{Spends, spent, TurnsLeave}
+use Rattle.conf_inherit.proofs.FunctionLemmas.{same_function}
+use Rattle.conf_inherit.proofs.LayingLemmas.{Meets, same, other, meets, get_other, get_same}
+use Rattle.conf_inherit.proofs.RoundLemmas.{is_still}
+use Rattle.conf_inherit.proofs.TurnLemmas.{or_first, Follows, follows_first, follows_still, follows_round}
+use Rattle.conf_inherit.proofs.WrittenLemmas.{written}
+
+-- ---- what is left of the aliases
+
+-- the aliases as they are given are all left
+spends_none : (done ms : Members) → Spends done ms ms
+spends_none done no_members = tt
+spends_none done (member k w ms) = (refl, (inl refl, spends_none done ms))
+
+-- where more aliases are resolved, no more has to be left
+spends_more : (done more : Members) → ((n : List ℕ) → has done n ≡ true → has more n ≡ true) → (al now : Members) → Spends done al now → Spends more al now
+spends_more done more kept no_members no_members h = tt
+spends_more done more kept no_members (member j v vs) h = absurd h
+spends_more done more kept (member k w ms) no_members h = absurd h
+spends_more done more kept (member k w ms) (member j v vs) h =
+    (h.0, (elim h.1.0 [ inl e ↦ inl e | inr e ↦ inr (e.0, kept k e.1) ], spends_more done more kept ms vs h.1.1))
+
+-- the body of a resolved alias may be dropped
+spends_spent : (done : Members) (n : List ℕ) → has done n ≡ true → (al now : Members) → Spends done al now → Spends done al (spent n now)
+spends_spent done n is no_members no_members h = tt
+spends_spent done n is no_members (member j v vs) h = absurd h
+spends_spent done n is (member k w ms) no_members h = absurd h
+spends_spent done n is (member k w ms) (member j v vs) h = go (bytes_eq n j) refl (spends_spent done n is ms vs h.1.1)
+  where
+    go : (t : Bool) → bytes_eq n j ≡ t → Spends done ms (spent n vs) → Spends done (member k w ms) (spent n (member j v vs))
+    go true e later = rw e (h.0, (inr (refl, ap (has done) (h.0 ∙ sym ((bytes_eq-Decides n j).0 e)) ∙ is), h.1.1))
+    go false e later = rw e (h.0, (h.1.0, later))
+
+-- each name is left
+pub same_names : (done al now : Members) → Spends done al now → (n : List ℕ) → is_some (get_member n now) ≡ is_some (get_member n al)
+same_names done no_members no_members h n = refl
+same_names done no_members (member j v vs) h n = absurd h
+same_names done (member k w ms) no_members h n = absurd h
+same_names done (member k w ms) (member j v vs) h n = ap (λ l. has (member l v vs) n) (sym h.0) ∙ go (meets n k) (same_names done ms vs h.1.1 n)
+  where
+    go : Meets n k → has vs n ≡ has ms n → has (member k v vs) n ≡ has (member k w ms) n
+    go (same e) later = ap is_some (get_same n k v vs e) ∙ sym (ap is_some (get_same n k w ms e))
+    go (other apart) later = ap is_some (get_other n k v vs apart) ∙ later ∙ sym (ap is_some (get_other n k w ms apart))
+
+-- the body of an alias that is not resolved is left
+same_body : (done al now : Members) → Spends done al now → (n : List ℕ) → has done n ≡ false → get_member n now ≡ get_member n al
+same_body done no_members no_members h n free = refl
+same_body done no_members (member j v vs) h n free = absurd h
+same_body done (member k w ms) no_members h n free = absurd h
+same_body done (member k w ms) (member j v vs) h n free = ap (λ l. get_member n (member l v vs)) (sym h.0) ∙ go (meets n k) h.1.0 (same_body done ms vs h.1.1 n free)
+  where
+    go : Meets n k → (v ≡ w) ⊎ ((v ≡ null) × (has done k ≡ true)) → get_member n vs ≡ get_member n ms → get_member n (member k v vs) ≡ get_member n (member k w ms)
+    go (same e) (inl is) later = get_same n k v vs e ∙ ap Some is ∙ sym (get_same n k w ms e)
+    go (same e) (inr is) later = absurd (true≢false (sym is.1 ∙ ap (has done) (sym e) ∙ free))
+    go (other apart) at later = get_other n k v vs apart ∙ later ∙ sym (get_other n k w ms apart)
+
+-- ---- what is judged by the names of the aliases alone
+
+same_part : (f : Flaw → Flaw) (a b c x y z : List Flaw) → a ≡ x → b ≡ y → c ≡ z → map f (a ++ b) ++ c ≡ map f (x ++ y) ++ z
+same_part f a b c x y z p q r = cc
+
+module _ (al now : Members) (names : (n : List ℕ) → is_some (get_member n now) ≡ is_some (get_member n al)) where
+  same_unknown : (s : Place) (v : Data) → is_unknown now s v ≡ is_unknown al s v
+  same_unknown s null = refl
+  same_unknown s (boolean b) = refl
+  same_unknown s (number n) = refl
+  same_unknown s (string n) = ap (λ t. (names_alias s || names_member_type s) && not t) (names n)
+  same_unknown s (array es) = refl
+  same_unknown s (object ms) = refl
+
+  same_own : (s : Place) (taken : Bool) (v : Data) → own_flaws now s taken v ≡ own_flaws al s taken v
+  same_own s taken v = ap (λ t. if is_wrong s v then here WrongKind ∷ [] else if t then here NoSuchAlias ∷ [] else if taken then here NameClash ∷ [] else []) (same_unknown s v)
+
+  mutual
+    same_inner : (known : Option Members) (s : Place) (seen : Members) (v : Data) → inner_flaws now known s seen v ≡ inner_flaws al known s seen v
+    same_inner known s seen null = refl
+    same_inner known s seen (boolean b) = refl
+    same_inner known s seen (number n) = refl
+    same_inner known s seen (string n) = refl
+    same_inner known s seen (array es) = same_items known s 0 no_members es
+    same_inner known s seen (object ms) = same_members known s seen ms
+
+    same_items : (known : Option Members) (s : Place) (i : ℕ) (seen : Members) (es : Items) → item_flaws now known s i seen es ≡ item_flaws al known s i seen es
+    same_items known s i seen no_items = refl
+    same_items known s i seen (item e es) =
+        same_part (within (index i)) _ _ _ _ _ _ (same_own (place_of_items s) false e) (same_inner known (place_of_items s) seen e) (same_items known s (suc i) (mark e seen) es)
+
+    same_members : (known : Option Members) (s : Place) (seen ms : Members) → member_flaws now known s seen ms ≡ member_flaws al known s seen ms
+    same_members known s seen no_members = refl
+    same_members known s seen (member k d ms) =
+        let taken = is_entry s && is_some (get_member k seen) in
+        let own = same_own (place_under s k) taken d in
+        let inner = same_inner known (place_under s k) no_members d in
+        let part = ap (λ x. x ++ inner_flaws now known (place_under s k) no_members d) own ∙ ap (λ x. own_flaws al (place_under s k) taken d ++ x) inner in
+        same_part (within (key k)) _ _ _ _ _ _ part refl (same_members known s seen ms)
+
+  same_flaws : (known : Option Members) (s : Place) (taken : Bool) (seen : Members) (v : Data) → flaws now known s taken seen v ≡ flaws al known s taken seen v
+  same_flaws known s taken seen v = ap (λ x. x ++ inner_flaws now known s seen v) (same_own s taken v) ∙ ap (λ x. own_flaws al s taken v ++ x) (same_inner known s seen v)
+
+  same_type : (done : Members) (s : Place) (v : Data) → type_flaws now done s v ≡ type_flaws al done s v
+  same_type done s v = ap (λ x. x ++ limit_flaws done s v) (same_flaws (Some done) s false no_members v)
+
+  same_place : (done : Members) (s : Place) (v : Data) → place_flaws now done s v ≡ place_flaws al done s v
+  unfolding place_flaws
+  same_place done s v =
+      ap (λ x. if names_alias s then x else if names_member_type s then limit_flaws done s v else if lists_extra_members s then too_many v ++ own_flaws now s false v else []) (same_type done s v)
+      ∙ ap (λ x. if names_alias s then type_flaws al done s v else if names_member_type s then limit_flaws done s v else if lists_extra_members s then too_many v ++ x else []) (same_own s false v)
+
+  mutual
+    same_places_in : (done : Members) (s : Place) (v : Data) → inner_places now done s v ≡ inner_places al done s v
+    same_places_in done s null = refl
+    same_places_in done s (boolean b) = refl
+    same_places_in done s (number n) = refl
+    same_places_in done s (string n) = refl
+    same_places_in done s (array es) = ap (λ x. if lists_extra_members s then x else []) (same_item_places done s 0 no_members es)
+    same_places_in done s (object ms) = ap (λ x. if leads_on s then x else []) (same_member_places done s ms)
+
+    same_item_places : (done : Members) (s : Place) (i : ℕ) (seen : Members) (es : Items) → item_places now done s i seen es ≡ item_places al done s i seen es
+    same_item_places done s i seen no_items = refl
+    same_item_places done s i seen (item e es) =
+        same_part (within (index i)) _ _ _ _ _ _ (same_flaws (Some done) (place_of_items s) false seen e) (same_places_in done (place_of_items s) e) (same_item_places done s (suc i) (mark e seen) es)
+
+    same_member_places : (done : Members) (s : Place) (ms : Members) → member_places now done s ms ≡ member_places al done s ms
+    same_member_places done s no_members = refl
+    same_member_places done s (member k d ms) =
+        same_part (within (key k)) _ _ _ _ _ _ (same_place done (place_under s k) d) (same_places_in done (place_under s k) d) (same_member_places done s ms)
+
+  same_due : (st : Outcomes) (w : Data) → all_named (is_over now st) places.FieldType w ≡ all_named (is_over al st) places.FieldType w
+  same_due st w = ap (λ p. all_named p places.FieldType w) (same_function (is_over now st) (is_over al st) (λ n. ap (λ t. has_outcome st n || not t) (names n)))
+
+  same_outcome : (done : Members) (w : Data) → outcome now done w ≡ outcome al done w
+  same_outcome done w =
+      ap (λ x. if all_named (has done) places.FieldType w && is_empty x then if_fitting (fitting (lay done places.FieldType w None)) else None) (same_flaws (Some done) places.FieldType false no_members w)
+
+  same_step : (k : List ℕ) (w : Data) (st : Outcomes) → step now k w st ≡ step al k w st
+  same_step k w st =
+      ap (λ t. if has_outcome st k then st else if t then concluded k st (outcome now st.done w) else st) (same_due st w)
+      ∙ ap (λ o. if has_outcome st k then st else if all_named (is_over al st) places.FieldType w then concluded k st o else st) (same_outcome st.done w)
+
+  same_turns : (ms : Members) (st : Outcomes) → round now ms st ≡ round al ms st
+  same_turns no_members st = refl
+  same_turns (member k w ms) st = ap (round now ms) (same_step k w st) ∙ same_turns ms (step al k w st)
+
+  same_settled : (ms : Members) (st : Outcomes) → all_settled now ms st ≡ all_settled al ms st
+  same_settled no_members st = refl
+  same_settled (member k w ms) st =
+      ap (λ t. (has_outcome st k || not t) && all_settled now ms st) (same_due st w) ∙ ap (λ t. is_settled al st k w && t) (same_settled ms st)
+
+-- what is wrong at the places of a configuration
+pub same_places : (al now done : Members) → ((n : List ℕ) → is_some (get_member n now) ≡ is_some (get_member n al)) → (s : Place) (v : Data) → inner_places now done s v ≡ inner_places al done s v
+same_places al now done names s v = same_places_in al now names done s v
+
+-- ---- a round
+
+-- what is resolved stays so
+kept_step : (al : Members) (k : List ℕ) (w : Data) (st : Outcomes) (n : List ℕ) → has st.done n ≡ true → has (step al k w st).done n ≡ true
+kept_step al k w st n h = go (has_outcome st k) refl (all_named (is_over al st) places.FieldType w) refl (outcome al st.done w) refl
+  where
+    go : (t : Bool) → has_outcome st k ≡ t → (u : Bool) → all_named (is_over al st) places.FieldType w ≡ u → (o : Option Data) → outcome al st.done w ≡ o → has (step al k w st).done n ≡ true
+    go true a u b o e = rw a h
+    go false a false b o e = rw (a, b) h
+    go false a true b None e = rw (a, b, e) h
+    go false a true b (Some r) e = rw (a, b, e) (is_still k r st.done n h)
+
+kept_round : (al ms : Members) (st : Outcomes) (n : List ℕ) → has st.done n ≡ true → has (round al ms st).done n ≡ true
+kept_round al no_members st n h = h
+kept_round al (member k w ms) st n h = kept_round al ms (step al k w st) n (kept_step al k w st n h)
+
+-- a resolved alias has had its turn
+done_step : (al : Members) (k : List ℕ) (v w : Data) (st : Outcomes) → has st.done k ≡ true → step al k v st ≡ step al k w st
+done_step al k v w st h = rw h refl
+
+spent_step : (al : Members) (k j : List ℕ) (v w : Data) (st : Outcomes) → k ≡ j → (v ≡ w) ⊎ ((v ≡ null) × (has st.done k ≡ true)) → step al j v st ≡ step al k w st
+spent_step al k j v w st e (inl is) = ap (λ l. step al l v st) (sym e) ∙ ap (λ d. step al k d st) is
+spent_step al k j v w st e (inr is) = ap (λ l. step al l v st) (sym e) ∙ done_step al k v w st is.1
+
+spent_round : (al ms vs : Members) (st : Outcomes) → Spends st.done ms vs → round al vs st ≡ round al ms st
+spent_round al no_members no_members st h = refl
+spent_round al no_members (member j v vs) st h = absurd h
+spent_round al (member k w ms) no_members st h = absurd h
+spent_round al (member k w ms) (member j v vs) st h =
+    ap (round al vs) (spent_step al k j v w st h.0 h.1.0)
+    ∙ spent_round al ms vs (step al k w st) (spends_more st.done (step al k w st).done (kept_step al k w st) ms vs h.1.1)
+
+spent_settled : (al ms vs : Members) (st : Outcomes) → Spends st.done ms vs → all_settled al vs st ≡ all_settled al ms st
+spent_settled al no_members no_members st h = refl
+spent_settled al no_members (member j v vs) st h = absurd h
+spent_settled al (member k w ms) no_members st h = absurd h
+spent_settled al (member k w ms) (member j v vs) st h =
+    ap (λ l. is_settled al st l v && all_settled al vs st) (sym h.0) ∙ go h.1.0 ∙ ap (λ t. is_settled al st k w && t) (spent_settled al ms vs st h.1.1)
+  where
+    go : (v ≡ w) ⊎ ((v ≡ null) × (has st.done k ≡ true)) → (is_settled al st k v && all_settled al vs st) ≡ (is_settled al st k w && all_settled al vs st)
+    go (inl is) = ap (λ d. is_settled al st k d && all_settled al vs st) is
+    go (inr is) = rw is.1 refl
+
+-- a round over what is left of the aliases is one over the aliases
+same_round : (al now : Members) (st : Outcomes) → Spends st.done al now → round now now st ≡ round al al st
+same_round al now st h = same_turns al now (same_names st.done al now h) now st ∙ spent_round al al now st h
+
+same_all_settled : (al now : Members) (st : Outcomes) → Spends st.done al now → all_settled now now st ≡ all_settled al al st
+same_all_settled al now st h = same_settled al now (same_names st.done al now h) now st ∙ spent_settled al al now st h
+
+-- what a round leaves of the aliases
+round_spends : (al now : Members) (st : Outcomes) → Spends st.done al now → Spends (round al al st).done al now
+round_spends al now st h = spends_more st.done (round al al st).done (kept_round al al st) al now h
+
+-- ---- what is wrong with the aliases
+
+same_over_names : (ms vs : Members) (done : Members) (st : Outcomes) (over : Members) → Spends done ms vs → over_names vs st over ≡ over_names ms st over
+same_over_names no_members no_members done st over h = refl
+same_over_names no_members (member j v vs) done st over h = absurd h
+same_over_names (member k w ms) no_members done st over h = absurd h
+same_over_names (member k w ms) (member j v vs) done st over h =
+    ap (λ l. over_names vs st (if has_outcome st l then put l null over else over)) (sym h.0) ∙ same_over_names ms vs done st (if has_outcome st k then put k null over else over) h.1.1
+
+module _ (al now : Members) (st : Outcomes) (left : Spends st.done al now) where
+  same_flaws_at : (k : List ℕ) (w : Data) → alias_flaws now st k w ≡ alias_flaws al st k w
+  same_flaws_at k w =
+      let judged = same_type al now (same_names st.done al now left) st.done places.FieldType w in
+      let known = ap refusal (ap (λ x. type_flaws x st.done places.FieldType w) (same_over_names al now st.done st no_members left)) in
+      let own = ap refusal judged in
+      ap (λ x. if has st.done k then [] else if has st.refused k then x else first_or_circle (refusal (type_flaws now st.done places.FieldType w)) (refusal (type_flaws (over_names now st no_members) st.done places.FieldType w))) judged
+      ∙ ap (λ x. if has st.done k then [] else if has st.refused k then type_flaws al st.done places.FieldType w else first_or_circle x (refusal (type_flaws (over_names now st no_members) st.done places.FieldType w))) own
+      ∙ ap (λ x. if has st.done k then [] else if has st.refused k then type_flaws al st.done places.FieldType w else first_or_circle (refusal (type_flaws al st.done places.FieldType w)) x) known
+
+  spent_flaws_at : (k j : List ℕ) (v w : Data) → k ≡ j → (v ≡ w) ⊎ ((v ≡ null) × (has st.done k ≡ true)) → map (within (key j)) (alias_flaws al st j v) ≡ map (within (key k)) (alias_flaws al st k w)
+  spent_flaws_at k j v w e at = ap (λ l. map (within (key l)) (alias_flaws al st l v)) (sym e) ∙ ap (map (within (key k))) (go at)
+    where
+      go : (v ≡ w) ⊎ ((v ≡ null) × (has st.done k ≡ true)) → alias_flaws al st k v ≡ alias_flaws al st k w
+      go (inl is) = ap (alias_flaws al st k) is
+      go (inr is) = rw is.1 refl
+
+  same_each : (ms vs : Members) → Spends st.done ms vs → all_alias_flaws now st vs ≡ all_alias_flaws al st ms
+  same_each no_members no_members h = refl
+  same_each no_members (member j v vs) h = absurd h
+  same_each (member k w ms) no_members h = absurd h
+  same_each (member k w ms) (member j v vs) h =
+      ap (λ x. map (within (key j)) x ++ all_alias_flaws now st vs) (same_flaws_at j v)
+      ∙ ap (λ x. x ++ all_alias_flaws now st vs) (spent_flaws_at k j v w h.0 h.1.0)
+      ∙ ap (λ x. map (within (key k)) (alias_flaws al st k w) ++ x) (same_each ms vs h.1.1)
+
+-- what is wrong with the aliases is told by what is left of them
+pub same_alias_flaws : (al now : Members) (st : Outcomes) → Spends st.done al now → all_alias_flaws now st now ≡ all_alias_flaws al st al
+same_alias_flaws al now st h = same_each al now st h al now h
+
+-- ---- a turn
+
+-- before the first turn
+pub first_leaves : (al : Members) (st : Outcomes) → st ≡ no_outcomes → TurnsLeave al st al
+first_leaves al st is = record { reached = subst (Reached al) (sym is) at_first; spends = spends_none st.done al }
+
+-- a turn over what is left of the aliases is one of the aliases
+pub turn_leaves : (al now : Members) (k : List ℕ) (v : Data) (st : Outcomes) → get_member k now ≡ Some v → TurnsLeave al st now → TurnsLeave al (step now k v st) now
+turn_leaves al now k v st is h = subst (λ x. TurnsLeave al x now) (sym (same_step al now (same_names st.done al now h.spends) k v st))
+    record { reached = go (has_outcome st k) refl (has st.done k) refl; spends = spends_more st.done (step al k v st).done (kept_step al k v st) al now h.spends }
+  where
+    go : (t : Bool) → has_outcome st k ≡ t → (u : Bool) → has st.done k ≡ u → Reached al (step al k v st)
+    go true a u b = rw a h.reached
+    go false a true b = absurd (true≢false (sym (or_first (has st.done k) (has st.refused k) b) ∙ a))
+    go false a false b = turned k v st (sym (same_body st.done al now h.spends k b) ∙ is) h.reached
+
+-- the body of a resolved alias may be dropped
+pub spent_leaves : (al now : Members) (k : List ℕ) (st : Outcomes) → has st.done k ≡ true → TurnsLeave al st now → TurnsLeave al st (spent k now)
+spent_leaves al now k st is h = record { reached = h.reached; spends = spends_spent st.done k is al now h.spends }
+
+-- turns led here and so many rounds followed, with this left of the aliases
+pub record RoundsLeave (al left : Members) (st : Outcomes) (settled : Bool) (n : ℕ) : Type 0 where
+  pub follows : Follows al st settled n
+  pub spends : Spends st.done al left
+
+pub rounds_first : (al left : Members) (st : Outcomes) → TurnsLeave al st left → RoundsLeave al left st false 0
+rounds_first al left st h = record { follows = follows_first al st h.reached; spends = h.spends }
+
+pub rounds_still : (al left : Members) (st : Outcomes) (n : ℕ) → RoundsLeave al left st true n → RoundsLeave al left st true (n + 1)
+rounds_still al left st n before = record { follows = follows_still al st n before.follows; spends = before.spends }
+
+-- a round over what is left of the aliases
+pub rounds_more : (al left : Members) (st after : Outcomes) (settled : Bool) (n : ℕ) → NoClash al → RoundsLeave al left st false n → settled ≡ all_settled left left st → after ≡ round left left st → RoundsLeave al left after settled (n + 1)
+rounds_more al left st after settled n apart before is went =
+    let turn : after ≡ round al al st = went ∙ same_round al left st before.spends in
+    record {
+      follows = follows_round al st after settled n apart before.follows (is ∙ same_all_settled al left st before.spends) turn;
+      spends = subst (λ x. Spends x.done al left) (sym turn) (round_spends al left st before.spends);
+    }
+
+-- ---- null is written in the place of a value
+
+pub written_spent : (n : List ℕ) (w : Value) (es : List Entry) → view w ≡ null → members_view (written n es w) ≡ spent n (members_view es)
+written_spent n w [] h = refl
+written_spent n w (e ∷ es) h = go (bytes_eq n (string_bytes e.0)) refl (written_spent n w es h)
+  where
+    go : (t : Bool) → bytes_eq n (string_bytes e.0) ≡ t → members_view (written n es w) ≡ spent n (members_view es) → members_view (written n (e ∷ es) w) ≡ spent n (members_view (e ∷ es))
+    go true is later = let at : is_eq (slice_cmp nat_cmp n (string_bytes e.0)) ≡ true = is_eq-slice_cmp n (string_bytes e.0) ∙ is in rw (at, is) (ap (λ d. member (string_bytes e.0) d (members_view es)) h)
+    go false is later = let at : is_eq (slice_cmp nat_cmp n (string_bytes e.0)) ≡ false = is_eq-slice_cmp n (string_bytes e.0) ∙ is in rw (at, is) (ap (member (string_bytes e.0) (view e.1)) later)
+
+-- a name that is not there
+pub spent_none : (n : List ℕ) (ms : Members) → get_member n ms ≡ None → spent n ms ≡ ms
+spent_none n no_members h = refl
+spent_none n (member k d ms) h = go (bytes_eq n k) refl (spent_none n ms)
+  where
+    go : (t : Bool) → bytes_eq n k ≡ t → (get_member n ms ≡ None → spent n ms ≡ ms) → spent n (member k d ms) ≡ member k d ms
+    go true is later = let f : Some d ≡ None = sym (get_same n k d ms ((bytes_eq-Decides n k).0 is)) ∙ h in cc
+    go false is later = rw is (ap (member k d) (later (sym (get_other n k d ms (λ e. true≢false (sym ((bytes_eq-Decides n k).1 e) ∙ is))) ∙ h)))

@@ -1,0 +1,417 @@
+-- A configuration with other aliases in the place of its own: what is found, laid and refused in it.
+use Rattle.std.proofs.Common.{◌≡◌, ◌⊎◌, inl, inr, String, Vec, Global, rules, ◌++◌, if◌then◌else◌, ℕ, List, [], ◌∷◌, map, Option, Some, None, option_and_then, Result, Ok, Err, Bool, true, false, true≢false, Ordering, Less, Equal, Greater, nat_cmp, string_cmp, refl, sym, ap, ◌∙◌, subst}
+use Rattle.std.specs.Prelude.{⊤}
+use Rattle.std.specs.List.Sorted.{IsStrictlySortedBy}
+use Rattle.std.specs.Map.{keys_of}
+use Rattle.std.specs.Str.{bytes_eq}
+use Rattle.std.specs.Cmp.Lexicographic.{slice_cmp}
+use Rattle.std.proofs.lemmas.Slice.Eq.{bytes_eq-Decides}
+use Rattle.serde_json.specs.Data.{Data, null, boolean, number, string, array, object, Members, no_members, member, put}
+use Rattle.serde_json.specs.Find.{get, get_member, as_object}
+use Rattle.serde_json.specs.View.{view, members_view}
+use Rattle.serde_json.specs.declared.number.Number.{Number}
+use Rattle.serde_json.specs.declared.value.Value.{Value, the_lemmas}
+use Rattle.serde_json.specs.declared.value.Value as values
+use Rattle.serde_json.proofs.Views.{Entry}
+use Rattle.conf_tree.specs.Flaw.{Flaw, key, within}
+use Rattle.conf_table.specs.declared.place.Place.{Place}
+use Rattle.conf_table.specs.declared.place.Place.TheVariants as places
+use Rattle.conf_inherit.specs.FieldPlaces.{place_under, names_alias, names_member_type, lists_extra_members, leads_on}
+use Rattle.conf_tree.specs.Reading.{◌>>=◌}
+use Rattle.conf_tree.specs.Walk.{refusal}
+use Rattle.conf_inherit.specs.AliasFlaws.{all_alias_flaws}
+use Rattle.conf_inherit.specs.Laying.{lay, lay_members}
+use Rattle.conf_inherit.specs.Names.{IsInOrder, NoClash, properties_of}
+use Rattle.conf_inherit.specs.Places.{place_flaws, inner_places, member_places}
+use Rattle.conf_inherit.specs.Resolution.{trace_name, type_name, aliases_name, aliases_of, members_or_none, from_aliases, if_shallow, resolution_after}
+use Rattle.conf_inherit.specs.Rounds.{Outcomes, rounds, no_outcomes}
+use Rattle.conf_inherit.specs.Spent.{Spends}
+use Rattle.conf_inherit.specs.Whole.{holds_aliases, way_to_aliases, aliases_at, without, with_property, in_property, in_object, with_aliases, AreLaid}
+use Rattle.conf_inherit.proofs.FieldPlaceLemmas.{trace_place, trace_type_place, aliases_place}
+use Rattle.conf_inherit.proofs.InOrder.{same_name, equal_names, above_through, get_none}
+use Rattle.conf_inherit.proofs.LayingLemmas.{Meets, same, other, meets, get_other, get_same}
+use Rattle.conf_inherit.proofs.ResolveLemmas.{above_of}
+use Rattle.conf_inherit.proofs.SpentLemmas.{same_names, same_alias_flaws, same_places}
+use Rattle.conf_inherit.proofs.WholeLemmas.{whole_laid, whole_sound}
+
+-- ---- the value of one name
+
+some_name : (n k : List ℕ) → Some n ≡ Some k → n ≡ k
+some_name n k h = cc
+
+then_some : (o : Option Data) → o ≡ option_and_then (λ d. Some d) o
+then_some None = refl
+then_some (Some d) = refl
+
+some_same : (d e : Data) → Some d ≡ Some e → d ≡ e
+some_same d e h = cc
+
+members_twice : (n : List ℕ) (f g h : Data → Data) → ((d : Data) → f (g d) ≡ h d) → (ms : Members) → with_property n f (with_property n g ms) ≡ with_property n h ms
+members_twice n f g h each no_members = refl
+members_twice n f g h each (member k d ms) = go (bytes_eq k n) refl (members_twice n f g h each ms)
+  where
+    go : (t : Bool) → bytes_eq k n ≡ t → with_property n f (with_property n g ms) ≡ with_property n h ms → with_property n f (with_property n g (member k d ms)) ≡ with_property n h (member k d ms)
+    go true is rest = rw (is, is) (ap (λ x. member k x ms) (each d))
+    go false is rest = rw (is, is) (ap (member k d) rest)
+
+value_twice : (n : List ℕ) (f g h : Data → Data) → ((d : Data) → f (g d) ≡ h d) → (v : Data) → in_property n f (in_property n g v) ≡ in_property n h v
+value_twice n f g h each null = refl
+value_twice n f g h each (boolean b) = refl
+value_twice n f g h each (number x) = refl
+value_twice n f g h each (string x) = refl
+value_twice n f g h each (array es) = refl
+value_twice n f g h each (object ms) = ap object (members_twice n f g h each ms)
+
+members_same : (n : List ℕ) (f : Data → Data) (ms : Members) → ((d : Data) → get_member n ms ≡ Some d → f d ≡ d) → with_property n f ms ≡ ms
+members_same n f no_members each = refl
+members_same n f (member k d ms) each = go (bytes_eq k n) refl (meets n k) (members_same n f ms)
+  where
+    go : (t : Bool) → bytes_eq k n ≡ t → Meets n k → (((e : Data) → get_member n ms ≡ Some e → f e ≡ e) → with_property n f ms ≡ ms) → with_property n f (member k d ms) ≡ member k d ms
+    go true is m rest = rw is (ap (λ x. member k x ms) (each d (get_same n k d ms (sym ((bytes_eq-Decides k n).0 is)))))
+    go false is (same e) rest = absurd (true≢false (sym ((bytes_eq-Decides k n).1 (sym e)) ∙ is))
+    go false is (other away) rest = rw is (ap (member k d) (rest (λ e at. each e (get_other n k d ms away ∙ at))))
+
+value_same : (n : List ℕ) (f : Data → Data) (v : Data) → ((d : Data) → get n v ≡ Some d → f d ≡ d) → in_property n f v ≡ v
+value_same n f null each = refl
+value_same n f (boolean b) each = refl
+value_same n f (number x) each = refl
+value_same n f (string x) each = refl
+value_same n f (array es) each = refl
+value_same n f (object ms) each = ap object (members_same n f ms each)
+
+-- where the name is none of theirs, all stay
+pub with_none : (n : List ℕ) (f : Data → Data) (ms : Members) → get_member n ms ≡ None → with_property n f ms ≡ ms
+with_none n f ms none = members_same n f ms (λ d is. absurd (let bad : None ≡ Some d = sym none ∙ is in cc))
+
+pub with_found : (n : List ℕ) (f : Data → Data) (d : Data) (ms : Members) → get_member n ms ≡ Some d → get_member n (with_property n f ms) ≡ Some (f d)
+with_found n f d no_members at = cc
+with_found n f d (member k e ms) at = go (bytes_eq k n) refl (meets n k) (with_found n f d ms)
+  where
+    go : (t : Bool) → bytes_eq k n ≡ t → Meets n k → (get_member n ms ≡ Some d → get_member n (with_property n f ms) ≡ Some (f d)) → get_member n (with_property n f (member k e ms)) ≡ Some (f d)
+    go true is m rest =
+        let one : n ≡ k = sym ((bytes_eq-Decides k n).0 is) in
+        let mine : e ≡ d = some_same e d (sym (get_same n k e ms one) ∙ at) in
+        rw is (get_same n k (f e) ms one ∙ ap (λ x. Some (f x)) mine)
+    go false is (same e) rest = absurd (true≢false (sym ((bytes_eq-Decides k n).1 (sym e)) ∙ is))
+    go false is (other away) rest = rw is (get_other n k e (with_property n f ms) away ∙ rest (sym (get_other n k e ms away) ∙ at))
+
+pub without_with : (n : List ℕ) (f : Data → Data) (ms : Members) → without n (with_property n f ms) ≡ without n ms
+without_with n f no_members = refl
+without_with n f (member k d ms) = go (bytes_eq k n) refl (without_with n f ms)
+  where
+    go : (t : Bool) → bytes_eq k n ≡ t → without n (with_property n f ms) ≡ without n ms → without n (with_property n f (member k d ms)) ≡ without n (member k d ms)
+    go true is rest = rw (is, is) refl
+    go false is rest = rw (is, is) (ap (member k d) rest)
+
+-- it is put in its place
+pub put_with : (n : List ℕ) (f : Data → Data) (d : Data) (ms : Members) → IsInOrder ms → get_member n ms ≡ Some d → put n (f d) ms ≡ with_property n f ms
+put_with n f d no_members order at = cc
+put_with n f d (member k e ms) order at = go _ refl (put_with n f d ms order.1)
+  where
+    go : (o : Ordering) → slice_cmp nat_cmp n k ≡ o → (get_member n ms ≡ Some d → put n (f d) ms ≡ with_property n f ms) → put n (f d) (member k e ms) ≡ with_property n f (member k e ms)
+    go Less is rest =
+        let none : get_member n ms ≡ None = get_none n ms (above_through n k ms is order.0) in
+        let found : get_member n ms ≡ Some d = rw is at at in
+        let bad : None ≡ Some d = sym none ∙ found in
+        cc
+    go Equal is rest =
+        let one : n ≡ k = equal_names n k is in
+        let way : bytes_eq k n ≡ true = (bytes_eq-Decides k n).1 (sym one) in
+        let mine : d ≡ e = some_same d e (sym at ∙ get_same n k e ms one) in
+        rw (is, way) (ap (λ x. member k (f x) ms) mine)
+    go Greater is rest =
+        let found : get_member n ms ≡ Some d = rw is at at in
+        elim (bytes_eq k n) as (λ t. bytes_eq k n ≡ t → put n (f d) (member k e ms) ≡ with_property n f (member k e ms)) [
+          | true ↦ (λ way. absurd (let bad : Greater ≡ Equal = sym is ∙ ap (slice_cmp nat_cmp n) ((bytes_eq-Decides k n).0 way) ∙ same_name n in cc))
+          | false ↦ (λ way. rw (is, way) (ap (member k e) (rest found)))
+        ] refl
+
+-- ---- the aliases of a configuration
+
+object_twice : (al ns : Members) (v : Data) → in_object al (in_object ns v) ≡ in_object al v
+object_twice al ns null = refl
+object_twice al ns (boolean b) = refl
+object_twice al ns (number x) = refl
+object_twice al ns (string x) = refl
+object_twice al ns (array es) = refl
+object_twice al ns (object ms) = refl
+
+pub aliases_twice : (al ns : Members) (t : Data) → with_aliases places.Root al (with_aliases places.Root ns t) ≡ with_aliases places.Root al t
+unfolding with_aliases
+aliases_twice al ns t =
+    value_twice trace_name (in_property type_name (in_property aliases_name (in_object al))) (in_property type_name (in_property aliases_name (in_object ns))) (in_property type_name (in_property aliases_name (in_object al)))
+    (value_twice type_name (in_property aliases_name (in_object al)) (in_property aliases_name (in_object ns)) (in_property aliases_name (in_object al))
+    (value_twice aliases_name (in_object al) (in_object ns) (in_object al) (object_twice al ns))) t
+
+own_object : (al : Members) (d : Data) → al ≡ members_or_none (Some d) → in_object al d ≡ d
+own_object al null h = refl
+own_object al (boolean b) h = refl
+own_object al (number x) h = refl
+own_object al (string x) h = refl
+own_object al (array es) h = refl
+own_object al (object ms) h = ap object h
+
+own_aliases : (t : Data) → with_aliases places.Root (aliases_of t) t ≡ t
+unfolding with_aliases
+own_aliases t =
+    let al = aliases_of t in
+    value_same trace_name (in_property type_name (in_property aliases_name (in_object al))) t (λ trace in_root.
+    value_same type_name (in_property aliases_name (in_object al)) trace (λ type in_trace.
+    value_same aliases_name (in_object al) type (λ found in_type.
+    own_object al found (
+    ap (λ o. members_or_none (option_and_then (get aliases_name) (option_and_then (get type_name) o))) in_root
+    ∙ ap (λ o. members_or_none (option_and_then (get aliases_name) o)) in_trace
+    ∙ ap members_or_none in_type))))
+
+-- the aliases, put back where they were
+put_back : (t : Data) → with_aliases places.Root (aliases_of t) (with_aliases places.Root no_members t) ≡ t
+put_back t = aliases_twice (aliases_of t) no_members t ∙ own_aliases t
+
+pub back_again : (t : Data) (al : Members) (v : Data) → al ≡ aliases_of t → v ≡ with_aliases places.Root no_members t → with_aliases places.Root al v ≡ t
+back_again t al v own bare = ap (λ ms. with_aliases places.Root ms v) own ∙ ap (with_aliases places.Root (aliases_of t)) bare ∙ put_back t
+
+-- ---- at each place on the way
+
+pub with_way : (s : Place) (n : List ℕ) (al ms : Members) → way_to_aliases s ≡ Some n → with_aliases s al (object ms) ≡ object (with_property n (with_aliases (place_under s n) al) ms)
+unfolding way_to_aliases with_aliases
+with_way places.Root n al ms way =
+    let is : trace_name ≡ n = some_name trace_name n way in
+    ap (λ t. object (with_property trace_name (with_aliases t al) ms)) (sym trace_place)
+    ∙ ap (λ x. object (with_property x (with_aliases (place_under places.Root x) al) ms)) is
+with_way places.Trace n al ms way =
+    let is : type_name ≡ n = some_name type_name n way in
+    ap (λ t. object (with_property type_name (with_aliases t al) ms)) (sym trace_type_place)
+    ∙ ap (λ x. object (with_property x (with_aliases (place_under places.Trace x) al) ms)) is
+with_way places.TraceType n al ms way =
+    let is : aliases_name ≡ n = some_name aliases_name n way in
+    ap (λ t. object (with_property aliases_name (with_aliases t al) ms)) (sym aliases_place)
+    ∙ ap (λ x. object (with_property x (with_aliases (place_under places.TraceType x) al) ms)) is
+with_way _ n al ms way = let bad : None ≡ Some n = way in cc
+
+then_then : (f g : Data → Option Data) (o : Option Data) → option_and_then f (option_and_then g o) ≡ option_and_then (λ d. option_and_then f (g d)) o
+then_then f g None = refl
+then_then f g (Some d) = refl
+
+pub at_way : (s : Place) (n : List ℕ) (ms : Members) → way_to_aliases s ≡ Some n → aliases_at s (object ms) ≡ option_and_then (aliases_at (place_under s n)) (get_member n ms)
+unfolding way_to_aliases
+at_way places.Root n ms way =
+    let is : trace_name ≡ n = some_name trace_name n way in
+    then_then (get aliases_name) (get type_name) (get_member trace_name ms)
+    ∙ ap (λ t. option_and_then (aliases_at t) (get_member trace_name ms)) (sym trace_place)
+    ∙ ap (λ x. option_and_then (aliases_at (place_under places.Root x)) (get_member x ms)) is
+at_way places.Trace n ms way =
+    let is : type_name ≡ n = some_name type_name n way in
+    ap (λ t. option_and_then (aliases_at t) (get_member type_name ms)) (sym trace_type_place)
+    ∙ ap (λ x. option_and_then (aliases_at (place_under places.Trace x)) (get_member x ms)) is
+at_way places.TraceType n ms way =
+    let is : aliases_name ≡ n = some_name aliases_name n way in
+    then_some (get_member aliases_name ms)
+    ∙ ap (λ t. option_and_then (aliases_at t) (get_member aliases_name ms)) (sym aliases_place)
+    ∙ ap (λ x. option_and_then (aliases_at (place_under places.TraceType x)) (get_member x ms)) is
+at_way _ n ms way = let bad : None ≡ Some n = way in cc
+
+-- a name on the way leads on
+pub way_leads : (s : Place) (n : List ℕ) → way_to_aliases s ≡ Some n → holds_aliases (place_under s n) ≡ true
+unfolding way_to_aliases holds_aliases
+way_leads places.Root n way = ap (λ x. holds_aliases (place_under places.Root x)) (sym (some_name trace_name n way)) ∙ ap holds_aliases trace_place
+way_leads places.Trace n way = ap (λ x. holds_aliases (place_under places.Trace x)) (sym (some_name type_name n way)) ∙ ap holds_aliases trace_type_place
+way_leads places.TraceType n way = ap (λ x. holds_aliases (place_under places.TraceType x)) (sym (some_name aliases_name n way)) ∙ ap holds_aliases aliases_place
+way_leads _ n way = let bad : None ≡ Some n = way in cc
+
+-- an object with no such name is that of the aliases
+pub no_way : (s : Place) (P : Place → Type 0) → holds_aliases s ≡ true → way_to_aliases s ≡ None → P places.FieldTypeAliases → P s
+unfolding way_to_aliases holds_aliases
+no_way places.Root P above none p = let bad : Some trace_name ≡ None = none in cc
+no_way places.Trace P above none p = let bad : Some type_name ≡ None = none in cc
+no_way places.TraceType P above none p = let bad : Some aliases_name ≡ None = none in cc
+no_way places.FieldTypeAliases P above none p = p
+no_way _ P above none p = absurd (true≢false (sym above))
+
+-- such an object is taken whole
+pub their_own : (s : Place) (ms : Members) → holds_aliases s ≡ true → way_to_aliases s ≡ None → (ms ≡ members_or_none (aliases_at s (object ms))) × (object no_members ≡ with_aliases s no_members (object ms))
+unfolding with_aliases
+their_own s ms above none = no_way s (λ x. (ms ≡ members_or_none (aliases_at x (object ms))) × (object no_members ≡ with_aliases x no_members (object ms))) above none (refl, refl)
+
+-- the names of a map are in order
+pub in_order : (es : List Entry) → IsStrictlySortedBy string_cmp (keys_of es) → IsInOrder (members_view es)
+unfolding IsStrictlySortedBy
+in_order [] h = tt
+in_order (e ∷ es) h = (above_of e.0 es h.0, in_order es h.1)
+
+-- ---- what is wrong at the places, whatever sound aliases there are
+
+module _ (al done : Members) where
+  abbrev parts : Place → Data → List Flaw
+  parts s v = place_flaws al done s v ++ inner_places al done s v
+
+  module _ (s : Place) (n : List ℕ) (f g : Data → Data) (alike : (d : Data) → parts (place_under s n) (f d) ≡ parts (place_under s n) (g d)) where
+    members_alike : (ms : Members) → member_places al done s (with_property n f ms) ≡ member_places al done s (with_property n g ms)
+    members_alike no_members = refl
+    members_alike (member k d ms) = go (bytes_eq k n) refl (members_alike ms)
+      where
+        go : (t : Bool) → bytes_eq k n ≡ t → member_places al done s (with_property n f ms) ≡ member_places al done s (with_property n g ms) → member_places al done s (with_property n f (member k d ms)) ≡ member_places al done s (with_property n g (member k d ms))
+        go true is rest =
+            let here : parts (place_under s k) (f d) ≡ parts (place_under s k) (g d) = subst (λ x. parts (place_under s x) (f d) ≡ parts (place_under s x) (g d)) (sym ((bytes_eq-Decides k n).0 is)) (alike d) in
+            rw is (ap (λ fs. map (within (key k)) fs ++ member_places al done s ms) here)
+        go false is rest = rw is (ap (λ fs. map (within (key k)) (parts (place_under s k) d) ++ fs) rest)
+
+    alike_under : (v : Data) → inner_places al done s (in_property n f v) ≡ inner_places al done s (in_property n g v)
+    alike_under null = refl
+    alike_under (boolean b) = refl
+    alike_under (number x) = refl
+    alike_under (string x) = refl
+    alike_under (array es) = refl
+    alike_under (object ms) = ap (λ fs. if leads_on s then fs else []) (members_alike ms)
+
+  module _ (ms ns : Members) (alike : member_places al done places.FieldTypeAliases ms ≡ member_places al done places.FieldTypeAliases ns) where
+    alike_object : (v : Data) → inner_places al done places.FieldTypeAliases (in_object ms v) ≡ inner_places al done places.FieldTypeAliases (in_object ns v)
+    unfolding leads_on
+    alike_object null = refl
+    alike_object (boolean b) = refl
+    alike_object (number x) = refl
+    alike_object (string x) = refl
+    alike_object (array es) = refl
+    alike_object (object os) = alike
+
+    alike_aliases : (t : Data) → inner_places al done places.Root (with_aliases places.Root ms t) ≡ inner_places al done places.Root (with_aliases places.Root ns t)
+    unfolding with_aliases place_flaws names_alias names_member_type lists_extra_members
+    alike_aliases t =
+        let own : (d : Data) → parts (place_under places.TraceType aliases_name) (in_object ms d) ≡ parts (place_under places.TraceType aliases_name) (in_object ns d)
+        = λ d. subst (λ p. parts p (in_object ms d) ≡ parts p (in_object ns d)) (sym aliases_place) (alike_object d) in
+        let type : (d : Data) → parts (place_under places.Trace type_name) (in_property aliases_name (in_object ms) d) ≡ parts (place_under places.Trace type_name) (in_property aliases_name (in_object ns) d)
+        = λ d. subst (λ p. parts p (in_property aliases_name (in_object ms) d) ≡ parts p (in_property aliases_name (in_object ns) d)) (sym trace_type_place) (alike_under places.TraceType aliases_name (in_object ms) (in_object ns) own d) in
+        let trace : (d : Data) → parts (place_under places.Root trace_name) (in_property type_name (in_property aliases_name (in_object ms)) d) ≡ parts (place_under places.Root trace_name) (in_property type_name (in_property aliases_name (in_object ns)) d)
+        = λ d. subst (λ p. parts p (in_property type_name (in_property aliases_name (in_object ms)) d) ≡ parts p (in_property type_name (in_property aliases_name (in_object ns)) d)) (sym trace_place)
+        (alike_under places.Trace type_name (in_property aliases_name (in_object ms)) (in_property aliases_name (in_object ns)) type d) in
+        alike_under places.Root trace_name (in_property type_name (in_property aliases_name (in_object ms))) (in_property type_name (in_property aliases_name (in_object ns))) trace t
+
+  -- those of a configuration without its aliases are those with them
+  pub places_without : (ms : Members) (v : Data) → with_aliases places.Root no_members v ≡ v → member_places al done places.FieldTypeAliases ms ≡ [] → inner_places al done places.Root v ≡ inner_places al done places.Root (with_aliases places.Root ms v)
+  places_without ms v bare sound = ap (inner_places al done places.Root) (sym bare) ∙ alike_aliases no_members ms (sym sound) v
+
+-- ---- what is laid
+
+-- an object stays one
+pub with_object : (s : Place) (al ms : Members) → with_aliases s al (object ms) ≡ object (properties_of (with_aliases s al (object ms)))
+unfolding with_aliases
+with_object places.Root al ms = refl
+with_object places.Trace al ms = refl
+with_object places.TraceType al ms = refl
+with_object places.FieldTypeAliases al ms = refl
+with_object _ al ms = refl
+
+-- the resolved aliases are the laid ones, whatever stood in their place
+pub laid_themselves : (done al : Members) (s : Place) (ms : Members) → holds_aliases s ≡ true → way_to_aliases s ≡ None → AreLaid done al → done ≡ lay_members done s (properties_of (with_aliases s al (object ms))) no_members
+unfolding with_aliases
+laid_themselves done al s ms above none laid = no_way s (λ x. done ≡ lay_members done x (properties_of (with_aliases x al (object ms))) no_members) above none laid
+
+-- a value of another kind is no object
+null_view : as_object (view values.Null) ≡ None
+null_view = search (rules, the_lemmas)
+
+flag_view : (b : Bool) → as_object (view (values.Bool b)) ≡ None
+flag_view b = search (rules, the_lemmas)
+
+number_view : (n : Number) → as_object (view (values.Number n)) ≡ None
+number_view n = search (rules, the_lemmas)
+
+text_view : (s : String Global) → as_object (view (values.String s)) ≡ None
+text_view s = search (rules, the_lemmas)
+
+list_view : (es : Vec Value Global) → as_object (view (values.Array es)) ≡ None
+list_view es = search (rules, the_lemmas)
+
+abbrev pub IsOther : Value → Type 0
+IsOther v = (v ≡ values.Null) ⊎ (((b : Bool) × (v ≡ values.Bool b)) ⊎ (((n : Number) × (v ≡ values.Number n)) ⊎ (((s : String Global) × (v ≡ values.String s)) ⊎ ((es : Vec Value Global) × (v ≡ values.Array es)))))
+
+pub no_object : (v : Value) → IsOther v → as_object (view v) ≡ None
+no_object v (inl e) = ap (λ x. as_object (view x)) e ∙ null_view
+no_object v (inr (inl e)) = ap (λ x. as_object (view x)) e.1 ∙ flag_view e.0
+no_object v (inr (inr (inl e))) = ap (λ x. as_object (view x)) e.1 ∙ number_view e.0
+no_object v (inr (inr (inr (inl e)))) = ap (λ x. as_object (view x)) e.1 ∙ text_view e.0
+no_object v (inr (inr (inr (inr e)))) = ap (λ x. as_object (view x)) e.1 ∙ list_view e.0
+
+-- what is no object has no aliases
+abbrev AsItIs : Place → Members → Data → Type 0
+AsItIs s al v = (with_aliases s al v ≡ v) × (no_members ≡ members_or_none (aliases_at s v))
+
+module _ (al : Members) where
+  root_as_it_is : (v : Data) → as_object v ≡ None → AsItIs places.Root al v
+  unfolding with_aliases
+  root_as_it_is null h = (refl, refl)
+  root_as_it_is (boolean b) h = (refl, refl)
+  root_as_it_is (number n) h = (refl, refl)
+  root_as_it_is (string n) h = (refl, refl)
+  root_as_it_is (array es) h = (refl, refl)
+  root_as_it_is (object ms) h = cc
+
+  trace_as_it_is : (v : Data) → as_object v ≡ None → AsItIs places.Trace al v
+  unfolding with_aliases
+  trace_as_it_is null h = (refl, refl)
+  trace_as_it_is (boolean b) h = (refl, refl)
+  trace_as_it_is (number n) h = (refl, refl)
+  trace_as_it_is (string n) h = (refl, refl)
+  trace_as_it_is (array es) h = (refl, refl)
+  trace_as_it_is (object ms) h = cc
+
+  type_as_it_is : (v : Data) → as_object v ≡ None → AsItIs places.TraceType al v
+  unfolding with_aliases
+  type_as_it_is null h = (refl, refl)
+  type_as_it_is (boolean b) h = (refl, refl)
+  type_as_it_is (number n) h = (refl, refl)
+  type_as_it_is (string n) h = (refl, refl)
+  type_as_it_is (array es) h = (refl, refl)
+  type_as_it_is (object ms) h = cc
+
+  own_as_it_is : (v : Data) → as_object v ≡ None → AsItIs places.FieldTypeAliases al v
+  unfolding with_aliases
+  own_as_it_is null h = (refl, refl)
+  own_as_it_is (boolean b) h = (refl, refl)
+  own_as_it_is (number n) h = (refl, refl)
+  own_as_it_is (string n) h = (refl, refl)
+  own_as_it_is (array es) h = (refl, refl)
+  own_as_it_is (object ms) h = cc
+
+  pub as_it_is : (s : Place) (v : Data) → as_object v ≡ None → AsItIs s al v
+  unfolding with_aliases
+  as_it_is places.Root v h = root_as_it_is v h
+  as_it_is places.Trace v h = trace_as_it_is v h
+  as_it_is places.TraceType v h = type_as_it_is v h
+  as_it_is places.FieldTypeAliases v h = own_as_it_is v h
+  as_it_is _ v h = (refl, refl)
+
+-- ---- what is answered
+
+module _ (al now : Members) (n : ℕ) (st : Outcomes) (v : Data) (bare : with_aliases places.Root no_members v ≡ v) (apart : NoClash al) (settled : st ≡ rounds al n no_outcomes) (spent : Spends st.done al now) where
+  abbrev whole : Data
+  whole = with_aliases places.Root al v
+
+  abbrev then_laid : ⊤ → Result Data Flaw
+  then_laid a = if_shallow (lay st.done places.Root whole None)
+
+  abbrev then_places : ⊤ → Result Data Flaw
+  then_places a = refusal (inner_places al st.done places.Root whole) >>= then_laid
+
+  alias_fault : from_aliases (refusal (all_alias_flaws al st al)) ≡ from_aliases (refusal (all_alias_flaws now st now))
+  alias_fault = ap (λ fs. from_aliases (refusal fs)) (sym (same_alias_flaws al now st spent))
+
+  -- the fault of an alias
+  pub refused_alias : (flaw : Flaw) → from_aliases (refusal (all_alias_flaws now st now)) ≡ Err flaw → resolution_after al st whole ≡ Err flaw
+  refused_alias flaw e = ap (λ a. a >>= then_places) (alias_fault ∙ e)
+
+  module _ (sound : from_aliases (refusal (all_alias_flaws now st now)) ≡ Ok tt) where
+    place_fault : refusal (inner_places al st.done places.Root whole) ≡ refusal (inner_places now st.done places.Root v)
+    place_fault =
+        let none = whole_sound al n st apart settled (alias_fault ∙ sound) in
+        ap refusal (sym (same_places al now st.done (same_names st.done al now spent) places.Root v ∙ places_without al st.done al v bare none))
+
+    -- the fault of a place
+    pub refused_place : (flaw : Flaw) → refusal (inner_places now st.done places.Root v) ≡ Err flaw → resolution_after al st whole ≡ Err flaw
+    refused_place flaw e = ap (λ a. a >>= then_places) (alias_fault ∙ sound) ∙ ap (λ a. a >>= then_laid) (place_fault ∙ e)
+
+    pub aliases_laid : AreLaid st.done al
+    aliases_laid = whole_laid al n st apart settled (alias_fault ∙ sound)
+
+    -- or what is laid
+    pub answered : refusal (inner_places now st.done places.Root v) ≡ Ok tt → resolution_after al st whole ≡ if_shallow (lay st.done places.Root whole None)
+    answered e = ap (λ a. a >>= then_places) (alias_fault ∙ sound) ∙ ap (λ a. a >>= then_laid) (place_fault ∙ e)
