@@ -73,7 +73,11 @@ fn outcome(
 fn is_known(value: &Value, outcomes: &AliasOutcomes) -> bool
     ensures { result ≡ all_named (has (outcomes_of outcomes.now).done) Place.FieldType (view value.now) }
 {
-    all_named(value, Place::FieldType, Asked::IsResolved(&outcomes.resolved))
+    all_named(
+        value,
+        Place::FieldType,
+        Asked::IsResolved(&outcomes.resolved),
+    )
 }
 
 /// Gives an alias its outcome, if all that it names have theirs. `known` says whether all that it names is resolved.
