@@ -20,4 +20,5 @@ pub mod AliasOutcomes
 pub mod Asked
 pub mod Resolution
 pub mod Whole
+pub mod NestingBeside
 pub mod Faults

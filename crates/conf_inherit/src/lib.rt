@@ -12,6 +12,7 @@ mod laying;
 mod limits;
 mod named;
 mod nesting;
+mod nesting_beside;
 mod outcomes;
 mod places;
 mod property;

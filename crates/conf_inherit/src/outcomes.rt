@@ -1,4 +1,11 @@
 //! What became of the aliases so far.
+ghost use Rattle.std.specs.Prelude.{◌≡◌, true};
+ghost use Rattle.serde_json.specs.View.{members_view};
+ghost use Rattle.conf_inherit.specs.Nesting.{members_nest};
+ghost use Rattle.conf_inherit.specs.declared.nesting_beside.TheConstants.{ALIAS_LEVELS};
+
+use crate::nesting::nests;
+use crate::nesting_beside::ALIAS_LEVELS;
 use crate::property::{has, put_property};
 use serde_json::{Map, Value};
 use std::alloc::{AllocError, Global};
@@ -10,6 +17,9 @@ pub(crate) struct AliasOutcomes {
     pub resolved: Map<String, Value>,
     /// The name of each alias that can't be resolved, with null.
     pub refused: Map<String, Value>,
+    /// Whether each resolved alias is known to nest at most `ALIAS_LEVELS` levels.
+    pub shallow: bool,
+    ghost nested: { shallow ≡ true → members_nest (members_view resolved.entries) ALIAS_LEVELS ≡ true },
 }
 
 impl AliasOutcomes {
@@ -25,6 +35,7 @@ impl AliasOutcomes {
         AliasOutcomes {
             resolved: Map::new(alloc),
             refused: Map::new(alloc),
+            shallow: true,
         }
     }
 
@@ -39,7 +50,11 @@ impl AliasOutcomes {
     pub(crate) fn resolve(&mut self, name: &String, alias: Value) -> Result<(), AllocError>
         ensures { OnOk result (outcomes_of self.new ≡ concluded (string_bytes name.now) (outcomes_of self.old) (Some (view alias))) }
     {
+        let shallow = self.shallow && nests(&alias, ALIAS_LEVELS);
+        // Of an alias that may be in or not, where memory runs out, nothing is said.
+        self.shallow = false;
         drop(put_property(&mut self.resolved, name, alias)?);
+        self.shallow = shallow;
         Ok(())
     }
 

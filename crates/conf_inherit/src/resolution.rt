@@ -1,5 +1,5 @@
 //! Resolves the inheritance of a configuration.
-ghost use Rattle.std.specs.Prelude.{◌≡◌, ◌⊎◌, ℕ, None, IfOk, IfErr, false};
+ghost use Rattle.std.specs.Prelude.{◌≡◌, ◌⊎◌, ℕ, None, IfOk, IfErr, false, true};
 ghost use Rattle.conf_tree.specs.Flaw.{flaw_of, IsMemory};
 ghost use Rattle.conf_tree.specs.Order.{Ascends};
 ghost use Rattle.conf_tree.specs.Reading.{Gives};
@@ -9,6 +9,7 @@ ghost use Rattle.conf_inherit.specs.AliasOutcomes.{outcomes_of};
 ghost use Rattle.conf_inherit.specs.Faults.{RefusalHolds};
 ghost use Rattle.conf_inherit.specs.Laying.{lay};
 ghost use Rattle.conf_inherit.specs.Names.{NoClash};
+ghost use Rattle.conf_inherit.specs.Nesting.{members_nest};
 ghost use Rattle.conf_inherit.specs.Rounds.{rounds, no_outcomes};
 ghost use Rattle.conf_inherit.specs.Spent.{Spends};
 ghost use Rattle.conf_inherit.specs.Whole.{with_aliases, AreLaid};
@@ -18,7 +19,7 @@ ghost use Rattle.serde_json.specs.Written.{has_float};
 ghost use Rattle.conf_inherit.specs.Resolution.{aliases_of, Resolves, in_aliases, from_aliases, if_shallow, resolution_after, resolution};
 
 use crate::alias_check::check_aliases;
-use crate::nesting::check_nesting;
+use crate::nesting_beside::{ALIAS_LEVELS, check_levels};
 use crate::outcomes::AliasOutcomes;
 use crate::places::check_places;
 use crate::rounds::settle_aliases;
@@ -56,15 +57,21 @@ fn check_all_aliases(
 }
 
 /// The resolved configuration, unless it nests too deep. Each field type in it is within the limits, so none holds
-/// for the whole.
+/// for the whole. `shallow` says that each resolved alias is known to nest at most `ALIAS_LEVELS` levels.
 #[tactic(auto, unfolding(crate::specs::Whole::holds_aliases))]
-fn lay_all(alloc: Global, value: &Value, resolved: Map<String, Value>) -> Result<Value, ConfFault>
+fn lay_all(
+    alloc: Global,
+    value: &Value,
+    resolved: Map<String, Value>,
+    shallow: bool,
+) -> Result<Value, ConfFault>
+    requires shallow { shallow ≡ true → members_nest (members_view resolved.entries) ALIAS_LEVELS ≡ true }
     ensures first { (al : Members) → AreLaid (members_view resolved.entries) al
         → Gives view result (if_shallow (lay (members_view resolved.entries) Place.Root (with_aliases Place.Root al (view value.now)) None)) }
 {
     match lay_whole(alloc, Place::Root, value, resolved) {
         Ok(resolved) => {
-            check_nesting(alloc, &resolved, 32)?;
+            check_levels(alloc, &resolved, shallow)?;
             Ok(resolved)
         }
         Err(Stop::Memory) => Err(ConfFault::memory(alloc)),
@@ -89,8 +96,9 @@ fn resolve_after(
     let AliasOutcomes {
         resolved,
         refused: _,
+        shallow,
     } = outcomes;
-    lay_all(alloc, value, resolved)
+    lay_all(alloc, value, resolved, shallow)
 }
 
 /// The resolution of the configuration that these aliases were taken out of.

@@ -4,6 +4,7 @@ ghost use Rattle.serde_json.specs.Data.{object, no_members, Members};
 ghost use Rattle.serde_json.specs.View.{view, members_view};
 ghost use Rattle.conf_inherit.specs.Laying.{lay, lay_members};
 ghost use Rattle.conf_inherit.specs.Names.{properties_of};
+ghost use Rattle.conf_inherit.specs.NestingBeside.{AliasesAre};
 ghost use Rattle.conf_inherit.specs.Resolution.{members_or_none};
 ghost use Rattle.conf_inherit.specs.Whole.{holds_aliases, aliases_at, with_aliases, without, AreLaid};
 
@@ -63,6 +64,7 @@ pub(crate) fn lay_whole(
     requires above { holds_aliases place ≡ true }
     ensures laid { IfOk result (λ laid. (al : Members) → AreLaid (members_view resolved.entries) al
         → view laid ≡ lay (members_view resolved.entries) place (with_aliases place al (view value.now)) None) }
+    ensures aliases { IfOk result (λ laid. AliasesAre (members_view resolved.entries) place (view laid)) }
     ensures memory { IfErr result (λ stop. stop ≡ Stop.Memory) }
 {
     match value {
@@ -87,6 +89,7 @@ fn lay_whole_members(
     requires above { holds_aliases place ≡ true }
     ensures laid { IfOk result (λ laid. (al : Members) → AreLaid (members_view resolved.entries) al
         → members_view laid.entries ≡ lay_members (members_view resolved.entries) place (properties_of (with_aliases place al (object (members_view members.now.entries)))) no_members) }
+    ensures aliases { IfOk result (λ laid. AliasesAre (members_view resolved.entries) place (object (members_view laid.entries))) }
     ensures memory { IfErr result (λ stop. stop ≡ Stop.Memory) }
 {
     let Some(way) = way_to_aliases(place) else {
