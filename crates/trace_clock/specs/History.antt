@@ -24,6 +24,10 @@ times x xs = count_by (λ y. nat_eq y x) xs
 abbrev pub drawings : ℕ → List View → ℕ
 drawings x views = sum_by (λ (v : View). times x v.drawn) views
 
+-- each number stands in both equally often
+abbrev pub HaveSameNumbers : List ℕ → List ℕ → Type 0
+HaveSameNumbers xs ys = (x : ℕ) → times x xs ≡ times x ys
+
 -- each number stands there at most once
 abbrev pub EachOnce : List ℕ → Type 0
 EachOnce xs = (x : ℕ) → times x xs ≤ 1

@@ -1,8 +1,8 @@
-use Rattle.std.proofs.Common.{◌≡◌, ◌≤◌, List, [], ◌∷◌, ◌++◌, length, refl, sym, ap, append_assoc, append-nil, arith, flat_map, subst, rules, ◌∙◌}
+use Rattle.std.proofs.Common.{◌≡◌, List, [], ◌∷◌, ◌++◌, length, refl, sym, ap, append_assoc, append-nil, arith, flat_map, subst, rules, ◌∙◌}
 use Rattle.std.specs.Vec.Iter.{into_iter_items}
 use Rattle.std.proofs.lemmas.List.Sums.{sum_by_push}
 use Rattle.trace_clock.specs.declared.view.View.{View}
-use Rattle.trace_clock.specs.History.{times}
+use Rattle.trace_clock.specs.History.{times, HaveSameNumbers}
 use Rattle.trace_clock.specs.Seats.{drawn, quota_of}
 use Rattle.trace_clock.proofs.Histories.{each_once}
 use Rattle.trace_clock.proofs.Merging.{times-append, times_flat_push, times_merged}
@@ -50,11 +50,15 @@ loop-seat-preserved c =
       once = each_once _ _ c.join.ensures.history;
     }
 
-pub returns-clause-once : goal.returns-clause-once
-returns-clause-once c x =
+pub returns-clause-drawn : goal.returns-clause-drawn
+returns-clause-drawn c =
     let at = c.loop-seat in
     let empty : into_iter_items at.seat-iterator ≡ [] = nothing_left _ (sym at.invariant.left ∙ c.in-None.ensures.steps.0) in
     let e : at.yielded ≡ c.args.others.items = sym (append-nil at.yielded) ∙ rw empty at at.invariant.seen ∙ c.into_iter-seat-iterator.ensures.into_iter_gives.0 in
-    let n = c.loop-seat.invariant.numbers x in
-    let o = c.loop-seat.invariant.once x in
-    subst (λ ys. times x (drawn c.args.first ++ flat_map drawn ys) ≤ 1) e (omega (arith, n, o))
+    subst (λ ys. HaveSameNumbers (drawn at.all) (drawn c.args.first ++ flat_map drawn ys)) e at.invariant.numbers
+
+pub returns-clause-once : goal.returns-clause-once
+returns-clause-once c x =
+    let same = returns-clause-drawn c x in
+    let once = c.loop-seat.invariant.once x in
+    omega (arith, same, once)
