@@ -13,6 +13,10 @@ needed id = record (new_rule id) { value_names = 1; required = true }
 abbrev pub valued : Text → Rule
 valued id = record (new_rule id) { long = Some id; value_names = 1 }
 
+-- an option without a value
+abbrev pub flag : Text → Rule
+flag id = record (new_rule id) { long = Some id; action = Some SetTrue }
+
 abbrev pub config : Rule
 config = needed (codes "config")
 
@@ -32,16 +36,16 @@ abbrev pub uuid : Rule
 uuid = valued (codes "uuid")
 
 abbrev pub quiet : Rule
-quiet = record (new_rule (codes "quiet")) { long = Some (codes "quiet"); action = Some SetTrue }
+quiet = flag (codes "quiet")
 
 abbrev pub workers : Rule
-workers = record (new_rule (codes "workers")) { long = Some (codes "workers"); action = Some SetTrue }
+workers = flag (codes "workers")
 
 abbrev pub quota : Rule
 quota = valued (codes "quota")
 
 abbrev pub resume : Rule
-resume = record (new_rule (codes "resume")) { long = Some (codes "resume"); action = Some SetTrue }
+resume = flag (codes "resume")
 
 abbrev pub shape_with : Text → List Rule → Shape
 shape_with name rules = record (new_shape name) { rules = rules }

@@ -21,14 +21,14 @@ pub fn program<'a>(alloc: Global) -> Result<Command<'a>, AllocError>
 fn judging<'a>(alloc: Global) -> Result<Command<'a>, AllocError>
     ensures words { IfOk result (λ c. app_of c ≡ words.judging) }
 {
-    bare(alloc)
+    bare(alloc)?
         .subcommand(check_words(alloc)?)?
         .subcommand(metadata_words(alloc)?)
 }
 
-/// The program without commands.
-fn bare<'a>(alloc: Global) -> Command<'a>
-    ensures words { app_of result ≡ words.own }
+/// The program without commands. The usage lines of its commands begin with its name.
+fn bare<'a>(alloc: Global) -> Result<Command<'a>, AllocError>
+    ensures words { IfOk result (λ c. app_of c ≡ words.own) }
 {
     Command::new(alloc, "ctftrace")
         .version("0.1.0")
@@ -38,6 +38,7 @@ fn bare<'a>(alloc: Global) -> Command<'a>
         .after_help(STATUSES)
         .no_binary_name(true)
         .subcommand_required(true)
+        .bin_name("ctftrace")
 }
 
 /// What the statuses say, below each help.
@@ -76,9 +77,22 @@ fn trace_words<'a>(alloc: Global) -> Result<Command<'a>, AllocError>
     ensures local { IfOk result (λ c. (fields_of c).has_globals ≡ false) }
 {
     trace_wishes(alloc)?
-        .arg(workers_word(alloc))?
-        .arg(quota_word(alloc))?
-        .arg(resume_word(alloc))
+        .arg(flag(
+            alloc,
+            "workers",
+            "Traces each stream in a thread of its own, all by one clock; without the script's collections and readings",
+        ))?
+        .arg(option(
+            alloc,
+            "quota",
+            "Q",
+            "With --workers: the readings of each stream, from 0 to 288230376151711743 [default: 1000000]",
+        ))?
+        .arg(flag(
+            alloc,
+            "resume",
+            "Goes on behind the trace in DIR, which has this configuration's metadata",
+        ))
 }
 
 fn trace_wishes<'a>(alloc: Global) -> Result<Command<'a>, AllocError>
@@ -94,9 +108,21 @@ fn trace_sizes<'a>(alloc: Global) -> Result<Command<'a>, AllocError>
     ensures words { IfOk result (λ c. shape_of c ≡ words.trace_sizes) }
     ensures local { IfOk result (λ c. (fields_of c).has_globals ≡ false) }
 {
+    let packet = option(
+        alloc,
+        "packet",
+        "BYTES",
+        "The bytes of a packet, from 1 to 1048576",
+    );
+    let buffers = option(
+        alloc,
+        "buffers",
+        "N",
+        "The packets that a stream keeps until they are collected, from 1 to 1024",
+    );
     trace_places(alloc)?
-        .arg(packet_word(alloc))?
-        .arg(buffers_word(alloc))
+        .arg(packet.default_value("4096"))?
+        .arg(buffers.default_value("4"))
 }
 
 fn trace_places<'a>(alloc: Global) -> Result<Command<'a>, AllocError>
@@ -110,8 +136,18 @@ fn trace_places<'a>(alloc: Global) -> Result<Command<'a>, AllocError>
         "Examples: ctftrace trace conf.json script.json trace\n          ctftrace trace conf.json script.json threads --workers --quota 1000\n          ctftrace trace conf.json more.json trace --resume\n\nStatus: 0; 1 the configuration or the script has a fault, or the trace in DIR does not go on; 2 a bad command line; 3 a file, a thread or memory failed",
     )
     .arg(config_word(alloc))?
-    .arg(script_word(alloc))?
-    .arg(new_folder_word(alloc))
+    .arg(needed(
+        alloc,
+        "script",
+        "SCRIPT",
+        "The file of the script, as JSON: streams and events",
+    ))?
+    .arg(needed(
+        alloc,
+        "folder",
+        "DIR",
+        "The folder that is made for the trace, or with --resume that of the trace",
+    ))
 }
 
 fn read_words<'a>(alloc: Global) -> Result<Command<'a>, AllocError>
@@ -124,7 +160,12 @@ fn read_words<'a>(alloc: Global) -> Result<Command<'a>, AllocError>
         "Prints the trace in a folder",
         "Example: ctftrace read trace\n\nStatus: 0; 1 the metadata or a stream file has a fault; 2 a bad command line; 3 a file or memory failed",
     )
-    .arg(folder_word(alloc))?
+    .arg(needed(
+        alloc,
+        "folder",
+        "DIR",
+        "The folder of the trace: its `metadata`, and a file for each stream",
+    ))?
     .arg(quiet_word(alloc))
 }
 
@@ -139,69 +180,22 @@ fn config_word<'a>(alloc: Global) -> Arg<'a>
     ensures rule { rule_of result ≡ words.config }
     ensures local { result.global ≡ false }
 {
-    Arg::new(alloc, "config")
-        .value_name("CONFIG")
-        .help("The file of the configuration, as JSON")
-        .required(true)
-}
-
-fn script_word<'a>(alloc: Global) -> Arg<'a>
-    ensures rule { rule_of result ≡ words.script }
-    ensures local { result.global ≡ false }
-{
-    Arg::new(alloc, "script")
-        .value_name("SCRIPT")
-        .help("The file of the script, as JSON: streams and events")
-        .required(true)
-}
-
-fn new_folder_word<'a>(alloc: Global) -> Arg<'a>
-    ensures rule { rule_of result ≡ words.folder }
-    ensures local { result.global ≡ false }
-{
-    Arg::new(alloc, "folder")
-        .value_name("DIR")
-        .help("The folder that is made for the trace, or with --resume that of the trace")
-        .required(true)
-}
-
-fn folder_word<'a>(alloc: Global) -> Arg<'a>
-    ensures rule { rule_of result ≡ words.folder }
-    ensures local { result.global ≡ false }
-{
-    Arg::new(alloc, "folder")
-        .value_name("DIR")
-        .help("The folder of the trace: its `metadata`, and a file for each stream")
-        .required(true)
-}
-
-fn packet_word<'a>(alloc: Global) -> Arg<'a>
-    ensures rule { rule_of result ≡ words.packet }
-    ensures local { result.global ≡ false }
-{
-    Arg::new(alloc, "packet")
-        .long("packet")
-        .value_name("BYTES")
-        .help("The bytes of a packet, from 1 to 1048576")
-        .default_value("4096")
-}
-
-fn buffers_word<'a>(alloc: Global) -> Arg<'a>
-    ensures rule { rule_of result ≡ words.buffers }
-    ensures local { result.global ≡ false }
-{
-    Arg::new(alloc, "buffers")
-        .long("buffers")
-        .value_name("N")
-        .help("The packets that a stream keeps until they are collected, from 1 to 1024")
-        .default_value("4")
+    needed(
+        alloc,
+        "config",
+        "CONFIG",
+        "The file of the configuration, as JSON",
+    )
 }
 
 fn uuid_word<'a>(alloc: Global) -> Arg<'a>
     ensures rule { rule_of result ≡ words.uuid }
     ensures local { result.global ≡ false }
 {
-    Arg::new(alloc, "uuid").long("uuid").value_name("U").help(
+    option(
+        alloc,
+        "uuid",
+        "U",
         "The trace's identifier, where the configuration says `auto`",
     )
 }
@@ -210,39 +204,35 @@ fn quiet_word<'a>(alloc: Global) -> Arg<'a>
     ensures rule { rule_of result ≡ words.quiet }
     ensures local { result.global ≡ false }
 {
-    Arg::new(alloc, "quiet")
-        .long("quiet")
-        .help("Says no progress on a terminal")
-        .action(ArgAction::SetTrue)
+    flag(alloc, "quiet", "Says no progress on a terminal")
 }
 
-fn workers_word<'a>(alloc: Global) -> Arg<'a>
-    ensures rule { rule_of result ≡ words.workers }
+/// A word that is needed at its place.
+fn needed<'a>(alloc: Global, id: &'a str, name: &'a str, help: &'a str) -> Arg<'a>
+    ensures rule { rule_of result ≡ words.needed id.now }
     ensures local { result.global ≡ false }
 {
-    Arg::new(alloc, "workers")
-        .long("workers")
-        .help(
-            "Traces each stream in a thread of its own, all by one clock; without the script's collections and readings",
-        )
-        .action(ArgAction::SetTrue)
+    Arg::new(alloc, id)
+        .value_name(name)
+        .help(help)
+        .required(true)
 }
 
-fn quota_word<'a>(alloc: Global) -> Arg<'a>
-    ensures rule { rule_of result ≡ words.quota }
+/// An option with a value, named as its long form is.
+fn option<'a>(alloc: Global, id: &'a str, name: &'a str, help: &'a str) -> Arg<'a>
+    ensures rule { rule_of result ≡ words.valued id.now }
     ensures local { result.global ≡ false }
 {
-    Arg::new(alloc, "quota").long("quota").value_name("Q").help(
-        "With --workers: the readings of each stream, from 0 to 288230376151711743 [default: 1000000]",
-    )
+    Arg::new(alloc, id).long(id).value_name(name).help(help)
 }
 
-fn resume_word<'a>(alloc: Global) -> Arg<'a>
-    ensures rule { rule_of result ≡ words.resume }
+/// An option without a value.
+fn flag<'a>(alloc: Global, id: &'a str, help: &'a str) -> Arg<'a>
+    ensures rule { rule_of result ≡ words.flag id.now }
     ensures local { result.global ≡ false }
 {
-    Arg::new(alloc, "resume")
-        .long("resume")
-        .help("Goes on behind the trace in DIR, which has this configuration's metadata")
+    Arg::new(alloc, id)
+        .long(id)
+        .help(help)
         .action(ArgAction::SetTrue)
 }

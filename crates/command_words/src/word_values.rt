@@ -16,7 +16,7 @@ pub fn number(alloc: Global, option: &str, value: &str, most: u32) -> Result<u32
 {
     match value.parse::<u32>() {
         Ok(number) if 1 <= number && number <= most => Ok(number),
-        _ => Err(bad_value(alloc, option, value, "a whole number in its range")),
+        _ => Err(out_of_range(alloc, option, value, 1, u64::from(most))),
     }
 }
 
@@ -33,10 +33,20 @@ pub fn identifier(alloc: Global, value: Option<&str>) -> Result<Option<Uuid>, Li
         Ok(uuid) => Ok(Some(uuid)),
         Err(_) => Err(bad_value(
             alloc,
-            "--uuid <U>",
+            "uuid",
             text,
             "an identifier, as `urn:uuid:` or 32 hexadecimal digits in groups of 8, 4, 4, 4 and 12",
         )),
+    }
+}
+
+/// That the value of an option is no whole number from the least to the most.
+pub fn out_of_range(alloc: Global, option: &str, value: &str, least: u64, most: u64) -> LineFault
+    ensures { IsNoHelp result }
+{
+    match format!(in alloc; "a whole number from {least} to {most}") {
+        Ok(expected) => bad_value(alloc, option, value, expected.as_str()),
+        Err(_) => LineFault::OutOfMemory,
     }
 }
 
@@ -45,7 +55,7 @@ pub fn bad_value(alloc: Global, option: &str, value: &str, expected: &str) -> Li
     ensures { IsNoHelp result }
 {
     match format!(in alloc;
-        "error: invalid value '{value}' for '{option}': expected {expected}\n\nFor more information, try '--help'.\n"
+        "error: invalid value '{value}' for '--{option}': expected {expected}\n\nFor more information, try '--help'.\n"
     ) {
         Ok(text) => LineFault::Bad(text),
         Err(_) => LineFault::OutOfMemory,

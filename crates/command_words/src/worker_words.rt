@@ -9,7 +9,7 @@ ghost use Rattle.command_words.specs.LineFaults.{IsNoHelp};
 use crate::command_line::flag;
 use crate::line_fault::LineFault;
 use crate::quota::Quota;
-use crate::word_values::bad_value;
+use crate::word_values::{bad_value, out_of_range};
 use clap::ArgMatches;
 use std::alloc::Global;
 
@@ -31,7 +31,7 @@ pub fn workers(alloc: Global, found: &ArgMatches<'_>) -> Result<Option<Quota>, L
     }
     match said {
         None => Ok(None),
-        Some(text) => Err(bad_value(alloc, "--quota <Q>", text, "no quota without --workers")),
+        Some(text) => Err(bad_value(alloc, "quota", text, "no quota without --workers")),
     }
 }
 
@@ -55,6 +55,6 @@ fn readings(alloc: Global, text: &str) -> Result<Quota, LineFault>
 {
     match text.parse::<u64>() {
         Ok(readings) if readings < BOUND => Ok(Quota { readings }),
-        _ => Err(bad_value(alloc, "--quota <Q>", text, "a whole number in its range")),
+        _ => Err(out_of_range(alloc, "quota", text, 0, BOUND - 1)),
     }
 }
