@@ -49,47 +49,32 @@ no_struct_allowed : IsStruct [] no_struct
 unfolding AreMembers IsDistinct
 no_struct_allowed = record { members = tt; names = All-nil IsMetadataName; distinct = tt; few = lit≤ tt; empty = λ e. refl }
 
-magic_name : IsMetadataName (codes "magic")
-unfolding is_identifier
-magic_name = record { identifier = refl; no_keyword = refl }
-
-packet_size_name : IsMetadataName (codes "packet_size")
-unfolding is_identifier
-packet_size_name = record { identifier = refl; no_keyword = refl }
-
-content_size_name : IsMetadataName (codes "content_size")
-unfolding is_identifier
-content_size_name = record { identifier = refl; no_keyword = refl }
-
-v_name : IsMetadataName (codes "v")
-unfolding is_identifier
-v_name = record { identifier = refl; no_keyword = refl }
-
 header_allowed : IsStruct [] small_metadata.header
-unfolding AreMembers IsDistinct
+unfolding AreMembers IsDistinct is_identifier
 header_allowed = record {
   members = (number_allowed [] magic_type refl, tt);
-  names = all_one IsMetadataName (codes "magic") magic_name;
+  names = all_one IsMetadataName (codes "magic") (record { identifier = refl; no_keyword = refl });
   distinct = (tt, tt);
   few = lit≤ tt;
   empty = λ e. absurd (omega (arith, ap length e));
 }
 
 context_allowed : IsStruct [] small_stream.context
-unfolding AreMembers IsDistinct
+unfolding AreMembers IsDistinct is_identifier
 context_allowed = record {
   members = (number_allowed [] size_type refl, (number_allowed ((codes "packet_size", Plain (Int size_type)) ∷ []) size_type refl, tt));
-  names = All-cons IsMetadataName (codes "packet_size") (codes "content_size" ∷ []) packet_size_name (all_one IsMetadataName (codes "content_size") content_size_name);
+  names = All-cons IsMetadataName (codes "packet_size") (codes "content_size" ∷ []) (record { identifier = refl; no_keyword = refl })
+      (all_one IsMetadataName (codes "content_size") (record { identifier = refl; no_keyword = refl }));
   distinct = ((refl, tt), (tt, tt));
   few = lit≤ tt;
   empty = λ e. absurd (omega (arith, ap length e));
 }
 
 payload_allowed : IsStruct [] payload_type
-unfolding AreMembers IsDistinct
+unfolding AreMembers IsDistinct is_identifier
 payload_allowed = record {
   members = (number_allowed [] value_type refl, tt);
-  names = all_one IsMetadataName (codes "v") v_name;
+  names = all_one IsMetadataName (codes "v") (record { identifier = refl; no_keyword = refl });
   distinct = (tt, tt);
   few = lit≤ tt;
   empty = λ e. absurd (omega (arith, ap length e));
