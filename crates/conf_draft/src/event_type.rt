@@ -1,10 +1,7 @@
 //! Event record types (barectf 3.1, "Event record type object").
 ghost use Rattle.std.specs.Prelude.{◌≡◌, [], Some, IsSome, IfOk, OnOk, option_map};
-ghost use Rattle.serde_json.specs.Find.{get_member};
 ghost use Rattle.serde_json.specs.View.{view, members_view};
 ghost use Rattle.conf_draft.specs.Events.{event_types as event_types_in, events_behind, entry_behind, event_type as event_type_of, level_of};
-ghost use Rattle.conf_draft.specs.Features.{or_empty};
-ghost use Rattle.conf_draft.specs.Lookups.{natural_of as natural_of_value};
 
 use crate::lookup::object;
 use crate::structure::structure;
@@ -20,10 +17,10 @@ use std::alloc::{AllocError, Global};
 pub(crate) fn event_types(
     alloc: Global,
     stream_type: &Map<String, Value>,
-    levels: Option<&Map<String, Value>>,
+    levels: &Map<String, Value>,
 ) -> Result<ListOf<EventType>, AllocError>
-    requires { IsSome (event_types_in (or_empty (option_map (λ m. members_view m.now.entries) levels)) (members_view stream_type.now.entries)) }
-    ensures { IfOk result (λ e. event_types_in (or_empty (option_map (λ m. members_view m.now.entries) levels.entry)) (members_view stream_type.now.entries) ≡ Some e) }
+    requires { IsSome (event_types_in (members_view levels.now.entries) (members_view stream_type.now.entries)) }
+    ensures { IfOk result (λ e. event_types_in (members_view levels.now.entries) (members_view stream_type.now.entries) ≡ Some e) }
 {
     match object(stream_type, "event-record-types") {
         Some(named) => event_types_of(alloc, named, levels),
@@ -34,10 +31,10 @@ pub(crate) fn event_types(
 fn event_types_of(
     alloc: Global,
     named: &Map<String, Value>,
-    levels: Option<&Map<String, Value>>,
+    levels: &Map<String, Value>,
 ) -> Result<ListOf<EventType>, AllocError>
-    requires { IsSome (events_behind (or_empty (option_map (λ m. members_view m.now.entries) levels)) [] (members_view named.now.entries)) }
-    ensures { IfOk result (λ e. events_behind (or_empty (option_map (λ m. members_view m.now.entries) levels.entry)) [] (members_view named.now.entries) ≡ Some e) }
+    requires { IsSome (events_behind (members_view levels.now.entries) [] (members_view named.now.entries)) }
+    ensures { IfOk result (λ e. events_behind (members_view levels.now.entries) [] (members_view named.now.entries) ≡ Some e) }
 {
     let mut events = ListOf::new(alloc);
     for (name, value) in named.iter() {
@@ -51,10 +48,10 @@ fn push_event(
     events: &mut ListOf<EventType>,
     name: &str,
     value: &Value,
-    levels: Option<&Map<String, Value>>,
+    levels: &Map<String, Value>,
 ) -> Result<(), AllocError>
-    requires { IsSome (entry_behind (or_empty (option_map (λ m. members_view m.now.entries) levels)) events.old name.now (view value.now)) }
-    ensures { OnOk result (entry_behind (or_empty (option_map (λ m. members_view m.now.entries) levels.entry)) events.old name.now (view value.now) ≡ Some events.new) }
+    requires { IsSome (entry_behind (members_view levels.now.entries) events.old name.now (view value.now)) }
+    ensures { OnOk result (entry_behind (members_view levels.now.entries) events.old name.now (view value.now) ≡ Some events.new) }
 {
     match value {
         Value::Object(members) => Ok(events.push(event_type(alloc, name, members, levels)?)?),
@@ -67,10 +64,10 @@ fn event_type(
     alloc: Global,
     name: &str,
     members: &Map<String, Value>,
-    levels: Option<&Map<String, Value>>,
+    levels: &Map<String, Value>,
 ) -> Result<EventType, AllocError>
-    requires { IsSome (event_type_of (or_empty (option_map (λ m. members_view m.now.entries) levels)) name.now (members_view members.now.entries)) }
-    ensures { IfOk result (λ e. event_type_of (or_empty (option_map (λ m. members_view m.now.entries) levels.entry)) name.now (members_view members.now.entries) ≡ Some e) }
+    requires { IsSome (event_type_of (members_view levels.now.entries) name.now (members_view members.now.entries)) }
+    ensures { IfOk result (λ e. event_type_of (members_view levels.now.entries) name.now (members_view members.now.entries) ≡ Some e) }
 {
     let name = Text::from_str(alloc, name)?;
     let specific = structure(alloc, members, "specific-context-field-type")?;
@@ -84,31 +81,12 @@ fn event_type(
 }
 
 /// The log level that a value is: a number, or the name of an alias of one.
-fn log_level(value: Option<&Value>, levels: Option<&Map<String, Value>>) -> Option<u64>
-    ensures { result ≡ level_of (or_empty (option_map (λ m. members_view m.now.entries) levels.entry)) (option_map (λ v. view v.now) value.entry) }
+fn log_level(value: Option<&Value>, levels: &Map<String, Value>) -> Option<u64>
+    ensures { result ≡ level_of (members_view levels.now.entries) (option_map (λ v. view v.now) value.entry) }
 {
     match value {
-        Some(Value::String(name)) => natural_of(level_named(levels, name.as_str())),
+        Some(Value::String(name)) => as_natural(member(levels, name.as_str())?),
         Some(number) => as_natural(number),
-        None => None,
-    }
-}
-
-fn natural_of(value: Option<&Value>) -> Option<u64>
-    ensures { result ≡ natural_of_value (option_map (λ v. view v.now) value.entry) }
-{
-    match value {
-        Some(value) => as_natural(value),
-        None => None,
-    }
-}
-
-/// The log level alias of a name.
-fn level_named<'v>(levels: Option<&'v Map<String, Value>>, name: &str) -> Option<&'v Value>
-    ensures { option_map (λ v. view v.now) result ≡ get_member name.now (or_empty (option_map (λ m. members_view m.now.entries) levels.entry)) }
-{
-    match levels {
-        Some(levels) => member(levels, name),
         None => None,
     }
 }

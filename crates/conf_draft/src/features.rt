@@ -1,16 +1,16 @@
 //! The features of a trace type and of a data stream type.
 ghost use Rattle.std.specs.Prelude.{◌≡◌, Some, IsSome, IfOk};
 ghost use Rattle.serde_json.specs.View.{members_view};
-ghost use Rattle.conf_draft.specs.Features.{header_of as header_of_members, header as header_in, context_of as context_of_members, context as context_in, event_header_of as event_header_of_members, event_header as event_header_in};
+ghost use Rattle.conf_draft.specs.Features.{header as header_in, context as context_in, event_header as event_header_in};
 
 use crate::feature::{feature, identifier, magic, number, size, timestamp};
-use crate::lookup::object;
+use crate::lookup::object_or;
 use ctf_types::{ContextFeatures, EventFeatures, HeaderFeatures, Text};
 use serde_json::{Map, Value};
 use std::alloc::{AllocError, Global};
 
 /// The fields of the packet header. An identifier is on by default where the trace type has one.
-#[tactic(auto, unfolding(crate::specs::Features::header))]
+#[tactic(auto, unfolding(crate::specs::Features::header, crate::specs::Features::header_of))]
 pub(crate) fn header(
     alloc: Global,
     trace_type: &Map<String, Value>,
@@ -19,17 +19,8 @@ pub(crate) fn header(
     requires { IsSome (header_in has_uuid (members_view trace_type.now.entries)) }
     ensures { header_in has_uuid (members_view trace_type.now.entries) ≡ Some result }
 {
-    match object(trace_type, "$features") {
-        Some(features) => header_of(features, has_uuid),
-        None => header_of(&Map::new(alloc), has_uuid),
-    }
-}
-
-#[tactic(auto, unfolding(crate::specs::Features::header_of))]
-fn header_of(features: &Map<String, Value>, has_uuid: bool) -> HeaderFeatures
-    requires { IsSome (header_of_members has_uuid (members_view features.now.entries)) }
-    ensures { header_of_members has_uuid (members_view features.now.entries) ≡ Some result }
-{
+    let empty = Map::new(alloc);
+    let features = object_or(trace_type, "$features", &empty);
     HeaderFeatures {
         magic: feature(features, "magic-field-type", true, magic()),
         uuid: identifier(features, "uuid-field-type", has_uuid),
@@ -38,7 +29,7 @@ fn header_of(features: &Map<String, Value>, has_uuid: bool) -> HeaderFeatures
 }
 
 /// The fields of a packet context, where a data stream type has this default clock.
-#[tactic(auto, unfolding(crate::specs::Features::context))]
+#[tactic(auto, unfolding(crate::specs::Features::context, crate::specs::Features::context_of))]
 pub(crate) fn context(
     alloc: Global,
     features: &Map<String, Value>,
@@ -47,21 +38,8 @@ pub(crate) fn context(
     requires { IsSome (context_in clock.now (members_view features.now.entries)) }
     ensures { IfOk result (λ f. context_in clock.now (members_view features.now.entries) ≡ Some f) }
 {
-    match object(features, "packet") {
-        Some(packet) => context_of(alloc, packet, clock),
-        None => context_of(alloc, &Map::new(alloc), clock),
-    }
-}
-
-#[tactic(auto, unfolding(crate::specs::Features::context_of))]
-fn context_of(
-    alloc: Global,
-    packet: &Map<String, Value>,
-    clock: &Option<Text>,
-) -> Result<ContextFeatures, AllocError>
-    requires { IsSome (context_of_members clock.now (members_view packet.now.entries)) }
-    ensures { IfOk result (λ f. context_of_members clock.now (members_view packet.now.entries) ≡ Some f) }
-{
+    let empty = Map::new(alloc);
+    let packet = object_or(features, "packet", &empty);
     let begin = timestamp(alloc, packet, "beginning-timestamp-field-type", clock)?;
     let end = timestamp(alloc, packet, "end-timestamp-field-type", clock)?;
     Ok(ContextFeatures {
@@ -79,8 +57,8 @@ fn context_of(
     })
 }
 
-/// The fields of an event event_record header, where a data stream type has this default clock.
-#[tactic(auto, unfolding(crate::specs::Features::event_header))]
+/// The fields of an event record header, where a data stream type has this default clock.
+#[tactic(auto, unfolding(crate::specs::Features::event_header, crate::specs::Features::event_header_of))]
 pub(crate) fn event_header(
     alloc: Global,
     features: &Map<String, Value>,
@@ -89,21 +67,8 @@ pub(crate) fn event_header(
     requires { IsSome (event_header_in clock.now (members_view features.now.entries)) }
     ensures { IfOk result (λ f. event_header_in clock.now (members_view features.now.entries) ≡ Some f) }
 {
-    match object(features, "event-record") {
-        Some(event_record) => event_header_of(alloc, event_record, clock),
-        None => event_header_of(alloc, &Map::new(alloc), clock),
-    }
-}
-
-#[tactic(auto, unfolding(crate::specs::Features::event_header_of))]
-fn event_header_of(
-    alloc: Global,
-    event_record: &Map<String, Value>,
-    clock: &Option<Text>,
-) -> Result<EventFeatures, AllocError>
-    requires { IsSome (event_header_of_members clock.now (members_view event_record.now.entries)) }
-    ensures { IfOk result (λ f. event_header_of_members clock.now (members_view event_record.now.entries) ≡ Some f) }
-{
+    let empty = Map::new(alloc);
+    let event_record = object_or(features, "event-record", &empty);
     let timestamp = timestamp(alloc, event_record, "timestamp-field-type", clock)?;
     Ok(EventFeatures {
         id: feature(event_record, "type-id-field-type", true, number()),

@@ -18,10 +18,7 @@ use std::alloc::{AllocError, Global};
 pub(crate) fn class_of(members: &Map<String, Value>) -> Option<Place>
     ensures { result ≡ class_of_members (members_view members.now.entries) }
 {
-    match word(members, "class") {
-        Some(word) => class_place(word),
-        None => None,
-    }
+    class_place(word(members, "class")?)
 }
 
 /// The field type that a value is: an integer, an enumeration, a string, or a static array of one of them.

@@ -1,6 +1,8 @@
 //! The values of an object's properties. A property that is left out, or null, or of another kind, has none.
 ghost use Rattle.std.specs.Prelude.{◌≡◌, IfOk, option_map};
+ghost use Rattle.serde_json.specs.Data.{no_members};
 ghost use Rattle.serde_json.specs.View.{items_view, members_view};
+ghost use Rattle.conf_draft.specs.Features.{or_empty};
 ghost use Rattle.conf_draft.specs.Lookups.{natural as natural_in, signed as signed_in, flag as flag_in, word as word_in, object as object_in, list as list_in, identifier as identifier_in};
 
 use conf_tree::optional;
@@ -15,10 +17,7 @@ use uuid::Uuid;
 pub(crate) fn natural(members: &Map<String, Value>, name: &str) -> Option<u64>
     ensures { result ≡ natural_in name.now (members_view members.now.entries) }
 {
-    match optional(members, name) {
-        Some(value) => as_natural(value),
-        None => None,
-    }
+    as_natural(optional(members, name)?)
 }
 
 /// The whole number from -2^63 to 2^63 - 1 that the property `name` is.
@@ -26,10 +25,7 @@ pub(crate) fn natural(members: &Map<String, Value>, name: &str) -> Option<u64>
 pub(crate) fn signed(members: &Map<String, Value>, name: &str) -> Option<i64>
     ensures { result ≡ signed_in name.now (members_view members.now.entries) }
 {
-    match optional(members, name) {
-        Some(value) => value.as_i64(),
-        None => None,
-    }
+    optional(members, name)?.as_i64()
 }
 
 /// The flag that the property `name` is.
@@ -37,10 +33,7 @@ pub(crate) fn signed(members: &Map<String, Value>, name: &str) -> Option<i64>
 pub(crate) fn flag(members: &Map<String, Value>, name: &str) -> Option<bool>
     ensures { result ≡ flag_in name.now (members_view members.now.entries) }
 {
-    match optional(members, name) {
-        Some(value) => value.as_bool(),
-        None => None,
-    }
+    optional(members, name)?.as_bool()
 }
 
 /// The text that the property `name` is.
@@ -48,10 +41,7 @@ pub(crate) fn flag(members: &Map<String, Value>, name: &str) -> Option<bool>
 pub(crate) fn word<'v>(members: &'v Map<String, Value>, name: &str) -> Option<&'v str>
     ensures { option_map (λ s. s.now) result ≡ word_in name.now (members_view members.now.entries) }
 {
-    match optional(members, name) {
-        Some(value) => value.as_str(),
-        None => None,
-    }
+    optional(members, name)?.as_str()
 }
 
 /// The object that the property `name` is.
@@ -62,9 +52,21 @@ pub(crate) fn object<'v>(
 ) -> Option<&'v Map<String, Value>>
     ensures { option_map (λ m. members_view m.now.entries) result ≡ object_in name.now (members_view members.now.entries) }
 {
-    match optional(members, name) {
-        Some(value) => value.as_object(),
-        None => None,
+    optional(members, name)?.as_object()
+}
+
+/// The object that the property `name` is. Left out, it is this empty one.
+pub(crate) fn object_or<'v>(
+    members: &'v Map<String, Value>,
+    name: &str,
+    empty: &'v Map<String, Value>,
+) -> &'v Map<String, Value>
+    requires { members_view empty.now.entries ≡ no_members }
+    ensures { members_view result.now.entries ≡ or_empty (object_in name.now (members_view members.now.entries)) }
+{
+    match object(members, name) {
+        Some(found) => found,
+        None => empty,
     }
 }
 
@@ -73,10 +75,7 @@ pub(crate) fn object<'v>(
 pub(crate) fn list<'v>(members: &'v Map<String, Value>, name: &str) -> Option<&'v Vec<Value>>
     ensures { option_map (λ v. items_view v.now.items) result ≡ list_in name.now (members_view members.now.entries) }
 {
-    match optional(members, name) {
-        Some(value) => value.as_array(),
-        None => None,
-    }
+    optional(members, name)?.as_array()
 }
 
 /// A copy of the text that the property `name` is.
@@ -98,8 +97,5 @@ pub(crate) fn text(
 pub(crate) fn identifier(members: &Map<String, Value>, name: &str) -> Option<Uuid>
     ensures { result ≡ identifier_in name.now (members_view members.now.entries) }
 {
-    match word(members, name) {
-        Some(word) => parsed(word),
-        None => None,
-    }
+    parsed(word(members, name)?)
 }

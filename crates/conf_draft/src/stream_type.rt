@@ -1,12 +1,12 @@
 //! Data stream types (barectf 3.1, "Data stream type object").
-ghost use Rattle.std.specs.Prelude.{◌≡◌, [], Some, IsSome, IfOk, OnOk, option_map};
+ghost use Rattle.std.specs.Prelude.{◌≡◌, [], Some, IsSome, IfOk, OnOk};
 ghost use Rattle.serde_json.specs.View.{view, members_view};
-ghost use Rattle.conf_draft.specs.Features.{or_empty, context as context_in, event_header as event_header_in};
+ghost use Rattle.conf_draft.specs.Features.{context as context_in, event_header as event_header_in};
 ghost use Rattle.conf_draft.specs.Streams.{stream_types as stream_types_in, streams_behind, entry_behind, stream_type as stream_type_of, features_of};
 
 use crate::event_type::event_types;
 use crate::features::{context, event_header};
-use crate::lookup::{object, text};
+use crate::lookup::{object, object_or, text};
 use crate::structure::{extra_members, structure};
 use ctf_types::{ContextFeatures, EventFeatures, ListOf, StreamType, Text};
 use serde_json::{Map, Value};
@@ -21,7 +21,8 @@ pub(crate) fn stream_types(
     requires { IsSome (stream_types_in (members_view trace_type.now.entries)) }
     ensures { IfOk result (λ s. stream_types_in (members_view trace_type.now.entries) ≡ Some s) }
 {
-    let levels = object(trace_type, "$log-level-aliases");
+    let empty = Map::new(alloc);
+    let levels = object_or(trace_type, "$log-level-aliases", &empty);
     match object(trace_type, "data-stream-types") {
         Some(named) => stream_types_of(alloc, named, levels),
         None => Ok(ListOf::new(alloc)),
@@ -31,10 +32,10 @@ pub(crate) fn stream_types(
 fn stream_types_of(
     alloc: Global,
     named: &Map<String, Value>,
-    levels: Option<&Map<String, Value>>,
+    levels: &Map<String, Value>,
 ) -> Result<ListOf<StreamType>, AllocError>
-    requires { IsSome (streams_behind (or_empty (option_map (λ m. members_view m.now.entries) levels)) [] (members_view named.now.entries)) }
-    ensures { IfOk result (λ s. streams_behind (or_empty (option_map (λ m. members_view m.now.entries) levels.entry)) [] (members_view named.now.entries) ≡ Some s) }
+    requires { IsSome (streams_behind (members_view levels.now.entries) [] (members_view named.now.entries)) }
+    ensures { IfOk result (λ s. streams_behind (members_view levels.now.entries) [] (members_view named.now.entries) ≡ Some s) }
 {
     let mut streams = ListOf::new(alloc);
     for (name, value) in named.iter() {
@@ -48,10 +49,10 @@ fn push_stream(
     streams: &mut ListOf<StreamType>,
     name: &str,
     value: &Value,
-    levels: Option<&Map<String, Value>>,
+    levels: &Map<String, Value>,
 ) -> Result<(), AllocError>
-    requires { IsSome (entry_behind (or_empty (option_map (λ m. members_view m.now.entries) levels)) streams.old name.now (view value.now)) }
-    ensures { OnOk result (entry_behind (or_empty (option_map (λ m. members_view m.now.entries) levels.entry)) streams.old name.now (view value.now) ≡ Some streams.new) }
+    requires { IsSome (entry_behind (members_view levels.now.entries) streams.old name.now (view value.now)) }
+    ensures { OnOk result (entry_behind (members_view levels.now.entries) streams.old name.now (view value.now) ≡ Some streams.new) }
 {
     match value {
         Value::Object(members) => Ok(streams.push(stream_type(alloc, name, members, levels)?)?),
@@ -71,10 +72,10 @@ fn stream_type(
     alloc: Global,
     name: &str,
     members: &Map<String, Value>,
-    levels: Option<&Map<String, Value>>,
+    levels: &Map<String, Value>,
 ) -> Result<StreamType, AllocError>
-    requires { IsSome (stream_type_of (or_empty (option_map (λ m. members_view m.now.entries) levels)) name.now (members_view members.now.entries)) }
-    ensures { IfOk result (λ s. stream_type_of (or_empty (option_map (λ m. members_view m.now.entries) levels.entry)) name.now (members_view members.now.entries) ≡ Some s) }
+    requires { IsSome (stream_type_of (members_view levels.now.entries) name.now (members_view members.now.entries)) }
+    ensures { IfOk result (λ s. stream_type_of (members_view levels.now.entries) name.now (members_view members.now.entries) ≡ Some s) }
 {
     let name = Text::from_str(alloc, name)?;
     let default_clock = text(alloc, members, "$default-clock-type-name")?;
@@ -103,22 +104,8 @@ fn own_fields(
     ensures context { IfOk result (λ f. context_in clock.now (features_of (members_view members.now.entries)) ≡ Some f.context) }
     ensures event_header { IfOk result (λ f. event_header_in clock.now (features_of (members_view members.now.entries)) ≡ Some f.event_header) }
 {
-    match object(members, "$features") {
-        Some(features) => own_fields_of(alloc, features, clock),
-        None => own_fields_of(alloc, &Map::new(alloc), clock),
-    }
-}
-
-fn own_fields_of(
-    alloc: Global,
-    features: &Map<String, Value>,
-    clock: &Option<Text>,
-) -> Result<OwnFields, AllocError>
-    requires context { IsSome (context_in clock.now (members_view features.now.entries)) }
-    requires event_header { IsSome (event_header_in clock.now (members_view features.now.entries)) }
-    ensures context { IfOk result (λ f. context_in clock.now (members_view features.now.entries) ≡ Some f.context) }
-    ensures event_header { IfOk result (λ f. event_header_in clock.now (members_view features.now.entries) ≡ Some f.event_header) }
-{
+    let empty = Map::new(alloc);
+    let features = object_or(members, "$features", &empty);
     let context = context(alloc, features, clock)?;
     let event_header = event_header(alloc, features, clock)?;
     Ok(OwnFields {

@@ -114,10 +114,7 @@ fn draft(
 fn order(trace_type: &Map<String, Value>, name: &str) -> Option<ByteOrder>
     ensures { result ≡ order_in name.now (members_view trace_type.now.entries) }
 {
-    match word(trace_type, name) {
-        Some(word) => order_word(word),
-        None => None,
-    }
+    order_word(word(trace_type, name)?)
 }
 
 /// The byte order of the trace: the one that is given, of whichever name.
