@@ -90,9 +90,6 @@ told_says d (ms, is, flag) = subst (λ x. says_default x ≡ true) (sym is) (ap 
 -- ---- inside an object, and behind a member of it
 
 module _ (k : Known) (around : Around) (h : Agrees k around) where
-  none_before : HasDefault no_members → ⊥
-  none_before (name, d, has, says) = has
-
   pub inside_agrees : (place : Place) (ms : Members) → Agrees (inside place ms k) (member_of place ms no_members ∷ around)
   unfolding inside
   inside_agrees places.TraceType ms = record { levels = refl; second = h.second; numbers = h.numbers; taken = h.taken }
@@ -101,7 +98,7 @@ module _ (k : Known) (around : Around) (h : Agrees k around) where
   inside_agrees places.StreamTypes ms = record { levels = h.levels; second = (λ e. inr (h.second.0 e), back); numbers = h.numbers; taken = h.taken }
     where
       back : HasDefault no_members ⊎ IsBehindDefault around → IsTrue k.has_default
-      back (inl has) = absurd (none_before has)
+      back (inl (name, d, has, says)) = absurd has
       back (inr b) = h.second.1 b
   inside_agrees _ ms = record { levels = h.levels; second = h.second; numbers = h.numbers; taken = h.taken }
 
@@ -231,7 +228,7 @@ takes_further taken place before d h = λ name. joined (entry_taken d taken name
 
 -- what is taken at an item is what the items before it in its list take
 pub item_agrees : (k : Known) (around : Around) (taken : Members) (place : Place) (all before rest : Items) → Agrees k around → Takes taken place before → ItemParts all before rest → Agrees (with_taken taken k) (item_of place all (items_len before) ∷ around)
-item_agrees k around taken place all before rest h takes parts = record { levels = h.levels; second = h.second; numbers = h.numbers; taken = taken_so }
+item_agrees k around taken place all before rest h takes parts = record { levels = h.levels; second = h.second; numbers = h.numbers; taken = λ name. (λ t. there name ((takes name).0 t), λ p. (takes name).1 (back name p)) }
   where
     there : (name : List ℕ) → IsTakenIn before name ⊎ IsBeside place name → IsTaken (item_of place all (items_len before) ∷ around) name
     there name (inr beside) = inl beside
@@ -240,6 +237,3 @@ item_agrees k around taken place all before rest h takes parts = record { levels
     back : (name : List ℕ) → IsTaken (item_of place all (items_len before) ∷ around) name → IsTakenIn before name ⊎ IsBeside place name
     back name (inl beside) = inr beside
     back name (inr (j, entry, less, is, named)) = inl (entry, found_before all before rest entry j parts less is, named)
-
-    taken_so : (name : List ℕ) → IsTrue (is_taken taken name) ↔ IsTaken (item_of place all (items_len before) ∷ around) name
-    taken_so name = (λ t. there name ((takes name).0 t), λ p. (takes name).1 (back name p))

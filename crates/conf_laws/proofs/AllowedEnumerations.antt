@@ -4,14 +4,14 @@ use Rattle.std.specs.Prelude.{nat_le, int_le, codes, unwrap_or}
 use Rattle.conf_draft.specs.Integers.{made, align_of}
 use Rattle.conf_judge.specs.Limits as limits
 use Rattle.conf_laws.proofs.Numbers.{lowest_end, highest_end, ReadSo, read_so, some_size}
-use Rattle.conf_laws.proofs.Properties.{AreGoodItems, IsGoodEntry, entry_in, plain_rest, good_items, item_first, item_rest, AreGood, IsGoodAt, good_object, own_properties, ranges_are_few, needed_at}
+use Rattle.conf_laws.proofs.Properties.{AreGoodItems, IsGoodEntry, entry_in, plain_rest, good_items, item_first, item_rest, AreGood, IsGoodAt, good_object, own_properties, fitting_parts, needed_at}
 use Rattle.conf_laws.proofs.Readings.{under_no_test, proved_some, was_so, all_joined, mapped_some, same_natural}
 use Rattle.conf_laws.proofs.Sound.{needed_there}
 use Rattle.conf_laws.proofs.Table.{MapPlace, is_map, is_plain, Property, leads, needed_by, mappings_own}
 use Rattle.conf_laws.specs.ValueFlaws.{IsPair}
 use Rattle.conf_laws.proofs.TableWords.{entries_of, Place, At}
 use Rattle.conf_laws.proofs.TableWords.places
-use Rattle.conf_laws.proofs.JudgeWords.{all_there, itself_of, form_of, some_list, some_object, Known, with_taken, inside, key_fits, count_of, ranges_fit, key_of, key_by, names_beside, with_names, end_of, range_of, is_inside, inside_of, natural_in, numbers_of, numbers_in, numbers_or_all, item_content}
+use Rattle.conf_laws.proofs.JudgeWords.{all_there, itself_of, form_of, some_list, some_object, Known, with_taken, key_fits, count_of, ranges_fit, key_of, key_by, names_beside, with_names, end_of, range_of, is_inside, inside_of, natural_in, numbers_of, numbers_in, numbers_or_all, item_content}
 use Rattle.conf_laws.proofs.TreeWords.{here, AllAbove, IsInOrder, whole_of, whole_or_not, given, OutOfRange, both_read, is_passed, name_of, is_reserved, plain_name_of, is_printable, Members, Data, number, array, Num, unsigned, negative, float, Items, no_items, item, no_members, member, object, items_len, as_integer, as_array, get_member}
 use Rattle.conf_laws.proofs.StdWords.{nat_tests, and_parts, or_parts, leb-true, nat_list_cmp_total, tied_itself, T_from_true, All-from_recursion, All-weaker, same_Some, slice_cmp, le_z_yes, list_any, AllByRecursion, bytes_eq}
 use Rattle.conf_laws.proofs.DraftWords.{whole, low, high, ranges_in, ranges_of, labels_in, enumeration, mappings_or_none, with_mappings, integer, size_of, base_of, object_of, object as object_at, IsPlainUnsigned, LabelsInOrder, lowest, highest, IsRangeOf, IsEnumeration, is_identifier, unused_keywords, used_keywords, IsConfigName, IsPlainName, IsConfigText, Base, EnumType, IntType, Mapping}
@@ -215,7 +215,7 @@ unfolding ranges_fit
 mappings_good k labels h =
     let whole = good_object k places.Mappings labels h in
     let good = own_properties k places.Mappings labels mappings_own whole in
-    let few = leb-true (limits.ranges_in labels) 1024 (ranges_are_few places.Mappings (object labels) whole.fitting) in
+    let few = leb-true (limits.ranges_in labels) 1024 (fitting_parts places.Mappings (object labels) whole.fitting).2 in
     record {
       each = All-from_recursion (IsGoodMapping k) (labels_in labels) (labels_good k labels good);
       in_order = labels_in_order labels whole.in_order;
@@ -226,7 +226,7 @@ mappings_good k labels h =
 -- ---- the property
 
 -- a needed property that is mappings
-record HasMappings (k : Known) (ms : Members) : Type 0 where
+pub record HasMappings (k : Known) (ms : Members) : Type 0 where
   labels : Members
   there : object_at (codes "mappings") ms ≡ Some labels
   good : IsGoodAt k (At places.Mappings) (object labels)
@@ -236,7 +236,7 @@ unfolding object_at itself_of form_of some_object
 labels_there k ms (object labels) is h = record { labels = labels; there = ap (λ o. object_of (given o)) is; good = h }
 labels_there k ms _ is h = absurd (let e = h.sound.itself in cc)
 
-has_mappings : (k : Known) (place : Place) (ms : Members) → Property true place (codes "mappings") (At places.Mappings) → all_there place ms ≡ Ok tt → AreGood k place ms → HasMappings k ms
+pub has_mappings : (k : Known) (place : Place) (ms : Members) → Property true place (codes "mappings") (At places.Mappings) → all_there place ms ≡ Ok tt → AreGood k place ms → HasMappings k ms
 has_mappings k place ms property there h =
     let found = needed_there place (codes "mappings") ms (needed_by property) there in
     labels_there k ms found.0 found.1 (needed_at k place (codes "mappings") (At places.Mappings) ms found.0 (leads property) (needed_by property) h found.1)
@@ -278,17 +278,9 @@ enumeration_with k signed ms mappings t e known h = record {
   few = h.few;
 }
 
-enumeration_allowed : (k : Known) (signed : Bool) (ms : Members) (t : EnumType) → k.numbers ≡ numbers_in signed ms → HasMappings k ms → enumeration signed ms ≡ Some t → IsEnumeration t
+pub enumeration_allowed : (k : Known) (signed : Bool) (ms : Members) (t : EnumType) → k.numbers ≡ numbers_in signed ms → HasMappings k ms → enumeration signed ms ≡ Some t → IsEnumeration t
 unfolding enumeration
 enumeration_allowed k signed ms t known h e =
     let read = mapped_some (with_mappings (mappings_or_none (object_at (codes "mappings") ms))) (integer signed ms) t e in
     let mappings : AreMappings k (mappings_or_none (object_at (codes "mappings") ms)) = subst (λ o. AreMappings k (mappings_or_none o)) (sym h.there) (mappings_good k h.labels h.good) in
     subst IsEnumeration read.2 (enumeration_with k signed ms (mappings_or_none (object_at (codes "mappings") ms)) read.0 read.1 known mappings)
-
-pub unsigned_allowed : (k : Known) (ms : Members) (t : EnumType) → all_there places.UnsignedEnumeration ms ≡ Ok tt → AreGood (inside places.UnsignedEnumeration ms k) places.UnsignedEnumeration ms → enumeration false ms ≡ Some t → IsEnumeration t
-unfolding inside
-unsigned_allowed k ms t there h e = enumeration_allowed _ false ms t refl (has_mappings _ places.UnsignedEnumeration ms Property.unsigned_mappings there h) e
-
-pub signed_allowed : (k : Known) (ms : Members) (t : EnumType) → all_there places.SignedEnumeration ms ≡ Ok tt → AreGood (inside places.SignedEnumeration ms k) places.SignedEnumeration ms → enumeration true ms ≡ Some t → IsEnumeration t
-unfolding inside
-signed_allowed k ms t there h e = enumeration_allowed _ true ms t refl (has_mappings _ places.SignedEnumeration ms Property.signed_mappings there h) e

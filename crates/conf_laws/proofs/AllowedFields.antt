@@ -3,7 +3,7 @@
 use Rattle.std.proofs.Common.{◌≡◌, ℕ, zero, suc, ◌*◌, ◌<◌, ◌≤◌, true, false, cond, List, [], ◌∷◌, length, Option, Some, None, refl, sym, ap, subst, ◌∙◌, arith}
 use Rattle.std.specs.Prelude.{codes, not, nat_eq, nat_le, max, unwrap_or}
 use Rattle.conf_judge.specs.Names as judged
-use Rattle.conf_laws.proofs.AllowedEnumerations.{unsigned_allowed, signed_allowed, integer_says}
+use Rattle.conf_laws.proofs.AllowedEnumerations.{enumeration_allowed, has_mappings, integer_says}
 use Rattle.conf_laws.proofs.Numbers.{needed_natural}
 use Rattle.conf_laws.proofs.Properties.{AreGood, IsGood, IsGoodAt, good_object, properties_at, there_at, needed_at}
 use Rattle.conf_laws.proofs.Readings.{element_is, element_bits, in_array, by_element, mapped_some, then_some, same_natural, by_found}
@@ -104,11 +104,11 @@ of_class_allowed k place (Some places.SignedInteger) ms t position h inner is e 
 of_class_allowed k place (Some places.UnsignedEnumeration) ms t position h inner is e =
     let read = mapped_some (λ x. Enum x) (enumeration false ms) t e in
     let own = class_place place ms places.UnsignedEnumeration position is in
-    subst (λ x. IsAllowed (object ms) x) read.2 (alone ms places.UnsignedEnumeration is refl (Enum read.0) refl (unsigned_allowed k ms read.0 (there_at k place _ ms own h) (properties_at k place _ ms own h) read.1))
+    subst (λ x. IsAllowed (object ms) x) read.2 (alone ms places.UnsignedEnumeration is refl (Enum read.0) refl (enumeration_allowed _ false ms read.0 refl (has_mappings _ places.UnsignedEnumeration ms Property.unsigned_mappings (there_at k place _ ms own h) (properties_at k place _ ms own h)) read.1))
 of_class_allowed k place (Some places.SignedEnumeration) ms t position h inner is e =
     let read = mapped_some (λ x. Enum x) (enumeration true ms) t e in
     let own = class_place place ms places.SignedEnumeration position is in
-    subst (λ x. IsAllowed (object ms) x) read.2 (alone ms places.SignedEnumeration is refl (Enum read.0) refl (signed_allowed k ms read.0 (there_at k place _ ms own h) (properties_at k place _ ms own h) read.1))
+    subst (λ x. IsAllowed (object ms) x) read.2 (alone ms places.SignedEnumeration is refl (Enum read.0) refl (enumeration_allowed _ true ms read.0 refl (has_mappings _ places.SignedEnumeration ms Property.signed_mappings (there_at k place _ ms own h) (properties_at k place _ ms own h)) read.1))
 of_class_allowed k place (Some places.Str) ms t position h inner is e = subst (λ x. IsAllowed (object ms) x) (same_Some Str t e) (alone ms places.Str is refl Str refl tt)
 of_class_allowed k place (Some places.StaticArray) ms t position h inner is e =
     let own = class_place place ms places.StaticArray position is in

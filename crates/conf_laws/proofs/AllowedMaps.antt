@@ -1,19 +1,19 @@
 -- Lists that have an item for each entry of a map, under its name, are in byte order, and no longer than the map: environments and clock
 -- types that have no flaw and pass no limit are ones that the rules allow.
-use Rattle.std.proofs.Common.{◌≡◌, ℕ, ◌≤◌, true, List, [], ◌∷◌, ◌++◌, length, map, All, refl, sym, ap, subst, ◌∙◌, arith, Option, Some, append_assoc, pos, ◌<◌}
-use Rattle.std.specs.Prelude.{nat_le, option_and_then, codes, negsuc, unwrap_or}
+use Rattle.std.proofs.Common.{◌≡◌, ℕ, ◌≤◌, true, List, [], ◌∷◌, ◌++◌, length, map, All, refl, sym, ap, subst, ◌∙◌, arith, Option, Some, pos, ◌<◌}
+use Rattle.std.specs.Prelude.{nat_le, codes, negsuc, unwrap_or}
 use Rattle.conf_laws.proofs.AllowedEnumerations.{plain_name, config_text}
 use Rattle.conf_laws.proofs.Numbers.{natural_is_in}
-use Rattle.conf_laws.proofs.Properties.{names_of, sorted_names, names_counted, entry_in, plain_rest, AreGood, IsGoodAt, own_properties, entries_fit, by_good_object, IsGoodEntry, entry_object, property_at}
-use Rattle.conf_laws.proofs.Readings.{all_joined, then_some, was_so, word_said, natural_said, by_found}
+use Rattle.conf_laws.proofs.Properties.{names_of, sorted_names, names_counted, entry_in, plain_rest, AreGood, IsGoodAt, own_properties, fitting_parts, by_good_object, IsGoodEntry, entry_object, property_at}
+use Rattle.conf_laws.proofs.Readings.{all_joined, was_so, word_there, by_found}
 use Rattle.conf_laws.proofs.Sound.{Leads}
 use Rattle.conf_laws.proofs.Table.{leads, ObjectPlace, is_own, is_object, MapPlace, is_map, is_plain, Property}
 use Rattle.conf_laws.proofs.TableWords.{entries_of, Place, At, WholeOrText, Whole, Text, Content}
 use Rattle.conf_laws.proofs.TableWords.places
 use Rattle.conf_laws.proofs.JudgeWords.{itself_of, Known, leaf_of, whole_or_text, printable, fits, key_of, key_by, plain_of}
-use Rattle.conf_laws.proofs.TreeWords.{IsInOrder, Members, Data, no_members, member, string, object, members_len}
-use Rattle.conf_laws.proofs.StdWords.{leb-true, All-nil, All-from_recursion, length-map, map-append, append-nil, same_Some, IsStrictlySortedBy, AllByRecursion}
-use Rattle.conf_laws.proofs.DraftWords.{clock_type, clock_or_none, clocks_in, clocks_or_none, clock_types, entry_value, entries_in, entries_or_none, environment, natural, word, InByteOrder, IsEnvironmentValue, IsClockType, IsPlainName, IsConfigText, ClockType, EnvironmentEntry}
+use Rattle.conf_laws.proofs.TreeWords.{IsInOrder, optional, as_natural, Members, Data, no_members, member, string, object, members_len}
+use Rattle.conf_laws.proofs.StdWords.{leb-true, All-nil, All-from_recursion, length-map, map-append, IsStrictlySortedBy, AllByRecursion}
+use Rattle.conf_laws.proofs.DraftWords.{clock_type, clock_or_none, clocks_in, clocks_or_none, clock_types, entry_value, entries_in, entries_or_none, environment, natural, natural_of, word, InByteOrder, IsEnvironmentValue, IsClockType, IsPlainName, IsConfigText, ClockType, EnvironmentEntry}
 
 -- items that are good, in byte order of their names, and no more than `most`
 pub record AreAllowed {A : Type 0} (named : A → List ℕ) (good : A → Type 0) (most : ℕ) (xs : List A) : Type 0 where
@@ -26,37 +26,17 @@ pub record AreUnder {A : Type 0} (named : A → List ℕ) (good : A → Type 0) 
   pub names_are : map named xs ≡ names
   pub items : AllByRecursion good xs
 
--- a good item of this name more
-pub record IsOneMore {A : Type 0} (named : A → List ℕ) (good : A → Type 0) (name : List ℕ) (done xs : List A) : Type 0 where
-  pub new : A
-  pub more : done ++ new ∷ [] ≡ xs
-  pub name_is : named new ≡ name
-  pub is_good : good new
-
 pub none_under : {A : Type 0} (named : A → List ℕ) (good : A → Type 0) → AreUnder named good [] []
 none_under named good = record { names_are = refl; items = tt }
 
 pub one_under : {A : Type 0} (named : A → List ℕ) (good : A → Type 0) (name : List ℕ) (names : List (List ℕ)) (x : A) (xs : List A) → named x ≡ name → good x → AreUnder named good names xs → AreUnder named good (name ∷ names) (x ∷ xs)
 one_under named good name names x xs is one h = record { names_are = ap (λ n. n ∷ map named xs) is ∙ ap (λ ns. name ∷ ns) h.names_are; items = (one, h.items) }
 
-last_under : {A : Type 0} (named : A → List ℕ) (good : A → Type 0) (name : List ℕ) (names : List (List ℕ)) (x : A) (xs : List A) → named x ≡ name → good x → AreUnder named good names xs → AreUnder named good (names ++ name ∷ []) (xs ++ x ∷ [])
+pub last_under : {A : Type 0} (named : A → List ℕ) (good : A → Type 0) (name : List ℕ) (names : List (List ℕ)) (x : A) (xs : List A) → named x ≡ name → good x → AreUnder named good names xs → AreUnder named good (names ++ name ∷ []) (xs ++ x ∷ [])
 last_under named good name names x xs is one h = record {
   names_are = map-append named xs (x ∷ []) ∙ ap (λ ns. ns ++ named x ∷ []) h.names_are ∙ ap (λ n. names ++ n ∷ []) is;
   items = all_joined good xs (x ∷ []) h.items (one, tt);
 }
-
--- a walk over a map that puts one good item behind those that are done, for each entry
-pub map_read : {A : Type 0} (named : A → List ℕ) (good : A → Type 0) (walk : List A → Members → Option (List A)) (entry : List A → List ℕ → Data → Option (List A)) → ((done : List A) → walk done no_members ≡ Some done)
-    → ((done : List A) (name : List ℕ) (d : Data) (ms : Members) → walk done (member name d ms) ≡ option_and_then (λ more. walk more ms) (entry done name d)) → (P : Members → Type 0)
-    → ((name : List ℕ) (d : Data) (ms : Members) → P (member name d ms) → P ms × ((done more : List A) → entry done name d ≡ Some more → IsOneMore named good name done more))
-    → (ms : Members) (done xs : List A) (names : List (List ℕ)) → P ms → AreUnder named good names done → walk done ms ≡ Some xs → AreUnder named good (names ++ names_of ms) xs
-map_read named good walk entry ends goes P each no_members done xs names p h e = subst (λ l. AreUnder named good l xs) (sym (append-nil names)) (subst (AreUnder named good names) (same_Some done xs (sym (ends done) ∙ e)) h)
-map_read named good walk entry ends goes P each (member name d ms) done xs names p h e =
-    let read = then_some (λ more. walk more ms) (entry done name d) xs (sym (goes done name d ms) ∙ e) in
-    let parts = each name d ms p in
-    let one = parts.1 done read.0 read.1 in
-    let next = subst (AreUnder named good (names ++ name ∷ [])) one.more (last_under named good name names one.new done one.name_is one.is_good h) in
-    subst (λ l. AreUnder named good l xs) (append_assoc names (name ∷ []) (names_of ms)) (map_read named good walk entry ends goes P each ms read.0 xs (names ++ name ∷ []) parts.0 next read.2)
 
 pub none_allowed : {A : Type 0} (named : A → List ℕ) (good : A → Type 0) (most : ℕ) → AreAllowed named good most []
 unfolding IsStrictlySortedBy
@@ -101,22 +81,21 @@ pub environment_allowed : (k : Known) (place : Place) (ms : Members) → Leads p
 unfolding environment entries_of
 environment_allowed k place ms leads h =
     by_good_object k place (codes "environment") places.Environment ms leads h (λ o. IsEnvironment (entries_or_none o)) (none_allowed entry_name IsEntry 256)
-    (λ x good. map_allowed entry_name IsEntry 256 x (entries_in x) good.in_order (entries_fit places.Environment (object x) good.fitting) (entries_under k x (own_properties k places.Environment x (is_own ObjectPlace.environment) good)))
+    (λ x good. map_allowed entry_name IsEntry 256 x (entries_in x) good.in_order (fitting_parts places.Environment (object x) good.fitting).1 (entries_under k x (own_properties k places.Environment x (is_own ObjectPlace.environment) good)))
 
 -- ---- one clock type
 
 description_allowed : (k : Known) (ms : Members) (s : List ℕ) → AreGood k places.ClockType ms → word (codes "description") ms ≡ Some s → IsConfigText s
-unfolding itself_of leaf_of printable fits
+unfolding itself_of leaf_of printable fits word
 description_allowed k ms s h e =
-    let value = property_at k places.ClockType (codes "description") (Text 4096) ms (string s) (leads Property.description) h (word_said (codes "description") ms s e) in config_text s (was_so _ value.sound.itself) value.within.fitting
+    let value = property_at k places.ClockType (codes "description") (Text 4096) ms (string s) (leads Property.description) h (word_there (optional (codes "description") ms) s e) in config_text s (was_so _ value.sound.itself) value.within.fitting
 
 frequency_positive : (k : Known) (ms : Members) → AreGood k places.ClockType ms → 0 < unwrap_or (natural (codes "frequency") ms) 1000000000
-unfolding itself_of leaf_of
+unfolding itself_of leaf_of natural
 frequency_positive k ms h =
-    by_found (λ (o : Option ℕ). 0 < unwrap_or o 1000000000) (natural (codes "frequency") ms)
-    (λ e. omega arith) (λ n e.
-    let said = natural_said (codes "frequency") ms n e in
-    (let b = (natural_is_in 1 18446744073709551615 said.0 n (omega arith) (property_at k places.ClockType (codes "frequency") (Whole (pos 1) (pos 18446744073709551615)) ms said.0 (leads Property.frequency) h said.1).sound.itself said.2).0 in omega (arith, b)))
+    by_found (λ (o : Option Data). 0 < unwrap_or (natural_of o) 1000000000) (optional (codes "frequency") ms)
+    (λ e. omega arith) (λ d is. by_found (λ (o : Option ℕ). 0 < unwrap_or o 1000000000) (as_natural d) (λ e. omega arith) (λ n e.
+    let b = (natural_is_in 1 18446744073709551615 d n (omega arith) (property_at k places.ClockType (codes "frequency") (Whole (pos 1) (pos 18446744073709551615)) ms d (leads Property.frequency) h is).sound.itself e).0 in omega (arith, b)))
 
 clock_allowed : (k : Known) (name : List ℕ) (ms : Members) → IsPlainName name → AreGood k places.ClockType ms → IsClockType (clock_type name ms)
 unfolding clock_type
@@ -147,4 +126,4 @@ pub clocks_allowed : (k : Known) (place : Place) (ms : Members) → Leads place 
 unfolding clock_types entries_of
 clocks_allowed k place ms leads h =
     by_good_object k place (codes "clock-types") places.ClockTypes ms leads h (λ o. AreClocks (clocks_or_none o)) (none_allowed clock_name IsClockType 64)
-    (λ x good. map_allowed clock_name IsClockType 64 x (clocks_in x) good.in_order (entries_fit places.ClockTypes (object x) good.fitting) (clocks_under_names k x (own_properties k places.ClockTypes x (is_own ObjectPlace.clock_types) good)))
+    (λ x good. map_allowed clock_name IsClockType 64 x (clocks_in x) good.in_order (fitting_parts places.ClockTypes (object x) good.fitting).1 (clocks_under_names k x (own_properties k places.ClockTypes x (is_own ObjectPlace.clock_types) good)))

@@ -1,13 +1,13 @@
 -- Members lists, structures and extra members that have no flaw and pass no limit are ones that the rules allow.
-use Rattle.std.proofs.Common.{◌≡◌, ℕ, suc, ◌+◌, Bool, true, false, cond, List, [], ◌∷◌, ◌++◌, length, All, Option, Some, None, is_some, refl, sym, ap, subst, ◌∙◌, arith, length-append, ◌==◌, ◌%◌, nat_lt}
+use Rattle.std.proofs.Common.{◌≡◌, ℕ, suc, ◌+◌, Bool, true, false, cond, List, [], ◌∷◌, ◌++◌, length, All, Option, Some, None, refl, sym, ap, subst, ◌∙◌, arith, length-append, ◌==◌, ◌%◌, nat_lt}
 use Rattle.std.specs.Prelude.{codes, option_map, nat_le}
 use Rattle.conf_draft.specs.Members as drafts
 use Rattle.conf_judge.specs.Names as judged
 use Rattle.conf_laws.proofs.Agreement.{array_told}
 use Rattle.conf_laws.proofs.AllowedEnumerations.{plain_name}
 use Rattle.conf_laws.proofs.AllowedFields.{field_allowed, bits_allowed, nest_allowed}
-use Rattle.conf_laws.proofs.Properties.{IsGoodEntry, AreGoodItems, entry_in, item_first, item_rest, AreGood, IsGoodAt, good_object, properties_at, own_properties, property_at, arrays_are_few, needed_at, good_items, IsGood, list_in, entries_fit, by_good_object}
-use Rattle.conf_laws.proofs.Readings.{mapped_some, then_some, was_so, element_is, proved_some}
+use Rattle.conf_laws.proofs.Properties.{AreGoodItems, entry_in, item_first, item_rest, AreGood, IsGoodAt, good_object, properties_at, own_properties, property_at, fitting_parts, needed_at, good_items, IsGood, list_in, by_good_object}
+use Rattle.conf_laws.proofs.Readings.{some_there, mapped_some, then_some, was_so, element_is, proved_some}
 use Rattle.conf_laws.proofs.Sound.{optional_there, class_same, class_place, type_sound, Leads}
 use Rattle.conf_laws.proofs.Structures.{names_of, AreTaken, AreFree, AreNamed, takes_itself, all_still_taken, one_more_named, with_member, keeps_taken, entry_shape, name_judged, name_free, AreApart, shown_of, none_named, members_list, extras_list, structure_class}
 use Rattle.conf_laws.proofs.Table.{Property, leads, needed_by, ObjectPlace, is_own, entry_own, MapPlace, is_map}
@@ -19,10 +19,6 @@ use Rattle.conf_laws.proofs.StdWords.{leb-true, All-push, All-nil, All-from_recu
 use Rattle.conf_laws.proofs.DraftWords.{class_of, field_type, element, list, member_type, told_type, member_of, behind_named, behind_entry, members_behind, made, align_for, align_of, members_or_none, listed, structure_of, structure_or_none, structure, extra_members, IsConfigMember, AreConfigMembers, IsConfigStruct, names_in, IsPlainName, own_names, length_name, shown_members, FieldType, Auto, Plain, Dyn, MemberType, StructType}
 
 -- ---- the type of a member
-
-some_there : {A : Type 0} (o : Option A) → is_some o ≡ true → (x : A) × (o ≡ Some x)
-some_there None e = absurd cc
-some_there (Some x) e = (x, refl)
 
 -- the elements of a dynamic array
 record IsElement (k : Known) (t : FieldType) : Type 0 where
@@ -43,7 +39,7 @@ element_bits k _ t h e = refl
 plain_allowed : (k : Known) (d : Data) (t : FieldType) → IsGoodAt k (At places.MemberType) d → field_type d ≡ Some t → IsConfigMember (Plain t)
 unfolding fits arrays_fit is_outermost is_position
 plain_allowed k d t h e =
-    let nests = some_there (elements 8 d) (arrays_are_few places.MemberType d h.within.fitting) in
+    let nests = some_there (elements 8 d) (fitting_parts places.MemberType d h.within.fitting).0 in
     let allowed = field_allowed d k places.MemberType t refl h e in
     (allowed.leaf, nest_allowed d t allowed nests.0 nests.1)
 
@@ -51,7 +47,7 @@ dynamic_allowed : (k : Known) (ms : Members) (t : FieldType) → AreGood k place
 unfolding fits arrays_fit is_outermost is_position
 dynamic_allowed k ms t h e =
     let inner = element_there k ms t h e in
-    let nests = some_there (elements 8 inner.value) (arrays_are_few places.DynamicElementType inner.value inner.good.within.fitting) in
+    let nests = some_there (elements 8 inner.value) (fitting_parts places.DynamicElementType inner.value inner.good.within.fitting).0 in
     let allowed = field_allowed inner.value k places.DynamicElementType t refl inner.good inner.is in
     ((allowed.leaf, nest_allowed inner.value t allowed nests.0 nests.1), bits_allowed inner.value t allowed (element_bits k inner.value t inner.good inner.is))
 
@@ -83,12 +79,6 @@ member_type_allowed k ms m h e = go (drafts.is_dynamic_array (class_of ms)) refl
         let class = array_told (class_of ms) (same_dynamic (class_of ms) ∙ is) in
         let own = properties_at k places.MemberType places.DynamicArray ms (class_place places.MemberType ms places.DynamicArray refl class) (good_object k places.MemberType ms h) in
         subst IsConfigMember same (dynamic_allowed k ms t own there)
-
--- ---- one entry
-
-entry_good : (k : Known) (name : List ℕ) (value : Data) → IsGoodAt k (At places.Entry) (object (member name value no_members)) → IsGoodEntry k places.Entry name (At places.Member) value
-entry_good k name value h =
-    entry_in k places.Entry name (At places.Member) value no_members (is_map MapPlace.entry) (own_properties k places.Entry (member name value no_members) entry_own (good_object k places.Entry (member name value no_members) h))
 
 -- ---- what an entry tells of
 
@@ -171,7 +161,8 @@ pub record AreRead (before : List (List ℕ)) (ms : List (List ℕ × MemberType
 one_more : (k : Known) (before : List (List ℕ)) (done more : List (List ℕ × MemberType)) (taken : Members) (name : List ℕ) (d : Data)
     → AreRead before done taken → IsGoodAt (with_taken taken k) (At places.Entry) (object (member name d no_members)) → Follows done more name d → AreRead before more (with_member name (judged.is_dynamic d) taken)
 one_more k before done more taken name d h good next =
-    let entry = entry_good (with_taken taken k) name d good in
+    let entry = entry_in (with_taken taken k) places.Entry name (At places.Member) d no_members (is_map MapPlace.entry)
+    (own_properties (with_taken taken k) places.Entry (member name d no_members) entry_own (good_object (with_taken taken k) places.Entry (member name d no_members) good)) in
     let tells = member_tells d next.type next.tells in
     let judged_well = both_read (plain_name_of name) _ tt (name_judged (with_taken taken k) name d entry.named) in
     let names = names_are name d next.type tells in
@@ -257,7 +248,7 @@ members_listed : (k : Known) (ms : Members) (members : List (List ℕ × MemberT
 unfolding listed entries_of fits
 members_listed k ms members h e =
     found_allowed [] (list (codes "members") ms) members
-    (λ ds there read. let good = list_in k places.Structure (codes "members") places.Members ms ds (leads Property.members) h there in items_allowed k places.Members [] ds members members_list.entries tt (entries_fit places.Members (array ds) good.within.fitting) good read) e
+    (λ ds there read. let good = list_in k places.Structure (codes "members") places.Members ms ds (leads Property.members) h there in items_allowed k places.Members [] ds members members_list.entries tt (fitting_parts places.Members (array ds) good.within.fitting).1 good read) e
 
 -- a structure without members aligns nothing
 struct_of : (members : List (List ℕ × MemberType)) (align : ℕ) (s : StructType) → AreAllowed [] members → made members (align_for members align) ≡ Some s → IsConfigStruct s
@@ -303,5 +294,5 @@ unfolding extra_members listed entries_of fits names_beside
 extras_allowed k place name ms s leads h e =
     let read = then_some (λ members. made members 1) (members_or_none (list name ms)) s e in
     let allowed = found_allowed own_names (list name ms) read.0
-    (λ ds there found. let good = list_in k place name places.ExtraMembers ms ds leads h there in items_allowed k places.ExtraMembers own_names ds read.0 extras_list.entries ((refl, (refl, (refl, (refl, (refl, (refl, tt))))))) (entries_fit places.ExtraMembers (array ds) good.within.fitting) good found) read.1 in
+    (λ ds there found. let good = list_in k place name places.ExtraMembers ms ds leads h there in items_allowed k places.ExtraMembers own_names ds read.0 extras_list.entries ((refl, (refl, (refl, (refl, (refl, (refl, tt))))))) (fitting_parts places.ExtraMembers (array ds) good.within.fitting).1 good found) read.1 in
     extras_of read.0 s allowed read.2

@@ -1,13 +1,13 @@
 -- What a configuration says that has no flaw, passes no limit and keeps the rules over the whole is what the rules allow.
-use Rattle.std.proofs.Common.{Bool, ◌≡◌, ℕ, pos, ◌<◌, ◌^◌, true, List, [], ◌∷◌, ◌++◌, Option, Some, None, Ok, refl, sym, ap, subst, ◌∙◌, arith, map}
-use Rattle.std.specs.Prelude.{option_and_then, codes, nat_le}
+use Rattle.std.proofs.Common.{Bool, append_assoc, ◌≡◌, ℕ, pos, ◌<◌, ◌^◌, List, [], ◌∷◌, ◌++◌, Option, Some, None, Ok, refl, sym, ap, subst, ◌∙◌, arith, map}
+use Rattle.std.specs.Prelude.{option_and_then, codes}
 use Rattle.conf_draft.specs.Streams.{entry_behind as stream_entry_behind}
 use Rattle.conf_laws.proofs.AllowedEnumerations.{config_name}
 use Rattle.conf_laws.proofs.AllowedFeatures.{IsContext, IsEventHeader, context_allowed, event_header_allowed, IsHeader, or_empty_good, header_allowed}
-use Rattle.conf_laws.proofs.AllowedMaps.{AreAllowed, AreUnder, none_under, none_allowed, map_allowed, IsOneMore, map_read, AreClocks, clocks_allowed, IsEnvironment, environment_allowed}
+use Rattle.conf_laws.proofs.AllowedMaps.{AreAllowed, AreUnder, none_under, none_allowed, last_under, map_allowed, AreClocks, clocks_allowed, IsEnvironment, environment_allowed}
 use Rattle.conf_laws.proofs.AllowedStructures.{structure_allowed, AreExtras, extras_allowed}
 use Rattle.conf_laws.proofs.Numbers.{natural_is_in}
-use Rattle.conf_laws.proofs.Properties.{names_of, entry_in, entry_object, AreGood, IsGood, own_properties, property_at, entries_fit, by_good_object, entry_rest, IsGoodAt, good_object, properties_at, object_in, content_within}
+use Rattle.conf_laws.proofs.Properties.{names_of, entry_in, entry_object, AreGood, IsGood, own_properties, property_at, fitting_parts, by_good_object, entry_rest, IsGoodAt, good_object, properties_at, object_in, content_within}
 use Rattle.conf_laws.proofs.Readings.{then_some, by_found}
 use Rattle.conf_laws.proofs.Sound.{Leads, content_sound}
 use Rattle.conf_laws.proofs.Table.{Property, leads, ObjectPlace, is_object, is_own, MapPlace, is_map, type_object}
@@ -15,8 +15,8 @@ use Rattle.conf_laws.specs.Rules.{KeepsStreamRules, KeepsRules}
 use Rattle.conf_laws.proofs.TableWords.{entries_of, Place, At, Level}
 use Rattle.conf_laws.proofs.TableWords.places
 use Rattle.conf_laws.proofs.JudgeWords.{configuration_flaws, itself_of, Known, behind, nothing, inside, members_or_none, leaf_of, level, level_or_none, whole_from, configuration_limits, key_of, key_by}
-use Rattle.conf_laws.proofs.TreeWords.{no_members, Ascends, optional, as_natural, Data, string, object, Members, member, members_len, get_member}
-use Rattle.conf_laws.proofs.StdWords.{All-map, same_Some}
+use Rattle.conf_laws.proofs.TreeWords.{no_members, Ascends, optional, as_natural, Data, string, object, Members, member, get_member}
+use Rattle.conf_laws.proofs.StdWords.{append-nil, All-map, same_Some}
 use Rattle.conf_laws.proofs.DraftWords.{clock_types, environment, level_of, event_with, event_type, event_behind, entry_behind, events_behind, events_or_none, event_types, or_empty, header, natural_of, object as object_at, object_of, stream_with, features_of, clock_of, stream_type, stream_behind, streams_behind, streams_or_none, stream_types, draft_from, draft_with, draft_of_type, draft_of_trace, draft_of_root, draft_of, Draft, IsConfigStruct, IsStreamType, IsConfig, IsConfigName, IsPlainName, ClockType, Config, ContextFeatures, EnvironmentEntry, EventFeatures, EventType, HeaderFeatures, StreamType, StructType}
 
 -- ---- maps of types that are read one behind another
@@ -28,21 +28,17 @@ module _ {A : Type 0} {b : Bool} {place inner : Place} (named : A → List ℕ) 
     (reads : (l : Members) (done : List A) (name : List ℕ) (ms : Members) → entry l done name (object ms) ≡ option_and_then (λ x. Some (done ++ x ∷ [])) (made l name ms))
     (keeps : (d : Data) (k : Known) → (behind place d k).levels ≡ k.levels)
     (allowed : (k : Known) (name : List ℕ) (d : Data) (ms : Members) (x : A) → key_of k place name d ≡ Ok tt → AreGood k inner ms → made k.levels name ms ≡ Some x → (named x ≡ name) × good x) where
-  types_read : (k : Known) (ms : Members) (xs : List A) → AreGood k place ms → walk k.levels [] ms ≡ Some xs → AreUnder named good (names_of ms) xs
-  types_read k ms xs h e =
-      map_read named good (walk k.levels) (entry k.levels) (ends k.levels) (goes k.levels) (λ ns. (j : Known) × (j.levels ≡ k.levels) × AreGood j place ns) each ms [] xs [] (k, refl, h) (none_under named good) e
-    where
-      each : (name : List ℕ) (d : Data) (ns : Members) → (j : Known) × (j.levels ≡ k.levels) × AreGood j place (member name d ns)
-          → ((j : Known) × (j.levels ≡ k.levels) × AreGood j place ns) × ((done more : List A) → entry k.levels done name d ≡ Some more → IsOneMore named good name done more)
-      each name d ns (j, is, own) = (
-        (behind place d j, keeps d j ∙ is, entry_rest j place name d ns own),
-        λ done more f.
-            let first = entry_in j place name (At inner) d ns (is_map map) own in
-            let value = entry_object j inner d ((is_object one).form j d) first.value in
-            let read = then_some (λ x. Some (done ++ x ∷ [])) (made k.levels name value.0) more (sym (reads k.levels done name value.0) ∙ ap (λ x. entry k.levels done name x) (sym value.1) ∙ f) in
-            let new = allowed j name d value.0 read.0 first.named (own_properties j inner value.0 (is_own one) value.2) (ap (λ l. made l name value.0) is ∙ read.1) in
-            record { new = read.0; more = same_Some _ more read.2; name_is = new.0; is_good = new.1 },
-      )
+  -- from here on, behind those that are done
+  types_from : (k j : Known) → j.levels ≡ k.levels → (ms : Members) (done xs : List A) (names : List (List ℕ)) → AreGood j place ms → AreUnder named good names done → walk k.levels done ms ≡ Some xs → AreUnder named good (names ++ names_of ms) xs
+  types_from k j is no_members done xs names own h e = subst (λ l. AreUnder named good l xs) (sym (append-nil names)) (subst (AreUnder named good names) (same_Some done xs (sym (ends k.levels done) ∙ e)) h)
+  types_from k j is (member name d ms) done xs names own h e =
+      let read = then_some (λ more. walk k.levels more ms) (entry k.levels done name d) xs (sym (goes k.levels done name d ms) ∙ e) in
+      let first = entry_in j place name (At inner) d ms (is_map map) own in
+      let value = entry_object j inner d ((is_object one).form j d) first.value in
+      let says = then_some (λ x. Some (done ++ x ∷ [])) (made k.levels name value.0) read.0 (sym (reads k.levels done name value.0) ∙ ap (λ x. entry k.levels done name x) (sym value.1) ∙ read.1) in
+      let new = allowed j name d value.0 says.0 first.named (own_properties j inner value.0 (is_own one) value.2) (ap (λ l. made l name value.0) is ∙ says.1) in
+      let next = subst (AreUnder named good (names ++ name ∷ [])) (same_Some _ read.0 says.2) (last_under named good name names says.0 done new.0 new.1 h) in
+      subst (λ l. AreUnder named good l xs) (append_assoc names (name ∷ []) (names_of ms)) (types_from k (behind place d j) (keeps d j ∙ is) ms read.0 xs (names ++ name ∷ []) (entry_rest j place name d ms own) next read.2)
 
 -- ---- log levels
 
@@ -99,29 +95,21 @@ event_allowed k name ms e named h is =
 
 -- ---- all of them
 
-events_few : (k : Known) (ms : Members) → IsGood k places.EventTypes ms → nat_le (members_len ms) 1024 ≡ true
-unfolding entries_of
-events_few k ms h = entries_fit places.EventTypes (object ms) h.fitting
-
 abbrev event_name : EventType → List ℕ
 event_name e = e.name
-
-events_read : (k : Known) (ms : Members) (es : List EventType) → AreGood k places.EventTypes ms → events_behind k.levels [] ms ≡ Some es → AreUnder event_name IsGoodEvent (names_of ms) es
-unfolding key_of key_by entries_of behind
-events_read k ms es h e =
-    types_read event_name IsGoodEvent MapPlace.event_types ObjectPlace.event_type event_type entry_behind events_behind (λ l done. refl) (λ l done name d ms. refl)
-    (λ l done name ms. by_found (λ o. event_behind done o ≡ option_and_then (λ x. Some (done ++ x ∷ [])) o) (event_type l name ms) (λ is. refl) (λ x is. refl)) (λ d j. refl)
-    (λ j name d ms x judged good is. event_allowed j name ms x (config_name name judged) good is) k ms es h e
 
 abbrev pub AreGoodEvents : List EventType → Type 0
 AreGoodEvents es = AreAllowed event_name IsGoodEvent 1024 es
 
 pub events_allowed : (k : Known) (place : Place) (ms : Members) (es : List EventType) → Leads place (codes "event-record-types") (At places.EventTypes) → AreGood k place ms → event_types k.levels ms ≡ Some es → AreGoodEvents es
-unfolding event_types
+unfolding event_types key_of key_by entries_of behind
 events_allowed k place ms es leads h e =
     by_good_object k place (codes "event-record-types") places.EventTypes ms leads h (λ o. events_or_none k.levels o ≡ Some es → AreGoodEvents es)
     (λ f. subst AreGoodEvents (same_Some [] es f) (none_allowed event_name IsGoodEvent 1024))
-    (λ x good f. map_allowed event_name IsGoodEvent 1024 x es good.in_order (events_few k x good) (events_read k x es (own_properties k places.EventTypes x (is_own ObjectPlace.event_types) good) f)) e
+    (λ x good f. map_allowed event_name IsGoodEvent 1024 x es good.in_order (fitting_parts places.EventTypes (object x) good.fitting).1
+    (types_from event_name IsGoodEvent MapPlace.event_types ObjectPlace.event_type event_type entry_behind events_behind (λ l done. refl) (λ l done name d ns. refl)
+    (λ l done name ns. by_found (λ o. event_behind done o ≡ option_and_then (λ y. Some (done ++ y ∷ [])) o) (event_type l name ns) (λ is. refl) (λ y is. refl)) (λ d j. refl)
+    (λ j name d ns y judged own is. event_allowed j name ns y (config_name name judged) own is) k k refl x [] es [] (own_properties k places.EventTypes x (is_own ObjectPlace.event_types) good) (none_under event_name IsGoodEvent) f)) e
 
 -- ---- one data stream type
 
@@ -162,29 +150,21 @@ stream_allowed k name ms s named h e =
 
 -- ---- all of them
 
-streams_few : (k : Known) (ms : Members) → IsGood k places.StreamTypes ms → nat_le (members_len ms) 64 ≡ true
-unfolding entries_of
-streams_few k ms h = entries_fit places.StreamTypes (object ms) h.fitting
-
 abbrev stream_name : StreamType → List ℕ
 stream_name s = s.name
-
-streams_read : (k : Known) (ms : Members) (ss : List StreamType) → AreGood k places.StreamTypes ms → streams_behind k.levels [] ms ≡ Some ss → AreUnder stream_name IsGoodStream (names_of ms) ss
-unfolding key_of key_by entries_of behind
-streams_read k ms ss h e =
-    types_read stream_name IsGoodStream MapPlace.stream_types ObjectPlace.stream_type stream_type stream_entry_behind streams_behind (λ l done. refl) (λ l done name d ms. refl)
-    (λ l done name ms. by_found (λ o. stream_behind done o ≡ option_and_then (λ x. Some (done ++ x ∷ [])) o) (stream_type l name ms) (λ is. refl) (λ x is. refl)) (λ d j. refl)
-    (λ j name d ms x judged good is. stream_allowed j name ms x (config_name name judged) good is) k ms ss h e
 
 abbrev pub AreGoodStreams : List StreamType → Type 0
 AreGoodStreams ss = AreAllowed stream_name IsGoodStream 64 ss
 
 pub streams_allowed : (k : Known) (place : Place) (ms : Members) (ss : List StreamType) → Leads place (codes "data-stream-types") (At places.StreamTypes) → AreGood k place ms → k.levels ≡ or_empty (object_at (codes "$log-level-aliases") ms) → stream_types ms ≡ Some ss → AreGoodStreams ss
-unfolding stream_types
+unfolding stream_types key_of key_by entries_of behind
 streams_allowed k place ms ss leads h levels e =
     by_good_object k place (codes "data-stream-types") places.StreamTypes ms leads h (λ o. streams_or_none k.levels o ≡ Some ss → AreGoodStreams ss)
     (λ f. subst AreGoodStreams (same_Some [] ss f) (none_allowed stream_name IsGoodStream 64))
-    (λ x good f. map_allowed stream_name IsGoodStream 64 x ss good.in_order (streams_few k x good) (streams_read k x ss (own_properties k places.StreamTypes x (is_own ObjectPlace.stream_types) good) f))
+    (λ x good f. map_allowed stream_name IsGoodStream 64 x ss good.in_order (fitting_parts places.StreamTypes (object x) good.fitting).1
+    (types_from stream_name IsGoodStream MapPlace.stream_types ObjectPlace.stream_type stream_type stream_entry_behind streams_behind (λ l done. refl) (λ l done name d ns. refl)
+    (λ l done name ns. by_found (λ o. stream_behind done o ≡ option_and_then (λ y. Some (done ++ y ∷ [])) o) (stream_type l name ns) (λ is. refl) (λ y is. refl)) (λ d j. refl)
+    (λ j name d ns y judged own is. stream_allowed j name ns y (config_name name judged) own is) k k refl x [] ss [] (own_properties k places.StreamTypes x (is_own ObjectPlace.stream_types) good) (none_under stream_name IsGoodStream) f))
     (subst (λ l. streams_or_none l (object_at (codes "data-stream-types") ms) ≡ Some ss) (sym levels) e)
 
 -- ---- the parts by themselves

@@ -44,21 +44,13 @@ class_at_excluded place ms flaw e (IsNoClassAt.no_array class identifier said ot
 -- ---- what is missing
 
 module _ (ms : Members) where
-  row_excluded : {P : Type 0} (row : Told) → row_there ms row ≡ Ok tt → row.presence ≡ presences.Needed → get_member row.name ms ≡ None → P
-  row_excluded row e needed none = let f : row_there ms row ≡ Err (within (key row.name) (here Missing)) = rw (needed, none) refl in absurd cc
-
   rows_excluded : {P : Type 0} (rows : List Told) (row : Told) → rows_there ms rows ≡ Ok tt → Contains rows row → row.presence ≡ presences.Needed → get_member row.name ms ≡ None → P
   rows_excluded [] row e (i, lt, is) needed none = absurd (omega (arith, lt))
-  rows_excluded (r ∷ rows) row e (zero, lt, is) needed none = let here_read = both_read (row_there ms r) _ tt e in row_excluded row (subst (λ x. row_there ms x ≡ Ok tt) is here_read.1) needed none
+  rows_excluded (r ∷ rows) row e (zero, lt, is) needed none =
+      let there : row_there ms row ≡ Ok tt = subst (λ x. row_there ms x ≡ Ok tt) is (both_read (row_there ms r) _ tt e).1 in
+      let lacks : row_there ms row ≡ Err (within (key row.name) (here Missing)) = rw (needed, none) refl in
+      absurd cc
   rows_excluded (r ∷ rows) row e (suc i, lt, is) needed none = let later = both_read (row_there ms r) _ tt e in rows_excluded rows row later.2 (i, omega (arith, lt), is) needed none
-
-  pub missing_excluded : {P : Type 0} (place : Place) (row : Told) → all_there place ms ≡ Ok tt → Contains (rows_of place) row → row.presence ≡ presences.Needed → get_member row.name ms ≡ None → P
-  unfolding all_there
-  missing_excluded place row e among needed none = let r = both_read (rows_there ms (rows_of place)) _ tt e in rows_excluded (rows_of place) row r.1 among needed none
-
-  pub no_order_excluded : {P : Type 0} (place : Place) → all_there place ms ≡ Ok tt → place ≡ places.TraceType → optional (codes "trace-byte-order") ms ≡ None → optional (codes "native-byte-order") ms ≡ None → P
-  unfolding all_there orders_there
-  no_order_excluded place e is a b = let r = both_read (rows_there ms (rows_of place)) _ tt e in let f = rw (a, b) at (subst (λ p. orders_there p ms ≡ Ok tt) is r.2) in absurd cc
 
 -- ---- what a field type is as a whole
 
@@ -109,22 +101,11 @@ module _ (around : Around) (place : Place) (all : Members) where
     agrees : Agrees known (member_of place all before ∷ around)
     clear : member_flaws known place rest ≡ []
 
-  further : (before : Members) (name : List ℕ) (d : Data) (rest : Members) → Reached before (member name d rest) → Reached (member name d before) rest
-  further before name d rest r = record {
-    known = behind place d r.known;
-    agrees = behind_agrees around all before name d place r.known r.agrees;
-    clear = (first_flaws r.known place name d rest r.clear).1;
-  }
-
   reached : (before rest : Members) → Parts all before rest → Reached no_members all → Reached before rest
   reached before rest Parts.at_the_first start = start
-  reached before rest (Parts.behind b name d r parts) start = further b name d rest (reached b (member name d rest) parts start)
-
-  unknown_clear : {P : Type 0} (before : Members) (name : List ℕ) (d : Data) (rest : Members) → Reached before (member name d rest) → resolved_content place name ≡ None → P
-  unknown_clear before name d rest r none =
-      let e = (first_flaws r.known place name d rest r.clear).0 in
-      let told = subst (λ o. property_flaws r.known place name o d (inner_flaws r.known (content_or_any o) d) ≡ []) none e in
-      absurd cc
+  reached before rest (Parts.behind b name d r parts) start =
+      let one = reached b (member name d rest) parts start in
+      record { known = behind place d one.known; agrees = behind_agrees around all b name d place one.known one.agrees; clear = (first_flaws one.known place name d rest one.clear).1 }
 
   value_clear : (before : Members) (name : List ℕ) (d : Data) (rest : Members) (content : Content) (r : Reached before (member name d rest)) → resolved_content place name ≡ Some content → is_left_out place name d ≡ false → PropertySound r.known place name content d
   value_clear before name d rest content r is left = property_here r.known place name content d is left (first_flaws r.known place name d rest r.clear).0
@@ -149,18 +130,7 @@ plain_content place name entries is = ap (λ o. told_under o (rows_of place) nam
 no_rows : (place : Place) (name : List ℕ) (entries : Entries) → entries_of place ≡ Some entries → presence_under place name ≡ None
 unfolding entries_of presence_under rows_of
 no_rows places.Environment name entries is = refl
-no_rows places.FieldTypeAliases name entries is = refl
-no_rows places.LogLevelAliases name entries is = refl
-no_rows places.ClockTypes name entries is = refl
-no_rows places.StreamTypes name entries is = refl
-no_rows places.EventTypes name entries is = refl
-no_rows places.Entry name entries is = refl
-no_rows places.Mappings name entries is = refl
-no_rows places.ExtraMembers name entries is = refl
-no_rows places.Members name entries is = refl
-no_rows places.Ranges name entries is = refl
-no_rows places.Range name entries is = refl
-no_rows _ name entries is = absurd cc
+no_rows _ name entries is = cc
 
 entry_content : (place : Place) (name : List ℕ) (entries : Entries) → entries_of place ≡ Some entries → resolved_content place name ≡ under_entries entries
 entry_content place name entries is =
@@ -182,12 +152,15 @@ module _ (around : Around) (place : Place) (all : Members) where
       at_name_excluded r.known around r.agrees.taken place name d flaw clear.named (entries, is, wrong)
 
   rows_clear : (flaw : Flaw) → all_there place all ≡ Ok tt → Reached around place all no_members all → ¬ HasNotItsRows place all flaw
+  unfolding all_there orders_there
   rows_clear flaw there start (HasNotItsRows.unknown name d has none) =
       let at_member = stands_behind around place all no_members all name d Parts.at_the_first has in
       let r = reached around place all at_member.0 (member name d at_member.1.0) at_member.1.1 start in
-      unknown_clear around place all at_member.0 name d at_member.1.0 r (is_none place name none)
-  rows_clear flaw there start (HasNotItsRows.missing row among needed none) = missing_excluded all place row there among needed none
-  rows_clear flaw there start (HasNotItsRows.no_byte_order is a b) = no_order_excluded all place there is a b
+      let told = subst (λ o. property_flaws r.known place name o d (inner_flaws r.known (content_or_any o) d) ≡ []) (is_none place name none) (first_flaws r.known place name d at_member.1.0 r.clear).0 in
+      absurd cc
+  rows_clear flaw there start (HasNotItsRows.missing row among needed none) = rows_excluded all (rows_of place) row (both_read (rows_there all (rows_of place)) _ tt there).1 among needed none
+  rows_clear flaw there start (HasNotItsRows.no_byte_order is a b) =
+      let f = rw (a, b) at (subst (λ p. orders_there p all ≡ Ok tt) is (both_read (rows_there all (rows_of place)) _ tt there).2) in absurd cc
 
 -- ---- at an item
 
@@ -197,19 +170,11 @@ module _ (around : Around) (k : Known) (h : Agrees k around) (place : Place) (al
     takes : Takes taken place before
     clear : item_flaws k place taken (items_len before) rest ≡ []
 
-  item_further : (before : Items) (d : Data) (rest : Items) → ItemReached before (item d rest) → ItemReached (item d before) rest
-  item_further before d rest r = record {
-    taken = with_names d r.taken;
-    takes = takes_further r.taken place before d r.takes;
-    clear = (first_item k place r.taken (items_len before) d rest r.clear).1;
-  }
-
   item_reached : (before rest : Items) → ItemParts all before rest → ItemReached no_items all → ItemReached before rest
   item_reached before rest ItemParts.at_the_first start = start
-  item_reached before rest (ItemParts.behind_item b d r parts) start = item_further b d rest (item_reached b (item d rest) parts start)
-
-  item_clear : (before : Items) (d : Data) (rest : Items) (r : ItemReached before (item d rest)) → content_flaws (with_taken r.taken k) (item_content place) d ≡ []
-  item_clear before d rest r = (first_item k place r.taken (items_len before) d rest r.clear).0
+  item_reached before rest (ItemParts.behind_item b d r parts) start =
+      let one = item_reached b (item d rest) parts start in
+      record { taken = with_names d one.taken; takes = takes_further one.taken place b d one.takes; clear = (first_item k place one.taken (items_len b) d rest one.clear).1 }
 
 -- ---- a value and all that it holds
 
@@ -232,16 +197,13 @@ flaw_excluded around content d flaw (IsFlawOf.in_property {place = place} {ms = 
     let p = place_of_properties place ms in
     let r = reached around p ms before (member name v behind_these.0) behind_these.1 (start_of k around h place ms e) in
     let clear = value_clear around p ms before name v behind_these.0 inner r (is_property p name inner is) (left_not p name v left) in
-    flaw_excluded (member_of p ms before ∷ around) inner v f wrong r.known r.agrees (nothing_told r.known inner v clear.value.itself clear.value.inner)
-  where
-    nothing_told : (k : Known) (content : Content) (d : Data) → itself_of k content d ≡ Ok tt → inner_flaws k content d ≡ [] → content_flaws k content d ≡ []
-    nothing_told k content d itself held = rw (itself, held) refl
+    flaw_excluded (member_of p ms before ∷ around) inner v f wrong r.known r.agrees (rw (clear.value.itself, clear.value.inner) refl)
 flaw_excluded around content d flaw (IsFlawOf.in_item {place = place} {ds = ds} i v f is wrong) k h e =
     let start : ItemReached around k h place ds no_items ds = record { taken = names_beside place; takes = takes_beside place; clear = (both_none (told_by (itself_of k (At place) (array ds))) _ e).1 } in
     let at_item = stands ds v i is in
     let r = item_reached around k h place ds at_item.0 (item v at_item.1) at_item.2 start in
     let agrees = item_agrees k around r.taken place ds at_item.0 (item v at_item.1) h r.takes at_item.2 in
-    flaw_excluded (item_of place ds i ∷ around) (item_content place) v f wrong (with_taken r.taken k) (subst (λ n. Agrees (with_taken r.taken k) (item_of place ds n ∷ around)) at_item.3 agrees) (item_clear around k h place ds at_item.0 v at_item.1 r)
+    flaw_excluded (item_of place ds i ∷ around) (item_content place) v f wrong (with_taken r.taken k) (subst (λ n. Agrees (with_taken r.taken k) (item_of place ds n ∷ around)) at_item.3 agrees) (first_item k place r.taken (items_len at_item.0) v at_item.1 r.clear).0
 
 -- where nothing is told of a whole configuration
 pub none_left : (d : Data) → configuration_flaws d ≡ [] → (flaw : Flaw) → ¬ IsFlawOf [] (At places.Root) d flaw

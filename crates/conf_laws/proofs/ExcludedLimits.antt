@@ -1,7 +1,6 @@
 -- Where the walk over a configuration tells of no limit, it passes none by the table.
-use Rattle.std.proofs.Common.{◌≡◌, ◌/◌, ◌%◌, ◌==◌, ◌<◌, ℕ, zero, suc, true, false, List, [], length, Some, None, is_some, inl, inr, refl, sym, ap, subst, ◌∙◌, arith, Ok}
+use Rattle.std.proofs.Common.{◌≡◌, ◌/◌, ◌%◌, ◌==◌, ◌<◌, ℕ, zero, suc, true, false, List, [], length, Some, is_some, inl, inr, refl, sym, ap, subst, ◌∙◌, arith}
 use Rattle.std.specs.Prelude.{nat_le, nat_eq}
-use Rattle.conf_laws.proofs.ExcludedFlaws.{none_refused}
 use Rattle.conf_laws.proofs.ExcludedValues.{divided}
 use Rattle.conf_laws.proofs.Properties.{within_none, limits_at, first_limits, first_item_limits}
 use Rattle.conf_laws.proofs.Sound.{both_none}
@@ -10,8 +9,8 @@ use Rattle.conf_laws.specs.TableLimits.{PassesAt, IsLongText, IsNoPowerUpTo, Pas
 use Rattle.conf_laws.proofs.TableWords.{entries_of, Place, Content, Entries, Label}
 use Rattle.conf_laws.proofs.TableWords.places
 use Rattle.conf_laws.proofs.TableWords.contents
-use Rattle.conf_laws.proofs.JudgeWords.{told_by, content_or_any, within_limit, bytes_fit, divides, power_fits, elements, is_outermost, arrays_fit, count_of, at_most, ranges_of, ranges_fit, place_fits, fits, is_label, key_fits, item_limits, member_limits, content_limits, configuration_limits, place_of_properties, item_content}
-use Rattle.conf_laws.proofs.TreeWords.{Flaw, HasMember, refusal, Data, string, array, object, Items, no_items, item, Members, no_members, member, get_item}
+use Rattle.conf_laws.proofs.JudgeWords.{told_by, content_or_any, within_limit, bytes_fit, divides, power_fits, arrays_fit, count_of, at_most, ranges_of, ranges_fit, place_fits, fits, is_label, key_fits, item_limits, member_limits, content_limits, configuration_limits, place_of_properties, item_content}
+use Rattle.conf_laws.proofs.TreeWords.{Flaw, HasMember, Data, string, array, object, Items, no_items, item, Members, no_members, member, get_item}
 use Rattle.conf_laws.proofs.StdWords.{false≢true, or_from, lt-leb, ne_eqb, and_left, and_right}
 
 -- ---- a value by itself
@@ -24,22 +23,17 @@ power_fails : (high : ℕ) (d : Data) → IsNoPowerUpTo high d → power_fits hi
 unfolding power_fits
 power_fails high d (n, is, some, none) = ap (divides high) is ∙ or_from (nat_eq n 0) (high % n == 0) (ne_eqb n 0 some) (ne_eqb (high % n) 0 (λ e. none (high / n) (divided high n (omega (arith, some)) e)))
 
-module _ (place : Place) (d : Data) where
-  entries_fail : (entries : Entries) (most : ℕ) → entries_of place ≡ Some entries → entries.most ≡ Some most → most < count_of d → at_most (entries_of place) (count_of d) ≡ false
-  entries_fail entries most is number_is more =
-      let counted : at_most (Some entries) (count_of d) ≡ nat_le (count_of d) most = rw number_is refl in
-      ap (λ o. at_most o (count_of d)) is ∙ counted ∙ lt-leb (count_of d) most more
-
-  arrays_fail : is_outermost place ≡ true → elements 8 d ≡ None → arrays_fit place d ≡ false
-  unfolding arrays_fit
-  arrays_fail outermost none = rw outermost (ap is_some none)
+entries_fail : (place : Place) (d : Data) (entries : Entries) (most : ℕ) → entries_of place ≡ Some entries → entries.most ≡ Some most → most < count_of d → at_most (entries_of place) (count_of d) ≡ false
+entries_fail place d entries most is number_is more =
+    let counted : at_most (Some entries) (count_of d) ≡ nat_le (count_of d) most = rw number_is refl in
+    ap (λ o. at_most o (count_of d)) is ∙ counted ∙ lt-leb (count_of d) most more
 
 at_fails : (place : Place) (d : Data) → PassesAt place d → place_fits place d ≡ false
-unfolding place_fits ranges_fit
+unfolding place_fits ranges_fit arrays_fit
 at_fails place d (PassesAt.too_many_entries entries most is number_is more) =
     and_right (arrays_fit place d) _ (and_left (at_most (entries_of place) (count_of d)) (ranges_fit place d) (entries_fail place d entries most is number_is more))
 at_fails place d (PassesAt.too_many_ranges is more) = and_right (arrays_fit place d) _ (and_right (at_most (entries_of place) (count_of d)) (ranges_fit place d) (subst (λ p. ranges_fit p d ≡ false) (sym is) (lt-leb (ranges_of d) 1024 more)))
-at_fails place d (PassesAt.too_many_elements outermost many) = and_left (arrays_fit place d) _ (arrays_fail place d outermost (not_counted d many))
+at_fails place d (PassesAt.too_many_elements outermost many) = and_left (arrays_fit place d) _ (rw outermost (ap is_some (not_counted d many)))
 
 by_fails : (content : Content) (d : Data) → PassesBy content d → fits content d ≡ false
 unfolding fits
@@ -90,7 +84,3 @@ limit_excluded content d flaw (PassesLimitOf.in_item {place = place} {ds = ds} i
 -- where no limit is told of a whole configuration
 pub none_passed : (d : Data) (flaw : Flaw) → configuration_limits d ≡ [] → ¬ PassesLimitOf (contents.At places.Root) d flaw
 none_passed d flaw e passed = limit_excluded (contents.At places.Root) d flaw passed e
-
--- what the judge of a configuration's limits passes has none that it passes
-pub passed_clear : (d : Data) (flaw : Flaw) → refusal (configuration_limits d) ≡ Ok tt → ¬ PassesLimitOf (contents.At places.Root) d flaw
-passed_clear d flaw e = none_passed d flaw (none_refused (configuration_limits d) e)

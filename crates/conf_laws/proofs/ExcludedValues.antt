@@ -10,12 +10,12 @@ use Rattle.conf_laws.proofs.Readings.{was_so, under_no_test, some_none, some_sam
 use Rattle.conf_laws.proofs.TableFlawLaws.{number_found}
 use Rattle.conf_laws.proofs.ValueFlawLaws.{has_by_bytes}
 use Rattle.conf_laws.specs.Around.{Around, enumeration_around, HasBits, IsTaken}
-use Rattle.conf_laws.specs.ValueFlaws.{IsPowerOfTwo, IsNoPowerOfTwo, IsNoLevel, IsNoWholeOrText, IsNoDefault, IsWhole, words_of_classes, IsPair, IsRange, IsNoRange, IsNoSomeList, IsNoSomeObject, IsNoEntry, IsNoFeature, IsNoSizeFeature, IsNoneAt, IsNoValueOf, IsNoMemberName, IsNoLabel, IsNoKey, IsNoNameAt}
+use Rattle.conf_laws.specs.ValueFlaws.{IsPowerOfTwo, IsNoPowerOfTwo, IsNoLevel, IsNoWholeOrText, IsNoDefault, IsWhole, IsPair, IsRange, IsNoRange, IsNoSomeList, IsNoSomeObject, IsNoEntry, IsNoFeature, IsNoSizeFeature, IsNoneAt, IsNoValueOf, IsNoMemberName, IsNoLabel, IsNoKey, IsNoNameAt}
 use Rattle.conf_laws.proofs.TableWords.{ClassWord, class_words, class_in, words_of, Place, Content, Keys}
 use Rattle.conf_laws.proofs.TableWords.places
 use Rattle.conf_laws.proofs.TableWords.contents
 use Rattle.conf_laws.proofs.TableWords.keys
-use Rattle.conf_laws.proofs.JudgeWords.{any_object, any_list, one_member, some_list, some_object, entry, feature, size_feature, form_of, itself_of, Known, only_if, whole_from, is_power_of_two, power_of, any_flag, one_flag, any_text, printable, identifier, identifier_or_auto, word_among, class_word, whole_or_text, level, leaf_of, is_dynamic, is_taken, length_is_taken, free_of, is_entry, plain_of, key_by, key_in, key_of, all_numbers, numbers_of, numbers_or_all, numbers_in, end_of, range_of, is_inside, inside_of}
+use Rattle.conf_laws.proofs.JudgeWords.{any_object, any_list, one_member, some_list, some_object, entry, feature, size_feature, form_of, itself_of, Known, whole_from, is_power_of_two, power_of, any_flag, one_flag, any_text, printable, identifier, identifier_or_auto, word_among, class_word, whole_or_text, level, leaf_of, is_dynamic, is_taken, length_is_taken, free_of, plain_of, key_by, key_in, key_of, all_numbers, numbers_of, numbers_or_all, numbers_in, end_of, range_of, is_inside, inside_of}
 use Rattle.conf_laws.proofs.TreeWords.{Flaw, here, whole_of, OutOfRange, BadName, ReservedName, NameClash, listed, both_read, is_passed, IsNoText, IsNoFlag, IsNoWhole, IsNoConfigText, IsNoUuid, IsNoWordOf, IsControl, IsNoObject, IsNoList, IsNoName, IsNoPlainName, name_of, is_reserved, plain_name_of, is_printable, uuid_in, Data, boolean, string, array, Members, Items, no_items, item, no_members, member, items_len, members_len, as_str, as_number, as_integer, as_array}
 use Rattle.conf_laws.proofs.StdWords.{mul-zero, zero-mul, suc-mul, add-mul, mul-add, two-pow-succ, one-le-mul, true≢false, false≢true, and_parts, or_from, or_cases, ltb-true, lt-leb, ne_eqb, eqb-true, or_parts, leb-true, list_all_at, same_Some, bytes_eq-Decides, list_any, bytes_eq}
 use Rattle.conf_laws.proofs.DraftWords.{lowest, highest, is_identifier, unused_keywords, used_keywords, length_name}
@@ -110,20 +110,12 @@ power_excluded d flaw e (IsNoPowerOfTwo.no_power m y is whole other) =
 
 -- ---- flags
 
-flag_excluded : (d : Data) (flaw : Flaw) → any_flag d ≡ Ok tt → ¬ IsNoFlag d flaw
-unfolding any_flag
-flag_excluded d flaw e (IsNoFlag.no_flag none) = absurd (let h = rw none at e in cc)
-
 default_excluded : (k : Known) (around : Around) → Agrees k around → (d : Data) (flaw : Flaw) → one_flag k.has_default d ≡ Ok tt → ¬ IsNoDefault around d flaw
 unfolding one_flag
 default_excluded k around h d flaw e (IsNoDefault.no_flag (IsNoFlag.no_flag none)) = absurd (let f = rw none at e in cc)
 default_excluded k around h d flaw e (IsNoDefault.a_second is behind) = let before : k.has_default ≡ true = h.second.1 behind in absurd (let f = rw (is, before) at e in cc)
 
 -- ---- texts
-
-any_text_excluded : (d : Data) (flaw : Flaw) → any_text d ≡ Ok tt → ¬ IsNoText d flaw
-unfolding any_text
-any_text_excluded d flaw e (IsNoText.no_text none) = absurd (let h = rw none at e in cc)
 
 -- no character of a text that is shown is one of control
 shown_character : (s : List ℕ) (c : ℕ) → is_printable s ≡ true → Contains s c → ¬ IsControl c
@@ -137,11 +129,6 @@ unfolding printable
 printable_excluded d flaw e (IsNoConfigText.no_text none) = absurd (let h = rw none at e in cc)
 printable_excluded d flaw e (IsNoConfigText.has_control s c is among control) = shown_character s c (was_so (is_printable s) (rw is at e)) among control
 
-identifier_excluded : (d : Data) (flaw : Flaw) → identifier d ≡ Ok tt → ¬ IsNoUuid d flaw
-unfolding identifier uuid_in
-identifier_excluded d flaw e (IsNoUuid.no_text none) = absurd (let h = rw none at e in cc)
-identifier_excluded d flaw e (IsNoUuid.no_uuid s is none) = absurd (let h = rw (is, none) at e in cc)
-
 choice_excluded : (d : Data) (flaw : Flaw) → identifier_or_auto d ≡ Ok tt → (as_str d ≡ Some (codes "auto") → ⊥) → ¬ IsNoUuid d flaw
 unfolding identifier_or_auto uuid_in
 choice_excluded d flaw e other (IsNoUuid.no_text none) = absurd (let h = rw none at e in cc)
@@ -152,21 +139,11 @@ choice_excluded d flaw e other (IsNoUuid.no_uuid s is none) = elim (or_cases (by
 
 -- ---- words
 
-word_excluded : (words : List (List ℕ)) (d : Data) (flaw : Flaw) → word_among words d ≡ Ok tt → ¬ IsNoWordOf words d flaw
-unfolding word_among
-word_excluded words d flaw e (IsNoWordOf.no_text none) = absurd (let h = rw none at e in cc)
-word_excluded words d flaw e (IsNoWordOf.another_word s is other) = other (listed words s (was_so (list_any (bytes_eq s) words) (rw is at e)))
-
 pub class_word_listed : (cs : List ClassWord) (w : List ℕ) → is_some (class_in w cs) ≡ true → Contains (map (λ c. c.word) cs) w
 class_word_listed [] w e = absurd cc
 class_word_listed (c ∷ cs) w e =
     by_test (λ (b : Bool). is_some (cond b (Some c.place) (class_in w cs)) ≡ true → (is_some (class_in w cs) ≡ true → Contains (map (λ x. x.word) cs) w) → Contains (map (λ x. x.word) (c ∷ cs)) w) (bytes_eq c.word w)
     (λ is f later. (0, omega arith, (bytes_eq-Decides c.word w).0 is)) (λ is f later. let there = later f in (suc there.0, omega (arith, there.1), there.2)) e (class_word_listed cs w)
-
-class_excluded : (d : Data) (flaw : Flaw) → class_word d ≡ Ok tt → ¬ IsNoWordOf words_of_classes d flaw
-unfolding class_word
-class_excluded d flaw e (IsNoWordOf.no_text none) = absurd (let h = rw none at e in cc)
-class_excluded d flaw e (IsNoWordOf.another_word s is other) = other (class_word_listed class_words s (was_so (is_some (class_in s class_words)) (rw is at e)))
 
 -- ---- a number or a text
 
@@ -196,24 +173,9 @@ list_excluded : (d : Data) (flaw : Flaw) → any_list d ≡ Ok tt → ¬ IsNoLis
 unfolding any_list
 list_excluded d flaw e (IsNoList.no_list none) = absurd (let h = rw none at e in cc)
 
-some_list_excluded : (d : Data) (flaw : Flaw) → some_list d ≡ Ok tt → ¬ IsNoSomeList d flaw
-unfolding some_list
-some_list_excluded d flaw e (IsNoSomeList.no_list (IsNoList.no_list none)) = absurd (let h = rw none at e in cc)
-some_list_excluded d flaw e (IsNoSomeList.has_none is) = absurd (let h = rw is at e in cc)
-
-some_object_excluded : (d : Data) (flaw : Flaw) → some_object d ≡ Ok tt → ¬ IsNoSomeObject d flaw
-unfolding some_object
-some_object_excluded d flaw e (IsNoSomeObject.no_object (IsNoObject.no_object none)) = absurd (let h = rw none at e in cc)
-some_object_excluded d flaw e (IsNoSomeObject.has_none is) = absurd (let h = rw is at e in cc)
-
 one_counted : (ms : Members) → one_member ms ≡ Ok tt → members_len ms ≡ 1
 one_counted (member k d no_members) e = refl
 one_counted _ e = absurd cc
-
-entry_excluded : (d : Data) (flaw : Flaw) → entry d ≡ Ok tt → ¬ IsNoEntry d flaw
-unfolding entry
-entry_excluded d flaw e (IsNoEntry.no_object (IsNoObject.no_object none)) = absurd (let h = rw none at e in cc)
-entry_excluded d flaw e (IsNoEntry.not_one_property ms is other) = other (one_counted ms (rw is at e))
 
 feature_excluded : (d : Data) (flaw : Flaw) → feature d ≡ Ok tt → ¬ IsNoFeature d flaw
 unfolding feature
@@ -307,37 +269,43 @@ module _ (around : Around) where
 
 module _ (k : Known) (around : Around) (h : Agrees k around) where
   none_excluded : (place : Place) (d : Data) (flaw : Flaw) → form_of k place d ≡ Ok tt → ¬ IsNoneAt around place d flaw
-  unfolding form_of
-  none_excluded places.Members d flaw e = list_excluded d flaw e
-  none_excluded places.ExtraMembers d flaw e = list_excluded d flaw e
-  none_excluded places.Ranges d flaw e = some_list_excluded d flaw e
-  none_excluded places.Range d flaw e = range_excluded around k.numbers h.numbers d flaw e
-  none_excluded places.Entry d flaw e = entry_excluded d flaw e
-  none_excluded places.Mappings d flaw e = some_object_excluded d flaw e
-  none_excluded places.Feature d flaw e = feature_excluded d flaw e
-  none_excluded places.MagicFeature d flaw e = feature_excluded d flaw e
-  none_excluded places.IdentifierFeature d flaw e = feature_excluded d flaw e
-  none_excluded places.SizeFeature d flaw e = size_excluded d flaw e
-  none_excluded places.Scalar d flaw e = λ none. none
-  none_excluded places.Ignored d flaw e = λ none. none
-  none_excluded _ d flaw e = object_excluded d flaw e
+  unfolding form_of some_list some_object entry
+  none_excluded places.Members d flaw e wrong = list_excluded d flaw e wrong
+  none_excluded places.ExtraMembers d flaw e wrong = list_excluded d flaw e wrong
+  none_excluded places.Ranges d flaw e (IsNoSomeList.no_list (IsNoList.no_list none)) = absurd (let f = rw none at e in cc)
+  none_excluded places.Ranges d flaw e (IsNoSomeList.has_none is) = absurd (let f = rw is at e in cc)
+  none_excluded places.Range d flaw e wrong = range_excluded around k.numbers h.numbers d flaw e wrong
+  none_excluded places.Entry d flaw e (IsNoEntry.no_object (IsNoObject.no_object none)) = absurd (let f = rw none at e in cc)
+  none_excluded places.Entry d flaw e (IsNoEntry.not_one_property ms is other) = other (one_counted ms (rw is at e))
+  none_excluded places.Mappings d flaw e (IsNoSomeObject.no_object (IsNoObject.no_object none)) = absurd (let f = rw none at e in cc)
+  none_excluded places.Mappings d flaw e (IsNoSomeObject.has_none is) = absurd (let f = rw is at e in cc)
+  none_excluded places.Feature d flaw e wrong = feature_excluded d flaw e wrong
+  none_excluded places.MagicFeature d flaw e wrong = feature_excluded d flaw e wrong
+  none_excluded places.IdentifierFeature d flaw e wrong = feature_excluded d flaw e wrong
+  none_excluded places.SizeFeature d flaw e wrong = size_excluded d flaw e wrong
+  none_excluded places.Scalar d flaw e wrong = wrong
+  none_excluded places.Ignored d flaw e wrong = wrong
+  none_excluded _ d flaw e wrong = object_excluded d flaw e wrong
 
   pub value_excluded : (content : Content) (d : Data) (flaw : Flaw) → itself_of k content d ≡ Ok tt → ¬ IsNoValueOf around content d flaw
-  unfolding itself_of leaf_of
-  value_excluded (contents.Whole low high) d flaw e = whole_excluded low high d flaw e
-  value_excluded (contents.PowerOfTwo high) d flaw e = power_excluded d flaw e
-  value_excluded contents.Flag d flaw e = flag_excluded d flaw e
-  value_excluded contents.OneFlag d flaw e = default_excluded k around h d flaw e
-  value_excluded (contents.Text most) d flaw e = printable_excluded d flaw e
-  value_excluded contents.ClockName d flaw e = any_text_excluded d flaw e
-  value_excluded contents.Identifier d flaw e = identifier_excluded d flaw e
-  value_excluded contents.IdentifierOrAuto d flaw e = λ wrong. choice_excluded d flaw e wrong.0 wrong.1
-  value_excluded (contents.Word words) d flaw e = word_excluded (words_of words) d flaw e
-  value_excluded contents.Class d flaw e = class_excluded d flaw e
-  value_excluded (contents.WholeOrText low high most) d flaw e = whole_or_text_excluded low high d flaw e
-  value_excluded (contents.Level high) d flaw e = level_excluded _ high d flaw (ap (λ levels. level levels high d) (sym h.levels) ∙ e)
-  value_excluded (contents.At place) d flaw e = none_excluded place d flaw e
-  value_excluded contents.Anything d flaw e = λ none. none
+  unfolding itself_of leaf_of any_flag any_text identifier uuid_in word_among class_word
+  value_excluded (contents.Whole low high) d flaw e wrong = whole_excluded low high d flaw e wrong
+  value_excluded (contents.PowerOfTwo high) d flaw e wrong = power_excluded d flaw e wrong
+  value_excluded contents.Flag d flaw e (IsNoFlag.no_flag none) = absurd (let f = rw none at e in cc)
+  value_excluded contents.OneFlag d flaw e wrong = default_excluded k around h d flaw e wrong
+  value_excluded (contents.Text most) d flaw e wrong = printable_excluded d flaw e wrong
+  value_excluded contents.ClockName d flaw e (IsNoText.no_text none) = absurd (let f = rw none at e in cc)
+  value_excluded contents.Identifier d flaw e (IsNoUuid.no_text none) = absurd (let f = rw none at e in cc)
+  value_excluded contents.Identifier d flaw e (IsNoUuid.no_uuid s is none) = absurd (let f = rw (is, none) at e in cc)
+  value_excluded contents.IdentifierOrAuto d flaw e (other, wrong) = choice_excluded d flaw e other wrong
+  value_excluded (contents.Word words) d flaw e (IsNoWordOf.no_text none) = absurd (let f = rw none at e in cc)
+  value_excluded (contents.Word words) d flaw e (IsNoWordOf.another_word s is other) = other (listed (words_of words) s (was_so (list_any (bytes_eq s) (words_of words)) (rw is at e)))
+  value_excluded contents.Class d flaw e (IsNoWordOf.no_text none) = absurd (let f = rw none at e in cc)
+  value_excluded contents.Class d flaw e (IsNoWordOf.another_word s is other) = other (class_word_listed class_words s (was_so (is_some (class_in s class_words)) (rw is at e)))
+  value_excluded (contents.WholeOrText low high most) d flaw e wrong = whole_or_text_excluded low high d flaw e wrong
+  value_excluded (contents.Level high) d flaw e wrong = level_excluded _ high d flaw (ap (λ levels. level levels high d) (sym h.levels) ∙ e) wrong
+  value_excluded (contents.At place) d flaw e wrong = none_excluded place d flaw e wrong
+  value_excluded contents.Anything d flaw e wrong = wrong
 
 -- ---- the names of entries
 
@@ -354,9 +322,6 @@ plain_excluded name flaw e (IsNoPlainName.a_reserved_word reserved) =
     let free = or_parts (list_any (bytes_eq name) unused_keywords) (list_any (bytes_eq name) used_keywords) (under_no_test _ tt tt (here ReservedName) (both_read (name_of name) _ tt e).2) in
     elim reserved [ inl there ↦ false≢true (sym free.0 ∙ has_by_bytes unused_keywords name there) | inr there ↦ false≢true (sym free.1 ∙ has_by_bytes used_keywords name there) ]
 
-label_excluded : (name : List ℕ) (flaw : Flaw) → only_if (is_printable name) ≡ Ok tt → ¬ IsNoLabel name flaw
-label_excluded name flaw e (IsNoLabel.has_control c among control) = shown_character name c (was_so (is_printable name) e) among control
-
 module _ (k : Known) (around : Around) (h : (name : List ℕ) → IsTrue (is_taken k.taken name) ↔ IsTaken around name) where
   member_excluded : (name : List ℕ) (d : Data) (flaw : Flaw) → plain_name_of name ≡ Ok tt → (is_taken k.taken name ≡ false) × (length_is_taken (is_dynamic d) k.taken name ≡ false) → ¬ IsNoMemberName around name d flaw
   member_excluded name d flaw plain free (IsNoMemberName.no_name wrong) = plain_excluded name flaw plain wrong
@@ -364,21 +329,16 @@ module _ (k : Known) (around : Around) (h : (name : List ℕ) → IsTrue (is_tak
   member_excluded name d flaw plain free (IsNoMemberName.length_clash dynamic taken) =
       false≢true (sym free.1 ∙ ap (λ b. length_is_taken b k.taken name) (told_dynamic d dynamic) ∙ (h (length_name name)).1 taken)
 
-  plain_key : (place : Place) (name : List ℕ) (d : Data) (flaw : Flaw) → plain_of k (is_entry place) name d ≡ Ok tt → ¬ IsNoKey around place keys.PlainName name d flaw
-  unfolding plain_of free_of
-  plain_key places.Entry name d flaw e =
-      let r = both_read (plain_name_of name) _ tt e in
-      let plain : plain_name_of name ≡ Ok tt = r.1 in
-      let free = or_parts (is_taken k.taken name) (length_is_taken (is_dynamic d) k.taken name) (under_no_test (is_taken k.taken name || length_is_taken (is_dynamic d) k.taken name) tt tt (here NameClash) r.2) in
-      member_excluded name d flaw plain free
-  plain_key _ name d flaw e = plain_excluded name flaw e
-
   key_excluded : (place : Place) (by : Keys) (name : List ℕ) (d : Data) (flaw : Flaw) → key_by k place by name d ≡ Ok tt → ¬ IsNoKey around place by name d flaw
-  unfolding key_by
-  key_excluded place keys.Name name d flaw e = name_excluded name flaw e
-  key_excluded place keys.PlainName name d flaw e = plain_key place name d flaw e
-  key_excluded place keys.Label name d flaw e = label_excluded name flaw e
-  key_excluded place keys.Index name d flaw e = λ none. none
+  unfolding key_by plain_of free_of
+  key_excluded place keys.Name name d flaw e wrong = name_excluded name flaw e wrong
+  key_excluded places.Entry keys.PlainName name d flaw e wrong =
+      let r = both_read (plain_name_of name) _ tt e in
+      let free = or_parts (is_taken k.taken name) (length_is_taken (is_dynamic d) k.taken name) (under_no_test (is_taken k.taken name || length_is_taken (is_dynamic d) k.taken name) tt tt (here NameClash) r.2) in
+      member_excluded name d flaw r.1 free wrong
+  key_excluded _ keys.PlainName name d flaw e wrong = plain_excluded name flaw e wrong
+  key_excluded place keys.Label name d flaw e (IsNoLabel.has_control c among control) = shown_character name c (was_so (is_printable name) e) among control
+  key_excluded place keys.Index name d flaw e wrong = wrong
 
   pub at_name_excluded : (place : Place) (name : List ℕ) (d : Data) (flaw : Flaw) → key_of k place name d ≡ Ok tt → ¬ IsNoNameAt around place name d flaw
   unfolding key_of

@@ -3,7 +3,7 @@ use Rattle.std.proofs.Common.{◌≡◌, ℕ, Bool, true, false, List, Option, S
 use Rattle.std.specs.Prelude.{◌&&◌, codes}
 use Rattle.conf_table.specs.Classes as classes
 use Rattle.conf_laws.proofs.FieldTypes.{integer_said}
-use Rattle.conf_laws.proofs.Readings.{was_so, optional_found, mapped_there, by_found}
+use Rattle.conf_laws.proofs.Readings.{some_there, was_so, optional_found, mapped_there, by_found}
 use Rattle.conf_laws.proofs.Sound.{class_same, TypeSound, type_sound, unsigned_told, Leads, RowsSound, needed_sound, given_sound, ObjectSound, ContentSound, object_sound, by_object}
 use Rattle.conf_laws.proofs.Table.{Property, leads, needed_by, ObjectPlace, is_object}
 use Rattle.conf_laws.proofs.TableWords.{admits_class, rows_of, Place, At}
@@ -11,7 +11,7 @@ use Rattle.conf_laws.proofs.TableWords.places
 use Rattle.conf_laws.proofs.JudgeWords.{is_null, all_there, orders_there, Known, inside, class_of as judged_class, natural_in, is_position, shape_of, is_identifier, is_byte, is_unsigned_integer, is_number, is_eight}
 use Rattle.conf_laws.proofs.TreeWords.{optional, Data, null, boolean, object, Members, no_members, get_member}
 use Rattle.conf_laws.proofs.StdWords.{false≢true, and_parts, same_Some}
-use Rattle.conf_laws.proofs.DraftWords.{number_type, byte_type, if_on, own, feature_of, feature, byte_of, identifier_of, identifier, or_number, size, mapped, timestamp, magic_type, or_empty, header_with, header_of, header, context_with, context_of, context, event_header_with, event_header_of, event_header, integer, IntType}
+use Rattle.conf_laws.proofs.DraftWords.{number_type, byte_type, if_on, own, feature_of, feature, byte_of, identifier_of, identifier, or_number, size, mapped, timestamp, magic_type, or_empty, header_of, header, context_of, context, event_header_of, event_header, integer, IntType}
 
 -- ---- on or off
 
@@ -49,11 +49,8 @@ magic_feature = record { position = refl; class = only_unsigned }
 unsigned_said : (k : Known) (place : Place) (ms : Members) (t : TypeSound k place ms) → t.class ≡ places.UnsignedInteger → IsSome (integer false ms)
 unsigned_said k place ms t is = integer_said (inside t.class ms k) places.UnsignedInteger false ms Property.unsigned_size (subst (λ p. RowsSound (inside t.class ms k) p ms) is t.rows)
 
-type_said : (k : Known) (place : Place) (ms : Members) → IsFeature place → ObjectSound k place ms → IsSome (integer false ms)
-type_said k place ms f h = let t = type_sound k place ms f.position h in unsigned_said k place ms t (f.class t.class t.may_stand)
-
 value_said : (k : Known) (place : Place) (by_default : Bool) (t : IntType) (d : Data) → IsFeature place → ContentSound k (At place) d → IsSome (feature_of by_default t (Some d))
-value_said k place by_default t (object ms) f h = own_there (integer false ms) (type_said k place ms f (object_sound k place ms h.inner))
+value_said k place by_default t (object ms) f h = let t = type_sound k place ms f.position (object_sound k place ms h.inner) in own_there (integer false ms) (unsigned_said k place ms t (f.class t.class t.may_stand))
 value_said k place by_default t (boolean b) f h = on_there b t
 value_said k place by_default t _ f h = on_there by_default t
 
@@ -115,16 +112,13 @@ identifier_there k around ms h name by_default leads =
 
 -- ---- the packet header
 
-header_parts : (a b c : Option (Option IntType)) → IsSome a → IsSome b → IsSome c → IsSome (header_with a b c)
-header_parts (Some a) (Some b) (Some c) x y z = refl
-header_parts _ _ _ x y z = absurd cc
-
 header_said : (k : Known) (has_uuid : Bool) (ms : Members) → RowsSound k places.TraceFeatures ms → IsSome (header_of has_uuid ms)
 unfolding header_of
-header_said k has_uuid ms h = header_parts _ _ _
-    (feature_there k places.TraceFeatures ms h places.MagicFeature (codes "magic-field-type") true magic_type magic_feature (leads Property.magic))
-    (identifier_there k places.TraceFeatures ms h (codes "uuid-field-type") has_uuid (leads Property.uuid))
-    (feature_there k places.TraceFeatures ms h places.Feature (codes "data-stream-type-id-field-type") true number_type any_feature (leads Property.stream_id))
+header_said k has_uuid ms h =
+    let magic = some_there _ (feature_there k places.TraceFeatures ms h places.MagicFeature (codes "magic-field-type") true magic_type magic_feature (leads Property.magic)) in
+    let uuid = some_there _ (identifier_there k places.TraceFeatures ms h (codes "uuid-field-type") has_uuid (leads Property.uuid)) in
+    let stream_id = some_there _ (feature_there k places.TraceFeatures ms h places.Feature (codes "data-stream-type-id-field-type") true number_type any_feature (leads Property.stream_id)) in
+    rw (magic.1, uuid.1, stream_id.1) refl
 
 pub header_there : (k : Known) (around : Place) (has_uuid : Bool) (ms : Members) → Leads around (codes "$features") (At places.TraceFeatures) → RowsSound k around ms → IsSome (header has_uuid ms)
 unfolding header all_there orders_there rows_of
@@ -134,19 +128,16 @@ header_there k around has_uuid ms leads h =
 
 -- ---- the packet context
 
-context_parts : (a b : Option IntType) (c d e f : Option (Option IntType)) → IsSome a → IsSome b → IsSome c → IsSome d → IsSome e → IsSome f → IsSome (context_with a b c d e f)
-context_parts (Some a) (Some b) (Some c) (Some d) (Some e) (Some f) u v w x y z = refl
-context_parts _ _ _ _ _ _ u v w x y z = absurd cc
-
 context_said : (k : Known) (clock : Option (List ℕ)) (ms : Members) → RowsSound k places.PacketFeatures ms → IsSome (context_of clock ms)
 unfolding context_of
-context_said k clock ms h = context_parts _ _ _ _ _ _
-    (size_there k places.PacketFeatures ms h (codes "total-size-field-type") (leads Property.total_size))
-    (size_there k places.PacketFeatures ms h (codes "content-size-field-type") (leads Property.content_size))
-    (timestamp_there k places.PacketFeatures ms h (codes "beginning-timestamp-field-type") clock (leads Property.beginning))
-    (timestamp_there k places.PacketFeatures ms h (codes "end-timestamp-field-type") clock (leads Property.end))
-    (feature_there k places.PacketFeatures ms h places.Feature (codes "discarded-event-records-counter-snapshot-field-type") true number_type any_feature (leads Property.discarded))
-    (feature_there k places.PacketFeatures ms h places.Feature (codes "sequence-number-field-type") false number_type any_feature (leads Property.sequence))
+context_said k clock ms h =
+    let total_size = some_there _ (size_there k places.PacketFeatures ms h (codes "total-size-field-type") (leads Property.total_size)) in
+    let content_size = some_there _ (size_there k places.PacketFeatures ms h (codes "content-size-field-type") (leads Property.content_size)) in
+    let beginning = some_there _ (timestamp_there k places.PacketFeatures ms h (codes "beginning-timestamp-field-type") clock (leads Property.beginning)) in
+    let ending = some_there _ (timestamp_there k places.PacketFeatures ms h (codes "end-timestamp-field-type") clock (leads Property.end)) in
+    let discarded = some_there _ (feature_there k places.PacketFeatures ms h places.Feature (codes "discarded-event-records-counter-snapshot-field-type") true number_type any_feature (leads Property.discarded)) in
+    let sequence = some_there _ (feature_there k places.PacketFeatures ms h places.Feature (codes "sequence-number-field-type") false number_type any_feature (leads Property.sequence)) in
+    rw (total_size.1, content_size.1, beginning.1, ending.1, discarded.1, sequence.1) refl
 
 -- ---- the features of a data stream type
 
@@ -162,15 +153,12 @@ context_there k clock ms h =
 
 -- ---- the event record header
 
-event_header_parts : (a b : Option (Option IntType)) → IsSome a → IsSome b → IsSome (event_header_with a b)
-event_header_parts (Some a) (Some b) x y = refl
-event_header_parts _ _ x y = absurd cc
-
 event_header_said : (k : Known) (clock : Option (List ℕ)) (ms : Members) → RowsSound k places.EventRecordFeatures ms → IsSome (event_header_of clock ms)
 unfolding event_header_of
-event_header_said k clock ms h = event_header_parts _ _
-    (feature_there k places.EventRecordFeatures ms h places.Feature (codes "type-id-field-type") true number_type any_feature (leads Property.event_id))
-    (timestamp_there k places.EventRecordFeatures ms h (codes "timestamp-field-type") clock (leads Property.timestamp))
+event_header_said k clock ms h =
+    let id = some_there _ (feature_there k places.EventRecordFeatures ms h places.Feature (codes "type-id-field-type") true number_type any_feature (leads Property.event_id)) in
+    let timestamp = some_there _ (timestamp_there k places.EventRecordFeatures ms h (codes "timestamp-field-type") clock (leads Property.timestamp)) in
+    rw (id.1, timestamp.1) refl
 
 pub event_header_there : (k : Known) (clock : Option (List ℕ)) (ms : Members) → RowsSound k places.StreamFeatures ms → IsSome (event_header clock ms)
 unfolding event_header all_there orders_there rows_of

@@ -24,18 +24,12 @@ by_default size = go (size % 8 == 0)
     go true = record { positive = refl; power = refl }
     go false = record { positive = refl; power = refl }
 
-align_said : (ms : Members) → IsAlignment (align_of ms)
-unfolding align_of
-align_said ms = alignment_or (codes "alignment") (default_align (size_of ms)) ms (by_default (size_of ms))
-
 pub integer_said : (k : Known) (place : Place) (signed : Bool) (ms : Members) → Property true place (codes "size") (Whole (pos 1) (pos 64)) → RowsSound k place ms → IsSome (integer signed ms)
-unfolding integer size_of
+unfolding integer size_of align_of
 integer_said k place signed ms rows h =
     let n = needed_natural k place (codes "size") 1 64 ms (leads rows) (needed_by rows) h (omega arith) in
     let is = sym (ap (λ o. unwrap_or o 0) n.1) in
-    made_there (size_of ms) (align_of ms) signed (base_of ms) (subst (λ x. nat_lt 0 x ≡ true) is (lt-ltb 0 n.0 (let a = leb-true 1 n.0 n.2 in omega arith))) (subst (λ x. nat_le x 64 ≡ true) is n.3) (align_said ms)
-
--- ---- integers and enumerations
+    made_there (size_of ms) (align_of ms) signed (base_of ms) (subst (λ x. nat_lt 0 x ≡ true) is (lt-ltb 0 n.0 (let a = leb-true 1 n.0 n.2 in omega arith))) (subst (λ x. nat_le x 64 ≡ true) is n.3) (alignment_or (codes "alignment") (default_align (size_of ms)) ms (by_default (size_of ms)))
 
 -- ---- static arrays
 

@@ -9,7 +9,7 @@ use Rattle.conf_laws.proofs.Sound.{Leads, RowsSound, needed_sound}
 use Rattle.conf_laws.specs.ValueFlaws.{IsWhole, IsPair}
 use Rattle.conf_laws.proofs.TableWords.{presence_under, Place, Whole, Needed}
 use Rattle.conf_laws.proofs.JudgeWords.{is_null, itself_of, Known, leaf_of, whole_from, is_power_of_two, divides, numbers_of, end_of, pair_of, single_of, range_of, is_number}
-use Rattle.conf_laws.proofs.TreeWords.{here, index, whole_of, whole_or_not, wanted, at, OutOfRange, wanted_found, both_read, is_passed, read_there, ok_same, as_natural, natural_or_none, integer_or_none, Data, number, Num, Members, array, Items, no_items, item, get_member, as_integer, as_number, as_array}
+use Rattle.conf_laws.proofs.TreeWords.{here, index, whole_of, whole_or_not, wanted, at, OutOfRange, wanted_found, both_read, is_passed, read_there, ok_same, as_natural, natural_or_none, integer_or_none, Data, number, Num, Members, array, Items, no_items, item, as_integer, as_number, as_array}
 use Rattle.conf_laws.proofs.StdWords.{nat_tests, false≢true, and_parts, eqb-true, same_Some}
 use Rattle.conf_laws.proofs.DraftWords.{is_alignment, alignment_of, alignment, natural, natural_of, lowest, highest}
 
@@ -63,18 +63,13 @@ natural_is_in low high d n most e is =
     let same = same_Some r.n n (sym r.is ∙ is) in
     (subst (λ x. low ≤ x) same (leb-true low r.n r.above), subst (λ x. x ≤ high) same (leb-true r.n high r.below))
 
--- a property that is such a number
-natural_said : (low high : ℕ) (name : List ℕ) (ms : Members) (d : Data) → get_member name ms ≡ Some d → (h : NaturalIn low high d) → natural name ms ≡ Some h.n
-unfolding natural
-natural_said low high name ms d found h = ap natural_of (optional_found name ms d found h.there) ∙ h.is
-
 pub needed_natural : (k : Known) (place : Place) (name : List ℕ) (low high : ℕ) (ms : Members) → Leads place name (Whole (pos low) (pos high)) → presence_under place name ≡ Some Needed → RowsSound k place ms
     → high ≤ 18446744073709551615 → (n : ℕ) × (natural name ms ≡ Some n) × (nat_le low n ≡ true) × (nat_le n high ≡ true)
-unfolding itself_of leaf_of
+unfolding itself_of leaf_of natural
 needed_natural k place name low high ms leads is h most =
     let p = needed_sound k place name (Whole (pos low) (pos high)) ms leads is h in
     let r = natural_read low high p.value p.sound.value.itself most in
-    (r.n, natural_said low high name ms p.value p.found r, r.above, r.below)
+    (r.n, ap natural_of (optional_found name ms p.value p.found r.there) ∙ r.is, r.above, r.below)
 
 -- ---- a number that is told
 

@@ -1,10 +1,10 @@
 -- Objects of a configuration that have no flaw and pass no limit, whose names are in order, and what stands at their properties, as
 -- entries of maps, and as items of lists.
 use Rattle.std.proofs.Common.{◌≡◌, ◌++◌, ℕ, Bool, true, false, List, [], Some, refl, subst, suc, ◌∷◌, length, Less, nat_cmp, ap, ◌&&◌, Ok, Option, None, sym, ◌∙◌}
-use Rattle.conf_laws.proofs.Readings.{at_found, object_said, list_said, by_found}
+use Rattle.conf_laws.proofs.Readings.{at_found, object_there, list_there, by_found}
 use Rattle.conf_laws.proofs.Sound.{both_none, first_none, optional_there, ObjectSound, ContentSound, object_sound, optional_sound, property_sound, Leads, needed_kept, IsPlain, content_sound, property_here, first_flaws, is_object, first_item, IsMapOf, map_content}
 use Rattle.conf_laws.proofs.TableWords.{content_under, entries_of, presence_under, Place, At, Content, Needed}
-use Rattle.conf_laws.proofs.JudgeWords.{told_by, content_or_any, all_there, member_flaws, resolved_content, is_left_out, item_flaws, itself_of, any_object, Known, inside, behind, with_taken, within_limit, fits, inner_limits, member_limits, key_fits, content_limits, item_limits, place_fits, arrays_fit, at_most, count_of, ranges_fit, key_of, names_beside, with_names, item_content, place_of_properties}
+use Rattle.conf_laws.proofs.JudgeWords.{told_by, content_or_any, all_there, member_flaws, item_flaws, itself_of, any_object, Known, inside, behind, with_taken, within_limit, fits, inner_limits, member_limits, key_fits, content_limits, item_limits, place_fits, arrays_fit, at_most, count_of, ranges_fit, key_of, names_beside, with_names, item_content, place_of_properties}
 use Rattle.conf_laws.proofs.TreeWords.{Flaw, key, within, index, AllAbove, IsInOrder, Ascends, MembersAscend, ItemsAscend, optional, Data, Members, member, Items, item, no_members, array, object, members_len, get_member}
 use Rattle.conf_laws.proofs.StdWords.{and_parts, slice_cmp, IsStrictlySortedBy, AllByRecursion}
 use Rattle.conf_laws.proofs.DraftWords.{list, object as object_at, InByteOrder}
@@ -134,7 +134,8 @@ needed_at k place name content ms d leads needed h found = record {
 }
 
 pub object_in : (k : Known) (place : Place) (name : List ℕ) (inner : Place) (ms found : Members) → Leads place name (At inner) → AreGood k place ms → object_at name ms ≡ Some found → IsGood k inner found
-object_in k place name inner ms found leads h there = good_object k inner found (property_at k place name (At inner) ms (object found) leads h (object_said name ms found there))
+unfolding object_at
+object_in k place name inner ms found leads h there = good_object k inner found (property_at k place name (At inner) ms (object found) leads h (object_there (optional name ms) found there))
 
 -- what holds of no object and of each good one holds of a property
 pub by_good_object : (k : Known) (place : Place) (name : List ℕ) (inner : Place) (ms : Members) → Leads place name (At inner) → AreGood k place ms → (P : Option Members → Type 0) → P None → ((x : Members) → IsGood k inner x → P (Some x)) → P (object_at name ms)
@@ -142,20 +143,16 @@ by_good_object k place name inner ms leads h P without with =
     by_found (λ (o : Option Members). P o) (object_at name ms) (λ is. without) (λ x is. with x (object_in k place name inner ms x leads h is))
 
 pub list_in : (k : Known) (place : Place) (name : List ℕ) (inner : Place) (ms : Members) (found : Items) → Leads place name (At inner) → AreGood k place ms → list name ms ≡ Some found → IsGoodAt k (At inner) (array found)
-list_in k place name inner ms found leads h there = property_at k place name (At inner) ms (array found) leads h (list_said name ms found there)
+unfolding list
+list_in k place name inner ms found leads h there = property_at k place name (At inner) ms (array found) leads h (list_there (optional name ms) found there)
 
--- no more entries than the place allows
-pub entries_fit : (place : Place) (d : Data) → place_fits place d ≡ true → at_most (entries_of place) (count_of d) ≡ true
+-- no static arrays are too many, no more entries than the place allows, and no ranges too many
+pub fitting_parts : (place : Place) (d : Data) → place_fits place d ≡ true → (arrays_fit place d ≡ true) × (at_most (entries_of place) (count_of d) ≡ true) × (ranges_fit place d ≡ true)
 unfolding place_fits
-entries_fit place d e = (and_parts (at_most (entries_of place) (count_of d)) (ranges_fit place d) (and_parts (arrays_fit place d) (at_most (entries_of place) (count_of d) && ranges_fit place d) e).1).0
-
-pub ranges_are_few : (place : Place) (d : Data) → place_fits place d ≡ true → ranges_fit place d ≡ true
-unfolding place_fits
-ranges_are_few place d e = (and_parts (at_most (entries_of place) (count_of d)) (ranges_fit place d) (and_parts (arrays_fit place d) (at_most (entries_of place) (count_of d) && ranges_fit place d) e).1).1
-
-pub arrays_are_few : (place : Place) (d : Data) → place_fits place d ≡ true → arrays_fit place d ≡ true
-unfolding place_fits
-arrays_are_few place d e = (and_parts (arrays_fit place d) (at_most (entries_of place) (count_of d) && ranges_fit place d) e).0
+fitting_parts place d e =
+    let p = and_parts (arrays_fit place d) (at_most (entries_of place) (count_of d) && ranges_fit place d) e in
+    let q = and_parts (at_most (entries_of place) (count_of d)) (ranges_fit place d) p.1 in
+    (p.0, q.0, q.1)
 
 -- ---- entries
 
@@ -164,18 +161,14 @@ pub record IsGoodEntry (k : Known) (place : Place) (name : List ℕ) (content : 
   pub named : key_of k place name d ≡ Ok tt
   pub short : key_fits place name ≡ true
 
-module _ (k : Known) (place : Place) (name : List ℕ) (d : Data) (ms : Members) where
-  entry_first : (content : Content) → resolved_content place name ≡ Some content → content_under place name ≡ Some content → is_left_out place name d ≡ false → AreGood k place (member name d ms) → IsGoodEntry k place name content d
-  entry_first content is under there h =
-      let sound = property_here k place name content d is there (first_flaws k place name d ms h.flaws).0 in
-      let within = within_here place name content d under (first_limits place name d ms h.limits).0 in
-      record { value = record { sound = sound.value; within = within.value; ascends = h.ascend.0 }; named = sound.named; short = within.short }
-
-  pub entry_rest : AreGood k place (member name d ms) → AreGood (behind place d k) place ms
-  entry_rest h = record { flaws = (first_flaws k place name d ms h.flaws).1; limits = (first_limits place name d ms h.limits).1; in_order = h.in_order.1; ascend = h.ascend.1 }
+pub entry_rest : (k : Known) (place : Place) (name : List ℕ) (d : Data) (ms : Members) → AreGood k place (member name d ms) → AreGood (behind place d k) place ms
+entry_rest k place name d ms h = record { flaws = (first_flaws k place name d ms h.flaws).1; limits = (first_limits place name d ms h.limits).1; in_order = h.in_order.1; ascend = h.ascend.1 }
 
 pub entry_in : (k : Known) (place : Place) (name : List ℕ) (content : Content) (d : Data) (ms : Members) → IsMapOf place content → AreGood k place (member name d ms) → IsGoodEntry k place name content d
-entry_in k place name content d ms is h = entry_first k place name d ms content (map_content place name content is) (is.under name) (is.stays name d) h
+entry_in k place name content d ms is h =
+    let sound = property_here k place name content d (map_content place name content is) (is.stays name d) (first_flaws k place name d ms h.flaws).0 in
+    let within = within_here place name content d (is.under name) (first_limits place name d ms h.limits).0 in
+    record { value = record { sound = sound.value; within = within.value; ascends = h.ascend.0 }; named = sound.named; short = within.short }
 
 pub plain_rest : (k : Known) (place : Place) (name : List ℕ) (d : Data) (ms : Members) → IsPlain place → AreGood k place (member name d ms) → AreGood k place ms
 plain_rest k place name d ms plain h = subst (λ j. AreGood j place ms) (plain d k) (entry_rest k place name d ms h)

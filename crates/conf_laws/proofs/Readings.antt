@@ -1,11 +1,11 @@
 -- What small steps and readings say that went well; what is computed from the first property of a name; and what holds of a field type
 -- where it holds of its element.
-use Rattle.std.proofs.Common.{◌≡◌, ℕ, Bool, true, false, List, Option, Some, None, refl, ap, IsSome, [], ◌∷◌, ◌++◌, cond, Ok, Err, Ordering, Less, Equal, Greater, nat_cmp, is_eq, sym, subst, ◌∙◌}
+use Rattle.std.proofs.Common.{◌≡◌, ℕ, Bool, true, false, List, Option, Some, None, is_some, refl, ap, IsSome, [], ◌∷◌, ◌++◌, cond, Ok, Err, Ordering, Less, Equal, Greater, nat_cmp, is_eq, sym, subst, ◌∙◌}
 use Rattle.std.specs.Prelude.{option_map, option_and_then, codes}
 use Rattle.conf_laws.proofs.JudgeWords.{is_null, only_if, times, elements, elements_in_array, natural_in, natural_or_none, has_bits, element_has_bits}
 use Rattle.conf_laws.proofs.TreeWords.{Flaw, given, optional, proved, as_natural, Data, string, array, object, Items, Members, null, no_members, member, get_member}
 use Rattle.conf_laws.proofs.StdWords.{false≢true, nat_list_cmp_total, tied_itself, is_eq-slice_cmp, same_Some, bytes_eq-Decides, slice_cmp, AllByRecursion, option_map_or, match_ordering, bytes_eq}
-use Rattle.conf_laws.proofs.DraftWords.{field_type, element, natural, natural_of, word, word_of, object_of, list_of, list, object as object_at}
+use Rattle.conf_laws.proofs.DraftWords.{field_type, element, natural, natural_of, word_of, object_of, list_of}
 
 pub proved_some : {A : Type 0} (b : Bool) (f : b ≡ true → Option A) (x : A) → proved b f ≡ Some x → (h : b ≡ true) × (f h ≡ Some x)
 proved_some true f x e = (refl, e)
@@ -24,6 +24,10 @@ some_none o x p q = absurd cc
 
 pub some_same : {A : Type 0} (o : Option A) (x y : A) → o ≡ Some x → o ≡ Some y → x ≡ y
 some_same o x y p q = cc
+
+pub some_there : {A : Type 0} (o : Option A) → is_some o ≡ true → (x : A) × (o ≡ Some x)
+some_there None e = absurd cc
+some_there (Some x) e = (x, refl)
 
 -- ---- by what a test says, and by what is found
 
@@ -57,37 +61,17 @@ all_joined P (x ∷ xs) ys h k = (h.0, all_joined P xs ys h.1 k)
 
 -- ---- what a look-up says of the property
 
-object_there : (o : Option Data) (ms : Members) → object_of o ≡ Some ms → o ≡ Some (object ms)
+pub object_there : (o : Option Data) (ms : Members) → object_of o ≡ Some ms → o ≡ Some (object ms)
 object_there (Some (object ns)) ms e = ap (λ x. Some (object x)) (same_Some ns ms e)
 object_there _ ms e = absurd cc
 
-pub object_said : (name : List ℕ) (ms inner : Members) → object_at name ms ≡ Some inner → optional name ms ≡ Some (object inner)
-unfolding object_at
-object_said name ms inner e = object_there (optional name ms) inner e
-
-list_there : (o : Option Data) (ds : Items) → list_of o ≡ Some ds → o ≡ Some (array ds)
+pub list_there : (o : Option Data) (ds : Items) → list_of o ≡ Some ds → o ≡ Some (array ds)
 list_there (Some (array es)) ds e = ap (λ x. Some (array x)) (same_Some es ds e)
 list_there _ ds e = absurd cc
 
-pub list_said : (name : List ℕ) (ms : Members) (ds : Items) → list name ms ≡ Some ds → optional name ms ≡ Some (array ds)
-unfolding list
-list_said name ms ds e = list_there (optional name ms) ds e
-
-word_there : (o : Option Data) (w : List ℕ) → word_of o ≡ Some w → o ≡ Some (string w)
+pub word_there : (o : Option Data) (w : List ℕ) → word_of o ≡ Some w → o ≡ Some (string w)
 word_there (Some (string s)) w e = ap (λ x. Some (string x)) (same_Some s w e)
 word_there _ w e = absurd cc
-
-pub word_said : (name : List ℕ) (ms : Members) (w : List ℕ) → word name ms ≡ Some w → optional name ms ≡ Some (string w)
-unfolding word
-word_said name ms w e = word_there (optional name ms) w e
-
-natural_there : (o : Option Data) (n : ℕ) → natural_of o ≡ Some n → (d : Data) × (o ≡ Some d) × (natural_of (Some d) ≡ Some n)
-natural_there None n e = absurd cc
-natural_there (Some d) n e = (d, refl, e)
-
-pub natural_said : (name : List ℕ) (ms : Members) (n : ℕ) → natural name ms ≡ Some n → (d : Data) × (optional name ms ≡ Some d) × (natural_of (Some d) ≡ Some n)
-unfolding natural
-natural_said name ms n e = natural_there (optional name ms) n e
 
 -- ---- the judge's look-ups and the draft's
 

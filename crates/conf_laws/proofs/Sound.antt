@@ -197,10 +197,6 @@ pub record FirstSound (k : Known) (place : Place) (name : List ℕ) (content : C
   pub sound : PropertySound k place name content d
   pub flaws : member_flaws (behind place d k) place ms ≡ []
 
-pub first_sound : (k : Known) (place : Place) (name : List ℕ) (content : Content) (d : Data) (ms : Members) → resolved_content place name ≡ Some content → is_left_out place name d ≡ false → member_flaws k place (member name d ms) ≡ [] → FirstSound k place name content d ms
-first_sound k place name content d ms is kept e =
-    let both = first_flaws k place name d ms e in record { sound = property_here k place name content d is kept both.0; flaws = both.1 }
-
 -- ---- the entries of a map
 
 -- where nothing may be inherited, each property is as the table says
@@ -219,7 +215,8 @@ pub map_content : (place : Place) (name : List ℕ) (content : Content) → IsMa
 map_content place name content is = nothing_inherited place name is.inherits_none ∙ is.under name
 
 pub first_entry : (k : Known) (place : Place) (name : List ℕ) (content : Content) (d : Data) (ms : Members) → IsMapOf place content → member_flaws k place (member name d ms) ≡ [] → FirstSound k place name content d ms
-first_entry k place name content d ms is e = first_sound k place name content d ms (map_content place name content is) (is.stays name d) e
+first_entry k place name content d ms is e =
+    let both = first_flaws k place name d ms e in record { sound = property_here k place name content d (map_content place name content is) (is.stays name d) both.0; flaws = both.1 }
 
 -- the class that is judged by is the one that is drafted
 pub class_same : (ms : Members) → judged_class ms ≡ drafted_class ms

@@ -239,10 +239,6 @@ items_said (item d ds) k place entries taken i done h f =
     subst (λ x. IsSome (members_behind done (item x ds))) (sym e.is)
     (one_more k place ds taken i done e.name e.told h e.sound (subst (λ x. item_flaws k place (with_names x taken) (suc i) ds ≡ []) e.is first.1) (items_said ds k place entries))
 
--- all members of a list, whatever names are taken before it
-pub list_said : (ds : Items) (k : Known) (place : Place) (taken : Members) → item_content place ≡ At places.Entry → item_flaws k place taken 0 ds ≡ [] → IsSome (members_behind [] ds)
-list_said ds k place taken entries f = items_said ds k place entries taken 0 [] tt f
-
 -- ---- what a structure is made of
 
 no_alignment : IsAlignment 1
@@ -280,7 +276,7 @@ members_there : (k : Known) (place : Place) (d : Data) → IsMemberList place �
 members_there k place d m h =
     let s = is_list d (sym (m.form k d) ∙ h.itself) in
     subst (λ x. IsSome (members_or_none (as_array x))) (sym s.1)
-    (list_said s.0 k place (names_beside place) m.entries (subst (λ x. inner_flaws k (At place) x ≡ []) s.1 h.inner))
+    (items_said s.0 k place m.entries (names_beside place) 0 [] tt (subst (λ x. inner_flaws k (At place) x ≡ []) s.1 h.inner))
 
 listed_there : (k : Known) (around place : Place) (name : List ℕ) (ms : Members) → Leads around name (At place) → IsMemberList place → RowsSound k around ms → IsSome (listed name ms)
 unfolding listed list_in
@@ -289,15 +285,11 @@ listed_there k around place name ms leads m h =
 
 -- ---- structures
 
-align_said : (ms : Members) → IsAlignment (align_of ms)
-unfolding align_of
-align_said ms = alignment_or (codes "minimum-alignment") 1 ms no_alignment
-
 object_said : (k : Known) (ms : Members) → RowsSound k places.Structure ms → IsSome (structure_of ms)
-unfolding structure_of
+unfolding structure_of align_of
 object_said k ms h =
     then_there (λ members. made members (align_for members (align_of ms))) (listed (codes "members") ms) (listed_there k places.Structure places.Members (codes "members") ms (leads Property.members) members_list h)
-    (λ members. made_there members (align_for members (align_of ms)) (aligned members (align_of ms) (align_said ms)))
+    (λ members. made_there members (align_for members (align_of ms)) (aligned members (align_of ms) (alignment_or (codes "minimum-alignment") 1 ms no_alignment)))
 
 pub structure_class : (class : Place) → admits_class places.StructureType class ≡ true → class ≡ places.Structure
 unfolding admits_class

@@ -3,7 +3,7 @@ use Rattle.std.proofs.Common.{◌≡◌, ◌≢◌, ◌⊎◌, ◌&&◌, ℕ, Bo
 use Rattle.std.specs.Prelude.{codes, ⊤}
 use Rattle.conf_laws.proofs.Agreement.{Agrees, nothing_agrees, inside_agrees, behind_agrees, Takes, takes_beside, takes_further, item_agrees, ItemParts, item_found}
 use Rattle.conf_laws.proofs.Numbers.{number_told}
-use Rattle.conf_laws.proofs.Readings.{element_bits, by_element, by_found, by_test}
+use Rattle.conf_laws.proofs.Readings.{some_none, element_bits, by_element, by_found, by_test}
 use Rattle.conf_laws.proofs.ValueFlawLaws.{either_step, not_passed, no_class_word, number_there, value_told, name_told}
 use Rattle.conf_laws.specs.Around.{HasNumber, Around, Parts, member_of, item_of}
 use Rattle.conf_laws.specs.TableFlaws.{IsPropertyOf, IsLeftOut, IsNoClassAt, HasNotItsRows, IsByte, IsIdentifier, HasNoBits, IsNoShapeAt, IsFlawOf}
@@ -11,7 +11,7 @@ use Rattle.conf_laws.specs.ValueFlaws.{words_of_classes}
 use Rattle.conf_laws.proofs.TableWords.{class_words, class_in, admits_class, content_under, presence_under, Told, rows_of, Place, At, Content, Presence}
 use Rattle.conf_laws.proofs.TableWords.places
 use Rattle.conf_laws.proofs.TableWords.presences
-use Rattle.conf_laws.proofs.JudgeWords.{other_class, may_inherit, resolved_content, is_needed, is_null, left_out, is_left_out, admitted, class_rule, row_there, rows_there, one_there, orders_there, all_there, told_by, content_or_any, property_flaws, object_flaws, inner_flaws, item_flaws, member_flaws, configuration_flaws, itself_of, Known, nothing, inside, behind, with_taken, class_named, class_said, class_of, key_of, names_beside, with_names, natural_or_none, natural_in, is_position, place_of_properties, item_content, is_number, is_unsigned_integer, is_static_array, is_eight, is_byte, is_identifier, has_bits, element_has_bits, shape_of}
+use Rattle.conf_laws.proofs.JudgeWords.{other_class, may_inherit, resolved_content, is_needed, left_out, is_left_out, admitted, class_rule, row_there, rows_there, one_there, orders_there, all_there, told_by, content_or_any, property_flaws, object_flaws, inner_flaws, item_flaws, member_flaws, configuration_flaws, itself_of, Known, nothing, inside, behind, with_taken, class_named, class_said, class_of, key_of, names_beside, with_names, natural_or_none, natural_in, is_position, place_of_properties, item_content, is_number, is_unsigned_integer, is_static_array, is_eight, is_byte, is_identifier, has_bits, element_has_bits, shape_of}
 use Rattle.conf_laws.proofs.TreeWords.{Flaw, key, here, within, index, ◌>>=◌, at, needed, optional, given, text_of, HasMember, refusal, WrongKind, OutOfRange, Missing, Unknown, same_flaw, refused_there, refused_test, wanted_refused, wanted_found, holds_of, lacks_refused, found_there, read_there, IsNoWordOf, as_natural, Data, null, object, Members, array, Items, no_items, item, no_members, member, items_len, get_member, as_str}
 use Rattle.conf_laws.proofs.StdWords.{nat_tests, true≢false, false≢true, and_parts, and_from, and_cases, or_parts, All-nil, All-cons, All-map, All-append, All-weaker, All-contains, bytes_eq-Decides, All, option_map_or, bytes_eq}
 
@@ -44,9 +44,6 @@ module _ (place : Place) (name : List ℕ) where
 
   pub none_is : resolved_content place name ≡ None → (content : Content) → ¬ IsPropertyOf place name content
   none_is none content is = some_none (resolved_content place name) content (is_property content is) none
-    where
-      some_none : (o : Option Content) (x : Content) → o ≡ Some x → o ≡ None → ⊥
-      some_none o x p q = cc
 
   pub is_none : ((content : Content) → ¬ IsPropertyOf place name content) → resolved_content place name ≡ None
   is_none none =
@@ -54,26 +51,16 @@ module _ (place : Place) (name : List ℕ) where
 
 -- ---- values that are left out
 
-null_told : (d : Data) → is_null d ≡ true → d ≡ null
-null_told null e = refl
-null_told _ e = absurd cc
-
-not_needed : (p : Presence) → is_needed p ≡ false → p ≢ presences.Needed
-not_needed p e same = true≢false (sym (ap is_needed same) ∙ e)
-
-is_not_needed : (p : Presence) → p ≢ presences.Needed → is_needed p ≡ false
-is_not_needed presences.Needed other = absurd (other refl)
-is_not_needed _ other = refl
-
 -- the value of a presence that is asked for
 left_told : (o : Option Presence) (d : Data) → left_out o d ≡ true → (d ≡ null) × ((presence : Presence) × (o ≡ Some presence) × (presence ≢ presences.Needed))
 left_told None d e = absurd cc
-left_told (Some presence) d e =
-    by_test (λ (b : Bool). cond b false (is_null d) ≡ true → (d ≡ null) × ((p : Presence) × (Some presence ≡ Some p) × (p ≢ presences.Needed))) (is_needed presence)
-    (λ is f. absurd cc) (λ is f. (null_told d f, (presence, refl, not_needed presence is))) e
+left_told (Some presences.Needed) d e = absurd cc
+left_told (Some presence) null e = (refl, (presence, refl, λ same. absurd cc))
+left_told (Some presence) d e = absurd cc
 
 told_left : (presence : Presence) → presence ≢ presences.Needed → left_out (Some presence) null ≡ true
-told_left presence other = rw (is_not_needed presence other) refl
+told_left presences.Needed other = absurd (other refl)
+told_left _ other = refl
 
 module _ (place : Place) (name : List ℕ) (d : Data) where
   pub not_left : is_left_out place name d ≡ false → ¬ IsLeftOut place name d
@@ -95,13 +82,10 @@ other_told _ = inr (λ same. absurd cc, refl)
 -- ---- the class
 
 module _ (place : Place) (ms : Members) (flaw : Flaw) (is : is_position place ≡ true) where
-  wrong_word : (d : Data) (f : Flaw) → get_member (codes "class") ms ≡ Some d → IsNoWordOf words_of_classes d f → flaw ≡ within (key (codes "class")) f → IsNoClassAt place ms flaw
-  wrong_word d f there wrong same = IsNoClassAt.no_class is (inr (d, f, there, wrong, same))
-
   class_admitted : (d : Data) (w : List ℕ) (o : Option Place) → get_member (codes "class") ms ≡ Some d → as_str d ≡ Some w → class_in w class_words ≡ o → admitted place o ≡ Err flaw → IsNoClassAt place ms flaw
   unfolding class_of
   class_admitted d w None there text found e =
-      wrong_word d (here OutOfRange) there (IsNoWordOf.another_word w text (no_class_word class_words w (ap is_some found))) (same_flaw flaw (within (key (codes "class")) (here OutOfRange)) (admitted place None) e refl)
+      IsNoClassAt.no_class is (inr (d, here OutOfRange, there, IsNoWordOf.another_word w text (no_class_word class_words w (ap is_some found)), same_flaw flaw (within (key (codes "class")) (here OutOfRange)) (admitted place None) e refl))
   class_admitted d w (Some class) there text found e =
       let told = refused_test (admits_class place class) tt (here (other_class place)) flaw e in
       let said = ap class_said there ∙ ap class_named text ∙ found in
@@ -120,7 +104,7 @@ module _ (place : Place) (ms : Members) (flaw : Flaw) (is : is_position place �
       (λ r.
       let told = refused_there (key (codes "class")) (text_of d) flaw r in
       let none = wanted_refused (as_str d) told.0 told.1 in
-      wrong_word d told.0 there (holds_of (IsNoWordOf words_of_classes d) (here WrongKind) told.0 none.1 (IsNoWordOf.no_text none.0)) told.2)
+      IsNoClassAt.no_class is (inr (d, told.0, there, holds_of (IsNoWordOf words_of_classes d) (here WrongKind) told.0 none.1 (IsNoWordOf.no_text none.0), told.2)))
       (λ w read r. class_admitted d w (class_in w class_words) there (wanted_found (as_str d) w (read_there (key (codes "class")) (text_of d) w read)) refl r))
 
 pub class_told : (place : Place) (ms : Members) (flaw : Flaw) → class_rule place ms ≡ Err flaw → IsNoClassAt place ms flaw
@@ -232,6 +216,14 @@ told_all : (P : Flaw → Type 0) (r : Result ⊤ Flaw) → ((flaw : Flaw) → r 
 told_all P (Ok x) h = All-nil P
 told_all P (Err flaw) h = All-cons P flaw [] (h flaw refl) (All-nil P)
 
+-- that of a reading before others
+told_and : (P : Flaw → Type 0) (r : Result ⊤ Flaw) (rest : List Flaw) → ((flaw : Flaw) → r ≡ Err flaw → P flaw) → All P rest → All P (told_by r ++ rest)
+told_and P r rest told held = All-append P (told_by r) rest (told_all P r told) held
+
+-- those of a part, seen from the whole, before others
+pub seen_and : (P Q : Flaw → Type 0) (seen : Flaw → Flaw) (flaws rest : List Flaw) → ((flaw : Flaw) → P flaw → Q (seen flaw)) → All P flaws → All Q rest → All Q (map seen flaws ++ rest)
+seen_and P Q seen flaws rest holds held others = All-append Q (map seen flaws) rest (All-map Q seen flaws (All-weaker P (λ flaw. Q (seen flaw)) holds flaws held)) others
+
 -- ---- members
 
 pub member_there : (all before rest : Members) (name : List ℕ) (d : Data) → Parts all before rest → HasMember name d rest → HasMember name d all
@@ -252,10 +244,8 @@ module _ (k : Known) (around : Around) (place : Place) (all before rest : Member
           → All IsFlawThere (cond b [] (told_by (itself_of k content d) ++ (told_by (key_of k (place_of_properties place all) name d) ++ inner_flaws k content d)))
       of_content content is true left = All-nil IsFlawThere
       of_content content is false left =
-          All-append IsFlawThere (told_by (itself_of k content d)) _
-          (told_all IsFlawThere (itself_of k content d) (λ flaw e. IsFlawOf.in_property before name d content flaw (rest, parts) (property_is (place_of_properties place all) name content is) (not_left (place_of_properties place all) name d left) (IsFlawOf.wrong_value (value_told k _ h content d flaw e))))
-          (All-append IsFlawThere (told_by (key_of k (place_of_properties place all) name d)) (inner_flaws k content d)
-          (told_all IsFlawThere (key_of k (place_of_properties place all) name d) (λ flaw e. IsFlawOf.wrong_name name d flaw (member_there all before (member name d rest) name d parts (inl (refl, refl))) (name_told k around h.taken (place_of_properties place all) name d flaw e)))
+          told_and IsFlawThere (itself_of k content d) _ (λ flaw e. IsFlawOf.in_property before name d content flaw (rest, parts) (property_is (place_of_properties place all) name content is) (not_left (place_of_properties place all) name d left) (IsFlawOf.wrong_value (value_told k _ h content d flaw e)))
+          (told_and IsFlawThere (key_of k (place_of_properties place all) name d) _ (λ flaw e. IsFlawOf.wrong_name name d flaw (member_there all before (member name d rest) name d parts (inl (refl, refl))) (name_told k around h.taken (place_of_properties place all) name d flaw e))
           (All-weaker (IsFlawOf (member_of (place_of_properties place all) all before ∷ around) content d) IsFlawThere (λ flaw wrong. IsFlawOf.in_property before name d content flaw (rest, parts) (property_is (place_of_properties place all) name content is) (not_left (place_of_properties place all) name d left) wrong) (inner_flaws k content d) (held content)))
 
       go : (o : Option Content) → resolved_content (place_of_properties place all) name ≡ o → All IsFlawThere (property_flaws k (place_of_properties place all) name o d (inner_flaws k (content_or_any o) d))
@@ -265,10 +255,8 @@ module _ (k : Known) (around : Around) (place : Place) (all before rest : Member
 -- ---- objects, lists and values
 
 -- a value and what it holds
-module _ (k : Known) (around : Around) (h : Agrees k around) (content : Content) (d : Data) where
-  value_and_held : All (IsFlawOf around content d) (inner_flaws k content d) → All (IsFlawOf around content d) (told_by (itself_of k content d) ++ inner_flaws k content d)
-  value_and_held held = All-append (IsFlawOf around content d) (told_by (itself_of k content d)) (inner_flaws k content d)
-      (told_all (IsFlawOf around content d) (itself_of k content d) (λ flaw e. IsFlawOf.wrong_value (value_told k around h content d flaw e))) held
+value_and_held : (k : Known) (around : Around) → Agrees k around → (content : Content) (d : Data) → All (IsFlawOf around content d) (inner_flaws k content d) → All (IsFlawOf around content d) (told_by (itself_of k content d) ++ inner_flaws k content d)
+value_and_held k around h content d held = told_and (IsFlawOf around content d) (itself_of k content d) (inner_flaws k content d) (λ flaw e. IsFlawOf.wrong_value (value_told k around h content d flaw e)) held
 
 module _ (around : Around) (place : Place) (ms : Members) (held : List Flaw) where
   abbrev IsFlawHere : Flaw → Type 0
@@ -276,12 +264,9 @@ module _ (around : Around) (place : Place) (ms : Members) (held : List Flaw) whe
 
   object_told : All IsFlawHere held → All IsFlawHere (object_flaws place ms held)
   object_told h =
-      All-append IsFlawHere (told_by (class_rule place ms)) _
-      (told_all IsFlawHere (class_rule place ms) (λ flaw e. IsFlawOf.wrong_class (class_told place ms flaw e)))
-      (All-append IsFlawHere (told_by (all_there (place_of_properties place ms) ms)) _
-      (told_all IsFlawHere (all_there (place_of_properties place ms) ms) (λ flaw e. IsFlawOf.wrong_rows (missing_told ms (place_of_properties place ms) flaw e)))
-      (All-append IsFlawHere held (told_by (shape_of place ms)) h
-      (told_all IsFlawHere (shape_of place ms) (λ flaw e. IsFlawOf.wrong_shape (shape_told place ms flaw e)))))
+      told_and IsFlawHere (class_rule place ms) _ (λ flaw e. IsFlawOf.wrong_class (class_told place ms flaw e))
+      (told_and IsFlawHere (all_there (place_of_properties place ms) ms) _ (λ flaw e. IsFlawOf.wrong_rows (missing_told ms (place_of_properties place ms) flaw e))
+      (All-append IsFlawHere held (told_by (shape_of place ms)) h (told_all IsFlawHere (shape_of place ms) (λ flaw e. IsFlawOf.wrong_shape (shape_told place ms flaw e)))))
 
 mutual
   inner_told : (d : Data) (k : Known) (around : Around) → Agrees k around → (content : Content) → All (IsFlawOf around content d) (inner_flaws k content d)
@@ -296,11 +281,9 @@ mutual
   items_told (item d rest) k around h place all before taken takes parts =
       let known = with_taken taken k in
       let agrees = item_agrees k around taken place all before (item d rest) h takes parts in
-      let flaws = told_by (itself_of known (item_content place) d) ++ inner_flaws known (item_content place) d in
-      let held = value_and_held known (item_of place all (items_len before) ∷ around) agrees (item_content place) d (inner_told d known (item_of place all (items_len before) ∷ around) agrees (item_content place)) in
-      All-append (IsFlawOf around (At place) (array all)) (map (within (index (items_len before))) flaws) _
-      (All-map (IsFlawOf around (At place) (array all)) (within (index (items_len before))) flaws
-      (All-weaker (IsFlawOf (item_of place all (items_len before) ∷ around) (item_content place) d) (λ flaw. IsFlawOf around (At place) (array all) (within (index (items_len before)) flaw)) (λ flaw wrong. IsFlawOf.in_item (items_len before) d flaw (item_found all before rest d parts) wrong) flaws held))
+      seen_and (IsFlawOf (item_of place all (items_len before) ∷ around) (item_content place) d) (IsFlawOf around (At place) (array all)) (within (index (items_len before))) _ _
+      (λ flaw wrong. IsFlawOf.in_item (items_len before) d flaw (item_found all before rest d parts) wrong)
+      (value_and_held known (item_of place all (items_len before) ∷ around) agrees (item_content place) d (inner_told d known (item_of place all (items_len before) ∷ around) agrees (item_content place)))
       (items_told rest k around h place all (item d before) (with_names d taken) (takes_further taken place before d takes) (ItemParts.behind_item before d rest parts))
 
   members_told : (rest : Members) (k : Known) (around : Around) (place : Place) (all before : Members) → Agrees k (member_of (place_of_properties place all) all before ∷ around) → Parts all before rest

@@ -3,7 +3,7 @@ use Rattle.std.proofs.Common.{◌≡◌, ◌⊎◌, ◌*◌, ◌≤◌, ◌<◌,
 use Rattle.std.specs.Prelude.{codes, nat_le, nat_eq}
 use Rattle.conf_laws.proofs.Agreement.{ItemParts, item_found}
 use Rattle.conf_laws.proofs.Readings.{some_none, some_same, of_element, in_array, by_found, by_test}
-use Rattle.conf_laws.proofs.TableFlawLaws.{static_told, member_there, refused_among}
+use Rattle.conf_laws.proofs.TableFlawLaws.{static_told, seen_and, member_there, refused_among}
 use Rattle.conf_laws.proofs.ValueFlawLaws.{none_there}
 use Rattle.conf_laws.specs.Around.{Parts}
 use Rattle.conf_laws.specs.TableLimits.{IsArray, HasElement, Nest, product, HasTooManyElements, PassesAt, IsLongText, IsNoPowerUpTo, PassesBy, PassesLimitOf}
@@ -140,10 +140,6 @@ nest_some d ns (Nest.none e) = omega arith
 nest_some d ns (Nest.innermost ms n is_one) = one-le-mul (count_of_one ms n is_one.1) (omega arith)
 nest_some d ns (Nest.around_others ms n element rest is_one has nest) = one-le-mul (count_of_one ms n is_one.1) (nest_some element rest nest)
 
--- what is counted has one element at least
-counted_some : (levels : ℕ) (d : Data) (m : ℕ) → elements levels d ≡ Some m → 1 ≤ m
-counted_some levels d m e = let counts = counts_of levels d m e in subst (λ x. 1 ≤ x) counts.2 (nest_some d counts.0 counts.1)
-
 -- what nests so is counted as so much at least, or is not counted
 abbrev Covers : Option ℕ → ℕ → ℕ → ℕ → Type 0
 Covers counted levels most length = (counted ≡ None) ⊎ ((m : ℕ) × (counted ≡ Some m) × (most ≤ m) × (length ≤ levels))
@@ -158,7 +154,7 @@ multiplied n o p levels l (inr (k, is, le, short)) = subst (λ x. Covers (times 
 
 covered_one : (levels : ℕ) (d : Data) → Covers (elements levels d) levels 1 0
 covered_one levels d =
-    by_found (λ (o : Option ℕ). Covers (elements levels d) levels 1 0) (elements levels d) (λ is. inl is) (λ m is. inr (m, is, counted_some levels d m is, omega arith))
+    by_found (λ (o : Option ℕ). Covers (elements levels d) levels 1 0) (elements levels d) (λ is. inl is) (λ m is. let counts = counts_of levels d m is in inr (m, is, subst (λ x. 1 ≤ x) counts.2 (nest_some d counts.0 counts.1), omega arith))
 
 module _ (ms : Members) (n : ℕ) (is_one : IsArray ms n) where
   static : is_static_array (class_of ms) ≡ true
@@ -215,17 +211,14 @@ power_told high d e =
 
 module _ (place : Place) (d : Data) where
   entries_told : at_most (entries_of place) (count_of d) ≡ false → PassesAt place d
-  entries_told e = go (entries_of place) refl e
+  entries_told e =
+      by_found (λ (o : Option Entries). at_most o (count_of d) ≡ false → PassesAt place d) (entries_of place) (λ is f. absurd cc) (λ entries is f. by_most entries is entries.most refl f) e
     where
       by_most : (entries : Entries) → entries_of place ≡ Some entries → (o : Option ℕ) → entries.most ≡ o → at_most (Some entries) (count_of d) ≡ false → PassesAt place d
       by_most entries is None most f = let fit : at_most (Some entries) (count_of d) ≡ true = rw most refl in absurd (true≢false (sym fit ∙ f))
       by_most entries is (Some n) most f =
           let counted : at_most (Some entries) (count_of d) ≡ nat_le (count_of d) n = rw most refl in
           PassesAt.too_many_entries entries n is most (leb-false (count_of d) n (sym counted ∙ f))
-
-      go : (o : Option Entries) → entries_of place ≡ o → at_most o (count_of d) ≡ false → PassesAt place d
-      go None is f = absurd cc
-      go (Some entries) is f = by_most entries is entries.most refl f
 
   arrays_told : arrays_fit place d ≡ false → PassesAt place d
   unfolding arrays_fit
@@ -270,12 +263,12 @@ long_label_told place name e =
 
 -- ---- lists of limits
 
-told_limit : (P : Flaw → Type 0) (b : Bool) → (b ≡ false → P (here Limit)) → All P (told_by (within_limit b))
-told_limit P true h = All-nil P
-told_limit P false h = All-cons P (here Limit) [] (h refl) (All-nil P)
+limit_and : (P : Flaw → Type 0) (b : Bool) (rest : List Flaw) → (b ≡ false → P (here Limit)) → All P rest → All P (told_by (within_limit b) ++ rest)
+limit_and P true rest told held = held
+limit_and P false rest told held = All-cons P (here Limit) rest (told refl) held
 
 value_and_held : (content : Content) (d : Data) → All (PassesLimitOf content d) (inner_limits content d) → All (PassesLimitOf content d) (told_by (within_limit (fits content d)) ++ inner_limits content d)
-value_and_held content d held = All-append (PassesLimitOf content d) (told_by (within_limit (fits content d))) (inner_limits content d) (told_limit (PassesLimitOf content d) (fits content d) (λ e. PassesLimitOf.too_large (by_told content d e))) held
+value_and_held content d held = limit_and (PassesLimitOf content d) (fits content d) (inner_limits content d) (λ e. PassesLimitOf.too_large (by_told content d e)) held
 
 -- the limits of a member, where those of its value are told
 module _ (place : Place) (all before rest : Members) (name : List ℕ) (d : Data) (parts : Parts all before (member name d rest)) where
@@ -299,8 +292,7 @@ module _ (place : Place) (all before rest : Members) (name : List ℕ) (d : Data
   member_told : ((content : Content) → All (PassesLimitOf content d) (inner_limits content d))
       → All IsPassedThere (told_by (within_limit (key_fits (place_of_properties place all) name)) ++ (told_by (within_limit (fits (content_or_any (content_under (place_of_properties place all) name)) d)) ++ inner_limits (content_or_any (content_under (place_of_properties place all) name)) d))
   member_told held =
-      All-append IsPassedThere (told_by (within_limit (key_fits (place_of_properties place all) name))) _
-      (told_limit IsPassedThere (key_fits (place_of_properties place all) name) (λ e. let label = long_label_told (place_of_properties place all) name e in PassesLimitOf.long_label name d label.0 there label.1 label.2 label.3))
+      limit_and IsPassedThere (key_fits (place_of_properties place all) name) _ (λ e. let label = long_label_told (place_of_properties place all) name e in PassesLimitOf.long_label name d label.0 there label.1 label.2 label.3)
       (of_member held (content_under (place_of_properties place all) name) refl)
 
 mutual
@@ -312,12 +304,9 @@ mutual
   items_told : (rest : Items) (place : Place) (all before : Items) → ItemParts all before rest → All (PassesLimitOf (contents.At place) (array all)) (item_limits place (items_len before) rest)
   items_told no_items place all before parts = All-nil _
   items_told (item d rest) place all before parts =
-      let limits = told_by (within_limit (fits (item_content place) d)) ++ inner_limits (item_content place) d in
-      All-append (PassesLimitOf (contents.At place) (array all)) (map (within (index (items_len before))) limits) _
-      (All-map (PassesLimitOf (contents.At place) (array all)) (within (index (items_len before))) limits
-      (All-weaker (PassesLimitOf (item_content place) d) (λ flaw. PassesLimitOf (contents.At place) (array all) (within (index (items_len before)) flaw)) (λ flaw passed. PassesLimitOf.in_item (items_len before) d flaw (item_found all before rest d parts) passed) limits
-      (value_and_held (item_content place) d (inner_told d (item_content place)))))
-      (items_told rest place all (item d before) (ItemParts.behind_item before d rest parts))
+      seen_and (PassesLimitOf (item_content place) d) (PassesLimitOf (contents.At place) (array all)) (within (index (items_len before))) _ _
+      (λ flaw passed. PassesLimitOf.in_item (items_len before) d flaw (item_found all before rest d parts) passed)
+      (value_and_held (item_content place) d (inner_told d (item_content place))) (items_told rest place all (item d before) (ItemParts.behind_item before d rest parts))
 
   members_told : (rest : Members) (place : Place) (all before : Members) → Parts all before rest → All (PassesLimitOf (contents.At place) (object all)) (member_limits (place_of_properties place all) rest)
   members_told no_members place all before parts = All-nil _

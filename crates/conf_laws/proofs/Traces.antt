@@ -1,9 +1,9 @@
 -- A resolved configuration that has no flaw says something, and so do its data stream types and their event record types.
-use Rattle.std.proofs.Common.{Bool, ◌≡◌, ℕ, List, [], Option, Some, IsSome, refl, sym, subst, is_some}
+use Rattle.std.proofs.Common.{Bool, ◌≡◌, ℕ, List, [], Option, IsSome, refl, sym, subst, is_some}
 use Rattle.std.specs.Prelude.{codes, option_and_then}
 use Rattle.conf_draft.specs.Streams.{entry_behind as stream_entry_behind}
 use Rattle.conf_laws.proofs.Features.{no_stream_features, context_there, event_header_there, header_there}
-use Rattle.conf_laws.proofs.Readings.{then_there, by_found}
+use Rattle.conf_laws.proofs.Readings.{some_there, then_there, by_found}
 use Rattle.conf_laws.proofs.Sound.{held_at, by_object, Leads, RowsSound, first_entry, needed_object, content_sound}
 use Rattle.conf_laws.proofs.Structures.{structure_there, extras_there}
 use Rattle.conf_laws.proofs.Table.{Property, leads, ObjectPlace, is_object, MapPlace, is_map, needed_by, type_object}
@@ -11,7 +11,7 @@ use Rattle.conf_laws.proofs.TableWords.{Place, At}
 use Rattle.conf_laws.proofs.TableWords.places
 use Rattle.conf_laws.proofs.JudgeWords.{member_flaws, configuration_flaws, Known, inside, behind, nothing}
 use Rattle.conf_laws.proofs.TreeWords.{Data, object, Members, no_members, member}
-use Rattle.conf_laws.proofs.DraftWords.{environment, event_with, event_type, event_behind, entry_behind, events_behind, events_or_none, event_types, or_empty, context, event_header, object as object_in, word, stream_with, clock_of, features_of, stream_type, stream_behind, streams_behind, streams_or_none, stream_types, draft_with, draft_of_type, draft_of_trace, draft_of_root, draft_of, ContextFeatures, EnvironmentEntry, EventFeatures, EventType, HeaderFeatures, StreamType, StructType}
+use Rattle.conf_laws.proofs.DraftWords.{environment, event_type, event_behind, entry_behind, events_behind, events_or_none, event_types, or_empty, context, event_header, object as object_in, word, clock_of, features_of, stream_type, stream_behind, streams_behind, streams_or_none, stream_types, draft_of_type, draft_of_trace, draft_of_root, draft_of, EnvironmentEntry}
 
 -- ---- maps of types that are read one behind another
 
@@ -29,14 +29,12 @@ module _ {A : Type 0} {b : Bool} {place inner : Place} (map : MapPlace b place (
 
 -- ---- one event record type
 
-event_parts : (name : List ℕ) (level : Option ℕ) (a b : Option StructType) → IsSome a → IsSome b → IsSome (event_with name level a b)
-event_parts name level (Some a) (Some b) x y = refl
-event_parts name level _ _ x y = absurd cc
-
 event_said : (k : Known) (levels : Members) (name : List ℕ) (ms : Members) → RowsSound k places.EventType ms → IsSome (event_type levels name ms)
 unfolding event_type
-event_said k levels name ms h = event_parts name _ _ _
-    (structure_there k places.EventType (codes "specific-context-field-type") ms (leads Property.specific) h) (structure_there k places.EventType (codes "payload-field-type") ms (leads Property.payload) h)
+event_said k levels name ms h =
+    let specific = some_there _ (structure_there k places.EventType (codes "specific-context-field-type") ms (leads Property.specific) h) in
+    let payload = some_there _ (structure_there k places.EventType (codes "payload-field-type") ms (leads Property.payload) h) in
+    rw (specific.1, payload.1) refl
 
 -- ---- all of a data stream type
 
@@ -48,11 +46,6 @@ events_there k around levels ms leads h =
     (λ j done name ns own. by_found (λ o. IsSome o → IsSome (event_behind done o)) (event_type levels name ns) (λ is some. some) (λ x is some. refl) (event_said (inside places.EventType ns j) levels name ns own)) os (inside places.EventTypes os k) [] rows.flaws)
 
 -- ---- one data stream type
-
-stream_parts : (name : List ℕ) (clock : Option (List ℕ)) (a : Option ContextFeatures) (b : Option StructType) (c : Option EventFeatures) (d : Option StructType) (e : Option (List EventType))
-    → IsSome a → IsSome b → IsSome c → IsSome d → IsSome e → IsSome (stream_with name clock a b c d e)
-stream_parts name clock (Some a) (Some b) (Some c) (Some d) (Some e) v w x y z = refl
-stream_parts name clock _ _ _ _ _ v w x y z = absurd cc
 
 module _ (k : Known) (ms : Members) (h : RowsSound k places.StreamType ms) where
   context_said : (clock : Option (List ℕ)) → IsSome (context clock (features_of ms))
@@ -67,10 +60,13 @@ module _ (k : Known) (ms : Members) (h : RowsSound k places.StreamType ms) where
 
   stream_said : (levels : Members) (name : List ℕ) → IsSome (stream_type levels name ms)
   unfolding stream_type
-  stream_said levels name = stream_parts name (clock_of ms) _ _ _ _ _
-      (context_said (clock_of ms)) (extras_there k places.StreamType (codes "packet-context-field-type-extra-members") ms (leads Property.extras) h)
-      (event_header_said (clock_of ms)) (structure_there k places.StreamType (codes "event-record-common-context-field-type") ms (leads Property.common) h)
-      (events_there k places.StreamType levels ms (leads Property.event_types) h)
+  stream_said levels name =
+      let context = some_there _ (context_said (clock_of ms)) in
+      let extras = some_there _ (extras_there k places.StreamType (codes "packet-context-field-type-extra-members") ms (leads Property.extras) h) in
+      let header = some_there _ (event_header_said (clock_of ms)) in
+      let common = some_there _ (structure_there k places.StreamType (codes "event-record-common-context-field-type") ms (leads Property.common) h) in
+      let events = some_there _ (events_there k places.StreamType levels ms (leads Property.event_types) h) in
+      rw (context.1, extras.1, header.1, common.1, events.1) refl
 
 -- ---- all of a trace type
 
@@ -85,14 +81,12 @@ streams_there k around ms leads h =
 
 -- ---- the trace type
 
-type_parts : (number : Option (List ℕ)) (entries : List EnvironmentEntry) (ms : Members) (a : Option HeaderFeatures) (b : Option (List StreamType)) → IsSome a → IsSome b → IsSome (draft_with number entries ms a b)
-type_parts number entries ms (Some a) (Some b) x y = refl
-type_parts number entries ms _ _ x y = absurd cc
-
 type_said : (k : Known) (number : Option (List ℕ)) (entries : List EnvironmentEntry) (ms : Members) → RowsSound k places.TraceType ms → IsSome (draft_of_type number entries ms)
 unfolding draft_of_type
-type_said k number entries ms h = type_parts number entries ms _ _
-    (header_there k places.TraceType (is_some (word (codes "uuid") ms)) ms (leads Property.trace_features) h) (streams_there k places.TraceType ms (leads Property.stream_types) h)
+type_said k number entries ms h =
+    let header = some_there _ (header_there k places.TraceType (is_some (word (codes "uuid") ms)) ms (leads Property.trace_features) h) in
+    let streams = some_there _ (streams_there k places.TraceType ms (leads Property.stream_types) h) in
+    rw (header.1, streams.1) refl
 
 -- ---- the trace
 

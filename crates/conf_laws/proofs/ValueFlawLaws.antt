@@ -5,14 +5,14 @@ use Rattle.uuid.specs.Text.{parsed}
 use borrow.Author.Differences.{le-true, le-false, below_in}
 use Rattle.conf_laws.proofs.Agreement.{Agrees, IsTrue, dynamic_told}
 use Rattle.conf_laws.proofs.Numbers.{whole_read, lowest_end, highest_end, ReadSo, read_so}
-use Rattle.conf_laws.proofs.Readings.{some_none, some_same, by_found}
+use Rattle.conf_laws.proofs.Readings.{some_none, some_same, by_found, by_test}
 use Rattle.conf_laws.specs.Around.{Around, enumeration_around, HasNumber, HasBits, IsTaken}
 use Rattle.conf_laws.specs.ValueFlaws.{IsPowerOfTwo, IsNoPowerOfTwo, IsNoLevel, IsNoWholeOrText, IsNoDefault, IsRange, IsNoRange, IsNoSomeList, IsNoSomeObject, IsNoEntry, IsNoFeature, IsNoSizeFeature, IsNoneAt, words_of_classes, IsNoValueOf, IsNoMemberName, IsNoLabel, IsNoKey, IsNoNameAt}
 use Rattle.conf_laws.proofs.TableWords.{ClassWord, class_words, class_in, entries_of, words_of, Place, Content, Entries, Keys}
 use Rattle.conf_laws.proofs.TableWords.places
 use Rattle.conf_laws.proofs.TableWords.contents
 use Rattle.conf_laws.proofs.TableWords.keys
-use Rattle.conf_laws.proofs.JudgeWords.{any_object, any_list, some_items, some_members, one_member, some_list, some_object, entry, feature, size_feature, form_of, itself_of, Known, only_if, whole_from, is_power_of_two, power_of, any_flag, one_flag, any_text, printable, identifier, identifier_or_auto, word_among, class_word, whole_or_text, level_or_none, level, leaf_of, is_dynamic, is_taken, length_is_taken, free_of, is_entry, plain_of, key_by, key_in, key_of, all_numbers, natural_or_none, natural_in, numbers_of, numbers_or_all, numbers_in, end_of, pair_of, single_of, range_of, is_inside, inside_of}
+use Rattle.conf_laws.proofs.JudgeWords.{any_object, any_list, some_items, some_members, one_member, some_list, some_object, entry, feature, size_feature, form_of, itself_of, Known, only_if, whole_from, is_power_of_two, power_of, any_flag, one_flag, any_text, printable, identifier, identifier_or_auto, word_among, class_word, whole_or_text, level_or_none, level, leaf_of, is_dynamic, is_taken, length_is_taken, free_of, plain_of, key_by, key_in, key_of, all_numbers, natural_or_none, natural_in, numbers_of, numbers_or_all, numbers_in, end_of, pair_of, range_of, is_inside, inside_of}
 use Rattle.conf_laws.proofs.TreeWords.{Flaw, index, here, within, ◌>>=◌, at, object_of, list_of, text_of, flag_of, whole_of, WrongKind, OutOfRange, NameClash, NoSuchAlias, same_flaw, refused_here_or_next, refused_there, refused_test, refused_where, wanted_refused, wanted_found, none_refused, holds_of, object_refused, list_refused, text_refused, flag_refused, whole_refused, control_there, name_refused, plain_name_refused, IsNoObject, IsNoWhole, IsNoConfigText, IsNoUuid, IsNoWordOf, plain_name_of, is_printable, uuid_in, Data, boolean, string, array, Items, no_items, item, Members, no_members, member, items_len, get_member, as_object, as_array, as_str, as_bool}
 use Rattle.conf_laws.proofs.StdWords.{pow_mono, true≢false, false≢true, and_cases, or_parts, or_cases, cases_lt, eqb-false, ltb-false, agree_below_at, list_any_at, bytes_eq-Decides, list_any, bytes_eq}
 use Rattle.conf_laws.proofs.DraftWords.{lowest, highest, length_name}
@@ -113,31 +113,16 @@ has_by_bytes words w (k, among, is) = list_any_at (bytes_eq w) words k w among (
 no_word_text : (words : List (List ℕ)) (d : Data) (flaw : Flaw) → as_str d ≡ None → flaw ≡ here WrongKind → IsNoWordOf words d flaw
 no_word_text words d flaw none same = holds_of (IsNoWordOf words d) (here WrongKind) flaw same (IsNoWordOf.no_text none)
 
-word_told : (words : List (List ℕ)) (d : Data) (flaw : Flaw) → word_among words d ≡ Err flaw → IsNoWordOf words d flaw
-unfolding word_among
-word_told words d flaw e = text_told (λ s. list_any (bytes_eq s) words) d flaw e (no_word_text words d flaw)
-    (λ s is fails same. holds_of (IsNoWordOf words d) (here OutOfRange) flaw same (IsNoWordOf.another_word s is (λ c. false≢true (sym fails ∙ has_by_bytes words s c))))
-
-none_of_classes : (c : ClassWord) (cs : List ClassWord) (w : List ℕ) (b : Bool) → bytes_eq c.word w ≡ b → is_some (cond b (Some c.place) (class_in w cs)) ≡ false → (is_some (class_in w cs) ≡ false → ¬ Contains (map (λ x. x.word) cs) w) → ¬ Contains (map (λ x. x.word) (c ∷ cs)) w
-none_of_classes c cs w true is e later there = absurd cc
-none_of_classes c cs w false is e later (zero, among, same) = false≢true (sym is ∙ (bytes_eq-Decides c.word w).1 same)
-none_of_classes c cs w false is e later (suc k, among, same) = later e (k, omega (arith, among), same)
+another_word_told : (words : List (List ℕ)) (d : Data) (s : List ℕ) (flaw : Flaw) → as_str d ≡ Some s → ¬ Contains words s → flaw ≡ here OutOfRange → IsNoWordOf words d flaw
+another_word_told words d s flaw is other same = holds_of (IsNoWordOf words d) (here OutOfRange) flaw same (IsNoWordOf.another_word s is other)
 
 pub no_class_word : (cs : List ClassWord) (w : List ℕ) → is_some (class_in w cs) ≡ false → ¬ Contains (map (λ x. x.word) cs) w
 no_class_word [] w e (k, among, is) = omega (arith, among)
-no_class_word (c ∷ cs) w e there = none_of_classes c cs w (bytes_eq c.word w) refl e (no_class_word cs w) there
-
-class_told : (d : Data) (flaw : Flaw) → class_word d ≡ Err flaw → IsNoWordOf words_of_classes d flaw
-unfolding class_word
-class_told d flaw e = text_told (λ s. is_some (class_in s class_words)) d flaw e (no_word_text words_of_classes d flaw)
-    (λ s is fails same. holds_of (IsNoWordOf words_of_classes d) (here OutOfRange) flaw same (IsNoWordOf.another_word s is (no_class_word class_words s fails)))
+no_class_word (c ∷ cs) w e (zero, among, same) = let is = (bytes_eq-Decides c.word w).1 same in absurd (let f = rw is at e in cc)
+no_class_word (c ∷ cs) w e (suc k, among, same) =
+    by_test (λ (b : Bool). is_some (cond b (Some c.place) (class_in w cs)) ≡ false → ⊥) (bytes_eq c.word w) (λ is f. absurd cc) (λ is f. no_class_word cs w f (k, omega (arith, among), same)) e
 
 -- ---- a number or a text
-
-whole_or_text_told : (low high : ℤ) (d : Data) (flaw : Flaw) → whole_or_text low high d ≡ Err flaw → IsNoWholeOrText low high d flaw
-unfolding whole_or_text
-whole_or_text_told low high (string s) flaw e = let told = not_passed (is_printable s) flaw e in IsNoWholeOrText.has_control refl (control_told (string s) s flaw refl told.0 told.1)
-whole_or_text_told low high d flaw e = IsNoWholeOrText.no_number refl (whole_told low high d flaw e)
 
 alias_told : (levels : Members) (high : ℤ) (s : List ℕ) (flaw : Flaw) (o : Option Data) → get_member s levels ≡ o → level_or_none high o ≡ Err flaw → IsNoLevel levels high (string s) flaw
 alias_told levels high s flaw None is e = holds_of (IsNoLevel levels high (string s)) (here NoSuchAlias) flaw (same_flaw flaw (here NoSuchAlias) (level_or_none high None) e refl) (IsNoLevel.no_alias s refl is)
@@ -219,32 +204,24 @@ module _ (around : Around) where
       holds_of (IsNoRange around (array (item a (item b no_items)))) (within (index 1) told.0) flaw told.2 (IsNoRange.wrong_high a b told.0 refl (whole_refused lowest_end highest_end b told.0 told.1))))
   pair_told (item a (item b (item c ds))) flaw e = no_pair_told (item a (item b (item c ds))) flaw (λ two. omega (arith, two)) (same_flaw flaw (here WrongKind) (pair_of (item a (item b (item c ds)))) e refl)
 
-  single_told : (d : Data) (flaw : Flaw) → as_array d ≡ None → single_of d ≡ Err flaw → IsNoRange around d flaw
-  single_told d flaw none e = only_step (end_of d) _ flaw e (λ r. IsNoRange.wrong_number none (whole_refused lowest_end highest_end d flaw r))
-
   no_range_told : (d : Data) (flaw : Flaw) → range_of d ≡ Err flaw → IsNoRange around d flaw
   unfolding range_of
   no_range_told (array ds) flaw e = pair_told ds flaw e
-  no_range_told d flaw e = single_told d flaw refl e
+  no_range_told d flaw e = only_step (end_of d) _ flaw e (λ r. IsNoRange.wrong_number refl (whole_refused lowest_end highest_end d flaw r))
 
   -- what holds of the numbers of the enumeration around a value, where they are not all
   sized : {P : Type 0} (test : _ → Bool) → test all_numbers ≡ true → ((signed : Bool) (n : ℕ) → HasBits around signed n → test (record { low = lowest signed n; high = highest signed n }) ≡ false → P) → test (unwrap_or (option_map (λ (e : Bool × Members). numbers_in e.0 e.1) (enumeration_around around)) all_numbers) ≡ false → P
   unfolding numbers_in numbers_of
-  sized {P = P} test all sized_so = by_enumeration (enumeration_around around) refl
+  sized {P = P} test all sized_so =
+      by_found (λ (o : Option (Bool × Members)). test (unwrap_or (option_map (λ (e : Bool × Members). numbers_in e.0 e.1) o) all_numbers) ≡ false → P) (enumeration_around around) (λ is e. absurd (true≢false (sym all ∙ e))) (λ found is.
+      by_found (λ (o : Option ℕ). test (numbers_or_all found.0 o) ≡ false → P) (natural_in (codes "size") found.1) (λ none e. absurd (true≢false (sym all ∙ e)))
+      (λ n has. by_size found.0 found.1 n is (number_there (codes "size") found.1 n has) (nat_eq n 0) (nat_lt 64 n) refl refl))
     where
       by_size : (signed : Bool) (ms : Members) (n : ℕ) → enumeration_around around ≡ Some (signed, ms) → HasNumber (codes "size") ms n → (a b : Bool) → nat_eq n 0 ≡ a → nat_lt 64 n ≡ b
           → test (cond (a || b) all_numbers (record { low = lowest signed n; high = highest signed n })) ≡ false → P
       by_size signed ms n is has true b p q e = absurd (true≢false (sym all ∙ e))
       by_size signed ms n is has false true p q e = absurd (true≢false (sym all ∙ e))
       by_size signed ms n is has false false p q e = sized_so signed n (ms, is, has, (let other = eqb-false n 0 p in omega (arith, other)), (let most = ltb-false 64 n q in omega (arith, most))) e
-
-      by_number : (signed : Bool) (ms : Members) → enumeration_around around ≡ Some (signed, ms) → (o : Option ℕ) → natural_in (codes "size") ms ≡ o → test (numbers_or_all signed o) ≡ false → P
-      by_number signed ms is None found e = absurd (true≢false (sym all ∙ e))
-      by_number signed ms is (Some n) found e = by_size signed ms n is (number_there (codes "size") ms n found) (nat_eq n 0) (nat_lt 64 n) refl refl e
-
-      by_enumeration : (o : Option (Bool × Members)) → enumeration_around around ≡ o → test (unwrap_or (option_map (λ (e : Bool × Members). numbers_in e.0 e.1) o) all_numbers) ≡ false → P
-      by_enumeration None is e = absurd (true≢false (sym all ∙ e))
-      by_enumeration (Some (signed, ms)) is e = by_number signed ms is (natural_in (codes "size") ms) refl e
 
   range_told : (numbers : _) → numbers ≡ unwrap_or (option_map (λ (e : Bool × Members). numbers_in e.0 e.1) (enumeration_around around)) all_numbers → (d : Data) (flaw : Flaw) → inside_of numbers d ≡ Err flaw → IsNoRange around d flaw
   unfolding inside_of is_inside
@@ -291,7 +268,7 @@ module _ (k : Known) (around : Around) (h : Agrees k around) where
   none_told _ d flaw e = object_told d flaw e
 
   pub value_told : (content : Content) (d : Data) (flaw : Flaw) → itself_of k content d ≡ Err flaw → IsNoValueOf around content d flaw
-  unfolding itself_of leaf_of any_flag any_text printable identifier
+  unfolding itself_of leaf_of any_flag any_text printable identifier word_among class_word whole_or_text
   value_told (contents.Whole low high) d flaw e = whole_told low high d flaw e
   value_told (contents.PowerOfTwo high) d flaw e = power_told d flaw e
   value_told contents.Flag d flaw e = only_step (flag_of d) (λ b. tt) flaw e (flag_refused d flaw)
@@ -300,9 +277,12 @@ module _ (k : Known) (around : Around) (h : Agrees k around) where
   value_told contents.ClockName d flaw e = only_step (text_of d) (λ s. tt) flaw e (text_refused d flaw)
   value_told contents.Identifier d flaw e = text_told (λ s. is_some (uuid_in s)) d flaw e (no_uuid_text d flaw) (λ s is fails same. uuid_told d s flaw is fails same)
   value_told contents.IdentifierOrAuto d flaw e = choice_told d flaw e
-  value_told (contents.Word words) d flaw e = word_told (words_of words) d flaw e
-  value_told contents.Class d flaw e = class_told d flaw e
-  value_told (contents.WholeOrText low high most) d flaw e = whole_or_text_told low high d flaw e
+  value_told (contents.Word words) d flaw e =
+      text_told (λ s. list_any (bytes_eq s) (words_of words)) d flaw e (no_word_text (words_of words) d flaw) (λ s is fails same. another_word_told (words_of words) d s flaw is (λ c. false≢true (sym fails ∙ has_by_bytes (words_of words) s c)) same)
+  value_told contents.Class d flaw e =
+      text_told (λ s. is_some (class_in s class_words)) d flaw e (no_word_text words_of_classes d flaw) (λ s is fails same. another_word_told words_of_classes d s flaw is (no_class_word class_words s fails) same)
+  value_told (contents.WholeOrText low high most) (string s) flaw e = let told = not_passed (is_printable s) flaw e in IsNoWholeOrText.has_control refl (control_told (string s) s flaw refl told.0 told.1)
+  value_told (contents.WholeOrText low high most) d flaw e = IsNoWholeOrText.no_number refl (whole_told low high d flaw e)
   value_told (contents.Level high) d flaw e = subst (λ levels. IsNoLevel levels high d flaw) h.levels (level_told k.levels high d flaw e)
   value_told (contents.At place) d flaw e = none_told place d flaw e
   value_told contents.Anything d flaw e = absurd cc
@@ -323,11 +303,6 @@ module _ (k : Known) (around : Around) (h : (name : List ℕ) → IsTrue (is_tak
         | inr taken ↦ length_clash (is_dynamic d) name d refl taken
       ])
 
-  plain_told : (place : Place) (name : List ℕ) (d : Data) (flaw : Flaw) → plain_of k (is_entry place) name d ≡ Err flaw → IsNoKey around place keys.PlainName name d flaw
-  unfolding plain_of
-  plain_told places.Entry name d flaw e = either_step (plain_name_of name) _ flaw e (λ r. IsNoMemberName.no_name (plain_name_refused name flaw r)) (λ x went r. clash_told name d flaw r)
-  plain_told _ name d flaw e = plain_name_refused name flaw e
-
   label_told : (name : List ℕ) (flaw : Flaw) → only_if (is_printable name) ≡ Err flaw → IsNoLabel name flaw
   label_told name flaw e =
       let told = not_passed (is_printable name) flaw e in
@@ -335,16 +310,14 @@ module _ (k : Known) (around : Around) (h : (name : List ℕ) → IsTrue (is_tak
       holds_of (IsNoLabel name) (here OutOfRange) flaw told.1 (IsNoLabel.has_control control.0 control.1 control.2)
 
   key_told : (place : Place) (by : Keys) (name : List ℕ) (d : Data) (flaw : Flaw) → key_by k place by name d ≡ Err flaw → IsNoKey around place by name d flaw
-  unfolding key_by
+  unfolding key_by plain_of
   key_told place keys.Name name d flaw e = name_refused name flaw e
-  key_told place keys.PlainName name d flaw e = plain_told place name d flaw e
+  key_told places.Entry keys.PlainName name d flaw e = either_step (plain_name_of name) _ flaw e (λ r. IsNoMemberName.no_name (plain_name_refused name flaw r)) (λ x went r. clash_told name d flaw r)
+  key_told _ keys.PlainName name d flaw e = plain_name_refused name flaw e
   key_told place keys.Label name d flaw e = label_told name flaw e
   key_told place keys.Index name d flaw e = absurd cc
 
   pub name_told : (place : Place) (name : List ℕ) (d : Data) (flaw : Flaw) → key_of k place name d ≡ Err flaw → IsNoNameAt around place name d flaw
   unfolding key_of
-  name_told place name d flaw e = go (entries_of place) refl e
-    where
-      go : (o : Option Entries) → entries_of place ≡ o → key_in k place o name d ≡ Err flaw → IsNoNameAt around place name d flaw
-      go None is f = absurd cc
-      go (Some entries) is f = (entries, is, key_told place entries.keys name d flaw f)
+  name_told place name d flaw e =
+      by_found (λ (o : Option Entries). key_in k place o name d ≡ Err flaw → IsNoNameAt around place name d flaw) (entries_of place) (λ is f. absurd cc) (λ entries is f. (entries, is, key_told place entries.keys name d flaw f)) e
