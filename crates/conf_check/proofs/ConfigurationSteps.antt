@@ -1,32 +1,24 @@
 -- A text that is a configuration is refused for want of memory alone, where its tree and its resolution are those that were found.
-use Rattle.std.proofs.Common.{◌≡◌, ◌⊎◌, inl, inr, ℕ, List, Option, Some, Result, Ok, sym, subst}
+use Rattle.std.proofs.Common.{◌≡◌, ◌⊎◌, inl, inr, ℕ, List, Option, Ok, sym, subst}
 use Rattle.serde_json.specs.Data.{Data}
-use Rattle.serde_json.specs.Read.{read}
 use Rattle.conf_tree.specs.declared.fault.ConfFault.{ConfFault}
 use Rattle.ctf_types.specs.declared.Config.{Config}
-use Rattle.conf_tree.specs.Flaw.{Flaw, flaw_of, IsMemory}
+use Rattle.conf_tree.specs.Flaw.{flaw_of, IsMemory}
 use Rattle.conf_tree.specs.Walk.{IsTreeOf, IsFirstFlaw, Reads, FlawHolds, max_levels}
 use Rattle.conf_inherit.specs.Faults.{RefusalHolds}
 use Rattle.conf_inherit.specs.Resolution.{aliases_of, resolution, Resolves}
 use Rattle.conf_inherit.proofs.OneReading.{one_look}
-use Rattle.conf_check.specs.Configuration.{IsInnocent, IsNoTree, IsRefusal, RefusedForMemory, ConfiguresByLookUp}
+use Rattle.conf_check.specs.Configuration.{IsInnocent, IsNoTree, RefusedForMemory, ConfiguresByLookUp}
 use Rattle.conf_check.specs.ConfigurationRows.{IsConfigurationOf}
-use Rattle.conf_check.specs.Judgement.{IsFirstFlawOf}
 use Rattle.conf_check.proofs.ConfigurationLaws.{one_configuration}
-
-same_tree : (text : List ℕ) (s t : Data) → read text ≡ Some s → read text ≡ Some t → s ≡ t
-same_tree text s t p q = cc
-
-same_resolution : (r s : Data) (res : Result Data Flaw) → res ≡ Ok r → res ≡ Ok s → r ≡ s
-same_resolution r s res p q = cc
 
 pub memory_alone : (text : List ℕ) (number : Option (List ℕ)) (t r : Data) (fault : ConfFault) → IsTreeOf text t → resolution t ≡ Ok r → IsInnocent r number fault → RefusedForMemory text number fault
 memory_alone text number t r fault tree resolved only = λ c configures.
     let s = configures.0 in
     let q = configures.1 in
-    let same : s ≡ t = same_tree text s t configures.2.0.1 tree.0.1 in
+    let same : s ≡ t = cc (configures.2.0.1, tree.0.1) in
     let found : resolution t ≡ Ok q = subst (λ x. resolution x ≡ Ok q) same configures.3 in
-    let equal : q ≡ r = same_resolution q r (resolution t) found resolved in
+    let equal : q ≡ r = cc in
     only c (subst (λ x. IsConfigurationOf x number c) equal configures.4)
 
 -- a text that has no tree is refused for what is wrong with it
@@ -43,7 +35,7 @@ rows_found : (text : List ℕ) (number : Option (List ℕ)) (t r : Data) (c : Co
 rows_found text number t r c tree resolves configures =
     let s = configures.0 in
     let q = configures.1 in
-    let same : s ≡ t = same_tree text s t configures.2.0.1 tree.0.1 in
+    let same : s ≡ t = cc (configures.2.0.1, tree.0.1) in
     let looked : Resolves t q = subst (λ x. Resolves x q) same configures.4 in
     let equal : q ≡ r = one_look (aliases_of t) looked resolves in
     subst (λ x. IsConfigurationOf x number c) equal configures.5
@@ -53,7 +45,7 @@ pub refused_for_memory : (text : List ℕ) (number : Option (List ℕ)) (t : Dat
 refused_for_memory text number t fault c tree (inl memory) configures = memory
 refused_for_memory text number t fault c tree (inr holds) configures =
     let s = configures.0 in
-    let same : s ≡ t = same_tree text s t configures.2.0.1 tree.0.1 in
+    let same : s ≡ t = cc (configures.2.0.1, tree.0.1) in
     absurd (configures.3 (flaw_of fault) (subst (λ x. RefusalHolds x (flaw_of fault)) (sym same) holds))
 
 pub innocent_by_look_up : (text : List ℕ) (number : Option (List ℕ)) (t r : Data) (fault : ConfFault) (c : Config) → IsTreeOf text t → Resolves t r → IsInnocent r number fault → ConfiguresByLookUp text number c → IsMemory fault
@@ -61,8 +53,3 @@ innocent_by_look_up text number t r fault c tree resolves innocent configures = 
 
 pub answered_by_look_up : (text : List ℕ) (number : Option (List ℕ)) (t r : Data) (x c : Config) → IsTreeOf text t → Resolves t r → IsConfigurationOf r number x → ConfiguresByLookUp text number c → x ≡ c
 answered_by_look_up text number t r x c tree resolves is configures = one_configuration r number x c is (rows_found text number t r c tree resolves configures)
-
--- the first flaw of the resolved tree is that of the text
-pub refused_at_last : (text : List ℕ) (number : Option (List ℕ)) (t r : Data) (fault : ConfFault) → IsTreeOf text t → resolution t ≡ Ok r → IsMemory fault ⊎ IsFirstFlawOf r number (flaw_of fault) → IsMemory fault ⊎ IsRefusal text number (flaw_of fault)
-refused_at_last text number t r fault tree resolved (inl memory) = inl memory
-refused_at_last text number t r fault tree resolved (inr first) = inr (inr (inr (t, r, tree, resolved, first)))

@@ -1,33 +1,28 @@
 -- A text whose value is a tree has none of the flaws of a text.
-use Rattle.std.proofs.Common.{◌≡◌, ◌+◌, ℕ, zero, suc, cond, List, [], ◌∷◌, map, length, Some, inl, inr, refl, sym, ap, subst, ◌∙◌, arith}
-use Rattle.serde_json.specs.Data.{Data, null, boolean, number, string, array, object, Items, no_items, item, Members, no_members, member}
+use Rattle.std.proofs.Common.{◌≡◌, ◌+◌, ℕ, zero, suc, cond, List, [], ◌∷◌, length, Some, inl, inr, sym, ap, subst, ◌∙◌, arith}
+use Rattle.serde_json.specs.Data.{Data, number, array, object, Items, no_items, item, Members, no_members, member}
 use Rattle.serde_json.specs.Find.{get_item}
-use Rattle.serde_json.specs.Read.{read}
 use Rattle.conf_tree.specs.declared.fault_kind.FaultKind.{FaultKind}
 use Rattle.conf_tree.specs.declared.fault_kind.FaultKind.TheVariants.{TooDeep, NotWhole}
 use Rattle.conf_tree.specs.Flaw.{Flaw, Place, key, index, here, within}
 use Rattle.conf_tree.specs.Walk.{flaws, item_flaws, member_flaws, max_levels, IsTreeOf, HasMember, LeadsTo, IsNested, IsFloat, KindHolds, FlawHolds}
-use Rattle.conf_inherit.proofs.ReadyLemmas.{front_empty, back_empty}
+use Rattle.conf_laws.proofs.Sound.{first_none}
 use Rattle.conf_check.specs.Configuration.{IsNoTree}
 
 -- ---- what is found in a value without flaws has none
-
-map_empty : (f : Flaw → Flaw) (fs : List Flaw) → map f fs ≡ [] → fs ≡ []
-map_empty f [] e = refl
-map_empty f (x ∷ fs) e = absurd cc
 
 item_sound : (ds : Items) (i levels j : ℕ) (e : Data) → item_flaws ds i levels ≡ [] → get_item j ds ≡ Some e → flaws e levels ≡ []
 item_sound no_items i levels j e none there = absurd cc
 item_sound (item d ds) i levels zero e none there =
     let same : d ≡ e = cc in
-    subst (λ x. flaws x levels ≡ []) same (map_empty (within (index i)) (flaws d levels) (front_empty (map (within (index i)) (flaws d levels)) (item_flaws ds (suc i) levels) none))
-item_sound (item d ds) i levels (suc j) e none there = item_sound ds (suc i) levels j e (back_empty (map (within (index i)) (flaws d levels)) (item_flaws ds (suc i) levels) none) there
+    subst (λ x. flaws x levels ≡ []) same (first_none (within (index i)) (flaws d levels) (item_flaws ds (suc i) levels) none).0
+item_sound (item d ds) i levels (suc j) e none there = item_sound ds (suc i) levels j e (first_none (within (index i)) (flaws d levels) (item_flaws ds (suc i) levels) none).1 there
 
 member_sound : (ms : Members) (levels : ℕ) (k : List ℕ) (e : Data) → member_flaws ms levels ≡ [] → HasMember k e ms → flaws e levels ≡ []
 member_sound no_members levels k e none has = absurd has
 member_sound (member l d ms) levels k e none (inl same) =
-    subst (λ x. flaws x levels ≡ []) (sym same.1) (map_empty (within (key l)) (flaws d levels) (front_empty (map (within (key l)) (flaws d levels)) (member_flaws ms levels) none))
-member_sound (member l d ms) levels k e none (inr later) = member_sound ms levels k e (back_empty (map (within (key l)) (flaws d levels)) (member_flaws ms levels) none) later
+    subst (λ x. flaws x levels ≡ []) (sym same.1) (first_none (within (key l)) (flaws d levels) (member_flaws ms levels) none).0
+member_sound (member l d ms) levels k e none (inr later) = member_sound ms levels k e (first_none (within (key l)) (flaws d levels) (member_flaws ms levels) none).1 later
 
 -- the value that a path leads to stands at one of its levels, and has no flaw there
 record SoundAt (found : Data) (levels steps : ℕ) : Type 0 where
@@ -52,20 +47,12 @@ led (key k ∷ path) d found (suc levels) none (ms, e, is, has, leads) =
 nested_deep : (found : Data) (left : ℕ) → IsNested found → left ≡ 0 → flaws found left ≡ [] → ⊥
 nested_deep (array ds) zero nested none sound = cc
 nested_deep (object ms) zero nested none sound = cc
-nested_deep (array ds) (suc left) nested none sound = omega (arith, none)
-nested_deep (object ms) (suc left) nested none sound = omega (arith, none)
-nested_deep null left nested none sound = nested
-nested_deep (boolean b) left nested none sound = nested
-nested_deep (number n) left nested none sound = nested
-nested_deep (string s) left nested none sound = nested
+nested_deep _ zero nested none sound = absurd nested
+nested_deep _ (suc left) nested none sound = omega (arith, none)
 
 float_flawed : (found : Data) (left : ℕ) → IsFloat found → flaws found left ≡ [] → ⊥
 float_flawed (number n) left is sound = let flawed : here NotWhole ∷ [] ≡ [] = sym (ap (λ b. cond b (here NotWhole ∷ []) []) is) ∙ sound in cc
-float_flawed null left is sound = is
-float_flawed (boolean b) left is sound = is
-float_flawed (string s) left is sound = is
-float_flawed (array ds) left is sound = is
-float_flawed (object ms) left is sound = is
+float_flawed _ left is sound = absurd is
 
 kind_excluded : (kind : FaultKind) (levels steps : ℕ) (found : Data) → SoundAt found levels steps → KindHolds kind levels steps found → ⊥
 kind_excluded TooDeep levels steps found h (nested, deep) = nested_deep found h.left nested (let sum = h.sum in omega (arith, sum, deep)) h.sound
@@ -75,9 +62,6 @@ kind_excluded _ levels steps found h never = absurd never
 flaw_excluded : (d : Data) (levels : ℕ) (flaw : Flaw) → flaws d levels ≡ [] → ¬ FlawHolds d levels flaw
 flaw_excluded d levels flaw none (found, leads, kind) = kind_excluded flaw.kind levels (length flaw.path) found (led flaw.path d found levels none leads) kind
 
-same_tree : (text : List ℕ) (s t : Data) → read text ≡ Some s → read text ≡ Some t → s ≡ t
-same_tree text s t p q = cc
-
 pub tree_excluded : (text : List ℕ) (t : Data) (flaw : Flaw) → IsTreeOf text t → ¬ IsNoTree text flaw
 tree_excluded text t flaw tree (inl (is, none)) = none t tree.0
-tree_excluded text t flaw tree (inr (d, reads, holds)) = flaw_excluded d max_levels flaw (subst (λ x. flaws x max_levels ≡ []) (same_tree text t d tree.0.1 reads.1) tree.1) holds
+tree_excluded text t flaw tree (inr (d, reads, holds)) = let same : t ≡ d = cc (tree.0.1, reads.1) in flaw_excluded d max_levels flaw (subst (λ x. flaws x max_levels ≡ []) same tree.1) holds

@@ -39,29 +39,17 @@ one_order draft = if draft.two_orders then Err (in_type (here TwoOrders)) else O
 
 -- ---- one rule after the other
 
-unfoldable pub sizes_and_bits : Config → Result ⊤ Flaw
-sizes_and_bits c = do
-  _ ← stream_number_fits c
-  _ ← streams_judged NumbersFit c
-  streams_judged RecordsHaveBits c
-
-unfoldable pub clocks_and_identifier : Draft → Result ⊤ Flaw
-clocks_and_identifier draft = do
+unfoldable pub whole : Data → Draft → Result ⊤ Flaw
+whole d draft = do
+  _ ← stream_number_fits draft.config
+  _ ← streams_judged NumbersFit draft.config
+  _ ← streams_judged RecordsHaveBits draft.config
   _ ← streams_judged ClocksAreThere draft.config
   _ ← number_given draft
-  identifier_given draft.config
-
-unfoldable pub limits_and_orders : Data → Draft → Result ⊤ Flaw
-limits_and_orders d draft = do
+  _ ← identifier_given draft.config
   _ ← refusal (configuration_limits d)
   _ ← one_order draft
   streams_judged TimestampsAreSized draft.config
-
-unfoldable pub whole : Data → Draft → Result ⊤ Flaw
-whole d draft = do
-  _ ← sizes_and_bits draft.config
-  _ ← clocks_and_identifier draft
-  limits_and_orders d draft
 
 -- ---- a resolved tree
 

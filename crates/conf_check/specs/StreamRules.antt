@@ -17,6 +17,8 @@ use Rattle.conf_tree.specs.declared.fault_kind.FaultKind.TheVariants.{FieldTooSm
 use Rattle.conf_tree.specs.Flaw.{Flaw, key, here, within}
 use Rattle.conf_tree.specs.Reading.{at, ◌>>=◌}
 use Rattle.conf_check.specs.declared.stream_rule.StreamRule.{StreamRule}
+use Rattle.conf_check.specs.declared.stream_rule.Timestamp.{Timestamp}
+use Rattle.conf_check.specs.declared.stream_rule.Timestamp.TheVariants.{Record, Beginning, End}
 use Rattle.conf_check.specs.declared.stream_rule.StreamRule.TheVariants.{NumbersFit, RecordsHaveBits, ClocksAreThere, TimestampsAreSized}
 
 -- a flaw of a feature, seen from its data stream type
@@ -71,32 +73,33 @@ unfoldable pub clock_is_there : List ClockType → Option (List ℕ) → Bool
 clock_is_there clocks None = true
 clock_is_there clocks (Some name) = has_clock clocks name
 
--- a timestamp that is on has a clock
-abbrev pub is_clocked : Option (List ℕ) → Option IntType → Bool
-is_clocked clock feature = is_some clock || is_none feature
+-- the field of a timestamp, if it is on
+unfoldable pub field_of : StreamType → Timestamp → Option IntType
+field_of s Record = s.event_header.timestamp
+field_of s Beginning = s.context.timestamp_begin
+field_of s End = s.context.timestamp_end
 
-unfoldable pub timestamp_clocked : Option (List ℕ) → Option IntType → List ℕ → List ℕ → Result ⊤ Flaw
-timestamp_clocked clock feature group name = unless (is_clocked clock feature) (feature_flaw group name NoClock)
+-- a flaw of a timestamp, seen from its data stream type
+unfoldable pub timestamp_flaw : Timestamp → FaultKind → Flaw
+timestamp_flaw Record kind = feature_flaw (codes "event-record") (codes "timestamp-field-type") kind
+timestamp_flaw Beginning kind = feature_flaw (codes "packet") (codes "beginning-timestamp-field-type") kind
+timestamp_flaw End kind = feature_flaw (codes "packet") (codes "end-timestamp-field-type") kind
 
-unfoldable pub begin_clocked : StreamType → Result ⊤ Flaw
-begin_clocked s = timestamp_clocked s.default_clock s.context.timestamp_begin (codes "packet") (codes "beginning-timestamp-field-type")
+-- each timestamp is good
+unfoldable pub timestamps_judged : (Timestamp → Bool) → FaultKind → Result ⊤ Flaw
+timestamps_judged good kind = do
+  _ ← unless (good Record) (timestamp_flaw Record kind)
+  _ ← unless (good Beginning) (timestamp_flaw Beginning kind)
+  unless (good End) (timestamp_flaw End kind)
 
-unfoldable pub end_clocked : StreamType → Result ⊤ Flaw
-end_clocked s = timestamp_clocked s.default_clock s.context.timestamp_end (codes "packet") (codes "end-timestamp-field-type")
-
-unfoldable pub record_clocked : StreamType → Result ⊤ Flaw
-record_clocked s = timestamp_clocked s.default_clock s.event_header.timestamp (codes "event-record") (codes "timestamp-field-type")
-
-unfoldable pub timestamps_clocked : StreamType → Result ⊤ Flaw
-timestamps_clocked s = do
-  _ ← record_clocked s
-  _ ← begin_clocked s
-  end_clocked s
+-- one that is on has a clock
+unfoldable pub is_clocked : StreamType → Timestamp → Bool
+is_clocked s timestamp = is_some s.default_clock || is_none (field_of s timestamp)
 
 unfoldable pub clocks_are_there : List ClockType → StreamType → Result ⊤ Flaw
 clocks_are_there clocks s = do
   _ ← unless (clock_is_there clocks s.default_clock) (within (key (codes "$default-clock-type-name")) (here NoClock))
-  timestamps_clocked s
+  timestamps_judged (is_clocked s) NoClock
 
 -- ---- timestamps have their sizes
 
@@ -110,23 +113,13 @@ unfoldable pub has_record_size : Option IntType → Option IntType → Bool
 has_record_size begin None = true
 has_record_size begin (Some t) = nat_le 8 t.size && (t.size == 64 || is_some begin)
 
-unfoldable pub packet_sized : Option IntType → List ℕ → Result ⊤ Flaw
-packet_sized feature name = unless (is_whole feature) (feature_flaw (codes "packet") name TimestampSize)
-
-unfoldable pub begin_sized : StreamType → Result ⊤ Flaw
-begin_sized s = packet_sized s.context.timestamp_begin (codes "beginning-timestamp-field-type")
-
-unfoldable pub end_sized : StreamType → Result ⊤ Flaw
-end_sized s = packet_sized s.context.timestamp_end (codes "end-timestamp-field-type")
-
-unfoldable pub record_sized : StreamType → Result ⊤ Flaw
-record_sized s = unless (has_record_size s.context.timestamp_begin s.event_header.timestamp) (feature_flaw (codes "event-record") (codes "timestamp-field-type") TimestampSize)
+unfoldable pub is_sized : StreamType → Timestamp → Bool
+is_sized s Record = has_record_size s.context.timestamp_begin s.event_header.timestamp
+is_sized s Beginning = is_whole s.context.timestamp_begin
+is_sized s End = is_whole s.context.timestamp_end
 
 unfoldable pub timestamps_sized : StreamType → Result ⊤ Flaw
-timestamps_sized s = do
-  _ ← record_sized s
-  _ ← begin_sized s
-  end_sized s
+timestamps_sized s = timestamps_judged (is_sized s) TimestampSize
 
 -- ---- all stream types under one rule
 

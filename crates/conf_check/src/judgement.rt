@@ -8,7 +8,7 @@ ghost use Rattle.conf_tree.specs.Reading.{Gives};
 ghost use Rattle.conf_draft.specs.Traces.{draft_of as draft_of_value};
 ghost use Rattle.conf_check.specs.Configuration.{IsNoConfiguration, IsInnocent};
 ghost use Rattle.conf_check.specs.ConfigurationRows.{IsConfigurationOf};
-ghost use Rattle.conf_check.specs.Judgement.{in_type as in_type_is, header_flaw, stream_number_fits as stream_number_fits_is, number_given as number_given_is, identifier_given as identifier_given_is, one_order as one_order_is, sizes_and_bits as sizes_and_bits_is, clocks_and_identifier as clocks_and_identifier_is, limits_and_orders as limits_and_orders_is, whole as whole_is, IsJudgedTo, IsFirstFlawOf};
+ghost use Rattle.conf_check.specs.Judgement.{in_type as in_type_is, header_flaw, stream_number_fits as stream_number_fits_is, number_given as number_given_is, identifier_given as identifier_given_is, one_order as one_order_is, whole as whole_is, IsJudgedTo, IsFirstFlawOf};
 
 use crate::stream_rule::{StreamRule, check_streams, holds};
 use conf_draft::{Draft, draft_of};
@@ -103,43 +103,21 @@ fn one_order(alloc: Global, draft: &Draft) -> Result<(), ConfFault>
     }
 }
 
-#[tactic(auto, unfolding(crate::specs::Judgement::sizes_and_bits))]
-fn sizes_and_bits(alloc: Global, config: &Config) -> Result<(), ConfFault>
-    ensures { Gives (λ _. tt) result (sizes_and_bits_is config.now) }
-{
-    stream_number_fits(alloc, config)?;
-    check_streams(alloc, StreamRule::NumbersFit, config)?;
-    check_streams(alloc, StreamRule::RecordsHaveBits, config)?;
-    Ok(())
-}
-
-#[tactic(auto, unfolding(crate::specs::Judgement::clocks_and_identifier))]
-fn clocks_and_identifier(alloc: Global, draft: &Draft) -> Result<(), ConfFault>
-    ensures { Gives (λ _. tt) result (clocks_and_identifier_is draft.now) }
-{
-    check_streams(alloc, StreamRule::ClocksAreThere, &draft.config)?;
-    number_given(alloc, draft)?;
-    identifier_given(alloc, &draft.config)?;
-    Ok(())
-}
-
-#[tactic(auto, unfolding(crate::specs::Judgement::limits_and_orders))]
-fn limits_and_orders(alloc: Global, value: &Value, draft: &Draft) -> Result<(), ConfFault>
-    ensures { Gives (λ _. tt) result (limits_and_orders_is (view value.now) draft.now) }
-{
-    check_limits(alloc, value)?;
-    one_order(alloc, draft)?;
-    check_streams(alloc, StreamRule::TimestampsAreSized, &draft.config)?;
-    Ok(())
-}
-
+/// Refuses what breaks a rule over the whole or passes a limit, kind by kind.
 #[tactic(auto, unfolding(crate::specs::Judgement::whole))]
 fn whole(alloc: Global, value: &Value, draft: &Draft) -> Result<(), ConfFault>
     ensures { Gives (λ _. tt) result (whole_is (view value.now) draft.now) }
 {
-    sizes_and_bits(alloc, &draft.config)?;
-    clocks_and_identifier(alloc, draft)?;
-    limits_and_orders(alloc, value, draft)?;
+    let config = &draft.config;
+    stream_number_fits(alloc, config)?;
+    check_streams(alloc, StreamRule::NumbersFit, config)?;
+    check_streams(alloc, StreamRule::RecordsHaveBits, config)?;
+    check_streams(alloc, StreamRule::ClocksAreThere, config)?;
+    number_given(alloc, draft)?;
+    identifier_given(alloc, config)?;
+    check_limits(alloc, value)?;
+    one_order(alloc, draft)?;
+    check_streams(alloc, StreamRule::TimestampsAreSized, config)?;
     Ok(())
 }
 

@@ -4,7 +4,8 @@ ghost use Rattle.std.specs.List.{list_all, list_any};
 ghost use Rattle.ctf_types.specs.FieldTypes.{chain_of};
 ghost use Rattle.conf_tree.specs.Flaw.{flaw_of, IsMemory};
 ghost use Rattle.conf_tree.specs.Reading.{Gives};
-ghost use Rattle.conf_check.specs.StreamRules.{feature_flaw, timestamp_clocked as timestamp_clocked_is, holds as holds_is, numbers_fit as numbers_fit_is, member_has_bits as member_has_bits_is, struct_has_bits as struct_has_bits_is, header_has_bits as header_has_bits_is, event_has_bits as event_has_bits_is, event_bits as event_bits_is, events_bits as events_bits_is, records_have_bits as records_have_bits_is, has_clock as has_clock_is, clock_is_there as clock_is_there_is, record_clocked as record_clocked_is, begin_clocked as begin_clocked_is, end_clocked as end_clocked_is, record_sized as record_sized_is, begin_sized as begin_sized_is, end_sized as end_sized_is, packet_sized as packet_sized_is, timestamps_clocked as timestamps_clocked_is, clocks_are_there as clocks_are_there_is, is_whole as is_whole_is, has_record_size as has_record_size_is, timestamps_sized as timestamps_sized_is, judged as judged_is, judged_by_name as judged_by_name_is, all_judged as all_judged_is, streams_judged as streams_judged_is};
+ghost use Rattle.conf_tree.specs.declared.fault_kind.FaultKind.TheVariants.{NoClock, TimestampSize};
+ghost use Rattle.conf_check.specs.StreamRules.{feature_flaw, timestamp_flaw, unless, is_clocked, holds as holds_is, numbers_fit as numbers_fit_is, member_has_bits as member_has_bits_is, struct_has_bits as struct_has_bits_is, header_has_bits as header_has_bits_is, event_has_bits as event_has_bits_is, event_bits as event_bits_is, events_bits as events_bits_is, records_have_bits as records_have_bits_is, has_clock as has_clock_is, clock_is_there as clock_is_there_is, field_of as field_of_is, clocks_are_there as clocks_are_there_is, is_whole as is_whole_is, has_record_size as has_record_size_is, is_sized as is_sized_is, timestamps_sized as timestamps_sized_is, judged as judged_is, judged_by_name as judged_by_name_is, all_judged as all_judged_is, streams_judged as streams_judged_is};
 
 use conf_tree::{At, ConfFault, FaultKind};
 use ctf_types::{
@@ -176,75 +177,58 @@ fn clock_is_there(clocks: &ListOf<ClockType>, clock: &Option<Text>) -> bool
     }
 }
 
-/// Refuses the timestamp `name` of the group `group`, if it is on without a clock.
-#[tactic(auto, unfolding(crate::specs::StreamRules::timestamp_clocked))]
-fn timestamp_clocked(
-    alloc: Global,
-    clock: &Option<Text>,
-    feature: &Option<IntType>,
-    group: &str,
-    name: &str,
-) -> Result<(), ConfFault>
-    ensures { Gives (λ _. tt) result
-        (timestamp_clocked_is clock.now feature.now group.now name.now) }
+/// A timestamp of a data stream type: of its event records, or of the beginning or the end of its packets.
+#[derive(Clone, Copy, Debug)]
+enum Timestamp {
+    Record,
+    Beginning,
+    End,
+}
+
+/// The field of a timestamp, if it is on.
+#[tactic(auto, unfolding(crate::specs::StreamRules::field_of))]
+fn field_of(stream: &StreamType, timestamp: Timestamp) -> &Option<IntType>
+    ensures { result.now ≡ field_of_is stream.now timestamp }
 {
-    if clock.is_some() || feature.is_none() {
-        Ok(())
-    } else {
-        Err(feature_fault(alloc, group, name, FaultKind::NoClock))
+    match timestamp {
+        Timestamp::Record => &stream.event_header.timestamp,
+        Timestamp::Beginning => &stream.context.timestamp_begin,
+        Timestamp::End => &stream.context.timestamp_end,
     }
 }
 
-#[tactic(auto, unfolding(crate::specs::StreamRules::record_clocked))]
-fn record_clocked(alloc: Global, stream: &StreamType) -> Result<(), ConfFault>
-    ensures { Gives (λ _. tt) result (record_clocked_is stream.now) }
+/// The fault of a timestamp, seen from its data stream type.
+#[tactic(auto, unfolding(crate::specs::StreamRules::timestamp_flaw))]
+fn timestamp_fault(alloc: Global, timestamp: Timestamp, kind: FaultKind) -> ConfFault
+    ensures { IsMemory result ⊎ (flaw_of result ≡ timestamp_flaw timestamp kind) }
 {
-    let clock = &stream.default_clock;
-    let feature = &stream.event_header.timestamp;
-    timestamp_clocked(
-        alloc,
-        clock,
-        feature,
-        "event-record",
-        "timestamp-field-type",
-    )
+    match timestamp {
+        Timestamp::Record => feature_fault(alloc, "event-record", "timestamp-field-type", kind),
+        Timestamp::Beginning => {
+            feature_fault(alloc, "packet", "beginning-timestamp-field-type", kind)
+        }
+        Timestamp::End => feature_fault(alloc, "packet", "end-timestamp-field-type", kind),
+    }
 }
 
-#[tactic(auto, unfolding(crate::specs::StreamRules::begin_clocked))]
-fn begin_clocked(alloc: Global, stream: &StreamType) -> Result<(), ConfFault>
-    ensures { Gives (λ _. tt) result (begin_clocked_is stream.now) }
+/// Refuses a timestamp that is on without a clock.
+#[tactic(auto, unfolding(crate::specs::StreamRules::is_clocked))]
+fn timestamp_clocked(
+    alloc: Global,
+    stream: &StreamType,
+    timestamp: Timestamp,
+) -> Result<(), ConfFault>
+    ensures { Gives (λ _. tt) result
+        (unless (is_clocked stream.now timestamp) (timestamp_flaw timestamp NoClock)) }
 {
-    let clock = &stream.default_clock;
-    let feature = &stream.context.timestamp_begin;
-    timestamp_clocked(
-        alloc,
-        clock,
-        feature,
-        "packet",
-        "beginning-timestamp-field-type",
-    )
+    if stream.default_clock.is_some() || field_of(stream, timestamp).is_none() {
+        Ok(())
+    } else {
+        Err(timestamp_fault(alloc, timestamp, FaultKind::NoClock))
+    }
 }
 
-#[tactic(auto, unfolding(crate::specs::StreamRules::end_clocked))]
-fn end_clocked(alloc: Global, stream: &StreamType) -> Result<(), ConfFault>
-    ensures { Gives (λ _. tt) result (end_clocked_is stream.now) }
-{
-    let clock = &stream.default_clock;
-    let feature = &stream.context.timestamp_end;
-    timestamp_clocked(alloc, clock, feature, "packet", "end-timestamp-field-type")
-}
-
-#[tactic(auto, unfolding(crate::specs::StreamRules::timestamps_clocked))]
-fn timestamps_clocked(alloc: Global, stream: &StreamType) -> Result<(), ConfFault>
-    ensures { Gives (λ _. tt) result (timestamps_clocked_is stream.now) }
-{
-    record_clocked(alloc, stream)?;
-    begin_clocked(alloc, stream)?;
-    end_clocked(alloc, stream)?;
-    Ok(())
-}
-
-#[tactic(auto, unfolding(crate::specs::StreamRules::clocks_are_there))]
+#[tactic(auto, unfolding(crate::specs::StreamRules::clocks_are_there, crate::specs::StreamRules::timestamps_judged))]
 fn clocks_are_there(
     alloc: Global,
     clocks: &ListOf<ClockType>,
@@ -255,7 +239,9 @@ fn clocks_are_there(
     if !clock_is_there(clocks, &stream.default_clock) {
         return Err(At::Property("$default-clock-type-name").fault(alloc, FaultKind::NoClock));
     }
-    timestamps_clocked(alloc, stream)
+    timestamp_clocked(alloc, stream, Timestamp::Record)?;
+    timestamp_clocked(alloc, stream, Timestamp::Beginning)?;
+    timestamp_clocked(alloc, stream, Timestamp::End)
 }
 
 /// Whether a timestamp that is on has 64 bits.
@@ -280,61 +266,41 @@ fn has_record_size(begin: &Option<IntType>, feature: &Option<IntType>) -> bool
     }
 }
 
-/// Refuses the timestamp `name` of packets, if it is on and has not 64 bits.
-#[tactic(auto, unfolding(crate::specs::StreamRules::packet_sized))]
-fn packet_sized(alloc: Global, feature: &Option<IntType>, name: &str) -> Result<(), ConfFault>
-    ensures { Gives (λ _. tt) result (packet_sized_is feature.now name.now) }
+#[tactic(auto, unfolding(crate::specs::StreamRules::is_sized))]
+fn is_sized(stream: &StreamType, timestamp: Timestamp) -> bool
+    ensures { result ≡ is_sized_is stream.now timestamp }
 {
-    if is_whole(feature) {
-        Ok(())
-    } else {
-        Err(feature_fault(alloc, "packet", name, FaultKind::TimestampSize))
+    let begin = &stream.context.timestamp_begin;
+    match timestamp {
+        Timestamp::Record => has_record_size(begin, &stream.event_header.timestamp),
+        Timestamp::Beginning => is_whole(begin),
+        Timestamp::End => is_whole(&stream.context.timestamp_end),
     }
 }
 
-#[tactic(auto, unfolding(crate::specs::StreamRules::record_sized))]
-fn record_sized(alloc: Global, stream: &StreamType) -> Result<(), ConfFault>
-    ensures { Gives (λ _. tt) result (record_sized_is stream.now) }
+/// Refuses a timestamp that is on and has not its size.
+fn timestamp_sized(
+    alloc: Global,
+    stream: &StreamType,
+    timestamp: Timestamp,
+) -> Result<(), ConfFault>
+    ensures { Gives (λ _. tt) result
+        (unless (is_sized_is stream.now timestamp) (timestamp_flaw timestamp TimestampSize)) }
 {
-    if has_record_size(
-        &stream.context.timestamp_begin,
-        &stream.event_header.timestamp,
-    ) {
+    if is_sized(stream, timestamp) {
         Ok(())
     } else {
-        Err(feature_fault(
-            alloc,
-            "event-record",
-            "timestamp-field-type",
-            FaultKind::TimestampSize,
-        ))
+        Err(timestamp_fault(alloc, timestamp, FaultKind::TimestampSize))
     }
 }
 
-#[tactic(auto, unfolding(crate::specs::StreamRules::begin_sized))]
-fn begin_sized(alloc: Global, stream: &StreamType) -> Result<(), ConfFault>
-    ensures { Gives (λ _. tt) result (begin_sized_is stream.now) }
-{
-    let feature = &stream.context.timestamp_begin;
-    packet_sized(alloc, feature, "beginning-timestamp-field-type")
-}
-
-#[tactic(auto, unfolding(crate::specs::StreamRules::end_sized))]
-fn end_sized(alloc: Global, stream: &StreamType) -> Result<(), ConfFault>
-    ensures { Gives (λ _. tt) result (end_sized_is stream.now) }
-{
-    let feature = &stream.context.timestamp_end;
-    packet_sized(alloc, feature, "end-timestamp-field-type")
-}
-
-#[tactic(auto, unfolding(crate::specs::StreamRules::timestamps_sized))]
+#[tactic(auto, unfolding(crate::specs::StreamRules::timestamps_sized, crate::specs::StreamRules::timestamps_judged))]
 fn timestamps_sized(alloc: Global, stream: &StreamType) -> Result<(), ConfFault>
     ensures { Gives (λ _. tt) result (timestamps_sized_is stream.now) }
 {
-    record_sized(alloc, stream)?;
-    begin_sized(alloc, stream)?;
-    end_sized(alloc, stream)?;
-    Ok(())
+    timestamp_sized(alloc, stream, Timestamp::Record)?;
+    timestamp_sized(alloc, stream, Timestamp::Beginning)?;
+    timestamp_sized(alloc, stream, Timestamp::End)
 }
 
 #[tactic(auto, unfolding(crate::specs::StreamRules::judged))]

@@ -1,7 +1,7 @@
 use Rattle.std.proofs.Common.{inl, inr}
 use Rattle.serde_json.specs.View.{view}
-use Rattle.conf_check.proofs.ConfigurationSteps.{no_tree, memory_alone, refused_at_last, refused_for_memory, innocent_by_look_up, answered_by_look_up}
-use Rattle.conf_check.proofs.ConfigurationLaws.{text_excluded}
+use Rattle.conf_check.proofs.ConfigurationSteps.{no_tree, memory_alone, refused_for_memory, innocent_by_look_up, answered_by_look_up}
+use Rattle.conf_check.proofs.ConfigurationLaws.{memory_or, text_excluded}
 use Rattle.conf_check.proofs.configuration.configure.Goals as goal
 
 pub returns-in-Err-check-clause-only : goal.returns-in-Err-check-clause-only
@@ -30,4 +30,4 @@ returns-in-Ok-check-clause-faultless c =
 
 pub returns-in-Err-check-clause-refused : goal.returns-in-Err-check-clause-refused
 returns-in-Err-check-clause-refused c =
-    refused_at_last c.args.text.now c.args.number (view c.in-Ok.tree.value) (view c.in-Ok-resolve.resolved.value) c.in-Err-check.fault c.in-Ok.ensures.tree c.in-Ok-resolve.ensures.first c.in-Err-check.ensures.first
+    memory_or c.in-Err-check.ensures.first (λ first. inr (inr (view c.in-Ok.tree.value, view c.in-Ok-resolve.resolved.value, c.in-Ok.ensures.tree, c.in-Ok-resolve.ensures.first, first)))

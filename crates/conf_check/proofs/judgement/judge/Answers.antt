@@ -4,7 +4,8 @@ use Rattle.serde_json.specs.View.{view}
 use Rattle.conf_judge.specs.Flaws.{configuration_flaws}
 use Rattle.conf_laws.proofs.ExcludedFlaws.{none_refused}
 use Rattle.conf_laws.proofs.Traces.{tree_said}
-use Rattle.conf_check.proofs.ConfigurationLaws.{configuration_allowed, first_of_the_whole}
+use Rattle.conf_check.specs.Judgement.{IsFirstFlawOf}
+use Rattle.conf_check.proofs.ConfigurationLaws.{configuration_allowed, memory_or}
 use Rattle.conf_check.proofs.judgement.judge.Goals as goal
 
 pub draft-requires : goal.draft-requires
@@ -16,7 +17,7 @@ pub returns-in_err-whole-clause-first : goal.returns-in_err-whole-clause-first
 returns-in_err-whole-clause-first c =
     let p = err_from_is_err_and c.from_residual-in_err-whole.result c.from_residual-in_err-whole.ensures.1 in
     rw (p.1, p.2)
-    (first_of_the_whole (view c.args.tree.value) c.args.number c.in_ok-draft.draft c.in_err-whole.field-0.0 c.in_ok-check_objects.ensures c.in_ok-draft.ensures.says c.in_err-whole.ensures)
+    (memory_or c.in_err-whole.ensures (IsFirstFlawOf.of_the_whole c.in_ok-draft.draft (none_refused (configuration_flaws (view c.args.tree.value)) c.in_ok-check_objects.ensures) c.in_ok-draft.ensures.says))
 
 pub returns-clause-allowed : goal.returns-clause-allowed
 returns-clause-allowed c =
