@@ -1,61 +1,15 @@
 -- What the rounds leave of the aliases with no outcome: they start long walks.
-use Rattle.std.proofs.Common.{◌≡◌, ◌||◌, ◌⊎◌, inl, inr, ℕ, zero, suc, List, Option, Some, None, Bool, true, false, not, true≢false, refl, sym, ◌∙◌}
-use Rattle.serde_json.specs.Data.{Data, null, boolean, number, string, array, object, Items, no_items, item, Members, no_members, member, put}
+use Rattle.std.proofs.Common.{◌≡◌, ◌||◌, ℕ, zero, suc, List, Option, Some, None, Bool, true, false, not, true≢false, refl, sym, ◌∙◌}
+use Rattle.serde_json.specs.Data.{Data, null, Members, no_members, member, put}
 use Rattle.serde_json.specs.Find.{get_member}
-use Rattle.conf_table.specs.declared.place.Place.{Place}
 use Rattle.conf_table.specs.declared.place.Place.TheVariants as places
-use Rattle.conf_inherit.specs.FieldPlaces.{place_under, place_of_items, names_alias, names_member_type}
-use Rattle.conf_inherit.specs.Circle.{Mentions, MentionsInItems, MentionsInMembers, Walks}
-use Rattle.conf_inherit.specs.Ready.{Names}
-use Rattle.conf_inherit.specs.Named.{all_named, all_named_in_items, all_named_in_members, has}
+use Rattle.conf_inherit.specs.Circle.{Mentions, Walks}
+use Rattle.conf_inherit.specs.Named.{all_named, has}
 use Rattle.conf_inherit.specs.Rounds.{has_outcome, Outcomes, is_over, outcome, concluded, step, round, all_over, next_round, rounds, no_outcomes}
-use Rattle.conf_inherit.proofs.ListLemmas.{AllEntries, all_along}
-use Rattle.conf_inherit.proofs.RoundLemmas.{is_put, is_still, some_of, entry_found}
-use Rattle.conf_inherit.proofs.NamedLemmas.{either_false}
-use Rattle.conf_inherit.proofs.ReadyLemmas.{and_left, and_right}
-
--- ---- a name that keeps a value from its turn
-
-abbrev Blocks : (List ℕ → Bool) → Place → Data → Type 0
-Blocks p s v = (m : List ℕ) × Mentions m s v × (p m ≡ false)
-
-names_of : (s : Place) (t : Bool) → (names_alias s || names_member_type s) ≡ t → t ≡ true → Names s
-names_of s t e f = go (names_alias s) refl
-  where
-    go : (u : Bool) → names_alias s ≡ u → Names s
-    go true a = inl a
-    go false a = inr (rw a at (e ∙ f))
-
-blocks_text : (p : List ℕ → Bool) (s : Place) (n : List ℕ) → (t : Bool) → (names_alias s || names_member_type s) ≡ t → (not t || p n) ≡ false → Blocks p s (string n)
-blocks_text p s n true e h = (n, (names_of s true e refl, refl), h)
-blocks_text p s n false e h = absurd (true≢false h)
-
-blocked_item : (p : List ℕ → Bool) (d : Data) (ds : Items) (s : Place) → (all_named p s d ≡ false) ⊎ (all_named_in_items p s ds ≡ false)
-    → (all_named p s d ≡ false → Blocks p s d) → (all_named_in_items p s ds ≡ false → (m : List ℕ) × MentionsInItems m s ds × (p m ≡ false)) → (m : List ℕ) × MentionsInItems m s (item d ds) × (p m ≡ false)
-blocked_item p d ds s (inl e) f g = let (m, x, h) = f e in (m, inl x, h)
-blocked_item p d ds s (inr e) f g = let (m, x, h) = g e in (m, inr x, h)
-
-blocked_member : (p : List ℕ → Bool) (k : List ℕ) (d : Data) (ms : Members) (s : Place) → (all_named p (place_under s k) d ≡ false) ⊎ (all_named_in_members p s ms ≡ false)
-    → (all_named p (place_under s k) d ≡ false → Blocks p (place_under s k) d) → (all_named_in_members p s ms ≡ false → (m : List ℕ) × MentionsInMembers m s ms × (p m ≡ false)) → (m : List ℕ) × MentionsInMembers m s (member k d ms) × (p m ≡ false)
-blocked_member p k d ms s (inl e) f g = let (m, x, h) = f e in (m, inl x, h)
-blocked_member p k d ms s (inr e) f g = let (m, x, h) = g e in (m, inr x, h)
-
-mutual
-  pub blocked : (p : List ℕ → Bool) (v : Data) (s : Place) → all_named p s v ≡ false → Blocks p s v
-  blocked p null s h = absurd (true≢false h)
-  blocked p (boolean b) s h = absurd (true≢false h)
-  blocked p (number n) s h = absurd (true≢false h)
-  blocked p (string n) s h = blocks_text p s n (names_alias s || names_member_type s) refl h
-  blocked p (array ds) s h = blocked_items p ds (place_of_items s) h
-  blocked p (object ms) s h = blocked_members p ms s h
-
-  blocked_items : (p : List ℕ → Bool) (ds : Items) (s : Place) → all_named_in_items p s ds ≡ false → (m : List ℕ) × MentionsInItems m s ds × (p m ≡ false)
-  blocked_items p no_items s h = absurd (true≢false h)
-  blocked_items p (item d ds) s h = blocked_item p d ds s (either_false (all_named p s d) (all_named_in_items p s ds) h) (blocked p d s) (blocked_items p ds s)
-
-  blocked_members : (p : List ℕ → Bool) (ms : Members) (s : Place) → all_named_in_members p s ms ≡ false → (m : List ℕ) × MentionsInMembers m s ms × (p m ≡ false)
-  blocked_members p no_members s h = absurd (true≢false h)
-  blocked_members p (member k d ms) s h = blocked_member p k d ms s (either_false (all_named p (place_under s k) d) (all_named_in_members p s ms) h) (blocked p d (place_under s k)) (blocked_members p ms s)
+use Rattle.conf_inherit.proofs.ListLemmas.{AllEntries, all_along, entry_found}
+use Rattle.conf_inherit.proofs.RoundLemmas.{is_put, is_still}
+use Rattle.conf_inherit.proofs.NamedLemmas.{blocked}
+use Rattle.conf_inherit.proofs.ReadyLemmas.{and_left, and_right, neither, some_of}
 
 -- ---- an alias with no outcome
 
@@ -68,10 +22,6 @@ over_false true b c h = absurd (true≢false h)
 over_false false true c h = absurd (true≢false h)
 over_false false false true h = (refl, refl, refl)
 over_false false false false h = absurd (true≢false h)
-
-either_or : (a b : Bool) → a ≡ false → b ≡ false → (a || b) ≡ false
-either_or true b h i = absurd (true≢false h)
-either_or false b h i = i
 
 -- a name that is not there once another is put was not there before
 open_put : (k : List ℕ) (r : Data) (ms : Members) (q : List ℕ) → has (put k r ms) q ≡ false → has ms q ≡ false
@@ -109,7 +59,7 @@ module _ (al : Members) where
   waits_step k w st h = go (has_outcome st k) refl (all_named (is_over al st) places.FieldType w) refl
     where
       go : (t : Bool) → has_outcome st k ≡ t → (u : Bool) → all_named (is_over al st) places.FieldType w ≡ u → (m : List ℕ) × Mentions m places.FieldType w × (has al m ≡ true) × IsOpen st m
-      go true a u b = let o = open_step k w st k h in absurd (true≢false (sym a ∙ either_or (has st.done k) (has st.refused k) o.0 o.1))
+      go true a u b = let o = open_step k w st k h in absurd (true≢false (sym a ∙ neither (has st.done k) (has st.refused k) o.0 o.1))
       go false a true b = absurd (closed k st (outcome al st.done w) (rw (a, b) at h))
       go false a false b =
           let (m, x, f) = blocked (is_over al st) w places.FieldType b in
@@ -132,7 +82,7 @@ module _ (al : Members) where
   all_closed : (ms : Members) (st : Outcomes) → all_over ms st ≡ true → AllEntries (λ k w. IsOpen st k → ⊥) ms
   all_closed no_members st h = tt
   all_closed (member k w ms) st h = (
-    λ o. true≢false (sym (and_left (has_outcome st k) (all_over ms st) h) ∙ either_or (has st.done k) (has st.refused k) o.0 o.1),
+    λ o. true≢false (sym (and_left (has_outcome st k) (all_over ms st) h) ∙ neither (has st.done k) (has st.refused k) o.0 o.1),
     all_closed ms st (and_right (has_outcome st k) (all_over ms st) h),
   )
 

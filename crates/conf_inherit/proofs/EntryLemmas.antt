@@ -117,16 +117,12 @@ lower_second i (Some p) q h e = rw (e, is_before i p h) refl
 
 -- names that have the same places have the same lowest one
 pub same_lowest : (f g : List ℕ → Option ℕ) → ((n : List ℕ) → f n ≡ g n) → (d : Data) → lowest_of f d ≡ lowest_of g d
-same_lowest f g h null = refl
-same_lowest f g h (boolean b) = refl
-same_lowest f g h (number n) = refl
-same_lowest f g h (string s) = refl
-same_lowest f g h (array ds) = refl
 same_lowest f g h (object ms) = go ms
   where
     go : (ms : Members) → lowest f ms ≡ lowest g ms
     go no_members = refl
     go (member n d ms) = ap (λ o. lower o (lowest f ms)) (h n) ∙ ap (lower (g n)) (go ms)
+same_lowest f g h _ = refl
 
 -- ---- an entry that has one of the names, and one that has none
 
@@ -180,12 +176,8 @@ passed_members done bs e (member n d ms) rest h inc =
     rw none (passed_members done bs e ms rest h (λ m x. inc m (still_there m n d ms x)))
 
 passed : (done bs : Members) (e rest : Data) → shares bs e ≡ false → lay_over_entry done e (object bs) rest ≡ rest
-passed done bs null rest h = refl
-passed done bs (boolean b) rest h = refl
-passed done bs (number n) rest h = refl
-passed done bs (string s) rest h = refl
-passed done bs (array ds) rest h = refl
 passed done bs (object ms) rest h = passed_members done bs (object ms) ms rest h (λ n x. x)
+passed done bs _ rest h = refl
 
 none_shared : (e : Data) → ((n : List ℕ) → get n e ≡ None) → (bs : Members) → shares bs e ≡ false
 none_shared e none no_members = refl
@@ -247,12 +239,8 @@ plain_members done no_members b rest none = refl
 plain_members done (member n d ms) b rest none = let f : is_some (get n b) ≡ false = ap is_some (none n) in rw f (plain_members done ms b rest none)
 
 plain_entry : (done : Members) (e b rest : Data) → ((n : List ℕ) → get n b ≡ None) → lay_over_entry done e b rest ≡ rest
-plain_entry done null b rest none = refl
-plain_entry done (boolean x) b rest none = refl
-plain_entry done (number n) b rest none = refl
-plain_entry done (string s) b rest none = refl
-plain_entry done (array ds) b rest none = refl
 plain_entry done (object ms) b rest none = plain_members done ms b rest none
+plain_entry done _ b rest none = refl
 
 plain_over : (done : Members) (es : Items) (b : Data) → ((n : List ℕ) → get n b ≡ None) → lay_over done es b ≡ b
 plain_over done no_items b none = refl

@@ -1,7 +1,7 @@
 -- A tree that was read and has a resolution has no fault of inheritance.
 use Rattle.std.proofs.Common.{◌≡◌, ◌<◌, ◌+◌, ◌&&◌, ℕ, zero, suc, Bool, true, false, List, [], ◌∷◌, length, Some, None, is_some, Ok, inl, inr, refl, sym, ap, subst, ◌∙◌, arith}
 use Rattle.std.proofs.lemmas.Bool.{true≢false, and_from, and_parts}
-use Rattle.serde_json.specs.Data.{Data, null, boolean, number, string, array, object, Items, no_items, item, Members, no_members, member}
+use Rattle.serde_json.specs.Data.{Data, array, object, Items, no_items, item, Members, no_members, member}
 use Rattle.serde_json.specs.Events.{members_len}
 use Rattle.serde_json.specs.Find.{get_item, get_member}
 use Rattle.conf_tree.specs.declared.fault_kind.FaultKind.{FaultKind}
@@ -102,10 +102,7 @@ none_left (array ds) zero nested none h = cc
 none_left (object ms) zero nested none h = cc
 none_left (array ds) (suc left) nested none h = omega (arith, none)
 none_left (object ms) (suc left) nested none h = omega (arith, none)
-none_left null left nested none h = nested
-none_left (boolean b) left nested none h = nested
-none_left (number n) left nested none h = nested
-none_left (string s) left nested none h = nested
+none_left _ left nested none h = nested
 
 depth_excluded : (d : Data) (flaw : Flaw) → nests d 32 ≡ true → ¬ PassesDepth 32 d flaw
 depth_excluded d flaw h (kind, (found, leads, nested, steps)) =

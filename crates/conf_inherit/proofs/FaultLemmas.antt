@@ -1,6 +1,6 @@
 -- Each flaw that is listed holds at its path.
 use Rattle.std.proofs.Common.{◌≡◌, ◌&&◌, ◌<◌, ◌+◌, ◌++◌, ◌⊎◌, inl, inr, ℕ, suc, List, [], ◌∷◌, map, Option, Some, Err, is_some, Bool, true, false, true≢false, refl, sym, ap, ◌∙◌, subst, arith}
-use Rattle.serde_json.specs.Data.{Data, null, boolean, number, string, array, object, Items, no_items, item, Members, no_members, member, put}
+use Rattle.serde_json.specs.Data.{Data, null, array, object, Items, no_items, item, Members, no_members, member, put}
 use Rattle.serde_json.specs.Find.{get_item}
 use Rattle.serde_json.proofs.Views.{get_member-put_other}
 use Rattle.conf_tree.specs.Flaw.{Flaw, Place as Step, key, index, here, within}
@@ -13,6 +13,7 @@ use Rattle.conf_inherit.specs.Named.{has}
 use Rattle.conf_inherit.specs.Faults.{Leads, HasEntry, SaysOf, FlawHolds}
 use Rattle.conf_inherit.proofs.LayingLemmas.{Meets, same, other, meets}
 use Rattle.conf_inherit.proofs.FieldPlaceLemmas.{entry_list}
+use Rattle.conf_inherit.proofs.ReadyLemmas.{and_left, and_right}
 
 -- a flaw is among those of a list
 abbrev pub Among : Flaw → List Flaw → Type 0
@@ -110,22 +111,10 @@ seen_next_at es i (object ms) seen is before n h = go (has_marked ms seen n h)
     go : (has seen n ≡ true) ⊎ ((d : Data) × HasMember n d ms) → (j : ℕ) × (j < suc i) × HasEntry j n es
     go (inl f) = let (j, lt, m) = before n f in (j, below_next j i lt, m)
     go (inr (d, m)) = (i, omega arith, (ms, d, is, m))
-seen_next_at es i null seen is before n h = let (j, lt, m) = before n h in (j, below_next j i lt, m)
-seen_next_at es i (boolean b) seen is before n h = let (j, lt, m) = before n h in (j, below_next j i lt, m)
-seen_next_at es i (number x) seen is before n h = let (j, lt, m) = before n h in (j, below_next j i lt, m)
-seen_next_at es i (string x) seen is before n h = let (j, lt, m) = before n h in (j, below_next j i lt, m)
-seen_next_at es i (array x) seen is before n h = let (j, lt, m) = before n h in (j, below_next j i lt, m)
+seen_next_at es i _ seen is before n h = let (j, lt, m) = before n h in (j, below_next j i lt, m)
 
 pub none_seen : (n : List ℕ) → has no_members n ≡ true → ⊥
 none_seen n h = true≢false (sym h)
-
-and_one : (a b : Bool) → (a && b) ≡ true → a ≡ true
-and_one true b h = refl
-and_one false b h = h
-
-and_two : (a b : Bool) → (a && b) ≡ true → b ≡ true
-and_two true b h = h
-and_two false b h = absurd (true≢false (sym h))
 
 -- each limit that is listed of the value of a `$inherit` holds
 abbrev pub BasesHold : Members → Option Members → Type 0
@@ -175,7 +164,7 @@ module _ (al : Members) (rs : Option Members) (bases : BasesHold al rs) where
 
       own : (g : Flaw) → f ≡ within (key k) g → FlawHolds al (place_under s k) d g ⊎ ((g ≡ here NameClash) × ((is_entry s && has seen k) ≡ true)) → FlawHolds al s (object ms) f ⊎ Taken s seen (object ms) f
       own g e' (inl holds) = inl (here_holds g e' holds)
-      own g e' (inr (x, both)) = inr (k, d, ms, refl, m, and_one (is_entry s) (has seen k) both, and_two (is_entry s) (has seen k) both, e' ∙ ap (within (key k)) x)
+      own g e' (inr (x, both)) = inr (k, d, ms, refl, m, and_left (is_entry s) (has seen k) both, and_right (is_entry s) (has seen k) both, e' ∙ ap (within (key k)) x)
 
       inner : (g : Flaw) → f ≡ within (key k) g → FlawHolds al (place_under s k) d g ⊎ Taken (place_under s k) no_members d g → FlawHolds al s (object ms) f ⊎ Taken s seen (object ms) f
       inner g e' (inl holds) = inl (here_holds g e' holds)
@@ -194,12 +183,9 @@ module _ (al : Members) (rs : Option Members) (bases : BasesHold al rs) where
 
   mutual
     inner_holds : (v : Data) (s : Place) (seen : Members) (f : Flaw) → Among f (inner_flaws al rs s seen v) → FlawHolds al s v f ⊎ Taken s seen v f
-    inner_holds null s seen f h = absurd h
-    inner_holds (boolean b) s seen f h = absurd h
-    inner_holds (number n) s seen f h = absurd h
-    inner_holds (string n) s seen f h = absurd h
     inner_holds (array es) s seen f h = inl (items_hold es s es 0 no_members f (λ j d g. let same : j ≡ 0 + j = omega arith in subst (λ x. get_item x es ≡ Some d) same g) (λ n b. absurd (none_seen n b)) h)
     inner_holds (object ms) s seen f h = members_hold ms s ms seen f (λ k d m. m) h
+    inner_holds _ s seen f h = absurd h
 
     items_hold : (rest : Items) (s : Place) (es : Items) (i : ℕ) (seen : Members) (f : Flaw) → Aligned es i rest → Seen es i seen → Among f (item_flaws al rs s i seen rest) → FlawHolds al s (array es) f
     items_hold no_items s es i seen f al' before h = absurd h

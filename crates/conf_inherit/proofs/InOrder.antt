@@ -36,11 +36,11 @@ pub above_through : (k l : List ℕ) (ms : Members) → slice_cmp nat_cmp k l �
 above_through k l no_members below h = tt
 above_through k l (member m d ms) below h = (nat_list_cmp_total.trans k l m below h.0, above_through k l ms below h.1)
 
-some_is_none : {A : Type 0} (x : A) → Some x ≡ None → ⊥
+pub some_is_none : {A : Type 0} (x : A) → Some x ≡ None → ⊥
 some_is_none x e = cc
 
-value_same : (d e : Data) → Some d ≡ Some e → d ≡ e
-value_same d e h = cc
+pub value_same : {A : Type 0} (x y : A) → Some x ≡ Some y → x ≡ y
+value_same x y h = cc
 
 module _ (k l : List ℕ) (d e : Data) (ms ns : Members) where
   -- where the first names differ, the lower one is missing on the other side

@@ -1,6 +1,6 @@
 -- What is said of a value whose names are all resolved is said of it too where more aliases are resolved.
 use Rattle.std.proofs.Common.{◌≡◌, ◌&&◌, ◌++◌, ℕ, suc, List, map, Option, Some, None, is_some, unwrap_or, Bool, true, false, refl, ap, ◌∙◌, subst}
-use Rattle.serde_json.specs.Data.{Data, null, boolean, number, string, array, object, Items, no_items, item, Members, no_members, member, put}
+use Rattle.serde_json.specs.Data.{Data, null, string, array, object, Items, no_items, item, Members, no_members, member, put}
 use Rattle.serde_json.specs.Find.{get, get_member}
 use Rattle.conf_tree.specs.Flaw.{key, index, within}
 use Rattle.conf_table.specs.declared.place.Place.{Place}
@@ -37,9 +37,6 @@ module _ (done more : Members) (kept : (n : List ℕ) → has done n ≡ true �
 
   mutual
     pub kept_lay : (v : Data) (s : Place) (base : Option Data) → IsNamed s v → lay more s v base ≡ lay done s v base
-    kept_lay null s base h = refl
-    kept_lay (boolean b) s base h = refl
-    kept_lay (number n) s base h = refl
     kept_lay (string n) s base h = kept_text s n h
     kept_lay (array es) s base h = go (lists_members s) refl (λ is. kept_over es (subst (λ t. all_named_in_items (has done) t es ≡ true) (list_place s is) h)) (λ is. kept_new es (items_below base) (subst (λ t. all_named_in_items (has done) t es ≡ true) (list_place s is) h))
       where
@@ -51,6 +48,7 @@ module _ (done more : Members) (kept : (n : List ℕ) → has done n ≡ true �
             ∙ ap (λ x. array (join_items (map_items (λ b. lay_over done es b) (items_below base)) x)) (new is))
     kept_lay (object ms) s base h =
         ap object (kept_members ms s (members_below (lay_base more s ms base)) h ∙ ap (λ b. lay_members done s ms (members_below b)) (kept_base ms s base h))
+    kept_lay _ s base h = refl
 
     kept_base : (ms : Members) (s : Place) (base : Option Data) → all_named_in_members (has done) s ms ≡ true → lay_base more s ms base ≡ lay_base done s ms base
     kept_base no_members s base h = refl
@@ -80,12 +78,8 @@ module _ (done more : Members) (kept : (n : List ℕ) → has done n ≡ true �
         (kept_over es (and_right (all_named (has done) places.Entry e) (all_named_in_items (has done) places.Entry es) h) b)
 
     kept_over_entry : (e b rest last : Data) → IsNamed places.Entry e → rest ≡ last → lay_over_entry more e b rest ≡ lay_over_entry done e b last
-    kept_over_entry null b rest last h same = same
-    kept_over_entry (boolean x) b rest last h same = same
-    kept_over_entry (number n) b rest last h same = same
-    kept_over_entry (string n) b rest last h same = same
-    kept_over_entry (array es) b rest last h same = same
     kept_over_entry (object ms) b rest last h same = kept_over_member ms b rest last h same
+    kept_over_entry _ b rest last h same = same
 
     kept_over_member : (ms : Members) (b rest last : Data) → all_named_in_members (has done) places.Entry ms ≡ true → rest ≡ last → lay_over_member more ms b rest ≡ lay_over_member done ms b last
     kept_over_member no_members b rest last h same = same
@@ -104,12 +98,8 @@ module _ (done more : Members) (kept : (n : List ℕ) → has done n ≡ true �
         (kept_new es seen (and_right (all_named (has done) places.Entry e) (all_named_in_items (has done) places.Entry es) h))
 
     kept_new_entry : (e : Data) (seen rest last : Items) → IsNamed places.Entry e → rest ≡ last → lay_new_entry more e seen rest ≡ lay_new_entry done e seen last
-    kept_new_entry null seen rest last h same = same
-    kept_new_entry (boolean x) seen rest last h same = same
-    kept_new_entry (number n) seen rest last h same = same
-    kept_new_entry (string n) seen rest last h same = same
-    kept_new_entry (array es) seen rest last h same = same
     kept_new_entry (object ms) seen rest last h same = kept_new_member ms seen rest last h same
+    kept_new_entry _ seen rest last h same = same
 
     kept_new_member : (ms : Members) (seen rest last : Items) → all_named_in_members (has done) places.Entry ms ≡ true → rest ≡ last → lay_new_member more ms seen rest ≡ lay_new_member done ms seen last
     kept_new_member no_members seen rest last h same = same
@@ -136,12 +126,9 @@ module _ (done more : Members) (kept : (n : List ℕ) → has done n ≡ true �
   module _ (al : Members) where
     mutual
       pub kept_inner : (v : Data) (s : Place) (seen : Members) → IsNamed s v → inner_flaws al (Some more) s seen v ≡ inner_flaws al (Some done) s seen v
-      kept_inner null s seen h = refl
-      kept_inner (boolean b) s seen h = refl
-      kept_inner (number n) s seen h = refl
-      kept_inner (string n) s seen h = refl
       kept_inner (array es) s seen h = kept_item_flaws es s 0 no_members h
       kept_inner (object ms) s seen h = kept_member_flaws ms s seen h
+      kept_inner _ s seen h = refl
 
       kept_item_flaws : (es : Items) (s : Place) (i : ℕ) (seen : Members) → all_named_in_items (has done) (place_of_items s) es ≡ true → item_flaws al (Some more) s i seen es ≡ item_flaws al (Some done) s i seen es
       kept_item_flaws no_items s i seen h = refl

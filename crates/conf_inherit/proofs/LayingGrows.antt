@@ -7,14 +7,14 @@ use Rattle.conf_table.specs.declared.place.Place.TheVariants as places
 use Rattle.conf_inherit.specs.FieldPlaces.{place_under, is_base_name, lists_members}
 use Rattle.conf_inherit.specs.Laying.{lay, has_entry, lay_base, lay_members, lay_over, lay_over_member, lay_new, lay_new_member, members_below}
 use Rattle.conf_inherit.specs.Looks.{Chain, Looks, looks, Entries, no_entry, an_entry, base_of, if_objects, values_at, AreResolved}
-use Rattle.conf_inherit.specs.Names.{NoClash, properties_of, items_in, entries_of, entry_values, join_members, join_items, map_items}
+use Rattle.conf_inherit.specs.Names.{NoClash, properties_of, items_in, entries_of, entry_values, join_items, map_items}
 use Rattle.conf_inherit.specs.Ready.{IsReady, AreReady, HasReady}
 use Rattle.conf_inherit.proofs.LayingLemmas.{Meets, same, other, meets, get_other, get_same, lay_base-own, lay_base-heir, in_order_lay, lay_members-base, lay_members-absent, lay_members-found}
 use Rattle.conf_inherit.proofs.LaysOver.{StandsFor, Ground, ground_below, ground_along, ground_shown, no_ground, base_entries, lays_from}
-use Rattle.conf_inherit.proofs.ListLemmas.{AllEntries, all_along, over_entries, over_found, new_entries}
-use Rattle.conf_inherit.proofs.NoLarger.{some_is_none, value_same, NoLarger, NoLargerItems, as_large, as_large_items, same_items, items_through, no_larger_list, no_larger_object, next_item, one_more, turned_items, next_property, no_property, joined_behind, joined_larger, item_first, covered}
-use Rattle.conf_inherit.proofs.RoundLemmas.{entry_found}
+use Rattle.conf_inherit.proofs.ListLemmas.{AllEntries, all_along, over_entries, over_found, new_entries, entry_found, all_joined}
+use Rattle.conf_inherit.proofs.NoLarger.{NoLarger, NoLargerItems, as_large, as_large_items, same_items, items_through, no_larger_list, no_larger_object, next_item, one_more, turned_items, next_property, no_property, joined_behind, joined_larger, item_first, covered}
 use Rattle.conf_inherit.proofs.FieldPlaceLemmas.{list_place, entry_place, inheriting_place}
+use Rattle.conf_inherit.proofs.InOrder.{value_same, some_is_none}
 
 -- the entry of a name, laid over nothing
 abbrev pub laid_entry : Members → List ℕ → Data → Data
@@ -22,10 +22,6 @@ laid_entry done n d = object (member n (lay done places.Member d None) no_member
 
 one_value : (n : List ℕ) (d e : Data) → NoLarger d e → NoLarger (object (member n d no_members)) (object (member n e no_members))
 one_value n d e h = no_larger_object (member n d no_members) (member n e no_members) (next_property n n d e no_members no_members h (no_property no_members))
-
-all_joined : (P : List ℕ → Data → Type 0) (a b : Members) → AllEntries P a → AllEntries P b → AllEntries P (join_members a b)
-all_joined P no_members b h i = i
-all_joined P (member k d a) b h i = (h.0, all_joined P a b h.1 i)
 
 module _ (al done : Members) where
   -- laid over nothing, it is no larger than over what stands for other values
@@ -189,9 +185,5 @@ module _ (al done : Members) where
     grows_entries (item v es) ready = all_joined (λ n d. Grows places.Member d) (properties_of v) (entries_of es) (grows_entry v ready.0) (grows_entries es ready.1)
 
     grows_entry : (v : Data) → IsReady done places.Entry v → AllEntries (λ n d. Grows places.Member d) (properties_of v)
-    grows_entry null ready = tt
-    grows_entry (boolean b) ready = tt
-    grows_entry (number n) ready = tt
-    grows_entry (string n) ready = tt
-    grows_entry (array es) ready = tt
     grows_entry (object ms) ready = all_along (λ k d. Grows (place_under places.Entry k) d) (λ n d. Grows places.Member d) (λ k d h. subst (λ x. Grows x d) (entry_place k) h) ms (grows_members ms places.Entry ready)
+    grows_entry _ ready = tt

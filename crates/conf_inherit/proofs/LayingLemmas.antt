@@ -1,6 +1,5 @@
 -- What laying an object or a members list over another leaves at each name.
 use Rattle.std.proofs.Common.{◌≡◌, ℕ, List, Option, Some, None, Bool, true, false, true≢false, Ordering, Less, Equal, Greater, nat_cmp, is_eq, refl, sym, ap, ◌∙◌, subst}
-use Rattle.std.proofs.lemmas.Cmp.{nat_list_cmp_total}
 use Rattle.std.proofs.lemmas.Map.Text.{is_eq-slice_cmp}
 use Rattle.std.proofs.lemmas.Slice.Eq.{bytes_eq-Decides}
 use Rattle.std.specs.Cmp.Lexicographic.{slice_cmp}
@@ -14,7 +13,7 @@ use Rattle.conf_inherit.specs.FieldPlaces.{place_under, is_base_name, lists_memb
 use Rattle.conf_inherit.specs.Names.{AllAbove, IsInOrder, join_items, map_items}
 use Rattle.conf_inherit.specs.Looks.{base_of}
 use Rattle.conf_inherit.specs.Laying.{items_below, lay, lay_base, lay_members, lay_over, lay_new}
-use Rattle.conf_inherit.proofs.InOrder.{get_first, get_below, get_after, equal_names, above_turned}
+use Rattle.conf_inherit.proofs.InOrder.{get_first, get_below, get_after, equal_names, above_turned, above_through}
 
 above_put_at : (o : Ordering) (q k l : List ℕ) (d e : Data) (ms : Members) → slice_cmp nat_cmp q k ≡ Less → slice_cmp nat_cmp q l ≡ Less → AllAbove q ms → AllAbove q (put k d ms)
     → AllAbove q (match_ordering o (member k d (member l e ms)) (member l d ms) (member l e (put k d ms)))
@@ -26,13 +25,9 @@ above_put : (q k : List ℕ) (d : Data) (ms : Members) → slice_cmp nat_cmp q k
 above_put q k d no_members a h = (a, tt)
 above_put q k d (member l e ms) a h = above_put_at (slice_cmp nat_cmp k l) q k l d e ms a h.0 h.1 (above_put q k d ms a h.1)
 
-above_lower : (k l : List ℕ) (ms : Members) → slice_cmp nat_cmp k l ≡ Less → AllAbove l ms → AllAbove k ms
-above_lower k l no_members below h = tt
-above_lower k l (member m d ms) below h = (nat_list_cmp_total.trans k l m below h.0, above_lower k l ms below h.1)
-
 in_order_put_at : (o : Ordering) (k l : List ℕ) (d e : Data) (ms : Members) → slice_cmp nat_cmp k l ≡ o → AllAbove l ms → IsInOrder ms → IsInOrder (put k d ms)
     → IsInOrder (match_ordering o (member k d (member l e ms)) (member l d ms) (member l e (put k d ms)))
-in_order_put_at Less k l d e ms is a h later = ((is, above_lower k l ms is a), (a, h))
+in_order_put_at Less k l d e ms is a h later = ((is, above_through k l ms is a), (a, h))
 in_order_put_at Equal k l d e ms is a h later = (a, h)
 in_order_put_at Greater k l d e ms is a h later = (above_put l k d ms (above_turned k l is) a, later)
 

@@ -6,13 +6,13 @@ use Rattle.serde_json.specs.Find.{get_member}
 use Rattle.conf_table.specs.declared.place.Place.{Place}
 use Rattle.conf_table.specs.declared.place.Place.TheVariants as places
 use Rattle.conf_inherit.specs.FieldPlaces.{place_under, names_alias, names_member_type, is_base_name, lists_members, field_type_name}
-use Rattle.conf_inherit.specs.Names.{IsInOrder, NoClash, properties_of, items_in, entries_of, names_of, new_names, join_members, join_items, map_items, cons_some, values_in, entry_values, member_names, joined}
+use Rattle.conf_inherit.specs.Names.{IsInOrder, NoClash, properties_of, items_in, entries_of, names_of, new_names, join_items, map_items, cons_some, values_in, entry_values, member_names, joined}
 use Rattle.conf_inherit.specs.Looks.{Chain, nothing, alias, member_alias, heir, own, a_list, plain, Looks, looks, Shows, a_scalar, an_object, the_members, a_join, Entries, no_entry, an_entry, base_of, if_objects, if_lists, values_at, IsPlain, AreResolved}
 use Rattle.conf_inherit.specs.Laying.{lay, has_entry, lay_base, lay_members, lay_over, lay_new, lay_new_member, lay_text, members_below}
 use Rattle.conf_inherit.specs.Ready.{Names, IsReady, AreReady, HasReady}
 use Rattle.conf_inherit.proofs.FieldPlaceLemmas.{alias_place, member_value_place, list_place, entry_place, member_type_place, type_is_no_base, alias_field, base_place, SamePlace, inheriting_place}
 use Rattle.conf_inherit.proofs.LayingLemmas.{Meets, same, other, meets, get_other, get_same, lay_base-own, lay_base-heir, in_order_lay, lay_members-base, lay_members-absent, lay_members-found}
-use Rattle.conf_inherit.proofs.ListLemmas.{has_entry_names, over_entries, new_entries, over_absent, over_found, entry_names, entries_joined, AllEntries, found_each, no_values}
+use Rattle.conf_inherit.proofs.ListLemmas.{has_entry_names, over_entries, new_entries, over_absent, over_found, entry_names, entries_joined, AllEntries, found_each, no_values, all_along, all_joined, entry_found}
 
 -- what a base stands for: no values, or those that are looked up as it
 abbrev pub StandsFor : Members → Place → List Data → Option Data → Type 0
@@ -48,12 +48,9 @@ module _ (al : Members) where
   no_ground s = record { in_order = tt; found = λ k r e. cc; absent = λ k e. no_values_at s k }
 
   ground_scalar : (s : Place) (v : Data) → IsPlain s v → Ground al s (if_objects (v ∷ [])) (properties_of v)
-  ground_scalar s null p = no_ground s
-  ground_scalar s (boolean b) p = no_ground s
-  ground_scalar s (number n) p = no_ground s
-  ground_scalar s (string n) p = no_ground s
   ground_scalar s (array es) p = absurd p
   ground_scalar s (object ms) p = absurd p
+  ground_scalar s _ p = no_ground s
 
   pub ground_shown : {s : Place} {cs : List Data} {b : Data} → Shows al s cs b → Ground al s (if_objects cs) (properties_of b)
   ground_shown {s} (a_scalar {v = v} p) = ground_scalar s v p
@@ -142,14 +139,6 @@ module _ (al done : Members) where
 -- ---- one of several properties
 
 module _ (al done : Members) where
-  lays_each_at : (s : Place) (k l : List ℕ) (v d : Data) (ms : Members) → Meets k l → get_member k (member l v ms) ≡ Some d
-      → Lays al done (place_under s l) v → (get_member k ms ≡ Some d → Lays al done (place_under s k) d) → Lays al done (place_under s k) d
-  lays_each_at s k l v d ms (same e) h here later =
-      let f : Some v ≡ Some d = sym (get_same k l v ms e) ∙ h in
-      let g : v ≡ d = cc in
-      subst (λ x. Lays al done (place_under s x) d) (sym e) (subst (Lays al done (place_under s l)) g here)
-  lays_each_at s k l v d ms (other apart) h here later = later (sym (get_other k l v ms apart) ∙ h)
-
   lays_from_at : (s : Place) (l : List ℕ) (v b : Data) (ms : Members) → (t : Bool) → is_base_name s l ≡ t → base_of s (member l v ms) ≡ Some b
       → Lays al done (place_under s l) v → (base_of s ms ≡ Some b → Looks al places.FieldType (b ∷ []) (lay done places.FieldType b None)) → Looks al places.FieldType (b ∷ []) (lay done places.FieldType b None)
   lays_from_at s l v b ms true is h here later =
@@ -157,15 +146,6 @@ module _ (al done : Members) where
       let g : v ≡ b = cc in
       subst (λ x. Looks al places.FieldType (x ∷ []) (lay done places.FieldType x None)) g (subst (λ x. Lays al done x v) (base_place s l is) here [] None refl)
   lays_from_at s l v b ms false is h here later = later (rw is at h)
-
-  lays_joined : (n : List ℕ) (d : Data) (a more : Members) → get_member n (join_members a more) ≡ Some d
-      → (get_member n a ≡ Some d → Lays al done places.Member d) → (get_member n more ≡ Some d → Lays al done places.Member d) → Lays al done places.Member d
-  lays_joined n d no_members more h here later = later h
-  lays_joined n d (member l v a) more h here later = go (meets n l) (lays_joined n d a more)
-    where
-      go : Meets n l → (get_member n (join_members a more) ≡ Some d → (get_member n a ≡ Some d → Lays al done places.Member d) → (get_member n more ≡ Some d → Lays al done places.Member d) → Lays al done places.Member d) → Lays al done places.Member d
-      go (same e) rest = here (get_same n l v a e ∙ sym (get_same n l v (join_members a more) e) ∙ h)
-      go (other apart) rest = rest (sym (get_other n l v (join_members a more) apart) ∙ h) (λ f. here (get_other n l v a apart ∙ f)) later
 
 -- ---- members lists and other lists
 
@@ -287,12 +267,10 @@ module _ (al done : Members) where
         go false is (Some b) (looks {cs = cs} c h) = rw (is, items_joined is h) (looks (a_list c) (a_join is))
 
     lays_plain : (s : Place) (v : Data) → IsPlain s v → Lays al done s v
-    lays_plain s null p vs base stands = looks (plain p) (a_scalar p)
-    lays_plain s (boolean b) p vs base stands = looks (plain p) (a_scalar p)
-    lays_plain s (number n) p vs base stands = looks (plain p) (a_scalar p)
     lays_plain s (string n) p vs base stands = rw (p.0, p.1) (looks (plain {v = string n} p) (a_scalar {v = string n} p))
     lays_plain s (array es) p vs base stands = absurd p
     lays_plain s (object ms) p vs base stands = absurd p
+    lays_plain s _ p vs base stands = looks (plain p) (a_scalar p)
 
     lays_string : (s : Place) (n : List ℕ) → (Names s → (r : Data) × (get_member n done ≡ Some r)) → Lays al done s (string n)
     lays_string s n ready vs base stands = lays_text s n vs ready
@@ -303,25 +281,21 @@ module _ (al done : Members) where
       lays (boolean b) s ready = lays_plain s (boolean b) tt
       lays (number n) s ready = lays_plain s (number n) tt
       lays (string n) s ready = lays_string s n ready
-      lays (array es) s ready = lays_list s es ready.0 (λ is n d e. lays_entries es (subst (λ x. AreReady done x es) (list_place s is) ready.1) n d e)
-      lays (object ms) s ready = lays_object s ms (lays_each ms s ready) (lays_from ms s ready)
+      lays (array es) s ready = lays_list s es ready.0 (λ is. entry_found (λ n d. Lays al done places.Member d) (entries_of es) (lays_entries es (subst (λ x. AreReady done x es) (list_place s is) ready.1)))
+      lays (object ms) s ready = lays_object s ms (entry_found (λ k d. Lays al done (place_under s k) d) ms (lays_each ms s ready)) (lays_from ms s ready)
 
-      lays_each : (ms : Members) (s : Place) → HasReady done s ms → (k : List ℕ) (d : Data) → get_member k ms ≡ Some d → Lays al done (place_under s k) d
-      lays_each no_members s ready k d e = cc
-      lays_each (member l v ms) s ready k d e = lays_each_at al done s k l v d ms (meets k l) e (lays v (place_under s l) ready.0) (lays_each ms s ready.1 k d)
+      lays_each : (ms : Members) (s : Place) → HasReady done s ms → AllEntries (λ k d. Lays al done (place_under s k) d) ms
+      lays_each no_members s ready = tt
+      lays_each (member k d ms) s ready = (lays d (place_under s k) ready.0, lays_each ms s ready.1)
 
       pub lays_from : (ms : Members) (s : Place) → HasReady done s ms → (b : Data) → base_of s ms ≡ Some b → Looks al places.FieldType (b ∷ []) (lay done places.FieldType b None)
       lays_from no_members s ready b e = cc
       lays_from (member l v ms) s ready b e = lays_from_at al done s l v b ms (is_base_name s l) refl e (lays v (place_under s l) ready.0) (lays_from ms s ready.1 b)
 
-      lays_entries : (es : Items) → AreReady done places.Entry es → (n : List ℕ) (d : Data) → get_member n (entries_of es) ≡ Some d → Lays al done places.Member d
-      lays_entries no_items ready n d e = cc
-      lays_entries (item v es) ready n d e = lays_joined al done n d (properties_of v) (entries_of es) e (lays_entry v ready.0 n d) (lays_entries es ready.1 n d)
+      lays_entries : (es : Items) → AreReady done places.Entry es → AllEntries (λ n d. Lays al done places.Member d) (entries_of es)
+      lays_entries no_items ready = tt
+      lays_entries (item v es) ready = all_joined (λ n d. Lays al done places.Member d) (properties_of v) (entries_of es) (lays_entry v ready.0) (lays_entries es ready.1)
 
-      lays_entry : (v : Data) → IsReady done places.Entry v → (n : List ℕ) (d : Data) → get_member n (properties_of v) ≡ Some d → Lays al done places.Member d
-      lays_entry null ready n d e = cc
-      lays_entry (boolean b) ready n d e = cc
-      lays_entry (number x) ready n d e = cc
-      lays_entry (string x) ready n d e = cc
-      lays_entry (array x) ready n d e = cc
-      lays_entry (object ms) ready n d e = subst (λ x. Lays al done x d) (entry_place n) (lays_each ms places.Entry ready n d e)
+      lays_entry : (v : Data) → IsReady done places.Entry v → AllEntries (λ n d. Lays al done places.Member d) (properties_of v)
+      lays_entry (object ms) ready = all_along (λ k d. Lays al done (place_under places.Entry k) d) (λ n d. Lays al done places.Member d) (λ k d h. subst (λ x. Lays al done x d) (entry_place k) h) ms (lays_each ms places.Entry ready)
+      lays_entry _ ready = tt

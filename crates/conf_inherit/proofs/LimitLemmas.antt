@@ -3,7 +3,7 @@
 use Rattle.std.proofs.Common.{◌≡◌, ◌&&◌, ◌+◌, ◌++◌, ◌⊎◌, inl, inr, ◌↔◌, ℕ, suc, List, [], ◌∷◌, map, Some, None, Result, Ok, Err, is_some, nat_lt, Bool, true, false, true≢false, refl, sym, ap, ◌∙◌, subst, arith}
 use Rattle.std.proofs.lemmas.Bool.{ltb-false}
 use borrow.Author.Tests.{ltb-true}
-use Rattle.serde_json.specs.Data.{Data, null, boolean, number, string, array, object, Items, no_items, item, Members, no_members, member}
+use Rattle.serde_json.specs.Data.{Data, string, array, object, Items, no_items, item, Members, no_members, member}
 use Rattle.serde_json.specs.Find.{get_item, get_member}
 use Rattle.conf_tree.specs.Flaw.{Flaw, key, index, here, within}
 use Rattle.conf_tree.specs.Walk.{HasMember, refusal}
@@ -148,12 +148,9 @@ module _ (done : Members) where
   module _ (al : Members) where
     mutual
       pub alike_inner : (v : Data) (s : Place) (seen : Members) → Alike (inner_flaws al (Some done) s seen v) (inner_flaws al None s seen v) (EachFits (λ d. Inherits d s v))
-      alike_inner null s seen = ((λ e. (refl, λ d h. absurd h)), (λ h. refl))
-      alike_inner (boolean b) s seen = ((λ e. (refl, λ d h. absurd h)), (λ h. refl))
-      alike_inner (number n) s seen = ((λ e. (refl, λ d h. absurd h)), (λ h. refl))
-      alike_inner (string n) s seen = ((λ e. (refl, λ d h. absurd h)), (λ h. refl))
       alike_inner (array es) s seen = alike_items es s 0 no_members
       alike_inner (object ms) s seen = alike_members ms s seen
+      alike_inner _ s seen = ((λ e. (refl, λ d h. absurd h)), (λ h. refl))
 
       alike_items : (es : Items) (s : Place) (i : ℕ) (seen : Members) → Alike (item_flaws al (Some done) s i seen es) (item_flaws al None s i seen es) (EachFits (λ d. InheritsInItems d (place_of_items s) es))
       alike_items no_items s i seen = ((λ e. (refl, λ d h. absurd h)), (λ h. refl))
@@ -254,12 +251,9 @@ module _ (done : Members) where
 
     mutual
       inner_limit : (v : Data) (s : Place) (seen : Members) (f : Flaw) → Among f (inner_flaws al (Some done) s seen v) → IsLimit f.kind → LimitAt s v f
-      inner_limit null s seen f h is = absurd h
-      inner_limit (boolean b) s seen f h is = absurd h
-      inner_limit (number n) s seen f h is = absurd h
-      inner_limit (string n) s seen f h is = absurd h
       inner_limit (array es) s seen f h is = item_limit es s es 0 no_members f (λ j d g. let same : j ≡ 0 + j = omega arith in subst (λ x. get_item x es ≡ Some d) same g) h is
       inner_limit (object ms) s seen f h is = member_limit ms s ms seen f (λ k d m. m) h is
+      inner_limit _ s seen f h is = absurd h
 
       item_limit : (rest : Items) (s : Place) (es : Items) (i : ℕ) (seen : Members) (f : Flaw) → Aligned es i rest → Among f (item_flaws al (Some done) s i seen rest) → IsLimit f.kind → LimitAt s (array es) f
       item_limit no_items s es i seen f al' h is = absurd h

@@ -2,13 +2,13 @@
 use Rattle.std.proofs.Common.{◌≡◌, ℕ, List, [], ◌∷◌, ◌++◌, Some, None, is_some, Bool, true, false, true≢false, bytes_eq, refl, sym, ap, ◌∙◌, subst}
 use Rattle.std.proofs.lemmas.Slice.Eq.{bytes_eq-Decides}
 use Rattle.std.specs.List.{list_any}
-use Rattle.serde_json.specs.Data.{Data, null, boolean, number, string, array, object, Items, no_items, item, Members, no_members, member}
+use Rattle.serde_json.specs.Data.{Data, object, Items, no_items, item, Members, no_members, member}
 use Rattle.serde_json.specs.Find.{get, get_member}
 use Rattle.conf_table.specs.declared.place.Place.TheVariants as places
 use Rattle.conf_inherit.specs.Names.{NoClash, properties_of, items_in, entries_of, names_of, new_names, join_members, join_items, entry_values, member_names}
 use Rattle.conf_inherit.specs.Looks.{Entries, no_entry, an_entry}
 use Rattle.conf_inherit.specs.Laying.{lay, has_entry, lay_over, lay_over_entry, lay_over_member, lay_new, lay_new_entry, lay_new_member}
-use Rattle.conf_inherit.proofs.InOrder.{get_first}
+use Rattle.conf_inherit.proofs.InOrder.{get_first, value_same}
 use Rattle.conf_inherit.proofs.ItemLemmas.{has_name, any_joined_here, any_joined_later}
 use Rattle.conf_inherit.proofs.LayingLemmas.{Meets, same, other, meets, get_other, get_same}
 
@@ -20,11 +20,7 @@ over_join done (member n d ms) more b rest = rw (over_join done ms more b rest) 
 
 over_entry : (done : Members) (e b rest : Data) → lay_over_entry done e b rest ≡ lay_over_member done (properties_of e) b rest
 over_entry done (object ms) b rest = refl
-over_entry done null b rest = refl
-over_entry done (boolean x) b rest = refl
-over_entry done (number x) b rest = refl
-over_entry done (string x) b rest = refl
-over_entry done (array x) b rest = refl
+over_entry done _ b rest = refl
 
 pub over_entries : (done : Members) (es : Items) (b : Data) → lay_over done es b ≡ lay_over_member done (entries_of es) b b
 over_entries done no_items b = refl
@@ -36,11 +32,7 @@ new_join done (member n d ms) more seen rest = rw (new_join done ms more seen re
 
 new_entry : (done : Members) (e : Data) (seen : Items) (rest : Items) → lay_new_entry done e seen rest ≡ lay_new_member done (properties_of e) seen rest
 new_entry done (object ms) seen rest = refl
-new_entry done null seen rest = refl
-new_entry done (boolean x) seen rest = refl
-new_entry done (number x) seen rest = refl
-new_entry done (string x) seen rest = refl
-new_entry done (array x) seen rest = refl
+new_entry done _ seen rest = refl
 
 pub new_entries : (done : Members) (es : Items) (seen : Items) → lay_new done es seen ≡ lay_new_member done (entries_of es) seen no_items
 new_entries done no_items seen = refl
@@ -49,11 +41,7 @@ new_entries done (item e es) seen = new_entry done e seen (lay_new done es seen)
 -- a list has an entry of the name where one of its names is that
 pub get_property : (n : List ℕ) (e : Data) → get n e ≡ get_member n (properties_of e)
 get_property n (object ms) = refl
-get_property n null = refl
-get_property n (boolean x) = refl
-get_property n (number x) = refl
-get_property n (string x) = refl
-get_property n (array x) = refl
+get_property n _ = refl
 
 pub has_entry_names : (n : List ℕ) (es : Items) → has_entry n es ≡ list_any (bytes_eq n) (names_of (entries_of es))
 has_entry_names n no_items = refl
@@ -115,6 +103,19 @@ AllEntries P (member k d ms) = P k d × AllEntries P ms
 pub all_along : (P Q : List ℕ → Data → Type 0) → ((k : List ℕ) (d : Data) → P k d → Q k d) → (ms : Members) → AllEntries P ms → AllEntries Q ms
 all_along P Q f no_members h = tt
 all_along P Q f (member k d ms) h = (f k d h.0, all_along P Q f ms h.1)
+
+pub all_joined : (P : List ℕ → Data → Type 0) (a b : Members) → AllEntries P a → AllEntries P b → AllEntries P (join_members a b)
+all_joined P no_members b h i = i
+all_joined P (member k d a) b h i = (h.0, all_joined P a b h.1 i)
+
+-- what holds of each holds of what a name finds
+pub entry_found : (P : List ℕ → Data → Type 0) (ms : Members) → AllEntries P ms → (k : List ℕ) (w : Data) → get_member k ms ≡ Some w → P k w
+entry_found P no_members each k w h = cc
+entry_found P (member l d ms) each k w h = go (meets k l) (entry_found P ms each.1 k w)
+  where
+    go : Meets k l → (get_member k ms ≡ Some w → P k w) → P k w
+    go (same e) later = subst (λ x. P x w) (sym e) (subst (P l) (value_same d w (sym (get_same k l d ms e) ∙ h)) each.0)
+    go (other apart) later = later (sym (get_other k l d ms apart) ∙ h)
 
 -- without a clash, each entry is what its name finds
 pub found_each : (ms : Members) → NoClash ms → AllEntries (λ k d. get_member k ms ≡ Some d) ms

@@ -1,18 +1,19 @@
 -- What holds of values and of all their parts holds of what is looked up in them: that they have no float, and that the
 -- names of each object ascend.
-use Rattle.std.proofs.Common.{◌≡◌, ◌||◌, ℕ, List, [], ◌∷◌, Option, Some, None, option_and_then, Bool, true, false, refl, sym, ◌∙◌, subst}
-use Rattle.serde_json.specs.Data.{Data, null, boolean, number, string, array, object, Items, no_items, item, Members, no_members, member}
+use Rattle.std.proofs.Common.{◌≡◌, ℕ, List, [], ◌∷◌, Option, Some, None, option_and_then, Bool, true, false, refl, sym, ◌∙◌, subst}
+use Rattle.serde_json.specs.Data.{Data, string, array, object, Items, no_items, item, Members, no_members, member}
 use Rattle.serde_json.specs.Find.{get, get_member}
 use Rattle.serde_json.specs.Written.{has_float, items_have_float, members_have_float}
 use Rattle.conf_tree.specs.Order.{IsInOrder, Ascends, ItemsAscend, MembersAscend}
 use Rattle.conf_table.specs.declared.place.Place.{Place}
 use Rattle.conf_inherit.specs.FieldPlaces.{is_base_name}
-use Rattle.conf_inherit.specs.Names.{properties_of, items_in, entries_of, join_members, join_items, cons_some, values_in, entry_values, joined}
+use Rattle.conf_inherit.specs.Names.{properties_of, items_in, entries_of, join_items, cons_some, values_in, entry_values, joined}
 use Rattle.conf_inherit.specs.Looks.{Chain, nothing, alias, member_alias, heir, own, a_list, plain, Looks, looks, Shows, a_scalar, an_object, the_members, a_join, Entries, no_entry, an_entry, base_of, if_objects, if_lists, values_at}
 use Rattle.conf_inherit.specs.Resolution.{members_or_none, trace_name, type_name, aliases_name, aliases_of, Resolves}
 use Rattle.conf_inherit.proofs.InOrder.{get_first, get_none}
-use Rattle.conf_inherit.proofs.LayingLemmas.{Meets, same, other, meets, get_other, get_same}
-use Rattle.conf_inherit.proofs.ReadyLemmas.{or_left, or_right}
+use Rattle.conf_inherit.proofs.LayingLemmas.{get_other}
+use Rattle.conf_inherit.proofs.ReadyLemmas.{or_left, or_right, neither}
+use Rattle.conf_inherit.proofs.ListLemmas.{AllEntries, all_joined, entry_found}
 
 abbrev pub AllOf : (Data → Type 0) → List Data → Type 0
 AllOf P [] = Unit {0}
@@ -23,8 +24,7 @@ AllItems P no_items = Unit {0}
 AllItems P (item d ds) = P d × AllItems P ds
 
 abbrev pub AllMembers : (Data → Type 0) → Members → Type 0
-AllMembers P no_members = Unit {0}
-AllMembers P (member k d ms) = P d × AllMembers P ms
+AllMembers P ms = AllEntries (λ k d. P d) ms
 
 -- P holds of every text, and of a list or an object in order where it holds of the parts
 record IsOfParts (P : Data → Type 0) : Type 0 where
@@ -35,14 +35,6 @@ record IsOfParts (P : Data → Type 0) : Type 0 where
   pub of_object : (ms : Members) → P (object ms) → AllMembers P ms
 
 module _ (P : Data → Type 0) (parts : IsOfParts P) where
-  member_at : (k l : List ℕ) (e d : Data) (ms : Members) → Meets k l → get_member k (member l e ms) ≡ Some d → P e → (get_member k ms ≡ Some d → P d) → P d
-  member_at k l e d ms (same f) h here later = let g : Some e ≡ Some d = sym (get_same k l e ms f) ∙ h in let one : e ≡ d = cc in subst P one here
-  member_at k l e d ms (other apart) h here later = later (sym (get_other k l e ms apart) ∙ h)
-
-  of_member : (k : List ℕ) (d : Data) (ms : Members) → AllMembers P ms → get_member k ms ≡ Some d → P d
-  of_member k d no_members w h = cc
-  of_member k d (member l e ms) w h = member_at k l e d ms (meets k l) h w.0 (of_member k d ms w.1)
-
   base_at : (s : Place) (k : List ℕ) (d b : Data) (ms : Members) → (t : Bool) → is_base_name s k ≡ t → base_of s (member k d ms) ≡ Some b → P d → (base_of s ms ≡ Some b → P b) → P b
   base_at s k d b ms true is h here later = let g : Some d ≡ Some b = rw is at h in let one : d ≡ b = cc in subst P one here
   base_at s k d b ms false is h here later = later (rw is at h)
@@ -54,44 +46,24 @@ module _ (P : Data → Type 0) (parts : IsOfParts P) where
   of_objects : (ds : List Data) → AllOf P ds → AllOf P (if_objects ds)
   of_objects [] w = tt
   of_objects (object ms ∷ ds) w = w
-  of_objects (null ∷ ds) w = tt
-  of_objects (boolean b ∷ ds) w = tt
-  of_objects (number n ∷ ds) w = tt
-  of_objects (string n ∷ ds) w = tt
-  of_objects (array es ∷ ds) w = tt
+  of_objects (_ ∷ ds) w = tt
 
   of_lists : (ds : List Data) → AllOf P ds → AllOf P (if_lists ds)
   of_lists [] w = tt
   of_lists (array es ∷ ds) w = w
-  of_lists (null ∷ ds) w = tt
-  of_lists (boolean b ∷ ds) w = tt
-  of_lists (number n ∷ ds) w = tt
-  of_lists (string n ∷ ds) w = tt
-  of_lists (object es ∷ ds) w = tt
+  of_lists (_ ∷ ds) w = tt
 
   of_properties : (d : Data) → P d → AllMembers P (properties_of d)
   of_properties (object ms) w = parts.of_object ms w
-  of_properties null w = tt
-  of_properties (boolean b) w = tt
-  of_properties (number n) w = tt
-  of_properties (string n) w = tt
-  of_properties (array es) w = tt
+  of_properties _ w = tt
 
   of_items : (d : Data) → P d → AllItems P (items_in d)
   of_items (array es) w = parts.of_list es w
-  of_items null w = tt
-  of_items (boolean b) w = tt
-  of_items (number n) w = tt
-  of_items (string n) w = tt
-  of_items (object ms) w = tt
+  of_items _ w = tt
 
   of_property : (k : List ℕ) (d e : Data) → P d → get k d ≡ Some e → P e
-  of_property k (object ms) e w h = of_member k e ms (parts.of_object ms w) h
-  of_property k null e w h = cc
-  of_property k (boolean b) e w h = cc
-  of_property k (number n) e w h = cc
-  of_property k (string n) e w h = cc
-  of_property k (array es) e w h = cc
+  of_property k (object ms) e w h = entry_found (λ n x. P x) ms (parts.of_object ms w) k e h
+  of_property k _ e w h = cc
 
   with_some : (o : Option Data) (ds : List Data) → ((d : Data) → o ≡ Some d → P d) → AllOf P ds → AllOf P (cons_some o ds)
   with_some None ds f w = w
@@ -108,21 +80,17 @@ module _ (P : Data → Type 0) (parts : IsOfParts P) where
       go true is = rw is tt
       go false is = rw is (of_values k ds w)
 
-  both_members : (a b : Members) → AllMembers P a → AllMembers P b → AllMembers P (join_members a b)
-  both_members no_members b h i = i
-  both_members (member k d a) b h i = (h.0, both_members a b h.1 i)
-
   both_items : (a b : Items) → AllItems P a → AllItems P b → AllItems P (join_items a b)
   both_items no_items b h i = i
   both_items (item d a) b h i = (h.0, both_items a b h.1 i)
 
   of_entries : (es : Items) → AllItems P es → AllMembers P (entries_of es)
   of_entries no_items h = tt
-  of_entries (item d es) h = both_members (properties_of d) (entries_of es) (of_properties d h.0) (of_entries es h.1)
+  of_entries (item d es) h = all_joined (λ k e. P e) (properties_of d) (entries_of es) (of_properties d h.0) (of_entries es h.1)
 
   of_entry_values : (n : List ℕ) (ds : List Data) → AllOf P ds → AllOf P (entry_values n ds)
   of_entry_values n [] w = tt
-  of_entry_values n (d ∷ ds) w = with_some (get_member n (entries_of (items_in d))) (entry_values n ds) (λ e h. of_member n e (entries_of (items_in d)) (of_entries (items_in d) (of_items d w.0)) h) (of_entry_values n ds w.1)
+  of_entry_values n (d ∷ ds) w = with_some (get_member n (entries_of (items_in d))) (entry_values n ds) (λ e h. entry_found (λ k x. P x) (entries_of (items_in d)) (of_entries (items_in d) (of_items d w.0)) n e h) (of_entry_values n ds w.1)
 
   of_joined : (ds : List Data) → AllOf P ds → AllItems P (joined ds)
   of_joined [] w = tt
@@ -139,7 +107,7 @@ module _ (P : Data → Type 0) (parts : IsOfParts P) where
   module _ (al : Members) (known : AllMembers P al) where
     of_chain : {s : Place} {vs cs : List Data} → Chain al s vs cs → AllOf P vs → AllOf P cs
     of_chain nothing w = tt
-    of_chain (alias {n = n} {w = v} p q c) w = of_chain c (of_member n v al known q, tt)
+    of_chain (alias {n = n} {w = v} p q c) w = of_chain c (entry_found (λ k x. P x) al known n v q, tt)
     of_chain (member_alias {n = n} p) w = (parts.to_object _ (tt, tt) (parts.a_text n, tt), tt)
     of_chain (heir {s = s} {ms = ms} {b = b} {cs = cs} p c) w = (w.0, of_objects cs (of_chain c (of_base s b ms (parts.of_object ms w.0) p, tt)))
     of_chain (own {cs = cs} p c) w = (w.0, of_objects cs (of_chain c w.1))
@@ -167,13 +135,8 @@ module _ (P : Data → Type 0) (parts : IsOfParts P) where
   of_found k (Some e) h d is = of_property k e d (h e refl) is
 
   of_members : (o : Option Data) → ((d : Data) → o ≡ Some d → P d) → AllMembers P (members_or_none o)
-  of_members None h = tt
   of_members (Some (object ms)) h = parts.of_object ms (h (object ms) refl)
-  of_members (Some null) h = tt
-  of_members (Some (boolean b)) h = tt
-  of_members (Some (number n)) h = tt
-  of_members (Some (string s)) h = tt
-  of_members (Some (array ds)) h = tt
+  of_members _ h = tt
 
   of_resolved : (t r : Data) → P t → Resolves t r → P r
   of_resolved t r h l =
@@ -205,10 +168,6 @@ resolved_ascends t r h l = of_resolved Ascends (record { a_text = λ n. tt; to_l
 
 abbrev IsWhole : Data → Type 0
 IsWhole d = has_float d ≡ false
-
-neither : (a b : Bool) → a ≡ false → b ≡ false → (a || b) ≡ false
-neither true b h i = h
-neither false b h i = i
 
 items_whole : (es : Items) → AllItems IsWhole es → items_have_float es ≡ false
 items_whole no_items h = refl

@@ -14,10 +14,10 @@ use Rattle.conf_inherit.specs.Nesting.{nests, items_nest, members_nest, deep_fla
 use Rattle.conf_inherit.specs.NestingBeside.{objects_around, AliasesNest, AliasesAre}
 use Rattle.conf_inherit.specs.Resolution.{trace_name, type_name, aliases_name}
 use Rattle.conf_inherit.specs.Whole.{holds_aliases, way_to_aliases, aliases_at}
-use Rattle.conf_inherit.proofs.FieldPlaceLemmas.{trace_place, trace_type_place, aliases_place}
 use Rattle.conf_inherit.proofs.ReadyLemmas.{and_left, and_right}
 use Rattle.conf_inherit.proofs.NamedLemmas.{both}
 use Rattle.conf_inherit.proofs.TakenLemmas.{at_way, no_way}
+use Rattle.conf_inherit.proofs.WholeLemmas.{fewer_around}
 
 -- ---- what nests at most so deep has nothing too deep
 
@@ -60,20 +60,6 @@ nest_put k v (member l d ms) levels new h =
     nest_put_at (slice_cmp nat_cmp k l) k l v d ms levels new here rest (nest_put k v ms levels new rest)
 
 -- ---- on the way to the aliases
-
-fewer_at : (s : Place) (n k : List ℕ) → way_to_aliases s ≡ Some n → way_to_aliases s ≡ Some k → objects_around s ≡ objects_around (place_under s n) + 1 → objects_around s ≡ objects_around (place_under s k) + 1
-fewer_at s n k one way h =
-    let two : Some n ≡ Some k = sym one ∙ way in
-    let same : n ≡ k = cc in
-    subst (λ x. objects_around s ≡ objects_around (place_under s x) + 1) same h
-
--- one object fewer is around them
-fewer_around : (s : Place) (k : List ℕ) → way_to_aliases s ≡ Some k → objects_around s ≡ objects_around (place_under s k) + 1
-unfolding way_to_aliases
-fewer_around places.Root k way = fewer_at places.Root trace_name k refl way (ap (λ p. objects_around p + 1) (sym trace_place))
-fewer_around places.Trace k way = fewer_at places.Trace type_name k refl way (ap (λ p. objects_around p + 1) (sym trace_type_place))
-fewer_around places.TraceType k way = fewer_at places.TraceType aliases_name k refl way (ap (λ p. objects_around p + 1) (sym aliases_place))
-fewer_around _ k way = let bad : None ≡ Some k = way in cc
 
 -- how many are around them at a property, with the object that it is in, if they are in it at all
 abbrev pub around_or_none : Option Place → ℕ

@@ -1,6 +1,6 @@
 -- What stands too deep in a value: nothing just where it nests at most so deep, and else what its path leads to.
 use Rattle.std.proofs.Common.{◌≡◌, ◌+◌, inl, inr, ℕ, zero, suc, List, [], ◌∷◌, map, Some, true, refl, sym, ap, subst, arith}
-use Rattle.serde_json.specs.Data.{Data, null, boolean, number, string, array, object, Items, no_items, item, Members, no_members, member}
+use Rattle.serde_json.specs.Data.{Data, array, object, Items, no_items, item, Members, no_members, member}
 use Rattle.serde_json.specs.Find.{get_item}
 use Rattle.conf_tree.specs.Flaw.{Flaw, key, index, here, within}
 use Rattle.conf_tree.specs.Walk.{HasMember}
@@ -12,14 +12,11 @@ use Rattle.conf_inherit.proofs.ReadyLemmas.{part_empty, rest_empty}
 
 mutual
   pub shallow_nests : (d : Data) (levels : ℕ) → deep_flaws d levels ≡ [] → nests d levels ≡ true
-  shallow_nests null levels h = refl
-  shallow_nests (boolean b) levels h = refl
-  shallow_nests (number n) levels h = refl
-  shallow_nests (string s) levels h = refl
   shallow_nests (array ds) zero h = cc
   shallow_nests (array ds) (suc levels) h = shallow_items 0 ds levels h
   shallow_nests (object ms) zero h = cc
   shallow_nests (object ms) (suc levels) h = shallow_members ms levels h
+  shallow_nests _ levels h = refl
 
   shallow_items : (i : ℕ) (ds : Items) (levels : ℕ) → deep_item_flaws i ds levels ≡ [] → items_nest ds levels ≡ true
   shallow_items i no_items levels h = refl
@@ -48,14 +45,11 @@ only f g (inr x) = absurd x
 
 mutual
   pub deep_holds : (d : Data) (levels : ℕ) (f : Flaw) → Among f (deep_flaws d levels) → PassesDepth levels d f
-  deep_holds null levels f h = absurd h
-  deep_holds (boolean b) levels f h = absurd h
-  deep_holds (number n) levels f h = absurd h
-  deep_holds (string s) levels f h = absurd h
   deep_holds (array ds) zero f h = subst (PassesDepth 0 (array ds)) (sym (only f (here TooDeep) h)) (let out : PassesDepth 0 (array ds) (here TooDeep) = (refl, (array ds, refl, tt, refl)) in out)
   deep_holds (array ds) (suc levels) f h = deep_items_hold ds ds 0 levels f (λ j d g. let same : j ≡ 0 + j = omega arith in subst (λ x. get_item x ds ≡ Some d) same g) h
   deep_holds (object ms) zero f h = subst (PassesDepth 0 (object ms)) (sym (only f (here TooDeep) h)) (let out : PassesDepth 0 (object ms) (here TooDeep) = (refl, (object ms, refl, tt, refl)) in out)
   deep_holds (object ms) (suc levels) f h = deep_members_hold ms ms levels f (λ k d m. m) h
+  deep_holds _ levels f h = absurd h
 
   deep_items_hold : (rest es : Items) (i levels : ℕ) (f : Flaw) → Aligned es i rest → Among f (deep_item_flaws i rest levels) → PassesDepth (suc levels) (array es) f
   deep_items_hold no_items es i levels f al h = absurd h

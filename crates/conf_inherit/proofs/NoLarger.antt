@@ -1,23 +1,17 @@
 -- Values that are no larger than others: they have no more JSON values, and nest no deeper.
 use Rattle.std.proofs.Common.{◌≡◌, ◌&&◌, ◌+◌, ◌≤◌, ℕ, zero, suc, List, Some, None, true, true≢false, Ordering, Less, Equal, Greater, nat_cmp, refl, sym, ◌∙◌, subst, arith}
 use Rattle.std.specs.Cmp.Lexicographic.{slice_cmp}
-use Rattle.serde_json.specs.Data.{Data, null, boolean, number, string, array, object, Items, no_items, item, Members, no_members, member}
+use Rattle.serde_json.specs.Data.{Data, array, object, Items, no_items, item, Members, no_members, member}
 use Rattle.serde_json.specs.Find.{get_member}
 use Rattle.conf_inherit.specs.Limits.{Fits}
 use Rattle.conf_inherit.specs.Names.{IsInOrder, join_items}
 use Rattle.conf_inherit.specs.Nesting.{nests, items_nest, members_nest}
 use Rattle.conf_inherit.specs.Size.{size, items_size, members_size}
-use Rattle.conf_inherit.proofs.InOrder.{get_first, get_none, equal_names, above_turned, above_through}
+use Rattle.conf_inherit.proofs.InOrder.{get_first, get_none, equal_names, above_turned, above_through, some_is_none, value_same}
 use Rattle.conf_inherit.proofs.LayingLemmas.{Meets, same, other, meets, get_other, get_same}
 use Rattle.conf_inherit.proofs.NamedLemmas.{both}
 use Rattle.conf_inherit.proofs.ReadyLemmas.{and_left, and_right}
 use Rattle.conf_inherit.proofs.SizeLemmas.{joined_size, member_size}
-
-pub some_is_none : {A : Type 0} (x : A) → Some x ≡ None → ⊥
-some_is_none x e = cc
-
-pub value_same : (d e : Data) → Some d ≡ Some e → d ≡ e
-value_same d e h = cc
 
 pub record NoLarger (d e : Data) : Type 0 where
   pub few : size d ≤ size e
@@ -170,14 +164,11 @@ covered (member l e ns) (member k d ms) h i covers = go _ refl (covered ns)
 mutual
   -- what nests so deep nests a level deeper
   nests_more : (d : Data) (levels : ℕ) → nests d levels ≡ true → nests d (suc levels) ≡ true
-  nests_more null levels h = refl
-  nests_more (boolean b) levels h = refl
-  nests_more (number n) levels h = refl
-  nests_more (string s) levels h = refl
   nests_more (array ds) zero h = absurd (true≢false (sym h))
   nests_more (array ds) (suc levels) h = items_nest_more ds levels h
   nests_more (object ms) zero h = absurd (true≢false (sym h))
   nests_more (object ms) (suc levels) h = members_nest_more ms levels h
+  nests_more _ levels h = refl
 
   items_nest_more : (ds : Items) (levels : ℕ) → items_nest ds levels ≡ true → items_nest ds (suc levels) ≡ true
   items_nest_more no_items levels h = refl

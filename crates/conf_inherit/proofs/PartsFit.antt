@@ -1,6 +1,6 @@
 -- Where a field type fits, and each value of a `$inherit` in it by itself, each field type in it fits by itself.
 use Rattle.std.proofs.Common.{◌≡◌, ◌&&◌, ◌⊎◌, inl, inr, ℕ, zero, suc, Bool, true, false, true≢false, List, [], ◌∷◌, Some, None, is_some, refl, sym, subst}
-use Rattle.serde_json.specs.Data.{Data, null, boolean, number, string, array, object, Items, no_items, item, Members, no_members, member}
+use Rattle.serde_json.specs.Data.{Data, array, object, Items, no_items, item, Members, no_members, member}
 use Rattle.serde_json.specs.Find.{get_item, get_member}
 use Rattle.conf_tree.specs.Flaw.{Place as Step, key, index}
 use Rattle.conf_tree.specs.Order.{Ascends, ItemsAscend, MembersAscend}
@@ -20,11 +20,12 @@ use Rattle.conf_inherit.proofs.LayingGrows.{laid_entry, property_stands, ground_
 use Rattle.conf_inherit.proofs.LayingLemmas.{lay_members-found}
 use Rattle.conf_inherit.proofs.ListLemmas.{AllEntries, found_each}
 use Rattle.conf_inherit.proofs.NamedLemmas.{named}
-use Rattle.conf_inherit.proofs.NoLarger.{value_same, NoLargerItems, as_large, as_large_items, items_through, next_item, one_more, no_item, fits_below, property_fits, item_fits}
+use Rattle.conf_inherit.proofs.NoLarger.{NoLargerItems, as_large, as_large_items, items_through, next_item, one_more, no_item, fits_below, property_fits, item_fits}
 use Rattle.conf_inherit.proofs.ReadInOrder.{apart}
 use Rattle.conf_inherit.proofs.ReadyLemmas.{ready, single_entry}
 use Rattle.conf_inherit.proofs.SoundParts.{PartSound, own_sound, member_sound, item_sound}
 use Rattle.conf_inherit.proofs.FieldPlaceLemmas.{list_place, base_place, ignored_under}
+use Rattle.conf_inherit.proofs.InOrder.{value_same}
 
 -- ---- where a path leads to no field type
 
@@ -94,11 +95,7 @@ module _ (done : Members) where
 
   behind_entry : (e : Data) (seen rest : Items) → NoLargerItems rest (lay_new_entry done e seen rest)
   behind_entry (object ms) seen rest = behind_members ms seen rest
-  behind_entry null seen rest = as_large_items rest
-  behind_entry (boolean b) seen rest = as_large_items rest
-  behind_entry (number n) seen rest = as_large_items rest
-  behind_entry (string n) seen rest = as_large_items rest
-  behind_entry (array es) seen rest = as_large_items rest
+  behind_entry _ seen rest = as_large_items rest
 
   -- an entry of one property stands in the list
   entry_stands : (es : Items) (i : ℕ) (n : List ℕ) (d : Data) → get_item i es ≡ Some (object (member n d no_members)) → NoLargerItems (item (laid_entry done n d) no_items) (lay_new done es no_items)
@@ -122,11 +119,7 @@ module _ (done : Members) where
       subst Fits (sym (entry_laid n d)) (item_fits (laid_entry done n d) (lay_new done es no_items) (entry_stands es i n d there) (list_laid s es is h))
   entry_fits s es i (object (member n d (member m c ms))) is single there h = absurd (true≢false single)
   entry_fits s es i (object no_members) is single there h = absurd (true≢false single)
-  entry_fits s es i null is single there h = absurd (true≢false single)
-  entry_fits s es i (boolean b) is single there h = absurd (true≢false single)
-  entry_fits s es i (number n) is single there h = absurd (true≢false single)
-  entry_fits s es i (string n) is single there h = absurd (true≢false single)
-  entry_fits s es i (array ds) is single there h = absurd (true≢false single)
+  entry_fits s es i _ is single there h = absurd (true≢false single)
 
 -- ---- inside a field type
 

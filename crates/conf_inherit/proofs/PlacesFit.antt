@@ -17,7 +17,7 @@ use Rattle.conf_inherit.specs.Named.{all_named, has}
 use Rattle.conf_inherit.specs.Places.{inner_places, item_places, place_flaws}
 use Rattle.conf_inherit.specs.Ready.{Names}
 use Rattle.conf_inherit.proofs.ExcludedPlaces.{PlaceSound, member_place, object_places, list_places, extras_there, root_place}
-use Rattle.conf_inherit.proofs.NoLarger.{value_same}
+use Rattle.conf_inherit.proofs.InOrder.{value_same}
 use Rattle.conf_inherit.proofs.LimitLemmas.{sound_type, alike_inner, alike_limit}
 use Rattle.conf_inherit.proofs.PartsFit.{IsFit, sound_named, fits_along, ignored_leads_nowhere, member_in_order, item_in_order, inherits_under}
 use Rattle.conf_inherit.proofs.PlaceLemmas.{place_of_type, place_of_member}

@@ -75,12 +75,8 @@ found_in_order k (member l e ms) d h there = go (slice_cmp nat_cmp k l) there (f
     go Greater is later = later is
 
 got_in_order : (k : List ℕ) (v d : Data) → Ascends v → get k v ≡ Some d → Ascends d
-got_in_order k null d h is = absurd cc
-got_in_order k (boolean b) d h is = absurd cc
-got_in_order k (number n) d h is = absurd cc
-got_in_order k (string s) d h is = absurd cc
-got_in_order k (array ds) d h is = absurd cc
 got_in_order k (object ms) d h is = found_in_order k ms d h.1 is
+got_in_order k _ d h is = absurd cc
 
 -- names that ascend do not stand twice
 pub apart : (ms : Members) → IsInOrder ms → NoClash ms

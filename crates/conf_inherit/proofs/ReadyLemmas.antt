@@ -1,6 +1,6 @@
 -- A value without a flaw, whose names are all of resolved aliases, is ready to be resolved.
 use Rattle.std.proofs.Common.{◌≡◌, ◌&&◌, ◌||◌, ◌++◌, inl, inr, ℕ, suc, List, [], ◌∷◌, map, Option, Some, None, is_some, Bool, true, false, true≢false, refl, sym, ap, ◌∙◌, subst}
-use Rattle.serde_json.specs.Data.{Data, null, boolean, number, string, array, object, Items, no_items, item, Members, no_members, member, put}
+use Rattle.serde_json.specs.Data.{Data, null, string, array, object, Items, no_items, item, Members, no_members, member, put}
 use Rattle.serde_json.specs.Find.{get_member}
 use Rattle.serde_json.proofs.Views.{get_member-put, get_member-put_other}
 use Rattle.conf_tree.specs.Flaw.{key, index, within}
@@ -45,6 +45,14 @@ or_left true b h = absurd (true≢false h)
 pub or_right : (a b : Bool) → (a || b) ≡ false → b ≡ false
 or_right false b h = h
 or_right true b h = absurd (true≢false h)
+
+pub neither : (a b : Bool) → a ≡ false → b ≡ false → (a || b) ≡ false
+neither true b h i = h
+neither false b h i = i
+
+pub some_of : {A : Type 0} (o : Option A) → is_some o ≡ true → (x : A) × (o ≡ Some x)
+some_of None h = absurd (true≢false (sym h))
+some_of (Some x) h = (x, refl)
 
 -- a value without a flaw of its own is not of a wrong kind, and its name is not taken
 not_wrong : (al : Members) (s : Place) (taken : Bool) (v : Data) → own_flaws al s taken v ≡ [] → is_wrong s v ≡ false
@@ -108,11 +116,7 @@ module _ (al : Members) (rs : Option Members) where
       apart_more n d seen (entries_of es) (rw entry_is at free) a
   apart_at s i seen (object (member n d (member m e ms))) es single h a = absurd (true≢false single)
   apart_at s i seen (object no_members) es single h a = absurd (true≢false single)
-  apart_at s i seen null es single h a = absurd (true≢false single)
-  apart_at s i seen (boolean x) es single h a = absurd (true≢false single)
-  apart_at s i seen (number x) es single h a = absurd (true≢false single)
-  apart_at s i seen (string x) es single h a = absurd (true≢false single)
-  apart_at s i seen (array x) es single h a = absurd (true≢false single)
+  apart_at s i seen _ es single h a = absurd (true≢false single)
 
   apart_entries : (s : Place) (i : ℕ) (seen : Members) (es : Items) → place_of_items s ≡ places.Entry → item_flaws al rs s i seen es ≡ [] → Apart seen (entries_of es)
   apart_entries s i seen no_items place h = record { distinct = tt; new = λ n f. refl }
@@ -124,16 +128,9 @@ module _ (al : Members) (rs : Option Members) where
       apart_at s i seen v es (single_entry v (not_wrong al places.Entry false v own)) inner (apart_entries s (suc i) (mark v seen) es place later_none)
 
   module _ (done : Members) where
-    found_of : (n : List ℕ) → has done n ≡ true → (r : Data) × (get_member n done ≡ Some r)
-    found_of n h = go (get_member n done) refl
-      where
-        go : (o : Option Data) → get_member n done ≡ o → (r : Data) × (get_member n done ≡ Some r)
-        go (Some r) e = (r, e)
-        go None e = absurd (true≢false (sym (ap is_some (sym e) ∙ h)))
-
     ready_text : (s : Place) (n : List ℕ) → all_named (has done) s (string n) ≡ true → Names s → (r : Data) × (get_member n done ≡ Some r)
-    ready_text s n h (inl is) = found_of n (rw is at h)
-    ready_text s n h (inr is) = found_of n (go (names_alias s) refl)
+    ready_text s n h (inl is) = some_of (get_member n done) (rw is at h)
+    ready_text s n h (inr is) = some_of (get_member n done) (go (names_alias s) refl)
       where
         go : (t : Bool) → names_alias s ≡ t → has done n ≡ true
         go true e = rw e at h
@@ -141,12 +138,10 @@ module _ (al : Members) (rs : Option Members) where
 
     mutual
       pub ready : (v : Data) (s : Place) (seen : Members) → inner_flaws al rs s seen v ≡ [] → all_named (has done) s v ≡ true → IsReady done s v
-      ready null s seen h named = tt
-      ready (boolean b) s seen h named = tt
-      ready (number n) s seen h named = tt
       ready (string n) s seen h named = ready_text s n named
       ready (array es) s seen h named = ((λ is. (apart_entries s 0 no_members es (list_place s is) h).distinct), ready_items es s 0 no_members h named)
       ready (object ms) s seen h named = ready_members ms s seen h named
+      ready _ s seen h named = tt
 
       ready_items : (es : Items) (s : Place) (i : ℕ) (seen : Members) → item_flaws al rs s i seen es ≡ [] → all_named_in_items (has done) (place_of_items s) es ≡ true → AreReady done (place_of_items s) es
       ready_items no_items s i seen h named = tt

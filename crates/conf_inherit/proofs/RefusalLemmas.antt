@@ -144,11 +144,7 @@ module _ (al : Members) where
         go : (t : Bool) → nat_lt max_extra_members (items_len es) ≡ t → FlawHolds al s (array es) f
         go true e = along s (array es) f (here Limit) (only (here Limit) (rw e at h)) (inl (s, array es, (refl, refl), inl (es, refl, is, past e)))
         go false e = absurd (rw e at h)
-    many_here s (object ms) f is h = absurd h
-    many_here s null f is h = absurd h
-    many_here s (boolean b) f is h = absurd h
-    many_here s (number n) f is h = absurd h
-    many_here s (string n) f is h = absurd h
+    many_here s _ f is h = absurd h
 
     place_holds : (s : Place) (v : Data) (f : Flaw) → Among f (place_flaws al done s v) → FlawHolds al s v f
     place_holds s v f h = go (names_alias s) refl (names_member_type s) refl (lists_extra_members s) refl
@@ -174,12 +170,9 @@ module _ (al : Members) where
 
     mutual
       places_hold : (v : Data) (s : Place) (f : Flaw) → Among f (inner_places al done s v) → FlawHolds al s v f
-      places_hold null s f h = absurd h
-      places_hold (boolean b) s f h = absurd h
-      places_hold (number n) s f h = absurd h
-      places_hold (string n) s f h = absurd h
       places_hold (array es) s f h = items_at s es f (lists_extra_members s) refl h (items_hold es s es 0 no_members f (λ j d g. let same : j ≡ 0 + j = omega arith in subst (λ x. get_item x es ≡ Some d) same g) (λ n b. absurd (none_seen n b)))
       places_hold (object ms) s f h = members_at s ms f (leads_on s) refl h (members_hold ms s ms f (λ k d m. m))
+      places_hold _ s f h = absurd h
 
       items_hold : (rest : Items) (s : Place) (es : Items) (i : ℕ) (seen : Members) (f : Flaw) → Aligned es i rest → Seen es i seen → Among f (item_places al done s i seen rest) → FlawHolds al s (array es) f
       items_hold no_items s es i seen f al' before h = absurd h
@@ -208,11 +201,7 @@ has_found k d (member l e ms) h = go (meets k l) (has_found k d ms)
 
 lift : (al : Members) (s t : Place) (k : List ℕ) (v d : Data) (f : Flaw) → place_under s k ≡ t → get k v ≡ Some d → FlawHolds al t d f → FlawHolds al s v (within (key k) f)
 lift al s t k (object ms) d f place is h = holds_in_object al s k d ms f (has_found k d ms is) (subst (λ x. FlawHolds al x d f) (sym place) h)
-lift al s t k null d f place is h = cc
-lift al s t k (boolean b) d f place is h = cc
-lift al s t k (number n) d f place is h = cc
-lift al s t k (string n) d f place is h = cc
-lift al s t k (array es) d f place is h = cc
+lift al s t k _ d f place is h = cc
 
 -- the flaws of the aliases, seen from the configuration
 lift_aliases : (al : Members) (t : Data) (f : Flaw) → (a b c : Option Data) → get trace_name t ≡ a → option_and_then (get type_name) a ≡ b → option_and_then (get aliases_name) b ≡ c → (ms : Members) → members_or_none c ≡ ms

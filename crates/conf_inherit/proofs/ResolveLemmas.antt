@@ -3,7 +3,7 @@ use Rattle.std.proofs.Common.{◌≡◌, ◌≤◌, ℕ, zero, suc, List, [], �
 use Rattle.std.specs.List.{AllByRecursion}
 use Rattle.std.specs.List.Sorted.{IsStrictlySortedBy}
 use Rattle.std.specs.Map.{keys_of}
-use Rattle.serde_json.specs.Data.{Data, null, boolean, number, string, array, object, Items, no_items, item, Members, no_members, member, depth, items_depth, members_depth}
+use Rattle.serde_json.specs.Data.{Data, array, object, Items, no_items, item, Members, no_members, member, depth, items_depth, members_depth}
 use Rattle.serde_json.specs.View.{members_view}
 use Rattle.serde_json.proofs.Views.{Entry}
 use Rattle.conf_tree.specs.Flaw.{Flaw}
@@ -54,14 +54,11 @@ laid_resolves t al n st is apart turned sound whole =
 
 mutual
   pub depth-nests : (d : Data) (levels : ℕ) → nests d levels ≡ true → depth d ≤ levels
-  depth-nests null levels h = omega arith
-  depth-nests (boolean b) levels h = omega arith
-  depth-nests (number n) levels h = omega arith
-  depth-nests (string s) levels h = omega arith
   depth-nests (array ds) zero h = absurd (true≢false (sym h))
   depth-nests (array ds) (suc levels) h = let below : items_depth ds ≤ levels = depth-items_nest ds levels h in omega arith
   depth-nests (object ms) zero h = absurd (true≢false (sym h))
   depth-nests (object ms) (suc levels) h = let below : members_depth ms ≤ levels = depth-members_nest ms levels h in omega arith
+  depth-nests _ levels h = omega arith
 
   depth-items_nest : (ds : Items) (levels : ℕ) → items_nest ds levels ≡ true → items_depth ds ≤ levels
   depth-items_nest no_items levels h = omega arith

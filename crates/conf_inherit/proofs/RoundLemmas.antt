@@ -15,27 +15,55 @@ use Rattle.conf_inherit.specs.Laying.{lay}
 use Rattle.conf_inherit.specs.Limits.{fitting, passed, limit_flaws}
 use Rattle.conf_inherit.specs.Looks.{Looks, AreResolved}
 use Rattle.conf_inherit.specs.Named.{all_named, has}
-use Rattle.conf_inherit.specs.Rounds.{Outcomes, has_outcome, is_over, is_empty, if_fitting, outcome, concluded, step, round, all_over, next_round, rounds, no_outcomes}
+use Rattle.conf_inherit.specs.Rounds.{Outcomes, has_outcome, is_over, is_empty, if_fitting, outcome, concluded, step, round, all_over, next_round, rounds, no_outcomes, Reached, at_first, turned}
 use Rattle.conf_inherit.specs.SameFlaw.{is_same_flaw}
 use Rattle.conf_inherit.proofs.KeptLemmas.{more_named, kept_flaws}
-use Rattle.conf_inherit.proofs.LayingLemmas.{Meets, same, other, meets, get_other, get_same, put_found}
+use Rattle.conf_inherit.proofs.LayingLemmas.{Meets, same, other, meets, put_found}
 use Rattle.conf_inherit.proofs.LaysOver.{lays}
 use Rattle.conf_inherit.proofs.LimitLemmas.{fitting_value}
-use Rattle.conf_inherit.proofs.ListLemmas.{AllEntries}
-use Rattle.conf_inherit.proofs.NamedLemmas.{Between, between, named, both_named, named_along}
-use Rattle.conf_inherit.proofs.ReadyLemmas.{ready, part_empty, rest_empty, front_empty, back_empty, and_left, and_right}
+use Rattle.conf_inherit.proofs.ListLemmas.{AllEntries, entry_found}
+use Rattle.conf_inherit.proofs.NamedLemmas.{named, named_along, blocked, mentioned}
+use Rattle.conf_inherit.proofs.ReadyLemmas.{ready, part_empty, rest_empty, front_empty, back_empty, and_left, and_right, or_left, or_right, some_of}
 
 pub empty_flaws : (fs : List Flaw) → is_empty fs ≡ true → fs ≡ []
 empty_flaws [] h = refl
 empty_flaws (f ∷ fs) h = absurd (true≢false (sym h))
 
--- what holds before and after a round holds after the next one
-pub by_round : (al : Members) (P : Outcomes → Type 0) (st : Outcomes) → P st → P (round al al st) → P (next_round al st)
-by_round al P st before after = go (all_over al st) refl
-  where
-    go : (t : Bool) → all_over al st ≡ t → P (next_round al st)
-    go true is = rw is before
-    go false is = rw is after
+-- ---- what turns keep
+
+module _ (al : Members) where
+  -- what a conclusion keeps, a turn keeps
+  pub by_turn : (P : Outcomes → Type 0) (k : List ℕ) (w : Data) (st : Outcomes) → P st → (has_outcome st k ≡ false → all_named (is_over al st) places.FieldType w ≡ true → P (concluded k st (outcome al st.done w))) → P (step al k w st)
+  by_turn P k w st stays goes = go (has_outcome st k) refl (all_named (is_over al st) places.FieldType w) refl
+    where
+      go : (t : Bool) → has_outcome st k ≡ t → (u : Bool) → all_named (is_over al st) places.FieldType w ≡ u → P (step al k w st)
+      go true a u b = rw a stays
+      go false a false b = rw (a, b) stays
+      go false a true b = rw (a, b) (goes a b)
+
+  -- what each conclusion keeps holds wherever turns lead
+  pub reached_keeps : (P : Outcomes → Type 0) → P no_outcomes
+      → ((k : List ℕ) (w : Data) (st : Outcomes) → get_member k al ≡ Some w → has_outcome st k ≡ false → all_named (is_over al st) places.FieldType w ≡ true → P st → P (concluded k st (outcome al st.done w)))
+      → {st : Outcomes} → Reached al st → P st
+  reached_keeps P first next at_first = first
+  reached_keeps P first next (turned k w st is before) =
+      let so_far = reached_keeps P first next before in
+      by_turn P k w st so_far (λ free due. next k w st is free due so_far)
+
+  pub round_reached : (ms : Members) (st : Outcomes) → AllEntries (λ k w. get_member k al ≡ Some w) ms → Reached al st → Reached al (round al ms st)
+  round_reached no_members st each h = h
+  round_reached (member k w ms) st each h = round_reached ms (step al k w st) each.1 (turned k w st each.0 h)
+
+  next_reached : (st : Outcomes) → Reached al st → Reached al (round al al st) → Reached al (next_round al st)
+  next_reached st before after = go (all_over al st) refl
+    where
+      go : (t : Bool) → all_over al st ≡ t → Reached al (next_round al st)
+      go true is = rw is before
+      go false is = rw is after
+
+  pub rounds_reached : (n : ℕ) → AllEntries (λ k w. get_member k al ≡ Some w) al → Reached al (rounds al n no_outcomes)
+  rounds_reached zero each = at_first
+  rounds_reached (suc n) each = next_reached (rounds al n no_outcomes) (rounds_reached n each) (round_reached al (rounds al n no_outcomes) each (rounds_reached n each))
 
 -- ---- a resolved alias
 
@@ -70,22 +98,13 @@ module _ (al : Members) where
           (w, ap (λ x. get_member x al) e ∙ is, subst (Looks al places.FieldType (w ∷ [])) g l)
       go (other apart) = known n t (sym (get_member-put_other n k r done apart) ∙ h)
 
-  pub step_resolved : (k : List ℕ) (w : Data) (st : Outcomes) → get_member k al ≡ Some w → AreResolved al st.done → AreResolved al (step al k w st).done
-  step_resolved k w st is known = go (has_outcome st k) refl (all_named (is_over al st) places.FieldType w) refl (outcome al st.done w) refl
-    where
-      go : (t : Bool) → has_outcome st k ≡ t → (u : Bool) → all_named (is_over al st) places.FieldType w ≡ u → (o : Option Data) → outcome al st.done w ≡ o → AreResolved al (step al k w st).done
-      go true a u b o e = rw a known
-      go false a false b o e = rw (a, b) known
-      go false a true b None e = rw (a, b, e) known
-      go false a true b (Some r) e = rw (a, b, e) (resolved_more st.done k w r known is (outcome_looks st.done w r known e))
-
-  pub round_resolved : (ms : Members) (st : Outcomes) → AllEntries (λ k w. get_member k al ≡ Some w) ms → AreResolved al st.done → AreResolved al (round al ms st).done
-  round_resolved no_members st each known = known
-  round_resolved (member k w ms) st each known = round_resolved ms (step al k w st) each.1 (step_resolved k w st each.0 known)
+  next_resolved : (k : List ℕ) (w : Data) (st : Outcomes) → get_member k al ≡ Some w → AreResolved al st.done → (o : Option Data) → outcome al st.done w ≡ o → AreResolved al (concluded k st o).done
+  next_resolved k w st is known None e = known
+  next_resolved k w st is known (Some r) e = resolved_more st.done k w r known is (outcome_looks st.done w r known e)
 
   pub rounds_resolved : (n : ℕ) → AllEntries (λ k w. get_member k al ≡ Some w) al → AreResolved al (rounds al n no_outcomes).done
-  rounds_resolved zero each = λ n r h. cc
-  rounds_resolved (suc n) each = by_round al (λ st. AreResolved al st.done) (rounds al n no_outcomes) (rounds_resolved n each) (round_resolved al (rounds al n no_outcomes) each (rounds_resolved n each))
+  rounds_resolved n each =
+      reached_keeps al (λ st. AreResolved al st.done) (λ n r h. cc) (λ k w st is free due known. next_resolved k w st is known (outcome al st.done w) refl) (rounds_reached al n each)
 
 -- ---- why an alias is refused
 
@@ -101,23 +120,11 @@ IsRoot al st = (k : List ℕ) × (w : Data) × (get_member k al ≡ Some w) × (
 abbrev pub HasRoot : Members → Outcomes → Type 0
 HasRoot al st = (q : List ℕ) → has st.refused q ≡ true → IsRoot al st
 
-pub or_left_false : (a b : Bool) → (a || b) ≡ false → a ≡ false
-or_left_false true b h = h
-or_left_false false b h = refl
-
-pub or_right_false : (a b : Bool) → (a || b) ≡ false → b ≡ false
-or_right_false true b h = absurd (true≢false h)
-or_right_false false b h = h
-
 or_true : (a b c : Bool) → (a || b || not c) ≡ true → a ≡ false → c ≡ true → b ≡ true
 or_true true b c h e f = absurd (true≢false e)
 or_true false true c h e f = refl
 or_true false false true h e f = h
 or_true false false false h e f = f
-
-pub some_of : {A : Type 0} (o : Option A) → is_some o ≡ true → (x : A) × (o ≡ Some x)
-some_of None h = absurd (true≢false (sym h))
-some_of (Some x) h = (x, refl)
 
 -- what is resolved stays so
 still : (k : List ℕ) (r : Data) (done : Members) → has done k ≡ false → (n : List ℕ) → has done n ≡ true → get_member n (put k r done) ≡ get_member n done
@@ -158,10 +165,10 @@ module _ (al : Members) where
   root_stays k st o free (q, w, is, open_q, refused, flawed) = go o
     where
       apart : q ≡ k → ⊥
-      apart e = true≢false (sym refused ∙ ap (has st.refused) e ∙ or_right_false (has st.done k) (has st.refused k) free)
+      apart e = true≢false (sym refused ∙ ap (has st.refused) e ∙ or_right (has st.done k) (has st.refused k) free)
 
       go : (o : Option Data) → IsRoot al (concluded k st o)
-      go (Some r) = (q, w, is, ap is_some (get_member-put_other q k r st.done apart) ∙ open_q, refused, flawed_still k r st.done w (or_left_false (has st.done k) (has st.refused k) free) flawed)
+      go (Some r) = (q, w, is, ap is_some (get_member-put_other q k r st.done apart) ∙ open_q, refused, flawed_still k r st.done w (or_left (has st.done k) (has st.refused k) free) flawed)
       go None = (q, w, is, open_q, is_still k null st.refused q refused, flawed)
 
   -- a type that is not resolved, though all that it names is, has a flaw or passes a limit
@@ -181,36 +188,23 @@ module _ (al : Members) where
   new_root k w st is free due h root = go (all_named (has st.done) places.FieldType w) refl (all_named (has al) places.FieldType w) refl
     where
       here_root : IsFlawed al st.done w → IsRoot al (concluded k st None)
-      here_root flawed = (k, w, is, or_left_false (has st.done k) (has st.refused k) free, is_put k null st.refused, flawed)
-
-      by_name : Between (λ n. is_over al st n && has al n) (has st.done) → IsRoot al st
-      by_name (n, over, open_n) = root n (or_true (has st.done n) (has st.refused n) (has al n) (and_left (is_over al st n) (has al n) over) open_n (and_right (is_over al st n) (has al n) over))
+      here_root flawed = (k, w, is, or_left (has st.done k) (has st.refused k) free, is_put k null st.refused, flawed)
 
       go : (t : Bool) → all_named (has st.done) places.FieldType w ≡ t → (u : Bool) → all_named (has al) places.FieldType w ≡ u → IsRoot al (concluded k st None)
       go true a u b = here_root (inr (a, unresolved st.done w a h))
       go false a false b = here_root (inl b)
-      go false a true b = root_stays k st None free (by_name (between (λ n. is_over al st n && has al n) (has st.done) places.FieldType w (both_named (is_over al st) (has al) places.FieldType w due b) a))
+      go false a true b =
+          let (m, x, open_m) = blocked (has st.done) w places.FieldType a in
+          root_stays k st None free (root m (or_true (has st.done m) (has st.refused m) (has al m) (mentioned (is_over al st) m w places.FieldType due x) open_m (mentioned (has al) m w places.FieldType b x)))
 
-  -- a step keeps that each refusal has a root
-  step_root : (k : List ℕ) (w : Data) (st : Outcomes) → get_member k al ≡ Some w → HasRoot al st → HasRoot al (step al k w st)
-  step_root k w st is root = go (has_outcome st k) refl (all_named (is_over al st) places.FieldType w) refl (outcome al st.done w) refl
-    where
-      concluded_root : (o : Option Data) → has_outcome st k ≡ false → all_named (is_over al st) places.FieldType w ≡ true → outcome al st.done w ≡ o → HasRoot al (concluded k st o)
-      concluded_root (Some r) free due e q h = root_stays k st (Some r) free (root q h)
-      concluded_root None free due e q h = new_root k w st is free due e root
-
-      go : (t : Bool) → has_outcome st k ≡ t → (u : Bool) → all_named (is_over al st) places.FieldType w ≡ u → (o : Option Data) → outcome al st.done w ≡ o → HasRoot al (step al k w st)
-      go true a u b o e = rw a root
-      go false a false b o e = rw (a, b) root
-      go false a true b o e = rw (a, b, e) (concluded_root o a b e)
-
-  round_root : (ms : Members) (st : Outcomes) → AllEntries (λ k w. get_member k al ≡ Some w) ms → HasRoot al st → HasRoot al (round al ms st)
-  round_root no_members st each root = root
-  round_root (member k w ms) st each root = round_root ms (step al k w st) each.1 (step_root k w st each.0 root)
+  -- a conclusion keeps that each refusal has a root
+  next_root : (k : List ℕ) (w : Data) (st : Outcomes) → get_member k al ≡ Some w → has_outcome st k ≡ false → all_named (is_over al st) places.FieldType w ≡ true → HasRoot al st → (o : Option Data) → outcome al st.done w ≡ o → HasRoot al (concluded k st o)
+  next_root k w st is free due root (Some r) e q h = root_stays k st (Some r) free (root q h)
+  next_root k w st is free due root None e q h = new_root k w st is free due e root
 
   pub rounds_root : (n : ℕ) → AllEntries (λ k w. get_member k al ≡ Some w) al → HasRoot al (rounds al n no_outcomes)
-  rounds_root zero each = λ q h. absurd (true≢false (sym h))
-  rounds_root (suc n) each = by_round al (HasRoot al) (rounds al n no_outcomes) (rounds_root n each) (round_root al (rounds al n no_outcomes) each (rounds_root n each))
+  rounds_root n each =
+      reached_keeps al (HasRoot al) (λ q h. absurd (true≢false (sym h))) (λ k w st is free due root. next_root k w st is free due root (outcome al st.done w) refl) (rounds_reached al n each)
 
 -- ---- without a flaw, every alias is resolved
 
@@ -227,14 +221,6 @@ open_flawed (Err f) (Err g) h = go (is_same_flaw f g) refl
 each_sound : (al : Members) (st : Outcomes) (ms : Members) → all_alias_flaws al st ms ≡ [] → AllEntries (λ k w. alias_flaws al st k w ≡ []) ms
 each_sound al st no_members h = tt
 each_sound al st (member k w ms) h = (part_empty (within (key k)) (alias_flaws al st k w) (all_alias_flaws al st ms) h, each_sound al st ms (rest_empty (within (key k)) (alias_flaws al st k w) (all_alias_flaws al st ms) h))
-
-entry_found_at : (P : List ℕ → Data → Type 0) (l : List ℕ) (d : Data) (ms : Members) (k : List ℕ) (w : Data) → P l d → get_member k (member l d ms) ≡ Some w → (get_member k ms ≡ Some w → P k w) → Meets k l → P k w
-entry_found_at P l d ms k w here h later (same e) = let f : Some d ≡ Some w = sym (get_same k l d ms e) ∙ h in let g : d ≡ w = cc in subst (λ x. P x w) (sym e) (subst (P l) g here)
-entry_found_at P l d ms k w here h later (other apart) = later (sym (get_other k l d ms apart) ∙ h)
-
-pub entry_found : (P : List ℕ → Data → Type 0) (ms : Members) → AllEntries P ms → (k : List ℕ) (w : Data) → get_member k ms ≡ Some w → P k w
-entry_found P no_members each k w h = cc
-entry_found P (member l d ms) each k w h = entry_found_at P l d ms k w each.0 h (entry_found P ms each.1 k w) (meets k l)
 
 module _ (al : Members) (st : Outcomes) (sound : all_alias_flaws al st al ≡ []) (root : HasRoot al st) where
   sound_alias : (k : List ℕ) (w : Data) → get_member k al ≡ Some w → alias_flaws al st k w ≡ []

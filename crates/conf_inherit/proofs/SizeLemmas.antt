@@ -1,7 +1,7 @@
 -- Counting: the parts of a whole, and what a limit leaves.
 use Rattle.std.proofs.Common.{◌≡◌, ◌+◌, ◌<◌, ◌≤◌, ◌++◌, ℕ, List, [], ◌∷◌, length, drop, get_or, Option, Some, None, Bool, true, false, string_bytes, refl, sym, ap, ◌∙◌, subst, arith}
 use Rattle.std.proofs.lemmas.List.{at_drop_more}
-use Rattle.serde_json.specs.Data.{Data, null, boolean, number, string, array, object, Items, no_items, item, Members, no_members, member}
+use Rattle.serde_json.specs.Data.{Data, array, object, Items, no_items, item, Members, no_members, member}
 use Rattle.serde_json.specs.Find.{get_member}
 use Rattle.serde_json.specs.View.{view, items_view, members_view}
 use Rattle.serde_json.proofs.Views.{Entry}
@@ -146,11 +146,7 @@ new_member_size done (member n d ms) seen rest = go (has_entry n seen) refl (new
 
 pub new_entry_size : (done : Members) (e : Data) (seen rest : Items) → items_size (lay_new_entry done e seen rest) ≡ items_size (lay_new_entry done e seen no_items) + items_size rest
 new_entry_size done (object ms) seen rest = new_member_size done ms seen rest
-new_entry_size done null seen rest = omega arith
-new_entry_size done (boolean b) seen rest = omega arith
-new_entry_size done (number n) seen rest = omega arith
-new_entry_size done (string s) seen rest = omega arith
-new_entry_size done (array ds) seen rest = omega arith
+new_entry_size done _ seen rest = omega arith
 
 -- ---- what is left of a list of values
 

@@ -1,6 +1,6 @@
 -- The parts of a value without a flaw: none of them has one, and the entries of a members list have names of their own.
 use Rattle.std.proofs.Common.{◌≡◌, ◌<◌, ◌++◌, ◌&&◌, ℕ, zero, suc, Bool, true, false, cond, List, [], ◌∷◌, map, Some, None, is_some, inl, inr, refl, sym, subst, arith}
-use Rattle.serde_json.specs.Data.{Data, null, boolean, number, string, array, object, Items, no_items, item, Members, no_members, member, put}
+use Rattle.serde_json.specs.Data.{Data, null, object, Items, no_items, item, Members, no_members, member, put}
 use Rattle.serde_json.specs.Find.{get_item, get_member}
 use Rattle.conf_tree.specs.declared.fault_kind.FaultKind.TheVariants.{WrongKind, NoSuchAlias, NameClash}
 use Rattle.conf_tree.specs.Flaw.{Flaw, Place as Step, key, index, here, within}
@@ -64,12 +64,8 @@ module _ (al : Members) where
   mark_has (member m e ms) seen n d (inr later) = mark_has ms (put m null seen) n d later
 
   entry_keeps : (e : Data) (seen : Members) (n : List ℕ) → has seen n ≡ true → has (mark e seen) n ≡ true
-  entry_keeps null seen n h = h
-  entry_keeps (boolean b) seen n h = h
-  entry_keeps (number x) seen n h = h
-  entry_keeps (string x) seen n h = h
-  entry_keeps (array es) seen n h = h
   entry_keeps (object ms) seen n h = mark_keeps ms seen n h
+  entry_keeps _ seen n h = h
 
   pub record ItemSound (s : Place) (es : Items) (seen : Members) (j : ℕ) (e : Data) : Type 0 where
     pub marks : Members

@@ -1,6 +1,6 @@
 -- Where nothing is wrong at the places of a configuration, it has no flaw: no value beside them has a meaning.
 use Rattle.std.proofs.Common.{◌≡◌, ◌++◌, ◌&&◌, is_some, ◌⊎◌, inl, inr, ℕ, suc, Bool, true, false, true≢false, List, [], map, Some, None, refl, sym, ◌∙◌, subst}
-use Rattle.serde_json.specs.Data.{Data, null, boolean, number, string, array, object, Items, no_items, item, Members, no_members, member}
+use Rattle.serde_json.specs.Data.{Data, string, array, object, Items, no_items, item, Members, no_members, member}
 use Rattle.serde_json.specs.Find.{get_member}
 use Rattle.conf_tree.specs.Flaw.{Flaw, key, index, within}
 use Rattle.conf_table.specs.declared.place.Place.{Place}
@@ -78,12 +78,8 @@ not_entry _ h = refl
 
 module _ (al : Members) where
   known_none : (s : Place) (v : Data) → names_alias s ≡ false → names_member_type s ≡ false → is_unknown al s v ≡ false
-  known_none s null a b = refl
-  known_none s (boolean x) a b = refl
-  known_none s (number x) a b = refl
   known_none s (string x) a b = rw (a, b) refl
-  known_none s (array x) a b = refl
-  known_none s (object x) a b = refl
+  known_none s _ a b = refl
 
   -- a value has no flaw of its own where none has a meaning
   own_none : (s : Place) (v : Data) → lists_members s ≡ false → is_entry s ≡ false → names_alias s ≡ false → names_member_type s ≡ false → own_flaws al s false v ≡ []
@@ -108,12 +104,9 @@ module _ (al : Members) where
 
   mutual
     ignored_inner : (v : Data) (seen : Members) → inner_flaws al None places.Ignored seen v ≡ []
-    ignored_inner null seen = refl
-    ignored_inner (boolean b) seen = refl
-    ignored_inner (number n) seen = refl
-    ignored_inner (string n) seen = refl
     ignored_inner (array es) seen = ignored_items es places.Ignored 0 no_members ignored_items_place
     ignored_inner (object ms) seen = ignored_members ms seen
+    ignored_inner _ seen = refl
 
     ignored_items : (es : Items) (s : Place) (i : ℕ) (seen : Members) → place_of_items s ≡ places.Ignored → item_flaws al None s i seen es ≡ []
     ignored_items no_items s i seen is = refl
@@ -158,16 +151,13 @@ module _ (al done : Members) where
 
   mutual
     sound_inner : (v : Data) (s : Place) → IsOutside s → names_alias s ≡ false → PlaceSound al done s v → inner_flaws al None s no_members v ≡ []
-    sound_inner null s out no_type p = refl
-    sound_inner (boolean b) s out no_type p = refl
-    sound_inner (number n) s out no_type p = refl
-    sound_inner (string n) s out no_type p = refl
     sound_inner (array es) s out no_type p = elim (extras_or_ignored s out) [
       | inl extras ↦ (let place = extras_there s extras in
           subst (λ t. item_flaws al None t 0 no_members es ≡ []) (sym place) (extras_sound es 0 no_members (list_places al done es (subst (λ t. inner_places al done t (array es) ≡ []) place p.inner))))
       | inr ignored ↦ ignored_items al es s 0 no_members ignored
     ]
     sound_inner (object ms) s out no_type p = sound_members ms s out no_type (λ on. object_places al done s ms on p.inner)
+    sound_inner _ s out no_type p = refl
 
     sound_members : (ms : Members) (s : Place) → IsOutside s → names_alias s ≡ false → (leads_on s ≡ true → member_places al done s ms ≡ []) → member_flaws al None s no_members ms ≡ []
     sound_members no_members s out no_type places = refl

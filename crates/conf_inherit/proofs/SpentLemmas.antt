@@ -3,7 +3,7 @@ use Rattle.std.proofs.Common.{◌≡◌, ◌+◌, string_bytes, ◌&&◌, ◌||�
 use Rattle.std.proofs.lemmas.Slice.Eq.{bytes_eq-Decides}
 use Rattle.std.proofs.lemmas.Map.Text.{is_eq-slice_cmp}
 use Rattle.std.specs.Cmp.Lexicographic.{slice_cmp}
-use Rattle.serde_json.specs.Data.{Data, null, boolean, number, string, array, object, Items, no_items, item, Members, no_members, member, put}
+use Rattle.serde_json.specs.Data.{Data, null, string, array, object, Items, no_items, item, Members, no_members, member, put}
 use Rattle.serde_json.specs.Find.{get_member}
 use Rattle.serde_json.specs.View.{view, members_view}
 use Rattle.serde_json.specs.declared.value.Value.{Value}
@@ -25,7 +25,7 @@ use Rattle.conf_inherit.specs.Rounds.{Outcomes, has_outcome, is_over, is_empty, 
 use Rattle.conf_inherit.specs.Spent.{Spends, spent, TurnsLeave}
 use Rattle.conf_inherit.proofs.FunctionLemmas.{same_function}
 use Rattle.conf_inherit.proofs.LayingLemmas.{Meets, same, other, meets, get_other, get_same}
-use Rattle.conf_inherit.proofs.RoundLemmas.{is_still}
+use Rattle.conf_inherit.proofs.RoundLemmas.{is_still, by_turn}
 use Rattle.conf_inherit.proofs.TurnLemmas.{or_first, Follows, follows_first, follows_still, follows_round}
 use Rattle.conf_inherit.proofs.WrittenLemmas.{written}
 
@@ -39,44 +39,40 @@ spends_none done (member k w ms) = (refl, (inl refl, spends_none done ms))
 -- where more aliases are resolved, no more has to be left
 spends_more : (done more : Members) → ((n : List ℕ) → has done n ≡ true → has more n ≡ true) → (al now : Members) → Spends done al now → Spends more al now
 spends_more done more kept no_members no_members h = tt
-spends_more done more kept no_members (member j v vs) h = absurd h
-spends_more done more kept (member k w ms) no_members h = absurd h
 spends_more done more kept (member k w ms) (member j v vs) h =
     (h.0, (elim h.1.0 [ inl e ↦ inl e | inr e ↦ inr (e.0, kept k e.1) ], spends_more done more kept ms vs h.1.1))
+spends_more done more kept _ _ h = absurd h
 
 -- the body of a resolved alias may be dropped
 spends_spent : (done : Members) (n : List ℕ) → has done n ≡ true → (al now : Members) → Spends done al now → Spends done al (spent n now)
 spends_spent done n is no_members no_members h = tt
-spends_spent done n is no_members (member j v vs) h = absurd h
-spends_spent done n is (member k w ms) no_members h = absurd h
 spends_spent done n is (member k w ms) (member j v vs) h = go (bytes_eq n j) refl (spends_spent done n is ms vs h.1.1)
   where
     go : (t : Bool) → bytes_eq n j ≡ t → Spends done ms (spent n vs) → Spends done (member k w ms) (spent n (member j v vs))
     go true e later = rw e (h.0, (inr (refl, ap (has done) (h.0 ∙ sym ((bytes_eq-Decides n j).0 e)) ∙ is), h.1.1))
     go false e later = rw e (h.0, (h.1.0, later))
+spends_spent done n is _ _ h = absurd h
 
 -- each name is left
 pub same_names : (done al now : Members) → Spends done al now → (n : List ℕ) → is_some (get_member n now) ≡ is_some (get_member n al)
 same_names done no_members no_members h n = refl
-same_names done no_members (member j v vs) h n = absurd h
-same_names done (member k w ms) no_members h n = absurd h
 same_names done (member k w ms) (member j v vs) h n = ap (λ l. has (member l v vs) n) (sym h.0) ∙ go (meets n k) (same_names done ms vs h.1.1 n)
   where
     go : Meets n k → has vs n ≡ has ms n → has (member k v vs) n ≡ has (member k w ms) n
     go (same e) later = ap is_some (get_same n k v vs e) ∙ sym (ap is_some (get_same n k w ms e))
     go (other apart) later = ap is_some (get_other n k v vs apart) ∙ later ∙ sym (ap is_some (get_other n k w ms apart))
+same_names done _ _ h n = absurd h
 
 -- the body of an alias that is not resolved is left
 same_body : (done al now : Members) → Spends done al now → (n : List ℕ) → has done n ≡ false → get_member n now ≡ get_member n al
 same_body done no_members no_members h n free = refl
-same_body done no_members (member j v vs) h n free = absurd h
-same_body done (member k w ms) no_members h n free = absurd h
 same_body done (member k w ms) (member j v vs) h n free = ap (λ l. get_member n (member l v vs)) (sym h.0) ∙ go (meets n k) h.1.0 (same_body done ms vs h.1.1 n free)
   where
     go : Meets n k → (v ≡ w) ⊎ ((v ≡ null) × (has done k ≡ true)) → get_member n vs ≡ get_member n ms → get_member n (member k v vs) ≡ get_member n (member k w ms)
     go (same e) (inl is) later = get_same n k v vs e ∙ ap Some is ∙ sym (get_same n k w ms e)
     go (same e) (inr is) later = absurd (true≢false (sym is.1 ∙ ap (has done) (sym e) ∙ free))
     go (other apart) at later = get_other n k v vs apart ∙ later ∙ sym (get_other n k w ms apart)
+same_body done _ _ h n free = absurd h
 
 -- ---- what is judged by the names of the aliases alone
 
@@ -85,24 +81,17 @@ same_part f a b c x y z p q r = cc
 
 module _ (al now : Members) (names : (n : List ℕ) → is_some (get_member n now) ≡ is_some (get_member n al)) where
   same_unknown : (s : Place) (v : Data) → is_unknown now s v ≡ is_unknown al s v
-  same_unknown s null = refl
-  same_unknown s (boolean b) = refl
-  same_unknown s (number n) = refl
   same_unknown s (string n) = ap (λ t. (names_alias s || names_member_type s) && not t) (names n)
-  same_unknown s (array es) = refl
-  same_unknown s (object ms) = refl
+  same_unknown s _ = refl
 
   same_own : (s : Place) (taken : Bool) (v : Data) → own_flaws now s taken v ≡ own_flaws al s taken v
   same_own s taken v = ap (λ t. if is_wrong s v then here WrongKind ∷ [] else if t then here NoSuchAlias ∷ [] else if taken then here NameClash ∷ [] else []) (same_unknown s v)
 
   mutual
     same_inner : (known : Option Members) (s : Place) (seen : Members) (v : Data) → inner_flaws now known s seen v ≡ inner_flaws al known s seen v
-    same_inner known s seen null = refl
-    same_inner known s seen (boolean b) = refl
-    same_inner known s seen (number n) = refl
-    same_inner known s seen (string n) = refl
     same_inner known s seen (array es) = same_items known s 0 no_members es
     same_inner known s seen (object ms) = same_members known s seen ms
+    same_inner known s seen _ = refl
 
     same_items : (known : Option Members) (s : Place) (i : ℕ) (seen : Members) (es : Items) → item_flaws now known s i seen es ≡ item_flaws al known s i seen es
     same_items known s i seen no_items = refl
@@ -132,12 +121,9 @@ module _ (al now : Members) (names : (n : List ℕ) → is_some (get_member n no
 
   mutual
     same_places_in : (done : Members) (s : Place) (v : Data) → inner_places now done s v ≡ inner_places al done s v
-    same_places_in done s null = refl
-    same_places_in done s (boolean b) = refl
-    same_places_in done s (number n) = refl
-    same_places_in done s (string n) = refl
     same_places_in done s (array es) = ap (λ x. if lists_extra_members s then x else []) (same_item_places done s 0 no_members es)
     same_places_in done s (object ms) = ap (λ x. if leads_on s then x else []) (same_member_places done s ms)
+    same_places_in done s _ = refl
 
     same_item_places : (done : Members) (s : Place) (i : ℕ) (seen : Members) (es : Items) → item_places now done s i seen es ≡ item_places al done s i seen es
     same_item_places done s i seen no_items = refl
@@ -178,13 +164,11 @@ same_places al now done names s v = same_places_in al now names done s v
 
 -- what is resolved stays so
 kept_step : (al : Members) (k : List ℕ) (w : Data) (st : Outcomes) (n : List ℕ) → has st.done n ≡ true → has (step al k w st).done n ≡ true
-kept_step al k w st n h = go (has_outcome st k) refl (all_named (is_over al st) places.FieldType w) refl (outcome al st.done w) refl
+kept_step al k w st n h = by_turn al (λ x. has x.done n ≡ true) k w st h (λ free due. kept (outcome al st.done w))
   where
-    go : (t : Bool) → has_outcome st k ≡ t → (u : Bool) → all_named (is_over al st) places.FieldType w ≡ u → (o : Option Data) → outcome al st.done w ≡ o → has (step al k w st).done n ≡ true
-    go true a u b o e = rw a h
-    go false a false b o e = rw (a, b) h
-    go false a true b None e = rw (a, b, e) h
-    go false a true b (Some r) e = rw (a, b, e) (is_still k r st.done n h)
+    kept : (o : Option Data) → has (concluded k st o).done n ≡ true
+    kept None = h
+    kept (Some r) = is_still k r st.done n h
 
 kept_round : (al ms : Members) (st : Outcomes) (n : List ℕ) → has st.done n ≡ true → has (round al ms st).done n ≡ true
 kept_round al no_members st n h = h
@@ -200,22 +184,20 @@ spent_step al k j v w st e (inr is) = ap (λ l. step al l v st) (sym e) ∙ done
 
 spent_round : (al ms vs : Members) (st : Outcomes) → Spends st.done ms vs → round al vs st ≡ round al ms st
 spent_round al no_members no_members st h = refl
-spent_round al no_members (member j v vs) st h = absurd h
-spent_round al (member k w ms) no_members st h = absurd h
 spent_round al (member k w ms) (member j v vs) st h =
     ap (round al vs) (spent_step al k j v w st h.0 h.1.0)
     ∙ spent_round al ms vs (step al k w st) (spends_more st.done (step al k w st).done (kept_step al k w st) ms vs h.1.1)
+spent_round al _ _ st h = absurd h
 
 spent_settled : (al ms vs : Members) (st : Outcomes) → Spends st.done ms vs → all_settled al vs st ≡ all_settled al ms st
 spent_settled al no_members no_members st h = refl
-spent_settled al no_members (member j v vs) st h = absurd h
-spent_settled al (member k w ms) no_members st h = absurd h
 spent_settled al (member k w ms) (member j v vs) st h =
     ap (λ l. is_settled al st l v && all_settled al vs st) (sym h.0) ∙ go h.1.0 ∙ ap (λ t. is_settled al st k w && t) (spent_settled al ms vs st h.1.1)
   where
     go : (v ≡ w) ⊎ ((v ≡ null) × (has st.done k ≡ true)) → (is_settled al st k v && all_settled al vs st) ≡ (is_settled al st k w && all_settled al vs st)
     go (inl is) = ap (λ d. is_settled al st k d && all_settled al vs st) is
     go (inr is) = rw is.1 refl
+spent_settled al _ _ st h = absurd h
 
 -- a round over what is left of the aliases is one over the aliases
 same_round : (al now : Members) (st : Outcomes) → Spends st.done al now → round now now st ≡ round al al st
@@ -232,10 +214,9 @@ round_spends al now st h = spends_more st.done (round al al st).done (kept_round
 
 same_over_names : (ms vs : Members) (done : Members) (st : Outcomes) (over : Members) → Spends done ms vs → over_names vs st over ≡ over_names ms st over
 same_over_names no_members no_members done st over h = refl
-same_over_names no_members (member j v vs) done st over h = absurd h
-same_over_names (member k w ms) no_members done st over h = absurd h
 same_over_names (member k w ms) (member j v vs) done st over h =
     ap (λ l. over_names vs st (if has_outcome st l then put l null over else over)) (sym h.0) ∙ same_over_names ms vs done st (if has_outcome st k then put k null over else over) h.1.1
+same_over_names _ _ done st over h = absurd h
 
 module _ (al now : Members) (st : Outcomes) (left : Spends st.done al now) where
   same_flaws_at : (k : List ℕ) (w : Data) → alias_flaws now st k w ≡ alias_flaws al st k w
@@ -256,12 +237,11 @@ module _ (al now : Members) (st : Outcomes) (left : Spends st.done al now) where
 
   same_each : (ms vs : Members) → Spends st.done ms vs → all_alias_flaws now st vs ≡ all_alias_flaws al st ms
   same_each no_members no_members h = refl
-  same_each no_members (member j v vs) h = absurd h
-  same_each (member k w ms) no_members h = absurd h
   same_each (member k w ms) (member j v vs) h =
       ap (λ x. map (within (key j)) x ++ all_alias_flaws now st vs) (same_flaws_at j v)
       ∙ ap (λ x. x ++ all_alias_flaws now st vs) (spent_flaws_at k j v w h.0 h.1.0)
       ∙ ap (λ x. map (within (key k)) (alias_flaws al st k w) ++ x) (same_each ms vs h.1.1)
+  same_each _ _ h = absurd h
 
 -- what is wrong with the aliases is told by what is left of them
 pub same_alias_flaws : (al now : Members) (st : Outcomes) → Spends st.done al now → all_alias_flaws now st now ≡ all_alias_flaws al st al

@@ -6,7 +6,7 @@ use Rattle.std.specs.Map.{keys_of}
 use Rattle.std.specs.Str.{bytes_eq}
 use Rattle.std.specs.Cmp.Lexicographic.{slice_cmp}
 use Rattle.std.proofs.lemmas.Slice.Eq.{bytes_eq-Decides}
-use Rattle.serde_json.specs.Data.{Data, null, boolean, number, string, array, object, Members, no_members, member, put}
+use Rattle.serde_json.specs.Data.{Data, null, object, Members, no_members, member, put}
 use Rattle.serde_json.specs.Find.{get, get_member, as_object}
 use Rattle.serde_json.specs.View.{view, members_view}
 use Rattle.serde_json.specs.declared.number.Number.{Number}
@@ -28,7 +28,7 @@ use Rattle.conf_inherit.specs.Rounds.{Outcomes, rounds, no_outcomes}
 use Rattle.conf_inherit.specs.Spent.{Spends}
 use Rattle.conf_inherit.specs.Whole.{holds_aliases, way_to_aliases, aliases_at, without, with_property, in_property, in_object, with_aliases, AreLaid}
 use Rattle.conf_inherit.proofs.FieldPlaceLemmas.{trace_place, trace_type_place, aliases_place}
-use Rattle.conf_inherit.proofs.InOrder.{same_name, equal_names, above_through, get_none}
+use Rattle.conf_inherit.proofs.InOrder.{same_name, equal_names, above_through, get_none, value_same}
 use Rattle.conf_inherit.proofs.LayingLemmas.{Meets, same, other, meets, get_other, get_same}
 use Rattle.conf_inherit.proofs.ResolveLemmas.{above_of}
 use Rattle.conf_inherit.proofs.SpentLemmas.{same_names, same_alias_flaws, same_places}
@@ -36,15 +36,9 @@ use Rattle.conf_inherit.proofs.WholeLemmas.{whole_laid, whole_sound}
 
 -- ---- the value of one name
 
-some_name : (n k : List ℕ) → Some n ≡ Some k → n ≡ k
-some_name n k h = cc
-
 then_some : (o : Option Data) → o ≡ option_and_then (λ d. Some d) o
 then_some None = refl
 then_some (Some d) = refl
-
-some_same : (d e : Data) → Some d ≡ Some e → d ≡ e
-some_same d e h = cc
 
 members_twice : (n : List ℕ) (f g h : Data → Data) → ((d : Data) → f (g d) ≡ h d) → (ms : Members) → with_property n f (with_property n g ms) ≡ with_property n h ms
 members_twice n f g h each no_members = refl
@@ -55,12 +49,8 @@ members_twice n f g h each (member k d ms) = go (bytes_eq k n) refl (members_twi
     go false is rest = rw (is, is) (ap (member k d) rest)
 
 value_twice : (n : List ℕ) (f g h : Data → Data) → ((d : Data) → f (g d) ≡ h d) → (v : Data) → in_property n f (in_property n g v) ≡ in_property n h v
-value_twice n f g h each null = refl
-value_twice n f g h each (boolean b) = refl
-value_twice n f g h each (number x) = refl
-value_twice n f g h each (string x) = refl
-value_twice n f g h each (array es) = refl
 value_twice n f g h each (object ms) = ap object (members_twice n f g h each ms)
+value_twice n f g h each _ = refl
 
 members_same : (n : List ℕ) (f : Data → Data) (ms : Members) → ((d : Data) → get_member n ms ≡ Some d → f d ≡ d) → with_property n f ms ≡ ms
 members_same n f no_members each = refl
@@ -71,13 +61,9 @@ members_same n f (member k d ms) each = go (bytes_eq k n) refl (meets n k) (memb
     go false is (same e) rest = absurd (true≢false (sym ((bytes_eq-Decides k n).1 (sym e)) ∙ is))
     go false is (other away) rest = rw is (ap (member k d) (rest (λ e at. each e (get_other n k d ms away ∙ at))))
 
-value_same : (n : List ℕ) (f : Data → Data) (v : Data) → ((d : Data) → get n v ≡ Some d → f d ≡ d) → in_property n f v ≡ v
-value_same n f null each = refl
-value_same n f (boolean b) each = refl
-value_same n f (number x) each = refl
-value_same n f (string x) each = refl
-value_same n f (array es) each = refl
-value_same n f (object ms) each = ap object (members_same n f ms each)
+value_stays : (n : List ℕ) (f : Data → Data) (v : Data) → ((d : Data) → get n v ≡ Some d → f d ≡ d) → in_property n f v ≡ v
+value_stays n f (object ms) each = ap object (members_same n f ms each)
+value_stays n f _ each = refl
 
 -- where the name is none of theirs, all stay
 pub with_none : (n : List ℕ) (f : Data → Data) (ms : Members) → get_member n ms ≡ None → with_property n f ms ≡ ms
@@ -90,7 +76,7 @@ with_found n f d (member k e ms) at = go (bytes_eq k n) refl (meets n k) (with_f
     go : (t : Bool) → bytes_eq k n ≡ t → Meets n k → (get_member n ms ≡ Some d → get_member n (with_property n f ms) ≡ Some (f d)) → get_member n (with_property n f (member k e ms)) ≡ Some (f d)
     go true is m rest =
         let one : n ≡ k = sym ((bytes_eq-Decides k n).0 is) in
-        let mine : e ≡ d = some_same e d (sym (get_same n k e ms one) ∙ at) in
+        let mine : e ≡ d = value_same e d (sym (get_same n k e ms one) ∙ at) in
         rw is (get_same n k (f e) ms one ∙ ap (λ x. Some (f x)) mine)
     go false is (same e) rest = absurd (true≢false (sym ((bytes_eq-Decides k n).1 (sym e)) ∙ is))
     go false is (other away) rest = rw is (get_other n k e (with_property n f ms) away ∙ rest (sym (get_other n k e ms away) ∙ at))
@@ -117,7 +103,7 @@ put_with n f d (member k e ms) order at = go _ refl (put_with n f d ms order.1)
     go Equal is rest =
         let one : n ≡ k = equal_names n k is in
         let way : bytes_eq k n ≡ true = (bytes_eq-Decides k n).1 (sym one) in
-        let mine : d ≡ e = some_same d e (sym at ∙ get_same n k e ms one) in
+        let mine : d ≡ e = value_same d e (sym at ∙ get_same n k e ms one) in
         rw (is, way) (ap (λ x. member k (f x) ms) mine)
     go Greater is rest =
         let found : get_member n ms ≡ Some d = rw is at at in
@@ -130,11 +116,7 @@ put_with n f d (member k e ms) order at = go _ refl (put_with n f d ms order.1)
 
 object_twice : (al ns : Members) (v : Data) → in_object al (in_object ns v) ≡ in_object al v
 object_twice al ns null = refl
-object_twice al ns (boolean b) = refl
-object_twice al ns (number x) = refl
-object_twice al ns (string x) = refl
-object_twice al ns (array es) = refl
-object_twice al ns (object ms) = refl
+object_twice al ns _ = refl
 
 pub aliases_twice : (al ns : Members) (t : Data) → with_aliases places.Root al (with_aliases places.Root ns t) ≡ with_aliases places.Root al t
 unfolding with_aliases
@@ -144,20 +126,16 @@ aliases_twice al ns t =
     (value_twice aliases_name (in_object al) (in_object ns) (in_object al) (object_twice al ns))) t
 
 own_object : (al : Members) (d : Data) → al ≡ members_or_none (Some d) → in_object al d ≡ d
-own_object al null h = refl
-own_object al (boolean b) h = refl
-own_object al (number x) h = refl
-own_object al (string x) h = refl
-own_object al (array es) h = refl
 own_object al (object ms) h = ap object h
+own_object al _ h = refl
 
 own_aliases : (t : Data) → with_aliases places.Root (aliases_of t) t ≡ t
 unfolding with_aliases
 own_aliases t =
     let al = aliases_of t in
-    value_same trace_name (in_property type_name (in_property aliases_name (in_object al))) t (λ trace in_root.
-    value_same type_name (in_property aliases_name (in_object al)) trace (λ type in_trace.
-    value_same aliases_name (in_object al) type (λ found in_type.
+    value_stays trace_name (in_property type_name (in_property aliases_name (in_object al))) t (λ trace in_root.
+    value_stays type_name (in_property aliases_name (in_object al)) trace (λ type in_trace.
+    value_stays aliases_name (in_object al) type (λ found in_type.
     own_object al found (
     ap (λ o. members_or_none (option_and_then (get aliases_name) (option_and_then (get type_name) o))) in_root
     ∙ ap (λ o. members_or_none (option_and_then (get aliases_name) o)) in_trace
@@ -175,15 +153,15 @@ back_again t al v own bare = ap (λ ms. with_aliases places.Root ms v) own ∙ a
 pub with_way : (s : Place) (n : List ℕ) (al ms : Members) → way_to_aliases s ≡ Some n → with_aliases s al (object ms) ≡ object (with_property n (with_aliases (place_under s n) al) ms)
 unfolding way_to_aliases with_aliases
 with_way places.Root n al ms way =
-    let is : trace_name ≡ n = some_name trace_name n way in
+    let is : trace_name ≡ n = value_same trace_name n way in
     ap (λ t. object (with_property trace_name (with_aliases t al) ms)) (sym trace_place)
     ∙ ap (λ x. object (with_property x (with_aliases (place_under places.Root x) al) ms)) is
 with_way places.Trace n al ms way =
-    let is : type_name ≡ n = some_name type_name n way in
+    let is : type_name ≡ n = value_same type_name n way in
     ap (λ t. object (with_property type_name (with_aliases t al) ms)) (sym trace_type_place)
     ∙ ap (λ x. object (with_property x (with_aliases (place_under places.Trace x) al) ms)) is
 with_way places.TraceType n al ms way =
-    let is : aliases_name ≡ n = some_name aliases_name n way in
+    let is : aliases_name ≡ n = value_same aliases_name n way in
     ap (λ t. object (with_property aliases_name (with_aliases t al) ms)) (sym aliases_place)
     ∙ ap (λ x. object (with_property x (with_aliases (place_under places.TraceType x) al) ms)) is
 with_way _ n al ms way = let bad : None ≡ Some n = way in cc
@@ -195,16 +173,16 @@ then_then f g (Some d) = refl
 pub at_way : (s : Place) (n : List ℕ) (ms : Members) → way_to_aliases s ≡ Some n → aliases_at s (object ms) ≡ option_and_then (aliases_at (place_under s n)) (get_member n ms)
 unfolding way_to_aliases
 at_way places.Root n ms way =
-    let is : trace_name ≡ n = some_name trace_name n way in
+    let is : trace_name ≡ n = value_same trace_name n way in
     then_then (get aliases_name) (get type_name) (get_member trace_name ms)
     ∙ ap (λ t. option_and_then (aliases_at t) (get_member trace_name ms)) (sym trace_place)
     ∙ ap (λ x. option_and_then (aliases_at (place_under places.Root x)) (get_member x ms)) is
 at_way places.Trace n ms way =
-    let is : type_name ≡ n = some_name type_name n way in
+    let is : type_name ≡ n = value_same type_name n way in
     ap (λ t. option_and_then (aliases_at t) (get_member type_name ms)) (sym trace_type_place)
     ∙ ap (λ x. option_and_then (aliases_at (place_under places.Trace x)) (get_member x ms)) is
 at_way places.TraceType n ms way =
-    let is : aliases_name ≡ n = some_name aliases_name n way in
+    let is : aliases_name ≡ n = value_same aliases_name n way in
     then_some (get_member aliases_name ms)
     ∙ ap (λ t. option_and_then (aliases_at t) (get_member aliases_name ms)) (sym aliases_place)
     ∙ ap (λ x. option_and_then (aliases_at (place_under places.TraceType x)) (get_member x ms)) is
@@ -213,9 +191,9 @@ at_way _ n ms way = let bad : None ≡ Some n = way in cc
 -- a name on the way leads on
 pub way_leads : (s : Place) (n : List ℕ) → way_to_aliases s ≡ Some n → holds_aliases (place_under s n) ≡ true
 unfolding way_to_aliases holds_aliases
-way_leads places.Root n way = ap (λ x. holds_aliases (place_under places.Root x)) (sym (some_name trace_name n way)) ∙ ap holds_aliases trace_place
-way_leads places.Trace n way = ap (λ x. holds_aliases (place_under places.Trace x)) (sym (some_name type_name n way)) ∙ ap holds_aliases trace_type_place
-way_leads places.TraceType n way = ap (λ x. holds_aliases (place_under places.TraceType x)) (sym (some_name aliases_name n way)) ∙ ap holds_aliases aliases_place
+way_leads places.Root n way = ap (λ x. holds_aliases (place_under places.Root x)) (sym (value_same trace_name n way)) ∙ ap holds_aliases trace_place
+way_leads places.Trace n way = ap (λ x. holds_aliases (place_under places.Trace x)) (sym (value_same type_name n way)) ∙ ap holds_aliases trace_type_place
+way_leads places.TraceType n way = ap (λ x. holds_aliases (place_under places.TraceType x)) (sym (value_same aliases_name n way)) ∙ ap holds_aliases aliases_place
 way_leads _ n way = let bad : None ≡ Some n = way in cc
 
 -- an object with no such name is that of the aliases
@@ -256,22 +234,14 @@ module _ (al done : Members) where
         go false is rest = rw is (ap (λ fs. map (within (key k)) (parts (place_under s k) d) ++ fs) rest)
 
     alike_under : (v : Data) → inner_places al done s (in_property n f v) ≡ inner_places al done s (in_property n g v)
-    alike_under null = refl
-    alike_under (boolean b) = refl
-    alike_under (number x) = refl
-    alike_under (string x) = refl
-    alike_under (array es) = refl
     alike_under (object ms) = ap (λ fs. if leads_on s then fs else []) (members_alike ms)
+    alike_under _ = refl
 
   module _ (ms ns : Members) (alike : member_places al done places.FieldTypeAliases ms ≡ member_places al done places.FieldTypeAliases ns) where
     alike_object : (v : Data) → inner_places al done places.FieldTypeAliases (in_object ms v) ≡ inner_places al done places.FieldTypeAliases (in_object ns v)
     unfolding leads_on
-    alike_object null = refl
-    alike_object (boolean b) = refl
-    alike_object (number x) = refl
-    alike_object (string x) = refl
-    alike_object (array es) = refl
     alike_object (object os) = alike
+    alike_object _ = refl
 
     alike_aliases : (t : Data) → inner_places al done places.Root (with_aliases places.Root ms t) ≡ inner_places al done places.Root (with_aliases places.Root ns t)
     unfolding with_aliases place_flaws names_alias names_member_type lists_extra_members
@@ -306,79 +276,25 @@ unfolding with_aliases
 laid_themselves done al s ms above none laid = no_way s (λ x. done ≡ lay_members done x (properties_of (with_aliases x al (object ms))) no_members) above none laid
 
 -- a value of another kind is no object
-null_view : as_object (view values.Null) ≡ None
-null_view = search (rules, the_lemmas)
-
-flag_view : (b : Bool) → as_object (view (values.Bool b)) ≡ None
-flag_view b = search (rules, the_lemmas)
-
-number_view : (n : Number) → as_object (view (values.Number n)) ≡ None
-number_view n = search (rules, the_lemmas)
-
-text_view : (s : String Global) → as_object (view (values.String s)) ≡ None
-text_view s = search (rules, the_lemmas)
-
-list_view : (es : Vec Value Global) → as_object (view (values.Array es)) ≡ None
-list_view es = search (rules, the_lemmas)
-
 abbrev pub IsOther : Value → Type 0
 IsOther v = (v ≡ values.Null) ⊎ (((b : Bool) × (v ≡ values.Bool b)) ⊎ (((n : Number) × (v ≡ values.Number n)) ⊎ (((s : String Global) × (v ≡ values.String s)) ⊎ ((es : Vec Value Global) × (v ≡ values.Array es)))))
 
 pub no_object : (v : Value) → IsOther v → as_object (view v) ≡ None
-no_object v (inl e) = ap (λ x. as_object (view x)) e ∙ null_view
-no_object v (inr (inl e)) = ap (λ x. as_object (view x)) e.1 ∙ flag_view e.0
-no_object v (inr (inr (inl e))) = ap (λ x. as_object (view x)) e.1 ∙ number_view e.0
-no_object v (inr (inr (inr (inl e)))) = ap (λ x. as_object (view x)) e.1 ∙ text_view e.0
-no_object v (inr (inr (inr (inr e)))) = ap (λ x. as_object (view x)) e.1 ∙ list_view e.0
+no_object v (inl e) = subst (λ x. as_object (view x) ≡ None) (sym e) (search (rules, the_lemmas))
+no_object v (inr (inl (x, e))) = subst (λ x. as_object (view x) ≡ None) (sym e) (search (rules, the_lemmas))
+no_object v (inr (inr (inl (x, e)))) = subst (λ x. as_object (view x) ≡ None) (sym e) (search (rules, the_lemmas))
+no_object v (inr (inr (inr (inl (x, e))))) = subst (λ x. as_object (view x) ≡ None) (sym e) (search (rules, the_lemmas))
+no_object v (inr (inr (inr (inr (x, e))))) = subst (λ x. as_object (view x) ≡ None) (sym e) (search (rules, the_lemmas))
 
 -- what is no object has no aliases
 abbrev AsItIs : Place → Members → Data → Type 0
 AsItIs s al v = (with_aliases s al v ≡ v) × (no_members ≡ members_or_none (aliases_at s v))
 
-module _ (al : Members) where
-  root_as_it_is : (v : Data) → as_object v ≡ None → AsItIs places.Root al v
-  unfolding with_aliases
-  root_as_it_is null h = (refl, refl)
-  root_as_it_is (boolean b) h = (refl, refl)
-  root_as_it_is (number n) h = (refl, refl)
-  root_as_it_is (string n) h = (refl, refl)
-  root_as_it_is (array es) h = (refl, refl)
-  root_as_it_is (object ms) h = cc
-
-  trace_as_it_is : (v : Data) → as_object v ≡ None → AsItIs places.Trace al v
-  unfolding with_aliases
-  trace_as_it_is null h = (refl, refl)
-  trace_as_it_is (boolean b) h = (refl, refl)
-  trace_as_it_is (number n) h = (refl, refl)
-  trace_as_it_is (string n) h = (refl, refl)
-  trace_as_it_is (array es) h = (refl, refl)
-  trace_as_it_is (object ms) h = cc
-
-  type_as_it_is : (v : Data) → as_object v ≡ None → AsItIs places.TraceType al v
-  unfolding with_aliases
-  type_as_it_is null h = (refl, refl)
-  type_as_it_is (boolean b) h = (refl, refl)
-  type_as_it_is (number n) h = (refl, refl)
-  type_as_it_is (string n) h = (refl, refl)
-  type_as_it_is (array es) h = (refl, refl)
-  type_as_it_is (object ms) h = cc
-
-  own_as_it_is : (v : Data) → as_object v ≡ None → AsItIs places.FieldTypeAliases al v
-  unfolding with_aliases
-  own_as_it_is null h = (refl, refl)
-  own_as_it_is (boolean b) h = (refl, refl)
-  own_as_it_is (number n) h = (refl, refl)
-  own_as_it_is (string n) h = (refl, refl)
-  own_as_it_is (array es) h = (refl, refl)
-  own_as_it_is (object ms) h = cc
-
-  pub as_it_is : (s : Place) (v : Data) → as_object v ≡ None → AsItIs s al v
-  unfolding with_aliases
-  as_it_is places.Root v h = root_as_it_is v h
-  as_it_is places.Trace v h = trace_as_it_is v h
-  as_it_is places.TraceType v h = type_as_it_is v h
-  as_it_is places.FieldTypeAliases v h = own_as_it_is v h
-  as_it_is _ v h = (refl, refl)
+pub as_it_is : (al : Members) (s : Place) (v : Data) → as_object v ≡ None → AsItIs s al v
+unfolding with_aliases
+as_it_is al s (object ms) h = cc
+as_it_is al places.Root _ h = (refl, refl)
+as_it_is al _ _ h = (refl, refl)
 
 -- ---- what is answered
 

@@ -8,16 +8,15 @@ use Rattle.serde_json.proofs.Views.{get_member-put, get_member-put_other}
 use Rattle.conf_table.specs.declared.place.Place.TheVariants as places
 use Rattle.conf_inherit.specs.Named.{all_named, has}
 use Rattle.conf_inherit.specs.Names.{IsInOrder, NoClash}
-use Rattle.conf_inherit.specs.Rounds.{Outcomes, has_outcome, is_over, outcome, concluded, step, round, all_over, next_round, rounds, no_outcomes, Reached, at_first, turned, is_settled, all_settled}
-use Rattle.conf_inherit.proofs.CircleLemmas.{blocked}
-use Rattle.conf_inherit.proofs.InOrder.{same_members}
+use Rattle.conf_inherit.specs.Rounds.{Outcomes, has_outcome, is_over, outcome, concluded, step, round, all_over, next_round, rounds, no_outcomes, Reached, is_settled, all_settled}
+use Rattle.conf_inherit.proofs.InOrder.{same_members, value_same}
 use Rattle.conf_inherit.proofs.KeptLemmas.{more_named, kept_lay, kept_inner}
 use Rattle.conf_inherit.proofs.LayingLemmas.{Meets, same, other, meets, get_other, get_same, in_order_put}
-use Rattle.conf_inherit.proofs.ListLemmas.{AllEntries, found_each}
-use Rattle.conf_inherit.proofs.NamedLemmas.{named_along}
-use Rattle.conf_inherit.proofs.ReadyLemmas.{and_left, and_right}
-use Rattle.conf_inherit.proofs.RoundLemmas.{by_round, entry_found, is_put, or_left_false, or_right_false}
-use Rattle.conf_inherit.proofs.WalkLemmas.{count, count_all, count_new, mentioned}
+use Rattle.conf_inherit.proofs.ListLemmas.{AllEntries, found_each, entry_found}
+use Rattle.conf_inherit.proofs.NamedLemmas.{named_along, blocked, mentioned}
+use Rattle.conf_inherit.proofs.ReadyLemmas.{and_left, and_right, or_left, or_right}
+use Rattle.conf_inherit.proofs.RoundLemmas.{is_put, by_turn, reached_keeps, round_reached, rounds_reached}
+use Rattle.conf_inherit.proofs.WalkLemmas.{count, count_all, count_new}
 
 -- ---- what a conclusion changes
 
@@ -38,8 +37,8 @@ same_outcome : (st next : Outcomes) (n : List ℕ) → SameAt st next n → has_
 same_outcome st next n (d, f) = ap (λ x. is_some x || has next.refused n) d ∙ ap (λ x. has st.done n || is_some x) f
 
 concluded_at : (k : List ℕ) (st : Outcomes) (o : Option Data) → has_outcome st k ≡ false → (get_member k (concluded k st o).done ≡ o) × (get_member k (concluded k st o).refused ≡ mark_of o)
-concluded_at k st None free = (none_of (get_member k st.done) (or_left_false (has st.done k) (has st.refused k) free), get_member-put k null st.refused)
-concluded_at k st (Some r) free = (get_member-put k r st.done, none_of (get_member k st.refused) (or_right_false (has st.done k) (has st.refused k) free))
+concluded_at k st None free = (none_of (get_member k st.done) (or_left (has st.done k) (has st.refused k) free), get_member-put k null st.refused)
+concluded_at k st (Some r) free = (get_member-put k r st.done, none_of (get_member k st.refused) (or_right (has st.done k) (has st.refused k) free))
 
 concluded_other : (k : List ℕ) (st : Outcomes) (o : Option Data) (n : List ℕ) → (n ≡ k → ⊥) → SameAt st (concluded k st o) n
 concluded_other k st None n apart = (refl, get_member-put_other n k null st.refused apart)
@@ -67,9 +66,6 @@ or_split false b h = inr h
 not_both : (a : Bool) → not a ≡ true → a ≡ true → ⊥
 not_both true h e = true≢false (sym h)
 not_both false h e = true≢false (sym e)
-
-same_value : (d e : Data) → Some d ≡ Some e → d ≡ e
-same_value d e h = cc
 
 module _ (al : Members) where
   over_along : (st next : Outcomes) → ((n : List ℕ) → has_outcome st n ≡ true → has_outcome next n ≡ true) → (n : List ℕ) → is_over al st n ≡ true → is_over al next n ≡ true
@@ -159,7 +155,7 @@ module _ (al : Members) where
       where
         at : Meets q k → Comes next q v
         at (same e) =
-            let one : w ≡ v = same_value w v (sym is ∙ ap (λ x. get_member x al) (sym e) ∙ is_q) in
+            let one : w ≡ v = value_same w v (sym is ∙ ap (λ x. get_member x al) (sym e) ∙ is_q) in
             subst (λ x. Comes next x v) (sym e) (subst (Comes next k) one comes_here)
         at (other apart) =
             let kept = concluded_other k st (outcome al st.done w) q apart in
@@ -181,23 +177,11 @@ module _ (al : Members) where
     sound_next : IsSound next
     sound_next = record { own = own_next; comes = comes_next; done_order = done_next (outcome al st.done w); refused_order = refused_next (outcome al st.done w) }
 
-  -- what a conclusion keeps, a turn keeps
-  by_turn : (P : Outcomes → Type 0) (k : List ℕ) (w : Data) (st : Outcomes) → P st → (has_outcome st k ≡ false → all_named (is_over al st) places.FieldType w ≡ true → P (concluded k st (outcome al st.done w))) → P (step al k w st)
-  by_turn P k w st stays goes = go (has_outcome st k) refl (all_named (is_over al st) places.FieldType w) refl
-    where
-      go : (t : Bool) → has_outcome st k ≡ t → (u : Bool) → all_named (is_over al st) places.FieldType w ≡ u → P (step al k w st)
-      go true a u b = rw a stays
-      go false a false b = rw (a, b) stays
-      go false a true b = rw (a, b) (goes a b)
-
   first_sound : IsSound no_outcomes
   first_sound = record { own = λ n h. absurd (true≢false (sym h)); comes = λ k w is h. absurd (true≢false (sym h)); done_order = tt; refused_order = tt }
 
   pub reached_sound : {st : Outcomes} → Reached al st → IsSound st
-  reached_sound at_first = first_sound
-  reached_sound (turned k w st is before) =
-      let sound = reached_sound before in
-      by_turn IsSound k w st sound (λ free due. sound_next k w st is free due sound)
+  reached_sound reached = reached_keeps al IsSound first_sound sound_next reached
 
   -- ---- a state in which no alias that is due waits
 
@@ -229,15 +213,12 @@ module _ (al : Members) where
 
     -- it has all that any turns lead to
     agrees_all : {st : Outcomes} → Reached al st → Agrees st last
-    agrees_all at_first = λ n h. absurd (true≢false (sym h))
-    agrees_all (turned k w st is before) =
-        let agrees = agrees_all before in
-        by_turn (λ x. Agrees x last) k w st agrees (agrees_turn k w st is agrees)
+    agrees_all reached = reached_keeps al (λ x. Agrees x last) (λ n h. absurd (true≢false (sym h))) (λ k w st is free due agrees. agrees_turn k w st is agrees free due) reached
 
   -- ---- two such states are the same
 
   no_outcome : (st : Outcomes) (q : List ℕ) → has_outcome st q ≡ false → (get_member q st.done ≡ None) × (get_member q st.refused ≡ None)
-  no_outcome st q h = (none_of (get_member q st.done) (or_left_false (has st.done q) (has st.refused q) h), none_of (get_member q st.refused) (or_right_false (has st.done q) (has st.refused q) h))
+  no_outcome st q h = (none_of (get_member q st.done) (or_left (has st.done q) (has st.refused q) h), none_of (get_member q st.refused) (or_right (has st.done q) (has st.refused q) h))
 
   same_at : (a b : Outcomes) → Agrees a b → Agrees b a → (q : List ℕ) → SameAt a b q
   same_at a b f g q = go (has_outcome a q) refl (has_outcome b q) refl
@@ -259,16 +240,8 @@ module _ (al : Members) where
 
   -- ---- the rounds
 
-  pub round_reached : (ms : Members) (st : Outcomes) → AllEntries (λ k w. get_member k al ≡ Some w) ms → Reached al st → Reached al (round al ms st)
-  round_reached no_members st each h = h
-  round_reached (member k w ms) st each h = round_reached ms (step al k w st) each.1 (turned k w st each.0 h)
-
-  pub rounds_reached : (n : ℕ) → AllEntries (λ k w. get_member k al ≡ Some w) al → Reached al (rounds al n no_outcomes)
-  rounds_reached zero each = at_first
-  rounds_reached (suc n) each = by_round al (Reached al) (rounds al n no_outcomes) (rounds_reached n each) (round_reached al (rounds al n no_outcomes) each (rounds_reached n each))
-
   kept_step : (k : List ℕ) (w : Data) (st : Outcomes) (n : List ℕ) → has_outcome st n ≡ true → has_outcome (step al k w st) n ≡ true
-  kept_step k w st n h = by_turn (λ x. has_outcome x n ≡ true) k w st h (λ free due. outcome_kept st (concluded k st (outcome al st.done w)) (concluded_agrees k st (outcome al st.done w) free) n h)
+  kept_step k w st n h = by_turn al (λ x. has_outcome x n ≡ true) k w st h (λ free due. outcome_kept st (concluded k st (outcome al st.done w)) (concluded_agrees k st (outcome al st.done w) free) n h)
 
   kept_round : (ms : Members) (st : Outcomes) (n : List ℕ) → has_outcome st n ≡ true → has_outcome (round al ms st) n ≡ true
   kept_round no_members st n h = h
@@ -292,7 +265,7 @@ module _ (al : Members) where
     where
       at : Meets k l → (get_member k ms ≡ Some w → all_named (is_over al (step al l d st)) places.FieldType w ≡ true → has_outcome (round al ms (step al l d st)) k ≡ true) → has_outcome (round al ms (step al l d st)) k ≡ true
       at (same e) later =
-          let one : d ≡ w = same_value d w (sym (get_same k l d ms e) ∙ is) in
+          let one : d ≡ w = value_same d w (sym (get_same k l d ms e) ∙ is) in
           let turn : has_outcome (step al l d st) l ≡ true = due_step l d st (subst (λ x. all_named (is_over al st) places.FieldType x ≡ true) (sym one) due) in
           kept_round ms (step al l d st) k (ap (has_outcome (step al l d st)) e ∙ turn)
       at (other apart) later = later (sym (get_other k l d ms apart) ∙ is) (due_along st (step al l d st) (kept_step l d st) w due)
@@ -375,7 +348,7 @@ module _ (al : Members) where
 
   -- what any turns lead to that leave none due is what the rounds leave
   pub turns_are_rounds : {st : Outcomes} → NoClash al → Reached al st → IsSettled st → st ≡ rounds al (members_len al) no_outcomes
-  turns_are_rounds apart reached settled = one_state reached settled (rounds_reached (members_len al) (found_each al apart)) (rounds_settled apart)
+  turns_are_rounds apart reached settled = one_state reached settled (rounds_reached al (members_len al) (found_each al apart)) (rounds_settled apart)
 
   -- ---- the rounds that follow
 
@@ -394,7 +367,7 @@ module _ (al : Members) where
   pub follows_round : (st after : Outcomes) (settled : Bool) (n : ℕ) → NoClash al → Follows st false n → settled ≡ all_settled al al st → after ≡ round al al st → Follows after settled (n + 1)
   follows_round st after settled n apart before is went =
       record {
-        reached = subst (Reached al) (sym went) (round_reached al st (found_each al apart) before.reached);
+        reached = subst (Reached al) (sym went) (round_reached al al st (found_each al apart) before.reached);
         all = λ e. let was : all_settled al al st ≡ true = sym is ∙ e in ap (all_settled al al) (went ∙ settled_round al st was) ∙ was;
         few = λ e.
             let was : all_settled al al st ≡ false = sym is ∙ e in

@@ -1,54 +1,23 @@
 -- An alias that is resolved starts no walk as long as there are aliases.
-use Rattle.std.proofs.Common.{◌≡◌, ◌&&◌, ◌<◌, ◌≤◌, inl, inr, ℕ, zero, suc, List, Option, Some, None, Ok, is_some, Bool, true, false, true≢false, refl, sym, ap, ◌∙◌, subst, arith, if◌then◌else◌}
-use Rattle.serde_json.specs.Data.{Data, null, boolean, number, string, array, object, Items, no_items, item, Members, no_members, member, put}
+use Rattle.std.proofs.Common.{◌≡◌, ◌&&◌, ◌<◌, ◌≤◌, ℕ, zero, suc, List, Option, Some, None, Ok, is_some, Bool, true, false, true≢false, refl, sym, ap, ◌∙◌, subst, arith, if◌then◌else◌}
+use Rattle.serde_json.specs.Data.{Data, Members, no_members, member, put}
 use Rattle.serde_json.specs.Events.{members_len}
 use Rattle.serde_json.specs.Find.{get_member}
 use Rattle.serde_json.proofs.Views.{get_member-put_other}
-use Rattle.conf_table.specs.declared.place.Place.{Place}
 use Rattle.conf_table.specs.declared.place.Place.TheVariants as places
-use Rattle.conf_inherit.specs.FieldPlaces.{place_under, place_of_items, names_alias}
 use Rattle.conf_inherit.specs.AliasFlaws.{all_alias_flaws}
-use Rattle.conf_inherit.specs.Circle.{Mentions, MentionsInItems, MentionsInMembers, Walks}
+use Rattle.conf_inherit.specs.Circle.{Mentions, Walks}
 use Rattle.conf_inherit.specs.Flaws.{flaws}
 use Rattle.conf_inherit.specs.Names.{NoClash}
-use Rattle.conf_inherit.specs.Ready.{Names}
 use Rattle.conf_inherit.specs.Resolution.{aliases_of, resolution}
-use Rattle.conf_inherit.specs.Named.{all_named, all_named_in_items, all_named_in_members, has}
-use Rattle.conf_inherit.specs.Rounds.{has_outcome, Outcomes, is_over, is_empty, outcome, concluded, step, round, rounds, no_outcomes}
+use Rattle.conf_inherit.specs.Named.{all_named, has}
+use Rattle.conf_inherit.specs.Rounds.{has_outcome, Outcomes, is_empty, outcome, concluded, rounds, no_outcomes}
 use Rattle.conf_inherit.proofs.LayingLemmas.{Meets, same, other, meets, get_other}
 use Rattle.conf_inherit.proofs.ListLemmas.{AllEntries, found_each}
-use Rattle.conf_inherit.proofs.ReadyLemmas.{and_right, and_left}
+use Rattle.conf_inherit.proofs.ReadyLemmas.{and_left, or_left}
 use Rattle.conf_inherit.proofs.ResolveLemmas.{no_flaws, aliases_sound}
-use Rattle.conf_inherit.proofs.RoundLemmas.{is_put, is_still, by_round, no_value, or_left_false, rounds_root, all_done}
-
--- ---- what a value names passes a test that every name in it passes
-
-passes_text : (p : List ℕ → Bool) (s : Place) (n : List ℕ) → Names s → all_named p s (string n) ≡ true → p n ≡ true
-passes_text p s n (inl is) h = rw is at h
-passes_text p s n (inr is) h = go (names_alias s) refl
-  where
-    go : (t : Bool) → names_alias s ≡ t → p n ≡ true
-    go true e = rw e at h
-    go false e = rw (e, is) at h
-
-mutual
-  pub mentioned : (p : List ℕ → Bool) (m : List ℕ) (v : Data) (s : Place) → all_named p s v ≡ true → Mentions m s v → p m ≡ true
-  mentioned p m null s h x = absurd x
-  mentioned p m (boolean b) s h x = absurd x
-  mentioned p m (number n) s h x = absurd x
-  mentioned p m (string n) s h (names, is) = ap p (sym is) ∙ passes_text p s n names h
-  mentioned p m (array ds) s h x = mentioned_in_items p m ds (place_of_items s) h x
-  mentioned p m (object ms) s h x = mentioned_in_members p m ms s h x
-
-  mentioned_in_items : (p : List ℕ → Bool) (m : List ℕ) (ds : Items) (s : Place) → all_named_in_items p s ds ≡ true → MentionsInItems m s ds → p m ≡ true
-  mentioned_in_items p m no_items s h x = absurd x
-  mentioned_in_items p m (item d ds) s h (inl x) = mentioned p m d s (and_left (all_named p s d) (all_named_in_items p s ds) h) x
-  mentioned_in_items p m (item d ds) s h (inr x) = mentioned_in_items p m ds s (and_right (all_named p s d) (all_named_in_items p s ds) h) x
-
-  mentioned_in_members : (p : List ℕ → Bool) (m : List ℕ) (ms : Members) (s : Place) → all_named_in_members p s ms ≡ true → MentionsInMembers m s ms → p m ≡ true
-  mentioned_in_members p m no_members s h x = absurd x
-  mentioned_in_members p m (member k d ms) s h (inl x) = mentioned p m d (place_under s k) (and_left (all_named p (place_under s k) d) (all_named_in_members p s ms) h) x
-  mentioned_in_members p m (member k d ms) s h (inr x) = mentioned_in_members p m ms s (and_right (all_named p (place_under s k) d) (all_named_in_members p s ms) h) x
+use Rattle.conf_inherit.proofs.RoundLemmas.{is_put, is_still, no_value, rounds_root, all_done, reached_keeps, rounds_reached}
+use Rattle.conf_inherit.proofs.NamedLemmas.{mentioned}
 
 -- ---- how many names pass a test
 
@@ -128,22 +97,13 @@ module _ (al : Members) where
       go true e = and_left (all_named (has done) places.FieldType w) (is_empty (flaws al (Some done) places.FieldType false no_members w)) e
       go false e = absurd (no_value r (rw e at h))
 
-  short_step : (k : List ℕ) (w : Data) (st : Outcomes) → get_member k al ≡ Some w → Short st → Short (step al k w st)
-  short_step k w st is short = go (has_outcome st k) refl (all_named (is_over al st) places.FieldType w) refl (outcome al st.done w) refl
-    where
-      go : (t : Bool) → has_outcome st k ≡ t → (u : Bool) → all_named (is_over al st) places.FieldType w ≡ u → (o : Option Data) → outcome al st.done w ≡ o → Short (step al k w st)
-      go true a u b o e = rw a short
-      go false a false b o e = rw (a, b) short
-      go false a true b None e = rw (a, b, e) short
-      go false a true b (Some r) e = rw (a, b, e) (short_resolved k w r st is (or_left_false (has st.done k) (has st.refused k) a) (outcome_named st.done w r e) short)
-
-  short_round : (ms : Members) (st : Outcomes) → AllEntries (λ k w. get_member k al ≡ Some w) ms → Short st → Short (round al ms st)
-  short_round no_members st each short = short
-  short_round (member k w ms) st each short = short_round ms (step al k w st) each.1 (short_step k w st each.0 short)
+  short_next : (k : List ℕ) (w : Data) (st : Outcomes) → get_member k al ≡ Some w → has_outcome st k ≡ false → Short st → (o : Option Data) → outcome al st.done w ≡ o → Short (concluded k st o)
+  short_next k w st is free short None e = short
+  short_next k w st is free short (Some r) e = short_resolved k w r st is (or_left (has st.done k) (has st.refused k) free) (outcome_named st.done w r e) short
 
   rounds_short : (n : ℕ) → AllEntries (λ k w. get_member k al ≡ Some w) al → Short (rounds al n no_outcomes)
-  rounds_short zero each = λ n k h walk. absurd (true≢false (sym h))
-  rounds_short (suc n) each = by_round al Short (rounds al n no_outcomes) (rounds_short n each) (short_round al (rounds al n no_outcomes) each (rounds_short n each))
+  rounds_short n each =
+      reached_keeps al Short (λ n k h walk. absurd (true≢false (sym h))) (λ k w st is free due short. short_next k w st is free short (outcome al st.done w) refl) (rounds_reached al n each)
 
   walk_starts : (n : ℕ) (k : List ℕ) → Walks al n k → has al k ≡ true
   walk_starts zero k (w, is) = ap is_some is

@@ -1,9 +1,9 @@
 -- The aliases of a configuration: that each was resolved as it is laid, and is sound.
-use Rattle.std.proofs.Common.{◌≡◌, ◌&&◌, ◌<◌, ◌++◌, ℕ, List, [], map, Option, Some, None, Result, Ok, Err, is_some, Bool, true, false, true≢false, refl, sym, ap, ◌∙◌, subst, arith}
+use Rattle.std.proofs.Common.{◌≡◌, ◌&&◌, ◌+◌, ◌++◌, ℕ, List, [], map, Option, Some, None, Result, Ok, Err, is_some, Bool, true, false, true≢false, refl, sym, ap, ◌∙◌, subst}
 use Rattle.std.specs.Prelude.{⊤}
 use Rattle.std.specs.Str.{bytes_eq}
 use Rattle.std.proofs.lemmas.Slice.Eq.{bytes_eq-Decides}
-use Rattle.serde_json.specs.Data.{Data, null, boolean, number, string, array, object, Members, no_members, member, put}
+use Rattle.serde_json.specs.Data.{Data, null, object, Members, no_members, member, put}
 use Rattle.serde_json.specs.Find.{get_member}
 use Rattle.conf_tree.specs.Flaw.{Flaw, key, within}
 use Rattle.conf_tree.specs.Walk.{refusal}
@@ -22,37 +22,30 @@ use Rattle.conf_inherit.specs.Rounds.{Outcomes, has_outcome, is_empty, outcome, 
 use Rattle.conf_inherit.specs.FieldPlaces.{field_place, place_under, names_alias, is_base_name, lists_extra_members, leads_on}
 use Rattle.conf_inherit.specs.Whole.{holds_aliases, way_to_aliases, without, AreLaid}
 use Rattle.serde_json.proofs.Views.{get_member-put_other}
-use Rattle.conf_inherit.proofs.InOrder.{same_members}
+use Rattle.conf_inherit.specs.NestingBeside.{objects_around}
+use Rattle.conf_inherit.proofs.FieldPlaceLemmas.{trace_place, trace_type_place, aliases_place}
+use Rattle.conf_inherit.proofs.InOrder.{value_same, same_members}
 use Rattle.conf_inherit.proofs.LayingLemmas.{Meets, same, other, meets, get_other, get_same, put_found, in_order_put, in_order_lay, lay_members-absent, lay_members-found}
 use Rattle.conf_inherit.proofs.LimitLemmas.{fitting_value}
 use Rattle.conf_inherit.proofs.ListLemmas.{AllEntries, all_along, found_each}
 use Rattle.conf_inherit.proofs.PlaceLemmas.{place_of_type}
-use Rattle.conf_inherit.proofs.ReadyLemmas.{and_left, and_right}
+use Rattle.conf_inherit.proofs.ReadyLemmas.{and_left, and_right, some_of}
 use Rattle.conf_inherit.proofs.ResolveLemmas.{no_flaws}
-use Rattle.conf_inherit.proofs.RoundLemmas.{HasRoot, empty_flaws, rounds_root, all_done, some_of, fitting_ok, no_value}
-use Rattle.conf_inherit.proofs.TurnLemmas.{reached_sound, rounds_reached, or_first}
+use Rattle.conf_inherit.proofs.RoundLemmas.{HasRoot, empty_flaws, rounds_root, all_done, fitting_ok, no_value, rounds_reached}
+use Rattle.conf_inherit.proofs.TurnLemmas.{reached_sound, or_first}
 
 -- ---- an object that has the aliases in it
 
--- how many objects lead from here to the aliases
-pub levels : Place → ℕ
-levels places.Root = 3
-levels places.Trace = 2
-levels places.TraceType = 1
-levels _ = 0
+fewer_at : (s : Place) (n k : List ℕ) → way_to_aliases s ≡ Some n → way_to_aliases s ≡ Some k → objects_around s ≡ objects_around (place_under s n) + 1 → objects_around s ≡ objects_around (place_under s k) + 1
+fewer_at s n k one way h = subst (λ x. objects_around s ≡ objects_around (place_under s x) + 1) (value_same n k (sym one ∙ way)) h
 
-fewer_at : (s : Place) (n k : List ℕ) → way_to_aliases s ≡ Some n → way_to_aliases s ≡ Some k → levels (place_under s n) < levels s → levels (place_under s k) < levels s
-fewer_at s n k one way h =
-    let both : Some n ≡ Some k = sym one ∙ way in
-    let same : n ≡ k = cc in
-    subst (λ x. levels (place_under s x) < levels s) same h
-
-pub fewer_levels : (s : Place) (k : List ℕ) → way_to_aliases s ≡ Some k → levels (place_under s k) < levels s
-unfolding way_to_aliases levels place_under content_under entries_of rows_of place_in field_place trace_name type_name aliases_name
-fewer_levels places.Root k way = fewer_at places.Root trace_name k refl way (omega arith)
-fewer_levels places.Trace k way = fewer_at places.Trace type_name k refl way (omega arith)
-fewer_levels places.TraceType k way = fewer_at places.TraceType aliases_name k refl way (omega arith)
-fewer_levels _ k way = let bad : None ≡ Some k = way in cc
+-- one object fewer is around the aliases at a property on the way to them
+pub fewer_around : (s : Place) (k : List ℕ) → way_to_aliases s ≡ Some k → objects_around s ≡ objects_around (place_under s k) + 1
+unfolding way_to_aliases
+fewer_around places.Root k way = fewer_at places.Root trace_name k refl way (ap (λ p. objects_around p + 1) (sym trace_place))
+fewer_around places.Trace k way = fewer_at places.Trace type_name k refl way (ap (λ p. objects_around p + 1) (sym trace_type_place))
+fewer_around places.TraceType k way = fewer_at places.TraceType aliases_name k refl way (ap (λ p. objects_around p + 1) (sym aliases_place))
+fewer_around _ k way = let bad : None ≡ Some k = way in cc
 
 -- such an object inherits nothing
 pub no_base : (s : Place) (k : List ℕ) → holds_aliases s ≡ true → is_base_name s k ≡ false
@@ -177,11 +170,7 @@ sound_outcome al done w r h = go (all_named (has done) places.FieldType w && is_
 no_places : (al done : Members) (w : Data) → inner_places al done places.FieldType w ≡ []
 unfolding lists_extra_members leads_on
 no_places al done null = refl
-no_places al done (boolean b) = refl
-no_places al done (number n) = refl
-no_places al done (string n) = refl
-no_places al done (array es) = refl
-no_places al done (object ms) = refl
+no_places al done _ = refl
 
 sound_place : (al done : Members) (k : List ℕ) (w : Data) → type_flaws al done places.FieldType w ≡ [] → (place_flaws al done (place_under places.FieldTypeAliases k) w ++ inner_places al done (place_under places.FieldTypeAliases k) w) ≡ []
 unfolding place_under content_under entries_of rows_of place_in field_place names_alias

@@ -1,6 +1,6 @@
 -- Aliases that inherit in a circle.
 use Rattle.std.specs.Prelude.{◌≡◌, ◌⊎◌, ℕ, zero, suc, List, Some}
-use Rattle.serde_json.specs.Data.{Data, null, boolean, number, string, array, object, Items, no_items, item, Members, no_members, member}
+use Rattle.serde_json.specs.Data.{Data, string, array, object, Items, no_items, item, Members, no_members, member}
 use Rattle.serde_json.specs.Find.{get_member}
 use Rattle.conf_table.specs.declared.place.Place.{Place}
 use Rattle.conf_table.specs.declared.place.Place.TheVariants as places
@@ -10,12 +10,10 @@ use Rattle.conf_inherit.specs.Ready.{Names}
 abbrev mutual
   -- a value names the alias, itself or anywhere in it
   pub Mentions : List ℕ → Place → Data → Type 0
-  Mentions m s null = ⊥
-  Mentions m s (boolean b) = ⊥
-  Mentions m s (number n) = ⊥
   Mentions m s (string n) = Names s × (n ≡ m)
   Mentions m s (array ds) = MentionsInItems m (place_of_items s) ds
   Mentions m s (object ms) = MentionsInMembers m s ms
+  Mentions m s _ = ⊥
 
   pub MentionsInItems : List ℕ → Place → Items → Type 0
   MentionsInItems m s no_items = ⊥

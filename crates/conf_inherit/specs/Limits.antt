@@ -1,7 +1,7 @@
 -- The limits of a field type, once it is resolved: its JSON values and its levels. Only a type that resolves has a
 -- size: all aliases that it names are resolved. Where a type passes both limits, that of its values is named.
 use Rattle.std.specs.Prelude.{◌≡◌, ◌<◌, ◌≤◌, ◌⊎◌, ℕ, List, [], ◌∷◌, None, Result, Ok, Err, nat_lt, true, false, if◌then◌else◌}
-use Rattle.serde_json.specs.Data.{Data, null, boolean, number, string, array, object, Items, no_items, item, Members, no_members, member}
+use Rattle.serde_json.specs.Data.{Data, array, object, Items, no_items, item, Members, no_members, member}
 use Rattle.conf_tree.specs.Flaw.{Flaw, here}
 use Rattle.conf_tree.specs.declared.fault_kind.FaultKind.{FaultKind}
 use Rattle.conf_tree.specs.declared.fault_kind.FaultKind.TheVariants.{TooDeep, Limit}
@@ -45,12 +45,9 @@ limit_flaws done s v = if all_named (has done) s v then passed (fitting (lay don
 abbrev mutual
   -- d is the value of a `$inherit`, anywhere in a value
   pub Inherits : Data → Place → Data → Type 0
-  Inherits d s null = ⊥
-  Inherits d s (boolean b) = ⊥
-  Inherits d s (number n) = ⊥
-  Inherits d s (string n) = ⊥
   Inherits d s (array es) = InheritsInItems d (place_of_items s) es
   Inherits d s (object ms) = InheritsInMembers d s ms
+  Inherits d s _ = ⊥
 
   pub InheritsInItems : Data → Place → Items → Type 0
   InheritsInItems d s no_items = ⊥

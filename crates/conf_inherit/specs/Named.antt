@@ -1,6 +1,6 @@
 -- The names of aliases in a value.
 use Rattle.std.specs.Prelude.{◌&&◌, ◌||◌, ℕ, List, Bool, true, not, is_some}
-use Rattle.serde_json.specs.Data.{Data, null, boolean, number, string, array, object, Items, no_items, item, Members, no_members, member}
+use Rattle.serde_json.specs.Data.{Data, string, array, object, Items, no_items, item, Members, no_members, member}
 use Rattle.serde_json.specs.Find.{get_member}
 use Rattle.conf_table.specs.declared.place.Place.{Place}
 use Rattle.conf_inherit.specs.FieldPlaces.{place_under, place_of_items, names_alias, names_member_type}
@@ -8,12 +8,10 @@ use Rattle.conf_inherit.specs.FieldPlaces.{place_under, place_of_items, names_al
 abbrev mutual
   -- every text of a value that names an alias passes the test
   pub all_named : (List ℕ → Bool) → Place → Data → Bool
-  all_named p s null = true
-  all_named p s (boolean b) = true
-  all_named p s (number n) = true
   all_named p s (string n) = not (names_alias s || names_member_type s) || p n
   all_named p s (array ds) = all_named_in_items p (place_of_items s) ds
   all_named p s (object ms) = all_named_in_members p s ms
+  all_named p s _ = true
 
   pub all_named_in_items : (List ℕ → Bool) → Place → Items → Bool
   all_named_in_items p s no_items = true

@@ -1,18 +1,15 @@
 -- How many JSON values a value holds, itself counted, and where there are more than a limit allows.
 use Rattle.std.specs.Prelude.{◌≡◌, ◌+◌, ◌<◌, ◌≤◌, ℕ, suc, Option, Some, None}
-use Rattle.serde_json.specs.Data.{Data, null, boolean, number, string, array, object, Items, no_items, item, Members, no_members, member}
+use Rattle.serde_json.specs.Data.{Data, array, object, Items, no_items, item, Members, no_members, member}
 use Rattle.conf_inherit.specs.declared.size.Stop.{Stop}
 use Rattle.conf_inherit.specs.declared.size.Stop.TheVariants.{Memory, Limit}
 
 abbrev mutual
   -- the values of a value
   pub size : Data → ℕ
-  size null = 1
-  size (boolean b) = 1
-  size (number n) = 1
-  size (string s) = 1
   size (array ds) = suc (items_size ds)
   size (object ms) = suc (members_size ms)
+  size _ = 1
 
   pub items_size : Items → ℕ
   items_size no_items = 0

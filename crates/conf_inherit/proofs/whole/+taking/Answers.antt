@@ -1,13 +1,14 @@
-use Rattle.std.proofs.Common.{◌≡◌, ◌<◌, None, Some, option_map, option_and_then, ap, sym, ◌∙◌, arith}
+use Rattle.std.proofs.Common.{◌≡◌, ◌+◌, None, Some, option_map, option_and_then, ap, sym, ◌∙◌, arith}
 use Rattle.serde_json.specs.Data.{object, no_members, put}
 use Rattle.serde_json.specs.Find.{get_member}
 use Rattle.serde_json.specs.View.{view, members_view}
 use Rattle.serde_json.proofs.Views.{view-Object, view-lookup}
 use Rattle.conf_inherit.specs.FieldPlaces.{place_under}
+use Rattle.conf_inherit.specs.NestingBeside.{objects_around}
 use Rattle.conf_inherit.specs.Resolution.{members_or_none}
 use Rattle.conf_inherit.specs.Whole.{holds_aliases, way_to_aliases, aliases_at, with_aliases}
 use Rattle.conf_inherit.proofs.TakenLemmas.{with_way, at_way, with_none, put_with, way_leads, as_it_is, no_object, their_own, in_order}
-use Rattle.conf_inherit.proofs.WholeLemmas.{levels, fewer_levels}
+use Rattle.conf_inherit.proofs.WholeLemmas.{fewer_around}
 use Rattle.conf_inherit.proofs.WrittenLemmas.{written_put}
 use Rattle.conf_inherit.proofs.whole.+taking.Goals as goal
 
@@ -39,8 +40,8 @@ take_aliases_under-returns-in_default-clause-bare t c =
 pub take_aliases_under-take_aliases-requires : goal.take_aliases_under-take_aliases-requires
 take_aliases_under-take_aliases-requires t c =
     let s = c.args.place in
-    let fewer : levels (place_under s c.in-Some.way.now) < levels s = fewer_levels s c.in-Some.way.now (sym c.in-Some.ensures) in
-    let under : levels c.place_under.result ≡ levels (place_under s c.in-Some.way.now) = ap levels c.place_under.ensures in
+    let fewer : objects_around s ≡ objects_around (place_under s c.in-Some.way.now) + 1 = fewer_around s c.in-Some.way.now (sym c.in-Some.ensures) in
+    let under : objects_around c.place_under.result ≡ objects_around (place_under s c.in-Some.way.now) = ap objects_around c.place_under.ensures in
     let d = c.decreases in
     (omega (arith, fewer, under, d), ap holds_aliases c.place_under.ensures ∙ way_leads s c.in-Some.way.now (sym c.in-Some.ensures))
 

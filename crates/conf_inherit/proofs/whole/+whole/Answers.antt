@@ -1,4 +1,4 @@
-use Rattle.std.proofs.Common.{◌≡◌, ◌<◌, None, Some, option_map, ap, sym, ◌∙◌, subst, arith}
+use Rattle.std.proofs.Common.{◌≡◌, ◌+◌, None, Some, option_map, ap, sym, ◌∙◌, subst, arith}
 use Rattle.serde_json.specs.Data.{Members, object, no_members, put}
 use Rattle.serde_json.specs.Find.{get_member}
 use Rattle.serde_json.specs.View.{view, members_view}
@@ -7,12 +7,12 @@ use Rattle.serde_json.proofs.Views.{members_view-insert_entry, view-Object}
 use Rattle.conf_inherit.specs.Laying.{lay, lay_members}
 use Rattle.conf_inherit.specs.FieldPlaces.{place_under}
 use Rattle.conf_inherit.specs.Names.{properties_of}
-use Rattle.conf_inherit.specs.NestingBeside.{AliasesAre}
+use Rattle.conf_inherit.specs.NestingBeside.{objects_around, AliasesAre}
 use Rattle.conf_inherit.specs.Whole.{holds_aliases, with_property, with_aliases, AreLaid}
 use Rattle.conf_inherit.proofs.LayingLemmas.{lay_members-absent}
 use Rattle.conf_inherit.proofs.NestingBesideLemmas.{none_laid, are_themselves, none_on_way, are_on_way}
 use Rattle.conf_inherit.proofs.TakenLemmas.{with_way, with_found, with_none, without_with, way_leads, with_object, as_it_is, no_object, laid_themselves}
-use Rattle.conf_inherit.proofs.WholeLemmas.{laid_object, levels, fewer_levels, without_none, put_beside}
+use Rattle.conf_inherit.proofs.WholeLemmas.{laid_object, fewer_around, without_none, put_beside}
 use Rattle.conf_inherit.proofs.whole.+whole.Goals as goal
 
 pub lay_whole-returns-in_ok-lay_whole_members-in-Object-clause-laid : goal.lay_whole-returns-in_ok-lay_whole_members-in-Object-clause-laid
@@ -42,8 +42,8 @@ lay_whole_members-returns-in_default-clause-laid t c = λ al are_laid.
 pub lay_whole_members-lay_whole-requires : goal.lay_whole_members-lay_whole-requires
 lay_whole_members-lay_whole-requires t c =
     let s = c.args.place in
-    let fewer : levels (place_under s c.in-Some.way.now) < levels s = fewer_levels s c.in-Some.way.now (sym c.in-Some.ensures) in
-    let under : levels c.place_under.result ≡ levels (place_under s c.in-Some.way.now) = ap levels c.place_under.ensures in
+    let fewer : objects_around s ≡ objects_around (place_under s c.in-Some.way.now) + 1 = fewer_around s c.in-Some.way.now (sym c.in-Some.ensures) in
+    let under : objects_around c.place_under.result ≡ objects_around (place_under s c.in-Some.way.now) = ap objects_around c.place_under.ensures in
     let d = c.decreases in
     (omega (arith, fewer, under, d), ap holds_aliases c.place_under.ensures ∙ way_leads s c.in-Some.way.now (sym c.in-Some.ensures))
 
