@@ -1,27 +1,9 @@
 -- Streams and events that a metadata text means are those that the rules allow.
 use Rattle.std.proofs.Common.{◌≡◌, ℕ, ◌<◌, Bool, true, false, cond, not, ◌||◌, IsTrue, eqb, ltb, List, [], ◌∷◌, map, All, Contains, Some, None, refl, sym, subst, arith, codes, nat_cmp, Less}
-use Rattle.std.specs.Option.{option_map}
-use Rattle.std.specs.Cmp.{nat_cmp_is}
-use Rattle.std.specs.List.{list_any, flat_map, AllByRecursion}
+use Rattle.tsdl_meaning.proofs.TextWords.{AllByRecursion, Block, Event, IsEvent, IsStream, IsStruct, IsUnsigned, Item, Known, MemberType, NumbersRise, Stream, Where, by_number, bytes_eq, context_names, each, event_context, event_header, event_in, event_meaning, events_of, fields_scope, flat_map, has_member, have_streams, insert_numbered, is_unsigned, items_toks, list_any, names_in, nat_cmp_is, option_map, packet_context, provided, specific_context, stream_in, stream_meaning, streams_meaning, suits, with_events, ◌>>=◌}
 use Rattle.std.specs.List.Sorted.{IsStrictlySortedBy}
-use Rattle.std.specs.Str.{bytes_eq}
 use Rattle.std.proofs.lemmas.List.Elements.{All-from_recursion}
-use Rattle.ctf_types.specs.declared.MemberType.{MemberType}
-use Rattle.ctf_types.specs.declared.Stream.{Stream}
-use Rattle.ctf_types.specs.declared.Event.{Event}
-use Rattle.ctf_types.specs.Allowed.{IsStruct, IsUnsigned, Where, IsEvent, IsStream}
-use Rattle.ctf_types.specs.Members.{names_in}
 use Rattle.ctf_types.specs.Packets.{own_names}
-use Rattle.tsdl_grammar.specs.declared.tree.Item.{Item}
-use Rattle.tsdl_grammar.specs.declared.tree.Block.{Block}
-use Rattle.tsdl_grammar.specs.Spelling.{items_toks}
-use Rattle.tsdl_grammar.specs.Steps.{◌>>=◌, provided, each, insert_numbered, by_number}
-use Rattle.tsdl_grammar.specs.IntegerMeaning.{Known}
-use Rattle.tsdl_grammar.specs.MemberMeaning.{is_unsigned}
-use Rattle.tsdl_grammar.specs.StructureMeaning.{has_member}
-use Rattle.tsdl_grammar.specs.BlockMeaning.{stream_meaning, event_meaning, packet_context, event_header, event_context, context_names, suits, specific_context, fields_scope}
-use Rattle.tsdl_grammar.specs.Denotes.{stream_in, event_in, events_of, with_events, have_streams, streams_meaning}
-use Rattle.tsdl_grammar.specs.Laws.{NumbersRise}
 use Rattle.tsdl_grammar.proofs.Inversion.{bind_some, provided_some, some_same, map_some, by_number-rises}
 use Rattle.tsdl_grammar.proofs.Runs.{and_true}
 use Rattle.tsdl_grammar.proofs.BlockParts.{says_stream, says_event}

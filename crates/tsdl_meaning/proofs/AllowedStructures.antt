@@ -1,31 +1,12 @@
 -- Structures that a metadata text means are structures that the rules allow.
 use Rattle.std.proofs.Common.{◌≡◌, ℕ, suc, Bool, true, false, cond, not, ◌||◌, List, [], ◌∷◌, ◌++◌, length, All, Option, Some, None, refl, sym, ap, subst, ◌∙◌, arith, append-nil, append_assoc, codes}
-use Rattle.std.specs.List.{list_all, flat_map, AllByRecursion, IsDistinct}
-use Rattle.std.specs.Str.{bytes_eq}
-use Rattle.std.proofs.lemmas.Bool.{leb-true, false≢true}
+use Rattle.tsdl_meaning.proofs.TextWords.{AllByRecursion, AreMembers, Atom, Dyn, Enum, Int, IsDistinct, IsMetadataName, IsStruct, IsUnsigned, Item, Known, MemberTree, MemberType, Plain, Scope, Static, Str, StructType, Structure, align_of, align_toks, align_with, braced, bytes_eq, flat_map, has_member, is_unsigned, item_toks, items_toks, list_all, mark, member_meaning, member_toks, members_meaning, name_toks, names_in, provided, same_words, scope, scope_meaning, scope_toks, scopes_in, struct_meaning, struct_toks, struct_type, structure_of, word, words_of}
+use Rattle.std.proofs.lemmas.Bool.{leb-true, false≢true, not-true}
 use Rattle.std.proofs.lemmas.List.Elements.{All-from_recursion, All-weaker}
 use Rattle.std.proofs.lemmas.List.Sums.{AllPass-from_list_all}
 use Rattle.std.proofs.lemmas.Slice.Eq.{bytes_eq-Decides}
-use Rattle.ctf_types.specs.declared.FieldType.TheVariants.{Int, Enum, Str, Static}
-use Rattle.ctf_types.specs.declared.MemberType.{MemberType}
-use Rattle.ctf_types.specs.declared.MemberType.TheVariants.{Plain, Dyn}
-use Rattle.ctf_types.specs.declared.StructType.{StructType}
-use Rattle.ctf_types.specs.Allowed.{AreMembers, IsStruct, IsUnsigned}
-use Rattle.ctf_types.specs.Members.{names_in}
-use Rattle.ctf_types.specs.Names.{IsMetadataName}
-use Rattle.tsdl_grammar.specs.declared.atom.Atom.{Atom}
 use Rattle.tsdl_grammar.specs.declared.token.Mark.TheVariants as marks
-use Rattle.tsdl_grammar.specs.declared.tree.MemberTree.{MemberTree}
-use Rattle.tsdl_grammar.specs.declared.tree.Structure.{Structure}
-use Rattle.tsdl_grammar.specs.declared.tree.Scope.{Scope}
-use Rattle.tsdl_grammar.specs.declared.tree.Item.{Item}
 use Rattle.tsdl_grammar.specs.declared.tree.Item.TheVariants as items
-use Rattle.tsdl_grammar.specs.Spelling.{mark, word, braced, member_toks, align_toks, struct_toks, name_toks, scope_toks, item_toks, items_toks}
-use Rattle.tsdl_grammar.specs.Steps.{provided}
-use Rattle.tsdl_grammar.specs.Lookups.{same_words, words_of, scope, scopes_in}
-use Rattle.tsdl_grammar.specs.IntegerMeaning.{Known}
-use Rattle.tsdl_grammar.specs.MemberMeaning.{is_unsigned, member_meaning}
-use Rattle.tsdl_grammar.specs.StructureMeaning.{struct_type, has_member, members_meaning, align_of, align_with, struct_meaning, structure_of, scope_meaning}
 use Rattle.tsdl_grammar.proofs.Inversion.{bind_some, provided_some, some_same}
 use Rattle.tsdl_grammar.proofs.TypeParts.{struct_type-parts}
 use Rattle.tsdl_grammar.proofs.MeaningParts.{says_structure}
@@ -59,10 +40,6 @@ pub distinct_none : IsDistinct bytes_eq []
 unfolding IsDistinct
 distinct_none = tt
 
-is_not : (b : Bool) → not b ≡ true → b ≡ false
-is_not true e = absurd cc
-is_not false e = refl
-
 -- ---- members
 
 -- the members that are made behind those before them
@@ -91,7 +68,7 @@ members_allowed known before (m ∷ ms) out g d e =
     let a = bind_some (provided (not (has_member m.name before)) (member_meaning known before m)) (λ t. members_meaning known (before ++ (m.name, t) ∷ []) ms) out e in
     let p = provided_some (not (has_member m.name before)) (member_meaning known before m) a.0 a.1 in
     let new : List ℕ × MemberType = (m.name, a.0) in
-    let r = members_allowed known (before ++ new ∷ []) ms out g.1 (distinct_push m.name a.0 before (is_not (has_member m.name before) p.0) d) a.2 in
+    let r = members_allowed known (before ++ new ∷ []) ms out g.1 (distinct_push m.name a.0 before (not-true (has_member m.name before) p.0) d) a.2 in
     record {
       more = new ∷ r.more;
       whole = r.whole ∙ append_assoc before (new ∷ []) r.more;
@@ -170,7 +147,7 @@ scope_allowed known name test is t g e =
 -- ---- members that a test passed
 
 pub unsigned : (m : MemberType) → is_unsigned m ≡ true → IsUnsigned m
-unsigned (Plain (Int t)) h = is_not t.signed h
+unsigned (Plain (Int t)) h = not-true t.signed h
 unsigned (Plain (Enum t)) h = absurd cc
 unsigned (Plain Str) h = absurd cc
 unsigned (Plain (Static e n)) h = absurd cc

@@ -1,31 +1,14 @@
 -- What a metadata text denotes is metadata that the rules allow.
 use Rattle.std.proofs.Common.{◌≡◌, ℕ, ◌≤◌, Bool, true, false, not, ◌&&◌, ◌||◌, eqb, List, [], ◌∷◌, length, map, All, Some, refl, sym, ap, subst, ◌∙◌, arith, codes}
 use Rattle.std.specs.Prelude.{nat_le}
-use Rattle.std.specs.List.{list_all, list_any, flat_map, AllByRecursion, IsDistinct}
-use Rattle.std.specs.Str.{bytes_eq}
-use Rattle.std.proofs.lemmas.Bool.{leb-true, eqb-true}
+use Rattle.tsdl_meaning.proofs.TextWords.{AllByRecursion, Block, ByteString, Denotes, Dyn, Enum, EnvironmentEntry, Int, IsByteType, IsDistinct, IsIdentity, IsMagic, IsMetadata, IsMetadataName, IsStream, IsStruct, IsUnsigned, Item, Known, Labelled, Leaf, MemberType, NamedFact, Plain, Static, Str, StructType, at_most_one, block_and_semicolon, block_toks, bytes_eq, clock_names, each, environment_in, environment_meaning, event_in, fact_meaning, flat_map, header_meaning, is_byte, is_flat, is_unsigned_of, is_uuid, items_toks, known_of, list_all, list_any, mark, named_fact_meaning, named_fact_toks, no_two, only, packet_header, stream_in, suits_header, text_meta, text_toks, trace_in, ◌>>=◌}
+use Rattle.std.proofs.lemmas.Bool.{leb-true, eqb-true, not-true}
 use Rattle.std.proofs.lemmas.List.Elements.{All-from_recursion}
-use Rattle.ctf_types.specs.declared.FieldType.TheVariants.{Int, Enum, Str, Static}
-use Rattle.ctf_types.specs.declared.MemberType.{MemberType}
-use Rattle.ctf_types.specs.declared.MemberType.TheVariants.{Plain, Dyn}
-use Rattle.ctf_types.specs.declared.StructType.{StructType}
-use Rattle.ctf_types.specs.declared.EnvironmentEntry.{EnvironmentEntry}
 use Rattle.ctf_types.specs.declared.EnvironmentValue.{EnvironmentValue}
 use Rattle.ctf_types.specs.declared.Metadata.{Metadata}
-use Rattle.ctf_types.specs.Chain.{Leaf, Number, Labelled, ByteString}
-use Rattle.ctf_types.specs.Allowed.{IsUnsigned, IsMagic, IsByteType, IsIdentity, IsStruct, IsStream, clock_names, IsMetadata}
-use Rattle.ctf_types.specs.Names.{IsMetadataName}
+use Rattle.ctf_types.specs.Chain.{Number}
 use Rattle.tsdl_grammar.specs.declared.token.Mark.TheVariants as marks
-use Rattle.tsdl_grammar.specs.declared.tree.Item.{Item}
-use Rattle.tsdl_grammar.specs.declared.tree.NamedFact.{NamedFact}
-use Rattle.tsdl_grammar.specs.declared.tree.Block.{Block}
 use Rattle.tsdl_grammar.specs.declared.tree.Block.TheVariants as blocks
-use Rattle.tsdl_grammar.specs.Spelling.{mark, items_toks, named_fact_toks, block_toks, block_and_semicolon, text_toks}
-use Rattle.tsdl_grammar.specs.Steps.{◌>>=◌, each, only, at_most_one}
-use Rattle.tsdl_grammar.specs.Lookups.{no_two}
-use Rattle.tsdl_grammar.specs.IntegerMeaning.{Known}
-use Rattle.tsdl_grammar.specs.BlockMeaning.{packet_header, is_unsigned_of, is_byte, is_flat, is_uuid, suits_header, header_meaning, fact_meaning, named_fact_meaning, environment_meaning}
-use Rattle.tsdl_grammar.specs.Denotes.{trace_in, stream_in, event_in, environment_in, known_of, text_meta, Denotes}
 use Rattle.tsdl_grammar.proofs.Inversion.{bind_some, provided_some, some_same, map_some}
 use Rattle.tsdl_grammar.proofs.Runs.{and_true}
 use Rattle.tsdl_grammar.proofs.MeaningParts.{says_metadata}
@@ -91,10 +74,6 @@ one_good (x ∷ y ∷ xs) fs g e = absurd cc
 
 -- ---- names that differ
 
-is_not : (b : Bool) → not b ≡ true → b ≡ false
-is_not true e = absurd cc
-is_not false e = refl
-
 neither : (w : List ℕ) (xs : List (List ℕ)) → list_any (bytes_eq w) xs ≡ false → AllByRecursion (λ y. bytes_eq w y ≡ false) xs
 neither w [] h = tt
 neither w (x ∷ xs) h = by (bytes_eq w x) h (neither w xs)
@@ -108,7 +87,7 @@ distinct : (xs : List (List ℕ)) → no_two bytes_eq xs ≡ true → IsDistinct
 unfolding IsDistinct
 distinct [] h = tt
 distinct (x ∷ xs) h =
-    let both = and_true (not (list_any (bytes_eq x) xs)) (no_two bytes_eq xs) h in (neither x xs (is_not (list_any (bytes_eq x) xs) both.0), distinct xs both.1)
+    let both = and_true (not (list_any (bytes_eq x) xs)) (no_two bytes_eq xs) h in (neither x xs (not-true (list_any (bytes_eq x) xs) both.0), distinct xs both.1)
 
 -- ---- the environment
 
@@ -152,7 +131,7 @@ eq_of : (m n : ℕ) → eqb m n ≡ true → m ≡ n
 eq_of m n h = eqb-true m n h
 
 magic_of : (m : MemberType) → is_unsigned_of 32 m ≡ true → IsMagic m
-magic_of (Plain (Int t)) h = let both = and_true (not t.signed) (eqb t.size 32) h in (is_not t.signed both.0, eq_of t.size 32 both.1)
+magic_of (Plain (Int t)) h = let both = and_true (not t.signed) (eqb t.size 32) h in (not-true t.signed both.0, eq_of t.size 32 both.1)
 magic_of (Plain (Enum t)) h = absurd cc
 magic_of (Plain Str) h = absurd cc
 magic_of (Plain (Static e n)) h = absurd cc
@@ -161,7 +140,7 @@ magic_of (Dyn t l) h = absurd cc
 byte_of : (l : Leaf) → is_byte l ≡ true → IsByteType l
 byte_of (Number t) h =
     let a = and_true (not t.signed && eqb t.size 8) (eqb t.align 8) h in let b = and_true (not t.signed) (eqb t.size 8) a.0 in
-    (is_not t.signed b.0, eq_of t.size 8 b.1, eq_of t.align 8 a.1)
+    (not-true t.signed b.0, eq_of t.size 8 b.1, eq_of t.align 8 a.1)
 byte_of (Labelled t) h = absurd cc
 byte_of ByteString h = absurd cc
 

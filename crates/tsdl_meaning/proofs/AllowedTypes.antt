@@ -1,10 +1,8 @@
 -- Types that a metadata text means are types that the rules allow: integers, enumerations, fields and members.
-use Rattle.std.proofs.Common.{◌≡◌, ℕ, suc, ◌-◌, ◌*◌, ◌<◌, ◌≤◌, ◌^◌, ℤ, pos, negsuc, ◌≤ℤ◌, Bool, true, false, cond, not, ◌&&◌, List, [], ◌∷◌, ◌++◌, length, max, get_or, slice_get, All, Contains, Option, Some, None, refl, sym, ap, subst, ◌∙◌, arith, codes}
+use Rattle.std.proofs.Common.{◌≡◌, ℕ, suc, ◌-◌, ◌*◌, ◌<◌, ◌≤◌, ◌^◌, ℤ, pos, negsuc, ◌≤ℤ◌, Bool, true, false, cond, ◌&&◌, List, [], ◌∷◌, ◌++◌, length, max, get_or, slice_get, All, Contains, Option, Some, None, refl, sym, ap, subst, ◌∙◌, arith, codes}
 use Rattle.std.specs.Prelude.{int_le, neg_ℤ, nat_le, nat_lt}
-use Rattle.std.specs.Option.{option_map}
-use Rattle.std.specs.List.{list_all, list_any, flat_map, AllByRecursion}
-use Rattle.std.specs.Str.{bytes_eq}
-use Rattle.std.proofs.lemmas.Bool.{ltb-true, leb-true}
+use Rattle.tsdl_meaning.proofs.TextWords.{AllByRecursion, Atom, Attribute, Bracket, ByteString, Chain, Dyn, Entries, Entry, Enum, HasBits, Int, IsCount, IsField, IsLeaf, IsMappedTo, IsMember, IsNest, IsRange, Kind, Known, Labelled, Leaf, MemberTree, MemberType, Plain, Static, Str, Value, are_lengths, arrays_of, attr, braced, bracket_toks, bracketed, bytes_eq, clock_in, clock_value, closing_toks, count_of, each, elements_of, encoding_value, entries_of, entries_toks, entry_meaning, entry_toks, enum_meaning, field_of, flat_map, has_only, high_of, high_toks, int_meaning, int_toks, is_negative, is_unsigned, kind_meaning, kind_toks, label_toks, length_place, list_all, list_any, mark, member_meaning, member_toks, next_entry_toks, number_toks, option_map, optional, provided, sign_toks, signed_of, text_meaning, with_default, word, words_of, ◌>>=◌}
+use Rattle.std.proofs.lemmas.Bool.{ltb-true, leb-true, not-true}
 use Rattle.std.proofs.lemmas.Int.{ints}
 use Rattle.std.proofs.lemmas.Float.{T_from_true}
 use Rattle.std.specs.Int.Signed.{le_z_yes}
@@ -17,35 +15,17 @@ use Rattle.std.proofs.lemmas.Slice.Eq.{bytes_eq-Decides}
 use Rattle.ctf_types.specs.declared.IntType.{IntType}
 use Rattle.ctf_types.specs.declared.EnumType.{EnumType}
 use Rattle.ctf_types.specs.declared.Mapping.{Mapping}
-use Rattle.ctf_types.specs.declared.FieldType.TheVariants.{Int, Enum, Str, Static}
-use Rattle.ctf_types.specs.declared.MemberType.{MemberType}
-use Rattle.ctf_types.specs.declared.MemberType.TheVariants.{Plain, Dyn}
 use Rattle.ctf_types.specs.declared.Length.TheVariants.{At}
-use Rattle.ctf_types.specs.Chain.{Chain, Leaf, Number, Labelled, ByteString}
+use Rattle.ctf_types.specs.Chain.{Number}
 use Rattle.ctf_types.specs.FieldTypes.{chain_of}
 use Rattle.ctf_types.specs.Allowed as allowed
-use Rattle.ctf_types.specs.Allowed.{IsMappedTo, IsRange, IsLeaf, IsNest, IsField, HasBits, IsCount, IsMember}
-use Rattle.tsdl_grammar.specs.declared.atom.Atom.{Atom}
 use Rattle.tsdl_grammar.specs.declared.atom.Atom.TheVariants as atoms
 use Rattle.tsdl_grammar.specs.declared.token.Mark.TheVariants as marks
 use Rattle.tsdl_grammar.specs.declared.tree.Number as numbers
-use Rattle.tsdl_grammar.specs.declared.tree.Value.{Value}
 use Rattle.tsdl_grammar.specs.declared.tree.Value.TheVariants as values
-use Rattle.tsdl_grammar.specs.declared.tree.Attribute.{Attribute}
-use Rattle.tsdl_grammar.specs.declared.tree.Entry.{Entry}
-use Rattle.tsdl_grammar.specs.declared.tree.Entries.{Entries}
 use Rattle.tsdl_grammar.specs.declared.tree.Entries.TheVariants as entries
-use Rattle.tsdl_grammar.specs.declared.tree.Kind.{Kind}
 use Rattle.tsdl_grammar.specs.declared.tree.Kind.TheVariants as kinds
-use Rattle.tsdl_grammar.specs.declared.tree.Bracket.{Bracket}
 use Rattle.tsdl_grammar.specs.declared.tree.Bracket.TheVariants as brackets
-use Rattle.tsdl_grammar.specs.declared.tree.MemberTree.{MemberTree}
-use Rattle.tsdl_grammar.specs.Spelling.{mark, word, number_toks, sign_toks, label_toks, high_toks, entry_toks, next_entry_toks, closing_toks, entries_toks, int_toks, braced, kind_toks, bracket_toks, member_toks}
-use Rattle.tsdl_grammar.specs.Steps.{◌>>=◌, provided, each}
-use Rattle.tsdl_grammar.specs.Lookups.{attr, words_of}
-use Rattle.tsdl_grammar.specs.AttributeValues.{signed_of, is_negative, optional, with_default}
-use Rattle.tsdl_grammar.specs.IntegerMeaning.{Known, int_meaning, clock_value, clock_in, has_only}
-use Rattle.tsdl_grammar.specs.MemberMeaning.{high_of, entry_meaning, entries_of, enum_meaning, encoding_value, text_meaning, kind_meaning, field_of, arrays_of, elements_of, are_lengths, count_of, is_unsigned, length_place, bracketed, member_meaning}
 use Rattle.tsdl_grammar.proofs.Inversion.{bind_some, provided_some, some_same, map_some}
 use Rattle.tsdl_grammar.proofs.Runs.{and_true}
 use Rattle.tsdl_grammar.proofs.MeaningParts.{says_integer}
@@ -200,12 +180,8 @@ has_bits leaf ns h =
     subst (λ (c : Chain). All (λ (n : ℕ). 0 < n) c.lengths) (sym (chain_of_arrays leaf ns))
     (All-weaker (λ (n : ℕ). nat_lt 0 n ≡ true) (λ (n : ℕ). 0 < n) (λ n t. ltb-true 0 n t) ns (AllPass-from_list_all (nat_lt 0) ns h))
 
-not_signed : (b : Bool) → not b ≡ true → b ≡ false
-not_signed true e = absurd cc
-not_signed false e = refl
-
 counts : (m : List ℕ × MemberType) → is_unsigned m.1 ≡ true → IsCount (Some m)
-counts (name, Plain (Int t)) h = not_signed t.signed h
+counts (name, Plain (Int t)) h = not-true t.signed h
 counts (name, Plain (Enum t)) h = absurd cc
 counts (name, Plain Str) h = absurd cc
 counts (name, Plain (Static e n)) h = absurd cc

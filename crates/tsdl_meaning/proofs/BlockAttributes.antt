@@ -1,24 +1,11 @@
 -- Stops in the attributes of blocks.
-use Rattle.std.proofs.Common.{◌≡◌, ℕ, ◌+◌, List, [], ◌∷◌, ◌++◌, Some, None, min, refl, sym, ap, ◌∙◌, subst, inl, inr, arith, append_assoc, codes}
-use Rattle.std.specs.List.{flat_map}
-use Rattle.tsdl_grammar.specs.declared.atom.Atom.{Atom}
+use Rattle.std.proofs.Common.{◌≡◌, ℕ, ◌+◌, List, [], ◌∷◌, ◌++◌, Some, None, min, refl, sym, ap, ◌∙◌, subst, inl, inr, arith, append_assoc, codes, Result}
+use Rattle.tsdl_meaning.proofs.TextWords.{AreNoted, Atom, Attribute, BlockKind, Ends, HasClock, HasStream, IfErr, IsAttribute, IsBegun, IsPartOfVersion, IsTwice, IsUnsupported, Item, Name, Stop, StopsIn, StopsWhere, Value, alone, attr_toks, begun, dotted, flat_map, mark, most, name_toks, name_value, natural_value, one_word, value_toks, word, word_of}
 use Rattle.tsdl_grammar.specs.declared.token.Mark.TheVariants as marks
-use Rattle.tsdl_grammar.specs.declared.tree.Name.{Name}
-use Rattle.tsdl_grammar.specs.declared.tree.Value.{Value}
 use Rattle.tsdl_grammar.specs.declared.tree.Value.TheVariants as values
-use Rattle.tsdl_grammar.specs.declared.tree.Attribute.{Attribute}
-use Rattle.tsdl_grammar.specs.declared.tree.Item.{Item}
-use Rattle.tsdl_grammar.specs.Spelling.{mark, word, dotted, name_toks, value_toks, attr_toks}
-use Rattle.tsdl_grammar.specs.AttributeValues.{natural_value, name_value, alone, one_word}
-use Rattle.tsdl_flaw.specs.declared.flaw.Stop.{Stop}
-use Rattle.tsdl_flaw.specs.Lengths.{most}
-use Rattle.tsdl_flaw.specs.Flaws.{IsPartOfVersion, IsUnsupported}
-use Rattle.tsdl_flaw.specs.Fronts.{Ends}
-use Rattle.tsdl_flaw.specs.Stopping.{StopsIn}
-use Rattle.tsdl_flaw.specs.Twice.{IsTwice, begun}
-use Rattle.tsdl_meaning.specs.Judged.{IsAttribute}
-use Rattle.tsdl_meaning.specs.Ledgers.{HasClock, HasStream}
-use Rattle.tsdl_meaning.proofs.JudgedParts.{ends_more, ends_part}
+use Rattle.tsdl_meaning.specs.declared.judge.block.Judging.{Judging}
+use Rattle.tsdl_meaning.proofs.JudgedLedgers.{noted_more}
+use Rattle.tsdl_meaning.proofs.JudgedParts.{ends_more, ends_part, err_from}
 use Rattle.tsdl_flaw.proofs.Parts.{stops_after}
 
 -- ---- the value of an attribute
@@ -55,6 +42,16 @@ in_value a w block items front behind at place stop one is ends s =
     in
     stops_after front (attr_toks a ++ behind) opening (value_toks a.value ++ mark marks.Semicolon ∷ behind) at place stop parts (λ fits. omega (arith, is))
     (s (items, ends_more front (begun block items) opening ends) (mark marks.Semicolon ∷ behind))
+
+-- what the judge of a value answers is an answer for the attribute of a block of this kind
+pub in_block : (r : Result (Unit {0}) Stop) (P : List Atom → Type 0) (a : Attribute) (w : List ℕ) (judging : Judging) (kind : BlockKind) (items : List Item) (at place : ℕ)
+    → one_word a.name ≡ Some w → place ≡ min (at + 2) most → judging.kind ≡ kind → ((front : List Atom) → AreNoted front judging.ledger.now → IsAttribute (word_of kind) w front → P front)
+    → IfErr r (StopsWhere P place (value_toks a.value)) → IfErr r (StopsWhere (IsBegun judging items) at (attr_toks a))
+in_block r P a w judging kind items at place one is same known =
+    err_from r (StopsWhere P place (value_toks a.value)) (StopsWhere (IsBegun judging items) at (attr_toks a))
+    (λ stop h front behind b.
+    in_value a w (word_of kind) items front behind at place stop one is (subst (λ (k : BlockKind). Ends front (begun (word_of k) items)) same b.ends)
+    (λ named after. h (front ++ (word w ∷ mark marks.Equals ∷ [])) after (known (front ++ (word w ∷ mark marks.Equals ∷ [])) (noted_more front (word w ∷ mark marks.Equals ∷ []) judging.ledger.now b.noted) named)))
 
 -- ---- flaws of values
 

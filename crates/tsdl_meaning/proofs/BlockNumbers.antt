@@ -1,13 +1,7 @@
 -- Numbers of streams and events that stand twice.
 use Rattle.std.proofs.Common.{◌≡◌, ℕ, List, [], ◌∷◌, None, refl, inl, inr, codes}
-use Rattle.tsdl_grammar.specs.declared.atom.Atom.{Atom}
+use Rattle.tsdl_meaning.proofs.TextWords.{Atom, Ends, HasEvent, HasNumbers, HasStream, IsTwice, Item, attr, attrs_in, begun, mark}
 use Rattle.tsdl_grammar.specs.declared.token.Mark.TheVariants as marks
-use Rattle.tsdl_grammar.specs.declared.tree.Item.{Item}
-use Rattle.tsdl_grammar.specs.Spelling.{mark}
-use Rattle.tsdl_grammar.specs.Lookups.{attr, attrs_in}
-use Rattle.tsdl_flaw.specs.Fronts.{Ends}
-use Rattle.tsdl_flaw.specs.Twice.{IsTwice, begun, HasNumbers}
-use Rattle.tsdl_meaning.specs.Ledgers.{HasStream, HasEvent}
 
 -- a stream without a number, behind one that has the number 0
 pub unnumbered_twice : (items : List Item) (front : List Atom) → Ends front (begun (codes "stream") items) → attr (codes "id") (attrs_in items) ≡ None → HasStream front 0

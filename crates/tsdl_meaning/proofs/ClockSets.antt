@@ -1,12 +1,6 @@
 -- The names of the clocks, as a set.
 use Rattle.std.proofs.Common.{◌≡◌, ℕ, Bool, true, cond, ◌||◌, List, [], ◌∷◌, ◌++◌, sym, ap, ◌∙◌}
-use Rattle.std.specs.List.{list_any}
-use Rattle.std.specs.Str.{bytes_eq}
-use Rattle.std.specs.Cmp.Lexicographic.{nat_list_eq_equiv}
-use Rattle.std.specs.BTreeSet.{BTreeSet, contains_text}
-use Rattle.std.specs.declared.string.String.{String}
-use Rattle.std.specs.declared.alloc.Global.{Global}
-use Rattle.tsdl_meaning.specs.ClockNames.{HasNames}
+use Rattle.tsdl_meaning.proofs.TextWords.{BTreeSet, Global, HasNames, String, bytes_eq, contains_text, list_any, nat_list_eq_equiv}
 use Rattle.tsdl_meaning.proofs.DistinctKeys.{any_behind, or_swap}
 
 -- one more name

@@ -1,11 +1,8 @@
 -- Lists of which no two items are the same, walked from the last item to the first.
 use Rattle.std.proofs.Common.{◌≡◌, Bool, true, false, not, cond, ◌&&◌, ◌||◌, List, [], ◌∷◌, ◌++◌, map, refl, sym, ap, ap₂, ◌∙◌}
-use Rattle.std.specs.List.{list_any}
-use Rattle.std.specs.Ordering.{eq_by_cmp}
+use Rattle.std.proofs.lemmas.Bool.{not-true}
+use Rattle.tsdl_meaning.proofs.TextWords.{IsTotalOrder, eq_by_cmp, eq_by_cmp_equiv, is_at, list_any, no_two}
 use Rattle.std.specs.declared.cmp.Ordering.{Ordering}
-use Rattle.std.specs.Cmp.{IsTotalOrder, eq_by_cmp_equiv}
-use Rattle.std.specs.BTreeMap.{is_at}
-use Rattle.tsdl_grammar.specs.Lookups.{no_two}
 use Rattle.tsdl_meaning.specs.Distinct.{no_two_before}
 
 -- ---- tests
@@ -53,10 +50,6 @@ by_cond : (b c : Bool) → cond b true c ≡ (b || c)
 by_cond true c = refl
 by_cond false c = refl
 
-is_not : (b : Bool) → not b ≡ true → b ≡ false
-is_not true e = absurd cc
-is_not false e = refl
-
 is_so : (b : Bool) → not b ≡ false → b ≡ true
 is_so true e = refl
 is_so false e = absurd cc
@@ -74,7 +67,7 @@ module _ {A : Type 0} (cmp : A → A → Ordering) (old left rest : List A) (x :
       → no_two_before (eq_by_cmp cmp) (λ w. list_any (is_at (cmp w)) new) rest ≡ all
   stands_once new o e h a t u =
       sym
-      (once (eq_by_cmp cmp) (λ w. list_any (is_at (cmp w)) old) (λ w. list_any (is_at (cmp w)) new) x rest (is_not (list_any (is_at (cmp x)) old) (sym a ∙ t))
+      (once (eq_by_cmp cmp) (λ w. list_any (is_at (cmp w)) old) (λ w. list_any (is_at (cmp w)) new) x rest (not-true (list_any (is_at (cmp x)) old) (sym a ∙ t))
       (λ w. u w ∙ by_cond (is_at (cmp x) w) (list_any (is_at (cmp w)) old) ∙ ap (λ (b : Bool). b || list_any (is_at (cmp w)) old) ((eq_by_cmp_equiv o).symm x w)))
       ∙ ap (λ (l : List _). no_two_before (eq_by_cmp cmp) (λ w. list_any (is_at (cmp w)) old) l) (sym e) ∙ h
 

@@ -1,11 +1,7 @@
 -- Texts and names of which no two are the same, as the program's order of borrowed words tells them apart.
 use Rattle.std.proofs.Common.{◌≡◌, ℕ, ◌&&◌, Bool, List, [], ◌∷◌, Bor, nat_cmp, refl, sym, ap, ◌∙◌}
 use Rattle.std.specs.Global.{Vec}
-use Rattle.std.specs.Str.{bytes_eq}
-use Rattle.std.specs.Ordering.{eq_by_cmp}
-use Rattle.std.specs.Cmp.Lexicographic.{pointwise, slice_cmp, lists_ties, texts_ties}
-use Rattle.tsdl_grammar.specs.Lookups.{no_two, same_words, are_distinct}
-use Rattle.tsdl_meaning.specs.Names.{texts_of, name_lists}
+use Rattle.tsdl_meaning.proofs.TextWords.{are_distinct, bytes_eq, eq_by_cmp, lists_ties, name_lists, no_two, pointwise, same_words, slice_cmp, texts_of, texts_ties}
 use Rattle.tsdl_meaning.proofs.DistinctKeys.{no_two_seen}
 
 pub distinct_texts : (words : List (Bor (List ℕ))) (texts : List (List ℕ)) → texts_of words ≡ texts → no_two (eq_by_cmp (λ x y. slice_cmp nat_cmp x.now y.now)) words ≡ no_two bytes_eq texts

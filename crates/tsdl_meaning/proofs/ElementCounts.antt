@@ -2,7 +2,7 @@
 use Rattle.std.proofs.Common.{◌≡◌, ℕ, ◌*◌, ◌<◌, ◌≤◌, ◌^◌, false, List, [], ◌∷◌, length, get_or, max, leb, sym, ap, ◌∙◌, arith}
 use Rattle.std.proofs.Math.Nat.{mul-le-mul_left, mul-le-mul_right}
 use Rattle.std.proofs.lemmas.Bool.Decides.{nat_tests}
-use Rattle.tsdl_grammar.specs.MemberMeaning.{elements_of}
+use Rattle.tsdl_meaning.proofs.TextWords.{elements_of}
 
 product_at_least : (a b : ℕ) → 1 ≤ b → a ≤ a * b
 product_at_least a b h = omega (arith, mul-le-mul_left a h)

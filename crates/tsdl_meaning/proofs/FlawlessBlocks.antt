@@ -1,37 +1,11 @@
 -- What blocks without a flaw mean.
 use Rattle.std.proofs.Common.{◌≡◌, ℕ, ◌==◌, Bool, true, false, not, ◌&&◌, ◌||◌, List, [], ◌∷◌, map, Option, Some, None, refl, sym, ap, subst, ◌∙◌, inl, inr, pos}
 use Rattle.std.specs.Prelude.{codes}
-use Rattle.std.specs.Option.{is_some, option_map_or}
-use Rattle.std.specs.List.{list_all, AllByRecursion}
-use Rattle.std.specs.Ordering.{nat_cmp}
-use Rattle.std.specs.BTreeMap.{ContainsKey}
-use Rattle.std.specs.BTreeSet.{contains, contains_text}
-use Rattle.std.proofs.lemmas.Bool.{cases_Bool}
-use Rattle.ctf_types.specs.declared.ByteOrder.{ByteOrder}
-use Rattle.ctf_types.specs.declared.StructType.{StructType}
-use Rattle.ctf_types.specs.declared.ClockType.{ClockType}
-use Rattle.ctf_types.specs.declared.Stream.{Stream}
-use Rattle.ctf_types.specs.declared.Event.{Event}
-use Rattle.tsdl_grammar.specs.declared.tree.Value.{Value}
-use Rattle.tsdl_grammar.specs.declared.tree.Scope.{Scope}
-use Rattle.tsdl_grammar.specs.declared.tree.Item.{Item}
-use Rattle.tsdl_grammar.specs.Steps.{◌>>=◌}
-use Rattle.tsdl_grammar.specs.Lookups.{words_of, same_words, attr, attrs_in, scopes_in, attr_names, are_distinct, is_among, has_parts}
-use Rattle.tsdl_grammar.specs.AttributeValues.{natural_value, whole_value, text_value, word_value, name_value, flag_value, uuid_value, meant_by, with_default}
-use Rattle.tsdl_grammar.specs.IntegerMeaning.{Known}
-use Rattle.tsdl_grammar.specs.StructureMeaning.{has_member}
-use Rattle.tsdl_grammar.specs.BlockMeaning.{number_or_zero, order_table, packet_header, packet_context, event_header, event_context, specific_context, fields_scope, has_number, is_trace, trace_order, trace_uuid, header_meaning, clock_meaning, stream_meaning, event_meaning}
-use Rattle.tsdl_grammar.specs.Laws.{SaysClock, SaysStream, SaysEvent}
-use Rattle.tsdl_flaw.specs.Twice.{clock_name, HasNumbers}
-use Rattle.tsdl_meaning.specs.declared.judge.block.BlockKind.{BlockKind}
+use Rattle.tsdl_meaning.proofs.TextWords.{AllByRecursion, AreFlawless, BlockKind, ByteOrder, ClockType, ContainsKey, Event, HasNumbers, IsFlawlessBlock, IsFlawlessScope, Item, Known, Ledger, SaysClock, SaysEvent, SaysStream, Scope, ScopeRule, Stream, StructType, Value, are_distinct, attr, attr_names, attrs_in, clock_meaning, clock_name, contains, contains_text, event_context, event_header, event_meaning, fields_scope, fits, flag_value, has_in_context, has_member, has_number, has_parts, has_sizes, header_meaning, is_among, is_fit, is_number, is_some, is_trace, list_all, meant_by, name_value, nat_cmp, natural_value, number_or_zero, of_clock, of_event, of_stream, of_trace, option_map_or, order_table, packet_context, packet_header, pair_cmp, rule_in, same_words, scopes_in, scopes_of, specific_context, stream_meaning, text_value, trace_order, trace_uuid, uuid_value, whole_value, with_default, word_value, words_of, ◌>>=◌}
+use Rattle.std.proofs.lemmas.Bool.{cases_Bool, not-true, and_from}
 use Rattle.tsdl_meaning.specs.declared.judge.block.BlockKind.TheVariants as kinds
-use Rattle.tsdl_meaning.specs.declared.judge.ledger.Ledger.{Ledger}
-use Rattle.tsdl_meaning.specs.declared.scope_rule.ScopeRule.{ScopeRule}
 use Rattle.tsdl_meaning.specs.declared.scope_rule.ScopeRule.TheVariants.{AnyMembers, PacketHeader, PacketContext, EventHeader}
-use Rattle.tsdl_meaning.specs.Ledgers.{pair_cmp}
-use Rattle.tsdl_meaning.specs.PacketSizes.{has_sizes, has_in_context}
-use Rattle.tsdl_meaning.specs.FlawlessBlocks.{is_number, of_trace, of_stream, of_event, of_clock, fits, is_fit, scopes_of, rule_in, IsFlawlessScope, AreFlawless, IsFlawlessBlock}
-use Rattle.tsdl_meaning.proofs.FlawlessNames.{and_both, and_left, and_right}
+use Rattle.tsdl_meaning.proofs.FlawlessNames.{and_left, and_right}
 use Rattle.tsdl_meaning.proofs.FlawlessValues.{some_is, value_fits, needed_is, default_is, option_is}
 use Rattle.tsdl_meaning.proofs.FlawlessScopes.{scope_means, has_alike}
 
@@ -52,7 +26,7 @@ all_among : (known : Known) (kind : BlockKind) (scopes : List Scope) → AllByRe
     → list_all (λ s. is_among (map (λ row. row.0) (scopes_of kind)) (words_of s.name)) scopes ≡ true
 all_among known kind [] all = refl
 all_among known kind (s ∷ scopes) all =
-    and_both (is_among (map (λ row. row.0) (scopes_of kind)) (words_of s.name)) (list_all (λ x. is_among (map (λ row. row.0) (scopes_of kind)) (words_of x.name)) scopes)
+    and_from (is_among (map (λ row. row.0) (scopes_of kind)) (words_of s.name)) (list_all (λ x. is_among (map (λ row. row.0) (scopes_of kind)) (words_of x.name)) scopes)
     (among (words_of s.name) all.0.rule (scopes_of kind) all.0.asks) (all_among known kind scopes all.1)
 
 parts_are : (known : Known) (kind : BlockKind) (ledger : Ledger) (is : List Item) → AreFlawless known kind ledger is → has_parts (map (λ row. row.0) (scopes_of kind)) is ≡ true
@@ -130,11 +104,7 @@ new_name (Some w) taken e = refl
 
 is_new : (o : Option (List ℕ)) (taken : List ℕ → Bool) (w : List ℕ) → option_map_or (λ name. not (taken name)) o false ≡ true → o ≡ Some w → taken w ≡ false
 is_new None taken w e f = absurd cc
-is_new (Some x) taken w e f = let same : x ≡ w = cc in subst (λ (y : List ℕ). taken y ≡ false) same (untaken (taken x) e)
-  where
-    untaken : (b : Bool) → not b ≡ true → b ≡ false
-    untaken true h = absurd cc
-    untaken false h = refl
+is_new (Some x) taken w e f = let same : x ≡ w = cc in subst (λ (y : List ℕ). taken y ≡ false) same (not-true (taken x) e)
 
 pub clock_means : (known : Known) (ledger : Ledger) (is : List Item) → IsFlawlessBlock known kinds.Clock ledger is → ClockOf ledger is
 clock_means known ledger is f =
@@ -195,11 +165,7 @@ new_number (Some n) taken e = refl
 
 is_free : (o : Option ℕ) (taken : ℕ → Bool) (n : ℕ) → option_map_or (λ m. not (taken m)) o false ≡ true → o ≡ Some n → taken n ≡ false
 is_free None taken n e f = absurd cc
-is_free (Some m) taken n e f = let same : m ≡ n = cc in subst (λ (k : ℕ). taken k ≡ false) same (untaken (taken m) e)
-  where
-    untaken : (b : Bool) → not b ≡ true → b ≡ false
-    untaken true h = absurd cc
-    untaken false h = refl
+is_free (Some m) taken n e f = let same : m ≡ n = cc in subst (λ (k : ℕ). taken k ≡ false) same (not-true (taken m) e)
 
 -- the number that is given, or 0, is new
 number_free : (taken : ℕ → Bool) (o : Option Value) (n : ℕ) → with_default 0 natural_value o ≡ Some n → (o ≡ None → taken 0 ≡ false)
@@ -231,7 +197,7 @@ stream_means known ledger is f =
             header = header.means;
             common = common.means;
             sizes =
-                and_both (has_member (codes "packet_size") context.meant.members) (has_member (codes "content_size") context.meant.members)
+                and_from (has_member (codes "packet_size") context.meant.members) (has_member (codes "content_size") context.meant.members)
                 (has_alike known packet_context PacketContext scopes (codes "packet_size") context ∙ and_left (has_in_context (codes "packet_size") is) (has_in_context (codes "content_size") is) sizes)
                 (has_alike known packet_context PacketContext scopes (codes "content_size") context ∙ and_right (has_in_context (codes "packet_size") is) (has_in_context (codes "content_size") is) sizes);
           } in

@@ -1,26 +1,15 @@
 -- Brackets without a flaw mean arrays or a sequence.
 use Rattle.std.proofs.Common.{◌≡◌, ℕ, ◌+◌, ◌*◌, ◌<◌, ◌≤◌, ◌⊎◌, ◌^◌, max, true, false, ◌&&◌, List, [], ◌∷◌, ◌++◌, length, take, get_or, Some, IsSome, refl, sym, ap, subst, ◌∙◌, inl, inr, arith, length-append}
+use Rattle.std.proofs.lemmas.Bool.{and_from}
 use Rattle.std.specs.Prelude.{nat_lt, nat_le}
-use Rattle.std.specs.List.{list_all}
+use Rattle.tsdl_meaning.proofs.TextWords.{Adds, AreBrackets, Bracket, HaveNumbers, KeepsLimits, Known, Leaf, MemberTree, MemberType, NameLength, Number, are_lengths, bracketed, count_of, each, elements_of, kind_meaning, length_place, list_all, member_meaning, natural, ◌>>=◌}
 use Rattle.std.proofs.Math.Nat.{mul_assoc, mul-one, one-mul}
 use Rattle.std.proofs.lemmas.Bool.Decides.{nat_tests}
 use Rattle.std.proofs.lemmas.List.{take_more}
 use Rattle.std.proofs.lemmas.List.Folds.{list_all-append}
-use Rattle.ctf_types.specs.declared.MemberType.{MemberType}
-use Rattle.ctf_types.specs.Chain.{Leaf}
-use Rattle.tsdl_grammar.specs.declared.tree.Number.{Number}
-use Rattle.tsdl_grammar.specs.declared.tree.Bracket.{Bracket}
 use Rattle.tsdl_grammar.specs.declared.tree.Bracket.TheVariants as brackets
-use Rattle.tsdl_grammar.specs.declared.tree.MemberTree.{MemberTree}
-use Rattle.tsdl_grammar.specs.Steps.{◌>>=◌, each}
-use Rattle.tsdl_grammar.specs.AttributeValues.{natural}
-use Rattle.tsdl_grammar.specs.IntegerMeaning.{Known}
-use Rattle.tsdl_grammar.specs.MemberMeaning.{elements_of, are_lengths, count_of, length_place, bracketed, kind_meaning, member_meaning}
 use Rattle.tsdl_grammar.proofs.Inversion.{bind_some}
 use Rattle.tsdl_meaning.specs.declared.judge.brackets.Lengths.{Lengths}
-use Rattle.tsdl_meaning.specs.BracketLengths.{Adds}
-use Rattle.tsdl_meaning.specs.FlawlessBrackets.{KeepsLimits, HaveNumbers, NameLength, AreBrackets}
-use Rattle.tsdl_meaning.proofs.FlawlessNames.{and_both}
 use Rattle.tsdl_meaning.proofs.FlawlessValues.{some_is}
 use Rattle.tsdl_meaning.proofs.FlawlessFacts.{each_more}
 
@@ -34,7 +23,7 @@ elements_behind (m ∷ ns) n = ap (λ (k : ℕ). max 1 m * k) (elements_behind n
 all_bits : (ns : List ℕ) (n : ℕ) → list_all (nat_lt 0) ns ≡ true → 0 < n → list_all (nat_lt 0) (ns ++ n ∷ []) ≡ true
 all_bits ns n all some =
     let one : nat_lt 0 n ≡ true = grind (arith, nat_tests) in
-    list_all-append (nat_lt 0) ns (n ∷ []) ∙ and_both (list_all (nat_lt 0) ns) (nat_lt 0 n && true) all (and_both (nat_lt 0 n) true one refl)
+    list_all-append (nat_lt 0) ns (n ∷ []) ∙ and_from (list_all (nat_lt 0) ns) (nat_lt 0 n && true) all (and_from (nat_lt 0 n) true one refl)
 
 -- one more number
 pub count_more : (before : List (List ℕ × MemberType)) (done : List Bracket) (old new : Lengths) (number : Number) (n : ℕ) → AreBrackets before done old → natural number ≡ Some n → KeepsLimits old n new
@@ -110,7 +99,7 @@ lengths_are : (ns : List ℕ) → length ns ≤ 8 → elements_of ns ≤ 1048576
 lengths_are ns few small =
     let a : nat_le (length ns) 8 ≡ true = grind (arith, nat_tests) in
     let b : nat_le (elements_of ns) (2 ^ 20) ≡ true = grind (arith, nat_tests) in
-    and_both (nat_le (length ns) 8) (nat_le (elements_of ns) (2 ^ 20)) a b
+    and_from (nat_le (length ns) 8) (nat_le (elements_of ns) (2 ^ 20)) a b
 
 arrays_mean : (before : List (List ℕ × MemberType)) (leaf : Leaf) (bs : List Bracket) (numbers : List ℕ) → HaveNumbers bs numbers → are_lengths numbers ≡ true → IsSome (bracketed before leaf bs)
 unfolding bracketed

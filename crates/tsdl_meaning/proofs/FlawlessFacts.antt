@@ -1,20 +1,12 @@
 -- The entries of an environment, one behind the other.
-use Rattle.std.proofs.Common.{◌≡◌, ℕ, ◌+◌, ◌<◌, ◌≤◌, Bool, true, false, ◌&&◌, ◌||◌, List, [], ◌∷◌, ◌++◌, map, length, take, get_or, Option, Some, refl, sym, ap, subst, ◌∙◌, arith, length-append}
+use Rattle.std.proofs.Common.{◌≡◌, ℕ, ◌+◌, ◌<◌, ◌≤◌, Bool, true, false, ◌&&◌, List, [], ◌∷◌, ◌++◌, map, length, take, get_or, Option, Some, refl, sym, ap, subst, ◌∙◌, arith, length-append}
+use Rattle.std.proofs.lemmas.Bool.{and_from, or_parts}
 use Rattle.std.specs.Prelude.{nat_le}
-use Rattle.std.specs.Option.{option_map}
-use Rattle.std.specs.List.{list_any, AllByRecursion}
-use Rattle.std.specs.Str.{bytes_eq}
-use Rattle.std.specs.Cmp.Lexicographic.{nat_list_eq_equiv}
+use Rattle.tsdl_meaning.proofs.TextWords.{AddsFact, AllByRecursion, EnvironmentEntry, MeanEntries, NamedFact, bytes_eq, each, environment_meaning, fact_meaning, list_any, named_fact_meaning, nat_list_eq_equiv, no_two, option_map, provided, ◌>>=◌}
 use Rattle.std.proofs.lemmas.Bool.Decides.{nat_tests}
 use Rattle.std.proofs.lemmas.List.{map-append, take_more}
-use Rattle.ctf_types.specs.declared.EnvironmentEntry.{EnvironmentEntry}
-use Rattle.tsdl_grammar.specs.declared.tree.NamedFact.{NamedFact}
-use Rattle.tsdl_grammar.specs.Steps.{◌>>=◌, provided, each}
-use Rattle.tsdl_grammar.specs.Lookups.{no_two}
-use Rattle.tsdl_grammar.specs.BlockMeaning.{fact_meaning, named_fact_meaning, environment_meaning}
 use Rattle.tsdl_grammar.proofs.Inversion.{bind_some, bind_is, some_same}
-use Rattle.tsdl_meaning.specs.FlawlessTexts.{MeanEntries, AddsFact}
-use Rattle.tsdl_meaning.proofs.FlawlessNames.{and_both, no_two_more}
+use Rattle.tsdl_meaning.proofs.FlawlessNames.{no_two_more}
 use Rattle.tsdl_meaning.proofs.FlawlessValues.{some_is}
 
 -- what is made of one more item
@@ -38,15 +30,7 @@ pub record Facts (facts : List NamedFact) : Type 0 where
 -- none of the words is the other
 apart : (w : List ℕ) (words : List (List ℕ)) → list_any (bytes_eq w) words ≡ false → AllByRecursion (λ x. bytes_eq x w ≡ false) words
 apart w [] e = tt
-apart w (x ∷ words) e = (nat_list_eq_equiv.symm x w ∙ left (bytes_eq w x) (list_any (bytes_eq w) words) e, apart w words (right (bytes_eq w x) (list_any (bytes_eq w) words) e))
-  where
-    left : (a b : Bool) → (a || b) ≡ false → a ≡ false
-    left true b h = absurd cc
-    left false b h = refl
-
-    right : (a b : Bool) → (a || b) ≡ false → b ≡ false
-    right true b h = absurd cc
-    right false b h = h
+apart w (x ∷ words) e = (nat_list_eq_equiv.symm x w ∙ (or_parts (bytes_eq w x) (list_any (bytes_eq w) words) e).0, apart w words (or_parts (bytes_eq w x) (list_any (bytes_eq w) words) e).1)
 
 fact_more : (facts : List NamedFact) (fact : NamedFact) → Facts facts → AddsFact facts fact → Facts (facts ++ fact ∷ [])
 fact_more facts fact s adds =
@@ -75,5 +59,5 @@ unfolding environment_meaning
 facts_mean facts s =
     let n = s.few in
     let few : nat_le (length facts) 256 ≡ true = grind (arith, nat_tests) in
-    let both : (nat_le (length facts) 256 && no_two bytes_eq (map (λ f. f.name) facts)) ≡ true = and_both (nat_le (length facts) 256) (no_two bytes_eq (map (λ f. f.name) facts)) few s.once in
+    let both : (nat_le (length facts) 256 && no_two bytes_eq (map (λ f. f.name) facts)) ≡ true = and_from (nat_le (length facts) 256) (no_two bytes_eq (map (λ f. f.name) facts)) few s.once in
     (s.entries, ap (λ (b : Bool). provided b (each named_fact_meaning facts)) both ∙ s.mean)

@@ -1,23 +1,12 @@
 -- The attributes and scopes of a block, one behind the other.
 use Rattle.std.proofs.Common.{◌≡◌, ℕ, ◌+◌, ◌<◌, true, ◌&&◌, List, [], ◌∷◌, ◌++◌, length, take, get_or, refl, sym, ap, subst, ◌∙◌}
-use Rattle.std.specs.List.{list_all, AllByRecursion}
-use Rattle.std.specs.BTreeSet.{BTreeSet}
-use Rattle.std.specs.declared.string.String.{String}
-use Rattle.std.specs.declared.alloc.Global.{Global}
+use Rattle.std.proofs.lemmas.Bool.{and_from}
+use Rattle.tsdl_meaning.proofs.TextWords.{AddsAttribute, AddsItem, AddsScope, AllByRecursion, AreFlawless, Attribute, BTreeSet, BlockKind, Global, IsFlawlessScope, Item, Known, Ledger, Scope, String, are_distinct, asked_of, attr_in, attr_names, attrs_in, is_fit, list_all, scope_in, scope_names, scopes_in, words_of}
 use Rattle.std.proofs.lemmas.List.{append-nil, map-append, take_more}
 use Rattle.std.proofs.lemmas.List.Folds.{list_all-append}
-use Rattle.tsdl_grammar.specs.declared.tree.Attribute.{Attribute}
-use Rattle.tsdl_grammar.specs.declared.tree.Scope.{Scope}
-use Rattle.tsdl_grammar.specs.declared.tree.Item.{Item}
 use Rattle.tsdl_grammar.specs.declared.tree.Item.TheVariants as items
-use Rattle.tsdl_grammar.specs.Lookups.{words_of, attr_in, scope_in, attrs_in, scopes_in, attr_names, are_distinct}
-use Rattle.tsdl_grammar.specs.IntegerMeaning.{Known}
-use Rattle.tsdl_meaning.specs.declared.judge.block.BlockKind.{BlockKind}
 use Rattle.tsdl_meaning.specs.declared.judge.block.BlockNames.{BlockNames}
-use Rattle.tsdl_meaning.specs.declared.judge.ledger.Ledger.{Ledger}
-use Rattle.tsdl_meaning.specs.Names.{scope_names}
-use Rattle.tsdl_meaning.specs.FlawlessBlocks.{is_fit, asked_of, IsFlawlessScope, AddsAttribute, AddsScope, AddsItem, AreFlawless}
-use Rattle.tsdl_meaning.proofs.FlawlessNames.{HasAll, names_more, distinct_more, and_both, all_more, flat_more}
+use Rattle.tsdl_meaning.proofs.FlawlessNames.{HasAll, names_more, distinct_more, all_more, flat_more}
 
 -- attributes without a flaw, and the names so far
 pub record Attributes (kind : BlockKind) (ledger : Ledger) (names : BTreeSet (String Global)) (all : List Attribute) : Type 0 where
@@ -37,7 +26,7 @@ attribute_more kind ledger before after all a s adds =
     let names : attr_names (all ++ a ∷ []) ≡ attr_names all ++ words_of a.name ∷ [] = map-append (λ x. words_of x.name) all (a ∷ []) in
     let asked = asked_of kind ledger in
     record {
-      fit = list_all-append (is_fit asked) all (a ∷ []) ∙ and_both (list_all (is_fit asked) all) (is_fit asked a && true) s.fit (and_both (is_fit asked a) true adds.fit refl);
+      fit = list_all-append (is_fit asked) all (a ∷ []) ∙ and_from (list_all (is_fit asked) all) (is_fit asked a && true) s.fit (and_from (is_fit asked a) true adds.fit refl);
       once = ap are_distinct names ∙ distinct_more before after (attr_names all) a.name adds.name s.kept s.once;
       kept = subst (HasAll after) (sym names) (names_more before after (attr_names all) a.name adds.name s.kept);
     }

@@ -1,25 +1,13 @@
 -- Names of which none stands twice, each one new among those before it.
 use Rattle.std.proofs.Common.{◌≡◌, ℕ, Bool, true, false, not, cond, ◌&&◌, ◌||◌, List, [], ◌∷◌, ◌++◌, refl, ap, ap₂, ◌∙◌, inl, inr}
-use Rattle.std.specs.List.{flat_map, AllByRecursion, list_any}
-use Rattle.std.specs.Str.{bytes_eq}
-use Rattle.std.specs.BTreeSet.{BTreeSet, contains_text}
-use Rattle.std.specs.declared.string.String.{String}
-use Rattle.std.specs.declared.alloc.Global.{Global}
-use Rattle.std.proofs.lemmas.Bool.{cases_Bool}
+use Rattle.tsdl_meaning.proofs.TextWords.{AddsName, AllByRecursion, BTreeSet, Global, Name, String, are_distinct, bytes_eq, contains_text, flat_map, list_any, no_two, same_words, with_dot, words_of, written}
+use Rattle.std.proofs.lemmas.Bool.{cases_Bool, not-true, not_from_false, and_from}
 use Rattle.std.proofs.lemmas.List.{append-nil}
 use Rattle.std.proofs.lemmas.List.Concat.{flat_map-append}
 use Rattle.std.proofs.lemmas.Slice.Eq.{bytes_eq-Decides}
-use Rattle.tsdl_grammar.specs.declared.tree.Name.{Name}
-use Rattle.tsdl_grammar.specs.Lookups.{words_of, same_words, no_two, are_distinct}
-use Rattle.tsdl_flaw.specs.Written.{with_dot, written}
-use Rattle.tsdl_meaning.specs.FlawlessBlocks.{AddsName}
 use Rattle.tsdl_meaning.proofs.DistinctKeys.{any_behind}
 
 -- ---- tests
-
-pub and_both : (a b : Bool) → a ≡ true → b ≡ true → (a && b) ≡ true
-and_both true b e f = f
-and_both false b e f = absurd cc
 
 pub and_left : (a b : Bool) → (a && b) ≡ true → a ≡ true
 and_left true b e = refl
@@ -28,14 +16,6 @@ and_left false b e = absurd cc
 pub and_right : (a b : Bool) → (a && b) ≡ true → b ≡ true
 and_right true b e = e
 and_right false b e = absurd cc
-
-not_false : (b : Bool) → b ≡ false → not b ≡ true
-not_false true e = absurd cc
-not_false false e = refl
-
-is_not : (b : Bool) → not b ≡ true → b ≡ false
-is_not true e = absurd cc
-is_not false e = refl
 
 or_none : (a b : Bool) → a ≡ false → b ≡ false → (a || b) ≡ false
 or_none true b e f = absurd cc
@@ -58,9 +38,9 @@ flat_more {A} {B} f xs x = flat_map-append f xs (x ∷ []) ∙ ap (λ (l : List 
 pub no_two_more : {A : Type 0} (same : A → A → Bool) (xs : List A) (x : A) → AllByRecursion (λ y. same y x ≡ false) xs → no_two same xs ≡ true → no_two same (xs ++ x ∷ []) ≡ true
 no_two_more same [] x others d = refl
 no_two_more same (y ∷ ys) x others d =
-    let none = is_not (list_any (same y) ys) (and_left (not (list_any (same y) ys)) (no_two same ys) d) in
-    and_both (not (list_any (same y) (ys ++ x ∷ []))) (no_two same (ys ++ x ∷ []))
-    (not_false (list_any (same y) (ys ++ x ∷ [])) (any_behind (same y) ys x ∙ or_none (list_any (same y) ys) (same y x) none others.0))
+    let none = not-true (list_any (same y) ys) (and_left (not (list_any (same y) ys)) (no_two same ys) d) in
+    and_from (not (list_any (same y) (ys ++ x ∷ []))) (no_two same (ys ++ x ∷ []))
+    (not_from_false (list_any (same y) (ys ++ x ∷ [])) (any_behind (same y) ys x ∙ or_none (list_any (same y) ys) (same y x) none others.0))
     (no_two_more same ys x others.1 (and_right (not (list_any (same y) ys)) (no_two same ys) d))
 
 -- ---- names as they are written

@@ -1,28 +1,12 @@
 -- What scopes without a flaw mean.
 use Rattle.std.proofs.Common.{◌≡◌, ℕ, Bool, ◌||◌, List, [], ◌∷◌, ◌++◌, map, Option, Some, None, refl, sym, ap, subst, ◌∙◌, inl, inr, append_assoc}
-use Rattle.std.specs.List.{list_all, list_any, AllByRecursion}
-use Rattle.std.specs.Str.{bytes_eq}
+use Rattle.tsdl_meaning.proofs.TextWords.{AllByRecursion, BlockKind, IsFlawlessScope, Known, MemberTree, MemberType, Scope, ScopeRule, StructType, Structure, bytes_eq, has_member, list_all, list_any, member_names, members_meaning, names_in, provided, rule_in, same_words, scope, scope_meaning, scopes_of, struct_meaning, struct_type, structure_of, suits_rule, words_of, ◌>>=◌}
 use Rattle.std.proofs.lemmas.Bool.{cases_Bool, ltb-true, eqb-true}
 use Rattle.std.proofs.lemmas.List.{append-nil, map-append}
-use Rattle.ctf_types.specs.Members.{names_in}
-use Rattle.ctf_types.specs.declared.MemberType.{MemberType}
-use Rattle.ctf_types.specs.declared.StructType.{StructType}
-use Rattle.tsdl_grammar.specs.declared.tree.MemberTree.{MemberTree}
-use Rattle.tsdl_grammar.specs.declared.tree.Structure.{Structure}
-use Rattle.tsdl_grammar.specs.declared.tree.Scope.{Scope}
-use Rattle.tsdl_grammar.specs.Steps.{◌>>=◌, provided}
-use Rattle.tsdl_grammar.specs.Lookups.{words_of, same_words, scope}
-use Rattle.tsdl_grammar.specs.IntegerMeaning.{Known}
-use Rattle.tsdl_grammar.specs.StructureMeaning.{has_member, members_meaning, struct_type, struct_meaning, structure_of, scope_meaning}
 use Rattle.tsdl_grammar.proofs.Inversion.{bind_some, bind_is, some_same}
 use Rattle.tsdl_grammar.proofs.TypeParts.{struct_type-own}
 use Rattle.tsdl_grammar.proofs.MeaningParts.{says_structure}
-use Rattle.tsdl_meaning.specs.declared.judge.block.BlockKind.{BlockKind}
-use Rattle.tsdl_meaning.specs.declared.scope_rule.ScopeRule.{ScopeRule}
-use Rattle.tsdl_meaning.specs.ScopeRules.{suits_rule}
 use Rattle.tsdl_meaning.specs.FlawlessStructures.{IsFlawless}
-use Rattle.tsdl_meaning.specs.FlawlessBlocks.{scopes_of, rule_in, IsFlawlessScope}
-use Rattle.tsdl_meaning.specs.PacketSizes.{member_names}
 use Rattle.tsdl_meaning.proofs.FlawlessNames.{same_words-is}
 
 -- ---- the names of members

@@ -1,25 +1,13 @@
 -- A structure of which each member was found to have no flaw has none.
 use Rattle.std.proofs.Common.{◌≡◌, ℕ, ◌+◌, ◌<◌, ◌≤◌, ◌%◌, Bool, true, false, not, ◌&&◌, List, [], ◌∷◌, ◌++◌, length, take, get_or, Option, Some, None, IsSome, refl, sym, ap, subst, ◌∙◌, arith, length-append}
 use Rattle.std.specs.Prelude.{nat_lt, nat_le, ◌==◌}
-use Rattle.std.specs.List.{list_all}
-use Rattle.std.proofs.lemmas.Bool.{ltb-true, eqb-true}
+use Rattle.tsdl_meaning.proofs.TextWords.{Known, MemberTree, MemberType, Number, ScopeRule, StructType, Structure, align_of, align_with, has_member, list_all, member_meaning, members_meaning, natural, provided, struct_meaning, struct_type, suits_rule, ◌>>=◌}
+use Rattle.std.proofs.lemmas.Bool.{ltb-true, eqb-true, and_from}
 use Rattle.std.proofs.lemmas.Bool.Decides.{nat_tests}
 use Rattle.std.proofs.lemmas.List.{take_more}
 use Rattle.std.proofs.lemmas.List.Folds.{list_all-append}
-use Rattle.ctf_types.specs.declared.MemberType.{MemberType}
-use Rattle.ctf_types.specs.declared.StructType.{StructType}
-use Rattle.tsdl_grammar.specs.declared.tree.Number.{Number}
-use Rattle.tsdl_grammar.specs.declared.tree.MemberTree.{MemberTree}
-use Rattle.tsdl_grammar.specs.declared.tree.Structure.{Structure}
-use Rattle.tsdl_grammar.specs.Steps.{◌>>=◌, provided}
-use Rattle.tsdl_grammar.specs.AttributeValues.{natural}
-use Rattle.tsdl_grammar.specs.IntegerMeaning.{Known}
-use Rattle.tsdl_grammar.specs.MemberMeaning.{member_meaning}
-use Rattle.tsdl_grammar.specs.StructureMeaning.{has_member, members_meaning, align_of, align_with, struct_type, struct_meaning}
 use Rattle.tsdl_grammar.proofs.Inversion.{bind_some, bind_is, provided_some, some_same}
 use Rattle.tsdl_grammar.proofs.TypeParts.{struct_type-own}
-use Rattle.tsdl_meaning.specs.declared.scope_rule.ScopeRule.{ScopeRule}
-use Rattle.tsdl_meaning.specs.ScopeRules.{suits_rule}
 use Rattle.tsdl_meaning.specs.FlawlessStructures.{AddsMember, IsFlawless}
 
 -- these members have no flaw
@@ -47,10 +35,6 @@ more_mean known before (x ∷ trees) members tree t e fresh meant =
     bind_is first (λ u. members_meaning known (before ++ (x.name, u) ∷ []) (trees ++ tree ∷ [])) a.0 (members ++ (tree.name, t) ∷ []) a.1
     (more_mean known (before ++ (x.name, a.0) ∷ []) trees members tree t a.2 fresh meant)
 
-and_both : (a b : Bool) → a ≡ true → b ≡ true → (a && b) ≡ true
-and_both true b e f = f
-and_both false b e f = absurd cc
-
 one_more : (known : Known) (rule : ScopeRule) (trees : List MemberTree) (before after : List (List ℕ × MemberType)) (tree : MemberTree) → AreFlawless known rule trees before
     → AddsMember known rule before tree after → AreFlawless known rule (trees ++ tree ∷ []) after
 one_more known rule trees before after tree f a =
@@ -62,7 +46,7 @@ one_more known rule trees before after tree f a =
       few = omega (arith, m, below);
       counted = omega (arith, m, n, counted);
       mean = more_mean known [] trees before tree a.member f.mean a.fresh a.meant;
-      suit = list_all-append (suits_rule rule) before ((tree.name, a.member) ∷ []) ∙ and_both (list_all (suits_rule rule) before) (suits_rule rule (tree.name, a.member) && true) f.suit (and_both (suits_rule rule (tree.name, a.member)) true a.suits refl);
+      suit = list_all-append (suits_rule rule) before ((tree.name, a.member) ∷ []) ∙ and_from (list_all (suits_rule rule) before) (suits_rule rule (tree.name, a.member) && true) f.suit (and_from (suits_rule rule (tree.name, a.member)) true a.suits refl);
     } in
     subst (AreFlawless known rule (trees ++ tree ∷ [])) (sym a.added) made
 

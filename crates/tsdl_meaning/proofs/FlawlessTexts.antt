@@ -1,42 +1,20 @@
 -- Blocks without a flaw, one behind the other, and the metadata that they mean.
 use Rattle.std.proofs.Common.{◌≡◌, ℕ, ◌+◌, ◌<◌, ◌==◌, Bool, true, false, not, cond, ◌&&◌, ◌||◌, List, [], ◌∷◌, ◌++◌, map, length, take, get_or, Contains, Option, Some, None, refl, sym, ap, ap₂, subst, ◌∙◌, inl, inr, arith}
-use Rattle.std.specs.List.{list_all, list_any, flat_map, AllByRecursion}
-use Rattle.std.specs.Str.{bytes_eq}
-use Rattle.std.specs.Ordering.{nat_cmp}
-use Rattle.std.specs.BTreeMap.{BTreeMap, ContainsKey}
-use Rattle.std.specs.BTreeSet.{BTreeSet, contains, contains_text}
-use Rattle.std.specs.declared.string.String.{String}
-use Rattle.std.specs.declared.alloc.Global.{Global}
-use Rattle.std.proofs.lemmas.Bool.{cases_Bool, eqb-true}
+use Rattle.tsdl_meaning.proofs.TextWords.{AddsBlock, AddsClock, AddsStream, AllByRecursion, BTreeMap, BTreeSet, Block, ClockType, ContainsKey, EnvironmentEntry, Event, Global, HaveStreams, IfSizesMissed, IsEmpty, IsFlawlessBehind, Item, Known, LacksSizes, Ledger, MeanEntries, NamedFact, SaysMetadata, Stop, Stream, String, Surveys, at_most_one, by_number, bytes_eq, clock_meaning, contains, contains_text, each, environment_in, environment_meaning, event_in, event_meaning, events_of, flat_map, has_sizes, have_streams, header_meaning, list_all, list_any, nat_cmp, no_two, only, pair_cmp, provided, stream_in, stream_meaning, streams_meaning, text_meta, trace_in, with_events, ◌>>=◌}
+use Rattle.std.proofs.lemmas.Bool.{cases_Bool, eqb-true, not-true, not_from_false, or_right, or_left, and_from, or_parts}
 use Rattle.std.proofs.lemmas.Bool.Decides.{nat_tests}
 use Rattle.std.proofs.lemmas.List.{append-nil, map-append, take_more}
 use Rattle.std.proofs.lemmas.List.Folds.{list_all-append, list_any-append}
 use Rattle.std.proofs.lemmas.Slice.Eq.{bytes_eq-Decides}
-use Rattle.ctf_types.specs.declared.ClockType.{ClockType}
-use Rattle.ctf_types.specs.declared.EnvironmentEntry.{EnvironmentEntry}
 use Rattle.ctf_types.specs.declared.Metadata.{Metadata}
-use Rattle.ctf_types.specs.declared.Stream.{Stream}
-use Rattle.ctf_types.specs.declared.Event.{Event}
-use Rattle.tsdl_grammar.specs.declared.tree.Item.{Item}
-use Rattle.tsdl_grammar.specs.declared.tree.NamedFact.{NamedFact}
-use Rattle.tsdl_grammar.specs.declared.tree.Block.{Block}
 use Rattle.tsdl_grammar.specs.declared.tree.Block.TheVariants as blocks
-use Rattle.tsdl_grammar.specs.Steps.{◌>>=◌, provided, each, only, at_most_one, by_number}
-use Rattle.tsdl_grammar.specs.Lookups.{no_two}
-use Rattle.tsdl_grammar.specs.IntegerMeaning.{Known}
-use Rattle.tsdl_grammar.specs.BlockMeaning.{header_meaning, clock_meaning, stream_meaning, event_meaning, environment_meaning}
-use Rattle.tsdl_grammar.specs.Denotes.{trace_in, stream_in, event_in, clock_in, environment_in, events_of, with_events, have_streams, streams_meaning, text_meta}
-use Rattle.tsdl_grammar.specs.Laws.{SaysMetadata}
+use Rattle.tsdl_grammar.specs.Denotes.{clock_in}
 use Rattle.tsdl_grammar.proofs.Inversion.{bind_is}
 use Rattle.tsdl_grammar.proofs.MeaningParts.{text_says}
-use Rattle.tsdl_flaw.specs.declared.flaw.Stop.{Stop}
 use Rattle.tsdl_flaw.specs.declared.flaw.Stop.TheVariants as stops
-use Rattle.tsdl_meaning.specs.declared.judge.ledger.Ledger.{Ledger}
-use Rattle.tsdl_meaning.specs.Ledgers.{pair_cmp}
-use Rattle.tsdl_meaning.specs.PacketSizes.{has_sizes, LacksSizes, IfSizesMissed}
-use Rattle.tsdl_meaning.specs.FlawlessTexts.{MeanEntries, IsFlawlessBehind, AddsClock, AddsStream, AddsEvent, AddsBlock, IsEmpty, HaveStreams, Surveys}
+use Rattle.tsdl_meaning.specs.FlawlessTexts.{AddsEvent}
 use Rattle.tsdl_meaning.proofs.MemberNames.{contains_first, contains_later}
-use Rattle.tsdl_meaning.proofs.FlawlessNames.{and_both, and_left, and_right, all_more, all_weaker, flat_more, no_two_more}
+use Rattle.tsdl_meaning.proofs.FlawlessNames.{and_left, and_right, all_more, all_weaker, flat_more, no_two_more}
 use Rattle.tsdl_meaning.proofs.FlawlessFacts.{each_more, no_facts, facts_mean}
 use Rattle.tsdl_meaning.proofs.FlawlessBlocks.{TraceOf, ClockOf, StreamOf, EventOf, trace_means, clock_means, stream_means, event_means}
 use Rattle.tsdl_meaning.proofs.NumberedItems.{numbers_order}
@@ -98,14 +76,6 @@ other_number numbers m n there fresh =
       | inl e ↦ absurd (let same : contains nat_cmp numbers m ≡ contains nat_cmp numbers n = ap (contains nat_cmp numbers) (eqb-true m n e) in cc)
     ]
 
-or_right_true : (a b : Bool) → b ≡ true → (a || b) ≡ true
-or_right_true true b e = refl
-or_right_true false b e = e
-
-or_left_true : (a b : Bool) → a ≡ true → (a || b) ≡ true
-or_left_true true b e = refl
-or_left_true false b e = absurd cc
-
 stream_more : (known : Known) (ledger after : Ledger) (all : List (List Item)) (is : List Item) → StreamOf known ledger is → (adds : AddsStream ledger is after)
     → (list_all has_sizes all ≡ true → Streams known ledger.streams all) → list_all has_sizes (all ++ is ∷ []) ≡ true → Streams known adds.streams (all ++ is ∷ [])
 stream_more known ledger after all is o adds before sized =
@@ -128,9 +98,9 @@ stream_more known ledger after all is o adds before sized =
       there = λ n h.
           list_any-append (λ x. x.id == n) s.made (stream ∷ [])
           ∙ elim ((added n).0 h) [
-            | inl e ↦ or_right_true (list_any (λ x. x.id == n) s.made) ((stream.id == n) || false)
-                (or_left_true (stream.id == n) false (ap (λ (m : ℕ). stream.id == m) (e ∙ sym one.2) ∙ same_number stream.id))
-            | inr old ↦ or_left_true (list_any (λ x. x.id == n) s.made) ((stream.id == n) || false) (s.there n old)
+            | inl e ↦ or_right (list_any (λ x. x.id == n) s.made) ((stream.id == n) || false)
+                (or_left (stream.id == n) false (ap (λ (m : ℕ). stream.id == m) (e ∙ sym one.2) ∙ same_number stream.id))
+            | inr old ↦ or_left (list_any (λ x. x.id == n) s.made) ((stream.id == n) || false) (s.there n old)
           ];
     }
 
@@ -283,40 +253,24 @@ no_blocks known ledger e = record {
 none_of : (id : ℕ) (e : ℕ × Event) (es : List (ℕ × Event)) → e.0 ≡ id → list_any (same_key e) es ≡ false → list_any (λ x. e.1.id == x.id) (events_of id es) ≡ false
 none_of id e [] is none = refl
 none_of id e (f ∷ es) is none =
-    let rest = none_of id e es is (right (same_key e f) (list_any (same_key e) es) none) in
+    let rest = none_of id e es is (or_parts (same_key e f) (list_any (same_key e) es) none).1 in
     elim (cases_Bool (f.0 == id)) [
       | inl t ↦
           let same : (e.0 == f.0) ≡ true = ap (λ (n : ℕ). n == f.0) (is ∙ sym (eqb-true f.0 id t)) ∙ same_number f.0 in
-          let other : (e.1.id == f.1.id) ≡ false = sym (ap (λ (b : Bool). b && (e.1.id == f.1.id)) same) ∙ left (same_key e f) (list_any (same_key e) es) none in
+          let other : (e.1.id == f.1.id) ≡ false = sym (ap (λ (b : Bool). b && (e.1.id == f.1.id)) same) ∙ (or_parts (same_key e f) (list_any (same_key e) es) none).0 in
           rw (t, other) rest
       | inr t ↦ rw t rest
     ]
-  where
-    left : (a b : Bool) → (a || b) ≡ false → a ≡ false
-    left true b h = absurd cc
-    left false b h = refl
-
-    right : (a b : Bool) → (a || b) ≡ false → b ≡ false
-    right true b h = absurd cc
-    right false b h = h
-
-is_not : (b : Bool) → not b ≡ true → b ≡ false
-is_not true e = absurd cc
-is_not false e = refl
-
-not_is : (b : Bool) → b ≡ false → not b ≡ true
-not_is true e = absurd cc
-not_is false e = refl
 
 own_once : (id : ℕ) (es : List (ℕ × Event)) → no_two same_key es ≡ true → no_two (λ x y. x.id == y.id) (events_of id es) ≡ true
 own_once id [] d = refl
 own_once id (e ∷ es) d =
-    let none = is_not (list_any (same_key e) es) (and_left (not (list_any (same_key e) es)) (no_two same_key es) d) in
+    let none = not-true (list_any (same_key e) es) (and_left (not (list_any (same_key e) es)) (no_two same_key es) d) in
     let rest = own_once id es (and_right (not (list_any (same_key e) es)) (no_two same_key es) d) in
     elim (cases_Bool (e.0 == id)) [
       | inl t ↦ rw t
-          (and_both (not (list_any (λ x. e.1.id == x.id) (events_of id es))) (no_two (λ x y. x.id == y.id) (events_of id es))
-          (not_is (list_any (λ x. e.1.id == x.id) (events_of id es)) (none_of id e es (eqb-true e.0 id t) none)) rest)
+          (and_from (not (list_any (λ x. e.1.id == x.id) (events_of id es))) (no_two (λ x y. x.id == y.id) (events_of id es))
+          (not_from_false (list_any (λ x. e.1.id == x.id) (events_of id es)) (none_of id e es (eqb-true e.0 id t) none)) rest)
       | inr t ↦ rw t rest
     ]
 
@@ -335,7 +289,7 @@ has_events es d s =
 
 all_true : {A : Type 0} (f : A → Bool) (P : A → Type 0) (xs : List A) → ((x : A) → P x → f x ≡ true) → AllByRecursion P xs → list_all f xs ≡ true
 all_true f P [] g all = refl
-all_true f P (x ∷ xs) g all = and_both (f x) (list_all f xs) (g x all.0) (all_true f P xs g all.1)
+all_true f P (x ∷ xs) g all = and_from (f x) (list_all f xs) (g x all.0) (all_true f P xs g all.1)
 
 streams_are : (known : Known) (ledger : Ledger) (bs : List Block) → Streams known ledger.streams (flat_map stream_in bs) → Events known ledger.events (flat_map event_in bs) → HaveStreams ledger
     → (ss : List Stream) × (streams_meaning known bs ≡ Some ss)

@@ -1,36 +1,18 @@
 -- Integers, enumerations and strings without a flaw mean something.
 use Rattle.std.proofs.Common.{◌≡◌, ℕ, ◌+◌, ◌<◌, ◌%◌, ◌==◌, Bool, true, false, cond, ◌&&◌, ◌||◌, List, [], ◌∷◌, ◌++◌, length, take, get_or, Option, Some, None, IsSome, Bor, ℤ, pos, negsuc, refl, sym, ap, subst, ◌∙◌, arith, length-append, length-take}
 use Rattle.std.specs.Prelude.{codes, nat_lt, nat_le, int_le}
-use Rattle.std.specs.Option.{is_some, option_map, option_map_or}
-use Rattle.std.specs.List.{list_all, list_any}
-use Rattle.std.specs.Str.{bytes_eq}
-use Rattle.std.specs.BTreeSet.{BTreeSet}
-use Rattle.std.specs.declared.string.String.{String}
-use Rattle.std.specs.declared.alloc.Global.{Global}
-use Rattle.std.proofs.lemmas.Bool.{ltb-true, leb-true, eqb-true, le-leb}
+use Rattle.tsdl_meaning.proofs.TextWords.{AddsOwn, AreRanges, Asked, Attribute, BTreeSet, ByteOrder, Entries, Entry, Global, Known, Number, String, Value, are_distinct, attr, attr_names, base_value, bytes_eq, clock_value, default_align, encoding_value, entries_of, entry_meaning, enum_meaning, flag_value, has_only, high_of, int_attrs, int_meaning, is_alignment, is_among, is_fit, is_size, is_some, kind_meaning, list_all, list_any, natural_value, of_integer, of_string, option_map, option_map_or, order_value, order_words, provided, signed_of, string_attrs, text_meaning, with_default, word_value, words_of, ◌>>=◌}
+use Rattle.std.proofs.lemmas.Bool.{ltb-true, leb-true, eqb-true, le-leb, and_from}
 use Rattle.std.proofs.lemmas.Bool.Decides.{nat_tests}
 use Rattle.std.proofs.lemmas.List.{map-append, take_more}
 use Rattle.std.proofs.lemmas.List.Folds.{list_all-append}
-use Rattle.ctf_types.specs.declared.ByteOrder.{ByteOrder}
 use Rattle.ctf_types.specs.declared.ByteOrder.TheVariants.{Little, Big}
 use Rattle.ctf_types.specs.declared.Base.TheVariants.{Dec}
 use Rattle.ctf_types.specs.declared.IntType.{IntType}
-use Rattle.tsdl_grammar.specs.declared.tree.Number.{Number}
-use Rattle.tsdl_grammar.specs.declared.tree.Value.{Value}
-use Rattle.tsdl_grammar.specs.declared.tree.Attribute.{Attribute}
-use Rattle.tsdl_grammar.specs.declared.tree.Entry.{Entry}
-use Rattle.tsdl_grammar.specs.declared.tree.Entries.{Entries}
 use Rattle.tsdl_grammar.specs.declared.tree.Kind.TheVariants as kinds
-use Rattle.tsdl_grammar.specs.Steps.{◌>>=◌, provided}
-use Rattle.tsdl_grammar.specs.Lookups.{words_of, attr, attr_names, are_distinct, is_among}
-use Rattle.tsdl_grammar.specs.AttributeValues.{signed_of, natural_value, flag_value, word_value, with_default}
-use Rattle.tsdl_grammar.specs.IntegerMeaning.{Known, default_align, order_words, order_value, base_value, clock_value, int_attrs, has_only, int_meaning}
-use Rattle.tsdl_grammar.specs.MemberMeaning.{high_of, entry_meaning, entries_of, enum_meaning, encoding_value, text_meaning, kind_meaning}
 use Rattle.tsdl_grammar.proofs.Inversion.{bind_is}
 use Rattle.tsdl_grammar.proofs.TypeParts.{int_type-own}
-use Rattle.tsdl_meaning.specs.FlawlessBlocks.{Asked, is_fit}
-use Rattle.tsdl_meaning.specs.FlawlessTypes.{is_size, is_alignment, of_integer, string_attrs, of_string, AddsOwn, AreRanges}
-use Rattle.tsdl_meaning.proofs.FlawlessNames.{HasAll, names_more, distinct_more, and_both, and_left, and_right}
+use Rattle.tsdl_meaning.proofs.FlawlessNames.{HasAll, names_more, distinct_more, and_left, and_right}
 use Rattle.tsdl_meaning.proofs.FlawlessFacts.{each_more}
 use Rattle.tsdl_meaning.proofs.FlawlessValues.{some_is, value_fits, default_is, option_is}
 
@@ -43,7 +25,7 @@ pub record Own (allowed : List (List (List ℕ))) (asked : Asked) (all : List At
   pub kept : HasAll names (attr_names all)
 
 all_one_more : {A : Type 0} (f : A → Bool) (xs : List A) (x : A) → list_all f xs ≡ true → f x ≡ true → list_all f (xs ++ x ∷ []) ≡ true
-all_one_more f xs x all one = list_all-append f xs (x ∷ []) ∙ and_both (list_all f xs) (f x && true) all (and_both (f x) true one refl)
+all_one_more f xs x all one = list_all-append f xs (x ∷ []) ∙ and_from (list_all f xs) (f x && true) all (and_from (f x) true one refl)
 
 own_more : (allowed : List (List (List ℕ))) (asked : Asked) (all : List Attribute) (a : Attribute) (before after : BTreeSet (String Global)) → Own allowed asked all before → AddsOwn allowed asked before a after
     → Own allowed asked (all ++ a ∷ []) after
@@ -63,7 +45,7 @@ next_own allowed asked all i a before after h is s adds =
     (own_more allowed asked (take i all) a before after s adds)
 
 only_these : (allowed : List (List (List ℕ))) (asked : Asked) (all : List Attribute) (names : BTreeSet (String Global)) → Own allowed asked all names → has_only allowed all ≡ true
-only_these allowed asked all names s = and_both (are_distinct (attr_names all)) (list_all (λ a. is_among allowed (words_of a.name)) all) s.once s.among
+only_these allowed asked all names s = and_from (are_distinct (attr_names all)) (list_all (λ a. is_among allowed (words_of a.name)) all) s.once s.among
 
 -- ---- values
 
@@ -75,18 +57,14 @@ there_of : {A : Type 0} (P : A → Bool) (o : Option A) → option_map_or P o fa
 there_of P None e = absurd cc
 there_of P (Some x) e = refl
 
+only : (b : Bool) → (b || false) ≡ true → b ≡ true
+only true h = refl
+only false h = absurd cc
+
 -- a word that is `native` is a byte order, whatever the trace's is
 native_word : (order : ByteOrder) (w : List ℕ) → list_any (bytes_eq w) (codes "native" ∷ []) ≡ true → list_any (bytes_eq w) (order_words order) ≡ true
 native_word Little w e = rw (only (bytes_eq w (codes "native")) e) refl
-  where
-    only : (b : Bool) → (b || false) ≡ true → b ≡ true
-    only true h = refl
-    only false h = absurd cc
 native_word Big w e = rw (only (bytes_eq w (codes "native")) e) refl
-  where
-    only : (b : Bool) → (b || false) ≡ true → b ≡ true
-    only true h = refl
-    only false h = absurd cc
 
 word_held : (order : ByteOrder) (o : Option (List ℕ)) → option_map_or (λ w. list_any (bytes_eq w) (codes "native" ∷ [])) o false ≡ true
     → is_some (o >>= λ w. provided (list_any (bytes_eq w) (order_words order)) (Some order)) ≡ true

@@ -1,17 +1,8 @@
 -- What is looked up among attributes that have what their names ask for.
 use Rattle.std.proofs.Common.{◌≡◌, ℕ, true, false, List, [], ◌∷◌, Option, Some, None, refl, sym, ap, subst, ◌∙◌, inl, inr}
-use Rattle.std.specs.Option.{is_some, option_map}
-use Rattle.std.specs.List.{list_all}
-use Rattle.std.specs.Str.{bytes_eq}
+use Rattle.tsdl_meaning.proofs.TextWords.{Asked, Attribute, Name, Value, alone, attr, bytes_eq, fits, fits_word, is_fit, is_some, is_word, list_all, one_word, option_map, optional, with_default, ◌>>=◌}
 use Rattle.std.proofs.lemmas.Bool.{cases_Bool}
 use Rattle.std.proofs.lemmas.Slice.Eq.{bytes_eq-Decides}
-use Rattle.tsdl_grammar.specs.declared.tree.Name.{Name}
-use Rattle.tsdl_grammar.specs.declared.tree.Value.{Value}
-use Rattle.tsdl_grammar.specs.declared.tree.Attribute.{Attribute}
-use Rattle.tsdl_grammar.specs.Steps.{◌>>=◌}
-use Rattle.tsdl_grammar.specs.Lookups.{is_word, attr}
-use Rattle.tsdl_grammar.specs.AttributeValues.{alone, one_word, with_default, optional}
-use Rattle.tsdl_meaning.specs.FlawlessBlocks.{Asked, fits, fits_word, is_fit}
 use Rattle.tsdl_meaning.proofs.FlawlessNames.{and_left, and_right}
 
 pub some_is : {A : Type 0} (o : Option A) → is_some o ≡ true → (x : A) × (o ≡ Some x)

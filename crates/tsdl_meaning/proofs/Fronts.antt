@@ -1,9 +1,7 @@
 -- What is made of each item of a list, one item after the other.
 use Rattle.std.proofs.Common.{◌≡◌, ℕ, ◌+◌, ◌-◌, ◌≤◌, ◌<◌, List, [], ◌∷◌, ◌++◌, map, length, take, drop, get_or, take-suc, add-one, Option, Some, None, refl, sym, ap, ◌∙◌, append_assoc, arith}
 use Rattle.std.proofs.Math.Seq.{take-length}
-use Rattle.std.specs.List.{flat_map}
-use Rattle.tsdl_grammar.specs.Steps.{◌>>=◌, each}
-use Rattle.tsdl_meaning.specs.Fronts.{with_front}
+use Rattle.tsdl_meaning.proofs.TextWords.{each, flat_map, with_front, ◌>>=◌}
 
 -- one more item at the front's end
 front_more : {A : Type 0} (front : List A) (y : A) (o : Option (List A)) → with_front (front ++ y ∷ []) o ≡ with_front front (o >>= λ ys. Some (y ∷ ys))

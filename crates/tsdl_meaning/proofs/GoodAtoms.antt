@@ -1,15 +1,11 @@
 -- What the tokens of a text mean: each word is a name that metadata may have, and each number has 64 bits.
 use Rattle.std.proofs.Common.{◌≡◌, ℕ, suc, ◌+◌, ◌<◌, ◌^◌, Bool, true, false, cond, not, ◌&&◌, ◌||◌, ltb, List, [], ◌∷◌, ◌++◌, take, drop, Option, Some, None, refl, sym, ap, subst, ◌∙◌, arith}
-use Rattle.std.specs.Option.{option_map, option_and_then}
-use Rattle.std.specs.List.{list_all, list_any, prefix_len, AllByRecursion}
+use Rattle.tsdl_meaning.proofs.TextWords.{AllByRecursion, Atom, IsMetadataName, bytes_eq, is_digit, is_identifier, is_letter, is_read, is_utf8, list_all, list_any, option_and_then, option_map, prefix_len, unused_keywords}
 use Rattle.std.specs.Prelude.{◌==◌}
 use Rattle.std.specs.Char.{is_ascii_digit}
-use Rattle.std.specs.Str.{is_utf8, bytes_eq}
-use Rattle.std.proofs.lemmas.Bool.{ltb-true}
+use Rattle.std.proofs.lemmas.Bool.{ltb-true, not-true}
 use Rattle.std.proofs.lemmas.Bool.Decides.{nat_tests}
 use Rattle.std.proofs.lemmas.List.Folds.{list_all-append}
-use Rattle.ctf_types.specs.Names.{is_identifier, is_letter, is_digit, unused_keywords, IsMetadataName}
-use Rattle.tsdl_grammar.specs.declared.atom.Atom.{Atom}
 use Rattle.tsdl_grammar.specs.declared.atom.Atom.TheVariants as atoms
 use Rattle.tsdl_grammar.specs.declared.token.Mark.{Mark}
 use Rattle.tsdl_grammar.specs.declared.token.TokenKind.TheVariants as kinds
@@ -21,7 +17,6 @@ use Rattle.tsdl_grammar.specs.Pieces.{piece_at, text_at, comment_at, mark_at, ma
 use Rattle.tsdl_grammar.specs.Tokens.{Splits}
 use Rattle.tsdl_grammar.specs.Atoms.{content_of, number_atom, text_atom, piece_atoms, atoms_along, Reads}
 use Rattle.tsdl_grammar.specs.Escapes.{unescaped}
-use Rattle.tsdl_grammar.specs.Denotes.{is_read}
 use Rattle.tsdl_grammar.proofs.Continuation.{spells}
 use Rattle.tsdl_grammar.proofs.Runs.{and_true}
 
@@ -127,10 +122,6 @@ piece_named (b ∷ bytes) =
 
 -- ---- atoms
 
-unused : (b : Bool) → not b ≡ true → b ≡ false
-unused true e = absurd cc
-unused false e = refl
-
 head_passes : (a : Bool) → (a && true) ≡ true → a ≡ true
 head_passes true e = refl
 head_passes false e = absurd cc
@@ -138,7 +129,7 @@ head_passes false e = absurd cc
 good_word : (b : Bool) (bytes : List ℕ) → is_identifier bytes ≡ true → list_all is_read (cond b (atoms.Word bytes) atoms.TooLarge ∷ []) ≡ true
     → AreGood (cond b (atoms.Word bytes) atoms.TooLarge ∷ [])
 good_word true bytes h r =
-    (record { identifier = h; no_keyword = unused (list_any (bytes_eq bytes) unused_keywords) (head_passes (not (list_any (bytes_eq bytes) unused_keywords)) r) }, tt)
+    (record { identifier = h; no_keyword = not-true (list_any (bytes_eq bytes) unused_keywords) (head_passes (not (list_any (bytes_eq bytes) unused_keywords)) r) }, tt)
 good_word false bytes h r = (tt, tt)
 
 good_number : (n : ℕ) → AreGood (number_atom n ∷ [])

@@ -1,9 +1,6 @@
 -- A stop that a judge hands on from a part of its tree.
 use Rattle.std.proofs.Common.{◌≡◌, ℕ, List, Result, Ok, Err}
-use Rattle.std.specs.Result.{IsErrAnd, IfErr}
-use Rattle.tsdl_grammar.specs.declared.atom.Atom.{Atom}
-use Rattle.tsdl_flaw.specs.declared.flaw.Stop.{Stop}
-use Rattle.tsdl_meaning.specs.Judged.{StopsAmong, StopsWhere}
+use Rattle.tsdl_meaning.proofs.TextWords.{Atom, IfErr, IsErrAnd, Stop, StopsAmong, StopsWhere}
 use Rattle.tsdl_meaning.proofs.JudgedParts.{handed}
 
 -- a stop that any front allows is one behind a front that something is known of

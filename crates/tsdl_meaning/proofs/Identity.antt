@@ -1,6 +1,6 @@
 -- An identifier that a text parses from, as an option.
 use Rattle.std.proofs.Common.{◌≡◌, ◌↔◌, ℕ, List, Option, Some, None, Result, Ok, Err, IsOk, IfOk, refl}
-use Rattle.std.specs.Result.{result_ok}
+use Rattle.tsdl_meaning.proofs.TextWords.{result_ok}
 use Rattle.std.proofs.lemmas.Bool.{false≢true}
 use Rattle.uuid.specs.declared.error.Error.{Error}
 

@@ -1,16 +1,11 @@
 -- Flaws where a text ends.
 use Rattle.std.proofs.Common.{◌≡◌, ℕ, ◌≤◌, ◌⊎◌, List, [], length, refl, sym, inl, inr, subst, arith}
 use Rattle.std.proofs.lemmas.List.{append-nil}
-use Rattle.tsdl_grammar.specs.declared.atom.Atom.{Atom}
+use Rattle.tsdl_meaning.proofs.TextWords.{Atom, IfSizesMissed, IsWrong, Stop, StopsIn, kind_of, most}
 use Rattle.tsdl_grammar.specs.declared.fault.MetaFaultKind.{MetaFaultKind}
 use Rattle.tsdl_grammar.specs.declared.fault.MetaFaultKind.TheVariants as faults
 use Rattle.tsdl_flaw.specs.declared.flaw.Flaw.{Flaw}
-use Rattle.tsdl_flaw.specs.declared.flaw.Stop.{Stop}
 use Rattle.tsdl_flaw.specs.declared.flaw.Stop.TheVariants as stops
-use Rattle.tsdl_flaw.specs.Flaws.{IsWrong}
-use Rattle.tsdl_flaw.specs.Stopping.{kind_of, StopsIn}
-use Rattle.tsdl_flaw.specs.Lengths.{most}
-use Rattle.tsdl_meaning.specs.PacketSizes.{IfSizesMissed}
 use Rattle.tsdl_flaw.specs.TextStops.{IsTextFault, StopsText}
 
 pub at_end : (toks : List Atom) (at : ℕ) (flaw : Flaw) → at ≡ length toks → (kind_of flaw ≡ faults.Syntax) ⊎ (kind_of flaw ≡ faults.NoPacketSize)

@@ -1,15 +1,9 @@
 -- Names of an environment's entries that stand twice.
 use Rattle.std.proofs.Common.{◌≡◌, ℕ, Bool, true, false, ◌||◌, List, [], ◌∷◌, ◌++◌, map, refl, sym, ap, ◌∙◌, inl, inr, subst, append_assoc, bytes_eq}
-use Rattle.std.specs.List.{flat_map, list_any}
+use Rattle.tsdl_meaning.proofs.TextWords.{Atom, EndsFacts, Holds, IsTwice, NamedFact, fact_toks, flat_map, list_any, mark, named_fact_toks, word}
 use Rattle.std.proofs.lemmas.Bool.{cases_Bool}
 use Rattle.std.proofs.lemmas.Slice.Eq.{bytes_eq-Decides}
-use Rattle.tsdl_grammar.specs.declared.atom.Atom.{Atom}
 use Rattle.tsdl_grammar.specs.declared.token.Mark.TheVariants as marks
-use Rattle.tsdl_grammar.specs.declared.tree.NamedFact.{NamedFact}
-use Rattle.tsdl_grammar.specs.Spelling.{mark, word, fact_toks, named_fact_toks}
-use Rattle.tsdl_flaw.specs.Fronts.{Holds}
-use Rattle.tsdl_flaw.specs.Twice.{IsTwice}
-use Rattle.tsdl_meaning.specs.Judged.{EndsFacts}
 
 -- an entry that has a name stands among the others
 fact_among : (w : List ℕ) (facts : List NamedFact) → list_any (bytes_eq w) (map (λ f. f.name) facts) ≡ true → Holds (flat_map named_fact_toks facts) (word w ∷ mark marks.Equals ∷ [])

@@ -3,23 +3,9 @@ use Rattle.std.proofs.Common.{◌≡◌, ℕ, Bool, true, cond, List, [], ◌∷
 use Rattle.std.proofs.lemmas.Bool.{cases_Bool}
 use Rattle.std.proofs.lemmas.Slice.Eq.{bytes_eq-Decides}
 use Rattle.std.proofs.lemmas.Map.Lookups.{exact_unsigned, exact_pairs}
-use Rattle.std.specs.Ordering.{nat_cmp, is_eq}
-use Rattle.std.specs.Cmp.{Equal-is}
-use Rattle.std.specs.List.{AllByRecursion}
+use Rattle.tsdl_meaning.proofs.TextWords.{AllByRecursion, AreNoted, Atom, BTreeMap, BTreeSet, ContainsKey, Equal-is, Global, HasClock, HasEvent, HasNumbers, Holds, IsSome, Item, Ledger, String, block_toks, clock_name, contains, contains_text, get, is_at, is_eq, is_some, nat_cmp, pair_cmp}
 use Rattle.std.specs.Map.{lookup}
-use Rattle.std.specs.BTreeMap.{BTreeMap, get, ContainsKey, is_at}
-use Rattle.std.specs.BTreeSet.{BTreeSet, contains, contains_text}
-use Rattle.std.specs.Option.{IsSome, is_some}
-use Rattle.std.specs.declared.string.String.{String}
-use Rattle.std.specs.declared.alloc.Global.{Global}
-use Rattle.tsdl_grammar.specs.declared.atom.Atom.{Atom}
-use Rattle.tsdl_grammar.specs.declared.tree.Item.{Item}
 use Rattle.tsdl_grammar.specs.declared.tree.Block.TheVariants as blocks
-use Rattle.tsdl_grammar.specs.Spelling.{block_toks}
-use Rattle.tsdl_flaw.specs.Fronts.{Holds}
-use Rattle.tsdl_flaw.specs.Twice.{clock_name, HasNumbers}
-use Rattle.tsdl_meaning.specs.declared.judge.ledger.Ledger.{Ledger}
-use Rattle.tsdl_meaning.specs.Ledgers.{AreNoted, HasClock, HasEvent, pair_cmp}
 use Rattle.tsdl_meaning.proofs.JudgedParts.{holds_more}
 
 -- what stands before a place stands before a later one

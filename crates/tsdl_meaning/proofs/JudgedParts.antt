@@ -1,13 +1,7 @@
 -- A stop in a part of a tree is a stop in the tree.
 use Rattle.std.proofs.Common.{◌≡◌, ℕ, suc, ◌<◌, List, [], ◌++◌, length, take, drop, get_or, sym, ap, ◌∙◌, subst, append_assoc, Result, Ok, Err}
-use Rattle.std.specs.List.{flat_map}
-use Rattle.std.specs.Result.{IsErrAnd, IfOk, IfErr}
+use Rattle.tsdl_meaning.proofs.TextWords.{Atom, Ends, Holds, IfErr, IfOk, IsErrAnd, StandsBehind, Stop, StopsIn, flat_map}
 use Rattle.std.proofs.lemmas.List.{append-nil}
-use Rattle.tsdl_grammar.specs.declared.atom.Atom.{Atom}
-use Rattle.tsdl_flaw.specs.declared.flaw.Stop.{Stop}
-use Rattle.tsdl_flaw.specs.Fronts.{Ends, Holds}
-use Rattle.tsdl_flaw.specs.Stopping.{StopsIn}
-use Rattle.tsdl_flaw.specs.Places.{StandsBehind}
 use Rattle.tsdl_flaw.proofs.Parts as parts
 
 -- ---- answers

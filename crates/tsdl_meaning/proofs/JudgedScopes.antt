@@ -1,9 +1,7 @@
 -- The parts of a scope.
 use Rattle.std.proofs.Common.{◌≡◌, List, [], ◌∷◌, ◌++◌, sym, ◌∙◌, append_assoc}
-use Rattle.tsdl_grammar.specs.declared.atom.Atom.{Atom}
+use Rattle.tsdl_meaning.proofs.TextWords.{Atom, Scope, mark, name_toks, scope_toks, struct_toks}
 use Rattle.tsdl_grammar.specs.declared.token.Mark.TheVariants as marks
-use Rattle.tsdl_grammar.specs.declared.tree.Scope.{Scope}
-use Rattle.tsdl_grammar.specs.Spelling.{mark, name_toks, struct_toks, scope_toks}
 
 pub scope_parts : (s : Scope) (behind : List Atom) → scope_toks s ++ behind ≡ name_toks s.name ++ (mark marks.Assign ∷ (struct_toks s.structure ++ (mark marks.Semicolon ∷ behind)))
 scope_parts s behind =

@@ -1,15 +1,7 @@
 -- Numbers that pass a limit.
 use Rattle.std.proofs.Common.{◌≡◌, ℕ, ◌<◌, ◌%◌, ◌==◌, ◌&&◌, Bool, true, false, List, Option, Some, IsSome, refl, sym, subst, inl, inr, arith}
 use Rattle.std.specs.Prelude.{if◌then◌else◌, nat_lt}
-use Rattle.std.specs.Option.{is_some}
-use Rattle.tsdl_grammar.specs.declared.atom.Atom.{Atom}
-use Rattle.tsdl_grammar.specs.declared.tree.Number.{Number}
-use Rattle.tsdl_grammar.specs.Spelling.{number_toks}
-use Rattle.tsdl_grammar.specs.Steps.{◌>>=◌, provided}
-use Rattle.tsdl_grammar.specs.AttributeValues.{natural, is_negative}
-use Rattle.tsdl_grammar.specs.StructureMeaning.{align_of}
-use Rattle.tsdl_flaw.specs.Limits.{IsLargeAlignment, IsPassed}
-use Rattle.tsdl_meaning.specs.Judging.{IsBehindAlign}
+use Rattle.tsdl_meaning.proofs.TextWords.{Atom, IsBehindAlign, IsLargeAlignment, IsPassed, Number, align_of, is_negative, is_some, natural, number_toks, provided, ◌>>=◌}
 
 -- a number that is not 0 has no sign of its own
 literal : (negative : Bool) (l v : ℕ) → 0 < v → (if negative then provided (l == 0) (Some 0) else Some l) ≡ Some v → l ≡ v

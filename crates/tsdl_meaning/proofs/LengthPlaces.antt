@@ -1,6 +1,6 @@
 -- The first member that may hold a length.
 use Rattle.std.proofs.Common.{◌≡◌, ℕ, ◌<◌, ltb, Bool, true, false, List, Some, None, length, get_or, refl, arith}
-use Rattle.std.specs.List.{position, position_or_len}
+use Rattle.tsdl_meaning.proofs.TextWords.{position, position_or_len}
 use Rattle.std.proofs.lemmas.Bool.Decides.{nat_tests}
 use Rattle.std.proofs.lemmas.List.Sums.{position_or_len_is}
 

@@ -1,3 +1,4 @@
+pub mod TextWords
 pub mod Identity
 pub mod WordTables
 pub mod Fronts
@@ -19,7 +20,6 @@ pub mod JudgedParts
 pub mod JudgedFacts
 pub mod JudgedLedgers
 pub mod JudgedEnds
-pub mod NamesBefore
 pub mod BlockAttributes
 pub mod JudgedScopes
 pub mod LargeAlignments

@@ -1,22 +1,8 @@
 -- A stop in a part of an attribute.
 use Rattle.std.proofs.Common.{◌≡◌, ℕ, ◌+◌, List, [], ◌∷◌, ◌++◌, length, take, drop, get_or, suc, ◌<◌, min, sym, ap, ◌∙◌, subst, inl, arith, append_assoc, length-append}
-use Rattle.std.specs.List.{flat_map}
-use Rattle.std.specs.BTreeSet.{BTreeSet}
-use Rattle.std.specs.declared.string.String.{String}
-use Rattle.std.specs.declared.alloc.Global.{Global}
+use Rattle.tsdl_meaning.proofs.TextWords.{AreNamed, Atom, Attribute, BTreeSet, Global, HasLength, IsBehindOwn, IsOf, Name, StandsBehind, Stop, StopsAmong, StopsIn, StopsWhere, String, attr_toks, attrs_toks, flat_map, mark, most, name_toks, value_toks, word}
 use Rattle.tsdl_grammar.specs.declared.token.Mark.TheVariants as marks
-use Rattle.tsdl_grammar.specs.declared.atom.Atom.{Atom}
-use Rattle.tsdl_grammar.specs.declared.tree.Name.{Name}
-use Rattle.tsdl_grammar.specs.declared.tree.Attribute.{Attribute}
-use Rattle.tsdl_grammar.specs.Spelling.{mark, word, name_toks, value_toks, attr_toks, attrs_toks}
-use Rattle.tsdl_flaw.specs.declared.flaw.Stop.{Stop}
-use Rattle.tsdl_flaw.specs.Lengths.{most, HasLength}
-use Rattle.tsdl_flaw.specs.Places.{StandsBehind}
-use Rattle.tsdl_meaning.specs.Judged.{StopsAmong, StopsWhere}
-use Rattle.tsdl_flaw.specs.Stopping.{StopsIn}
 use Rattle.tsdl_flaw.proofs.Parts.{stops_after, stops_item, flat_next}
-use Rattle.tsdl_meaning.specs.Judging.{IsBehindOwn, IsOf}
-use Rattle.tsdl_meaning.specs.NamesBefore.{AreNamed}
 use Rattle.tsdl_meaning.proofs.Fronts.{whole}
 use Rattle.tsdl_meaning.proofs.StopsInNames.{still_named}
 use Rattle.tsdl_meaning.specs.declared.integer.IntegerAttribute.{IntegerAttribute}

@@ -1,26 +1,12 @@
 -- Lengths in brackets, and a stop in a bracket.
 use Rattle.std.proofs.Common.{◌≡◌, ℕ, suc, ◌+◌, ◌*◌, ◌<◌, ◌≤◌, ◌⊎◌, max, List, [], ◌∷◌, ◌++◌, Some, length, take, drop, get_or, min, refl, sym, ap, ◌∙◌, subst, inl, inr, arith, append_assoc, string_bytes}
-use Rattle.std.specs.List.{flat_map}
-use Rattle.std.specs.declared.string.String.{String}
-use Rattle.std.specs.declared.alloc.Global.{Global}
+use Rattle.tsdl_meaning.proofs.TextWords.{Adds, Atom, BeginsWithName, Bracket, Global, HasLengths, IsBehindBrackets, IsInBracket, IsInBrackets, IsLongLength, IsPassed, IsUnsupported, Number, PassesLimit, StandsBehind, Stop, StopsIn, StopsWhere, String, bracket_toks, depth, elements, flat_map, mark, most, natural, number_toks, word}
 use Rattle.std.proofs.Math.Nat.{mul_assoc, mul-one, one-mul}
 use Rattle.std.proofs.lemmas.List.{append-nil, take_more}
 use Rattle.tsdl_grammar.specs.declared.token.Mark.TheVariants as marks
-use Rattle.tsdl_grammar.specs.declared.atom.Atom.{Atom}
-use Rattle.tsdl_grammar.specs.declared.tree.Number.{Number}
-use Rattle.tsdl_grammar.specs.declared.tree.Bracket.{Bracket}
 use Rattle.tsdl_grammar.specs.declared.tree.Bracket.TheVariants as brackets
-use Rattle.tsdl_grammar.specs.Spelling.{mark, word, number_toks, bracket_toks}
-use Rattle.tsdl_grammar.specs.AttributeValues.{natural}
-use Rattle.tsdl_flaw.specs.declared.flaw.Stop.{Stop}
-use Rattle.tsdl_flaw.specs.Lengths.{most}
-use Rattle.tsdl_flaw.specs.Flaws.{IsUnsupported}
-use Rattle.tsdl_flaw.specs.Limits.{depth, elements, elements_of, IsLongLength, IsPassed}
-use Rattle.tsdl_flaw.specs.Places.{StandsBehind}
-use Rattle.tsdl_meaning.specs.Judged.{StopsWhere}
-use Rattle.tsdl_flaw.specs.Stopping.{StopsIn}
+use Rattle.tsdl_flaw.specs.Limits.{elements_of}
 use Rattle.tsdl_flaw.proofs.Parts.{stops_after, stops_item}
-use Rattle.tsdl_meaning.specs.BracketLengths.{BeginsWithName, HasLengths, Adds, PassesLimit, IsBehindBrackets, IsInBrackets, IsInBracket}
 use Rattle.tsdl_meaning.specs.declared.judge.brackets.Lengths.{Lengths}
 
 -- a word that is not read, with what stands behind it

@@ -1,26 +1,13 @@
 -- A stop in a part of a member's kind.
 use Rattle.std.proofs.Common.{◌≡◌, ℕ, suc, ◌+◌, ◌≤◌, ◌<◌, List, [], ◌∷◌, ◌++◌, Option, Some, length, take, drop, get_or, min, refl, sym, ap, ◌∙◌, subst, inl, inr, arith, append_assoc, length-append, length-take, codes}
-use Rattle.std.specs.List.{flat_map}
+use Rattle.tsdl_meaning.proofs.TextWords.{Atom, Attribute, Entries, Entry, HasLength, IsBehindBrace, IsPassed, IsRangeTooMany, Number, StandsBehind, Stop, StopsAmong, StopsIn, StopsWhere, attr_toks, braced, closing_toks, entries_toks, entry_toks, flat_map, high_toks, int_toks, kind_toks, label_toks, mark, most, next_entry_toks, number_toks, word}
 use Rattle.tsdl_grammar.specs.declared.token.Mark.TheVariants as marks
-use Rattle.tsdl_grammar.specs.declared.atom.Atom.{Atom}
-use Rattle.tsdl_grammar.specs.declared.tree.Number.{Number}
-use Rattle.tsdl_grammar.specs.declared.tree.Attribute.{Attribute}
 use Rattle.tsdl_grammar.specs.declared.tree.Label.{Label}
 use Rattle.tsdl_grammar.specs.declared.tree.Label.TheVariants.{Quoted, Bare}
 use Rattle.tsdl_grammar.specs.declared.tree.Closing.{Closing}
-use Rattle.tsdl_grammar.specs.declared.tree.Entry.{Entry}
-use Rattle.tsdl_grammar.specs.declared.tree.Entries.{Entries}
 use Rattle.tsdl_grammar.specs.declared.tree.Entries.TheVariants as entries
 use Rattle.tsdl_grammar.specs.declared.tree.Kind.TheVariants as kinds
-use Rattle.tsdl_grammar.specs.Spelling.{mark, word, number_toks, attr_toks, int_toks, label_toks, high_toks, entry_toks, next_entry_toks, closing_toks, entries_toks, braced, kind_toks}
-use Rattle.tsdl_flaw.specs.declared.flaw.Stop.{Stop}
-use Rattle.tsdl_flaw.specs.Lengths.{most, HasLength}
-use Rattle.tsdl_flaw.specs.Limits.{IsRangeTooMany, IsPassed}
-use Rattle.tsdl_flaw.specs.Places.{StandsBehind}
-use Rattle.tsdl_meaning.specs.Judged.{StopsAmong, StopsWhere}
-use Rattle.tsdl_flaw.specs.Stopping.{StopsIn}
 use Rattle.tsdl_flaw.proofs.Parts.{stops_after, stops_item}
-use Rattle.tsdl_meaning.specs.Judging.{IsBehindBrace}
 
 label_length : (l : Label) → length (label_toks l) ≡ 1
 label_length (Quoted s) = refl

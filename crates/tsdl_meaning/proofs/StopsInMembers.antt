@@ -1,33 +1,14 @@
 -- A stop in a member of a structure.
 use Rattle.std.proofs.Common.{◌≡◌, ℕ, suc, ◌+◌, ◌<◌, ◌≤◌, List, [], ◌∷◌, ◌++◌, map, length, Contains, Option, Some, take, drop, get_or, min, refl, sym, ap, ◌∙◌, subst, inl, inr, arith, append_assoc, length-append, string_bytes, codes}
-use Rattle.std.specs.List.{flat_map}
-use Rattle.std.specs.declared.string.String.{String}
-use Rattle.std.specs.declared.alloc.Global.{Global}
+use Rattle.tsdl_meaning.proofs.TextWords.{Atom, Global, HasLength, Holds, IsBehindAlign, IsBehindKind, IsBehindMembers, IsMemberTooMany, IsMemberTwice, IsPassed, IsTwice, Kind, MemberTree, MemberType, Number, StandsBehind, Stop, StopsAmong, StopsIn, StopsWhere, String, Structure, align_toks, bracket_toks, flat_map, kind_toks, mark, member_toks, most, names_in, number_toks, struct_toks, word}
 use Rattle.std.proofs.lemmas.List.{take_more, length-map}
-use Rattle.ctf_types.specs.Members.{names_in}
-use Rattle.ctf_types.specs.declared.MemberType.{MemberType}
 use Rattle.tsdl_grammar.specs.declared.token.Mark.TheVariants as marks
-use Rattle.tsdl_grammar.specs.declared.atom.Atom.{Atom}
-use Rattle.tsdl_grammar.specs.declared.tree.Number.{Number}
-use Rattle.tsdl_grammar.specs.declared.tree.Kind.{Kind}
-use Rattle.tsdl_grammar.specs.declared.tree.MemberTree.{MemberTree}
-use Rattle.tsdl_grammar.specs.declared.tree.Structure.{Structure}
-use Rattle.tsdl_grammar.specs.Spelling.{mark, word, number_toks, kind_toks, bracket_toks, member_toks, align_toks, struct_toks}
 use Rattle.tsdl_flaw.specs.declared.flaw.Flaw.TheVariants as flaws
 use Rattle.tsdl_flaw.specs.declared.flaw.Remedy.{Remedy}
-use Rattle.tsdl_flaw.specs.declared.flaw.Stop.{Stop}
 use Rattle.tsdl_flaw.specs.declared.flaw.Stop.TheVariants as stops
-use Rattle.tsdl_flaw.specs.Lengths.{most, HasLength}
-use Rattle.tsdl_flaw.specs.Fronts.{Holds}
-use Rattle.tsdl_flaw.specs.Twice.{IsMemberTwice, IsTwice}
-use Rattle.tsdl_flaw.specs.Limits.{IsMemberTooMany, IsPassed}
-use Rattle.tsdl_flaw.specs.Places.{StandsBehind}
-use Rattle.tsdl_meaning.specs.Judged.{StopsAmong, StopsWhere}
-use Rattle.tsdl_flaw.specs.Stopping.{StopsIn}
 use Rattle.tsdl_flaw.proofs.Stops as stopping
 use Rattle.tsdl_flaw.proofs.Parts.{stops_after, stops_item}
-use Rattle.tsdl_meaning.specs.Judging.{IsBehindAlign}
-use Rattle.tsdl_meaning.specs.MembersBefore.{AreMembers, IsBehindMembers, IsBehindKind}
+use Rattle.tsdl_meaning.specs.MembersBefore.{AreMembers}
 use Rattle.tsdl_meaning.proofs.Fronts.{whole}
 use Rattle.tsdl_meaning.proofs.MemberNames.{contains_cases}
 use Rattle.tsdl_meaning.proofs.StopsInBrackets.{word_unread}

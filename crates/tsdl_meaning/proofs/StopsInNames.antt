@@ -1,27 +1,14 @@
 -- Names that have stood before.
-use Rattle.std.proofs.Common.{◌≡◌, ℕ, ◌+◌, ◌≤◌, Bool, true, false, cond, List, [], ◌∷◌, ◌++◌, length, min, Decides, refl, sym, ap, ◌∙◌, inl, arith, append_assoc, length-append, bytes_eq}
+use Rattle.std.proofs.Common.{◌≡◌, ℕ, ◌+◌, ◌≤◌, Bool, true, false, cond, List, [], ◌∷◌, ◌++◌, length, min, Decides, refl, sym, ap, ◌∙◌, subst, inl, arith, append_assoc, length-append, bytes_eq}
 use Rattle.std.proofs.lemmas.List.{append-nil}
 use Rattle.std.proofs.lemmas.Slice.Eq.{bytes_eq-Decides}
-use Rattle.std.specs.BTreeSet.{BTreeSet, contains_text}
-use Rattle.std.specs.declared.string.String.{String}
-use Rattle.std.specs.declared.alloc.Global.{Global}
+use Rattle.tsdl_meaning.proofs.TextWords.{AreNamed, Atom, BTreeSet, Global, HasLength, IsNameTwice, IsNamed, Name, StandsBehind, Stop, StopsIn, String, contains_text, dotted, flat_map, mark, most, name_toks, word, written}
 use Rattle.tsdl_grammar.specs.declared.token.Mark.{Mark}
-use Rattle.tsdl_grammar.specs.declared.atom.Atom.{Atom}
-use Rattle.tsdl_grammar.specs.declared.tree.Name.{Name}
-use Rattle.std.specs.List.{flat_map}
 use Rattle.tsdl_grammar.specs.declared.token.Mark.TheVariants as marks
-use Rattle.tsdl_grammar.specs.Spelling.{mark, word, dotted, name_toks}
 use Rattle.tsdl_flaw.specs.declared.flaw.Flaw.TheVariants as flaws
 use Rattle.tsdl_flaw.specs.declared.flaw.Stop.TheVariants as stops
-use Rattle.tsdl_flaw.specs.Written.{written}
-use Rattle.tsdl_flaw.specs.Lengths.{most, HasLength}
-use Rattle.tsdl_flaw.specs.Twice.{IsNameTwice}
-use Rattle.tsdl_flaw.specs.Stopping.{StopsIn}
-use Rattle.tsdl_flaw.specs.declared.flaw.Stop.{Stop}
-use Rattle.tsdl_flaw.specs.Places.{StandsBehind}
 use Rattle.tsdl_flaw.proofs.Stops.{whole}
 use Rattle.tsdl_flaw.proofs.Parts.{stops_after}
-use Rattle.tsdl_meaning.specs.NamesBefore.{IsNamed, AreNamed}
 
 -- a name in a front is in a longer one
 named_longer : (front more : List Atom) (sign : Mark) (w : List ℕ) → IsNamed front sign w → IsNamed (front ++ more) sign w
@@ -29,6 +16,13 @@ named_longer front more sign w n = let s = n.2 in (n.0, n.1, (s.0, s.1 ++ more, 
 
 pub still_named : (front more : List Atom) (sign : Mark) (names : BTreeSet (String Global)) → AreNamed front sign names → AreNamed (front ++ more) sign names
 still_named front more sign names h w e = named_longer front more sign w (h w e)
+
+-- behind a name with its mark, and more
+pub named_behind : (front toks own more : List Atom) (sign : Mark) (names : BTreeSet (String Global)) → toks ≡ own ++ (mark sign ∷ more)
+    → AreNamed (front ++ (own ++ (mark sign ∷ []))) sign names → AreNamed (front ++ toks) sign names
+named_behind front toks own more sign names e h =
+    let same : (front ++ (own ++ (mark sign ∷ []))) ++ more ≡ front ++ (own ++ (mark sign ∷ more)) = simp append_assoc in
+    subst (λ (l : List Atom). AreNamed l sign names) (same ∙ ap (λ (l : List Atom). front ++ l) (sym e)) (still_named (front ++ (own ++ (mark sign ∷ []))) more sign names h)
 
 -- one more name
 pub one_named : (old new : BTreeSet (String Global)) (front : List Atom) (sign : Mark) (n : Name) → ((w : List ℕ) → contains_text new w ≡ cond (bytes_eq (written n) w) true (contains_text old w))

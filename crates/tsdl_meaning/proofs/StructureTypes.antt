@@ -4,9 +4,7 @@ use Rattle.std.proofs.Math.Nat.{mod-eq_of_lt}
 use Rattle.std.proofs.lemmas.Bool.{false≢true, cases_Bool}
 use Rattle.std.proofs.lemmas.Bool.Decides.{nat_tests}
 use Rattle.ctf_types.specs.Alignment.{IsAlignment}
-use Rattle.ctf_types.specs.declared.MemberType.{MemberType}
-use Rattle.ctf_types.specs.declared.StructType.{StructType}
-use Rattle.tsdl_grammar.specs.StructureMeaning.{struct_type}
+use Rattle.tsdl_meaning.proofs.TextWords.{MemberType, StructType, struct_type}
 use Rattle.tsdl_grammar.proofs.TypeParts.{struct_type-gives, struct_type-refuses}
 
 pub struct_made : (r : Option StructType) (members : List (List ℕ × MemberType)) (align : ℕ) → (IsSome r ↔ IsAlignment align) → IfSome r (λ s. s.members ≡ members)

@@ -1,41 +1,16 @@
 -- What is noted of the blocks of a text is what its integers have to know.
-use Rattle.std.proofs.Common.{◌≡◌, ℕ, Bool, true, false, not, ◌&&◌, ◌||◌, List, [], ◌∷◌, ◌++◌, map, Option, Some, None, refl, sym, ap, ap₂, subst, ◌∙◌, inl, inr}
+use Rattle.std.proofs.Common.{◌≡◌, ℕ, Bool, true, false, not, ◌&&◌, List, [], ◌∷◌, ◌++◌, map, Option, Some, None, refl, sym, ap, ap₂, subst, ◌∙◌, inl, inr}
 use Rattle.std.specs.Prelude.{codes}
-use Rattle.std.specs.List.{list_any, flat_map}
-use Rattle.std.specs.Option.{option_or, unwrap_or}
-use Rattle.std.proofs.lemmas.Bool.{cases_Bool}
-use Rattle.ctf_types.specs.declared.ByteOrder.{ByteOrder}
+use Rattle.tsdl_meaning.proofs.TextWords.{Attribute, Block, ByteOrder, ClockType, Item, Known, Surveys, Value, are_distinct, attr, attr_names, attrs_in, clock_meaning, each, first_of, flat_map, is_word, list_any, listed, meant_by, name_of, name_value, only, option_or, order_of, order_table, orders_in, same_words, trace_in, trace_order, unwrap_or, word_value, words_of, ◌>>=◌}
+use Rattle.std.proofs.lemmas.Bool.{cases_Bool, not-true, or_parts}
 use Rattle.ctf_types.specs.declared.ByteOrder.TheVariants.{Little}
-use Rattle.ctf_types.specs.declared.ClockType.{ClockType}
-use Rattle.tsdl_grammar.specs.declared.tree.Value.{Value}
-use Rattle.tsdl_grammar.specs.declared.tree.Attribute.{Attribute}
-use Rattle.tsdl_grammar.specs.declared.tree.Item.{Item}
-use Rattle.tsdl_grammar.specs.declared.tree.Block.{Block}
-use Rattle.tsdl_grammar.specs.Steps.{◌>>=◌, each, only}
-use Rattle.tsdl_grammar.specs.Lookups.{words_of, same_words, is_word, attr, attrs_in, attr_names, are_distinct}
-use Rattle.tsdl_grammar.specs.AttributeValues.{word_value, name_value, meant_by}
-use Rattle.tsdl_grammar.specs.IntegerMeaning.{Known}
-use Rattle.tsdl_grammar.specs.BlockMeaning.{order_table, trace_order, clock_meaning}
-use Rattle.tsdl_grammar.specs.Denotes.{trace_in, clock_in}
+use Rattle.tsdl_grammar.specs.Denotes.{clock_in}
 use Rattle.tsdl_grammar.proofs.Inversion.{bind_some, some_same}
 use Rattle.tsdl_grammar.proofs.BlockParts.{says_clock}
-use Rattle.tsdl_meaning.specs.FlawlessTexts.{Surveys}
-use Rattle.tsdl_meaning.specs.NotedBlocks.{first_of, listed, order_of, orders_in, name_of, names_in}
+use Rattle.tsdl_meaning.specs.NotedBlocks.{names_in}
 use Rattle.tsdl_meaning.proofs.FlawlessNames.{and_left, and_right, same_words-is}
 
 -- ---- tests
-
-or_left : (a b : Bool) → (a || b) ≡ false → a ≡ false
-or_left true b h = absurd cc
-or_left false b h = refl
-
-or_right : (a b : Bool) → (a || b) ≡ false → b ≡ false
-or_right true b h = absurd cc
-or_right false b h = h
-
-is_not : (b : Bool) → not b ≡ true → b ≡ false
-is_not true e = absurd cc
-is_not false e = refl
 
 -- words that are not those are not these
 sym_words : (xs ys : List (List ℕ)) → same_words ys xs ≡ false → same_words xs ys ≡ false
@@ -82,14 +57,14 @@ noted_order traces trace order one e =
 none_named : (attrs : List Attribute) → list_any (same_words (codes "name" ∷ [])) (attr_names attrs) ≡ false → flat_map name_of attrs ≡ []
 none_named [] e = refl
 none_named (a ∷ attrs) e =
-    let other : is_word (codes "name") a.name ≡ false = sym_words (words_of a.name) (codes "name" ∷ []) (or_left (same_words (codes "name" ∷ []) (words_of a.name)) (list_any (same_words (codes "name" ∷ [])) (attr_names attrs)) e) in
+    let other : is_word (codes "name") a.name ≡ false = sym_words (words_of a.name) (codes "name" ∷ []) (or_parts (same_words (codes "name" ∷ []) (words_of a.name)) (list_any (same_words (codes "name" ∷ [])) (attr_names attrs)) e).0 in
     let own : name_of a ≡ [] = rw other refl in
-    ap (λ (l : List (List ℕ)). l ++ flat_map name_of attrs) own ∙ none_named attrs (or_right (same_words (codes "name" ∷ []) (words_of a.name)) (list_any (same_words (codes "name" ∷ [])) (attr_names attrs)) e)
+    ap (λ (l : List (List ℕ)). l ++ flat_map name_of attrs) own ∙ none_named attrs (or_parts (same_words (codes "name" ∷ []) (words_of a.name)) (list_any (same_words (codes "name" ∷ [])) (attr_names attrs)) e).1
 
 one_named : (attrs : List Attribute) (name : List ℕ) → are_distinct (attr_names attrs) ≡ true → (attr (codes "name") attrs >>= name_value) ≡ Some name → flat_map name_of attrs ≡ name ∷ []
 one_named [] name d e = absurd cc
 one_named (a ∷ attrs) name d e =
-    let once = is_not (list_any (same_words (words_of a.name)) (attr_names attrs)) (and_left (not (list_any (same_words (words_of a.name)) (attr_names attrs))) (are_distinct (attr_names attrs)) d) in
+    let once = not-true (list_any (same_words (words_of a.name)) (attr_names attrs)) (and_left (not (list_any (same_words (words_of a.name)) (attr_names attrs))) (are_distinct (attr_names attrs)) d) in
     elim (cases_Bool (is_word (codes "name") a.name)) [
       | inl t ↦
           let given : name_value a.value ≡ Some name = sym (rw t refl) ∙ e in

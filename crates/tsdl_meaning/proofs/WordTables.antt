@@ -2,7 +2,7 @@
 use Rattle.std.proofs.Common.{◌≡◌, ℕ, false, List, [], ◌∷◌, None, refl, sym, inl, inr, bytes_eq}
 use Rattle.std.proofs.lemmas.Bool.{cases_Bool}
 use Rattle.std.proofs.lemmas.Slice.Eq.{bytes_eq-Decides}
-use Rattle.tsdl_grammar.specs.AttributeValues.{meant_by}
+use Rattle.tsdl_meaning.proofs.TextWords.{meant_by}
 
 pub other_word : (a b : List ℕ) → (b ≡ a → ⊥) → bytes_eq a b ≡ false
 other_word a b h = elim (cases_Bool (bytes_eq a b)) [ inr e ↦ e | inl e ↦ absurd (h (sym ((bytes_eq-Decides a b).0 e))) ]

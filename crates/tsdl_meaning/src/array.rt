@@ -59,14 +59,7 @@ fn are_few(lengths: &[u64]) -> bool
 pub(crate) fn have_bits(lengths: &[u64]) -> bool
     ensures { result ≡ list_all (nat_lt 0) lengths.now }
 {
-    let mut rest = lengths;
-    while let [length, others @ ..] = rest {
-        if *length == 0 {
-            return false;
-        }
-        rest = others;
-    }
-    true
+    lengths.iter().all(|length| *length > 0)
 }
 
 /// The lengths in brackets, where each has a number.

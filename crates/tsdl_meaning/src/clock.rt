@@ -5,11 +5,8 @@ ghost use Rattle.tsdl_grammar.specs.Lookups.{has_parts};
 ghost use Rattle.tsdl_grammar.specs.BlockMeaning.{clock_meaning};
 ghost use Rattle.tsdl_meaning.specs.ClockParts.{made_clock};
 
-use crate::lookup::{attr_in, has_parts};
-use crate::value::{
-    flag_or_false, name_value, natural_or, natural_or_zero, text_if_there, uuid_if_there,
-    whole_or_zero,
-};
+use crate::lookup::{attr_in, has_parts, name_in, number_or_zero};
+use crate::value::{flag_or_false, natural_or, text_if_there, uuid_if_there, whole_or_zero};
 use ctf_types::{ClockType, Text};
 use std::alloc::{AllocError, Global};
 use tsdl_grammar::Item;
@@ -64,13 +61,13 @@ pub(crate) fn clock_meaning(alloc: Global, items: &[Item]) -> Result<Option<Cloc
 fn said_by(items: &[Item]) -> Option<ClockParts<'_>>
     ensures { has_parts [] items.now ≡ true → option_map made_clock result ≡ clock_meaning items.now }
 {
-    let name = name_value(attr_in("name", items)?)?;
+    let name = name_in(items)?;
     let uuid = uuid_if_there(attr_in("uuid", items))?;
     let description = text_if_there(attr_in("description", items))?;
     let frequency = natural_or(DEFAULT_FREQUENCY, attr_in("freq", items))?;
-    let precision = natural_or_zero(attr_in("precision", items))?;
+    let precision = number_or_zero("precision", items)?;
     let offset_seconds = whole_or_zero(attr_in("offset_s", items))?;
-    let offset_cycles = natural_or_zero(attr_in("offset", items))?;
+    let offset_cycles = number_or_zero("offset", items)?;
     let absolute = flag_or_false(attr_in("absolute", items))?;
     Some(ClockParts {
         name,

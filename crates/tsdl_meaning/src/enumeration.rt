@@ -32,10 +32,7 @@ pub(crate) fn enum_meaning(
             mappings_of(alloc, first, rest.as_slice())?
         }
     };
-    match made {
-        None => Ok(None),
-        Some(mappings) => Ok(Some(EnumType { int, mappings })),
-    }
+    Ok(made.map(|mappings| EnumType { int, mappings }))
 }
 
 fn mappings_of(

@@ -88,10 +88,7 @@ fn fact_meaning(alloc: Global, fact: &Fact) -> Result<Option<EnvironmentValue>, 
     ensures { IfOk result (λ v. v ≡ fact_meaning fact.now) }
 {
     match fact {
-        Fact::Number(number) => match whole(*number) {
-            None => Ok(None),
-            Some(value) => Ok(Some(EnvironmentValue::Whole(value))),
-        },
+        Fact::Number(number) => Ok(whole(*number).map(EnvironmentValue::Whole)),
         Fact::Text(text) => Ok(Some(EnvironmentValue::Text(text.copy(alloc)?))),
     }
 }

@@ -5,14 +5,16 @@ ghost use Rattle.std.specs.Option.{is_some};
 ghost use Rattle.ctf_types.specs.Alignment.{IsAlignment};
 ghost use Rattle.ctf_types.specs.declared.Base.TheVariants as bases;
 ghost use Rattle.tsdl_grammar.specs.AttributeValues.{one_word, natural_value, flag_value, meant_by, numbered, with_default, optional};
-ghost use Rattle.tsdl_grammar.specs.IntegerMeaning.{int_attrs, has_only, int_type, default_align, base_words, base_numbers, base_value, order_value, clock_value, int_meaning};
+ghost use Rattle.tsdl_grammar.specs.IntegerMeaning.{int_attrs, has_only, int_type, default_align, base_words, base_numbers, base_value, order_words, order_value, clock_value, int_meaning};
 ghost use Rattle.tsdl_grammar.specs.Lookups.{words_of, is_among};
 ghost use Rattle.tsdl_meaning.specs.FlawlessTypes.{own_word};
 ghost use Rattle.tsdl_meaning.specs.IntegerParts.{typed_parts, HasParts};
 ghost use Rattle.tsdl_meaning.specs.Judging.{IsOf};
+ghost use Rattle.tsdl_meaning.specs.Names.{texts_of};
 
 use crate::known::Known;
 use crate::lookup::{attr, has_attr};
+use crate::scope_rule::has_word;
 use crate::value::{flag_or_false, natural, natural_or, natural_value, one_word, word_value};
 use ctf_types::{Base, ByteOrder, IntType, LARGEST_ALIGN, Text};
 use std::alloc::{AllocError, Global};
@@ -149,10 +151,7 @@ fn default_align(size: u64) -> u64
 fn order_or_own(order: ByteOrder, value: Option<&Value>) -> Option<ByteOrder>
     ensures { result ≡ with_default order (order_value order) (option_map (λ v. v.now) value.entry) }
 {
-    match value {
-        None => Some(order),
-        Some(value) => order_value(order, value),
-    }
+    value.map_or(Some(order), |value| order_value(order, value))
 }
 
 /// `native`, or the trace's own order.
@@ -160,21 +159,27 @@ fn order_or_own(order: ByteOrder, value: Option<&Value>) -> Option<ByteOrder>
 pub(crate) fn order_value(order: ByteOrder, value: &Value) -> Option<ByteOrder>
     ensures { result ≡ order_value order value.now }
 {
-    let word = word_value(value)?.as_str();
-    let is_own = match order {
-        ByteOrder::Little => word == "native" || word == "le",
-        ByteOrder::Big => word == "native" || word == "be" || word == "network",
-    };
-    if is_own { Some(order) } else { None }
+    if has_word(word_value(value)?.as_str(), order_words(order)) {
+        Some(order)
+    } else {
+        None
+    }
+}
+
+/// The words for a trace's byte order.
+fn order_words(order: ByteOrder) -> &'static [&'static str]
+    ensures { texts_of result.now ≡ order_words order }
+{
+    match order {
+        ByteOrder::Little => &["native", "le"],
+        ByteOrder::Big => &["native", "be", "network"],
+    }
 }
 
 fn base_or_decimal(value: Option<&Value>) -> Option<Base>
     ensures { result ≡ with_default bases.Dec base_value (option_map (λ v. v.now) value.entry) }
 {
-    match value {
-        None => Some(Base::Dec),
-        Some(value) => base_value(value),
-    }
+    value.map_or(Some(Base::Dec), base_value)
 }
 
 #[tactic(auto, unfolding(tsdl_grammar::specs::IntegerMeaning::base_value))]
@@ -217,10 +222,7 @@ fn clock_if_mapped<'a>(known: &Known, value: Option<&'a Value>) -> Option<Option
 {
     match value {
         None => Some(None),
-        Some(value) => match clock_value(known, value) {
-            None => None,
-            Some(name) => Some(Some(name)),
-        },
+        Some(value) => Some(Some(clock_value(known, value)?)),
     }
 }
 

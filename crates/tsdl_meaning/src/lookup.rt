@@ -4,9 +4,12 @@ ghost use Rattle.std.specs.Prelude.{◌≡◌, map, option_map, IfOk};
 ghost use Rattle.std.specs.List.{list_any, list_all};
 ghost use Rattle.tsdl_grammar.specs.Lookups.{words_of, same_words, is_word, is_among, attr, attr_names, attrs_in, scopes_in, scope, are_distinct, has_parts};
 ghost use Rattle.tsdl_grammar.specs.IntegerMeaning.{has_only};
+ghost use Rattle.tsdl_grammar.specs.BlockMeaning.{number_or_zero};
+ghost use Rattle.tsdl_flaw.specs.Twice.{clock_name};
 ghost use Rattle.tsdl_meaning.specs.Names.{names_of, texts_of, name_lists, scope_names};
 
 use crate::distinct::are_distinct;
+use crate::value::{name_value, natural_or};
 use ctf_types::Text;
 use std::alloc::{AllocError, Global};
 use tsdl_grammar::{Attribute, Item, Name, Structure, Value};
@@ -149,6 +152,20 @@ pub(crate) fn attr_in<'a>(word: &str, items: &'a [Item]) -> Option<&'a Value>
         rest = others;
     }
     None
+}
+
+/// The number of an attribute of a block, 0 where it is left out.
+pub(crate) fn number_or_zero(word: &str, items: &[Item]) -> Option<u64>
+    ensures { result ≡ number_or_zero word.now (attrs_in items.now) }
+{
+    natural_or(0, attr_in(word, items))
+}
+
+/// The name that a clock or an event has.
+pub(crate) fn name_in(items: &[Item]) -> Option<&Text>
+    ensures { option_map (λ t. t.now) result ≡ clock_name items.now }
+{
+    name_value(attr_in("name", items)?)
 }
 
 /// The structure of the scope of this name in a block.

@@ -43,19 +43,13 @@ fn kind_meaning(alloc: Global, known: &Known, kind: &Kind) -> Result<Option<Fiel
 {
     match kind {
         Kind::Integer(attributes) => {
-            let Some(int) = int_meaning(alloc, known, attributes.as_slice())? else {
-                return Ok(None);
-            };
-            Ok(Some(FieldType::Int(int)))
+            Ok(int_meaning(alloc, known, attributes.as_slice())?.map(FieldType::Int))
         }
         Kind::Enumeration(attributes, entries) => {
             let Some(int) = int_meaning(alloc, known, attributes.as_slice())? else {
                 return Ok(None);
             };
-            let Some(enumeration) = enum_meaning(alloc, int, entries)? else {
-                return Ok(None);
-            };
-            Ok(Some(FieldType::Enum(enumeration)))
+            Ok(enum_meaning(alloc, int, entries)?.map(FieldType::Enum))
         }
         Kind::Text(attributes) => {
             if is_text(attributes) {

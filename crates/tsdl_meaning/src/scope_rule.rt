@@ -68,14 +68,11 @@ pub(crate) fn suits_rule(rule: ScopeRule, name: &str, member: &MemberType) -> bo
 fn suits_header(name: &str, member: &MemberType) -> bool
     ensures { result ≡ suits_header (name.now, member.now) }
 {
-    if name == "magic" {
-        is_unsigned_of(32, member)
-    } else if name == "uuid" {
-        is_uuid(member)
-    } else if name == "stream_id" {
-        is_unsigned(member)
-    } else {
-        true
+    match name {
+        "magic" => is_unsigned_of(32, member),
+        "uuid" => is_uuid(member),
+        "stream_id" => is_unsigned(member),
+        _ => true,
     }
 }
 

@@ -8,10 +8,10 @@ ghost use Rattle.tsdl_grammar.specs.BlockMeaning.{specific_context, fields_scope
 ghost use Rattle.tsdl_meaning.specs.EventParts.{made_event};
 
 use crate::known::Known;
-use crate::lookup::{attr_in, has_parts};
+use crate::lookup::{attr_in, has_parts, name_in, number_or_zero};
 use crate::scope_rule::ScopeRule;
 use crate::structure::{has_member, scope_meaning};
-use crate::value::{name_value, natural_if_there, natural_or_zero};
+use crate::value::natural_if_there;
 use ctf_types::{Event, ListOf, Stream, StructType, Text};
 use std::alloc::{AllocError, Global};
 use tsdl_grammar::Item;
@@ -60,7 +60,7 @@ pub(crate) fn stream_meaning(
     )? {
         return Ok(None);
     }
-    let Some(id) = natural_or_zero(attr_in("id", items)) else {
+    let Some(id) = number_or_zero("id", items) else {
         return Ok(None);
     };
     let Some(context) = scope_meaning(alloc, known, PACKET_CONTEXT, items)? else {
@@ -128,9 +128,9 @@ pub(crate) fn event_meaning(
 fn said_by(items: &[Item]) -> Option<EventParts<'_>>
     ensures { (known : Known) → has_parts (specific_context ∷ fields_scope ∷ []) items.now ≡ true → event_meaning known items.now ≡ made_event known (scopes_in items.now) result }
 {
-    let name = name_value(attr_in("name", items)?)?;
-    let id = natural_or_zero(attr_in("id", items))?;
-    let stream = natural_or_zero(attr_in("stream_id", items))?;
+    let name = name_in(items)?;
+    let id = number_or_zero("id", items)?;
+    let stream = number_or_zero("stream_id", items)?;
     let log_level = natural_if_there(attr_in("loglevel", items))?;
     Some(EventParts {
         name,

@@ -31,14 +31,8 @@ pub(crate) fn scope_meaning(
     ensures { IfOk result (λ t. t ≡ scope_meaning known.now (texts_of scope.entry.0.now) (suits_rule scope.entry.1) (scopes_in items.now)) }
 {
     let (name, rule) = scope;
-    let Some(structure) = structure_of(alloc, known, scope_in(name, items))? else {
-        return Ok(None);
-    };
-    if all_suit(rule, &structure.members) {
-        Ok(Some(structure))
-    } else {
-        Ok(None)
-    }
+    let structure = structure_of(alloc, known, scope_in(name, items))?;
+    Ok(structure.filter(|structure| all_suit(rule, &structure.members)))
 }
 
 fn structure_of(
@@ -123,10 +117,7 @@ fn align_of(align: Option<Number>) -> Option<u32>
 pub(crate) fn alignment(align: u64) -> Option<u32>
     ensures { result ≡ provided (nat_lt 0 align && (4096 % align == 0)) (Some align) }
 {
-    if align == 0 {
-        return None;
-    }
-    if LARGEST_ALIGN % align != 0 {
+    if align == 0 || LARGEST_ALIGN % align != 0 {
         return None;
     }
     Some(align as u32)

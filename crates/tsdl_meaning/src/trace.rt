@@ -52,13 +52,7 @@ pub(crate) fn is_trace(alloc: Global, items: &[Item]) -> Result<bool, AllocError
 fn has_number(word: &str, number: u64, items: &[Item]) -> bool
     ensures { result ≡ has_number word.now number items.now }
 {
-    match attr_in(word, items) {
-        None => false,
-        Some(value) => match natural_value(value) {
-            None => false,
-            Some(found) => found == number,
-        },
-    }
+    attr_in(word, items).and_then(natural_value) == Some(number)
 }
 
 #[tactic(auto, unfolding(tsdl_grammar::specs::BlockMeaning::trace_uuid))]

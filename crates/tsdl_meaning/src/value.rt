@@ -133,37 +133,21 @@ pub(crate) fn uuid_value(value: &Value) -> Option<Uuid>
 pub(crate) fn natural_or(default: u64, value: Option<&Value>) -> Option<u64>
     ensures { result ≡ with_default default natural_value (option_map (λ v. v.now) value.entry) }
 {
-    match value {
-        None => Some(default),
-        Some(value) => natural_value(value),
-    }
+    value.map_or(Some(default), natural_value)
 }
 
 /// The flag of an attribute that is false where it is left out.
 pub(crate) fn flag_or_false(value: Option<&Value>) -> Option<bool>
     ensures { result ≡ with_default false flag_value (option_map (λ v. v.now) value.entry) }
 {
-    match value {
-        None => Some(false),
-        Some(value) => flag_value(value),
-    }
-}
-
-/// The number of an attribute that is 0 where it is left out.
-pub(crate) fn natural_or_zero(value: Option<&Value>) -> Option<u64>
-    ensures { result ≡ with_default 0 natural_value (option_map (λ v. v.now) value.entry) }
-{
-    natural_or(0, value)
+    value.map_or(Some(false), flag_value)
 }
 
 /// The number with its sign of an attribute that is 0 where it is left out.
 pub(crate) fn whole_or_zero(value: Option<&Value>) -> Option<i64>
     ensures { result ≡ with_default (pos 0) whole_value (option_map (λ v. v.now) value.entry) }
 {
-    match value {
-        None => Some(0),
-        Some(value) => whole_value(value),
-    }
+    value.map_or(Some(0), whole_value)
 }
 
 /// The number of an attribute that may be left out.

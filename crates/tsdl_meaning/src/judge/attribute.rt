@@ -108,13 +108,8 @@ fn judge_stream(ledger: &Ledger, word: &str, value: &Value, at: usize) -> Result
     ensures fit { IfOk result (λ _. IsTrue (fits (of_stream ledger.now) word.now value.now)) }
     ensures fault { IfErr result (StopsWhere (λ front. AreNoted front ledger.now × IsAttribute (codes "stream") word.now front) at (value_toks value.now)) }
 {
-    match word {
-        "id" => {
-            if ledger.has_stream(judge_natural(value, at)?) {
-                return Err(Stop::at(at, value, Flaw::Duplicate));
-            }
-        }
-        _ => {}
+    if word == "id" && ledger.has_stream(judge_natural(value, at)?) {
+        return Err(Stop::at(at, value, Flaw::Duplicate));
     }
     Ok(())
 }
@@ -125,14 +120,8 @@ fn judge_event(word: &str, value: &Value, at: usize) -> Result<(), Stop>
     ensures fault { IfErr result (StopsAmong at (value_toks value.now)) }
 {
     match word {
-        "name" => {
-            judge_label(value, at)?;
-            Ok(())
-        }
-        "id" | "stream_id" | "loglevel" => {
-            judge_natural(value, at)?;
-            Ok(())
-        }
+        "name" => judge_label(value, at).map(|_| ()),
+        "id" | "stream_id" | "loglevel" => judge_natural(value, at).map(|_| ()),
         _ => Ok(()),
     }
 }
@@ -146,10 +135,7 @@ fn judge_clock(ledger: &Ledger, word: &str, value: &Value, at: usize) -> Result<
         "name" => judge_clock_name(ledger, value, at),
         "uuid" => judge_uuid(value, at),
         "description" => judge_text(value, at),
-        "freq" | "precision" | "offset" => {
-            judge_natural(value, at)?;
-            Ok(())
-        }
+        "freq" | "precision" | "offset" => judge_natural(value, at).map(|_| ()),
         "offset_s" => judge_whole(value, at),
         "absolute" => judge_flag(value, at),
         _ => Ok(()),

@@ -1,6 +1,6 @@
 //! What the blocks of a text so far say: what may stand once only, and what the end of the text is judged by.
 
-ghost use Rattle.std.specs.Prelude.{◌≡◌, ◌↔◌, ◌⊎◌, ℕ, true, false, None, List, [], ◌∷◌, option_map, OnOk, IfOk, IfErr, IsTrue, IfSome, codes};
+ghost use Rattle.std.specs.Prelude.{◌≡◌, ◌↔◌, ◌⊎◌, ℕ, true, false, None, List, [], ◌∷◌, OnOk, IfOk, IfErr, IsTrue, IfSome, codes};
 ghost use Rattle.std.specs.Ordering.{nat_cmp};
 ghost use Rattle.std.specs.BTreeMap.{ContainsKey};
 ghost use Rattle.std.specs.BTreeSet.{contains, contains_text};
@@ -12,13 +12,12 @@ ghost use Rattle.tsdl_grammar.specs.declared.fault.MetaFaultKind.TheVariants as 
 ghost use Rattle.tsdl_flaw.specs.Stopping.{kind_of};
 ghost use Rattle.tsdl_flaw.specs.TextStops.{StopsText};
 ghost use Rattle.tsdl_meaning.specs.Judged.{StopsWhere};
-ghost use Rattle.tsdl_flaw.specs.Twice.{clock_name, HasNumbers};
+ghost use Rattle.tsdl_flaw.specs.Twice.{HasNumbers};
 ghost use Rattle.tsdl_meaning.specs.FlawlessTexts.{AddsBlock, AddsClock, AddsStream, AddsEvent, HaveStreams, IsEmpty};
 ghost use Rattle.tsdl_meaning.specs.PacketSizes.{IfSizesMissed};
 ghost use Rattle.tsdl_meaning.specs.Ledgers.{AreNoted, HasClock, HasStream, HasEvent, pair_cmp};
 
-use crate::lookup::attr_in;
-use crate::value::{name_value, natural_or_zero};
+use crate::lookup::{name_in, number_or_zero};
 use ctf_types::Text;
 use std::alloc::{AllocError, Global};
 use std::collections::{BTreeMap, BTreeSet};
@@ -125,7 +124,7 @@ impl Ledger {
         ensures adds { OnOk result (AddsStream self.old items.now self.new) }
         ensures noted { (front : List Atom) → AreNoted front self.old → Holds front (block_toks (Block.Stream items.now)) → OnOk result (AreNoted front self.new) }
     {
-        if let Some(id) = natural_or_zero(attr_in("id", items)) {
+        if let Some(id) = number_or_zero("id", items) {
             let _is_new = self.streams.insert(id)?;
         }
         Ok(())
@@ -183,19 +182,12 @@ impl Ledger {
     }
 }
 
-/// The name that a clock or an event has.
-fn name_in(items: &[Item]) -> Option<&Text>
-    ensures { option_map (λ t. t.now) result ≡ clock_name items.now }
-{
-    name_value(attr_in("name", items)?)
-}
-
 /// The numbers of an event, of its stream and its own.
 pub(crate) fn event_numbers(items: &[Item]) -> Option<(u64, u64)>
     ensures found { IfSome result (λ numbers. HasNumbers items.now numbers.0 numbers.1) }
     ensures none { result ≡ None → (stream id : ℕ) → HasNumbers items.now stream id → ⊥ }
 {
-    let stream = natural_or_zero(attr_in("stream_id", items))?;
-    let id = natural_or_zero(attr_in("id", items))?;
+    let stream = number_or_zero("stream_id", items)?;
+    let id = number_or_zero("id", items)?;
     Some((stream, id))
 }

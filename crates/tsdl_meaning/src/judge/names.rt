@@ -35,12 +35,11 @@ impl Names {
         ensures added { IfOk result (λ _. (front : List Atom) (sign : Mark) → AreNamed front sign self.old.names → AreNamed (front ++ (name_toks name.now ++ mark sign ∷ [])) sign self.new.names) }
     {
         let written = dotted(alloc, name)?;
-        if self.names.contains(written.as_str()) {
-            let end = at.saturating_add(name.length()).saturating_add(1);
-            let flaw = Flaw::Duplicate;
-            return Err(Stop::Fault(Fault { at, end, flaw }));
+        if self.names.insert(written)? {
+            return Ok(());
         }
-        let _is_new = self.names.insert(written)?;
-        Ok(())
+        let end = at.saturating_add(name.length()).saturating_add(1);
+        let flaw = Flaw::Duplicate;
+        Err(Stop::Fault(Fault { at, end, flaw }))
     }
 }

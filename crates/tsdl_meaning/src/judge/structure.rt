@@ -23,14 +23,14 @@ use std::alloc::Global;
 use tsdl_flaw::{Fault, Flaw, Remedy, Spelled, Stop};
 use tsdl_grammar::{MemberTree, Structure};
 
-/// `"struct" "{" { member } "}" [ "align" "(" number ")" ]`. Answers the members.
+/// `"struct" "{" { member } "}" [ "align" "(" number ")" ]`.
 pub(crate) fn judge_structure(
     alloc: Global,
     survey: &Survey,
     rule: ScopeRule,
     structure: &Structure,
     at: usize,
-) -> Result<Members, Stop>
+) -> Result<(), Stop>
     ensures fault { IfErr result (StopsAmong at (struct_toks structure.now)) }
     ensures flawless { IfOk result (λ _. IsFlawless survey.now.known rule structure.now) }
 {
@@ -42,11 +42,8 @@ pub(crate) fn judge_structure(
         next = next.saturating_add(tree.length());
     }
     match structure.align {
-        None => Ok(members),
-        Some(number) => {
-            judge_align(&number, next.saturating_add(3))?;
-            Ok(members)
-        }
+        None => Ok(()),
+        Some(number) => judge_align(&number, next.saturating_add(3)),
     }
 }
 

@@ -1,5 +1,5 @@
 use Rattle.std.proofs.Common.{◌≡◌, ◌≤◌, ◌*◌, ◌^◌, length}
-use Rattle.tsdl_grammar.specs.MemberMeaning.{elements_of}
+use Rattle.tsdl_meaning.proofs.TextWords.{elements_of}
 use Rattle.tsdl_meaning.proofs.array.are_few.Given as goal
 
 abbrev pub invariant-loop-rest : goal.invariant-loop-rest

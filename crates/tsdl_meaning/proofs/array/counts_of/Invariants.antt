@@ -1,7 +1,5 @@
 use Rattle.std.proofs.Common.{◌≡◌, length}
-use Rattle.tsdl_grammar.specs.Steps.{each}
-use Rattle.tsdl_grammar.specs.MemberMeaning.{count_of}
-use Rattle.tsdl_meaning.specs.Fronts.{with_front}
+use Rattle.tsdl_meaning.proofs.TextWords.{count_of, each, with_front}
 use Rattle.tsdl_meaning.proofs.array.counts_of.Given as goal
 
 abbrev pub invariant-loop-rest : goal.invariant-loop-rest

@@ -1,8 +1,5 @@
 use Rattle.std.proofs.Common.{◌≡◌, vec_len}
-use Rattle.std.specs.List.{list_any}
-use Rattle.std.specs.Ordering.{eq_by_cmp}
-use Rattle.std.specs.BTreeMap.{is_at}
-use Rattle.tsdl_grammar.specs.Lookups.{no_two}
+use Rattle.tsdl_meaning.proofs.TextWords.{eq_by_cmp, is_at, list_any, no_two}
 use Rattle.tsdl_meaning.specs.Distinct.{no_two_before}
 use Rattle.tsdl_meaning.proofs.distinct.are_distinct.Given as goal
 

@@ -1,7 +1,5 @@
 use Rattle.std.proofs.Common.{◌≡◌, length}
-use Rattle.tsdl_grammar.specs.Steps.{each}
-use Rattle.tsdl_grammar.specs.MemberMeaning.{entry_meaning}
-use Rattle.tsdl_meaning.specs.Fronts.{with_front}
+use Rattle.tsdl_meaning.proofs.TextWords.{each, entry_meaning, with_front}
 use Rattle.tsdl_meaning.proofs.enumeration.mappings_behind.Given as goal
 
 abbrev pub invariant-loop-rest : goal.invariant-loop-rest

@@ -1,6 +1,5 @@
 use Rattle.std.proofs.Common.{◌≡◌, length, map}
-use Rattle.std.specs.Str.{bytes_eq}
-use Rattle.tsdl_grammar.specs.Lookups.{no_two}
+use Rattle.tsdl_meaning.proofs.TextWords.{bytes_eq, no_two}
 use Rattle.tsdl_meaning.proofs.environment.are_distinct.Given as goal
 
 abbrev pub invariant-loop-rest : goal.invariant-loop-rest

@@ -1,6 +1,5 @@
 use Rattle.std.proofs.Common.{◌≡◌, length, map}
-use Rattle.std.specs.List.{list_any}
-use Rattle.std.specs.Str.{bytes_eq}
+use Rattle.tsdl_meaning.proofs.TextWords.{bytes_eq, list_any}
 use Rattle.tsdl_meaning.proofs.environment.has_fact.Given as goal
 
 abbrev pub invariant-loop-rest : goal.invariant-loop-rest

@@ -1,5 +1,5 @@
 use Rattle.std.proofs.Common.{sym}
-use Rattle.tsdl_grammar.specs.IntegerMeaning.{base_words}
+use Rattle.tsdl_meaning.proofs.TextWords.{base_words}
 use Rattle.tsdl_meaning.proofs.WordTables.{absent}
 use Rattle.tsdl_meaning.proofs.integer.base_word.Goals as goal
 

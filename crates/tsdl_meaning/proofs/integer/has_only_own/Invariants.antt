@@ -1,5 +1,5 @@
 use Rattle.std.proofs.Common.{◌≡◌, length}
-use Rattle.tsdl_grammar.specs.IntegerMeaning.{int_attrs, has_only}
+use Rattle.tsdl_meaning.proofs.TextWords.{has_only, int_attrs}
 use Rattle.tsdl_meaning.proofs.integer.has_only_own.Given as goal
 
 abbrev pub invariant-loop-rest : goal.invariant-loop-rest

@@ -1,6 +1,5 @@
 use Rattle.std.proofs.Common.{◌≡◌, length}
-use Rattle.tsdl_grammar.specs.Lookups.{same_words}
-use Rattle.tsdl_meaning.specs.Names.{texts_of}
+use Rattle.tsdl_meaning.proofs.TextWords.{same_words, texts_of}
 use Rattle.tsdl_meaning.proofs.lookup.are_words.Given as goal
 
 abbrev pub invariant-loop-text_rest : goal.invariant-loop-text_rest

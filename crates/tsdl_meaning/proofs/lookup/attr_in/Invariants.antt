@@ -1,5 +1,5 @@
 use Rattle.std.proofs.Common.{◌≡◌, length}
-use Rattle.tsdl_grammar.specs.Lookups.{attr, attrs_in}
+use Rattle.tsdl_meaning.proofs.TextWords.{attr, attrs_in}
 use Rattle.tsdl_meaning.proofs.lookup.attr_in.Given as goal
 
 abbrev pub invariant-loop-rest : goal.invariant-loop-rest

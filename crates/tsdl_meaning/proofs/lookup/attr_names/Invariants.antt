@@ -1,6 +1,5 @@
 use Rattle.std.proofs.Common.{◌≡◌, ◌++◌, length}
-use Rattle.tsdl_grammar.specs.Lookups.{attr_names, attrs_in}
-use Rattle.tsdl_meaning.specs.Names.{name_lists}
+use Rattle.tsdl_meaning.proofs.TextWords.{attr_names, attrs_in, name_lists}
 use Rattle.tsdl_meaning.proofs.lookup.attr_names.Given as goal
 
 abbrev pub invariant-loop-rest : goal.invariant-loop-rest

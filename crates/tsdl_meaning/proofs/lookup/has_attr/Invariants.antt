@@ -1,6 +1,5 @@
 use Rattle.std.proofs.Common.{◌≡◌, length}
-use Rattle.std.specs.List.{list_any}
-use Rattle.tsdl_grammar.specs.Lookups.{words_of, same_words, attr_names}
+use Rattle.tsdl_meaning.proofs.TextWords.{attr_names, list_any, same_words, words_of}
 use Rattle.tsdl_meaning.proofs.lookup.has_attr.Given as goal
 
 abbrev pub invariant-loop-rest : goal.invariant-loop-rest

@@ -1,5 +1,5 @@
 use Rattle.std.proofs.Common.{◌≡◌, Bool, IfOk, subst}
-use Rattle.tsdl_grammar.specs.Lookups.{attr_names, attrs_in}
+use Rattle.tsdl_meaning.proofs.TextWords.{attr_names, attrs_in}
 use Rattle.tsdl_meaning.proofs.DistinctWords.{distinct_names}
 use Rattle.tsdl_meaning.proofs.lookup.has_attrs_once.Goals as goal
 

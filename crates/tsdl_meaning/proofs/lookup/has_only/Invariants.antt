@@ -1,6 +1,5 @@
 use Rattle.std.proofs.Common.{◌≡◌, length}
-use Rattle.tsdl_grammar.specs.IntegerMeaning.{has_only}
-use Rattle.tsdl_meaning.specs.Names.{names_of}
+use Rattle.tsdl_meaning.proofs.TextWords.{has_only, names_of}
 use Rattle.tsdl_meaning.proofs.lookup.has_only.Given as goal
 
 abbrev pub invariant-loop-rest : goal.invariant-loop-rest

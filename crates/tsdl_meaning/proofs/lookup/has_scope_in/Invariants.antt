@@ -1,7 +1,5 @@
 use Rattle.std.proofs.Common.{◌≡◌, length}
-use Rattle.std.specs.List.{list_any}
-use Rattle.tsdl_grammar.specs.Lookups.{words_of, same_words, scopes_in}
-use Rattle.tsdl_meaning.specs.Names.{scope_names}
+use Rattle.tsdl_meaning.proofs.TextWords.{list_any, same_words, scope_names, scopes_in, words_of}
 use Rattle.tsdl_meaning.proofs.lookup.has_scope_in.Given as goal
 
 abbrev pub invariant-loop-rest : goal.invariant-loop-rest

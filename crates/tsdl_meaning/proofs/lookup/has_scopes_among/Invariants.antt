@@ -1,7 +1,5 @@
 use Rattle.std.proofs.Common.{◌≡◌, length}
-use Rattle.std.specs.List.{list_all}
-use Rattle.tsdl_grammar.specs.Lookups.{words_of, is_among, scopes_in}
-use Rattle.tsdl_meaning.specs.Names.{names_of}
+use Rattle.tsdl_meaning.proofs.TextWords.{is_among, list_all, names_of, scopes_in, words_of}
 use Rattle.tsdl_meaning.proofs.lookup.has_scopes_among.Given as goal
 
 abbrev pub invariant-loop-rest : goal.invariant-loop-rest

@@ -1,6 +1,5 @@
 use Rattle.std.proofs.Common.{◌≡◌, length}
-use Rattle.tsdl_grammar.specs.Lookups.{scopes_in, are_distinct}
-use Rattle.tsdl_meaning.specs.Names.{scope_names}
+use Rattle.tsdl_meaning.proofs.TextWords.{are_distinct, scope_names, scopes_in}
 use Rattle.tsdl_meaning.proofs.lookup.has_scopes_once.Given as goal
 
 abbrev pub invariant-loop-rest : goal.invariant-loop-rest

@@ -1,6 +1,5 @@
 use Rattle.std.proofs.Common.{◌≡◌, length}
-use Rattle.tsdl_grammar.specs.Lookups.{words_of, is_among}
-use Rattle.tsdl_meaning.specs.Names.{names_of}
+use Rattle.tsdl_meaning.proofs.TextWords.{is_among, names_of, words_of}
 use Rattle.tsdl_meaning.proofs.lookup.is_among.Given as goal
 
 abbrev pub invariant-loop-rest : goal.invariant-loop-rest

@@ -1,5 +1,5 @@
 use Rattle.std.proofs.Common.{◌≡◌, length}
-use Rattle.tsdl_grammar.specs.Lookups.{same_words}
+use Rattle.tsdl_meaning.proofs.TextWords.{same_words}
 use Rattle.tsdl_meaning.proofs.lookup.same_texts.Given as goal
 
 abbrev pub invariant-loop-left_rest : goal.invariant-loop-left_rest

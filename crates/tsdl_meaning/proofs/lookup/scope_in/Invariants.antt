@@ -1,6 +1,5 @@
 use Rattle.std.proofs.Common.{◌≡◌, length}
-use Rattle.tsdl_grammar.specs.Lookups.{scopes_in, scope}
-use Rattle.tsdl_meaning.specs.Names.{texts_of}
+use Rattle.tsdl_meaning.proofs.TextWords.{scope, scopes_in, texts_of}
 use Rattle.tsdl_meaning.proofs.lookup.scope_in.Given as goal
 
 abbrev pub invariant-loop-rest : goal.invariant-loop-rest

@@ -1,5 +1,5 @@
 use Rattle.std.proofs.Common.{◌≡◌, ◌∷◌, take}
-use Rattle.tsdl_meaning.specs.Names.{texts_of}
+use Rattle.tsdl_meaning.proofs.TextWords.{texts_of}
 use Rattle.tsdl_meaning.proofs.lookup.words_of.Given as goal
 
 abbrev pub invariant-loop-word : goal.invariant-loop-word

@@ -1,5 +1,5 @@
 use Rattle.std.proofs.Common.{sym}
-use Rattle.tsdl_grammar.specs.MemberMeaning.{encoding_words}
+use Rattle.tsdl_meaning.proofs.TextWords.{encoding_words}
 use Rattle.tsdl_meaning.proofs.WordTables.{absent}
 use Rattle.tsdl_meaning.proofs.member.encoding_word.Goals as goal
 

@@ -1,7 +1,5 @@
 use Rattle.std.proofs.Common.{List, [], ℕ, arith}
-use Rattle.ctf_types.specs.declared.FieldType.TheVariants.{Str}
-use Rattle.ctf_types.specs.declared.MemberType.{MemberType}
-use Rattle.ctf_types.specs.declared.MemberType.TheVariants.{Plain}
+use Rattle.tsdl_meaning.proofs.TextWords.{MemberType, Plain, Str}
 use Rattle.tsdl_meaning.specs.Members.{is_length}
 use Rattle.tsdl_meaning.proofs.LengthPlaces.{first_place, no_place}
 use Rattle.tsdl_meaning.proofs.member.length_place.Goals as goal

@@ -1,5 +1,5 @@
 use Rattle.std.proofs.Common.{◌≡◌, ℕ, ◌<◌, false, List, get_or}
-use Rattle.ctf_types.specs.declared.MemberType.{MemberType}
+use Rattle.tsdl_meaning.proofs.TextWords.{MemberType}
 use Rattle.tsdl_meaning.specs.Members.{is_length}
 use Rattle.tsdl_meaning.proofs.member.length_place.Given as goal
 

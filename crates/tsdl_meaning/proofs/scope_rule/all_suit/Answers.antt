@@ -2,10 +2,7 @@ use Rattle.std.proofs.Common.{◌≡◌, List, [], ℕ, true, arith, sym}
 use Rattle.std.proofs.lemmas.List.Folds.{list_all_at}
 use Rattle.std.proofs.lemmas.List.Elements.{All-from_get_or}
 use Rattle.std.proofs.lemmas.List.Sums.{list_all-from_AllPass}
-use Rattle.ctf_types.specs.declared.FieldType.TheVariants.{Str}
-use Rattle.ctf_types.specs.declared.MemberType.{MemberType}
-use Rattle.ctf_types.specs.declared.MemberType.TheVariants.{Plain}
-use Rattle.tsdl_meaning.specs.ScopeRules.{suits_rule}
+use Rattle.tsdl_meaning.proofs.TextWords.{MemberType, Plain, Str, suits_rule}
 use Rattle.tsdl_meaning.proofs.scope_rule.all_suit.Goals as goal
 
 a_member : List ℕ × MemberType

@@ -1,6 +1,5 @@
 use Rattle.std.proofs.Common.{◌≡◌, ℕ, ◌<◌, true, List, get_or}
-use Rattle.ctf_types.specs.declared.MemberType.{MemberType}
-use Rattle.tsdl_meaning.specs.ScopeRules.{suits_rule}
+use Rattle.tsdl_meaning.proofs.TextWords.{MemberType, suits_rule}
 use Rattle.tsdl_meaning.proofs.scope_rule.all_suit.Given as goal
 
 abbrev pub invariant-loop-index : goal.invariant-loop-index

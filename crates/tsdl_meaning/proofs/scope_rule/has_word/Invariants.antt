@@ -1,7 +1,5 @@
 use Rattle.std.proofs.Common.{◌≡◌, length}
-use Rattle.std.specs.List.{list_any}
-use Rattle.std.specs.Str.{bytes_eq}
-use Rattle.tsdl_meaning.specs.Names.{texts_of}
+use Rattle.tsdl_meaning.proofs.TextWords.{bytes_eq, list_any, texts_of}
 use Rattle.tsdl_meaning.proofs.scope_rule.has_word.Given as goal
 
 abbrev pub invariant-loop-rest : goal.invariant-loop-rest

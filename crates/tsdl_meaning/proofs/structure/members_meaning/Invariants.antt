@@ -1,5 +1,5 @@
 use Rattle.std.proofs.Common.{◌≡◌, [], length}
-use Rattle.tsdl_grammar.specs.StructureMeaning.{members_meaning}
+use Rattle.tsdl_meaning.proofs.TextWords.{members_meaning}
 use Rattle.tsdl_meaning.proofs.structure.members_meaning.Given as goal
 
 abbrev pub invariant-loop-rest : goal.invariant-loop-rest

@@ -1,8 +1,5 @@
 use Rattle.std.proofs.Common.{◌≡◌, length}
-use Rattle.std.specs.List.{flat_map}
-use Rattle.tsdl_grammar.specs.Steps.{each}
-use Rattle.tsdl_meaning.specs.Fronts.{with_front}
-use Rattle.tsdl_grammar.specs.BlockMeaning.{clock_meaning}
+use Rattle.tsdl_meaning.proofs.TextWords.{clock_meaning, each, flat_map, with_front}
 use Rattle.tsdl_grammar.specs.Denotes.{clock_in}
 use Rattle.tsdl_meaning.proofs.text.clocks_of.Given as goal
 

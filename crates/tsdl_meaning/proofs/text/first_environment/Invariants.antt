@@ -1,6 +1,5 @@
 use Rattle.std.proofs.Common.{◌≡◌, length}
-use Rattle.std.specs.List.{flat_map}
-use Rattle.tsdl_grammar.specs.Denotes.{environment_in}
+use Rattle.tsdl_meaning.proofs.TextWords.{environment_in, flat_map}
 use Rattle.tsdl_meaning.proofs.text.first_environment.Given as goal
 
 abbrev pub invariant-loop-rest : goal.invariant-loop-rest

@@ -1,6 +1,5 @@
 use Rattle.std.proofs.Common.{refl, sym, ap, ◌∙◌}
-use Rattle.tsdl_grammar.specs.BlockMeaning.{event_meaning}
-use Rattle.tsdl_grammar.specs.Denotes.{event_in}
+use Rattle.tsdl_meaning.proofs.TextWords.{event_in, event_meaning}
 use Rattle.tsdl_meaning.proofs.Fronts.{made_part}
 use Rattle.tsdl_meaning.proofs.text_streams.events_found.Goals as goal
 

@@ -1,9 +1,5 @@
 use Rattle.std.proofs.Common.{◌≡◌, length}
-use Rattle.std.specs.List.{flat_map}
-use Rattle.tsdl_grammar.specs.Steps.{each}
-use Rattle.tsdl_meaning.specs.Fronts.{with_front}
-use Rattle.tsdl_grammar.specs.BlockMeaning.{event_meaning}
-use Rattle.tsdl_grammar.specs.Denotes.{event_in}
+use Rattle.tsdl_meaning.proofs.TextWords.{each, event_in, event_meaning, flat_map, with_front}
 use Rattle.tsdl_meaning.proofs.text_streams.events_found.Given as goal
 
 abbrev pub invariant-loop-rest : goal.invariant-loop-rest

@@ -1,4 +1,4 @@
-use Rattle.tsdl_grammar.specs.Denotes.{events_of}
+use Rattle.tsdl_meaning.proofs.TextWords.{events_of}
 use Rattle.tsdl_meaning.proofs.GroupsTaken.{one_more_event}
 use Rattle.tsdl_meaning.proofs.text_streams.groups_of.Goals as goal
 

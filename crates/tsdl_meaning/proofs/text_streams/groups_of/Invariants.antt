@@ -1,6 +1,5 @@
 use Rattle.std.proofs.Common.{◌≡◌, ℕ, ◌++◌, reverse, vec_len}
-use Rattle.tsdl_grammar.specs.Denotes.{events_of}
-use Rattle.tsdl_meaning.specs.Groups.{group_of}
+use Rattle.tsdl_meaning.proofs.TextWords.{events_of, group_of}
 use Rattle.tsdl_meaning.proofs.text_streams.groups_of.Given as goal
 
 -- the last events are left, the first of them at the end

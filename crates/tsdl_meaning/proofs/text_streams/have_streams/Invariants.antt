@@ -1,5 +1,5 @@
 use Rattle.std.proofs.Common.{◌≡◌, length}
-use Rattle.tsdl_grammar.specs.Denotes.{have_streams}
+use Rattle.tsdl_meaning.proofs.TextWords.{have_streams}
 use Rattle.tsdl_meaning.proofs.text_streams.have_streams.Given as goal
 
 abbrev pub invariant-loop-rest : goal.invariant-loop-rest

@@ -1,6 +1,5 @@
 use Rattle.std.proofs.Common.{refl, sym, ap, ◌∙◌}
-use Rattle.tsdl_grammar.specs.BlockMeaning.{stream_meaning}
-use Rattle.tsdl_grammar.specs.Denotes.{stream_in}
+use Rattle.tsdl_meaning.proofs.TextWords.{stream_in, stream_meaning}
 use Rattle.tsdl_meaning.proofs.Fronts.{made_part}
 use Rattle.tsdl_meaning.proofs.text_streams.streams_found.Goals as goal
 

@@ -1,8 +1,5 @@
 use Rattle.std.proofs.Common.{◌≡◌, length}
-use Rattle.tsdl_grammar.specs.Steps.{each}
-use Rattle.tsdl_grammar.specs.Laws.{NumbersRise}
-use Rattle.tsdl_meaning.specs.Fronts.{with_front}
-use Rattle.tsdl_meaning.specs.Groups.{with_group}
+use Rattle.tsdl_meaning.proofs.TextWords.{NumbersRise, each, with_front, with_group}
 use Rattle.tsdl_meaning.proofs.GroupsTaken.{SameGroups}
 use Rattle.tsdl_meaning.proofs.text_streams.streams_with.Given as goal
 

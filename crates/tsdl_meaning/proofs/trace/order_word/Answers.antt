@@ -1,5 +1,5 @@
 use Rattle.std.proofs.Common.{sym}
-use Rattle.tsdl_grammar.specs.BlockMeaning.{order_table}
+use Rattle.tsdl_meaning.proofs.TextWords.{order_table}
 use Rattle.tsdl_meaning.proofs.WordTables.{absent}
 use Rattle.tsdl_meaning.proofs.trace.order_word.Goals as goal
 

@@ -1,5 +1,5 @@
 use Rattle.std.proofs.Common.{sym}
-use Rattle.tsdl_grammar.specs.AttributeValues.{flag_words}
+use Rattle.tsdl_meaning.proofs.TextWords.{flag_words}
 use Rattle.tsdl_meaning.proofs.WordTables.{absent}
 use Rattle.tsdl_meaning.proofs.value.flag_word.Goals as goal
 

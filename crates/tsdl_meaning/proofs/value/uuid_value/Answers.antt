@@ -1,6 +1,6 @@
 use Rattle.std.proofs.Common.{◌∙◌, refl}
 use Rattle.uuid.specs.Text.{parsed}
-use Rattle.tsdl_grammar.specs.AttributeValues.{uuid_value}
+use Rattle.tsdl_meaning.proofs.TextWords.{uuid_value}
 use Rattle.tsdl_meaning.proofs.Identity.{parses_to}
 use Rattle.tsdl_meaning.proofs.value.uuid_value.Goals as goal
 

@@ -1,14 +1,9 @@
 use Rattle.std.proofs.Common.{◌≡◌, true, List, [], ◌∷◌, ◌++◌}
-use Rattle.tsdl_grammar.specs.declared.atom.Atom.{Atom}
+use Rattle.tsdl_meaning.proofs.TextWords.{AddsAttribute, AreNamed, Atom, IsBegun, StopsWhere, asked_of, attr_toks, is_fit, mark, name_toks, value_toks}
 use Rattle.tsdl_grammar.specs.declared.token.Mark.TheVariants as marks
-use Rattle.tsdl_grammar.specs.Spelling.{mark, name_toks, value_toks, attr_toks}
-use Rattle.tsdl_meaning.specs.Judged.{StopsWhere}
-use Rattle.tsdl_meaning.specs.NamesBefore.{AreNamed}
-use Rattle.tsdl_meaning.specs.Blocks.{IsBegun}
-use Rattle.tsdl_meaning.specs.FlawlessBlocks.{is_fit, asked_of, AddsAttribute}
 use Rattle.tsdl_meaning.proofs.JudgedParts.{handed, err_from, ok_from, ok_map, stops_same}
 use Rattle.tsdl_meaning.proofs.BlockAttributes.{attr_opening, attr_rest}
-use Rattle.tsdl_meaning.proofs.NamesBefore.{named_behind}
+use Rattle.tsdl_meaning.proofs.StopsInNames.{named_behind}
 use Rattle.tsdl_meaning.proofs.judge.attribute.judge_attribute.Goals as goal
 
 pub returns-in_err-add-clause-fault : goal.returns-in_err-add-clause-fault

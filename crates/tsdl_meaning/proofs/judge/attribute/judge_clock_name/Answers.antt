@@ -1,8 +1,5 @@
 use Rattle.std.proofs.Common.{List, codes}
-use Rattle.tsdl_grammar.specs.declared.atom.Atom.{Atom}
-use Rattle.tsdl_grammar.specs.Spelling.{value_toks}
-use Rattle.tsdl_meaning.specs.Judged.{StopsWhere, IsAttribute}
-use Rattle.tsdl_meaning.specs.Ledgers.{AreNoted}
+use Rattle.tsdl_meaning.proofs.TextWords.{AreNoted, Atom, IsAttribute, StopsWhere, value_toks}
 use Rattle.tsdl_meaning.proofs.JudgedParts.{handed}
 use Rattle.tsdl_meaning.proofs.BlockAttributes.{clock_twice}
 use Rattle.tsdl_meaning.proofs.judge.attribute.judge_clock_name.Goals as goal

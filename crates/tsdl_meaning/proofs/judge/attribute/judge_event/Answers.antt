@@ -1,5 +1,5 @@
 use Rattle.std.proofs.Common.{ap}
-use Rattle.tsdl_meaning.specs.FlawlessBlocks.{of_event, passes}
+use Rattle.tsdl_meaning.proofs.TextWords.{of_event, passes}
 use Rattle.tsdl_meaning.proofs.WordTables.{absent}
 use Rattle.tsdl_meaning.proofs.judge.attribute.judge_event.Goals as goal
 

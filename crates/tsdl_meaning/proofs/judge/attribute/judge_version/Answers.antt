@@ -1,6 +1,5 @@
 use Rattle.std.proofs.Common.{codes}
-use Rattle.tsdl_grammar.specs.Spelling.{value_toks}
-use Rattle.tsdl_meaning.specs.Judged.{StopsWhere, IsAttribute}
+use Rattle.tsdl_meaning.proofs.TextWords.{IsAttribute, StopsWhere, value_toks}
 use Rattle.tsdl_meaning.proofs.JudgedParts.{handed}
 use Rattle.tsdl_meaning.proofs.BlockAttributes.{version_wrong}
 use Rattle.tsdl_meaning.proofs.judge.attribute.judge_version.Goals as goal

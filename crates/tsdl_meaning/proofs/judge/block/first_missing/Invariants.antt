@@ -1,8 +1,5 @@
 use Rattle.std.proofs.Common.{◌≡◌, length}
-use Rattle.std.specs.Option.{is_some}
-use Rattle.std.specs.List.{list_all}
-use Rattle.tsdl_grammar.specs.Lookups.{attr, attrs_in}
-use Rattle.tsdl_meaning.specs.FlawlessBlocks.{first_texts}
+use Rattle.tsdl_meaning.proofs.TextWords.{attr, attrs_in, first_texts, is_some, list_all}
 use Rattle.tsdl_meaning.proofs.judge.block.first_missing.Given as goal
 
 abbrev pub invariant-loop-rest : goal.invariant-loop-rest

@@ -1,8 +1,5 @@
 use Rattle.std.proofs.Common.{sym, subst}
-use Rattle.tsdl_flaw.specs.Fronts.{Ends}
-use Rattle.tsdl_flaw.specs.Twice.{begun}
-use Rattle.tsdl_meaning.specs.declared.judge.block.BlockKind.{BlockKind}
-use Rattle.tsdl_meaning.specs.Blocks.{word_of}
+use Rattle.tsdl_meaning.proofs.TextWords.{BlockKind, Ends, begun, word_of}
 use Rattle.tsdl_meaning.proofs.BlockNumbers.{unnumbered_twice, event_twice}
 use Rattle.tsdl_meaning.proofs.judge.block.is_numbered_twice.Goals as goal
 

@@ -1,7 +1,6 @@
 use Rattle.std.proofs.Common.{sym, ap, ◌∙◌}
-use Rattle.std.specs.Option.{is_none}
+use Rattle.tsdl_meaning.proofs.TextWords.{is_none, mark}
 use Rattle.tsdl_grammar.specs.declared.token.Mark.TheVariants as marks
-use Rattle.tsdl_grammar.specs.Spelling.{mark}
 use Rattle.tsdl_meaning.proofs.judge.block.judge_end.Goals as goal
 
 pub returns-in-Some-clause-fault : goal.returns-in-Some-clause-fault

@@ -1,16 +1,9 @@
 use Rattle.std.proofs.Common.{List, ◌++◌, refl, sym, subst}
-use Rattle.tsdl_grammar.specs.declared.atom.Atom.{Atom}
+use Rattle.tsdl_meaning.proofs.TextWords.{AddsAttribute, AddsItem, AddsScope, AreKept, AreNamed, Atom, IsBegun, Item, StopsIn, StopsWhere, attr_toks, item_toks, scope_toks}
 use Rattle.tsdl_grammar.specs.declared.token.Mark.TheVariants as marks
-use Rattle.tsdl_grammar.specs.declared.tree.Item.{Item}
-use Rattle.tsdl_grammar.specs.Spelling.{attr_toks, scope_toks, item_toks}
-use Rattle.tsdl_flaw.specs.Stopping.{StopsIn}
-use Rattle.tsdl_meaning.specs.Judged.{StopsWhere}
-use Rattle.tsdl_meaning.specs.NamesBefore.{AreNamed}
-use Rattle.tsdl_meaning.specs.Blocks.{IsBegun, AreKept}
 use Rattle.tsdl_meaning.specs.declared.judge.block.BlockNames.{BlockNames}
-use Rattle.tsdl_meaning.specs.FlawlessBlocks.{AddsAttribute, AddsScope, AddsItem}
 use Rattle.tsdl_meaning.proofs.JudgedParts.{err_from, ok_map}
-use Rattle.tsdl_meaning.proofs.NamesBefore.{still_named}
+use Rattle.tsdl_meaning.proofs.StopsInNames.{still_named}
 use Rattle.tsdl_meaning.proofs.judge.block.judge_item.Goals as goal
 
 pub returns-in-Attribute-clause-fault : goal.returns-in-Attribute-clause-fault

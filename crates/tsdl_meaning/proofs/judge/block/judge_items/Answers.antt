@@ -1,18 +1,10 @@
 use Rattle.std.proofs.Common.{arith, List, [], ◌∷◌, ◌++◌, take, refl, sym, ap, ◌∙◌, subst, append_assoc}
 use Rattle.std.proofs.lemmas.List.{take_all}
-use Rattle.tsdl_grammar.specs.declared.atom.Atom.{Atom}
+use Rattle.tsdl_meaning.proofs.TextWords.{AreKept, AreNoted, Atom, IsBegun, IsEnded, IsFlawlessBlock, Item, StandsBehind, StopsWhere, begun, item_toks, items_toks, mark, word, word_of}
 use Rattle.tsdl_grammar.specs.declared.token.Mark.TheVariants as marks
-use Rattle.tsdl_grammar.specs.declared.tree.Item.{Item}
-use Rattle.tsdl_grammar.specs.Spelling.{mark, word, item_toks, items_toks}
-use Rattle.tsdl_flaw.specs.Twice.{begun}
-use Rattle.tsdl_meaning.specs.Judged.{StopsWhere}
-use Rattle.tsdl_meaning.specs.Ledgers.{AreNoted}
-use Rattle.tsdl_meaning.specs.Blocks.{word_of, IsBegun, AreKept}
-use Rattle.tsdl_meaning.specs.FlawlessBlocks.{IsEnded, IsFlawlessBlock}
 use Rattle.tsdl_meaning.proofs.FlawlessItems.{Items, next_item, no_items, items_flawless}
 use Rattle.tsdl_meaning.proofs.JudgedParts.{handed, err_from, ok_map, stops_item}
 use Rattle.tsdl_meaning.proofs.JudgedLedgers.{noted_more}
-use Rattle.tsdl_flaw.specs.Places.{StandsBehind}
 use Rattle.tsdl_flaw.proofs.Parts.{stops_after, behind_item, flat_next}
 use Rattle.tsdl_meaning.proofs.judge.block.judge_items.Goals as goal
 

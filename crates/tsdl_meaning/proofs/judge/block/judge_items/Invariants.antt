@@ -1,9 +1,6 @@
 use Rattle.std.proofs.Common.{List, ◌++◌, take}
-use Rattle.tsdl_grammar.specs.declared.atom.Atom.{Atom}
-use Rattle.tsdl_flaw.specs.Twice.{begun}
-use Rattle.tsdl_meaning.specs.Blocks.{word_of, AreKept}
+use Rattle.tsdl_meaning.proofs.TextWords.{AreKept, Atom, StandsBehind, begun, word_of}
 use Rattle.tsdl_meaning.proofs.FlawlessItems.{Items}
-use Rattle.tsdl_flaw.specs.Places.{StandsBehind}
 use Rattle.tsdl_meaning.proofs.judge.block.judge_items.Given as goal
 
 -- the items so far stand before the place, with all the names

@@ -1,11 +1,8 @@
 use Rattle.std.proofs.Common.{arith, List, [], ◌∷◌, ◌++◌, sym, length-append}
-use Rattle.tsdl_grammar.specs.declared.atom.Atom.{Atom}
+use Rattle.tsdl_meaning.proofs.TextWords.{AreNamed, Atom, StopsWhere, mark, name_toks, scope_toks, struct_toks}
 use Rattle.tsdl_grammar.specs.declared.token.Mark.TheVariants as marks
-use Rattle.tsdl_grammar.specs.Spelling.{mark, name_toks, struct_toks, scope_toks}
-use Rattle.tsdl_meaning.specs.Judged.{StopsWhere}
-use Rattle.tsdl_meaning.specs.NamesBefore.{AreNamed}
 use Rattle.tsdl_meaning.proofs.JudgedParts.{handed, stops_same}
-use Rattle.tsdl_meaning.proofs.NamesBefore.{named_behind}
+use Rattle.tsdl_meaning.proofs.StopsInNames.{named_behind}
 use Rattle.tsdl_meaning.proofs.JudgedScopes.{scope_parts, scope_opening, scope_rest}
 use Rattle.tsdl_flaw.proofs.Parts.{stops_after}
 use Rattle.tsdl_meaning.proofs.judge.block.judge_scope.Goals as goal

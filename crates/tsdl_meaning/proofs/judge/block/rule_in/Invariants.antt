@@ -1,6 +1,5 @@
 use Rattle.std.proofs.Common.{◌≡◌, length}
-use Rattle.tsdl_grammar.specs.Lookups.{words_of}
-use Rattle.tsdl_meaning.specs.FlawlessBlocks.{rule_in, named_rules}
+use Rattle.tsdl_meaning.proofs.TextWords.{named_rules, rule_in, words_of}
 use Rattle.tsdl_meaning.proofs.judge.block.rule_in.Given as goal
 
 abbrev pub invariant-loop-rest : goal.invariant-loop-rest

@@ -1,5 +1,5 @@
 use Rattle.std.proofs.Common.{◌≡◌, ◌++◌, length}
-use Rattle.std.specs.List.{flat_map}
+use Rattle.tsdl_meaning.proofs.TextWords.{flat_map}
 use Rattle.tsdl_grammar.specs.Denotes.{clock_in}
 use Rattle.tsdl_meaning.specs.NotedBlocks.{names_in}
 use Rattle.tsdl_meaning.proofs.judge.blocks_survey.names_among.Given as goal

@@ -1,7 +1,5 @@
 use Rattle.std.proofs.Common.{◌≡◌, length}
-use Rattle.std.specs.List.{flat_map}
-use Rattle.tsdl_grammar.specs.Denotes.{trace_in}
-use Rattle.tsdl_meaning.specs.NotedBlocks.{first_of, orders_in}
+use Rattle.tsdl_meaning.proofs.TextWords.{first_of, flat_map, orders_in, trace_in}
 use Rattle.tsdl_meaning.proofs.judge.blocks_survey.order_among.Given as goal
 
 abbrev pub invariant-loop-rest : goal.invariant-loop-rest

@@ -1,5 +1,5 @@
 use Rattle.std.proofs.Common.{◌≡◌, length}
-use Rattle.tsdl_meaning.specs.NotedBlocks.{orders_in}
+use Rattle.tsdl_meaning.proofs.TextWords.{orders_in}
 use Rattle.tsdl_meaning.proofs.judge.blocks_survey.order_in.Given as goal
 
 abbrev pub invariant-loop-rest : goal.invariant-loop-rest

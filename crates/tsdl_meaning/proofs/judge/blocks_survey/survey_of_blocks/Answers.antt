@@ -1,6 +1,5 @@
 use Rattle.std.proofs.Common.{ℕ, List, ap₂, ◌∙◌}
-use Rattle.ctf_types.specs.declared.ByteOrder.{ByteOrder}
-use Rattle.tsdl_grammar.specs.IntegerMeaning.{Known}
+use Rattle.tsdl_meaning.proofs.TextWords.{ByteOrder, Known}
 use Rattle.tsdl_meaning.proofs.SurveyedBlocks.{surveyed}
 use Rattle.tsdl_meaning.proofs.judge.blocks_survey.survey_of_blocks.Goals as goal
 

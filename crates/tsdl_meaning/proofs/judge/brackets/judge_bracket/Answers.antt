@@ -1,13 +1,7 @@
 use Rattle.std.proofs.Common.{ℕ, List, [], ◌∷◌, ◌++◌}
-use Rattle.ctf_types.specs.declared.MemberType.{MemberType}
-use Rattle.tsdl_meaning.specs.FlawlessBrackets.{AreBrackets}
+use Rattle.tsdl_meaning.proofs.TextWords.{AreBrackets, Bracket, HasLengths, IsBehindBrackets, IsInBracket, IsInBrackets, MemberType, Stop, StopsWhere, bracket_toks, number_toks, word}
 use Rattle.tsdl_meaning.proofs.JudgedParts.{ok_map, err_from}
-use Rattle.tsdl_grammar.specs.declared.tree.Bracket.{Bracket}
 use Rattle.tsdl_grammar.specs.declared.tree.Bracket.TheVariants as brackets
-use Rattle.tsdl_grammar.specs.Spelling.{word, number_toks, bracket_toks}
-use Rattle.tsdl_flaw.specs.declared.flaw.Stop.{Stop}
-use Rattle.tsdl_meaning.specs.Judged.{StopsWhere}
-use Rattle.tsdl_meaning.specs.BracketLengths.{HasLengths, IsBehindBrackets, IsInBrackets, IsInBracket}
 use Rattle.tsdl_meaning.proofs.StopsInBrackets.{in_count, in_member}
 use Rattle.tsdl_meaning.proofs.judge.brackets.judge_bracket.Goals as goal
 

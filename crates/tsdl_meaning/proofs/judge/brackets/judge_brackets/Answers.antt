@@ -1,10 +1,6 @@
 use Rattle.std.proofs.Common.{List, [], take, subst, arith}
 use Rattle.std.proofs.lemmas.List.{take_all}
-use Rattle.tsdl_grammar.specs.declared.tree.Bracket.{Bracket}
-use Rattle.tsdl_meaning.specs.FlawlessBrackets.{AreBrackets}
-use Rattle.std.specs.List.{flat_map}
-use Rattle.tsdl_grammar.specs.Spelling.{bracket_toks}
-use Rattle.tsdl_meaning.specs.Judged.{StopsAmong}
+use Rattle.tsdl_meaning.proofs.TextWords.{AreBrackets, Bracket, StopsAmong, bracket_toks, flat_map}
 use Rattle.tsdl_flaw.proofs.Parts.{behind_item}
 use Rattle.tsdl_meaning.proofs.JudgedParts.{handed}
 use Rattle.tsdl_meaning.proofs.FlawlessBrackets.{next_brackets, brackets_mean}

@@ -1,9 +1,5 @@
 use Rattle.std.proofs.Common.{take}
-use Rattle.std.specs.List.{flat_map}
-use Rattle.tsdl_grammar.specs.Spelling.{bracket_toks}
-use Rattle.tsdl_flaw.specs.Places.{StandsBehind}
-use Rattle.tsdl_meaning.specs.BracketLengths.{HasLengths}
-use Rattle.tsdl_meaning.specs.FlawlessBrackets.{AreBrackets}
+use Rattle.tsdl_meaning.proofs.TextWords.{AreBrackets, HasLengths, StandsBehind, bracket_toks, flat_map}
 use Rattle.tsdl_meaning.proofs.judge.brackets.judge_brackets.Given as goal
 
 -- the brackets so far stand before the place, and have these lengths

@@ -1,9 +1,5 @@
 use Rattle.std.proofs.Common.{List}
-use Rattle.tsdl_grammar.specs.declared.tree.Bracket.{Bracket}
-use Rattle.tsdl_grammar.specs.Spelling.{number_toks}
-use Rattle.tsdl_flaw.specs.declared.flaw.Stop.{Stop}
-use Rattle.tsdl_meaning.specs.Judged.{StopsWhere}
-use Rattle.tsdl_meaning.specs.BracketLengths.{HasLengths, IsInBrackets}
+use Rattle.tsdl_meaning.proofs.TextWords.{Bracket, HasLengths, IsInBrackets, Stop, StopsWhere, number_toks}
 use Rattle.tsdl_meaning.proofs.JudgedParts.{handed}
 use Rattle.tsdl_meaning.proofs.FlawlessBrackets.{count_more}
 use Rattle.tsdl_meaning.proofs.StopsInBrackets.{lengths_more, long_length}

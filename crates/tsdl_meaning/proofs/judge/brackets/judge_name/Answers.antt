@@ -1,8 +1,6 @@
 use Rattle.std.proofs.Common.{refl, sym, ap, ◌∙◌, arith}
-use Rattle.std.specs.Option.{is_some}
-use Rattle.tsdl_grammar.specs.MemberMeaning.{length_place}
+use Rattle.tsdl_meaning.proofs.TextWords.{is_some, length_place, word}
 use Rattle.tsdl_meaning.proofs.FlawlessBrackets.{name_more}
-use Rattle.tsdl_grammar.specs.Spelling.{word}
 use Rattle.tsdl_meaning.proofs.judge.brackets.judge_name.Goals as goal
 
 pub returns-then-lengths-clause-fault : goal.returns-then-lengths-clause-fault

@@ -1,5 +1,5 @@
 use Rattle.std.proofs.Common.{[], ◌∙◌}
-use Rattle.tsdl_grammar.specs.Spelling.{word}
+use Rattle.tsdl_meaning.proofs.TextWords.{word}
 use Rattle.tsdl_meaning.proofs.StopsInBrackets.{word_unread}
 use Rattle.tsdl_meaning.proofs.judge.brackets.unsupported_word.Goals as goal
 

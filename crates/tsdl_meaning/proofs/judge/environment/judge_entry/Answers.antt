@@ -1,12 +1,8 @@
 use Rattle.std.proofs.Common.{◌≡◌, true, arith, [], ◌∷◌, ◌++◌, refl, sym, ◌∙◌, inl, inr, append_assoc}
 use Rattle.tsdl_grammar.specs.declared.token.Mark.TheVariants as marks
-use Rattle.tsdl_grammar.specs.Spelling.{mark, word, fact_toks, named_fact_toks}
+use Rattle.tsdl_meaning.proofs.TextWords.{AddsFact, EndsFacts, StopsAmong, StopsWhere, fact_meaning, fact_toks, is_some, mark, named_fact_toks, word}
 use Rattle.tsdl_flaw.specs.declared.flaw.Flaw.TheVariants as flaws
 use Rattle.tsdl_flaw.proofs.Stops.{whole}
-use Rattle.tsdl_meaning.specs.Judged.{StopsAmong, StopsWhere, EndsFacts}
-use Rattle.std.specs.Option.{is_some}
-use Rattle.tsdl_grammar.specs.BlockMeaning.{fact_meaning}
-use Rattle.tsdl_meaning.specs.FlawlessTexts.{AddsFact}
 use Rattle.tsdl_meaning.proofs.JudgedParts.{err_from, ok_map}
 use Rattle.tsdl_meaning.proofs.JudgedFacts.{fact_twice}
 use Rattle.tsdl_flaw.proofs.Parts.{stops_after}

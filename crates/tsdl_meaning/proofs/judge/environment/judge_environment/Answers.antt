@@ -1,10 +1,7 @@
 use Rattle.std.proofs.Common.{arith, List, [], ◌∷◌, ◌++◌, take, ap, sym, subst, append_assoc, codes}
 use Rattle.std.proofs.lemmas.List.{take_all}
-use Rattle.std.specs.List.{flat_map}
-use Rattle.tsdl_grammar.specs.declared.atom.Atom.{Atom}
+use Rattle.tsdl_meaning.proofs.TextWords.{Atom, StopsAmong, braced, flat_map, mark, named_fact_toks, word}
 use Rattle.tsdl_grammar.specs.declared.token.Mark.TheVariants as marks
-use Rattle.tsdl_grammar.specs.Spelling.{mark, word, braced, named_fact_toks}
-use Rattle.tsdl_meaning.specs.Judged.{StopsAmong}
 use Rattle.tsdl_meaning.proofs.FlawlessFacts.{Facts, next_fact, no_facts, facts_mean}
 use Rattle.tsdl_meaning.proofs.JudgedParts.{handed, stops_item}
 use Rattle.tsdl_flaw.proofs.Parts.{behind_item}

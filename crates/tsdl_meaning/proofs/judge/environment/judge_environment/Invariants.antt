@@ -1,9 +1,7 @@
 use Rattle.std.proofs.Common.{[], ◌∷◌, ◌++◌, take, codes}
-use Rattle.std.specs.List.{flat_map}
+use Rattle.tsdl_meaning.proofs.TextWords.{StandsBehind, flat_map, mark, named_fact_toks, word}
 use Rattle.tsdl_grammar.specs.declared.token.Mark.TheVariants as marks
-use Rattle.tsdl_grammar.specs.Spelling.{mark, word, named_fact_toks}
 use Rattle.tsdl_meaning.proofs.FlawlessFacts.{Facts}
-use Rattle.tsdl_flaw.specs.Places.{StandsBehind}
 use Rattle.tsdl_meaning.proofs.judge.environment.judge_environment.Given as goal
 
 abbrev pub invariant-loop-index : goal.invariant-loop-index

@@ -1,7 +1,6 @@
 use Rattle.std.proofs.Common.{◌++◌, sym, subst}
 use Rattle.tsdl_grammar.specs.declared.tree.Fact.{Fact}
-use Rattle.tsdl_grammar.specs.Spelling.{fact_toks}
-use Rattle.tsdl_flaw.specs.Stopping.{StopsIn}
+use Rattle.tsdl_meaning.proofs.TextWords.{StopsIn, fact_toks}
 use Rattle.tsdl_meaning.proofs.judge.environment.judge_fact.Goals as goal
 
 pub returns-in-None-clause-fault : goal.returns-in-None-clause-fault

@@ -1,13 +1,6 @@
 use Rattle.std.proofs.Common.{◌≡◌, ℕ, true, List, Option, ◌++◌, ap, ◌∙◌, sym}
 use Rattle.tsdl_grammar.specs.declared.token.Mark.TheVariants as marks
-use Rattle.tsdl_grammar.specs.declared.atom.Atom.{Atom}
-use Rattle.tsdl_grammar.specs.Spelling.{attr_toks, value_toks}
-use Rattle.tsdl_meaning.specs.Judged.{StopsWhere}
-use Rattle.tsdl_meaning.specs.Judging.{IsBehindOwn}
-use Rattle.tsdl_meaning.specs.NamesBefore.{AreNamed}
-use Rattle.tsdl_grammar.specs.IntegerMeaning.{int_attrs}
-use Rattle.tsdl_meaning.specs.FlawlessBlocks.{fits, fits_word}
-use Rattle.tsdl_meaning.specs.FlawlessTypes.{AddsOwn, of_integer, own_word}
+use Rattle.tsdl_meaning.proofs.TextWords.{AddsOwn, AreNamed, Atom, IsBehindOwn, StopsWhere, attr_toks, fits, fits_word, int_attrs, of_integer, own_word, value_toks}
 use Rattle.tsdl_meaning.proofs.JudgedParts.{ok_map, handed, err_from, ok_from}
 use Rattle.tsdl_meaning.proofs.StopsInAttributes.{in_name, in_opening, in_value, behind_own, attr_named}
 use Rattle.tsdl_meaning.proofs.judge.integer.judge_attribute.Goals as goal

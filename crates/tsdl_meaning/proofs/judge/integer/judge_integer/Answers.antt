@@ -1,14 +1,9 @@
 use Rattle.std.proofs.Common.{List, arith, ◌++◌, subst, codes}
 use Rattle.std.proofs.lemmas.List.{take_all}
-use Rattle.tsdl_grammar.specs.declared.tree.Attribute.{Attribute}
-use Rattle.tsdl_grammar.specs.Lookups.{attr}
-use Rattle.tsdl_grammar.specs.Spelling.{attr_toks, int_toks}
-use Rattle.tsdl_meaning.specs.Judged.{StopsAmong}
+use Rattle.tsdl_meaning.proofs.TextWords.{Attribute, StopsAmong, attr, attr_toks, int_attrs, int_toks, of_integer}
 use Rattle.tsdl_flaw.proofs.Parts.{behind_item}
 use Rattle.tsdl_meaning.proofs.JudgedParts.{handed}
 use Rattle.tsdl_meaning.proofs.StopsInAttributes.{list_opening, list_before, in_attribute, next_named, at_close}
-use Rattle.tsdl_grammar.specs.IntegerMeaning.{int_attrs}
-use Rattle.tsdl_meaning.specs.FlawlessTypes.{of_integer}
 use Rattle.tsdl_meaning.proofs.FlawlessTypes.{Own, next_own, integer_means, seen}
 use Rattle.tsdl_meaning.proofs.judge.integer.judge_integer.Goals as goal
 

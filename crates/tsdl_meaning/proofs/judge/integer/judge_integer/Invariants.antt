@@ -1,12 +1,6 @@
 use Rattle.std.proofs.Common.{List, [], ◌∷◌, ◌++◌, take, codes}
-use Rattle.std.specs.List.{flat_map}
+use Rattle.tsdl_meaning.proofs.TextWords.{AreNamed, Atom, StandsBehind, attr_toks, flat_map, int_attrs, mark, of_integer, word}
 use Rattle.tsdl_grammar.specs.declared.token.Mark.TheVariants as marks
-use Rattle.tsdl_grammar.specs.declared.atom.Atom.{Atom}
-use Rattle.tsdl_grammar.specs.Spelling.{mark, word, attr_toks}
-use Rattle.tsdl_flaw.specs.Places.{StandsBehind}
-use Rattle.tsdl_meaning.specs.NamesBefore.{AreNamed}
-use Rattle.tsdl_grammar.specs.IntegerMeaning.{int_attrs}
-use Rattle.tsdl_meaning.specs.FlawlessTypes.{of_integer}
 use Rattle.tsdl_meaning.proofs.FlawlessTypes.{Own}
 use Rattle.tsdl_meaning.proofs.judge.integer.judge_integer.Given as goal
 

@@ -1,10 +1,6 @@
 use Rattle.std.proofs.Common.{◌≡◌, true, false, [], ◌∷◌}
 use Rattle.std.specs.Prelude.{codes}
-use Rattle.std.specs.Option.{is_some, option_map_or}
-use Rattle.std.specs.List.{list_any}
-use Rattle.std.specs.Str.{bytes_eq}
-use Rattle.tsdl_grammar.specs.AttributeValues.{word_value}
-use Rattle.tsdl_grammar.specs.IntegerMeaning.{order_value}
+use Rattle.tsdl_meaning.proofs.TextWords.{bytes_eq, is_some, list_any, option_map_or, order_value, word_value}
 use Rattle.tsdl_meaning.proofs.JudgedParts.{ok_map}
 use Rattle.tsdl_meaning.proofs.FlawlessTypes.{native_is}
 use Rattle.tsdl_meaning.proofs.judge.integer.judge_order.Goals as goal

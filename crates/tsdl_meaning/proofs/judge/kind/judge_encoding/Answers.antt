@@ -1,9 +1,6 @@
 use Rattle.std.proofs.Common.{List}
 use Rattle.tsdl_grammar.specs.declared.token.Mark.TheVariants as marks
-use Rattle.tsdl_grammar.specs.declared.atom.Atom.{Atom}
-use Rattle.tsdl_grammar.specs.Spelling.{attr_toks}
-use Rattle.tsdl_meaning.specs.Judged.{StopsWhere}
-use Rattle.tsdl_meaning.specs.NamesBefore.{AreNamed}
+use Rattle.tsdl_meaning.proofs.TextWords.{AreNamed, Atom, StopsWhere, attr_toks}
 use Rattle.tsdl_meaning.proofs.JudgedParts.{handed}
 use Rattle.tsdl_meaning.proofs.StopsInAttributes.{in_name, in_opening, in_value, attr_named}
 use Rattle.tsdl_meaning.proofs.judge.kind.judge_encoding.Goals as goal

@@ -1,15 +1,7 @@
 use Rattle.std.proofs.Common.{IsSome, List, ◌∷◌, ◌++◌, subst}
-use Rattle.std.specs.List.{flat_map}
-use Rattle.tsdl_grammar.specs.declared.tree.Attribute.{Attribute}
-use Rattle.tsdl_grammar.specs.declared.tree.Entry.{Entry}
+use Rattle.tsdl_meaning.proofs.TextWords.{AreRanges, Attribute, Entry, IsBehindBrace, StopsAmong, StopsWhere, entry_toks, flat_map, int_meaning, int_toks, kind_meaning, kind_toks, next_entry_toks}
 use Rattle.tsdl_grammar.specs.declared.tree.Entries.TheVariants as entries
 use Rattle.tsdl_grammar.specs.declared.tree.Kind.TheVariants as kinds
-use Rattle.tsdl_grammar.specs.Spelling.{int_toks, entry_toks, next_entry_toks, kind_toks}
-use Rattle.tsdl_meaning.specs.Judged.{StopsAmong, StopsWhere}
-use Rattle.tsdl_meaning.specs.Judging.{IsBehindBrace}
-use Rattle.tsdl_grammar.specs.IntegerMeaning.{int_meaning}
-use Rattle.tsdl_grammar.specs.MemberMeaning.{kind_meaning}
-use Rattle.tsdl_meaning.specs.FlawlessTypes.{AreRanges}
 use Rattle.tsdl_meaning.proofs.JudgedParts.{ok_map, handed, err_from}
 use Rattle.tsdl_meaning.proofs.FlawlessTypes.{ranges_mean, no_ranges}
 use Rattle.tsdl_meaning.proofs.StopsInKinds.{in_integer, in_ranges}

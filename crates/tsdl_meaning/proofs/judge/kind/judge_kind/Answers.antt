@@ -1,8 +1,5 @@
 use Rattle.std.proofs.Common.{IsSome, List, sym, subst}
-use Rattle.tsdl_grammar.specs.declared.tree.Attribute.{Attribute}
-use Rattle.tsdl_grammar.specs.declared.tree.Kind.{Kind}
-use Rattle.tsdl_grammar.specs.IntegerMeaning.{int_meaning}
-use Rattle.tsdl_grammar.specs.MemberMeaning.{text_meaning, kind_meaning}
+use Rattle.tsdl_meaning.proofs.TextWords.{Attribute, Kind, int_meaning, kind_meaning, text_meaning}
 use Rattle.tsdl_meaning.proofs.JudgedParts.{ok_map}
 use Rattle.tsdl_meaning.proofs.FlawlessTypes.{integer_kind, text_kind}
 use Rattle.tsdl_meaning.proofs.judge.kind.judge_kind.Goals as goal

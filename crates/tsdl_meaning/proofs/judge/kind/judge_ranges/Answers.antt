@@ -1,13 +1,8 @@
 use Rattle.std.proofs.Common.{List, ◌∷◌, ◌++◌, ◌+◌, subst, arith}
 use Rattle.std.proofs.lemmas.Grind.{common_steps}
 use Rattle.std.proofs.lemmas.List.{take_all}
-use Rattle.tsdl_grammar.specs.declared.tree.Entry.{Entry}
+use Rattle.tsdl_meaning.proofs.TextWords.{AreRanges, Entry, IsBehindBrace, StopsWhere, entry_toks, flat_map, next_entry_toks}
 use Rattle.tsdl_flaw.proofs.Parts.{behind_item}
-use Rattle.tsdl_meaning.specs.FlawlessTypes.{AreRanges}
-use Rattle.std.specs.List.{flat_map}
-use Rattle.tsdl_grammar.specs.Spelling.{entry_toks, next_entry_toks}
-use Rattle.tsdl_meaning.specs.Judged.{StopsWhere}
-use Rattle.tsdl_meaning.specs.Judging.{IsBehindBrace}
 use Rattle.tsdl_meaning.proofs.JudgedParts.{handed}
 use Rattle.tsdl_meaning.proofs.FlawlessTypes.{first_range, next_range}
 use Rattle.tsdl_meaning.proofs.StopsInKinds.{in_first, in_range, range_many, range_front, at_label}

@@ -1,6 +1,5 @@
 use Rattle.std.proofs.Common.{◌∷◌, take}
-use Rattle.tsdl_flaw.specs.Places.{StandsBehind}
-use Rattle.tsdl_meaning.specs.FlawlessTypes.{AreRanges}
+use Rattle.tsdl_meaning.proofs.TextWords.{AreRanges, StandsBehind}
 use Rattle.tsdl_meaning.proofs.StopsInKinds.{range_before}
 use Rattle.tsdl_meaning.proofs.judge.kind.judge_ranges.Given as goal
 

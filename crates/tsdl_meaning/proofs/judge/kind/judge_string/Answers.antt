@@ -1,12 +1,9 @@
 use Rattle.std.proofs.Common.{List, arith, ◌∷◌, ◌++◌, subst, codes}
 use Rattle.std.proofs.lemmas.List.{take_all}
-use Rattle.tsdl_grammar.specs.declared.tree.Attribute.{Attribute}
-use Rattle.tsdl_grammar.specs.Spelling.{word, attr_toks, attrs_toks}
-use Rattle.tsdl_meaning.specs.Judged.{StopsAmong}
+use Rattle.tsdl_meaning.proofs.TextWords.{Attribute, StopsAmong, attr_toks, attrs_toks, of_string, string_attrs, word}
 use Rattle.tsdl_flaw.proofs.Parts.{behind_item}
 use Rattle.tsdl_meaning.proofs.JudgedParts.{handed}
 use Rattle.tsdl_meaning.proofs.StopsInAttributes.{list_opening, list_before, in_attribute, next_named}
-use Rattle.tsdl_meaning.specs.FlawlessTypes.{string_attrs, of_string}
 use Rattle.tsdl_meaning.proofs.FlawlessTypes.{Own, next_own, string_means}
 use Rattle.tsdl_meaning.proofs.judge.kind.judge_string.Goals as goal
 

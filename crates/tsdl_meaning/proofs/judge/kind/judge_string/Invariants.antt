@@ -1,11 +1,6 @@
 use Rattle.std.proofs.Common.{List, [], ◌∷◌, ◌++◌, take, codes}
-use Rattle.std.specs.List.{flat_map}
+use Rattle.tsdl_meaning.proofs.TextWords.{AreNamed, Atom, StandsBehind, attr_toks, flat_map, mark, of_string, string_attrs, word}
 use Rattle.tsdl_grammar.specs.declared.token.Mark.TheVariants as marks
-use Rattle.tsdl_grammar.specs.declared.atom.Atom.{Atom}
-use Rattle.tsdl_grammar.specs.Spelling.{mark, word, attr_toks}
-use Rattle.tsdl_flaw.specs.Places.{StandsBehind}
-use Rattle.tsdl_meaning.specs.NamesBefore.{AreNamed}
-use Rattle.tsdl_meaning.specs.FlawlessTypes.{string_attrs, of_string}
 use Rattle.tsdl_meaning.proofs.FlawlessTypes.{Own}
 use Rattle.tsdl_meaning.proofs.judge.kind.judge_string.Given as goal
 

@@ -1,6 +1,5 @@
 use Rattle.std.proofs.Common.{IsSome, List, Option, Some, sym, subst}
-use Rattle.tsdl_grammar.specs.declared.tree.Attribute.{Attribute}
-use Rattle.tsdl_grammar.specs.MemberMeaning.{text_meaning}
+use Rattle.tsdl_meaning.proofs.TextWords.{Attribute, text_meaning}
 use Rattle.tsdl_meaning.proofs.JudgedParts.{ok_map}
 use Rattle.tsdl_meaning.proofs.FlawlessTypes.{bare_string}
 use Rattle.tsdl_meaning.proofs.judge.kind.judge_text_kind.Goals as goal

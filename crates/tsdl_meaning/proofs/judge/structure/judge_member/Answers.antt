@@ -1,14 +1,6 @@
-use Rattle.std.specs.Option.{is_some}
+use Rattle.tsdl_meaning.proofs.TextWords.{Bracket, IsBehindMembers, MemberTree, Stop, StopsAmong, StopsWhere, bracket_toks, bracketed, flat_map, is_some, member_toks, names_in}
 use Rattle.std.proofs.Common.{◌≡◌, ℕ, true, false, List, IsSome, Contains, sym, ap, ◌∙◌, subst}
-use Rattle.std.specs.List.{flat_map}
-use Rattle.ctf_types.specs.Members.{names_in}
-use Rattle.tsdl_grammar.specs.declared.tree.Bracket.{Bracket}
-use Rattle.tsdl_grammar.specs.declared.tree.MemberTree.{MemberTree}
-use Rattle.tsdl_grammar.specs.Spelling.{bracket_toks, member_toks}
-use Rattle.tsdl_flaw.specs.declared.flaw.Stop.{Stop}
-use Rattle.tsdl_meaning.specs.Judged.{StopsAmong, StopsWhere}
-use Rattle.tsdl_meaning.specs.MembersBefore.{AreMembers, IsBehindMembers}
-use Rattle.tsdl_grammar.specs.MemberMeaning.{bracketed}
+use Rattle.tsdl_meaning.specs.MembersBefore.{AreMembers}
 use Rattle.tsdl_meaning.proofs.FlawlessBrackets.{member_means}
 use Rattle.tsdl_meaning.proofs.JudgedParts.{handed}
 use Rattle.tsdl_meaning.proofs.StopsInMembers.{in_kind, at_name, in_brackets, at_name_and_brackets}

@@ -1,6 +1,5 @@
 use Rattle.std.proofs.Common.{ℕ, List, Contains, subst, arith}
-use Rattle.ctf_types.specs.Members.{names_in}
-use Rattle.tsdl_grammar.specs.Spelling.{word}
+use Rattle.tsdl_meaning.proofs.TextWords.{names_in, word}
 use Rattle.tsdl_meaning.proofs.StopsInMembers.{member_twice, member_many}
 use Rattle.tsdl_meaning.proofs.judge.structure.judge_member_name.Goals as goal
 

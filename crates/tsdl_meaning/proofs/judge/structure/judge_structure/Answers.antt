@@ -1,14 +1,9 @@
-use Rattle.std.proofs.Common.{List, Option, take, sym, ap, ◌∙◌, subst, arith}
-use Rattle.std.specs.Option.{is_some}
+use Rattle.std.proofs.Common.{List, Option, Some, take, sym, ap, ◌∙◌, subst, arith}
+use Rattle.tsdl_meaning.proofs.TextWords.{IsBehindAlign, IsSome, MemberTree, Number, StopsAmong, StopsWhere, align_of, is_some, member_toks, names_in, number_toks, struct_toks}
 use Rattle.std.proofs.lemmas.List.{take_all}
-use Rattle.tsdl_grammar.specs.declared.tree.Number.{Number}
-use Rattle.tsdl_grammar.specs.declared.tree.MemberTree.{MemberTree}
-use Rattle.tsdl_grammar.specs.StructureMeaning.{align_of}
-use Rattle.ctf_types.specs.Members.{names_in}
-use Rattle.tsdl_grammar.specs.Spelling.{member_toks, struct_toks}
-use Rattle.tsdl_meaning.specs.Judged.{StopsAmong}
 use Rattle.tsdl_flaw.proofs.Parts.{behind_item}
-use Rattle.tsdl_meaning.proofs.JudgedParts.{handed}
+use Rattle.tsdl_meaning.specs.FlawlessStructures.{IsFlawless}
+use Rattle.tsdl_meaning.proofs.JudgedParts.{handed, err_from, ok_map}
 use Rattle.tsdl_meaning.proofs.StopsInMembers.{struct_opening, in_member, next_members, in_align}
 use Rattle.tsdl_meaning.proofs.FlawlessStructures.{AreFlawless, none_flawless, next_flawless, all_flawless}
 use Rattle.tsdl_meaning.proofs.judge.structure.judge_structure.Goals as goal
@@ -37,14 +32,14 @@ loop-tree-preserved c =
           c.in_ok-judge_member.ensures.flawless;
     }
 
-pub returns-in_err-judge_align-in-Some-clause-fault : goal.returns-in_err-judge_align-in-Some-clause-fault
-returns-in_err-judge_align-in-Some-clause-fault c =
+pub returns-clause-fault : goal.returns-clause-fault
+returns-clause-fault c =
     let s = c.args.structure.now in
-    let stop = c.in_err-judge_align-in-Some.field-0.0 in
-    handed c.from_residual-in_err-judge_align-in-Some.result stop (StopsAmong c.args.at (struct_toks s)) c.from_residual-in_err-judge_align-in-Some.ensures.1
-    (λ front behind.
+    err_from c.judge_align.result (StopsWhere IsBehindAlign c.saturating_add.result (number_toks c.in-Some.number)) (StopsAmong c.args.at (struct_toks s))
+    (λ stop h front behind.
     in_align s c.as_slice-trees.result.now c.loop-tree.tree-index c.in-Some.number front behind c.args.at c.loop-tree.next c.saturating_add.result stop c.as_slice-trees.ensures (omega arith)
-    c.in-Some.is c.loop-tree.invariant.stands c.saturating_add.ensures c.in_err-judge_align-in-Some.ensures.fault)
+    c.in-Some.is c.loop-tree.invariant.stands c.saturating_add.ensures h)
+    c.judge_align.ensures.fault
 
 pub loop-tree-init : goal.loop-tree-init
 loop-tree-init c = record {
@@ -60,9 +55,12 @@ returns-in-None-clause-flawless c =
     (subst (λ (ts : List MemberTree). AreFlawless c.args.survey.now.known c.args.rule ts c.loop-tree.members) (take_all c.loop-tree.tree-index c.as_slice-trees.result.now (omega arith)) c.loop-tree.invariant.flawless))
     (ap (λ (o : Option Number). is_some (align_of o)) c.in-None.is)
 
-pub returns-in_ok-judge_align-in-Some-clause-flawless : goal.returns-in_ok-judge_align-in-Some-clause-flawless
-returns-in_ok-judge_align-in-Some-clause-flawless c =
+pub returns-clause-flawless : goal.returns-clause-flawless
+returns-clause-flawless c =
+    ok_map c.judge_align.result (λ u. IsSome (align_of (Some c.in-Some.number))) (λ u. IsFlawless c.args.survey.now.known c.args.rule c.args.structure.now)
+    (λ u aligned.
     all_flawless c.args.survey.now.known c.args.rule c.args.structure.now c.loop-tree.members
     (rw (sym c.as_slice-trees.ensures)
     (subst (λ (ts : List MemberTree). AreFlawless c.args.survey.now.known c.args.rule ts c.loop-tree.members) (take_all c.loop-tree.tree-index c.as_slice-trees.result.now (omega arith)) c.loop-tree.invariant.flawless))
-    (ap (λ (o : Option Number). is_some (align_of o)) c.in-Some.is ∙ c.in_ok-judge_align-in-Some.ensures.aligned)
+    (ap (λ (o : Option Number). is_some (align_of o)) c.in-Some.is ∙ aligned))
+    c.judge_align.ensures.aligned

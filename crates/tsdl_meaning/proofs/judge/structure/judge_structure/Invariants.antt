@@ -1,7 +1,5 @@
 use Rattle.std.proofs.Common.{◌++◌, take}
-use Rattle.std.specs.List.{flat_map}
-use Rattle.tsdl_grammar.specs.Spelling.{member_toks}
-use Rattle.tsdl_flaw.specs.Places.{StandsBehind}
+use Rattle.tsdl_meaning.proofs.TextWords.{StandsBehind, flat_map, member_toks}
 use Rattle.tsdl_meaning.specs.MembersBefore.{AreMembers}
 use Rattle.tsdl_meaning.proofs.StopsInMembers.{struct_opening}
 use Rattle.tsdl_meaning.proofs.FlawlessStructures.{AreFlawless}

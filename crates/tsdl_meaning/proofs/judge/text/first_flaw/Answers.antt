@@ -1,5 +1,4 @@
-use Rattle.tsdl_grammar.specs.Spelling.{text_toks}
-use Rattle.tsdl_meaning.specs.PacketSizes.{LacksSizes}
+use Rattle.tsdl_meaning.proofs.TextWords.{LacksSizes, text_toks}
 use Rattle.tsdl_meaning.proofs.JudgedEnds.{text_stop, never_sizes}
 use Rattle.tsdl_meaning.proofs.judge.text.first_flaw.Goals as goal
 

@@ -1,5 +1,5 @@
 use Rattle.std.proofs.Common.{◌++◌}
-use Rattle.tsdl_grammar.specs.Spelling.{block_toks}
+use Rattle.tsdl_meaning.proofs.TextWords.{block_toks}
 use Rattle.tsdl_meaning.proofs.JudgedParts.{holds_last}
 use Rattle.tsdl_meaning.proofs.JudgedLedgers.{noted_more}
 use Rattle.tsdl_meaning.proofs.judge.text.judge_block.Goals as goal

@@ -1,15 +1,10 @@
 use Rattle.std.proofs.Common.{arith, List, [], ◌∷◌, ◌++◌, take, refl, sym, ◌∙◌, subst, append_assoc}
 use Rattle.std.proofs.lemmas.List.{append-nil, take_all}
-use Rattle.tsdl_grammar.specs.declared.atom.Atom.{Atom}
+use Rattle.tsdl_meaning.proofs.TextWords.{AreNoted, Atom, Block, StandsBehind, StopsIn, block_and_semicolon, block_toks, mark, text_toks}
 use Rattle.tsdl_grammar.specs.declared.token.Mark.TheVariants as marks
-use Rattle.tsdl_grammar.specs.declared.tree.Block.{Block}
-use Rattle.tsdl_grammar.specs.Spelling.{mark, block_toks, block_and_semicolon, text_toks}
-use Rattle.tsdl_flaw.specs.Stopping.{StopsIn}
-use Rattle.tsdl_meaning.specs.Ledgers.{AreNoted}
 use Rattle.tsdl_meaning.proofs.JudgedParts.{handed, stops_same, stops_item}
 use Rattle.tsdl_meaning.proofs.JudgedLedgers.{noted_more}
 use Rattle.tsdl_meaning.proofs.FlawlessTexts.{Text, next_block, no_blocks, sizes_missed, sizes_end}
-use Rattle.tsdl_flaw.specs.Places.{StandsBehind}
 use Rattle.tsdl_flaw.proofs.Parts.{behind_more, flat_next}
 use Rattle.tsdl_meaning.proofs.judge.text.judge_blocks.Goals as goal
 

@@ -1,8 +1,6 @@
 use Rattle.std.proofs.Common.{take}
-use Rattle.tsdl_grammar.specs.Spelling.{text_toks}
-use Rattle.tsdl_meaning.specs.Ledgers.{AreNoted}
+use Rattle.tsdl_meaning.proofs.TextWords.{AreNoted, StandsBehind, text_toks}
 use Rattle.tsdl_meaning.proofs.FlawlessTexts.{Text}
-use Rattle.tsdl_flaw.specs.Places.{StandsBehind}
 use Rattle.tsdl_meaning.proofs.judge.text.judge_blocks.Given as goal
 
 -- the blocks so far stand before the place, and the ledger is of them

@@ -1,11 +1,5 @@
 use Rattle.std.proofs.Common.{List, ◌++◌, sym, subst}
-use Rattle.std.specs.List.{flat_map}
-use Rattle.tsdl_grammar.specs.declared.atom.Atom.{Atom}
-use Rattle.tsdl_grammar.specs.declared.tree.Block.{Block}
-use Rattle.tsdl_grammar.specs.Spelling.{braced, items_toks, named_fact_toks, block_toks}
-use Rattle.tsdl_flaw.specs.Stopping.{StopsIn}
-use Rattle.tsdl_meaning.specs.Judged.{StopsWhere}
-use Rattle.tsdl_meaning.specs.Ledgers.{AreNoted}
+use Rattle.tsdl_meaning.proofs.TextWords.{AreNoted, Atom, Block, StopsIn, StopsWhere, block_toks, braced, flat_map, items_toks, named_fact_toks}
 use Rattle.tsdl_meaning.proofs.JudgedParts.{handed}
 use Rattle.tsdl_meaning.proofs.judge.text.judge_parts.Goals as goal
 

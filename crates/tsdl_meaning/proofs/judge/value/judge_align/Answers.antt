@@ -1,7 +1,5 @@
 use Rattle.std.proofs.Common.{sym, ap, ◌∙◌, arith}
-use Rattle.std.specs.Option.{is_some}
-use Rattle.tsdl_grammar.specs.Spelling.{number_toks}
-use Rattle.tsdl_meaning.specs.Judging.{IsBehindAlign}
+use Rattle.tsdl_meaning.proofs.TextWords.{IsBehindAlign, is_some, number_toks}
 use Rattle.tsdl_meaning.proofs.HandedOn.{handed_weaker}
 use Rattle.tsdl_meaning.proofs.LargeAlignments.{large_align, aligned_is}
 use Rattle.tsdl_meaning.proofs.judge.value.judge_align.Goals as goal

@@ -1,5 +1,4 @@
-use Rattle.tsdl_grammar.specs.Spelling.{value_toks}
-use Rattle.tsdl_meaning.specs.Judging.{IsBehindAlign}
+use Rattle.tsdl_meaning.proofs.TextWords.{IsBehindAlign, value_toks}
 use Rattle.tsdl_meaning.proofs.HandedOn.{handed_weaker}
 use Rattle.tsdl_meaning.proofs.judge.value.judge_align_value.Goals as goal
 

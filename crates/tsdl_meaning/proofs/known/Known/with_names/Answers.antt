@@ -1,10 +1,7 @@
 use Rattle.std.proofs.Common.{arith, true, cond, List, ℕ, ◌+◌, [], ◌∷◌, ◌++◌, take, ap, sym, subst, ◌∙◌}
-use Rattle.std.specs.Str.{bytes_eq}
-use Rattle.std.specs.String.{string_bytes}
-use Rattle.std.specs.BTreeSet.{contains_text}
+use Rattle.tsdl_meaning.proofs.TextWords.{HasNames, bytes_eq, contains_text, string_bytes}
 use Rattle.std.proofs.lemmas.List.{take_all, take_more}
 use Rattle.std.proofs.lemmas.Map.Text.{btree_set_updates_text}
-use Rattle.tsdl_meaning.specs.ClockNames.{HasNames}
 use Rattle.tsdl_meaning.proofs.ClockSets.{one_name}
 use Rattle.tsdl_meaning.proofs.known.Known.with_names.Goals as goal
 

@@ -1,8 +1,6 @@
 use Rattle.std.proofs.Common.{◌≡◌, true, refl, Bor, None, option_map, ap, sym, ◌∙◌, cond, ℕ, List, bytes_eq}
-use Rattle.std.specs.String.{string_bytes}
-use Rattle.std.specs.BTreeSet.{contains_text}
+use Rattle.tsdl_meaning.proofs.TextWords.{clock_name, contains_text, string_bytes}
 use Rattle.std.proofs.lemmas.Map.Text.{btree_set_updates_text}
-use Rattle.tsdl_flaw.specs.Twice.{clock_name}
 use Rattle.tsdl_grammar.proofs.Inversion.{some_same}
 use Rattle.tsdl_meaning.proofs.JudgedLedgers.{clock_more}
 use Rattle.tsdl_meaning.proofs.judge.ledger.Ledger.add_clock.Goals as goal

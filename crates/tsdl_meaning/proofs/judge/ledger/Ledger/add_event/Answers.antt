@@ -1,9 +1,6 @@
 use Rattle.std.proofs.Common.{◌≡◌, ℕ, List, Bor, None, option_map, refl, sym, ap, ap₂, ◌∙◌, subst}
-use Rattle.std.specs.Option.{is_some}
-use Rattle.std.specs.BTreeMap.{ContainsKey}
+use Rattle.tsdl_meaning.proofs.TextWords.{ContainsKey, clock_name, is_some, pair_cmp}
 use Rattle.tsdl_grammar.proofs.Inversion.{some_same}
-use Rattle.tsdl_flaw.specs.Twice.{clock_name}
-use Rattle.tsdl_meaning.specs.Ledgers.{pair_cmp}
 use Rattle.tsdl_meaning.proofs.JudgedLedgers.{event_more, key_stays}
 use Rattle.tsdl_meaning.proofs.judge.ledger.Ledger.add_event.Goals as goal
 

@@ -1,9 +1,5 @@
 use Rattle.std.proofs.Common.{◌≡◌, ℕ, true, sym, subst, ◌∙◌}
-use Rattle.std.specs.List.{AllByRecursion}
-use Rattle.std.specs.Ordering.{nat_cmp}
-use Rattle.std.specs.BTreeSet.{contains}
-use Rattle.std.specs.declared.string.String.{String}
-use Rattle.std.specs.declared.alloc.Global.{Global}
+use Rattle.tsdl_meaning.proofs.TextWords.{AllByRecursion, Global, String, contains, nat_cmp}
 use Rattle.tsdl_meaning.proofs.JudgedLedgers.{key_streams}
 use Rattle.tsdl_meaning.proofs.judge.ledger.Ledger.first_orphan.Goals as goal
 

@@ -1,7 +1,5 @@
 use Rattle.std.proofs.Common.{◌≡◌, true}
-use Rattle.std.specs.List.{AllByRecursion}
-use Rattle.std.specs.Ordering.{nat_cmp}
-use Rattle.std.specs.BTreeSet.{contains}
+use Rattle.tsdl_meaning.proofs.TextWords.{AllByRecursion, contains, nat_cmp}
 use Rattle.tsdl_meaning.proofs.judge.ledger.Ledger.first_orphan.Given as goal
 
 -- where the streams of the events that are left are there, those of all are

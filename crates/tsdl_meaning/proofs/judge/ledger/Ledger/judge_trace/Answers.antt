@@ -1,5 +1,5 @@
 use Rattle.std.proofs.Common.{refl, inl, inr, codes}
-use Rattle.tsdl_grammar.specs.Spelling.{word}
+use Rattle.tsdl_meaning.proofs.TextWords.{word}
 use Rattle.tsdl_meaning.proofs.judge.ledger.Ledger.judge_trace.Goals as goal
 
 pub returns-then-self-clause-fault : goal.returns-then-self-clause-fault
