@@ -15,22 +15,11 @@ use Rattle.ctf_types.specs.Values.{datum_of, data_of}
 use Rattle.trace_text.specs.PrintedTexts.{listed, behind_comma, comma_before}
 use Rattle.trace_text.specs.PrintedValues.{value_text, texts_of, member_text, member_texts, structure_text}
 
-got_next : {A : Type 0} (f : A → List ℕ) (xs : List A) (i : ℕ) → flat_map f (take i xs) ++ option_map_or f (slice_get xs i) [] ≡ flat_map f (take (suc i) xs)
-got_next f [] zero = refl
-got_next f [] (suc i) = refl
-got_next f (x ∷ xs) zero = sym (append-nil (f x))
-got_next f (x ∷ xs) (suc i) =
-    append_assoc (f x) (flat_map f (take i xs)) (option_map_or f (slice_get xs i) []) ∙ ap (λ (w : List ℕ). f x ++ w) (got_next f xs i)
-
--- one more item, where there is one
-pub got_more : {A : Type 0} (f : A → List ℕ) (xs : List A) (i : ℕ) → flat_map f (take i xs) ++ option_map_or f (slice_get xs i) [] ≡ flat_map f (take (i + 1) xs)
-got_more f xs i = got_next f xs i ∙ ap (λ (k : ℕ). flat_map f (take k xs)) (sym (add-one i))
-
--- one more byte
-pub byte_more : (f : ℕ → List ℕ) (xs : List ℕ) (i : ℕ) → i < length xs → flat_map f (take i xs) ++ f (get_or xs i 0) ≡ flat_map f (take (i + 1) xs)
-byte_more f xs i h =
-    sym (ap (flat_map f) (take_more xs i 0 h) ∙ flat_map-append f (take i xs) (get_or xs i 0 ∷ [])
-    ∙ ap (λ (w : List ℕ). flat_map f (take i xs) ++ w) (append-nil (f (get_or xs i 0))))
+-- one more item
+pub item_more : {A : Type 0} (f : A → List ℕ) (xs : List A) (i : ℕ) (d : A) → i < length xs → flat_map f (take i xs) ++ f (get_or xs i d) ≡ flat_map f (take (i + 1) xs)
+item_more f xs i d h =
+    sym (ap (flat_map f) (take_more xs i d h) ∙ flat_map-append f (take i xs) (get_or xs i d ∷ [])
+    ∙ ap (λ (w : List ℕ). flat_map f (take i xs) ++ w) (append-nil (f (get_or xs i d))))
 
 -- all of the items
 pub each_all : {A : Type 0} (f : A → List ℕ) (xs : List A) (i : ℕ) → length xs ≤ i → flat_map f (take i xs) ≡ flat_map f xs

@@ -1,6 +1,5 @@
 pub mod ClosedFiles
 pub mod FileCounts
-pub mod HeadOrder
 pub mod Names
 pub mod OpenFiles
 pub mod PrintedFromReaders

@@ -4,9 +4,8 @@ use Rattle.std.specs.List.{AllZip, flat_map}
 use Rattle.std.specs.Option.{option_map_or}
 use Rattle.std.specs.Ordering.{is_lt}
 use Rattle.clock_merge.specs.declared.place.Place.{Place}
-use Rattle.trace_text.specs.HeadOrder.{head_order}
 use Rattle.clock_merge.specs.MergedFronts.{Heads, IsMergedFront}
-use Rattle.clock_merge.specs.MergedOrder.{IsMerged}
+use Rattle.clock_merge.specs.MergedOrder.{IsMerged, record_order}
 use Rattle.ctf_types.specs.declared.Metadata.{Metadata}
 use Rattle.ctf_types.specs.declared.ReadPacket.{ReadPacket}
 use Rattle.packet_reader.specs.declared.packet_fault.StreamEnding.{StreamEnding}
@@ -141,6 +140,10 @@ pub record GoOn {R : Type 0} (m : Metadata) (sources : ℕ → Source) (ks : Pac
 
 -- ---- which is next
 
+-- the head of the one file stands before that of the other in the merged order of all streams: what is in hand of the two says it
+abbrev pub is_before : {R : Type 0} → OpenFile R → OpenFile R → Bool
+is_before one other = is_lt (record_order (Some one.stream) one.head (Some other.stream) other.head)
+
 -- of the first n files the one whose head is told first: no other head stands before it. The place behind it is a number of 64 bits
 pub record IsFirst {R : Type 0} (files : List (OpenFile R)) (n i : ℕ) : Type 0 where
   pub within : i < n
@@ -149,7 +152,7 @@ pub record IsFirst {R : Type 0} (files : List (OpenFile R)) (n i : ℕ) : Type 0
   pub has : has_head file.stream file.head ≡ true
   pub room : file.head.at + 1 < 2 ^ 64
   pub none_before : (j : ℕ) (other : OpenFile R) → j < n → j ≢ i → slice_get files j ≡ Some other → has_head other.stream other.head ≡ true
-      → is_lt (head_order other.stream other.head file.stream file.head) ≡ false
+      → is_before other file ≡ false
 
 abbrev pub IsFirstOf : {R : Type 0} → List (OpenFile R) → ℕ → Option ℕ → Type 0
 IsFirstOf {R} files n None = (j : ℕ) (other : OpenFile R) → j < n → slice_get files j ≡ Some other → has_head other.stream other.head ≡ false

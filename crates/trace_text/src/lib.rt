@@ -2,7 +2,6 @@
 #![tactic(auto)]
 
 mod file_counts;
-mod head_order;
 mod names;
 mod next_step;
 mod open_file;

@@ -1,8 +1,8 @@
 //! Why a trace is not printed to its end while it is read.
 
-ghost use Rattle.std.specs.Prelude.{◌≡◌, ℕ, ◌<◌};
+ghost use Rattle.std.specs.Prelude.{◌≡◌};
 ghost use Rattle.trace_text.specs.declared.reading_fault.ReadingFault.TheVariants.{OutOfMemory};
-ghost use Rattle.trace_text.specs.ReadingFaults.{ReadingFaultHolds, of_print_fault};
+ghost use Rattle.trace_text.specs.ReadingFaults.{of_print_fault, of_stop};
 
 use crate::printing_fault::PrintFault;
 use packet_reader::ReadStop;
@@ -26,7 +26,7 @@ pub enum ReadingFault {
 
 /// What stopped the reader at this place of the list.
 pub(crate) fn stop_at(place: usize, stop: ReadStop) -> ReadingFault
-    ensures { (readers : ℕ) → place < readers → ReadingFaultHolds readers result }
+    ensures { result ≡ of_stop place stop }
 {
     match stop {
         ReadStop::ReaderFault | ReadStop::TooManyReads => ReadingFault::Reader(place, stop),

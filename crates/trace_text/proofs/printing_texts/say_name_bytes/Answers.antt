@@ -1,5 +1,5 @@
 use Rattle.trace_text.specs.PrintedTexts.{name_byte}
-use Rattle.trace_text.proofs.Listing.{byte_more, each_all}
+use Rattle.trace_text.proofs.Listing.{item_more, each_all}
 use Rattle.trace_text.proofs.Saying.{nothing, more, said}
 use Rattle.trace_text.proofs.printing_texts.say_name_bytes.Goals as goal
 
@@ -7,7 +7,7 @@ pub loop-b-init : goal.loop-b-init
 loop-b-init g c = nothing _ _
 
 pub loop-b-preserved : goal.loop-b-preserved
-loop-b-preserved g c = said _ (byte_more name_byte c.args.name.now c.loop-b.b-index c.loop-b-test.true) (more c.loop-b.invariant c.say_name_byte.ensures)
+loop-b-preserved g c = said _ (item_more name_byte c.args.name.now c.loop-b.b-index 0 c.loop-b-test.true) (more c.loop-b.invariant c.say_name_byte.ensures)
 
 pub returns : goal.returns
 returns g c = said _ (each_all name_byte c.args.name.now c.loop-b.b-index c.loop-b-test.false) c.loop-b.invariant
