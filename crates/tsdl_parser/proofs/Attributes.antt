@@ -1,6 +1,5 @@
 -- Names, values and attributes are read as they are spelled. A name goes on for as long as dots follow.
 use Rattle.std.proofs.Common.{◌≡◌, ℕ, false, List, [], ◌∷◌, ◌++◌, length, Option, Some, None, refl, ap, ◌∙◌, append_assoc, arith}
-use Rattle.std.specs.List.{flat_map}
 use Rattle.tsdl_grammar.specs.declared.token.Mark.TheVariants as marks
 use Rattle.tsdl_grammar.specs.declared.atom.Atom.{Atom}
 use Rattle.tsdl_grammar.specs.declared.atom.Atom.TheVariants as atoms
@@ -11,15 +10,11 @@ use Rattle.tsdl_grammar.specs.declared.tree.Value.{Value}
 use Rattle.tsdl_grammar.specs.declared.tree.Value.TheVariants as values
 use Rattle.tsdl_grammar.specs.declared.tree.Attribute.{Attribute}
 use Rattle.tsdl_grammar.specs.Spelling.{mark, word, number_toks, dotted, name_toks, value_toks, attr_toks, attrs_toks}
-use Rattle.tsdl_parser.specs.Parsing.{begins, mark_at, word_at, signed_at, number_at, is_open}
-use Rattle.tsdl_parser.specs.ParsingAttributes.{dotted_at, all_dotted_at, name_at, value_at, attr_behind, attr_at, all_attrs_at, attrs_at}
+use Rattle.tsdl_parser.specs.Parsing.{begins, mark_at, word_at, signed_at, number_at, is_open, Shortens}
+use Rattle.tsdl_parser.specs.ParsingAttributes.{dotted_at, all_dotted_at, name_at, value_at, attr_behind, attr_at, attrs_at}
 use Rattle.tsdl_parser.proofs.Steps.{along, first_of_two}
 use Rattle.tsdl_parser.proofs.Words.{mark_takes, word_takes, number_takes}
-use Rattle.tsdl_parser.proofs.Repeated.{Spells, Shortens, shortens, many_take, many_again}
-
--- no condition on what follows
-abbrev pub Anything : List Atom → Type 0
-Anything ts = Unit {0}
+use Rattle.tsdl_parser.proofs.Repeated.{Spells, Anything, shortens, many_take, many_again, braced_take, braced_again}
 
 -- ---- names
 
@@ -142,19 +137,7 @@ attr_short = shortens is_open attr_at attr_toks Anything attr_spells
 -- ---- attributes in braces
 
 pub attrs_take : (ts : List Atom) (x : List Attribute × List Atom) → attrs_at ts ≡ Some x → ts ≡ attrs_toks x.0 ++ x.1
-unfolding attrs_at
-attrs_take ts x e =
-    let a = first_of_two (mark_at marks.OpenBrace ts) _ x e in
-    let b = first_of_two (all_attrs_at a.0) _ x a.2 in
-    let c = first_of_two (mark_at marks.CloseBrace b.0.1) _ x b.2 in
-    let e1 = mark_takes marks.OpenBrace ts a.0 a.1 in
-    let e2 = (many_take is_open attr_at attr_toks Anything attr_spells (length a.0) a.0 b.0 b.1).0 in
-    let e3 = mark_takes marks.CloseBrace b.0.1 c.0 c.1 in
-    along (λ (y : List Attribute × List Atom). ts ≡ attrs_toks y.0 ++ y.1) (b.0.0, c.0) x c.2
-    (e1 ∙ ap (λ (us : List Atom). mark marks.OpenBrace ∷ us) (e2 ∙ ap (λ (us : List Atom). flat_map attr_toks b.0.0 ++ us) e3) ∙ simp append_assoc)
+attrs_take = braced_take attr_at attr_toks attr_spells
 
 pub attrs_again : (attrs : List Attribute) (rest : List Atom) → attrs_at (attrs_toks attrs ++ rest) ≡ Some (attrs, rest)
-unfolding attrs_at mark_at begins
-attrs_again attrs rest =
-    let regrouped : (flat_map attr_toks attrs ++ mark marks.CloseBrace ∷ []) ++ rest ≡ flat_map attr_toks attrs ++ (mark marks.CloseBrace ∷ rest) = append_assoc (flat_map attr_toks attrs) (mark marks.CloseBrace ∷ []) rest in
-    rw (regrouped, many_again is_open attr_at attr_toks Anything attr_spells attrs (mark marks.CloseBrace ∷ rest) refl tt) refl
+attrs_again = braced_again attr_at attr_toks attr_spells

@@ -1,6 +1,5 @@
 -- Blocks, and what stands in them, are read as they are spelled, so a list of atoms spells at most one list of blocks.
 use Rattle.std.proofs.Common.{◌≡◌, ℕ, ◌<◌, true, false, List, [], ◌∷◌, ◌++◌, length, Option, Some, None, codes, refl, sym, ap, ◌∙◌, append_assoc, arith, inl, inr}
-use Rattle.std.specs.List.{flat_map}
 use Rattle.std.proofs.lemmas.List.{append-nil, length-append}
 use Rattle.tsdl_grammar.specs.declared.token.Mark.TheVariants as marks
 use Rattle.tsdl_grammar.specs.declared.atom.Atom.{Atom}
@@ -16,18 +15,18 @@ use Rattle.tsdl_grammar.specs.declared.tree.Fact.TheVariants as facts
 use Rattle.tsdl_grammar.specs.declared.tree.NamedFact.{NamedFact}
 use Rattle.tsdl_grammar.specs.declared.tree.Block.{Block}
 use Rattle.tsdl_grammar.specs.declared.tree.Block.TheVariants as blocks
-use Rattle.tsdl_grammar.specs.Spelling.{mark, word, number_toks, braced, name_toks, struct_toks, scope_toks, item_toks, items_toks, fact_toks, named_fact_toks, block_toks, block_and_semicolon, text_toks}
+use Rattle.tsdl_grammar.specs.Spelling.{mark, word, number_toks, name_toks, struct_toks, scope_toks, item_toks, items_toks, fact_toks, named_fact_toks, block_toks, block_and_semicolon, text_toks}
 use Rattle.tsdl_parser.specs.declared.halt.Unread.{Unread}
 use Rattle.tsdl_parser.specs.declared.halt.Unread.TheVariants as unread
 use Rattle.tsdl_parser.specs.Halting.{IfHalted}
-use Rattle.tsdl_parser.specs.Parsing.{Fails, begins, mark_at, word_at, names, keyword_at, signed_at, number_at, is_open}
+use Rattle.tsdl_parser.specs.Parsing.{Fails, begins, mark_at, word_at, names, keyword_at, signed_at, number_at, is_open, braced_at, Shortens}
 use Rattle.tsdl_parser.specs.ParsingAttributes.{name_at, attr_behind}
 use Rattle.tsdl_parser.specs.ParsingMembers.{struct_at}
-use Rattle.tsdl_parser.specs.ParsingBlocks.{scope_behind, item_at, all_items_at, items_at, fact_at, named_fact_at, all_facts_at, environment_at, block_at, ended_block_at, has_more, all_blocks_at}
+use Rattle.tsdl_parser.specs.ParsingBlocks.{scope_behind, item_at, items_at, fact_at, named_fact_at, environment_at, block_at, ended_block_at, has_more, all_blocks_at}
 use Rattle.tsdl_parser.proofs.Steps.{along, first_of_two, chosen, splice, some_is}
 use Rattle.tsdl_parser.proofs.Words.{mark_takes, word_takes, keyword_takes, number_takes}
-use Rattle.tsdl_parser.proofs.Repeated.{Spells, Shortens, shortens, many_take, many_again}
-use Rattle.tsdl_parser.proofs.Attributes.{Anything, name_takes, name_again, behind_takes, value_part, attr_parts, behind_again}
+use Rattle.tsdl_parser.proofs.Repeated.{Spells, Anything, shortens, many_take, many_again, braced_take, braced_again}
+use Rattle.tsdl_parser.proofs.Attributes.{name_takes, name_again, behind_takes, value_part, attr_parts, behind_again}
 use Rattle.tsdl_parser.proofs.Members.{struct_takes, struct_again}
 
 -- ---- scopes and items
@@ -158,44 +157,24 @@ fact_short = shortens is_open named_fact_at named_fact_toks Anything fact_spells
 
 -- ---- blocks
 
-inner_parts : (inner rest : List Atom) → (inner ++ mark marks.CloseBrace ∷ []) ++ rest ≡ inner ++ (mark marks.CloseBrace ∷ rest)
-inner_parts inner rest = append_assoc inner (mark marks.CloseBrace ∷ []) rest
-
-braced_parts : (inner rest : List Atom) → mark marks.OpenBrace ∷ (inner ++ (mark marks.CloseBrace ∷ rest)) ≡ braced inner ++ rest
-braced_parts inner rest = ap (λ (us : List Atom). mark marks.OpenBrace ∷ us) (sym (inner_parts inner rest))
-
 items_take : (keyword : List ℕ) (ts : List Atom) (x : List Item × List Atom) → items_at keyword ts ≡ Some x → ts ≡ word keyword ∷ (items_toks x.0 ++ x.1)
 unfolding items_at
 items_take keyword ts x e =
     let a = first_of_two (keyword_at keyword ts) _ x e in
-    let b = first_of_two (mark_at marks.OpenBrace a.0) _ x a.2 in
-    let c = first_of_two (all_items_at b.0) _ x b.2 in
-    let d = first_of_two (mark_at marks.CloseBrace c.0.1) _ x c.2 in
-    let e1 = keyword_takes keyword ts a.0 a.1 in
-    let e2 = mark_takes marks.OpenBrace a.0 b.0 b.1 in
-    let e3 = (many_take is_open item_at item_toks Anything item_spells (length b.0) b.0 c.0 c.1).0 in
-    let e4 = mark_takes marks.CloseBrace c.0.1 d.0 d.1 in
-    along (λ (y : List Item × List Atom). ts ≡ word keyword ∷ (items_toks y.0 ++ y.1)) (c.0.0, d.0) x d.2
-    (e1 ∙ ap (λ (us : List Atom). word keyword ∷ us) (e2 ∙ ap (λ (us : List Atom). mark marks.OpenBrace ∷ us) (e3 ∙ ap (λ (us : List Atom). flat_map item_toks c.0.0 ++ us) e4) ∙ braced_parts (flat_map item_toks c.0.0) d.0))
+    keyword_takes keyword ts a.0 a.1 ∙ ap (λ (us : List Atom). word keyword ∷ us) (braced_take item_at item_toks item_spells a.0 x a.2)
 
 items_again : (keyword : List ℕ) (is : List Item) (ts rest : List Atom) → keyword_at keyword ts ≡ Some (items_toks is ++ rest) → items_at keyword ts ≡ Some (is, rest)
-unfolding items_at mark_at begins
-items_again keyword is ts rest e =
-    rw (e, inner_parts (flat_map item_toks is) rest, many_again is_open item_at item_toks Anything item_spells is (mark marks.CloseBrace ∷ rest) refl tt) refl
+unfolding items_at
+items_again keyword is ts rest e = rw e (braced_again item_at item_toks item_spells is rest)
 
 environment_takes : (ts : List Atom) (x : Block × List Atom) → environment_at ts ≡ Some x → ts ≡ block_toks x.0 ++ x.1
 unfolding environment_at
 environment_takes ts x e =
     let a = first_of_two (keyword_at (codes "env") ts) _ x e in
-    let b = first_of_two (mark_at marks.OpenBrace a.0) _ x a.2 in
-    let c = first_of_two (all_facts_at b.0) _ x b.2 in
-    let d = first_of_two (mark_at marks.CloseBrace c.0.1) _ x c.2 in
+    let b = first_of_two (braced_at named_fact_at a.0) _ x a.2 in
     let e1 = keyword_takes (codes "env") ts a.0 a.1 in
-    let e2 = mark_takes marks.OpenBrace a.0 b.0 b.1 in
-    let e3 = (many_take is_open named_fact_at named_fact_toks Anything fact_spells (length b.0) b.0 c.0 c.1).0 in
-    let e4 = mark_takes marks.CloseBrace c.0.1 d.0 d.1 in
-    along (λ (y : Block × List Atom). ts ≡ block_toks y.0 ++ y.1) (blocks.Environment c.0.0, d.0) x d.2
-    (e1 ∙ ap (λ (us : List Atom). word (codes "env") ∷ us) (e2 ∙ ap (λ (us : List Atom). mark marks.OpenBrace ∷ us) (e3 ∙ ap (λ (us : List Atom). flat_map named_fact_toks c.0.0 ++ us) e4) ∙ braced_parts (flat_map named_fact_toks c.0.0) d.0))
+    let e2 = braced_take named_fact_at named_fact_toks fact_spells a.0 b.0 b.1 in
+    along (λ (y : Block × List Atom). ts ≡ block_toks y.0 ++ y.1) (blocks.Environment b.0.0, b.0.1) x b.2 (e1 ∙ ap (λ (us : List Atom). word (codes "env") ∷ us) e2)
 
 block_takes : (ts : List Atom) (x : Block × List Atom) → block_at ts ≡ Some x → ts ≡ block_toks x.0 ++ x.1
 unfolding block_at
@@ -223,9 +202,8 @@ block_takes ts x e =
     ]
 
 environment_again : (fs : List NamedFact) (rest : List Atom) → environment_at (block_toks (blocks.Environment fs) ++ rest) ≡ Some (blocks.Environment fs, rest)
-unfolding environment_at keyword_at mark_at begins
-environment_again fs rest =
-    rw (inner_parts (flat_map named_fact_toks fs) rest, many_again is_open named_fact_at named_fact_toks Anything fact_spells fs (mark marks.CloseBrace ∷ rest) refl tt) refl
+unfolding environment_at keyword_at
+environment_again fs rest = rw (braced_again named_fact_at named_fact_toks fact_spells fs rest) refl
 
 block_again : (b : Block) (rest : List Atom) → block_at (block_toks b ++ rest) ≡ Some (b, rest)
 unfolding block_at names keyword_at

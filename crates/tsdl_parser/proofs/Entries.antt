@@ -14,11 +14,11 @@ use Rattle.tsdl_grammar.specs.declared.tree.Closing.TheVariants as closings
 use Rattle.tsdl_grammar.specs.declared.tree.Entries.{Entries}
 use Rattle.tsdl_grammar.specs.declared.tree.Entries.TheVariants as entries
 use Rattle.tsdl_grammar.specs.Spelling.{mark, word, number_toks, label_toks, high_toks, entry_toks, next_entry_toks, closing_toks, entries_toks}
-use Rattle.tsdl_parser.specs.Parsing.{begins, mark_at, number_at}
+use Rattle.tsdl_parser.specs.Parsing.{begins, mark_at, number_at, Shortens}
 use Rattle.tsdl_parser.specs.ParsingEntries.{label_at, high_at, entry_at, is_labelled, is_next, next_entry_at, all_next_at, closing_at, listed_at, entries_at}
 use Rattle.tsdl_parser.proofs.Steps.{along, first_of_two, chosen, splice}
 use Rattle.tsdl_parser.proofs.Words.{mark_takes, number_takes, number_again}
-use Rattle.tsdl_parser.proofs.Repeated.{Spells, Shortens, shortens, all_end, many_take, many_again}
+use Rattle.tsdl_parser.proofs.Repeated.{Spells, shortens, all_end, many_take, many_again}
 
 -- ---- labels
 

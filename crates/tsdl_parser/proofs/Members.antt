@@ -17,15 +17,15 @@ use Rattle.tsdl_grammar.specs.declared.tree.Bracket.{Bracket}
 use Rattle.tsdl_grammar.specs.declared.tree.Bracket.TheVariants as brackets
 use Rattle.tsdl_grammar.specs.declared.tree.MemberTree.{MemberTree}
 use Rattle.tsdl_grammar.specs.declared.tree.Structure.{Structure}
-use Rattle.tsdl_grammar.specs.Spelling.{mark, word, number_toks, int_toks, entries_toks, kind_toks, bracket_toks, member_toks, align_toks, struct_toks}
-use Rattle.tsdl_parser.specs.Parsing.{begins, mark_at, word_at, names, keyword_at, signed_at, number_at, is_open}
+use Rattle.tsdl_grammar.specs.Spelling.{mark, word, number_toks, braced, int_toks, entries_toks, kind_toks, bracket_toks, member_toks, align_toks, struct_toks}
+use Rattle.tsdl_parser.specs.Parsing.{begins, mark_at, word_at, names, keyword_at, signed_at, number_at, is_open, braced_at, Shortens}
 use Rattle.tsdl_parser.specs.ParsingAttributes.{attrs_at}
 use Rattle.tsdl_parser.specs.ParsingEntries.{entries_at}
-use Rattle.tsdl_parser.specs.ParsingMembers.{int_at, enum_at, string_at, kind_at, count_at, bracket_at, all_brackets_at, member_at, all_members_at, align_at, struct_at}
+use Rattle.tsdl_parser.specs.ParsingMembers.{int_at, enum_at, string_at, kind_at, count_at, bracket_at, all_brackets_at, member_at, align_at, struct_at}
 use Rattle.tsdl_parser.proofs.Steps.{along, first_of_two, chosen, splice, splice_last}
 use Rattle.tsdl_parser.proofs.Words.{mark_takes, word_takes, keyword_takes, number_takes, number_again}
-use Rattle.tsdl_parser.proofs.Repeated.{Spells, Shortens, shortens, many_take, many_again}
-use Rattle.tsdl_parser.proofs.Attributes.{Anything, attrs_take, attrs_again}
+use Rattle.tsdl_parser.proofs.Repeated.{Spells, Anything, shortens, many_take, many_again, braced_take, braced_again}
+use Rattle.tsdl_parser.proofs.Attributes.{attrs_take, attrs_again}
 use Rattle.tsdl_parser.proofs.Entries.{entries_take, entries_again}
 
 -- ---- types
@@ -253,33 +253,24 @@ unfolding align_at names keyword_at mark_at
 align_again None rest end = rw end refl
 align_again (Some n) rest end = ap align_at (sym (align_parts n rest)) ∙ rw (number_again n (mark marks.CloseParenthesis ∷ rest)) refl
 
-struct_parts : (s : Structure) (rest : List Atom)
-    → word (codes "struct") ∷ (mark marks.OpenBrace ∷ (flat_map member_toks s.members ++ (mark marks.CloseBrace ∷ (align_toks s.align ++ rest)))) ≡ struct_toks s ++ rest
-struct_parts s rest = simp append_assoc
+struct_parts : (s : Structure) (rest : List Atom) → word (codes "struct") ∷ (braced (flat_map member_toks s.members) ++ (align_toks s.align ++ rest)) ≡ struct_toks s ++ rest
+struct_parts s rest = ap (λ (us : List Atom). word (codes "struct") ∷ us) (sym (append_assoc (braced (flat_map member_toks s.members)) (align_toks s.align) rest))
 
 pub struct_takes : (ts : List Atom) (x : Structure × List Atom) → struct_at ts ≡ Some x → ts ≡ struct_toks x.0 ++ x.1
 unfolding struct_at
 struct_takes ts x e =
     let a = first_of_two (keyword_at (codes "struct") ts) _ x e in
-    let b = first_of_two (mark_at marks.OpenBrace a.0) _ x a.2 in
-    let c = first_of_two (all_members_at b.0) _ x b.2 in
-    let d = first_of_two (mark_at marks.CloseBrace c.0.1) _ x c.2 in
-    let f = first_of_two (align_at d.0) _ x d.2 in
+    let b = first_of_two (braced_at member_at a.0) _ x a.2 in
+    let c = first_of_two (align_at b.0.1) _ x b.2 in
     let e1 = keyword_takes (codes "struct") ts a.0 a.1 in
-    let e2 = mark_takes marks.OpenBrace a.0 b.0 b.1 in
-    let e3 = (many_take is_open member_at member_toks Anything member_spells (length b.0) b.0 c.0 c.1).0 in
-    let e4 = mark_takes marks.CloseBrace c.0.1 d.0 d.1 in
-    let e5 = align_takes d.0 f.0 f.1 in
-    let inside = e3 ∙ ap (λ (us : List Atom). flat_map member_toks c.0.0 ++ us) (e4 ∙ ap (λ (us : List Atom). mark marks.CloseBrace ∷ us) e5) in
-    along (λ (y : Structure × List Atom). ts ≡ struct_toks y.0 ++ y.1) (record { members = c.0.0; align = f.0.0 }, f.0.1) x f.2
-    (e1 ∙ ap (λ (us : List Atom). word (codes "struct") ∷ us) (e2 ∙ ap (λ (us : List Atom). mark marks.OpenBrace ∷ us) inside)
-    ∙ struct_parts (record { members = c.0.0; align = f.0.0 }) f.0.1)
+    let e2 = braced_take member_at member_toks member_spells a.0 b.0 b.1 in
+    let e3 = align_takes b.0.1 c.0 c.1 in
+    along (λ (y : Structure × List Atom). ts ≡ struct_toks y.0 ++ y.1) (record { members = b.0.0; align = c.0.0 }, c.0.1) x c.2
+    (e1 ∙ ap (λ (us : List Atom). word (codes "struct") ∷ us) (e2 ∙ ap (λ (us : List Atom). braced (flat_map member_toks b.0.0) ++ us) e3)
+    ∙ struct_parts (record { members = b.0.0; align = c.0.0 }) c.0.1)
 
 pub struct_again : (s : Structure) (rest : List Atom) → names (codes "align") rest ≡ false → struct_at (struct_toks s ++ rest) ≡ Some (s, rest)
-unfolding struct_at keyword_at mark_at begins
+unfolding struct_at keyword_at
 struct_again s rest end =
     ap struct_at (sym (struct_parts s rest))
-    ∙ rw (
-      many_again is_open member_at member_toks Anything member_spells s.members (mark marks.CloseBrace ∷ (align_toks s.align ++ rest)) refl tt,
-      align_again s.align rest end,
-    ) refl
+    ∙ rw (braced_again member_at member_toks member_spells s.members (align_toks s.align ++ rest), align_again s.align rest end) refl

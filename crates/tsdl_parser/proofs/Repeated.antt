@@ -5,11 +5,14 @@ use Rattle.std.specs.List.{flat_map}
 use Rattle.std.proofs.lemmas.List.{append-nil, length-append}
 use Rattle.std.proofs.lemmas.List.Concat.{flat_map-cons}
 use Rattle.tsdl_grammar.specs.declared.atom.Atom.{Atom}
+use Rattle.tsdl_grammar.specs.declared.token.Mark.TheVariants as marks
+use Rattle.tsdl_grammar.specs.Spelling.{mark, braced}
 use Rattle.tsdl_grammar.specs.Steps.{◌>>=◌}
 use Rattle.tsdl_parser.specs.declared.halt.Unread.{Unread}
 use Rattle.tsdl_parser.specs.declared.halt.Unread.TheVariants as unread
-use Rattle.tsdl_parser.specs.Parsing.{Fails, many_at, many}
+use Rattle.tsdl_parser.specs.Parsing.{Fails, begins, mark_at, is_open, many_at, many, braced_at, Shortens}
 use Rattle.tsdl_parser.proofs.Steps.{along, first_of_two, chosen, same_steps}
+use Rattle.tsdl_parser.proofs.Words.{mark_takes}
 
 -- an item is read as it is spelled: what is taken was spelled, and what was spelled is taken again, where the atoms
 -- behind it end it
@@ -20,9 +23,9 @@ pub record Spells (A : Type 0) (starts : List Atom → Bool) (item : List Atom �
   pub opens : (x : A) (rest : List Atom) → starts (spelled x ++ rest) ≡ true
   pub ends : (x : A) (rest : List Atom) → Ends (spelled x ++ rest)
 
--- an item takes atoms away
-abbrev pub Shortens : (A : Type 0) → (List Atom → Option (A × List Atom)) → Type 0
-Shortens A item = (ts : List Atom) (x : A × List Atom) → item ts ≡ Some x → length x.1 < length ts
+-- no condition on what follows
+abbrev pub Anything : List Atom → Type 0
+Anything ts = Unit {0}
 
 pub shortens : {A : Type 0} (starts : List Atom → Bool) (item : List Atom → Option (A × List Atom)) (spelled : A → List Atom) (Ends : List Atom → Type 0) → Spells A starts item spelled Ends → Shortens A item
 shortens starts item spelled Ends s ts x e = omega (arith, s.some x.0, ap length (s.takes ts x e), length-append (spelled x.0) x.1)
@@ -130,3 +133,26 @@ pub many_again : {A : Type 0} (starts : List Atom → Bool) (item : List Atom �
     → (xs : List A) (rest : List Atom) → starts rest ≡ false → Ends rest → many starts item (flat_map spelled xs ++ rest) ≡ Some (xs, rest)
 many_again starts item spelled Ends s xs rest stop end =
     again_at starts item spelled Ends s xs rest (length (flat_map spelled xs ++ rest)) (omega (arith, length-append (flat_map spelled xs) rest)) stop end
+
+-- ---- items in braces
+
+pub braced_parts : (inner rest : List Atom) → braced inner ++ rest ≡ mark marks.OpenBrace ∷ (inner ++ (mark marks.CloseBrace ∷ rest))
+braced_parts inner rest = ap (λ (us : List Atom). mark marks.OpenBrace ∷ us) (append_assoc inner (mark marks.CloseBrace ∷ []) rest)
+
+pub braced_take : {A : Type 0} (item : List Atom → Option (A × List Atom)) (spelled : A → List Atom) → Spells A is_open item spelled Anything
+    → (ts : List Atom) (x : List A × List Atom) → braced_at item ts ≡ Some x → ts ≡ braced (flat_map spelled x.0) ++ x.1
+unfolding braced_at
+braced_take {A} item spelled s ts x e =
+    let a = first_of_two (mark_at marks.OpenBrace ts) _ x e in
+    let b = first_of_two (many is_open item a.0) _ x a.2 in
+    let c = first_of_two (mark_at marks.CloseBrace b.0.1) _ x b.2 in
+    let e1 = mark_takes marks.OpenBrace ts a.0 a.1 in
+    let e2 = (many_take is_open item spelled Anything s (length a.0) a.0 b.0 b.1).0 in
+    let e3 = mark_takes marks.CloseBrace b.0.1 c.0 c.1 in
+    along (λ (y : List A × List Atom). ts ≡ braced (flat_map spelled y.0) ++ y.1) (b.0.0, c.0) x c.2
+    (e1 ∙ ap (λ (us : List Atom). mark marks.OpenBrace ∷ us) (e2 ∙ ap (λ (us : List Atom). flat_map spelled b.0.0 ++ us) e3) ∙ sym (braced_parts (flat_map spelled b.0.0) c.0))
+
+pub braced_again : {A : Type 0} (item : List Atom → Option (A × List Atom)) (spelled : A → List Atom) → Spells A is_open item spelled Anything
+    → (xs : List A) (rest : List Atom) → braced_at item (braced (flat_map spelled xs) ++ rest) ≡ Some (xs, rest)
+unfolding braced_at mark_at begins
+braced_again item spelled s xs rest = ap (braced_at item) (braced_parts (flat_map spelled xs) rest) ∙ rw (many_again is_open item spelled Anything s xs (mark marks.CloseBrace ∷ rest) refl tt) refl

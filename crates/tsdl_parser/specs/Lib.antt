@@ -5,3 +5,4 @@ pub mod ParsingAttributes
 pub mod ParsingEntries
 pub mod ParsingMembers
 pub mod ParsingBlocks
+pub mod Repetition

@@ -1,6 +1,6 @@
 -- What stands at the front of a list of atoms, with the atoms behind it: the marks, words, numbers and repetitions that
 -- the rules of the grammar are made of (CTF 1.8.3, appendix C). A rule that doesn't fit has no case.
-use Rattle.std.specs.Prelude.{◌≡◌, ℕ, zero, suc, Bool, false, not, ◌==◌, if◌then◌else◌, List, [], ◌∷◌, length, Option, Some, None, Result, Ok, Err, bytes_eq}
+use Rattle.std.specs.Prelude.{◌≡◌, ℕ, zero, suc, ◌<◌, Bool, false, not, ◌==◌, if◌then◌else◌, List, [], ◌∷◌, length, Option, Some, None, Result, Ok, Err, bytes_eq}
 use Rattle.tsdl_grammar.specs.declared.token.Mark.{Mark}
 use Rattle.tsdl_grammar.specs.declared.token.Mark.TheVariants as marks
 use Rattle.tsdl_grammar.specs.declared.atom.Atom.{Atom}
@@ -106,3 +106,15 @@ is_open ts = not (begins marks.CloseBrace ts)
 -- items one after the other, for as long as another one starts: no more of them than there are atoms
 abbrev pub many : {A : Type 0} → (List Atom → Bool) → (List Atom → Option (A × List Atom)) → List Atom → Option (List A × List Atom)
 many starts item ts = many_at starts item (length ts) ts
+
+-- "{" { item } "}"
+unfoldable pub braced_at : {A : Type 0} → (List Atom → Option (A × List Atom)) → List Atom → Option (List A × List Atom)
+braced_at item ts = do
+  inside ← mark_at marks.OpenBrace ts
+  items ← many is_open item inside
+  rest ← mark_at marks.CloseBrace items.1
+  Some (items.0, rest)
+
+-- an item takes atoms away
+abbrev pub Shortens : (A : Type 0) → (List Atom → Option (A × List Atom)) → Type 0
+Shortens A item = (ts : List Atom) (x : A × List Atom) → item ts ≡ Some x → length x.1 < length ts

@@ -8,7 +8,7 @@ use Rattle.tsdl_grammar.specs.declared.tree.Value.{Value}
 use Rattle.tsdl_grammar.specs.declared.tree.Value.TheVariants as values
 use Rattle.tsdl_grammar.specs.declared.tree.Attribute.{Attribute}
 use Rattle.tsdl_grammar.specs.Steps.{◌>>=◌}
-use Rattle.tsdl_parser.specs.Parsing.{begins, mark_at, word_at, number_at, is_open, many}
+use Rattle.tsdl_parser.specs.Parsing.{begins, mark_at, word_at, number_at, many, braced_at}
 
 -- "." identifier
 unfoldable pub dotted_at : List Atom → Option (List ℕ × List Atom)
@@ -46,14 +46,6 @@ attr_behind name ts = do
 unfoldable pub attr_at : List Atom → Option (Attribute × List Atom)
 attr_at ts = name_at ts >>= λ name. attr_behind name.0 name.1
 
--- { attribute } before a closing brace
-abbrev pub all_attrs_at : List Atom → Option (List Attribute × List Atom)
-all_attrs_at ts = many is_open attr_at ts
-
 -- "{" { attribute } "}"
-unfoldable pub attrs_at : List Atom → Option (List Attribute × List Atom)
-attrs_at ts = do
-  inside ← mark_at marks.OpenBrace ts
-  attrs ← all_attrs_at inside
-  rest ← mark_at marks.CloseBrace attrs.1
-  Some (attrs.0, rest)
+abbrev pub attrs_at : List Atom → Option (List Attribute × List Atom)
+attrs_at = braced_at attr_at

@@ -13,7 +13,7 @@ use Rattle.tsdl_grammar.specs.declared.tree.NamedFact.{NamedFact}
 use Rattle.tsdl_grammar.specs.declared.tree.Block.{Block}
 use Rattle.tsdl_grammar.specs.declared.tree.Block.TheVariants as blocks
 use Rattle.tsdl_grammar.specs.Steps.{◌>>=◌}
-use Rattle.tsdl_parser.specs.Parsing.{begins, mark_at, word_at, names, keyword_at, number_at, is_open, many}
+use Rattle.tsdl_parser.specs.Parsing.{begins, mark_at, word_at, names, keyword_at, number_at, many, braced_at}
 use Rattle.tsdl_parser.specs.ParsingAttributes.{name_at, attr_behind}
 use Rattle.tsdl_parser.specs.ParsingMembers.{struct_at}
 
@@ -32,18 +32,9 @@ item_at ts = do
   if begins marks.Equals name.1 then (attr_behind name.0 name.1 >>= λ a. Some (items.Attribute a.0, a.1))
       else (scope_behind name.0 name.1 >>= λ s. Some (items.Scope s.0, s.1))
 
--- { attribute | scope } before a closing brace
-abbrev pub all_items_at : List Atom → Option (List Item × List Atom)
-all_items_at ts = many is_open item_at ts
-
 -- "{" { attribute | scope } "}" behind a word
 unfoldable pub items_at : List ℕ → List Atom → Option (List Item × List Atom)
-items_at keyword ts = do
-  named ← keyword_at keyword ts
-  inside ← mark_at marks.OpenBrace named
-  found ← all_items_at inside
-  rest ← mark_at marks.CloseBrace found.1
-  Some (found.0, rest)
+items_at keyword ts = keyword_at keyword ts >>= braced_at item_at
 
 -- number | string
 unfoldable pub fact_at : List Atom → Option (Fact × List Atom)
@@ -63,18 +54,12 @@ named_fact_at ts = do
   rest ← mark_at marks.Semicolon fact.1
   Some (record { name = name.0; fact = fact.0 }, rest)
 
--- { identifier "=" (number | string) ";" } before a closing brace
-abbrev pub all_facts_at : List Atom → Option (List NamedFact × List Atom)
-all_facts_at ts = many is_open named_fact_at ts
-
 -- "env" "{" { identifier "=" (number | string) ";" } "}"
 unfoldable pub environment_at : List Atom → Option (Block × List Atom)
 environment_at ts = do
   named ← keyword_at (codes "env") ts
-  inside ← mark_at marks.OpenBrace named
-  found ← all_facts_at inside
-  rest ← mark_at marks.CloseBrace found.1
-  Some (blocks.Environment found.0, rest)
+  found ← braced_at named_fact_at named
+  Some (blocks.Environment found.0, found.1)
 
 unfoldable pub block_at : List Atom → Option (Block × List Atom)
 block_at ts =

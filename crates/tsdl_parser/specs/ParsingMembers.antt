@@ -12,7 +12,7 @@ use Rattle.tsdl_grammar.specs.declared.tree.Bracket.TheVariants as brackets
 use Rattle.tsdl_grammar.specs.declared.tree.MemberTree.{MemberTree}
 use Rattle.tsdl_grammar.specs.declared.tree.Structure.{Structure}
 use Rattle.tsdl_grammar.specs.Steps.{◌>>=◌}
-use Rattle.tsdl_parser.specs.Parsing.{begins, mark_at, word_at, names, keyword_at, number_at, is_open, many}
+use Rattle.tsdl_parser.specs.Parsing.{begins, mark_at, word_at, names, keyword_at, number_at, many, braced_at}
 use Rattle.tsdl_parser.specs.ParsingAttributes.{attrs_at}
 use Rattle.tsdl_parser.specs.ParsingEntries.{entries_at}
 
@@ -73,10 +73,6 @@ member_at ts = do
   rest ← mark_at marks.Semicolon lengths.1
   Some (record { kind = kind.0; name = name.0; brackets = lengths.0 }, rest)
 
--- { member } before a closing brace
-abbrev pub all_members_at : List Atom → Option (List MemberTree × List Atom)
-all_members_at ts = many is_open member_at ts
-
 -- [ "align" "(" number ")" ]
 unfoldable pub align_at : List Atom → Option (Option Number × List Atom)
 align_at ts =
@@ -92,8 +88,6 @@ align_at ts =
 unfoldable pub struct_at : List Atom → Option (Structure × List Atom)
 struct_at ts = do
   named ← keyword_at (codes "struct") ts
-  inside ← mark_at marks.OpenBrace named
-  members ← all_members_at inside
-  behind ← mark_at marks.CloseBrace members.1
-  align ← align_at behind
+  members ← braced_at member_at named
+  align ← align_at members.1
   Some (record { members = members.0; align = align.0 }, align.1)

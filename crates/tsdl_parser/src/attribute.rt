@@ -2,37 +2,27 @@
 
 ghost use Rattle.tsdl_grammar.specs.Fronts.{shown};
 ghost use Rattle.tsdl_parser.specs.Parsing.{Gives};
-ghost use Rattle.tsdl_parser.specs.ParsingAttributes.{dotted_at, all_dotted_at, name_at, value_at, attr_behind, attr_at, all_attrs_at, attrs_at};
+ghost use Rattle.tsdl_parser.specs.ParsingAttributes.{dotted_at, name_at, value_at, attr_behind, attr_at, attrs_at};
 
 use crate::expected::Expected;
 use crate::halt::{Unread, back_to, going_on};
 use crate::missing::{CLOSE_BRACE, SEMICOLON, ZERO};
-use crate::parsing::{begins, is_open, mark_at, next_atom, no_number, number_at, whole, word_at};
+use crate::parsing::{mark_at, next_atom, no_number, number_at, word_at};
+use crate::repetition::{Repeated, Start, all_at, braced_at};
 use ctf_types::{ListOf, Text};
 use std::alloc::Global;
 use tsdl_grammar::{Atom, Atoms, Attribute, Mark, Name, Value};
 
-#[tactic(auto, unfolding(crate::specs::ParsingAttributes::dotted_at))]
-fn dotted_at(alloc: Global, atoms: Atoms<'_>) -> Result<(Text, Atoms<'_>), Unread>
-    ensures { Gives (λ x. (x.0, shown x.1)) result (dotted_at (shown atoms.entry)) }
-{
-    word_at(alloc, mark_at(Mark::Dot, atoms)?, Expected::Identifier)
-}
+impl Repeated for Text {
+    ghost item = { dotted_at };
 
-fn all_dotted_at(alloc: Global, atoms: Atoms<'_>) -> Result<(ListOf<Text>, Atoms<'_>), Unread>
-    ensures { Gives (λ x. (x.0, shown x.1)) result (all_dotted_at (shown atoms.entry)) }
-{
-    let mut words = Vec::new(alloc);
-    let mut rest = atoms;
-    while begins(Mark::Dot, rest) {
-        let (word, behind) = dotted_at(alloc, rest)?;
-        words.push(word)?;
-        rest = behind;
+    #[tactic(auto, unfolding(crate::specs::ParsingAttributes::dotted_at))]
+    fn item_at(alloc: Global, atoms: Atoms<'_>) -> Result<(Text, Atoms<'_>), Unread> {
+        word_at(alloc, mark_at(Mark::Dot, atoms)?, Expected::Identifier)
     }
-    Ok((whole(words), rest))
 }
 
-#[tactic(auto, unfolding(crate::specs::ParsingAttributes::name_at))]
+#[tactic(auto, unfolding(crate::specs::ParsingAttributes::name_at), using(crate::proofs::Attributes::dotted_short))]
 pub(crate) fn name_at(
     alloc: Global,
     atoms: Atoms<'_>,
@@ -41,7 +31,7 @@ pub(crate) fn name_at(
     ensures { Gives (λ x. (x.0, shown x.1)) result (name_at (shown atoms.entry)) }
 {
     let (first, rest) = word_at(alloc, atoms, expected)?;
-    let (others, rest) = back_to(all_dotted_at(alloc, rest), atoms)?;
+    let (others, rest) = back_to(all_at(alloc, rest, Start::Mark(Mark::Dot)), atoms)?;
     Ok((
         Name {
             first,
@@ -85,37 +75,24 @@ pub(crate) fn attr_behind(
     Ok((Attribute { name, value }, rest))
 }
 
-#[tactic(auto, unfolding(crate::specs::ParsingAttributes::attr_at))]
-fn attr_at(alloc: Global, atoms: Atoms<'_>) -> Result<(Attribute, Atoms<'_>), Unread>
-    ensures { Gives (λ x. (x.0, shown x.1)) result (attr_at (shown atoms.entry)) }
-{
-    let (name, rest) = name_at(alloc, atoms, Expected::Attribute)?;
-    attr_behind(alloc, name, rest)
-}
+impl Repeated for Attribute {
+    ghost item = { attr_at };
 
-fn all_attrs_at(alloc: Global, atoms: Atoms<'_>) -> Result<(ListOf<Attribute>, Atoms<'_>), Unread>
-    ensures { Gives (λ x. (x.0, shown x.1)) result (all_attrs_at (shown atoms.entry)) }
-{
-    let mut attrs = Vec::new(alloc);
-    let mut rest = atoms;
-    while is_open(rest) {
-        let (attr, behind) = attr_at(alloc, rest)?;
-        attrs.push(attr)?;
-        rest = behind;
+    #[tactic(auto, unfolding(crate::specs::ParsingAttributes::attr_at))]
+    fn item_at(alloc: Global, atoms: Atoms<'_>) -> Result<(Attribute, Atoms<'_>), Unread> {
+        let (name, rest) = name_at(alloc, atoms, Expected::Attribute)?;
+        attr_behind(alloc, name, rest)
     }
-    Ok((whole(attrs), rest))
 }
 
 /// The attributes between two braces.
-#[tactic(auto, unfolding(crate::specs::ParsingAttributes::attrs_at))]
+#[tactic(auto, using(crate::proofs::Attributes::attr_short))]
 pub(crate) fn attrs_at(
     alloc: Global,
     atoms: Atoms<'_>,
 ) -> Result<(ListOf<Attribute>, Atoms<'_>), Unread>
     ensures { Gives (λ x. (x.0, shown x.1)) result (attrs_at (shown atoms.entry)) }
 {
-    let inside = going_on(mark_at(Mark::OpenBrace, atoms), &[CLOSE_BRACE])?;
-    let (attrs, rest) = going_on(all_attrs_at(alloc, inside), &[CLOSE_BRACE])?;
-    let rest = mark_at(Mark::CloseBrace, rest)?;
-    Ok((attrs, rest))
+    let attrs = braced_at(alloc, atoms, Expected::Mark(Mark::OpenBrace));
+    going_on(attrs, &[CLOSE_BRACE])
 }

@@ -6,7 +6,7 @@ ghost use Rattle.tsdl_grammar.specs.Spelling.{text_toks};
 ghost use Rattle.tsdl_grammar.specs.Fronts.{shown};
 ghost use Rattle.tsdl_parser.specs.Halting.{IfHalted};
 ghost use Rattle.tsdl_parser.specs.Parsing.{Gives};
-ghost use Rattle.tsdl_parser.specs.ParsingBlocks.{scope_behind, item_at, all_items_at, items_at, fact_at, named_fact_at, all_facts_at, environment_at, block_at, ended_block_at, has_more, all_blocks_at};
+ghost use Rattle.tsdl_parser.specs.ParsingBlocks.{scope_behind, item_at, items_at, fact_at, named_fact_at, environment_at, block_at, ended_block_at};
 
 use crate::attribute::{attr_behind, name_at};
 use crate::expected::Expected;
@@ -14,8 +14,9 @@ use crate::halt::{Unread, back_to, expecting, going_on};
 use crate::member::struct_at;
 use crate::missing::{CLOSE_BRACE, SEMICOLON, ZERO};
 use crate::parsing::{
-    begins, is_open, keyword_at, mark_at, names, next_atom, no_number, number_at, whole, word_at,
+    begins, keyword_at, mark_at, names, next_atom, no_number, number_at, word_at,
 };
+use crate::repetition::{Repeated, Start, all_at, braced_at};
 use ctf_types::ListOf;
 use std::alloc::Global;
 use tsdl_grammar::{Atom, Atoms, Block, Fact, Item, Mark, Name, NamedFact, Scope};
@@ -37,35 +38,24 @@ fn scope_behind<'a>(
     Ok((Scope { name, structure }, rest))
 }
 
-#[tactic(auto, unfolding(crate::specs::ParsingBlocks::item_at))]
-fn item_at(alloc: Global, atoms: Atoms<'_>) -> Result<(Item, Atoms<'_>), Unread>
-    ensures { Gives (λ x. (x.0, shown x.1)) result (item_at (shown atoms.entry)) }
-{
-    let (name, rest) = name_at(alloc, atoms, Expected::Item)?;
-    if begins(Mark::Equals, rest) {
-        let (attr, rest) = attr_behind(alloc, name, rest)?;
-        Ok((Item::Attribute(attr), rest))
-    } else {
-        let (scope, rest) = scope_behind(alloc, name, rest, atoms)?;
-        Ok((Item::Scope(scope), rest))
-    }
-}
+impl Repeated for Item {
+    ghost item = { item_at };
 
-fn all_items_at(alloc: Global, atoms: Atoms<'_>) -> Result<(ListOf<Item>, Atoms<'_>), Unread>
-    ensures { Gives (λ x. (x.0, shown x.1)) result (all_items_at (shown atoms.entry)) }
-{
-    let mut items = Vec::new(alloc);
-    let mut rest = atoms;
-    while is_open(rest) {
-        let (item, behind) = item_at(alloc, rest)?;
-        items.push(item)?;
-        rest = behind;
+    #[tactic(auto, unfolding(crate::specs::ParsingBlocks::item_at))]
+    fn item_at(alloc: Global, atoms: Atoms<'_>) -> Result<(Item, Atoms<'_>), Unread> {
+        let (name, rest) = name_at(alloc, atoms, Expected::Item)?;
+        if begins(Mark::Equals, rest) {
+            let (attr, rest) = attr_behind(alloc, name, rest)?;
+            Ok((Item::Attribute(attr), rest))
+        } else {
+            let (scope, rest) = scope_behind(alloc, name, rest, atoms)?;
+            Ok((Item::Scope(scope), rest))
+        }
     }
-    Ok((whole(items), rest))
 }
 
 /// The items of a block of this word.
-#[tactic(auto, unfolding(crate::specs::ParsingBlocks::items_at))]
+#[tactic(auto, unfolding(crate::specs::ParsingBlocks::items_at), using(crate::proofs::Blocks::item_short))]
 fn items_at<'a>(
     alloc: Global,
     keyword: &str,
@@ -74,10 +64,8 @@ fn items_at<'a>(
     ensures { Gives (λ x. (x.0, shown x.1)) result (items_at keyword.now (shown atoms.entry)) }
 {
     let rest = keyword_at(keyword, atoms, Expected::Block)?;
-    let inside = going_on(mark_at(Mark::OpenBrace, rest), &[CLOSE_BRACE, SEMICOLON])?;
-    let (items, rest) = going_on(all_items_at(alloc, inside), &[CLOSE_BRACE, SEMICOLON])?;
-    let rest = mark_at(Mark::CloseBrace, rest)?;
-    Ok((items, rest))
+    let items = braced_at(alloc, rest, Expected::Mark(Mark::OpenBrace));
+    going_on(items, &[CLOSE_BRACE, SEMICOLON])
 }
 
 #[tactic(auto, unfolding(crate::specs::ParsingBlocks::fact_at))]
@@ -97,38 +85,26 @@ fn fact_at(alloc: Global, atoms: Atoms<'_>) -> Result<(Fact, Atoms<'_>), Unread>
     }
 }
 
-#[tactic(auto, unfolding(crate::specs::ParsingBlocks::named_fact_at))]
-fn named_fact_at(alloc: Global, atoms: Atoms<'_>) -> Result<(NamedFact, Atoms<'_>), Unread>
-    ensures { Gives (λ x. (x.0, shown x.1)) result (named_fact_at (shown atoms.entry)) }
-{
-    let (name, rest) = word_at(alloc, atoms, Expected::FactName)?;
-    let rest = going_on(mark_at(Mark::Equals, rest), &[ZERO, SEMICOLON])?;
-    let (fact, rest) = going_on(fact_at(alloc, rest), &[SEMICOLON])?;
-    let rest = mark_at(Mark::Semicolon, rest)?;
-    Ok((NamedFact { name, fact }, rest))
-}
+impl Repeated for NamedFact {
+    ghost item = { named_fact_at };
 
-fn all_facts_at(alloc: Global, atoms: Atoms<'_>) -> Result<(ListOf<NamedFact>, Atoms<'_>), Unread>
-    ensures { Gives (λ x. (x.0, shown x.1)) result (all_facts_at (shown atoms.entry)) }
-{
-    let mut facts = Vec::new(alloc);
-    let mut rest = atoms;
-    while is_open(rest) {
-        let (fact, behind) = named_fact_at(alloc, rest)?;
-        facts.push(fact)?;
-        rest = behind;
+    #[tactic(auto, unfolding(crate::specs::ParsingBlocks::named_fact_at))]
+    fn item_at(alloc: Global, atoms: Atoms<'_>) -> Result<(NamedFact, Atoms<'_>), Unread> {
+        let (name, rest) = word_at(alloc, atoms, Expected::FactName)?;
+        let rest = going_on(mark_at(Mark::Equals, rest), &[ZERO, SEMICOLON])?;
+        let (fact, rest) = going_on(fact_at(alloc, rest), &[SEMICOLON])?;
+        let rest = mark_at(Mark::Semicolon, rest)?;
+        Ok((NamedFact { name, fact }, rest))
     }
-    Ok((whole(facts), rest))
 }
 
-#[tactic(auto, unfolding(crate::specs::ParsingBlocks::environment_at))]
+#[tactic(auto, unfolding(crate::specs::ParsingBlocks::environment_at), using(crate::proofs::Blocks::fact_short))]
 fn environment_at(alloc: Global, atoms: Atoms<'_>) -> Result<(Block, Atoms<'_>), Unread>
     ensures { Gives (λ x. (x.0, shown x.1)) result (environment_at (shown atoms.entry)) }
 {
     let rest = keyword_at("env", atoms, Expected::Block)?;
-    let inside = going_on(mark_at(Mark::OpenBrace, rest), &[CLOSE_BRACE, SEMICOLON])?;
-    let (facts, rest) = going_on(all_facts_at(alloc, inside), &[CLOSE_BRACE, SEMICOLON])?;
-    let rest = mark_at(Mark::CloseBrace, rest)?;
+    let facts = braced_at(alloc, rest, Expected::Mark(Mark::OpenBrace));
+    let (facts, rest) = going_on(facts, &[CLOSE_BRACE, SEMICOLON])?;
     Ok((Block::Environment(facts), rest))
 }
 
@@ -153,39 +129,23 @@ fn block_at(alloc: Global, atoms: Atoms<'_>) -> Result<(Block, Atoms<'_>), Unrea
     }
 }
 
-#[tactic(auto, unfolding(crate::specs::ParsingBlocks::ended_block_at))]
-fn ended_block_at(alloc: Global, atoms: Atoms<'_>) -> Result<(Block, Atoms<'_>), Unread>
-    ensures { Gives (λ x. (x.0, shown x.1)) result (ended_block_at (shown atoms.entry)) }
-{
-    let (block, rest) = block_at(alloc, atoms)?;
-    let rest = mark_at(Mark::Semicolon, rest)?;
-    Ok((block, rest))
-}
+impl Repeated for Block {
+    ghost item = { ended_block_at };
 
-fn has_more(atoms: Atoms<'_>) -> bool
-    ensures { result ≡ has_more (shown atoms.entry) }
-{
-    atoms.front.is_some()
-}
-
-fn all_blocks_at(alloc: Global, atoms: Atoms<'_>) -> Result<(ListOf<Block>, Atoms<'_>), Unread>
-    ensures { Gives (λ x. (x.0, shown x.1)) result (all_blocks_at (shown atoms.entry)) }
-{
-    let mut found = Vec::new(alloc);
-    let mut rest = atoms;
-    while has_more(rest) {
-        let (block, behind) = ended_block_at(alloc, rest)?;
-        found.push(block)?;
-        rest = behind;
+    #[tactic(auto, unfolding(crate::specs::ParsingBlocks::ended_block_at))]
+    fn item_at(alloc: Global, atoms: Atoms<'_>) -> Result<(Block, Atoms<'_>), Unread> {
+        let (block, rest) = block_at(alloc, atoms)?;
+        let rest = mark_at(Mark::Semicolon, rest)?;
+        Ok((block, rest))
     }
-    Ok((whole(found), rest))
 }
 
 /// The blocks that the atoms of a text spell, or how far the atoms spell any.
+#[tactic(auto, using(crate::proofs::Blocks::block_short))]
 pub fn parse(alloc: Global, atoms: Atoms<'_>) -> Result<Vec<Block>, Unread>
     ensures found { IfOk result (λ bs. (shown atoms.entry) ≡ text_toks bs.items) }
     ensures none { IfErr result (λ e. IfHalted e ((bs : List Block) → (shown atoms.entry) ≡ text_toks bs → ⊥)) }
 {
-    let (found, _) = all_blocks_at(alloc, atoms)?;
+    let (found, _) = all_at(alloc, atoms, Start::InText)?;
     Ok(found.into_vec())
 }

@@ -3,13 +3,13 @@
 ghost use Rattle.std.specs.Prelude.{◌≡◌, IfOk};
 ghost use Rattle.tsdl_grammar.specs.Fronts.{shown};
 ghost use Rattle.tsdl_parser.specs.Parsing.{Gives};
-ghost use Rattle.tsdl_parser.specs.ParsingEntries.{label_at, high_at, entry_at, is_labelled, is_next, next_entry_at, all_next_at, closing_at, listed_at, entries_at};
+ghost use Rattle.tsdl_parser.specs.ParsingEntries.{label_at, high_at, entry_at, is_labelled, is_next, next_entry_at, closing_at, listed_at, entries_at};
 
 use crate::expected::Expected;
 use crate::halt::{Halt, Unread, expecting, going_on};
 use crate::missing::ZERO;
-use crate::parsing::{begins, is_mark, mark_at, next_atom, number_at, whole};
-use ctf_types::ListOf;
+use crate::parsing::{begins, is_mark, mark_at, next_atom, number_at};
+use crate::repetition::{Repeated, Start, all_at};
 use std::alloc::{AllocError, Global};
 use tsdl_grammar::{Atom, Atoms, Closing, Entries, Entry, Label, Mark, Number};
 
@@ -65,7 +65,7 @@ fn is_labelled(alloc: Global, atoms: Atoms<'_>) -> Result<bool, AllocError>
 
 /// Whether a comma and another entry follow.
 #[tactic(auto, unfolding(crate::specs::ParsingEntries::is_next))]
-fn is_next(alloc: Global, atoms: Atoms<'_>) -> Result<bool, AllocError>
+pub(crate) fn is_next(alloc: Global, atoms: Atoms<'_>) -> Result<bool, AllocError>
     ensures { IfOk result (λ b. b ≡ is_next (shown atoms.entry)) }
 {
     match atoms.front {
@@ -74,24 +74,13 @@ fn is_next(alloc: Global, atoms: Atoms<'_>) -> Result<bool, AllocError>
     }
 }
 
-#[tactic(auto, unfolding(crate::specs::ParsingEntries::next_entry_at))]
-fn next_entry_at(alloc: Global, atoms: Atoms<'_>) -> Result<(Entry, Atoms<'_>), Unread>
-    ensures { Gives (λ x. (x.0, shown x.1)) result (next_entry_at (shown atoms.entry)) }
-{
-    entry_at(alloc, mark_at(Mark::Comma, atoms)?)
-}
+impl Repeated for Entry {
+    ghost item = { next_entry_at };
 
-fn all_next_at(alloc: Global, atoms: Atoms<'_>) -> Result<(ListOf<Entry>, Atoms<'_>), Unread>
-    ensures { Gives (λ x. (x.0, shown x.1)) result (all_next_at (shown atoms.entry)) }
-{
-    let mut entries = Vec::new(alloc);
-    let mut rest = atoms;
-    while is_next(alloc, rest)? {
-        let (entry, behind) = next_entry_at(alloc, rest)?;
-        entries.push(entry)?;
-        rest = behind;
+    #[tactic(auto, unfolding(crate::specs::ParsingEntries::next_entry_at))]
+    fn item_at(alloc: Global, atoms: Atoms<'_>) -> Result<(Entry, Atoms<'_>), Unread> {
+        entry_at(alloc, mark_at(Mark::Comma, atoms)?)
     }
-    Ok((whole(entries), rest))
 }
 
 /// The comma behind the last entry, if there is one.
@@ -106,12 +95,12 @@ fn closing_at(atoms: Atoms<'_>) -> Result<(Closing, Atoms<'_>), Unread>
     }
 }
 
-#[tactic(auto, unfolding(crate::specs::ParsingEntries::listed_at))]
+#[tactic(auto, unfolding(crate::specs::ParsingEntries::listed_at), using(crate::proofs::Entries::next_short))]
 fn listed_at(alloc: Global, atoms: Atoms<'_>) -> Result<(Entries, Atoms<'_>), Unread>
     ensures { Gives (λ x. (x.0, shown x.1)) result (listed_at (shown atoms.entry)) }
 {
     let (first, rest) = entry_at(alloc, atoms)?;
-    let (others, rest) = all_next_at(alloc, rest)?;
+    let (others, rest) = all_at(alloc, rest, Start::NextEntry)?;
     let (closing, rest) = closing_at(rest)?;
     Ok((Entries::Listed(first, others, closing), rest))
 }

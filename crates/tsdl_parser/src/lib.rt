@@ -11,6 +11,7 @@ mod laws;
 mod member;
 mod missing;
 mod parsing;
+mod repetition;
 
 pub use block::parse;
 pub use expected::Expected;

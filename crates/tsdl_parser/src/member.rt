@@ -2,7 +2,7 @@
 
 ghost use Rattle.tsdl_grammar.specs.Fronts.{shown};
 ghost use Rattle.tsdl_parser.specs.Parsing.{Gives};
-ghost use Rattle.tsdl_parser.specs.ParsingMembers.{int_at, enum_at, string_at, kind_at, count_at, bracket_at, all_brackets_at, member_at, all_members_at, align_at, struct_at};
+ghost use Rattle.tsdl_parser.specs.ParsingMembers.{int_at, enum_at, string_at, kind_at, count_at, bracket_at, member_at, align_at, struct_at};
 
 use crate::attribute::attrs_at;
 use crate::enumeration::{entries_at, expected_behind};
@@ -13,8 +13,9 @@ use crate::missing::{
     ZERO,
 };
 use crate::parsing::{
-    begins, is_open, keyword_at, mark_at, names, next_atom, no_number, number_at, whole, word_at,
+    begins, keyword_at, mark_at, names, next_atom, no_number, number_at, word_at,
 };
+use crate::repetition::{Repeated, Start, all_at, braced_at};
 use ctf_types::ListOf;
 use std::alloc::Global;
 use tsdl_grammar::{Atom, Atoms, Attribute, Bracket, Kind, Mark, MemberTree, Number, Structure};
@@ -96,62 +97,38 @@ fn count_at(alloc: Global, atoms: Atoms<'_>) -> Result<(Bracket, Atoms<'_>), Unr
     }
 }
 
-#[tactic(auto, unfolding(crate::specs::ParsingMembers::bracket_at))]
-fn bracket_at(alloc: Global, atoms: Atoms<'_>) -> Result<(Bracket, Atoms<'_>), Unread>
-    ensures { Gives (λ x. (x.0, shown x.1)) result (bracket_at (shown atoms.entry)) }
-{
-    let inside = mark_at(Mark::OpenBracket, atoms)?;
-    let (count, rest) = going_on(count_at(alloc, inside), &[CLOSE_BRACKET])?;
-    let rest = mark_at(Mark::CloseBracket, rest)?;
-    Ok((count, rest))
-}
+impl Repeated for Bracket {
+    ghost item = { bracket_at };
 
-fn all_brackets_at(alloc: Global, atoms: Atoms<'_>) -> Result<(ListOf<Bracket>, Atoms<'_>), Unread>
-    ensures { Gives (λ x. (x.0, shown x.1)) result (all_brackets_at (shown atoms.entry)) }
-{
-    let mut brackets = Vec::new(alloc);
-    let mut rest = atoms;
-    while begins(Mark::OpenBracket, rest) {
-        let (bracket, behind) = bracket_at(alloc, rest)?;
-        brackets.push(bracket)?;
-        rest = behind;
+    #[tactic(auto, unfolding(crate::specs::ParsingMembers::bracket_at))]
+    fn item_at(alloc: Global, atoms: Atoms<'_>) -> Result<(Bracket, Atoms<'_>), Unread> {
+        let inside = mark_at(Mark::OpenBracket, atoms)?;
+        let (count, rest) = going_on(count_at(alloc, inside), &[CLOSE_BRACKET])?;
+        let rest = mark_at(Mark::CloseBracket, rest)?;
+        Ok((count, rest))
     }
-    Ok((whole(brackets), rest))
 }
 
-#[tactic(auto, unfolding(crate::specs::ParsingMembers::member_at))]
-fn member_at(alloc: Global, atoms: Atoms<'_>) -> Result<(MemberTree, Atoms<'_>), Unread>
-    ensures { Gives (λ x. (x.0, shown x.1)) result (member_at (shown atoms.entry)) }
-{
-    let (kind, rest) = kind_at(alloc, atoms)?;
-    let name = word_at(alloc, rest, Expected::MemberName);
-    let (name, rest) = going_on(name, &[NAME, SEMICOLON])?;
-    let (brackets, rest) = going_on(all_brackets_at(alloc, rest), &[SEMICOLON])?;
-    let rest = mark_at(Mark::Semicolon, rest)?;
-    Ok((
-        MemberTree {
-            kind,
-            name,
-            brackets,
-        },
-        rest,
-    ))
-}
+impl Repeated for MemberTree {
+    ghost item = { member_at };
 
-fn all_members_at(
-    alloc: Global,
-    atoms: Atoms<'_>,
-) -> Result<(ListOf<MemberTree>, Atoms<'_>), Unread>
-    ensures { Gives (λ x. (x.0, shown x.1)) result (all_members_at (shown atoms.entry)) }
-{
-    let mut members = Vec::new(alloc);
-    let mut rest = atoms;
-    while is_open(rest) {
-        let (member, behind) = member_at(alloc, rest)?;
-        members.push(member)?;
-        rest = behind;
+    #[tactic(auto, unfolding(crate::specs::ParsingMembers::member_at), using(crate::proofs::Members::bracket_short))]
+    fn item_at(alloc: Global, atoms: Atoms<'_>) -> Result<(MemberTree, Atoms<'_>), Unread> {
+        let (kind, rest) = kind_at(alloc, atoms)?;
+        let name = word_at(alloc, rest, Expected::MemberName);
+        let (name, rest) = going_on(name, &[NAME, SEMICOLON])?;
+        let brackets = all_at(alloc, rest, Start::Mark(Mark::OpenBracket));
+        let (brackets, rest) = going_on(brackets, &[SEMICOLON])?;
+        let rest = mark_at(Mark::Semicolon, rest)?;
+        Ok((
+            MemberTree {
+                kind,
+                name,
+                brackets,
+            },
+            rest,
+        ))
     }
-    Ok((whole(members), rest))
 }
 
 /// A structure's alignment, if it is given.
@@ -172,16 +149,14 @@ fn align_at(alloc: Global, atoms: Atoms<'_>) -> Result<(Option<Number>, Atoms<'_
     }
 }
 
-#[tactic(auto, unfolding(crate::specs::ParsingMembers::struct_at))]
+#[tactic(auto, unfolding(crate::specs::ParsingMembers::struct_at), using(crate::proofs::Members::member_short))]
 pub(crate) fn struct_at(alloc: Global, atoms: Atoms<'_>) -> Result<(Structure, Atoms<'_>), Unread>
     ensures { Gives (λ x. (x.0, shown x.1)) result (struct_at (shown atoms.entry)) }
 {
     let rest = keyword_at("struct", atoms, Expected::Structure);
     let rest = going_on(rest, &[STRUCT, OPEN_BRACE, CLOSE_BRACE])?;
-    let inside = expecting(mark_at(Mark::OpenBrace, rest), Expected::StructureBrace);
-    let inside = going_on(inside, &[CLOSE_BRACE])?;
-    let (members, rest) = going_on(all_members_at(alloc, inside), &[CLOSE_BRACE])?;
-    let rest = mark_at(Mark::CloseBrace, rest)?;
+    let members = braced_at(alloc, rest, Expected::StructureBrace);
+    let (members, rest) = going_on(members, &[CLOSE_BRACE])?;
     let (align, rest) = align_at(alloc, rest)?;
     Ok((Structure { members, align }, rest))
 }

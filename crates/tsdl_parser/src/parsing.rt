@@ -2,23 +2,14 @@
 
 ghost use Rattle.std.specs.Prelude.{◌≡◌, ◌∷◌, [], IfOk, MatchOption, option_map};
 ghost use Rattle.tsdl_grammar.specs.Fronts.{meant, shown};
-ghost use Rattle.tsdl_parser.specs.Parsing.{Gives, number_of, is_mark, begins, mark_at, word_at, is_word, names, keyword_at, signed_at, number_at, is_open};
+ghost use Rattle.tsdl_parser.specs.Parsing.{Gives, number_of, is_mark, begins, mark_at, word_at, is_word, names, keyword_at, signed_at, number_at};
 
 use crate::expected::Expected;
 use crate::halt::{Halt, Unread};
 use crate::missing::Missing;
-use ctf_types::{ListOf, Text};
+use ctf_types::Text;
 use std::alloc::{AllocError, Global};
 use tsdl_grammar::{Atom, Atoms, Front, Mark, Number, Sign, TokenKind};
-
-/// A list of parts that takes no more memory than they do.
-pub(crate) fn whole<T>(parts: Vec<T>) -> ListOf<T>
-    ensures { result ≡ parts.items }
-{
-    let mut parts = parts;
-    parts.shrink_to_fit();
-    ListOf::from_vec(parts)
-}
 
 fn number_of(mark: Mark) -> u8
     ensures { result ≡ number_of mark }
@@ -125,13 +116,6 @@ pub(crate) fn keyword_at<'a>(
         Some(front) if is_word(keyword, front) => Ok(atoms.behind()),
         None | Some(_) => Err(Unread::Halted(Halt::before(atoms, expected, &[]))),
     }
-}
-
-/// Whether another item stands before the closing brace.
-pub(crate) fn is_open(atoms: Atoms<'_>) -> bool
-    ensures { result ≡ is_open (shown atoms.entry) }
-{
-    !begins(Mark::CloseBrace, atoms)
 }
 
 /// A number with its sign.

@@ -1,0 +1,85 @@
+//! Reads what stands any number of times, one after the other.
+
+ghost use Rattle.std.specs.Prelude.{◌≡◌, List, Option, IfOk};
+ghost use Rattle.tsdl_grammar.specs.declared.atom.Atom.{Atom};
+ghost use Rattle.tsdl_grammar.specs.Fronts.{shown};
+ghost use Rattle.tsdl_parser.specs.Parsing.{Gives, Shortens, many, braced_at};
+ghost use Rattle.tsdl_parser.specs.Repetition.{starts};
+
+use crate::enumeration::is_next;
+use crate::expected::Expected;
+use crate::halt::{Unread, expecting};
+use crate::parsing::{begins, mark_at};
+use ctf_types::ListOf;
+use std::alloc::{AllocError, Global};
+use tsdl_grammar::{Atoms, Mark};
+
+/// What can stand any number of times, one after the other.
+pub(crate) trait Repeated: Drop {
+    ghost item: { List Atom → Option (Self × List Atom) };
+
+    /// One of them.
+    fn item_at(alloc: Global, atoms: Atoms<'_>) -> Result<(Self, Atoms<'_>), Unread>
+        ensures { Gives (λ x. (x.0, shown x.1)) result (item (shown atoms.entry)) };
+}
+
+/// Where another one starts.
+#[derive(Clone, Copy)]
+pub(crate) enum Start {
+    /// At this mark.
+    Mark(Mark),
+    /// At a comma with a label behind it.
+    NextEntry,
+    /// Anywhere before a closing brace.
+    InBraces,
+    /// Anywhere before the end of the text.
+    InText,
+}
+
+/// Whether another one starts.
+fn starts(alloc: Global, start: Start, atoms: Atoms<'_>) -> Result<bool, AllocError>
+    ensures { IfOk result (λ b. b ≡ starts start (shown atoms.entry)) }
+{
+    match start {
+        Start::Mark(mark) => Ok(begins(mark, atoms)),
+        Start::NextEntry => is_next(alloc, atoms),
+        Start::InBraces => Ok(!begins(Mark::CloseBrace, atoms)),
+        Start::InText => Ok(atoms.front.is_some()),
+    }
+}
+
+/// All that stand one after the other, in a list that takes no more memory than they do.
+pub(crate) fn all_at<T: Repeated>(
+    alloc: Global,
+    atoms: Atoms<'_>,
+    start: Start,
+) -> Result<(ListOf<T>, Atoms<'_>), Unread>
+    requires { Shortens T T.item }
+    ensures { Gives (λ x. (x.0, shown x.1)) result (many (starts start) T.item (shown atoms.entry)) }
+{
+    let mut items = Vec::new(alloc);
+    let mut rest = atoms;
+    while starts(alloc, start, rest)? {
+        let (item, behind) = T::item_at(alloc, rest)?;
+        items.push(item)?;
+        rest = behind;
+    }
+    items.shrink_to_fit();
+    Ok((ListOf::from_vec(items), rest))
+}
+
+/// All that stand between two braces. Where they stop, the caller says that the closing one is missing.
+#[tactic(auto, unfolding(crate::specs::Parsing::braced_at))]
+pub(crate) fn braced_at<T: Repeated>(
+    alloc: Global,
+    atoms: Atoms<'_>,
+    expected: Expected,
+) -> Result<(ListOf<T>, Atoms<'_>), Unread>
+    requires { Shortens T T.item }
+    ensures { Gives (λ x. (x.0, shown x.1)) result (braced_at T.item (shown atoms.entry)) }
+{
+    let inside = expecting(mark_at(Mark::OpenBrace, atoms), expected)?;
+    let (items, rest) = all_at::<T>(alloc, inside, Start::InBraces)?;
+    let rest = mark_at(Mark::CloseBrace, rest)?;
+    Ok((items, rest))
+}
