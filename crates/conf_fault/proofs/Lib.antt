@@ -1,1 +1,2 @@
+pub mod LineColumnLemmas
 pub mod ShownLemmas

@@ -1,1 +1,2 @@
+pub mod LineColumn
 pub mod Shown

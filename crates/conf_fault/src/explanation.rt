@@ -6,13 +6,13 @@ ghost use Rattle.conf_fault.specs.Shown.{IsOneLine};
 use crate::by_kind::push_wanted;
 use crate::found::Found;
 use crate::hints::push_not_json;
-use crate::line_column::line_column;
+use crate::line_column::{line_column, push_place};
 use crate::shown::{on_one_line, push_cut};
 use crate::source::Source;
 use conf_tree::{ConfFault, FaultKind, Step};
 use std::alloc::{AllocError, Global};
 
-/// Explains the fault of a configuration's text in one line, without its end: `LINE:COLUMN: PATH: what stands there: expected ..`.
+/// Explains the fault of a configuration's text in one line, without its end: `line 2, column 9: trace: 2: expected an object`.
 ///
 /// Lines and columns count from 1, columns in bytes. A value that stands in an alias or in a base is placed there, and the alias is named; what
 /// is missing is placed at its object. Names and values are cut at 60 characters.
@@ -37,9 +37,7 @@ fn push_placed(source: Source<'_>, said: &mut String, fault: &ConfFault) -> Resu
     } else {
         layer.at
     };
-    let place = line_column(source.text, at);
-    let numbers = format!(in source.alloc; "{}:{}: ", place.line, place.column)?;
-    said.push_str(numbers.as_str())?;
+    push_place(source.alloc, said, line_column(source.text, at))?;
     push_path(source.alloc, said, fault.path.as_slice())?;
     push_alias(source, said, layer.alias)?;
     push_standing(source, said, &found, fault.kind)?;

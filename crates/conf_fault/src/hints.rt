@@ -1,29 +1,17 @@
 //! Hints where a user of barectf lands first.
 
-use crate::line_column::LineColumn;
+use crate::json_front::json_place;
+use crate::line_column::push_place;
 use crate::source::Source;
+use crate::yaml::looks_like_yaml;
 use conf_tree::{FaultKind, Step};
-use serde_json::Value;
 use std::alloc::AllocError;
 
 /// Adds where a text stops being JSON.
 pub(crate) fn push_not_json(source: Source<'_>, said: &mut String) -> Result<(), AllocError> {
-    let place = match Value::from_slice(source.alloc, source.text) {
-        Ok(_) => LineColumn { line: 1, column: 1 },
-        Err(error) => {
-            if error.is_memory() {
-                return Err(AllocError);
-            }
-            LineColumn {
-                line: error.line(),
-                column: error.column(),
-            }
-        }
-    };
-    let numbers = format!(in source.alloc; "{}:{}: ", place.line, place.column)?;
-    said.push_str(numbers.as_str())?;
+    push_place(source.alloc, said, json_place(source.alloc, source.text)?)?;
     said.push_str("not JSON: expected one JSON value in UTF-8")?;
-    if source.text.starts_with(b"---".as_slice()) || source.text.starts_with(b"%YAML".as_slice()) {
+    if looks_like_yaml(source.text) {
         said.push_str("; this looks like YAML, of which tools/yaml_to_json makes JSON")?;
     }
     Ok(())

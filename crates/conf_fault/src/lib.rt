@@ -7,6 +7,7 @@ mod expected;
 mod explanation;
 mod found;
 mod hints;
+mod json_front;
 mod layers;
 mod line_column;
 mod named;
@@ -14,5 +15,8 @@ mod nearest;
 mod scan;
 mod shown;
 mod source;
+mod yaml;
 
 pub use explanation::explain_fault;
+pub use json_front::json_place;
+pub use line_column::LineColumn;

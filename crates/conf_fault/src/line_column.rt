@@ -1,16 +1,24 @@
 //! Lines and columns of a text.
 
+ghost use Rattle.std.specs.Prelude.{◌≡◌, take};
+ghost use Rattle.conf_fault.specs.LineColumn.{line_behind, column_behind};
+
+use std::alloc::{AllocError, Global};
+
 /// A place in a text: the line and the byte in the line, both from 1.
-#[derive(Clone, Copy)]
-pub(crate) struct LineColumn {
+#[derive(Clone, Copy, Debug)]
+pub struct LineColumn {
     pub line: usize,
     pub column: usize,
 }
 
-/// The line and the column of the byte at a place.
-pub(crate) fn line_column(text: &[u8], at: usize) -> LineColumn {
+/// The line and the column of the byte at a place, and at the text's length those of its end.
+pub(crate) fn line_column(text: &[u8], at: usize) -> LineColumn
+    ensures line { result.line ≡ line_behind (take at text.now) }
+    ensures column { result.column ≡ column_behind (take at text.now) }
+{
     let mut place = LineColumn { line: 1, column: 1 };
-    for byte in text.iter().take(at) {
+    for byte in &text[..at.min(text.len())] {
         if *byte == b'\n' {
             place.line = place.line.saturating_add(1);
             place.column = 1;
@@ -19,4 +27,14 @@ pub(crate) fn line_column(text: &[u8], at: usize) -> LineColumn {
         }
     }
     place
+}
+
+/// Adds where a fault stands.
+pub(crate) fn push_place(
+    alloc: Global,
+    said: &mut String,
+    place: LineColumn,
+) -> Result<(), AllocError> {
+    let numbers = format!(in alloc; "line {}, column {}: ", place.line, place.column)?;
+    said.push_str(numbers.as_str())
 }

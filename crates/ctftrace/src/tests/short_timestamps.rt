@@ -65,11 +65,11 @@ fn traces_and_reads_short_timestamps(rt: HostRuntime) -> Result<(), Fail> {
 static REFUSED: &[(&str, &str)] = &[
     (
         WITHOUT_BEGIN,
-        "ctftrace: sized.json: 1:230: trace/type/data-stream-types/s/$features/event-record/timestamp-field-type: {\"class\":\"uint\",\"size\":8}: expected a field of 8 to 64 bits, fewer than 64 only beside the packet's beginning timestamp, or the feature off\n",
+        "ctftrace: sized.json: line 1, column 230: trace/type/data-stream-types/s/$features/event-record/timestamp-field-type: {\"class\":\"uint\",\"size\":8}: expected a field of 8 to 64 bits, fewer than 64 only beside the packet's beginning timestamp, or the feature off\n",
     ),
     (
         SEVEN_BITS,
-        "ctftrace: sized.json: 1:180: trace/type/data-stream-types/s/$features/event-record/timestamp-field-type: {\"class\":\"uint\",\"size\":7}: expected a field of 8 to 64 bits, fewer than 64 only beside the packet's beginning timestamp, or the feature off\n",
+        "ctftrace: sized.json: line 1, column 180: trace/type/data-stream-types/s/$features/event-record/timestamp-field-type: {\"class\":\"uint\",\"size\":7}: expected a field of 8 to 64 bits, fewer than 64 only beside the packet's beginning timestamp, or the feature off\n",
     ),
 ];
 

@@ -103,7 +103,7 @@ static ROWS: &[Row] = &[
         script: "{",
         words: &[],
         output: "",
-        errors: "ctftrace: conf.json: 1:1: trace: missing: expected an object\n",
+        errors: "ctftrace: conf.json: line 1, column 1: trace: missing: expected an object\n",
         status: 1,
         left: Left::Nothing,
     },
