@@ -14,8 +14,8 @@ const PIECE: usize = 4096;
 /// Why a reader was not read to its end.
 #[derive(Debug, Drop, Error)]
 pub enum InputFault {
-    #[error("a read failed")]
-    Failed,
+    #[error("{0}")]
+    Failed(ErrorKind),
     #[error("no end after 2^32 reads")]
     Endless,
     #[error("out of memory")]
@@ -39,8 +39,9 @@ pub fn read_all<R: Read>(alloc: Global, input: &mut R) -> Result<Vec<u8>, InputF
             Ok(0) => return Ok(text),
             Ok(count) => text.extend_from_slice(&piece[..count])?,
             Err(fault) => {
-                if fault.kind() != ErrorKind::Interrupted {
-                    return Err(InputFault::Failed);
+                let kind = fault.kind();
+                if kind != ErrorKind::Interrupted {
+                    return Err(InputFault::Failed(kind));
                 }
             }
         }

@@ -9,6 +9,6 @@ mod printed;
 mod small_configuration;
 
 pub use input::{InputFault, read_all};
-pub use numbers::{first_path, read_bytes};
+pub use numbers::{Answer, answer_to_numbers, read_bytes};
 pub use packets::trace_packet;
 pub use small_configuration::{small_config, small_metadata};

@@ -1,13 +1,19 @@
 -- What `trace` answers, step by step.
-use Rattle.std.proofs.Common.{◌≡◌, ℕ, zero, suc, ◌+◌, List, [], ◌∷◌, ◌++◌, None, Some, take, sym, subst, ap, ◌∙◌, append_assoc, append-nil, add-one, arith}
+use Rattle.std.proofs.Common.{◌≡◌, inl, inr, ℕ, zero, suc, ◌+◌, List, [], ◌∷◌, ◌++◌, None, Some, take, sym, subst, ap, ◌∙◌, append_assoc, append-nil, add-one, arith}
 use Rattle.std.proofs.lemmas.Option.{same_Some}
 use Rattle.std.specs.Prelude.{slice_get}
 use Rattle.trace_stack.specs.declared.answer.Answer.{Answer}
 use Rattle.command_words.specs.declared.commands.Command.{Command}
 use Rattle.command_words.specs.declared.commands.Command.TheVariants.{FirstPath, Check, Metadata, Trace, Read}
+use Rattle.command_words.specs.declared.commands.TraceCommand.{TraceCommand}
+use Rattle.trace_commands.specs.declared.failure.Failure.{Failure}
 use Rattle.trace_commands.specs.AnswerLines.{answer_line, answer_lines}
 use Rattle.command_words.specs.CommandLine.{Asks, AsksBy}
+use Rattle.trace_commands.specs.Reading.{IsPathIn}
 use Rattle.trace_commands.specs.Running.{HasSizes}
+use Rattle.trace_commands.specs.Telling.{FailsAt}
+use Rattle.trace_commands.specs.Tracing.{IsTracePath}
+use Rattle.trace_commands.proofs.TellingLaws.{fails_weaker}
 
 -- one line more
 lines_suc : (n : ℕ) (answers : List Answer) (i : ℕ) (a : Answer) → slice_get answers i ≡ Some a
@@ -42,3 +48,18 @@ sizes_by name rows (Read r) h = tt
 pub asked_sizes : (words : List (List ℕ)) (c : Command) → Asks words c → HasSizes c
 asked_sizes [] c h = subst HasSizes (sym h) tt
 asked_sizes (word ∷ words) c h = sizes_by h.name h.rows c h.asks
+
+-- ---- what fails of a command to trace
+
+pub config_fails : (t : TraceCommand) (failure : Failure) → FailsAt (λ path. path ≡ t.config.now) failure → FailsAt (IsTracePath t) failure
+config_fails t failure at = fails_weaker (λ path. path ≡ t.config.now) (IsTracePath t) failure (λ path is. inl is) at
+
+pub script_fails : (t : TraceCommand) (failure : Failure) → FailsAt (λ path. path ≡ t.script.now) failure → FailsAt (IsTracePath t) failure
+script_fails t failure at = fails_weaker (λ path. path ≡ t.script.now) (IsTracePath t) failure (λ path is. inr (inl is)) at
+
+pub folder_fails : (t : TraceCommand) (failure : Failure) → FailsAt (λ path. path ≡ t.folder.now) failure → FailsAt (IsTracePath t) failure
+folder_fails t failure at = fails_weaker (λ path. path ≡ t.folder.now) (IsTracePath t) failure (λ path is. inr (inr (inl is))) at
+
+pub file_fails : (t : TraceCommand) (folder : List ℕ) (failure : Failure) → folder ≡ t.folder.now → FailsAt (IsPathIn folder) failure → FailsAt (IsTracePath t) failure
+file_fails t folder failure same at =
+    fails_weaker (IsPathIn folder) (IsTracePath t) failure (λ path is. inr (inr (subst (λ (f : List ℕ). IsPathIn f path) same is))) at

@@ -9,7 +9,6 @@ use Rattle.std.specs.Global.{Vec}
 use Rattle.std.specs.List.{All}
 use Rattle.std.specs.Option.{unwrap_or}
 use Rattle.ctf_types.specs.declared.Config.{Config}
-use Rattle.ctf_types.specs.declared.StreamType.{StreamType}
 use Rattle.packet_reader.specs.declared.resuming.ResumePoint.{ResumePoint}
 use Rattle.thread_stream.specs.Starting.{stream_named}
 use Rattle.trace_clock.specs.declared.bounds.Bounds.{Bounds}
@@ -33,7 +32,7 @@ use Rattle.trace_text.specs.declared.script.ScriptStream.{ScriptStream}
 use Rattle.trace_text.specs.Names.{first_refused}
 use Rattle.std.proofs.lemmas.List.{length-map}
 use Rattle.trace_commands.specs.declared.recording.Sizes.{Sizes}
-use Rattle.trace_commands.specs.Begun.{AreRight, Begun, HasRoom, fault_of, floor_at}
+use Rattle.trace_commands.specs.Begun.{AreRight, Begun, fault_of, floor_at}
 use Rattle.trace_commands.specs.Tracing.{AreFree, stream_names}
 use Rattle.trace_commands.specs.Workers.{AreWorkers, IsWorkerOf, acts_of, answers_at, is_of_stream, named_line, named_lines, stream_lines}
 use Rattle.trace_commands.proofs.BegunLaws.{AreAbove, begun_at, floor_of_point, length_begun, of_its_type}

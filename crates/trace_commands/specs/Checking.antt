@@ -1,14 +1,17 @@
 -- What `check` and `metadata` answer to the text of a configuration's file.
-use Rattle.std.specs.Prelude.{◌≡◌, ◌⊎◌, ℕ, List, [], ◌++◌, Option, Some, None, map, sum, length, codes}
+use Rattle.std.specs.Prelude.{◌≡◌, ◌⊎◌, ℕ, List, [], ◌++◌, Option, Some, None, map, sum, length, codes, string_bytes}
 use Rattle.std.specs.Fmt.{decimal}
 use Rattle.ctf_types.specs.declared.Config.{Config}
 use Rattle.ctf_types.specs.declared.StreamType.{StreamType}
 use Rattle.ctf_types.specs.declared.IntType.{IntType}
+use Rattle.ctf_types.specs.AllowedConfig.{IsConfig}
 use Rattle.ctf_types.specs.MetadataOf.{metadata_of}
 use Rattle.conf_tree.specs.Flaw.{Flaw}
 use Rattle.conf_check.specs.Configuration.{Configures, IsRefusal}
 use Rattle.tsdl_grammar.specs.Denotes.{Denotes}
 use Rattle.tsdl_writer.specs.Written.{written}
+use Rattle.trace_commands.specs.declared.judged.Judged.{Judged}
+use Rattle.trace_commands.specs.declared.judged.Judged.TheVariants.{Right, Refused}
 use Rattle.trace_commands.specs.Shown.{IsFaultLine, fault_line}
 
 -- the text is no configuration, since this flaw is its first
@@ -20,6 +23,11 @@ pub record IsRefused (text : List ℕ) (number : Option (List ℕ)) : Type 0 whe
 abbrev pub IsFaultOf : List ℕ → List ℕ → Option (List ℕ) → List ℕ → List ℕ → ℕ → Type 0
 IsFaultOf path text number output errors status =
     IsRefused text number × (output ≡ []) × IsFaultLine path errors × (status ≡ 1)
+
+-- the text is this configuration, or it is none, which this answers
+abbrev pub IsJudged : List ℕ → List ℕ → Option (List ℕ) → Judged → Type 0
+IsJudged path text number (Right c) = Configures text number c × IsConfig c
+IsJudged path text number (Refused a) = IsFaultOf path text number (string_bytes a.output) a.errors.items a.status
 
 -- ---- check
 

@@ -1,5 +1,5 @@
 -- What `read` answers to the files of a folder: the text of its metadata, and of each stream file its name and what its reader had to give.
-use Rattle.std.specs.Prelude.{◌≡◌, ◌≢◌, ◌⊎◌, ℕ, Bool, not, List, [], ◌++◌, Option, map, filter, All, IsPermutation, IsSorted, codes, bytes_eq}
+use Rattle.std.specs.Prelude.{◌≡◌, ◌≢◌, ◌⊎◌, ℕ, Bool, not, List, [], ◌∷◌, ◌++◌, Option, map, filter, All, IsPermutation, IsSorted, codes, bytes_eq}
 use Rattle.std.specs.List.{AllZip}
 use Rattle.std.specs.Ordering.{nat_cmp}
 use Rattle.std.specs.Cmp.Lexicographic.{slice_cmp}
@@ -18,9 +18,13 @@ use Rattle.trace_text.specs.PrintedFromReaders.{PrintsFront, Source}
 use Rattle.trace_text.specs.PrintedTrace.{lines}
 use Rattle.trace_commands.specs.Ends.{AreLines, path_in, status_of, stream_line}
 use Rattle.trace_commands.specs.Shown.{IsFaultLine}
-use Rattle.trace_commands.specs.Telling.{SaysFailure, SaysMore, Told, ToldWhole, WasGiven}
+use Rattle.trace_commands.specs.Telling.{ErrorsStopped, IsLineOf, IsOutputLine, SaysFailure, SaysLine, Told, ToldWhole, WasGiven}
 
 -- ---- the files of a folder
+
+-- the path of a folder, or of a file in it
+abbrev pub IsPathIn : List ℕ → List ℕ → Type 0
+IsPathIn folder path = (path ≡ folder) ⊎ ((name : List ℕ) × (path ≡ path_in folder name))
 
 abbrev pub metadata_name : List ℕ
 metadata_name = codes "metadata"
@@ -85,17 +89,22 @@ pub record IsShown (folder : List ℕ) (text : List ℕ) (sources : List Source)
   pub errors_are : AreLines (stream_line folder) streams errors
   pub status_is : status ≡ status_of (map (λ s. s.end) streams)
 
--- a reader stopped, a write failed or memory was wanting: what is printed is a front of the text of each trace that goes on from what the readers gave
-pub record IsCutShort (text : List ℕ) (sources : List Source) (old new old_errors new_errors : Option (List ℕ)) : Type 0 where
+-- why a trace is not printed to its end: a file in the folder is not read on, the output takes no more, a line of more records than are counted, or memory was wanting
+abbrev pub IsStopLine : List ℕ → List ℕ → Type 0
+IsStopLine folder line =
+    IsLineOf (IsPathIn folder) line ⊎ IsOutputLine line ⊎ (line ≡ codes "ctftrace: no end after 2^64 records" ++ 10 ∷ [])
+
+-- which a line says: what is printed is a front of the text of each trace that goes on from what the readers gave
+pub record IsCutShort (folder text : List ℕ) (sources : List Source) (old new old_errors new_errors : Option (List ℕ)) : Type 0 where
   pub metadata : Metadata
   pub denotes : Denotes text metadata
   pub printed : PrintsFront metadata sources old new
-  pub said : SaysMore old_errors new_errors
+  pub said : SaysLine (IsStopLine folder) old_errors new_errors
 
 abbrev pub ShowsTrace : List ℕ → List ℕ → List Source → Option (List ℕ) → Option (List ℕ) → Option (List ℕ) → Option (List ℕ) → ℕ → Type 0
 ShowsTrace folder text sources old new old_errors new_errors status =
     ToldWhole (IsShown folder text sources) old new old_errors new_errors status
-    ⊎ ((status ≡ 3) × IsCutShort text sources old new old_errors new_errors)
+    ⊎ ((status ≡ 3) × (ErrorsStopped (IsShown folder text sources) old new old_errors new_errors ⊎ IsCutShort folder text sources old new old_errors new_errors))
 
 -- ---- the command
 
@@ -109,4 +118,4 @@ TellsFolder folder text sources old new old_errors new_errors status =
 abbrev pub ReadsFolder : {File : Type 0} → (File → Option (List ℕ)) → List ℕ → Option (List ℕ) → Option (List ℕ) → Option (List ℕ) → Option (List ℕ) → ℕ → Type 0
 ReadsFolder remaining folder old new old_errors new_errors status =
     ((text : List ℕ) × (sources : List Source) × IsOpened remaining text sources × TellsFolder folder text sources old new old_errors new_errors status)
-    ⊎ ((status ≡ 3) × SaysFailure old new old_errors new_errors)
+    ⊎ ((status ≡ 3) × SaysFailure (IsLineOf (IsPathIn folder)) old new old_errors new_errors)

@@ -16,19 +16,19 @@ use Rattle.tsdl_writer.specs.Written.{written}
 use Rattle.trace_commands.specs.declared.found_folder.NotResumed.{NotResumed}
 use Rattle.trace_commands.specs.declared.found_folder.NotResumed.TheVariants.{Refused, Failed}
 use Rattle.trace_commands.specs.Ends.{IsEndLine, is_whole, path_in}
-use Rattle.trace_commands.specs.Reading.{metadata_name}
+use Rattle.trace_commands.specs.Reading.{IsPathIn, metadata_name}
 use Rattle.trace_commands.specs.Shown.{IsFaultLine}
-use Rattle.trace_commands.specs.Telling.{WasGiven}
+use Rattle.trace_commands.specs.Telling.{FailsAt, WasGiven}
 
--- a line of this path is said, or what failed
+-- a line of this path is said, or its file failed, or memory was wanting
 abbrev pub RefusesAt : List ℕ → NotResumed → Type 0
 RefusesAt path (Refused line) = IsFaultLine path line.items
-RefusesAt path (Failed failure) = Unit {0}
+RefusesAt path (Failed failure) = FailsAt (λ failed. failed ≡ path) failure
 
--- what was read of a file does not end whole, which a line of it says, or what failed
+-- what was read of a file does not end whole, which a line of it says; or the folder or a file in it failed, or memory was wanting
 abbrev pub RefusesEnd : List ℕ → ReadStream → NotResumed → Type 0
 RefusesEnd folder found (Refused line) = (is_whole found.end ≡ false) × IsEndLine folder found.name (length found.packets) found.end line.items
-RefusesEnd folder found (Failed failure) = Unit {0}
+RefusesEnd folder found (Failed failure) = FailsAt (IsPathIn folder) failure
 
 module _ {File : Type 0} (remaining : File → Option (List ℕ)) where
   -- ---- metadata
@@ -74,17 +74,17 @@ module _ {File : Type 0} (remaining : File → Option (List ℕ)) where
 
   abbrev pub RefusesMetadata : List ℕ → List ℕ → NotResumed → Type 0
   RefusesMetadata folder wanted (Refused line) = HasOtherMetadata folder wanted line.items
-  RefusesMetadata folder wanted (Failed failure) = Unit {0}
+  RefusesMetadata folder wanted (Failed failure) = FailsAt (IsPathIn folder) failure
 
   abbrev pub RefusesFile : Metadata → List ℕ → List ℕ → NotResumed → Type 0
   RefusesFile m name folder (Refused line) = IsBroken m name folder line.items
-  RefusesFile m name folder (Failed failure) = Unit {0}
+  RefusesFile m name folder (Failed failure) = FailsAt (IsPathIn folder) failure
 
   abbrev pub RefusesFiles : Metadata → List ScriptStream → List ℕ → NotResumed → Type 0
   RefusesFiles m streams folder (Refused line) = HasBroken m streams folder line.items
-  RefusesFiles m streams folder (Failed failure) = Unit {0}
+  RefusesFiles m streams folder (Failed failure) = FailsAt (IsPathIn folder) failure
 
   -- the trace does not go on in the folder
   abbrev pub RefusesFolder : Metadata → List ScriptStream → List ℕ → List ℕ → NotResumed → Type 0
   RefusesFolder m streams folder wanted (Refused line) = HasOtherMetadata folder wanted line.items ⊎ HasBroken m streams folder line.items
-  RefusesFolder m streams folder wanted (Failed failure) = Unit {0}
+  RefusesFolder m streams folder wanted (Failed failure) = FailsAt (IsPathIn folder) failure

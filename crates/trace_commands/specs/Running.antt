@@ -1,5 +1,5 @@
 -- What the program does for the words of its command line, by what the readers had to give and what the writers took.
-use Rattle.std.specs.Prelude.{◌≡◌, ◌⊎◌, ℕ, List, Option, Some}
+use Rattle.std.specs.Prelude.{◌≡◌, ◌⊎◌, ℕ, List, Option, Some, codes}
 use Rattle.command_words.specs.declared.commands.Command.{Command}
 use Rattle.command_words.specs.declared.commands.Command.TheVariants.{FirstPath, Check, Metadata, Trace, Read}
 use Rattle.command_words.specs.CommandLine.{Asks, HasNoCommand}
@@ -8,8 +8,8 @@ use Rattle.number_packets.specs.FirstPath.{IsAnswer}
 use Rattle.trace_commands.specs.Checking.{IsChecked, IsMetadata}
 use Rattle.trace_commands.specs.ListSessions.{AreSizes}
 use Rattle.trace_commands.specs.Reading.{ReadsFolder}
-use Rattle.trace_commands.specs.Telling.{ToldOrFails, SaysFailure, AnswersFile, TellsNoCommand}
-use Rattle.trace_commands.specs.Tracing.{TellsTrace, sizes_of}
+use Rattle.trace_commands.specs.Telling.{AnswersFile, IsFileLine, IsLineOf, IsMemoryLine, SaysFailure, TellsNoCommand, ToldOrFails}
+use Rattle.trace_commands.specs.Tracing.{IsTracePath, TellsTrace, sizes_of}
 
 -- a command to trace has sizes that a session can have
 abbrev pub HasSizes : Command → Type 0
@@ -21,13 +21,13 @@ HasSizes (Read r) = Unit {0}
 
 abbrev pub Does : {File : Type 0} → (File → Option (List ℕ)) → (File → Option (List ℕ)) → Command → Option (List ℕ) → Option (List ℕ) → Option (List ℕ) → Option (List ℕ) → Option (List ℕ) → ℕ → Type 0
 Does contents remaining FirstPath input old new old_errors new_errors status =
-    (text : List ℕ) → input ≡ Some text → ToldOrFails (IsAnswer text) old new old_errors new_errors status
+    (text : List ℕ) → input ≡ Some text → ToldOrFails (IsFileLine (codes "standard input")) (IsAnswer text) old new old_errors new_errors status
 Does contents remaining (Check path) input old new old_errors new_errors status =
-    AnswersFile remaining (IsChecked path.now) old new old_errors new_errors status
+    AnswersFile remaining path.now (IsChecked path.now) old new old_errors new_errors status
 Does contents remaining (Metadata m) input old new old_errors new_errors status =
-    AnswersFile remaining (λ text. IsMetadata m.config.now text m.uuid) old new old_errors new_errors status
+    AnswersFile remaining m.config.now (λ text. IsMetadata m.config.now text m.uuid) old new old_errors new_errors status
 Does contents remaining (Trace t) input old new old_errors new_errors status =
-    ToldOrFails (TellsTrace contents remaining t) old new old_errors new_errors status
+    ToldOrFails (IsLineOf (IsTracePath t)) (TellsTrace contents remaining t) old new old_errors new_errors status
 Does contents remaining (Read r) input old new old_errors new_errors status =
     ReadsFolder remaining r.folder.now old new old_errors new_errors status
 
@@ -37,4 +37,4 @@ abbrev pub Runs : {File : Type 0} → (File → Option (List ℕ)) → (File →
 Runs contents remaining words input old new old_errors new_errors status =
     ((c : Command) × Asks words c × Does contents remaining c input old new old_errors new_errors status)
     ⊎ (HasNoCommand words × TellsNoCommand (IsFaultOfWords words) old new old_errors new_errors status)
-    ⊎ ((status ≡ 3) × SaysFailure old new old_errors new_errors)
+    ⊎ ((status ≡ 3) × SaysFailure IsMemoryLine old new old_errors new_errors)

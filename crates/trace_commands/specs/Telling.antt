@@ -1,13 +1,48 @@
--- How an answer is told: all of it is written, with its status; or a write failed, and at status 3 a front of the output is written.
+-- How an answer is told: all of it is written, with its status; or a write failed, and at status 3 a front of the output is written. And how it is told
+-- that there is none: nothing is printed, and at status 3 a line says what failed, or a front of that line, as far as it was taken.
 use Rattle.std.specs.Prelude.{◌≡◌, ◌⊎◌, ℕ, List, [], ◌∷◌, ◌++◌, Option, IfSome, codes, string_bytes}
 use Rattle.std.specs.Io.KnownBytes.{Appends}
 use Rattle.trace_platform.specs.Fronts.{AppendsFront}
-use Rattle.trace_commands.specs.declared.answer.Answer.{Answer}
-use Rattle.trace_commands.specs.declared.failure.Failure.{Failure}
-use Rattle.trace_commands.specs.declared.failure.Failure.TheVariants.{File as FileFailed, OutOfMemory as NoMemory}
 use Rattle.command_words.specs.declared.line_fault.LineFault.{LineFault}
 use Rattle.command_words.specs.declared.line_fault.LineFault.TheVariants.{Help, Bad, OutOfMemory}
+use Rattle.number_packets.specs.declared.numbers.Answer.{Answer}
+use Rattle.trace_commands.specs.declared.failure.Failure.{Failure}
+use Rattle.trace_commands.specs.declared.failure.Failure.TheVariants.{File as FileFailed, OutOfMemory as NoMemory}
 use Rattle.trace_commands.specs.Shown.{IsFaultLine}
+
+-- ---- the lines of what failed
+
+-- the line that memory was wanting
+abbrev pub IsMemoryLine : List ℕ → Type 0
+IsMemoryLine line = line ≡ codes "ctftrace: out of memory" ++ 10 ∷ []
+
+-- the line that the output took no more
+abbrev pub IsOutputLine : List ℕ → Type 0
+IsOutputLine line = line ≡ codes "ctftrace: standard output: a write failed" ++ 10 ∷ []
+
+-- a line of a fault in this file, or the line that memory was wanting
+abbrev pub IsFileLine : List ℕ → List ℕ → Type 0
+IsFileLine path line = IsFaultLine path line ⊎ IsMemoryLine line
+
+-- a line that says what failed
+abbrev pub IsFailureLine : Failure → List ℕ → Type 0
+IsFailureLine (FileFailed path fault) line = IsFileLine (string_bytes path) line
+IsFailureLine NoMemory line = IsMemoryLine line
+
+-- a line of a file of one of these paths, or the line that memory was wanting
+abbrev pub IsLineOf : (List ℕ → Type 0) → List ℕ → Type 0
+IsLineOf IsPath line = ((path : List ℕ) × IsPath path × IsFaultLine path line) ⊎ IsMemoryLine line
+
+-- what failed is a file of one of these paths, or memory was wanting
+abbrev pub FailsAt : (List ℕ → Type 0) → Failure → Type 0
+FailsAt IsPath (FileFailed path fault) = IsPath (string_bytes path)
+FailsAt IsPath NoMemory = Unit {0}
+
+-- such a line is said, or a front of it
+abbrev pub SaysLine : (List ℕ → Type 0) → Option (List ℕ) → Option (List ℕ) → Type 0
+SaysLine Is old new = (line : List ℕ) × Is line × AppendsFront old new line
+
+-- ---- an answer
 
 -- what may be answered, by its output, its errors and its status
 abbrev pub Answering : Type 1
@@ -24,60 +59,50 @@ pub record ToldWhole (P : Answering) (old new old_errors new_errors : Option (Li
   pub printed : Appends old new output
   pub said : Appends old_errors new_errors errors
 
--- a front of the output, and something of what failed
-pub record ToldFront (P : Answering) (old new old_errors new_errors : Option (List ℕ)) : Type 0 where
+-- the output took a front, and this is said in place of the errors
+pub record OutputStopped (P : Answering) (old new old_errors new_errors : Option (List ℕ)) : Type 0 where
   pub output : List ℕ
   pub errors : List ℕ
   pub due : ℕ
   pub answer : P output errors due
   pub printed : AppendsFront old new output
-  pub failure : List ℕ
-  pub said : Appends old_errors new_errors failure
+  pub said : SaysLine IsOutputLine old_errors new_errors
+
+-- the output took all, and the errors a front
+pub record ErrorsStopped (P : Answering) (old new old_errors new_errors : Option (List ℕ)) : Type 0 where
+  pub output : List ℕ
+  pub errors : List ℕ
+  pub due : ℕ
+  pub answer : P output errors due
+  pub printed : Appends old new output
+  pub said : AppendsFront old_errors new_errors errors
 
 abbrev pub Told : Answering → Option (List ℕ) → Option (List ℕ) → Option (List ℕ) → Option (List ℕ) → ℕ → Type 0
 Told P old new old_errors new_errors status =
-    ToldWhole P old new old_errors new_errors status ⊎ ((status ≡ 3) × ToldFront P old new old_errors new_errors)
+    ToldWhole P old new old_errors new_errors status
+    ⊎ ((status ≡ 3) × (OutputStopped P old new old_errors new_errors ⊎ ErrorsStopped P old new old_errors new_errors))
 
--- something more is said
-abbrev pub SaysMore : Option (List ℕ) → Option (List ℕ) → Type 0
-SaysMore old new = (more : List ℕ) × Appends old new more
+-- ---- no answer
 
--- a line of a fault in this file, or the line that memory was wanting
-abbrev pub IsMemoryLine : List ℕ → Type 0
-IsMemoryLine line = line ≡ codes "ctftrace: out of memory" ++ 10 ∷ []
-
-abbrev pub IsFileLine : List ℕ → List ℕ → Type 0
-IsFileLine path line = IsFaultLine path line ⊎ IsMemoryLine line
-
--- a line that says what failed
-abbrev pub IsFailureLine : Failure → List ℕ → Type 0
-IsFailureLine (FileFailed path fault) line = IsFileLine (string_bytes path) line
-IsFailureLine NoMemory line = IsMemoryLine line
-
--- such a line is said, or a front of it
-abbrev pub SaysLine : (List ℕ → Type 0) → Option (List ℕ) → Option (List ℕ) → Type 0
-SaysLine Is old new = (line : List ℕ) × Is line × AppendsFront old new line
-
--- nothing is printed, and what failed is said
-pub record SaysFailure (old new old_errors new_errors : Option (List ℕ)) : Type 0 where
-  pub failure : List ℕ
+-- nothing is printed, and such a line says what failed
+pub record SaysFailure (Is : List ℕ → Type 0) (old new old_errors new_errors : Option (List ℕ)) : Type 0 where
   pub nothing : Appends old new []
-  pub said : Appends old_errors new_errors failure
+  pub said : SaysLine Is old_errors new_errors
 
--- an answer, or status 3 without one: a file could not be read, or memory was wanting
-abbrev pub ToldOrFails : Answering → Option (List ℕ) → Option (List ℕ) → Option (List ℕ) → Option (List ℕ) → ℕ → Type 0
-ToldOrFails P old new old_errors new_errors status =
-    Told P old new old_errors new_errors status ⊎ ((status ≡ 3) × SaysFailure old new old_errors new_errors)
+-- an answer, or status 3 without one
+abbrev pub ToldOrFails : (List ℕ → Type 0) → Answering → Option (List ℕ) → Option (List ℕ) → Option (List ℕ) → Option (List ℕ) → ℕ → Type 0
+ToldOrFails Is P old new old_errors new_errors status =
+    Told P old new old_errors new_errors status ⊎ ((status ≡ 3) × SaysFailure Is old new old_errors new_errors)
 
 -- the text is all that a file that was opened had to give, by what its reader has left
 abbrev pub WasGiven : {File : Type 0} → (File → Option (List ℕ)) → List ℕ → Type 0
 WasGiven {File} remaining text = (file : File) × IfSome (remaining file) (λ bytes. text ≡ bytes)
 
 -- an answer to what the file of a command had to give; or the file was not read, or memory was wanting
-abbrev pub AnswersFile : {File : Type 0} → (File → Option (List ℕ)) → (List ℕ → Answering) → Option (List ℕ) → Option (List ℕ) → Option (List ℕ) → Option (List ℕ) → ℕ → Type 0
-AnswersFile remaining P old new old_errors new_errors status =
+abbrev pub AnswersFile : {File : Type 0} → (File → Option (List ℕ)) → List ℕ → (List ℕ → Answering) → Option (List ℕ) → Option (List ℕ) → Option (List ℕ) → Option (List ℕ) → ℕ → Type 0
+AnswersFile remaining path P old new old_errors new_errors status =
     ((text : List ℕ) × WasGiven remaining text × Told (P text) old new old_errors new_errors status)
-    ⊎ ((status ≡ 3) × SaysFailure old new old_errors new_errors)
+    ⊎ ((status ≡ 3) × SaysFailure (IsFileLine path) old new old_errors new_errors)
 
 -- help goes to standard output with status 0, what is wrong with the words to standard error with status 2
 abbrev pub TellsLineFault : LineFault → Option (List ℕ) → Option (List ℕ) → Option (List ℕ) → Option (List ℕ) → ℕ → Type 0
@@ -85,7 +110,7 @@ TellsLineFault (Help text) old new old_errors new_errors status =
     Told (λ output errors s. (output ≡ string_bytes text) × (errors ≡ []) × (s ≡ 0)) old new old_errors new_errors status
 TellsLineFault (Bad text) old new old_errors new_errors status =
     Told (λ output errors s. (output ≡ []) × (errors ≡ string_bytes text) × (s ≡ 2)) old new old_errors new_errors status
-TellsLineFault OutOfMemory old new old_errors new_errors status = (status ≡ 3) × SaysFailure old new old_errors new_errors
+TellsLineFault OutOfMemory old new old_errors new_errors status = (status ≡ 3) × SaysFailure IsMemoryLine old new old_errors new_errors
 
 -- one of the faults that fit the words is told
 abbrev pub TellsNoCommand : (LineFault → Type 0) → Option (List ℕ) → Option (List ℕ) → Option (List ℕ) → Option (List ℕ) → ℕ → Type 0

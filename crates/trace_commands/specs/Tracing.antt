@@ -43,6 +43,7 @@ use Rattle.trace_commands.specs.AnswerLines.{answer_lines}
 use Rattle.trace_commands.specs.Begun.{AreRight, Begun, HasRoom, all_anew, begun, fault_of, largest_floor}
 use Rattle.trace_commands.specs.Checking.{IsFaultOf}
 use Rattle.trace_commands.specs.ListSessions.{IsRecording}
+use Rattle.trace_commands.specs.Reading.{IsPathIn}
 use Rattle.trace_commands.specs.Resuming.{HasBroken, HasMetadata, HasOtherMetadata, HasPoint}
 use Rattle.trace_commands.specs.Shown.{IsFaultLine}
 use Rattle.trace_commands.specs.Telling.{WasGiven}
@@ -50,6 +51,10 @@ use Rattle.trace_commands.specs.Workers.{AreWorkers, IsSharedBy, stream_lines}
 
 abbrev pub sizes_of : TraceCommand → Sizes
 sizes_of t = record { bytes = t.packet_bytes; buffers = t.buffers }
+
+-- a path of the command: its configuration, its script, its folder, or a file in that
+abbrev pub IsTracePath : TraceCommand → List ℕ → Type 0
+IsTracePath t path = (path ≡ t.config.now) ⊎ (path ≡ t.script.now) ⊎ IsPathIn t.folder.now path
 
 -- ---- refusals: nothing is printed, one line says the fault, and the status is 1
 

@@ -4,11 +4,12 @@ ghost use Rattle.std.specs.Prelude.{◌≡◌, ◌+◌, map, sum, length, IfOk, 
 ghost use Rattle.trace_commands.specs.Checking.{IsChecked, counted_line, events_in, hint_line};
 ghost use Rattle.trace_commands.specs.Telling.{AnswersFile};
 
-use crate::answer::{Answer, OUT_OF_MEMORY, fail, tell};
-use crate::fault_lines::{configuration_line, fault_line};
+use crate::answer::{OUT_OF_MEMORY, fail, tell};
+use crate::fault_lines::fault_line;
 use crate::files::{fail_at, read_file};
-use conf_check::configure;
+use crate::judged::{Judged, judge};
 use ctf_types::{Config, StreamType};
+use number_packets::Answer;
 use std::alloc::{AllocError, Global};
 use std::io::Write;
 use std::rt::Files;
@@ -20,7 +21,7 @@ pub fn check<X: Files + AllocGlobal + Clone + Drop, W: Write, E: Write>(
     output: &mut W,
     errors: &mut E,
 ) -> u8
-    ensures { AnswersFile X.File.remaining (IsChecked path.now) (W.contents output.old) (W.contents output.new) (E.contents errors.old) (E.contents errors.new) result }
+    ensures { AnswersFile X.File.remaining path.now (IsChecked path.now) (W.contents output.old) (W.contents output.new) (E.contents errors.old) (E.contents errors.new) result }
 {
     let text = match read_file(rt, path) {
         Ok(text) => text,
@@ -36,22 +37,13 @@ pub fn check<X: Files + AllocGlobal + Clone + Drop, W: Write, E: Write>(
 fn check_text(alloc: Global, path: &str, text: &[u8]) -> Result<Answer, AllocError>
     ensures { IfOk result (λ a. IsChecked path.now text.now (string_bytes a.output) a.errors.items a.status) }
 {
-    match configure(alloc, text, None) {
-        Ok(config) => Ok(Answer {
+    match judge(alloc, path, text, None)? {
+        Judged::Right(config) => Ok(Answer {
             output: counted(alloc, &config)?,
             errors: hint(alloc, path, &config)?,
             status: 0,
         }),
-        Err(fault) => {
-            if fault.is_memory() {
-                return Err(AllocError);
-            }
-            Ok(Answer {
-                output: String::new(alloc),
-                errors: configuration_line(alloc, path.as_bytes(), text, &fault)?,
-                status: 1,
-            })
-        }
+        Judged::Refused(answer) => Ok(answer),
     }
 }
 

@@ -4,9 +4,8 @@ ghost use Rattle.std.specs.Prelude.{◌≡◌, IfOk};
 ghost use Rattle.trace_commands.specs.Shown.{IsFaultLine, fault_line as line_of};
 
 use crate::shown::{first_characters, push_shown};
-use conf_fault::explain_fault;
+use conf_fault::{explain_fault, json_place};
 use conf_tree::ConfFault;
-use serde_json::Value;
 use std::alloc::{AllocError, Global};
 
 /// The line of what is said of a file.
@@ -37,14 +36,9 @@ pub fn configuration_line(
 
 /// The line and the column at which a text stops being JSON.
 pub fn push_position(alloc: Global, said: &mut Vec<u8>, text: &[u8]) -> Result<(), AllocError> {
-    let Err(error) = Value::from_slice(alloc, text) else {
-        return Ok(());
-    };
-    if error.is_memory() {
-        return Err(AllocError);
-    }
-    let place = format!(in alloc; "line {}, column {}: ", error.line(), error.column())?;
-    said.extend_from_slice(place.as_bytes())
+    let place = json_place(alloc, text)?;
+    let words = format!(in alloc; "line {}, column {}: ", place.line, place.column)?;
+    said.extend_from_slice(words.as_bytes())
 }
 
 /// A name, or its first characters and three dots.

@@ -1,11 +1,12 @@
 //! Files of the command line, read whole, and why a file fails.
 
 ghost use Rattle.std.specs.Prelude.{◌≡◌, IfOk};
-ghost use Rattle.trace_commands.specs.Telling.{IsFileLine, SaysLine, SaysMore, WasGiven};
+ghost use Rattle.trace_commands.specs.Telling.{IsFileLine, SaysLine, WasGiven};
 
 use crate::answer::{OUT_OF_MEMORY, fail};
 use crate::fault_lines::fault_line;
 use number_packets::{InputFault, read_all};
+use packet_reader::ReadStop;
 use std::alloc::Global;
 use std::fs;
 use std::io::{ErrorKind, Write};
@@ -19,6 +20,9 @@ pub enum FileFault {
     NotOpened(ErrorKind),
     #[error("cannot read: {0}")]
     NotRead(InputFault),
+    /// The reader of a stream file stopped.
+    #[error("cannot read: {0}")]
+    Stopped(ReadStop),
     #[error("cannot find: {0}")]
     NotFound(ErrorKind),
     #[error("not a folder")]
@@ -49,7 +53,6 @@ pub fn read_file<X: Files + AllocGlobal>(rt: &X, path: &str) -> Result<Vec<u8>, 
 pub fn fail_at<E: Write>(alloc: Global, path: &str, fault: &FileFault, errors: &mut E) -> u8
     ensures status { result ≡ 3 }
     ensures said { SaysLine (IsFileLine path.now) (E.contents errors.old) (E.contents errors.new) }
-    ensures more { SaysMore (E.contents errors.old) (E.contents errors.new) }
 {
     let Ok(said) = format!(in alloc; "{fault}") else {
         return fail(errors, OUT_OF_MEMORY);

@@ -2,8 +2,9 @@
 
 ghost use Rattle.trace_commands.specs.Telling.{TellsLineFault};
 
-use crate::answer::{Answer, OUT_OF_MEMORY, fail, tell};
+use crate::answer::{OUT_OF_MEMORY, fail, tell};
 use command_words::LineFault;
+use number_packets::Answer;
 use std::alloc::Global;
 use std::io::Write;
 

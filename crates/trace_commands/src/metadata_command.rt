@@ -4,11 +4,11 @@ ghost use Rattle.std.specs.Prelude.{IfOk, string_bytes};
 ghost use Rattle.trace_commands.specs.Checking.{IsMetadata};
 ghost use Rattle.trace_commands.specs.Telling.{AnswersFile};
 
-use crate::answer::{Answer, OUT_OF_MEMORY, fail, tell};
-use crate::fault_lines::configuration_line;
+use crate::answer::{OUT_OF_MEMORY, fail, tell};
 use crate::files::{fail_at, read_file};
+use crate::judged::{Judged, judge};
 use command_words::MetadataCommand;
-use conf_check::configure;
+use number_packets::Answer;
 use std::alloc::{AllocError, Global};
 use std::io::Write;
 use std::rt::Files;
@@ -22,7 +22,7 @@ pub fn metadata<X: Files + AllocGlobal + Clone + Drop, W: Write, E: Write>(
     output: &mut W,
     errors: &mut E,
 ) -> u8
-    ensures { AnswersFile X.File.remaining (λ text. IsMetadata asked.now.config.now text asked.now.uuid) (W.contents output.old) (W.contents output.new) (E.contents errors.old) (E.contents errors.new) result }
+    ensures { AnswersFile X.File.remaining asked.now.config.now (λ text. IsMetadata asked.now.config.now text asked.now.uuid) (W.contents output.old) (W.contents output.new) (E.contents errors.old) (E.contents errors.new) result }
 {
     let text = match read_file(rt, asked.config) {
         Ok(text) => text,
@@ -43,21 +43,12 @@ fn metadata_text(
 ) -> Result<Answer, AllocError>
     ensures { IfOk result (λ a. IsMetadata path.now text.now number (string_bytes a.output) a.errors.items a.status) }
 {
-    match configure(alloc, text, number) {
-        Ok(config) => Ok(Answer {
+    match judge(alloc, path, text, number)? {
+        Judged::Right(config) => Ok(Answer {
             output: write_metadata(alloc, &config)?,
             errors: Vec::new(alloc),
             status: 0,
         }),
-        Err(fault) => {
-            if fault.is_memory() {
-                return Err(AllocError);
-            }
-            Ok(Answer {
-                output: String::new(alloc),
-                errors: configuration_line(alloc, path.as_bytes(), text, &fault)?,
-                status: 1,
-            })
-        }
+        Judged::Refused(answer) => Ok(answer),
     }
 }

@@ -4,7 +4,7 @@ ghost use Rattle.std.specs.Prelude.{map};
 ghost use Rattle.trace_commands.specs.Running.{Does, HasSizes, Runs};
 
 use crate::check_command::check;
-use crate::first_command::trace_numbers;
+use crate::first_command::first_path;
 use crate::line_answer::tell_line_fault;
 use crate::metadata_command::metadata;
 use crate::progress::Progress;
@@ -48,7 +48,7 @@ fn obey<
     match asked {
         Wanted::FirstPath => {
             rt.say_wanted();
-            trace_numbers(rt.alloc(), input, output, errors)
+            first_path(rt.alloc(), input, output, errors)
         }
         Wanted::Check(path) => check(rt, path, output, errors),
         Wanted::Metadata(asked) => metadata(rt, asked, output, errors),

@@ -1,6 +1,7 @@
 //! What stands where a script has a fault, by the JSON that its text is, and the names that there are.
 
 use crate::fault_lines::push_name;
+use crate::script_form::{push_property, push_value};
 use ctf_types::{Config, StreamType};
 use serde_json::Value;
 use std::alloc::{AllocError, Global};
@@ -15,7 +16,8 @@ enum Place<'v> {
     Event(&'v Value),
 }
 
-/// Adds where a script that is JSON has this fault, what stands there, what is wrong with it, and of an unknown name those that there are.
+/// Adds where a script that is JSON has this fault, of a stream of another form also the property, what stands there, what is wrong with it, and of an unknown
+/// name those that there are.
 pub fn push_fault(
     alloc: Global,
     said: &mut Vec<u8>,
@@ -38,6 +40,11 @@ fn push_fault_in(
 ) -> Result<(), AllocError> {
     let place = faulty_place(alloc, config, script, fault)?;
     push_place(alloc, said, &place, fault.at)?;
+    if let (Place::Stream(entry), ScriptFaultKind::Shape) = (place, fault.kind) {
+        if push_property(alloc, said, entry)? {
+            return Ok(());
+        }
+    }
     push_blamed(alloc, said, script, &place, fault.kind)?;
     let kind = format!(in alloc; ": {}", fault.kind)?;
     said.extend_from_slice(kind.as_bytes())?;
@@ -115,10 +122,7 @@ fn push_blamed(
     };
     match unknown_name(place, kind) {
         Some(name) => push_name(said, name.as_bytes()),
-        None => {
-            let shown = format!(in alloc; "{value}")?;
-            push_name(said, shown.as_bytes())
-        }
+        None => push_value(alloc, said, value),
     }
 }
 

@@ -1,10 +1,10 @@
 //! The rows of the first path.
 
 use crate::tests::answered::is_answer;
-use number_packets::first_path;
 use std::alloc::Global;
 use std::process::Abort;
 use std::test::Fail;
+use trace_commands::first_path;
 
 /// Input, output, errors and status.
 type Row = (&'static str, &'static str, &'static str, u8);

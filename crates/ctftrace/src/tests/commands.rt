@@ -73,6 +73,13 @@ static ROWS: &[Row] = &[
         3,
     ),
     (
+        &["check", "."],
+        SMALL,
+        "",
+        "ctftrace: .: cannot read: is a directory\n",
+        3,
+    ),
+    (
         &["metadata", "nowhere.json"],
         SMALL,
         "",

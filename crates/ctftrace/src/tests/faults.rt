@@ -1,11 +1,11 @@
-//! Reads and writes that fail in mid-stream: the status is 3, and what was written is a front of the answer.
+//! Reads and writes that fail in mid-stream: the status is 3, what was written is a front of the answer, and a line says what failed.
 
 use crate::tests::expected::same;
 use crate::tests::stopped_output::front_of;
-use number_packets::first_path;
 use std::alloc::Global;
 use std::io::{Error, ErrorKind, Read, Result as IoResult, Write};
 use std::test::Fail;
+use trace_commands::first_path;
 
 /// The answer to the lines `1` and `2`.
 const OUTPUT: &str = "c11ffcc1800000007000000001020000\nread: 1 2\n";
@@ -67,7 +67,7 @@ fn prints_nothing_where_a_read_fails(rt: HostRuntime) -> Result<(), Fail> {
     same(
         &rt,
         errors.as_slice(),
-        b"".as_slice(),
+        b"ctftrace: standard input: cannot read: broken pipe\n".as_slice(),
         "a read that fails",
         "says",
     );
@@ -87,7 +87,11 @@ fn answer<R: Read>(alloc: Global, input: &mut R, room: usize) -> (Vec<u8>, Vec<u
 fn prints_a_front_where_a_write_fails(rt: HostRuntime) -> Result<(), Fail> {
     for room in 0..OUTPUT.len() + 2 {
         let (output, errors, status) = answer(rt.alloc(), &mut b"1\n2\n".as_slice(), room);
-        let ends = if room >= OUTPUT.len() { 0 } else { 3 };
+        let (ends, said) = if room >= OUTPUT.len() {
+            (0, "")
+        } else {
+            (3, "ctftrace: standard output: a write failed\n")
+        };
         same(&rt, status, ends, room, "bytes of room end with");
         same(
             &rt,
@@ -96,7 +100,13 @@ fn prints_a_front_where_a_write_fails(rt: HostRuntime) -> Result<(), Fail> {
             room,
             "bytes of room",
         );
-        same(&rt, errors.len(), 0, room, "bytes of room: what is said");
+        same(
+            &rt,
+            errors.as_slice(),
+            said.as_bytes(),
+            room,
+            "bytes of room: what is said",
+        );
     }
     Ok(())
 }

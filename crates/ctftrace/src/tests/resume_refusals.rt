@@ -58,7 +58,7 @@ static REFUSALS: &[Refusal] = &[
     Refusal {
         shows: "metadata that cannot be read",
         found: Found::Folder("metadata"),
-        errors: "ctftrace: kept/metadata: cannot read: a read failed\n",
+        errors: "ctftrace: kept/metadata: cannot read: is a directory\n",
         status: 3,
     },
     Refusal {
