@@ -1,24 +1,16 @@
-//! The rows of the program: what it and its commands answer, its configuration, what a reader finds in bytes that were changed, and reads and writes that fail.
+//! The rows of the program that a run of it cannot show: reads and writes that stop at each byte, progress, the parts of commands, the program's own configuration,
+//! and what a reader finds in bytes that were changed. What a run shows stands in cases/.
 
-mod answered;
-mod answers;
 mod command_line;
-mod commands;
 mod configuration;
 mod expected;
 mod faults;
 mod narrow_files;
 mod progress;
-mod read_command;
-mod resume;
-mod resume_refusals;
 mod row_files;
-mod short_timestamps;
 mod stopped_files;
 mod stopped_output;
 mod stream_files;
-mod trace_command;
-mod workers;
 
 use std::io::{Eprint, Read, Write};
 use std::process::Abort;

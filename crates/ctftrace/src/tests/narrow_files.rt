@@ -1,11 +1,9 @@
 //! A write that fails while `trace` runs: the status is 3, a line names the file, and the file has a front of what it was to have.
 
 use crate::tests::Host;
-use crate::tests::answered::Answer;
 use crate::tests::expected::same;
-use crate::tests::row_files::{remove_all, write_both};
+use crate::tests::row_files::{CLOCKED, CLOCKED_BYTES, CLOCKED_SCRIPT, remove_all, write_both};
 use crate::tests::stopped_output::front_of;
-use crate::tests::trace_command::{CLOCKED, CLOCKED_BYTES, CLOCKED_SCRIPT};
 use std::alloc::{Alloc, Allocator, Global};
 use std::cell::Cell;
 use std::fs::{self, FileTimes, Metadata, OpenFile, OpenOptions, Permissions};
@@ -16,6 +14,9 @@ use std::sync::Wait;
 use std::test::Fail;
 use std::thread::Threads;
 use trace_commands::{Progress, run};
+
+/// What is printed, what is said of faults, and the status.
+type Answer<'a> = (&'a str, &'a str, u8);
 
 /// The files of a runtime, which take at most `piece` bytes by one write, and of which the one at this path has room for so many bytes.
 #[derive(Clone, Copy)]
@@ -359,6 +360,16 @@ static ASKING: &[(&[&str], bool)] = &[
             "--quiet",
         ],
         false,
+    ),
+    (
+        &[
+            "trace",
+            "quiet.json",
+            "quiet_script.json",
+            "said",
+            "--resume",
+        ],
+        true,
     ),
     (&["read", "said"], true),
     (&["read", "said", "--quiet"], false),

@@ -3,9 +3,8 @@
 
 use crate::tests::expected::same;
 use crate::tests::narrow_files::{Outcome, is_told, traced};
-use crate::tests::row_files::{remove_all, write_both};
+use crate::tests::row_files::{SMALL, remove_all, write_both};
 use crate::tests::stopped_output::front_of;
-use crate::tests::trace_command::SMALL;
 use crate::tests::{Host, run_quietly};
 use std::alloc::{AllocError, Global};
 use std::io::Result as IoResult;

@@ -2,8 +2,9 @@
 //! line says so. The same with the stream of errors, which nobody is told of.
 
 use crate::tests::expected::same;
-use crate::tests::row_files::{remove_all, write_both, write_digits};
-use crate::tests::trace_command::{CLOCKED, CLOCKED_BYTES, CLOCKED_SCRIPT};
+use crate::tests::row_files::{
+    CLOCKED, CLOCKED_BYTES, CLOCKED_SCRIPT, SMALL, remove_all, write_both, write_digits,
+};
 use crate::tests::{Host, run_quietly};
 use std::fs;
 use std::io::Result as IoResult;
@@ -49,6 +50,7 @@ static ROWS: &[Row] = &[
         "out_new/t0",
     ),
     (&["read", "out_trace"], ""),
+    (&["read", "out_small"], ""),
 ];
 
 /// What is told where all is taken: no more is printed, and the status is that of the row.
@@ -90,20 +92,22 @@ fn make_files(rt: &impl Host) -> Result<(), Fail> {
         ("out_bad.json", "{"),
     )?;
     make_folder(rt, "out_bad", "out_bad/metadata", b"no metadata")?;
-    make_trace(rt)?;
-    write_digits(rt, "out_trace/t0", CLOCKED_BYTES)
+    make_traces(rt)
 }
 
-/// Makes a folder with the metadata of the configuration with a clock.
-fn make_trace(rt: &impl Host) -> IoResult<()> {
-    let words = &["metadata", "out_clocked.json"];
-    let told = answered(rt, words, "", usize::MAX, usize::MAX)?;
-    make_folder(
-        rt,
-        "out_trace",
-        "out_trace/metadata",
-        told.printed.as_slice(),
-    )
+/// Makes a folder of a trace with a clock, and one of a trace without.
+fn make_traces(rt: &impl Host) -> Result<(), Fail> {
+    make_trace(rt, "out_clocked.json", "out_trace", "out_trace/metadata")?;
+    write_digits(rt, "out_trace/t0", CLOCKED_BYTES)?;
+    fs::write(rt, "out_small.json", SMALL)?;
+    make_trace(rt, "out_small.json", "out_small", "out_small/metadata")?;
+    write_digits(rt, "out_small/s", "c11ffcc1680000006800000003")
+}
+
+/// Makes a folder with the metadata of a configuration.
+fn make_trace(rt: &impl Host, config: &str, folder: &str, path: &str) -> IoResult<()> {
+    let told = answered(rt, &["metadata", config], "", usize::MAX, usize::MAX)?;
+    make_folder(rt, folder, path, told.printed.as_slice())
 }
 
 /// Makes a folder with one file.
@@ -114,7 +118,8 @@ fn make_folder(rt: &impl Host, folder: &str, path: &str, bytes: &[u8]) -> IoResu
 
 fn remove_files(rt: &impl Host) -> IoResult<()> {
     remove_all(rt, &["out.json", "out_clocked.json"], "out_bad")?;
-    remove_all(rt, &["out_script.json", "out_bad.json"], "out_trace")
+    remove_all(rt, &["out_script.json", "out_bad.json"], "out_trace")?;
+    remove_all(rt, &["out_small.json"], "out_small")
 }
 
 /// Runs the words where the output has room for so many bytes, and the stream of errors too. The folder that they make is removed.
@@ -166,9 +171,9 @@ fn stops_printing(rt: &impl Host, words: &[&str], made: &str) -> IoResult<()> {
     print_fronts(rt, words, made, &whole)
 }
 
-/// Each room that is too small has a front of the whole.
+/// Each room that is too small has a front of the whole, and the next one has all.
 fn print_fronts(rt: &impl Host, words: &[&str], made: &str, whole: &Told) -> IoResult<()> {
-    for room in 0..whole.printed.len() {
+    for room in 0..=whole.printed.len() {
         let front = answered(rt, words, made, room, usize::MAX)?;
         is_a_front(rt, whole, &front, (room, words));
     }
@@ -183,8 +188,12 @@ pub fn front_of(bytes: &[u8], room: usize) -> &[u8] {
 /// The output had room for so many bytes. The file that was made is the same.
 fn is_a_front(rt: &impl Abort, whole: &Told, front: &Told, row: (usize, &[&str])) {
     let printed = front_of(whole.printed.as_slice(), row.0);
-    let said = b"ctftrace: standard output: a write failed\n".as_slice();
-    same(rt, front.status, 3, row, "end with");
+    let (said, status) = if row.0 < whole.printed.len() {
+        (b"ctftrace: standard output: a write failed\n".as_slice(), 3)
+    } else {
+        (b"".as_slice(), 0)
+    };
+    same(rt, front.status, status, row, "end with");
     same(rt, front.printed.as_slice(), printed, row, "print");
     same(rt, front.said.as_slice(), said, row, "say");
     same(
