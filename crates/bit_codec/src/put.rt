@@ -13,6 +13,7 @@ use ctf_types::ByteOrder;
 /// Position and size are in bits, from 1 to 64 of them. The first bit is the least significant one of `value` in
 /// little-endian order, and the most significant one in big-endian order. A signed number is passed as its two's
 /// complement in `n` bits.
+#[inline(always)]
 pub fn put_bits(bytes: &mut [u8], at: u64, n: u8, order: ByteOrder, value: u64)
     requires some { 0 < n }
     requires at_most_64 { n ≤ 64 }
