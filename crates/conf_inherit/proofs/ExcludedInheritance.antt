@@ -1,13 +1,13 @@
 -- A tree that was read and has a resolution has no fault of inheritance.
-use Rattle.std.proofs.Common.{◌≡◌, ◌<◌, ◌+◌, ◌&&◌, ℕ, zero, suc, Bool, true, false, List, [], ◌∷◌, length, Some, None, is_some, Ok, inl, inr, refl, sym, ap, subst, ◌∙◌, arith}
-use Rattle.std.proofs.lemmas.Bool.{true≢false, and_from, and_parts}
-use Rattle.serde_json.specs.Data.{Data, array, object, Items, no_items, item, Members, no_members, member}
+use Rattle.std.proofs.Common.{◌≡◌, ◌<◌, ◌&&◌, ℕ, Bool, true, false, List, [], ◌∷◌, None, is_some, Ok, inl, inr, refl, sym, ap, subst, ◌∙◌}
+use Rattle.std.proofs.lemmas.Bool.{true≢false, and_from}
+use Rattle.serde_json.specs.Data.{Data, array, object, Items, Members, no_members}
 use Rattle.serde_json.specs.Events.{members_len}
-use Rattle.serde_json.specs.Find.{get_item, get_member}
+use Rattle.serde_json.specs.Find.{get_member}
 use Rattle.conf_tree.specs.declared.fault_kind.FaultKind.{FaultKind}
 use Rattle.conf_tree.specs.declared.fault_kind.FaultKind.TheVariants.{WrongKind, NoSuchAlias, Limit}
-use Rattle.conf_tree.specs.Flaw.{Flaw, Place as Step, key, index}
-use Rattle.conf_tree.specs.Walk.{HasMember, IsTreeOf, LeadsTo, IsNested, refusal}
+use Rattle.conf_tree.specs.Flaw.{Flaw, Place as Step}
+use Rattle.conf_tree.specs.Walk.{IsTreeOf, refusal}
 use Rattle.conf_table.specs.declared.place.Place.{Place}
 use Rattle.conf_table.specs.declared.place.Place.TheVariants as places
 use Rattle.conf_inherit.specs.FieldPlaces.{place_under, place_of_items, lists_members, is_entry}
@@ -19,13 +19,14 @@ use Rattle.conf_inherit.specs.Limits.{Exceeds}
 use Rattle.conf_inherit.specs.Looks.{Looks, AreResolved}
 use Rattle.conf_inherit.specs.Named.{all_named, has}
 use Rattle.conf_inherit.specs.Names.{NoClash}
-use Rattle.conf_inherit.specs.Nesting.{nests, items_nest, members_nest, PassesDepth}
+use Rattle.conf_inherit.specs.Nesting.{nests, PassesDepth}
 use Rattle.conf_inherit.specs.Places.{inner_places}
 use Rattle.conf_inherit.specs.Resolution.{aliases_of, Resolves, resolution}
 use Rattle.conf_inherit.specs.Rounds.{Outcomes, rounds, no_outcomes}
 use Rattle.conf_inherit.proofs.ExcludedPlaces.{too_many_excluded}
 use Rattle.conf_inherit.proofs.LaysOver.{lays}
 use Rattle.conf_inherit.proofs.LimitLemmas.{apart_fits}
+use Rattle.conf_inherit.proofs.NestingLemmas.{depth_excluded}
 use Rattle.conf_inherit.proofs.ListLemmas.{found_each}
 use Rattle.conf_inherit.proofs.OneReading.{one_look}
 use Rattle.conf_inherit.proofs.PartsFit.{sound_named}
@@ -65,49 +66,6 @@ module _ (t r : Data) (h : resolution t ≡ Ok r) where
         whole = flawless al st.done t (no_flaws (inner_places al st.done places.Root t) second.0);
         shallow = (resolution_sound t r apart h).1;
       }
-
--- ---- depth
-
-items_shallow : (ds : Items) (levels i : ℕ) (e : Data) → items_nest ds levels ≡ true → get_item i ds ≡ Some e → nests e levels ≡ true
-items_shallow no_items levels i e h there = absurd cc
-items_shallow (item d ds) levels zero e h there = let same : d ≡ e = cc in subst (λ x. nests x levels ≡ true) same (and_parts (nests d levels) (items_nest ds levels) h).0
-items_shallow (item d ds) levels (suc i) e h there = items_shallow ds levels i e (and_parts (nests d levels) (items_nest ds levels) h).1 there
-
-members_shallow : (ms : Members) (levels : ℕ) (k : List ℕ) (e : Data) → members_nest ms levels ≡ true → HasMember k e ms → nests e levels ≡ true
-members_shallow no_members levels k e h there = absurd there
-members_shallow (member l d ms) levels k e h (inl same) = subst (λ x. nests x levels ≡ true) (sym same.1) (and_parts (nests d levels) (members_nest ms levels) h).0
-members_shallow (member l d ms) levels k e h (inr later) = members_shallow ms levels k e (and_parts (nests d levels) (members_nest ms levels) h).1 later
-
-record ShallowAt (found : Data) (levels steps : ℕ) : Type 0 where
-  left : ℕ
-  sum : levels ≡ left + steps
-  shallow : nests found left ≡ true
-
-further : (found : Data) (levels steps : ℕ) → ShallowAt found levels steps → ShallowAt found (suc levels) (suc steps)
-further found levels steps h = record { left = h.left; sum = (let same = h.sum in omega (arith, same)); shallow = h.shallow }
-
-led : (path : List Step) (d found : Data) (levels : ℕ) → nests d levels ≡ true → LeadsTo path d found → ShallowAt found levels (length path)
-led [] d found levels h is = record { left = levels; sum = omega arith; shallow = subst (λ x. nests x levels ≡ true) (sym is) h }
-led (index i ∷ path) d found zero h (ds, e, is, there, leads) = let bad : nests (array ds) zero ≡ true = subst (λ x. nests x zero ≡ true) is h in absurd cc
-led (index i ∷ path) d found (suc levels) h (ds, e, is, there, leads) =
-    let inner : items_nest ds levels ≡ true = subst (λ x. nests x (suc levels) ≡ true) is h in
-    further found levels (length path) (led path e found levels (items_shallow ds levels i e inner there) leads)
-led (key k ∷ path) d found zero h (ms, e, is, there, leads) = let bad : nests (object ms) zero ≡ true = subst (λ x. nests x zero ≡ true) is h in absurd cc
-led (key k ∷ path) d found (suc levels) h (ms, e, is, there, leads) =
-    let inner : members_nest ms levels ≡ true = subst (λ x. nests x (suc levels) ≡ true) is h in
-    further found levels (length path) (led path e found levels (members_shallow ms levels k e inner there) leads)
-
-none_left : (found : Data) (left : ℕ) → IsNested found → left ≡ 0 → nests found left ≡ true → ⊥
-none_left (array ds) zero nested none h = cc
-none_left (object ms) zero nested none h = cc
-none_left (array ds) (suc left) nested none h = omega (arith, none)
-none_left (object ms) (suc left) nested none h = omega (arith, none)
-none_left _ left nested none h = nested
-
-depth_excluded : (d : Data) (flaw : Flaw) → nests d 32 ≡ true → ¬ PassesDepth 32 d flaw
-depth_excluded d flaw h (kind, (found, leads, nested, steps)) =
-    let at = led flaw.path d found 32 h leads in
-    none_left found at.left nested (let sum = at.sum in omega (arith, sum, steps)) at.shallow
 
 -- ---- names that clash
 
@@ -183,4 +141,4 @@ module _ (text : List ℕ) (t r : Data) (tree : IsTreeOf text t) (h : resolution
   -- no fault of inheritance holds of it
   pub refusal_excluded : (flaw : Flaw) → ¬ RefusalHolds t flaw
   refusal_excluded flaw (inl holds) = flaw_excluded flaw holds
-  refusal_excluded flaw (inr (s, looked, deep)) = depth_excluded r flaw sound.shallow (subst (λ x. PassesDepth 32 x flaw) (one_look (aliases_of t) looked resolves) deep)
+  refusal_excluded flaw (inr (s, looked, deep)) = depth_excluded r 32 flaw sound.shallow (subst (λ x. PassesDepth 32 x flaw) (one_look (aliases_of t) looked resolves) deep)

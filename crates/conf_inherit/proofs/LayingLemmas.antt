@@ -48,7 +48,7 @@ pub data Meets (k l : List ℕ) : Type 0 where
 apart_less : (k l : List ℕ) → slice_cmp nat_cmp k l ≡ Less → k ≡ l → ⊥
 apart_less k l is e = let f = ap is_eq is in true≢false (sym ((bytes_eq-Decides k l).1 e) ∙ sym (is_eq-slice_cmp k l) ∙ f)
 
-apart_greater : (k l : List ℕ) → slice_cmp nat_cmp k l ≡ Greater → k ≡ l → ⊥
+pub apart_greater : (k l : List ℕ) → slice_cmp nat_cmp k l ≡ Greater → k ≡ l → ⊥
 apart_greater k l is e = let f = ap is_eq is in true≢false (sym ((bytes_eq-Decides k l).1 e) ∙ sym (is_eq-slice_cmp k l) ∙ f)
 
 pub meets : (k l : List ℕ) → Meets k l

@@ -37,7 +37,7 @@ pub mod TurnLemmas
 pub mod SpentLemmas
 pub mod WholeLemmas
 pub mod TakenLemmas
-pub mod NestingBesideLemmas
+pub mod PutLemmas
 pub mod WrittenLemmas
 pub mod WorkedPlaces
 pub mod WorkedRows

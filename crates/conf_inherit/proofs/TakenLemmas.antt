@@ -20,13 +20,13 @@ use Rattle.conf_inherit.specs.FieldPlaces.{place_under, names_alias, names_membe
 use Rattle.conf_tree.specs.Reading.{◌>>=◌}
 use Rattle.conf_tree.specs.Walk.{refusal}
 use Rattle.conf_inherit.specs.AliasFlaws.{all_alias_flaws}
-use Rattle.conf_inherit.specs.Laying.{lay, lay_members}
-use Rattle.conf_inherit.specs.Names.{IsInOrder, NoClash, properties_of}
+use Rattle.conf_inherit.specs.Laying.{lay}
+use Rattle.conf_inherit.specs.Names.{IsInOrder, NoClash}
 use Rattle.conf_inherit.specs.Places.{place_flaws, inner_places, member_places}
 use Rattle.conf_inherit.specs.Resolution.{trace_name, type_name, aliases_name, aliases_of, members_or_none, from_aliases, if_shallow, resolution_after}
 use Rattle.conf_inherit.specs.Rounds.{Outcomes, rounds, no_outcomes}
 use Rattle.conf_inherit.specs.Spent.{Spends}
-use Rattle.conf_inherit.specs.Whole.{holds_aliases, way_to_aliases, aliases_at, without, with_property, in_property, in_object, with_aliases, AreLaid}
+use Rattle.conf_inherit.specs.Whole.{holds_aliases, way_to_aliases, aliases_at, with_property, in_property, in_object, with_aliases, AreLaid}
 use Rattle.conf_inherit.proofs.FieldPlaceLemmas.{trace_place, trace_type_place, aliases_place}
 use Rattle.conf_inherit.proofs.InOrder.{same_name, equal_names, above_through, get_none, value_same}
 use Rattle.conf_inherit.proofs.LayingLemmas.{Meets, same, other, meets, get_other, get_same}
@@ -69,26 +69,6 @@ value_stays n f _ each = refl
 pub with_none : (n : List ℕ) (f : Data → Data) (ms : Members) → get_member n ms ≡ None → with_property n f ms ≡ ms
 with_none n f ms none = members_same n f ms (λ d is. absurd (let bad : None ≡ Some d = sym none ∙ is in cc))
 
-pub with_found : (n : List ℕ) (f : Data → Data) (d : Data) (ms : Members) → get_member n ms ≡ Some d → get_member n (with_property n f ms) ≡ Some (f d)
-with_found n f d no_members at = cc
-with_found n f d (member k e ms) at = go (bytes_eq k n) refl (meets n k) (with_found n f d ms)
-  where
-    go : (t : Bool) → bytes_eq k n ≡ t → Meets n k → (get_member n ms ≡ Some d → get_member n (with_property n f ms) ≡ Some (f d)) → get_member n (with_property n f (member k e ms)) ≡ Some (f d)
-    go true is m rest =
-        let one : n ≡ k = sym ((bytes_eq-Decides k n).0 is) in
-        let mine : e ≡ d = value_same e d (sym (get_same n k e ms one) ∙ at) in
-        rw is (get_same n k (f e) ms one ∙ ap (λ x. Some (f x)) mine)
-    go false is (same e) rest = absurd (true≢false (sym ((bytes_eq-Decides k n).1 (sym e)) ∙ is))
-    go false is (other away) rest = rw is (get_other n k e (with_property n f ms) away ∙ rest (sym (get_other n k e ms away) ∙ at))
-
-pub without_with : (n : List ℕ) (f : Data → Data) (ms : Members) → without n (with_property n f ms) ≡ without n ms
-without_with n f no_members = refl
-without_with n f (member k d ms) = go (bytes_eq k n) refl (without_with n f ms)
-  where
-    go : (t : Bool) → bytes_eq k n ≡ t → without n (with_property n f ms) ≡ without n ms → without n (with_property n f (member k d ms)) ≡ without n (member k d ms)
-    go true is rest = rw (is, is) refl
-    go false is rest = rw (is, is) (ap (member k d) rest)
-
 -- it is put in its place
 pub put_with : (n : List ℕ) (f : Data → Data) (d : Data) (ms : Members) → IsInOrder ms → get_member n ms ≡ Some d → put n (f d) ms ≡ with_property n f ms
 put_with n f d no_members order at = cc
@@ -118,12 +98,19 @@ object_twice : (al ns : Members) (v : Data) → in_object al (in_object ns v) �
 object_twice al ns null = refl
 object_twice al ns _ = refl
 
+-- what holds of two such values along the way, from the object of the aliases up, holds of the configuration
+pub on_way : (P : Place → (Data → Data) → (Data → Data) → Type 0) (al ns : Members) → P places.FieldTypeAliases (in_object al) (in_object ns)
+    → ((s : Place) (n : List ℕ) (f g : Data → Data) → holds_aliases s ≡ true → P (place_under s n) f g → P s (in_property n f) (in_property n g)) → P places.Root (with_aliases places.Root al) (with_aliases places.Root ns)
+unfolding with_aliases holds_aliases
+on_way P al ns last next =
+    let aliases = next places.TraceType aliases_name (in_object al) (in_object ns) refl (subst (λ s. P s (in_object al) (in_object ns)) (sym aliases_place) last) in
+    let f = in_property aliases_name (in_object al) in
+    let g = in_property aliases_name (in_object ns) in
+    let type = next places.Trace type_name f g refl (subst (λ s. P s f g) (sym trace_type_place) aliases) in
+    next places.Root trace_name (in_property type_name f) (in_property type_name g) refl (subst (λ s. P s (in_property type_name f) (in_property type_name g)) (sym trace_place) type)
+
 pub aliases_twice : (al ns : Members) (t : Data) → with_aliases places.Root al (with_aliases places.Root ns t) ≡ with_aliases places.Root al t
-unfolding with_aliases
-aliases_twice al ns t =
-    value_twice trace_name (in_property type_name (in_property aliases_name (in_object al))) (in_property type_name (in_property aliases_name (in_object ns))) (in_property type_name (in_property aliases_name (in_object al)))
-    (value_twice type_name (in_property aliases_name (in_object al)) (in_property aliases_name (in_object ns)) (in_property aliases_name (in_object al))
-    (value_twice aliases_name (in_object al) (in_object ns) (in_object al) (object_twice al ns))) t
+aliases_twice al ns t = on_way (λ s f g. (v : Data) → f (g v) ≡ f v) al ns (object_twice al ns) (λ s n f g above each. value_twice n f g f each) t
 
 own_object : (al : Members) (d : Data) → al ≡ members_or_none (Some d) → in_object al d ≡ d
 own_object al (object ms) h = ap object h
@@ -142,11 +129,14 @@ own_aliases t =
     ∙ ap members_or_none in_type))))
 
 -- the aliases, put back where they were
-put_back : (t : Data) → with_aliases places.Root (aliases_of t) (with_aliases places.Root no_members t) ≡ t
-put_back t = aliases_twice (aliases_of t) no_members t ∙ own_aliases t
+pub back_again : (t : Data) (al none : Members) (v : Data) → al ≡ aliases_of t → v ≡ with_aliases places.Root none t → with_aliases places.Root al v ≡ t
+back_again t al none v own taken = ap (λ ms. with_aliases places.Root ms v) own ∙ ap (with_aliases places.Root (aliases_of t)) taken ∙ aliases_twice (aliases_of t) none t ∙ own_aliases t
 
-pub back_again : (t : Data) (al : Members) (v : Data) → al ≡ aliases_of t → v ≡ with_aliases places.Root no_members t → with_aliases places.Root al v ≡ t
-back_again t al v own bare = ap (λ ms. with_aliases places.Root ms v) own ∙ ap (with_aliases places.Root (aliases_of t)) bare ∙ put_back t
+-- what they were taken out of has none
+pub bare_again : (t : Data) (es : List Entry) (v : Data) → es ≡ [] → v ≡ with_aliases places.Root (members_view es) t → with_aliases places.Root no_members v ≡ v
+bare_again t es v none taken =
+    let bare : v ≡ with_aliases places.Root no_members t = taken ∙ ap (λ xs. with_aliases places.Root (members_view xs) t) none in
+    ap (with_aliases places.Root no_members) bare ∙ aliases_twice no_members no_members t ∙ sym bare
 
 -- ---- at each place on the way
 
@@ -206,9 +196,9 @@ no_way places.FieldTypeAliases P above none p = p
 no_way _ P above none p = absurd (true≢false (sym above))
 
 -- such an object is taken whole
-pub their_own : (s : Place) (ms : Members) → holds_aliases s ≡ true → way_to_aliases s ≡ None → (ms ≡ members_or_none (aliases_at s (object ms))) × (object no_members ≡ with_aliases s no_members (object ms))
+pub their_own : (s : Place) (al ms : Members) → holds_aliases s ≡ true → way_to_aliases s ≡ None → (ms ≡ members_or_none (aliases_at s (object ms))) × (object al ≡ with_aliases s al (object ms))
 unfolding with_aliases
-their_own s ms above none = no_way s (λ x. (ms ≡ members_or_none (aliases_at x (object ms))) × (object no_members ≡ with_aliases x no_members (object ms))) above none (refl, refl)
+their_own s al ms above none = no_way s (λ x. (ms ≡ members_or_none (aliases_at x (object ms))) × (object al ≡ with_aliases x al (object ms))) above none (refl, refl)
 
 -- the names of a map are in order
 pub in_order : (es : List Entry) → IsStrictlySortedBy string_cmp (keys_of es) → IsInOrder (members_view es)
@@ -222,7 +212,16 @@ module _ (al done : Members) where
   abbrev parts : Place → Data → List Flaw
   parts s v = place_flaws al done s v ++ inner_places al done s v
 
-  module _ (s : Place) (n : List ℕ) (f g : Data → Data) (alike : (d : Data) → parts (place_under s n) (f d) ≡ parts (place_under s n) (g d)) where
+  -- an object with the aliases in it is no field type
+  no_type : (s : Place) (v : Data) → holds_aliases s ≡ true → place_flaws al done s v ≡ []
+  unfolding holds_aliases place_flaws names_alias names_member_type lists_extra_members
+  no_type places.Root v above = refl
+  no_type places.Trace v above = refl
+  no_type places.TraceType v above = refl
+  no_type places.FieldTypeAliases v above = refl
+  no_type _ v above = absurd (true≢false (sym above))
+
+  module _ (s : Place) (n : List ℕ) (f g : Data → Data) (above : holds_aliases s ≡ true) (alike : (d : Data) → parts (place_under s n) (f d) ≡ parts (place_under s n) (g d)) where
     members_alike : (ms : Members) → member_places al done s (with_property n f ms) ≡ member_places al done s (with_property n g ms)
     members_alike no_members = refl
     members_alike (member k d ms) = go (bytes_eq k n) refl (members_alike ms)
@@ -233,47 +232,25 @@ module _ (al done : Members) where
             rw is (ap (λ fs. map (within (key k)) fs ++ member_places al done s ms) here)
         go false is rest = rw is (ap (λ fs. map (within (key k)) (parts (place_under s k) d) ++ fs) rest)
 
-    alike_under : (v : Data) → inner_places al done s (in_property n f v) ≡ inner_places al done s (in_property n g v)
-    alike_under (object ms) = ap (λ fs. if leads_on s then fs else []) (members_alike ms)
+    alike_under : (v : Data) → parts s (in_property n f v) ≡ parts s (in_property n g v)
+    alike_under (object ms) = rw (no_type s (object (with_property n f ms)) above, no_type s (object (with_property n g ms)) above) (ap (λ fs. if leads_on s then fs else []) (members_alike ms))
     alike_under _ = refl
 
   module _ (ms ns : Members) (alike : member_places al done places.FieldTypeAliases ms ≡ member_places al done places.FieldTypeAliases ns) where
-    alike_object : (v : Data) → inner_places al done places.FieldTypeAliases (in_object ms v) ≡ inner_places al done places.FieldTypeAliases (in_object ns v)
-    unfolding leads_on
+    alike_object : (v : Data) → parts places.FieldTypeAliases (in_object ms v) ≡ parts places.FieldTypeAliases (in_object ns v)
+    unfolding leads_on place_flaws names_alias names_member_type lists_extra_members
     alike_object (object os) = alike
     alike_object _ = refl
 
     alike_aliases : (t : Data) → inner_places al done places.Root (with_aliases places.Root ms t) ≡ inner_places al done places.Root (with_aliases places.Root ns t)
-    unfolding with_aliases place_flaws names_alias names_member_type lists_extra_members
-    alike_aliases t =
-        let own : (d : Data) → parts (place_under places.TraceType aliases_name) (in_object ms d) ≡ parts (place_under places.TraceType aliases_name) (in_object ns d)
-        = λ d. subst (λ p. parts p (in_object ms d) ≡ parts p (in_object ns d)) (sym aliases_place) (alike_object d) in
-        let type : (d : Data) → parts (place_under places.Trace type_name) (in_property aliases_name (in_object ms) d) ≡ parts (place_under places.Trace type_name) (in_property aliases_name (in_object ns) d)
-        = λ d. subst (λ p. parts p (in_property aliases_name (in_object ms) d) ≡ parts p (in_property aliases_name (in_object ns) d)) (sym trace_type_place) (alike_under places.TraceType aliases_name (in_object ms) (in_object ns) own d) in
-        let trace : (d : Data) → parts (place_under places.Root trace_name) (in_property type_name (in_property aliases_name (in_object ms)) d) ≡ parts (place_under places.Root trace_name) (in_property type_name (in_property aliases_name (in_object ns)) d)
-        = λ d. subst (λ p. parts p (in_property type_name (in_property aliases_name (in_object ms)) d) ≡ parts p (in_property type_name (in_property aliases_name (in_object ns)) d)) (sym trace_place)
-        (alike_under places.Trace type_name (in_property aliases_name (in_object ms)) (in_property aliases_name (in_object ns)) type d) in
-        alike_under places.Root trace_name (in_property type_name (in_property aliases_name (in_object ms))) (in_property type_name (in_property aliases_name (in_object ns))) trace t
+    unfolding place_flaws names_alias names_member_type lists_extra_members
+    alike_aliases t = on_way (λ s f g. (v : Data) → parts s (f v) ≡ parts s (g v)) ms ns alike_object (λ s n f g above each. alike_under s n f g above each) t
 
   -- those of a configuration without its aliases are those with them
   pub places_without : (ms : Members) (v : Data) → with_aliases places.Root no_members v ≡ v → member_places al done places.FieldTypeAliases ms ≡ [] → inner_places al done places.Root v ≡ inner_places al done places.Root (with_aliases places.Root ms v)
   places_without ms v bare sound = ap (inner_places al done places.Root) (sym bare) ∙ alike_aliases no_members ms (sym sound) v
 
 -- ---- what is laid
-
--- an object stays one
-pub with_object : (s : Place) (al ms : Members) → with_aliases s al (object ms) ≡ object (properties_of (with_aliases s al (object ms)))
-unfolding with_aliases
-with_object places.Root al ms = refl
-with_object places.Trace al ms = refl
-with_object places.TraceType al ms = refl
-with_object places.FieldTypeAliases al ms = refl
-with_object _ al ms = refl
-
--- the resolved aliases are the laid ones, whatever stood in their place
-pub laid_themselves : (done al : Members) (s : Place) (ms : Members) → holds_aliases s ≡ true → way_to_aliases s ≡ None → AreLaid done al → done ≡ lay_members done s (properties_of (with_aliases s al (object ms))) no_members
-unfolding with_aliases
-laid_themselves done al s ms above none laid = no_way s (λ x. done ≡ lay_members done x (properties_of (with_aliases x al (object ms))) no_members) above none laid
 
 -- a value of another kind is no object
 abbrev pub IsOther : Value → Type 0

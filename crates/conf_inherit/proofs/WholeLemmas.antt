@@ -1,9 +1,7 @@
 -- The aliases of a configuration: that each was resolved as it is laid, and is sound.
 use Rattle.std.proofs.Common.{◌≡◌, ◌&&◌, ◌+◌, ◌++◌, ℕ, List, [], map, Option, Some, None, Result, Ok, Err, is_some, Bool, true, false, true≢false, refl, sym, ap, ◌∙◌, subst}
 use Rattle.std.specs.Prelude.{⊤}
-use Rattle.std.specs.Str.{bytes_eq}
-use Rattle.std.proofs.lemmas.Slice.Eq.{bytes_eq-Decides}
-use Rattle.serde_json.specs.Data.{Data, null, object, Members, no_members, member, put}
+use Rattle.serde_json.specs.Data.{Data, null, object, Members, no_members, member}
 use Rattle.serde_json.specs.Find.{get_member}
 use Rattle.conf_tree.specs.Flaw.{Flaw, key, within}
 use Rattle.conf_tree.specs.Walk.{refusal}
@@ -20,12 +18,10 @@ use Rattle.conf_inherit.specs.Places.{place_flaws, inner_places, member_places}
 use Rattle.conf_inherit.specs.Resolution.{trace_name, type_name, aliases_name, from_aliases}
 use Rattle.conf_inherit.specs.Rounds.{Outcomes, has_outcome, is_empty, outcome, rounds, no_outcomes, Reached}
 use Rattle.conf_inherit.specs.FieldPlaces.{field_place, place_under, names_alias, is_base_name, lists_extra_members, leads_on}
-use Rattle.conf_inherit.specs.Whole.{holds_aliases, way_to_aliases, without, AreLaid}
-use Rattle.serde_json.proofs.Views.{get_member-put_other}
-use Rattle.conf_inherit.specs.NestingBeside.{objects_around}
+use Rattle.conf_inherit.specs.Whole.{holds_aliases, way_to_aliases, AreLaid}
 use Rattle.conf_inherit.proofs.FieldPlaceLemmas.{trace_place, trace_type_place, aliases_place}
 use Rattle.conf_inherit.proofs.InOrder.{value_same, same_members}
-use Rattle.conf_inherit.proofs.LayingLemmas.{Meets, same, other, meets, get_other, get_same, put_found, in_order_put, in_order_lay, lay_members-absent, lay_members-found}
+use Rattle.conf_inherit.proofs.LayingLemmas.{in_order_lay, lay_members-absent, lay_members-found}
 use Rattle.conf_inherit.proofs.LimitLemmas.{fitting_value}
 use Rattle.conf_inherit.proofs.ListLemmas.{AllEntries, all_along, found_each}
 use Rattle.conf_inherit.proofs.PlaceLemmas.{place_of_type}
@@ -35,6 +31,13 @@ use Rattle.conf_inherit.proofs.RoundLemmas.{HasRoot, empty_flaws, rounds_root, a
 use Rattle.conf_inherit.proofs.TurnLemmas.{reached_sound, or_first}
 
 -- ---- an object that has the aliases in it
+
+-- how many objects of a value at the place the object of its aliases stands inside
+abbrev pub objects_around : Place → ℕ
+objects_around places.Root = 3
+objects_around places.Trace = 2
+objects_around places.TraceType = 1
+objects_around _ = 0
 
 fewer_at : (s : Place) (n k : List ℕ) → way_to_aliases s ≡ Some n → way_to_aliases s ≡ Some k → objects_around s ≡ objects_around (place_under s n) + 1 → objects_around s ≡ objects_around (place_under s k) + 1
 fewer_at s n k one way h = subst (λ x. objects_around s ≡ objects_around (place_under s x) + 1) (value_same n k (sym one ∙ way)) h
@@ -62,51 +65,6 @@ no_lay_base done s (member k d ms) h = rw (no_base s k h) (no_lay_base done s ms
 
 pub laid_object : (done : Members) (s : Place) (ms : Members) → holds_aliases s ≡ true → lay done s (object ms) None ≡ object (lay_members done s ms no_members)
 laid_object done s ms h = rw (no_lay_base done s ms h) refl
-
--- ---- the properties beside one name
-
-without_other : (q k : List ℕ) (ms : Members) → (q ≡ k → ⊥) → get_member q (without k ms) ≡ get_member q ms
-without_other q k no_members apart = refl
-without_other q k (member l d ms) apart = go (bytes_eq l k) refl (meets q l) (without_other q k ms apart)
-  where
-    go : (t : Bool) → bytes_eq l k ≡ t → Meets q l → get_member q (without k ms) ≡ get_member q ms → get_member q (without k (member l d ms)) ≡ get_member q (member l d ms)
-    go true is (same e) rest = absurd (apart (e ∙ (bytes_eq-Decides l k).0 is))
-    go true is (other away) rest = rw is (rest ∙ sym (get_other q l d ms away))
-    go false is (same e) rest = rw is (get_same q l d (without k ms) e ∙ sym (get_same q l d ms e))
-    go false is (other away) rest = rw is (get_other q l d (without k ms) away ∙ rest ∙ sym (get_other q l d ms away))
-
--- where the name is none of theirs, that is all of them
-pub without_none : (k : List ℕ) (ms : Members) → get_member k ms ≡ None → without k ms ≡ ms
-without_none k no_members h = refl
-without_none k (member l d ms) h = go (bytes_eq l k) refl (meets k l) (without_none k ms)
-  where
-    go : (t : Bool) → bytes_eq l k ≡ t → Meets k l → (get_member k ms ≡ None → without k ms ≡ ms) → without k (member l d ms) ≡ member l d ms
-    go t is (same e) rest = let bad : Some d ≡ None = sym (get_same k l d ms e) ∙ h in cc
-    go true is (other away) rest = absurd (away (sym ((bytes_eq-Decides l k).0 is)))
-    go false is (other away) rest = rw is (ap (member l d) (rest (sym (get_other k l d ms away) ∙ h)))
-
-laid_same : (done : Members) (s : Place) (q : List ℕ) (ms ns : Members) → holds_aliases s ≡ true → get_member q ms ≡ get_member q ns → get_member q (lay_members done s ms no_members) ≡ get_member q (lay_members done s ns no_members)
-laid_same done s q ms ns above both = go (get_member q ms) refl
-  where
-    go : (o : Option Data) → get_member q ms ≡ o → get_member q (lay_members done s ms no_members) ≡ get_member q (lay_members done s ns no_members)
-    go None e = lay_members-absent done s q ms no_members e ∙ sym (lay_members-absent done s q ns no_members (sym both ∙ e))
-    go (Some v) e = lay_members-found done s q v ms no_members (no_base s q above) e ∙ sym (lay_members-found done s q v ns no_members (no_base s q above) (sym both ∙ e))
-
--- the property of the name, put to the others
-pub put_beside : (done : Members) (s : Place) (k : List ℕ) (d : Data) (ms : Members) → holds_aliases s ≡ true → get_member k ms ≡ Some d
-    → put k (lay done (place_under s k) d None) (lay_members done s (without k ms) no_members) ≡ lay_members done s ms no_members
-put_beside done s k d ms above is =
-    same_members (put k over beside) (lay_members done s ms no_members) (in_order_put k over beside (in_order_lay done s (without k ms) no_members tt)) (in_order_lay done s ms no_members tt) (λ q. at q (meets q k))
-  where
-    over : Data
-    over = lay done (place_under s k) d None
-
-    beside : Members
-    beside = lay_members done s (without k ms) no_members
-
-    at : (q : List ℕ) → Meets q k → get_member q (put k over beside) ≡ get_member q (lay_members done s ms no_members)
-    at q (same e) = put_found q k over beside e ∙ sym (subst (λ x. get_member x (lay_members done s ms no_members) ≡ Some over) (sym e) (lay_members-found done s k d ms no_members (no_base s k above) is))
-    at q (other apart) = get_member-put_other q k over beside apart ∙ laid_same done s q (without k ms) ms above (without_other q k ms apart)
 
 -- ---- the resolved aliases
 

@@ -20,5 +20,4 @@ pub mod AliasOutcomes
 pub mod Asked
 pub mod Resolution
 pub mod Whole
-pub mod NestingBeside
 pub mod Faults

@@ -1,4 +1,4 @@
--- A whole configuration, whose aliases are taken out and laid beside the rest.
+-- A whole configuration, whose aliases are taken out, and the resolved ones put into what the rest is laid to.
 use Rattle.std.specs.Prelude.{◌≡◌, ℕ, List, Option, None, Some, option_and_then, Bool, true, false, if◌then◌else◌}
 use Rattle.std.specs.Str.{bytes_eq}
 use Rattle.serde_json.specs.Data.{Data, object, Members, no_members, member}
@@ -56,8 +56,3 @@ with_aliases _ al v = v
 -- the resolved aliases are the aliases as they are laid
 abbrev pub AreLaid : Members → Members → Type 0
 AreLaid done al = done ≡ lay_members done places.FieldTypeAliases al no_members
-
--- the properties of other names than n
-abbrev pub without : List ℕ → Members → Members
-without n no_members = no_members
-without n (member k d ms) = if bytes_eq k n then without n ms else member k d (without n ms)

@@ -12,7 +12,6 @@ mod laying;
 mod limits;
 mod named;
 mod nesting;
-mod nesting_beside;
 mod outcomes;
 mod places;
 mod property;

@@ -9,6 +9,10 @@ use conf_tree::{ConfFault, FaultKind};
 use serde_json::{Map, Value};
 use std::alloc::Global;
 
+/// The most levels of a resolved alias that is within the levels of every configuration: it stands inside the objects
+/// of the aliases, the trace type, the trace and the configuration.
+pub(crate) const ALIAS_LEVELS: usize = 28;
+
 /// Whether objects and lists nest at most so many levels deep.
 #[cycle(nesting)]
 pub(crate) fn nests(value: &Value, levels: usize) -> bool

@@ -2,10 +2,9 @@
 ghost use Rattle.std.specs.Prelude.{◌≡◌, true};
 ghost use Rattle.serde_json.specs.View.{members_view};
 ghost use Rattle.conf_inherit.specs.Nesting.{members_nest};
-ghost use Rattle.conf_inherit.specs.declared.nesting_beside.TheConstants.{ALIAS_LEVELS};
+ghost use Rattle.conf_inherit.specs.declared.nesting.TheConstants.{ALIAS_LEVELS};
 
-use crate::nesting::nests;
-use crate::nesting_beside::ALIAS_LEVELS;
+use crate::nesting::{ALIAS_LEVELS, nests};
 use crate::property::{has, put_property};
 use serde_json::{Map, Value};
 use std::alloc::{AllocError, Global};

@@ -16,15 +16,17 @@ ghost use Rattle.conf_inherit.specs.Whole.{with_aliases, AreLaid};
 ghost use Rattle.serde_json.specs.Data.{Members, no_members};
 ghost use Rattle.serde_json.specs.View.{view, members_view};
 ghost use Rattle.serde_json.specs.Written.{has_float};
+ghost use Rattle.conf_inherit.specs.declared.nesting.TheConstants.{ALIAS_LEVELS};
 ghost use Rattle.conf_inherit.specs.Resolution.{aliases_of, Resolves, in_aliases, from_aliases, if_shallow, resolution_after, resolution};
 
 use crate::alias_check::check_aliases;
-use crate::nesting_beside::{ALIAS_LEVELS, check_levels};
+use crate::laying::lay;
+use crate::nesting::{ALIAS_LEVELS, check_nesting};
 use crate::outcomes::AliasOutcomes;
 use crate::places::check_places;
 use crate::rounds::settle_aliases;
 use crate::size::Stop;
-use crate::whole::{lay_whole, take_aliases};
+use crate::whole::replace_aliases;
 use conf_table::Place;
 use conf_tree::{ConfFault, FaultKind, Tree};
 use serde_json::{Map, Value};
@@ -65,18 +67,39 @@ fn lay_all(
     resolved: Map<String, Value>,
     shallow: bool,
 ) -> Result<Value, ConfFault>
+    requires bare { with_aliases Place.Root no_members (view value.now) ≡ view value.now }
     requires shallow { shallow ≡ true → members_nest (members_view resolved.entries) ALIAS_LEVELS ≡ true }
     ensures first { (al : Members) → AreLaid (members_view resolved.entries) al
         → Gives view result (if_shallow (lay (members_view resolved.entries) Place.Root (with_aliases Place.Root al (view value.now)) None)) }
 {
-    match lay_whole(alloc, Place::Root, value, resolved) {
-        Ok(resolved) => {
-            check_levels(alloc, &resolved, shallow)?;
-            Ok(resolved)
-        }
+    match lay(alloc, Place::Root, value, None, &resolved, None) {
+        Ok(laid) => put_aliases(alloc, laid, resolved, shallow),
         Err(Stop::Memory) => Err(ConfFault::memory(alloc)),
         Err(Stop::Limit) => unreachable!(),
     }
+}
+
+/// The resolved aliases in their place, unless the whole nests too deep then. What stands in shallow ones does not, so
+/// the rest alone is asked.
+#[tactic(auto, unfolding(crate::specs::Whole::holds_aliases))]
+fn put_aliases(
+    alloc: Global,
+    mut laid: Value,
+    resolved: Map<String, Value>,
+    shallow: bool,
+) -> Result<Value, ConfFault>
+    requires bare { with_aliases Place.Root no_members (view laid) ≡ view laid }
+    requires shallow { shallow ≡ true → members_nest (members_view resolved.entries) ALIAS_LEVELS ≡ true }
+    ensures first { Gives view result (if_shallow (with_aliases Place.Root (members_view resolved.entries) (view laid))) }
+{
+    if shallow {
+        check_nesting(alloc, &laid, 32)?;
+        drop(replace_aliases(alloc, Place::Root, &mut laid, resolved));
+        return Ok(laid);
+    }
+    drop(replace_aliases(alloc, Place::Root, &mut laid, resolved));
+    check_nesting(alloc, &laid, 32)?;
+    Ok(laid)
 }
 
 /// The resolution where the aliases have these outcomes, and those that are resolved are spent.
@@ -134,6 +157,6 @@ pub fn resolve(alloc: Global, tree: Tree) -> Result<Tree, ConfFault>
     ensures first { Gives (λ made. view made.value) result (resolution (view tree.value)) }
 {
     let Tree { mut value } = tree;
-    let aliases = take_aliases(alloc, Place::Root, &mut value);
+    let aliases = replace_aliases(alloc, Place::Root, &mut value, Map::new(alloc));
     resolve_under(alloc, &value, aliases)
 }

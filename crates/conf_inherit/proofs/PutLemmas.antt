@@ -1,0 +1,148 @@
+-- The resolved aliases, put into what the rest of a configuration is laid to.
+use Rattle.std.proofs.Common.{◌≡◌, ℕ, suc, List, ◌++◌, map, Ordering, Less, Equal, Greater, nat_cmp, None, Ok, Bool, true, false, true≢false, bytes_eq, refl, sym, ap, ◌∙◌, subst}
+use Rattle.std.specs.Cmp.Lexicographic.{slice_cmp}
+use Rattle.std.proofs.lemmas.Slice.Eq.{bytes_eq-Decides}
+use Rattle.serde_json.specs.Data.{Data, null, boolean, number, string, array, object, Members, no_members, member, put}
+use Rattle.conf_tree.specs.Flaw.{key, within}
+use Rattle.conf_tree.specs.Reading.{◌>>=◌}
+use Rattle.conf_tree.specs.Walk.{refusal}
+use Rattle.conf_table.specs.declared.place.Place.{Place}
+use Rattle.conf_table.specs.declared.place.Place.TheVariants as places
+use Rattle.conf_inherit.specs.FieldPlaces.{place_under, names_alias, names_member_type, lists_members}
+use Rattle.conf_inherit.specs.Laying.{lay, lay_members, lay_text}
+use Rattle.conf_inherit.specs.Nesting.{members_nest, deep_flaws, deep_member_flaws}
+use Rattle.conf_inherit.specs.Resolution.{trace_name, type_name, aliases_name, if_shallow}
+use Rattle.conf_inherit.specs.Whole.{holds_aliases, with_property, in_property, in_object, with_aliases, AreLaid}
+use Rattle.conf_inherit.proofs.InOrder.{equal_names}
+use Rattle.conf_inherit.proofs.ItemLemmas.{differs, lay_members-first}
+use Rattle.conf_inherit.proofs.LayingLemmas.{apart_greater}
+use Rattle.conf_inherit.proofs.NestingLemmas.{nests_shallow}
+use Rattle.conf_inherit.proofs.TakenLemmas.{on_way}
+use Rattle.conf_inherit.proofs.WholeLemmas.{no_base, laid_object}
+
+-- ---- the value of one name, where another is put
+
+put_here : (n k : List ℕ) (g : Data → Data) (x : Data) (ms : Members) → bytes_eq k n ≡ true → with_property n g (put k x ms) ≡ put k (g x) ms
+put_here n k g x no_members at = rw at refl
+put_here n k g x (member l e ms) at = go _ refl (put_here n k g x ms at)
+  where
+    same : k ≡ n
+    same = (bytes_eq-Decides k n).0 at
+
+    go : (o : Ordering) → slice_cmp nat_cmp k l ≡ o → with_property n g (put k x ms) ≡ put k (g x) ms → with_property n g (put k x (member l e ms)) ≡ put k (g x) (member l e ms)
+    go Less is rest = rw (is, at) refl
+    go Equal is rest = let mine : bytes_eq l n ≡ true = (bytes_eq-Decides l n).1 (sym (equal_names k l is) ∙ same) in rw (is, mine) refl
+    go Greater is rest = let away : bytes_eq l n ≡ false = differs l n (λ e. apart_greater k l is (same ∙ sym e)) (bytes_eq l n) refl in rw (is, away) (ap (member l e) rest)
+
+put_beside : (n k : List ℕ) (g : Data → Data) (x : Data) (ms : Members) → bytes_eq k n ≡ false → with_property n g (put k x ms) ≡ put k x (with_property n g ms)
+put_beside n k g x no_members away = rw away refl
+put_beside n k g x (member l e ms) away = go _ refl (bytes_eq l n) refl (put_beside n k g x ms away)
+  where
+    go : (o : Ordering) → slice_cmp nat_cmp k l ≡ o → (t : Bool) → bytes_eq l n ≡ t → with_property n g (put k x ms) ≡ put k x (with_property n g ms) → with_property n g (put k x (member l e ms)) ≡ put k x (with_property n g (member l e ms))
+    go Less is true at rest = rw (at, is, away, at) refl
+    go Less is false at rest = rw (at, is, away, at) refl
+    go Equal is true at rest = absurd (true≢false (sym at ∙ ap (λ m. bytes_eq m n) (sym (equal_names k l is)) ∙ away))
+    go Equal is false at rest = rw (at, is, at) refl
+    go Greater is true at rest = rw (at, is, at) refl
+    go Greater is false at rest = rw (at, is, at) (ap (member l e) rest)
+
+-- ---- what is laid
+
+text_stays : (done : Members) (s : Place) (n : List ℕ) → holds_aliases s ≡ true → lay_text done s n ≡ string n
+unfolding holds_aliases names_alias names_member_type
+text_stays done places.Root n h = refl
+text_stays done places.Trace n h = refl
+text_stays done places.TraceType n h = refl
+text_stays done places.FieldTypeAliases n h = refl
+text_stays done _ n h = absurd (true≢false (sym h))
+
+no_list : (s : Place) → holds_aliases s ≡ true → lists_members s ≡ false
+unfolding holds_aliases lists_members
+no_list places.Root h = refl
+no_list places.Trace h = refl
+no_list places.TraceType h = refl
+no_list places.FieldTypeAliases h = refl
+no_list _ h = absurd (true≢false (sym h))
+
+module _ (done : Members) (s : Place) (above : holds_aliases s ≡ true) where
+  module _ (n : List ℕ) (f g : Data → Data) (each : (d : Data) → lay done (place_under s n) (f d) None ≡ g (lay done (place_under s n) d None)) where
+    members_with : (ms : Members) → lay_members done s (with_property n f ms) no_members ≡ with_property n g (lay_members done s ms no_members)
+    members_with no_members = refl
+    members_with (member k d ms) = go (bytes_eq k n) refl (members_with ms)
+      where
+        first : (e : Data) (xs : Members) → lay_members done s (member k e xs) no_members ≡ put k (lay done (place_under s k) e None) (lay_members done s xs no_members)
+        first e xs = lay_members-first done s k e xs no_members (no_base s k above)
+
+        go : (t : Bool) → bytes_eq k n ≡ t → lay_members done s (with_property n f ms) no_members ≡ with_property n g (lay_members done s ms no_members)
+            → lay_members done s (with_property n f (member k d ms)) no_members ≡ with_property n g (lay_members done s (member k d ms) no_members)
+        go true is rest =
+            let laid = lay done (place_under s k) d None in
+            let one : lay done (place_under s k) (f d) None ≡ g laid = subst (λ x. lay done (place_under s x) (f d) None ≡ g (lay done (place_under s x) d None)) (sym ((bytes_eq-Decides k n).0 is)) (each d) in
+            rw is (first (f d) ms ∙ ap (λ x. put k x (lay_members done s ms no_members)) one ∙ sym (put_here n k g laid (lay_members done s ms no_members) is) ∙ ap (with_property n g) (sym (first d ms)))
+        go false is rest =
+            let laid = lay done (place_under s k) d None in
+            rw is (first d (with_property n f ms) ∙ ap (put k laid) rest ∙ sym (put_beside n k g laid (lay_members done s ms no_members) is) ∙ ap (with_property n g) (sym (first d ms)))
+
+    value_with : (v : Data) → lay done s (in_property n f v) None ≡ in_property n g (lay done s v None)
+    value_with (object ms) = laid_object done s (with_property n f ms) above ∙ ap object (members_with ms) ∙ ap (in_property n g) (sym (laid_object done s ms above))
+    value_with (array es) = rw (no_list s above) refl
+    value_with (string x) = rw (text_stays done s x above) refl
+    value_with null = refl
+    value_with (boolean b) = refl
+    value_with (number x) = refl
+
+  object_with : (al : Members) (v : Data) → lay done s (in_object al v) None ≡ in_object (lay_members done s al no_members) (lay done s v None)
+  object_with al (object ms) = laid_object done s al above
+  object_with al (array es) = rw (no_list s above) refl
+  object_with al (string x) = rw (text_stays done s x above) refl
+  object_with al null = refl
+  object_with al (boolean b) = refl
+  object_with al (number x) = refl
+
+aliases_above : holds_aliases places.FieldTypeAliases ≡ true
+unfolding holds_aliases
+aliases_above = refl
+
+-- a configuration with other aliases is laid to what it is laid to, with those laid
+whole_with : (done al : Members) (v : Data) → lay done places.Root (with_aliases places.Root al v) None ≡ with_aliases places.Root (lay_members done places.FieldTypeAliases al no_members) (lay done places.Root v None)
+whole_with done al v = on_way (λ s f g. (d : Data) → lay done s (f d) None ≡ g (lay done s d None)) al (lay_members done places.FieldTypeAliases al no_members)
+    (object_with done places.FieldTypeAliases aliases_above al) (λ s n f g above each. value_with done s above n f g each) v
+
+-- the resolved ones in their place
+pub laid_with : (done al : Members) (v : Data) → AreLaid done al → lay done places.Root (with_aliases places.Root al v) None ≡ with_aliases places.Root done (lay done places.Root v None)
+laid_with done al v laid = whole_with done al v ∙ ap (λ ms. with_aliases places.Root ms (lay done places.Root v None)) (sym laid)
+
+-- without aliases it is laid to what has none
+pub laid_bare : (done : Members) (v : Data) → with_aliases places.Root no_members v ≡ v → with_aliases places.Root no_members (lay done places.Root v None) ≡ lay done places.Root v None
+laid_bare done v bare = sym (whole_with done no_members v) ∙ ap (λ d. lay done places.Root d None) bare
+
+-- ---- what is too deep
+
+module _ (n : List ℕ) (f g : Data → Data) (levels : ℕ) (each : (d : Data) → deep_flaws (f d) levels ≡ deep_flaws (g d) levels) where
+  members_deep : (ms : Members) → deep_member_flaws (with_property n f ms) levels ≡ deep_member_flaws (with_property n g ms) levels
+  members_deep no_members = refl
+  members_deep (member k d ms) = go (bytes_eq k n) refl (members_deep ms)
+    where
+      go : (t : Bool) → bytes_eq k n ≡ t → deep_member_flaws (with_property n f ms) levels ≡ deep_member_flaws (with_property n g ms) levels → deep_member_flaws (with_property n f (member k d ms)) levels ≡ deep_member_flaws (with_property n g (member k d ms)) levels
+      go true is rest = rw is (ap (λ fs. map (within (key k)) fs ++ deep_member_flaws ms levels) (each d))
+      go false is rest = rw is (ap (λ fs. map (within (key k)) (deep_flaws d levels) ++ fs) rest)
+
+  value_deep : (v : Data) → deep_flaws (in_property n f v) (suc levels) ≡ deep_flaws (in_property n g v) (suc levels)
+  value_deep (object ms) = members_deep ms
+  value_deep _ = refl
+
+shallow_put : (done : Members) (v : Data) → members_nest done 28 ≡ true → deep_flaws (with_aliases places.Root done v) 32 ≡ deep_flaws (with_aliases places.Root no_members v) 32
+unfolding with_aliases
+shallow_put done v shallow =
+    value_deep trace_name (in_property type_name (in_property aliases_name (in_object done))) (in_property type_name (in_property aliases_name (in_object no_members))) 31
+    (value_deep type_name (in_property aliases_name (in_object done)) (in_property aliases_name (in_object no_members)) 30
+    (value_deep aliases_name (in_object done) (in_object no_members) 29 theirs)) v
+  where
+    theirs : (d : Data) → deep_flaws (in_object done d) 29 ≡ deep_flaws (in_object no_members d) 29
+    theirs (object ms) = nests_shallow (object done) 29 shallow
+    theirs _ = refl
+
+-- where shallow aliases are put, what is too deep is so without them
+pub shallow_answer : (done : Members) (v : Data) → members_nest done 28 ≡ true → with_aliases places.Root no_members v ≡ v
+    → if_shallow (with_aliases places.Root done v) ≡ (refusal (deep_flaws v 32) >>= (λ a. Ok (with_aliases places.Root done v)))
+shallow_answer done v shallow bare = ap (λ fs. refusal fs >>= (λ a. Ok (with_aliases places.Root done v))) (shallow_put done v shallow ∙ ap (λ d. deep_flaws d 32) bare)
