@@ -1,2 +1,3 @@
+pub mod Explanation
 pub mod LineColumn
 pub mod Shown

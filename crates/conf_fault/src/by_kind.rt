@@ -1,5 +1,9 @@
 //! What was expected, by the kind of a fault.
 
+ghost use Rattle.std.specs.Prelude.{◌≡◌, IfOk, string_bytes};
+ghost use Rattle.std.specs.Option.{option_copied};
+ghost use Rattle.conf_fault.specs.Explanation.{IsWanted, fixed_words as words_of_kind};
+
 use crate::expected::{push_expected, push_nearest_word, push_properties};
 use crate::found::Found;
 use crate::hints::{push_class_hint, push_missing_hint, push_name_hint};
@@ -9,8 +13,24 @@ use conf_table::{Content, Place, entries};
 use conf_tree::{ConfFault, FaultKind, Step};
 use std::alloc::AllocError;
 
-/// Adds what was expected where a fault stands.
-pub(crate) fn push_wanted(
+/// What was expected where a fault stands.
+pub(crate) fn wanted_words(
+    source: Source<'_>,
+    found: &Found,
+    fault: &ConfFault,
+) -> Result<String, AllocError>
+    ensures { IfOk result (λ words. IsWanted fault.now.kind (string_bytes words)) }
+{
+    if let Some(words) = fixed_words(fault.kind) {
+        return String::from_str(source.alloc, words);
+    }
+    let mut words = String::new(source.alloc);
+    push_wanted(source, &mut words, found, fault)?;
+    Ok(words)
+}
+
+/// Adds what was expected by the kinds that are not the same everywhere.
+fn push_wanted(
     source: Source<'_>,
     said: &mut String,
     found: &Found,
@@ -34,40 +54,45 @@ pub(crate) fn push_wanted(
             said.push_str("a letter or `_`, then letters, digits or `_`, 255 bytes at most")?;
             push_name_hint(said, fault.kind, name)
         }
-        FaultKind::NameClash => { said.push_str("a name that nothing else in this structure has") }
         FaultKind::NoSuchAlias => push_aliases(source, said, found),
         FaultKind::NoClock => push_clock(source, said, found, name),
         FaultKind::FieldTooSmall => push_largest_number(source, said, path),
         FaultKind::Limit => push_limit(source, said, found),
         FaultKind::TimestampSize => push_timestamp(said, name),
-        _ => said.push_str(of_kind(fault.kind)),
+        _ => said.push_str("what this place allows"),
     }
 }
 
-/// What is expected by the kinds that no row of the table tells.
-fn of_kind(kind: FaultKind) -> &'static str {
+/// What is expected by the kinds that are the same everywhere.
+#[tactic(auto, unfolding(crate::specs::Explanation::fixed_words))]
+fn fixed_words(kind: FaultKind) -> Option<&'static str>
+    ensures { option_copied result ≡ words_of_kind kind }
+{
     match kind {
-        FaultKind::NotJson => "one JSON value in UTF-8",
-        FaultKind::TooDeep => "at most 32 levels of objects and lists",
-        FaultKind::InheritCycle => "a chain of aliases that ends: this alias inherits from itself",
-        FaultKind::ReservedName => "a name that the metadata language does not use itself",
-        FaultKind::ZeroSizeRecord =>
+        FaultKind::TooDeep => Some("at most 32 levels of objects and lists"),
+        FaultKind::InheritCycle => Some(
+            "a chain of aliases that ends: this alias inherits from itself",
+        ),
+        FaultKind::ReservedName => Some("a name that the metadata language does not use itself"),
+        FaultKind::NameClash => Some("a name that nothing else in this structure has"),
+        FaultKind::ZeroSizeRecord => Some(
             "an integer, an enumeration or a string in its contexts or its payload",
-        FaultKind::NoUuid => "a UUID of the trace type, or with `auto` one from the caller",
-        FaultKind::TwoOrders => "only one of `trace-byte-order` and `native-byte-order`",
-        FaultKind::OutOfMemory => "more memory",
-        FaultKind::WrongKind
+        ),
+        FaultKind::NoUuid => Some("a UUID of the trace type, or with `auto` one from the caller"),
+        FaultKind::TwoOrders => Some("only one of `trace-byte-order` and `native-byte-order`"),
+        FaultKind::NotJson
+        | FaultKind::WrongKind
         | FaultKind::NotWhole
         | FaultKind::Missing
         | FaultKind::Unknown
         | FaultKind::NoSuchAlias
         | FaultKind::OutOfRange
         | FaultKind::BadName
-        | FaultKind::NameClash
         | FaultKind::FieldTooSmall
         | FaultKind::NoClock
         | FaultKind::Limit
-        | FaultKind::TimestampSize => "what this place allows",
+        | FaultKind::TimestampSize
+        | FaultKind::OutOfMemory => None,
     }
 }
 

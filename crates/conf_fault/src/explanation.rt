@@ -1,9 +1,11 @@
 //! The explanation of a fault: the line and the column, the path, what stands there, and what was expected.
 
-ghost use Rattle.std.specs.Prelude.{IfOk, string_bytes};
+ghost use Rattle.std.specs.Prelude.{◌≡◌, ◌++◌, IfOk, OnOk, string_bytes};
+ghost use Rattle.conf_fault.specs.Explanation.{Adds, IsAliasWords, IsExplanation, IsPlaced, IsSaidOf, IsStanding, name_words as words_of_name, path_words, step_words};
+ghost use Rattle.std.specs.Option.{option_copied};
 ghost use Rattle.conf_fault.specs.Shown.{IsOneLine};
 
-use crate::by_kind::push_wanted;
+use crate::by_kind::wanted_words;
 use crate::found::Found;
 use crate::hints::push_not_json;
 use crate::line_column::{line_column, push_place};
@@ -17,19 +19,27 @@ use std::alloc::{AllocError, Global};
 /// Lines and columns count from 1, columns in bytes. A value that stands in an alias or in a base is placed there, and the alias is named; what
 /// is missing is placed at its object. Names and values are cut at 60 characters.
 pub fn explain_fault(alloc: Global, text: &[u8], fault: &ConfFault) -> Result<String, AllocError>
-    ensures { IfOk result (λ said. IsOneLine (string_bytes said)) }
+    ensures explains { IfOk result (λ said. IsExplanation text.now fault.now (string_bytes said)) }
+    ensures one_line { IfOk result (λ said. IsOneLine (string_bytes said)) }
 {
-    let source = Source { alloc, text };
     let mut said = String::new(alloc);
-    match fault.kind {
-        FaultKind::NotJson => push_not_json(source, &mut said)?,
-        FaultKind::OutOfMemory => said.push_str("out of memory")?,
-        _ => push_placed(source, &mut said, fault)?,
-    }
+    push_said(Source { alloc, text }, &mut said, fault)?;
     on_one_line(alloc, said.as_str())
 }
 
-fn push_placed(source: Source<'_>, said: &mut String, fault: &ConfFault) -> Result<(), AllocError> {
+fn push_said(source: Source<'_>, said: &mut String, fault: &ConfFault) -> Result<(), AllocError>
+    ensures { OnOk result (Adds (IsSaidOf fault.now.kind source.entry.text.now fault.now) (string_bytes said.old) (string_bytes said.new)) }
+{
+    match fault.kind {
+        FaultKind::NotJson => push_not_json(source, said),
+        FaultKind::OutOfMemory => said.push_str("out of memory"),
+        _ => push_placed(source, said, fault),
+    }
+}
+
+fn push_placed(source: Source<'_>, said: &mut String, fault: &ConfFault) -> Result<(), AllocError>
+    ensures { OnOk result (Adds (IsPlaced source.entry.text.now fault.now) (string_bytes said.old) (string_bytes said.new)) }
+{
     let found = source.find(fault.path.as_slice())?;
     let layer = found.layer();
     let at = if is_of_the_name(fault.kind) {
@@ -42,38 +52,40 @@ fn push_placed(source: Source<'_>, said: &mut String, fault: &ConfFault) -> Resu
     push_alias(source, said, layer.alias)?;
     push_standing(source, said, &found, fault.kind)?;
     said.push_str(": expected ")?;
-    push_wanted(source, said, &found, fault)
+    said.push_str(wanted_words(source, &found, fault)?.as_str())
 }
 
 /// Whether a fault of this kind is the name's, and not its value's.
 fn is_of_the_name(kind: FaultKind) -> bool {
-    matches!(
-        kind,
-        FaultKind::Unknown | FaultKind::BadName | FaultKind::ReservedName | FaultKind::NameClash
-    )
+    name_words(kind).is_some()
 }
 
-fn push_path(alloc: Global, said: &mut String, path: &[Step]) -> Result<(), AllocError> {
-    let mut separator = "";
-    for step in path {
-        said.push_str(separator)?;
-        match step {
-            Step::Key(name) => push_cut(said, name.as_str())?,
-            Step::Index(index) => said.push_str(format!(in alloc; "{index}")?.as_str())?,
-        }
-        separator = "/";
+fn push_path(alloc: Global, said: &mut String, path: &[Step]) -> Result<(), AllocError>
+    ensures { OnOk result (string_bytes said.new ≡ string_bytes said.old ++ path_words path.now) }
+{
+    let Some((first, others)) = path.split_first() else {
+        return Ok(());
+    };
+    push_step(alloc, said, first)?;
+    for step in others {
+        said.push_str("/")?;
+        push_step(alloc, said, step)?;
     }
-    if !path.is_empty() {
-        said.push_str(": ")?;
-    }
-    Ok(())
+    said.push_str(": ")
 }
 
-fn push_alias(
-    source: Source<'_>,
-    said: &mut String,
-    alias: Option<usize>,
-) -> Result<(), AllocError> {
+fn push_step(alloc: Global, said: &mut String, step: &Step) -> Result<(), AllocError>
+    ensures { OnOk result (string_bytes said.new ≡ string_bytes said.old ++ step_words step.now) }
+{
+    match step {
+        Step::Key(name) => push_cut(said, name.as_str()),
+        Step::Index(index) => said.push_str(format!(in alloc; "{index}")?.as_str()),
+    }
+}
+
+fn push_alias(source: Source<'_>, said: &mut String, alias: Option<usize>) -> Result<(), AllocError>
+    ensures { OnOk result (Adds IsAliasWords (string_bytes said.old) (string_bytes said.new)) }
+{
     let Some(at) = alias else {
         return Ok(());
     };
@@ -90,20 +102,46 @@ fn push_standing(
     said: &mut String,
     found: &Found,
     kind: FaultKind,
-) -> Result<(), AllocError> {
+) -> Result<(), AllocError>
+    ensures { OnOk result (Adds (IsStanding kind) (string_bytes said.old) (string_bytes said.new)) }
+{
+    if let Some(words) = name_words(kind) {
+        return said.push_str(words);
+    }
+    if !found.is_there {
+        return said.push_str("missing");
+    }
+    match source.value_of(found.layer().at)? {
+        Some(value) => push_cut(said, format!(in source.alloc; "{value}")?.as_str()),
+        None => push_cut(said, "a value"),
+    }
+}
+
+/// What is said of a name, where a fault of this kind is the name's, and not its value's.
+#[tactic(auto, unfolding(crate::specs::Explanation::name_words))]
+fn name_words(kind: FaultKind) -> Option<&'static str>
+    ensures { option_copied result ≡ words_of_name kind }
+{
     match kind {
-        FaultKind::Unknown => said.push_str("unknown property"),
-        FaultKind::BadName => said.push_str("bad name"),
-        FaultKind::ReservedName => said.push_str("reserved word"),
-        FaultKind::NameClash => said.push_str("name is taken"),
-        _ => {
-            if !found.is_there {
-                return said.push_str("missing");
-            }
-            match source.value_of(found.layer().at)? {
-                Some(value) => push_cut(said, format!(in source.alloc; "{value}")?.as_str()),
-                None => said.push_str("a value"),
-            }
-        }
+        FaultKind::Unknown => Some("unknown property"),
+        FaultKind::BadName => Some("bad name"),
+        FaultKind::ReservedName => Some("reserved word"),
+        FaultKind::NameClash => Some("name is taken"),
+        FaultKind::NotJson
+        | FaultKind::TooDeep
+        | FaultKind::WrongKind
+        | FaultKind::NotWhole
+        | FaultKind::Missing
+        | FaultKind::NoSuchAlias
+        | FaultKind::InheritCycle
+        | FaultKind::OutOfRange
+        | FaultKind::FieldTooSmall
+        | FaultKind::ZeroSizeRecord
+        | FaultKind::NoClock
+        | FaultKind::NoUuid
+        | FaultKind::Limit
+        | FaultKind::TwoOrders
+        | FaultKind::TimestampSize
+        | FaultKind::OutOfMemory => None,
     }
 }

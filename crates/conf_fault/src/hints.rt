@@ -1,5 +1,8 @@
 //! Hints where a user of barectf lands first.
 
+ghost use Rattle.std.specs.Prelude.{OnOk, string_bytes};
+ghost use Rattle.conf_fault.specs.Explanation.{Adds, IsNotJson, IsYamlHint};
+
 use crate::json_front::json_place;
 use crate::line_column::push_place;
 use crate::source::Source;
@@ -8,10 +11,19 @@ use conf_tree::{FaultKind, Step};
 use std::alloc::AllocError;
 
 /// Adds where a text stops being JSON.
-pub(crate) fn push_not_json(source: Source<'_>, said: &mut String) -> Result<(), AllocError> {
+pub(crate) fn push_not_json(source: Source<'_>, said: &mut String) -> Result<(), AllocError>
+    ensures { OnOk result (Adds (IsNotJson source.entry.text.now) (string_bytes said.old) (string_bytes said.new)) }
+{
     push_place(source.alloc, said, json_place(source.alloc, source.text)?)?;
     said.push_str("not JSON: expected one JSON value in UTF-8")?;
-    if looks_like_yaml(source.text) {
+    push_yaml_hint(source.text, said)
+}
+
+/// Adds what helps where a text is YAML.
+fn push_yaml_hint(text: &[u8], said: &mut String) -> Result<(), AllocError>
+    ensures { OnOk result (Adds IsYamlHint (string_bytes said.old) (string_bytes said.new)) }
+{
+    if looks_like_yaml(text) {
         said.push_str("; this looks like YAML, of which tools/yaml_to_json makes JSON")?;
     }
     Ok(())

@@ -1,7 +1,8 @@
 //! Lines and columns of a text.
 
-ghost use Rattle.std.specs.Prelude.{◌≡◌, take};
-ghost use Rattle.conf_fault.specs.LineColumn.{line_behind, column_behind};
+ghost use Rattle.std.specs.Prelude.{◌≡◌, ◌++◌, take, OnOk, string_bytes};
+ghost use Rattle.conf_fault.specs.LineColumn.{IsPlaceIn, line_behind, column_behind};
+ghost use Rattle.conf_fault.specs.Explanation.{place_words};
 
 use std::alloc::{AllocError, Global};
 
@@ -16,6 +17,7 @@ pub struct LineColumn {
 pub(crate) fn line_column(text: &[u8], at: usize) -> LineColumn
     ensures line { result.line ≡ line_behind (take at text.now) }
     ensures column { result.column ≡ column_behind (take at text.now) }
+    ensures lies { IsPlaceIn text.now result }
 {
     let mut place = LineColumn { line: 1, column: 1 };
     for byte in &text[..at.min(text.len())] {
@@ -34,7 +36,9 @@ pub(crate) fn push_place(
     alloc: Global,
     said: &mut String,
     place: LineColumn,
-) -> Result<(), AllocError> {
+) -> Result<(), AllocError>
+    ensures { OnOk result (string_bytes said.new ≡ string_bytes said.old ++ place_words place) }
+{
     let numbers = format!(in alloc; "line {}, column {}: ", place.line, place.column)?;
     said.push_str(numbers.as_str())
 }

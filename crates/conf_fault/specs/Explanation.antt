@@ -1,0 +1,113 @@
+-- The explanation of a configuration's fault: where it stands in the text, the way to it, what stands there, and what was expected. Whatever it
+-- shows of the configuration, it stays on one line.
+use Rattle.std.specs.Prelude.{◌≡◌, ◌⊎◌, List, [], ◌∷◌, ◌++◌, ℕ, Option, Some, None, MatchOption, ⊤, codes, string_bytes, decimal}
+use Rattle.std.specs.List.{flat_map}
+use Rattle.conf_tree.specs.declared.step.Step.{Step}
+use Rattle.conf_tree.specs.declared.step.Step.TheVariants.{Key, Index}
+use Rattle.conf_tree.specs.declared.fault.ConfFault.{ConfFault}
+use Rattle.conf_tree.specs.declared.fault_kind.FaultKind.{FaultKind}
+use Rattle.conf_tree.specs.declared.fault_kind.FaultKind.TheVariants.{NotJson, TooDeep, Unknown, InheritCycle, BadName, ReservedName, NameClash, ZeroSizeRecord, NoUuid, TwoOrders, OutOfMemory}
+use Rattle.conf_fault.specs.declared.line_column.LineColumn.{LineColumn}
+use Rattle.conf_fault.specs.LineColumn.{IsPlaceIn}
+use Rattle.conf_fault.specs.Shown.{cut, shown}
+
+-- words of this kind are added
+abbrev pub Adds : (List ℕ → Type 0) → List ℕ → List ℕ → Type 0
+Adds Is old new = (words : List ℕ) × Is words × (new ≡ old ++ words)
+
+-- ---- where it stands, and the way to it
+
+-- `line 2, column 9: `
+abbrev pub place_words : LineColumn → List ℕ
+place_words place = codes "line " ++ decimal place.line ++ codes ", column " ++ decimal place.column ++ codes ": "
+
+-- the place of a byte of the text, or of its end
+abbrev pub IsPlaceWords : List ℕ → List ℕ → Type 0
+IsPlaceWords text words = (place : LineColumn) × IsPlaceIn text place × (words ≡ place_words place)
+
+-- a step: a name, or an index
+abbrev pub step_words : Step → List ℕ
+step_words (Key name) = cut (string_bytes name)
+step_words (Index i) = decimal i
+
+abbrev pub further_step : Step → List ℕ
+further_step step = codes "/" ++ step_words step
+
+-- all steps in their order, `/` between them and `: ` behind them
+unfoldable pub path_words : List Step → List ℕ
+path_words [] = []
+path_words (step ∷ steps) = step_words step ++ flat_map further_step steps ++ codes ": "
+
+-- the alias in which it stands, where it stands in one
+abbrev pub IsAliasWords : List ℕ → Type 0
+IsAliasWords words = (words ≡ []) ⊎ ((name : List ℕ) × (words ≡ codes "in the alias `" ++ cut name ++ codes "`: "))
+
+-- ---- what stands there
+
+-- what is said of a name that is at fault
+unfoldable pub name_words : FaultKind → Option (List ℕ)
+name_words Unknown = Some (codes "unknown property")
+name_words BadName = Some (codes "bad name")
+name_words ReservedName = Some (codes "reserved word")
+name_words NameClash = Some (codes "name is taken")
+name_words _ = None
+
+-- nothing, or a value
+abbrev pub IsValueWords : List ℕ → Type 0
+IsValueWords words = (words ≡ codes "missing") ⊎ ((value : List ℕ) × (words ≡ cut value))
+
+abbrev pub IsStanding : FaultKind → List ℕ → Type 0
+IsStanding kind words = MatchOption (name_words kind) (IsValueWords words) (λ said. words ≡ said)
+
+-- ---- what was expected
+
+-- of the kinds that are the same everywhere
+unfoldable pub fixed_words : FaultKind → Option (List ℕ)
+fixed_words TooDeep = Some (codes "at most 32 levels of objects and lists")
+fixed_words InheritCycle = Some (codes "a chain of aliases that ends: this alias inherits from itself")
+fixed_words ReservedName = Some (codes "a name that the metadata language does not use itself")
+fixed_words NameClash = Some (codes "a name that nothing else in this structure has")
+fixed_words ZeroSizeRecord = Some (codes "an integer, an enumeration or a string in its contexts or its payload")
+fixed_words NoUuid = Some (codes "a UUID of the trace type, or with `auto` one from the caller")
+fixed_words TwoOrders = Some (codes "only one of `trace-byte-order` and `native-byte-order`")
+fixed_words _ = None
+
+-- of the other kinds any words
+abbrev pub IsWanted : FaultKind → List ℕ → Type 0
+IsWanted kind words = MatchOption (fixed_words kind) ⊤ (λ said. words ≡ said)
+
+-- ---- the whole
+
+-- a fault that has a place in the text
+pub record IsPlaced (text : List ℕ) (fault : ConfFault) (said : List ℕ) : Type 0 where
+  pub place : List ℕ
+  pub alias : List ℕ
+  pub standing : List ℕ
+  pub wanted : List ℕ
+  pub lies : IsPlaceWords text place
+  pub in_alias : IsAliasWords alias
+  pub stands : IsStanding fault.kind standing
+  pub expects : IsWanted fault.kind wanted
+  pub is : said ≡ place ++ path_words fault.path ++ alias ++ standing ++ codes ": expected " ++ wanted
+
+-- a hint where it looks like YAML
+abbrev pub IsYamlHint : List ℕ → Type 0
+IsYamlHint hint = (hint ≡ []) ⊎ (hint ≡ codes "; this looks like YAML, of which tools/yaml_to_json makes JSON")
+
+-- a text that is no JSON
+pub record IsNotJson (text said : List ℕ) : Type 0 where
+  pub place : List ℕ
+  pub hint : List ℕ
+  pub lies : IsPlaceWords text place
+  pub looks : IsYamlHint hint
+  pub is : said ≡ place ++ codes "not JSON: expected one JSON value in UTF-8" ++ hint
+
+-- what is said of a fault of a text, by its kind
+unfoldable pub IsSaidOf : FaultKind → List ℕ → ConfFault → List ℕ → Type 0
+IsSaidOf NotJson text fault said = IsNotJson text said
+IsSaidOf OutOfMemory text fault said = said ≡ codes "out of memory"
+IsSaidOf _ text fault said = IsPlaced text fault said
+
+-- the line that explains a fault of a text
+abbrev pub IsExplanation : List ℕ → ConfFault → List ℕ → Type 0
+IsExplanation text fault line = (said : List ℕ) × IsSaidOf fault.kind text fault said × (line ≡ shown said)
