@@ -25,3 +25,4 @@ pub mod KnownClocks
 pub mod BlockOrder
 pub mod ItemOrder
 pub mod LengthParts
+pub mod FaultLines

@@ -17,3 +17,4 @@ pub mod Denotes
 pub mod Orders
 pub mod Laws
 pub mod Positions
+pub mod FaultWords

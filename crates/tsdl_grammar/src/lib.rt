@@ -26,7 +26,7 @@ pub use laws::{
 };
 pub use literal::literal_value;
 pub use piece::{Cut, Piece};
-pub use position::{Position, explain, found_at, position_of};
+pub use position::{Position, found_at, position_of};
 pub use token::{Mark, Span, Token, TokenKind};
 pub use tokenizer::{MAGIC_LINE, check_tokens, token_start, tokens};
 pub use tree::{

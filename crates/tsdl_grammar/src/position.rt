@@ -1,9 +1,9 @@
 //! Faults of a metadata text as people read them: with line, column and what stands there.
 
-ghost use Rattle.std.specs.Prelude.{◌≡◌, ◌≤◌, length, take};
+ghost use Rattle.std.specs.Prelude.{◌≡◌, ◌≤◌, length, take, min, IfOk, string_bytes};
 ghost use Rattle.tsdl_grammar.specs.Positions.{line_after, column_after};
+ghost use Rattle.tsdl_grammar.specs.FaultWords.{IsQuoted, IsSaidOf, IsFoundAt};
 
-use crate::fault::MetaFault;
 use crate::piece::piece_at;
 use std::alloc::{AllocError, Global};
 
@@ -46,31 +46,51 @@ fn column_behind(before: &[u8]) -> usize
     column
 }
 
-/// A fault in words: its byte, line and column, what stands there, and what is wrong.
-pub fn explain(alloc: Global, text: &[u8], fault: &MetaFault) -> Result<String, AllocError> {
-    let found = found_at(alloc, text, fault.place)?;
-    format!(in alloc; "{found}: {}", fault.kind)
-}
-
-/// What stands at a byte of a text, in words, with its line and its column.
-pub fn found_at(alloc: Global, text: &[u8], place: usize) -> Result<String, AllocError> {
+/// What stands at a byte of a text, in words, with its line and its column. A place behind the text is its end.
+pub fn found_at(alloc: Global, text: &[u8], place: usize) -> Result<String, AllocError>
+    ensures { IfOk result (λ said. IsFoundAt text.now (min place (length text.now)) (string_bytes said)) }
+{
     let place = place.min(text.len());
     let Position { line, column } = position_of(text, place);
-    let rest = &text[place..];
-    if rest.is_empty() {
-        return format!(in alloc;
-            "byte {place}, line {line}, column {column}: found the end of the text"
-        );
+    let (_, behind) = text.split_at(place);
+    let found = standing(alloc, behind)?;
+    format!(in alloc; "byte {place}, line {line}, column {column}: found {found}")
+}
+
+/// What stands at the front of some bytes, in words.
+fn standing(alloc: Global, bytes: &[u8]) -> Result<String, AllocError>
+    ensures { IfOk result (λ found. IsSaidOf bytes.now (string_bytes found)) }
+{
+    if bytes.is_empty() {
+        return String::from_str(alloc, "the end of the text");
     }
-    let piece = &rest[..piece_at(rest).map_or(1, |cut| cut.len)];
+    quoted(alloc, &bytes[..piece_at(bytes).map_or(1, |cut| cut.len)])
+}
+
+/// A piece in quotes, of a long one its front.
+fn quoted(alloc: Global, piece: &[u8]) -> Result<String, AllocError>
+    ensures { length piece.now ≤ 40 → IfOk result (λ found. IsQuoted piece.now (string_bytes found)) }
+{
     let front = front_of(piece);
-    let found = String::from_utf8_lossy(alloc, front)?;
-    let cut = if front.len() < piece.len() { "..." } else { "" };
-    format!(in alloc; "byte {place}, line {line}, column {column}: found {found:?}{cut}")
+    let found = in_quotes(alloc, front)?;
+    if front.len() < piece.len() {
+        format!(in alloc; "{found}...")
+    } else {
+        Ok(found)
+    }
+}
+
+fn in_quotes(alloc: Global, bytes: &[u8]) -> Result<String, AllocError>
+    ensures { IfOk result (λ found. IsQuoted bytes.now (string_bytes found)) }
+{
+    let text = String::from_utf8_lossy(alloc, bytes)?;
+    format!(in alloc; "{text:?}")
 }
 
 /// What a message shows of a piece: all of it, or so much of its front that no character is cut.
-fn front_of(piece: &[u8]) -> &[u8] {
+fn front_of(piece: &[u8]) -> &[u8]
+    ensures { length piece.now ≤ 40 → result.now ≡ piece.now }
+{
     if piece.len() <= LONGEST_SHOWN {
         return piece;
     }

@@ -1,5 +1,9 @@
 //! Faults of a metadata text as people read them.
 
+ghost use Rattle.std.specs.Prelude.{◌≡◌, true, None, IfOk, string_bytes};
+ghost use Rattle.tsdl_grammar.specs.FaultWords.{kind_words};
+ghost use Rattle.tsdl_reader.specs.Explained.{says_all, IsExplained};
+
 use crate::meaning::meaning;
 use crate::token_words::token_words;
 use std::alloc::{AllocError, Global};
@@ -11,16 +15,28 @@ const PACKET_MAGIC: [[u8; 4]; 2] = [[0x57, 0x1d, 0xd1, 0x75], [0x75, 0xd1, 0x1d,
 
 /// The fault that `read_metadata` answers for a text, in words: its byte, line and column, what stands there, what is
 /// wrong, and what was expected or what can be done where that is not said by then.
-pub fn explain_fault(alloc: Global, text: &[u8], fault: &MetaFault) -> Result<String, AllocError> {
+pub fn explain_fault(alloc: Global, text: &[u8], fault: &MetaFault) -> Result<String, AllocError>
+    ensures { IfOk result (λ said. IsExplained text.now fault.now (string_bytes said)) }
+{
     let found = found_at(alloc, text, fault.place)?;
-    match words_of(alloc, text, fault)? {
-        Some(words) => format!(in alloc; "{found}: {words}"),
-        None => format!(in alloc; "{found}: {}", fault.kind),
+    let words = words_of(alloc, text, fault)?;
+    format!(in alloc; "{found}: {words}")
+}
+
+/// What is wrong with a text at its fault, in words.
+fn words_of(alloc: Global, text: &[u8], fault: &MetaFault) -> Result<String, AllocError>
+    ensures { says_all fault.now.kind ≡ true → IfOk result (λ words. string_bytes words ≡ kind_words fault.now.kind) }
+{
+    match told_by(alloc, text, fault)? {
+        Some(words) => Ok(words),
+        None => fault.kind.to_string(alloc),
     }
 }
 
-/// What is wrong with a text at its fault, in words, where the kind of the fault does not say all of it.
-fn words_of(alloc: Global, text: &[u8], fault: &MetaFault) -> Result<Option<String>, AllocError> {
+/// What a text tells of its fault, where the kind of the fault does not say all of it.
+fn told_by(alloc: Global, text: &[u8], fault: &MetaFault) -> Result<Option<String>, AllocError>
+    ensures { says_all fault.now.kind ≡ true → IfOk result (λ words. words ≡ None) }
+{
     match fault.kind {
         MetaFaultKind::NoMagicLine => packets_words(alloc, text),
         MetaFaultKind::Token => token_words(alloc, text.get(fault.place..).unwrap_or(&[])),

@@ -154,7 +154,8 @@ fn is_explained(
     kind: MetaFaultKind,
     words: &str,
 ) -> Result<(), Fail> {
-    let said = explain(alloc, b"/* CTF 1.8 */\na @", &MetaFault { place, kind })?;
+    let found = found_at(alloc, b"/* CTF 1.8 */\na @", place)?;
+    let said = format!(in alloc; "{found}: {kind}")?;
     same(rt, said.as_str(), words, place);
     Ok(())
 }
