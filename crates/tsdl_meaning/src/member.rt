@@ -85,6 +85,7 @@ pub(crate) fn encoding_or_any(value: Option<&Value>) -> Option<bool>
     }
 }
 
+#[tactic(auto, using(crate::proofs::WordTables::other_word))]
 fn encoding_word(word: &str) -> Option<bool>
     ensures { result ≡ meant_by encoding_words word.now }
 {

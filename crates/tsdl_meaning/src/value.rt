@@ -108,6 +108,7 @@ pub(crate) fn flag_value(value: &Value) -> Option<bool>
     }
 }
 
+#[tactic(auto, using(crate::proofs::WordTables::other_word))]
 fn flag_word(word: &str) -> Option<bool>
     ensures { result ≡ meant_by flag_words word.now }
 {
