@@ -174,24 +174,19 @@ pub record Tells {R : Type 0} (remaining : R → Option (List ℕ)) (m : Metadat
   pub front : (streams : List ReadStream) → GoOn m sources ks files streams → IsMergedFront streams (heads_of ks files) places
   pub said : (streams : List ReadStream) → GoOn m sources ks files streams → Says held page later next (flat_map (place_line m streams) places)
 
--- all records were told, and each file is at its end
-pub record TellsAll {R : Type 0} (remaining : R → Option (List ℕ)) (m : Metadata) (sources : ℕ → Source) (files : List (OpenFile R))
-    (held : Option (List ℕ)) (page : Page) (later : Option (List ℕ)) (next : Page) : Type 0 where
+-- each file is at its end, and of all traces that go on these are all records, in the merged order
+pub record AllTold {R : Type 0} (remaining : R → Option (List ℕ)) (m : Metadata) (sources : ℕ → Source) (files : List (OpenFile R)) : Type 0 where
   pub ks : Packets
   pub are_open : AreOpen remaining m sources ks files
   pub over : (i : ℕ) (file : OpenFile R) → slice_get files i ≡ Some file → IsSome (ending_of file.reader)
   pub places : List Place
   pub merged : (streams : List ReadStream) → GoOn m sources ks files streams → IsMerged streams places
-  pub said : (streams : List ReadStream) → GoOn m sources ks files streams → Says held page later next (flat_map (place_line m streams) places)
 
--- and behind a stop: those that were told are a front of the order of each trace that goes on
-pub record TellsFront {R : Type 0} (remaining : R → Option (List ℕ)) (m : Metadata) (sources : ℕ → Source) (files : List (OpenFile R))
+-- all records were told, and their lines were said
+pub record TellsAll {R : Type 0} (remaining : R → Option (List ℕ)) (m : Metadata) (sources : ℕ → Source) (files : List (OpenFile R))
     (held : Option (List ℕ)) (page : Page) (later : Option (List ℕ)) (next : Page) : Type 0 where
-  pub ks : Packets
-  pub read : AreRead remaining m sources ks files
-  pub places : List Place
-  pub front : (streams : List ReadStream) (order : List Place) → GoOn m sources ks files streams → IsMerged streams order → (rest : List Place) × (order ≡ places ++ rest)
-  pub said : (streams : List ReadStream) → GoOn m sources ks files streams → Says held page later next (flat_map (place_line m streams) places)
+  pub all : AllTold remaining m sources files
+  pub said : (streams : List ReadStream) → GoOn m sources all.ks files streams → Says held page later next (flat_map (place_line m streams) all.places)
 
 -- what is done next: a packet is read of a file that waits, or, where none waits, the first of the heads is told, or all is told
 abbrev pub IsNextStep : {R : Type 0} → List (OpenFile R) → Step → Type 0
@@ -202,17 +197,13 @@ IsNextStep files Over = IsWaitingFile files None × IsFirstOf files (length file
 -- all was said, and nothing is left on the page
 pub record SaysAll {R : Type 0} (remaining : R → Option (List ℕ)) (m : Metadata) (sources : ℕ → Source) (files : List (OpenFile R)) (answered : List PrintedFile)
     (held : Option (List ℕ)) (page : Page) (later : Option (List ℕ)) (next : Page) : Type 0 where
-  pub ks : Packets
-  pub are_open : AreOpen remaining m sources ks files
-  pub over : (i : ℕ) (file : OpenFile R) → slice_get files i ≡ Some file → IsSome (ending_of file.reader)
-  pub places : List Place
-  pub merged : (streams : List ReadStream) → GoOn m sources ks files streams → IsMerged streams places
-  pub said : (streams : List ReadStream) → GoOn m sources ks files streams → Says held page later next (lines m streams places)
-  pub answers : (streams : List ReadStream) → GoOn m sources ks files streams → AllZip IsPrintedFile streams answered
+  pub all : AllTold remaining m sources files
+  pub said : (streams : List ReadStream) → GoOn m sources all.ks files streams → Says held page later next (lines m streams all.places)
+  pub answers : (streams : List ReadStream) → GoOn m sources all.ks files streams → AllZip IsPrintedFile streams answered
   pub is_open : IsOpen next
   pub empty : next.bytes.items ≡ []
 
--- what was said is a front of the text of each trace that goes on
+-- whether all was told or not: what was said is a front of the text of each trace that goes on
 pub record SaysFront {R : Type 0} (remaining : R → Option (List ℕ)) (m : Metadata) (sources : ℕ → Source) (files : List (OpenFile R))
     (held : Option (List ℕ)) (page : Page) (later : Option (List ℕ)) (next : Page) : Type 0 where
   pub ks : Packets

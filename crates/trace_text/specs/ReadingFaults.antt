@@ -1,11 +1,15 @@
 -- Why a trace is not printed to its end while it is read: one of its readers stopped, the writer failed, memory was wanting, or there was no end.
-use Rattle.std.specs.Prelude.{◌≢◌, ℕ, ◌<◌}
+use Rattle.std.specs.Prelude.{◌≡◌, ◌≢◌, ℕ, ◌<◌, List, Option, None, Some, slice_get}
+use Rattle.ctf_types.specs.declared.Metadata.{Metadata}
 use Rattle.packet_reader.specs.declared.read_stop.ReadStop.{ReadStop}
 use Rattle.packet_reader.specs.declared.read_stop.ReadStop.TheVariants as stops
+use Rattle.packet_reader.specs.StreamReaders.{ending_of}
+use Rattle.trace_text.specs.declared.open_file.OpenFile.{OpenFile}
 use Rattle.trace_text.specs.declared.printing_fault.PrintFault.{PrintFault}
 use Rattle.trace_text.specs.declared.printing_fault.PrintFault.TheVariants as prints
 use Rattle.trace_text.specs.declared.reading_fault.ReadingFault.{ReadingFault}
 use Rattle.trace_text.specs.declared.reading_fault.ReadingFault.TheVariants.{Reader, Writer, TooManyRecords, OutOfMemory}
+use Rattle.trace_text.specs.PrintedFromReaders.{Given, PrintsFront, Source}
 
 -- what a fault says of so many readers: the one that it names is one of them, and did not stop for want of memory
 abbrev pub ReadingFaultHolds : ℕ → ReadingFault → Type 0
@@ -24,3 +28,24 @@ of_stop place stops.OutOfMemory = OutOfMemory
 abbrev pub of_print_fault : PrintFault → ReadingFault
 of_print_fault prints.Writer = Writer
 of_print_fault prints.OutOfMemory = OutOfMemory
+
+-- ---- the reader that is named
+
+-- the reader that a fault names has not come to its file's end
+abbrev pub NamesUnendedFile : {R : Type 0} → List (OpenFile R) → ReadingFault → Type 0
+NamesUnendedFile {R} files (Reader place stop) = (file : OpenFile R) × (slice_get files place ≡ Some file) × (ending_of file.reader ≡ None)
+NamesUnendedFile {R} files Writer = Unit {0}
+NamesUnendedFile {R} files TooManyRecords = Unit {0}
+NamesUnendedFile {R} files OutOfMemory = Unit {0}
+
+-- the same of what the readers gave
+abbrev pub NamesUnended : List Given → ReadingFault → Type 0
+NamesUnended given (Reader place stop) = (g : Given) × (slice_get given place ≡ Some g) × (g.ending ≡ None)
+NamesUnended given Writer = Unit {0}
+NamesUnended given TooManyRecords = Unit {0}
+NamesUnended given OutOfMemory = Unit {0}
+
+-- behind a fault: a front is written of the text of each trace that goes on from what the readers gave, in the file of the reader that it names too
+pub record StopsAt (m : Metadata) (sources : List Source) (old new : Option (List ℕ)) (fault : ReadingFault) : Type 0 where
+  pub front : PrintsFront m sources old new
+  pub reader : NamesUnended front.given fault
