@@ -31,6 +31,9 @@ pub enum FileFault {
     NotListed(ErrorKind),
     #[error("cannot make: {0}")]
     NotMade(ErrorKind),
+    /// The folder that is to be made is there.
+    #[error("cannot make: entity already exists (--resume goes on in it)")]
+    IsThere,
     #[error("a write failed")]
     NotWritten,
 }
