@@ -1,11 +1,11 @@
 //! What stands where a script has a fault, by the JSON that its text is, and the names that there are.
 
 use crate::fault_lines::push_name;
-use crate::script_form::{push_property, push_value};
+use crate::script_form::{push_event_property, push_property, push_value};
 use ctf_types::{Config, StreamType};
 use serde_json::Value;
 use std::alloc::{AllocError, Global};
-use trace_text::{ScriptFault, ScriptFaultKind, read_script};
+use trace_text::{ScriptFault, ScriptFaultKind, ScriptObject, read_script};
 
 /// Where a script has a fault.
 #[derive(Clone, Copy)]
@@ -16,7 +16,7 @@ enum Place<'v> {
     Event(&'v Value),
 }
 
-/// Adds where a script that is JSON has this fault, of a stream of another form also the property, what stands there, what is wrong with it, and of an unknown
+/// Adds where a script that is JSON has this fault, of an object of another form also the property, what stands there, what is wrong with it, and of an unknown
 /// name those that there are.
 pub fn push_fault(
     alloc: Global,
@@ -40,15 +40,27 @@ fn push_fault_in(
 ) -> Result<(), AllocError> {
     let place = faulty_place(alloc, config, script, fault)?;
     push_place(alloc, said, &place, fault.at)?;
-    if let (Place::Stream(entry), ScriptFaultKind::Shape) = (place, fault.kind) {
-        if push_property(alloc, said, entry)? {
-            return Ok(());
-        }
+    if fault.kind == ScriptFaultKind::Shape && push_form(alloc, said, script, &place)? {
+        return Ok(());
     }
     push_blamed(alloc, said, script, &place, fault.kind)?;
     let kind = format!(in alloc; ": {}", fault.kind)?;
     said.extend_from_slice(kind.as_bytes())?;
     push_known(alloc, said, config, script, &place, fault.kind)
+}
+
+/// Adds the property at which a script is of another form. Where the object itself is none, nothing is added, and the answer is false.
+fn push_form(
+    alloc: Global,
+    said: &mut Vec<u8>,
+    script: &Value,
+    place: &Place<'_>,
+) -> Result<bool, AllocError> {
+    match place {
+        Place::Whole => push_property(alloc, said, script, ScriptObject::Whole),
+        Place::Stream(entry) => push_property(alloc, said, *entry, ScriptObject::Stream),
+        Place::Event(entry) => push_event_property(alloc, said, *entry),
+    }
 }
 
 /// The entry that has the fault: that of a stream, where the streams alone have one.

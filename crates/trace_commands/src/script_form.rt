@@ -1,67 +1,139 @@
-//! Where a stream of a script is not of a script's form: the property, what stands there, and what was expected.
+//! Where a script is not of a script's form: the property, what stands there, and what was expected.
 
 use crate::fault_lines::push_name;
 use conf_tree::{member, optional};
 use serde_json::{Map, Value};
 use std::alloc::{AllocError, Global};
+use trace_text::{Presence, PropertyKind, ScriptObject, ScriptProperty};
 
-/// Adds the first property at which a stream's entry is not of a script's form. An entry that is no object has none: nothing is added, and the answer is false.
-pub fn push_property(alloc: Global, said: &mut Vec<u8>, entry: &Value) -> Result<bool, AllocError> {
+/// Adds the first property at which an event's entry is not of a script's form. An entry that is no object has none: nothing is added, and the answer is false.
+pub fn push_event_property(
+    alloc: Global,
+    said: &mut Vec<u8>,
+    entry: &Value,
+) -> Result<bool, AllocError> {
     let Some(members) = entry.as_object() else {
         return Ok(false);
     };
-    if let Some(name) = other_name(members) {
+    if let Some(act) = known_name(members, ScriptObject::Doing) {
+        return push_act(alloc, said, members, act);
+    }
+    let added = push_members(alloc, said, members, ScriptObject::Tracing)?;
+    if member(members, "trace").is_none() {
+        said.extend_from_slice(b", or alone one of ".as_slice())?;
+        push_names(said, ScriptObject::Doing)?;
+    }
+    Ok(added)
+}
+
+/// Adds the first property at which an object is not of its form. A value that is no object has none: nothing is added, and the answer is false.
+pub fn push_property(
+    alloc: Global,
+    said: &mut Vec<u8>,
+    value: &Value,
+    object: ScriptObject,
+) -> Result<bool, AllocError> {
+    match value.as_object() {
+        Some(members) => push_members(alloc, said, members, object),
+        None => Ok(false),
+    }
+}
+
+fn push_members(
+    alloc: Global,
+    said: &mut Vec<u8>,
+    members: &Map<String, Value>,
+    object: ScriptObject,
+) -> Result<bool, AllocError> {
+    if let Some(name) = other_name(members, object) {
         push_name(said, name.as_bytes())?;
-        said.extend_from_slice(
-            b": unknown property: expected `name`, `type`, `clock`, `extras`".as_slice(),
-        )?;
+        said.extend_from_slice(b": unknown property: expected ".as_slice())?;
+        push_names(said, object)?;
         return Ok(true);
     }
-    match wrong_kind(members) {
-        Some((name, expected)) => push_kind(alloc, said, members, name, expected)?,
+    match wrong_kind(members, object) {
+        Some(property) => push_kind(alloc, said, members, property)?,
         None => return push_reading(alloc, said, members),
     }
     Ok(true)
 }
 
-/// The first name of a property that a stream does not have.
-fn other_name(members: &Map<String, Value>) -> Option<&str> {
+/// Adds what stands beside an act, or what the act is in place of a stream's name.
+fn push_act(
+    alloc: Global,
+    said: &mut Vec<u8>,
+    members: &Map<String, Value>,
+    act: &str,
+) -> Result<bool, AllocError> {
     for (name, _value) in members.iter() {
-        if !matches!(name.as_str(), "clock" | "extras" | "name" | "type") {
+        if name.as_str() != act {
+            push_name(said, name.as_bytes())?;
+            let text = format!(in alloc; ": beside `{act}`: expected `{act}` alone")?;
+            said.extend_from_slice(text.as_bytes())?;
+            return Ok(true);
+        }
+    }
+    push_members(alloc, said, members, ScriptObject::Doing)
+}
+
+/// The first name of a property that such an object can have.
+fn known_name(members: &Map<String, Value>, object: ScriptObject) -> Option<&str> {
+    for (name, _value) in members.iter() {
+        if object.has(name.as_str()) {
             return Some(name.as_str());
         }
     }
     None
 }
 
-/// The first property that is not of its kind, and what was expected.
-fn wrong_kind(members: &Map<String, Value>) -> Option<(&'static str, &'static str)> {
-    if !is_text(members, "name") {
-        return Some(("name", "a text"));
-    }
-    if !is_text(members, "type") {
-        return Some(("type", "a text"));
-    }
-    if !is_list(members, "extras") {
-        return Some(("extras", "a list of values"));
-    }
-    if !is_list(members, "clock") {
-        return Some(("clock", "a list of readings"));
+/// The first name of a property that such an object cannot have.
+fn other_name(members: &Map<String, Value>, object: ScriptObject) -> Option<&str> {
+    for (name, _value) in members.iter() {
+        if !object.has(name.as_str()) {
+            return Some(name.as_str());
+        }
     }
     None
 }
 
-fn is_text(members: &Map<String, Value>, name: &str) -> bool {
-    match member(members, name) {
-        Some(value) => value.as_str().is_some(),
-        None => false,
+/// Adds the names of the properties that such an object can have.
+fn push_names(said: &mut Vec<u8>, object: ScriptObject) -> Result<(), AllocError> {
+    for (index, (name, _, _)) in object.properties().iter().enumerate() {
+        if index > 0 {
+            said.extend_from_slice(b", ".as_slice())?;
+        }
+        said.push(b'`')?;
+        said.extend_from_slice(name.as_bytes())?;
+        said.push(b'`')?;
     }
+    Ok(())
 }
 
-fn is_list(members: &Map<String, Value>, name: &str) -> bool {
-    match optional(members, name) {
-        Some(value) => value.is_array(),
-        None => true,
+/// The first property of such an object that is not of its kind.
+fn wrong_kind(
+    members: &Map<String, Value>,
+    object: ScriptObject,
+) -> Option<&'static ScriptProperty> {
+    for property in object.properties() {
+        if !is_of_kind(members, property) {
+            return Some(property);
+        }
+    }
+    None
+}
+
+fn is_of_kind(members: &Map<String, Value>, property: &ScriptProperty) -> bool {
+    let (name, presence, kind) = property;
+    let (value, may_lack) = match presence {
+        Presence::Needed => (member(members, name), false),
+        Presence::Optional => (optional(members, name), true),
+        Presence::Alone => (member(members, name), true),
+    };
+    match (value, kind) {
+        (None, _) => may_lack,
+        (Some(value), PropertyKind::Text) => value.as_str().is_some(),
+        (Some(value), PropertyKind::Readings | PropertyKind::Values | PropertyKind::Entries) =>
+            value.is_array(),
     }
 }
 
@@ -69,15 +141,21 @@ fn push_kind(
     alloc: Global,
     said: &mut Vec<u8>,
     members: &Map<String, Value>,
-    name: &str,
-    expected: &str,
+    property: &ScriptProperty,
 ) -> Result<(), AllocError> {
+    let (name, _, kind) = property;
     said.extend_from_slice(name.as_bytes())?;
     said.extend_from_slice(b": ".as_slice())?;
     match member(members, name) {
         Some(value) => push_value(alloc, said, value)?,
         None => said.extend_from_slice(b"missing".as_slice())?,
     }
+    let expected = match kind {
+        PropertyKind::Text => "a text",
+        PropertyKind::Readings => "a list of readings",
+        PropertyKind::Values => "a list of values",
+        PropertyKind::Entries => "a list of objects",
+    };
     said.extend_from_slice(b": expected ".as_slice())?;
     said.extend_from_slice(expected.as_bytes())
 }

@@ -13,5 +13,6 @@ pub mod ReadingFaults
 pub mod Script
 pub mod ScriptEntries
 pub mod ScriptFaults
+pub mod ScriptObjects
 pub mod ScriptReading
 pub mod ScriptValues

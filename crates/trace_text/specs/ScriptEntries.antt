@@ -1,6 +1,6 @@
 -- The entries of a script: what an entry of its list of streams says of a stream, and an entry of its list of events of an event. An optional property that
 -- is null is as if it were not there.
-use Rattle.std.specs.Prelude.{◌≡◌, ◌⊎◌, ℕ, ◌+◌, ◌&&◌, ◌||◌, nat_le, List, [], ◌∷◌, ◌++◌, Bool, true, false, Option, None, Some, option_and_then, codes, if◌then◌else◌}
+use Rattle.std.specs.Prelude.{◌≡◌, ◌⊎◌, ℕ, ◌+◌, ◌&&◌, nat_le, List, [], ◌∷◌, ◌++◌, Bool, true, false, Option, None, Some, option_and_then, codes, if◌then◌else◌}
 use Rattle.std.specs.Str.{bytes_eq}
 use Rattle.serde_json.specs.Data.{Data, object, Items, no_items, item, Members, no_members, member}
 use Rattle.serde_json.specs.Find.{get_member, as_number, as_str, as_array, as_u64}
@@ -14,19 +14,13 @@ use Rattle.trace_stack.specs.declared.event.Act.TheVariants.{Trace, OpenPacket, 
 use Rattle.trace_stack.specs.declared.event.Event.{Event}
 use Rattle.trace_text.specs.declared.script.ScriptStream.{ScriptStream}
 use Rattle.trace_text.specs.declared.script_object.ScriptObject.{ScriptObject}
-use Rattle.trace_text.specs.declared.script_object.ScriptObject.TheVariants.{Whole, Stream, Tracing}
+use Rattle.trace_text.specs.declared.script_object.ScriptObject.TheVariants.{Stream, Tracing}
+use Rattle.trace_text.specs.ScriptObjects.{has_property}
 use Rattle.trace_text.specs.ScriptValues.{members_values}
 
 -- ---- properties
 
--- an object of the kind can have a property of the name
-unfoldable pub has_property : ScriptObject → List ℕ → Bool
-has_property Whole k = bytes_eq k (codes "events") || bytes_eq k (codes "streams")
-has_property Stream k = bytes_eq k (codes "clock") || bytes_eq k (codes "extras") || bytes_eq k (codes "name") || bytes_eq k (codes "type")
-has_property Tracing k =
-    bytes_eq k (codes "common") || bytes_eq k (codes "event") || bytes_eq k (codes "payload") || bytes_eq k (codes "specific") || bytes_eq k (codes "trace")
-
--- it has no others
+-- an object has no property that such an object cannot have
 abbrev pub has_only : ScriptObject → Members → Bool
 has_only kind no_members = true
 has_only kind (member k d ms) = has_property kind k && has_only kind ms

@@ -38,4 +38,5 @@ pub use reading_fault::ReadingFault;
 pub use script::{Script, ScriptStream};
 pub use script_fault::{ScriptFault, ScriptFaultKind};
 pub use script_law::scripts_or_faults;
+pub use script_object::{Presence, PropertyKind, ScriptObject, ScriptProperty};
 pub use script_reading::read_script;

@@ -1,3 +1,4 @@
+use Rattle.trace_text.proofs.DoingLaws.{acts}
 use Rattle.trace_text.proofs.ScriptLaws.{one_script, one_first, no_fault}
 use Rattle.trace_text.proofs.script_law.scripts_or_faults.Goals as goal
 
@@ -9,3 +10,6 @@ returns-clause-one_fault c = one_first
 
 pub returns-clause-not_both : goal.returns-clause-not_both
 returns-clause-not_both c = no_fault
+
+pub returns-clause-acts : goal.returns-clause-acts
+returns-clause-acts c = acts
