@@ -6,6 +6,7 @@ use Rattle.std.specs.Io.KnownBytes.{Appends}
 use Rattle.packet_reader.specs.declared.packet_fault.StreamEnding.{StreamEnding}
 use Rattle.packet_reader.specs.declared.packet_fault.StreamEnding.TheVariants.{Whole, Torn, Faulty}
 use Rattle.packet_reader.specs.declared.read_streams.ReadStream.{ReadStream}
+use Rattle.trace_platform.specs.Fronts.{AppendsLess}
 use Rattle.trace_text.specs.declared.printing_from.PrintedFile.{PrintedFile}
 use Rattle.trace_commands.specs.Shown.{fault_line}
 use Rattle.trace_commands.specs.Telling.{IsMemoryLine, SaysLine}
@@ -49,12 +50,8 @@ is_whole (Faulty fault place) = false
 abbrev pub status_of : List StreamEnding → ℕ
 status_of ends = if list_all is_whole ends then 0 else 1
 
--- these lines, or the line that memory was wanting for them
-abbrev pub AreEndLines : List ℕ → List PrintedFile → List ℕ → Type 0
-AreEndLines folder files said = AreLines (file_line folder) files said ⊎ IsMemoryLine said
-
--- all is said, or at status 3 a front of it
+-- all is said, or at status 3 less than all, or that memory was wanting for it
 abbrev pub SaysEnds : List ℕ → List PrintedFile → Option (List ℕ) → Option (List ℕ) → ℕ → Type 0
 SaysEnds folder files old new status =
     ((said : List ℕ) × AreLines (file_line folder) files said × Appends old new said × (status ≡ status_of (map (λ f. f.end) files)))
-    ⊎ ((status ≡ 3) × SaysLine (AreEndLines folder files) old new)
+    ⊎ ((status ≡ 3) × (((said : List ℕ) × AreLines (file_line folder) files said × AppendsLess old new said) ⊎ SaysLine IsMemoryLine old new))

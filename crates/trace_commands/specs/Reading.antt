@@ -1,5 +1,5 @@
 -- What `read` answers to the files of a folder: the text of its metadata, and of each stream file its name and what its reader had to give.
-use Rattle.std.specs.Prelude.{◌≡◌, ◌≢◌, ◌⊎◌, ℕ, Bool, not, List, [], ◌∷◌, ◌++◌, Option, map, filter, All, IsPermutation, IsSorted, codes, bytes_eq}
+use Rattle.std.specs.Prelude.{◌≡◌, ◌≢◌, ◌⊎◌, ℕ, Bool, not, List, [], ◌∷◌, ◌++◌, Option, Some, map, filter, slice_get, All, IsPermutation, IsSorted, codes, bytes_eq}
 use Rattle.std.specs.List.{AllZip}
 use Rattle.std.specs.Ordering.{nat_cmp}
 use Rattle.std.specs.Cmp.Lexicographic.{slice_cmp}
@@ -14,11 +14,14 @@ use Rattle.trace_stack.specs.declared.trace_fault.TraceFault.{TraceFault}
 use Rattle.trace_stack.specs.declared.trace_fault.TraceFault.TheVariants as faults
 use Rattle.trace_stack.specs.FromReaders.{ReaderRead}
 use Rattle.trace_stack.specs.Reading.{IsOneOrder}
-use Rattle.trace_text.specs.PrintedFromReaders.{PrintsFront, Source}
+use Rattle.trace_text.specs.PrintedFromReaders.{Source}
 use Rattle.trace_text.specs.PrintedTrace.{lines}
+use Rattle.trace_text.specs.ReadingFaults.{StopsAt}
+use Rattle.trace_text.specs.declared.reading_fault.ReadingFault.{ReadingFault}
+use Rattle.trace_text.specs.declared.reading_fault.ReadingFault.TheVariants.{Reader, Writer, TooManyRecords, OutOfMemory as NoMemory}
 use Rattle.trace_commands.specs.Ends.{AreLines, path_in, status_of, stream_line}
 use Rattle.trace_commands.specs.Shown.{IsFaultLine}
-use Rattle.trace_commands.specs.Telling.{ErrorsStopped, IsLineOf, IsOutputLine, SaysFailure, SaysLine, Told, ToldWhole, WasGiven}
+use Rattle.trace_commands.specs.Telling.{ErrorsStopped, IsLineOf, IsMemoryLine, IsOutputLine, SaysFailure, SaysLine, Told, ToldWhole, WasGiven}
 
 -- ---- the files of a folder
 
@@ -89,17 +92,25 @@ pub record IsShown (folder : List ℕ) (text : List ℕ) (sources : List Source)
   pub errors_are : AreLines (stream_line folder) streams errors
   pub status_is : status ≡ status_of (map (λ s. s.end) streams)
 
--- why a trace is not printed to its end: a file in the folder is not read on, the output takes no more, a line of more records than are counted, or memory was wanting
-abbrev pub IsStopLine : List ℕ → List ℕ → Type 0
-IsStopLine folder line =
-    IsLineOf (IsPathIn folder) line ⊎ IsOutputLine line ⊎ (line ≡ codes "ctftrace: no end after 2^64 records" ++ 10 ∷ [])
+-- the path of the file whose reader stands at this place of the list
+abbrev pub IsPathAt : List ℕ → List Source → ℕ → List ℕ → Type 0
+IsPathAt folder sources place path = (f : Source) × (slice_get sources place ≡ Some f) × (path ≡ path_in folder f.name)
 
--- which a line says: what is printed is a front of the text of each trace that goes on from what the readers gave
+-- the line that says why a trace is not printed to its end: the file of the reader that stopped, the output, more records than are counted, or memory
+abbrev pub IsStopLine : List ℕ → List Source → ReadingFault → List ℕ → Type 0
+IsStopLine folder sources (Reader place stop) line = IsLineOf (IsPathAt folder sources place) line
+IsStopLine folder sources Writer line = IsOutputLine line
+IsStopLine folder sources TooManyRecords line = line ≡ codes "ctftrace: no end after 2^64 records" ++ 10 ∷ []
+IsStopLine folder sources NoMemory line = IsMemoryLine line
+
+-- what is printed is a front of the text of each trace that goes on from what the readers gave, and a line says why it is no more: the reader of the file that it
+-- names had not come to its end, or the output had not taken all
 pub record IsCutShort (folder text : List ℕ) (sources : List Source) (old new old_errors new_errors : Option (List ℕ)) : Type 0 where
   pub metadata : Metadata
   pub denotes : Denotes text metadata
-  pub printed : PrintsFront metadata sources old new
-  pub said : SaysLine (IsStopLine folder) old_errors new_errors
+  pub fault : ReadingFault
+  pub printed : StopsAt metadata sources old new fault
+  pub said : SaysLine (IsStopLine folder sources fault) old_errors new_errors
 
 abbrev pub ShowsTrace : List ℕ → List ℕ → List Source → Option (List ℕ) → Option (List ℕ) → Option (List ℕ) → Option (List ℕ) → ℕ → Type 0
 ShowsTrace folder text sources old new old_errors new_errors status =

@@ -1,8 +1,8 @@
--- How an answer is told: all of it is written, with its status; or a write failed, and at status 3 a front of the output is written. And how it is told
+-- How an answer is told: all of it is written, with its status; or a write failed, and at status 3 less than all of the output or of the errors is written. And how it is told
 -- that there is none: nothing is printed, and at status 3 a line says what failed, or a front of that line, as far as it was taken.
 use Rattle.std.specs.Prelude.{◌≡◌, ◌⊎◌, ℕ, List, [], ◌∷◌, ◌++◌, Option, IfSome, codes, string_bytes}
 use Rattle.std.specs.Io.KnownBytes.{Appends}
-use Rattle.trace_platform.specs.Fronts.{AppendsFront}
+use Rattle.trace_platform.specs.Fronts.{AppendsFront, AppendsLess}
 use Rattle.command_words.specs.declared.line_fault.LineFault.{LineFault}
 use Rattle.command_words.specs.declared.line_fault.LineFault.TheVariants.{Help, Bad, OutOfMemory}
 use Rattle.number_packets.specs.declared.numbers.Answer.{Answer}
@@ -59,23 +59,23 @@ pub record ToldWhole (P : Answering) (old new old_errors new_errors : Option (Li
   pub printed : Appends old new output
   pub said : Appends old_errors new_errors errors
 
--- the output took a front, and this is said in place of the errors
+-- the output took a front and not all, and this is said in place of the errors
 pub record OutputStopped (P : Answering) (old new old_errors new_errors : Option (List ℕ)) : Type 0 where
   pub output : List ℕ
   pub errors : List ℕ
   pub due : ℕ
   pub answer : P output errors due
-  pub printed : AppendsFront old new output
+  pub printed : AppendsLess old new output
   pub said : SaysLine IsOutputLine old_errors new_errors
 
--- the output took all, and the errors a front
+-- the output took all, and the errors a front and not all
 pub record ErrorsStopped (P : Answering) (old new old_errors new_errors : Option (List ℕ)) : Type 0 where
   pub output : List ℕ
   pub errors : List ℕ
   pub due : ℕ
   pub answer : P output errors due
   pub printed : Appends old new output
-  pub said : AppendsFront old_errors new_errors errors
+  pub said : AppendsLess old_errors new_errors errors
 
 abbrev pub Told : Answering → Option (List ℕ) → Option (List ℕ) → Option (List ℕ) → Option (List ℕ) → ℕ → Type 0
 Told P old new old_errors new_errors status =

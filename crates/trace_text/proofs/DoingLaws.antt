@@ -1,11 +1,10 @@
 -- Objects of one property.
-use Rattle.std.proofs.Common.{◌≡◌, ℕ, Bool, true, false, List, [], ◌∷◌, length, Option, Some, None, refl}
+use Rattle.std.proofs.Common.{◌≡◌, ℕ, Bool, true, false, List, [], ◌∷◌, length, Some, None, refl}
 use Rattle.std.specs.Prelude.{String, is_some, ◌||◌, codes, if◌then◌else◌}
 use Rattle.std.specs.Str.{bytes_eq}
 use Rattle.std.specs.declared.alloc.Global.{Global}
 use Rattle.serde_json.specs.declared.value.Value.{Value}
 use Rattle.serde_json.specs.View.{members_view}
-use Rattle.trace_stack.specs.declared.event.Act.{Act}
 use Rattle.trace_stack.specs.declared.event.Act.TheVariants.{OpenPacket, ClosePacket, Collect, Enable}
 use Rattle.trace_text.specs.declared.script_object.ScriptObject.TheVariants.{Doing}
 use Rattle.trace_text.specs.ScriptEntries.{act_named, doing_in}

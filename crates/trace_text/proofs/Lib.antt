@@ -3,6 +3,7 @@ pub mod Closing
 pub mod Counting
 mod DoingLaws
 mod EventLaws
+pub mod Escaping
 pub mod Faults
 pub mod FirstHeads
 pub mod Fronts

@@ -1,13 +1,14 @@
 -- One text said behind another, and what a fault leaves.
-use Rattle.std.proofs.Common.{◌≡◌, ℕ, ◌≤◌, List, [], ◌++◌, length, length-append, length-drop, take, drop, Option, None, Some, arith, refl, sym, ap, subst, ◌∙◌, append_assoc, inl, inr}
+use Rattle.std.proofs.Common.{◌≡◌, ℕ, ◌<◌, ◌≤◌, List, [], ◌++◌, length, length-append, length-drop, take, drop, Option, None, Some, arith, refl, sym, ap, subst, ◌∙◌, append_assoc, inl, inr}
 use Rattle.std.proofs.KnownBytes.{Appends-nil, Appends-trans}
 use Rattle.std.proofs.lemmas.List.{append-nil, take-append-le, drop-append-le, take_all, drop_all}
 use Rattle.std.specs.Prelude.{◌⊎◌}
 use Rattle.trace_platform.proofs.Fronts.{Advances-trans}
 use Rattle.std.specs.Io.KnownBytes.{Appends}
-use Rattle.trace_platform.specs.Fronts.{AppendsFront, Advances}
+use Rattle.trace_platform.specs.Fronts.{AppendsFront, AppendsLess, Advances}
 use Rattle.trace_text.specs.declared.printing_page.Page.{Page}
 use Rattle.trace_text.specs.declared.printing_fault.PrintFault.{PrintFault}
+use Rattle.trace_text.specs.declared.printing_fault.PrintFault.TheVariants.{Writer}
 use Rattle.trace_text.specs.PrintedPages.{IsOpen, Says}
 
 -- ---- fronts
@@ -36,6 +37,23 @@ front_longer a b x u p =
 
 front_stays : (a b c : Option (List ℕ)) (x : List ℕ) → AppendsFront a b x → Appends b c [] → AppendsFront a c x
 front_stays a b c x p q =
+    (p.0, p.1, subst (λ (l : List ℕ). Appends a c l) (append-nil (take p.0 x)) (Appends-trans a b c (take p.0 x) [] p.2 q))
+
+-- and of a front that is not all
+
+less_more : (a b c : Option (List ℕ)) (x left : List ℕ) → Advances a b x left → AppendsLess b c left → AppendsLess a c x
+less_more a b c x left p q =
+    let next : Advances b c left (drop q.0 left) = record { count = q.0; within = omega (arith, q.1); written = q.2; left_is = refl } in
+    let both = Advances-trans a b c x left (drop q.0 left) p next in
+    (both.count, omega (arith, q.1, length-drop q.0 left, length-drop both.count x, ap (λ (l : List ℕ). length l) both.left_is), both.written)
+
+pub less_longer : (a b : Option (List ℕ)) (x u : List ℕ) → AppendsLess a b x → AppendsLess a b (x ++ u)
+less_longer a b x u p =
+    let within : p.0 ≤ length x = omega (arith, p.1) in
+    (p.0, omega (arith, p.1, length-append x u), subst (λ (l : List ℕ). Appends a b l) (sym (take-append-le p.0 x u within)) p.2)
+
+less_stays : (a b c : Option (List ℕ)) (x : List ℕ) → AppendsLess a b x → Appends b c [] → AppendsLess a c x
+less_stays a b c x p q =
     (p.0, p.1, subst (λ (l : List ℕ). Appends a c l) (append-nil (take p.0 x)) (Appends-trans a b c (take p.0 x) [] p.2 q))
 
 -- ---- a fault or none
@@ -68,6 +86,7 @@ pub nothing : (a : Option (List ℕ)) (p : Page) → Says a p a p []
 nothing a p = record {
   told = λ o. record { count = 0; within = omega arith; written = Appends-nil a; left_is = sym (append-nil p.bytes.items) };
   front = λ o. (0, omega arith, Appends-nil a);
+  less = λ o e. never p.fault Writer o e;
   stays = λ fault e. (e, Appends-nil a);
 }
 
@@ -80,6 +99,11 @@ more {a} {b} {c} {p} {q} {r} {t} {u} s v = record {
     | inl e ↦ front_more a b c (p.bytes.items ++ t ++ u) (q.bytes.items ++ u) (further a b (p.bytes.items ++ t) q.bytes.items u (s.told e)) (v.front e)
     | inr h ↦ front_longer a c (p.bytes.items ++ t) u (front_stays a b c (p.bytes.items ++ t) (s.front o) (v.stays h.0 h.1).1)
   ]);
+  less = λ o e. subst (λ (w : List ℕ). AppendsLess a c w) (append_assoc p.bytes.items t u) (elim (none_or q.fault) [
+    | inl f ↦ less_more a b c (p.bytes.items ++ t ++ u) (q.bytes.items ++ u) (further a b (p.bytes.items ++ t) q.bytes.items u (s.told f)) (v.less f e)
+    | inr h ↦ less_longer a c (p.bytes.items ++ t) u
+        (less_stays a b c (p.bytes.items ++ t) (s.less o (h.1 ∙ sym (v.stays h.0 h.1).0 ∙ e)) (v.stays h.0 h.1).1)
+  ]);
   stays = λ fault e. ((v.stays fault (s.stays fault e).0).0, Appends-trans a b c [] [] (s.stays fault e).1 (v.stays fault (s.stays fault e).0).1);
 }
 
@@ -87,8 +111,9 @@ more {a} {b} {c} {p} {q} {r} {t} {u} s v = record {
 
 -- all that was said is written
 pub written_all : (a b : Option (List ℕ)) (p q : Page) (t : List ℕ) → (IsOpen q → Appends a b (p.bytes.items ++ t)) → (IsOpen p → AppendsFront a b (p.bytes.items ++ t))
+    → (IsOpen p → q.fault ≡ Some Writer → AppendsLess a b (p.bytes.items ++ t))
     → ((fault : PrintFault) → p.fault ≡ Some fault → (q.fault ≡ Some fault) × Appends a b []) → q.bytes.items ≡ [] → Says a p b q t
-written_all a b p q t whole front stays empty = record {
+written_all a b p q t whole front less stays empty = record {
   told = λ o. record {
     count = length (p.bytes.items ++ t);
     within = omega arith;
@@ -96,6 +121,7 @@ written_all a b p q t whole front stays empty = record {
     left_is = empty ∙ sym (drop_all (length (p.bytes.items ++ t)) (p.bytes.items ++ t) (omega arith));
   };
   front = front;
+  less = less;
   stays = stays;
 }
 
@@ -112,3 +138,7 @@ written_out {a} {b} {p} {q} {t} s e f o =
 -- a front of it is written
 pub front_out : {a b : Option (List ℕ)} {p q : Page} {t : List ℕ} → Says a p b q t → p.bytes.items ≡ [] → IsOpen p → AppendsFront a b t
 front_out {a} {b} {p} {q} {t} s e o = subst (λ (l : List ℕ). AppendsFront a b l) (ap (λ (l : List ℕ). l ++ t) e) (s.front o)
+
+-- and where the fault is the writer's, not all of it
+pub less_out : {a b : Option (List ℕ)} {p q : Page} {t : List ℕ} → Says a p b q t → p.bytes.items ≡ [] → IsOpen p → q.fault ≡ Some Writer → AppendsLess a b t
+less_out {a} {b} {p} {q} {t} s e o f = subst (λ (l : List ℕ). AppendsLess a b l) (ap (λ (l : List ℕ). l ++ t) e) (s.less o f)

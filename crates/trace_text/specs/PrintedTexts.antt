@@ -1,8 +1,10 @@
 -- Texts of a printed trace, in ASCII but for the names and labels that have other characters: strings stand in quotes, and a byte that could end
 -- one, or that a terminal would not show, stands as an escape. Names and labels stand without quotes.
-use Rattle.std.specs.Prelude.{ℕ, ◌/◌, ◌%◌, false, ◌||◌, ◌==◌, nat_lt, if◌then◌else◌, List, [], ◌∷◌, ◌++◌, codes}
+use Rattle.std.specs.Prelude.{ℕ, Bool, ◌/◌, ◌%◌, false, ◌||◌, ◌==◌, nat_lt, if◌then◌else◌, List, [], ◌∷◌, ◌++◌, codes}
 use Rattle.std.specs.List.{flat_map}
 use Rattle.std.specs.Fmt.{digit_glyph}
+use Rattle.trace_text.specs.declared.printing_texts.TextForm.{TextForm}
+use Rattle.trace_text.specs.declared.printing_texts.TextForm.TheVariants.{Quoted, Bare}
 
 -- `\x` and the two hexadecimal digits of a byte
 abbrev pub hexadecimal_escape : ℕ → List ℕ
@@ -17,6 +19,16 @@ string_byte b =
 -- a byte of a name or of a label: what a terminal would take for a control stands as in a string
 unfoldable pub name_byte : ℕ → List ℕ
 name_byte b = if nat_lt b 0x20 || b == 0x7f then string_byte b else b ∷ []
+
+-- a byte of a text in quotes, or of one without
+abbrev pub text_byte : TextForm → ℕ → List ℕ
+text_byte Quoted = string_byte
+text_byte Bare = name_byte
+
+-- whether a byte stands as an escape
+abbrev pub is_escaped : TextForm → ℕ → Bool
+is_escaped Quoted b = nat_lt b 0x20 || nat_lt 0x7e b || b == 92 || b == 34
+is_escaped Bare b = nat_lt b 0x20 || b == 0x7f
 
 abbrev pub string_text : List ℕ → List ℕ
 string_text bytes = codes "\"" ++ flat_map string_byte bytes ++ codes "\""

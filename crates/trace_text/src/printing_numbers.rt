@@ -1,7 +1,7 @@
 //! Numbers, and the labels of an enumeration's.
 
 ghost use Rattle.std.specs.Prelude.{◌≡◌, ℕ, ℤ, pos, List, Some, option_map, OnOk, string_bytes, false};
-ghost use Rattle.std.specs.Fmt.{decimal, digits, signed_decimal};
+ghost use Rattle.std.specs.Fmt.{decimal, signed_decimal};
 ghost use Rattle.ctf_types.specs.declared.Base.TheVariants.{Bin, Oct, Hex};
 ghost use Rattle.ctf_types.specs.FieldTypes.{chain_of};
 ghost use Rattle.trace_text.specs.PrintedPages.{Says};
@@ -10,6 +10,7 @@ ghost use Rattle.trace_text.specs.PrintedNumbers.{in_base, base_of, label_in, ra
 use crate::printing_page::{Page, say, say_digits};
 use crate::printing_texts::say_name;
 use ctf_types::{Base, FieldType, Mapping, Text};
+use itoa::Buffer;
 use std::alloc::AllocError;
 use std::io::Write;
 
@@ -17,8 +18,8 @@ use std::io::Write;
 pub(crate) fn say_count<W: Write>(writer: &mut W, page: &mut Page, n: u128)
     ensures { Says (W.contents writer.old) page.old (W.contents writer.new) page.new (decimal n) }
 {
-    let written = write_decimal(&mut page.digits, n);
-    say_digits(writer, page, written);
+    let mut buffer = Buffer::new();
+    say(writer, page, buffer.format(n));
 }
 
 /// A number in decimal, or `-` where there is none.
@@ -35,41 +36,49 @@ pub(crate) fn say_optional_count<W: Write>(writer: &mut W, page: &mut Page, n: O
 pub(crate) fn say_signed<W: Write>(writer: &mut W, page: &mut Page, n: i64)
     ensures { Says (W.contents writer.old) page.old (W.contents writer.new) page.new (signed_decimal n) }
 {
-    let written = write_signed(&mut page.digits, n);
-    say_digits(writer, page, written);
+    let mut buffer = Buffer::new();
+    say(writer, page, buffer.format(n));
 }
 
 /// A number in a base, with the base's prefix.
 pub(crate) fn say_in_base<W: Write>(writer: &mut W, page: &mut Page, base: Base, n: u64)
     ensures { Says (W.contents writer.old) page.old (W.contents writer.new) page.new (in_base base n) }
 {
-    let written = write_in_base(&mut page.digits, base, n);
-    say_digits(writer, page, written);
-}
-
-fn write_in_base(digits: &mut String, base: Base, n: u64) -> Result<(), AllocError>
-    ensures { OnOk result (string_bytes digits.new ≡ in_base base n) }
-{
     match base {
-        Base::Bin => write_binary(digits, n),
-        Base::Oct => write_octal(digits, n),
-        Base::Dec => write_decimal(digits, u128::from(n)),
-        Base::Hex => write_hexadecimal(digits, n),
+        Base::Bin => say_binary(writer, page, n),
+        Base::Oct => say_octal(writer, page, n),
+        Base::Dec => say_decimal(writer, page, n),
+        Base::Hex => say_hexadecimal(writer, page, n),
     }
 }
 
-fn write_decimal(digits: &mut String, n: u128) -> Result<(), AllocError>
-    ensures { OnOk result (string_bytes digits.new ≡ decimal n) }
+/// A number of 64 bits that is not below 0, in decimal.
+pub(crate) fn say_decimal<W: Write>(writer: &mut W, page: &mut Page, n: u64)
+    ensures { Says (W.contents writer.old) page.old (W.contents writer.new) page.new (decimal n) }
 {
-    digits.clear();
-    write!(digits, "{n}")
+    let mut buffer = Buffer::new();
+    say(writer, page, buffer.format(n));
 }
 
-fn write_signed(digits: &mut String, n: i64) -> Result<(), AllocError>
-    ensures { OnOk result (string_bytes digits.new ≡ signed_decimal n) }
+fn say_binary<W: Write>(writer: &mut W, page: &mut Page, n: u64)
+    ensures { Says (W.contents writer.old) page.old (W.contents writer.new) page.new (in_base Bin n) }
 {
-    digits.clear();
-    write!(digits, "{n}")
+    let written = write_binary(&mut page.digits, n);
+    say_digits(writer, page, written);
+}
+
+fn say_octal<W: Write>(writer: &mut W, page: &mut Page, n: u64)
+    ensures { Says (W.contents writer.old) page.old (W.contents writer.new) page.new (in_base Oct n) }
+{
+    let written = write_octal(&mut page.digits, n);
+    say_digits(writer, page, written);
+}
+
+fn say_hexadecimal<W: Write>(writer: &mut W, page: &mut Page, n: u64)
+    ensures { Says (W.contents writer.old) page.old (W.contents writer.new) page.new (in_base Hex n) }
+{
+    let written = write_hexadecimal(&mut page.digits, n);
+    say_digits(writer, page, written);
 }
 
 fn write_binary(digits: &mut String, n: u64) -> Result<(), AllocError>

@@ -2,9 +2,9 @@
 
 ghost use Rattle.std.specs.Prelude.{◌≡◌, ◌<◌, ℕ, List, [], Option, None, Some, IfOk, OnOk, OnErr, string_bytes};
 ghost use Rattle.std.specs.Io.KnownBytes.{Appends};
-ghost use Rattle.trace_platform.specs.Fronts.{AppendsFront};
+ghost use Rattle.trace_platform.specs.Fronts.{AppendsFront, AppendsLess};
 ghost use Rattle.trace_text.specs.declared.printing_fault.PrintFault.{PrintFault};
-ghost use Rattle.trace_text.specs.declared.printing_fault.PrintFault.TheVariants.{OutOfMemory};
+ghost use Rattle.trace_text.specs.declared.printing_fault.PrintFault.TheVariants.{OutOfMemory, Writer};
 ghost use Rattle.trace_text.specs.PrintedPages.{IsOpen, Says};
 
 use crate::printing_fault::PrintFault;
@@ -87,6 +87,7 @@ pub(crate) fn turn<W: Write>(writer: &mut W, page: &mut Page)
 fn write_page<W: Write>(writer: &mut W, page: &mut Page)
     ensures written { IsOpen page.new → Appends (W.contents writer.old) (W.contents writer.new) page.old.bytes.items }
     ensures front { IsOpen page.old → AppendsFront (W.contents writer.old) (W.contents writer.new) page.old.bytes.items }
+    ensures less { IsOpen page.old → page.new.fault ≡ Some Writer → AppendsLess (W.contents writer.old) (W.contents writer.new) page.old.bytes.items }
     ensures stays { (fault : PrintFault) → page.old.fault ≡ Some fault → (page.new.fault ≡ Some fault) × Appends (W.contents writer.old) (W.contents writer.new) [] }
     ensures digits { page.new.digits ≡ page.old.digits }
 {

@@ -14,12 +14,12 @@ use Rattle.ctf_types.specs.Bits.{number_at}
 use Rattle.ctf_types.specs.Chain.{Leaf, Number, Labelled, ByteString}
 use Rattle.ctf_types.specs.Datum.{Datum, Text, Many, items_of}
 use Rattle.ctf_types.specs.FieldTypes.{chain_of}
-use Rattle.ctf_types.specs.Layout.{leaf_align, largest_align, struct_align, value_of, count_at, end_all, field_end, member_end, members_end, members_start, EachLies, FieldLies, MemberLies, MembersLie, AnyBits}
+use Rattle.ctf_types.specs.Layout.{leaf_align, largest_align, value_of, count_at, end_all, field_end, member_end, members_end, members_start, EachLies, FieldLies, MemberLies, MembersLie, AnyBits}
 use Rattle.ctf_types.proofs.Ends.{le-end_all, le-field_end, le-members_end}
 use Rattle.value_codec.specs.declared.read_fault.ReadFault.{ReadFault}
 use Rattle.value_codec.specs.declared.read_fault.ReadFault.TheVariants.{PastEnd, NoTerminator}
 use Rattle.value_codec.specs.Reading.{◌>>=◌, start_at, many_at, bits_at, int_at, bytes_at, text_at, leaf_at, field_at, length_at, member_at, members_at, members_begin, struct_at}
-use Rattle.value_codec.specs.Stopping.{ReachesPast, IsUnended, LeafStops, ElementStops, FieldStops, MemberStops, MembersStop, StructStops}
+use Rattle.value_codec.specs.Stopping.{ReachesPast, LeafStops, ElementStops, FieldStops, MemberStops, MembersStop, StructStops}
 use Rattle.value_codec.proofs.ReadingLaws.{Reads, bits_found, bits_again, start_found, start_again, begin_found, begin_again, field_reads, member_reads}
 
 -- ---- faults

@@ -1,6 +1,7 @@
 //! Reading numbers: integers, enumerations and the lengths of arrays (CTF 1.8.3, sections 4.1.5 and 4.1.8).
 
 ghost use Rattle.std.specs.Prelude.{◌≡◌, ◌*◌, ◌^◌, ◌<◌, ◌≤◌, length, IfOk};
+ghost use Rattle.ctf_types.specs.Alignment.{IsAlignment};
 ghost use Rattle.ctf_types.specs.Bits.{bit_of, signed_of};
 ghost use Rattle.ctf_types.specs.Layout.{value_of};
 ghost use Rattle.ctf_types.specs.Values.{datum_of};
@@ -20,7 +21,7 @@ pub(crate) fn read_bits(
     align: u32,
     size: u8,
 ) -> Result<(u64, u64), ReadFault>
-    requires aligned { 0 < align }
+    requires align { IsAlignment align }
     requires some { 0 < size }
     requires at_most_64 { size ≤ 64 }
     requires ordered { at ≤ limit }
