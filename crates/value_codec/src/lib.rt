@@ -24,5 +24,4 @@ pub use read_fault::ReadFault;
 pub use read_start::members_start;
 pub use read_structure::{read_member, read_struct};
 pub use write_numbers::write_number;
-pub use write_padding::aligned;
 pub use write_structs::{write_members, write_struct};

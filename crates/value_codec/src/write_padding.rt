@@ -20,7 +20,7 @@ pub(crate) fn write_padding(bytes: &mut [u8], at: u64, order: ByteOrder, align: 
 }
 
 /// The least multiple of an alignment that is not below a position, both in bits. An alignment is a power of two, so a mask finds it.
-pub fn aligned(at: u64, align: u32) -> u64
+pub(crate) fn aligned(at: u64, align: u32) -> u64
     requires align { IsAlignment align }
     requires position { up at align < 2 ^ 64 }
     ensures { result ≡ up at align }
