@@ -1,8 +1,7 @@
 -- What a reader answers of a structure from the answers of its members.
-use Rattle.std.proofs.Common.{◌≡◌, ℕ, suc, zero, ◌+◌, ◌<◌, List, [], ◌∷◌, ◌++◌, length, drop, slice_get, Some, refl, ap, ◌∙◌, add-one, arith}
+use Rattle.std.proofs.Common.{◌≡◌, ℕ, ◌+◌, ◌<◌, List, [], ◌∷◌, ◌++◌, length, take, get_or, set, refl, ap, ◌∙◌}
 use Rattle.std.specs.Prelude.{Result, Ok, Err}
-use Rattle.std.proofs.Math.Seq.{drop-cons}
-use Rattle.std.proofs.lemmas.Option.{slice_get_within, get_or_from_slice_get}
+use Rattle.std.proofs.lemmas.List.{take_more, get_or-set_same}
 use Rattle.ctf_types.specs.declared.ByteOrder.{ByteOrder}
 use Rattle.ctf_types.specs.declared.Length.{Length}
 use Rattle.ctf_types.specs.declared.Length.TheVariants.{Auto, At}
@@ -10,27 +9,27 @@ use Rattle.ctf_types.specs.declared.MemberType.{MemberType}
 use Rattle.ctf_types.specs.declared.MemberType.TheVariants.{Plain, Dyn}
 use Rattle.ctf_types.specs.declared.FieldType.{FieldType}
 use Rattle.ctf_types.specs.declared.StructType.{StructType}
+use Rattle.ctf_types.specs.declared.Value.{Value}
+use Rattle.ctf_types.specs.Values.{datum_of, data_of}
 use Rattle.ctf_types.specs.Datum.{Datum}
 use Rattle.ctf_types.specs.FieldTypes.{chain_of}
 use Rattle.ctf_types.specs.Layout.{count_at}
 use Rattle.value_codec.specs.declared.read_fault.ReadFault.{ReadFault}
 use Rattle.value_codec.specs.declared.read_fault.ReadFault.TheVariants.{PastEnd, NoTerminator, OutOfMemory}
 use Rattle.value_codec.specs.Reading.{bits_at, field_at, length_at, member_at, members_at, members_begin, struct_at, Gives}
-use Rattle.value_codec.proofs.ReadingRest.{after, after_none, after_one, after_last}
+use Rattle.value_codec.proofs.ReadingRest.{after, after_one, after_last, data-push}
 
--- ---- the members one by one
+-- ---- a value in the place of another
 
-pub drop_at : {X : Type 0} (xs : List X) (i : ℕ) (x : X) → slice_get xs i ≡ Some x → drop i xs ≡ x ∷ drop (i + 1) xs
-drop_at xs i x h =
-    let within = slice_get_within xs i x h in
-    let this = get_or_from_slice_get xs i x x h in
-    rw (add-one, drop-cons xs i x within, this) refl
+-- of values of the program, one behind those before it
+pub data-place : (vs new : List Value) (i : ℕ) (d : Value) → i < length new → take i new ≡ take i vs
+    → data_of (take (i + 1) new) ≡ data_of (take i vs) ++ datum_of (get_or new i d) ∷ []
+data-place vs new i d within same = rw (take_more new i d within, same) (data-push (take i vs) (get_or new i d))
 
--- there is an element at each index
-pub element_at : {X : Type 0} (xs : List X) (i : ℕ) → i < length xs → (x : X) × (slice_get xs i ≡ Some x)
-element_at [] i h = absurd (omega arith)
-element_at (x ∷ xs) zero h = (x, refl)
-element_at (x ∷ xs) (suc i) h = element_at xs i (omega arith)
+-- what was read over a value is the value there
+pub read_there : (vs : List Value) (i : ℕ) (d v : Value) (r : Result ℕ ReadFault) (read : Result (Datum × ℕ) ReadFault) → i < length vs
+    → Gives (λ end. (datum_of v, end)) r read → Gives (λ end. (datum_of (get_or (set vs i v) i d), end)) r read
+read_there vs i d v r read within h = rw (get_or-set_same vs i v d within) h
 
 module _ (o : ByteOrder) (b : ℕ → ℕ) (limit : ℕ) where
   -- ---- a member
@@ -89,6 +88,6 @@ module _ (o : ByteOrder) (b : ℕ → ℕ) (limit : ℕ) where
   unfolding struct_at
   struct_unstarted s p e h = rw h refl
 
-  pub struct_started : (s : StructType) (p q : ℕ) → members_begin limit s.members s.min_align p ≡ Ok q → struct_at o b limit s p ≡ after [] (members_at o b limit [] s.members q)
+  pub struct_started : (s : StructType) (p q : ℕ) → members_begin limit s.members s.min_align p ≡ Ok q → members_at o b limit [] s.members q ≡ struct_at o b limit s p
   unfolding struct_at
-  struct_started s p q h = rw h (after_none (members_at o b limit [] s.members q))
+  struct_started s p q h = rw h refl

@@ -22,6 +22,6 @@ mod write_values;
 pub use draft_structs::draft_struct;
 pub use read_fault::ReadFault;
 pub use read_start::members_start;
-pub use read_structure::{read_member, read_struct};
+pub use read_structure::{read_member, read_struct, read_struct_into};
 pub use write_numbers::write_number;
 pub use write_structs::{write_members, write_struct};

@@ -14,6 +14,7 @@ use std::alloc::Global;
 
 /// The value of a field, and the position where it ends.
 #[cycle(read)]
+#[inline]
 pub(crate) fn read_field(
     alloc: Global,
     bytes: &[u8],

@@ -13,6 +13,7 @@ use bit_codec::get_bits;
 use ctf_types::{ByteOrder, IntType, Value};
 
 /// The number that `size` bits of this alignment are, and the position where they end. All are in bits.
+#[inline]
 pub(crate) fn read_bits(
     bytes: &[u8],
     at: u64,
@@ -38,6 +39,7 @@ pub(crate) fn read_bits(
 }
 
 /// The value of an integer field, and the position where it ends.
+#[inline]
 pub(crate) fn read_int(
     bytes: &[u8],
     at: u64,

@@ -1,11 +1,12 @@
 //! Reading structures (CTF 1.8.3, section 4.2.1) and dynamic arrays (section 4.2.4).
 
-ghost use Rattle.std.specs.Prelude.{◌≡◌, ◌*◌, ◌<◌, ◌≤◌, List, Ok, Err, length, slice_get, IfOk, IfErr, IfSome};
+ghost use Rattle.std.specs.Prelude.{◌≡◌, ◌*◌, ◌<◌, ◌≤◌, List, [], Ok, Err, length, take, slice_get, slice_index_or, IfOk, IfErr, IfSome, OnErr};
+ghost use Rattle.ctf_types.specs.declared.Value.TheVariants.{Unsigned};
 ghost use Rattle.ctf_types.specs.Bits.{bit_of};
 ghost use Rattle.ctf_types.specs.Datum.{Datum};
 ghost use Rattle.ctf_types.specs.Layout.{count_at, member_end, struct_end, MemberLies, StructLies, AnyBits};
 ghost use Rattle.ctf_types.specs.Values.{datum_of, data_of};
-ghost use Rattle.value_codec.specs.Reading.{length_at, member_at, struct_at, datum_read, Gives};
+ghost use Rattle.value_codec.specs.Reading.{length_at, member_at, members_at, struct_at, datum_read, Gives};
 ghost use Rattle.value_codec.specs.Stopping.{ForReason, MemberStops, StructStops};
 ghost use Rattle.value_codec.specs.declared.read_fault.ReadFault.{ReadFault};
 
@@ -13,8 +14,10 @@ use crate::ReadFault;
 use crate::read_field::{read_array, read_field};
 use crate::read_number::read_bits;
 use crate::read_start::members_start;
-use ctf_types::{ByteOrder, Length, MemberType, StructType, Value, Values};
-use std::alloc::Global;
+use crate::read_text::reread_text;
+use ctf_types::{ByteOrder, FieldType, Length, MemberType, StructType, Value, Values};
+use std::alloc::{AllocError, Global};
+use std::mem;
 
 /// The values of a structure's members, and the position where the last one ends. Positions are in bits from the packet's start,
 /// which is the slice's; no field may reach past `limit`. A structure without members is not there and ends where it would begin.
@@ -41,31 +44,121 @@ pub fn read_struct(
     ensures stops { IfErr result (ForReason (StructStops order (bit_of order bytes.now) limit s.now at)) }
     ensures stops_only { (e : ReadFault) → StructStops order (bit_of order bytes.now) limit s.now at e → Gives (λ read. read) result (Err e) }
 {
-    read_values(alloc, bytes, at, limit, order, s)
+    let mut values = Values::new(alloc);
+    let end = read_struct_into(alloc, bytes, at, limit, order, s, &mut values)?;
+    Ok((values, end))
 }
 
-/// The values of a structure's members, one by one, each after those before it.
-fn read_values(
+/// Reads the values of a structure's members in the place of those that are held, and answers the position where the last one ends.
+/// Positions are in bits from the packet's start, which is the slice's; the faults are those of `read_struct`.
+///
+/// As many values as the structure has members keep their list's memory, and a string of at most 64 bytes keeps its own where the one that is
+/// read has room in it. An error leaves no values.
+pub fn read_struct_into(
     alloc: Global,
     bytes: &[u8],
     at: u64,
     limit: u64,
     order: ByteOrder,
     s: &StructType,
-) -> Result<(Values, u64), ReadFault>
+    values: &mut Values,
+) -> Result<u64, ReadFault>
     requires ordered { at ≤ limit }
     requires inside { limit ≤ 8 * length bytes.now }
-    ensures values { Gives (λ read. read) result (struct_at order (bit_of order bytes.now) limit s.now at) }
-    ensures within { IfOk result (λ read. read.1 ≤ limit) }
+    ensures values { Gives (λ end. (values.new, end)) result (struct_at order (bit_of order bytes.now) limit s.now at) }
+    ensures refused { OnErr result (values.new ≡ []) }
+    ensures within { IfOk result (λ end. end ≤ limit) }
 {
-    let mut place = members_start(at, limit, s)?;
-    let mut values = Vec::with_capacity(alloc, s.members.len())?;
-    for i in 0..s.members.len() {
-        let (value, end) = read_member(alloc, bytes, place, limit, order, s, i, values.as_slice())?;
-        values.push(value)?;
-        place = end;
+    let held = mem::replace(values, Values::new(alloc)).into_vec();
+    let start = members_start(at, limit, s)?;
+    let mut items = places_for(alloc, s.members.len(), held)?;
+    let end = reread_members(alloc, bytes, start, limit, order, s, &mut items)?;
+    *values = Values::from_vec(items);
+    Ok(end)
+}
+
+/// A list of so many values to be read over: the one that is held where it has as many, and else a new one with room for them and no more.
+fn places_for(alloc: Global, count: usize, held: Vec<Value>) -> Result<Vec<Value>, AllocError>
+    ensures { IfOk result (λ places. length places.items ≡ count) }
+{
+    if held.len() == count {
+        return Ok(held);
     }
-    Ok((Values::from_vec(values), place))
+    let mut places = Vec::with_capacity(alloc, count)?;
+    for _index in 0..count {
+        places.push(Value::Unsigned(0))?;
+    }
+    Ok(places)
+}
+
+/// Reads the values of a structure's members one by one, each in its place and after those before it, and answers where the last one ends.
+fn reread_members(
+    alloc: Global,
+    bytes: &[u8],
+    at: u64,
+    limit: u64,
+    order: ByteOrder,
+    s: &StructType,
+    places: &mut [Value],
+) -> Result<u64, ReadFault>
+    requires ordered { at ≤ limit }
+    requires inside { limit ≤ 8 * length bytes.now }
+    requires count { length places.old ≡ length s.now.members }
+    ensures values { Gives (λ end. (data_of places.new, end)) result (members_at order (bit_of order bytes.now) limit [] s.now.members at) }
+    ensures within { IfOk result (λ end. end ≤ limit) }
+{
+    let mut place = at;
+    for i in 0..s.members.len() {
+        place = reread_member(
+            alloc,
+            bytes,
+            place,
+            limit,
+            order,
+            s.members.member_at(i),
+            places,
+            i,
+        )?;
+    }
+    Ok(place)
+}
+
+/// Reads the value of a member of this type in the place of value `i`, after those before it, which stay. It answers the position where it ends.
+fn reread_member(
+    alloc: Global,
+    bytes: &[u8],
+    at: u64,
+    limit: u64,
+    order: ByteOrder,
+    member: &MemberType,
+    places: &mut [Value],
+    i: usize,
+) -> Result<u64, ReadFault>
+    requires ordered { at ≤ limit }
+    requires inside { limit ≤ 8 * length bytes.now }
+    requires place { i < length places.old }
+    ensures value { Gives (λ end. (datum_of (slice_index_or places.new i (Unsigned 0)), end)) result
+        (member_at order (bit_of order bytes.now) limit (data_of (take i places.old)) member.now at) }
+    ensures before { take i places.new ≡ take i places.old }
+    ensures count { length places.new ≡ length places.old }
+    ensures within { IfOk result (λ end. end ≤ limit) }
+{
+    match member {
+        MemberType::Plain(FieldType::Str) => reread_text(
+            alloc,
+            bytes,
+            at,
+            limit,
+            order,
+            &mut places[i],
+        ),
+        MemberType::Plain(FieldType::Int(_) | FieldType::Enum(_) | FieldType::Static(_, _))
+        | MemberType::Dyn(_, _) => {
+            let (value, end) = read_typed(alloc, bytes, at, limit, order, member, &places[..i])?;
+            places[i] = value;
+            Ok(end)
+        }
+    }
 }
 
 /// The value of a structure's member `i`, which begins at the next multiple of its own alignment, and the position where it ends.
@@ -105,6 +198,7 @@ pub fn read_member(
 }
 
 /// The value of a member of this type after these values, and the position where it ends.
+#[inline]
 fn read_typed(
     alloc: Global,
     bytes: &[u8],

@@ -2,7 +2,7 @@ use Rattle.std.proofs.Common.{ℕ, List, sym, ◌∙◌, arith}
 use Rattle.std.proofs.lemmas.Result.{err_from_is_err_and}
 use Rattle.ctf_types.specs.Bits.{bit_of}
 use Rattle.value_codec.proofs.ReadingSteps.{gives_fault, text_unstarted, text_past, text_ended, text_unended}
-use Rattle.value_codec.proofs.read_text.read_text.Goals as goal
+use Rattle.value_codec.proofs.read_text.find_text.Goals as goal
 
 pub returns-in_err-start-clause-text : goal.returns-in_err-start-clause-text
 returns-in_err-start-clause-text c =
@@ -21,7 +21,7 @@ returns-in_default-clause-text c =
 pub returns-clause-text : goal.returns-clause-text
 returns-clause-text c =
     let ended = text_ended c.args.order c.args.bytes.now c.args.limit c.args.at c.in_ok-start.start (sym c.in_ok-start.ensures.start) (omega (arith, c.if-start-limit.false, c.in_ok-start.ensures.within)) c.requires.inside (λ i. (c.type_inv.bytes i).fits) c.in-Some.len (sym c.text_len.ensures ∙ c.in-Some.is) in
-    rw c.in_ok-text.ensures ended.0
+    ended.0
 
 pub returns-clause-within : goal.returns-clause-within
 returns-clause-within c =
