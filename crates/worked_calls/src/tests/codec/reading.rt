@@ -16,7 +16,7 @@ fn text_of(alloc: Global, members: &str) -> Result<String, AllocError> {
 }
 
 /// The structure of these members in the metadata language.
-fn structure(alloc: Global, members: &str) -> Result<StructType, Fail> {
+pub fn structure(alloc: Global, members: &str) -> Result<StructType, Fail> {
     let text = text_of(alloc, members)?;
     Ok(read_metadata(alloc, text.as_str().as_bytes())?.header)
 }
