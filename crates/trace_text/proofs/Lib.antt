@@ -10,6 +10,7 @@ pub mod Fronts
 pub mod GivenLists
 pub mod HeadOrders
 pub mod Listing
+pub mod Numbers
 pub mod Opening
 pub mod Placing
 pub mod Reading

@@ -84,61 +84,70 @@ said {a} {b} {p} {q} u e s = subst (λ (v : List ℕ). Says a p b q v) e s
 -- nothing is said
 pub nothing : (a : Option (List ℕ)) (p : Page) → Says a p a p []
 nothing a p = record {
-  told = λ o. record { count = 0; within = omega arith; written = Appends-nil a; left_is = sym (append-nil p.bytes.items) };
+  told = λ o. record { count = 0; within = omega arith; written = Appends-nil a; left_is = sym (append-nil p.bytes) };
   front = λ o. (0, omega arith, Appends-nil a);
   less = λ o e. never p.fault Writer o e;
   stays = λ fault e. (e, Appends-nil a);
 }
 
+-- a text that is put on the page
+pub put_there : (a : Option (List ℕ)) (p q : Page) (t : List ℕ) → q.bytes ≡ p.bytes ++ t → q.fault ≡ p.fault → Says a p a q t
+put_there a p q t e f = record {
+  told = λ o. record { count = 0; within = omega arith; written = Appends-nil a; left_is = e };
+  front = λ o. (0, omega arith, Appends-nil a);
+  less = λ o w. never q.fault Writer (f ∙ o) w;
+  stays = λ fault g. (f ∙ g, Appends-nil a);
+}
+
 -- two texts
 pub more : {a b c : Option (List ℕ)} {p q r : Page} {t u : List ℕ} → Says a p b q t → Says b q c r u → Says a p c r (t ++ u)
 more {a} {b} {c} {p} {q} {r} {t} {u} s v = record {
-  told = λ o. subst (λ (w : List ℕ). Advances a c w r.bytes.items) (append_assoc p.bytes.items t u)
-      (go_on a b c (p.bytes.items ++ t) q.bytes.items u r.bytes.items (s.told (open_before v o)) (v.told o));
-  front = λ o. subst (λ (w : List ℕ). AppendsFront a c w) (append_assoc p.bytes.items t u) (elim (none_or q.fault) [
-    | inl e ↦ front_more a b c (p.bytes.items ++ t ++ u) (q.bytes.items ++ u) (further a b (p.bytes.items ++ t) q.bytes.items u (s.told e)) (v.front e)
-    | inr h ↦ front_longer a c (p.bytes.items ++ t) u (front_stays a b c (p.bytes.items ++ t) (s.front o) (v.stays h.0 h.1).1)
+  told = λ o. subst (λ (w : List ℕ). Advances a c w r.bytes) (append_assoc p.bytes t u)
+      (go_on a b c (p.bytes ++ t) q.bytes u r.bytes (s.told (open_before v o)) (v.told o));
+  front = λ o. subst (λ (w : List ℕ). AppendsFront a c w) (append_assoc p.bytes t u) (elim (none_or q.fault) [
+    | inl e ↦ front_more a b c (p.bytes ++ t ++ u) (q.bytes ++ u) (further a b (p.bytes ++ t) q.bytes u (s.told e)) (v.front e)
+    | inr h ↦ front_longer a c (p.bytes ++ t) u (front_stays a b c (p.bytes ++ t) (s.front o) (v.stays h.0 h.1).1)
   ]);
-  less = λ o e. subst (λ (w : List ℕ). AppendsLess a c w) (append_assoc p.bytes.items t u) (elim (none_or q.fault) [
-    | inl f ↦ less_more a b c (p.bytes.items ++ t ++ u) (q.bytes.items ++ u) (further a b (p.bytes.items ++ t) q.bytes.items u (s.told f)) (v.less f e)
-    | inr h ↦ less_longer a c (p.bytes.items ++ t) u
-        (less_stays a b c (p.bytes.items ++ t) (s.less o (h.1 ∙ sym (v.stays h.0 h.1).0 ∙ e)) (v.stays h.0 h.1).1)
+  less = λ o e. subst (λ (w : List ℕ). AppendsLess a c w) (append_assoc p.bytes t u) (elim (none_or q.fault) [
+    | inl f ↦ less_more a b c (p.bytes ++ t ++ u) (q.bytes ++ u) (further a b (p.bytes ++ t) q.bytes u (s.told f)) (v.less f e)
+    | inr h ↦ less_longer a c (p.bytes ++ t) u
+        (less_stays a b c (p.bytes ++ t) (s.less o (h.1 ∙ sym (v.stays h.0 h.1).0 ∙ e)) (v.stays h.0 h.1).1)
   ]);
   stays = λ fault e. ((v.stays fault (s.stays fault e).0).0, Appends-trans a b c [] [] (s.stays fault e).1 (v.stays fault (s.stays fault e).0).1);
 }
 
 -- ---- what is said at once
 
--- all that was said is written
-pub written_all : (a b : Option (List ℕ)) (p q : Page) (t : List ℕ) → (IsOpen q → Appends a b (p.bytes.items ++ t)) → (IsOpen p → AppendsFront a b (p.bytes.items ++ t))
-    → (IsOpen p → q.fault ≡ Some Writer → AppendsLess a b (p.bytes.items ++ t))
-    → ((fault : PrintFault) → p.fault ≡ Some fault → (q.fault ≡ Some fault) × Appends a b []) → q.bytes.items ≡ [] → Says a p b q t
-written_all a b p q t whole front less stays empty = record {
+-- all that the page held and what is said behind it is written at once
+pub written_all : (a b : Option (List ℕ)) (p q : Page) (t all : List ℕ) → all ≡ p.bytes ++ t → (IsOpen q → Appends a b all) → (IsOpen p → AppendsFront a b all)
+    → (IsOpen p → q.fault ≡ Some Writer → AppendsLess a b all)
+    → ((fault : PrintFault) → p.fault ≡ Some fault → (q.fault ≡ Some fault) × Appends a b []) → q.bytes ≡ [] → Says a p b q t
+written_all a b p q t all e whole front less stays empty = record {
   told = λ o. record {
-    count = length (p.bytes.items ++ t);
+    count = length (p.bytes ++ t);
     within = omega arith;
-    written = subst (λ (l : List ℕ). Appends a b l) (sym (take_all (length (p.bytes.items ++ t)) (p.bytes.items ++ t) (omega arith))) (whole o);
-    left_is = empty ∙ sym (drop_all (length (p.bytes.items ++ t)) (p.bytes.items ++ t) (omega arith));
+    written = subst (λ (l : List ℕ). Appends a b l) (e ∙ sym (take_all (length (p.bytes ++ t)) (p.bytes ++ t) (omega arith))) (whole o);
+    left_is = empty ∙ sym (drop_all (length (p.bytes ++ t)) (p.bytes ++ t) (omega arith));
   };
-  front = front;
-  less = less;
+  front = λ o. subst (λ (l : List ℕ). AppendsFront a b l) e (front o);
+  less = λ o f. subst (λ (l : List ℕ). AppendsLess a b l) e (less o f);
   stays = stays;
 }
 
 -- ---- from an empty page to an empty page
 
 -- all that was said is written
-pub written_out : {a b : Option (List ℕ)} {p q : Page} {t : List ℕ} → Says a p b q t → p.bytes.items ≡ [] → q.bytes.items ≡ [] → IsOpen q → Appends a b t
+pub written_out : {a b : Option (List ℕ)} {p q : Page} {t : List ℕ} → Says a p b q t → p.bytes ≡ [] → q.bytes ≡ [] → IsOpen q → Appends a b t
 written_out {a} {b} {p} {q} {t} s e f o =
-    let x : List ℕ = p.bytes.items ++ t in
+    let x : List ℕ = p.bytes ++ t in
     let w = s.told o in
     let all : length x ≤ w.count = omega (arith, length-drop w.count x, ap (λ (l : List ℕ). length l) w.left_is, ap (λ (l : List ℕ). length l) f) in
     subst (λ (l : List ℕ). Appends a b l) (take_all w.count x all ∙ ap (λ (l : List ℕ). l ++ t) e) w.written
 
 -- a front of it is written
-pub front_out : {a b : Option (List ℕ)} {p q : Page} {t : List ℕ} → Says a p b q t → p.bytes.items ≡ [] → IsOpen p → AppendsFront a b t
+pub front_out : {a b : Option (List ℕ)} {p q : Page} {t : List ℕ} → Says a p b q t → p.bytes ≡ [] → IsOpen p → AppendsFront a b t
 front_out {a} {b} {p} {q} {t} s e o = subst (λ (l : List ℕ). AppendsFront a b l) (ap (λ (l : List ℕ). l ++ t) e) (s.front o)
 
 -- and where the fault is the writer's, not all of it
-pub less_out : {a b : Option (List ℕ)} {p q : Page} {t : List ℕ} → Says a p b q t → p.bytes.items ≡ [] → IsOpen p → q.fault ≡ Some Writer → AppendsLess a b t
+pub less_out : {a b : Option (List ℕ)} {p q : Page} {t : List ℕ} → Says a p b q t → p.bytes ≡ [] → IsOpen p → q.fault ≡ Some Writer → AppendsLess a b t
 less_out {a} {b} {p} {q} {t} s e o f = subst (λ (l : List ℕ). AppendsLess a b l) (ap (λ (l : List ℕ). l ++ t) e) (s.less o f)

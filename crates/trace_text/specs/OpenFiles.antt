@@ -201,7 +201,7 @@ pub record SaysAll {R : Type 0} (remaining : R → Option (List ℕ)) (m : Metad
   pub said : (streams : List ReadStream) → GoOn m sources all.ks files streams → Says held page later next (lines m streams all.places)
   pub answers : (streams : List ReadStream) → GoOn m sources all.ks files streams → AllZip IsPrintedFile streams answered
   pub is_open : IsOpen next
-  pub empty : next.bytes.items ≡ []
+  pub empty : next.bytes ≡ []
 
 -- whether all was told or not: what was said is a front of the text of each trace that goes on
 pub record SaysFront {R : Type 0} (remaining : R → Option (List ℕ)) (m : Metadata) (sources : ℕ → Source) (files : List (OpenFile R))

@@ -12,7 +12,7 @@ IsOpen page = page.fault ≡ None
 
 -- a text was said behind what the page holds: what the writer holds before and after, and the page before and after
 pub record Says (held : Option (List ℕ)) (page : Page) (later : Option (List ℕ)) (next : Page) (text : List ℕ) : Type 0 where
-  pub told : IsOpen next → Advances held later (page.bytes.items ++ text) next.bytes.items
-  pub front : IsOpen page → AppendsFront held later (page.bytes.items ++ text)
-  pub less : IsOpen page → next.fault ≡ Some Writer → AppendsLess held later (page.bytes.items ++ text)
+  pub told : IsOpen next → Advances held later (page.bytes ++ text) next.bytes
+  pub front : IsOpen page → AppendsFront held later (page.bytes ++ text)
+  pub less : IsOpen page → next.fault ≡ Some Writer → AppendsLess held later (page.bytes ++ text)
   pub stays : (fault : PrintFault) → page.fault ≡ Some fault → (next.fault ≡ Some fault) × Appends held later []

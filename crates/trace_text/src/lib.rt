@@ -5,6 +5,7 @@ mod file_counts;
 mod names;
 mod next_step;
 mod open_file;
+mod page_bytes;
 mod printing;
 mod printing_closing;
 mod printing_fault;

@@ -1,18 +1,21 @@
 //! Numbers, and the labels of an enumeration's.
 
-ghost use Rattle.std.specs.Prelude.{◌≡◌, ℕ, ℤ, pos, List, Some, option_map, OnOk, string_bytes, false};
+ghost use Rattle.std.specs.Prelude.{◌≡◌, ◌++◌, ℕ, ℤ, pos, List, Some, codes, option_map, OnOk, string_bytes, false};
 ghost use Rattle.std.specs.Fmt.{decimal, signed_decimal};
 ghost use Rattle.ctf_types.specs.declared.Base.TheVariants.{Bin, Oct, Hex};
 ghost use Rattle.ctf_types.specs.FieldTypes.{chain_of};
 ghost use Rattle.trace_text.specs.PrintedPages.{Says};
 ghost use Rattle.trace_text.specs.PrintedNumbers.{in_base, base_of, label_in, ranges_of, in_parentheses, label_text, count_text};
 
-use crate::printing_page::{Page, say, say_digits};
+use crate::printing_page::{Page, say, say_bytes, say_digits};
 use crate::printing_texts::say_name;
 use ctf_types::{Base, FieldType, Mapping, Text};
-use itoa::Buffer;
+use itoa::{Buffer, write_digits};
 use std::alloc::AllocError;
 use std::io::Write;
+
+/// The most digits of a number of 64 bits in decimal.
+const VALUE_DIGITS: usize = 20;
 
 /// A number that is not below 0, in decimal.
 pub(crate) fn say_count<W: Write>(writer: &mut W, page: &mut Page, n: u128)
@@ -53,11 +56,21 @@ pub(crate) fn say_in_base<W: Write>(writer: &mut W, page: &mut Page, base: Base,
 }
 
 /// A number of 64 bits that is not below 0, in decimal.
-pub(crate) fn say_decimal<W: Write>(writer: &mut W, page: &mut Page, n: u64)
+fn say_decimal<W: Write>(writer: &mut W, page: &mut Page, n: u64)
     ensures { Says (W.contents writer.old) page.old (W.contents writer.new) page.new (decimal n) }
 {
     let mut buffer = Buffer::new();
     say(writer, page, buffer.format(n));
+}
+
+/// What stands behind the name of a clock: `:`, a value in decimal, and a space.
+pub(crate) fn say_behind_clock<W: Write>(writer: &mut W, page: &mut Page, value: u64)
+    ensures { Says (W.contents writer.old) page.old (W.contents writer.new) page.new (codes ":" ++ decimal value ++ codes " ") }
+{
+    let mut text = [b' '; VALUE_DIGITS + 2];
+    let start = write_digits(value, &mut text, VALUE_DIGITS + 1) - 1;
+    text[start] = b':';
+    say_bytes(writer, page, &text[start..]);
 }
 
 fn say_binary<W: Write>(writer: &mut W, page: &mut Page, n: u64)

@@ -1,6 +1,6 @@
 //! Values and structures.
 
-ghost use Rattle.std.specs.Prelude.{◌≡◌, ◌++◌, codes, map};
+ghost use Rattle.std.specs.Prelude.{◌≡◌, ℕ, List, ◌++◌, codes, map};
 ghost use Rattle.ctf_types.specs.Datum.{Unsigned, Signed};
 ghost use Rattle.ctf_types.specs.FieldTypes.{chain_of};
 ghost use Rattle.ctf_types.specs.Values.{datum_of};
@@ -16,22 +16,21 @@ use crate::printing_texts::say_string;
 use ctf_types::{FieldType, MemberType, Members, StructType, Value, Values};
 use std::io::Write;
 
-/// A structure with the name of its scope. One without members is not there.
+/// A structure behind what stands in front of its members, which has the name of its scope. One without members is not there.
+#[inline(always)]
 pub(crate) fn say_structure<W: Write>(
     writer: &mut W,
     page: &mut Page,
-    name: &str,
+    head: &str,
     structure: &StructType,
     values: &Values,
 )
-    ensures { Says (W.contents writer.old) page.old (W.contents writer.new) page.new (structure_text name.now structure.now.members values.now) }
+    ensures { (name : List ℕ) → head.now ≡ codes " " ++ name ++ codes "{" → Says (W.contents writer.old) page.old (W.contents writer.new) page.new (structure_text name structure.now.members values.now) }
 {
     if structure.members.is_empty() {
         return;
     }
-    say(writer, page, " ");
-    say(writer, page, name);
-    say(writer, page, "{");
+    say(writer, page, head);
     say_members(writer, page, &structure.members, values);
     say(writer, page, "}");
 }
