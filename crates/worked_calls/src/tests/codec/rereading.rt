@@ -59,9 +59,8 @@ fn room_in(alloc: Global, values: &mut Values) -> Result<usize, AllocError> {
     let mut items = mem::replace(values, Values::new(alloc)).into_vec();
     let (text, room) = match items.pop() {
         Some(Value::Text(text)) => with_room(text),
-        Some(Value::Unsigned(_) | Value::Signed(_) | Value::List(_)) | None => {
-            (Bytes::new(alloc), 0)
-        }
+        Some(_other) => (Bytes::new(alloc), 0),
+        None => (Bytes::new(alloc), 0),
     };
     items.push(Value::Text(text))?;
     *values = Values::from_vec(items);
