@@ -75,13 +75,14 @@ class Kept:
         return found
 
     def keep(self, edits):
-        """Keeps the refusals of these edits, unless a file that they rest on was changed meanwhile."""
+        """Keeps the refusals of these edits, unless a file that they rest on was changed meanwhile. Where nothing can be written none is kept."""
         if not self.sum or self.sum_now() != self.sum:
             return
-        os.makedirs(self.at, mode=0o700, exist_ok=True)
-        for edit in edits:
-            with open(self.place(edit), "w", encoding="utf-8") as it:
-                it.write(f"{self.copy.crate}/{edit.name}: {edit.outcome}\n")
+        with suppress(OSError):
+            os.makedirs(self.at, mode=0o700, exist_ok=True)
+            for edit in edits:
+                with open(self.place(edit), "w", encoding="utf-8") as it:
+                    it.write(f"{self.copy.crate}/{edit.name}: {edit.outcome}\n")
 
 
 def forget_old():
