@@ -108,13 +108,19 @@ parted [] i x at = absurd (let k : None ≡ Some x = at in cc)
 parted (y ∷ xs) zero x at = ap (λ w. w ∷ xs) (let k : Some y ≡ Some x = at in cc)
 parted (y ∷ xs) (suc i) x at = ap (λ l. y ∷ l) (parted xs i x at)
 
+front_length : {X : Type 0} (xs : List X) (i : ℕ) (x : X) → slice_get xs i ≡ Some x → length (take i xs) ≡ i
+front_length [] i x at = absurd (let k : None ≡ Some x = at in cc)
+front_length (y ∷ xs) zero x at = refl
+front_length (y ∷ xs) (suc i) x at = ap suc (front_length xs i x at)
+
 pub bad_one : (c : Config) (bytes : ℕ) (ss : List Begun) (i : ℕ) (s : Begun) (fault : AddFault) → AreRight c bytes (take i ss) → slice_get ss i ≡ Some s
-    → fault_of c bytes s ≡ Some fault → IsBadStream c bytes ss
+    → fault_of c bytes s ≡ Some fault → IsBadStream c bytes ss i
 bad_one c bytes ss i s fault right at bad = record {
   before = take i ss;
   stream = s;
   behind = drop (suc i) ss;
   there = parted ss i s at;
+  place = front_length ss i s at;
   fault = fault;
   none_before = right;
   first = bad;

@@ -1,5 +1,5 @@
 -- The workers of a script's streams: their clock, their acts, and the lines of what they were told.
-use Rattle.std.proofs.Common.{◌≡◌, ◌<◌, ◌≤◌, ◌+◌, ◌*◌, ◌^◌, ℕ, zero, suc, Bool, true, false, ◌&&◌, if◌then◌else◌, List, [], ◌∷◌, ◌++◌, Option, None, Some, length, take, take_all, nat_eq, nat_lt, refl, sym, subst, ap, ap₂, ◌∙◌, append_assoc, append-nil, add-one, arith}
+use Rattle.std.proofs.Common.{◌≡◌, ◌<◌, ◌≤◌, ◌+◌, ◌*◌, ◌^◌, ℕ, zero, suc, Bool, true, false, ◌&&◌, if◌then◌else◌, List, [], ◌∷◌, ◌++◌, Option, None, Some, Result, length, take, take_all, nat_eq, nat_lt, refl, sym, subst, ap, ap₂, ◌∙◌, append_assoc, append-nil, add-one, arith}
 use Rattle.std.proofs.Math.Nat.{mul-suc, mul-le-mul}
 use Rattle.std.proofs.lemmas.Bool.Decides.{nat_tests}
 use Rattle.std.proofs.lemmas.Option.{same_Some}
@@ -9,21 +9,24 @@ use Rattle.std.specs.Global.{Vec}
 use Rattle.std.specs.List.{All}
 use Rattle.std.specs.Option.{unwrap_or}
 use Rattle.ctf_types.specs.declared.Config.{Config}
+use Rattle.packet_collector.specs.declared.finish_answer.FinishAnswer.{FinishAnswer}
 use Rattle.packet_reader.specs.declared.resuming.ResumePoint.{ResumePoint}
 use Rattle.thread_stream.specs.Starting.{stream_named}
 use Rattle.trace_clock.specs.declared.bounds.Bounds.{Bounds}
 use Rattle.trace_clock.specs.declared.tick_seat.TickSeat.{TickSeat}
 use Rattle.trace_clock.specs.Seats.{IsNew, SameClock, bounds_of, floor_of}
+use Rattle.trace_platform.specs.declared.sink.SinkFault.{SinkFault}
 use Rattle.trace_platform.specs.declared.writer_sink.WriterSink.{WriterSink}
 use Rattle.trace_stack.specs.declared.answer.Answer.{Answer}
 use Rattle.trace_stack.specs.declared.event.Act.{Act}
 use Rattle.trace_stack.specs.declared.event.Act.TheVariants as act
 use Rattle.trace_stack.specs.declared.event.Event.{Event}
 use Rattle.trace_stack.specs.declared.names.NameFault.TheVariants.{BadName, SameName, TooMany}
+use Rattle.trace_stack.specs.declared.worker.ThreadsFault.{ThreadsFault}
 use Rattle.trace_stack.specs.declared.worker.Worker.{Worker}
 use Rattle.trace_stack.specs.StreamNames.{name_fault, is_stream_name, is_taken}
 use Rattle.trace_stack.specs.Points.{IsOf, no_point}
-use Rattle.trace_stack.specs.Workers.{CanGoOn, IsWorker, OfOneClock}
+use Rattle.trace_stack.specs.Workers.{AllRan, CanGoOn, IsWorker, OfOneClock}
 use Rattle.trace_stack.specs.Working.{IsOfStream}
 use Rattle.trace_stack.proofs.Fronts.{take-more}
 use Rattle.trace_stack.proofs.OneClock.{IsAt, at_one_clock}
@@ -192,6 +195,34 @@ module _ {File : Type 0} where
             (subst (λ (name : List ℕ). stream_named name 0 c.streams ≡ Some (number, type)) h.1.type_name found));
       }) (can_go_on c clock q z es (suc n) ss ws (All-tail (λ (x : Begun). floor_at x.1 ≤ (bounds_of clock).start) s ss above)
       (All-tail (λ (x : Begun). fault_of c z.bytes x ≡ None) s ss right) h.2)
+
+-- ---- what they leave
+
+worker_each : {File : Type 0} (clock : TickSeat) (q : ℕ) (z : Sizes) (es : List Event) (n : ℕ) (ss : List Begun) (ws : List (Worker (WriterSink File)))
+    → AreWorkers clock q z es n ss ws → length ws ≡ length ss
+worker_each clock q z es n [] [] h = refl
+worker_each clock q z es n [] (w ∷ ws) h = absurd h
+worker_each clock q z es n (s ∷ ss) [] h = absurd h
+worker_each clock q z es n (s ∷ ss) (w ∷ ws) h = ap suc (worker_each clock q z es (suc n) ss ws h.2)
+
+ends_each : {W : Type 0} (appends : W → List ℕ → Result (Unit {0}) SinkFault → W → Type 0) (held : W → Option (List ℕ)) (faults : W → ℕ) (c : Config) (fault : Option ThreadsFault)
+    (ws : List (Worker W)) (rs : List (Vec Answer)) (ends : List FinishAnswer) (sinks : List W) → AllRan appends held faults c fault ws rs ends sinks → length ends ≡ length ws
+ends_each appends held faults c fault [] [] [] [] h = refl
+ends_each appends held faults c fault [] [] [] (k ∷ sinks) h = absurd h
+ends_each appends held faults c fault [] [] (e ∷ ends) sinks h = absurd h
+ends_each appends held faults c fault [] (r ∷ rs) ends sinks h = absurd h
+ends_each appends held faults c fault (w ∷ ws) [] ends sinks h = absurd h
+ends_each appends held faults c fault (w ∷ ws) (r ∷ rs) [] sinks h = absurd h
+ends_each appends held faults c fault (w ∷ ws) (r ∷ rs) (e ∷ ends) [] h = absurd h
+ends_each appends held faults c fault (w ∷ ws) (r ∷ rs) (e ∷ ends) (k ∷ sinks) h = ap suc (ends_each appends held faults c fault ws rs ends sinks h.1)
+
+-- each stream has an end
+pub an_end_each : {File : Type 0} (appends : WriterSink File → List ℕ → Result (Unit {0}) SinkFault → WriterSink File → Type 0) (held : WriterSink File → Option (List ℕ))
+    (faults : WriterSink File → ℕ) (c : Config) (fault : Option ThreadsFault) (clock : TickSeat) (q : ℕ) (z : Sizes) (es : List Event) (ss : List ScriptStream) (ps : List (Option ResumePoint))
+    (ws : List (Worker (WriterSink File))) (rs : List (Vec Answer)) (ends : List FinishAnswer) (sinks : List (WriterSink File)) → length ps ≡ length ss
+    → AreWorkers clock q z es 0 (zip ss ps) ws → AllRan appends held faults c fault ws rs ends sinks → length ends ≡ length ss
+an_end_each appends held faults c fault clock q z es ss ps ws rs ends sinks points workers ran =
+    ends_each appends held faults c fault ws rs ends sinks ran ∙ worker_each clock q z es 0 (zip ss ps) ws workers ∙ length_begun ss ps points
 
 -- ---- lines
 

@@ -6,6 +6,7 @@ pub mod ListSessions
 pub mod Reading
 pub mod Resuming
 pub mod Running
+pub mod Settling
 pub mod Shown
 pub mod Telling
 pub mod Tracing

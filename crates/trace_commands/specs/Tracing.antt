@@ -4,15 +4,14 @@
 -- Where the trace is to go on in a folder, its metadata is read in place of that, and then, in the order of the script, each file that is there of the script's
 -- streams; these are known by what their readers had to give. Which path a file was opened under, that no file is there, and what becomes of a file
 -- that is not opened, no reader and no writer tells.
-use Rattle.std.specs.Prelude.{◌≡◌, ◌⊎◌, ℕ, true, List, [], ◌∷◌, ◌++◌, Option, None, Some, length, map}
-use Rattle.std.specs.Global.{Vec}
+use Rattle.std.specs.Prelude.{◌≡◌, ◌⊎◌, ℕ, true, List, [], ◌∷◌, ◌++◌, Option, None, Some, codes, length, map}
+use Rattle.std.specs.Fmt.{decimal}
 use Rattle.std.specs.List.{All}
 use Rattle.std.specs.Io.KnownBytes.{Appends}
 use Rattle.ctf_types.specs.declared.Config.{Config}
 use Rattle.ctf_types.specs.MetadataOf.{metadata_of}
 use Rattle.conf_check.specs.Configuration.{Configures}
 use Rattle.packet_collector.specs.declared.finish_answer.FinishAnswer.{FinishAnswer}
-use Rattle.packet_collector.specs.declared.finish_answer.FinishAnswer.TheVariants.{Settled}
 use Rattle.packet_reader.specs.declared.resuming.ResumePoint.{ResumePoint}
 use Rattle.trace_clock.specs.declared.tick_clock.TickClock.{TickClock}
 use Rattle.trace_clock.specs.Seats.{rest}
@@ -21,6 +20,7 @@ use Rattle.trace_platform.specs.Appending.{Writes}
 use Rattle.trace_stack.specs.declared.adding.AddFault.{AddFault}
 use Rattle.trace_stack.specs.declared.answer.Answer.{Answer}
 use Rattle.trace_stack.specs.declared.names.NameFault.{NameFault}
+use Rattle.trace_stack.specs.declared.worker.ThreadsFault.{ThreadsFault}
 use Rattle.trace_stack.specs.declared.worker.ThreadsRun.{ThreadsRun}
 use Rattle.trace_stack.specs.declared.worker.Worker.{Worker}
 use Rattle.trace_stack.specs.Workers.{ThreadsRan}
@@ -45,7 +45,8 @@ use Rattle.trace_commands.specs.Checking.{IsFaultOf}
 use Rattle.trace_commands.specs.ListSessions.{IsRecording}
 use Rattle.trace_commands.specs.Reading.{IsPathIn}
 use Rattle.trace_commands.specs.Resuming.{HasBroken, HasMetadata, HasOtherMetadata, HasPoint}
-use Rattle.trace_commands.specs.Shown.{IsFaultLine}
+use Rattle.trace_commands.specs.Settling.{AllSettled, SaysUnsettled}
+use Rattle.trace_commands.specs.Shown.{IsFaultLine, fault_line}
 use Rattle.trace_commands.specs.Telling.{WasGiven}
 use Rattle.trace_commands.specs.Workers.{AreWorkers, IsSharedBy, stream_lines}
 
@@ -61,6 +62,16 @@ IsTracePath t path = (path ≡ t.config.now) ⊎ (path ≡ t.script.now) ⊎ IsP
 abbrev pub IsSaid : List ℕ → List ℕ → List ℕ → ℕ → Type 0
 IsSaid path output errors status = (output ≡ []) × IsFaultLine path errors × (status ≡ 1)
 
+-- what is said of the stream of this number
+abbrev pub of_stream : ℕ → List ℕ → List ℕ
+of_stream number said = codes "streams/" ++ (decimal number ++ (codes ": " ++ said))
+
+abbrev pub IsStreamLine : List ℕ → ℕ → List ℕ → Type 0
+IsStreamLine script number line = (said : List ℕ) × (line ≡ fault_line script (of_stream number said))
+
+abbrev pub IsSaidOf : List ℕ → ℕ → List ℕ → List ℕ → ℕ → Type 0
+IsSaidOf script number output errors status = (output ≡ []) × IsStreamLine script number errors × (status ≡ 1)
+
 -- the text has this first fault as a script of the configuration
 pub record IsBadScript (c : Config) (text : List ℕ) : Type 0 where
   pub fault : ScriptFault
@@ -73,63 +84,65 @@ stream_names s = map (λ (x : ScriptStream). x.name) s.streams
 abbrev pub AreFree : Script → Type 0
 AreFree s = first_refused [] 0 (stream_names s) ≡ None
 
--- this stream of the script is the first that a session refuses by its name
-pub record IsBadName (s : Script) : Type 0 where
-  pub index : ℕ
+-- the stream of this number is the first that a session refuses by its name
+pub record IsBadName (s : Script) (number : ℕ) : Type 0 where
   pub fault : NameFault
-  pub first : first_refused [] 0 (stream_names s) ≡ Some (index, fault)
+  pub first : first_refused [] 0 (stream_names s) ≡ Some (number, fault)
 
--- this stream of the script is the first of which none is begun, by its type, its extra members, the size of packets, or earlier packets of another type
-pub record IsBadStream (c : Config) (bytes : ℕ) (streams : List Begun) : Type 0 where
+-- the stream of this number is the first that is not begun, by its type, its extra members, the size of packets, or earlier packets of another type
+pub record IsBadStream (c : Config) (bytes : ℕ) (streams : List Begun) (number : ℕ) : Type 0 where
   pub before : List Begun
   pub stream : Begun
   pub behind : List Begun
   pub there : streams ≡ before ++ stream ∷ behind
+  pub place : length before ≡ number
   pub fault : AddFault
   pub none_before : AreRight c bytes before
   pub first : fault_of c bytes stream ≡ Some fault
 
--- for a session a stream has this fault, or memory was wanting
-abbrev pub IsRefusal : Option AddFault → NotRecorded → Type 0
-IsRefusal first (Stream number fault) = first ≡ Some fault
-IsRefusal first OutOfMemory = Unit {0}
+-- for a session the stream of this number has this fault, or memory was wanting
+abbrev pub IsRefusal : ℕ → Option AddFault → NotRecorded → Type 0
+IsRefusal place first (Stream number fault) = (number ≡ place) × (first ≡ Some fault)
+IsRefusal place first OutOfMemory = Unit {0}
 
-abbrev pub Refuses : Config → ℕ → Begun → NotRecorded → Type 0
-Refuses c bytes s r = IsRefusal (fault_of c bytes s) r
+abbrev pub Refuses : Config → ℕ → ℕ → Begun → NotRecorded → Type 0
+Refuses c bytes place s r = IsRefusal place (fault_of c bytes s) r
 
 -- one of these streams, the first of them, has a fault, or memory was wanting
 abbrev pub RefusesOne : Config → ℕ → List Begun → NotRecorded → Type 0
-RefusesOne c bytes streams (Stream number fault) = IsBadStream c bytes streams
+RefusesOne c bytes streams (Stream number fault) = IsBadStream c bytes streams number
 RefusesOne c bytes streams OutOfMemory = Unit {0}
+
+-- a line of the script speaks of the first stream that is not begun
+abbrev pub TellsBadStream : TraceCommand → Config → Script → List (Option ResumePoint) → List ℕ → List ℕ → ℕ → Type 0
+TellsBadStream t c s points output errors status =
+    (number : ℕ) × IsBadStream c t.packet_bytes (begun s points) number × IsSaidOf t.script.now number output errors status
 
 -- ---- a run
 
--- all streams settled: the sink of each took all its packets
-abbrev pub AllSettled : List FinishAnswer → Type 0
-AllSettled ends = All (λ (r : FinishAnswer). r ≡ Settled) ends
-
--- a line in a file
-abbrev pub SaysFile : List ℕ → Type 0
-SaysFile errors = (file : List ℕ) × IsFaultLine file errors
-
-abbrev pub EndsTold : List FinishAnswer → List ℕ → ℕ → Type 0
-EndsTold ends errors status =
+abbrev pub EndsTold : List ℕ → List ScriptStream → List FinishAnswer → List ℕ → ℕ → Type 0
+EndsTold folder streams ends errors status =
     (AllSettled ends × (errors ≡ []) × (status ≡ 0))
-    ⊎ ((AllSettled ends → ⊥) × SaysFile errors × (status ≡ 3))
+    ⊎ (SaysUnsettled folder streams ends errors × (status ≡ 3))
 
 -- all workers made all their calls, and the sink of each took all its packets
-abbrev pub AllDone : {W : Type 0} → ThreadsRun W → Type 0
-AllDone run = (run.fault ≡ None) × AllSettled run.ends.items
+abbrev pub AllDone : Option ThreadsFault → List FinishAnswer → Type 0
+AllDone fault ends = (fault ≡ None) × AllSettled ends
+
+-- a line of the folder says what kept workers from their calls; or one of a file, that a stream did not settle
+abbrev pub SaysUndone : List ℕ → List ScriptStream → Option ThreadsFault → List FinishAnswer → List ℕ → Type 0
+SaysUndone folder streams (Some fault) ends line = IsFaultLine folder line
+SaysUndone folder streams None ends line = SaysUnsettled folder streams ends line
 
 -- what is said of a run: nothing exactly where all is done
-abbrev pub IsRunLine : {W : Type 0} → ThreadsRun W → Option (Vec ℕ) → Type 0
-IsRunLine run None = AllDone run
-IsRunLine run (Some errors) = (AllDone run → ⊥) × SaysFile errors.items
+abbrev pub SaysRun : List ℕ → List ScriptStream → Option ThreadsFault → List FinishAnswer → Option (List ℕ) → Type 0
+SaysRun folder streams fault ends None = AllDone fault ends
+SaysRun folder streams fault ends (Some line) = SaysUndone folder streams fault ends line
 
-abbrev pub RunTold : {W : Type 0} → ThreadsRun W → List ℕ → ℕ → Type 0
-RunTold run errors status =
-    (AllDone run × (errors ≡ []) × (status ≡ 0))
-    ⊎ ((AllDone run → ⊥) × SaysFile errors × (status ≡ 3))
+abbrev pub RunTold : {W : Type 0} → List ℕ → List ScriptStream → ThreadsRun W → List ℕ → ℕ → Type 0
+RunTold folder streams run errors status =
+    (AllDone run.fault run.ends.items × (errors ≡ []) × (status ≡ 0))
+    ⊎ (SaysUndone folder streams run.fault run.ends.items errors × (status ≡ 3))
 
 module _ {File : Type 0} (contents : File → Option (List ℕ)) where
   -- the writer of a file took these bytes from first to last
@@ -148,12 +161,12 @@ module _ {File : Type 0} (contents : File → Option (List ℕ)) where
     pub ends : List FinishAnswer
     pub recording : IsRecording contents c (sizes_of t) s points answers ends
     pub printed : output ≡ answer_lines 0 answers
-    pub ended : EndsTold ends errors status
+    pub ended : EndsTold t.folder.now s.streams ends errors status
 
   -- a stream is refused, or the session ran
   abbrev pub TellsSession : TraceCommand → Config → Script → List (Option ResumePoint) → List ℕ → List ℕ → ℕ → Type 0
   TellsSession t c s points output errors status =
-      (IsBadStream c t.packet_bytes (begun s points) × IsSaid t.script.now output errors status)
+      TellsBadStream t c s points output errors status
       ⊎ IsRun t c s points output errors status
 
   -- a worker for each stream ran, all by one clock, and this is told of them: each has its answers under its stream's name
@@ -166,12 +179,12 @@ module _ {File : Type 0} (contents : File → Option (List ℕ)) where
     pub ran : ThreadsRan (λ (a : WriterSink File) (bytes : List ℕ) answer (b : WriterSink File). Writes (contents a.writer) a.faults bytes answer (contents b.writer) b.faults)
         (λ (k : WriterSink File). contents k.writer) (λ (k : WriterSink File). k.faults) true c workers run
     pub printed : output ≡ stream_lines s.streams run.answers.items
-    pub ended : RunTold run errors status
+    pub ended : RunTold t.folder.now s.streams run errors status
 
   -- a stream is refused, or the workers ran
   abbrev pub TellsWorkers : Quota → TraceCommand → Config → Script → List (Option ResumePoint) → List ℕ → List ℕ → ℕ → Type 0
   TellsWorkers quota t c s points output errors status =
-      (IsBadStream c t.packet_bytes (begun s points) × IsSaid t.script.now output errors status)
+      TellsBadStream t c s points output errors status
       ⊎ IsWorkersRun quota t c s points output errors status
 
   -- by workers where they are asked for, else by a session
@@ -213,7 +226,7 @@ module _ {File : Type 0} (contents : File → Option (List ℕ)) where
     -- of a script: its names, and then its folder and its streams
     abbrev pub TellsScript : TraceCommand → Config → Script → List ℕ → List ℕ → ℕ → Type 0
     TellsScript t c s output errors status =
-        (IsBadName s × IsSaid t.script.now output errors status)
+        ((number : ℕ) × IsBadName s number × IsSaidOf t.script.now number output errors status)
         ⊎ (AreFree s × TellsFolder t.resume t c s output errors status)
 
     -- of the text of a script's file

@@ -24,6 +24,7 @@ mod script_entry;
 mod script_form;
 mod script_lines;
 mod script_workers;
+mod settling;
 mod shared_clock;
 mod shown;
 mod trace_command;

@@ -1,7 +1,8 @@
 //! The lines of a script's faults.
 
-ghost use Rattle.std.specs.Prelude.{IfOk};
+ghost use Rattle.std.specs.Prelude.{◌≡◌, IfOk};
 ghost use Rattle.trace_commands.specs.Shown.{IsFaultLine};
+ghost use Rattle.trace_commands.specs.Tracing.{IsStreamLine, of_stream};
 
 use crate::fault_lines::{fault_line, push_name, push_position};
 use crate::script_entry::push_fault;
@@ -39,7 +40,7 @@ pub fn name_line(
     number: usize,
     fault: NameFault,
 ) -> Result<Vec<u8>, AllocError>
-    ensures { IfOk result (λ line. IsFaultLine file.now line.items) }
+    ensures { IfOk result (λ line. IsStreamLine file.now number line.items) }
 {
     let why = format!(in alloc; "{fault}")?;
     stream_line(alloc, file, script, number, why.as_str())
@@ -53,13 +54,13 @@ pub fn refusal_line(
     number: usize,
     fault: AddFault,
 ) -> Result<Vec<u8>, AllocError>
-    ensures { IfOk result (λ line. IsFaultLine file.now line.items) }
+    ensures { IfOk result (λ line. IsStreamLine file.now number line.items) }
 {
     let fault = format!(in alloc; "{fault}")?;
     stream_line(alloc, file, script, number, fault.as_str())
 }
 
-/// What is said of the stream of this number: its place, its name, or the first characters of it, and then this.
+/// The line of what is wrong with the stream of this number: its place, its name, or the first characters of it, and then this.
 fn stream_line(
     alloc: Global,
     file: &[u8],
@@ -67,15 +68,36 @@ fn stream_line(
     number: usize,
     fault: &str,
 ) -> Result<Vec<u8>, AllocError>
-    ensures { IfOk result (λ line. IsFaultLine file.now line.items) }
+    ensures { IfOk result (λ line. IsStreamLine file.now number line.items) }
 {
-    let mut said = Vec::new(alloc);
+    let said = said_of_stream(alloc, script, number, fault)?;
+    let placed = placed(alloc, number, said.as_slice())?;
+    fault_line(alloc, file, placed.as_slice())
+}
+
+/// This, behind the place of the stream of this number.
+fn placed(alloc: Global, number: usize, said: &[u8]) -> Result<Vec<u8>, AllocError>
+    ensures { IfOk result (λ placed. placed.items ≡ of_stream number said.now) }
+{
+    let mut placed = Vec::new(alloc);
     let place = format!(in alloc; "streams/{number}: ")?;
-    said.extend_from_slice(place.as_bytes())?;
+    placed.extend_from_slice(place.as_bytes())?;
+    placed.extend_from_slice(said)?;
+    Ok(placed)
+}
+
+/// What is wrong with the stream of this number, behind its name.
+fn said_of_stream(
+    alloc: Global,
+    script: &Script,
+    number: usize,
+    fault: &str,
+) -> Result<Vec<u8>, AllocError> {
+    let mut said = Vec::new(alloc);
     if let Some(stream) = script.streams.as_slice().get(number) {
         push_name(&mut said, stream.name.as_str().as_bytes())?;
         said.extend_from_slice(b": ".as_slice())?;
     }
     said.extend_from_slice(fault.as_bytes())?;
-    fault_line(alloc, file, said.as_slice())
+    Ok(said)
 }
