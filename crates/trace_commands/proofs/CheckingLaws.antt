@@ -27,10 +27,9 @@ joined_five a b c d e = sym (append_assoc (a ++ b ++ c) d e ∙ append_assoc (a 
 
 -- a refusal that is not for memory says that the text is no configuration
 pub refused_text : (text : List ℕ) (number : Option (List ℕ)) (fault : ConfFault) → (IsMemory fault → ⊥) → IsMemory fault ⊎ IsRefusal text number (flaw_of fault)
-    → RefusedForMemory text number fault → IsRefused text number
+    → RefusedForMemory text number fault → IsRefused text number fault
 refused_text text number fault innocent (inl memory) only = absurd (innocent memory)
 refused_text text number fault innocent (inr refusal) only = record {
-  flaw = flaw_of fault;
   first = refusal;
   none = λ c configures. innocent (only c configures);
 }

@@ -6,23 +6,32 @@ use Rattle.ctf_types.specs.declared.StreamType.{StreamType}
 use Rattle.ctf_types.specs.declared.IntType.{IntType}
 use Rattle.ctf_types.specs.AllowedConfig.{IsConfig}
 use Rattle.ctf_types.specs.MetadataOf.{metadata_of}
-use Rattle.conf_tree.specs.Flaw.{Flaw}
+use Rattle.conf_tree.specs.declared.fault.ConfFault.{ConfFault}
+use Rattle.conf_tree.specs.Flaw.{flaw_of}
+use Rattle.conf_fault.specs.Explanation.{IsExplanation}
 use Rattle.conf_check.specs.Configuration.{Configures, IsRefusal}
 use Rattle.tsdl_grammar.specs.Denotes.{Denotes}
 use Rattle.tsdl_writer.specs.Written.{written}
 use Rattle.trace_commands.specs.declared.judged.Judged.{Judged}
 use Rattle.trace_commands.specs.declared.judged.Judged.TheVariants.{Right, Refused}
-use Rattle.trace_commands.specs.Shown.{IsFaultLine, fault_line}
+use Rattle.trace_commands.specs.Shown.{fault_line}
 
--- the text is no configuration, since this flaw is its first
-pub record IsRefused (text : List ℕ) (number : Option (List ℕ)) : Type 0 where
-  pub flaw : Flaw
-  pub first : IsRefusal text number flaw
+-- the text is no configuration, since this fault tells of its first flaw
+pub record IsRefused (text : List ℕ) (number : Option (List ℕ)) (fault : ConfFault) : Type 0 where
+  pub first : IsRefusal text number (flaw_of fault)
   pub none : (c : Config) → Configures text number c → ⊥
 
-abbrev pub IsFaultOf : List ℕ → List ℕ → Option (List ℕ) → List ℕ → List ℕ → ℕ → Type 0
-IsFaultOf path text number output errors status =
-    IsRefused text number × (output ≡ []) × IsFaultLine path errors × (status ≡ 1)
+-- the line explains this fault of the file's text
+abbrev pub IsExplainedIn : List ℕ → List ℕ → ConfFault → List ℕ → Type 0
+IsExplainedIn path text fault line = (said : List ℕ) × IsExplanation text fault said × (line ≡ fault_line path said)
+
+-- nothing is printed, and a line explains the first fault
+pub record IsFaultOf (path text : List ℕ) (number : Option (List ℕ)) (output errors : List ℕ) (status : ℕ) : Type 0 where
+  pub fault : ConfFault
+  pub refused : IsRefused text number fault
+  pub nothing : output ≡ []
+  pub explained : IsExplainedIn path text fault errors
+  pub failed : status ≡ 1
 
 -- the text is this configuration, or it is none, which this answers
 abbrev pub IsJudged : List ℕ → List ℕ → Option (List ℕ) → Judged → Type 0

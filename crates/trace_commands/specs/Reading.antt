@@ -9,6 +9,7 @@ use Rattle.packet_reader.specs.declared.read_streams.ReadStream.{ReadStream}
 use Rattle.tsdl_grammar.specs.declared.fault.MetaFault.{MetaFault}
 use Rattle.tsdl_grammar.specs.declared.fault.MetaFaultKind.TheVariants.{OutOfMemory}
 use Rattle.tsdl_grammar.specs.Denotes.{Denotes}
+use Rattle.tsdl_reader.specs.Explained.{IsExplained}
 use Rattle.tsdl_reader.specs.Reading.{FaultHolds}
 use Rattle.trace_stack.specs.declared.trace_fault.TraceFault.{TraceFault}
 use Rattle.trace_stack.specs.declared.trace_fault.TraceFault.TheVariants as faults
@@ -20,7 +21,7 @@ use Rattle.trace_text.specs.ReadingFaults.{StopsAt}
 use Rattle.trace_text.specs.declared.reading_fault.ReadingFault.{ReadingFault}
 use Rattle.trace_text.specs.declared.reading_fault.ReadingFault.TheVariants.{Reader, Writer, TooManyRecords, OutOfMemory as NoMemory}
 use Rattle.trace_commands.specs.Ends.{AreLines, path_in, status_of, stream_line}
-use Rattle.trace_commands.specs.Shown.{IsFaultLine}
+use Rattle.trace_commands.specs.Shown.{fault_line}
 use Rattle.trace_commands.specs.Telling.{ErrorsStopped, IsLineOf, IsMemoryLine, IsOutputLine, SaysFailure, SaysLine, Told, ToldWhole, WasGiven}
 
 -- ---- the files of a folder
@@ -60,16 +61,18 @@ pub record HasFault (text : List ℕ) (fault : MetaFault) : Type 0 where
   pub holds : FaultHolds text fault.kind fault.place
   pub none : (m : Metadata) → Denotes text m → ⊥
 
--- nothing is printed, and a line of the file is said
-pub record IsRefusal (folder output errors : List ℕ) (status : ℕ) : Type 0 where
+-- nothing is printed, and a line of the file explains this fault of its text
+pub record IsRefusal (folder text : List ℕ) (fault : MetaFault) (output errors : List ℕ) (status : ℕ) : Type 0 where
   pub output_is : output ≡ []
-  pub errors_are : IsFaultLine (path_in folder metadata_name) errors
+  pub said : List ℕ
+  pub explained : IsExplained text fault said
+  pub errors_are : errors ≡ fault_line (path_in folder metadata_name) said
   pub status_is : status ≡ 1
 
 pub record IsMetadataFault (folder text output errors : List ℕ) (status : ℕ) : Type 0 where
   pub fault : MetaFault
   pub has : HasFault text fault
-  pub refusal : IsRefusal folder output errors status
+  pub refusal : IsRefusal folder text fault output errors status
 
 -- a metadata text has this fault, or memory was wanting
 abbrev pub IsFaultOf : List ℕ → TraceFault → Type 0

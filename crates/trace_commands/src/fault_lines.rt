@@ -1,7 +1,8 @@
 //! The lines of faults: the program, the file, the place, what stands there, and what was expected.
 
 ghost use Rattle.std.specs.Prelude.{◌≡◌, IfOk};
-ghost use Rattle.trace_commands.specs.Shown.{IsFaultLine, fault_line as line_of};
+ghost use Rattle.trace_commands.specs.Checking.{IsExplainedIn};
+ghost use Rattle.trace_commands.specs.Shown.{fault_line as line_of};
 
 use crate::shown::{first_characters, push_shown};
 use conf_fault::{explain_fault, json_place};
@@ -28,7 +29,7 @@ pub fn configuration_line(
     text: &[u8],
     fault: &ConfFault,
 ) -> Result<Vec<u8>, AllocError>
-    ensures { IfOk result (λ line. IsFaultLine file.now line.items) }
+    ensures { IfOk result (λ line. IsExplainedIn file.now text.now fault.now line.items) }
 {
     let said = explain_fault(alloc, text, fault)?;
     fault_line(alloc, file, said.as_bytes())
