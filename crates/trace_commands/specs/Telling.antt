@@ -1,6 +1,6 @@
 -- How an answer is told: all of it is written, with its status; or a write failed, and at status 3 less than all of the output or of the errors is written. And how it is told
 -- that there is none: nothing is printed, and at status 3 a line says what failed, or a front of that line, as far as it was taken.
-use Rattle.std.specs.Prelude.{◌≡◌, ◌⊎◌, ℕ, List, [], ◌∷◌, ◌++◌, Option, IfSome, codes, string_bytes}
+use Rattle.std.specs.Prelude.{◌≡◌, ◌⊎◌, ℕ, List, [], ◌∷◌, ◌++◌, Option, None, Some, IfSome, codes, string_bytes}
 use Rattle.std.specs.Io.KnownBytes.{Appends}
 use Rattle.trace_platform.specs.Fronts.{AppendsFront, AppendsLess}
 use Rattle.command_words.specs.declared.line_fault.LineFault.{LineFault}
@@ -47,6 +47,11 @@ SaysLine Is old new = (line : List ℕ) × Is line × AppendsFront old new line
 -- what may be answered, by its output, its errors and its status
 abbrev pub Answering : Type 1
 Answering = List ℕ → List ℕ → ℕ → Type 0
+
+-- a line of what failed, with status 3, or nothing, with status 0
+abbrev pub IsToldWith : Option (List ℕ) → List ℕ → ℕ → Type 0
+IsToldWith None errors status = (errors ≡ []) × (status ≡ 0)
+IsToldWith (Some line) errors status = (errors ≡ line) × (status ≡ 3)
 
 -- this answer alone
 abbrev pub Tells : Answer → Answering

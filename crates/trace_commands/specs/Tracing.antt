@@ -45,9 +45,9 @@ use Rattle.trace_commands.specs.Checking.{IsFaultOf}
 use Rattle.trace_commands.specs.ListSessions.{IsRecording}
 use Rattle.trace_commands.specs.Reading.{IsPathIn}
 use Rattle.trace_commands.specs.Resuming.{HasBroken, HasMetadata, HasOtherMetadata, HasPoint}
-use Rattle.trace_commands.specs.Settling.{AllSettled, SaysUnsettled}
+use Rattle.trace_commands.specs.Settling.{SaysSettling}
 use Rattle.trace_commands.specs.Shown.{IsFaultLine, fault_line}
-use Rattle.trace_commands.specs.Telling.{WasGiven}
+use Rattle.trace_commands.specs.Telling.{IsToldWith, WasGiven}
 use Rattle.trace_commands.specs.Workers.{AreWorkers, IsSharedBy, stream_lines}
 
 abbrev pub sizes_of : TraceCommand → Sizes
@@ -120,29 +120,19 @@ TellsBadStream t c s points output errors status =
 
 -- ---- a run
 
+-- nothing where all streams settled, else the line of the first that did not
 abbrev pub EndsTold : List ℕ → List ScriptStream → List FinishAnswer → List ℕ → ℕ → Type 0
-EndsTold folder streams ends errors status =
-    (AllSettled ends × (errors ≡ []) × (status ≡ 0))
-    ⊎ (SaysUnsettled folder streams ends errors × (status ≡ 3))
+EndsTold folder streams ends errors status = (line : Option (List ℕ)) × SaysSettling folder streams ends line × IsToldWith line errors status
 
--- all workers made all their calls, and the sink of each took all its packets
-abbrev pub AllDone : Option ThreadsFault → List FinishAnswer → Type 0
-AllDone fault ends = (fault ≡ None) × AllSettled ends
-
--- a line of the folder says what kept workers from their calls; or one of a file, that a stream did not settle
-abbrev pub SaysUndone : List ℕ → List ScriptStream → Option ThreadsFault → List FinishAnswer → List ℕ → Type 0
-SaysUndone folder streams (Some fault) ends line = IsFaultLine folder line
-SaysUndone folder streams None ends line = SaysUnsettled folder streams ends line
-
--- what is said of a run: nothing exactly where all is done
+-- nothing where all workers made all their calls and their streams settled; else a line of the folder, that says what kept workers from their calls, or that of
+-- the first stream that did not settle
 abbrev pub SaysRun : List ℕ → List ScriptStream → Option ThreadsFault → List FinishAnswer → Option (List ℕ) → Type 0
-SaysRun folder streams fault ends None = AllDone fault ends
-SaysRun folder streams fault ends (Some line) = SaysUndone folder streams fault ends line
+SaysRun folder streams None ends line = SaysSettling folder streams ends line
+SaysRun folder streams (Some fault) ends None = ⊥
+SaysRun folder streams (Some fault) ends (Some line) = IsFaultLine folder line
 
 abbrev pub RunTold : {W : Type 0} → List ℕ → List ScriptStream → ThreadsRun W → List ℕ → ℕ → Type 0
-RunTold folder streams run errors status =
-    (AllDone run.fault run.ends.items × (errors ≡ []) × (status ≡ 0))
-    ⊎ (SaysUndone folder streams run.fault run.ends.items errors × (status ≡ 3))
+RunTold folder streams run errors status = (line : Option (List ℕ)) × SaysRun folder streams run.fault run.ends.items line × IsToldWith line errors status
 
 module _ {File : Type 0} (contents : File → Option (List ℕ)) where
   -- the writer of a file took these bytes from first to last
