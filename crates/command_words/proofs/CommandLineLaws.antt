@@ -1,5 +1,5 @@
 -- Refusals of parts of a command line, and what they say of the whole.
-use Rattle.std.proofs.Common.{◌≡◌, ◌<◌, ◌⊎◌, ◌∙◌, inl, inr, ℕ, List, [], ◌∷◌, length, map, Option, Some, None, option_map, Result, IfErr, IsErrAnd, Bool, true, false, refl, sym, subst, ap₂, arith, codes}
+use Rattle.std.proofs.Common.{◌≡◌, ◌<◌, ◌⊎◌, ◌∙◌, inl, inr, ℕ, List, [], ◌∷◌, length, map, Option, Some, None, option_map, Result, Ok, Err, IfErr, IsErrAnd, Bool, true, false, refl, sym, subst, ap₂, arith, codes}
 use Rattle.std.specs.Borrow.{Bor}
 use Rattle.std.proofs.lemmas.Option.{none-some, same_Some}
 use Rattle.std.proofs.lemmas.Result.{err_from_is_err_and}
@@ -15,7 +15,7 @@ use Rattle.command_words.specs.declared.quota.Quota.{Quota}
 use Rattle.command_words.specs.CommandLine.{IsMemory, Asks, AsksBy, AsksCommand, HasFlag, HasResuming, HasWorkers, SaysQuota, uuid_said}
 use Rattle.command_words.specs.declared.commands.Resuming.{Resuming}
 use Rattle.command_words.specs.declared.commands.Resuming.TheVariants.{Anew, Behind}
-use Rattle.command_words.specs.LineFaults.{FitsKind, IsFaultOfWords}
+use Rattle.command_words.specs.LineFaults.{FitsKind, IsBlamed, IsFaultOfWords, TellsValue}
 
 -- memory ran out, or nothing has the property
 abbrev pub Refuses : {A : Type 0} → LineFault → (A → Type 0) → Type 0
@@ -93,6 +93,25 @@ bad_uuid (Some t) text u e unread h = go (parsed t.now) refl h
     go : (o : Option (List ℕ)) → parsed t.now ≡ o → option_map (λ v. Some v) o ≡ Some u → ⊥
     go None p h = none-some u h
     go (Some v) p h = none v p
+
+-- ---- what is told
+
+-- of a value that was found
+pub tells_found : {T : Type 0} (r : Result T LineFault) (rows : List Row) (option : Text) (value : Option Text) → value ≡ first_of option rows
+    → IfErr r (λ fault. (text : Text) × (value ≡ Some text) × TellsValue option text fault) → IfErr r (IsBlamed rows)
+tells_found (Ok x) rows option value e h = tt
+tells_found (Err fault) rows option value e h = inl (option, h.0, sym e ∙ h.1, h.2)
+
+pub tells_word : {T : Type 0} (r : Result T LineFault) (rows : List Row) (option value : Text) → first_of option rows ≡ Some value
+    → IfErr r (TellsValue option value) → IfErr r (IsBlamed rows)
+tells_word (Ok x) rows option value e h = tt
+tells_word (Err fault) rows option value e h = inl (option, value, e, h)
+
+-- the same where the refusal is handed on
+pub blame_on : {T : Type 0} (r : Result T LineFault) (fault : LineFault) (rows : List Row) → IsErrAnd r (λ e. e ≡ fault) → IsBlamed rows fault → IfErr r (IsBlamed rows)
+blame_on {T} r fault rows h blamed =
+    let p = err_from_is_err_and r h in
+    subst (λ (x : Result T LineFault). IfErr x (IsBlamed rows)) (sym p.1) (subst (IsBlamed rows) (sym p.2) blamed)
 
 -- ---- workers
 

@@ -1,6 +1,6 @@
 -- How words that ask for no command are answered: with help where help or the version is asked for, as a bad line elsewhere.
-use Rattle.std.specs.Prelude.{◌≡◌, ◌⊎◌, List, [], ⊤}
-use Rattle.clap.specs.Words.{Text, fault_of, Kinds, IsAmong}
+use Rattle.std.specs.Prelude.{◌≡◌, ◌≢◌, ◌⊎◌, List, [], ◌++◌, Option, None, Some, ⊤, codes, string_bytes}
+use Rattle.clap.specs.Words.{Row, Text, first_of, fault_of, subcommand_of, Kinds, IsAmong}
 use Rattle.clap.specs.declared.error.kind.ErrorKind.{ErrorKind}
 use Rattle.clap.specs.declared.error.kind.ErrorKind.TheVariants as kind
 use Rattle.command_words.specs.declared.line_fault.LineFault.{LineFault}
@@ -18,17 +18,55 @@ FitsKind k (Help text) = AsksForHelp k
 FitsKind k (Bad text) = AsksForHelp k → ⊥
 FitsKind k OutOfMemory = ⊤
 
--- a bad line, or want of memory
-abbrev pub IsNoHelp : LineFault → Type 0
-IsNoHelp (Help text) = ⊥
-IsNoHelp (Bad text) = ⊤
-IsNoHelp OutOfMemory = ⊤
+-- ---- a value that is wrong, or a word that is missing
+
+abbrev pub hint : Text
+hint = codes "\n\nFor more information, try '--help'.\n"
+
+abbrev pub value_line : Text → Text → Text → Text
+value_line option value expected =
+    codes "error: invalid value '" ++ (value ++ (codes "' for '--" ++ (option ++ (codes "': expected " ++ (expected ++ hint)))))
+
+abbrev pub missing_line : Text → Text
+missing_line word = codes "error: nothing is given for " ++ (word ++ hint)
+
+-- this value of this option is told, and what was expected in its place
+abbrev pub TellsValue : Text → Text → LineFault → Type 0
+TellsValue option value (Help text) = ⊥
+TellsValue option value (Bad text) = (expected : Text) × (string_bytes text ≡ value_line option value expected)
+TellsValue option value OutOfMemory = ⊤
+
+-- that nothing is given for this word
+abbrev pub TellsMissing : Text → LineFault → Type 0
+TellsMissing word (Help text) = ⊥
+TellsMissing word (Bad text) = string_bytes text ≡ missing_line word
+TellsMissing word OutOfMemory = ⊤
+
+-- of what was found for a command: a value that an option has is told, or a word for which nothing was found
+abbrev pub IsBlamed : List Row → LineFault → Type 0
+IsBlamed rows fault =
+    ((option : Text) × (value : Text) × (first_of option rows ≡ Some value) × TellsValue option value fault)
+    ⊎ ((word : Text) × (first_of word rows ≡ None) × TellsMissing word fault)
+
+-- no command has this name
+abbrev pub IsNoCommand : Text → Type 0
+IsNoCommand name = (name ≢ codes "check") × (name ≢ codes "metadata") × (name ≢ codes "trace") × (name ≢ codes "read")
+
+-- the same of the command that was found, and of one that is none, or of none, that the command is missing
+abbrev pub IsBlamedOf : Text → List Row → LineFault → Type 0
+IsBlamedOf name rows fault = IsBlamed rows fault ⊎ (IsNoCommand name × TellsMissing (codes "COMMAND") fault)
+
+abbrev pub IsBlamedBy : Option (Text × List Row) → LineFault → Type 0
+IsBlamedBy None fault = TellsMissing (codes "COMMAND") fault
+IsBlamedBy (Some found) fault = IsBlamedOf found.0 found.1 fault
+
+-- ---- the whole
 
 -- one of these kinds of refusal
 abbrev pub FitsOneOf : Kinds → LineFault → Type 0
 FitsOneOf kinds fault = (k : ErrorKind) × IsAmong k kinds × FitsKind k fault
 
--- what the program's words refuse of these; where they refuse nothing, a value is wrong, and help is not asked for
+-- what the program's words refuse of these; where they refuse nothing, a value is wrong or a word is missing
 abbrev pub IsFaultOfWords : List Text → LineFault → Type 0
 IsFaultOfWords words fault =
-    IsMemory fault ⊎ FitsOneOf (fault_of program words) fault ⊎ ((fault_of program words ≡ []) × IsNoHelp fault)
+    IsMemory fault ⊎ FitsOneOf (fault_of program words) fault ⊎ ((fault_of program words ≡ []) × IsBlamedBy (subcommand_of program words) fault)

@@ -4,7 +4,7 @@ ghost use Rattle.std.specs.Prelude.{◌≡◌, ◌⊎◌, ℕ, Bool, List, Optio
 ghost use Rattle.std.specs.Borrow.{Bor};
 ghost use Rattle.clap.specs.Words.{rows_of, found_of};
 ghost use Rattle.command_words.specs.CommandLine.{Asks, AsksBy, AsksTrace, AsksMetadata, AsksRead, HasWord, HasNumber, HasUuid, HasFlag, HasResuming, IsMemory};
-ghost use Rattle.command_words.specs.LineFaults.{IsFaultOfWords, IsNoHelp};
+ghost use Rattle.command_words.specs.LineFaults.{IsBlamed, IsBlamedOf, IsFaultOfWords, TellsMissing};
 ghost use Rattle.command_words.specs.declared.commands.Command.{Command as Wanted};
 ghost use Rattle.command_words.specs.declared.commands.TraceCommand.{TraceCommand as WantedTrace};
 ghost use Rattle.command_words.specs.declared.commands.MetadataCommand.{MetadataCommand as WantedMetadata};
@@ -16,7 +16,7 @@ use crate::commands::{
 };
 use crate::line_fault::{LineFault, line_fault};
 use crate::program_words::program;
-use crate::word_values::{identifier, number};
+use crate::word_values::{bad_value, identifier, number};
 use crate::worker_words::workers;
 use clap::ArgMatches;
 use std::alloc::Global;
@@ -49,7 +49,7 @@ fn named<'a>(
 ) -> Result<commands::Command<'a>, LineFault>
     ensures asks { IfOk result (λ c. AsksBy name.now (rows_of (found_of found.now)) c) }
     ensures refused { IfErr result (λ fault. IsMemory fault ⊎ ((c : Wanted) → AsksBy name.now (rows_of (found_of found.now)) c → ⊥)) }
-    ensures told { IfErr result IsNoHelp }
+    ensures told { IfErr result (IsBlamedOf name.now (rows_of (found_of found.now))) }
 {
     match name {
         "check" => Ok(commands::Command::Check(needed(alloc, found, "config")?)),
@@ -66,7 +66,7 @@ fn metadata_command<'a>(
 ) -> Result<MetadataCommand<'a>, LineFault>
     ensures asks { IfOk result (λ m. AsksMetadata (rows_of (found_of found.now)) m) }
     ensures refused { IfErr result (λ fault. IsMemory fault ⊎ ((m : WantedMetadata) → AsksMetadata (rows_of (found_of found.now)) m → ⊥)) }
-    ensures told { IfErr result IsNoHelp }
+    ensures told { IfErr result (IsBlamed (rows_of (found_of found.now))) }
 {
     let config = needed(alloc, found, "config")?;
     let uuid = identifier(alloc, found.get_str("uuid"))?;
@@ -76,7 +76,7 @@ fn metadata_command<'a>(
 fn trace_command<'a>(alloc: Global, found: &ArgMatches<'a>) -> Result<TraceCommand<'a>, LineFault>
     ensures asks { IfOk result (λ t. AsksTrace (rows_of (found_of found.now)) t) }
     ensures refused { IfErr result (λ fault. IsMemory fault ⊎ ((t : WantedTrace) → AsksTrace (rows_of (found_of found.now)) t → ⊥)) }
-    ensures told { IfErr result IsNoHelp }
+    ensures told { IfErr result (IsBlamed (rows_of (found_of found.now))) }
 {
     let config = needed(alloc, found, "config")?;
     let script = needed(alloc, found, "script")?;
@@ -103,7 +103,7 @@ fn trace_command<'a>(alloc: Global, found: &ArgMatches<'a>) -> Result<TraceComma
 fn read_command<'a>(alloc: Global, found: &ArgMatches<'a>) -> Result<ReadCommand<'a>, LineFault>
     ensures asks { IfOk result (λ r. AsksRead (rows_of (found_of found.now)) r) }
     ensures refused { IfErr result (λ fault. IsMemory fault ⊎ ((r : WantedRead) → AsksRead (rows_of (found_of found.now)) r → ⊥)) }
-    ensures told { IfErr result IsNoHelp }
+    ensures told { IfErr result (IsBlamed (rows_of (found_of found.now))) }
 {
     let folder = needed(alloc, found, "folder")?;
     let is_quiet = flag(alloc, found, "quiet")?;
@@ -114,7 +114,7 @@ fn read_command<'a>(alloc: Global, found: &ArgMatches<'a>) -> Result<ReadCommand
 fn resuming(alloc: Global, found: &ArgMatches<'_>) -> Result<Resuming, LineFault>
     ensures has { IfOk result (HasResuming (rows_of (found_of found.now))) }
     ensures refused { IfErr result (λ fault. IsMemory fault ⊎ ((r : WantedResuming) → HasResuming (rows_of (found_of found.now)) r → ⊥)) }
-    ensures told { IfErr result IsNoHelp }
+    ensures told { IfErr result (IsBlamed (rows_of (found_of found.now))) }
 {
     if flag(alloc, found, "resume")? {
         return Ok(Resuming::Behind);
@@ -126,7 +126,7 @@ fn resuming(alloc: Global, found: &ArgMatches<'_>) -> Result<Resuming, LineFault
 fn needed<'a>(alloc: Global, found: &ArgMatches<'a>, id: &str) -> Result<&'a str, LineFault>
     ensures has { IfOk result (λ word. HasWord (rows_of (found_of found.now)) id.now word) }
     ensures refused { IfErr result (λ fault. IsMemory fault ⊎ ((word : Bor (List ℕ)) → HasWord (rows_of (found_of found.now)) id.now word → ⊥)) }
-    ensures told { IfErr result IsNoHelp }
+    ensures told { IfErr result (IsBlamed (rows_of (found_of found.now))) }
 {
     match found.get_str(id) {
         Some(word) => Ok(word),
@@ -138,7 +138,7 @@ fn needed<'a>(alloc: Global, found: &ArgMatches<'a>, id: &str) -> Result<&'a str
 fn counted(alloc: Global, found: &ArgMatches<'_>, id: &str, most: u32) -> Result<u32, LineFault>
     ensures has { IfOk result (λ n. HasNumber (rows_of (found_of found.now)) id.now most n) }
     ensures refused { IfErr result (λ fault. IsMemory fault ⊎ ((n : ℕ) → HasNumber (rows_of (found_of found.now)) id.now most n → ⊥)) }
-    ensures told { IfErr result IsNoHelp }
+    ensures told { IfErr result (IsBlamed (rows_of (found_of found.now))) }
 {
     let word = needed(alloc, found, id)?;
     number(alloc, id, word, most)
@@ -148,18 +148,18 @@ fn counted(alloc: Global, found: &ArgMatches<'_>, id: &str, most: u32) -> Result
 pub fn flag(alloc: Global, found: &ArgMatches<'_>, id: &str) -> Result<bool, LineFault>
     ensures has { IfOk result (λ b. HasFlag (rows_of (found_of found.now)) id.now b) }
     ensures refused { IfErr result (λ fault. IsMemory fault ⊎ ((b : Bool) → HasFlag (rows_of (found_of found.now)) id.now b → ⊥)) }
-    ensures told { IfErr result IsNoHelp }
+    ensures told { IfErr result (IsBlamed (rows_of (found_of found.now))) }
 {
     match needed(alloc, found, id)? {
         "true" => Ok(true),
         "false" => Ok(false),
-        _ => Err(incomplete(alloc, id)),
+        word => Err(bad_value(alloc, id, word, "`true` or `false`")),
     }
 }
 
 /// That a word is missing.
 fn incomplete(alloc: Global, word: &str) -> LineFault
-    ensures { IsNoHelp result }
+    ensures { TellsMissing word.now result }
 {
     match format!(in alloc;
         "error: nothing is given for {word}\n\nFor more information, try '--help'.\n"

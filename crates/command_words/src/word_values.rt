@@ -1,8 +1,8 @@
 //! Words of the command line that say a number or an identifier.
 
-ghost use Rattle.std.specs.Prelude.{◌≡◌, ◌⊎◌, ℕ, List, Option, IfOk, IfErr, Some, option_map};
+ghost use Rattle.std.specs.Prelude.{◌≡◌, ◌⊎◌, ℕ, List, Option, IfOk, IfErr, Some, codes, option_map};
 ghost use Rattle.command_words.specs.CommandLine.{SaysNumber, IsMemory, uuid_said};
-ghost use Rattle.command_words.specs.LineFaults.{IsNoHelp};
+ghost use Rattle.command_words.specs.LineFaults.{TellsValue};
 
 use crate::line_fault::LineFault;
 use std::alloc::Global;
@@ -12,7 +12,7 @@ use uuid::Uuid;
 pub fn number(alloc: Global, option: &str, value: &str, most: u32) -> Result<u32, LineFault>
     ensures says { IfOk result (λ n. SaysNumber value.now most n) }
     ensures refused { IfErr result (λ fault. IsMemory fault ⊎ ((n : ℕ) → SaysNumber value.now most n → ⊥)) }
-    ensures told { IfErr result IsNoHelp }
+    ensures told { IfErr result (TellsValue option.now value.now) }
 {
     match value.parse::<u32>() {
         Ok(number) if 1 <= number && number <= most => Ok(number),
@@ -24,7 +24,7 @@ pub fn number(alloc: Global, option: &str, value: &str, most: u32) -> Result<u32
 pub fn identifier(alloc: Global, value: Option<&str>) -> Result<Option<Uuid>, LineFault>
     ensures says { IfOk result (λ u. uuid_said (option_map (λ s. s.now) value.entry) ≡ Some u) }
     ensures refused { IfErr result (λ fault. IsMemory fault ⊎ ((u : Option (List ℕ)) → uuid_said (option_map (λ s. s.now) value.entry) ≡ Some u → ⊥)) }
-    ensures told { IfErr result IsNoHelp }
+    ensures told { IfErr result (λ fault. (text : List ℕ) × (option_map (λ s. s.now) value.entry ≡ Some text) × TellsValue (codes "uuid") text fault) }
 {
     let Some(text) = value else {
         return Ok(None);
@@ -42,7 +42,7 @@ pub fn identifier(alloc: Global, value: Option<&str>) -> Result<Option<Uuid>, Li
 
 /// That the value of an option is no whole number from the least to the most.
 pub fn out_of_range(alloc: Global, option: &str, value: &str, least: u64, most: u64) -> LineFault
-    ensures { IsNoHelp result }
+    ensures { TellsValue option.now value.now result }
 {
     match format!(in alloc; "a whole number from {least} to {most}") {
         Ok(expected) => bad_value(alloc, option, value, expected.as_str()),
@@ -52,7 +52,7 @@ pub fn out_of_range(alloc: Global, option: &str, value: &str, least: u64, most: 
 
 /// That the value of an option says nothing of what is expected there.
 pub fn bad_value(alloc: Global, option: &str, value: &str, expected: &str) -> LineFault
-    ensures { IsNoHelp result }
+    ensures { TellsValue option.now value.now result }
 {
     match format!(in alloc;
         "error: invalid value '{value}' for '--{option}': expected {expected}\n\nFor more information, try '--help'.\n"

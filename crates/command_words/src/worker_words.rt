@@ -1,10 +1,10 @@
 //! The words of the command line that ask for workers.
 
-ghost use Rattle.std.specs.Prelude.{◌≡◌, ◌⊎◌, ◌^◌, ℕ, Option, IfOk, IfErr, option_map};
+ghost use Rattle.std.specs.Prelude.{◌≡◌, ◌⊎◌, ◌^◌, ℕ, List, Option, Some, IfOk, IfErr, codes, option_map};
 ghost use Rattle.clap.specs.Words.{first_of, found_of, rows_of};
 ghost use Rattle.command_words.specs.declared.quota.Quota.{Quota as WantedQuota};
 ghost use Rattle.command_words.specs.CommandLine.{HasWorkers, IsMemory, SaysBelow, SaysQuota};
-ghost use Rattle.command_words.specs.LineFaults.{IsNoHelp};
+ghost use Rattle.command_words.specs.LineFaults.{IsBlamed, TellsValue};
 
 use crate::command_line::flag;
 use crate::line_fault::LineFault;
@@ -23,7 +23,7 @@ const BOUND: u64 = 1 << 58;
 pub fn workers(alloc: Global, found: &ArgMatches<'_>) -> Result<Option<Quota>, LineFault>
     ensures has { IfOk result (λ q. HasWorkers (rows_of (found_of found.now)) q) }
     ensures refused { IfErr result (λ fault. IsMemory fault ⊎ ((q : Option WantedQuota) → HasWorkers (rows_of (found_of found.now)) q → ⊥)) }
-    ensures told { IfErr result IsNoHelp }
+    ensures told { IfErr result (IsBlamed (rows_of (found_of found.now))) }
 {
     let said = found.get_str("quota");
     if flag(alloc, found, "workers")? {
@@ -39,7 +39,7 @@ pub fn workers(alloc: Global, found: &ArgMatches<'_>) -> Result<Option<Quota>, L
 fn quota(alloc: Global, said: Option<&str>) -> Result<Quota, LineFault>
     ensures says { IfOk result (λ q. SaysQuota (option_map (λ s. s.now) said.entry) q.readings) }
     ensures refused { IfErr result (λ fault. IsMemory fault ⊎ ((n : ℕ) → SaysQuota (option_map (λ s. s.now) said.entry) n → ⊥)) }
-    ensures told { IfErr result IsNoHelp }
+    ensures told { IfErr result (λ fault. (text : List ℕ) × (option_map (λ s. s.now) said.entry ≡ Some text) × TellsValue (codes "quota") text fault) }
 {
     match said {
         None => Ok(Quota { readings: READINGS }),
@@ -51,7 +51,7 @@ fn quota(alloc: Global, said: Option<&str>) -> Result<Quota, LineFault>
 fn readings(alloc: Global, text: &str) -> Result<Quota, LineFault>
     ensures says { IfOk result (λ q. SaysBelow text.now (2 ^ 58) q.readings) }
     ensures refused { IfErr result (λ fault. IsMemory fault ⊎ ((n : ℕ) → SaysBelow text.now (2 ^ 58) n → ⊥)) }
-    ensures told { IfErr result IsNoHelp }
+    ensures told { IfErr result (TellsValue (codes "quota") text.now) }
 {
     match text.parse::<u64>() {
         Ok(readings) if readings < BOUND => Ok(Quota { readings }),

@@ -10,3 +10,7 @@ returns-in-Some-clause-has c = sym (first_value-rows (found_of c.args.found.now)
 pub returns-in-None-clause-refused : goal.returns-in-None-clause-refused
 returns-in-None-clause-refused c =
     inr (λ word h. none-some word.now (c.in-None.ensures ∙ first_value-rows (found_of c.args.found.now) c.args.id.now ∙ h))
+
+pub returns-in-None-clause-told : goal.returns-in-None-clause-told
+returns-in-None-clause-told c =
+    inr (c.args.id.now, sym (first_value-rows (found_of c.args.found.now) c.args.id.now) ∙ sym c.in-None.ensures, c.incomplete.ensures)

@@ -1,8 +1,8 @@
-use Rattle.std.proofs.Common.{◌≡◌, ◌∙◌, ◌^◌, ℕ, List, Option, Some, option_map, ap, sym, codes}
+use Rattle.std.proofs.Common.{◌≡◌, ◌∙◌, ◌^◌, ℕ, List, Option, Some, option_map, ap, sym, codes, inl}
 use Rattle.clap.specs.Words.{found_of, rows_of}
 use Rattle.clap.proofs.WalkLemmas.{first_value-rows}
 use Rattle.command_words.specs.CommandLine.{HasWord, HasNumber, HasFlag, HasResuming, HasWorkers, uuid_said, AsksTrace}
-use Rattle.command_words.proofs.CommandLineLaws.{handed_on}
+use Rattle.command_words.proofs.CommandLineLaws.{blame_on, handed_on}
 use Rattle.command_words.proofs.command_line.trace_command.Goals as goal
 
 pub returns-in_err-config-clause-refused : goal.returns-in_err-config-clause-refused
@@ -71,3 +71,10 @@ returns-clause-asks c = record {
   workers = c.in_ok-workers.ensures.has;
   resume = c.in_ok-resume.ensures.has;
 }
+
+pub returns-in_err-uuid-clause-told : goal.returns-in_err-uuid-clause-told
+returns-in_err-uuid-clause-told c =
+    let told = c.in_err-uuid.ensures.told in
+    let found = sym (c.get_str.ensures ∙ first_value-rows (found_of c.args.found.now) (codes "uuid")) ∙ told.1 in
+    blame_on c.from_residual-in_err-uuid.result c.in_err-uuid.field-0.0 (rows_of (found_of c.args.found.now)) c.from_residual-in_err-uuid.ensures.1
+    (inl (codes "uuid", told.0, found, told.2))

@@ -1,8 +1,8 @@
-use Rattle.std.proofs.Common.{◌∙◌, inr, Bool, Option, option_map, sym, subst, codes}
+use Rattle.std.proofs.Common.{◌∙◌, inl, inr, Bool, Option, option_map, sym, subst, codes}
 use Rattle.clap.specs.Words.{found_of, rows_of, Text}
 use Rattle.clap.proofs.WalkLemmas.{first_value-rows}
 use Rattle.command_words.specs.CommandLine.{HasFlag, HasWorkers, SaysQuota}
-use Rattle.command_words.proofs.CommandLineLaws.{handed_on, no_workers, workers_flag, workers_quota}
+use Rattle.command_words.proofs.CommandLineLaws.{blame_on, handed_on, no_workers, workers_flag, workers_quota}
 use Rattle.command_words.proofs.worker_words.workers.Goals as goal
 
 pub returns-in_err-flag-clause-refused : goal.returns-in_err-flag-clause-refused
@@ -37,3 +37,14 @@ returns-in-Some-clause-refused c =
     let rows = rows_of (found_of c.args.found.now) in
     let has = subst (λ (b : Bool). HasFlag rows (codes "workers") b) c.if-branch.false c.in_ok-flag.ensures.has in
     inr (λ q h. no_workers rows c.in-Some.text.now q has (sym (first_value-rows (found_of c.args.found.now) (codes "quota")) ∙ sym c.in-Some.ensures) h)
+
+pub returns-in_err-quota-clause-told : goal.returns-in_err-quota-clause-told
+returns-in_err-quota-clause-told c =
+    let told = c.in_err-quota.ensures.told in
+    let found = sym (c.get_str-said.ensures ∙ first_value-rows (found_of c.args.found.now) (codes "quota")) ∙ told.1 in
+    blame_on c.from_residual-in_err-quota.result c.in_err-quota.field-0.0 (rows_of (found_of c.args.found.now)) c.from_residual-in_err-quota.ensures.1
+    (inl (codes "quota", told.0, found, told.2))
+
+pub returns-in-Some-clause-told : goal.returns-in-Some-clause-told
+returns-in-Some-clause-told c =
+    inl (codes "quota", c.in-Some.text.now, sym (first_value-rows (found_of c.args.found.now) (codes "quota")) ∙ sym c.in-Some.ensures, c.bad_value.ensures)
