@@ -9,29 +9,56 @@ use Rattle.clap.specs.declared.error.Error.{Error}
 use Rattle.clap.specs.declared.error.kind.ErrorKind.TheVariants as kind
 use Rattle.clap.proofs.OnLiterals.{clap_on_literals}
 use Rattle.command_words.specs.declared.commands.Command.{Command}
+use Rattle.command_words.specs.declared.commands.Command.TheVariants.{FirstPath, Check, Metadata, Trace, Read}
 use Rattle.command_words.specs.declared.line_fault.LineFault.{LineFault}
 use Rattle.command_words.specs.ProgramWords.{program}
 use Rattle.command_words.specs.declared.quota.Quota.{Quota}
 use Rattle.command_words.specs.CommandLine.{IsMemory, Asks, AsksBy, AsksCommand, HasFlag, HasResuming, HasWorkers, SaysQuota, uuid_said}
 use Rattle.command_words.specs.declared.commands.Resuming.{Resuming}
 use Rattle.command_words.specs.declared.commands.Resuming.TheVariants.{Anew, Behind}
-use Rattle.command_words.specs.LineFaults.{FitsKind, IsBlamed, IsFaultOfWords, TellsValue}
+use Rattle.command_words.specs.LineFaults.{AreAlike, FitsKind, IsBlamed, IsBlamedOf, IsFaultOfWords, IsNoCommand, TellsPart, TellsValue}
 
 -- memory ran out, or nothing has the property
 abbrev pub Refuses : {A : Type 0} → LineFault → (A → Type 0) → Type 0
 Refuses {A} fault P = IsMemory fault ⊎ ((x : A) → P x → ⊥)
 
--- a part that nothing can be refuses what needs it
-pub refused_by : {A B : Type 0} (fault : LineFault) (P : A → Type 0) (Q : B → Type 0) → Refuses fault P → ((y : B) → Q y → (x : A) × P x) → Refuses fault Q
-refused_by fault P Q (inl memory) part = inl memory
-refused_by fault P Q (inr none) part = inr (λ y q. none (part y q).0 (part y q).1)
+-- ---- what is blamed
+
+-- for what needs it, the same part is wrong
+blamed_for : {A B : Type 0} (P : List Row → A → Type 0) (Q : List Row → B → Type 0) (rows : List Row) (fault : LineFault) → IsBlamed P rows fault
+    → ((others : List Row) (y : B) → Q others y → (x : A) × P others x) → IsBlamed Q rows fault
+blamed_for P Q rows fault (inl memory) needs = inl memory
+blamed_for P Q rows fault (inr b) needs = inr (b.0, (λ others y alike q. b.1 others (needs others y q).0 alike (needs others y q).1), b.2)
 
 -- the same where the refusal is handed on
-pub handed_on : {T A B : Type 0} (r : Result T LineFault) (fault : LineFault) (P : A → Type 0) (Q : B → Type 0) → IsErrAnd r (λ e. e ≡ fault) → Refuses fault P
-    → ((y : B) → Q y → (x : A) × P x) → IfErr r (λ e. Refuses e Q)
-handed_on {T} r fault P Q h refuses part =
+pub blame_on : {T A B : Type 0} (r : Result T LineFault) (fault : LineFault) (P : List Row → A → Type 0) (Q : List Row → B → Type 0) (rows : List Row)
+    → IsErrAnd r (λ e. e ≡ fault) → IsBlamed P rows fault → ((others : List Row) (y : B) → Q others y → (x : A) × P others x) → IfErr r (IsBlamed Q rows)
+blame_on {T} r fault P Q rows h blamed needs =
     let p = err_from_is_err_and r h in
-    subst (λ (x : Result T LineFault). IfErr x (λ e. Refuses e Q)) (sym p.1) (subst (λ (e : LineFault). Refuses e Q) (sym p.2) (refused_by fault P Q refuses part))
+    subst (λ (x : Result T LineFault). IfErr x (IsBlamed Q rows)) (sym p.1) (subst (IsBlamed Q rows) (sym p.2) (blamed_for P Q rows fault blamed needs))
+
+-- a value that says nothing
+pub blamed_value : {A B : Type 0} (fault : LineFault) (rows : List Row) (part value : Text) (Says : B → Type 0) (Q : List Row → A → Type 0)
+    → first_of part rows ≡ Some value → TellsValue part value fault → Refuses fault Says
+    → ((others : List Row) (x : A) → AreAlike part rows others → Q others x → (y : B) × Says y) → IsBlamed Q rows fault
+blamed_value fault rows part value Says Q found told (inl memory) needs = inl memory
+blamed_value fault rows part value Says Q found told (inr none) needs = inr (
+  part,
+  (λ others x alike q. none (needs others x alike q).0 (needs others x alike q).1),
+  subst (λ (o : Option Text). TellsPart part o fault) (sym found) told,
+)
+
+-- what holds of a refusal in both ways
+pub of_refusal : {T : Type 0} {P Q R : LineFault → Type 0} (r : Result T LineFault) → ((fault : LineFault) → P fault → Q fault → R fault) → IfErr r P → IfErr r Q → IfErr r R
+of_refusal (Ok x) f p q = tt
+of_refusal (Err fault) f p q = f fault p q
+
+no_command : (name : Text) (rows : List Row) (c : Command) → IsNoCommand name → AsksBy name rows c → ⊥
+no_command name rows FirstPath none a = a
+no_command name rows (Check config) none a = none.0 a.0
+no_command name rows (Metadata m) none a = none.1 a.0
+no_command name rows (Trace t) none a = none.2 a.0
+no_command name rows (Read r) none a = none.3 a.0
 
 -- ---- words
 
@@ -52,6 +79,13 @@ pub asked_by : (words : List Text) (c : Command) (name : Text) (rows : List Row)
 asked_by words c name rows h found a =
     let k = asked_command words c h a in
     subst (λ (p : Text × List Row). AsksBy p.0 p.1 c) (same_Some _ _ (sym k.found ∙ found)) k.asks
+
+-- what is blamed refuses the words
+pub blamed_refuses : (words : List Text) (name : Text) (rows : List Row) (fault : LineFault) → 0 < length words → subcommand_of program words ≡ Some (name, rows)
+    → IsBlamedOf name rows fault → Refuses fault (Asks words)
+blamed_refuses words name rows fault some found (inl (inl memory)) = inl memory
+blamed_refuses words name rows fault some found (inl (inr b)) = inr (λ c a. b.1 rows c (refl, refl) (asked_by words c name rows some found a))
+blamed_refuses words name rows fault some found (inr unknown) = inr (λ c a. no_command name rows c unknown.0 (asked_by words c name rows some found a))
 
 -- where the parser fails, the words ask for nothing
 pub parser_refuses : (words : List Text) (e : Error) (fault : LineFault) → 0 < length words → (kind_of e ≡ kind.OutOfMemory → IsMemory fault)
@@ -93,25 +127,6 @@ bad_uuid (Some t) text u e unread h = go (parsed t.now) refl h
     go : (o : Option (List ℕ)) → parsed t.now ≡ o → option_map (λ v. Some v) o ≡ Some u → ⊥
     go None p h = none-some u h
     go (Some v) p h = none v p
-
--- ---- what is told
-
--- of a value that was found
-pub tells_found : {T : Type 0} (r : Result T LineFault) (rows : List Row) (option : Text) (value : Option Text) → value ≡ first_of option rows
-    → IfErr r (λ fault. (text : Text) × (value ≡ Some text) × TellsValue option text fault) → IfErr r (IsBlamed rows)
-tells_found (Ok x) rows option value e h = tt
-tells_found (Err fault) rows option value e h = inl (option, h.0, sym e ∙ h.1, h.2)
-
-pub tells_word : {T : Type 0} (r : Result T LineFault) (rows : List Row) (option value : Text) → first_of option rows ≡ Some value
-    → IfErr r (TellsValue option value) → IfErr r (IsBlamed rows)
-tells_word (Ok x) rows option value e h = tt
-tells_word (Err fault) rows option value e h = inl (option, value, e, h)
-
--- the same where the refusal is handed on
-pub blame_on : {T : Type 0} (r : Result T LineFault) (fault : LineFault) (rows : List Row) → IsErrAnd r (λ e. e ≡ fault) → IsBlamed rows fault → IfErr r (IsBlamed rows)
-blame_on {T} r fault rows h blamed =
-    let p = err_from_is_err_and r h in
-    subst (λ (x : Result T LineFault). IfErr x (IsBlamed rows)) (sym p.1) (subst (IsBlamed rows) (sym p.2) blamed)
 
 -- ---- workers
 

@@ -5,7 +5,7 @@ use Rattle.clap.specs.declared.error.kind.ErrorKind.{ErrorKind}
 use Rattle.clap.specs.declared.error.kind.ErrorKind.TheVariants as kind
 use Rattle.command_words.specs.declared.line_fault.LineFault.{LineFault}
 use Rattle.command_words.specs.declared.line_fault.LineFault.TheVariants.{Help, Bad, OutOfMemory}
-use Rattle.command_words.specs.CommandLine.{IsMemory}
+use Rattle.command_words.specs.CommandLine.{IsMemory, AsksBy}
 use Rattle.command_words.specs.ProgramWords.{program}
 
 -- help or the version is asked for
@@ -20,15 +20,15 @@ FitsKind k OutOfMemory = ⊤
 
 -- ---- a value that is wrong, or a word that is missing
 
-abbrev pub hint : Text
-hint = codes "\n\nFor more information, try '--help'.\n"
+abbrev pub help_hint : Text
+help_hint = codes "\n\nFor more information, try '--help'.\n"
 
 abbrev pub value_line : Text → Text → Text → Text
 value_line option value expected =
-    codes "error: invalid value '" ++ (value ++ (codes "' for '--" ++ (option ++ (codes "': expected " ++ (expected ++ hint)))))
+    codes "error: invalid value '" ++ (value ++ (codes "' for '--" ++ (option ++ (codes "': expected " ++ (expected ++ help_hint)))))
 
 abbrev pub missing_line : Text → Text
-missing_line word = codes "error: nothing is given for " ++ (word ++ hint)
+missing_line word = codes "error: nothing is given for " ++ (word ++ help_hint)
 
 -- this value of this option is told, and what was expected in its place
 abbrev pub TellsValue : Text → Text → LineFault → Type 0
@@ -42,11 +42,22 @@ TellsMissing word (Help text) = ⊥
 TellsMissing word (Bad text) = string_bytes text ≡ missing_line word
 TellsMissing word OutOfMemory = ⊤
 
--- of what was found for a command: a value that an option has is told, or a word for which nothing was found
-abbrev pub IsBlamed : List Row → LineFault → Type 0
-IsBlamed rows fault =
-    ((option : Text) × (value : Text) × (first_of option rows ≡ Some value) × TellsValue option value fault)
-    ⊎ ((word : Text) × (first_of word rows ≡ None) × TellsMissing word fault)
+-- what was found for this part of a command is told: its value, or that there is none
+abbrev pub TellsPart : Text → Option Text → LineFault → Type 0
+TellsPart part None fault = TellsMissing part fault
+TellsPart part (Some value) fault = TellsValue part value fault
+
+-- the same was found for this part, and workers are asked for in both or in neither
+abbrev pub AreAlike : Text → List Row → List Row → Type 0
+AreAlike part rows others = (first_of part others ≡ first_of part rows) × (first_of (codes "workers") others ≡ first_of (codes "workers") rows)
+
+-- with what was found for this part nothing of the kind is asked for, whatever was found for the others
+abbrev pub IsUnfit : {A : Type 0} → (List Row → A → Type 0) → List Row → Text → Type 0
+IsUnfit {A} Asks rows part = (others : List Row) (x : A) → AreAlike part rows others → Asks others x → ⊥
+
+-- a part that is wrong is told, or memory ran out
+abbrev pub IsBlamed : {A : Type 0} → (List Row → A → Type 0) → List Row → LineFault → Type 0
+IsBlamed Asks rows fault = IsMemory fault ⊎ ((part : Text) × IsUnfit Asks rows part × TellsPart part (first_of part rows) fault)
 
 -- no command has this name
 abbrev pub IsNoCommand : Text → Type 0
@@ -54,7 +65,7 @@ IsNoCommand name = (name ≢ codes "check") × (name ≢ codes "metadata") × (n
 
 -- the same of the command that was found, and of one that is none, or of none, that the command is missing
 abbrev pub IsBlamedOf : Text → List Row → LineFault → Type 0
-IsBlamedOf name rows fault = IsBlamed rows fault ⊎ (IsNoCommand name × TellsMissing (codes "COMMAND") fault)
+IsBlamedOf name rows fault = IsBlamed (AsksBy name) rows fault ⊎ (IsNoCommand name × TellsMissing (codes "COMMAND") fault)
 
 abbrev pub IsBlamedBy : Option (Text × List Row) → LineFault → Type 0
 IsBlamedBy None fault = TellsMissing (codes "COMMAND") fault

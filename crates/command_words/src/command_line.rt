@@ -1,15 +1,10 @@
 //! What the words of a command line ask for.
 
-ghost use Rattle.std.specs.Prelude.{◌≡◌, ◌⊎◌, ℕ, Bool, List, Option, map, IfOk, IfErr};
-ghost use Rattle.std.specs.Borrow.{Bor};
+ghost use Rattle.std.specs.Prelude.{◌⊎◌, map, IfOk, IfErr};
 ghost use Rattle.clap.specs.Words.{rows_of, found_of};
 ghost use Rattle.command_words.specs.CommandLine.{Asks, AsksBy, AsksTrace, AsksMetadata, AsksRead, HasWord, HasNumber, HasUuid, HasFlag, HasResuming, IsMemory};
 ghost use Rattle.command_words.specs.LineFaults.{IsBlamed, IsBlamedOf, IsFaultOfWords, TellsMissing};
 ghost use Rattle.command_words.specs.declared.commands.Command.{Command as Wanted};
-ghost use Rattle.command_words.specs.declared.commands.TraceCommand.{TraceCommand as WantedTrace};
-ghost use Rattle.command_words.specs.declared.commands.MetadataCommand.{MetadataCommand as WantedMetadata};
-ghost use Rattle.command_words.specs.declared.commands.ReadCommand.{ReadCommand as WantedRead};
-ghost use Rattle.command_words.specs.declared.commands.Resuming.{Resuming as WantedResuming};
 
 use crate::commands::{
     self, MOST_BUFFERS, MOST_PACKET_BYTES, MetadataCommand, ReadCommand, Resuming, TraceCommand,
@@ -20,6 +15,7 @@ use crate::word_values::{bad_value, identifier, number};
 use crate::worker_words::workers;
 use clap::ArgMatches;
 use std::alloc::Global;
+use uuid::Uuid;
 
 /// The command that the words ask for, without the program's own name; no words ask for the first path. A refusal has the text to print:
 /// help and the version are asked for, and go to standard output; all else is a bad line.
@@ -48,8 +44,7 @@ fn named<'a>(
     found: &ArgMatches<'a>,
 ) -> Result<commands::Command<'a>, LineFault>
     ensures asks { IfOk result (λ c. AsksBy name.now (rows_of (found_of found.now)) c) }
-    ensures refused { IfErr result (λ fault. IsMemory fault ⊎ ((c : Wanted) → AsksBy name.now (rows_of (found_of found.now)) c → ⊥)) }
-    ensures told { IfErr result (IsBlamedOf name.now (rows_of (found_of found.now))) }
+    ensures blamed { IfErr result (IsBlamedOf name.now (rows_of (found_of found.now))) }
 {
     match name {
         "check" => Ok(commands::Command::Check(needed(alloc, found, "config")?)),
@@ -65,25 +60,23 @@ fn metadata_command<'a>(
     found: &ArgMatches<'a>,
 ) -> Result<MetadataCommand<'a>, LineFault>
     ensures asks { IfOk result (λ m. AsksMetadata (rows_of (found_of found.now)) m) }
-    ensures refused { IfErr result (λ fault. IsMemory fault ⊎ ((m : WantedMetadata) → AsksMetadata (rows_of (found_of found.now)) m → ⊥)) }
-    ensures told { IfErr result (IsBlamed (rows_of (found_of found.now))) }
+    ensures blamed { IfErr result (IsBlamed AsksMetadata (rows_of (found_of found.now))) }
 {
     let config = needed(alloc, found, "config")?;
-    let uuid = identifier(alloc, found.get_str("uuid"))?;
+    let uuid = identified(alloc, found)?;
     Ok(MetadataCommand { config, uuid })
 }
 
 fn trace_command<'a>(alloc: Global, found: &ArgMatches<'a>) -> Result<TraceCommand<'a>, LineFault>
     ensures asks { IfOk result (λ t. AsksTrace (rows_of (found_of found.now)) t) }
-    ensures refused { IfErr result (λ fault. IsMemory fault ⊎ ((t : WantedTrace) → AsksTrace (rows_of (found_of found.now)) t → ⊥)) }
-    ensures told { IfErr result (IsBlamed (rows_of (found_of found.now))) }
+    ensures blamed { IfErr result (IsBlamed AsksTrace (rows_of (found_of found.now))) }
 {
     let config = needed(alloc, found, "config")?;
     let script = needed(alloc, found, "script")?;
     let folder = needed(alloc, found, "folder")?;
     let packet_bytes = counted(alloc, found, "packet", MOST_PACKET_BYTES)?;
     let buffers = counted(alloc, found, "buffers", MOST_BUFFERS)?;
-    let uuid = identifier(alloc, found.get_str("uuid"))?;
+    let uuid = identified(alloc, found)?;
     let is_quiet = flag(alloc, found, "quiet")?;
     let workers = workers(alloc, found)?;
     let resume = resuming(alloc, found)?;
@@ -102,8 +95,7 @@ fn trace_command<'a>(alloc: Global, found: &ArgMatches<'a>) -> Result<TraceComma
 
 fn read_command<'a>(alloc: Global, found: &ArgMatches<'a>) -> Result<ReadCommand<'a>, LineFault>
     ensures asks { IfOk result (λ r. AsksRead (rows_of (found_of found.now)) r) }
-    ensures refused { IfErr result (λ fault. IsMemory fault ⊎ ((r : WantedRead) → AsksRead (rows_of (found_of found.now)) r → ⊥)) }
-    ensures told { IfErr result (IsBlamed (rows_of (found_of found.now))) }
+    ensures blamed { IfErr result (IsBlamed AsksRead (rows_of (found_of found.now))) }
 {
     let folder = needed(alloc, found, "folder")?;
     let is_quiet = flag(alloc, found, "quiet")?;
@@ -113,8 +105,7 @@ fn read_command<'a>(alloc: Global, found: &ArgMatches<'a>) -> Result<ReadCommand
 /// Whether a trace is to go on in its folder.
 fn resuming(alloc: Global, found: &ArgMatches<'_>) -> Result<Resuming, LineFault>
     ensures has { IfOk result (HasResuming (rows_of (found_of found.now))) }
-    ensures refused { IfErr result (λ fault. IsMemory fault ⊎ ((r : WantedResuming) → HasResuming (rows_of (found_of found.now)) r → ⊥)) }
-    ensures told { IfErr result (IsBlamed (rows_of (found_of found.now))) }
+    ensures blamed { IfErr result (IsBlamed HasResuming (rows_of (found_of found.now))) }
 {
     if flag(alloc, found, "resume")? {
         return Ok(Resuming::Behind);
@@ -125,8 +116,7 @@ fn resuming(alloc: Global, found: &ArgMatches<'_>) -> Result<Resuming, LineFault
 /// The word that was found for a place.
 fn needed<'a>(alloc: Global, found: &ArgMatches<'a>, id: &str) -> Result<&'a str, LineFault>
     ensures has { IfOk result (λ word. HasWord (rows_of (found_of found.now)) id.now word) }
-    ensures refused { IfErr result (λ fault. IsMemory fault ⊎ ((word : Bor (List ℕ)) → HasWord (rows_of (found_of found.now)) id.now word → ⊥)) }
-    ensures told { IfErr result (IsBlamed (rows_of (found_of found.now))) }
+    ensures blamed { IfErr result (IsBlamed (λ rows word. HasWord rows id.now word) (rows_of (found_of found.now))) }
 {
     match found.get_str(id) {
         Some(word) => Ok(word),
@@ -137,18 +127,24 @@ fn needed<'a>(alloc: Global, found: &ArgMatches<'a>, id: &str) -> Result<&'a str
 /// The number that was found for an option.
 fn counted(alloc: Global, found: &ArgMatches<'_>, id: &str, most: u32) -> Result<u32, LineFault>
     ensures has { IfOk result (λ n. HasNumber (rows_of (found_of found.now)) id.now most n) }
-    ensures refused { IfErr result (λ fault. IsMemory fault ⊎ ((n : ℕ) → HasNumber (rows_of (found_of found.now)) id.now most n → ⊥)) }
-    ensures told { IfErr result (IsBlamed (rows_of (found_of found.now))) }
+    ensures blamed { IfErr result (IsBlamed (λ rows n. HasNumber rows id.now most n) (rows_of (found_of found.now))) }
 {
     let word = needed(alloc, found, id)?;
     number(alloc, id, word, most)
 }
 
+/// The identifier that was found, if one is given.
+fn identified(alloc: Global, found: &ArgMatches<'_>) -> Result<Option<Uuid>, LineFault>
+    ensures has { IfOk result (HasUuid (rows_of (found_of found.now))) }
+    ensures blamed { IfErr result (IsBlamed HasUuid (rows_of (found_of found.now))) }
+{
+    identifier(alloc, found.get_str("uuid"))
+}
+
 /// Whether a flag was found.
 pub fn flag(alloc: Global, found: &ArgMatches<'_>, id: &str) -> Result<bool, LineFault>
     ensures has { IfOk result (λ b. HasFlag (rows_of (found_of found.now)) id.now b) }
-    ensures refused { IfErr result (λ fault. IsMemory fault ⊎ ((b : Bool) → HasFlag (rows_of (found_of found.now)) id.now b → ⊥)) }
-    ensures told { IfErr result (IsBlamed (rows_of (found_of found.now))) }
+    ensures blamed { IfErr result (IsBlamed (λ rows b. HasFlag rows id.now b) (rows_of (found_of found.now))) }
 {
     match needed(alloc, found, id)? {
         "true" => Ok(true),

@@ -2,7 +2,6 @@
 
 ghost use Rattle.std.specs.Prelude.{◌≡◌, ◌⊎◌, ◌^◌, ℕ, List, Option, Some, IfOk, IfErr, codes, option_map};
 ghost use Rattle.clap.specs.Words.{first_of, found_of, rows_of};
-ghost use Rattle.command_words.specs.declared.quota.Quota.{Quota as WantedQuota};
 ghost use Rattle.command_words.specs.CommandLine.{HasWorkers, IsMemory, SaysBelow, SaysQuota};
 ghost use Rattle.command_words.specs.LineFaults.{IsBlamed, TellsValue};
 
@@ -22,8 +21,7 @@ const BOUND: u64 = 1 << 58;
 /// The quota of each worker, where workers are asked for. A quota without workers is refused.
 pub fn workers(alloc: Global, found: &ArgMatches<'_>) -> Result<Option<Quota>, LineFault>
     ensures has { IfOk result (λ q. HasWorkers (rows_of (found_of found.now)) q) }
-    ensures refused { IfErr result (λ fault. IsMemory fault ⊎ ((q : Option WantedQuota) → HasWorkers (rows_of (found_of found.now)) q → ⊥)) }
-    ensures told { IfErr result (IsBlamed (rows_of (found_of found.now))) }
+    ensures blamed { IfErr result (IsBlamed HasWorkers (rows_of (found_of found.now))) }
 {
     let said = found.get_str("quota");
     if flag(alloc, found, "workers")? {

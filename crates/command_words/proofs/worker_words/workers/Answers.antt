@@ -1,24 +1,27 @@
-use Rattle.std.proofs.Common.{◌∙◌, inl, inr, Bool, Option, option_map, sym, subst, codes}
-use Rattle.clap.specs.Words.{found_of, rows_of, Text}
+use Rattle.std.proofs.Common.{◌∙◌, inr, Bool, List, Option, option_map, sym, subst, codes}
+use Rattle.clap.specs.Words.{found_of, rows_of, Row, Text}
 use Rattle.clap.proofs.WalkLemmas.{first_value-rows}
 use Rattle.command_words.specs.CommandLine.{HasFlag, HasWorkers, SaysQuota}
-use Rattle.command_words.proofs.CommandLineLaws.{blame_on, handed_on, no_workers, workers_flag, workers_quota}
+use Rattle.command_words.specs.LineFaults.{TellsPart}
+use Rattle.command_words.proofs.CommandLineLaws.{blame_on, blamed_value, no_workers, workers_flag, workers_quota}
 use Rattle.command_words.proofs.worker_words.workers.Goals as goal
 
-pub returns-in_err-flag-clause-refused : goal.returns-in_err-flag-clause-refused
-returns-in_err-flag-clause-refused c =
-    let rows = rows_of (found_of c.args.found.now) in
-    handed_on c.from_residual.result c.in_err-flag.field-0.0 (HasFlag rows (codes "workers")) (HasWorkers rows)
-    c.from_residual.ensures.1 c.in_err-flag.ensures.refused (workers_flag rows)
+pub returns-in_err-flag-clause-blamed : goal.returns-in_err-flag-clause-blamed
+returns-in_err-flag-clause-blamed c =
+    blame_on c.from_residual.result c.in_err-flag.field-0.0 (λ (rows : List Row) (b : Bool). HasFlag rows (codes "workers") b) HasWorkers (rows_of (found_of c.args.found.now))
+    c.from_residual.ensures.1 c.in_err-flag.ensures.blamed workers_flag
 
-pub returns-in_err-quota-clause-refused : goal.returns-in_err-quota-clause-refused
-returns-in_err-quota-clause-refused c =
+pub returns-in_err-quota-clause-blamed : goal.returns-in_err-quota-clause-blamed
+returns-in_err-quota-clause-blamed c =
     let rows = rows_of (found_of c.args.found.now) in
     let said = option_map (λ s. s.now) c.get_str-said.result in
-    let has = subst (λ (b : Bool). HasFlag rows (codes "workers") b) c.if-branch.true c.in_ok-flag.ensures.has in
-    handed_on c.from_residual-in_err-quota.result c.in_err-quota.field-0.0 (SaysQuota said) (HasWorkers rows)
-    c.from_residual-in_err-quota.ensures.1 c.in_err-quota.ensures.refused
-    (λ q h. workers_quota rows said q (c.get_str-said.ensures ∙ first_value-rows (found_of c.args.found.now) (codes "quota")) has h)
+    let found = c.get_str-said.ensures ∙ first_value-rows (found_of c.args.found.now) (codes "quota") in
+    let on = subst (λ (b : Bool). HasFlag rows (codes "workers") b) c.if-branch.true c.in_ok-flag.ensures.has in
+    let told = c.in_err-quota.ensures.told in
+    blame_on c.from_residual-in_err-quota.result c.in_err-quota.field-0.0 HasWorkers HasWorkers rows c.from_residual-in_err-quota.ensures.1
+    (blamed_value c.in_err-quota.field-0.0 rows (codes "quota") told.0 (SaysQuota said) HasWorkers (sym found ∙ told.1) told.2 c.in_err-quota.ensures.refused
+    (λ others q alike has. workers_quota others said q (found ∙ sym alike.0) (alike.1 ∙ on) has))
+    (λ others q has. (q, has))
 
 pub returns-then-branch-clause-has : goal.returns-then-branch-clause-has
 returns-then-branch-clause-has c = (
@@ -32,19 +35,13 @@ returns-in-None-clause-has c = (
   sym (first_value-rows (found_of c.args.found.now) (codes "quota")) ∙ sym c.in-None.ensures,
 )
 
-pub returns-in-Some-clause-refused : goal.returns-in-Some-clause-refused
-returns-in-Some-clause-refused c =
+pub returns-in-Some-clause-blamed : goal.returns-in-Some-clause-blamed
+returns-in-Some-clause-blamed c =
     let rows = rows_of (found_of c.args.found.now) in
-    let has = subst (λ (b : Bool). HasFlag rows (codes "workers") b) c.if-branch.false c.in_ok-flag.ensures.has in
-    inr (λ q h. no_workers rows c.in-Some.text.now q has (sym (first_value-rows (found_of c.args.found.now) (codes "quota")) ∙ sym c.in-Some.ensures) h)
-
-pub returns-in_err-quota-clause-told : goal.returns-in_err-quota-clause-told
-returns-in_err-quota-clause-told c =
-    let told = c.in_err-quota.ensures.told in
-    let found = sym (c.get_str-said.ensures ∙ first_value-rows (found_of c.args.found.now) (codes "quota")) ∙ told.1 in
-    blame_on c.from_residual-in_err-quota.result c.in_err-quota.field-0.0 (rows_of (found_of c.args.found.now)) c.from_residual-in_err-quota.ensures.1
-    (inl (codes "quota", told.0, found, told.2))
-
-pub returns-in-Some-clause-told : goal.returns-in-Some-clause-told
-returns-in-Some-clause-told c =
-    inl (codes "quota", c.in-Some.text.now, sym (first_value-rows (found_of c.args.found.now) (codes "quota")) ∙ sym c.in-Some.ensures, c.bad_value.ensures)
+    let off = subst (λ (b : Bool). HasFlag rows (codes "workers") b) c.if-branch.false c.in_ok-flag.ensures.has in
+    let said = sym (first_value-rows (found_of c.args.found.now) (codes "quota")) ∙ sym c.in-Some.ensures in
+    inr (
+      codes "quota",
+      (λ others q alike has. no_workers others c.in-Some.text.now q (alike.1 ∙ off) (alike.0 ∙ said) has),
+      subst (λ (o : Option Text). TellsPart (codes "quota") o c.bad_value.result) (sym said) c.bad_value.ensures,
+    )
