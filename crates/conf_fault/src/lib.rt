@@ -20,3 +20,4 @@ mod yaml;
 pub use explanation::explain_fault;
 pub use json_front::json_place;
 pub use line_column::LineColumn;
+pub use shown::{on_one_line, push_cut};

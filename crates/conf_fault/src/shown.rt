@@ -10,7 +10,7 @@ use std::alloc::{AllocError, Global};
 const MOST_CHARACTERS: usize = 60;
 
 /// Adds a text, or its first characters and three dots.
-pub(crate) fn push_cut(said: &mut String, text: &str) -> Result<(), AllocError>
+pub fn push_cut(said: &mut String, text: &str) -> Result<(), AllocError>
     ensures { OnOk result (string_bytes said.new ≡ string_bytes said.old ++ cut text.now) }
 {
     let mut count = 0usize;
@@ -25,7 +25,7 @@ pub(crate) fn push_cut(said: &mut String, text: &str) -> Result<(), AllocError>
 }
 
 /// The text on one line: newline, tab and the other control bytes by what stands for them in C.
-pub(crate) fn on_one_line(alloc: Global, text: &str) -> Result<String, AllocError>
+pub fn on_one_line(alloc: Global, text: &str) -> Result<String, AllocError>
     ensures bytes { IfOk result (λ line. string_bytes line ≡ shown text.now) }
     ensures one_line { IfOk result (λ line. IsOneLine (string_bytes line)) }
 {
