@@ -8,11 +8,12 @@ use Rattle.trace_stack.specs.declared.event.Event.{Event}
 use Rattle.trace_text.specs.declared.script.Script.{Script}
 use Rattle.trace_text.specs.declared.script.ScriptStream.{ScriptStream}
 use Rattle.trace_text.specs.declared.script_fault.ScriptFault.{ScriptFault}
+use Rattle.trace_text.specs.declared.script_lists.FaultyList.TheVariants.{Streams, Events}
 use Rattle.trace_text.specs.declared.script_fault.ScriptFaultKind.{ScriptFaultKind}
 use Rattle.trace_text.specs.declared.script_fault.ScriptFaultKind.TheVariants.{Shape}
 use Rattle.trace_text.specs.Script.{SayAll, SaysScript, IsScriptOf, lists_in}
 use Rattle.trace_text.specs.ScriptEntries.{SaysStream, SaysEvent}
-use Rattle.trace_text.specs.ScriptFaults.{stream_fault, event_fault, entry_fault, first_fault, IsScriptFault, IsFirstFault}
+use Rattle.trace_text.specs.ScriptFaults.{stream_fault, event_fault, entry_fault, first_fault, LiesIn, IsScriptFault, IsFirstFault}
 use Rattle.trace_text.specs.ScriptReading.{◌>>=◌, wanted, at_entry, entries_from, entry_reading, stream_reading, event_reading, script_reading, GivesAll, IsMemory}
 use Rattle.trace_text.proofs.StepLaws.{same_ok, bound}
 use Rattle.trace_text.proofs.StreamLaws.{stream_says, stream_only, stream_judged}
@@ -129,6 +130,44 @@ pub script_refused : (c : Config) (d : Data) (fault : ScriptFault) → script_re
 unfolding script_reading
 script_refused c d fault h = refused_lists c d fault (lists_in d) refl h
 
+-- ---- the list of the first fault
+
+-- of two the one that is left
+pub other_one : {M R : Type 0} → M ⊎ R → (M → ⊥) → R
+other_one (inl m) never = absurd (never m)
+other_one (inr r) never = r
+
+judged_streams : (c : Config) (ds : Items) → first_fault (stream_fault c) 0 ds ≡ result_err (entries_from (entry_reading (stream_reading c)) [] 0 ds)
+judged_streams c ds = entries_judged (entry_reading (stream_reading c)) (stream_fault c) (stream_judged c) [] 0 ds
+
+same_streams : (d : Data) (streams events others more : Items) → wanted Shape (lists_in d) ≡ Ok (streams, events) → lists_in d ≡ Some (others, more) → others ≡ streams
+same_streams d streams events others more form other =
+    let same : (others, more) ≡ (streams, events) = let k : Some (others, more) ≡ Some (streams, events) = sym other ∙ found (lists_in d) (streams, events) form in cc in
+    ap (λ (l : Items × Items). l.0) same
+
+there : {X : Type 0} (o : Option X) (x : X) → wanted Shape o ≡ Ok x → o ≡ None → ⊥
+there o x h none = let k : None ≡ Some x = sym none ∙ found o x h in cc
+
+-- where all streams are read, it is an event's
+pub in_events : (c : Config) (d : Data) (streams events : Items) (ss : List ScriptStream) → wanted Shape (lists_in d) ≡ Ok (streams, events)
+    → entries_from (entry_reading (stream_reading c)) [] 0 streams ≡ Ok ss → (fault : ScriptFault) → IsScriptFault c d fault → LiesIn c d Events fault
+in_events c d streams events ss form read fault (inl p) = absurd (there (lists_in d) (streams, events) form p.0)
+in_events c d streams events ss form read fault (inr (inl p)) =
+    let same = same_streams d streams events p.0 p.1 form p.2 in
+    let read_so = ap (λ l. entries_from (entry_reading (stream_reading c)) [] 0 l) same ∙ read in
+    absurd (let k : Some fault ≡ None = sym p.3 ∙ judged_streams c p.0 ∙ ap result_err read_so in cc)
+in_events c d streams events ss form read fault (inr (inr p)) = p
+
+-- and else a stream's
+pub in_streams : (c : Config) (d : Data) (streams events : Items) (refusal : ScriptFault) → wanted Shape (lists_in d) ≡ Ok (streams, events)
+    → entries_from (entry_reading (stream_reading c)) [] 0 streams ≡ Err refusal → (fault : ScriptFault) → IsScriptFault c d fault → LiesIn c d Streams fault
+in_streams c d streams events refusal form read fault (inl p) = absurd (there (lists_in d) (streams, events) form p.0)
+in_streams c d streams events refusal form read fault (inr (inl p)) = p
+in_streams c d streams events refusal form read fault (inr (inr p)) =
+    let same = same_streams d streams events p.0 p.1 form p.3 in
+    let all = entries_only (entry_reading (stream_reading c)) (SaysStream c) (stream_only c) [] 0 p.0 p.2 p.4 in
+    absurd (let k : Ok p.2 ≡ Err refusal = sym all ∙ ap (λ l. entries_from (entry_reading (stream_reading c)) [] 0 l) same ∙ read in cc)
+
 -- ---- a text
 
 same_some : {A : Type 0} (x y : A) → Some x ≡ Some y → x ≡ y
@@ -137,6 +176,11 @@ same_some x y h = cc
 -- a text is one value
 pub one_value : (text : List ℕ) (d e : Data) → Reads text d → Reads text e → d ≡ e
 one_value text d e p q = same_some d e (sym p.1 ∙ q.1)
+
+-- the first fault of a text is that of its value
+pub of_value : (c : Config) (text : List ℕ) (d : Data) (fault : ScriptFault) → Reads text d → IsFirstFault c text fault → IsScriptFault c d fault
+of_value c text d fault reads (inl p) = absurd (p.0 d reads)
+of_value c text d fault reads (inr p) = subst (λ (e : Data). IsScriptFault c e fault) (one_value text p.0 d p.1 reads) p.2
 
 -- a text of a value that says a script is that script's, and no other's
 pub text_only : (c : Config) (text : List ℕ) (d : Data) (s : Script) → Reads text d → IsScriptOf c text s → script_reading c d ≡ Ok s

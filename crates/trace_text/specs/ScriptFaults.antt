@@ -14,6 +14,8 @@ use Rattle.trace_text.specs.declared.script.ScriptStream.{ScriptStream}
 use Rattle.trace_text.specs.declared.script_fault.ScriptFault.{ScriptFault}
 use Rattle.trace_text.specs.declared.script_fault.ScriptFaultKind.{ScriptFaultKind}
 use Rattle.trace_text.specs.declared.script_fault.ScriptFaultKind.TheVariants.{NotJson, Shape, NoSuchStream, NoSuchEvent, BadValue}
+use Rattle.trace_text.specs.declared.script_lists.FaultyList.{FaultyList}
+use Rattle.trace_text.specs.declared.script_lists.FaultyList.TheVariants.{Neither, Streams, Events}
 use Rattle.trace_text.specs.declared.script_object.ScriptObject.TheVariants.{Stream, Tracing}
 use Rattle.trace_text.specs.Script.{SayAll, lists_in}
 use Rattle.trace_text.specs.ScriptEntries.{has_only, text_in, list_in, readings_of, type_named, script_stream_named, event_named, doing_in, SaysStream}
@@ -107,12 +109,15 @@ abbrev pub first_fault : (Data → Option ScriptFaultKind) → ℕ → Items →
 first_fault F i no_items = None
 first_fault F i (item d ds) = entry_fault i (F d) (first_fault F (suc i) ds)
 
--- the first fault of a value: its form; else that of the first entry of a stream; else, where all streams are said, that of the first entry of an event
+-- the first fault of a value lies in its form; else in the first entry of a stream that has one; else, where all streams are said, in that of an event
+abbrev pub LiesIn : Config → Data → FaultyList → ScriptFault → Type 0
+LiesIn c d Neither fault = (lists_in d ≡ None) × (fault ≡ record { at = 0; kind = Shape })
+LiesIn c d Streams fault = (streams events : Items) × (lists_in d ≡ Some (streams, events)) × (first_fault (stream_fault c) 0 streams ≡ Some fault)
+LiesIn c d Events fault =
+    (streams events : Items) × (ss : List ScriptStream) × (lists_in d ≡ Some (streams, events)) × SayAll (SaysStream c) streams ss × (first_fault (event_fault c ss) 0 events ≡ Some fault)
+
 abbrev pub IsScriptFault : Config → Data → ScriptFault → Type 0
-IsScriptFault c d fault =
-    ((lists_in d ≡ None) × (fault ≡ record { at = 0; kind = Shape }))
-    ⊎ (((streams events : Items) × (lists_in d ≡ Some (streams, events)) × (first_fault (stream_fault c) 0 streams ≡ Some fault))
-    ⊎ ((streams events : Items) × (ss : List ScriptStream) × (lists_in d ≡ Some (streams, events)) × SayAll (SaysStream c) streams ss × (first_fault (event_fault c ss) 0 events ≡ Some fault)))
+IsScriptFault c d fault = LiesIn c d Neither fault ⊎ (LiesIn c d Streams fault ⊎ LiesIn c d Events fault)
 
 -- the first fault of a text
 abbrev pub IsFirstFault : Config → List ℕ → ScriptFault → Type 0

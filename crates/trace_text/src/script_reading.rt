@@ -58,7 +58,7 @@ fn read_value(alloc: Global, config: &Config, value: &Value) -> Result<Script, S
 }
 
 /// The entries of the streams and those of the events.
-fn lists_in(value: &Value) -> Result<(&[Value], &[Value]), ScriptFaultKind>
+pub(crate) fn lists_in(value: &Value) -> Result<(&[Value], &[Value]), ScriptFaultKind>
     ensures { Gives (λ l. (items_view l.0.now, items_view l.1.now)) result (wanted Shape (lists_in_of (view value.now))) }
 {
     let members = properties(value)?;
@@ -68,7 +68,7 @@ fn lists_in(value: &Value) -> Result<(&[Value], &[Value]), ScriptFaultKind>
     Ok((streams, events))
 }
 
-fn read_streams(
+pub(crate) fn read_streams(
     alloc: Global,
     config: &Config,
     entries: &[Value],
