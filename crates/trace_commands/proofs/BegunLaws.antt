@@ -1,5 +1,5 @@
 -- The streams of a script, each with its point, and their faults.
-use Rattle.std.proofs.Common.{◌≡◌, ◌≤◌, ℕ, ◌+◌, zero, suc, Bool, true, false, List, [], ◌∷◌, ◌++◌, Option, None, Some, map, length, take, drop, take_all, refl, sym, subst, ap, ap₂, ◌∙◌, arith}
+use Rattle.std.proofs.Common.{◌≡◌, ◌≤◌, ◌<◌, ℕ, ◌+◌, zero, suc, Bool, true, false, List, [], ◌∷◌, ◌++◌, Option, None, Some, map, length, length-append, take, drop, take_all, refl, sym, subst, ap, ap₂, ◌∙◌, arith}
 use Rattle.std.proofs.lemmas.Bool.{eqb-true}
 use Rattle.std.proofs.lemmas.Bool.Decides.{nat_tests}
 use Rattle.std.proofs.lemmas.List.{length-map}
@@ -125,6 +125,15 @@ bad_one c bytes ss i s fault right at bad = record {
   none_before = right;
   first = bad;
 }
+
+-- it is one of the script's
+pub bad_there : (c : Config) (bytes : ℕ) (ss : List ScriptStream) (ps : List (Option ResumePoint)) (number : ℕ) → length ps ≡ length ss
+    → IsBadStream c bytes (zip ss ps) number → number < length ss
+bad_there c bytes ss ps number e bad =
+    let parts = ap (λ (l : List Begun). length l) bad.there ∙ length-append bad.before (bad.stream ∷ bad.behind) in
+    let place = bad.place in
+    let long = length_begun ss ps e in
+    omega (arith, parts, place, long)
 
 pub right_more : (c : Config) (bytes : ℕ) (ss : List Begun) (i : ℕ) (s : Begun) → AreRight c bytes (take i ss) → slice_get ss i ≡ Some s → fault_of c bytes s ≡ None
     → AreRight c bytes (take (i + 1) ss)

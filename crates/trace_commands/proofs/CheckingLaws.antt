@@ -6,7 +6,7 @@ use Rattle.conf_tree.specs.declared.fault.ConfFault.{ConfFault}
 use Rattle.conf_tree.specs.Flaw.{flaw_of, IsMemory}
 use Rattle.conf_check.specs.Configuration.{IsRefusal, RefusedForMemory}
 use Rattle.trace_commands.specs.Checking.{IsRefused, hint, hint_by, hint_line}
-use Rattle.trace_commands.specs.Shown.{fault_line}
+use Rattle.trace_commands.specs.FaultLines.{fault_line}
 
 -- what would be said, and is not
 pub unsaid : {M : Type 0} (b : Bool) → b ≡ false → (M → b ≡ true) → M → ⊥

@@ -14,7 +14,7 @@ use Rattle.tsdl_grammar.specs.Denotes.{Denotes}
 use Rattle.tsdl_writer.specs.Written.{written}
 use Rattle.trace_commands.specs.declared.judged.Judged.{Judged}
 use Rattle.trace_commands.specs.declared.judged.Judged.TheVariants.{Right, Refused}
-use Rattle.trace_commands.specs.Shown.{fault_line}
+use Rattle.trace_commands.specs.FaultLines.{fault_line}
 
 -- the text is no configuration, since this fault tells of its first flaw
 pub record IsRefused (text : List ℕ) (number : Option (List ℕ)) (fault : ConfFault) : Type 0 where

@@ -8,7 +8,7 @@ use Rattle.packet_reader.specs.declared.packet_fault.StreamEnding.TheVariants.{W
 use Rattle.packet_reader.specs.declared.read_streams.ReadStream.{ReadStream}
 use Rattle.trace_platform.specs.Fronts.{AppendsLess}
 use Rattle.trace_text.specs.declared.printing_from.PrintedFile.{PrintedFile}
-use Rattle.trace_commands.specs.Shown.{fault_line}
+use Rattle.trace_commands.specs.FaultLines.{fault_line}
 use Rattle.trace_commands.specs.Telling.{IsMemoryLine, SaysLine}
 
 -- the path of a file in a folder

@@ -2,12 +2,13 @@ pub mod AnswerLines
 pub mod Begun
 pub mod Checking
 pub mod Ends
+pub mod FaultLines
 pub mod ListSessions
 pub mod Reading
 pub mod Resuming
 pub mod Running
+pub mod ScriptLines
 pub mod Settling
-pub mod Shown
 pub mod Telling
 pub mod Tracing
 pub mod Workers

@@ -21,7 +21,7 @@ use Rattle.trace_text.specs.ReadingFaults.{StopsAt}
 use Rattle.trace_text.specs.declared.reading_fault.ReadingFault.{ReadingFault}
 use Rattle.trace_text.specs.declared.reading_fault.ReadingFault.TheVariants.{Reader, Writer, TooManyRecords, OutOfMemory as NoMemory}
 use Rattle.trace_commands.specs.Ends.{AreLines, path_in, status_of, stream_line}
-use Rattle.trace_commands.specs.Shown.{fault_line}
+use Rattle.trace_commands.specs.FaultLines.{fault_line}
 use Rattle.trace_commands.specs.Telling.{ErrorsStopped, IsLineOf, IsMemoryLine, IsOutputLine, SaysFailure, SaysLine, Told, ToldWhole, WasGiven}
 
 -- ---- the files of a folder

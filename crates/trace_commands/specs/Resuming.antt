@@ -1,6 +1,6 @@
 -- A folder in which a trace is to go on: what its metadata and the files of a script's streams have to be, by what the readers of the files that were opened
 -- had to give. Which path a file was opened under, and that no file is there, no reader tells.
-use Rattle.std.specs.Prelude.{◌≡◌, ◌≢◌, ◌⊎◌, ℕ, false, List, Option, None, Some, length, slice_get}
+use Rattle.std.specs.Prelude.{◌≡◌, ◌≢◌, ◌⊎◌, ℕ, false, List, Option, None, Some, codes, length, slice_get}
 use Rattle.std.specs.List.{All}
 use Rattle.ctf_types.specs.declared.Config.{Config}
 use Rattle.ctf_types.specs.declared.Metadata.{Metadata}
@@ -17,13 +17,13 @@ use Rattle.trace_commands.specs.declared.found_folder.NotResumed.{NotResumed}
 use Rattle.trace_commands.specs.declared.found_folder.NotResumed.TheVariants.{Refused, Failed}
 use Rattle.trace_commands.specs.Ends.{IsEndLine, is_whole, path_in}
 use Rattle.trace_commands.specs.Reading.{IsPathIn, metadata_name}
-use Rattle.trace_commands.specs.Shown.{IsFaultLine}
+use Rattle.trace_commands.specs.FaultLines.{fault_line}
 use Rattle.trace_commands.specs.Telling.{FailsAt, WasGiven}
 
--- a line of this path is said, or its file failed, or memory was wanting
-abbrev pub RefusesAt : List ℕ → NotResumed → Type 0
-RefusesAt path (Refused line) = IsFaultLine path line.items
-RefusesAt path (Failed failure) = FailsAt (λ failed. failed ≡ path) failure
+-- this is said of the path, or its file failed, or memory was wanting
+abbrev pub RefusesAt : List ℕ → List ℕ → NotResumed → Type 0
+RefusesAt path said (Refused line) = line.items ≡ fault_line path said
+RefusesAt path said (Failed failure) = FailsAt (λ failed. failed ≡ path) failure
 
 -- what was read of a file does not end whole, which a line of it says; or the folder or a file in it failed, or memory was wanting
 abbrev pub RefusesEnd : List ℕ → ReadStream → NotResumed → Type 0
@@ -37,14 +37,14 @@ module _ {File : Type 0} (remaining : File → Option (List ℕ)) where
   abbrev pub HasMetadata : Config → Type 0
   HasMetadata c = WasGiven remaining (written c) × Denotes (written c) (metadata_of c)
 
-  -- another text is there, or no file
-  abbrev pub IsOther : List ℕ → Option (List ℕ) → Type 0
-  IsOther wanted None = Unit {0}
-  IsOther wanted (Some text) = WasGiven remaining text × (text ≢ wanted)
+  -- no file is there, or another text, which is said
+  abbrev pub IsOther : List ℕ → Option (List ℕ) → List ℕ → Type 0
+  IsOther wanted None said = said ≡ codes "no metadata is there"
+  IsOther wanted (Some text) said = WasGiven remaining text × (text ≢ wanted) × (said ≡ codes "not the metadata of the configuration")
 
-  -- which a line of its file says
   abbrev pub HasOtherMetadata : List ℕ → List ℕ → List ℕ → Type 0
-  HasOtherMetadata folder wanted line = (text : Option (List ℕ)) × IsOther wanted text × IsFaultLine (path_in folder metadata_name) line
+  HasOtherMetadata folder wanted line =
+      (text : Option (List ℕ)) × (said : List ℕ) × IsOther wanted text said × (line ≡ fault_line (path_in folder metadata_name) said)
 
   -- ---- stream files
 

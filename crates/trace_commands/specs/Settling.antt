@@ -5,7 +5,7 @@ use Rattle.packet_collector.specs.declared.finish_answer.FinishAnswer.{FinishAns
 use Rattle.packet_collector.specs.declared.finish_answer.FinishAnswer.TheVariants.{Settled}
 use Rattle.trace_text.specs.declared.script.ScriptStream.{ScriptStream}
 use Rattle.trace_commands.specs.Ends.{path_in}
-use Rattle.trace_commands.specs.Shown.{fault_line}
+use Rattle.trace_commands.specs.FaultLines.{fault_line}
 
 -- all streams settled: the sink of each took all its packets
 abbrev pub AllSettled : List FinishAnswer → Type 0

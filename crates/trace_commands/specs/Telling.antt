@@ -8,7 +8,7 @@ use Rattle.command_words.specs.declared.line_fault.LineFault.TheVariants.{Help, 
 use Rattle.number_packets.specs.declared.numbers.Answer.{Answer}
 use Rattle.trace_commands.specs.declared.failure.Failure.{Failure}
 use Rattle.trace_commands.specs.declared.failure.Failure.TheVariants.{File as FileFailed, OutOfMemory as NoMemory}
-use Rattle.trace_commands.specs.Shown.{IsFaultLine}
+use Rattle.trace_commands.specs.FaultLines.{IsFaultLine}
 
 -- ---- the lines of what failed
 

@@ -5,7 +5,6 @@
 -- streams; these are known by what their readers had to give. Which path a file was opened under, that no file is there, and what becomes of a file
 -- that is not opened, no reader and no writer tells.
 use Rattle.std.specs.Prelude.{◌≡◌, ◌⊎◌, ℕ, true, List, [], ◌∷◌, ◌++◌, Option, None, Some, codes, length, map}
-use Rattle.std.specs.Fmt.{decimal}
 use Rattle.std.specs.List.{All}
 use Rattle.std.specs.Io.KnownBytes.{Appends}
 use Rattle.ctf_types.specs.declared.Config.{Config}
@@ -26,10 +25,8 @@ use Rattle.trace_stack.specs.declared.worker.Worker.{Worker}
 use Rattle.trace_stack.specs.Workers.{ThreadsRan}
 use Rattle.trace_text.specs.declared.script.Script.{Script}
 use Rattle.trace_text.specs.declared.script.ScriptStream.{ScriptStream}
-use Rattle.trace_text.specs.declared.script_fault.ScriptFault.{ScriptFault}
 use Rattle.trace_text.specs.Names.{first_refused}
 use Rattle.trace_text.specs.Script.{IsScriptOf}
-use Rattle.trace_text.specs.ScriptFaults.{IsFirstFault}
 use Rattle.tsdl_grammar.specs.Denotes.{Denotes}
 use Rattle.tsdl_writer.specs.Written.{written}
 use Rattle.command_words.specs.declared.commands.Resuming.{Resuming}
@@ -45,8 +42,9 @@ use Rattle.trace_commands.specs.Checking.{IsFaultOf}
 use Rattle.trace_commands.specs.ListSessions.{IsRecording}
 use Rattle.trace_commands.specs.Reading.{IsPathIn}
 use Rattle.trace_commands.specs.Resuming.{HasBroken, HasMetadata, HasOtherMetadata, HasPoint}
+use Rattle.trace_commands.specs.ScriptLines.{IsBadScript, IsStreamLine}
 use Rattle.trace_commands.specs.Settling.{SaysSettling}
-use Rattle.trace_commands.specs.Shown.{IsFaultLine, fault_line}
+use Rattle.trace_commands.specs.FaultLines.{IsFaultLine, fault_line}
 use Rattle.trace_commands.specs.Telling.{IsToldWith, WasGiven}
 use Rattle.trace_commands.specs.Workers.{AreWorkers, IsSharedBy, stream_lines}
 
@@ -59,23 +57,8 @@ IsTracePath t path = (path ≡ t.config.now) ⊎ (path ≡ t.script.now) ⊎ IsP
 
 -- ---- refusals: nothing is printed, one line says the fault, and the status is 1
 
-abbrev pub IsSaid : List ℕ → List ℕ → List ℕ → ℕ → Type 0
-IsSaid path output errors status = (output ≡ []) × IsFaultLine path errors × (status ≡ 1)
-
--- what is said of the stream of this number
-abbrev pub of_stream : ℕ → List ℕ → List ℕ
-of_stream number said = codes "streams/" ++ (decimal number ++ (codes ": " ++ said))
-
-abbrev pub IsStreamLine : List ℕ → ℕ → List ℕ → Type 0
-IsStreamLine script number line = (said : List ℕ) × (line ≡ fault_line script (of_stream number said))
-
-abbrev pub IsSaidOf : List ℕ → ℕ → List ℕ → List ℕ → ℕ → Type 0
-IsSaidOf script number output errors status = (output ≡ []) × IsStreamLine script number errors × (status ≡ 1)
-
--- the text has this first fault as a script of the configuration
-pub record IsBadScript (c : Config) (text : List ℕ) : Type 0 where
-  pub fault : ScriptFault
-  pub first : IsFirstFault c text fault
+abbrev pub IsSaidOfStream : List ℕ → Script → ℕ → List ℕ → List ℕ → ℕ → Type 0
+IsSaidOfStream file s number output errors status = (output ≡ []) × IsStreamLine file s number errors × (status ≡ 1)
 
 abbrev pub stream_names : Script → List (List ℕ)
 stream_names s = map (λ (x : ScriptStream). x.name) s.streams
@@ -116,7 +99,11 @@ RefusesOne c bytes streams OutOfMemory = Unit {0}
 -- a line of the script speaks of the first stream that is not begun
 abbrev pub TellsBadStream : TraceCommand → Config → Script → List (Option ResumePoint) → List ℕ → List ℕ → ℕ → Type 0
 TellsBadStream t c s points output errors status =
-    (number : ℕ) × IsBadStream c t.packet_bytes (begun s points) number × IsSaidOf t.script.now number output errors status
+    (number : ℕ) × IsBadStream c t.packet_bytes (begun s points) number × IsSaidOfStream t.script.now s number output errors status
+
+-- that the clock has not all numbers that the workers may read
+abbrev pub no_room_line : List ℕ → List ℕ
+no_room_line folder = fault_line folder (codes "the readings of all workers pass the clock's last number")
 
 -- ---- a run
 
@@ -202,7 +189,7 @@ module _ {File : Type 0} (contents : File → Option (List ℕ)) where
       pub points : List (Option ResumePoint)
       pub one_each : length points ≡ length s.streams
       pub each : All (HasPoint remaining (metadata_of c)) points
-      pub streams : ((HasRoom t.workers (length s.streams) (largest_floor points) → ⊥) × IsSaid t.folder.now output errors status)
+      pub streams : ((HasRoom t.workers (length s.streams) (largest_floor points) → ⊥) × (output ≡ []) × (errors ≡ no_room_line t.folder.now) × (status ≡ 1))
           ⊎ TellsStreams t.workers t c s points output errors status
 
     abbrev pub TellsFolder : Resuming → TraceCommand → Config → Script → List ℕ → List ℕ → ℕ → Type 0
@@ -216,13 +203,13 @@ module _ {File : Type 0} (contents : File → Option (List ℕ)) where
     -- of a script: its names, and then its folder and its streams
     abbrev pub TellsScript : TraceCommand → Config → Script → List ℕ → List ℕ → ℕ → Type 0
     TellsScript t c s output errors status =
-        ((number : ℕ) × IsBadName s number × IsSaidOf t.script.now number output errors status)
+        ((number : ℕ) × IsBadName s number × IsSaidOfStream t.script.now s number output errors status)
         ⊎ (AreFree s × TellsFolder t.resume t c s output errors status)
 
     -- of the text of a script's file
     abbrev pub TellsText : TraceCommand → Config → List ℕ → List ℕ → List ℕ → ℕ → Type 0
     TellsText t c text output errors status =
-        (IsBadScript c text × IsSaid t.script.now output errors status)
+        (IsBadScript t.script.now c text errors × (output ≡ []) × (status ≡ 1))
         ⊎ ((s : Script) × IsScriptOf c text s × TellsScript t c s output errors status)
 
     -- of a configuration: the script's file is read

@@ -78,8 +78,8 @@ fn hint(alloc: Global, path: &str, config: &Config) -> Result<Vec<u8>, AllocErro
         Some(_) => Ok(Vec::new(alloc)),
         None => fault_line(
             alloc,
-            path.as_bytes(),
-            b"hint: trace/type/$features/data-stream-type-id-field-type is off: babeltrace2 does not read such a trace".as_slice(),
+            path,
+            "hint: trace/type/$features/data-stream-type-id-field-type is off: babeltrace2 does not read such a trace",
         ),
     }
 }

@@ -59,7 +59,7 @@ fn packet_line(
     let path = path_in(alloc, folder, name)?;
     let packet = packets as u128 + 1;
     let said = format!(in alloc; "packet {packet}, byte {place}: {said}")?;
-    fault_line(alloc, path.as_bytes(), said.as_bytes())
+    fault_line(alloc, path.as_str(), said.as_str())
 }
 
 /// The status by how stream files end.

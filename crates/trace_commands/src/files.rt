@@ -60,7 +60,7 @@ pub fn fail_at<E: Write>(alloc: Global, path: &str, fault: &FileFault, errors: &
     let Ok(said) = format!(in alloc; "{fault}") else {
         return fail(errors, OUT_OF_MEMORY);
     };
-    match fault_line(alloc, path.as_bytes(), said.as_bytes()) {
+    match fault_line(alloc, path, said.as_str()) {
         Ok(line) => fail(errors, line.as_slice()),
         Err(_) => fail(errors, OUT_OF_MEMORY),
     }

@@ -34,7 +34,7 @@ pub fn judge(
             if fault.is_memory() {
                 return Err(AllocError);
             }
-            let line = configuration_line(alloc, path.as_bytes(), text, &fault)?;
+            let line = configuration_line(alloc, path, text, &fault)?;
             Ok(Judged::Refused(refusal(alloc, line)))
         }
     }

@@ -26,7 +26,6 @@ mod script_lines;
 mod script_workers;
 mod settling;
 mod shared_clock;
-mod shown;
 mod trace_command;
 mod trace_folder;
 mod worker_lines;

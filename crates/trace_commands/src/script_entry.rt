@@ -1,149 +1,117 @@
-//! What stands where a script has a fault, by the JSON that its text is, and the names that there are.
+//! What is said of the entry where a script has a fault, by the JSON that its text is, and the names that there are.
 
-use crate::fault_lines::push_name;
+ghost use Rattle.std.specs.Prelude.{◌≡◌, ℕ, List, IfOk, string_bytes};
+ghost use Rattle.conf_tree.specs.Walk.{Reads};
+ghost use Rattle.serde_json.specs.View.{view};
+ghost use Rattle.trace_text.specs.ScriptFaults.{IsFirstFault};
+ghost use Rattle.trace_commands.specs.ScriptLines.{SaysEntry, of_entry};
+
 use crate::script_form::{push_event_property, push_property, push_value};
+use conf_fault::push_cut;
 use ctf_types::{Config, StreamType};
 use serde_json::Value;
 use std::alloc::{AllocError, Global};
-use trace_text::{ScriptFault, ScriptFaultKind, ScriptObject, read_script};
+use trace_text::{FaultyList, ScriptFault, ScriptFaultKind, ScriptObject, faulty_list};
 
 /// Where a script has a fault.
 #[derive(Clone, Copy)]
-enum Place<'v> {
-    /// In no entry.
-    Whole,
-    Stream(&'v Value),
-    Event(&'v Value),
+struct Place<'v> {
+    list: FaultyList,
+    /// The entry of the list, or the whole script.
+    value: &'v Value,
 }
 
-/// Adds where a script that is JSON has this fault, of an object of another form also the property, what stands there, what is wrong with it, and of an unknown
-/// name those that there are.
-pub fn push_fault(
+/// What is said of the first fault of a script's value: the number of the entry, of an object of another form also the property, what stands there, what is wrong
+/// with it, and of an unknown name those that there are.
+pub fn said_of_fault(
     alloc: Global,
-    said: &mut Vec<u8>,
-    config: &Config,
-    text: &[u8],
-    fault: &ScriptFault,
-) -> Result<(), AllocError> {
-    match Value::from_slice(alloc, text) {
-        Ok(script) => push_fault_in(alloc, said, config, &script, fault),
-        Err(_) => Err(AllocError),
-    }
-}
-
-fn push_fault_in(
-    alloc: Global,
-    said: &mut Vec<u8>,
     config: &Config,
     script: &Value,
     fault: &ScriptFault,
+) -> Result<String, AllocError>
+    ensures { IfOk result (λ said. (text : List ℕ) → Reads text (view script.now) → IsFirstFault config.now text fault.now → SaysEntry config.now (view script.now) fault.now (string_bytes said)) }
+{
+    let list = faulty_list(alloc, config, script)?;
+    let place = Place {
+        list,
+        value: entry_in(script, list, fault.at),
+    };
+    let mut said = String::new(alloc);
+    push_wrong(alloc, &mut said, config, script, &place, fault.kind)?;
+    placed(alloc, list, fault.at, said.as_str())
+}
+
+/// This, behind the place of the entry of this number in a list, if it is in one.
+pub fn placed(
+    alloc: Global,
+    list: FaultyList,
+    number: usize,
+    said: &str,
+) -> Result<String, AllocError>
+    ensures { IfOk result (λ placed. string_bytes placed ≡ of_entry list number said.now) }
+{
+    match list {
+        FaultyList::Neither => String::from_str(alloc, said),
+        FaultyList::Streams => format!(in alloc; "streams/{number}: {said}"),
+        FaultyList::Events => format!(in alloc; "events/{number}: {said}"),
+    }
+}
+
+/// The entry of this number in a list of the script, or the script.
+fn entry_in<'v>(script: &'v Value, list: FaultyList, number: usize) -> &'v Value {
+    let entry = match list {
+        FaultyList::Neither => None,
+        FaultyList::Streams => entries(script, "streams").get(number),
+        FaultyList::Events => entries(script, "events").get(number),
+    };
+    entry.unwrap_or(script)
+}
+
+fn push_wrong(
+    alloc: Global,
+    said: &mut String,
+    config: &Config,
+    script: &Value,
+    place: &Place<'_>,
+    kind: ScriptFaultKind,
 ) -> Result<(), AllocError> {
-    let place = faulty_place(alloc, config, script, fault)?;
-    push_place(alloc, said, &place, fault.at)?;
-    if fault.kind == ScriptFaultKind::Shape && push_form(alloc, said, script, &place)? {
+    if kind == ScriptFaultKind::Shape && push_form(alloc, said, place)? {
         return Ok(());
     }
-    push_blamed(alloc, said, script, &place, fault.kind)?;
-    let kind = format!(in alloc; ": {}", fault.kind)?;
-    said.extend_from_slice(kind.as_bytes())?;
-    push_known(alloc, said, config, script, &place, fault.kind)
+    push_blamed(alloc, said, place, kind)?;
+    let kind_words = format!(in alloc; ": {kind}")?;
+    said.push_str(kind_words.as_str())?;
+    push_known(alloc, said, config, script, place, kind)
 }
 
 /// Adds the property at which a script is of another form. Where the object itself is none, nothing is added, and the answer is false.
-fn push_form(
-    alloc: Global,
-    said: &mut Vec<u8>,
-    script: &Value,
-    place: &Place<'_>,
-) -> Result<bool, AllocError> {
-    match place {
-        Place::Whole => push_property(alloc, said, script, ScriptObject::Whole),
-        Place::Stream(entry) => push_property(alloc, said, *entry, ScriptObject::Stream),
-        Place::Event(entry) => push_event_property(alloc, said, *entry),
+fn push_form(alloc: Global, said: &mut String, place: &Place<'_>) -> Result<bool, AllocError> {
+    match place.list {
+        FaultyList::Neither => push_property(alloc, said, place.value, ScriptObject::Whole),
+        FaultyList::Streams => push_property(alloc, said, place.value, ScriptObject::Stream),
+        FaultyList::Events => push_event_property(alloc, said, place.value),
     }
-}
-
-/// The entry that has the fault: that of a stream, where the streams alone have one.
-fn faulty_place<'v>(
-    alloc: Global,
-    config: &Config,
-    script: &'v Value,
-    fault: &ScriptFault,
-) -> Result<Place<'v>, AllocError> {
-    let Some((streams, events)) = lists_in(script) else {
-        return Ok(Place::Whole);
-    };
-    let list = if are_faulty(alloc, config, streams)? {
-        streams.get(fault.at).map(Place::Stream)
-    } else {
-        events.get(fault.at).map(Place::Event)
-    };
-    Ok(list.unwrap_or(Place::Whole))
-}
-
-/// The lists of a script's streams and events, where it has these and nothing else.
-fn lists_in(script: &Value) -> Option<(&Value, &Value)> {
-    let streams = script.get("streams")?;
-    let events = script.get("events")?;
-    if streams.is_array() && events.is_array() && script.as_object()?.len() == 2 {
-        Some((streams, events))
-    } else {
-        None
-    }
-}
-
-/// Whether a script of these streams without events has a fault.
-fn are_faulty(alloc: Global, config: &Config, streams: &Value) -> Result<bool, AllocError> {
-    let text = format!(in alloc; "{{\"streams\":{streams},\"events\":[]}}")?;
-    match read_script(alloc, config, text.as_bytes()) {
-        Ok(_) => Ok(false),
-        Err(fault) => {
-            if fault.kind == ScriptFaultKind::OutOfMemory {
-                return Err(AllocError);
-            }
-            Ok(true)
-        }
-    }
-}
-
-fn push_place(
-    alloc: Global,
-    said: &mut Vec<u8>,
-    place: &Place<'_>,
-    at: usize,
-) -> Result<(), AllocError> {
-    let place = match place {
-        Place::Whole => return Ok(()),
-        Place::Stream(_) => format!(in alloc; "streams/{at}: ")?,
-        Place::Event(_) => format!(in alloc; "events/{at}: ")?,
-    };
-    said.extend_from_slice(place.as_bytes())
 }
 
 /// The name that is unknown, or the value, by its first characters.
 fn push_blamed(
     alloc: Global,
-    said: &mut Vec<u8>,
-    script: &Value,
+    said: &mut String,
     place: &Place<'_>,
     kind: ScriptFaultKind,
 ) -> Result<(), AllocError> {
-    let value = match place {
-        Place::Whole => script,
-        Place::Stream(entry) | Place::Event(entry) => *entry,
-    };
     match unknown_name(place, kind) {
-        Some(name) => push_name(said, name.as_bytes()),
-        None => push_value(alloc, said, value),
+        Some(name) => push_cut(said, name),
+        None => push_value(alloc, said, place.value),
     }
 }
 
 /// The name at which an entry has a fault of this kind.
 fn unknown_name<'v>(place: &Place<'v>, kind: ScriptFaultKind) -> Option<&'v str> {
-    match (place, kind) {
-        (Place::Stream(entry), ScriptFaultKind::NoSuchStream) => text_in(*entry, "type"),
-        (Place::Event(entry), ScriptFaultKind::NoSuchStream) => stream_of(*entry),
-        (Place::Event(entry), ScriptFaultKind::NoSuchEvent) => text_in(*entry, "event"),
+    match (place.list, kind) {
+        (FaultyList::Streams, ScriptFaultKind::NoSuchStream) => text_in(place.value, "type"),
+        (FaultyList::Events, ScriptFaultKind::NoSuchStream) => stream_of(place.value),
+        (FaultyList::Events, ScriptFaultKind::NoSuchEvent) => text_in(place.value, "event"),
         _ => None,
     }
 }
@@ -166,32 +134,31 @@ fn text_in<'v>(entry: &'v Value, name: &str) -> Option<&'v str> {
 /// The names among which an unknown one is not, by their first characters.
 fn push_known(
     alloc: Global,
-    said: &mut Vec<u8>,
+    said: &mut String,
     config: &Config,
     script: &Value,
     place: &Place<'_>,
     kind: ScriptFaultKind,
 ) -> Result<(), AllocError> {
-    let names = match (place, kind) {
-        (Place::Stream(_), ScriptFaultKind::NoSuchStream) => type_names(alloc, config)?,
-        (Place::Event(_), ScriptFaultKind::NoSuchStream) => stream_names(alloc, script)?,
-        (Place::Event(entry), ScriptFaultKind::NoSuchEvent) => {
-            event_names(alloc, type_of(config, script, *entry))?
+    let names = match (place.list, kind) {
+        (FaultyList::Streams, ScriptFaultKind::NoSuchStream) => type_names(alloc, config)?,
+        (FaultyList::Events, ScriptFaultKind::NoSuchStream) => stream_names(alloc, script)?,
+        (FaultyList::Events, ScriptFaultKind::NoSuchEvent) => {
+            event_names(alloc, type_of(config, script, place.value))?
         }
         _ => return Ok(()),
     };
     if names.is_empty() {
-        return said.extend_from_slice(b" (there are none)".as_slice());
+        return said.push_str(" (there are none)");
     }
-    said.extend_from_slice(b" (there are: ".as_slice())?;
-    push_name(said, names.as_slice())?;
-    said.push(b')')?;
-    Ok(())
+    said.push_str(" (there are: ")?;
+    push_cut(said, names.as_str())?;
+    said.push(')')
 }
 
 /// The names of the configuration's data stream types.
-fn type_names(alloc: Global, config: &Config) -> Result<Vec<u8>, AllocError> {
-    let mut names = Vec::new(alloc);
+fn type_names(alloc: Global, config: &Config) -> Result<String, AllocError> {
+    let mut names = String::new(alloc);
     for stream_type in config.streams.as_slice() {
         add_name(&mut names, stream_type.name.as_str())?;
     }
@@ -199,8 +166,8 @@ fn type_names(alloc: Global, config: &Config) -> Result<Vec<u8>, AllocError> {
 }
 
 /// The names of the script's streams.
-fn stream_names(alloc: Global, script: &Value) -> Result<Vec<u8>, AllocError> {
-    let mut names = Vec::new(alloc);
+fn stream_names(alloc: Global, script: &Value) -> Result<String, AllocError> {
+    let mut names = String::new(alloc);
     for entry in entries(script, "streams") {
         if let Some(name) = text_in(entry, "name") {
             add_name(&mut names, name)?;
@@ -210,8 +177,8 @@ fn stream_names(alloc: Global, script: &Value) -> Result<Vec<u8>, AllocError> {
 }
 
 /// The names of the event record types of a data stream type.
-fn event_names(alloc: Global, stream_type: Option<&StreamType>) -> Result<Vec<u8>, AllocError> {
-    let mut names = Vec::new(alloc);
+fn event_names(alloc: Global, stream_type: Option<&StreamType>) -> Result<String, AllocError> {
+    let mut names = String::new(alloc);
     let Some(stream_type) = stream_type else {
         return Ok(names);
     };
@@ -242,9 +209,9 @@ fn entries<'v>(script: &'v Value, name: &str) -> &'v [Value] {
     }
 }
 
-fn add_name(names: &mut Vec<u8>, name: &str) -> Result<(), AllocError> {
+fn add_name(names: &mut String, name: &str) -> Result<(), AllocError> {
     if !names.is_empty() {
-        names.extend_from_slice(b", ".as_slice())?;
+        names.push_str(", ")?;
     }
-    names.extend_from_slice(name.as_bytes())
+    names.push_str(name)
 }

@@ -1,6 +1,6 @@
 //! Where a script is not of a script's form: the property, what stands there, and what was expected.
 
-use crate::fault_lines::push_name;
+use conf_fault::push_cut;
 use conf_tree::{member, optional};
 use serde_json::{Map, Value};
 use std::alloc::{AllocError, Global};
@@ -9,7 +9,7 @@ use trace_text::{Presence, PropertyKind, ScriptObject, ScriptProperty};
 /// Adds the first property at which an event's entry is not of a script's form. An entry that is no object has none: nothing is added, and the answer is false.
 pub fn push_event_property(
     alloc: Global,
-    said: &mut Vec<u8>,
+    said: &mut String,
     entry: &Value,
 ) -> Result<bool, AllocError> {
     let Some(members) = entry.as_object() else {
@@ -20,7 +20,7 @@ pub fn push_event_property(
     }
     let added = push_members(alloc, said, members, ScriptObject::Tracing)?;
     if member(members, "trace").is_none() {
-        said.extend_from_slice(b", or alone one of ".as_slice())?;
+        said.push_str(", or alone one of ")?;
         push_names(said, ScriptObject::Doing)?;
     }
     Ok(added)
@@ -29,7 +29,7 @@ pub fn push_event_property(
 /// Adds the first property at which an object is not of its form. A value that is no object has none: nothing is added, and the answer is false.
 pub fn push_property(
     alloc: Global,
-    said: &mut Vec<u8>,
+    said: &mut String,
     value: &Value,
     object: ScriptObject,
 ) -> Result<bool, AllocError> {
@@ -41,13 +41,13 @@ pub fn push_property(
 
 fn push_members(
     alloc: Global,
-    said: &mut Vec<u8>,
+    said: &mut String,
     members: &Map<String, Value>,
     object: ScriptObject,
 ) -> Result<bool, AllocError> {
     if let Some(name) = other_name(members, object) {
-        push_name(said, name.as_bytes())?;
-        said.extend_from_slice(b": unknown property: expected ".as_slice())?;
+        push_cut(said, name)?;
+        said.push_str(": unknown property: expected ")?;
         push_names(said, object)?;
         return Ok(true);
     }
@@ -61,15 +61,15 @@ fn push_members(
 /// Adds what stands beside an act, or what the act is in place of a stream's name.
 fn push_act(
     alloc: Global,
-    said: &mut Vec<u8>,
+    said: &mut String,
     members: &Map<String, Value>,
     act: &str,
 ) -> Result<bool, AllocError> {
     for (name, _value) in members.iter() {
         if name.as_str() != act {
-            push_name(said, name.as_bytes())?;
+            push_cut(said, name.as_str())?;
             let text = format!(in alloc; ": beside `{act}`: expected `{act}` alone")?;
-            said.extend_from_slice(text.as_bytes())?;
+            said.push_str(text.as_str())?;
             return Ok(true);
         }
     }
@@ -97,14 +97,14 @@ fn other_name(members: &Map<String, Value>, object: ScriptObject) -> Option<&str
 }
 
 /// Adds the names of the properties that such an object can have.
-fn push_names(said: &mut Vec<u8>, object: ScriptObject) -> Result<(), AllocError> {
+fn push_names(said: &mut String, object: ScriptObject) -> Result<(), AllocError> {
     for (index, (name, _, _)) in object.properties().iter().enumerate() {
         if index > 0 {
-            said.extend_from_slice(b", ".as_slice())?;
+            said.push_str(", ")?;
         }
-        said.push(b'`')?;
-        said.extend_from_slice(name.as_bytes())?;
-        said.push(b'`')?;
+        said.push('`')?;
+        said.push_str(name)?;
+        said.push('`')?;
     }
     Ok(())
 }
@@ -139,16 +139,16 @@ fn is_of_kind(members: &Map<String, Value>, property: &ScriptProperty) -> bool {
 
 fn push_kind(
     alloc: Global,
-    said: &mut Vec<u8>,
+    said: &mut String,
     members: &Map<String, Value>,
     property: &ScriptProperty,
 ) -> Result<(), AllocError> {
     let (name, _, kind) = property;
-    said.extend_from_slice(name.as_bytes())?;
-    said.extend_from_slice(b": ".as_slice())?;
+    said.push_str(name)?;
+    said.push_str(": ")?;
     match member(members, name) {
         Some(value) => push_value(alloc, said, value)?,
-        None => said.extend_from_slice(b"missing".as_slice())?,
+        None => said.push_str("missing")?,
     }
     let expected = match kind {
         PropertyKind::Text => "a text",
@@ -156,14 +156,14 @@ fn push_kind(
         PropertyKind::Values => "a list of values",
         PropertyKind::Entries => "a list of objects",
     };
-    said.extend_from_slice(b": expected ".as_slice())?;
-    said.extend_from_slice(expected.as_bytes())
+    said.push_str(": expected ")?;
+    said.push_str(expected)
 }
 
 /// Adds the first reading of a stream's clock that is no whole number of 64 bits, or is below the one before it.
 fn push_reading(
     alloc: Global,
-    said: &mut Vec<u8>,
+    said: &mut String,
     members: &Map<String, Value>,
 ) -> Result<bool, AllocError> {
     let mut before = 0;
@@ -174,13 +174,13 @@ fn push_reading(
                 let text = format!(in alloc;
                     "clock: {number} behind {before}: expected readings that do not fall"
                 )?;
-                said.extend_from_slice(text.as_bytes())?;
+                said.push_str(text.as_str())?;
                 return Ok(true);
             }
             None => {
-                said.extend_from_slice(b"clock: ".as_slice())?;
+                said.push_str("clock: ")?;
                 push_value(alloc, said, reading)?;
-                said.extend_from_slice(b": expected a whole number of 64 bits".as_slice())?;
+                said.push_str(": expected a whole number of 64 bits")?;
                 return Ok(true);
             }
         }
@@ -196,7 +196,7 @@ fn readings(members: &Map<String, Value>) -> &[Value] {
 }
 
 /// Adds a value, by its first characters.
-pub fn push_value(alloc: Global, said: &mut Vec<u8>, value: &Value) -> Result<(), AllocError> {
+pub fn push_value(alloc: Global, said: &mut String, value: &Value) -> Result<(), AllocError> {
     let shown = format!(in alloc; "{value}")?;
-    push_name(said, shown.as_bytes())
+    push_cut(said, shown.as_str())
 }

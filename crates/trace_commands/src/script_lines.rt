@@ -1,46 +1,75 @@
 //! The lines of a script's faults.
 
-ghost use Rattle.std.specs.Prelude.{◌≡◌, IfOk};
-ghost use Rattle.trace_commands.specs.Shown.{IsFaultLine};
-ghost use Rattle.trace_commands.specs.Tracing.{IsStreamLine, of_stream};
+ghost use Rattle.std.specs.Prelude.{◌<◌, IfOk, length, string_bytes};
+ghost use Rattle.trace_text.specs.ScriptFaults.{IsFirstFault};
+ghost use Rattle.trace_commands.specs.ScriptLines.{IsScriptLine, IsStreamLine, SaysPosition, SaysWhere};
 
-use crate::fault_lines::{fault_line, push_name, push_position};
-use crate::script_entry::push_fault;
+use crate::fault_lines::fault_line;
+use crate::script_entry::{placed, said_of_fault};
+use conf_fault::{json_place, push_cut};
 use ctf_types::Config;
+use serde_json::Value;
 use std::alloc::{AllocError, Global};
 use trace_stack::{AddFault, NameFault};
-use trace_text::{Script, ScriptFault, ScriptFaultKind};
+use trace_text::{FaultyList, Script, ScriptFault, ScriptFaultKind};
 
-/// The line of a text that is no script of the configuration. Where it is no JSON, the place is a line and a column, else an entry.
+/// The line of a text that is no script of the configuration, and has this first fault. Where it is no JSON, the place is a line and a column, else an entry.
 pub fn script_line(
     alloc: Global,
-    file: &[u8],
+    file: &str,
     config: &Config,
     text: &[u8],
     fault: &ScriptFault,
 ) -> Result<Vec<u8>, AllocError>
-    ensures { IfOk result (λ line. IsFaultLine file.now line.items) }
+    requires { IsFirstFault config.now text.now fault.now }
+    ensures { IfOk result (λ line. IsScriptLine file.now config.now text.now fault.now line.items) }
 {
-    let mut said = Vec::new(alloc);
-    if fault.kind == ScriptFaultKind::NotJson {
-        push_position(alloc, &mut said, text)?;
-        let kind = format!(in alloc; "{}", fault.kind)?;
-        said.extend_from_slice(kind.as_bytes())?;
-    } else {
-        push_fault(alloc, &mut said, config, text, fault)?;
+    let said = said_of_text(alloc, config, text, fault)?;
+    fault_line(alloc, file, said.as_str())
+}
+
+/// What is said of a text that is no script, and has this first fault.
+fn said_of_text(
+    alloc: Global,
+    config: &Config,
+    text: &[u8],
+    fault: &ScriptFault,
+) -> Result<String, AllocError>
+    requires { IsFirstFault config.now text.now fault.now }
+    ensures { IfOk result (λ said. SaysWhere config.now text.now fault.now (string_bytes said)) }
+{
+    match Value::from_slice(alloc, text) {
+        Ok(script) => said_of_fault(alloc, config, &script, fault),
+        Err(error) => {
+            if error.is_memory() {
+                return Err(AllocError);
+            }
+            said_of_no_json(alloc, text, fault.kind)
+        }
     }
-    fault_line(alloc, file, said.as_slice())
+}
+
+/// What is said of a text that is no JSON.
+fn said_of_no_json(alloc: Global, text: &[u8], kind: ScriptFaultKind) -> Result<String, AllocError>
+    ensures { IfOk result (λ said. SaysPosition text.now (string_bytes said)) }
+{
+    let place = json_place(alloc, text)?;
+    let mut said = format!(in alloc; "line {}, column {}: ", place.line, place.column)?;
+    let words = format!(in alloc; "{kind}")?;
+    said.push_str(words.as_str())?;
+    Ok(said)
 }
 
 /// The line of a stream of the script that a session refuses by its name.
 pub fn name_line(
     alloc: Global,
-    file: &[u8],
+    file: &str,
     script: &Script,
     number: usize,
     fault: NameFault,
 ) -> Result<Vec<u8>, AllocError>
-    ensures { IfOk result (λ line. IsStreamLine file.now number line.items) }
+    requires { number < length script.now.streams }
+    ensures { IfOk result (λ line. IsStreamLine file.now script.now number line.items) }
 {
     let why = format!(in alloc; "{fault}")?;
     stream_line(alloc, file, script, number, why.as_str())
@@ -49,12 +78,13 @@ pub fn name_line(
 /// The line of a stream of the script that a session refuses by what it is made from, or by the packets that are there.
 pub fn refusal_line(
     alloc: Global,
-    file: &[u8],
+    file: &str,
     script: &Script,
     number: usize,
     fault: AddFault,
 ) -> Result<Vec<u8>, AllocError>
-    ensures { IfOk result (λ line. IsStreamLine file.now number line.items) }
+    requires { number < length script.now.streams }
+    ensures { IfOk result (λ line. IsStreamLine file.now script.now number line.items) }
 {
     let fault = format!(in alloc; "{fault}")?;
     stream_line(alloc, file, script, number, fault.as_str())
@@ -63,41 +93,18 @@ pub fn refusal_line(
 /// The line of what is wrong with the stream of this number: its place, its name, or the first characters of it, and then this.
 fn stream_line(
     alloc: Global,
-    file: &[u8],
+    file: &str,
     script: &Script,
     number: usize,
     fault: &str,
 ) -> Result<Vec<u8>, AllocError>
-    ensures { IfOk result (λ line. IsStreamLine file.now number line.items) }
+    requires { number < length script.now.streams }
+    ensures { IfOk result (λ line. IsStreamLine file.now script.now number line.items) }
 {
-    let said = said_of_stream(alloc, script, number, fault)?;
-    let placed = placed(alloc, number, said.as_slice())?;
-    fault_line(alloc, file, placed.as_slice())
-}
-
-/// This, behind the place of the stream of this number.
-fn placed(alloc: Global, number: usize, said: &[u8]) -> Result<Vec<u8>, AllocError>
-    ensures { IfOk result (λ placed. placed.items ≡ of_stream number said.now) }
-{
-    let mut placed = Vec::new(alloc);
-    let place = format!(in alloc; "streams/{number}: ")?;
-    placed.extend_from_slice(place.as_bytes())?;
-    placed.extend_from_slice(said)?;
-    Ok(placed)
-}
-
-/// What is wrong with the stream of this number, behind its name.
-fn said_of_stream(
-    alloc: Global,
-    script: &Script,
-    number: usize,
-    fault: &str,
-) -> Result<Vec<u8>, AllocError> {
-    let mut said = Vec::new(alloc);
-    if let Some(stream) = script.streams.as_slice().get(number) {
-        push_name(&mut said, stream.name.as_str().as_bytes())?;
-        said.extend_from_slice(b": ".as_slice())?;
-    }
-    said.extend_from_slice(fault.as_bytes())?;
-    Ok(said)
+    let mut said = String::new(alloc);
+    push_cut(&mut said, script.streams.as_slice()[number].name.as_str())?;
+    said.push_str(": ")?;
+    said.push_str(fault)?;
+    let placed = placed(alloc, FaultyList::Streams, number, said.as_str())?;
+    fault_line(alloc, file, placed.as_str())
 }

@@ -1,6 +1,5 @@
-use Rattle.std.proofs.Common.{◌∙◌, ℕ, List, ap₂}
+use Rattle.std.proofs.Common.{◌∙◌}
 use Rattle.std.proofs.lemmas.Result.{IfOk-weaker}
-use Rattle.trace_commands.specs.Shown.{fault_line}
 use Rattle.trace_commands.proofs.CheckingLaws.{no_hint, some_hint}
 use Rattle.trace_commands.proofs.check_command.hint.Goals as goal
 
@@ -9,5 +8,4 @@ returns-in-Some c = c.new.ensures.items ∙ no_hint c.args.path.now c.args.confi
 
 pub returns-in-None : goal.returns-in-None
 returns-in-None c =
-    IfOk-weaker c.fault_line.result _ _ (λ line e. e ∙ ap₂ (λ (file said : List ℕ). fault_line file said) c.as_bytes.ensures.value c.as_slice.ensures
-    ∙ some_hint c.args.path.now c.args.config.now c.in-None.is) c.fault_line.ensures
+    IfOk-weaker c.fault_line.result _ _ (λ line e. e ∙ some_hint c.args.path.now c.args.config.now c.in-None.is) c.fault_line.ensures

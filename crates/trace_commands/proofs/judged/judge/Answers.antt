@@ -8,11 +8,10 @@ returns-in_ok-line-in-Err c =
     let innocent = unsaid c.is_memory.result c.if-is_memory.false c.is_memory.ensures.1 in
     let text = c.args.text.now in
     let fault = c.in-Err.fault in
-    let line = subst (λ (file : List ℕ). IsExplainedIn file text fault c.in_ok-line-in-Err.line.items) c.as_bytes.ensures.value c.in_ok-line-in-Err.ensures in
     record {
       fault = fault;
       refused = refused_text text c.args.number fault innocent c.in-Err.ensures.refused c.in-Err.ensures.only;
       nothing = c.refusal.ensures.output;
-      explained = subst (λ (l : List ℕ). IsExplainedIn c.args.path.now text fault l) (sym c.refusal.ensures.errors) line;
+      explained = subst (λ (l : List ℕ). IsExplainedIn c.args.path.now text fault l) (sym c.refusal.ensures.errors) c.in_ok-line-in-Err.ensures;
       failed = c.refusal.ensures.status;
     }
