@@ -2,9 +2,6 @@
 //! are printed in hexadecimal, and are read back.
 #![tactic(auto)]
 
-#[cfg(test)]
-mod tests;
-
 use std::env;
 use std::io::{ErrorKind, IsTerminal, Read, Result as IoResult, Write};
 use std::process::ExitCode;

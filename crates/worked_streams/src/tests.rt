@@ -12,6 +12,8 @@ mod gaps;
 mod header_faults;
 mod lying_lengths;
 mod memory;
+mod number_configuration;
+mod number_files;
 mod packet_by_packet;
 mod packet_layouts;
 mod platform_limits;

@@ -52,8 +52,8 @@ static ROWS: &[(&str, &str, &str, &str)] = &[
 fn reads_stream_files(rt: HostRuntime) -> Result<(), Fail> {
     for (name, digits, records, end) in ROWS {
         let (counts, found) = read(rt.alloc(), digits)?;
-        same(&rt, counts.as_str(), *records, *name, "has the records");
-        same(&rt, found.as_str(), *end, *name, "ends");
+        same(&rt, counts.as_str(), *records, (*name, "records"));
+        same(&rt, found.as_str(), *end, (*name, "end"));
     }
     Ok(())
 }
@@ -82,15 +82,9 @@ fn record_counts(alloc: Global, read: &ReadStream) -> Result<String, AllocError>
 #[test]
 fn closes_a_packet_without_records(rt: HostRuntime) -> Result<(), Fail> {
     let (sequence, digits) = closed(rt.alloc())?;
-    same(&rt, sequence, 7, "the packet", "has the number");
+    same(&rt, sequence, 7, "the number");
     let expected = "c11ffcc1800000006000000000000000";
-    same(
-        &rt,
-        digits.as_str(),
-        expected,
-        "the packet",
-        "has the bytes",
-    );
+    same(&rt, digits.as_str(), expected, "the bytes");
     Ok(())
 }
 

@@ -83,7 +83,7 @@ static ROWS: &[(&[&str], &str)] = &[
 fn asks_for_commands(rt: HostRuntime) -> Result<(), Fail> {
     for (words, asked) in ROWS {
         let found = asked_for(rt.alloc(), words)?;
-        same(&rt, found.as_str(), *asked, *words, "ask for");
+        same(&rt, found.as_str(), *asked, *words);
     }
     Ok(())
 }

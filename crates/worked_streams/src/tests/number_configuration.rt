@@ -1,13 +1,16 @@
 //! The program's own configuration is what its JSON configures.
 
 use crate::tests::expected::same;
-use crate::tests::row_files::SMALL;
 use conf_check::configure;
 use ctf_types::Config;
 use number_packets::small_config;
 use std::alloc::{AllocError, Global};
 use std::test::Fail;
 use tsdl_writer::write_metadata;
+
+/// One stream type with one event record type of a byte.
+const SMALL: &str =
+    r#"{"trace":{"type":{"trace-byte-order":"le","$features":{"data-stream-type-id-field-type":false},"data-stream-types":{"s":{"$features":{"packet":{"total-size-field-type":{"class":"uint","size":32},"content-size-field-type":{"class":"uint","size":32},"discarded-event-records-counter-snapshot-field-type":false},"event-record":{"type-id-field-type":false}},"event-record-types":{"e":{"payload-field-type":{"class":"struct","members":[{"v":{"field-type":{"class":"uint","size":8}}}]}}}}}}}}"#;
 
 /// The metadata text of a configuration, and a line for each stream type: its name, and whether it has no default clock and no extra members, with their alignment.
 fn described(alloc: Global, config: &Config) -> Result<String, Fail> {
@@ -38,6 +41,6 @@ fn own_text(alloc: Global) -> Result<String, AllocError> {
 fn is_configured_by_its_json(rt: HostRuntime) -> Result<(), Fail> {
     let expected = own_text(rt.alloc())?;
     let found = configured(rt.alloc())?;
-    same(&rt, found.as_str(), expected.as_str(), SMALL, "configures");
+    same(&rt, found.as_str(), expected.as_str(), SMALL);
     Ok(())
 }

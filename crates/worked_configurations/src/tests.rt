@@ -1,7 +1,0 @@
-//! Worked rows over `configure`.
-
-mod configurations;
-mod judging;
-mod limits;
-mod reserved_words;
-mod tables;
