@@ -30,6 +30,13 @@ abbrev pub RefusesEnd : List ℕ → ReadStream → NotResumed → Type 0
 RefusesEnd folder found (Refused line) = (is_whole found.end ≡ false) × IsEndLine folder found.name (length found.packets) found.end line.items
 RefusesEnd folder found (Failed failure) = FailsAt (IsPathIn folder) failure
 
+-- what is said of metadata that are not there, and of others than the configuration's
+abbrev pub no_metadata : List ℕ
+no_metadata = codes "no metadata is there"
+
+abbrev pub other_metadata : List ℕ
+other_metadata = codes "not the metadata of the configuration"
+
 module _ {File : Type 0} (remaining : File → Option (List ℕ)) where
   -- ---- metadata
 
@@ -39,8 +46,8 @@ module _ {File : Type 0} (remaining : File → Option (List ℕ)) where
 
   -- no file is there, or another text, which is said
   abbrev pub IsOther : List ℕ → Option (List ℕ) → List ℕ → Type 0
-  IsOther wanted None said = said ≡ codes "no metadata is there"
-  IsOther wanted (Some text) said = WasGiven remaining text × (text ≢ wanted) × (said ≡ codes "not the metadata of the configuration")
+  IsOther wanted None said = said ≡ no_metadata
+  IsOther wanted (Some text) said = WasGiven remaining text × (text ≢ wanted) × (said ≡ other_metadata)
 
   abbrev pub HasOtherMetadata : List ℕ → List ℕ → List ℕ → Type 0
   HasOtherMetadata folder wanted line =

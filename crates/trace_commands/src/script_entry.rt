@@ -67,6 +67,7 @@ fn entry_in<'v>(script: &'v Value, list: FaultyList, number: usize) -> &'v Value
     entry.unwrap_or(script)
 }
 
+/// Adds what stands there and what is wrong with it, or the property at which it is of another form.
 fn push_wrong(
     alloc: Global,
     said: &mut String,

@@ -10,7 +10,7 @@ use conf_fault::{json_place, push_cut};
 use ctf_types::Config;
 use serde_json::Value;
 use std::alloc::{AllocError, Global};
-use trace_stack::{AddFault, NameFault};
+use std::fmt::Display;
 use trace_text::{FaultyList, Script, ScriptFault, ScriptFaultKind};
 
 /// The line of a text that is no script of the configuration, and has this first fault. Where it is no JSON, the place is a line and a column, else an entry.
@@ -60,43 +60,13 @@ fn said_of_no_json(alloc: Global, text: &[u8], kind: ScriptFaultKind) -> Result<
     Ok(said)
 }
 
-/// The line of a stream of the script that a session refuses by its name.
-pub fn name_line(
+/// The line of a stream of the script that a session refuses: its place, its name, or the first characters of it, and then the fault.
+pub fn refused_line<F: Display + Drop>(
     alloc: Global,
     file: &str,
     script: &Script,
     number: usize,
-    fault: NameFault,
-) -> Result<Vec<u8>, AllocError>
-    requires { number < length script.now.streams }
-    ensures { IfOk result (λ line. IsStreamLine file.now script.now number line.items) }
-{
-    let why = format!(in alloc; "{fault}")?;
-    stream_line(alloc, file, script, number, why.as_str())
-}
-
-/// The line of a stream of the script that a session refuses by what it is made from, or by the packets that are there.
-pub fn refusal_line(
-    alloc: Global,
-    file: &str,
-    script: &Script,
-    number: usize,
-    fault: AddFault,
-) -> Result<Vec<u8>, AllocError>
-    requires { number < length script.now.streams }
-    ensures { IfOk result (λ line. IsStreamLine file.now script.now number line.items) }
-{
-    let fault = format!(in alloc; "{fault}")?;
-    stream_line(alloc, file, script, number, fault.as_str())
-}
-
-/// The line of what is wrong with the stream of this number: its place, its name, or the first characters of it, and then this.
-fn stream_line(
-    alloc: Global,
-    file: &str,
-    script: &Script,
-    number: usize,
-    fault: &str,
+    fault: F,
 ) -> Result<Vec<u8>, AllocError>
     requires { number < length script.now.streams }
     ensures { IfOk result (λ line. IsStreamLine file.now script.now number line.items) }
@@ -104,7 +74,8 @@ fn stream_line(
     let mut said = String::new(alloc);
     push_cut(&mut said, script.streams.as_slice()[number].name.as_str())?;
     said.push_str(": ")?;
-    said.push_str(fault)?;
+    let why = format!(in alloc; "{fault}")?;
+    said.push_str(why.as_str())?;
     let placed = placed(alloc, FaultyList::Streams, number, said.as_str())?;
     fault_line(alloc, file, placed.as_str())
 }
