@@ -1,5 +1,6 @@
 -- A text that is a configuration is refused for want of memory alone, where its tree and its resolution are those that were found.
-use Rattle.std.proofs.Common.{◌≡◌, ◌⊎◌, inl, inr, ℕ, List, Option, Ok, sym, subst}
+use Rattle.std.proofs.Common.{◌≡◌, ◌⊎◌, inl, inr, ℕ, List, Option, Result, Ok, Err, sym, subst}
+use Rattle.std.specs.Result.{IfOk, IfErr}
 use Rattle.serde_json.specs.Data.{Data}
 use Rattle.conf_tree.specs.declared.fault.ConfFault.{ConfFault}
 use Rattle.ctf_types.specs.declared.Config.{Config}
@@ -8,7 +9,7 @@ use Rattle.conf_tree.specs.Walk.{IsTreeOf, IsFirstFlaw, Reads, FlawHolds, max_le
 use Rattle.conf_inherit.specs.Faults.{RefusalHolds}
 use Rattle.conf_inherit.specs.Resolution.{aliases_of, resolution, Resolves}
 use Rattle.conf_inherit.proofs.OneReading.{one_look}
-use Rattle.conf_check.specs.Configuration.{IsInnocent, IsNoTree, RefusedForMemory, ConfiguresByLookUp}
+use Rattle.conf_check.specs.Configuration.{IsInnocent, IsNoTree, RefusedForMemory, ConfiguresByLookUp, GivesThat}
 use Rattle.conf_check.specs.ConfigurationRows.{IsConfigurationOf}
 use Rattle.conf_check.proofs.ConfigurationLaws.{one_configuration}
 
@@ -48,8 +49,7 @@ refused_for_memory text number t fault c tree (inr holds) configures =
     let same : s ≡ t = cc (configures.2.0.1, tree.0.1) in
     absurd (configures.3 (flaw_of fault) (subst (λ x. RefusalHolds x (flaw_of fault)) (sym same) holds))
 
-pub innocent_by_look_up : (text : List ℕ) (number : Option (List ℕ)) (t r : Data) (fault : ConfFault) (c : Config) → IsTreeOf text t → Resolves t r → IsInnocent r number fault → ConfiguresByLookUp text number c → IsMemory fault
-innocent_by_look_up text number t r fault c tree resolves innocent configures = innocent c (rows_found text number t r c tree resolves configures)
-
-pub answered_by_look_up : (text : List ℕ) (number : Option (List ℕ)) (t r : Data) (x c : Config) → IsTreeOf text t → Resolves t r → IsConfigurationOf r number x → ConfiguresByLookUp text number c → x ≡ c
-answered_by_look_up text number t r x c tree resolves is configures = one_configuration r number x c is (rows_found text number t r c tree resolves configures)
+-- the configuration that was found is the one by look-up
+pub answered_by_look_up : (text : List ℕ) (number : Option (List ℕ)) (t r : Data) (c : Config) (answer : Result Config ConfFault) → IsTreeOf text t → Resolves t r → IfOk answer (IsConfigurationOf r number) → IfErr answer (IsInnocent r number) → ConfiguresByLookUp text number c → GivesThat answer c
+answered_by_look_up text number t r c (Ok x) tree resolves is innocent configures = one_configuration r number x c is (rows_found text number t r c tree resolves configures)
+answered_by_look_up text number t r c (Err fault) tree resolves is innocent configures = innocent c (rows_found text number t r c tree resolves configures)

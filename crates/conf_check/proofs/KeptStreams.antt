@@ -1,6 +1,6 @@
 -- What a data stream type keeps that is judged well: its numbers fit their fields, its records have bits, its clock is there, and
 -- its timestamps tell the clock's values.
-use Rattle.std.proofs.Common.{◌≡◌, ℕ, suc, ◌-◌, ◌<◌, ◌≤◌, ◌^◌, ◌||◌, ◌⊎◌, inl, inr, Bool, true, false, List, [], ◌∷◌, length, map, Contains, IsSome, Option, Some, None, is_some, Result, Ok, refl, subst, arith, bytes_eq}
+use Rattle.std.proofs.Common.{◌≡◌, ℕ, suc, ◌-◌, ◌<◌, ◌≤◌, ◌^◌, ◌||◌, ◌⊎◌, inl, inr, Bool, true, false, List, [], ◌∷◌, length, map, Contains, IsSome, Option, Some, None, is_some, Ok, refl, subst, arith, bytes_eq}
 use Rattle.std.specs.Prelude.{codes, nat_le, nat_lt, ◌==◌, is_none}
 use Rattle.std.specs.List.{AllByRecursion}
 use Rattle.std.proofs.lemmas.Bool.{and_parts, or_cases, eqb-true, leb-true, ltb-true}
@@ -25,7 +25,7 @@ use Rattle.conf_check.specs.declared.stream_rule.StreamRule.{StreamRule}
 use Rattle.conf_check.specs.declared.stream_rule.StreamRule.TheVariants.{NumbersFit, RecordsHaveBits, ClocksAreThere, TimestampsAreSized}
 use Rattle.conf_check.specs.declared.stream_rule.Timestamp.{Timestamp}
 use Rattle.conf_check.specs.declared.stream_rule.Timestamp.TheVariants.{Record, Beginning, End}
-use Rattle.conf_check.specs.StreamRules.{unless, holds, numbers_fit, member_has_bits, struct_has_bits, header_has_bits, event_has_bits, event_bits, events_bits, records_have_bits, has_clock, clock_is_there, field_of, timestamp_flaw, timestamps_judged, is_clocked, clocks_are_there, is_whole, has_record_size, is_sized, timestamps_sized, judged, judged_by_name, all_judged}
+use Rattle.conf_check.specs.StreamRules.{unless, holds, numbers_fit, member_has_bits, struct_has_bits, header_has_bits, event_has_bits, events_bits, records_have_bits, has_clock, clock_is_there, field_of, timestamp_flaw, timestamps, timestamps_judged, is_clocked, clocks_are_there, is_whole, has_record_size, is_sized, timestamps_sized, judged, all_judged}
 use Rattle.conf_values.proofs.Steps.{both_read, read_there}
 use Rattle.conf_laws.specs.Rules.{RecordHasBits, KeepsStreamRules}
 
@@ -39,10 +39,6 @@ pub holds_up_to : (n : ℕ) (f : Option IntType) → holds n f ≡ true → Hold
 unfolding holds
 holds_up_to n None e = eqb-true n 0 e
 holds_up_to n (Some t) e = ltb-true n (2 ^ t.size) e
-
-pub fits : (s : StreamType) → numbers_fit s ≡ Ok tt → HoldsUpTo (length s.events - 1) s.event_header.id
-unfolding numbers_fit
-fits s e = holds_up_to (length s.events - 1) s.event_header.id (unless_passed _ _ e)
 
 -- ---- records have bits
 
@@ -107,12 +103,12 @@ unfolding is_clocked
 clocked_is s timestamp t e on = elim (or_cases (is_some s.default_clock) (is_none (field_of s timestamp)) e) [ inl clock ↦ clock | inr off ↦ absurd (let none = rw on at off in cc) ]
 
 -- each timestamp is good where none is refused
-all_good : (good : Timestamp → Bool) (kind : FaultKind) → timestamps_judged good kind ≡ Ok tt → (timestamp : Timestamp) → good timestamp ≡ true
-unfolding timestamps_judged
+all_good : (good : Timestamp → Bool) (kind : FaultKind) → timestamps_judged good kind timestamps ≡ Ok tt → (timestamp : Timestamp) → good timestamp ≡ true
 all_good good kind e timestamp =
     let first = both_read (unless (good Record) (timestamp_flaw Record kind)) _ tt e in
     let second = both_read (unless (good Beginning) (timestamp_flaw Beginning kind)) _ tt first.2 in
-    go timestamp first.1 second.1 second.2
+    let third = both_read (unless (good End) (timestamp_flaw End kind)) _ tt second.2 in
+    go timestamp first.1 second.1 third.1
   where
     go : (t : Timestamp) → unless (good Record) (timestamp_flaw Record kind) ≡ Ok tt → unless (good Beginning) (timestamp_flaw Beginning kind) ≡ Ok tt → unless (good End) (timestamp_flaw End kind) ≡ Ok tt → good t ≡ true
     go Record a b c = unless_passed (good Record) _ a
@@ -122,17 +118,16 @@ all_good good kind e timestamp =
 -- ---- one data stream type
 
 bits_each : (s : StreamType) (es : List EventType) → events_bits (header_has_bits s) es ≡ Ok tt → AllByRecursion (RecordHasBits s) es
-unfolding event_bits
 bits_each s [] h = tt
 bits_each s (e ∷ es) h =
-    let first = both_read (event_bits (header_has_bits s) e) _ tt h in
+    let first = both_read (at (key e.name) (unless (header_has_bits s || event_has_bits e) (here ZeroSizeRecord))) _ tt h in
     let own = read_there (key e.name) (unless (header_has_bits s || event_has_bits e) (here ZeroSizeRecord)) tt first.1 in
     (record_bits s e (unless_passed (header_has_bits s || event_has_bits e) (here ZeroSizeRecord) own), bits_each s es first.2)
 
 -- a data stream type that is judged well by each rule keeps them
 pub kept_stream : (clocks : List ClockType) (s : StreamType) → judged NumbersFit clocks s ≡ Ok tt → judged RecordsHaveBits clocks s ≡ Ok tt → judged ClocksAreThere clocks s ≡ Ok tt → judged TimestampsAreSized clocks s ≡ Ok tt
     → KeepsStreamRules (map (λ c. c.name) clocks) s
-unfolding judged clocks_are_there timestamps_sized is_sized field_of records_have_bits
+unfolding judged numbers_fit clocks_are_there timestamps_sized is_sized field_of records_have_bits
 kept_stream clocks s numbers bits clocks_there sizes =
     let default = both_read (unless (clock_is_there clocks s.default_clock) _) _ tt clocks_there in
     let clocked = all_good (is_clocked s) NoClock default.2 in
@@ -142,18 +137,14 @@ kept_stream clocks s numbers bits clocks_there sizes =
       timestamp_begin = λ t is. (whole_is s.context.timestamp_begin t (sized Beginning) is, clocked_is s Beginning t (clocked Beginning) is);
       timestamp_end = λ t is. (whole_is s.context.timestamp_end t (sized End) is, clocked_is s End t (clocked End) is);
       timestamp = λ t is. let size = record_size_is s.context.timestamp_begin s.event_header.timestamp t (sized Record) is in (size.0, size.1, clocked_is s Record t (clocked Record) is);
-      id_holds = fits s numbers;
+      id_holds = holds_up_to (length s.events - 1) s.event_header.id (unless_passed _ _ numbers);
       has_bits = All-from_recursion (RecordHasBits s) s.events (bits_each s s.events (read_there (key (codes "event-record-types")) (events_bits (header_has_bits s) s.events) tt bits));
     }
 
 -- ---- all of them
 
-abbrev judged_at_names : StreamRule → List ClockType → StreamType → Result (Unit {0}) Flaw
-judged_at_names rule clocks s = at (key s.name) (judged rule clocks s)
-
 pub judged_each : (rule : StreamRule) (clocks : List ClockType) (ss : List StreamType) → all_judged rule clocks ss ≡ Ok tt → AllByRecursion (λ s. judged rule clocks s ≡ Ok tt) ss
-unfolding judged_by_name
 judged_each rule clocks [] e = tt
 judged_each rule clocks (s ∷ ss) e =
-    let first = both_read (judged_at_names rule clocks s) _ tt e in
+    let first = both_read (at (key s.name) (judged rule clocks s)) _ tt e in
     (read_there (key s.name) (judged rule clocks s) tt first.1, judged_each rule clocks ss first.2)

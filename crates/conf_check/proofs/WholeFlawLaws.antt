@@ -35,7 +35,7 @@ use Rattle.conf_laws.specs.TableLimits.{PassesLimitOf}
 use Rattle.conf_laws.proofs.TableLimitLaws.{refused_told}
 use Rattle.conf_check.specs.declared.stream_rule.Timestamp.{Timestamp}
 use Rattle.conf_check.specs.declared.stream_rule.Timestamp.TheVariants.{Record, Beginning, End}
-use Rattle.conf_check.specs.StreamRules.{unless, feature_flaw, holds, numbers_fit, member_has_bits, struct_has_bits, header_has_bits, event_has_bits, event_bits, events_bits, records_have_bits, has_clock, clock_is_there, field_of, timestamp_flaw, timestamps_judged, is_clocked, clocks_are_there, is_whole, has_record_size, is_sized, timestamps_sized, judged, judged_by_name, all_judged, streams_judged}
+use Rattle.conf_check.specs.StreamRules.{unless, feature_flaw, holds, numbers_fit, member_has_bits, struct_has_bits, header_has_bits, event_has_bits, events_bits, records_have_bits, has_clock, clock_is_there, field_of, timestamp_flaw, timestamps, timestamps_judged, is_clocked, clocks_are_there, is_whole, has_record_size, is_sized, timestamps_sized, judged, all_judged, streams_judged}
 use Rattle.conf_check.specs.WholeFlaws.{in_stream, IsTimestampOf, of_record, of_beginning, of_end, BreaksRule, stream_number, event_number, no_bits, no_such_clock, no_clock, no_number, no_identifier, two_orders, packet_timestamp, record_timestamp, no_beginning}
 use Rattle.conf_laws.proofs.ValueFlawLaws.{either_step, none_there as nothing_there}
 use Rattle.conf_values.proofs.LeafFlawLaws.{refused_there, refused_test, refused_where}
@@ -96,7 +96,6 @@ abbrev OneRefused : StreamRule → List ClockType → List StreamType → Flaw �
 OneRefused rule clocks ss flaw = (s : StreamType) × (f : Flaw) × Contains ss s × (judged rule clocks s ≡ Err f) × (flaw ≡ within (key s.name) f)
 
 one_refused : (rule : StreamRule) (clocks : List ClockType) (ss : List StreamType) (flaw : Flaw) → all_judged rule clocks ss ≡ Err flaw → OneRefused rule clocks ss flaw
-unfolding judged_by_name
 one_refused rule clocks [] flaw e = absurd cc
 one_refused rule clocks (s ∷ ss) flaw e =
     either_step (at (key s.name) (judged rule clocks s)) _ flaw e
@@ -117,7 +116,6 @@ abbrev EventRefused : Bool → List EventType → Flaw → Type 0
 EventRefused header es flaw = (e : EventType) × Contains es e × (header ≡ false) × (event_has_bits e ≡ false) × (flaw ≡ within (key e.name) (here ZeroSizeRecord))
 
 event_refused : (header : Bool) (es : List EventType) (flaw : Flaw) → events_bits header es ≡ Err flaw → EventRefused header es flaw
-unfolding event_bits
 event_refused header [] flaw is = absurd cc
 event_refused header (e ∷ es) flaw is =
     either_step (at (key e.name) (unless (header || event_has_bits e) (here ZeroSizeRecord))) _ flaw is (λ first.
@@ -128,11 +126,11 @@ event_refused header (e ∷ es) flaw is =
     (λ x passed rest. let r = event_refused header es flaw rest in (r.0, later e r.0 es r.1, r.2, r.3, r.4))
 
 -- the timestamp that is refused is not good
-one_bad : (good : Timestamp → Bool) (kind : FaultKind) (flaw : Flaw) → timestamps_judged good kind ≡ Err flaw → (timestamp : Timestamp) × (good timestamp ≡ false) × (flaw ≡ timestamp_flaw timestamp kind)
-unfolding timestamps_judged
+one_bad : (good : Timestamp → Bool) (kind : FaultKind) (flaw : Flaw) → timestamps_judged good kind timestamps ≡ Err flaw → (timestamp : Timestamp) × (good timestamp ≡ false) × (flaw ≡ timestamp_flaw timestamp kind)
 one_bad good kind flaw e =
     either_step (unless (good Record) (timestamp_flaw Record kind)) _ flaw e (λ r. bad Record flaw r) (λ x went rest.
-    either_step (unless (good Beginning) (timestamp_flaw Beginning kind)) _ flaw rest (λ r. bad Beginning flaw r) (λ y passed r. bad End flaw r))
+    either_step (unless (good Beginning) (timestamp_flaw Beginning kind)) _ flaw rest (λ r. bad Beginning flaw r) (λ y passed rest.
+    either_step (unless (good End) (timestamp_flaw End kind)) _ flaw rest (λ r. bad End flaw r) (λ z ended rest. absurd cc)))
   where
     bad : (timestamp : Timestamp) (flaw : Flaw) → unless (good timestamp) (timestamp_flaw timestamp kind) ≡ Err flaw → (t : Timestamp) × (good t ≡ false) × (flaw ≡ timestamp_flaw t kind)
     bad timestamp flaw r = let told = refused_test (good timestamp) tt (timestamp_flaw timestamp kind) flaw r in (timestamp, told.0, told.1)

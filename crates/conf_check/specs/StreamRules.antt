@@ -54,12 +54,9 @@ header_has_bits s = is_some s.event_header.id || is_some s.event_header.timestam
 unfoldable pub event_has_bits : EventType → Bool
 event_has_bits e = struct_has_bits e.specific || struct_has_bits e.payload
 
-unfoldable pub event_bits : Bool → EventType → Result ⊤ Flaw
-event_bits header e = at (key e.name) (unless (header || event_has_bits e) (here ZeroSizeRecord))
-
 abbrev pub events_bits : Bool → List EventType → Result ⊤ Flaw
 events_bits header [] = Ok tt
-events_bits header (e ∷ es) = event_bits header e >>= (λ _. events_bits header es)
+events_bits header (e ∷ es) = at (key e.name) (unless (header || event_has_bits e) (here ZeroSizeRecord)) >>= (λ _. events_bits header es)
 
 unfoldable pub records_have_bits : StreamType → Result ⊤ Flaw
 records_have_bits s = at (key (codes "event-record-types")) (events_bits (header_has_bits s) s.events)
@@ -85,12 +82,14 @@ timestamp_flaw Record kind = feature_flaw (codes "event-record") (codes "timesta
 timestamp_flaw Beginning kind = feature_flaw (codes "packet") (codes "beginning-timestamp-field-type") kind
 timestamp_flaw End kind = feature_flaw (codes "packet") (codes "end-timestamp-field-type") kind
 
+-- the timestamps in the order in which they are judged
+abbrev pub timestamps : List Timestamp
+timestamps = Record ∷ Beginning ∷ End ∷ []
+
 -- each timestamp is good
-unfoldable pub timestamps_judged : (Timestamp → Bool) → FaultKind → Result ⊤ Flaw
-timestamps_judged good kind = do
-  _ ← unless (good Record) (timestamp_flaw Record kind)
-  _ ← unless (good Beginning) (timestamp_flaw Beginning kind)
-  unless (good End) (timestamp_flaw End kind)
+abbrev pub timestamps_judged : (Timestamp → Bool) → FaultKind → List Timestamp → Result ⊤ Flaw
+timestamps_judged good kind [] = Ok tt
+timestamps_judged good kind (t ∷ ts) = unless (good t) (timestamp_flaw t kind) >>= (λ _. timestamps_judged good kind ts)
 
 -- one that is on has a clock
 unfoldable pub is_clocked : StreamType → Timestamp → Bool
@@ -99,7 +98,7 @@ is_clocked s timestamp = is_some s.default_clock || is_none (field_of s timestam
 unfoldable pub clocks_are_there : List ClockType → StreamType → Result ⊤ Flaw
 clocks_are_there clocks s = do
   _ ← unless (clock_is_there clocks s.default_clock) (within (key (codes "$default-clock-type-name")) (here NoClock))
-  timestamps_judged (is_clocked s) NoClock
+  timestamps_judged (is_clocked s) NoClock timestamps
 
 -- ---- timestamps have their sizes
 
@@ -119,7 +118,7 @@ is_sized s Beginning = is_whole s.context.timestamp_begin
 is_sized s End = is_whole s.context.timestamp_end
 
 unfoldable pub timestamps_sized : StreamType → Result ⊤ Flaw
-timestamps_sized s = timestamps_judged (is_sized s) TimestampSize
+timestamps_sized s = timestamps_judged (is_sized s) TimestampSize timestamps
 
 -- ---- all stream types under one rule
 
@@ -129,12 +128,9 @@ judged RecordsHaveBits clocks s = records_have_bits s
 judged ClocksAreThere clocks s = clocks_are_there clocks s
 judged TimestampsAreSized clocks s = timestamps_sized s
 
-unfoldable pub judged_by_name : StreamRule → List ClockType → StreamType → Result ⊤ Flaw
-judged_by_name rule clocks s = at (key s.name) (judged rule clocks s)
-
 abbrev pub all_judged : StreamRule → List ClockType → List StreamType → Result ⊤ Flaw
 all_judged rule clocks [] = Ok tt
-all_judged rule clocks (s ∷ ss) = judged_by_name rule clocks s >>= (λ _. all_judged rule clocks ss)
+all_judged rule clocks (s ∷ ss) = at (key s.name) (judged rule clocks s) >>= (λ _. all_judged rule clocks ss)
 
 unfoldable pub streams_judged : StreamRule → Config → Result ⊤ Flaw
 streams_judged rule c =

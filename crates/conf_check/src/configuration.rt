@@ -33,16 +33,7 @@ pub fn configure(alloc: Global, text: &[u8], number: Option<Uuid>) -> Result<Con
     // What a text configures by look-up, where no fault of inheritance holds, is the answer.
     ensures exact { (c : Configuration) → ConfiguresByLookUp text.now number c → GivesThat result c }
 {
-    let tree = match read_tree(alloc, text) {
-        Ok(tree) => tree,
-        Err(fault) => return Err(fault),
-    };
-    let resolved = match resolve(alloc, tree) {
-        Ok(resolved) => resolved,
-        Err(fault) => return Err(fault),
-    };
-    match check(alloc, resolved, number) {
-        Ok(config) => Ok(config),
-        Err(fault) => Err(fault),
-    }
+    let tree = read_tree(alloc, text)?;
+    let resolved = resolve(alloc, tree)?;
+    check(alloc, resolved, number)
 }

@@ -1,16 +1,15 @@
 //! What the parts of a configuration have to be together, stream type by stream type.
-ghost use Rattle.std.specs.Prelude.{◌≡◌, ◌≤◌, ◌⊎◌, ◌||◌, ◌-◌, nat_lt, is_some, is_none, length, codes, IfErr};
-ghost use Rattle.std.specs.List.{list_all, list_any};
+ghost use Rattle.std.specs.Prelude.{◌≡◌, ◌⊎◌, nat_lt};
+ghost use Rattle.std.specs.List.{list_all};
 ghost use Rattle.ctf_types.specs.FieldTypes.{chain_of};
 ghost use Rattle.conf_tree.specs.Flaw.{flaw_of, IsMemory};
 ghost use Rattle.conf_tree.specs.Reading.{Gives};
-ghost use Rattle.conf_tree.specs.declared.fault_kind.FaultKind.TheVariants.{NoClock, TimestampSize};
-ghost use Rattle.conf_check.specs.StreamRules.{feature_flaw, timestamp_flaw, unless, is_clocked, holds as holds_is, numbers_fit as numbers_fit_is, member_has_bits as member_has_bits_is, struct_has_bits as struct_has_bits_is, header_has_bits as header_has_bits_is, event_has_bits as event_has_bits_is, event_bits as event_bits_is, events_bits as events_bits_is, records_have_bits as records_have_bits_is, has_clock as has_clock_is, clock_is_there as clock_is_there_is, field_of as field_of_is, clocks_are_there as clocks_are_there_is, is_whole as is_whole_is, has_record_size as has_record_size_is, is_sized as is_sized_is, timestamps_sized as timestamps_sized_is, judged as judged_is, judged_by_name as judged_by_name_is, all_judged as all_judged_is, streams_judged as streams_judged_is};
+ghost use Rattle.conf_check.specs.Judgement.{in_type as in_type_is};
+ghost use Rattle.conf_check.specs.StreamRules.{feature_flaw, timestamp_flaw, is_clocked as is_clocked_is, holds as holds_is, numbers_fit as numbers_fit_is, member_has_bits as member_has_bits_is, struct_has_bits as struct_has_bits_is, header_has_bits as header_has_bits_is, records_have_bits as records_have_bits_is, has_clock as has_clock_is, clock_is_there as clock_is_there_is, field_of as field_of_is, clocks_are_there as clocks_are_there_is, is_sized as is_sized_is, timestamps_sized as timestamps_sized_is, judged as judged_is, streams_judged as streams_judged_is};
 
 use conf_tree::{At, ConfFault, FaultKind};
 use ctf_types::{
-    ClockType, Config, Element, EventType, FieldType, IntType, ListOf, MemberType, StreamType,
-    StructType, Text,
+    ClockType, Config, FieldType, IntType, ListOf, MemberType, StreamType, StructType, Text,
 };
 use std::alloc::Global;
 
@@ -25,6 +24,14 @@ pub(crate) enum StreamRule {
     ClocksAreThere,
     /// A timestamp has 64 bits. An event record's may have fewer, 8 at least, where its packet has a beginning timestamp.
     TimestampsAreSized,
+}
+
+/// A fault of the trace type, seen from the configuration.
+pub(crate) fn in_type(alloc: Global, fault: ConfFault) -> ConfFault
+    ensures moved { IsMemory result ⊎ (flaw_of result ≡ in_type_is (flaw_of fault)) }
+    ensures memory { IsMemory fault → IsMemory result }
+{
+    fault.in_property(alloc, "type").in_property(alloc, "trace")
 }
 
 /// The fault of a feature, seen from its data stream type.
@@ -45,10 +52,7 @@ pub(crate) fn holds(largest: usize, feature: &Option<IntType>) -> bool
 {
     match feature {
         None => largest == 0,
-        Some(int) => {
-            let size = int.size();
-            size == 64 || largest < 1 << size
-        }
+        Some(int) => int.size() == 64 || largest < 1 << int.size(),
     }
 }
 
@@ -69,22 +73,13 @@ fn numbers_fit(alloc: Global, stream: &StreamType) -> Result<(), ConfFault>
     }
 }
 
-/// Whether no array in the elements is empty.
-#[cycle(bits)]
-fn element_has_bits(element: &Element) -> bool
-    ensures { result ≡ list_all (λ n. nat_lt 0 n) element.now.lengths }
-{
-    field_has_bits(element.field_type())
-}
-
 /// Whether a field has bits: no array in it is empty.
-#[cycle(bits)]
 fn field_has_bits(field: &FieldType) -> bool
     ensures { result ≡ list_all (λ n. nat_lt 0 n) (chain_of field.now).lengths }
 {
     match field {
         FieldType::Int(_) | FieldType::Enum(_) | FieldType::Str => true,
-        FieldType::Static(element, length) => *length > 0 && element_has_bits(element),
+        FieldType::Static(element, length) => *length > 0 && field_has_bits(element.field_type()),
     }
 }
 
@@ -119,52 +114,30 @@ fn header_has_bits(stream: &StreamType) -> bool
         || struct_has_bits(&stream.common)
 }
 
-#[tactic(auto, unfolding(crate::specs::StreamRules::event_has_bits))]
-fn event_has_bits(event: &EventType) -> bool
-    ensures { result ≡ event_has_bits_is event.now }
-{
-    struct_has_bits(&event.specific) || struct_has_bits(&event.payload)
-}
-
-#[tactic(auto, unfolding(crate::specs::StreamRules::event_bits))]
-fn event_bits(alloc: Global, header: bool, event: &EventType) -> Result<(), ConfFault>
-    ensures { Gives (λ _. tt) result (event_bits_is header event.now) }
-{
-    if header || event_has_bits(event) {
-        Ok(())
-    } else {
-        Err(At::Property(event.name.as_str()).fault(alloc, FaultKind::ZeroSizeRecord))
-    }
-}
-
-fn events_bits(alloc: Global, header: bool, events: &ListOf<EventType>) -> Result<(), ConfFault>
-    ensures { Gives (λ _. tt) result (events_bits_is header events.now) }
-{
-    for event in events.as_slice() {
-        event_bits(alloc, header, event)?;
-    }
-    Ok(())
-}
-
-#[tactic(auto, unfolding(crate::specs::StreamRules::records_have_bits))]
+#[tactic(auto, unfolding(crate::specs::StreamRules::records_have_bits, crate::specs::StreamRules::event_has_bits))]
 fn records_have_bits(alloc: Global, stream: &StreamType) -> Result<(), ConfFault>
     ensures { Gives (λ _. tt) result (records_have_bits_is stream.now) }
 {
-    match events_bits(alloc, header_has_bits(stream), &stream.events) {
-        Ok(()) => Ok(()),
-        Err(fault) => Err(fault.in_property(alloc, "event-record-types")),
+    let header = header_has_bits(stream);
+    for event in stream.events.as_slice() {
+        if !(header || struct_has_bits(&event.specific) || struct_has_bits(&event.payload)) {
+            return Err(
+                At::Property(event.name.as_str())
+                    .fault(alloc, FaultKind::ZeroSizeRecord)
+                    .in_property(alloc, "event-record-types"),
+            );
+        }
     }
+    Ok(())
 }
 
 fn has_clock(clocks: &ListOf<ClockType>, name: &Text) -> bool
     ensures { result ≡ has_clock_is clocks.now name.now }
 {
-    for clock in clocks.as_slice() {
-        if clock.name.as_bytes() == name.as_bytes() {
-            return true;
-        }
-    }
-    false
+    let clocks = clocks.as_slice();
+    clocks
+        .iter()
+        .any(|clock| clock.name.as_bytes() == name.as_bytes())
 }
 
 #[tactic(auto, unfolding(crate::specs::StreamRules::clock_is_there))]
@@ -184,6 +157,9 @@ enum Timestamp {
     Beginning,
     End,
 }
+
+/// The timestamps in the order in which they are judged.
+const TIMESTAMPS: [Timestamp; 3] = [Timestamp::Record, Timestamp::Beginning, Timestamp::End];
 
 /// The field of a timestamp, if it is on.
 #[tactic(auto, unfolding(crate::specs::StreamRules::field_of))]
@@ -211,24 +187,15 @@ fn timestamp_fault(alloc: Global, timestamp: Timestamp, kind: FaultKind) -> Conf
     }
 }
 
-/// Refuses a timestamp that is on without a clock.
+/// Whether a timestamp, if it is on, has a clock.
 #[tactic(auto, unfolding(crate::specs::StreamRules::is_clocked))]
-fn timestamp_clocked(
-    alloc: Global,
-    stream: &StreamType,
-    timestamp: Timestamp,
-) -> Result<(), ConfFault>
-    ensures { Gives (λ _. tt) result
-        (unless (is_clocked stream.now timestamp) (timestamp_flaw timestamp NoClock)) }
+fn is_clocked(stream: &StreamType, timestamp: Timestamp) -> bool
+    ensures { result ≡ is_clocked_is stream.now timestamp }
 {
-    if stream.default_clock.is_some() || field_of(stream, timestamp).is_none() {
-        Ok(())
-    } else {
-        Err(timestamp_fault(alloc, timestamp, FaultKind::NoClock))
-    }
+    stream.default_clock.is_some() || field_of(stream, timestamp).is_none()
 }
 
-#[tactic(auto, unfolding(crate::specs::StreamRules::clocks_are_there, crate::specs::StreamRules::timestamps_judged))]
+#[tactic(auto, unfolding(crate::specs::StreamRules::clocks_are_there))]
 fn clocks_are_there(
     alloc: Global,
     clocks: &ListOf<ClockType>,
@@ -239,68 +206,42 @@ fn clocks_are_there(
     if !clock_is_there(clocks, &stream.default_clock) {
         return Err(At::Property("$default-clock-type-name").fault(alloc, FaultKind::NoClock));
     }
-    timestamp_clocked(alloc, stream, Timestamp::Record)?;
-    timestamp_clocked(alloc, stream, Timestamp::Beginning)?;
-    timestamp_clocked(alloc, stream, Timestamp::End)
-}
-
-/// Whether a timestamp that is on has 64 bits.
-#[tactic(auto, unfolding(crate::specs::StreamRules::is_whole))]
-fn is_whole(feature: &Option<IntType>) -> bool
-    ensures { result ≡ is_whole_is feature.now }
-{
-    match feature {
-        None => true,
-        Some(int) => int.size() == 64,
+    for timestamp in TIMESTAMPS {
+        if !is_clocked(stream, timestamp) {
+            return Err(timestamp_fault(alloc, timestamp, FaultKind::NoClock));
+        }
     }
+    Ok(())
 }
 
-/// Whether an event record's timestamp, if it is on, has a size that tells clock values beside this beginning timestamp.
-#[tactic(auto, unfolding(crate::specs::StreamRules::has_record_size))]
-fn has_record_size(begin: &Option<IntType>, feature: &Option<IntType>) -> bool
-    ensures { result ≡ has_record_size_is begin.now feature.now }
-{
-    match feature {
-        None => true,
-        Some(int) => int.size() >= 8 && (int.size() == 64 || begin.is_some()),
-    }
-}
-
-#[tactic(auto, unfolding(crate::specs::StreamRules::is_sized))]
+/// Whether a timestamp, if it is on, has a size that tells clock values: 64 bits, or, where a packet has a beginning
+/// timestamp, 8 at least for an event record's.
+#[tactic(auto, unfolding(crate::specs::StreamRules::is_sized, crate::specs::StreamRules::is_whole, crate::specs::StreamRules::has_record_size, crate::specs::StreamRules::field_of))]
 fn is_sized(stream: &StreamType, timestamp: Timestamp) -> bool
     ensures { result ≡ is_sized_is stream.now timestamp }
 {
-    let begin = &stream.context.timestamp_begin;
+    let Some(int) = field_of(stream, timestamp) else {
+        return true;
+    };
+    let is_whole = int.size() == 64;
     match timestamp {
-        Timestamp::Record => has_record_size(begin, &stream.event_header.timestamp),
-        Timestamp::Beginning => is_whole(begin),
-        Timestamp::End => is_whole(&stream.context.timestamp_end),
+        Timestamp::Record => {
+            int.size() >= 8 && (is_whole || stream.context.timestamp_begin.is_some())
+        }
+        Timestamp::Beginning | Timestamp::End => is_whole,
     }
 }
 
-/// Refuses a timestamp that is on and has not its size.
-fn timestamp_sized(
-    alloc: Global,
-    stream: &StreamType,
-    timestamp: Timestamp,
-) -> Result<(), ConfFault>
-    ensures { Gives (λ _. tt) result
-        (unless (is_sized_is stream.now timestamp) (timestamp_flaw timestamp TimestampSize)) }
-{
-    if is_sized(stream, timestamp) {
-        Ok(())
-    } else {
-        Err(timestamp_fault(alloc, timestamp, FaultKind::TimestampSize))
-    }
-}
-
-#[tactic(auto, unfolding(crate::specs::StreamRules::timestamps_sized, crate::specs::StreamRules::timestamps_judged))]
+#[tactic(auto, unfolding(crate::specs::StreamRules::timestamps_sized))]
 fn timestamps_sized(alloc: Global, stream: &StreamType) -> Result<(), ConfFault>
     ensures { Gives (λ _. tt) result (timestamps_sized_is stream.now) }
 {
-    timestamp_sized(alloc, stream, Timestamp::Record)?;
-    timestamp_sized(alloc, stream, Timestamp::Beginning)?;
-    timestamp_sized(alloc, stream, Timestamp::End)
+    for timestamp in TIMESTAMPS {
+        if !is_sized(stream, timestamp) {
+            return Err(timestamp_fault(alloc, timestamp, FaultKind::TimestampSize));
+        }
+    }
+    Ok(())
 }
 
 #[tactic(auto, unfolding(crate::specs::StreamRules::judged))]
@@ -320,35 +261,6 @@ fn judged(
     }
 }
 
-#[tactic(auto, unfolding(crate::specs::StreamRules::judged_by_name))]
-fn judged_by_name(
-    alloc: Global,
-    rule: StreamRule,
-    clocks: &ListOf<ClockType>,
-    stream: &StreamType,
-) -> Result<(), ConfFault>
-    ensures { Gives (λ _. tt) result (judged_by_name_is rule clocks.now stream.now) }
-{
-    match judged(alloc, rule, clocks, stream) {
-        Ok(()) => Ok(()),
-        Err(fault) => Err(fault.in_property(alloc, stream.name.as_str())),
-    }
-}
-
-fn all_judged(
-    alloc: Global,
-    rule: StreamRule,
-    clocks: &ListOf<ClockType>,
-    streams: &ListOf<StreamType>,
-) -> Result<(), ConfFault>
-    ensures { Gives (λ _. tt) result (all_judged_is rule clocks.now streams.now) }
-{
-    for stream in streams.as_slice() {
-        judged_by_name(alloc, rule, clocks, stream)?;
-    }
-    Ok(())
-}
-
 /// Refuses the first data stream type that breaks the rule.
 #[tactic(auto, unfolding(crate::specs::StreamRules::streams_judged))]
 pub(crate) fn check_streams(
@@ -358,13 +270,11 @@ pub(crate) fn check_streams(
 ) -> Result<(), ConfFault>
     ensures { Gives (λ _. tt) result (streams_judged_is rule config.now) }
 {
-    match all_judged(alloc, rule, &config.clocks, &config.streams) {
-        Ok(()) => Ok(()),
-        Err(fault) => Err(
-            fault
-                .in_property(alloc, "data-stream-types")
-                .in_property(alloc, "type")
-                .in_property(alloc, "trace"),
-        ),
+    for stream in config.streams.as_slice() {
+        if let Err(fault) = judged(alloc, rule, &config.clocks, stream) {
+            let fault = fault.in_property(alloc, stream.name.as_str());
+            return Err(in_type(alloc, fault.in_property(alloc, "data-stream-types")));
+        }
     }
+    Ok(())
 }

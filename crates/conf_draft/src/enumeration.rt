@@ -1,7 +1,8 @@
 //! Enumeration field types (barectf 3.1, "Enumeration field type objects").
-ghost use Rattle.std.specs.Prelude.{◌≡◌, ◌++◌, Some, IsSome, IfOk, OnOk, option_map};
+ghost use Rattle.std.specs.Prelude.{◌≡◌, ◌++◌, Some, IsSome, IfOk, OnOk, codes, option_map};
 ghost use Rattle.serde_json.specs.View.{view, items_view, members_view};
-ghost use Rattle.conf_draft.specs.Enumerations.{enumeration as enumeration_of, mappings_or_none, labels_in, ranges_of, ranges_in, low as low_of, high as high_of, whole as whole_of, first_item as first_item_of, second_item as second_item_of};
+ghost use Rattle.conf_draft.specs.Enumerations.{enumeration as enumeration_of, mappings_or_none, ranges_of, low as low_of, high as high_of, whole as whole_of, second_item as second_item_of};
+ghost use Rattle.conf_draft.specs.Lookups.{object as object_in};
 
 use crate::integer::integer;
 use crate::lookup::object;
@@ -19,37 +20,29 @@ pub(crate) fn enumeration(
     requires { IsSome (enumeration_of signed (members_view members.now.entries)) }
     ensures { IfOk result (λ t. enumeration_of signed (members_view members.now.entries) ≡ Some t) }
 {
-    let mappings = mappings(alloc, object(members, "mappings"))?;
+    let mappings = mappings(alloc, members)?;
     Ok(EnumType {
         int: integer(signed, members),
         mappings,
     })
 }
 
-fn mappings(
-    alloc: Global,
-    labels: Option<&Map<String, Value>>,
-) -> Result<ListOf<Mapping>, AllocError>
-    ensures { IfOk result (λ m. m ≡ mappings_or_none (option_map (λ l. members_view l.now.entries) labels.entry)) }
-{
-    match labels {
-        Some(labels) => mappings_of(alloc, labels),
-        None => Ok(ListOf::new(alloc)),
-    }
-}
-
-/// The mappings of all labels, in byte order of the labels.
+/// The mappings of all labels, in byte order of the labels. Left out, there are none.
 #[tactic(auto, using(crate::proofs::Lists::behind_many))]
-fn mappings_of(alloc: Global, labels: &Map<String, Value>) -> Result<ListOf<Mapping>, AllocError>
-    ensures { IfOk result (λ m. m ≡ labels_in (members_view labels.now.entries)) }
+fn mappings(alloc: Global, members: &Map<String, Value>) -> Result<ListOf<Mapping>, AllocError>
+    ensures { IfOk result (λ m. m ≡ mappings_or_none (object_in (codes "mappings") (members_view members.now.entries))) }
 {
     let mut mappings = ListOf::new(alloc);
+    let Some(labels) = object(members, "mappings") else {
+        return Ok(mappings);
+    };
     for (label, ranges) in labels.iter() {
         push_ranges(alloc, &mut mappings, label.as_str(), ranges)?;
     }
     Ok(mappings)
 }
 
+#[tactic(auto, using(crate::proofs::Lists::behind_one))]
 fn push_ranges(
     alloc: Global,
     mappings: &mut ListOf<Mapping>,
@@ -58,56 +51,26 @@ fn push_ranges(
 ) -> Result<(), AllocError>
     ensures { OnOk result (mappings.new ≡ mappings.old ++ ranges_of label.now (view ranges.now)) }
 {
-    match ranges {
-        Value::Array(items) => push_items(alloc, mappings, label, items),
-        _ => Ok(()),
-    }
-}
-
-#[tactic(auto, using(crate::proofs::Lists::behind_one))]
-fn push_items(
-    alloc: Global,
-    mappings: &mut ListOf<Mapping>,
-    label: &str,
-    ranges: &Vec<Value>,
-) -> Result<(), AllocError>
-    ensures { OnOk result (mappings.new ≡ mappings.old ++ ranges_in label.now (items_view ranges.now.items)) }
-{
-    for range in ranges {
+    let Value::Array(items) = ranges else {
+        return Ok(());
+    };
+    for range in items {
         let label = Text::from_str(alloc, label)?;
-        mappings.push(Mapping {
-            label,
-            low: low(range),
-            high: high(range),
-        })?;
+        let (low, high) = ends(range);
+        mappings.push(Mapping { label, low, high })?;
     }
     Ok(())
 }
 
-/// The lowest number of a range: a number, or the first of two.
-fn low(range: &Value) -> i128
-    ensures { result ≡ low_of (view range.now) }
+/// The lowest and the highest number of a range: a number, or two.
+fn ends(range: &Value) -> (i128, i128)
+    ensures low { result.0 ≡ low_of (view range.now) }
+    ensures high { result.1 ≡ high_of (view range.now) }
 {
     match range {
-        Value::Array(ends) => whole(first_item(ends)),
-        _ => whole(Some(range)),
+        Value::Array(ends) => (whole(ends.first()), whole(second_item(ends))),
+        _ => (whole(Some(range)), whole(Some(range))),
     }
-}
-
-/// The highest number of a range: a number, or the second of two.
-fn high(range: &Value) -> i128
-    ensures { result ≡ high_of (view range.now) }
-{
-    match range {
-        Value::Array(ends) => whole(second_item(ends)),
-        _ => whole(Some(range)),
-    }
-}
-
-fn first_item(items: &Vec<Value>) -> Option<&Value>
-    ensures { option_map (λ v. view v.now) result ≡ first_item_of (items_view items.now.items) }
-{
-    items.first()
 }
 
 fn second_item(items: &Vec<Value>) -> Option<&Value>

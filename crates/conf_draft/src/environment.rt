@@ -1,7 +1,7 @@
 //! The environment of a trace (barectf 3.1, "Trace object").
 ghost use Rattle.std.specs.Prelude.{◌≡◌, IfOk};
 ghost use Rattle.serde_json.specs.View.{view, members_view};
-ghost use Rattle.conf_draft.specs.Environments.{environment as environment_in, entries_in, entry_value as entry_value_of};
+ghost use Rattle.conf_draft.specs.Environments.{environment as environment_in, entry_value as entry_value_of};
 
 use crate::lookup::object;
 use ctf_types::{EnvironmentEntry, EnvironmentValue, ListOf, Text};
@@ -9,27 +9,17 @@ use serde_json::{Map, Value};
 use std::alloc::{AllocError, Global};
 
 /// The entries of a trace's environment, in byte order of their names.
-#[tactic(auto, unfolding(crate::specs::Environments::environment))]
+#[tactic(auto, using(crate::proofs::Lists::behind_one), unfolding(crate::specs::Environments::environment))]
 pub(crate) fn environment(
     alloc: Global,
     trace: &Map<String, Value>,
 ) -> Result<ListOf<EnvironmentEntry>, AllocError>
     ensures { IfOk result (λ e. e ≡ environment_in (members_view trace.now.entries)) }
 {
-    match object(trace, "environment") {
-        Some(named) => entries(alloc, named),
-        None => Ok(ListOf::new(alloc)),
-    }
-}
-
-#[tactic(auto, using(crate::proofs::Lists::behind_one))]
-fn entries(
-    alloc: Global,
-    named: &Map<String, Value>,
-) -> Result<ListOf<EnvironmentEntry>, AllocError>
-    ensures { IfOk result (λ e. e ≡ entries_in (members_view named.now.entries)) }
-{
     let mut entries = ListOf::new(alloc);
+    let Some(named) = object(trace, "environment") else {
+        return Ok(entries);
+    };
     for (name, value) in named.iter() {
         let name = Text::from_str(alloc, name.as_str())?;
         let value = entry_value(alloc, value)?;

@@ -1,7 +1,7 @@
 //! Event record types (barectf 3.1, "Event record type object").
-ghost use Rattle.std.specs.Prelude.{◌≡◌, [], Some, IsSome, IfOk, OnOk, option_map};
+ghost use Rattle.std.specs.Prelude.{◌≡◌, Some, IsSome, IfOk, OnOk, option_map};
 ghost use Rattle.serde_json.specs.View.{view, members_view};
-ghost use Rattle.conf_draft.specs.Events.{event_types as event_types_in, events_behind, entry_behind, event_type as event_type_of, level_of};
+ghost use Rattle.conf_draft.specs.Events.{event_types as event_types_in, entry_behind, event_type as event_type_of, level_of};
 
 use crate::lookup::object;
 use crate::structure::structure;
@@ -22,21 +22,10 @@ pub(crate) fn event_types(
     requires { IsSome (event_types_in (members_view levels.now.entries) (members_view stream_type.now.entries)) }
     ensures { IfOk result (λ e. event_types_in (members_view levels.now.entries) (members_view stream_type.now.entries) ≡ Some e) }
 {
-    match object(stream_type, "event-record-types") {
-        Some(named) => event_types_of(alloc, named, levels),
-        None => Ok(ListOf::new(alloc)),
-    }
-}
-
-fn event_types_of(
-    alloc: Global,
-    named: &Map<String, Value>,
-    levels: &Map<String, Value>,
-) -> Result<ListOf<EventType>, AllocError>
-    requires { IsSome (events_behind (members_view levels.now.entries) [] (members_view named.now.entries)) }
-    ensures { IfOk result (λ e. events_behind (members_view levels.now.entries) [] (members_view named.now.entries) ≡ Some e) }
-{
     let mut events = ListOf::new(alloc);
+    let Some(named) = object(stream_type, "event-record-types") else {
+        return Ok(events);
+    };
     for (name, value) in named.iter() {
         push_event(alloc, &mut events, name.as_str(), value, levels)?;
     }
@@ -84,9 +73,8 @@ fn event_type(
 fn log_level(value: Option<&Value>, levels: &Map<String, Value>) -> Option<u64>
     ensures { result ≡ level_of (members_view levels.now.entries) (option_map (λ v. view v.now) value.entry) }
 {
-    match value {
-        Some(Value::String(name)) => as_natural(member(levels, name.as_str())?),
-        Some(number) => as_natural(number),
-        None => None,
+    match value? {
+        Value::String(name) => as_natural(member(levels, name.as_str())?),
+        number => as_natural(number),
     }
 }

@@ -1,7 +1,7 @@
 //! Features: fields that the tracer fills itself.
-ghost use Rattle.std.specs.Prelude.{◌≡◌, ◌<◌, ◌≤◌, None, Some, IsSome, IfOk, false, option_map};
+ghost use Rattle.std.specs.Prelude.{◌≡◌, Some, IsSome, IfOk, option_map};
 ghost use Rattle.serde_json.specs.View.{view, members_view};
-ghost use Rattle.conf_draft.specs.Features.{number_type, magic_type, byte_type, if_on as if_on_of, feature_of as feature_of_value, feature as feature_in, byte_of as byte_of_value, identifier_of as identifier_of_value, identifier as identifier_in, size as size_in, mapped as mapped_of, timestamp as timestamp_in};
+ghost use Rattle.conf_draft.specs.Features.{number_type, magic_type, byte_type, if_on as if_on_of, feature as feature_in, byte_of as byte_of_value, identifier_of as identifier_of_value, identifier as identifier_in, size as size_in, mapped as mapped_of, timestamp as timestamp_in};
 
 use crate::integer::integer;
 use conf_tree::optional;
@@ -9,41 +9,25 @@ use ctf_types::{Base, IntType, Text};
 use serde_json::{Map, Value};
 use std::alloc::{AllocError, Global};
 
-/// An unsigned number of this many bits at a multiple of 8 bits.
-fn unsigned(size: u8, base: Base) -> IntType
-    requires some { 0 < size }
-    requires at_most_64 { size ≤ 64 }
-    ensures size { result.size ≡ size }
-    ensures align { result.align ≡ 8 }
-    ensures unsigned { result.signed ≡ false }
-    ensures base { result.base ≡ base }
-    ensures no_clock { result.clock ≡ None }
-{
-    match IntType::new(size, 8, false, base) {
-        Some(integer) => integer,
-        None => unreachable!(),
-    }
-}
-
 /// The type of a field that is on, where it has none of its own.
 pub(crate) fn number() -> IntType
     ensures { result ≡ number_type }
 {
-    unsigned(64, Base::Dec)
+    IntType::new(64, 8, false, Base::Dec).unwrap()
 }
 
 /// The type of the magic number.
 pub(crate) fn magic() -> IntType
     ensures { result ≡ magic_type }
 {
-    unsigned(32, Base::Hex)
+    IntType::new(32, 8, false, Base::Hex).unwrap()
 }
 
 /// The type of each byte of an identifier.
 fn byte() -> IntType
     ensures { result ≡ byte_type }
 {
-    unsigned(8, Base::Dec)
+    IntType::new(8, 8, false, Base::Dec).unwrap()
 }
 
 fn if_on(on: bool, integer: IntType) -> Option<IntType>
@@ -63,14 +47,7 @@ pub(crate) fn feature(
     requires { IsSome (feature_in name.now by_default otherwise (members_view members.now.entries)) }
     ensures { feature_in name.now by_default otherwise (members_view members.now.entries) ≡ Some result }
 {
-    feature_of(optional(members, name), by_default, otherwise)
-}
-
-fn feature_of(value: Option<&Value>, by_default: bool, otherwise: IntType) -> Option<IntType>
-    requires { IsSome (feature_of_value by_default otherwise (option_map (λ v. view v.now) value)) }
-    ensures { feature_of_value by_default otherwise (option_map (λ v. view v.now) value.entry) ≡ Some result }
-{
-    match value {
+    match optional(members, name) {
         Some(Value::Bool(on)) => if_on(*on, otherwise),
         Some(Value::Object(own)) => Some(integer(false, own)),
         _ => if_on(by_default, otherwise),
@@ -118,10 +95,7 @@ pub(crate) fn size(members: &Map<String, Value>, name: &str) -> IntType
     requires { IsSome (size_in name.now (members_view members.now.entries)) }
     ensures { size_in name.now (members_view members.now.entries) ≡ Some result }
 {
-    match feature(members, name, true, number()) {
-        Some(own) => own,
-        None => number(),
-    }
+    feature(members, name, true, number()).unwrap_or(number())
 }
 
 /// The type of a timestamp, where it is on: by default where there is a default clock, whose values it has.

@@ -3,7 +3,7 @@ ghost use Rattle.std.specs.Prelude.{◌≡◌, ◌≤◌, Some, IsSome, IfOk};
 ghost use Rattle.serde_json.specs.View.{view, members_view};
 ghost use Rattle.ctf_types.specs.declared.FieldType.TheVariants as fields;
 ghost use Rattle.ctf_types.specs.FieldTypes.{chain_of};
-ghost use Rattle.conf_draft.specs.FieldTypes.{class_of as class_of_members, length_of, of_class as of_class_of, field_type as field_type_of_data, element as element_of};
+ghost use Rattle.conf_draft.specs.FieldTypes.{class_of as class_of_members, of_class as of_class_of, field_type as field_type_of_data, element as element_of};
 
 use crate::enumeration::enumeration;
 use crate::integer::integer;
@@ -35,7 +35,7 @@ fn field_type(alloc: Global, value: &Value) -> Result<FieldType, AllocError>
 
 /// The field type that an object of this class is.
 #[cycle(field_type)]
-#[tactic(auto, unfolding(crate::specs::FieldTypes::of_class))]
+#[tactic(auto, unfolding(crate::specs::FieldTypes::of_class, crate::specs::FieldTypes::length_of))]
 pub(crate) fn of_class(
     alloc: Global,
     class: Option<Place>,
@@ -52,16 +52,12 @@ pub(crate) fn of_class(
         }
         Some(Place::SignedEnumeration) => Ok(FieldType::Enum(enumeration(alloc, true, members)?)),
         Some(Place::Str) => Ok(FieldType::Str),
-        Some(Place::StaticArray) => static_array(alloc, length(members), element(alloc, members)?),
+        Some(Place::StaticArray) => {
+            let length = natural(members, "length").unwrap_or(0);
+            static_array(alloc, length, element(alloc, members)?)
+        }
         _ => unreachable!(),
     }
-}
-
-#[tactic(auto, unfolding(crate::specs::FieldTypes::length_of))]
-fn length(members: &Map<String, Value>) -> u64
-    ensures { result ≡ length_of (members_view members.now.entries) }
-{
-    natural(members, "length").unwrap_or(0)
 }
 
 /// An array of so many elements.
@@ -69,10 +65,8 @@ fn static_array(alloc: Global, length: u64, element: FieldType) -> Result<FieldT
     requires { length ≤ 1048576 }
     ensures { IfOk result (λ t. t ≡ fields.Static (chain_of element) length) }
 {
-    match Element::new(alloc, element) {
-        Ok(element) => Ok(FieldType::Static(element, length as u32)),
-        Err(_) => Err(AllocError),
-    }
+    let element = Element::new(alloc, element)?;
+    Ok(FieldType::Static(element, length as u32))
 }
 
 /// The type of an array's elements.

@@ -1,7 +1,7 @@
 //! Integer field types (barectf 3.1, "Integer field type objects").
 ghost use Rattle.std.specs.Prelude.{◌≡◌, Some, IsSome};
 ghost use Rattle.serde_json.specs.View.{members_view};
-ghost use Rattle.conf_draft.specs.Integers.{integer as integer_of, made as made_of, base_of, size_of, align_of, default_align as default_align_of};
+ghost use Rattle.conf_draft.specs.Integers.{integer as integer_of, made as made_of, base_of};
 
 use crate::alignment::alignment;
 use crate::lookup::{natural, word};
@@ -10,13 +10,15 @@ use ctf_types::{Base, IntType};
 use serde_json::{Map, Value};
 
 /// The integer type that an object of an integer class is.
-#[tactic(auto, unfolding(crate::specs::Integers::integer))]
+#[tactic(auto, unfolding(crate::specs::Integers::integer, crate::specs::Integers::size_of, crate::specs::Integers::align_of, crate::specs::Integers::base_of))]
 pub(crate) fn integer(signed: bool, members: &Map<String, Value>) -> IntType
     requires { IsSome (integer_of signed (members_view members.now.entries)) }
     ensures { integer_of signed (members_view members.now.entries) ≡ Some result }
 {
-    let size = size(members);
-    made(size, align(size, members), signed, base(members))
+    let size = natural(members, "size").unwrap_or(0);
+    let default_align = if size % 8 == 0 { 8 } else { 1 };
+    let align = alignment(members, "alignment").unwrap_or(default_align);
+    made(size, align, signed, base(members))
 }
 
 /// The integer type of this size and this alignment in bits.
@@ -29,29 +31,6 @@ fn made(size: u64, align: u64, signed: bool, base: Base) -> IntType
         Some(made) => made,
         None => unreachable!(),
     }
-}
-
-#[tactic(auto, unfolding(crate::specs::Integers::size_of))]
-fn size(members: &Map<String, Value>) -> u64
-    ensures { result ≡ size_of (members_view members.now.entries) }
-{
-    natural(members, "size").unwrap_or(0)
-}
-
-/// The alignment in bits of an integer of this size.
-#[tactic(auto, unfolding(crate::specs::Integers::align_of))]
-fn align(size: u64, members: &Map<String, Value>) -> u64
-    requires { size ≡ size_of (members_view members.now.entries) }
-    ensures { result ≡ align_of (members_view members.now.entries) }
-{
-    alignment(members, "alignment").unwrap_or(default_align(size))
-}
-
-/// The alignment in bits of an integer of this size that has none of its own.
-fn default_align(size: u64) -> u64
-    ensures { result ≡ default_align_of size }
-{
-    if size % 8 == 0 { 8 } else { 1 }
 }
 
 /// The base in which the integer is shown, decimal where it is left out.

@@ -64,10 +64,7 @@ pub(crate) fn object_or<'v>(
     requires { members_view empty.now.entries ≡ no_members }
     ensures { members_view result.now.entries ≡ or_empty (object_in name.now (members_view members.now.entries)) }
 {
-    match object(members, name) {
-        Some(found) => found,
-        None => empty,
-    }
+    object(members, name).unwrap_or(empty)
 }
 
 /// The items of the list that the property `name` is.

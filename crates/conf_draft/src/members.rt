@@ -1,25 +1,35 @@
 //! Members lists (barectf 3.1, "Structure field type member object").
-ghost use Rattle.std.specs.Prelude.{◌≡◌, [], Some, IsSome, IfOk, OnOk, option_map};
-ghost use Rattle.serde_json.specs.View.{view, items_view, members_view};
-ghost use Rattle.conf_draft.specs.Members.{member_type as member_type_in, told_type as told_type_of, member_of as member_of_value, behind, behind_named, behind_entry, members_behind};
+ghost use Rattle.std.specs.Prelude.{◌≡◌, Some, IsSome, IfOk, OnOk, option_map};
+ghost use Rattle.serde_json.specs.View.{view, members_view};
+ghost use Rattle.conf_draft.specs.Members.{told_type as told_type_of, member_of as member_of_value, behind, behind_named, behind_entry};
+ghost use Rattle.conf_draft.specs.Structures.{listed as listed_in};
 
 use crate::field_type::{class_of, element, of_class};
+use crate::lookup::list;
 use conf_table::Place;
 use conf_tree::optional;
 use ctf_types::{Length, MemberType, Members, Text};
 use serde_json::{Map, Value};
 use std::alloc::{AllocError, Global};
 
-/// The members that the entries of a list have.
-pub(crate) fn members_of(alloc: Global, entries: &Vec<Value>) -> Result<Members, AllocError>
-    requires { IsSome (members_behind [] (items_view entries.now.items)) }
-    ensures { IfOk result (λ m. members_behind [] (items_view entries.now.items) ≡ Some m) }
+/// The members that the property `name` lists. Left out, there are none.
+#[tactic(auto, unfolding(crate::specs::Structures::listed))]
+pub(crate) fn listed(
+    alloc: Global,
+    members: &Map<String, Value>,
+    name: &str,
+) -> Result<Members, AllocError>
+    requires { IsSome (listed_in name.now (members_view members.now.entries)) }
+    ensures { IfOk result (λ m. listed_in name.now (members_view members.now.entries) ≡ Some m) }
 {
-    let mut members = Members::new(alloc);
+    let mut listed = Members::new(alloc);
+    let Some(entries) = list(members, name) else {
+        return Ok(listed);
+    };
     for entry in entries {
-        push_entry(alloc, &mut members, entry)?;
+        push_entry(alloc, &mut listed, entry)?;
     }
-    Ok(members)
+    Ok(listed)
 }
 
 fn push_entry(alloc: Global, members: &mut Members, entry: &Value) -> Result<(), AllocError>
@@ -58,10 +68,7 @@ fn push_member(
 {
     let member = member_of(alloc, value)?;
     let name = Text::from_str(alloc, name)?;
-    match members.push(name, member) {
-        Ok(()) => Ok(()),
-        Err(_) => Err(AllocError),
-    }
+    Ok(members.push(name, member)?)
 }
 
 /// The type of a member that an entry's value tells of.
@@ -75,21 +82,14 @@ fn member_of(alloc: Global, value: &Value) -> Result<MemberType, AllocError>
     }
 }
 
+#[tactic(auto, unfolding(crate::specs::Members::member_type))]
 fn told_type(alloc: Global, value: Option<&Value>) -> Result<MemberType, AllocError>
     requires { IsSome (told_type_of (option_map (λ v. view v.now) value)) }
     ensures { IfOk result (λ t. told_type_of (option_map (λ v. view v.now) value.entry) ≡ Some t) }
 {
-    match value {
-        Some(Value::Object(members)) => member_type(alloc, members),
-        _ => unreachable!(),
-    }
-}
-
-#[tactic(auto, unfolding(crate::specs::Members::member_type))]
-fn member_type(alloc: Global, members: &Map<String, Value>) -> Result<MemberType, AllocError>
-    requires { IsSome (member_type_in (members_view members.now.entries)) }
-    ensures { IfOk result (λ t. member_type_in (members_view members.now.entries) ≡ Some t) }
-{
+    let Some(Value::Object(members)) = value else {
+        unreachable!()
+    };
     match class_of(members) {
         Some(Place::DynamicArray) => Ok(MemberType::Dyn(element(alloc, members)?, Length::Auto)),
         class => Ok(MemberType::Plain(of_class(alloc, class, members)?)),

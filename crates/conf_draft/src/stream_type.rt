@@ -1,8 +1,8 @@
 //! Data stream types (barectf 3.1, "Data stream type object").
-ghost use Rattle.std.specs.Prelude.{◌≡◌, [], Some, IsSome, IfOk, OnOk};
+ghost use Rattle.std.specs.Prelude.{◌≡◌, Some, IsSome, IfOk, OnOk};
 ghost use Rattle.serde_json.specs.View.{view, members_view};
 ghost use Rattle.conf_draft.specs.Features.{context as context_in, event_header as event_header_in};
-ghost use Rattle.conf_draft.specs.Streams.{stream_types as stream_types_in, streams_behind, entry_behind, stream_type as stream_type_of, features_of};
+ghost use Rattle.conf_draft.specs.Streams.{stream_types as stream_types_in, entry_behind, stream_type as stream_type_of, features_of};
 
 use crate::event_type::event_types;
 use crate::features::{context, event_header};
@@ -23,21 +23,10 @@ pub(crate) fn stream_types(
 {
     let empty = Map::new(alloc);
     let levels = object_or(trace_type, "$log-level-aliases", &empty);
-    match object(trace_type, "data-stream-types") {
-        Some(named) => stream_types_of(alloc, named, levels),
-        None => Ok(ListOf::new(alloc)),
-    }
-}
-
-fn stream_types_of(
-    alloc: Global,
-    named: &Map<String, Value>,
-    levels: &Map<String, Value>,
-) -> Result<ListOf<StreamType>, AllocError>
-    requires { IsSome (streams_behind (members_view levels.now.entries) [] (members_view named.now.entries)) }
-    ensures { IfOk result (λ s. streams_behind (members_view levels.now.entries) [] (members_view named.now.entries) ≡ Some s) }
-{
     let mut streams = ListOf::new(alloc);
+    let Some(named) = object(trace_type, "data-stream-types") else {
+        return Ok(streams);
+    };
     for (name, value) in named.iter() {
         push_stream(alloc, &mut streams, name.as_str(), value, levels)?;
     }
@@ -60,13 +49,6 @@ fn push_stream(
     }
 }
 
-/// The fields that the tracer fills itself.
-#[derive(Drop)]
-struct OwnFields {
-    context: ContextFeatures,
-    event_header: EventFeatures,
-}
-
 #[tactic(auto, unfolding(crate::specs::Streams::stream_type))]
 fn stream_type(
     alloc: Global,
@@ -79,37 +61,35 @@ fn stream_type(
 {
     let name = Text::from_str(alloc, name)?;
     let default_clock = text(alloc, members, "$default-clock-type-name")?;
-    let own = own_fields(alloc, members, &default_clock)?;
+    let (context, event_header) = own_fields(alloc, members, &default_clock)?;
     let extras = extra_members(alloc, members, "packet-context-field-type-extra-members")?;
     let common = structure(alloc, members, "event-record-common-context-field-type")?;
     let events = event_types(alloc, members, levels)?;
     Ok(StreamType {
         name,
         default_clock,
-        context: own.context,
+        context,
         extras,
-        event_header: own.event_header,
+        event_header,
         common,
         events,
     })
 }
 
+/// The fields of the packet context and of the event record header.
 fn own_fields(
     alloc: Global,
     members: &Map<String, Value>,
     clock: &Option<Text>,
-) -> Result<OwnFields, AllocError>
+) -> Result<(ContextFeatures, EventFeatures), AllocError>
     requires context { IsSome (context_in clock.now (features_of (members_view members.now.entries))) }
     requires event_header { IsSome (event_header_in clock.now (features_of (members_view members.now.entries))) }
-    ensures context { IfOk result (λ f. context_in clock.now (features_of (members_view members.now.entries)) ≡ Some f.context) }
-    ensures event_header { IfOk result (λ f. event_header_in clock.now (features_of (members_view members.now.entries)) ≡ Some f.event_header) }
+    ensures context { IfOk result (λ f. context_in clock.now (features_of (members_view members.now.entries)) ≡ Some f.0) }
+    ensures event_header { IfOk result (λ f. event_header_in clock.now (features_of (members_view members.now.entries)) ≡ Some f.1) }
 {
     let empty = Map::new(alloc);
     let features = object_or(members, "$features", &empty);
     let context = context(alloc, features, clock)?;
     let event_header = event_header(alloc, features, clock)?;
-    Ok(OwnFields {
-        context,
-        event_header,
-    })
+    Ok((context, event_header))
 }

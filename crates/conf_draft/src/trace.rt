@@ -1,8 +1,8 @@
 //! The trace, its type, and the configuration around them (barectf 3.1, "Configuration object", "Trace object", "Trace type
 //! object").
-ghost use Rattle.std.specs.Prelude.{◌≡◌, Some, IsSome, IfOk, is_some, option_map, codes};
+ghost use Rattle.std.specs.Prelude.{◌≡◌, Some, IsSome, IfOk, is_some, codes};
 ghost use Rattle.serde_json.specs.View.{view, members_view};
-ghost use Rattle.conf_draft.specs.Traces.{draft_of as draft_of_value, draft_of_root as draft_of_root_in, draft_of_trace as draft_of_trace_in, draft_of_type as draft_of_type_in, order as order_in, draft_from, trace_order as trace_order_in, has_two_orders as has_two_orders_in, is_auto as is_auto_of, asks_number as asks_number_in};
+ghost use Rattle.conf_draft.specs.Traces.{draft_of as draft_of_value, draft_of_type as draft_of_type_in, order as order_in, draft_from, trace_order as trace_order_in, has_two_orders as has_two_orders_in, asks_number as asks_number_in};
 ghost use Rattle.conf_draft.specs.Lookups.{word as word_in};
 
 use crate::clock_type::clock_types;
@@ -21,45 +21,17 @@ use uuid::Uuid;
 
 /// What a resolved configuration says, whose objects have no flaw. `number` is the trace's identifier where the configuration
 /// asks for one to be handed in.
+#[tactic(auto, unfolding(crate::specs::Traces::draft_of_root, crate::specs::Traces::draft_of_trace))]
 pub fn draft_of(alloc: Global, number: Option<Uuid>, value: &Value) -> Result<Draft, AllocError>
     requires { IsSome (draft_of_value number (view value.now)) }
     ensures { IfOk result (λ d. draft_of_value number (view value.now) ≡ Some d) }
 {
-    match value {
-        Value::Object(root) => draft_of_root(alloc, number, root),
-        _ => unreachable!(),
-    }
-}
-
-#[tactic(auto, unfolding(crate::specs::Traces::draft_of_root))]
-fn draft_of_root(
-    alloc: Global,
-    number: Option<Uuid>,
-    root: &Map<String, Value>,
-) -> Result<Draft, AllocError>
-    requires { IsSome (draft_of_root_in number (members_view root.now.entries)) }
-    ensures { IfOk result (λ d. draft_of_root_in number (members_view root.now.entries) ≡ Some d) }
-{
-    match object(root, "trace") {
-        Some(trace) => draft_of_trace(alloc, number, trace),
-        None => unreachable!(),
-    }
-}
-
-#[tactic(auto, unfolding(crate::specs::Traces::draft_of_trace))]
-fn draft_of_trace(
-    alloc: Global,
-    number: Option<Uuid>,
-    trace: &Map<String, Value>,
-) -> Result<Draft, AllocError>
-    requires { IsSome (draft_of_trace_in number (members_view trace.now.entries)) }
-    ensures { IfOk result (λ d. draft_of_trace_in number (members_view trace.now.entries) ≡ Some d) }
-{
+    let Value::Object(root) = value else {
+        unreachable!()
+    };
+    let trace = object(root, "trace").unwrap();
     let environment = environment(alloc, trace)?;
-    match object(trace, "type") {
-        Some(trace_type) => draft_of_type(alloc, number, environment, trace_type),
-        None => unreachable!(),
-    }
+    draft_of_type(alloc, number, environment, object(trace, "type").unwrap())
 }
 
 #[tactic(auto, unfolding(crate::specs::Traces::draft_of_type))]
@@ -122,10 +94,9 @@ fn order(trace_type: &Map<String, Value>, name: &str) -> Option<ByteOrder>
 fn trace_order(trace_type: &Map<String, Value>) -> ByteOrder
     ensures { result ≡ trace_order_in (members_view trace_type.now.entries) }
 {
-    match order(trace_type, "trace-byte-order") {
-        Some(order) => order,
-        None => order(trace_type, "native-byte-order").unwrap_or(ByteOrder::Little),
-    }
+    order(trace_type, "trace-byte-order")
+        .or(order(trace_type, "native-byte-order"))
+        .unwrap_or(ByteOrder::Little)
 }
 
 #[tactic(auto, unfolding(crate::specs::Traces::has_two_orders))]
@@ -142,20 +113,10 @@ fn has_uuid(trace_type: &Map<String, Value>) -> bool
     word(trace_type, "uuid").is_some()
 }
 
-/// Whether an identifier is asked for that is handed in.
-fn is_auto(uuid: Option<&str>) -> bool
-    ensures { result ≡ is_auto_of (option_map (λ s. s.now) uuid.entry) }
-{
-    match uuid {
-        Some(word) => word == "auto",
-        None => false,
-    }
-}
-
 /// Whether a trace type asks for an identifier that is handed in.
 #[tactic(auto, unfolding(crate::specs::Traces::asks_number))]
 fn asks_number(trace_type: &Map<String, Value>) -> bool
     ensures { result ≡ asks_number_in (members_view trace_type.now.entries) }
 {
-    is_auto(word(trace_type, "uuid"))
+    word(trace_type, "uuid").is_some_and(|word| word == "auto")
 }

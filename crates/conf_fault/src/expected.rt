@@ -65,24 +65,12 @@ pub(crate) fn push_words(said: &mut String, words: &[&str]) -> Result<(), AllocE
     said.push('`')
 }
 
-/// The names of an object's properties.
-fn property_names(alloc: Global, holder: Place) -> Result<Vec<&'static str>, AllocError> {
-    let mut names = Vec::new(alloc);
-    for (name, _, _) in rows(holder) {
-        names.push(*name)?;
-    }
-    Ok(names)
-}
-
 /// The words of the classes that may stand at a position.
-fn classes_at(alloc: Global, position: Place) -> Result<Vec<&'static str>, AllocError> {
-    let mut words = Vec::new(alloc);
-    for (word, class) in class_words() {
-        if position.admits(*class) {
-            words.push(*word)?;
-        }
-    }
-    Ok(words)
+pub(crate) fn classes_at(alloc: Global, position: Place) -> Result<Vec<&'static str>, AllocError> {
+    let classes = class_words()
+        .iter()
+        .filter(|(_, class)| position.admits(*class));
+    classes.map(|(word, _)| *word).collect(alloc)
 }
 
 /// Adds the properties of an object, with the one most like `name`.
@@ -92,7 +80,10 @@ pub(crate) fn push_properties(
     holder: Place,
     name: &str,
 ) -> Result<(), AllocError> {
-    let names = property_names(alloc, holder)?;
+    let names: Vec<&str> = rows(holder)
+        .iter()
+        .map(|(name, _, _)| *name)
+        .collect(alloc)?;
     push_words(said, names.as_slice())?;
     push_nearest(said, name, names.as_slice())
 }
@@ -115,30 +106,7 @@ fn described(place: Place) -> &'static str {
         Place::Range => "a whole number, or a list of the lowest and the highest of a range",
         Place::Scalar => "a value",
         Place::Ignored => "any value",
-        _ => match entries(place) {
-            Some(entries) => {
-                if entries.keys == Keys::Index {
-                    "a list"
-                } else {
-                    "an object"
-                }
-            }
-            None => "an object",
-        },
-    }
-}
-
-/// Adds the word of a choice that is most like one that is none of them.
-pub(crate) fn push_nearest_word(
-    alloc: Global,
-    said: &mut String,
-    content: Option<Content>,
-    position: Place,
-    word: &str,
-) -> Result<(), AllocError> {
-    match content {
-        Some(Content::Word(choice)) => push_nearest(said, word, words_in(choice)),
-        Some(Content::Class) => push_nearest(said, word, classes_at(alloc, position)?.as_slice()),
-        _ => Ok(()),
+        _ if entries(place).is_some_and(|entries| entries.keys == Keys::Index) => "a list",
+        _ => "an object",
     }
 }

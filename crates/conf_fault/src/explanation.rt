@@ -42,7 +42,7 @@ fn push_placed(source: Source<'_>, said: &mut String, fault: &ConfFault) -> Resu
 {
     let found = source.find(fault.path.as_slice())?;
     let layer = found.layer();
-    let at = if is_of_the_name(fault.kind) {
+    let at = if name_words(fault.kind).is_some() {
         layer.key
     } else {
         layer.at
@@ -50,14 +50,9 @@ fn push_placed(source: Source<'_>, said: &mut String, fault: &ConfFault) -> Resu
     push_place(source.alloc, said, line_column(source.text, at))?;
     push_path(source.alloc, said, fault.path.as_slice())?;
     push_alias(source, said, layer.alias)?;
-    push_standing(source, said, &found, fault.kind)?;
+    push_standing(said, &found, fault.kind)?;
     said.push_str(": expected ")?;
-    said.push_str(wanted_words(source, &found, fault)?.as_str())
-}
-
-/// Whether a fault of this kind is the name's, and not its value's.
-fn is_of_the_name(kind: FaultKind) -> bool {
-    name_words(kind).is_some()
+    said.push_str(wanted_words(&found, fault)?.as_str())
 }
 
 fn push_path(alloc: Global, said: &mut String, path: &[Step]) -> Result<(), AllocError>
@@ -97,12 +92,7 @@ fn push_alias(source: Source<'_>, said: &mut String, alias: Option<usize>) -> Re
     said.push_str("`: ")
 }
 
-fn push_standing(
-    source: Source<'_>,
-    said: &mut String,
-    found: &Found,
-    kind: FaultKind,
-) -> Result<(), AllocError>
+fn push_standing(said: &mut String, found: &Found<'_>, kind: FaultKind) -> Result<(), AllocError>
     ensures { OnOk result (Adds (IsStanding kind) (string_bytes said.old) (string_bytes said.new)) }
 {
     if let Some(words) = name_words(kind) {
@@ -111,8 +101,8 @@ fn push_standing(
     if !found.is_there {
         return said.push_str("missing");
     }
-    match source.value_of(found.layer().at)? {
-        Some(value) => push_cut(said, format!(in source.alloc; "{value}")?.as_str()),
+    match found.source.value_of(found.layer().at)? {
+        Some(value) => push_cut(said, format!(in found.source.alloc; "{value}")?.as_str()),
         None => push_cut(said, "a value"),
     }
 }

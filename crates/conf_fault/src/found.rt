@@ -8,7 +8,8 @@ use std::alloc::AllocError;
 
 /// How far a path leads in the text.
 #[derive(Drop)]
-pub(crate) struct Found {
+pub(crate) struct Found<'t> {
+    pub source: Source<'t>,
     /// The value there, before what it is laid over.
     pub layers: Vec<Layer>,
     /// What holds the value of the last step: a position of field types, or what it is.
@@ -21,31 +22,20 @@ pub(crate) struct Found {
     pub is_there: bool,
 }
 
-impl Found {
+impl<'t> Found<'t> {
     /// The nearest value there.
     pub(crate) fn layer(&self) -> Layer {
-        match self.layers.first() {
-            Some(layer) => *layer,
-            None => Layer {
-                key: 0,
-                at: 0,
-                alias: None,
-            },
-        }
+        self.layers.first().copied().unwrap_or_default()
     }
 }
 
 impl<'t> Source<'t> {
     /// The value to which the path leads, or the last one on the way that is there.
-    pub(crate) fn find(&self, path: &[Step]) -> Result<Found, AllocError> {
-        let start = self.start();
+    pub(crate) fn find(&self, path: &[Step]) -> Result<Found<'t>, AllocError> {
         let mut layers = Vec::new(self.alloc);
-        layers.push(Layer {
-            key: start,
-            at: start,
-            alias: None,
-        })?;
+        layers.push(self.root())?;
         let mut found = Found {
+            source: *self,
             layers,
             position: Place::Root,
             holder: Place::Root,
@@ -63,22 +53,15 @@ impl<'t> Source<'t> {
     /// Goes one step further. False where nothing is there.
     fn step(
         &self,
-        found: &mut Found,
+        found: &mut Found<'_>,
         step: &Step,
         next: Option<&Step>,
     ) -> Result<bool, AllocError> {
-        let position = match found.content {
-            Some(content) => content.place(),
-            None => Place::Ignored,
-        };
+        let position = place_of(found.content);
         let holder = self.class_of(found.layers.as_slice(), position)?;
         let told = told(holder, step);
-        let below = match told {
-            Some(content) => content.place(),
-            None => Place::Ignored,
-        };
         let inner = self.inside(found.layers.as_slice(), holder, step, next)?;
-        let layers = self.followed(inner, below)?;
+        let layers = self.followed(inner, place_of(told))?;
         found.position = position;
         found.holder = holder;
         found.content = told;
@@ -95,14 +78,10 @@ impl<'t> Source<'t> {
             return Ok(position);
         }
         for layer in layers {
-            if let Some(class) = self.member(layer.at, "class")? {
-                let Some(word) = self.text_of(class.at)? else {
-                    return Ok(position);
-                };
-                return Ok(match class_place(word.as_str()) {
-                    Some(place) => place,
-                    None => position,
-                });
+            if let Some(class) = self.member(*layer, "class")? {
+                let word = self.text_of(class.at)?;
+                let class = word.and_then(|word| class_place(word.as_str()));
+                return Ok(class.unwrap_or(position));
             }
         }
         Ok(position)
@@ -113,9 +92,11 @@ impl<'t> Source<'t> {
 fn told(holder: Place, step: &Step) -> Option<Content> {
     match step {
         Step::Key(name) => content(holder, name.as_str()),
-        Step::Index(_) => {
-            let entries = entries(holder)?;
-            Some(entries.content)
-        }
+        Step::Index(_) => Some(entries(holder)?.content),
     }
+}
+
+/// The place that a value of this content is.
+fn place_of(content: Option<Content>) -> Place {
+    content.map_or(Place::Ignored, |content| content.place())
 }

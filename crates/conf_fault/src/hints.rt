@@ -29,37 +29,32 @@ fn push_yaml_hint(text: &[u8], said: &mut String) -> Result<(), AllocError>
     Ok(())
 }
 
-/// Adds what helps where a property is missing.
-pub(crate) fn push_missing_hint(
+/// Adds what helps where a property is missing, or a name is at fault.
+pub(crate) fn push_hint(
     source: Source<'_>,
     said: &mut String,
-    path: &[Step],
-) -> Result<(), AllocError> {
-    let root = source.start();
-    let is_second = path.len() == 1
-        && (source.member(root, "metadata")?.is_some()
-            || source.member(root, "version")?.is_some());
-    if is_second {
-        said.push_str(
-            "; this looks like a configuration of barectf 2, and ctftrace reads those of barectf 3",
-        )?;
-    }
-    Ok(())
-}
-
-/// Adds what helps where a name is at fault.
-pub(crate) fn push_name_hint(
-    said: &mut String,
     kind: FaultKind,
+    path: &[Step],
     name: &str,
 ) -> Result<(), AllocError> {
-    if kind == FaultKind::Unknown && name == "$include" {
-        return said.push_str("; tools/yaml_to_json puts in what `$include` names");
+    match kind {
+        FaultKind::Missing if path.len() == 1 && is_of_barectf_2(source)? => said.push_str(
+            "; this looks like a configuration of barectf 2, and ctftrace reads those of barectf 3",
+        ),
+        FaultKind::Unknown if name == "$include" => said.push_str(
+            "; tools/yaml_to_json puts in what `$include` names",
+        ),
+        FaultKind::BadName if name.as_bytes().contains(&b'-') => said.push_str(
+            "; a hyphen stands in no name, `_` does",
+        ),
+        _ => Ok(()),
     }
-    if kind == FaultKind::BadName && name.as_bytes().contains(&b'-') {
-        return said.push_str("; a hyphen stands in no name, `_` does");
-    }
-    Ok(())
+}
+
+/// Whether the configuration has a property of barectf 2.
+fn is_of_barectf_2(source: Source<'_>) -> Result<bool, AllocError> {
+    let root = source.root();
+    Ok(source.member(root, "metadata")?.is_some() || source.member(root, "version")?.is_some())
 }
 
 /// Adds what helps where a class is none.

@@ -43,11 +43,7 @@ fn longest_front(alloc: Global, text: &[u8]) -> Result<usize, AllocError>
 fn begins_json(alloc: Global, text: &[u8]) -> Result<bool, AllocError> {
     match Value::from_slice(alloc, text) {
         Ok(_) => Ok(true),
-        Err(error) => {
-            if error.is_memory() {
-                return Err(AllocError);
-            }
-            Ok(error.is_eof())
-        }
+        Err(error) if error.is_memory() => Err(AllocError),
+        Err(error) => Ok(error.is_eof()),
     }
 }

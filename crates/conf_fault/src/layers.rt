@@ -1,6 +1,5 @@
 //! Where the parts of a field type stand that inherits: a value, and what it is laid over.
 
-use crate::child::Child;
 use crate::source::Source;
 use conf_table::Place;
 use conf_tree::Step;
@@ -10,23 +9,13 @@ use std::alloc::AllocError;
 const MOST_LAYERS: usize = 4096;
 
 /// A value as the text has it, which may be laid over others.
-#[derive(Clone, Copy)]
+#[derive(Clone, Copy, Default)]
 pub(crate) struct Layer {
     /// Where its name begins, and of an item where it itself does.
     pub key: usize,
     pub at: usize,
     /// Where the name of the alias begins in which it stands.
     pub alias: Option<usize>,
-}
-
-impl Layer {
-    pub(crate) fn new(child: Child, alias: Option<usize>) -> Layer {
-        Layer {
-            key: child.key,
-            at: child.at,
-            alias,
-        }
-    }
 }
 
 /// Whether the name of an alias or an object that inherits can stand here.
@@ -65,7 +54,6 @@ impl<'t> Source<'t> {
     /// Adds a value and what it inherits from. False where nothing behind it counts any more.
     fn follow(&self, first: Layer, all: &mut Vec<Layer>) -> Result<bool, AllocError> {
         let mut layer = first;
-        let mut goes_on = true;
         let mut mark = first.at;
         for hop in 0..MOST_LAYERS {
             if hop.is_power_of_two() {
@@ -75,24 +63,20 @@ impl<'t> Source<'t> {
                 self.alias_at(layer.at)?
             } else {
                 all.push(layer)?;
-                match self.member(layer.at, "$inherit")? {
-                    Some(base) => Some(Layer::new(base, layer.alias)),
-                    None => return Ok(goes_on && self.is(layer.at, b'{')),
+                let base = self.member(layer, "$inherit")?;
+                if base.is_none() {
+                    return Ok(hop == 0 && self.is(layer.at, b'{'));
                 }
+                base
             };
-            goes_on = false;
-            match next {
-                Some(value) => {
-                    if value.at == mark {
-                        break;
-                    }
-                    layer = value;
-                }
-                None => {
-                    all.push(layer)?;
-                    return Ok(false);
-                }
+            let Some(value) = next else {
+                all.push(layer)?;
+                return Ok(false);
+            };
+            if value.at == mark {
+                break;
             }
+            layer = value;
         }
         all.push(first)?;
         Ok(false)
@@ -103,30 +87,23 @@ impl<'t> Source<'t> {
         let Some(name) = self.text_of(at)? else {
             return Ok(None);
         };
-        let Some(aliases) = self.aliases()? else {
-            return Ok(None);
-        };
-        match self.member(aliases, name.as_str())? {
-            Some(alias) => Ok(Some(Layer::new(alias, Some(alias.key)))),
-            None => Ok(None),
-        }
+        let alias = self.property(&["trace", "type", "$field-type-aliases", name.as_str()])?;
+        Ok(alias.map(|alias| Layer {
+            alias: Some(alias.key),
+            ..alias
+        }))
     }
 
-    /// Where the object of the field type aliases begins.
-    pub(crate) fn aliases(&self) -> Result<Option<usize>, AllocError> {
-        self.property(&["trace", "type", "$field-type-aliases"])
-    }
-
-    /// Where the property begins to which these names lead.
-    pub(crate) fn property(&self, names: &[&str]) -> Result<Option<usize>, AllocError> {
-        let mut at = self.start();
+    /// The property to which these names lead.
+    pub(crate) fn property(&self, names: &[&str]) -> Result<Option<Layer>, AllocError> {
+        let mut value = self.root();
         for name in names {
-            match self.member(at, *name)? {
-                Some(child) => at = child.at,
-                None => return Ok(None),
-            }
+            let Some(member) = self.member(value, *name)? else {
+                return Ok(None);
+            };
+            value = member;
         }
-        Ok(Some(at))
+        Ok(Some(value))
     }
 
     /// The values one step into these, nearest first.
@@ -159,8 +136,8 @@ impl<'t> Source<'t> {
     ) -> Result<Vec<Layer>, AllocError> {
         let mut found = Vec::new(self.alloc);
         for layer in layers {
-            if let Some(child) = self.member(layer.at, name)? {
-                found.push(Layer::new(child, layer.alias))?;
+            if let Some(member) = self.member(*layer, name)? {
+                found.push(member)?;
             } else if place == Place::Member && name == "field-type" && self.is(layer.at, b'"') {
                 found.push(*layer)?;
             }
@@ -177,35 +154,40 @@ impl<'t> Source<'t> {
     ) -> Result<Vec<Layer>, AllocError> {
         let mut found = Vec::new(self.alloc);
         for layer in layers {
-            if let Some(entry) = self.entry(layer.at, index, name)? {
-                found.push(Layer::new(entry, layer.alias))?;
+            if let Some(entry) = self.entry(*layer, index, name)? {
+                found.push(entry)?;
             }
         }
         Ok(found)
     }
 
-    fn entry(&self, at: usize, index: usize, name: &str) -> Result<Option<Child>, AllocError> {
-        if let Some(item) = self.item(at, index) {
-            if self.member(item.at, name)?.is_some() {
-                return Ok(Some(item));
+    fn entry(&self, list: Layer, index: usize, name: &str) -> Result<Option<Layer>, AllocError> {
+        if !self.is(list.at, b'[') {
+            return Ok(None);
+        }
+        let items = self.children(list)?;
+        for item in items.get(index).into_iter().chain(items.iter()) {
+            if self.member(*item, name)?.is_some() {
+                return Ok(Some(*item));
             }
         }
-        self.item_with(at, name)
+        Ok(None)
     }
 
-    /// The item at an index of lists that are joined, the last of them first.
+    /// The item at an index of lists that are joined, the last of them first. What is no list has no items.
     fn items_of(&self, layers: &[Layer], index: usize) -> Result<Vec<Layer>, AllocError> {
         let mut found = Vec::new(self.alloc);
         let mut left = index;
         for layer in layers.iter().rev() {
-            let count = self.count(layer.at);
-            if left < count {
-                if let Some(item) = self.item(layer.at, left) {
-                    found.push(Layer::new(item, layer.alias))?;
-                }
-                return Ok(found);
+            if !self.is(layer.at, b'[') {
+                continue;
             }
-            left -= count;
+            let items = self.children(*layer)?;
+            if let Some(item) = items.get(left) {
+                found.push(*item)?;
+                break;
+            }
+            left -= items.len();
         }
         Ok(found)
     }

@@ -12,7 +12,6 @@ mod layers;
 mod line_column;
 mod named;
 mod nearest;
-mod scan;
 mod shown;
 mod source;
 mod yaml;

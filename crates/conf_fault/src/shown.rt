@@ -59,8 +59,5 @@ fn digit(number: u32) -> char
     requires { number < 16 }
     ensures { result ≡ digit_char number }
 {
-    match char::from_digit(number, 16) {
-        Some(digit) => digit,
-        None => '0',
-    }
+    char::from_digit(number, 16).unwrap_or('0')
 }

@@ -2,7 +2,7 @@
 
 ghost use Rattle.std.specs.Prelude.{◌≤◌, length};
 
-use crate::scan::is_space;
+use crate::layers::Layer;
 use serde_json::Value;
 use std::alloc::{AllocError, Global};
 
@@ -14,35 +14,26 @@ pub(crate) struct Source<'t> {
 }
 
 impl<'t> Source<'t> {
-    /// Where the outermost value begins.
-    pub(crate) fn start(&self) -> usize {
-        for at in 0..self.text.len() {
-            if !is_space(self.text[at]) {
-                return at;
-            }
+    /// The outermost value.
+    pub(crate) fn root(&self) -> Layer {
+        let start = self.text.iter().position(|byte| !is_space(*byte));
+        let at = start.unwrap_or(0);
+        Layer {
+            key: at,
+            at,
+            alias: None,
         }
-        0
-    }
-
-    /// The bytes of the value that begins at a place.
-    pub(crate) fn bytes_of(&self, at: usize) -> &'t [u8] {
-        let text = self.text;
-        if at >= text.len() {
-            return &[];
-        }
-        &text[at..at + value_length(&text[at..])]
     }
 
     /// The value that begins at a place.
     pub(crate) fn value_of(&self, at: usize) -> Result<Option<Value>, AllocError> {
-        match Value::from_slice(self.alloc, self.bytes_of(at)) {
+        let Some(text) = self.text.get(at..) else {
+            return Ok(None);
+        };
+        match Value::from_slice(self.alloc, &text[..value_length(text)]) {
             Ok(value) => Ok(Some(value)),
-            Err(error) => {
-                if error.is_memory() {
-                    return Err(AllocError);
-                }
-                Ok(None)
-            }
+            Err(error) if error.is_memory() => Err(AllocError),
+            Err(_) => Ok(None),
         }
     }
 
@@ -59,15 +50,17 @@ impl<'t> Source<'t> {
 
     /// Whether the value at a place begins with this byte.
     pub(crate) fn is(&self, at: usize, byte: u8) -> bool {
-        match self.text.get(at) {
-            Some(first) => *first == byte,
-            None => false,
-        }
+        self.text.get(at) == Some(&byte)
     }
 }
 
+/// White space of JSON.
+pub(crate) fn is_space(byte: u8) -> bool {
+    matches!(byte, b' ' | b'\t' | b'\n' | b'\r')
+}
+
 /// How many bytes of a text the JSON value is with which the text begins.
-fn value_length(text: &[u8]) -> usize
+pub(crate) fn value_length(text: &[u8]) -> usize
     ensures { result ≤ length text.now }
 {
     let mut depth = 0usize;

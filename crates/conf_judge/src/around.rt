@@ -1,8 +1,7 @@
 //! What the rest of a configuration says that a value is judged by.
-ghost use Rattle.std.specs.Prelude.{◌≡◌, option_map, codes};
+ghost use Rattle.std.specs.Prelude.{◌≡◌};
 ghost use Rattle.serde_json.specs.View.{view, members_view};
-ghost use Rattle.conf_tree.specs.Reading.{optional as optional_of};
-ghost use Rattle.conf_judge.specs.Known.{members_or_none, or_none, says_default as says_default_of, is_true as is_true_of};
+ghost use Rattle.conf_judge.specs.Known.{says_default as says_default_of};
 
 use crate::numbers::{Span, numbers_in};
 use conf_table::Place;
@@ -34,7 +33,9 @@ impl<'a> Around<'a> {
     {
         match place {
             Place::TraceType => Around {
-                levels: levels_in(members),
+                levels: optional(members, "$log-level-aliases").and_then(
+                    |aliases| aliases.as_object(),
+                ),
                 ..self
             },
             Place::UnsignedEnumeration => Around {
@@ -64,28 +65,14 @@ impl<'a> Around<'a> {
     }
 }
 
-/// The log level aliases of a trace type.
-fn levels_in(members: &Map<String, Value>) -> Option<&Map<String, Value>>
-    ensures { or_none (option_map (λ m. members_view m.now.entries) result) ≡ members_or_none (optional_of (codes "$log-level-aliases") (members_view members.now.entries)) }
-{
-    optional(members, "$log-level-aliases")?.as_object()
-}
-
 /// Whether a data stream type says that it is the default.
 fn says_default(entry: &Value) -> bool
     ensures { result ≡ says_default_of (view entry.now) }
 {
     match entry {
-        Value::Object(members) => is_true(optional(members, "$is-default")),
-        _ => false,
-    }
-}
-
-fn is_true(value: Option<&Value>) -> bool
-    ensures { result ≡ is_true_of (option_map (λ v. view v.now) value.entry) }
-{
-    match value {
-        Some(Value::Bool(flag)) => *flag,
+        Value::Object(members) => {
+            matches!(optional(members, "$is-default"), Some(Value::Bool(true)))
+        }
         _ => false,
     }
 }

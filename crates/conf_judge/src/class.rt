@@ -1,9 +1,9 @@
 //! The class of a field type: what it leads to, and whether it can stand at a place.
-ghost use Rattle.std.specs.Prelude.{◌≡◌, IfOk, option_map};
-ghost use Rattle.serde_json.specs.View.{view, members_view};
+ghost use Rattle.std.specs.Prelude.{◌≡◌, IfOk};
+ghost use Rattle.serde_json.specs.View.{members_view};
 ghost use Rattle.conf_tree.specs.Reading.{Gives};
 ghost use Rattle.conf_judge.specs.Flaws.{other_class as other_class_of, class_rule};
-ghost use Rattle.conf_judge.specs.Names.{class_of as class_of_members, class_said as class_said_of, class_named as class_named_of};
+ghost use Rattle.conf_judge.specs.Names.{class_of as class_of_members};
 ghost use Rattle.conf_judge.specs.Places.{place_of_properties};
 
 use crate::places::{is_position, own_place};
@@ -28,13 +28,8 @@ pub(crate) fn classed_place(
     let value = needed(alloc, members, "class")?;
     let word = text(alloc, At::Property("class"), value)?;
     match class_place(word) {
-        Some(class) => {
-            if place.admits(class) {
-                Ok(class)
-            } else {
-                Err(ConfFault::here(alloc, other_class(place)))
-            }
-        }
+        Some(class) if place.admits(class) => Ok(class),
+        Some(_) => Err(ConfFault::here(alloc, other_class(place))),
         None => Err(At::Property("class").fault(alloc, FaultKind::OutOfRange)),
     }
 }
@@ -55,23 +50,5 @@ fn other_class(place: Place) -> FaultKind
 pub(crate) fn class_of(members: &Map<String, Value>) -> Option<Place>
     ensures { result ≡ class_of_members (members_view members.now.entries) }
 {
-    class_said(member(members, "class"))
-}
-
-fn class_said(value: Option<&Value>) -> Option<Place>
-    ensures { result ≡ class_said_of (option_map (λ v. view v.now) value.entry) }
-{
-    match value {
-        Some(value) => class_named(value.as_str()),
-        None => None,
-    }
-}
-
-fn class_named(word: Option<&str>) -> Option<Place>
-    ensures { result ≡ class_named_of (option_map (λ s. s.now) word.entry) }
-{
-    match word {
-        Some(word) => class_place(word),
-        None => None,
-    }
+    class_place(member(members, "class")?.as_str()?)
 }

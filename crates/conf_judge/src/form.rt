@@ -1,8 +1,8 @@
 //! What kind of value stands at a place that holds others.
 ghost use Rattle.std.specs.Prelude.{◌≡◌, ◌≤◌, IfErr};
-ghost use Rattle.serde_json.specs.View.{view, items_view, members_view};
+ghost use Rattle.serde_json.specs.View.{view};
 ghost use Rattle.conf_tree.specs.Reading.{Gives};
-ghost use Rattle.conf_judge.specs.Forms.{any_object, any_list, some_items, some_members, one_member, some_list, some_object, entry, feature, size_feature, form_of, itself_of};
+ghost use Rattle.conf_judge.specs.Forms.{any_object, some_list, some_object, entry, feature, size_feature, form_of, itself_of};
 ghost use Rattle.conf_judge.specs.Known.{known_of};
 
 use crate::around::Around;
@@ -10,7 +10,7 @@ use crate::leaf::check_leaf;
 use crate::numbers::check_range;
 use conf_table::{Content, Place};
 use conf_tree::{At, ConfFault, FaultKind, list, object};
-use serde_json::{Map, Value};
+use serde_json::Value;
 use std::alloc::Global;
 
 /// Refuses a value that is of another kind than its content, or a value that holds no others and is not what it is to be.
@@ -29,7 +29,7 @@ pub(crate) fn check_itself(
     }
 }
 
-#[tactic(auto, unfolding(crate::specs::Forms::form_of))]
+#[tactic(auto, unfolding(crate::specs::Forms::form_of, crate::specs::Forms::any_list))]
 fn check_form(
     alloc: Global,
     around: &Around<'_>,
@@ -39,7 +39,10 @@ fn check_form(
     ensures { Gives (λ _. tt) result (form_of (known_of around.now) place (view value.now)) }
 {
     match place {
-        Place::Members | Place::ExtraMembers => check_any_list(alloc, value),
+        Place::Members | Place::ExtraMembers => {
+            let _ = list(alloc, At::Here, value)?;
+            Ok(())
+        }
         Place::Ranges => check_some_list(alloc, value),
         Place::Range => check_range(alloc, around.numbers, value),
         Place::Entry => check_entry(alloc, value),
@@ -53,14 +56,6 @@ fn check_form(
     }
 }
 
-#[tactic(auto, unfolding(crate::specs::Forms::any_list))]
-fn check_any_list(alloc: Global, value: &Value) -> Result<(), ConfFault>
-    ensures { Gives (λ _. tt) result (any_list (view value.now)) }
-{
-    let _ = list(alloc, At::Here, value)?;
-    Ok(())
-}
-
 #[tactic(auto, unfolding(crate::specs::Forms::any_object))]
 fn check_any_object(alloc: Global, value: &Value) -> Result<(), ConfFault>
     ensures { Gives (λ _. tt) result (any_object (view value.now)) }
@@ -69,36 +64,22 @@ fn check_any_object(alloc: Global, value: &Value) -> Result<(), ConfFault>
     Ok(())
 }
 
-#[tactic(auto, unfolding(crate::specs::Forms::some_list))]
+#[tactic(auto, unfolding(crate::specs::Forms::some_list), using(crate::proofs::Sizes::items_there))]
 fn check_some_list(alloc: Global, value: &Value) -> Result<(), ConfFault>
     ensures { Gives (λ _. tt) result (some_list (view value.now)) }
 {
-    check_some_items(alloc, list(alloc, At::Here, value)?)
-}
-
-#[tactic(auto, using(crate::proofs::Sizes::items_there))]
-fn check_some_items(alloc: Global, items: &Vec<Value>) -> Result<(), ConfFault>
-    ensures { Gives (λ _. tt) result (some_items (items_view items.now.items)) }
-{
-    if items.is_empty() {
+    if list(alloc, At::Here, value)?.is_empty() {
         Err(ConfFault::here(alloc, FaultKind::OutOfRange))
     } else {
         Ok(())
     }
 }
 
-#[tactic(auto, unfolding(crate::specs::Forms::some_object))]
+#[tactic(auto, unfolding(crate::specs::Forms::some_object), using(crate::proofs::Sizes::members_there))]
 fn check_some_object(alloc: Global, value: &Value) -> Result<(), ConfFault>
     ensures { Gives (λ _. tt) result (some_object (view value.now)) }
 {
-    check_some_members(alloc, object(alloc, At::Here, value)?)
-}
-
-#[tactic(auto, using(crate::proofs::Sizes::members_there))]
-fn check_some_members(alloc: Global, members: &Map<String, Value>) -> Result<(), ConfFault>
-    ensures { Gives (λ _. tt) result (some_members (members_view members.now.entries)) }
-{
-    if members.is_empty() {
+    if object(alloc, At::Here, value)?.is_empty() {
         Err(ConfFault::here(alloc, FaultKind::OutOfRange))
     } else {
         Ok(())
@@ -106,18 +87,11 @@ fn check_some_members(alloc: Global, members: &Map<String, Value>) -> Result<(),
 }
 
 /// An object of one property.
-#[tactic(auto, unfolding(crate::specs::Forms::entry))]
+#[tactic(auto, unfolding(crate::specs::Forms::entry), using(crate::proofs::Sizes::just_one, crate::proofs::Sizes::not_one))]
 fn check_entry(alloc: Global, value: &Value) -> Result<(), ConfFault>
     ensures { Gives (λ _. tt) result (entry (view value.now)) }
 {
-    check_one_member(alloc, object(alloc, At::Here, value)?)
-}
-
-#[tactic(auto, using(crate::proofs::Sizes::just_one, crate::proofs::Sizes::not_one))]
-fn check_one_member(alloc: Global, members: &Map<String, Value>) -> Result<(), ConfFault>
-    ensures { Gives (λ _. tt) result (one_member (members_view members.now.entries)) }
-{
-    if members.len() == 1 {
+    if object(alloc, At::Here, value)?.len() == 1 {
         Ok(())
     } else {
         Err(ConfFault::here(alloc, FaultKind::WrongKind))

@@ -4,7 +4,6 @@ ghost use Rattle.std.specs.Prelude.{◌≡◌, ◌≤◌, ◌<◌, ◌+◌, IfEr
 ghost use Rattle.serde_json.specs.View.{view, items_view, members_view};
 ghost use Rattle.conf_tree.specs.Reading.{Gives};
 ghost use Rattle.conf_tree.specs.Walk.{refusal};
-ghost use Rattle.conf_table.specs.declared.row.Content.TheVariants as contents;
 ghost use Rattle.conf_judge.specs.Flaws.{resolved_content as resolved_content_of, inner_flaws, item_flaws, member_flaws, flaws_of_object, property_flaws, content_or_any, content_flaws, configuration_flaws};
 ghost use Rattle.conf_judge.specs.Known.{known_of, inside as inside_of, with_taken};
 ghost use Rattle.conf_judge.specs.Names.{names_beside as names_beside_of};
@@ -72,21 +71,9 @@ fn check_inner(
 ) -> Result<(), ConfFault>
     ensures { Gives (λ _. tt) result (refusal (inner_flaws (known_of around.now) content.now (view value.now))) }
 {
-    match *content {
-        Content::At(place) => check_held(alloc, around, place, value),
-        _ => Ok(()),
-    }
-}
-
-#[cycle(judge)]
-fn check_held(
-    alloc: Global,
-    around: &Around<'_>,
-    place: Place,
-    value: &Value,
-) -> Result<(), ConfFault>
-    ensures { Gives (λ _. tt) result (refusal (inner_flaws (known_of around.now) (contents.At place) (view value.now))) }
-{
+    let Content::At(place) = *content else {
+        return Ok(());
+    };
     match value {
         Value::Null | Value::Bool(_) | Value::Number(_) | Value::String(_) => Ok(()),
         Value::Array(items) => check_items(alloc, around, place, items),

@@ -4,7 +4,6 @@ ghost use Rattle.serde_json.specs.View.{view, items_view, members_view};
 ghost use Rattle.conf_tree.specs.Reading.{Gives};
 ghost use Rattle.conf_tree.specs.Walk.{refusal};
 ghost use Rattle.conf_table.specs.Table.{content_under};
-ghost use Rattle.conf_table.specs.declared.row.Content.TheVariants as contents;
 ghost use Rattle.conf_judge.specs.Flaws.{told_by, content_or_any as content_or_any_of};
 ghost use Rattle.conf_judge.specs.Limits.{within_limit, key_fits as key_fits_of, fits as fits_of, inner_limits, item_limits, member_limits, content_limits, configuration_limits};
 
@@ -55,16 +54,9 @@ fn check_content(alloc: Global, content: &Content, value: &Value) -> Result<(), 
 fn check_inner(alloc: Global, content: &Content, value: &Value) -> Result<(), ConfFault>
     ensures { Gives (λ _. tt) result (refusal (inner_limits content.now (view value.now))) }
 {
-    match *content {
-        Content::At(place) => check_held(alloc, place, value),
-        _ => Ok(()),
-    }
-}
-
-#[cycle(limits)]
-fn check_held(alloc: Global, place: Place, value: &Value) -> Result<(), ConfFault>
-    ensures { Gives (λ _. tt) result (refusal (inner_limits (contents.At place) (view value.now))) }
-{
+    let Content::At(place) = *content else {
+        return Ok(());
+    };
     match value {
         Value::Null | Value::Bool(_) | Value::Number(_) | Value::String(_) => Ok(()),
         Value::Array(items) => check_items(alloc, place, items),
@@ -98,17 +90,8 @@ fn check_members(alloc: Global, place: Place, members: &Map<String, Value>) -> R
     Ok(())
 }
 
+/// What a property is of which the table does not know.
 static ANYTHING: Content = Content::Anything;
-
-/// What a property is, anything where it is unknown.
-fn content_or_any(place: Place, name: &str) -> &'static Content
-    ensures { result.now ≡ content_or_any_of (content_under place name.now) }
-{
-    match content_at(place, name) {
-        Some(content) => content,
-        None => &ANYTHING,
-    }
-}
 
 #[cycle(limits)]
 #[tactic(auto, using(crate::proofs::FirstFlaw::told_first, crate::proofs::FirstFlaw::told_later))]
@@ -116,5 +99,5 @@ fn check_property(alloc: Global, place: Place, name: &str, value: &Value) -> Res
     ensures { Gives (λ _. tt) result (refusal (told_by (within_limit (key_fits_of place name.now)) ++ content_limits (content_or_any_of (content_under place name.now)) (view value.now))) }
 {
     check_limit(alloc, key_fits(place, name))?;
-    check_content(alloc, content_or_any(place, name), value)
+    check_content(alloc, content_at(place, name).unwrap_or(&ANYTHING), value)
 }

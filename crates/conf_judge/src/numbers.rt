@@ -1,10 +1,10 @@
 //! The ranges of an enumeration, and the numbers that its integer can hold.
 ghost use Rattle.std.specs.Prelude.{◌≡◌, ◌≤◌, ◌^◌, IfErr, pos};
 ghost use Rattle.serde_json.specs.View.{view, items_view, members_view};
-ghost use Rattle.conf_tree.specs.Flaw.{index as item};
-ghost use Rattle.conf_tree.specs.Reading.{Gives, at};
-ghost use Rattle.conf_judge.specs.Numbers.{natural_in as natural_in_of, end_of, pair_of, range_of, inside_of, numbers_of as numbers_of_size, numbers_in as numbers_in_of, is_inside as is_inside_of};
+ghost use Rattle.conf_tree.specs.Reading.{Gives};
+ghost use Rattle.conf_judge.specs.Numbers.{natural_in as natural_in_of, pair_of, range_of, inside_of, numbers_in as numbers_in_of, is_inside as is_inside_of};
 
+use crate::leaf::check_that;
 use conf_tree::{At, ConfFault, FaultKind, member, whole};
 use conf_values::as_natural;
 use serde_json::{Map, Value};
@@ -17,16 +17,10 @@ pub(crate) struct Span {
     pub(crate) high: i128,
 }
 
-/// The lowest whole number that a configuration can hold.
-const LOWEST: i128 = -9_223_372_036_854_775_808;
-
-/// The highest whole number that a configuration can hold.
-const HIGHEST: i128 = 18_446_744_073_709_551_615;
-
 /// Every whole number that a configuration can hold.
 pub(crate) const ALL: Span = Span {
-    low: LOWEST,
-    high: HIGHEST,
+    low: -9_223_372_036_854_775_808,
+    high: 18_446_744_073_709_551_615,
 };
 
 /// 2 to the power of this number of bits.
@@ -37,36 +31,27 @@ fn power(bits: u64) -> i128
     (1u128 << bits) as i128
 }
 
-/// The numbers that an integer of this size in bits can hold. Where the size is none, no number is outside.
-#[tactic(auto, unfolding(crate::specs::Numbers::numbers_of))]
-fn numbers_of(signed: bool, size: u64) -> Span
-    ensures { result ≡ numbers_of_size signed size }
-{
-    if size == 0 || size > 64 {
-        return ALL;
-    }
-    if signed {
-        let half = power(size - 1);
-        Span {
-            low: -half,
-            high: half - 1,
-        }
-    } else {
-        Span {
-            low: 0,
-            high: power(size) - 1,
-        }
-    }
-}
-
-/// The numbers that an integer with these properties can hold.
-#[tactic(auto, unfolding(crate::specs::Numbers::numbers_in))]
+/// The numbers that an integer with these properties can hold. Where the size is none, no number is outside.
+#[tactic(auto, unfolding(crate::specs::Numbers::numbers_in, crate::specs::Numbers::numbers_of))]
 pub(crate) fn numbers_in(signed: bool, members: &Map<String, Value>) -> Span
     ensures { result ≡ numbers_in_of signed (members_view members.now.entries) }
 {
     match natural_in(members, "size") {
-        Some(size) => numbers_of(signed, size),
-        None => ALL,
+        Some(size) if size > 0 && size <= 64 => {
+            if signed {
+                let half = power(size - 1);
+                Span {
+                    low: -half,
+                    high: half - 1,
+                }
+            } else {
+                Span {
+                    low: 0,
+                    high: power(size) - 1,
+                }
+            }
+        }
+        _ => ALL,
     }
 }
 
@@ -75,16 +60,7 @@ pub(crate) fn numbers_in(signed: bool, members: &Map<String, Value>) -> Span
 pub(crate) fn natural_in(members: &Map<String, Value>, name: &str) -> Option<u64>
     ensures { result ≡ natural_in_of name.now (members_view members.now.entries) }
 {
-    match member(members, name) {
-        Some(value) => as_natural(value),
-        None => None,
-    }
-}
-
-fn end_at(alloc: Global, value: &Value, index: usize) -> Result<i128, ConfFault>
-    ensures { Gives (λ z. z) result (at (item index) (end_of (view value.now))) }
-{
-    whole(alloc, At::Item(index), value, LOWEST, HIGHEST)
+    as_natural(member(members, name)?)
 }
 
 #[tactic(auto, using(crate::proofs::Sizes::pair_few, crate::proofs::Sizes::pair_many), unfolding(crate::specs::Numbers::pair_of))]
@@ -93,8 +69,8 @@ fn pair(alloc: Global, items: &Vec<Value>) -> Result<Span, ConfFault>
 {
     match items.as_slice() {
         [first, second] => {
-            let low = end_at(alloc, first, 0)?;
-            let high = end_at(alloc, second, 1)?;
+            let low = whole(alloc, At::Item(0), first, ALL.low, ALL.high)?;
+            let high = whole(alloc, At::Item(1), second, ALL.low, ALL.high)?;
             Ok(Span { low, high })
         }
         [] | [_] | [_, _, _, ..] => Err(ConfFault::here(alloc, FaultKind::WrongKind)),
@@ -109,7 +85,7 @@ fn range(alloc: Global, value: &Value) -> Result<Span, ConfFault>
     match value {
         Value::Array(items) => pair(alloc, items),
         Value::Null | Value::Bool(_) | Value::Number(_) | Value::String(_) | Value::Object(_) => {
-            let number = whole(alloc, At::Here, value, LOWEST, HIGHEST)?;
+            let number = whole(alloc, At::Here, value, ALL.low, ALL.high)?;
             Ok(Span {
                 low: number,
                 high: number,
@@ -130,9 +106,5 @@ fn is_inside(numbers: Span, range: Span) -> bool
 pub(crate) fn check_range(alloc: Global, numbers: Span, value: &Value) -> Result<(), ConfFault>
     ensures { Gives (λ _. tt) result (inside_of numbers (view value.now)) }
 {
-    if is_inside(numbers, range(alloc, value)?) {
-        Ok(())
-    } else {
-        Err(ConfFault::here(alloc, FaultKind::OutOfRange))
-    }
+    check_that(alloc, is_inside(numbers, range(alloc, value)?))
 }

@@ -3,7 +3,7 @@ ghost use Rattle.std.specs.Prelude.{◌≡◌, ◌≤◌, IfErr, option_map};
 ghost use Rattle.serde_json.specs.Data.{object};
 ghost use Rattle.serde_json.specs.View.{view, members_view};
 ghost use Rattle.conf_tree.specs.Reading.{Gives};
-ghost use Rattle.conf_judge.specs.Shapes.{is_number as is_number_of, is_identifier as is_identifier_of, is_byte as is_byte_of, is_eight as is_eight_of, has_bits as has_bits_of, element_has_bits as element_has_bits_of, shape_of};
+ghost use Rattle.conf_judge.specs.Shapes.{is_number as is_number_of, is_byte as is_byte_of, is_eight as is_eight_of, has_bits as has_bits_of, shape_of};
 
 use crate::class::class_of;
 use crate::leaf::check_that;
@@ -15,7 +15,7 @@ use serde_json::{Map, Value};
 use std::alloc::Global;
 
 /// Refuses a field type that cannot stand at this place, though its class can.
-#[tactic(auto, unfolding(crate::specs::Shapes::shape_of))]
+#[tactic(auto, unfolding(crate::specs::Shapes::shape_of, crate::specs::Shapes::is_identifier))]
 pub(crate) fn check_shape(
     alloc: Global,
     place: Place,
@@ -27,7 +27,10 @@ pub(crate) fn check_shape(
         alloc,
         match place {
             Place::MagicFeature => is_number(natural_in(members, "size"), 32),
-            Place::IdentifierFeature => is_identifier(members),
+            Place::IdentifierFeature => {
+                is_number(natural_in(members, "length"), 16)
+                    && is_byte(member(members, "element-field-type"))
+            }
             Place::DynamicElementType => have_bits(members),
             _ => true,
         },
@@ -37,18 +40,7 @@ pub(crate) fn check_shape(
 fn is_number(found: Option<u64>, number: u64) -> bool
     ensures { result ≡ is_number_of found number }
 {
-    match found {
-        Some(found) => found == number,
-        None => false,
-    }
-}
-
-/// Whether a static array has 16 bytes.
-#[tactic(auto, unfolding(crate::specs::Shapes::is_identifier))]
-fn is_identifier(members: &Map<String, Value>) -> bool
-    ensures { result ≡ is_identifier_of (members_view members.now.entries) }
-{
-    is_number(natural_in(members, "length"), 16) && is_byte(member(members, "element-field-type"))
+    matches!(found, Some(found) if found == number)
 }
 
 /// Whether a field type is an unsigned integer of 8 bits with alignment 8.
@@ -69,10 +61,7 @@ fn is_byte(element: Option<&Value>) -> bool
 fn is_eight(alignment: Option<&Value>) -> bool
     ensures { result ≡ is_eight_of (option_map (λ v. view v.now) alignment.entry) }
 {
-    match alignment {
-        Some(number) => is_number(as_natural(number), 8),
-        None => true,
-    }
+    alignment.is_none_or(|number| is_number(as_natural(number), 8))
 }
 
 /// Whether a field type is no empty static array, nor one of such.
@@ -80,14 +69,12 @@ fn is_eight(alignment: Option<&Value>) -> bool
 fn have_bits(members: &Map<String, Value>) -> bool
     ensures { result ≡ has_bits_of (object (members_view members.now.entries)) }
 {
-    !matches!(class_of(members), Some(Place::StaticArray))
-        || (!is_number(natural_in(members, "length"), 0) && element_has_bits(members))
-}
-
-#[cycle(bits)]
-fn element_has_bits(members: &Map<String, Value>) -> bool
-    ensures { result ≡ element_has_bits_of (members_view members.now.entries) }
-{
+    if !matches!(class_of(members), Some(Place::StaticArray)) {
+        return true;
+    }
+    if is_number(natural_in(members, "length"), 0) {
+        return false;
+    }
     for (name, element) in members.iter() {
         if name.as_str() == "element-field-type" {
             return has_bits(element);

@@ -1,9 +1,8 @@
 //! Whether a value is within the limits of its content, whatever it holds.
 ghost use Rattle.std.specs.Prelude.{◌≡◌, nat_le, option_map};
 ghost use Rattle.serde_json.specs.Data.{object};
-ghost use Rattle.serde_json.specs.View.{view, items_view, members_view};
-ghost use Rattle.serde_json.specs.Events.{items_len, members_len};
-ghost use Rattle.conf_judge.specs.Limits.{bytes_fit as bytes_fit_of, power_fits as power_fits_of, times as times_of, at_least_one as at_least_one_of, elements as elements_of, elements_in_array as elements_in_array_of, is_outermost as is_outermost_of, arrays_fit as arrays_fit_of, count_of as count_of_data, at_most as at_most_of, ranges_in, ranges_of as ranges_of_data, ranges_fit as ranges_fit_of, place_fits as place_fits_of, fits as fits_of, key_fits as key_fits_of};
+ghost use Rattle.serde_json.specs.View.{view, members_view};
+ghost use Rattle.conf_judge.specs.Limits.{bytes_fit as bytes_fit_of, power_fits as power_fits_of, times as times_of, elements as elements_of, arrays_fit as arrays_fit_of, count_of as count_of_data, at_most as at_most_of, ranges_of as ranges_of_data, place_fits as place_fits_of, fits as fits_of, key_fits as key_fits_of};
 
 use crate::class::class_of;
 use crate::numbers::natural_in;
@@ -18,12 +17,9 @@ pub(crate) fn fits(content: &Content, value: &Value) -> bool
     ensures { result ≡ fits_of content.now (view value.now) }
 {
     match *content {
-        Content::Text { most_bytes }
-        | Content::WholeOrText {
-            low: _,
-            high: _,
-            most_bytes,
-        } => bytes_fit(most_bytes, value),
+        Content::Text { most_bytes } | Content::WholeOrText { most_bytes, .. } => {
+            bytes_fit(most_bytes, value)
+        }
         Content::PowerOfTwo { high } => power_fits(high, value),
         Content::At(place) => place_fits(place, value),
         _ => true,
@@ -33,10 +29,7 @@ pub(crate) fn fits(content: &Content, value: &Value) -> bool
 fn bytes_fit(most: u64, value: &Value) -> bool
     ensures { result ≡ bytes_fit_of most (view value.now) }
 {
-    match value {
-        Value::String(text) => text.len() as u64 <= most,
-        _ => true,
-    }
+    value.as_str().is_none_or(|text| text.len() as u64 <= most)
 }
 
 /// Whether a power of two is at most this one, which it then divides.
@@ -44,40 +37,28 @@ fn bytes_fit(most: u64, value: &Value) -> bool
 fn power_fits(high: u64, value: &Value) -> bool
     ensures { result ≡ power_fits_of high (view value.now) }
 {
-    match as_natural(value) {
-        Some(number) => number == 0 || high % number == 0,
-        None => true,
-    }
+    as_natural(value).is_none_or(|number| number == 0 || high % number == 0)
 }
 
-#[tactic(auto, unfolding(crate::specs::Limits::place_fits))]
+#[tactic(auto, unfolding(crate::specs::Limits::place_fits, crate::specs::Limits::ranges_fit))]
 fn place_fits(place: Place, value: &Value) -> bool
     ensures { result ≡ place_fits_of place (view value.now) }
 {
     arrays_fit(place, value)
         && at_most(entries_at(place), count_of(value))
-        && ranges_fit(place, value)
+        && (!matches!(place, Place::Mappings) || few_ranges(value))
 }
 
-/// Whether field types stand at a place that no array is around.
-#[tactic(auto, unfolding(crate::specs::Limits::is_outermost))]
-fn is_outermost(place: Place) -> bool
-    ensures { result ≡ is_outermost_of place }
-{
-    matches!(
-        place,
-        Place::MemberType | Place::DynamicElementType | Place::IdentifierFeature
-    )
-}
-
-#[tactic(auto, unfolding(crate::specs::Limits::arrays_fit))]
+/// Whether the arrays of a field type that no array is around are few enough.
+#[tactic(auto, unfolding(crate::specs::Limits::arrays_fit, crate::specs::Limits::is_outermost))]
 fn arrays_fit(place: Place, value: &Value) -> bool
     ensures { result ≡ arrays_fit_of place (view value.now) }
 {
-    if is_outermost(place) {
-        elements(MAX_ARRAYS, value).is_some()
-    } else {
-        true
+    match place {
+        Place::MemberType | Place::DynamicElementType | Place::IdentifierFeature => {
+            elements(MAX_ARRAYS, value).is_some()
+        }
+        _ => true,
     }
 }
 
@@ -99,32 +80,11 @@ fn elements_of_type(levels: usize, members: &Map<String, Value>) -> Option<u64>
     if !matches!(class_of(members), Some(Place::StaticArray)) {
         return Some(1);
     }
-    if levels == 0 {
-        return None;
-    }
-    elements_in_array(
-        levels - 1,
-        at_least_one(natural_in(members, "length")),
-        members,
-    )
-}
-
-fn at_least_one(length: Option<u64>) -> Option<u64>
-    ensures { result ≡ at_least_one_of length }
-{
-    match length {
-        Some(length) => Some(if length == 0 { 1 } else { length }),
-        None => Some(1),
-    }
-}
-
-#[cycle(elements)]
-fn elements_in_array(levels: usize, count: Option<u64>, members: &Map<String, Value>) -> Option<u64>
-    ensures { result ≡ elements_in_array_of levels count (members_view members.now.entries) }
-{
+    let inner = levels.checked_sub(1)?;
+    let count = Some(natural_in(members, "length").unwrap_or(1).max(1));
     for (name, element) in members.iter() {
         if name.as_str() == "element-field-type" {
-            return times(count, elements(levels, element));
+            return times(count, elements(inner, element));
         }
     }
     count
@@ -133,16 +93,11 @@ fn elements_in_array(levels: usize, count: Option<u64>, members: &Map<String, Va
 fn times(count: Option<u64>, elements: Option<u64>) -> Option<u64>
     ensures { result ≡ times_of count elements }
 {
-    match (count, elements) {
-        (Some(count), Some(elements)) => {
-            let all = u128::from(count) * u128::from(elements);
-            if all <= u128::from(MAX_ELEMENTS) {
-                Some(all as u64)
-            } else {
-                None
-            }
-        }
-        _ => None,
+    let all = u128::from(count?) * u128::from(elements?);
+    if all <= u128::from(MAX_ELEMENTS) {
+        Some(all as u64)
+    } else {
+        None
     }
 }
 
@@ -151,43 +106,18 @@ fn count_of(value: &Value) -> usize
     ensures { result ≡ count_of_data (view value.now) }
 {
     match value {
-        Value::Array(items) => items_in(items.as_slice()),
-        Value::Object(members) => entries_in(members),
+        Value::Array(items) => items.as_slice().len(),
+        Value::Object(members) => members.len(),
         _ => 0,
     }
-}
-
-fn items_in(items: &[Value]) -> usize
-    ensures { result ≡ items_len (items_view items.now) }
-{
-    items.len()
-}
-
-fn entries_in(members: &Map<String, Value>) -> usize
-    ensures { result ≡ members_len (members_view members.now.entries) }
-{
-    members.len()
 }
 
 fn at_most(entries: Option<&'static Entries>, count: usize) -> bool
     ensures { result ≡ at_most_of (option_map (λ e. e.now) entries.entry) count }
 {
-    match entries {
-        Some(entries) => match entries.most {
-            Some(most) => count as u64 <= most,
-            None => true,
-        },
+    match entries.and_then(|entries| entries.most) {
+        Some(most) => count as u64 <= most,
         None => true,
-    }
-}
-
-#[tactic(auto, unfolding(crate::specs::Limits::ranges_fit))]
-fn ranges_fit(place: Place, value: &Value) -> bool
-    ensures { result ≡ ranges_fit_of place (view value.now) }
-{
-    match place {
-        Place::Mappings => few_ranges(value),
-        _ => true,
     }
 }
 
@@ -195,15 +125,9 @@ fn ranges_fit(place: Place, value: &Value) -> bool
 fn few_ranges(value: &Value) -> bool
     ensures { result ≡ nat_le (ranges_of_data (view value.now)) 1024 }
 {
-    match value {
-        Value::Object(members) => few_ranges_in(members),
-        _ => true,
-    }
-}
-
-fn few_ranges_in(members: &Map<String, Value>) -> bool
-    ensures { result ≡ nat_le (ranges_in (members_view members.now.entries)) 1024 }
-{
+    let Value::Object(members) = value else {
+        return true;
+    };
     let mut left = MAX_RANGES;
     for (_label, value) in members.iter() {
         let count = count_of(value);
@@ -220,11 +144,6 @@ fn few_ranges_in(members: &Map<String, Value>) -> bool
 pub(crate) fn key_fits(place: Place, name: &str) -> bool
     ensures { result ≡ key_fits_of place name.now }
 {
-    if name.len() as u64 <= MAX_TEXT_BYTES {
-        return true;
-    }
-    match entries_at(place) {
-        Some(entries) => !matches!(entries.keys, Keys::Label),
-        None => true,
-    }
+    name.len() as u64 <= MAX_TEXT_BYTES
+        || entries_at(place).is_none_or(|entries| !matches!(entries.keys, Keys::Label))
 }

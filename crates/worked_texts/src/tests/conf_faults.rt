@@ -82,6 +82,11 @@ static SHAPES: &[Row] = &[
         "{\"trace\":1,\"trace\":{},\n\"trace\":2}",
         "line 2, column 9: trace: 2: expected an object",
     ),
+    (
+        "in an item of a list over what is none",
+        r#"{"trace":{"type":{"native-byte-order":"le","$field-type-aliases":{"base":{"class":"uenum","size":8,"mappings":{"A":5,"B":[1]}},"e":{"$inherit":"base","mappings":{"A":[["x",1]]}}},"data-stream-types":{"s":{"event-record-types":{"e":{"payload-field-type":{"class":"struct","members":[{"x":{"field-type":"e"}}]}}}}}}}}"#,
+        r#"line 1, column 169: trace/type/data-stream-types/s/event-record-types/e/payload-field-type/members/0/x/field-type/mappings/A/0/0: in the alias `e`: "x": expected a whole number from -9223372036854775808 to 18446744073709551615"#,
+    ),
 ];
 
 /// Texts that are not JSON: those that look like YAML are said to, and no others.

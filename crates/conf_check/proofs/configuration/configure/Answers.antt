@@ -1,33 +1,41 @@
 use Rattle.std.proofs.Common.{inl, inr}
+use Rattle.std.proofs.lemmas.Result.{IfOk-weaker, IfErr-weaker, err_from_is_err_and}
 use Rattle.serde_json.specs.View.{view}
-use Rattle.conf_check.proofs.ConfigurationSteps.{no_tree, memory_alone, refused_for_memory, innocent_by_look_up, answered_by_look_up}
+use Rattle.conf_check.proofs.ConfigurationSteps.{no_tree, memory_alone, refused_for_memory, answered_by_look_up}
 use Rattle.conf_check.proofs.ConfigurationLaws.{memory_or, text_excluded}
 use Rattle.conf_check.proofs.configuration.configure.Goals as goal
 
-pub returns-in-Err-check-clause-only : goal.returns-in-Err-check-clause-only
-returns-in-Err-check-clause-only c =
-    memory_alone c.args.text.now c.args.number (view c.in-Ok.tree.value) (view c.in-Ok-resolve.resolved.value) c.in-Err-check.fault c.in-Ok.ensures.tree c.in-Ok-resolve.ensures.first c.in-Err-check.ensures.only
+pub returns-clause-only : goal.returns-clause-only
+returns-clause-only c =
+    IfErr-weaker c.check.result _ _ (λ fault. memory_alone c.args.text.now c.args.number (view c.in_ok-tree.tree.value) (view c.in_ok-resolved.resolved.value) fault c.in_ok-tree.ensures.tree c.in_ok-resolved.ensures.first) c.check.ensures.only
 
-pub returns-in-Err-check-clause-exact : goal.returns-in-Err-check-clause-exact
-returns-in-Err-check-clause-exact c =
-    λ x configures. innocent_by_look_up c.args.text.now c.args.number (view c.in-Ok.tree.value) (view c.in-Ok-resolve.resolved.value) c.in-Err-check.fault x c.in-Ok.ensures.tree c.in-Ok-resolve.ensures.resolved c.in-Err-check.ensures.only configures
+pub returns-clause-exact : goal.returns-clause-exact
+returns-clause-exact c =
+    λ x. answered_by_look_up c.args.text.now c.args.number (view c.in_ok-tree.tree.value) (view c.in_ok-resolved.resolved.value) x c.check.result c.in_ok-tree.ensures.tree c.in_ok-resolved.ensures.resolved c.check.ensures.rows c.check.ensures.only
 
-pub returns-in-Err-resolve-clause-exact : goal.returns-in-Err-resolve-clause-exact
-returns-in-Err-resolve-clause-exact c =
-    λ x configures. refused_for_memory c.args.text.now c.args.number (view c.in-Ok.tree.value) c.in-Err-resolve.fault x c.in-Ok.ensures.tree c.in-Err-resolve.ensures.refused configures
+pub returns-clause-faultless : goal.returns-clause-faultless
+returns-clause-faultless c =
+    IfOk-weaker c.check.result _ _ (λ x. text_excluded c.args.text.now c.args.number x (view c.in_ok-tree.tree.value) (view c.in_ok-resolved.resolved.value) c.in_ok-tree.ensures.tree c.in_ok-resolved.ensures.first c.in_ok-resolved.ensures.resolved) c.check.ensures.rows
 
-pub returns-in-Ok-check-clause-exact : goal.returns-in-Ok-check-clause-exact
-returns-in-Ok-check-clause-exact c =
-    λ x configures. answered_by_look_up c.args.text.now c.args.number (view c.in-Ok.tree.value) (view c.in-Ok-resolve.resolved.value) c.in-Ok-check.config x c.in-Ok.ensures.tree c.in-Ok-resolve.ensures.resolved c.in-Ok-check.ensures.rows configures
+pub returns-clause-refused : goal.returns-clause-refused
+returns-clause-refused c =
+    IfErr-weaker c.check.result _ _ (λ fault first. memory_or first (λ first. inr (inr (view c.in_ok-tree.tree.value, view c.in_ok-resolved.resolved.value, c.in_ok-tree.ensures.tree, c.in_ok-resolved.ensures.first, first)))) c.check.ensures.first
 
-pub returns-in-Err-clause-holds : goal.returns-in-Err-clause-holds
-returns-in-Err-clause-holds c =
-    elim (no_tree c.args.text.now c.in-Err.fault c.in-Err.ensures.first c.in-Err.ensures.holds) [ inl memory ↦ inl memory | inr none ↦ inr (inl none) ]
+pub returns-clause-holds : goal.returns-clause-holds
+returns-clause-holds c =
+    IfErr-weaker c.check.result _ _ (λ fault wrong. memory_or wrong (λ wrong. inr (inr (view c.in_ok-tree.tree.value, view c.in_ok-resolved.resolved.value, c.in_ok-tree.ensures.tree, c.in_ok-resolved.ensures.resolved, wrong)))) c.check.ensures.refused
 
-pub returns-in-Ok-check-clause-faultless : goal.returns-in-Ok-check-clause-faultless
-returns-in-Ok-check-clause-faultless c =
-    text_excluded c.args.text.now c.args.number c.in-Ok-check.config (view c.in-Ok.tree.value) (view c.in-Ok-resolve.resolved.value) c.in-Ok.ensures.tree c.in-Ok-resolve.ensures.first c.in-Ok-resolve.ensures.resolved c.in-Ok-check.ensures.rows
+pub returns-in_err-resolved-clause-exact : goal.returns-in_err-resolved-clause-exact
+returns-in_err-resolved-clause-exact c =
+    let p = err_from_is_err_and c.from_residual-in_err-resolved.result c.from_residual-in_err-resolved.ensures.1 in
+    rw (p.1, p.2) (λ x. refused_for_memory c.args.text.now c.args.number (view c.in_ok-tree.tree.value) c.in_err-resolved.field-0.0 x c.in_ok-tree.ensures.tree c.in_err-resolved.ensures.refused)
 
-pub returns-in-Err-check-clause-refused : goal.returns-in-Err-check-clause-refused
-returns-in-Err-check-clause-refused c =
-    memory_or c.in-Err-check.ensures.first (λ first. inr (inr (view c.in-Ok.tree.value, view c.in-Ok-resolve.resolved.value, c.in-Ok.ensures.tree, c.in-Ok-resolve.ensures.first, first)))
+pub returns-in_err-tree-clause-holds : goal.returns-in_err-tree-clause-holds
+returns-in_err-tree-clause-holds c =
+    let p = err_from_is_err_and c.from_residual.result c.from_residual.ensures.1 in
+    rw (p.1, p.2) (memory_or (no_tree c.args.text.now c.in_err-tree.field-0.0 c.in_err-tree.ensures.first c.in_err-tree.ensures.holds) inl)
+
+pub returns-in_err-resolved-clause-holds : goal.returns-in_err-resolved-clause-holds
+returns-in_err-resolved-clause-holds c =
+    let p = err_from_is_err_and c.from_residual-in_err-resolved.result c.from_residual-in_err-resolved.ensures.1 in
+    rw (p.1, p.2) (memory_or c.in_err-resolved.ensures.refused (λ wrong. inr (inl (view c.in_ok-tree.tree.value, c.in_ok-tree.ensures.tree, wrong))))

@@ -17,10 +17,9 @@ pub returns : goal.returns
 unfolding stream_type
 returns c =
     let ms = members_view c.args.members.now.entries in
-    let own = c.in_ok-own.own in
-    stream_made c.args.name.now c.in_ok-name.name (clock_of ms) c.in_ok-default_clock.default_clock _ _ _ _ _ own.context c.in_ok-extras.extras own.event_header c.in_ok-common.common c.in_ok-events.events
+    stream_made c.args.name.now c.in_ok-name.name (clock_of ms) c.in_ok-default_clock.default_clock _ _ _ _ _ c.in_ok-context.context c.in_ok-extras.extras c.in_ok-context.event_header c.in_ok-common.common c.in_ok-events.events
     c.in_ok-name.ensures c.in_ok-default_clock.ensures
-    (subst (λ k. context k (features_of ms) ≡ Some own.context) c.in_ok-default_clock.ensures c.in_ok-own.ensures.context)
+    (subst (λ k. context k (features_of ms) ≡ Some c.in_ok-context.context) c.in_ok-default_clock.ensures c.in_ok-context.ensures.context)
     c.in_ok-extras.ensures
-    (subst (λ k. event_header k (features_of ms) ≡ Some own.event_header) c.in_ok-default_clock.ensures c.in_ok-own.ensures.event_header)
+    (subst (λ k. event_header k (features_of ms) ≡ Some c.in_ok-context.event_header) c.in_ok-default_clock.ensures c.in_ok-context.ensures.event_header)
     c.in_ok-common.ensures c.in_ok-events.ensures

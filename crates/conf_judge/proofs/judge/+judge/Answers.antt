@@ -8,12 +8,14 @@ use Rattle.conf_judge.specs.Flaws.{inner_flaws}
 use Rattle.conf_judge.specs.Known.{known_of}
 use Rattle.conf_judge.proofs.judge.+judge.Goals as goal
 
-pub check_held-returns-in-Array : goal.check_held-returns-in-Array
-check_held-returns-in-Array t c =
-    subst (λ d. Gives (λ _. tt) c.check_items.result (refusal (inner_flaws (known_of c.args.around.now) (At c.args.place) d)))
-    (sym (ap view c.in-Array.is ∙ view-Array c.in-Array.items)) c.check_items.ensures
+pub check_inner-returns-in-Array : goal.check_inner-returns-in-Array
+check_inner-returns-in-Array t c =
+    subst (λ k. Gives (λ _. tt) c.check_items.result (refusal (inner_flaws (known_of c.args.around.now) k (view c.args.value.now)))) (sym c.in-At.is)
+    (subst (λ d. Gives (λ _. tt) c.check_items.result (refusal (inner_flaws (known_of c.args.around.now) (At c.in-At.place) d)))
+    (sym (ap view c.in-Array.is ∙ view-Array c.in-Array.items)) c.check_items.ensures)
 
-pub check_held-returns-in-Object : goal.check_held-returns-in-Object
-check_held-returns-in-Object t c =
-    subst (λ d. Gives (λ _. tt) c.check_object.result (refusal (inner_flaws (known_of c.args.around.now) (At c.args.place) d)))
-    (sym (ap view c.in-Object.is ∙ view-Object c.in-Object.members)) c.check_object.ensures
+pub check_inner-returns-in-Object : goal.check_inner-returns-in-Object
+check_inner-returns-in-Object t c =
+    subst (λ k. Gives (λ _. tt) c.check_object.result (refusal (inner_flaws (known_of c.args.around.now) k (view c.args.value.now)))) (sym c.in-At.is)
+    (subst (λ d. Gives (λ _. tt) c.check_object.result (refusal (inner_flaws (known_of c.args.around.now) (At c.in-At.place) d)))
+    (sym (ap view c.in-Object.is ∙ view-Object c.in-Object.members)) c.check_object.ensures)

@@ -22,9 +22,6 @@ decreases-check_content l = 8 * goal.size-check_content l + 2
 abbrev pub decreases-check_inner : goal.decreases-check_inner
 decreases-check_inner l = 8 * goal.size-check_inner l + 1
 
-abbrev pub decreases-check_held : goal.decreases-check_held
-decreases-check_held l = 8 * goal.size-check_held l
-
 abbrev pub decreases-check_items : goal.decreases-check_items
 decreases-check_items l = 8 * goal.size-check_items l + 6
 

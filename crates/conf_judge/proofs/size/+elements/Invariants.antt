@@ -1,7 +1,9 @@
 use Rattle.std.proofs.Common.{◌≡◌}
+use Rattle.serde_json.specs.Data.{object}
 use Rattle.serde_json.specs.View.{members_view}
-use Rattle.conf_judge.specs.Limits.{elements_in_array}
+use Rattle.conf_judge.specs.Limits.{elements, elements_in_array}
 use Rattle.conf_judge.proofs.size.+elements.Given as goal
 
-abbrev pub invariant-elements_in_array-loop-name : goal.invariant-elements_in_array-loop-name
-invariant-elements_in_array-loop-name l = elements_in_array l.levels l.count (members_view l.members.entries) ≡ elements_in_array l.levels l.count (members_view l.name-iterator)
+-- the members that are left have the answer of the type
+abbrev pub invariant-elements_of_type-loop-name : goal.invariant-elements_of_type-loop-name
+invariant-elements_of_type-loop-name l = elements l.fn.levels (object (members_view l.members.entries)) ≡ elements_in_array l.inner l.count (members_view l.name-iterator)

@@ -1,8 +1,0 @@
-use Rattle.std.proofs.Common.{◌≡◌, ◌++◌}
-use Rattle.serde_json.specs.View.{members_view}
-use Rattle.conf_draft.specs.Enumerations.{labels_in}
-use Rattle.conf_draft.proofs.enumeration.mappings_of.Given as goal
-
--- the mappings so far, and those of the labels that are left
-abbrev pub invariant-loop-label : goal.invariant-loop-label
-invariant-loop-label l = l.mappings ++ labels_in (members_view l.label-iterator) ≡ labels_in (members_view l.labels.entries)

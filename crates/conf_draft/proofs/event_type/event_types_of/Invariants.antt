@@ -1,9 +1,0 @@
-use Rattle.std.proofs.Common.{◌≡◌, []}
-use Rattle.serde_json.specs.View.{members_view}
-use Rattle.conf_draft.specs.Events.{events_behind}
-use Rattle.conf_draft.proofs.event_type.event_types_of.Given as goal
-
-abbrev pub invariant-loop-name : goal.invariant-loop-name
-invariant-loop-name l =
-    events_behind (members_view l.levels.entries) l.events (members_view l.name-iterator)
-    ≡ events_behind (members_view l.levels.entries) [] (members_view l.named.entries)

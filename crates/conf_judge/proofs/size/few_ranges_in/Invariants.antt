@@ -1,8 +1,0 @@
-use Rattle.std.proofs.Common.{◌≡◌, ◌+◌, ◌≤◌}
-use Rattle.serde_json.specs.View.{members_view}
-use Rattle.conf_judge.specs.Limits.{ranges_in}
-use Rattle.conf_judge.proofs.size.few_ranges_in.Given as goal
-
--- what is left of the most, and the ranges that are to come
-abbrev pub invariant-loop-label : goal.invariant-loop-label
-invariant-loop-label l = (l.left ≤ 1024) × (ranges_in (members_view l.members.entries) + l.left ≡ ranges_in (members_view l._label-iterator) + 1024)
