@@ -50,31 +50,22 @@ events_stay id (further es fs gs r s) = further _ _ _ (events_stay id r) (events
 with_events_alike : {es fs : List (ℕ × Event)} → Reordered es fs → (s : Stream) → with_events es s ≡ with_events fs s
 with_events_alike r s = ap (λ (o : Option (List Event)). o >>= λ es. Some (record s { events = es })) (by_number_stays (λ e. e.id) (events_stay s.id r))
 
-abbrev after_events : List Stream → List (ℕ × Event) → Option (List Stream)
-after_events streams events = provided (have_streams streams events) (each (with_events events) streams)
-
-abbrev after_streams : Known → List Block → List Stream → Option (List Stream)
-after_streams known bs streams = each (event_meaning known) (flat_map event_in bs) >>= after_events streams
-
-abbrev after_found : Known → List Block → List Stream → Option (List Stream)
-after_found known bs found = by_number (λ s. s.id) found >>= after_streams known bs
-
 streams_stay : (known : Known) (bs cs : List Block) (ss : List Stream) → Reordered (flat_map stream_in bs) (flat_map stream_in cs) → Reordered (flat_map event_in bs) (flat_map event_in cs)
     → streams_meaning known bs ≡ Some ss → streams_meaning known cs ≡ Some ss
 unfolding streams_meaning
 streams_stay known bs cs ss streams events e =
-    let a = bind_some (each (stream_meaning known) (flat_map stream_in bs)) (after_found known bs) ss e in
-    let b = bind_some (by_number (λ s. s.id) a.0) (after_streams known bs) ss a.2 in
-    let c = bind_some (each (event_meaning known) (flat_map event_in bs)) (after_events b.0) ss b.2 in
+    let a = bind_some (each (stream_meaning known) (flat_map stream_in bs)) _ ss e in
+    let b = bind_some (by_number (λ s. s.id) a.0) _ ss a.2 in
+    let c = bind_some (each (event_meaning known) (flat_map event_in bs)) _ ss b.2 in
     let d = each_stays (stream_meaning known) a.0 streams a.1 in
     let f = each_stays (event_meaning known) c.0 events c.1 in
-    let made : after_events b.0 f.0 ≡ Some ss =
+    let made : provided (have_streams b.0 f.0) (each (with_events f.0) b.0) ≡ Some ss =
     ap₂ (λ (t : Bool) (o : Option (List Stream)). provided t o) (sym (all_stays (λ e. list_any (λ s. eqb s.id e.0) b.0) f.2))
     (sym (each_alike (with_events c.0) (with_events f.0) b.0 (with_events_alike f.2))) ∙ c.2
     in
-    bind_is (each (stream_meaning known) (flat_map stream_in cs)) (after_found known cs) d.0 ss d.1
-    (bind_is (by_number (λ s. s.id) d.0) (after_streams known cs) b.0 ss (sym (by_number_stays (λ s. s.id) d.2) ∙ b.1)
-    (bind_is (each (event_meaning known) (flat_map event_in cs)) (after_events b.0) f.0 ss f.1 made))
+    bind_is (each (stream_meaning known) (flat_map stream_in cs)) _ d.0 ss d.1
+    (bind_is (by_number (λ s. s.id) d.0) _ b.0 ss (sym (by_number_stays (λ s. s.id) d.2) ∙ b.1)
+    (bind_is (each (event_meaning known) (flat_map event_in cs)) _ f.0 ss f.1 made))
 
 streams_alike : (k l : Known) (bs : List Block) → KnowSame k l → streams_meaning k bs ≡ streams_meaning l bs
 unfolding streams_meaning

@@ -9,6 +9,7 @@ use Rattle.std.proofs.lemmas.List.Concat.{flat_map-cons, flat_map-append}
 use Rattle.std.proofs.lemmas.Str.{IsUtf8-append, IsUtf8-from_ascii, IsUtf8-nil, encode_ascii, inside_one, length-encode, len_utf8_bounds}
 use Rattle.tsdl_grammar.specs.Escapes.{escaped_byte, unescaped_from, unescaped, escape_of, escaped}
 use Rattle.tsdl_grammar.proofs.Runs.{and_true}
+use Rattle.tsdl_grammar.proofs.Escaping.{escape_cases}
 use lib.Utf8.{scalar, scalars, encodes, encode}
 
 -- bytes that no escape touches
@@ -43,21 +44,12 @@ high_escaped (b ∷ bytes) h =
     flat_map-cons escape_of b bytes ∙ ap (λ (w : List ℕ). w ++ escaped bytes) (high_escape b (h 0 (omega arith)))
     ∙ ap (λ (w : List ℕ). b ∷ w) (high_escaped bytes (λ k lt. h (suc k) (omega arith)))
 
+two_bytes : (b : ℕ) → b < 128 → IsUtf8 (92 ∷ b ∷ [])
+two_bytes b h = IsUtf8-append (92 ∷ []) (b ∷ []) (one_byte 92 (omega arith)) (one_byte b h)
+
 low_escaped : (b : ℕ) → b < 128 → IsUtf8 (escape_of b)
 low_escaped b h =
-    elim (cases_Bool (eqb b 92)) [
-      | inl e ↦ rw e (IsUtf8-append (92 ∷ []) (92 ∷ []) (one_byte 92 (omega arith)) (one_byte 92 (omega arith)))
-      | inr e ↦ elim (cases_Bool (eqb b 34)) [
-        | inl f ↦ rw (e, f) (IsUtf8-append (92 ∷ []) (34 ∷ []) (one_byte 92 (omega arith)) (one_byte 34 (omega arith)))
-        | inr f ↦ elim (cases_Bool (eqb b 10)) [
-          | inl g ↦ rw (e, f, g) (IsUtf8-append (92 ∷ []) (110 ∷ []) (one_byte 92 (omega arith)) (one_byte 110 (omega arith)))
-          | inr g ↦ elim (cases_Bool (eqb b 9)) [
-            | inl k ↦ rw (e, f, g, k) (IsUtf8-append (92 ∷ []) (116 ∷ []) (one_byte 92 (omega arith)) (one_byte 116 (omega arith)))
-            | inr k ↦ rw (e, f, g, k) (one_byte b h)
-          ]
-        ]
-      ]
-    ]
+    escape_cases b IsUtf8 (λ c e f. two_bytes 92 (omega arith)) (λ c e. two_bytes 34 (omega arith)) (λ c e. two_bytes 110 (omega arith)) (λ c e. two_bytes 116 (omega arith)) (λ e f g. one_byte b h)
 
 char_escaped : (c : ℕ) → scalar c ≡ true → IsUtf8 (escaped (encode c))
 char_escaped c h =

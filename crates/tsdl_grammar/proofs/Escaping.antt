@@ -7,7 +7,7 @@ use Rattle.tsdl_grammar.specs.Escapes.{unescaped_from, unescaped, escape_of, esc
 use Rattle.tsdl_grammar.specs.Pieces.{content_len}
 
 -- each way in which a byte is written
-escape_cases : (b : ℕ) (P : List ℕ → Type 0) → ((c : ℕ) → b ≡ c → eqb c 92 ≡ true → P (92 ∷ 92 ∷ [])) → ((c : ℕ) → b ≡ 34 → P (92 ∷ 34 ∷ [])) → ((c : ℕ) → b ≡ 10 → P (92 ∷ 110 ∷ []))
+pub escape_cases : (b : ℕ) (P : List ℕ → Type 0) → ((c : ℕ) → b ≡ c → eqb c 92 ≡ true → P (92 ∷ 92 ∷ [])) → ((c : ℕ) → b ≡ 34 → P (92 ∷ 34 ∷ [])) → ((c : ℕ) → b ≡ 10 → P (92 ∷ 110 ∷ []))
     → ((c : ℕ) → b ≡ 9 → P (92 ∷ 116 ∷ [])) → (eqb b 92 ≡ false → eqb b 34 ≡ false → eqb b 10 ≡ false → P (b ∷ [])) → P (escape_of b)
 escape_cases b P p q r s t =
     elim (cases_Bool (eqb b 92)) [

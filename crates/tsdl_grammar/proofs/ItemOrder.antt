@@ -29,6 +29,7 @@ use Rattle.tsdl_grammar.specs.Laws.{SaysMetadata}
 use Rattle.tsdl_grammar.specs.Orders.{Reordered, same, neighbours, behind, further, SameItems, traces, streams, events, clocks, environments, Paired, none, more, SameButEnvironmentOrder}
 use Rattle.tsdl_grammar.proofs.Inversion.{bind_some, bind_is, provided_some, some_same}
 use Rattle.tsdl_grammar.proofs.MeaningParts.{says_metadata, text_says}
+use Rattle.tsdl_grammar.proofs.Runs.{and_true}
 use Rattle.tsdl_grammar.proofs.Reordering.{reordered_parts, reordered_map, all_stays, no_two_stays, each_stays}
 
 -- ---- names
@@ -44,50 +45,26 @@ not_twice : (a b c d : Bool) → (not (a || b) && (not c && d)) ≡ true → a �
 not_twice true b c d e h = absurd cc
 not_twice false b c d e h = absurd cc
 
-tail_holds : (a b : Bool) → (a && b) ≡ true → b ≡ true
-tail_holds true b e = e
-tail_holds false b e = absurd cc
-
-front_holds : (a b : Bool) → (a && b) ≡ true → a ≡ true
-front_holds true b e = refl
-front_holds false b e = absurd cc
-
 looks_swap : {A : Type 0} (b c : Bool) (u v o : Option A) → (b ≡ true → c ≡ true → ⊥) → cond b u (cond c v o) ≡ cond c v (cond b u o)
 looks_swap true true u v o h = absurd (h refl refl)
 looks_swap true false u v o h = refl
 looks_swap false true u v o h = refl
 looks_swap false false u v o h = refl
 
-names_stay : {xs ys : List Attribute} → Reordered xs ys → are_distinct (attr_names xs) ≡ are_distinct (attr_names ys)
-names_stay r = no_two_stays same_words words_equiv.symm (reordered_map (λ a. words_of a.name) r)
+distinct_stay : {A : Type 0} (name : A → List (List ℕ)) {xs ys : List A} → Reordered xs ys → are_distinct (map name xs) ≡ are_distinct (map name ys)
+distinct_stay name r = no_two_stays same_words words_equiv.symm (reordered_map name r)
 
-attr_stays : (w : List ℕ) {xs ys : List Attribute} → Reordered xs ys → are_distinct (attr_names xs) ≡ true → attr w xs ≡ attr w ys
-attr_stays w (same xs) d = refl
-attr_stays w (neighbours x y xs) d =
-    looks_swap (is_word w x.name) (is_word w y.name) (Some x.value) (Some y.value) (attr w xs)
-    (λ p q. not_twice (same_words (words_of x.name) (words_of y.name)) (list_any (same_words (words_of x.name)) (attr_names xs)) (list_any (same_words (words_of y.name)) (attr_names xs))
-    (are_distinct (attr_names xs)) d (both_are (words_of x.name) (words_of y.name) (w ∷ []) p q))
-attr_stays w (behind x xs ys r) d =
-    ap (λ (o : Option Value). cond (is_word w x.name) (Some x.value) o)
-    (attr_stays w r (tail_holds (not (list_any (same_words (words_of x.name)) (attr_names xs))) (are_distinct (attr_names xs)) d))
-attr_stays w (further xs ys zs r s) d = attr_stays w r d ∙ attr_stays w s (sym (names_stay r) ∙ d)
-
-abbrev scope_names : List Scope → List (List (List ℕ))
-scope_names scopes = map (λ s. words_of s.name) scopes
-
-scope_names_stay : {xs ys : List Scope} → Reordered xs ys → are_distinct (scope_names xs) ≡ are_distinct (scope_names ys)
-scope_names_stay r = no_two_stays same_words words_equiv.symm (reordered_map (λ s. words_of s.name) r)
-
-scope_stays : (n : List (List ℕ)) {xs ys : List Scope} → Reordered xs ys → are_distinct (scope_names xs) ≡ true → scope n xs ≡ scope n ys
-scope_stays n (same xs) d = refl
-scope_stays n (neighbours x y xs) d =
-    looks_swap (same_words (words_of x.name) n) (same_words (words_of y.name) n) (Some x.structure) (Some y.structure) (scope n xs)
-    (λ p q. not_twice (same_words (words_of x.name) (words_of y.name)) (list_any (same_words (words_of x.name)) (scope_names xs)) (list_any (same_words (words_of y.name)) (scope_names xs))
-    (are_distinct (scope_names xs)) d (both_are (words_of x.name) (words_of y.name) n p q))
-scope_stays n (behind x xs ys r) d =
-    ap (λ (o : Option Structure). cond (same_words (words_of x.name) n) (Some x.structure) o)
-    (scope_stays n r (tail_holds (not (list_any (same_words (words_of x.name)) (scope_names xs))) (are_distinct (scope_names xs)) d))
-scope_stays n (further xs ys zs r s) d = scope_stays n r d ∙ scope_stays n s (sym (scope_names_stay r) ∙ d)
+-- what stands under a name is the same in any order, where no name stands twice
+look_stays : {A B : Type 0} (name : A → List (List ℕ)) (value : A → B) (n : List (List ℕ)) (look : List A → Option B)
+    → ((x : A) (xs : List A) → look (x ∷ xs) ≡ cond (same_words (name x) n) (Some (value x)) (look xs)) → {xs ys : List A} → Reordered xs ys → are_distinct (map name xs) ≡ true → look xs ≡ look ys
+look_stays name value n look step (same xs) d = refl
+look_stays name value n look step (neighbours x y xs) d =
+    rw (step x (y ∷ xs), step y xs, step y (x ∷ xs), step x xs) (looks_swap (same_words (name x) n) (same_words (name y) n) (Some (value x)) (Some (value y)) (look xs)
+    (λ p q. not_twice (same_words (name x) (name y)) (list_any (same_words (name x)) (map name xs)) (list_any (same_words (name y)) (map name xs)) (are_distinct (map name xs)) d (both_are (name x) (name y) n p q)))
+look_stays {A} {B} name value n look step (behind x xs ys r) d =
+    rw (step x xs, step x ys) (ap (λ (o : Option B). cond (same_words (name x) n) (Some (value x)) o)
+    (look_stays name value n look step r (and_true (not (list_any (same_words (name x)) (map name xs))) (are_distinct (map name xs)) d).1))
+look_stays name value n look step (further xs ys zs r s) d = look_stays name value n look step r d ∙ look_stays name value n look step s (sym (distinct_stay name r) ∙ d)
 
 -- ---- blocks of the same items
 
@@ -106,60 +83,25 @@ module _ (is js : List Item) (r : Reordered is js) (allowed : List (List (List �
 
   parts_stay : has_parts allowed is ≡ has_parts allowed js
   parts_stay =
-      ap₂ (λ (a b : Bool). a && b) (ap₂ (λ (a b : Bool). a && b) (names_stay attr_part) (scope_names_stay scope_part)) (all_stays (λ s. is_among allowed (words_of s.name)) scope_part)
+      ap₂ (λ (a b : Bool). a && b) (ap₂ (λ (a b : Bool). a && b) (distinct_stay (λ a. words_of a.name) attr_part) (distinct_stay (λ s. words_of s.name) scope_part)) (all_stays (λ s. is_among allowed (words_of s.name)) scope_part)
 
-  attrs_once : has_parts allowed is ≡ true → are_distinct (attr_names (attrs_in is)) ≡ true
-  attrs_once h =
-      front_holds (are_distinct (attr_names (attrs_in is))) (are_distinct (scope_names (scopes_in is)))
-      (front_holds (are_distinct (attr_names (attrs_in is)) && are_distinct (scope_names (scopes_in is))) (list_all (λ s. is_among allowed (words_of s.name)) (scopes_in is)) h)
-
-  scopes_once : has_parts allowed is ≡ true → are_distinct (scope_names (scopes_in is)) ≡ true
-  scopes_once h =
-      tail_holds (are_distinct (attr_names (attrs_in is))) (are_distinct (scope_names (scopes_in is)))
-      (front_holds (are_distinct (attr_names (attrs_in is)) && are_distinct (scope_names (scopes_in is))) (list_all (λ s. is_among allowed (words_of s.name)) (scopes_in is)) h)
+  once : has_parts allowed is ≡ true → (are_distinct (attr_names (attrs_in is)) ≡ true) × (are_distinct (map (λ s. words_of s.name) (scopes_in is)) ≡ true)
+  once h =
+      and_true (are_distinct (attr_names (attrs_in is))) (are_distinct (map (λ s. words_of s.name) (scopes_in is)))
+      (and_true (are_distinct (attr_names (attrs_in is)) && are_distinct (map (λ s. words_of s.name) (scopes_in is))) (list_all (λ s. is_among allowed (words_of s.name)) (scopes_in is)) h).0
 
   attr_alike : has_parts allowed is ≡ true → (w : List ℕ) → attr w (attrs_in is) ≡ attr w (attrs_in js)
-  attr_alike h w = attr_stays w attr_part (attrs_once h)
+  attr_alike h w = look_stays (λ a. words_of a.name) (λ a. a.value) (w ∷ []) (attr w) (λ x xs. refl) attr_part (once h).0
 
   scope_alike : has_parts allowed is ≡ true → (n : List (List ℕ)) → scope n (scopes_in is) ≡ scope n (scopes_in js)
-  scope_alike h n = scope_stays n scope_part (scopes_once h)
-
-abbrev clock_body : List Attribute → Option ClockType
-clock_body attrs = do
-  name ← attr (codes "name") attrs >>= name_value
-  uuid ← optional uuid_value (attr (codes "uuid") attrs)
-  description ← optional text_value (attr (codes "description") attrs)
-  frequency ← with_default 1000000000 natural_value (attr (codes "freq") attrs)
-  precision ← number_or_zero (codes "precision") attrs
-  offset_seconds ← with_default (pos 0) whole_value (attr (codes "offset_s") attrs)
-  offset_cycles ← number_or_zero (codes "offset") attrs
-  absolute ← with_default false flag_value (attr (codes "absolute") attrs)
-  Some (record {
-    name = name;
-    uuid = uuid;
-    description = description;
-    frequency = frequency;
-    precision = precision;
-    offset_seconds = offset_seconds;
-    offset_cycles = offset_cycles;
-    absolute = absolute;
-  })
+  scope_alike h n = look_stays (λ s. words_of s.name) (λ s. s.structure) n (scope n) (λ x xs. refl) scope_part (once h).1
 
 clock_stays : (is js : List Item) → Reordered is js → clock_meaning is ≡ clock_meaning js
 unfolding clock_meaning
 clock_stays is js r =
-    guarded (has_parts [] is) (has_parts [] js) (clock_body (attrs_in is)) (clock_body (attrs_in js)) (parts_stay is js r [])
+    guarded (has_parts [] is) (has_parts [] js) _ _ (parts_stay is js r [])
     (λ h. let a = attr_alike is js r [] h in
     rw (a (codes "name"), a (codes "uuid"), a (codes "description"), a (codes "freq"), a (codes "precision"), a (codes "offset_s"), a (codes "offset"), a (codes "absolute")) refl)
-
-abbrev stream_body : Known → List Attribute → List Scope → Option Stream
-stream_body known attrs scopes = do
-  id ← number_or_zero (codes "id") attrs
-  context ← scope_meaning known packet_context (suits context_names) scopes
-  header ← scope_meaning known event_header (suits (codes "id" ∷ [])) scopes
-  common ← scope_meaning known event_context (λ m. true) scopes
-  provided (has_member (codes "packet_size") context.members && has_member (codes "content_size") context.members)
-      (Some (record { id = id; context = context; event_header = header; common = common; events = [] }))
 
 abbrev stream_scopes : List (List (List ℕ))
 stream_scopes = packet_context ∷ event_header ∷ event_context ∷ []
@@ -167,19 +109,9 @@ stream_scopes = packet_context ∷ event_header ∷ event_context ∷ []
 stream_stays : (known : Known) (is js : List Item) → Reordered is js → stream_meaning known is ≡ stream_meaning known js
 unfolding stream_meaning
 stream_stays known is js r =
-    guarded (has_parts stream_scopes is) (has_parts stream_scopes js) (stream_body known (attrs_in is) (scopes_in is)) (stream_body known (attrs_in js) (scopes_in js)) (parts_stay is js r stream_scopes)
+    guarded (has_parts stream_scopes is) (has_parts stream_scopes js) _ _ (parts_stay is js r stream_scopes)
     (λ h. let a = attr_alike is js r stream_scopes h in let s = scope_alike is js r stream_scopes h in
     rw (a (codes "id"), s packet_context, s event_header, s event_context) refl)
-
-abbrev event_body : Known → List Attribute → List Scope → Option (ℕ × Event)
-event_body known attrs scopes = do
-  name ← attr (codes "name") attrs >>= name_value
-  id ← number_or_zero (codes "id") attrs
-  stream ← number_or_zero (codes "stream_id") attrs
-  level ← optional natural_value (attr (codes "loglevel") attrs)
-  specific ← scope_meaning known specific_context (λ m. true) scopes
-  fields ← scope_meaning known fields_scope (λ m. true) scopes
-  Some (stream, record { id = id; name = name; log_level = level; specific = specific; fields = fields })
 
 abbrev event_scopes : List (List (List ℕ))
 event_scopes = specific_context ∷ fields_scope ∷ []
@@ -187,7 +119,7 @@ event_scopes = specific_context ∷ fields_scope ∷ []
 event_stays : (known : Known) (is js : List Item) → Reordered is js → event_meaning known is ≡ event_meaning known js
 unfolding event_meaning
 event_stays known is js r =
-    guarded (has_parts event_scopes is) (has_parts event_scopes js) (event_body known (attrs_in is) (scopes_in is)) (event_body known (attrs_in js) (scopes_in js)) (parts_stay is js r event_scopes)
+    guarded (has_parts event_scopes is) (has_parts event_scopes js) _ _ (parts_stay is js r event_scopes)
     (λ h. let a = attr_alike is js r event_scopes h in let s = scope_alike is js r event_scopes h in
     rw (a (codes "name"), a (codes "id"), a (codes "stream_id"), a (codes "loglevel"), s specific_context, s fields_scope) refl)
 
@@ -213,7 +145,7 @@ module _ (is js : List Item) (r : Reordered is js) (h : has_parts trace_scopes i
 
 trace_parts : (is : List Item) → is_trace is ≡ true → has_parts trace_scopes is ≡ true
 trace_parts is e =
-    front_holds (has_parts trace_scopes is) (has_number (codes "major") 1 is) (front_holds (has_parts trace_scopes is && has_number (codes "major") 1 is) (has_number (codes "minor") 8 is) e)
+    (and_true (has_parts trace_scopes is) (has_number (codes "major") 1 is) (and_true (has_parts trace_scopes is && has_number (codes "major") 1 is) (has_number (codes "minor") 8 is) e).0).0
 
 -- ---- the environment block
 

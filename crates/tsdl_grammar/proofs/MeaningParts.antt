@@ -1,4 +1,4 @@
--- What integers, structures and texts mean, taken apart: each step that follows has a name.
+-- What integers, structures and texts mean, taken apart.
 use Rattle.std.proofs.Common.{◌≡◌, ℕ, Bool, true, false, List, [], length, Option, Some, None, refl, sym, ap, subst, ◌∙◌}
 use Rattle.std.specs.Prelude.{nat_le, codes}
 use Rattle.std.specs.List.{flat_map}
@@ -31,31 +31,16 @@ use Rattle.tsdl_grammar.proofs.TypeParts.{int_type-parts, struct_type-parts}
 
 -- ---- integers
 
-abbrev after_base : Known → List Attribute → ℕ → ℕ → Bool → Base → Option IntType
-after_base known attrs size align signed base = optional (clock_value known.clocks) (attr (codes "map") attrs) >>= λ clock. int_type size align signed base clock
-
-abbrev after_order : Known → List Attribute → ℕ → ℕ → Bool → ByteOrder → Option IntType
-after_order known attrs size align signed order = with_default Dec base_value (attr (codes "base") attrs) >>= after_base known attrs size align signed
-
-abbrev after_signed : Known → List Attribute → ℕ → ℕ → Bool → Option IntType
-after_signed known attrs size align signed = with_default known.order (order_value known.order) (attr (codes "byte_order") attrs) >>= after_order known attrs size align signed
-
-abbrev after_align : Known → List Attribute → ℕ → ℕ → Option IntType
-after_align known attrs size align = with_default false flag_value (attr (codes "signed") attrs) >>= after_signed known attrs size align
-
-abbrev after_size : Known → List Attribute → ℕ → Option IntType
-after_size known attrs size = with_default (default_align size) natural_value (attr (codes "align") attrs) >>= after_align known attrs size
-
 pub says_integer : (known : Known) (attrs : List Attribute) (t : IntType) → int_meaning known attrs ≡ Some t → SaysInteger known attrs t
 unfolding int_meaning
 says_integer known attrs t e =
-    let g = provided_some (has_only int_attrs attrs) ((attr (codes "size") attrs >>= natural_value) >>= after_size known attrs) t e in
-    let a = bind_some (attr (codes "size") attrs >>= natural_value) (after_size known attrs) t g.1 in
-    let b = bind_some (with_default (default_align a.0) natural_value (attr (codes "align") attrs)) (after_align known attrs a.0) t a.2 in
-    let c = bind_some (with_default false flag_value (attr (codes "signed") attrs)) (after_signed known attrs a.0 b.0) t b.2 in
-    let d = bind_some (with_default known.order (order_value known.order) (attr (codes "byte_order") attrs)) (after_order known attrs a.0 b.0 c.0) t c.2 in
-    let f = bind_some (with_default Dec base_value (attr (codes "base") attrs)) (after_base known attrs a.0 b.0 c.0) t d.2 in
-    let h = bind_some (optional (clock_value known.clocks) (attr (codes "map") attrs)) (λ clock. int_type a.0 b.0 c.0 f.0 clock) t f.2 in
+    let g = provided_some (has_only int_attrs attrs) _ t e in
+    let a = bind_some (attr (codes "size") attrs >>= natural_value) _ t g.1 in
+    let b = bind_some (with_default (default_align a.0) natural_value (attr (codes "align") attrs)) _ t a.2 in
+    let c = bind_some (with_default false flag_value (attr (codes "signed") attrs)) _ t b.2 in
+    let d = bind_some (with_default known.order (order_value known.order) (attr (codes "byte_order") attrs)) _ t c.2 in
+    let f = bind_some (with_default Dec base_value (attr (codes "base") attrs)) _ t d.2 in
+    let h = bind_some (optional (clock_value known.clocks) (attr (codes "map") attrs)) _ t f.2 in
     let p = int_type-parts a.0 b.0 c.0 f.0 h.0 t h.2 in
     record {
       once = g.0;
@@ -81,14 +66,13 @@ base_default known attrs t e h = same_some Dec t.base (sym (ap (with_default Dec
 pub clock_default : (known : Known) (attrs : List Attribute) (t : IntType) → int_meaning known attrs ≡ Some t → attr (codes "map") attrs ≡ None → t.clock ≡ None
 clock_default known attrs t e h = same_some None t.clock (sym (ap (optional (clock_value known.clocks)) h) ∙ (says_integer known attrs t e).clock)
 
-none_provided : {A : Type 0} (b : Bool) (o : Option A) → o ≡ None → provided b o ≡ None
-none_provided true o h = h
-none_provided false o h = refl
+none_provided : {A : Type 0} (b : Bool) → provided {A = A} b None ≡ None
+none_provided true = refl
+none_provided false = refl
 
 pub size_needed : (known : Known) (attrs : List Attribute) → attr (codes "size") attrs ≡ None → int_meaning known attrs ≡ None
 unfolding int_meaning
-size_needed known attrs h =
-    none_provided (has_only int_attrs attrs) ((attr (codes "size") attrs >>= natural_value) >>= after_size known attrs) (ap (λ (v : Option Value). (v >>= natural_value) >>= after_size known attrs) h)
+size_needed known attrs h = rw h (none_provided (has_only int_attrs attrs))
 
 -- ---- structures
 
@@ -110,42 +94,19 @@ says_structure known s t e =
 
 -- ---- texts
 
-abbrev after_header : List Block → ByteOrder → Option (List ℕ) → List EnvironmentEntry → List ClockType → StructType → Option Metadata
-after_header bs order uuid environment clocks header =
-    streams_meaning (known_of order clocks) bs >>= λ streams. Some (record { order = order; uuid = uuid; environment = environment; clocks = clocks; header = header; streams = streams })
-
-abbrev after_clocks : List Block → List Item → ByteOrder → Option (List ℕ) → List EnvironmentEntry → List ClockType → Option Metadata
-after_clocks bs trace order uuid environment clocks =
-    provided (no_two bytes_eq (known_of order clocks).clocks) (header_meaning (known_of order clocks) trace) >>= after_header bs order uuid environment clocks
-
-abbrev after_environment : List Block → List Item → ByteOrder → Option (List ℕ) → List EnvironmentEntry → Option Metadata
-after_environment bs trace order uuid environment = each clock_meaning (flat_map clock_in bs) >>= after_clocks bs trace order uuid environment
-
-abbrev after_facts : List Block → List Item → ByteOrder → Option (List ℕ) → List NamedFact → Option Metadata
-after_facts bs trace order uuid facts = environment_meaning facts >>= after_environment bs trace order uuid
-
-abbrev after_uuid : List Block → List Item → ByteOrder → Option (List ℕ) → Option Metadata
-after_uuid bs trace order uuid = at_most_one (flat_map environment_in bs) >>= after_facts bs trace order uuid
-
-abbrev after_trace_order : List Block → List Item → ByteOrder → Option Metadata
-after_trace_order bs trace order = trace_uuid trace >>= after_uuid bs trace order
-
-abbrev after_trace : List Block → List Item → Option Metadata
-after_trace bs trace = provided (is_trace trace) (trace_order trace) >>= after_trace_order bs trace
-
 pub says_metadata : (bs : List Block) (m : Metadata) → text_meta bs ≡ Some m → SaysMetadata bs m
 unfolding text_meta
 says_metadata bs m e =
-    let a = bind_some (only (flat_map trace_in bs)) (after_trace bs) m e in
-    let b = bind_some (provided (is_trace a.0) (trace_order a.0)) (after_trace_order bs a.0) m a.2 in
+    let a = bind_some (only (flat_map trace_in bs)) _ m e in
+    let b = bind_some (provided (is_trace a.0) (trace_order a.0)) _ m a.2 in
     let v = provided_some (is_trace a.0) (trace_order a.0) b.0 b.1 in
-    let c = bind_some (trace_uuid a.0) (after_uuid bs a.0 b.0) m b.2 in
-    let d = bind_some (at_most_one (flat_map environment_in bs)) (after_facts bs a.0 b.0 c.0) m c.2 in
-    let f = bind_some (environment_meaning d.0) (after_environment bs a.0 b.0 c.0) m d.2 in
-    let g = bind_some (each clock_meaning (flat_map clock_in bs)) (after_clocks bs a.0 b.0 c.0 f.0) m f.2 in
-    let h = bind_some (provided (no_two bytes_eq (known_of b.0 g.0).clocks) (header_meaning (known_of b.0 g.0) a.0)) (after_header bs b.0 c.0 f.0 g.0) m g.2 in
+    let c = bind_some (trace_uuid a.0) _ m b.2 in
+    let d = bind_some (at_most_one (flat_map environment_in bs)) _ m c.2 in
+    let f = bind_some (environment_meaning d.0) _ m d.2 in
+    let g = bind_some (each clock_meaning (flat_map clock_in bs)) _ m f.2 in
+    let h = bind_some (provided (no_two bytes_eq (known_of b.0 g.0).clocks) (header_meaning (known_of b.0 g.0) a.0)) _ m g.2 in
     let w = provided_some (no_two bytes_eq (known_of b.0 g.0).clocks) (header_meaning (known_of b.0 g.0) a.0) h.0 h.1 in
-    let k = bind_some (streams_meaning (known_of b.0 g.0) bs) (λ streams. Some (record { order = b.0; uuid = c.0; environment = f.0; clocks = g.0; header = h.0; streams = streams })) m h.2 in
+    let k = bind_some (streams_meaning (known_of b.0 g.0) bs) _ m h.2 in
     let made : Metadata = record { order = b.0; uuid = c.0; environment = f.0; clocks = g.0; header = h.0; streams = k.0 } in
     let says : SaysMetadata bs made = record {
       trace = a.0;
@@ -167,15 +128,15 @@ unfolding text_meta
 text_says bs m s =
     let d = bind_some (at_most_one (flat_map environment_in bs)) environment_meaning m.environment s.environment in
     let known = known_of m.order m.clocks in
-    bind_is (only (flat_map trace_in bs)) (after_trace bs) s.trace m s.one_trace
-    (bind_is (provided (is_trace s.trace) (trace_order s.trace)) (after_trace_order bs s.trace) m.order m (ap (λ (b : Bool). provided b (trace_order s.trace)) s.version ∙ s.order)
-    (bind_is (trace_uuid s.trace) (after_uuid bs s.trace m.order) m.uuid m s.uuid
-    (bind_is (at_most_one (flat_map environment_in bs)) (after_facts bs s.trace m.order m.uuid) d.0 m d.1
-    (bind_is (environment_meaning d.0) (after_environment bs s.trace m.order m.uuid) m.environment m d.2
-    (bind_is (each clock_meaning (flat_map clock_in bs)) (after_clocks bs s.trace m.order m.uuid m.environment) m.clocks m s.clocks
-    (bind_is (provided (no_two bytes_eq known.clocks) (header_meaning known s.trace)) (after_header bs m.order m.uuid m.environment m.clocks) m.header m
+    bind_is (only (flat_map trace_in bs)) _ s.trace m s.one_trace
+    (bind_is (provided (is_trace s.trace) (trace_order s.trace)) _ m.order m (ap (λ (b : Bool). provided b (trace_order s.trace)) s.version ∙ s.order)
+    (bind_is (trace_uuid s.trace) _ m.uuid m s.uuid
+    (bind_is (at_most_one (flat_map environment_in bs)) _ d.0 m d.1
+    (bind_is (environment_meaning d.0) _ m.environment m d.2
+    (bind_is (each clock_meaning (flat_map clock_in bs)) _ m.clocks m s.clocks
+    (bind_is (provided (no_two bytes_eq known.clocks) (header_meaning known s.trace)) _ m.header m
     (ap (λ (b : Bool). provided b (header_meaning known s.trace)) s.clocks_once ∙ s.header)
-    (bind_is (streams_meaning known bs) (λ streams. Some (record { order = m.order; uuid = m.uuid; environment = m.environment; clocks = m.clocks; header = m.header; streams = streams })) m.streams m s.streams refl)))))))
+    (bind_is (streams_meaning known bs) _ m.streams m s.streams refl)))))))
 
 -- a text means what its blocks of each kind mean, however the kinds are mixed
 pub same_meaning : (bs cs : List Block) → SameBlocks bs cs → text_meta bs ≡ text_meta cs

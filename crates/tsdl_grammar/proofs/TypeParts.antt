@@ -12,6 +12,7 @@ use Rattle.ctf_types.specs.Alignment.{IsAlignment}
 use Rattle.tsdl_grammar.specs.Steps.{proved}
 use Rattle.tsdl_grammar.specs.IntegerMeaning.{int_type}
 use Rattle.tsdl_grammar.specs.StructureMeaning.{struct_type}
+use Rattle.tsdl_grammar.proofs.Inversion.{some_same}
 
 proved_true : {A : Type 0} (b : Bool) (f : b ≡ true → Option A) (h : b ≡ true) → proved b f ≡ f h
 proved_true true f h = let same : IsProp (true ≡ true) = hlevel props in ap f (same refl h)
@@ -66,9 +67,6 @@ pub record HasParts (t : IntType) (size align : ℕ) (signed : Bool) (base : Bas
   pub signed_is : t.signed ≡ signed
   pub base_is : t.base ≡ base
   pub clock_is : t.clock ≡ clock
-
-some_same : {A : Type 0} (x y : A) (o : Option A) → o ≡ Some x → o ≡ Some y → x ≡ y
-some_same x y o p q = cc
 
 pub int_type-parts : (size align : ℕ) (signed : Bool) (base : Base) (clock : Option (List ℕ)) (t : IntType) → int_type size align signed base clock ≡ Some t → HasParts t size align signed base clock
 unfolding int_type

@@ -1,6 +1,6 @@
 -- The tokens of a metadata text, with the bytes that each one is, and the place at which a text has no tokens.
 -- A text is cut into its pieces from the front on, each as long as it can be; blanks and comments are no tokens.
-use Rattle.std.specs.Prelude.{◌≡◌, ◌≢◌, ℕ, Bool, true, false, ◌+◌, ◌≤◌, ◌<◌, List, [], ◌∷◌, ◌++◌, length, drop, Option, Some, None, codes, Result, Ok, Err}
+use Rattle.std.specs.Prelude.{◌≡◌, ◌≢◌, ℕ, ◌+◌, ◌≤◌, ◌<◌, List, [], ◌∷◌, ◌++◌, length, drop, Option, Some, None, codes, Result, Ok, Err}
 use Rattle.std.specs.Global.{Vec}
 use Rattle.tsdl_grammar.specs.declared.token.Token.{Token}
 use Rattle.tsdl_grammar.specs.declared.token.Span.{Span}
@@ -29,12 +29,6 @@ abbrev pub token_of : Piece → Span → List Token
 token_of pieces.Blank span = []
 token_of pieces.Comment span = []
 token_of (pieces.Token kind) span = record { kind = kind; span = span } ∷ []
-
--- whether a piece is one
-abbrev pub is_token : Piece → Bool
-is_token pieces.Blank = false
-is_token pieces.Comment = false
-is_token (pieces.Token kind) = true
 
 -- the tokens among the pieces, of which the first begins at a place
 abbrev pub tokens_from : ℕ → List Cut → List Token

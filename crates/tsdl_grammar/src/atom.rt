@@ -1,12 +1,12 @@
 //! What a token means by itself: a word, a number, a string's text or a mark.
 
-ghost use Rattle.std.specs.Prelude.{◌≡◌, ◌≤◌, length, slice_range, IfOk, MatchOption, true, false};
-ghost use Rattle.std.specs.Str.{is_utf8};
+ghost use Rattle.std.specs.Prelude.{◌≡◌, ◌≤◌, length, slice_range, IfOk};
 ghost use Rattle.tsdl_grammar.specs.Tokens.{Rises};
-ghost use Rattle.tsdl_grammar.specs.Atoms.{atom_of, atoms_of, meaning_of, word_atom, text_atom, content_of};
+ghost use Rattle.tsdl_grammar.specs.Atoms.{atom_of, atoms_of, meaning_of, content_of};
 
 use crate::escapes::unescape;
 use crate::literal::literal_value;
+use crate::piece::text_in;
 use crate::token::{Mark, Token, TokenKind};
 use ctf_types::Text;
 use std::alloc::{AllocError, Global};
@@ -51,12 +51,18 @@ pub(crate) fn meaning(alloc: Global, kind: TokenKind, bytes: &[u8]) -> Result<At
     ensures { IfOk result (λ a. a ≡ meaning_of kind bytes.now) }
 {
     match kind {
-        TokenKind::Identifier => word(alloc, bytes),
-        TokenKind::Number => Ok(match literal_value(bytes) {
-            Some(number) => Atom::Number(number),
-            None => Atom::TooLarge,
-        }),
-        TokenKind::Text => string(alloc, content(bytes)),
+        TokenKind::Identifier => match text_in(bytes) {
+            Some(word) => Ok(Atom::Word(Text::from_str(alloc, word)?)),
+            None => Ok(Atom::TooLarge),
+        },
+        TokenKind::Number => Ok(literal_value(bytes).map_or(Atom::TooLarge, Atom::Number)),
+        TokenKind::Text => {
+            let content = unescape(alloc, content(bytes))?;
+            match text_in(&content) {
+                Some(text) => Ok(Atom::Text(Text::from_str(alloc, text)?)),
+                None => Ok(Atom::TooLarge),
+            }
+        }
         TokenKind::Mark(mark) => Ok(Atom::Mark(mark)),
     }
 }
@@ -68,34 +74,5 @@ fn content(bytes: &[u8]) -> &[u8]
     match bytes {
         [_, content @ .., _] => content,
         _ => &[],
-    }
-}
-
-fn word(alloc: Global, bytes: &[u8]) -> Result<Atom, AllocError>
-    ensures { IfOk result (λ a. a ≡ word_atom bytes.now) }
-{
-    match text_of(alloc, bytes)? {
-        Some(name) => Ok(Atom::Word(name)),
-        None => Ok(Atom::TooLarge),
-    }
-}
-
-fn string(alloc: Global, content: &[u8]) -> Result<Atom, AllocError>
-    ensures { IfOk result (λ a. a ≡ text_atom content.now) }
-{
-    let bytes = unescape(alloc, content)?;
-    match text_of(alloc, &bytes)? {
-        Some(text) => Ok(Atom::Text(text)),
-        None => Ok(Atom::TooLarge),
-    }
-}
-
-/// Bytes as a text, None where they are no UTF-8.
-fn text_of(alloc: Global, bytes: &[u8]) -> Result<Option<Text>, AllocError>
-    ensures { IfOk result (λ t. MatchOption t (is_utf8 bytes.now ≡ false) (λ x. (x ≡ bytes.now) × (is_utf8 bytes.now ≡ true))) }
-{
-    match std::str::from_utf8(bytes) {
-        Ok(text) => Ok(Some(Text::from_str(alloc, text)?)),
-        Err(_) => Ok(None),
     }
 }

@@ -1,7 +1,7 @@
 //! Strings as they stand between quotes, and the bytes that they stand for.
 
-ghost use Rattle.std.specs.Prelude.{◌≡◌, ◌++◌, false, IfOk, OnOk};
-ghost use Rattle.tsdl_grammar.specs.Escapes.{escaped_byte, unescaped, unescaped_from, escape_of, escaped};
+ghost use Rattle.std.specs.Prelude.{◌≡◌, ◌++◌, false, IfOk};
+ghost use Rattle.tsdl_grammar.specs.Escapes.{escaped_byte, unescaped, unescaped_from, escaped};
 
 use std::alloc::{AllocError, Global};
 
@@ -49,19 +49,13 @@ pub fn escape(alloc: Global, text: &[u8]) -> Result<Vec<u8>, AllocError>
 {
     let mut bytes = Vec::new(alloc);
     for b in text {
-        push_escaped(&mut bytes, *b)?;
+        match b {
+            b'\\' => bytes.extend_from_slice(b"\\\\")?,
+            b'"' => bytes.extend_from_slice(b"\\\"")?,
+            b'\n' => bytes.extend_from_slice(b"\\n")?,
+            b'\t' => bytes.extend_from_slice(b"\\t")?,
+            _ => bytes.push(*b)?,
+        }
     }
     Ok(bytes)
-}
-
-fn push_escaped(out: &mut Vec<u8>, b: u8) -> Result<(), AllocError>
-    ensures { OnOk result (out.new.items ≡ out.old.items ++ escape_of b) }
-{
-    match b {
-        b'\\' => out.extend_from_slice(b"\\\\"),
-        b'"' => out.extend_from_slice(b"\\\""),
-        b'\n' => out.extend_from_slice(b"\\n"),
-        b'\t' => out.extend_from_slice(b"\\t"),
-        _ => out.extend_from_slice(&[b]),
-    }
 }

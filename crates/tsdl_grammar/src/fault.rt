@@ -68,10 +68,8 @@ impl From<AllocError> for MetaFault {
     ghost from_gives = { λ _ e. e ≡ record { place = 0; kind = OutOfMemory } };
 
     fn from(_e: AllocError) -> MetaFault {
-        MetaFault {
-            place: 0,
-            kind: MetaFaultKind::OutOfMemory,
-        }
+        let kind = MetaFaultKind::OutOfMemory;
+        MetaFault { place: 0, kind }
     }
 }
 
@@ -79,9 +77,7 @@ impl<T: Drop> From<AllocFailed<T>> for MetaFault {
     ghost from_gives = { λ _ e. e ≡ record { place = 0; kind = OutOfMemory } };
 
     fn from(_e: AllocFailed<T>) -> MetaFault {
-        MetaFault {
-            place: 0,
-            kind: MetaFaultKind::OutOfMemory,
-        }
+        let kind = MetaFaultKind::OutOfMemory;
+        MetaFault { place: 0, kind }
     }
 }

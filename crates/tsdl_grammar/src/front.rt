@@ -4,7 +4,7 @@ ghost use Rattle.std.specs.Prelude.{◌≡◌, ◌∷◌, ◌++◌, [], length, 
 ghost use Rattle.tsdl_grammar.specs.Fronts.{atoms_in, meant, word_in, shown};
 
 use crate::atom::{Atom, meaning};
-use crate::piece::{Piece, piece_at};
+use crate::piece::{Piece, piece_at, text_in};
 use crate::token::TokenKind;
 use std::alloc::{AllocError, Global};
 
@@ -28,10 +28,7 @@ impl Front<'_> {
         ensures { option_map (λ w. w.now) result ≡ word_in (meant self.now) }
     {
         match self.kind {
-            TokenKind::Identifier => match std::str::from_utf8(self.bytes) {
-                Ok(word) => Some(word),
-                Err(_) => None,
-            },
+            TokenKind::Identifier => text_in(self.bytes),
             TokenKind::Number | TokenKind::Text | TokenKind::Mark(_) => None,
         }
     }
@@ -108,19 +105,15 @@ impl<'a> Atoms<'a> {
                 };
             }
         }
-        match first_token(more) {
-            Some((front, behind)) => Atoms {
-                front: Some(front),
-                text: &[],
-                count: 0,
-                more: behind,
-            },
-            None => Atoms {
-                front: None,
-                text: &[],
-                count: 0,
-                more: &[],
-            },
+        let (front, more) = match first_token(more) {
+            Some((front, behind)) => (Some(front), behind),
+            None => (None, more),
+        };
+        Atoms {
+            front,
+            text: &[],
+            count: 0,
+            more,
         }
     }
 

@@ -4,34 +4,16 @@ ghost use Rattle.std.specs.Prelude.{◌≡◌, ℕ, ◌<◌, ◌^◌, false, Lis
 ghost use Rattle.std.specs.List.{AllByRecursion};
 ghost use Rattle.std.specs.Str.{IsUtf8};
 ghost use Rattle.std.specs.Fmt.{decimal};
-ghost use Rattle.ctf_types.specs.declared.Base.TheVariants.{Dec};
-ghost use Rattle.ctf_types.specs.declared.IntType.{IntType};
-ghost use Rattle.ctf_types.specs.declared.ClockType.{ClockType};
-ghost use Rattle.ctf_types.specs.declared.Stream.{Stream};
-ghost use Rattle.ctf_types.specs.declared.Event.{Event};
-ghost use Rattle.tsdl_grammar.specs.declared.tree.Item.{Item};
 ghost use Rattle.ctf_types.specs.declared.FieldType.{FieldType};
-ghost use Rattle.ctf_types.specs.declared.MemberType.{MemberType};
 ghost use Rattle.ctf_types.specs.declared.MemberType.TheVariants.{Dyn};
 ghost use Rattle.ctf_types.specs.declared.Length.TheVariants.{At};
-ghost use Rattle.ctf_types.specs.declared.StructType.{StructType};
-ghost use Rattle.ctf_types.specs.declared.Metadata.{Metadata};
 ghost use Rattle.tsdl_grammar.specs.declared.token.Token.{Token};
-ghost use Rattle.tsdl_grammar.specs.declared.tree.Attribute.{Attribute};
 ghost use Rattle.tsdl_grammar.specs.declared.tree.MemberTree.{MemberTree};
-ghost use Rattle.tsdl_grammar.specs.declared.tree.Structure.{Structure};
-ghost use Rattle.tsdl_grammar.specs.declared.tree.Block.{Block};
 ghost use Rattle.tsdl_grammar.specs.Escapes.{escaped, unescaped};
 ghost use Rattle.tsdl_grammar.specs.Literals.{literal_of};
 ghost use Rattle.tsdl_grammar.specs.Tokens.{Tokenizes, StopsAt};
-ghost use Rattle.tsdl_grammar.specs.Denotes.{text_meta};
-ghost use Rattle.tsdl_grammar.specs.IntegerMeaning.{Known, default_align, int_meaning};
-ghost use Rattle.tsdl_grammar.specs.Lookups.{attr};
-ghost use Rattle.tsdl_grammar.specs.BlockMeaning.{clock_meaning, stream_meaning, event_meaning};
-ghost use Rattle.tsdl_grammar.specs.MemberMeaning.{member_meaning};
-ghost use Rattle.tsdl_grammar.specs.StructureMeaning.{struct_meaning};
 ghost use Rattle.tsdl_grammar.specs.Orders.{Reordered, SameItems, Paired, SameButClockOrder, SameButEnvironmentOrder};
-ghost use Rattle.tsdl_grammar.specs.Laws.{SaysInteger, SaysStructure, SaysClock, SaysStream, SaysEvent, SaysMetadata, SameBlocks, NamesLength, NumbersRise};
+ghost use Rattle.tsdl_grammar.specs.Laws.{Dec, IntType, ClockType, Stream, Event, MemberType, StructType, Metadata, Item, Attribute, Structure, Block, text_meta, Known, default_align, int_meaning, attr, clock_meaning, stream_meaning, event_meaning, member_meaning, struct_meaning, SaysInteger, SaysStructure, SaysClock, SaysStream, SaysEvent, SaysMetadata, SameBlocks, NamesLength, NumbersRise};
 
 /// A text has one list of tokens.
 pub fn tokens_are_unique()

@@ -25,28 +25,13 @@ fn digits_value(radix: u32, bytes: &[u8]) -> Option<u64>
     let mut value = 0;
     let mut rest = bytes;
     while let [b, after @ ..] = rest {
-        let Some(digit) = digit_of(radix, *b) else {
+        let Some(digit) = char::from(*b).to_digit(radix) else {
             return Some(value);
         };
-        value = with_digit(value, radix, digit)?;
+        value = value
+            .checked_mul(u64::from(radix))?
+            .checked_add(u64::from(digit))?;
         rest = after;
     }
     Some(value)
-}
-
-/// The value of a digit, if the byte is one in this base.
-fn digit_of(radix: u32, b: u8) -> Option<u32>
-    requires { (2 ≤ radix) × (radix ≤ 36) }
-    ensures { SomeIff result (digit_value b < radix) (digit_value b) }
-{
-    char::from(b).to_digit(radix)
-}
-
-/// A number with one more digit, None where it is above 2^64 - 1.
-fn with_digit(value: u64, radix: u32, digit: u32) -> Option<u64>
-    ensures { SomeIff result (value * radix + digit < 2 ^ 64) (value * radix + digit) }
-{
-    value
-        .checked_mul(u64::from(radix))?
-        .checked_add(u64::from(digit))
 }

@@ -1,12 +1,12 @@
 //! The longest piece at the front of a text: a blank, a comment or a token.
 
-ghost use Rattle.std.specs.Prelude.{◌≡◌, ◌<◌, ◌≤◌, ◌==◌, ◌+◌, false, length, IfSome};
+ghost use Rattle.std.specs.Prelude.{◌≡◌, ◌<◌, ◌≤◌, ◌+◌, true, false, length, IfSome, MatchOption};
 ghost use Rattle.std.specs.List.{prefix_len};
 ghost use Rattle.std.specs.Char.{is_ascii_digit, is_ascii_hexdigit};
 ghost use Rattle.std.specs.Str.{is_utf8};
-ghost use Rattle.tsdl_grammar.specs.declared.piece.Piece.TheVariants.{Comment, Token};
-ghost use Rattle.tsdl_grammar.specs.Bytes.{is_blank, is_name_start, is_name_byte, is_octal_digit, is_suffix, not_newline};
-ghost use Rattle.tsdl_grammar.specs.Pieces.{piece_at, mark_at, one_byte_mark, close_len, comment_at, content_len, text_at, number_len, digits_len, zero_len};
+ghost use Rattle.tsdl_grammar.specs.declared.piece.Piece.TheVariants.{Token};
+ghost use Rattle.tsdl_grammar.specs.Bytes.{is_name_byte, is_octal_digit, is_suffix, not_newline};
+ghost use Rattle.tsdl_grammar.specs.Pieces.{piece_at, mark_at, close_len, comment_at, content_len, text_at, number_len, digits_len};
 
 use crate::escapes::escaped_byte;
 use crate::token::{Mark, TokenKind};
@@ -32,66 +32,29 @@ pub(crate) fn piece_at(bytes: &[u8]) -> Option<Cut>
     ensures value { result ≡ piece_at bytes.now }
     ensures within { IfSome result (λ c. (0 < c.len) × (c.len ≤ length bytes.now)) }
 {
-    match bytes {
-        [] => None,
-        [b, after @ ..] => {
-            if is_blank(*b) {
-                Some(Cut {
-                    piece: Piece::Blank,
-                    len: 1,
-                })
-            } else if is_name_start(*b) {
-                Some(token(TokenKind::Identifier, 1 + name_len(after)))
-            } else if b.is_ascii_digit() {
-                Some(token(TokenKind::Number, number_len(bytes)))
-            } else if *b == b'"' {
-                text_at(after)
-            } else if *b == b'/' {
-                comment_at(after)
-            } else {
-                mark_at(*b, after)
-            }
-        }
+    let [b, after @ ..] = bytes else {
+        return None;
+    };
+    match *b {
+        b' ' | 9..=13 => Some(of_len(Piece::Blank, 1)),
+        b'a'..=b'z' | b'A'..=b'Z' | b'_' => Some(token(TokenKind::Identifier, 1 + name_len(after))),
+        b'0'..=b'9' => Some(token(TokenKind::Number, number_len(bytes))),
+        b'"' => text_at(after),
+        b'/' => comment_at(after),
+        _ => mark_at(*b, after),
     }
+}
+
+fn of_len(piece: Piece, len: usize) -> Cut
+    ensures { result ≡ record { piece = piece; len = len } }
+{
+    Cut { piece, len }
 }
 
 fn token(kind: TokenKind, len: usize) -> Cut
     ensures { result ≡ record { piece = Token kind; len = len } }
 {
-    Cut {
-        piece: Piece::Token(kind),
-        len,
-    }
-}
-
-fn is_blank(b: u8) -> bool
-    ensures { result ≡ is_blank b }
-{
-    b == b' ' || (9 <= b && b <= 13)
-}
-
-fn is_name_start(b: u8) -> bool
-    ensures { result ≡ is_name_start b }
-{
-    b.is_ascii_alphabetic() || b == b'_'
-}
-
-fn is_name_byte(b: u8) -> bool
-    ensures { result ≡ is_name_byte b }
-{
-    b.is_ascii_alphanumeric() || b == b'_'
-}
-
-fn is_octal_digit(b: u8) -> bool
-    ensures { result ≡ is_octal_digit b }
-{
-    b'0' <= b && b <= b'7'
-}
-
-fn is_suffix(b: u8) -> bool
-    ensures { result ≡ is_suffix b }
-{
-    b == b'u' || b == b'U' || b == b'l' || b == b'L'
+    of_len(Piece::Token(kind), len)
 }
 
 /// How many name bytes stand at the front.
@@ -99,7 +62,10 @@ fn name_len(bytes: &[u8]) -> usize
     ensures value { result ≡ prefix_len is_name_byte bytes.now }
     ensures within { result ≤ length bytes.now }
 {
-    bytes.iter().take_while(|b| is_name_byte(**b)).count()
+    bytes
+        .iter()
+        .take_while(|b| b.is_ascii_alphanumeric() || **b == b'_')
+        .count()
 }
 
 fn decimal_len(bytes: &[u8]) -> usize
@@ -120,14 +86,20 @@ fn octal_len(bytes: &[u8]) -> usize
     ensures value { result ≡ prefix_len is_octal_digit bytes.now }
     ensures within { result ≤ length bytes.now }
 {
-    bytes.iter().take_while(|b| is_octal_digit(**b)).count()
+    bytes
+        .iter()
+        .take_while(|b| b'0' <= **b && **b <= b'7')
+        .count()
 }
 
 fn suffix_len(bytes: &[u8]) -> usize
     ensures value { result ≡ prefix_len is_suffix bytes.now }
     ensures within { result ≤ length bytes.now }
 {
-    bytes.iter().take_while(|b| is_suffix(**b)).count()
+    bytes
+        .iter()
+        .take_while(|b| **b == b'u' || **b == b'U' || **b == b'l' || **b == b'L')
+        .count()
 }
 
 fn line_len(bytes: &[u8]) -> usize
@@ -144,19 +116,17 @@ fn text_at(bytes: &[u8]) -> Option<Cut>
     ensures within { IfSome result (λ c. (0 < c.len) × (c.len ≤ 1 + length bytes.now)) }
 {
     let len = content_len(bytes)?;
-    if is_utf8(&bytes[..len]) {
-        Some(token(TokenKind::Text, 2 + len))
-    } else {
-        None
-    }
+    text_in(&bytes[..len])?;
+    Some(token(TokenKind::Text, 2 + len))
 }
 
-fn is_utf8(bytes: &[u8]) -> bool
-    ensures { result ≡ is_utf8 bytes.now }
+/// Bytes as a text, None where they are no UTF-8.
+pub(crate) fn text_in(bytes: &[u8]) -> Option<&str>
+    ensures { MatchOption result (is_utf8 bytes.now ≡ false) (λ t. (t.now ≡ bytes.now) × (is_utf8 bytes.now ≡ true)) }
 {
     match std::str::from_utf8(bytes) {
-        Ok(_) => true,
-        Err(_) => false,
+        Ok(text) => Some(text),
+        Err(_) => None,
     }
 }
 
@@ -192,18 +162,9 @@ fn comment_at(bytes: &[u8]) -> Option<Cut>
     ensures within { IfSome result (λ c. (0 < c.len) × (c.len ≤ 1 + length bytes.now)) }
 {
     match bytes {
-        [b'/', after @ ..] => Some(comment(2 + line_len(after))),
-        [b'*', after @ ..] => Some(comment(2 + close_len(after)?)),
+        [b'/', after @ ..] => Some(of_len(Piece::Comment, 2 + line_len(after))),
+        [b'*', after @ ..] => Some(of_len(Piece::Comment, 2 + close_len(after)?)),
         _ => None,
-    }
-}
-
-fn comment(len: usize) -> Cut
-    ensures { result ≡ record { piece = Comment; len = len } }
-{
-    Cut {
-        piece: Piece::Comment,
-        len,
     }
 }
 
@@ -255,30 +216,23 @@ fn mark_at(b: u8, after: &[u8]) -> Option<Cut>
     ensures value { result ≡ mark_at b after.now }
     ensures within { IfSome result (λ c. (0 < c.len) × (c.len ≤ 1 + length after.now)) }
 {
-    match (b, after) {
-        (b':', [b'=', ..]) => Some(token(TokenKind::Mark(Mark::Assign), 2)),
-        (b'.', [b'.', b'.', ..]) => Some(token(TokenKind::Mark(Mark::Ellipsis), 3)),
-        _ => Some(token(TokenKind::Mark(one_byte_mark(b)?), 1)),
-    }
-}
-
-fn one_byte_mark(b: u8) -> Option<Mark>
-    ensures { result ≡ one_byte_mark b }
-{
-    match b {
-        b'{' => Some(Mark::OpenBrace),
-        b'}' => Some(Mark::CloseBrace),
-        b'[' => Some(Mark::OpenBracket),
-        b']' => Some(Mark::CloseBracket),
-        b'(' => Some(Mark::OpenParenthesis),
-        b')' => Some(Mark::CloseParenthesis),
-        b';' => Some(Mark::Semicolon),
-        b',' => Some(Mark::Comma),
-        b':' => Some(Mark::Colon),
-        b'=' => Some(Mark::Equals),
-        b'-' => Some(Mark::Minus),
-        b'+' => Some(Mark::Plus),
-        b'.' => Some(Mark::Dot),
-        _ => None,
-    }
+    let (mark, len) = match (b, after) {
+        (b':', [b'=', ..]) => (Mark::Assign, 2),
+        (b'.', [b'.', b'.', ..]) => (Mark::Ellipsis, 3),
+        (b'{', _) => (Mark::OpenBrace, 1),
+        (b'}', _) => (Mark::CloseBrace, 1),
+        (b'[', _) => (Mark::OpenBracket, 1),
+        (b']', _) => (Mark::CloseBracket, 1),
+        (b'(', _) => (Mark::OpenParenthesis, 1),
+        (b')', _) => (Mark::CloseParenthesis, 1),
+        (b';', _) => (Mark::Semicolon, 1),
+        (b',', _) => (Mark::Comma, 1),
+        (b':', _) => (Mark::Colon, 1),
+        (b'=', _) => (Mark::Equals, 1),
+        (b'-', _) => (Mark::Minus, 1),
+        (b'+', _) => (Mark::Plus, 1),
+        (b'.', _) => (Mark::Dot, 1),
+        _ => return None,
+    };
+    Some(token(TokenKind::Mark(mark), len))
 }

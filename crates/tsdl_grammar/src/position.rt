@@ -26,24 +26,14 @@ pub fn position_of(text: &[u8], place: usize) -> Position
     ensures column { result.column ≡ column_after (take place text.now) }
 {
     let before = &text[..place];
-    Position {
-        line: 1 + before.iter().filter(|b| **b == b'\n').count(),
-        column: column_behind(before),
-    }
-}
-
-fn column_behind(before: &[u8]) -> usize
-    ensures { result ≡ column_after before.now }
-{
     let mut column = 1;
     for b in before {
-        if *b == b'\n' {
-            column = 1;
-        } else {
-            column += 1;
-        }
+        column = if *b == b'\n' { 1 } else { column + 1 };
     }
-    column
+    Position {
+        line: 1 + before.iter().filter(|b| **b == b'\n').count(),
+        column,
+    }
 }
 
 /// What stands at a byte of a text, in words, with its line and its column. A place behind the text is its end.
@@ -52,8 +42,7 @@ pub fn found_at(alloc: Global, text: &[u8], place: usize) -> Result<String, Allo
 {
     let place = place.min(text.len());
     let Position { line, column } = position_of(text, place);
-    let (_, behind) = text.split_at(place);
-    let found = standing(alloc, behind)?;
+    let found = standing(alloc, &text[place..])?;
     format!(in alloc; "byte {place}, line {line}, column {column}: found {found}")
 }
 
@@ -64,19 +53,12 @@ fn standing(alloc: Global, bytes: &[u8]) -> Result<String, AllocError>
     if bytes.is_empty() {
         return String::from_str(alloc, "the end of the text");
     }
-    quoted(alloc, &bytes[..piece_at(bytes).map_or(1, |cut| cut.len)])
-}
-
-/// A piece in quotes, of a long one its front.
-fn quoted(alloc: Global, piece: &[u8]) -> Result<String, AllocError>
-    ensures { length piece.now ≤ 40 → IfOk result (λ found. IsQuoted piece.now (string_bytes found)) }
-{
-    let front = front_of(piece);
-    let found = in_quotes(alloc, front)?;
-    if front.len() < piece.len() {
-        format!(in alloc; "{found}...")
+    let piece = &bytes[..piece_at(bytes).map_or(1, |cut| cut.len)];
+    if piece.len() <= LONGEST_SHOWN {
+        in_quotes(alloc, piece)
     } else {
-        Ok(found)
+        let front = in_quotes(alloc, front_of(piece))?;
+        format!(in alloc; "{front}...")
     }
 }
 
@@ -87,23 +69,14 @@ fn in_quotes(alloc: Global, bytes: &[u8]) -> Result<String, AllocError>
     format!(in alloc; "{text:?}")
 }
 
-/// What a message shows of a piece: all of it, or so much of its front that no character is cut.
-fn front_of(piece: &[u8]) -> &[u8]
-    ensures { length piece.now ≤ 40 → result.now ≡ piece.now }
-{
-    if piece.len() <= LONGEST_SHOWN {
-        return piece;
-    }
+/// What a message shows of a long piece: so much of its front that no character is cut.
+fn front_of(piece: &[u8]) -> &[u8] {
     let mut len = LONGEST_SHOWN;
     for _ in 1..LONGEST_CHARACTER {
-        if piece.get(len).is_some_and(|b| is_inner(*b)) {
+        // a byte of a character but not its first
+        if piece.get(len).is_some_and(|b| *b & 0xc0 == 0x80) {
             len = len.saturating_sub(1);
         }
     }
     piece.get(..len).unwrap_or(piece)
-}
-
-/// Whether a byte is one of a character's but not its first.
-fn is_inner(b: u8) -> bool {
-    b & 0xc0 == 0x80
 }

@@ -1,6 +1,6 @@
 use Rattle.std.proofs.Common.{length}
 use Rattle.tsdl_grammar.proofs.Splits.{Progress}
-use Rattle.tsdl_grammar.proofs.tokenizer.split.Given as goal
+use Rattle.tsdl_grammar.proofs.tokenizer.tokens.Given as goal
 
 abbrev pub invariant-loop-cut : goal.invariant-loop-cut
 invariant-loop-cut l = Progress l.text l.rest l.at l.found.items

@@ -1,7 +1,7 @@
 use Rattle.std.proofs.Common.{List, length}
 use Rattle.tsdl_grammar.specs.declared.token.Token.{Token}
 use Rattle.tsdl_grammar.proofs.Splits.{Progress}
-use Rattle.tsdl_grammar.proofs.tokenizer.pass.Given as goal
+use Rattle.tsdl_grammar.proofs.tokenizer.check_tokens.Given as goal
 
 abbrev pub invariant-loop-rest : goal.invariant-loop-rest
 invariant-loop-rest l = (found : List Token) × Progress l.text l.rest l.at found
