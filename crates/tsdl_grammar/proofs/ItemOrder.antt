@@ -1,29 +1,20 @@
 -- The attributes, scopes and entries of blocks in another order.
 use Rattle.std.proofs.Common.{◌≡◌, ℕ, suc, Bool, true, false, not, cond, ◌&&◌, ◌||◌, List, [], ◌∷◌, ◌++◌, map, length, Option, Some, refl, sym, ap, ap₂, subst, ◌∙◌}
-use Rattle.std.specs.Prelude.{pos, codes, nat_le}
+use Rattle.std.specs.Prelude.{codes, nat_le}
 use Rattle.std.specs.List.{list_any, list_all, flat_map}
 use Rattle.std.specs.Str.{bytes_eq}
 use Rattle.std.specs.Cmp.{IsEquivalence}
 use Rattle.std.specs.Cmp.Lexicographic.{lists_equiv, nat_list_eq_equiv}
 use Rattle.std.proofs.lemmas.List.Concat.{flat_map-cons}
-use Rattle.ctf_types.specs.declared.ClockType.{ClockType}
 use Rattle.ctf_types.specs.declared.EnvironmentEntry.{EnvironmentEntry}
-use Rattle.ctf_types.specs.declared.Stream.{Stream}
-use Rattle.ctf_types.specs.declared.Event.{Event}
 use Rattle.ctf_types.specs.declared.Metadata.{Metadata}
-use Rattle.tsdl_grammar.specs.declared.tree.Value.{Value}
-use Rattle.tsdl_grammar.specs.declared.tree.Attribute.{Attribute}
-use Rattle.tsdl_grammar.specs.declared.tree.Structure.{Structure}
-use Rattle.tsdl_grammar.specs.declared.tree.Scope.{Scope}
 use Rattle.tsdl_grammar.specs.declared.tree.Item.{Item}
 use Rattle.tsdl_grammar.specs.declared.tree.NamedFact.{NamedFact}
 use Rattle.tsdl_grammar.specs.declared.tree.Block.{Block}
 use Rattle.tsdl_grammar.specs.Steps.{◌>>=◌, provided, only, at_most_one, each}
-use Rattle.tsdl_grammar.specs.Lookups.{words_of, same_words, is_word, is_among, no_two, are_distinct, attr, attr_names, attr_in, attrs_in, scope, scope_in, scopes_in, has_parts}
-use Rattle.tsdl_grammar.specs.AttributeValues.{natural_value, whole_value, text_value, name_value, flag_value, uuid_value, with_default, optional}
+use Rattle.tsdl_grammar.specs.Lookups.{words_of, same_words, is_among, no_two, are_distinct, attr, attr_names, attr_in, attrs_in, scope, scope_in, scopes_in, has_parts}
 use Rattle.tsdl_grammar.specs.IntegerMeaning.{Known}
-use Rattle.tsdl_grammar.specs.StructureMeaning.{scope_meaning, has_member}
-use Rattle.tsdl_grammar.specs.BlockMeaning.{number_or_zero, packet_header, has_number, is_trace, trace_order, trace_uuid, header_meaning, clock_meaning, packet_context, event_header, event_context, context_names, suits, stream_meaning, specific_context, fields_scope, event_meaning, named_fact_meaning, environment_meaning}
+use Rattle.tsdl_grammar.specs.BlockMeaning.{packet_header, has_number, is_trace, trace_order, trace_uuid, header_meaning, clock_meaning, packet_context, event_header, event_context, stream_meaning, specific_context, fields_scope, event_meaning, named_fact_meaning, environment_meaning}
 use Rattle.tsdl_grammar.specs.Denotes.{text_meta, trace_in, stream_in, event_in, clock_in, environment_in, known_of, streams_meaning}
 use Rattle.tsdl_grammar.specs.Laws.{SaysMetadata}
 use Rattle.tsdl_grammar.specs.Orders.{Reordered, same, neighbours, behind, further, SameItems, traces, streams, events, clocks, environments, Paired, none, more, SameButEnvironmentOrder}
@@ -177,40 +168,23 @@ paired_parts : {A : Type 0} (part : Block → List (List A)) {bs cs : List Block
 paired_parts part h none = none
 paired_parts part h (more b c bs cs r p) = rw (flat_map-cons part b bs, flat_map-cons part c cs) (paired_append (h b c r) (paired_parts part h p))
 
-trace_pair : (b c : Block) → SameItems b c → Paired Reordered (trace_in b) (trace_in c)
-trace_pair _ _ (traces is js r) = more is js [] [] r none
-trace_pair _ _ (streams is js r) = none
-trace_pair _ _ (events is js r) = none
-trace_pair _ _ (clocks is js r) = none
-trace_pair _ _ (environments fs gs r) = none
+one_pair : {A : Type 0} {xs ys : List A} → Reordered xs ys → Paired Reordered (xs ∷ []) (ys ∷ [])
+one_pair r = more _ _ [] [] r none
 
-stream_pair : (b c : Block) → SameItems b c → Paired Reordered (stream_in b) (stream_in c)
-stream_pair _ _ (traces is js r) = none
-stream_pair _ _ (streams is js r) = more is js [] [] r none
-stream_pair _ _ (events is js r) = none
-stream_pair _ _ (clocks is js r) = none
-stream_pair _ _ (environments fs gs r) = none
+-- what two blocks of the same items have inside, by the kind of block
+record PartsPaired (b c : Block) : Type 0 where
+  trace : Paired Reordered (trace_in b) (trace_in c)
+  stream : Paired Reordered (stream_in b) (stream_in c)
+  event : Paired Reordered (event_in b) (event_in c)
+  clock : Paired Reordered (clock_in b) (clock_in c)
+  environment : Paired Reordered (environment_in b) (environment_in c)
 
-event_pair : (b c : Block) → SameItems b c → Paired Reordered (event_in b) (event_in c)
-event_pair _ _ (traces is js r) = none
-event_pair _ _ (streams is js r) = none
-event_pair _ _ (events is js r) = more is js [] [] r none
-event_pair _ _ (clocks is js r) = none
-event_pair _ _ (environments fs gs r) = none
-
-clock_pair : (b c : Block) → SameItems b c → Paired Reordered (clock_in b) (clock_in c)
-clock_pair _ _ (traces is js r) = none
-clock_pair _ _ (streams is js r) = none
-clock_pair _ _ (events is js r) = none
-clock_pair _ _ (clocks is js r) = more is js [] [] r none
-clock_pair _ _ (environments fs gs r) = none
-
-environment_pair : (b c : Block) → SameItems b c → Paired Reordered (environment_in b) (environment_in c)
-environment_pair _ _ (traces is js r) = none
-environment_pair _ _ (streams is js r) = none
-environment_pair _ _ (events is js r) = none
-environment_pair _ _ (clocks is js r) = none
-environment_pair _ _ (environments fs gs r) = more fs gs [] [] r none
+parts_pair : (b c : Block) → SameItems b c → PartsPaired b c
+parts_pair _ _ (traces is js r) = record { trace = one_pair r; stream = none; event = none; clock = none; environment = none }
+parts_pair _ _ (streams is js r) = record { trace = none; stream = one_pair r; event = none; clock = none; environment = none }
+parts_pair _ _ (events is js r) = record { trace = none; stream = none; event = one_pair r; clock = none; environment = none }
+parts_pair _ _ (clocks is js r) = record { trace = none; stream = none; event = none; clock = one_pair r; environment = none }
+parts_pair _ _ (environments fs gs r) = record { trace = none; stream = none; event = none; clock = none; environment = one_pair r }
 
 only_pair : {A : Type 0} {R : A → A → Type 0} {xs ys : List A} (x : A) → Paired R xs ys → only xs ≡ Some x → (y : A) × (only ys ≡ Some y) × R x y
 only_pair x none e = absurd cc
@@ -231,15 +205,15 @@ each_pair {A} {B} f h (more x y xs ys r p) = ap₂ (λ (o : Option B) (q : Optio
 streams_inside : (known : Known) (bs cs : List Block) → Paired SameItems bs cs → streams_meaning known bs ≡ streams_meaning known cs
 unfolding streams_meaning
 streams_inside known bs cs p =
-    rw (each_pair (stream_meaning known) (stream_stays known) (paired_parts stream_in stream_pair p), each_pair (event_meaning known) (event_stays known) (paired_parts event_in event_pair p)) refl
+    rw (each_pair (stream_meaning known) (stream_stays known) (paired_parts stream_in (λ b c s. (parts_pair b c s).stream) p), each_pair (event_meaning known) (event_stays known) (paired_parts event_in (λ b c s. (parts_pair b c s).event) p)) refl
 
 pub items_reordered : (bs cs : List Block) (m : Metadata) → Paired SameItems bs cs → text_meta bs ≡ Some m → (n : Metadata) × (text_meta cs ≡ Some n) × SameButEnvironmentOrder m n
 items_reordered bs cs m p e =
     let s = says_metadata bs m e in
-    let t = only_pair s.trace (paired_parts trace_in trace_pair p) s.one_trace in
+    let t = only_pair s.trace (paired_parts trace_in (λ b c s. (parts_pair b c s).trace) p) s.one_trace in
     let h = trace_parts s.trace s.version in
     let f = bind_some (at_most_one (flat_map environment_in bs)) environment_meaning m.environment s.environment in
-    let g = at_most_one_pair f.0 (paired_parts environment_in environment_pair p) f.1 in
+    let g = at_most_one_pair f.0 (paired_parts environment_in (λ b c s. (parts_pair b c s).environment) p) f.1 in
     let v = environment_stays f.0 g.0 m.environment g.2 f.2 in
     let known = known_of m.order m.clocks in
     let n : Metadata = record m { environment = v.0 } in
@@ -250,7 +224,7 @@ items_reordered bs cs m p e =
       order = sym (order_stays s.trace t.0 t.2 h) ∙ s.order;
       uuid = sym (uuid_stays s.trace t.0 t.2 h) ∙ s.uuid;
       environment = bind_is (at_most_one (flat_map environment_in cs)) environment_meaning g.0 v.0 g.1 v.1;
-      clocks = sym (each_pair clock_meaning clock_stays (paired_parts clock_in clock_pair p)) ∙ s.clocks;
+      clocks = sym (each_pair clock_meaning clock_stays (paired_parts clock_in (λ b c s. (parts_pair b c s).clock) p)) ∙ s.clocks;
       clocks_once = s.clocks_once;
       header = sym (header_stays s.trace t.0 t.2 h known) ∙ s.header;
       streams = sym (streams_inside known bs cs p) ∙ s.streams;

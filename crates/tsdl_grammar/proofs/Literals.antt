@@ -1,11 +1,11 @@
 -- The digits of a literal, one by one, and that its value only grows with them.
-use Rattle.std.proofs.Common.{◌≡◌, ℕ, ◌+◌, ◌*◌, ◌<◌, ◌≤◌, List, [], ◌∷◌, length, get_or, drop, arith, refl, sym, ◌∙◌, inl, inr}
+use Rattle.std.proofs.Common.{◌≡◌, ℕ, ◌+◌, ◌*◌, ◌<◌, ◌≤◌, List, [], ◌∷◌, length, get_or, arith, refl, sym, subst, ◌∙◌, inl, inr}
 use Rattle.std.proofs.lemmas.Bool.{cases_lt, le-ltb, lt-ltb}
 use Rattle.std.proofs.Math.Nat.{mul-le-mul_left}
 use Rattle.std.specs.Char.{digit_value}
 use Rattle.tsdl_grammar.specs.Literals.{digits_from}
 
-pub digits_stop : (base n b : ℕ) (bytes : List ℕ) → base ≤ digit_value b → digits_from base n (b ∷ bytes) ≡ n
+digits_stop : (base n b : ℕ) (bytes : List ℕ) → base ≤ digit_value b → digits_from base n (b ∷ bytes) ≡ n
 digits_stop base n b bytes h = rw (le-ltb (digit_value b) base h) refl
 
 pub digits_step : (base n b : ℕ) (bytes : List ℕ) → digit_value b < base → digits_from base n (b ∷ bytes) ≡ digits_from base (n * base + digit_value b) bytes
@@ -14,7 +14,7 @@ digits_step base n b bytes h = rw (lt-ltb (digit_value b) base h) refl
 grows : (n base d : ℕ) → 0 < base → n ≤ n * base + d
 grows n base d h = omega (arith, mul-le-mul_left n h)
 
-pub le-digits_from : (base n : ℕ) (bytes : List ℕ) → 0 < base → n ≤ digits_from base n bytes
+le-digits_from : (base n : ℕ) (bytes : List ℕ) → 0 < base → n ≤ digits_from base n bytes
 le-digits_from base n [] h = omega arith
 le-digits_from base n (b ∷ bytes) h =
     elim (cases_lt (digit_value b) base) [
@@ -22,10 +22,7 @@ le-digits_from base n (b ∷ bytes) h =
       | inr le ↦ rw (digits_stop base n b bytes le) (omega arith)
     ]
 
--- a loop's step over a digit, and the least that the total is then
-pub goes_on : (base n total : ℕ) (bytes : List ℕ) → 1 ≤ length bytes → digit_value (get_or bytes 0 0) < base → digits_from base n bytes ≡ total → digits_from base (n * base + digit_value (get_or bytes 0 0)) (drop 1 bytes) ≡ total
-goes_on base n total [] l h e = absurd (omega arith)
-goes_on base n total (b ∷ bytes) l h e = sym (digits_step base n b bytes h) ∙ e
-
+-- the least that the total is behind one more digit
 pub at_least : (base n total : ℕ) (bytes : List ℕ) → 0 < base → 1 ≤ length bytes → digit_value (get_or bytes 0 0) < base → digits_from base n bytes ≡ total → n * base + digit_value (get_or bytes 0 0) ≤ total
-at_least base n total bytes z l h e = rw (sym (goes_on base n total bytes l h e)) (le-digits_from base (n * base + digit_value (get_or bytes 0 0)) (drop 1 bytes) z)
+at_least base n total [] z l h e = absurd (omega arith)
+at_least base n total (b ∷ bytes) z l h e = subst (λ (m : ℕ). n * base + digit_value b ≤ m) (sym (digits_step base n b bytes h) ∙ e) (le-digits_from base (n * base + digit_value b) bytes z)

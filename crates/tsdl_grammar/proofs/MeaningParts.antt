@@ -1,27 +1,20 @@
 -- What integers, structures and texts mean, taken apart.
-use Rattle.std.proofs.Common.{◌≡◌, ℕ, Bool, true, false, List, [], length, Option, Some, None, refl, sym, ap, subst, ◌∙◌}
+use Rattle.std.proofs.Common.{◌≡◌, ℕ, Bool, true, false, List, [], length, Some, None, refl, sym, ap, subst, ◌∙◌}
 use Rattle.std.specs.Prelude.{nat_le, codes}
 use Rattle.std.specs.List.{flat_map}
 use Rattle.std.specs.Str.{bytes_eq}
-use Rattle.ctf_types.specs.declared.Base.{Base}
 use Rattle.ctf_types.specs.declared.Base.TheVariants.{Dec}
-use Rattle.ctf_types.specs.declared.ByteOrder.{ByteOrder}
 use Rattle.ctf_types.specs.declared.IntType.{IntType}
 use Rattle.ctf_types.specs.declared.StructType.{StructType}
 use Rattle.ctf_types.specs.declared.MemberType.{MemberType}
-use Rattle.ctf_types.specs.declared.ClockType.{ClockType}
-use Rattle.ctf_types.specs.declared.EnvironmentEntry.{EnvironmentEntry}
 use Rattle.ctf_types.specs.declared.Metadata.{Metadata}
-use Rattle.tsdl_grammar.specs.declared.tree.Value.{Value}
 use Rattle.tsdl_grammar.specs.declared.tree.Attribute.{Attribute}
 use Rattle.tsdl_grammar.specs.declared.tree.Structure.{Structure}
-use Rattle.tsdl_grammar.specs.declared.tree.Item.{Item}
-use Rattle.tsdl_grammar.specs.declared.tree.NamedFact.{NamedFact}
 use Rattle.tsdl_grammar.specs.declared.tree.Block.{Block}
 use Rattle.tsdl_grammar.specs.Steps.{◌>>=◌, provided, only, at_most_one, each}
 use Rattle.tsdl_grammar.specs.Lookups.{attr, no_two}
 use Rattle.tsdl_grammar.specs.AttributeValues.{natural_value, flag_value, with_default, optional}
-use Rattle.tsdl_grammar.specs.IntegerMeaning.{Known, int_meaning, int_type, int_attrs, has_only, default_align, order_value, base_value, clock_value}
+use Rattle.tsdl_grammar.specs.IntegerMeaning.{Known, int_meaning, int_attrs, has_only, default_align, order_value, base_value, clock_value}
 use Rattle.tsdl_grammar.specs.StructureMeaning.{struct_meaning, struct_type, members_meaning, align_of, align_with}
 use Rattle.tsdl_grammar.specs.BlockMeaning.{is_trace, trace_order, trace_uuid, header_meaning, clock_meaning, environment_meaning}
 use Rattle.tsdl_grammar.specs.Denotes.{text_meta, trace_in, clock_in, environment_in, known_of, streams_meaning}

@@ -1,4 +1,4 @@
-use Rattle.std.proofs.Common.{ℕ, ◌<◌, get_or, subst, arith}
+use Rattle.std.proofs.Common.{ℕ, ◌<◌, subst, arith}
 use Rattle.std.specs.Char.{digit_value}
 use Rattle.tsdl_grammar.specs.Literals.{digits_from}
 use Rattle.tsdl_grammar.proofs.Literals.{at_least}
