@@ -2,7 +2,7 @@
 
 ghost use Rattle.std.specs.Prelude.{◌≡◌, ◌≤◌, length, slice_range, IfOk};
 ghost use Rattle.tsdl_grammar.specs.Tokens.{Rises};
-ghost use Rattle.tsdl_grammar.specs.Atoms.{atom_of, atoms_of, meaning_of, content_of};
+ghost use Rattle.tsdl_grammar.specs.Atoms.{atom_of, atoms_of, meaning_of};
 
 use crate::escapes::unescape;
 use crate::literal::literal_value;
@@ -57,22 +57,16 @@ pub(crate) fn meaning(alloc: Global, kind: TokenKind, bytes: &[u8]) -> Result<At
         },
         TokenKind::Number => Ok(literal_value(bytes).map_or(Atom::TooLarge, Atom::Number)),
         TokenKind::Text => {
-            let content = unescape(alloc, content(bytes))?;
-            match text_in(&content) {
+            let content = match bytes {
+                [_, content @ .., _] => content,
+                _ => &[],
+            };
+            let text = unescape(alloc, content)?;
+            match text_in(&text) {
                 Some(text) => Ok(Atom::Text(Text::from_str(alloc, text)?)),
                 None => Ok(Atom::TooLarge),
             }
         }
         TokenKind::Mark(mark) => Ok(Atom::Mark(mark)),
-    }
-}
-
-/// What stands between a string's quotes.
-fn content(bytes: &[u8]) -> &[u8]
-    ensures { result.now ≡ content_of bytes.now }
-{
-    match bytes {
-        [_, content @ .., _] => content,
-        _ => &[],
     }
 }

@@ -107,7 +107,7 @@ impl<'a> Atoms<'a> {
         }
         let (front, more) = match first_token(more) {
             Some((front, behind)) => (Some(front), behind),
-            None => (None, more),
+            None => (None, &more[..0]),
         };
         Atoms {
             front,
