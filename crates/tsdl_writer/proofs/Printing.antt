@@ -1,8 +1,8 @@
 -- Calls that print, one behind the other, and loops of such calls.
 use Rattle.std.proofs.Common.{◌≡◌, ℕ, Bool, Option, ◌+◌, ◌<◌, List, [], ◌∷◌, ◌++◌, map, length, drop, get_or, Result, Some, zero, suc, add-one, refl, sym, subst, ap, ◌∙◌, append_assoc}
-use Rattle.std.specs.Prelude.{IfOk, slice_get, codes}
+use Rattle.std.specs.Prelude.{OnOk, slice_get, codes}
 use Rattle.std.specs.Option.{option_map}
-use Rattle.std.proofs.lemmas.Result.{IfOk-weaker}
+use Rattle.std.proofs.lemmas.Result.{on_ok_weaker}
 use Rattle.std.specs.List.{flat_map}
 use Rattle.std.proofs.lemmas.List.{drop_more}
 use Rattle.std.proofs.lemmas.List.Concat.{flat_map-append}
@@ -30,8 +30,8 @@ pub pair : {A : Type 0} {p : Printer} {text : List ℕ} (toks : A → List Atom)
 pair {A} {p} {text} toks xs ys rest e = subst (λ (w : List Atom). Ends p (w ++ rest) text) (sym (flat_map-append toks xs ys)) (regroup (flat_map toks xs) (flat_map toks ys) rest e)
 
 -- a last call, whose result is returned as it is
-pub last : {X E : Type 0} (o n m : Printer) (a z : List Atom) (r : Result X E) → IfOk r (λ _. Prints n m a) → ((rest : List Atom) (text : List ℕ) → Ends n (a ++ rest) text → Ends o (z ++ rest) text) → IfOk r (λ _. Prints o m z)
-last {X} o n m a z r h before = IfOk-weaker r (λ (x : X). Prints n m a) (λ (x : X). Prints o m z) (λ x one rest text e. before rest text (one rest text e)) h
+pub last : {X E P Q : Type 0} (r : Result X E) → OnOk r P → (P → Q) → OnOk r Q
+last r one before = on_ok_weaker r before one
 
 -- ---- loops
 

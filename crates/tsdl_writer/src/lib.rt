@@ -3,7 +3,6 @@
 
 mod attributes;
 mod blocks;
-mod held;
 mod layout;
 mod members;
 mod metadata;

@@ -13,14 +13,13 @@ ghost use Rattle.tsdl_grammar.specs.Spelling.{bracket_toks, member_toks};
 ghost use Rattle.tsdl_writer.specs.FieldTrees.{count_bracket, length_member, array_member, member_toks_of};
 ghost use Rattle.tsdl_writer.specs.Prints.{Prints};
 
-use crate::printer::Printer;
+use crate::printer::{Printed, Printer};
 use crate::types::{integer, kind, length_type};
 use ctf_types::{FieldType, IntType, Length, MemberType, Members};
-use std::alloc::AllocError;
 use tsdl_grammar::Mark;
 
 /// The members of a structure. A dynamic array has its length in a member before it.
-pub(crate) fn members(out: &mut Printer, members: &Members) -> Result<(), AllocError>
+pub(crate) fn members(out: &mut Printer, members: &Members) -> Printed
     ensures { OnOk result (Prints out.old out.new (flat_map member_toks_of members.now)) }
 {
     for index in 0..members.len() {
@@ -30,28 +29,23 @@ pub(crate) fn members(out: &mut Printer, members: &Members) -> Result<(), AllocE
 }
 
 /// The members for one of a configuration. None has a length in a listed member.
-fn member(out: &mut Printer, name: &str, member: &MemberType) -> Result<(), AllocError>
+fn member(out: &mut Printer, name: &str, member: &MemberType) -> Printed
     ensures { OnOk result (Prints out.old out.new (member_toks_of (name.now, member.now))) }
 {
     match member {
-        MemberType::Plain(field) => plain(out, name, field),
+        MemberType::Plain(field) => {
+            kind(out, field)?;
+            out.word(name)?;
+            lengths(out, field)?;
+            out.mark(Mark::Semicolon)
+        }
         MemberType::Dyn(element, Length::Auto) => sequence(out, name, element),
         MemberType::Dyn(_, Length::At(_)) => Ok(()),
     }
 }
 
-fn plain(out: &mut Printer, name: &str, field: &FieldType) -> Result<(), AllocError>
-    ensures { OnOk result (Prints out.old out.new (member_toks_of (name.now, Plain field.now))) }
-{
-    kind(out, field)?;
-    out.word(name)?;
-    lengths(out, field)?;
-    out.mark(Mark::Semicolon)?;
-    Ok(())
-}
-
 /// The length's member, and the array's: the length's name stands in its first brackets.
-fn sequence(out: &mut Printer, name: &str, element: &FieldType) -> Result<(), AllocError>
+fn sequence(out: &mut Printer, name: &str, element: &FieldType) -> Printed
     ensures { OnOk result (Prints out.old out.new (member_toks_of (name.now, Dyn element.now Auto))) }
 {
     length_type(out)?;
@@ -63,12 +57,11 @@ fn sequence(out: &mut Printer, name: &str, element: &FieldType) -> Result<(), Al
     out.length_word(name)?;
     out.mark(Mark::CloseBracket)?;
     lengths(out, element)?;
-    out.mark(Mark::Semicolon)?;
-    Ok(())
+    out.mark(Mark::Semicolon)
 }
 
 /// The lengths of the static arrays, the outermost first.
-fn lengths(out: &mut Printer, field: &FieldType) -> Result<(), AllocError>
+fn lengths(out: &mut Printer, field: &FieldType) -> Printed
     ensures { OnOk result (Prints out.old out.new (flat_map bracket_toks (map count_bracket (chain_of field.now).lengths))) }
 {
     match field {
@@ -81,55 +74,38 @@ fn lengths(out: &mut Printer, field: &FieldType) -> Result<(), AllocError>
 }
 
 /// `[n]`.
-fn count(out: &mut Printer, n: u32) -> Result<(), AllocError>
+fn count(out: &mut Printer, n: u32) -> Printed
     ensures { OnOk result (Prints out.old out.new (bracket_toks (count_bracket n))) }
 {
     out.mark(Mark::OpenBracket)?;
     out.number(u64::from(n))?;
-    out.mark(Mark::CloseBracket)?;
-    Ok(())
+    out.mark(Mark::CloseBracket)
 }
 
 /// The member of a feature, where that is on.
-pub(crate) fn feature(
-    out: &mut Printer,
-    name: &str,
-    feature: &Option<IntType>,
-) -> Result<(), AllocError>
+pub(crate) fn feature(out: &mut Printer, name: &str, feature: &Option<IntType>) -> Printed
     ensures { OnOk result (Prints out.old out.new (flat_map member_toks_of (number_member name.now feature.now))) }
 {
-    match feature {
-        None => Ok(()),
-        Some(int) => number(out, name, int),
-    }
+    let Some(int) = feature else { return Ok(()) };
+    number(out, name, int)
 }
 
 /// An integer member.
-pub(crate) fn number(out: &mut Printer, name: &str, int: &IntType) -> Result<(), AllocError>
+pub(crate) fn number(out: &mut Printer, name: &str, int: &IntType) -> Printed
     ensures { OnOk result (Prints out.old out.new (flat_map member_toks_of (number_member name.now (Some int.now)))) }
 {
     integer(out, int)?;
     out.word(name)?;
-    out.mark(Mark::Semicolon)?;
-    Ok(())
+    out.mark(Mark::Semicolon)
 }
 
 /// The member of the trace's identifier, where the feature is on: an array of 16 such integers.
-pub(crate) fn identifier(out: &mut Printer, feature: &Option<IntType>) -> Result<(), AllocError>
+pub(crate) fn identifier(out: &mut Printer, feature: &Option<IntType>) -> Printed
     ensures { OnOk result (Prints out.old out.new (flat_map member_toks_of (uuid_member feature.now))) }
 {
-    match feature {
-        None => Ok(()),
-        Some(int) => identifier_of(out, int),
-    }
-}
-
-fn identifier_of(out: &mut Printer, int: &IntType) -> Result<(), AllocError>
-    ensures { OnOk result (Prints out.old out.new (flat_map member_toks_of (uuid_member (Some int.now)))) }
-{
+    let Some(int) = feature else { return Ok(()) };
     integer(out, int)?;
     out.word("uuid")?;
     count(out, 16)?;
-    out.mark(Mark::Semicolon)?;
-    Ok(())
+    out.mark(Mark::Semicolon)
 }

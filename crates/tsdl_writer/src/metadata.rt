@@ -1,18 +1,18 @@
 //! The metadata text of a configuration.
 
-ghost use Rattle.std.specs.Prelude.{◌≡◌, ◌++◌, map, IfOk, OnOk, string_bytes};
+ghost use Rattle.std.specs.Prelude.{◌≡◌, ◌++◌, map, All, IfOk, OnOk, string_bytes};
 ghost use Rattle.std.specs.List.{flat_map};
 ghost use Rattle.ctf_types.specs.AllowedConfig.{IsConfig};
 ghost use Rattle.ctf_types.specs.MetadataOf.{metadata_of};
 ghost use Rattle.tsdl_grammar.specs.Denotes.{Denotes};
 ghost use Rattle.tsdl_grammar.specs.Spelling.{text_toks};
 ghost use Rattle.tsdl_writer.specs.BlockTrees.{clock_block, stream_blocks, event_blocks, all_event_blocks};
+ghost use Rattle.tsdl_writer.specs.Held.{IsHeldClock};
 ghost use Rattle.tsdl_writer.specs.Prints.{Prints};
 ghost use Rattle.tsdl_writer.specs.Written.{written};
 
 use crate::blocks::{clock, environment, event, stream, trace};
-use crate::held::config_is_held;
-use crate::printer::Printer;
+use crate::printer::{Printed, Printer};
 use ctf_types::{ClockType, Config, EventType, StreamType};
 use std::alloc::{AllocError, Global};
 
@@ -22,7 +22,6 @@ pub fn write_metadata(alloc: Global, config: &Config) -> Result<String, AllocErr
     ensures text { IfOk result (λ t. string_bytes t ≡ written config.now) }
     ensures denotes { IsConfig config.now → IfOk result (λ t. Denotes (string_bytes t) (metadata_of config.now)) }
 {
-    config_is_held(config);
     let mut out = Printer::new(alloc)?;
     trace(&mut out, config)?;
     environment(&mut out, config.environment.as_slice())?;
@@ -33,8 +32,9 @@ pub fn write_metadata(alloc: Global, config: &Config) -> Result<String, AllocErr
     Ok(text)
 }
 
-fn clocks(out: &mut Printer, clocks: &[ClockType]) -> Result<(), AllocError>
-    ensures { OnOk result (Prints out.old out.new (text_toks (map clock_block clocks.now))) }
+fn clocks(out: &mut Printer, clocks: &[ClockType]) -> Printed
+    ensures prints { OnOk result (Prints out.old out.new (text_toks (map clock_block clocks.now))) }
+    ensures held { OnOk result (All IsHeldClock clocks.now) }
 {
     for one in clocks {
         clock(out, one)?;
@@ -42,7 +42,7 @@ fn clocks(out: &mut Printer, clocks: &[ClockType]) -> Result<(), AllocError>
     Ok(())
 }
 
-fn streams(out: &mut Printer, streams: &[StreamType]) -> Result<(), AllocError>
+fn streams(out: &mut Printer, streams: &[StreamType]) -> Printed
     ensures { OnOk result (Prints out.old out.new (text_toks (stream_blocks 0 streams.now))) }
 {
     let mut id = 0;
@@ -53,7 +53,7 @@ fn streams(out: &mut Printer, streams: &[StreamType]) -> Result<(), AllocError>
     Ok(())
 }
 
-fn all_events(out: &mut Printer, streams: &[StreamType]) -> Result<(), AllocError>
+fn all_events(out: &mut Printer, streams: &[StreamType]) -> Printed
     ensures { OnOk result (Prints out.old out.new (text_toks (all_event_blocks 0 streams.now))) }
 {
     let mut id = 0;
@@ -64,7 +64,7 @@ fn all_events(out: &mut Printer, streams: &[StreamType]) -> Result<(), AllocErro
     Ok(())
 }
 
-fn events(out: &mut Printer, stream_id: u64, events: &[EventType]) -> Result<(), AllocError>
+fn events(out: &mut Printer, stream_id: u64, events: &[EventType]) -> Printed
     ensures { OnOk result (Prints out.old out.new (text_toks (event_blocks stream_id 0 events.now))) }
 {
     let mut id = 0;

@@ -12,6 +12,9 @@ use crate::layout::{Depth, Next, Place, depth_behind, gap, mark_next, mark_text,
 use std::alloc::{AllocError, Global};
 use tsdl_grammar::{Mark, escape};
 
+/// That a part of the text is printed, or that memory was wanting.
+pub(crate) type Printed = Result<(), AllocError>;
+
 /// A text that grows, and what stands at its end.
 #[derive(Drop)]
 pub(crate) struct Printer {
@@ -44,16 +47,15 @@ impl Printer {
     }
 
     /// A word.
-    pub(crate) fn word(&mut self, word: &str) -> Result<(), AllocError>
+    pub(crate) fn word(&mut self, word: &str) -> Printed
         ensures { OnOk result (Prints self.old self.new (atoms.Word word.now ∷ [])) }
     {
         self.gap(Next::Word)?;
-        self.text.push_str(word)?;
-        Ok(())
+        self.text.push_str(word)
     }
 
     /// The name of a dynamic array's length.
-    pub(crate) fn length_word(&mut self, name: &str) -> Result<(), AllocError>
+    pub(crate) fn length_word(&mut self, name: &str) -> Printed
         ensures { OnOk result (Prints self.old self.new (atoms.Word (length_name name.now) ∷ [])) }
     {
         self.gap(Next::Word)?;
@@ -62,7 +64,7 @@ impl Printer {
     }
 
     /// A number.
-    pub(crate) fn number(&mut self, n: u64) -> Result<(), AllocError>
+    pub(crate) fn number(&mut self, n: u64) -> Printed
         ensures { OnOk result (Prints self.old self.new (atoms.Number n ∷ [])) }
     {
         self.gap(Next::Other)?;
@@ -71,7 +73,7 @@ impl Printer {
     }
 
     /// A number that may be below 0.
-    pub(crate) fn whole(&mut self, n: i128) -> Result<(), AllocError>
+    pub(crate) fn whole(&mut self, n: i128) -> Printed
         ensures { OnOk result (Prints self.old self.new (number_toks (whole_number n))) }
     {
         self.gap(Next::Other)?;
@@ -80,7 +82,7 @@ impl Printer {
     }
 
     /// A string, between its quotes, with escapes.
-    pub(crate) fn string(&mut self, text: &str) -> Result<(), AllocError>
+    pub(crate) fn string(&mut self, text: &str) -> Printed
         ensures { OnOk result (Prints self.old self.new (atoms.Text text.now ∷ [])) }
     {
         self.gap(Next::Other)?;
@@ -93,7 +95,7 @@ impl Printer {
     }
 
     /// A mark.
-    pub(crate) fn mark(&mut self, mark: Mark) -> Result<(), AllocError>
+    pub(crate) fn mark(&mut self, mark: Mark) -> Printed
         ensures { OnOk result (Prints self.old self.new (atoms.Mark mark ∷ [])) }
     {
         self.gap(mark_next(mark))?;
@@ -104,7 +106,7 @@ impl Printer {
     }
 
     /// The gap in front of a token; what follows that stands apart.
-    fn gap(&mut self, next: Next) -> Result<(), AllocError>
+    fn gap(&mut self, next: Next) -> Printed
         ensures { OnOk result (Puts self.old self.new (gap self.old.place next self.old.depth)) }
     {
         self.text.push_str(gap(self.depth, self.place, next))?;

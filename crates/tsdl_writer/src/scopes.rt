@@ -11,17 +11,12 @@ ghost use Rattle.tsdl_writer.specs.BlockTrees.{two_words, scope_items, opening, 
 ghost use Rattle.tsdl_writer.specs.Prints.{Prints};
 
 use crate::members::{feature, identifier, members, number};
-use crate::printer::Printer;
-use ctf_types::{ContextFeatures, EventFeatures, HeaderFeatures, StreamType, StructType};
-use std::alloc::AllocError;
+use crate::printer::{Printed, Printer};
+use ctf_types::{EventFeatures, HeaderFeatures, StreamType, StructType};
 use tsdl_grammar::Mark;
 
 /// A structure under a name of one word.
-pub(crate) fn structure(
-    out: &mut Printer,
-    name: &str,
-    structure: &StructType,
-) -> Result<(), AllocError>
+pub(crate) fn structure(out: &mut Printer, name: &str, structure: &StructType) -> Printed
     ensures { OnOk result (Prints out.old out.new (flat_map item_toks (scope_items (one_word name.now) structure.now.members structure.now.min_align))) }
 {
     if structure.members.is_empty() {
@@ -29,24 +24,22 @@ pub(crate) fn structure(
     }
     open(out, name)?;
     members(out, &structure.members)?;
-    close(out, structure.min_align)?;
-    Ok(())
+    close(out, structure.min_align)
 }
 
 /// The structure of all event records of a stream.
-pub(crate) fn event_context(out: &mut Printer, common: &StructType) -> Result<(), AllocError>
+pub(crate) fn event_context(out: &mut Printer, common: &StructType) -> Printed
     ensures { OnOk result (Prints out.old out.new (flat_map item_toks (scope_items (two_words (codes "event") (codes "context")) common.now.members common.now.min_align))) }
 {
     if common.members.is_empty() {
         return Ok(());
     }
     begin(out, "event")?;
-    structure(out, "context", common)?;
-    Ok(())
+    structure(out, "context", common)
 }
 
 /// The packet header: a member for each feature that is on.
-pub(crate) fn header(out: &mut Printer, features: &HeaderFeatures) -> Result<(), AllocError>
+pub(crate) fn header(out: &mut Printer, features: &HeaderFeatures) -> Printed
     ensures { OnOk result (Prints out.old out.new (flat_map item_toks (scope_items (two_words (codes "packet") (codes "header")) (header_members features.now) 8))) }
 {
     if no_header(features) {
@@ -57,45 +50,37 @@ pub(crate) fn header(out: &mut Printer, features: &HeaderFeatures) -> Result<(),
     feature(out, "magic", &features.magic)?;
     identifier(out, &features.uuid)?;
     feature(out, "stream_id", &features.stream_id)?;
-    close(out, 8)?;
-    Ok(())
+    close(out, 8)
 }
 
 fn no_header(features: &HeaderFeatures) -> bool
     ensures { IsTrue result ↔ (header_members features.now ≡ []) }
 {
-    match (&features.magic, &features.uuid, &features.stream_id) {
-        (None, None, None) => true,
-        _ => false,
-    }
+    matches!(
+        (&features.magic, &features.uuid, &features.stream_id),
+        (None, None, None)
+    )
 }
 
 /// The packet context: the tracer's own members, and then the extra ones.
-pub(crate) fn context(out: &mut Printer, stream: &StreamType) -> Result<(), AllocError>
+pub(crate) fn context(out: &mut Printer, stream: &StreamType) -> Printed
     ensures { OnOk result (Prints out.old out.new (flat_map item_toks (scope_items (two_words (codes "packet") (codes "context")) (context_numbers stream.now.context ++ stream.now.extras.members) 8))) }
 {
     begin(out, "packet")?;
     open(out, "context")?;
-    context_numbers(out, &stream.context)?;
-    members(out, &stream.extras.members)?;
-    close(out, 8)?;
-    Ok(())
-}
-
-fn context_numbers(out: &mut Printer, features: &ContextFeatures) -> Result<(), AllocError>
-    ensures { OnOk result (Prints out.old out.new (flat_map member_toks_of (context_numbers features.now))) }
-{
+    let features = &stream.context;
     number(out, "packet_size", &features.packet_size)?;
     number(out, "content_size", &features.content_size)?;
     feature(out, "timestamp_begin", &features.timestamp_begin)?;
     feature(out, "timestamp_end", &features.timestamp_end)?;
     feature(out, "events_discarded", &features.events_discarded)?;
     feature(out, "packet_seq_num", &features.packet_seq_num)?;
-    Ok(())
+    members(out, &stream.extras.members)?;
+    close(out, 8)
 }
 
 /// The header of event records: a member for each feature that is on.
-pub(crate) fn event_header(out: &mut Printer, features: &EventFeatures) -> Result<(), AllocError>
+pub(crate) fn event_header(out: &mut Printer, features: &EventFeatures) -> Printed
     ensures { OnOk result (Prints out.old out.new (flat_map item_toks (scope_items (two_words (codes "event") (codes "header")) (event_header_members features.now) 8))) }
 {
     if no_event_header(features) {
@@ -105,41 +90,35 @@ pub(crate) fn event_header(out: &mut Printer, features: &EventFeatures) -> Resul
     open(out, "header")?;
     feature(out, "id", &features.id)?;
     feature(out, "timestamp", &features.timestamp)?;
-    close(out, 8)?;
-    Ok(())
+    close(out, 8)
 }
 
 fn no_event_header(features: &EventFeatures) -> bool
     ensures { IsTrue result ↔ (event_header_members features.now ≡ []) }
 {
-    match (&features.id, &features.timestamp) {
-        (None, None) => true,
-        _ => false,
-    }
+    matches!((&features.id, &features.timestamp), (None, None))
 }
 
 /// The first word of a name of two.
-fn begin(out: &mut Printer, word: &str) -> Result<(), AllocError>
+fn begin(out: &mut Printer, word: &str) -> Printed
     ensures { OnOk result (Prints out.old out.new (atoms.Word word.now ∷ atoms.Mark marks.Dot ∷ [])) }
 {
     out.word(word)?;
-    out.mark(Mark::Dot)?;
-    Ok(())
+    out.mark(Mark::Dot)
 }
 
 /// `name := struct {`.
-fn open(out: &mut Printer, name: &str) -> Result<(), AllocError>
+fn open(out: &mut Printer, name: &str) -> Printed
     ensures { OnOk result (Prints out.old out.new (opening name.now)) }
 {
     out.word(name)?;
     out.mark(Mark::Assign)?;
     out.word("struct")?;
-    out.mark(Mark::OpenBrace)?;
-    Ok(())
+    out.mark(Mark::OpenBrace)
 }
 
 /// `} align(n);`.
-fn close(out: &mut Printer, align: u32) -> Result<(), AllocError>
+fn close(out: &mut Printer, align: u32) -> Printed
     ensures { OnOk result (Prints out.old out.new (closing align)) }
 {
     out.mark(Mark::CloseBrace)?;
@@ -147,6 +126,5 @@ fn close(out: &mut Printer, align: u32) -> Result<(), AllocError>
     out.mark(Mark::OpenParenthesis)?;
     out.number(u64::from(align))?;
     out.mark(Mark::CloseParenthesis)?;
-    out.mark(Mark::Semicolon)?;
-    Ok(())
+    out.mark(Mark::Semicolon)
 }

@@ -10,98 +10,64 @@ ghost use Rattle.tsdl_writer.specs.FieldTrees.{base_number, mapping_attributes, 
 ghost use Rattle.tsdl_writer.specs.Prints.{Prints};
 
 use crate::attributes::{flag_word, natural, word};
-use crate::printer::Printer;
+use crate::printer::{Printed, Printer};
 use ctf_types::{Base, EnumType, FieldType, IntType, Mapping, Text};
-use std::alloc::AllocError;
 use tsdl_grammar::Mark;
 
 /// What stands before a member's name: the type inside all static arrays.
-pub(crate) fn kind(out: &mut Printer, field: &FieldType) -> Result<(), AllocError>
+pub(crate) fn kind(out: &mut Printer, field: &FieldType) -> Printed
     ensures { OnOk result (Prints out.old out.new (kind_toks (kind_tree (chain_of field.now).leaf))) }
 {
     match field {
         FieldType::Int(int) => integer(out, int),
         FieldType::Enum(labels) => enumeration(out, labels),
-        FieldType::Str => string(out),
+        FieldType::Str => {
+            out.word("string")?;
+            out.mark(Mark::OpenBrace)?;
+            word(out, "encoding", "UTF8")?;
+            out.mark(Mark::CloseBrace)
+        }
         FieldType::Static(element, _) => kind(out, element.field_type()),
     }
 }
 
-/// `string { encoding = UTF8; }`.
-fn string(out: &mut Printer) -> Result<(), AllocError>
-    ensures { OnOk result (Prints out.old out.new (kind_toks (kind_tree ByteString))) }
-{
-    out.word("string")?;
-    out.mark(Mark::OpenBrace)?;
-    word(out, "encoding", "UTF8")?;
-    out.mark(Mark::CloseBrace)?;
-    Ok(())
-}
-
 /// `integer { size = 8; align = 8; signed = false; base = 10; }`, with the clock that it is mapped to.
-pub(crate) fn integer(out: &mut Printer, int: &IntType) -> Result<(), AllocError>
+pub(crate) fn integer(out: &mut Printer, int: &IntType) -> Printed
     ensures { OnOk result (Prints out.old out.new (int_toks (integer_attributes int.now))) }
-{
-    integer_with(
-        out,
-        u64::from(int.size()),
-        u64::from(int.align()),
-        int.is_signed(),
-        int.base(),
-        int.clock(),
-    )
-}
-
-/// The type of a dynamic array's length: 32 bits, alignment 8, unsigned.
-pub(crate) fn length_type(out: &mut Printer) -> Result<(), AllocError>
-    ensures { OnOk result (Prints out.old out.new (int_toks (integer_attributes length_type))) }
-{
-    integer_with(out, 32, 8, false, Base::Dec, None)
-}
-
-fn integer_with(
-    out: &mut Printer,
-    size: u64,
-    align: u64,
-    signed: bool,
-    base: Base,
-    clock: Option<&Text>,
-) -> Result<(), AllocError>
-    ensures { OnOk result (Prints out.old out.new (int_toks (attributes size align signed base (option_map (λ t. t.now) clock.entry)))) }
 {
     out.word("integer")?;
     out.mark(Mark::OpenBrace)?;
-    natural(out, "size", size)?;
-    natural(out, "align", align)?;
-    word(out, "signed", flag_word(signed))?;
-    natural(out, "base", base_number(base))?;
-    mapping(out, clock)?;
-    out.mark(Mark::CloseBrace)?;
-    Ok(())
+    natural(out, "size", u64::from(int.size()))?;
+    natural(out, "align", u64::from(int.align()))?;
+    word(out, "signed", flag_word(int.is_signed()))?;
+    natural(out, "base", base_number(int.base()))?;
+    mapping(out, int.clock())?;
+    out.mark(Mark::CloseBrace)
+}
+
+/// The type of a dynamic array's length: 32 bits, alignment 8, unsigned.
+pub(crate) fn length_type(out: &mut Printer) -> Printed
+    ensures { OnOk result (Prints out.old out.new (int_toks (integer_attributes length_type))) }
+{
+    let Some(length) = IntType::new(32, 8, false, Base::Dec) else {
+        unreachable!()
+    };
+    integer(out, &length)
 }
 
 /// `map = clock.NAME.value;`, where there is a clock.
-fn mapping(out: &mut Printer, clock: Option<&Text>) -> Result<(), AllocError>
+fn mapping(out: &mut Printer, clock: Option<&Text>) -> Printed
     ensures { OnOk result (Prints out.old out.new (flat_map attr_toks (mapping_attributes (option_map (λ t. t.now) clock.entry)))) }
 {
-    match clock {
-        None => Ok(()),
-        Some(clock) => mapped(out, clock.as_str()),
-    }
-}
-
-fn mapped(out: &mut Printer, clock: &str) -> Result<(), AllocError>
-    ensures { OnOk result (Prints out.old out.new (attr_toks (mapping_attribute clock.now))) }
-{
+    let Some(clock) = clock else { return Ok(()) };
     out.word("map")?;
     out.mark(Mark::Equals)?;
     out.word("clock")?;
     out.mark(Mark::Dot)?;
-    out.word(clock)?;
+    out.word(clock.as_str())?;
     out.mark(Mark::Dot)?;
     out.word("value")?;
-    out.mark(Mark::Semicolon)?;
-    Ok(())
+    out.mark(Mark::Semicolon)
 }
 
 /// The number for a display base.
@@ -117,7 +83,7 @@ fn base_number(base: Base) -> u64
 }
 
 /// `enum : integer { .. } { "LABEL" = 0, "LABEL" = 1 ... 3 }`.
-fn enumeration(out: &mut Printer, labels: &EnumType) -> Result<(), AllocError>
+fn enumeration(out: &mut Printer, labels: &EnumType) -> Printed
     ensures { OnOk result (Prints out.old out.new (kind_toks (kind_tree (Labelled labels.now)))) }
 {
     out.word("enum")?;
@@ -125,26 +91,17 @@ fn enumeration(out: &mut Printer, labels: &EnumType) -> Result<(), AllocError>
     integer(out, &labels.int)?;
     out.mark(Mark::OpenBrace)?;
     entries(out, labels.mappings.as_slice())?;
-    out.mark(Mark::CloseBrace)?;
-    Ok(())
+    out.mark(Mark::CloseBrace)
 }
 
-fn entries(out: &mut Printer, mappings: &[Mapping]) -> Result<(), AllocError>
+fn entries(out: &mut Printer, mappings: &[Mapping]) -> Printed
     ensures { OnOk result (Prints out.old out.new (entries_toks (entry_trees mappings.now))) }
 {
-    match mappings {
-        [] => Ok(()),
-        [first, others @ ..] => {
-            entry(out, first)?;
-            other_entries(out, others)
-        }
-    }
-}
-
-fn other_entries(out: &mut Printer, mappings: &[Mapping]) -> Result<(), AllocError>
-    ensures { OnOk result (Prints out.old out.new (flat_map next_entry_toks (map entry_tree mappings.now))) }
-{
-    for mapping in mappings {
+    let [first, others @ ..] = mappings else {
+        return Ok(())
+    };
+    entry(out, first)?;
+    for mapping in others {
         out.mark(Mark::Comma)?;
         entry(out, mapping)?;
     }
@@ -152,23 +109,21 @@ fn other_entries(out: &mut Printer, mappings: &[Mapping]) -> Result<(), AllocErr
 }
 
 /// `"LABEL" = 1 ... 3`, or `"LABEL" = 1` where the range is of one number.
-fn entry(out: &mut Printer, mapping: &Mapping) -> Result<(), AllocError>
+fn entry(out: &mut Printer, mapping: &Mapping) -> Printed
     ensures { OnOk result (Prints out.old out.new (entry_toks (entry_tree mapping.now))) }
 {
     out.string(mapping.label.as_str())?;
     out.mark(Mark::Equals)?;
     out.whole(mapping.low)?;
-    high(out, mapping.low, mapping.high)?;
-    Ok(())
+    high(out, mapping.low, mapping.high)
 }
 
-fn high(out: &mut Printer, low: i128, high: i128) -> Result<(), AllocError>
+fn high(out: &mut Printer, low: i128, high: i128) -> Printed
     ensures { OnOk result (Prints out.old out.new (high_toks (high_number low high))) }
 {
     if high <= low {
         return Ok(());
     }
     out.mark(Mark::Ellipsis)?;
-    out.whole(high)?;
-    Ok(())
+    out.whole(high)
 }

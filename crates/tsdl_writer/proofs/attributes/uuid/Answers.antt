@@ -2,7 +2,7 @@ use Rattle.std.proofs.Common.{rules, ◌≡◌}
 use Rattle.uuid.specs.Text.{hyphenated_text, lower}
 use Rattle.tsdl_writer.proofs.attributes.uuid.Goals as goal
 
-pub returns-in-Some : goal.returns-in-Some
-returns-in-Some c =
+pub returns : goal.returns
+returns c =
     let same : c.encode_lower.result.now ≡ hyphenated_text lower c.in-Some.uuid = search rules in
-    rw c.in-Some.is (rw same at c.text.ensures)
+    record { prints = rw c.in-Some.is (rw same at c.text.ensures); held = search rules }

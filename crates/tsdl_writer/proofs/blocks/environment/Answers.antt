@@ -1,11 +1,34 @@
-use Rattle.std.proofs.Common.{List, length, ap, sym, ◌∙◌}
+use Rattle.std.proofs.Common.{rules, ◌+◌, List, length, map, drop, ap, sym, ◌∙◌}
 use Rattle.std.specs.Prelude.{◌==◌}
-use Rattle.ctf_types.specs.declared.EnvironmentEntry.{EnvironmentEntry}
+use Rattle.std.specs.List.{flat_map}
 use Rattle.std.proofs.lemmas.Bool.{false≢true}
-use Rattle.tsdl_writer.proofs.Printing.{environment_stands}
+use Rattle.std.proofs.lemmas.List.{drop_all}
+use Rattle.ctf_types.specs.declared.EnvironmentEntry.{EnvironmentEntry}
+use Rattle.tsdl_grammar.specs.Spelling.{named_fact_toks}
+use Rattle.tsdl_writer.specs.BlockTrees.{named_fact_tree}
+use Rattle.tsdl_writer.specs.Held.{IsHeldValue}
+use Rattle.tsdl_writer.proofs.Printing.{last, begun, one_more, all_printed, item, environment_stands}
+use Rattle.tsdl_writer.proofs.Walks.{all_more, all_met}
 use Rattle.tsdl_writer.proofs.blocks.environment.Goals as goal
 
+pub loop-entry-init : goal.loop-entry-init
+loop-entry-init c = record { prints = begun _ _; held = search rules }
+
+pub loop-entry-preserved : goal.loop-entry-preserved
+loop-entry-preserved c =
+    let x = c.entry-item.result in let xs = c.args.entries.now in let i = c.loop-entry.entry-index in
+    record {
+      prints = one_more (named_fact_toks (named_fact_tree x)) (flat_map named_fact_toks (map named_fact_tree (drop (i + 1) xs))) c.loop-entry.invariant.prints
+          (ap (λ (es : List EnvironmentEntry). flat_map named_fact_toks (map named_fact_tree es)) (item xs i x c.loop-entry-test.true c.entry-item.is)) c.in_ok-fact.ensures.prints;
+      held = all_more (λ (e : EnvironmentEntry). IsHeldValue e.value) xs i x c.loop-entry-test.true c.entry-item.is c.loop-entry.invariant.held c.in_ok-fact.ensures.held;
+    }
+
 pub returns : goal.returns
-returns c rest text e =
-    environment_stands c.args.entries.now rest (λ h. absurd (false≢true (sym c.if-is_empty.false ∙ c.is_empty.ensures ∙ ap (λ (es : List EnvironmentEntry). length es == 0) h)))
-    (c.in_ok-open.ensures _ text (c.in_ok-facts.ensures _ text (c.in_ok-close.ensures rest text e)))
+returns c =
+    let xs = c.args.entries.now in let i = c.loop-entry.entry-index in
+    let all = all_printed c.loop-entry.invariant.prints (ap (λ (es : List EnvironmentEntry). flat_map named_fact_toks (map named_fact_tree es)) (drop_all i xs c.loop-entry-test.false)) in
+    record {
+      prints = last c.close.result c.close.ensures (λ one rest text e.
+          environment_stands xs rest (λ h. absurd (false≢true (sym c.if-is_empty.false ∙ c.is_empty.ensures ∙ ap (λ (es : List EnvironmentEntry). length es == 0) h))) (c.in_ok-open.ensures _ text (all _ text (one rest text e))));
+      held = last c.close.result c.close.ensures (λ one. all_met (λ (e : EnvironmentEntry). IsHeldValue e.value) xs i c.loop-entry-test.false c.loop-entry.invariant.held);
+    }

@@ -4,15 +4,15 @@ use Rattle.std.specs.List.{flat_map}
 use Rattle.ctf_types.specs.MetadataOf.{context_numbers, event_header_members}
 use Rattle.tsdl_grammar.specs.Spelling.{item_toks}
 use Rattle.tsdl_writer.specs.BlockTrees.{natural_item, scope_items, two_words}
-use Rattle.tsdl_writer.proofs.Printing.{pair, block}
+use Rattle.tsdl_writer.proofs.Printing.{last, pair, block}
 use Rattle.tsdl_writer.proofs.blocks.stream.Goals as goal
 
 pub returns : goal.returns
-returns c rest text e =
+returns c = last c.close.result c.close.ensures (λ one rest text e.
     let s = c.args.stream.now in let id = natural_item (codes "id") c.args.id in
     let context = scope_items (two_words (codes "packet") (codes "context")) (context_numbers s.context ++ s.extras.members) 8 in
     let header = scope_items (two_words (codes "event") (codes "header")) (event_header_members s.event_header) 8 in
     let common = scope_items (two_words (codes "event") (codes "context")) s.common.members s.common.min_align in
     block (codes "stream") (flat_map item_toks (id ∷ context ++ header ++ common)) rest
     (c.in_ok-open.ensures _ text (pair item_toks (id ∷ context ++ header) common _ (pair item_toks (id ∷ context) header _
-    (c.in_ok-natural.ensures _ text (c.in_ok-context.ensures _ text (c.in_ok-event_header.ensures _ text (c.in_ok-event_context.ensures _ text (c.in_ok-close.ensures rest text e))))))))
+    (c.in_ok-natural.ensures.prints _ text (c.in_ok-context.ensures _ text (c.in_ok-event_header.ensures _ text (c.in_ok-event_context.ensures _ text (one rest text e)))))))))

@@ -4,14 +4,17 @@ use Rattle.std.specs.List.{flat_map}
 use Rattle.ctf_types.specs.MetadataOf.{header_members}
 use Rattle.tsdl_grammar.specs.Spelling.{item_toks}
 use Rattle.tsdl_writer.specs.BlockTrees.{natural_item, word_item, optional_items, uuid_item, scope_items, two_words, order_word}
-use Rattle.tsdl_writer.proofs.Printing.{pair, block}
+use Rattle.tsdl_writer.proofs.Printing.{last, pair, block}
 use Rattle.tsdl_writer.proofs.blocks.trace.Goals as goal
 
 pub returns : goal.returns
-returns c rest text e =
-    let config = c.args.config.now in
-    let front = natural_item (codes "major") 1 ∷ natural_item (codes "minor") 8 ∷ optional_items uuid_item config.uuid in
-    let order = word_item (codes "byte_order") (order_word config.order) in let header = scope_items (two_words (codes "packet") (codes "header")) (header_members config.header) 8 in
-    let behind = rw c.order_word.ensures at (c.in_ok-word.ensures _ text (c.in_ok-header.ensures _ text (c.in_ok-close.ensures rest text e))) in
-    block (codes "trace") (flat_map item_toks (front ++ order ∷ header)) rest
-    (c.in_ok-open.ensures _ text (pair item_toks front (order ∷ header) _ (c.in_ok-natural.ensures _ text (c.in_ok-natural-2.ensures _ text (c.in_ok-uuid.ensures _ text behind)))))
+returns c = record {
+  prints = last c.close.result c.close.ensures (λ one rest text e.
+      let config = c.args.config.now in
+      let front = natural_item (codes "major") 1 ∷ natural_item (codes "minor") 8 ∷ optional_items uuid_item config.uuid in
+      let order = word_item (codes "byte_order") (order_word config.order) in let header = scope_items (two_words (codes "packet") (codes "header")) (header_members config.header) 8 in
+      let behind = rw c.order_word.ensures at (c.in_ok-word.ensures _ text (c.in_ok-header.ensures _ text (one rest text e))) in
+      block (codes "trace") (flat_map item_toks (front ++ order ∷ header)) rest
+      (c.in_ok-open.ensures _ text (pair item_toks front (order ∷ header) _ (c.in_ok-natural.ensures.prints _ text (c.in_ok-natural-2.ensures.prints _ text (c.in_ok-uuid.ensures.prints _ text behind))))));
+  held = last c.close.result c.close.ensures (λ one. c.in_ok-uuid.ensures.held);
+}

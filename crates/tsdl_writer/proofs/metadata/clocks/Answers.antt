@@ -1,19 +1,29 @@
-use Rattle.std.proofs.Common.{◌+◌, List, ap, map, drop}
+use Rattle.std.proofs.Common.{rules, ◌+◌, List, ap, map, drop}
+use Rattle.std.proofs.lemmas.List.{drop_all}
 use Rattle.ctf_types.specs.declared.ClockType.{ClockType}
 use Rattle.tsdl_grammar.specs.Spelling.{block_and_semicolon, text_toks}
 use Rattle.tsdl_writer.specs.BlockTrees.{clock_block}
+use Rattle.tsdl_writer.specs.Held.{IsHeldClock}
 use Rattle.tsdl_writer.proofs.Printing.{begun, one_more, all_printed, item}
-use Rattle.std.proofs.lemmas.List.{drop_all}
+use Rattle.tsdl_writer.proofs.Walks.{all_more, all_met}
 use Rattle.tsdl_writer.proofs.metadata.clocks.Goals as goal
 
 pub loop-one-init : goal.loop-one-init
-loop-one-init c = begun _ _
+loop-one-init c = record { prints = begun _ _; held = search rules }
 
 pub loop-one-preserved : goal.loop-one-preserved
 loop-one-preserved c =
     let x = c.one-item.result in let xs = c.args.clocks.now in let i = c.loop-one.one-index in
-    one_more (block_and_semicolon (clock_block x)) (text_toks (map clock_block (drop (i + 1) xs))) c.loop-one.invariant
-    (ap (λ (ks : List ClockType). text_toks (map clock_block ks)) (item xs i x c.loop-one-test.true c.one-item.is)) c.in_ok-clock.ensures
+    record {
+      prints = one_more (block_and_semicolon (clock_block x)) (text_toks (map clock_block (drop (i + 1) xs))) c.loop-one.invariant.prints
+          (ap (λ (ks : List ClockType). text_toks (map clock_block ks)) (item xs i x c.loop-one-test.true c.one-item.is)) c.in_ok-clock.ensures.prints;
+      held = all_more IsHeldClock xs i x c.loop-one-test.true c.one-item.is c.loop-one.invariant.held c.in_ok-clock.ensures.held;
+    }
 
 pub returns : goal.returns
-returns c = all_printed c.loop-one.invariant (ap (λ (ks : List ClockType). text_toks (map clock_block ks)) (drop_all c.loop-one.one-index c.args.clocks.now c.loop-one-test.false))
+returns c =
+    let xs = c.args.clocks.now in let i = c.loop-one.one-index in
+    record {
+      prints = all_printed c.loop-one.invariant.prints (ap (λ (ks : List ClockType). text_toks (map clock_block ks)) (drop_all i xs c.loop-one-test.false));
+      held = all_met IsHeldClock xs i c.loop-one-test.false c.loop-one.invariant.held;
+    }

@@ -1,4 +1,4 @@
-use Rattle.std.proofs.Common.{◌≡◌, ℕ, List, [], ◌∷◌, ◌++◌, map, sym, subst}
+use Rattle.std.proofs.Common.{◌≡◌, ℕ, List, [], ◌∷◌, ◌++◌, map, sym, subst, All}
 use Rattle.std.proofs.lemmas.List.{append-nil}
 use Rattle.ctf_types.specs.declared.Config.{Config}
 use Rattle.ctf_types.specs.declared.ClockType.{ClockType}
@@ -10,6 +10,7 @@ use Rattle.tsdl_grammar.specs.Denotes.{Denotes}
 use Rattle.tsdl_grammar.specs.Spelling.{block_and_semicolon, text_toks}
 use Rattle.tsdl_writer.specs.declared.printer.Printer.{Printer}
 use Rattle.tsdl_writer.specs.BlockTrees.{trace_block, environment_blocks, clock_block, stream_blocks, all_event_blocks, blocks_of}
+use Rattle.tsdl_writer.specs.Held.{IsHeldValue, IsHeldClock, IsHeld}
 use Rattle.tsdl_writer.specs.Prints.{Ends, Begins}
 use Rattle.tsdl_writer.specs.Written.{written}
 use Rattle.tsdl_writer.proofs.Printing.{regroup, pair}
@@ -36,7 +37,12 @@ pub returns : goal.returns
 returns c =
     let config = c.args.config.now in
     let ends : Ends c.all_events.new.out [] _ = record { whole = sym c.in_ok-text.ensures; strings = tt } in
-    let printed = c.in_ok-trace.ensures _ _ (c.in_ok-environment.ensures _ _ (c.in_ok-clocks.ensures _ _ (c.in_ok-streams.ensures _ _ (c.in_ok-all_events.ensures [] _ ends)))) in
+    let printed = c.in_ok-trace.ensures.prints _ _ (c.in_ok-environment.ensures.prints _ _ (c.in_ok-clocks.ensures.prints _ _ (c.in_ok-streams.ensures _ _ (c.in_ok-all_events.ensures [] _ ends)))) in
     let blocks = all_blocks config _ _ _ _ c.as_slice.ensures c.as_slice-2.ensures c.as_slice-3.ensures c.as_slice-4.ensures printed in
     let text = is_written config c.in_ok-out.ensures blocks in
-    record { text = text; denotes = λ h. subst (λ (bytes : List ℕ). Denotes bytes (metadata_of config)) (sym text) (written_denotes config h c.config_is_held.ensures blocks.strings) }
+    let held : IsHeld config = record {
+      uuid = c.in_ok-trace.ensures.held;
+      environment = subst (All (λ (e : EnvironmentEntry). IsHeldValue e.value)) c.as_slice.ensures c.in_ok-environment.ensures.held;
+      clocks = subst (All IsHeldClock) c.as_slice-2.ensures c.in_ok-clocks.ensures.held;
+    } in
+    record { text = text; denotes = λ h. subst (λ (bytes : List ℕ). Denotes bytes (metadata_of config)) (sym text) (written_denotes config h held blocks.strings) }

@@ -1,6 +1,7 @@
+use Rattle.tsdl_writer.proofs.Printing.{last}
 use Rattle.tsdl_writer.proofs.scopes.close.Goals as goal
 
 pub returns : goal.returns
-returns c rest text e =
+returns c = last c.mark-4.result c.mark-4.ensures (λ one rest text e.
     rw c.from.ensures at
-    (c.in_ok-mark.ensures _ text (c.in_ok-word.ensures _ text (c.in_ok-mark-2.ensures _ text (c.in_ok-number.ensures _ text (c.in_ok-mark-3.ensures _ text (c.in_ok-mark-4.ensures rest text e))))))
+    (c.in_ok-mark.ensures _ text (c.in_ok-word.ensures _ text (c.in_ok-mark-2.ensures _ text (c.in_ok-number.ensures _ text (c.in_ok-mark-3.ensures _ text (one rest text e)))))))

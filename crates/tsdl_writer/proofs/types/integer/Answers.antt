@@ -1,11 +1,15 @@
-use Rattle.std.proofs.Common.{List, subst}
-use Rattle.std.specs.Prelude.{IfOk}
-use Rattle.tsdl_grammar.specs.declared.tree.Attribute.{Attribute}
-use Rattle.tsdl_grammar.specs.Spelling.{int_toks}
-use Rattle.tsdl_writer.specs.Prints.{Prints}
-use Rattle.tsdl_writer.proofs.Printing.{attributes_are}
+use Rattle.std.proofs.Common.{[], ◌∷◌}
+use Rattle.tsdl_grammar.specs.declared.atom.Atom.TheVariants as atoms
+use Rattle.tsdl_grammar.specs.declared.token.Mark.TheVariants as marks
+use Rattle.tsdl_writer.proofs.Printing.{last, regroup}
 use Rattle.tsdl_writer.proofs.types.integer.Goals as goal
 
 pub returns : goal.returns
-returns c =
-    subst (λ (attrs : List Attribute). IfOk c.integer_with.result (λ _. Prints c.args.out.now c.integer_with.new.out (int_toks attrs))) (attributes_are c.args.int.now _ _ _ _ _ (cc) (cc) (cc) (cc) (cc)) c.integer_with.ensures
+returns c = last c.mark-2.result c.mark-2.ensures (λ one rest text e.
+    let clock = rw c.clock.ensures at (c.in_ok-mapping.ensures _ text (one rest text e)) in
+    let map = regroup _ (atoms.Mark marks.CloseBrace ∷ []) rest clock in
+    let base = rw (c.base_number.ensures, c.base.ensures) at (c.in_ok-natural-3.ensures.prints _ text map) in
+    let sign = rw (c.flag_word.ensures, c.is_signed.ensures) at (c.in_ok-word-2.ensures _ text base) in
+    let align = rw (c.from-2.ensures, c.align.ensures.is) at (c.in_ok-natural-2.ensures.prints _ text sign) in
+    let size = rw (c.from.ensures, c.size.ensures.is) at (c.in_ok-natural.ensures.prints _ text align) in
+    c.in_ok-word.ensures _ text (c.in_ok-mark.ensures _ text size))

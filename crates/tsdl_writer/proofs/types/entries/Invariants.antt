@@ -4,7 +4,7 @@ use Rattle.std.specs.Prelude.{map}
 use Rattle.tsdl_grammar.specs.Spelling.{next_entry_toks}
 use Rattle.tsdl_writer.specs.FieldTrees.{entry_tree}
 use Rattle.tsdl_writer.proofs.Printing.{Leaves}
-use Rattle.tsdl_writer.proofs.types.other_entries.Given as goal
+use Rattle.tsdl_writer.proofs.types.entries.Given as goal
 
 abbrev pub invariant-loop-mapping : goal.invariant-loop-mapping
-invariant-loop-mapping l = Leaves l.initial.out l.out (flat_map next_entry_toks (map entry_tree l.mappings)) (flat_map next_entry_toks (map entry_tree (drop l.mapping-index l.mappings)))
+invariant-loop-mapping l = Leaves l.initial.out l.out (flat_map next_entry_toks (map entry_tree l.others)) (flat_map next_entry_toks (map entry_tree (drop l.mapping-index l.others)))
