@@ -3,7 +3,7 @@
 ghost use Rattle.std.specs.Prelude.{◌≡◌, List};
 ghost use Rattle.tsdl_grammar.specs.declared.atom.Atom.{Atom};
 ghost use Rattle.std.specs.List.{flat_map};
-ghost use Rattle.tsdl_grammar.specs.Spelling.{next_entry_toks};
+ghost use Rattle.tsdl_grammar.specs.Spelling.{number_toks, name_toks, value_toks, attr_toks, label_toks, entry_toks, next_entry_toks, closing_toks, entries_toks, bracket_toks, kind_toks, member_toks, struct_toks, scope_toks, item_toks, named_fact_toks, block_toks};
 ghost use Rattle.tsdl_flaw.specs.Lengths.{HasLength};
 
 use ctf_types::ListOf;
@@ -22,8 +22,6 @@ pub trait Spelled {
 }
 
 impl Spelled for Number {
-    ghost use Rattle.tsdl_grammar.specs.Spelling.{number_toks};
-
     ghost toks = { number_toks };
 
     fn length(&self) -> usize {
@@ -35,8 +33,6 @@ impl Spelled for Number {
 }
 
 impl Spelled for Name {
-    ghost use Rattle.tsdl_grammar.specs.Spelling.{name_toks};
-
     ghost toks = { name_toks };
 
     #[tactic(auto, using(crate::proofs::Lengths::dotted_length))]
@@ -46,8 +42,6 @@ impl Spelled for Name {
 }
 
 impl Spelled for Value {
-    ghost use Rattle.tsdl_grammar.specs.Spelling.{value_toks};
-
     ghost toks = { value_toks };
 
     fn length(&self) -> usize {
@@ -60,21 +54,15 @@ impl Spelled for Value {
 }
 
 impl Spelled for Attribute {
-    ghost use Rattle.tsdl_grammar.specs.Spelling.{attr_toks};
-
     ghost toks = { attr_toks };
 
     fn length(&self) -> usize {
-        self.name
-            .length()
-            .saturating_add(self.value.length())
-            .saturating_add(2)
+        let parts = self.name.length().saturating_add(self.value.length());
+        parts.saturating_add(2)
     }
 }
 
 impl<T: Spelled + Drop> Spelled for ListOf<T> {
-    ghost use Rattle.std.specs.List.{flat_map};
-
     ghost toks = { flat_map T.toks };
 
     fn length(&self) -> usize {
@@ -88,8 +76,6 @@ impl<T: Spelled + Drop> Spelled for ListOf<T> {
 }
 
 impl Spelled for Label {
-    ghost use Rattle.tsdl_grammar.specs.Spelling.{label_toks};
-
     ghost toks = { label_toks };
 
     fn length(&self) -> usize {
@@ -100,8 +86,6 @@ impl Spelled for Label {
 }
 
 impl Spelled for Entry {
-    ghost use Rattle.tsdl_grammar.specs.Spelling.{entry_toks};
-
     ghost toks = { entry_toks };
 
     fn length(&self) -> usize {
@@ -114,8 +98,6 @@ impl Spelled for Entry {
 }
 
 impl Spelled for Closing {
-    ghost use Rattle.tsdl_grammar.specs.Spelling.{closing_toks};
-
     ghost toks = { closing_toks };
 
     fn length(&self) -> usize {
@@ -127,8 +109,6 @@ impl Spelled for Closing {
 }
 
 impl Spelled for Entries {
-    ghost use Rattle.tsdl_grammar.specs.Spelling.{entries_toks};
-
     ghost toks = { entries_toks };
 
     fn length(&self) -> usize {
@@ -151,8 +131,6 @@ fn behind_first(entries: &ListOf<Entry>) -> usize
 }
 
 impl Spelled for Bracket {
-    ghost use Rattle.tsdl_grammar.specs.Spelling.{bracket_toks};
-
     ghost toks = { bracket_toks };
 
     fn length(&self) -> usize {
@@ -164,8 +142,6 @@ impl Spelled for Bracket {
 }
 
 impl Spelled for Kind {
-    ghost use Rattle.tsdl_grammar.specs.Spelling.{kind_toks};
-
     ghost toks = { kind_toks };
 
     fn length(&self) -> usize {
@@ -182,21 +158,15 @@ impl Spelled for Kind {
 }
 
 impl Spelled for MemberTree {
-    ghost use Rattle.tsdl_grammar.specs.Spelling.{member_toks};
-
     ghost toks = { member_toks };
 
     fn length(&self) -> usize {
-        self.kind
-            .length()
-            .saturating_add(self.brackets.length())
-            .saturating_add(2)
+        let parts = self.kind.length().saturating_add(self.brackets.length());
+        parts.saturating_add(2)
     }
 }
 
 impl Spelled for Structure {
-    ghost use Rattle.tsdl_grammar.specs.Spelling.{struct_toks};
-
     ghost toks = { struct_toks };
 
     fn length(&self) -> usize {
@@ -212,21 +182,15 @@ impl Spelled for Structure {
 }
 
 impl Spelled for Scope {
-    ghost use Rattle.tsdl_grammar.specs.Spelling.{scope_toks};
-
     ghost toks = { scope_toks };
 
     fn length(&self) -> usize {
-        self.name
-            .length()
-            .saturating_add(self.structure.length())
-            .saturating_add(2)
+        let parts = self.name.length().saturating_add(self.structure.length());
+        parts.saturating_add(2)
     }
 }
 
 impl Spelled for Item {
-    ghost use Rattle.tsdl_grammar.specs.Spelling.{item_toks};
-
     ghost toks = { item_toks };
 
     fn length(&self) -> usize {
@@ -238,8 +202,6 @@ impl Spelled for Item {
 }
 
 impl Spelled for NamedFact {
-    ghost use Rattle.tsdl_grammar.specs.Spelling.{named_fact_toks};
-
     ghost toks = { named_fact_toks };
 
     fn length(&self) -> usize {
@@ -252,8 +214,6 @@ impl Spelled for NamedFact {
 }
 
 impl Spelled for Block {
-    ghost use Rattle.tsdl_grammar.specs.Spelling.{block_toks};
-
     ghost toks = { block_toks };
 
     fn length(&self) -> usize {
