@@ -10,6 +10,7 @@ use Rattle.tsdl_grammar.specs.declared.tree.Value.{Value}
 use Rattle.tsdl_grammar.specs.declared.tree.Value.TheVariants as values
 use Rattle.tsdl_grammar.specs.declared.tree.Attribute.{Attribute}
 use Rattle.tsdl_grammar.specs.Spelling.{mark, word, number_toks, dotted, name_toks, value_toks, attr_toks, attrs_toks}
+use Rattle.tsdl_grammar.specs.Steps.{◌>>=◌}
 use Rattle.tsdl_parser.specs.Parsing.{begins, mark_at, word_at, signed_at, number_at, is_open, Shortens}
 use Rattle.tsdl_parser.specs.ParsingAttributes.{dotted_at, all_dotted_at, name_at, value_at, attr_behind, attr_at, attrs_at}
 use Rattle.tsdl_parser.proofs.Steps.{along, first_of_two}
@@ -52,20 +53,21 @@ name_again n rest end = rw (many_again (begins marks.Dot) dotted_at dotted Anyth
 
 -- ---- values
 
+number_value : (ts : List Atom) (x : Value × List Atom) → (number_at ts >>= λ n. Some (values.Number n.0, n.1)) ≡ Some x → ts ≡ value_toks x.0 ++ x.1
+number_value ts x e =
+    let a = first_of_two (number_at ts) (λ n. Some (values.Number n.0, n.1)) x e in
+    along (λ (y : Value × List Atom). ts ≡ value_toks y.0 ++ y.1) (values.Number a.0.0, a.0.1) x a.2 (number_takes ts a.0 a.1)
+
 pub value_takes : (ts : List Atom) (x : Value × List Atom) → value_at ts ≡ Some x → ts ≡ value_toks x.0 ++ x.1
 unfolding value_at
-value_takes [] x e = absurd cc
 value_takes (atoms.Text s ∷ ts) x e = along (λ (y : Value × List Atom). (atoms.Text s ∷ ts) ≡ value_toks y.0 ++ y.1) (values.Text s, ts) x e refl
 value_takes (atoms.Word w ∷ ts) x e =
     let a = first_of_two (name_at (atoms.Word w ∷ ts)) _ x e in
     along (λ (y : Value × List Atom). (atoms.Word w ∷ ts) ≡ value_toks y.0 ++ y.1) (values.Name a.0.0, a.0.1) x a.2 (name_takes (atoms.Word w ∷ ts) a.0 a.1)
-value_takes (atoms.Number n ∷ ts) x e =
-    let a = first_of_two (number_at (atoms.Number n ∷ ts)) _ x e in
-    along (λ (y : Value × List Atom). (atoms.Number n ∷ ts) ≡ value_toks y.0 ++ y.1) (values.Number a.0.0, a.0.1) x a.2 (number_takes (atoms.Number n ∷ ts) a.0 a.1)
-value_takes (atoms.Mark m ∷ ts) x e =
-    let a = first_of_two (number_at (atoms.Mark m ∷ ts)) _ x e in
-    along (λ (y : Value × List Atom). (atoms.Mark m ∷ ts) ≡ value_toks y.0 ++ y.1) (values.Number a.0.0, a.0.1) x a.2 (number_takes (atoms.Mark m ∷ ts) a.0 a.1)
-value_takes (atoms.TooLarge ∷ ts) x e = absurd cc
+value_takes [] x e = number_value [] x e
+value_takes (atoms.Number n ∷ ts) x e = number_value (atoms.Number n ∷ ts) x e
+value_takes (atoms.Mark m ∷ ts) x e = number_value (atoms.Mark m ∷ ts) x e
+value_takes (atoms.TooLarge ∷ ts) x e = number_value (atoms.TooLarge ∷ ts) x e
 
 number_value_again : (sign : Option Sign) (literal : ℕ) (rest : List Atom)
     → value_at (number_toks (record { sign = sign; literal = literal }) ++ rest) ≡ Some (values.Number (record { sign = sign; literal = literal }), rest)

@@ -16,6 +16,7 @@ use Rattle.tsdl_grammar.specs.declared.tree.NamedFact.{NamedFact}
 use Rattle.tsdl_grammar.specs.declared.tree.Block.{Block}
 use Rattle.tsdl_grammar.specs.declared.tree.Block.TheVariants as blocks
 use Rattle.tsdl_grammar.specs.Spelling.{mark, word, number_toks, name_toks, struct_toks, scope_toks, item_toks, items_toks, fact_toks, named_fact_toks, block_toks, block_and_semicolon, text_toks}
+use Rattle.tsdl_grammar.specs.Steps.{◌>>=◌}
 use Rattle.tsdl_parser.specs.declared.halt.Unread.{Unread}
 use Rattle.tsdl_parser.specs.declared.halt.Unread.TheVariants as unread
 use Rattle.tsdl_parser.specs.Halting.{IfHalted}
@@ -95,18 +96,19 @@ item_short = shortens is_open item_at item_toks Anything item_spells
 
 -- ---- environment entries
 
+number_fact : (ts : List Atom) (x : Fact × List Atom) → (number_at ts >>= λ n. Some (facts.Number n.0, n.1)) ≡ Some x → ts ≡ fact_toks x.0 ++ x.1
+number_fact ts x e =
+    let a = first_of_two (number_at ts) (λ n. Some (facts.Number n.0, n.1)) x e in
+    along (λ (y : Fact × List Atom). ts ≡ fact_toks y.0 ++ y.1) (facts.Number a.0.0, a.0.1) x a.2 (number_takes ts a.0 a.1)
+
 fact_takes : (ts : List Atom) (x : Fact × List Atom) → fact_at ts ≡ Some x → ts ≡ fact_toks x.0 ++ x.1
 unfolding fact_at
-fact_takes [] x e = absurd cc
 fact_takes (atoms.Text s ∷ ts) x e = along (λ (y : Fact × List Atom). (atoms.Text s ∷ ts) ≡ fact_toks y.0 ++ y.1) (facts.Text s, ts) x e refl
-fact_takes (atoms.Number n ∷ ts) x e =
-    let a = first_of_two (number_at (atoms.Number n ∷ ts)) _ x e in
-    along (λ (y : Fact × List Atom). (atoms.Number n ∷ ts) ≡ fact_toks y.0 ++ y.1) (facts.Number a.0.0, a.0.1) x a.2 (number_takes (atoms.Number n ∷ ts) a.0 a.1)
-fact_takes (atoms.Mark m ∷ ts) x e =
-    let a = first_of_two (number_at (atoms.Mark m ∷ ts)) _ x e in
-    along (λ (y : Fact × List Atom). (atoms.Mark m ∷ ts) ≡ fact_toks y.0 ++ y.1) (facts.Number a.0.0, a.0.1) x a.2 (number_takes (atoms.Mark m ∷ ts) a.0 a.1)
-fact_takes (atoms.Word w ∷ ts) x e = absurd cc
-fact_takes (atoms.TooLarge ∷ ts) x e = absurd cc
+fact_takes [] x e = number_fact [] x e
+fact_takes (atoms.Number n ∷ ts) x e = number_fact (atoms.Number n ∷ ts) x e
+fact_takes (atoms.Mark m ∷ ts) x e = number_fact (atoms.Mark m ∷ ts) x e
+fact_takes (atoms.Word w ∷ ts) x e = number_fact (atoms.Word w ∷ ts) x e
+fact_takes (atoms.TooLarge ∷ ts) x e = number_fact (atoms.TooLarge ∷ ts) x e
 
 number_fact_again : (sign : Option Sign) (literal : ℕ) (rest : List Atom)
     → fact_at (number_toks (record { sign = sign; literal = literal }) ++ rest) ≡ Some (facts.Number (record { sign = sign; literal = literal }), rest)

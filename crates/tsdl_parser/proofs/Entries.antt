@@ -1,6 +1,6 @@
 -- The entries of enumerations are read as they are spelled. A range goes on where `...` follows, and the entries where a
 -- comma and a label follow.
-use Rattle.std.proofs.Common.{◌≡◌, true, false, List, [], ◌∷◌, ◌++◌, length, Option, Some, None, refl, sym, ap, ◌∙◌, append_assoc, arith, inl, inr}
+use Rattle.std.proofs.Common.{◌≡◌, true, false, List, ◌∷◌, ◌++◌, length, Option, Some, None, refl, sym, ap, ◌∙◌, append_assoc, arith, inl, inr}
 use Rattle.std.specs.List.{flat_map}
 use Rattle.tsdl_grammar.specs.declared.token.Mark.TheVariants as marks
 use Rattle.tsdl_grammar.specs.declared.atom.Atom.{Atom}
@@ -24,12 +24,9 @@ use Rattle.tsdl_parser.proofs.Repeated.{Spells, shortens, all_end, many_take, ma
 
 label_takes : (ts : List Atom) (x : Label × List Atom) → label_at ts ≡ Some x → ts ≡ label_toks x.0 ++ x.1
 unfolding label_at
-label_takes [] x e = absurd cc
 label_takes (atoms.Text s ∷ ts) x e = along (λ (y : Label × List Atom). (atoms.Text s ∷ ts) ≡ label_toks y.0 ++ y.1) (Quoted s, ts) x e refl
 label_takes (atoms.Word w ∷ ts) x e = along (λ (y : Label × List Atom). (word w ∷ ts) ≡ label_toks y.0 ++ y.1) (Bare w, ts) x e refl
-label_takes (atoms.Number n ∷ ts) x e = absurd cc
-label_takes (atoms.Mark m ∷ ts) x e = absurd cc
-label_takes (atoms.TooLarge ∷ ts) x e = absurd cc
+label_takes _ x e = absurd cc
 
 label_again : (l : Label) (rest : List Atom) → label_at (label_toks l ++ rest) ≡ Some (l, rest)
 unfolding label_at

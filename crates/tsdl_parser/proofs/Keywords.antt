@@ -19,10 +19,7 @@ false_not false e = absurd cc
 
 unread_word : (a : Atom) → is_read a ≡ false → (w : List ℕ) × (a ≡ atoms.Word w) × (list_any (bytes_eq w) unread_words ≡ true)
 unread_word (atoms.Word w) e = (w, refl, false_not (list_any (bytes_eq w) unread_words) e)
-unread_word (atoms.Number n) e = absurd cc
-unread_word (atoms.Text s) e = absurd cc
-unread_word (atoms.Mark m) e = absurd cc
-unread_word atoms.TooLarge e = absurd cc
+unread_word _ e = absurd cc
 
 -- so many of the atoms are looked at, up to the rest, and none of them is such a keyword
 pub record Read (ts rest : List Atom) (index : ℕ) : Type 0 where

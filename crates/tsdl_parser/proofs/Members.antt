@@ -18,6 +18,7 @@ use Rattle.tsdl_grammar.specs.declared.tree.Bracket.TheVariants as brackets
 use Rattle.tsdl_grammar.specs.declared.tree.MemberTree.{MemberTree}
 use Rattle.tsdl_grammar.specs.declared.tree.Structure.{Structure}
 use Rattle.tsdl_grammar.specs.Spelling.{mark, word, number_toks, braced, int_toks, entries_toks, kind_toks, bracket_toks, member_toks, align_toks, struct_toks}
+use Rattle.tsdl_grammar.specs.Steps.{◌>>=◌}
 use Rattle.tsdl_parser.specs.Parsing.{begins, mark_at, word_at, names, keyword_at, signed_at, number_at, is_open, braced_at, Shortens}
 use Rattle.tsdl_parser.specs.ParsingAttributes.{attrs_at}
 use Rattle.tsdl_parser.specs.ParsingEntries.{entries_at}
@@ -117,18 +118,19 @@ bracket_parts : (b : Bracket) (rest : List Atom) → mark marks.OpenBracket ∷ 
 bracket_parts (brackets.Count n) rest = simp append_assoc
 bracket_parts (brackets.Member w) rest = refl
 
+number_count : (ts : List Atom) (x : Bracket × List Atom) → (number_at ts >>= λ n. Some (brackets.Count n.0, n.1)) ≡ Some x → ts ≡ count_toks x.0 ++ x.1
+number_count ts x e =
+    let a = first_of_two (number_at ts) (λ n. Some (brackets.Count n.0, n.1)) x e in
+    along (λ (y : Bracket × List Atom). ts ≡ count_toks y.0 ++ y.1) (brackets.Count a.0.0, a.0.1) x a.2 (number_takes ts a.0 a.1)
+
 count_takes : (ts : List Atom) (x : Bracket × List Atom) → count_at ts ≡ Some x → ts ≡ count_toks x.0 ++ x.1
 unfolding count_at
-count_takes [] x e = absurd cc
 count_takes (atoms.Word w ∷ ts) x e = along (λ (y : Bracket × List Atom). (word w ∷ ts) ≡ count_toks y.0 ++ y.1) (brackets.Member w, ts) x e refl
-count_takes (atoms.Number n ∷ ts) x e =
-    let a = first_of_two (number_at (atoms.Number n ∷ ts)) _ x e in
-    along (λ (y : Bracket × List Atom). (atoms.Number n ∷ ts) ≡ count_toks y.0 ++ y.1) (brackets.Count a.0.0, a.0.1) x a.2 (number_takes (atoms.Number n ∷ ts) a.0 a.1)
-count_takes (atoms.Mark m ∷ ts) x e =
-    let a = first_of_two (number_at (atoms.Mark m ∷ ts)) _ x e in
-    along (λ (y : Bracket × List Atom). (atoms.Mark m ∷ ts) ≡ count_toks y.0 ++ y.1) (brackets.Count a.0.0, a.0.1) x a.2 (number_takes (atoms.Mark m ∷ ts) a.0 a.1)
-count_takes (atoms.Text s ∷ ts) x e = absurd cc
-count_takes (atoms.TooLarge ∷ ts) x e = absurd cc
+count_takes [] x e = number_count [] x e
+count_takes (atoms.Number n ∷ ts) x e = number_count (atoms.Number n ∷ ts) x e
+count_takes (atoms.Mark m ∷ ts) x e = number_count (atoms.Mark m ∷ ts) x e
+count_takes (atoms.Text s ∷ ts) x e = number_count (atoms.Text s ∷ ts) x e
+count_takes (atoms.TooLarge ∷ ts) x e = number_count (atoms.TooLarge ∷ ts) x e
 
 number_count_again : (sign : Option Sign) (literal : ℕ) (rest : List Atom)
     → count_at (number_toks (record { sign = sign; literal = literal }) ++ rest) ≡ Some (brackets.Count (record { sign = sign; literal = literal }), rest)

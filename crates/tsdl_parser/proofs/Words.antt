@@ -44,10 +44,7 @@ same_mark m n e = sym (numbered m) ∙ ap (λ (k : ℕ). get_or all_marks k mark
 
 mark_is : (m : Mark) (a : Atom) → is_mark m a ≡ true → a ≡ mark m
 mark_is m (atoms.Mark n) e = ap (λ (x : Mark). mark x) (same_mark n m (eqb-true _ _ e))
-mark_is m (atoms.Word w) e = absurd cc
-mark_is m (atoms.Number n) e = absurd cc
-mark_is m (atoms.Text s) e = absurd cc
-mark_is m atoms.TooLarge e = absurd cc
+mark_is m _ e = absurd cc
 
 pub mark_takes : (m : Mark) (ts rest : List Atom) → mark_at m ts ≡ Some rest → ts ≡ mark m ∷ rest
 unfolding mark_at
@@ -58,19 +55,12 @@ mark_takes m (a ∷ ts) rest e = let g = cond_some (is_mark m a) ts rest e in le
 
 pub word_takes : (ts : List Atom) (x : List ℕ × List Atom) → word_at ts ≡ Some x → ts ≡ word x.0 ∷ x.1
 unfolding word_at
-word_takes [] x e = absurd cc
 word_takes (atoms.Word w ∷ ts) x e = along (λ (y : List ℕ × List Atom). (word w ∷ ts) ≡ word y.0 ∷ y.1) (w, ts) x e refl
-word_takes (atoms.Number n ∷ ts) x e = absurd cc
-word_takes (atoms.Text s ∷ ts) x e = absurd cc
-word_takes (atoms.Mark m ∷ ts) x e = absurd cc
-word_takes (atoms.TooLarge ∷ ts) x e = absurd cc
+word_takes _ x e = absurd cc
 
 word_is : (keyword : List ℕ) (a : Atom) → is_word keyword a ≡ true → a ≡ word keyword
 word_is keyword (atoms.Word w) e = ap (λ (x : List ℕ). word x) ((bytes_eq-Decides w keyword).0 e)
-word_is keyword (atoms.Mark m) e = absurd cc
-word_is keyword (atoms.Number n) e = absurd cc
-word_is keyword (atoms.Text s) e = absurd cc
-word_is keyword atoms.TooLarge e = absurd cc
+word_is keyword _ e = absurd cc
 
 pub keyword_takes : (keyword : List ℕ) (ts rest : List Atom) → keyword_at keyword ts ≡ Some rest → ts ≡ word keyword ∷ rest
 unfolding keyword_at

@@ -40,10 +40,7 @@ number_of marks.Ellipsis = 14
 
 abbrev pub is_mark : Mark → Atom → Bool
 is_mark m (atoms.Mark n) = number_of n == number_of m
-is_mark m (atoms.Word w) = false
-is_mark m (atoms.Number n) = false
-is_mark m (atoms.Text s) = false
-is_mark m atoms.TooLarge = false
+is_mark m _ = false
 
 -- the first atom is this mark
 unfoldable pub begins : Mark → List Atom → Bool
@@ -57,19 +54,12 @@ mark_at m (a ∷ ts) = if is_mark m a then Some ts else None
 
 -- any word
 unfoldable pub word_at : List Atom → Option (List ℕ × List Atom)
-word_at [] = None
 word_at (atoms.Word w ∷ ts) = Some (w, ts)
-word_at (atoms.Number n ∷ ts) = None
-word_at (atoms.Text s ∷ ts) = None
-word_at (atoms.Mark m ∷ ts) = None
-word_at (atoms.TooLarge ∷ ts) = None
+word_at _ = None
 
 abbrev pub is_word : List ℕ → Atom → Bool
 is_word keyword (atoms.Word w) = bytes_eq w keyword
-is_word keyword (atoms.Number n) = false
-is_word keyword (atoms.Text s) = false
-is_word keyword (atoms.Mark m) = false
-is_word keyword atoms.TooLarge = false
+is_word keyword _ = false
 
 -- the first atom is this word
 unfoldable pub names : List ℕ → List Atom → Bool

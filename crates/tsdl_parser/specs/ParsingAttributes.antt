@@ -1,5 +1,5 @@
 -- Names, values and attributes at the front of a list of atoms.
-use Rattle.std.specs.Prelude.{ℕ, List, [], ◌∷◌, Option, Some, None}
+use Rattle.std.specs.Prelude.{ℕ, List, ◌∷◌, Option, Some}
 use Rattle.tsdl_grammar.specs.declared.token.Mark.TheVariants as marks
 use Rattle.tsdl_grammar.specs.declared.atom.Atom.{Atom}
 use Rattle.tsdl_grammar.specs.declared.atom.Atom.TheVariants as atoms
@@ -27,12 +27,9 @@ name_at ts = do
 
 -- number | string | name
 unfoldable pub value_at : List Atom → Option (Value × List Atom)
-value_at [] = None
 value_at (atoms.Text s ∷ ts) = Some (values.Text s, ts)
 value_at (atoms.Word w ∷ ts) = name_at (atoms.Word w ∷ ts) >>= λ n. Some (values.Name n.0, n.1)
-value_at (atoms.Number n ∷ ts) = number_at (atoms.Number n ∷ ts) >>= λ n. Some (values.Number n.0, n.1)
-value_at (atoms.Mark m ∷ ts) = number_at (atoms.Mark m ∷ ts) >>= λ n. Some (values.Number n.0, n.1)
-value_at (atoms.TooLarge ∷ ts) = None
+value_at ts = number_at ts >>= λ n. Some (values.Number n.0, n.1)
 
 -- "=" value ";" behind a name
 unfoldable pub attr_behind : Name → List Atom → Option (Attribute × List Atom)

@@ -1,5 +1,5 @@
 -- Scopes, environment entries and blocks at the front of a list of atoms, and a whole text's blocks.
-use Rattle.std.specs.Prelude.{ℕ, Bool, true, false, if◌then◌else◌, List, [], ◌∷◌, Option, Some, None, codes}
+use Rattle.std.specs.Prelude.{ℕ, Bool, true, false, if◌then◌else◌, List, [], ◌∷◌, Option, Some, codes}
 use Rattle.tsdl_grammar.specs.declared.token.Mark.TheVariants as marks
 use Rattle.tsdl_grammar.specs.declared.atom.Atom.{Atom}
 use Rattle.tsdl_grammar.specs.declared.atom.Atom.TheVariants as atoms
@@ -38,12 +38,8 @@ items_at keyword ts = keyword_at keyword ts >>= braced_at item_at
 
 -- number | string
 unfoldable pub fact_at : List Atom → Option (Fact × List Atom)
-fact_at [] = None
 fact_at (atoms.Text s ∷ ts) = Some (facts.Text s, ts)
-fact_at (atoms.Number n ∷ ts) = number_at (atoms.Number n ∷ ts) >>= λ n. Some (facts.Number n.0, n.1)
-fact_at (atoms.Mark m ∷ ts) = number_at (atoms.Mark m ∷ ts) >>= λ n. Some (facts.Number n.0, n.1)
-fact_at (atoms.Word w ∷ ts) = None
-fact_at (atoms.TooLarge ∷ ts) = None
+fact_at ts = number_at ts >>= λ n. Some (facts.Number n.0, n.1)
 
 -- identifier "=" (number | string) ";"
 unfoldable pub named_fact_at : List Atom → Option (NamedFact × List Atom)

@@ -16,12 +16,9 @@ use Rattle.tsdl_parser.specs.Parsing.{begins, is_mark, mark_at, number_at, many}
 
 -- string | identifier
 unfoldable pub label_at : List Atom → Option (Label × List Atom)
-label_at [] = None
 label_at (atoms.Text s ∷ ts) = Some (Quoted s, ts)
 label_at (atoms.Word w ∷ ts) = Some (Bare w, ts)
-label_at (atoms.Number n ∷ ts) = None
-label_at (atoms.Mark m ∷ ts) = None
-label_at (atoms.TooLarge ∷ ts) = None
+label_at _ = None
 
 -- [ "..." number ]
 unfoldable pub high_at : List Atom → Option (Option Number × List Atom)
@@ -40,12 +37,9 @@ entry_at ts = do
 
 -- a label comes first
 unfoldable pub is_labelled : List Atom → Bool
-is_labelled [] = false
 is_labelled (atoms.Text s ∷ ts) = true
 is_labelled (atoms.Word w ∷ ts) = true
-is_labelled (atoms.Number n ∷ ts) = false
-is_labelled (atoms.Mark m ∷ ts) = false
-is_labelled (atoms.TooLarge ∷ ts) = false
+is_labelled _ = false
 
 -- a comma with a label behind it
 unfoldable pub is_next : List Atom → Bool

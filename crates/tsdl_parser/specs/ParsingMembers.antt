@@ -1,5 +1,5 @@
 -- Types, members and structures at the front of a list of atoms.
-use Rattle.std.specs.Prelude.{if◌then◌else◌, List, [], ◌∷◌, Option, Some, None, codes}
+use Rattle.std.specs.Prelude.{if◌then◌else◌, List, ◌∷◌, Option, Some, None, codes}
 use Rattle.tsdl_grammar.specs.declared.token.Mark.TheVariants as marks
 use Rattle.tsdl_grammar.specs.declared.atom.Atom.{Atom}
 use Rattle.tsdl_grammar.specs.declared.atom.Atom.TheVariants as atoms
@@ -45,12 +45,8 @@ kind_at ts =
 
 -- number | identifier
 unfoldable pub count_at : List Atom → Option (Bracket × List Atom)
-count_at [] = None
 count_at (atoms.Word w ∷ ts) = Some (brackets.Member w, ts)
-count_at (atoms.Number n ∷ ts) = number_at (atoms.Number n ∷ ts) >>= λ n. Some (brackets.Count n.0, n.1)
-count_at (atoms.Mark m ∷ ts) = number_at (atoms.Mark m ∷ ts) >>= λ n. Some (brackets.Count n.0, n.1)
-count_at (atoms.Text s ∷ ts) = None
-count_at (atoms.TooLarge ∷ ts) = None
+count_at ts = number_at ts >>= λ n. Some (brackets.Count n.0, n.1)
 
 -- "[" (number | identifier) "]"
 unfoldable pub bracket_at : List Atom → Option (Bracket × List Atom)

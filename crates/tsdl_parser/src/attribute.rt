@@ -5,9 +5,9 @@ ghost use Rattle.tsdl_parser.specs.Parsing.{Gives};
 ghost use Rattle.tsdl_parser.specs.ParsingAttributes.{dotted_at, name_at, value_at, attr_behind, attr_at, attrs_at};
 
 use crate::expected::Expected;
-use crate::halt::{Unread, back_to, going_on};
+use crate::halt::{back_to, going_on};
 use crate::missing::{CLOSE_BRACE, SEMICOLON, ZERO};
-use crate::parsing::{mark_at, next_atom, no_number, number_at, word_at};
+use crate::parsing::{Read, mark_at, next_atom, number_at, word_at};
 use crate::repetition::{Repeated, Start, all_at, braced_at};
 use ctf_types::{ListOf, Text};
 use std::alloc::Global;
@@ -17,32 +17,22 @@ impl Repeated for Text {
     ghost item = { dotted_at };
 
     #[tactic(auto, unfolding(crate::specs::ParsingAttributes::dotted_at))]
-    fn item_at(alloc: Global, atoms: Atoms<'_>) -> Result<(Text, Atoms<'_>), Unread> {
+    fn item_at(alloc: Global, atoms: Atoms<'_>) -> Read<'_, Text> {
         word_at(alloc, mark_at(Mark::Dot, atoms)?, Expected::Identifier)
     }
 }
 
 #[tactic(auto, unfolding(crate::specs::ParsingAttributes::name_at), using(crate::proofs::Attributes::dotted_short))]
-pub(crate) fn name_at(
-    alloc: Global,
-    atoms: Atoms<'_>,
-    expected: Expected,
-) -> Result<(Name, Atoms<'_>), Unread>
+pub(crate) fn name_at(alloc: Global, atoms: Atoms<'_>, expected: Expected) -> Read<'_, Name>
     ensures { Gives (λ x. (x.0, shown x.1)) result (name_at (shown atoms.entry)) }
 {
-    let (first, rest) = word_at(alloc, atoms, expected)?;
-    let (others, rest) = back_to(all_at(alloc, rest, Start::Mark(Mark::Dot)), atoms)?;
-    Ok((
-        Name {
-            first,
-            rest: others,
-        },
-        rest,
-    ))
+    let (first, behind) = word_at(alloc, atoms, expected)?;
+    let (rest, behind) = back_to(all_at(alloc, behind, Start::Mark(Mark::Dot)), atoms)?;
+    Ok((Name { first, rest }, behind))
 }
 
 #[tactic(auto, unfolding(crate::specs::ParsingAttributes::value_at))]
-fn value_at(alloc: Global, atoms: Atoms<'_>) -> Result<(Value, Atoms<'_>), Unread>
+fn value_at(alloc: Global, atoms: Atoms<'_>) -> Read<'_, Value>
     ensures { Gives (λ x. (x.0, shown x.1)) result (value_at (shown atoms.entry)) }
 {
     let (first, rest) = next_atom(alloc, atoms)?;
@@ -52,21 +42,16 @@ fn value_at(alloc: Global, atoms: Atoms<'_>) -> Result<(Value, Atoms<'_>), Unrea
             let (name, rest) = going_on(name_at(alloc, atoms, Expected::Value), &[ZERO])?;
             Ok((Value::Name(name), rest))
         }
-        Some(Atom::Number(_) | Atom::Mark(_)) => {
+        _ => {
             let (number, rest) = number_at(alloc, atoms, Expected::Value)?;
             Ok((Value::Number(number), rest))
         }
-        None | Some(Atom::TooLarge) => Err(Unread::Halted(no_number(atoms, Expected::Value))),
     }
 }
 
 /// The rest of an attribute behind its name.
 #[tactic(auto, unfolding(crate::specs::ParsingAttributes::attr_behind))]
-pub(crate) fn attr_behind(
-    alloc: Global,
-    name: Name,
-    atoms: Atoms<'_>,
-) -> Result<(Attribute, Atoms<'_>), Unread>
+pub(crate) fn attr_behind(alloc: Global, name: Name, atoms: Atoms<'_>) -> Read<'_, Attribute>
     ensures { Gives (λ x. (x.0, shown x.1)) result (attr_behind name (shown atoms.entry)) }
 {
     let rest = going_on(mark_at(Mark::Equals, atoms), &[ZERO, SEMICOLON])?;
@@ -79,7 +64,7 @@ impl Repeated for Attribute {
     ghost item = { attr_at };
 
     #[tactic(auto, unfolding(crate::specs::ParsingAttributes::attr_at))]
-    fn item_at(alloc: Global, atoms: Atoms<'_>) -> Result<(Attribute, Atoms<'_>), Unread> {
+    fn item_at(alloc: Global, atoms: Atoms<'_>) -> Read<'_, Attribute> {
         let (name, rest) = name_at(alloc, atoms, Expected::Attribute)?;
         attr_behind(alloc, name, rest)
     }
@@ -87,10 +72,7 @@ impl Repeated for Attribute {
 
 /// The attributes between two braces.
 #[tactic(auto, using(crate::proofs::Attributes::attr_short))]
-pub(crate) fn attrs_at(
-    alloc: Global,
-    atoms: Atoms<'_>,
-) -> Result<(ListOf<Attribute>, Atoms<'_>), Unread>
+pub(crate) fn attrs_at(alloc: Global, atoms: Atoms<'_>) -> Read<'_, ListOf<Attribute>>
     ensures { Gives (λ x. (x.0, shown x.1)) result (attrs_at (shown atoms.entry)) }
 {
     let attrs = braced_at(alloc, atoms, Expected::Mark(Mark::OpenBrace));

@@ -6,61 +6,40 @@ ghost use Rattle.tsdl_grammar.specs.Spelling.{text_toks};
 ghost use Rattle.tsdl_grammar.specs.Fronts.{shown};
 ghost use Rattle.tsdl_parser.specs.Halting.{IfHalted};
 ghost use Rattle.tsdl_parser.specs.Parsing.{Gives};
-ghost use Rattle.tsdl_parser.specs.ParsingBlocks.{scope_behind, item_at, items_at, fact_at, named_fact_at, environment_at, block_at, ended_block_at};
+ghost use Rattle.tsdl_parser.specs.ParsingBlocks.{item_at, items_at, fact_at, named_fact_at, block_at, ended_block_at};
 
 use crate::attribute::{attr_behind, name_at};
 use crate::expected::Expected;
 use crate::halt::{Unread, back_to, expecting, going_on};
 use crate::member::struct_at;
 use crate::missing::{CLOSE_BRACE, SEMICOLON, ZERO};
-use crate::parsing::{
-    begins, keyword_at, mark_at, names, next_atom, no_number, number_at, word_at,
-};
+use crate::parsing::{Read, begins, keyword_at, mark_at, names, next_atom, number_at, word_at};
 use crate::repetition::{Repeated, Start, all_at, braced_at};
 use ctf_types::ListOf;
 use std::alloc::Global;
-use tsdl_grammar::{Atom, Atoms, Block, Fact, Item, Mark, Name, NamedFact, Scope};
-
-/// The rest of a scope behind its name, with which the item begins.
-#[tactic(auto, unfolding(crate::specs::ParsingBlocks::scope_behind))]
-fn scope_behind<'a>(
-    alloc: Global,
-    name: Name,
-    atoms: Atoms<'a>,
-    item: Atoms<'a>,
-) -> Result<(Scope, Atoms<'a>), Unread>
-    ensures { Gives (λ x. (x.0, shown x.1)) result (scope_behind name (shown atoms.entry)) }
-{
-    let rest = expecting(mark_at(Mark::Assign, atoms), Expected::ItemMark);
-    let rest = back_to(rest, item)?;
-    let (structure, rest) = going_on(struct_at(alloc, rest), &[SEMICOLON])?;
-    let rest = mark_at(Mark::Semicolon, rest)?;
-    Ok((Scope { name, structure }, rest))
-}
+use tsdl_grammar::{Atom, Atoms, Block, Fact, Item, Mark, NamedFact, Scope};
 
 impl Repeated for Item {
     ghost item = { item_at };
 
-    #[tactic(auto, unfolding(crate::specs::ParsingBlocks::item_at))]
-    fn item_at(alloc: Global, atoms: Atoms<'_>) -> Result<(Item, Atoms<'_>), Unread> {
+    #[tactic(auto, unfolding(crate::specs::ParsingBlocks::item_at, crate::specs::ParsingBlocks::scope_behind))]
+    fn item_at(alloc: Global, atoms: Atoms<'_>) -> Read<'_, Item> {
         let (name, rest) = name_at(alloc, atoms, Expected::Item)?;
         if begins(Mark::Equals, rest) {
-            let (attr, rest) = attr_behind(alloc, name, rest)?;
-            Ok((Item::Attribute(attr), rest))
-        } else {
-            let (scope, rest) = scope_behind(alloc, name, rest, atoms)?;
-            Ok((Item::Scope(scope), rest))
+            let (attribute, rest) = attr_behind(alloc, name, rest)?;
+            return Ok((Item::Attribute(attribute), rest));
         }
+        let rest = expecting(mark_at(Mark::Assign, rest), Expected::ItemMark);
+        let rest = back_to(rest, atoms)?;
+        let (structure, rest) = going_on(struct_at(alloc, rest), &[SEMICOLON])?;
+        let rest = mark_at(Mark::Semicolon, rest)?;
+        Ok((Item::Scope(Scope { name, structure }), rest))
     }
 }
 
 /// The items of a block of this word.
 #[tactic(auto, unfolding(crate::specs::ParsingBlocks::items_at), using(crate::proofs::Blocks::item_short))]
-fn items_at<'a>(
-    alloc: Global,
-    keyword: &str,
-    atoms: Atoms<'a>,
-) -> Result<(ListOf<Item>, Atoms<'a>), Unread>
+fn items_at<'a>(alloc: Global, keyword: &str, atoms: Atoms<'a>) -> Read<'a, ListOf<Item>>
     ensures { Gives (λ x. (x.0, shown x.1)) result (items_at keyword.now (shown atoms.entry)) }
 {
     let rest = keyword_at(keyword, atoms, Expected::Block)?;
@@ -69,18 +48,15 @@ fn items_at<'a>(
 }
 
 #[tactic(auto, unfolding(crate::specs::ParsingBlocks::fact_at))]
-fn fact_at(alloc: Global, atoms: Atoms<'_>) -> Result<(Fact, Atoms<'_>), Unread>
+fn fact_at(alloc: Global, atoms: Atoms<'_>) -> Read<'_, Fact>
     ensures { Gives (λ x. (x.0, shown x.1)) result (fact_at (shown atoms.entry)) }
 {
     let (first, rest) = next_atom(alloc, atoms)?;
     match first {
         Some(Atom::Text(text)) => Ok((Fact::Text(text), rest)),
-        Some(Atom::Number(_) | Atom::Mark(_)) => {
+        _ => {
             let (number, rest) = number_at(alloc, atoms, Expected::Fact)?;
             Ok((Fact::Number(number), rest))
-        }
-        None | Some(Atom::Word(_) | Atom::TooLarge) => {
-            Err(Unread::Halted(no_number(atoms, Expected::Fact)))
         }
     }
 }
@@ -89,7 +65,7 @@ impl Repeated for NamedFact {
     ghost item = { named_fact_at };
 
     #[tactic(auto, unfolding(crate::specs::ParsingBlocks::named_fact_at))]
-    fn item_at(alloc: Global, atoms: Atoms<'_>) -> Result<(NamedFact, Atoms<'_>), Unread> {
+    fn item_at(alloc: Global, atoms: Atoms<'_>) -> Read<'_, NamedFact> {
         let (name, rest) = word_at(alloc, atoms, Expected::FactName)?;
         let rest = going_on(mark_at(Mark::Equals, rest), &[ZERO, SEMICOLON])?;
         let (fact, rest) = going_on(fact_at(alloc, rest), &[SEMICOLON])?;
@@ -98,18 +74,8 @@ impl Repeated for NamedFact {
     }
 }
 
-#[tactic(auto, unfolding(crate::specs::ParsingBlocks::environment_at), using(crate::proofs::Blocks::fact_short))]
-fn environment_at(alloc: Global, atoms: Atoms<'_>) -> Result<(Block, Atoms<'_>), Unread>
-    ensures { Gives (λ x. (x.0, shown x.1)) result (environment_at (shown atoms.entry)) }
-{
-    let rest = keyword_at("env", atoms, Expected::Block)?;
-    let facts = braced_at(alloc, rest, Expected::Mark(Mark::OpenBrace));
-    let (facts, rest) = going_on(facts, &[CLOSE_BRACE, SEMICOLON])?;
-    Ok((Block::Environment(facts), rest))
-}
-
-#[tactic(auto, unfolding(crate::specs::ParsingBlocks::block_at))]
-fn block_at(alloc: Global, atoms: Atoms<'_>) -> Result<(Block, Atoms<'_>), Unread>
+#[tactic(auto, unfolding(crate::specs::ParsingBlocks::block_at, crate::specs::ParsingBlocks::environment_at), using(crate::proofs::Blocks::fact_short))]
+fn block_at(alloc: Global, atoms: Atoms<'_>) -> Read<'_, Block>
     ensures { Gives (λ x. (x.0, shown x.1)) result (block_at (shown atoms.entry)) }
 {
     if names("trace", atoms) {
@@ -125,7 +91,10 @@ fn block_at(alloc: Global, atoms: Atoms<'_>) -> Result<(Block, Atoms<'_>), Unrea
         let (items, rest) = items_at(alloc, "clock", atoms)?;
         Ok((Block::Clock(items), rest))
     } else {
-        environment_at(alloc, atoms)
+        let rest = keyword_at("env", atoms, Expected::Block)?;
+        let facts = braced_at(alloc, rest, Expected::Mark(Mark::OpenBrace));
+        let (facts, rest) = going_on(facts, &[CLOSE_BRACE, SEMICOLON])?;
+        Ok((Block::Environment(facts), rest))
     }
 }
 
@@ -133,7 +102,7 @@ impl Repeated for Block {
     ghost item = { ended_block_at };
 
     #[tactic(auto, unfolding(crate::specs::ParsingBlocks::ended_block_at))]
-    fn item_at(alloc: Global, atoms: Atoms<'_>) -> Result<(Block, Atoms<'_>), Unread> {
+    fn item_at(alloc: Global, atoms: Atoms<'_>) -> Read<'_, Block> {
         let (block, rest) = block_at(alloc, atoms)?;
         let rest = mark_at(Mark::Semicolon, rest)?;
         Ok((block, rest))

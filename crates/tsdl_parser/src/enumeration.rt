@@ -3,46 +3,43 @@
 ghost use Rattle.std.specs.Prelude.{◌≡◌, IfOk};
 ghost use Rattle.tsdl_grammar.specs.Fronts.{shown};
 ghost use Rattle.tsdl_parser.specs.Parsing.{Gives};
-ghost use Rattle.tsdl_parser.specs.ParsingEntries.{label_at, high_at, entry_at, is_labelled, is_next, next_entry_at, closing_at, listed_at, entries_at};
+ghost use Rattle.tsdl_parser.specs.ParsingEntries.{label_at, high_at, entry_at, is_labelled, is_next, next_entry_at, closing_at, entries_at};
 
 use crate::expected::Expected;
 use crate::halt::{Halt, Unread, expecting, going_on};
 use crate::missing::ZERO;
-use crate::parsing::{begins, is_mark, mark_at, next_atom, number_at};
+use crate::parsing::{Read, begins, is_mark, mark_at, next_atom, number_at};
 use crate::repetition::{Repeated, Start, all_at};
 use std::alloc::{AllocError, Global};
 use tsdl_grammar::{Atom, Atoms, Closing, Entries, Entry, Label, Mark, Number};
 
 #[tactic(auto, unfolding(crate::specs::ParsingEntries::label_at))]
-fn label_at(alloc: Global, atoms: Atoms<'_>) -> Result<(Label, Atoms<'_>), Unread>
+fn label_at(alloc: Global, atoms: Atoms<'_>) -> Read<'_, Label>
     ensures { Gives (λ x. (x.0, shown x.1)) result (label_at (shown atoms.entry)) }
 {
     let (first, rest) = next_atom(alloc, atoms)?;
     match first {
         Some(Atom::Text(text)) => Ok((Label::Quoted(text), rest)),
         Some(Atom::Word(word)) => Ok((Label::Bare(word), rest)),
-        None | Some(Atom::Number(_) | Atom::Mark(_) | Atom::TooLarge) => {
-            Err(Unread::Halted(Halt::before(atoms, Expected::Label, &[])))
-        }
+        _ => Err(Unread::Halted(Halt::before(atoms, Expected::Label, &[]))),
     }
 }
 
 /// The upper end of a range, if one follows.
 #[tactic(auto, unfolding(crate::specs::ParsingEntries::high_at))]
-fn high_at(alloc: Global, atoms: Atoms<'_>) -> Result<(Option<Number>, Atoms<'_>), Unread>
+fn high_at(alloc: Global, atoms: Atoms<'_>) -> Read<'_, Option<Number>>
     ensures { Gives (λ x. (x.0, shown x.1)) result (high_at (shown atoms.entry)) }
 {
-    if begins(Mark::Ellipsis, atoms) {
-        let behind = mark_at(Mark::Ellipsis, atoms)?;
-        let (high, rest) = number_at(alloc, behind, Expected::Number)?;
-        Ok((Some(high), rest))
-    } else {
-        Ok((None, atoms))
+    if !begins(Mark::Ellipsis, atoms) {
+        return Ok((None, atoms));
     }
+    let behind = mark_at(Mark::Ellipsis, atoms)?;
+    let (high, rest) = number_at(alloc, behind, Expected::Number)?;
+    Ok((Some(high), rest))
 }
 
 #[tactic(auto, unfolding(crate::specs::ParsingEntries::entry_at))]
-fn entry_at(alloc: Global, atoms: Atoms<'_>) -> Result<(Entry, Atoms<'_>), Unread>
+fn entry_at(alloc: Global, atoms: Atoms<'_>) -> Read<'_, Entry>
     ensures { Gives (λ x. (x.0, shown x.1)) result (entry_at (shown atoms.entry)) }
 {
     let (label, rest) = label_at(alloc, atoms)?;
@@ -57,10 +54,7 @@ fn is_labelled(alloc: Global, atoms: Atoms<'_>) -> Result<bool, AllocError>
     ensures { IfOk result (λ b. b ≡ is_labelled (shown atoms.entry)) }
 {
     let (first, _) = next_atom(alloc, atoms)?;
-    match first {
-        Some(Atom::Text(_) | Atom::Word(_)) => Ok(true),
-        None | Some(Atom::Number(_) | Atom::Mark(_) | Atom::TooLarge) => Ok(false),
-    }
+    Ok(matches!(first, Some(Atom::Text(_) | Atom::Word(_))))
 }
 
 /// Whether a comma and another entry follow.
@@ -78,14 +72,14 @@ impl Repeated for Entry {
     ghost item = { next_entry_at };
 
     #[tactic(auto, unfolding(crate::specs::ParsingEntries::next_entry_at))]
-    fn item_at(alloc: Global, atoms: Atoms<'_>) -> Result<(Entry, Atoms<'_>), Unread> {
+    fn item_at(alloc: Global, atoms: Atoms<'_>) -> Read<'_, Entry> {
         entry_at(alloc, mark_at(Mark::Comma, atoms)?)
     }
 }
 
 /// The comma behind the last entry, if there is one.
 #[tactic(auto, unfolding(crate::specs::ParsingEntries::closing_at))]
-fn closing_at(atoms: Atoms<'_>) -> Result<(Closing, Atoms<'_>), Unread>
+fn closing_at(atoms: Atoms<'_>) -> Read<'_, Closing>
     ensures { Gives (λ x. (x.0, shown x.1)) result (closing_at (shown atoms.entry)) }
 {
     if begins(Mark::Comma, atoms) {
@@ -95,26 +89,18 @@ fn closing_at(atoms: Atoms<'_>) -> Result<(Closing, Atoms<'_>), Unread>
     }
 }
 
-#[tactic(auto, unfolding(crate::specs::ParsingEntries::listed_at), using(crate::proofs::Entries::next_short))]
-fn listed_at(alloc: Global, atoms: Atoms<'_>) -> Result<(Entries, Atoms<'_>), Unread>
-    ensures { Gives (λ x. (x.0, shown x.1)) result (listed_at (shown atoms.entry)) }
+/// What stands between an enumeration's braces.
+#[tactic(auto, unfolding(crate::specs::ParsingEntries::entries_at, crate::specs::ParsingEntries::listed_at), using(crate::proofs::Entries::next_short))]
+pub(crate) fn entries_at(alloc: Global, atoms: Atoms<'_>) -> Read<'_, Entries>
+    ensures { Gives (λ x. (x.0, shown x.1)) result (entries_at (shown atoms.entry)) }
 {
+    if !is_labelled(alloc, atoms)? {
+        return Ok((Entries::Empty, atoms));
+    }
     let (first, rest) = entry_at(alloc, atoms)?;
     let (others, rest) = all_at(alloc, rest, Start::NextEntry)?;
     let (closing, rest) = closing_at(rest)?;
     Ok((Entries::Listed(first, others, closing), rest))
-}
-
-/// What stands between an enumeration's braces.
-#[tactic(auto, unfolding(crate::specs::ParsingEntries::entries_at))]
-pub(crate) fn entries_at(alloc: Global, atoms: Atoms<'_>) -> Result<(Entries, Atoms<'_>), Unread>
-    ensures { Gives (λ x. (x.0, shown x.1)) result (entries_at (shown atoms.entry)) }
-{
-    if is_labelled(alloc, atoms)? {
-        listed_at(alloc, atoms)
-    } else {
-        Ok((Entries::Empty, atoms))
-    }
 }
 
 /// What is expected behind some entries before the closing brace.

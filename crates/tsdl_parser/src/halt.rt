@@ -104,9 +104,8 @@ pub(crate) fn going_on<T>(found: Result<T, Unread>, missing: &[Missing]) -> Resu
     ensures { Alike found result }
 {
     match found {
-        Ok(found) => Ok(found),
-        Err(Unread::Memory) => Err(Unread::Memory),
         Err(Unread::Halted(halt)) => Err(Unread::Halted(halt.going_on(missing))),
+        other => other,
     }
 }
 
@@ -115,9 +114,8 @@ pub(crate) fn expecting<T>(found: Result<T, Unread>, expected: Expected) -> Resu
     ensures { Alike found result }
 {
     match found {
-        Ok(found) => Ok(found),
-        Err(Unread::Memory) => Err(Unread::Memory),
         Err(Unread::Halted(halt)) => Err(Unread::Halted(Halt { expected, ..halt })),
+        other => other,
     }
 }
 
@@ -126,12 +124,11 @@ pub(crate) fn back_to<T>(found: Result<T, Unread>, atoms: Atoms<'_>) -> Result<T
     ensures { Alike found result }
 {
     match found {
-        Ok(found) => Ok(found),
-        Err(Unread::Memory) => Err(Unread::Memory),
         Err(Unread::Halted(halt)) => Err(Unread::Halted(Halt {
             dropped: left(atoms).saturating_sub(halt.left),
             rest: ArrayVec::new(),
             ..halt
         })),
+        other => other,
     }
 }

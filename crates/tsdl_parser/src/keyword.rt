@@ -39,10 +39,7 @@ pub fn is_unread(word: &str) -> bool
 fn is_read(front: Front<'_>) -> bool
     ensures { result ≡ is_read (meant front.entry) }
 {
-    match front.word() {
-        Some(word) => !is_unread(word),
-        None => true,
-    }
+    front.word().is_none_or(|word| !is_unread(word))
 }
 
 /// The index of the first atom of a text that is a keyword which this project doesn't read.

@@ -2,39 +2,32 @@
 
 ghost use Rattle.tsdl_grammar.specs.Fronts.{shown};
 ghost use Rattle.tsdl_parser.specs.Parsing.{Gives};
-ghost use Rattle.tsdl_parser.specs.ParsingMembers.{int_at, enum_at, string_at, kind_at, count_at, bracket_at, member_at, align_at, struct_at};
+ghost use Rattle.tsdl_parser.specs.ParsingMembers.{int_at, enum_at, kind_at, count_at, bracket_at, member_at, align_at, struct_at};
 
 use crate::attribute::attrs_at;
 use crate::enumeration::{entries_at, expected_behind};
 use crate::expected::Expected;
-use crate::halt::{Unread, expecting, going_on};
+use crate::halt::{expecting, going_on};
 use crate::missing::{
     CLOSE_BRACE, CLOSE_BRACKET, CLOSE_PARENTHESIS, INTEGER, NAME, OPEN_BRACE, SEMICOLON, STRUCT,
     ZERO,
 };
-use crate::parsing::{
-    begins, keyword_at, mark_at, names, next_atom, no_number, number_at, word_at,
-};
+use crate::parsing::{Read, begins, keyword_at, mark_at, names, next_atom, number_at, word_at};
 use crate::repetition::{Repeated, Start, all_at, braced_at};
 use ctf_types::ListOf;
 use std::alloc::Global;
 use tsdl_grammar::{Atom, Atoms, Attribute, Bracket, Kind, Mark, MemberTree, Number, Structure};
 
 #[tactic(auto, unfolding(crate::specs::ParsingMembers::int_at))]
-fn int_at(
-    alloc: Global,
-    atoms: Atoms<'_>,
-    expected: Expected,
-) -> Result<(ListOf<Attribute>, Atoms<'_>), Unread>
+fn int_at(alloc: Global, atoms: Atoms<'_>) -> Read<'_, ListOf<Attribute>>
     ensures { Gives (λ x. (x.0, shown x.1)) result (int_at (shown atoms.entry)) }
 {
-    let rest = keyword_at("integer", atoms, expected);
-    let rest = going_on(rest, &[INTEGER, OPEN_BRACE, CLOSE_BRACE])?;
-    attrs_at(alloc, rest)
+    let rest = keyword_at("integer", atoms, Expected::EnumInteger);
+    attrs_at(alloc, going_on(rest, &[INTEGER, OPEN_BRACE, CLOSE_BRACE])?)
 }
 
 #[tactic(auto, unfolding(crate::specs::ParsingMembers::enum_at))]
-fn enum_at(alloc: Global, atoms: Atoms<'_>) -> Result<(Kind, Atoms<'_>), Unread>
+fn enum_at(alloc: Global, atoms: Atoms<'_>) -> Read<'_, Kind>
     ensures { Gives (λ x. (x.0, shown x.1)) result (enum_at (shown atoms.entry)) }
 {
     let rest = keyword_at("enum", atoms, Expected::Member)?;
@@ -43,56 +36,43 @@ fn enum_at(alloc: Global, atoms: Atoms<'_>) -> Result<(Kind, Atoms<'_>), Unread>
         rest,
         &[INTEGER, OPEN_BRACE, CLOSE_BRACE, OPEN_BRACE, CLOSE_BRACE],
     )?;
-    let attrs = int_at(alloc, rest, Expected::EnumInteger);
-    let (attrs, rest) = going_on(attrs, &[OPEN_BRACE, CLOSE_BRACE])?;
+    let (attrs, rest) = going_on(int_at(alloc, rest), &[OPEN_BRACE, CLOSE_BRACE])?;
     let inside = going_on(mark_at(Mark::OpenBrace, rest), &[CLOSE_BRACE])?;
     let (entries, rest) = going_on(entries_at(alloc, inside), &[CLOSE_BRACE])?;
     let rest = expecting(mark_at(Mark::CloseBrace, rest), expected_behind(&entries))?;
     Ok((Kind::Enumeration(attrs, entries), rest))
 }
 
-#[tactic(auto, unfolding(crate::specs::ParsingMembers::string_at))]
-fn string_at(alloc: Global, atoms: Atoms<'_>) -> Result<(Kind, Atoms<'_>), Unread>
-    ensures { Gives (λ x. (x.0, shown x.1)) result (string_at (shown atoms.entry)) }
-{
-    let rest = keyword_at("string", atoms, Expected::Member)?;
-    if begins(Mark::OpenBrace, rest) {
-        let (attrs, rest) = going_on(attrs_at(alloc, rest), &[NAME, SEMICOLON])?;
-        Ok((Kind::Text(Some(attrs)), rest))
-    } else {
-        Ok((Kind::Text(None), rest))
-    }
-}
-
-#[tactic(auto, unfolding(crate::specs::ParsingMembers::kind_at))]
-fn kind_at(alloc: Global, atoms: Atoms<'_>) -> Result<(Kind, Atoms<'_>), Unread>
+#[tactic(auto, unfolding(crate::specs::ParsingMembers::kind_at, crate::specs::ParsingMembers::string_at))]
+fn kind_at(alloc: Global, atoms: Atoms<'_>) -> Read<'_, Kind>
     ensures { Gives (λ x. (x.0, shown x.1)) result (kind_at (shown atoms.entry)) }
 {
     if names("integer", atoms) {
-        let attrs = int_at(alloc, atoms, Expected::Member);
-        let (attrs, rest) = going_on(attrs, &[NAME, SEMICOLON])?;
-        Ok((Kind::Integer(attrs), rest))
-    } else if names("enum", atoms) {
-        going_on(enum_at(alloc, atoms), &[NAME, SEMICOLON])
-    } else {
-        string_at(alloc, atoms)
+        let (attrs, rest) = going_on(int_at(alloc, atoms), &[NAME, SEMICOLON])?;
+        return Ok((Kind::Integer(attrs), rest));
     }
+    if names("enum", atoms) {
+        return going_on(enum_at(alloc, atoms), &[NAME, SEMICOLON]);
+    }
+    let rest = keyword_at("string", atoms, Expected::Member)?;
+    if !begins(Mark::OpenBrace, rest) {
+        return Ok((Kind::Text(None), rest));
+    }
+    let (attrs, rest) = going_on(attrs_at(alloc, rest), &[NAME, SEMICOLON])?;
+    Ok((Kind::Text(Some(attrs)), rest))
 }
 
 /// What stands between an array's brackets.
 #[tactic(auto, unfolding(crate::specs::ParsingMembers::count_at))]
-fn count_at(alloc: Global, atoms: Atoms<'_>) -> Result<(Bracket, Atoms<'_>), Unread>
+fn count_at(alloc: Global, atoms: Atoms<'_>) -> Read<'_, Bracket>
     ensures { Gives (λ x. (x.0, shown x.1)) result (count_at (shown atoms.entry)) }
 {
     let (first, rest) = next_atom(alloc, atoms)?;
     match first {
         Some(Atom::Word(name)) => Ok((Bracket::Member(name), rest)),
-        Some(Atom::Number(_) | Atom::Mark(_)) => {
+        _ => {
             let (count, rest) = number_at(alloc, atoms, Expected::Length)?;
             Ok((Bracket::Count(count), rest))
-        }
-        None | Some(Atom::Text(_) | Atom::TooLarge) => {
-            Err(Unread::Halted(no_number(atoms, Expected::Length)))
         }
     }
 }
@@ -101,7 +81,7 @@ impl Repeated for Bracket {
     ghost item = { bracket_at };
 
     #[tactic(auto, unfolding(crate::specs::ParsingMembers::bracket_at))]
-    fn item_at(alloc: Global, atoms: Atoms<'_>) -> Result<(Bracket, Atoms<'_>), Unread> {
+    fn item_at(alloc: Global, atoms: Atoms<'_>) -> Read<'_, Bracket> {
         let inside = mark_at(Mark::OpenBracket, atoms)?;
         let (count, rest) = going_on(count_at(alloc, inside), &[CLOSE_BRACKET])?;
         let rest = mark_at(Mark::CloseBracket, rest)?;
@@ -113,44 +93,41 @@ impl Repeated for MemberTree {
     ghost item = { member_at };
 
     #[tactic(auto, unfolding(crate::specs::ParsingMembers::member_at), using(crate::proofs::Members::bracket_short))]
-    fn item_at(alloc: Global, atoms: Atoms<'_>) -> Result<(MemberTree, Atoms<'_>), Unread> {
+    fn item_at(alloc: Global, atoms: Atoms<'_>) -> Read<'_, MemberTree> {
         let (kind, rest) = kind_at(alloc, atoms)?;
         let name = word_at(alloc, rest, Expected::MemberName);
         let (name, rest) = going_on(name, &[NAME, SEMICOLON])?;
         let brackets = all_at(alloc, rest, Start::Mark(Mark::OpenBracket));
         let (brackets, rest) = going_on(brackets, &[SEMICOLON])?;
         let rest = mark_at(Mark::Semicolon, rest)?;
-        Ok((
-            MemberTree {
-                kind,
-                name,
-                brackets,
-            },
-            rest,
-        ))
+        let member = MemberTree {
+            kind,
+            name,
+            brackets,
+        };
+        Ok((member, rest))
     }
 }
 
 /// A structure's alignment, if it is given.
 #[tactic(auto, unfolding(crate::specs::ParsingMembers::align_at))]
-fn align_at(alloc: Global, atoms: Atoms<'_>) -> Result<(Option<Number>, Atoms<'_>), Unread>
+fn align_at(alloc: Global, atoms: Atoms<'_>) -> Read<'_, Option<Number>>
     ensures { Gives (λ x. (x.0, shown x.1)) result (align_at (shown atoms.entry)) }
 {
-    if names("align", atoms) {
-        let rest = keyword_at("align", atoms, Expected::Mark(Mark::Semicolon))?;
-        let inside = mark_at(Mark::OpenParenthesis, rest);
-        let inside = going_on(inside, &[ZERO, CLOSE_PARENTHESIS])?;
-        let align = number_at(alloc, inside, Expected::Number);
-        let (align, rest) = going_on(align, &[CLOSE_PARENTHESIS])?;
-        let rest = mark_at(Mark::CloseParenthesis, rest)?;
-        Ok((Some(align), rest))
-    } else {
-        Ok((None, atoms))
+    if !names("align", atoms) {
+        return Ok((None, atoms));
     }
+    let rest = keyword_at("align", atoms, Expected::Mark(Mark::Semicolon))?;
+    let inside = mark_at(Mark::OpenParenthesis, rest);
+    let inside = going_on(inside, &[ZERO, CLOSE_PARENTHESIS])?;
+    let align = number_at(alloc, inside, Expected::Number);
+    let (align, rest) = going_on(align, &[CLOSE_PARENTHESIS])?;
+    let rest = mark_at(Mark::CloseParenthesis, rest)?;
+    Ok((Some(align), rest))
 }
 
 #[tactic(auto, unfolding(crate::specs::ParsingMembers::struct_at), using(crate::proofs::Members::member_short))]
-pub(crate) fn struct_at(alloc: Global, atoms: Atoms<'_>) -> Result<(Structure, Atoms<'_>), Unread>
+pub(crate) fn struct_at(alloc: Global, atoms: Atoms<'_>) -> Read<'_, Structure>
     ensures { Gives (λ x. (x.0, shown x.1)) result (struct_at (shown atoms.entry)) }
 {
     let rest = keyword_at("struct", atoms, Expected::Structure);

@@ -1,21 +1,18 @@
 //! What the rules of the grammar are made of: marks, words and numbers at the front of a list of atoms.
 
-ghost use Rattle.std.specs.Prelude.{◌≡◌, ◌∷◌, [], IfOk, MatchOption, option_map};
+ghost use Rattle.std.specs.Prelude.{◌≡◌, ◌∷◌, [], IfOk, MatchOption};
 ghost use Rattle.tsdl_grammar.specs.Fronts.{meant, shown};
 ghost use Rattle.tsdl_parser.specs.Parsing.{Gives, number_of, is_mark, begins, mark_at, word_at, is_word, names, keyword_at, signed_at, number_at};
 
 use crate::expected::Expected;
 use crate::halt::{Halt, Unread};
-use crate::missing::Missing;
+use crate::missing::{Missing, ZERO};
 use ctf_types::Text;
 use std::alloc::{AllocError, Global};
 use tsdl_grammar::{Atom, Atoms, Front, Mark, Number, Sign, TokenKind};
 
-fn number_of(mark: Mark) -> u8
-    ensures { result ≡ number_of mark }
-{
-    mark as u8
-}
+/// What stands at the front of some atoms, and the atoms behind it.
+pub(crate) type Read<'a, T> = Result<(T, Atoms<'a>), Unread>;
 
 /// The first atom, where there is one, in memory of its own, and the atoms behind it.
 pub(crate) fn next_atom(
@@ -30,13 +27,16 @@ pub(crate) fn next_atom(
     }
 }
 
+fn number_of(mark: Mark) -> u8
+    ensures { result ≡ number_of mark }
+{
+    mark as u8
+}
+
 pub(crate) fn is_mark(mark: Mark, front: Front<'_>) -> bool
     ensures { result ≡ is_mark mark (meant front.entry) }
 {
-    match front.kind {
-        TokenKind::Mark(found) => number_of(found) == number_of(mark),
-        TokenKind::Identifier | TokenKind::Number | TokenKind::Text => false,
-    }
+    matches!(front.kind, TokenKind::Mark(found) if number_of(found) == number_of(mark))
 }
 
 /// Whether the first atom is this mark.
@@ -44,10 +44,7 @@ pub(crate) fn is_mark(mark: Mark, front: Front<'_>) -> bool
 pub(crate) fn begins(mark: Mark, atoms: Atoms<'_>) -> bool
     ensures { result ≡ begins mark (shown atoms.entry) }
 {
-    match atoms.front {
-        None => false,
-        Some(front) => is_mark(mark, front),
-    }
+    atoms.front.is_some_and(|front| is_mark(mark, front))
 }
 
 /// What stands behind this mark.
@@ -67,29 +64,20 @@ pub(crate) fn mark_at(mark: Mark, atoms: Atoms<'_>) -> Result<Atoms<'_>, Unread>
 
 /// A word.
 #[tactic(auto, unfolding(crate::specs::Parsing::word_at))]
-pub(crate) fn word_at(
-    alloc: Global,
-    atoms: Atoms<'_>,
-    expected: Expected,
-) -> Result<(Text, Atoms<'_>), Unread>
+pub(crate) fn word_at(alloc: Global, atoms: Atoms<'_>, expected: Expected) -> Read<'_, Text>
     ensures { Gives (λ x. (x.0, shown x.1)) result (word_at (shown atoms.entry)) }
 {
     let (first, rest) = next_atom(alloc, atoms)?;
     match first {
         Some(Atom::Word(word)) => Ok((word, rest)),
-        None | Some(Atom::Number(_) | Atom::Text(_) | Atom::Mark(_) | Atom::TooLarge) => Err(
-            Unread::Halted(Halt::before(atoms, expected, &[])),
-        ),
+        _ => Err(Unread::Halted(Halt::before(atoms, expected, &[]))),
     }
 }
 
 fn is_word(keyword: &str, front: Front<'_>) -> bool
     ensures { result ≡ is_word keyword.now (meant front.entry) }
 {
-    match front.word() {
-        Some(word) => word == keyword,
-        None => false,
-    }
+    front.word().is_some_and(|word| word == keyword)
 }
 
 /// Whether the first atom is this word.
@@ -97,10 +85,7 @@ fn is_word(keyword: &str, front: Front<'_>) -> bool
 pub(crate) fn names(keyword: &str, atoms: Atoms<'_>) -> bool
     ensures { result ≡ names keyword.now (shown atoms.entry) }
 {
-    match atoms.front {
-        None => false,
-        Some(front) => is_word(keyword, front),
-    }
+    atoms.front.is_some_and(|front| is_word(keyword, front))
 }
 
 /// What stands behind this word.
@@ -118,58 +103,38 @@ pub(crate) fn keyword_at<'a>(
     }
 }
 
-/// A number with its sign.
-pub(crate) fn number_at(
-    alloc: Global,
-    atoms: Atoms<'_>,
-    expected: Expected,
-) -> Result<(Number, Atoms<'_>), Unread>
+/// A number with its sign. Where none stands, a sign without a literal is not kept.
+#[tactic(auto, unfolding(crate::specs::Parsing::number_at))]
+pub(crate) fn number_at(alloc: Global, atoms: Atoms<'_>, expected: Expected) -> Read<'_, Number>
     ensures { Gives (λ x. (x.0, shown x.1)) result (number_at (shown atoms.entry)) }
 {
-    match number_in(alloc, atoms)? {
-        Some(found) => Ok(found),
-        None => Err(Unread::Halted(no_number(atoms, expected))),
-    }
-}
-
-/// A number with its sign, None where none stands.
-#[tactic(auto, unfolding(crate::specs::Parsing::number_at))]
-fn number_in(alloc: Global, atoms: Atoms<'_>) -> Result<Option<(Number, Atoms<'_>)>, AllocError>
-    ensures { IfOk result (λ found. option_map (λ x. (x.0, shown x.1)) found ≡ number_at (shown atoms.entry)) }
-{
     let (first, rest) = next_atom(alloc, atoms)?;
     match first {
-        Some(Atom::Number(literal)) => Ok(Some((unsigned(literal), rest))),
-        Some(Atom::Mark(Mark::Plus)) => signed_at(alloc, Sign::Plus, rest),
-        Some(Atom::Mark(Mark::Minus)) => signed_at(alloc, Sign::Minus, rest),
-        _ => Ok(None),
+        Some(Atom::Number(literal)) => {
+            let sign = None;
+            Ok((Number { sign, literal }, rest))
+        }
+        Some(Atom::Mark(Mark::Plus)) => signed_at(alloc, Sign::Plus, rest, expected),
+        Some(Atom::Mark(Mark::Minus)) => signed_at(alloc, Sign::Minus, rest, expected),
+        _ => Err(Unread::Halted(no_literal(atoms, expected))),
     }
 }
 
-/// A literal behind its sign, None where none stands.
+/// A literal behind its sign.
 #[tactic(auto, unfolding(crate::specs::Parsing::signed_at))]
-fn signed_at(
-    alloc: Global,
-    sign: Sign,
-    atoms: Atoms<'_>,
-) -> Result<Option<(Number, Atoms<'_>)>, AllocError>
-    ensures { IfOk result (λ found. option_map (λ x. (x.0, shown x.1)) found ≡ signed_at sign (shown atoms.entry)) }
+fn signed_at(alloc: Global, sign: Sign, atoms: Atoms<'_>, expected: Expected) -> Read<'_, Number>
+    ensures { Gives (λ x. (x.0, shown x.1)) result (signed_at sign (shown atoms.entry)) }
 {
     let (first, rest) = next_atom(alloc, atoms)?;
     match first {
-        Some(Atom::Number(literal)) => Ok(Some((signed(sign, literal), rest))),
-        _ => Ok(None),
-    }
-}
-
-/// The halt where a number is expected. A sign without a literal does not stand.
-pub(crate) fn no_number(atoms: Atoms<'_>, expected: Expected) -> Halt {
-    match atoms.front {
-        Some(front) if is_mark(Mark::Plus, front) || is_mark(Mark::Minus, front) => Halt {
+        Some(Atom::Number(literal)) => {
+            let sign = Some(sign);
+            Ok((Number { sign, literal }, rest))
+        }
+        _ => Err(Unread::Halted(Halt {
             dropped: 1,
-            ..no_literal(atoms.behind(), expected)
-        },
-        _ => no_literal(atoms, expected),
+            ..no_literal(atoms, expected)
+        })),
     }
 }
 
@@ -179,23 +144,5 @@ fn no_literal(atoms: Atoms<'_>, expected: Expected) -> Halt {
         Some(front) if matches!(front.kind, TokenKind::Number) => Expected::SmallerNumber,
         _ => expected,
     };
-    Halt::before(atoms, expected, &[Missing::Zero])
-}
-
-fn unsigned(literal: u64) -> Number
-    ensures { result ≡ record { sign = None; literal = literal } }
-{
-    Number {
-        sign: None,
-        literal,
-    }
-}
-
-fn signed(sign: Sign, literal: u64) -> Number
-    ensures { result ≡ record { sign = Some sign; literal = literal } }
-{
-    Number {
-        sign: Some(sign),
-        literal,
-    }
+    Halt::before(atoms, expected, &[ZERO])
 }

@@ -9,7 +9,7 @@ ghost use Rattle.tsdl_parser.specs.Repetition.{starts};
 use crate::enumeration::is_next;
 use crate::expected::Expected;
 use crate::halt::{Unread, expecting};
-use crate::parsing::{begins, mark_at};
+use crate::parsing::{Read, begins, mark_at};
 use ctf_types::ListOf;
 use std::alloc::{AllocError, Global};
 use tsdl_grammar::{Atoms, Mark};
@@ -19,7 +19,7 @@ pub(crate) trait Repeated: Drop {
     ghost item: { List Atom → Option (Self × List Atom) };
 
     /// One of them.
-    fn item_at(alloc: Global, atoms: Atoms<'_>) -> Result<(Self, Atoms<'_>), Unread>
+    fn item_at(alloc: Global, atoms: Atoms<'_>) -> Read<'_, Self>
         ensures { Gives (λ x. (x.0, shown x.1)) result (item (shown atoms.entry)) };
 }
 
@@ -53,7 +53,7 @@ pub(crate) fn all_at<T: Repeated>(
     alloc: Global,
     atoms: Atoms<'_>,
     start: Start,
-) -> Result<(ListOf<T>, Atoms<'_>), Unread>
+) -> Read<'_, ListOf<T>>
     requires { Shortens T T.item }
     ensures { Gives (λ x. (x.0, shown x.1)) result (many (starts start) T.item (shown atoms.entry)) }
 {
@@ -74,12 +74,12 @@ pub(crate) fn braced_at<T: Repeated>(
     alloc: Global,
     atoms: Atoms<'_>,
     expected: Expected,
-) -> Result<(ListOf<T>, Atoms<'_>), Unread>
+) -> Read<'_, ListOf<T>>
     requires { Shortens T T.item }
     ensures { Gives (λ x. (x.0, shown x.1)) result (braced_at T.item (shown atoms.entry)) }
 {
     let inside = expecting(mark_at(Mark::OpenBrace, atoms), expected)?;
-    let (items, rest) = all_at::<T>(alloc, inside, Start::InBraces)?;
+    let (items, rest) = all_at(alloc, inside, Start::InBraces)?;
     let rest = mark_at(Mark::CloseBrace, rest)?;
     Ok((items, rest))
 }
