@@ -60,26 +60,22 @@ pub named_known : (place : Place) (k : List ℕ) → IsObjectPlace place → IsN
 named_known place k object named = subst (λ o. IsSome (option_map place_in o)) (sym (content_of_object place k object))
     (there_mapped place_in _ (there_mapped (λ r. r.content) (row_in k (rows_of place)) (found_row k (rows_of place) named)))
 
--- ---- a row from a place of the table on
+-- ---- what is found from a row of the table on
 
-module _ (k : List ℕ) (rs : List (Bor (List ℕ) × Presence × Content)) (i : ℕ) (d : Bor (List ℕ) × Presence × Content) where
-  pub row_here : i < length rs → row_in k (map told_of rs) ≡ row_in k (map told_of (drop i rs)) → bytes_eq (slice_index_or rs i d).0.now k ≡ true
-      → Some (told_of (slice_index_or rs i d)) ≡ row_in k (map told_of rs)
+module _ (k : List ℕ) (rs : List (Bor (List ℕ) × Presence × Content)) (i : ℕ) (d : Bor (List ℕ) × Presence × Content) (found : Option Told) where
+  pub row_here : i < length rs → found ≡ row_in k (map told_of (drop i rs)) → bytes_eq (slice_index_or rs i d).0.now k ≡ true → Some (told_of (slice_index_or rs i d)) ≡ found
   row_here h before same = sym (before ∙ at_drop_more (λ xs. row_in k (map told_of xs)) rs i d h
       ∙ ap (λ b. cond b (Some (told_of (slice_index_or rs i d))) (row_in k (map told_of (drop (i + 1) rs)))) same)
 
-  pub row_behind : i < length rs → row_in k (map told_of rs) ≡ row_in k (map told_of (drop i rs)) → bytes_eq (slice_index_or rs i d).0.now k ≡ false
-      → row_in k (map told_of rs) ≡ row_in k (map told_of (drop (i + 1) rs))
+  pub row_behind : i < length rs → found ≡ row_in k (map told_of (drop i rs)) → bytes_eq (slice_index_or rs i d).0.now k ≡ false → found ≡ row_in k (map told_of (drop (i + 1) rs))
   row_behind h before other = before ∙ at_drop_more (λ xs. row_in k (map told_of xs)) rs i d h
       ∙ ap (λ b. cond b (Some (told_of (slice_index_or rs i d))) (row_in k (map told_of (drop (i + 1) rs)))) other
 
-module _ (w : List ℕ) (cs : List (Bor (List ℕ) × Place)) (i : ℕ) (d : Bor (List ℕ) × Place) where
-  pub class_here : i < length cs → class_in w (map class_word_of cs) ≡ class_in w (map class_word_of (drop i cs)) → bytes_eq (slice_index_or cs i d).0.now w ≡ true
-      → Some (slice_index_or cs i d).1 ≡ class_in w (map class_word_of cs)
+module _ (w : List ℕ) (cs : List (Bor (List ℕ) × Place)) (i : ℕ) (d : Bor (List ℕ) × Place) (found : Option Place) where
+  pub class_here : i < length cs → found ≡ class_in w (map class_word_of (drop i cs)) → bytes_eq (slice_index_or cs i d).0.now w ≡ true → Some (slice_index_or cs i d).1 ≡ found
   class_here h before same = sym (before ∙ at_drop_more (λ xs. class_in w (map class_word_of xs)) cs i d h
       ∙ ap (λ b. cond b (Some (slice_index_or cs i d).1) (class_in w (map class_word_of (drop (i + 1) cs)))) same)
 
-  pub class_behind : i < length cs → class_in w (map class_word_of cs) ≡ class_in w (map class_word_of (drop i cs)) → bytes_eq (slice_index_or cs i d).0.now w ≡ false
-      → class_in w (map class_word_of cs) ≡ class_in w (map class_word_of (drop (i + 1) cs))
+  pub class_behind : i < length cs → found ≡ class_in w (map class_word_of (drop i cs)) → bytes_eq (slice_index_or cs i d).0.now w ≡ false → found ≡ class_in w (map class_word_of (drop (i + 1) cs))
   class_behind h before other = before ∙ at_drop_more (λ xs. class_in w (map class_word_of xs)) cs i d h
       ∙ ap (λ b. cond b (Some (slice_index_or cs i d).1) (class_in w (map class_word_of (drop (i + 1) cs)))) other

@@ -17,13 +17,7 @@ pub fn class_words() -> &'static [(&'static str, Place)]
 pub fn class_place(word: &str) -> Option<Place>
     ensures { result ≡ class_in word.now words_of_classes }
 {
-    place_among(class_words(), word)
-}
-
-fn place_among(classes: &'static [(&'static str, Place)], word: &str) -> Option<Place>
-    ensures { result ≡ class_in word.now (map class_word_of classes.now) }
-{
-    for (class, place) in classes {
+    for (class, place) in class_words() {
         if *class == word {
             return Some(*place);
         }

@@ -1,15 +1,12 @@
 //! The properties of field types, by class (barectf 3.1, "Field type objects").
 
+use crate::Place::*;
 use crate::{Content, Place, Presence, Row, Words};
 use ctf_types::{LARGEST_ALIGN, MAX_ELEMENTS};
 
 const CLASS: Row = ("class", Presence::Needed, Content::Class);
 
-const INHERIT: Row = (
-    "$inherit",
-    Presence::UntilResolved,
-    Content::At(Place::FieldType),
-);
+const INHERIT: Row = ("$inherit", Presence::UntilResolved, Content::At(FieldType));
 
 const SIZE: Row = (
     "size",
@@ -31,12 +28,6 @@ const BASE: Row = (
     Content::Word(Words::DisplayBase),
 );
 
-const ELEMENT: Row = (
-    "element-field-type",
-    Presence::Needed,
-    Content::At(Place::ElementType),
-);
-
 /// A field type whose class is not known.
 pub(crate) static FIELD_TYPE: [Row; 2] = [CLASS, INHERIT];
 
@@ -45,7 +36,7 @@ pub(crate) static INTEGER: [Row; 5] = [CLASS, INHERIT, SIZE, ALIGNMENT, BASE];
 pub(crate) static ENUMERATION: [Row; 6] = [
     CLASS,
     INHERIT,
-    ("mappings", Presence::Needed, Content::At(Place::Mappings)),
+    ("mappings", Presence::Needed, Content::At(Mappings)),
     SIZE,
     ALIGNMENT,
     BASE,
@@ -56,7 +47,11 @@ pub(crate) static STR: [Row; 2] = [CLASS, INHERIT];
 pub(crate) static STATIC_ARRAY: [Row; 4] = [
     CLASS,
     INHERIT,
-    ELEMENT,
+    (
+        "element-field-type",
+        Presence::Needed,
+        Content::At(ElementType),
+    ),
     (
         "length",
         Presence::Needed,
@@ -73,14 +68,14 @@ pub(crate) static DYNAMIC_ARRAY: [Row; 3] = [
     (
         "element-field-type",
         Presence::Needed,
-        Content::At(Place::DynamicElementType),
+        Content::At(DynamicElementType),
     ),
 ];
 
 pub(crate) static STRUCTURE: [Row; 4] = [
     CLASS,
     INHERIT,
-    ("members", Presence::Optional, Content::At(Place::Members)),
+    ("members", Presence::Optional, Content::At(Members)),
     (
         "minimum-alignment",
         Presence::Number(1),
@@ -93,11 +88,7 @@ pub(crate) static STRUCTURE: [Row; 4] = [
 /// What an entry of a members list says of its member.
 pub(crate) static MEMBER: [Row; 2] = [
     INHERIT,
-    (
-        "field-type",
-        Presence::Needed,
-        Content::At(Place::MemberType),
-    ),
+    ("field-type", Presence::Needed, Content::At(MemberType)),
 ];
 
 /// The words of classes, and the place that is a field type of the class.

@@ -1,6 +1,7 @@
 //! The properties of the objects that are no field types (barectf 3.1, "Configuration object" and the pages below it).
 
-use crate::{Content, MAX_TEXT_BYTES, Place, Presence, Row, Words};
+use crate::Place::*;
+use crate::{Content, MAX_TEXT_BYTES, Presence, Row, Words};
 
 /// The lowest number of 64 bits, one of which is the sign.
 pub(crate) const LOWEST: i128 = -9223372036854775808;
@@ -12,17 +13,13 @@ pub(crate) const HIGHEST: i128 = 9223372036854775807;
 pub(crate) const HIGHEST_UNSIGNED: i128 = 18446744073709551615;
 
 pub(crate) static ROOT: [Row; 2] = [
-    ("trace", Presence::Needed, Content::At(Place::Trace)),
+    ("trace", Presence::Needed, Content::At(Trace)),
     ("options", Presence::Optional, Content::Anything),
 ];
 
 pub(crate) static TRACE: [Row; 2] = [
-    ("type", Presence::Needed, Content::At(Place::TraceType)),
-    (
-        "environment",
-        Presence::Optional,
-        Content::At(Place::Environment),
-    ),
+    ("type", Presence::Needed, Content::At(TraceType)),
+    ("environment", Presence::Optional, Content::At(Environment)),
 ];
 
 pub(crate) static TRACE_TYPE: [Row; 8] = [
@@ -37,30 +34,22 @@ pub(crate) static TRACE_TYPE: [Row; 8] = [
         Content::Word(Words::ByteOrder),
     ),
     ("uuid", Presence::Optional, Content::IdentifierOrAuto),
-    (
-        "clock-types",
-        Presence::Optional,
-        Content::At(Place::ClockTypes),
-    ),
+    ("clock-types", Presence::Optional, Content::At(ClockTypes)),
     (
         "data-stream-types",
         Presence::Optional,
-        Content::At(Place::StreamTypes),
+        Content::At(StreamTypes),
     ),
-    (
-        "$features",
-        Presence::Optional,
-        Content::At(Place::TraceFeatures),
-    ),
+    ("$features", Presence::Optional, Content::At(TraceFeatures)),
     (
         "$field-type-aliases",
         Presence::Optional,
-        Content::At(Place::FieldTypeAliases),
+        Content::At(FieldTypeAliases),
     ),
     (
         "$log-level-aliases",
         Presence::Optional,
-        Content::At(Place::LogLevelAliases),
+        Content::At(LogLevelAliases),
     ),
 ];
 
@@ -68,17 +57,17 @@ pub(crate) static TRACE_FEATURES: [Row; 3] = [
     (
         "magic-field-type",
         Presence::Flag(true),
-        Content::At(Place::MagicFeature),
+        Content::At(MagicFeature),
     ),
     (
         "uuid-field-type",
         Presence::WithIdentifier,
-        Content::At(Place::IdentifierFeature),
+        Content::At(IdentifierFeature),
     ),
     (
         "data-stream-type-id-field-type",
         Presence::Flag(true),
-        Content::At(Place::Feature),
+        Content::At(Feature),
     ),
 ];
 
@@ -107,11 +96,7 @@ pub(crate) static CLOCK_TYPE: [Row; 7] = [
             high: HIGHEST_UNSIGNED,
         },
     ),
-    (
-        "offset",
-        Presence::Optional,
-        Content::At(Place::ClockOffset),
-    ),
+    ("offset", Presence::Optional, Content::At(ClockOffset)),
     ("origin-is-unix-epoch", Presence::Flag(true), Content::Flag),
     ("$c-type", Presence::Optional, Content::Anything),
 ];
@@ -142,38 +127,30 @@ pub(crate) static STREAM_TYPE: [Row; 6] = [
         Presence::Optional,
         Content::ClockName,
     ),
-    (
-        "$features",
-        Presence::Optional,
-        Content::At(Place::StreamFeatures),
-    ),
+    ("$features", Presence::Optional, Content::At(StreamFeatures)),
     (
         "packet-context-field-type-extra-members",
         Presence::Optional,
-        Content::At(Place::ExtraMembers),
+        Content::At(ExtraMembers),
     ),
     (
         "event-record-common-context-field-type",
         Presence::Optional,
-        Content::At(Place::StructureType),
+        Content::At(StructureType),
     ),
     (
         "event-record-types",
         Presence::Optional,
-        Content::At(Place::EventTypes),
+        Content::At(EventTypes),
     ),
 ];
 
 pub(crate) static STREAM_FEATURES: [Row; 2] = [
-    (
-        "packet",
-        Presence::Optional,
-        Content::At(Place::PacketFeatures),
-    ),
+    ("packet", Presence::Optional, Content::At(PacketFeatures)),
     (
         "event-record",
         Presence::Optional,
-        Content::At(Place::EventRecordFeatures),
+        Content::At(EventRecordFeatures),
     ),
 ];
 
@@ -181,32 +158,32 @@ pub(crate) static PACKET_FEATURES: [Row; 6] = [
     (
         "total-size-field-type",
         Presence::Flag(true),
-        Content::At(Place::SizeFeature),
+        Content::At(SizeFeature),
     ),
     (
         "content-size-field-type",
         Presence::Flag(true),
-        Content::At(Place::SizeFeature),
+        Content::At(SizeFeature),
     ),
     (
         "beginning-timestamp-field-type",
         Presence::WithClock,
-        Content::At(Place::Feature),
+        Content::At(Feature),
     ),
     (
         "end-timestamp-field-type",
         Presence::WithClock,
-        Content::At(Place::Feature),
+        Content::At(Feature),
     ),
     (
         "discarded-event-records-counter-snapshot-field-type",
         Presence::Flag(true),
-        Content::At(Place::Feature),
+        Content::At(Feature),
     ),
     (
         "sequence-number-field-type",
         Presence::Flag(false),
-        Content::At(Place::Feature),
+        Content::At(Feature),
     ),
 ];
 
@@ -214,12 +191,12 @@ pub(crate) static EVENT_RECORD_FEATURES: [Row; 2] = [
     (
         "type-id-field-type",
         Presence::Flag(true),
-        Content::At(Place::Feature),
+        Content::At(Feature),
     ),
     (
         "timestamp-field-type",
         Presence::WithClock,
-        Content::At(Place::Feature),
+        Content::At(Feature),
     ),
 ];
 
@@ -232,11 +209,11 @@ pub(crate) static EVENT_TYPE: [Row; 3] = [
     (
         "specific-context-field-type",
         Presence::Optional,
-        Content::At(Place::StructureType),
+        Content::At(StructureType),
     ),
     (
         "payload-field-type",
         Presence::Optional,
-        Content::At(Place::StructureType),
+        Content::At(StructureType),
     ),
 ];

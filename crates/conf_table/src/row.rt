@@ -1,6 +1,4 @@
 //! A row of the table: a property's name, whether it has to be there, and what its value is.
-ghost use Rattle.std.specs.Prelude.{◌≡◌};
-ghost use Rattle.conf_table.specs.Table.{stays as stays_of};
 
 use crate::{Place, Words};
 
@@ -29,26 +27,6 @@ pub enum Presence {
     WithClock,
     /// May be absent, and is gone once the configuration is resolved.
     UntilResolved,
-}
-
-impl Presence {
-    /// Whether a resolved configuration can still have the property.
-    pub(crate) fn stays(self) -> bool
-        ensures { result ≡ stays_of self }
-    {
-        match self {
-            Presence::Needed
-            | Presence::Optional
-            | Presence::Number(_)
-            | Presence::Flag(_)
-            | Presence::Decimal
-            | Presence::ByteAlignment
-            | Presence::OneOrder
-            | Presence::WithIdentifier
-            | Presence::WithClock => true,
-            Presence::UntilResolved => false,
-        }
-    }
 }
 
 /// What a value is.

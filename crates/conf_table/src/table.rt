@@ -72,37 +72,7 @@ pub fn entries_at(place: Place) -> Option<&'static Entries>
         Place::Members => Some(&maps::MEMBERS),
         Place::Ranges => Some(&maps::RANGES),
         Place::Range => Some(&maps::RANGE),
-        Place::Root
-        | Place::Trace
-        | Place::TraceType
-        | Place::TraceFeatures
-        | Place::ClockType
-        | Place::ClockOffset
-        | Place::StreamType
-        | Place::StreamFeatures
-        | Place::PacketFeatures
-        | Place::EventRecordFeatures
-        | Place::EventType
-        | Place::Member
-        | Place::FieldType
-        | Place::StructureType
-        | Place::MemberType
-        | Place::ElementType
-        | Place::DynamicElementType
-        | Place::Feature
-        | Place::SizeFeature
-        | Place::MagicFeature
-        | Place::IdentifierFeature
-        | Place::UnsignedInteger
-        | Place::SignedInteger
-        | Place::UnsignedEnumeration
-        | Place::SignedEnumeration
-        | Place::Str
-        | Place::StaticArray
-        | Place::DynamicArray
-        | Place::Structure
-        | Place::Scalar
-        | Place::Ignored => None,
+        _ => None,
     }
 }
 
@@ -110,12 +80,8 @@ pub fn entries_at(place: Place) -> Option<&'static Entries>
 pub fn entries(place: Place) -> Option<Entries>
     ensures { result ≡ entries_of place }
 {
-    let entries = entries_at(place)?;
-    Some(*entries)
+    entries_at(place).copied()
 }
-
-/// What is judged at no place.
-static ANYTHING: Content = Content::Anything;
 
 /// What the value of the property `name` is, where there is one: by its row, or as each entry of a map.
 #[tactic(auto, unfolding(crate::specs::Table::content_under))]
@@ -123,20 +89,11 @@ pub fn content_at(place: Place, name: &str) -> Option<&'static Content>
     ensures { option_map (λ c. c.now) result ≡ content_under place name.now }
 {
     if place == Place::Ignored {
-        return Some(&ANYTHING);
+        return Some(&Content::Anything);
     }
     match entries_at(place) {
-        Some(entries) => {
-            if entries.keys == Keys::Index {
-                None
-            } else {
-                Some(&entries.content)
-            }
-        }
-        None => {
-            let (_, _, content) = row_in(rows(place), name)?;
-            Some(content)
-        }
+        Some(entries) => (entries.keys != Keys::Index).then_some(&entries.content),
+        None => row_in(rows(place), name).map(|row| &row.2),
     }
 }
 
@@ -144,8 +101,7 @@ pub fn content_at(place: Place, name: &str) -> Option<&'static Content>
 pub fn content(place: Place, name: &str) -> Option<Content>
     ensures { result ≡ content_under place name.now }
 {
-    let content = content_at(place, name)?;
-    Some(*content)
+    content_at(place, name).copied()
 }
 
 /// The row of a name.
@@ -165,8 +121,7 @@ fn row_in(rows: &'static [Row], name: &str) -> Option<&'static Row>
 pub fn presence(place: Place, name: &str) -> Option<Presence>
     ensures { result ≡ presence_under place name.now }
 {
-    let (_, presence, _) = row_in(rows(place), name)?;
-    Some(*presence)
+    row_in(rows(place), name).map(|row| row.1)
 }
 
 /// Whether an object of a resolved configuration can have the property `name`.
@@ -174,18 +129,14 @@ pub fn presence(place: Place, name: &str) -> Option<Presence>
 pub fn has_property(place: Place, name: &str) -> bool
     ensures { result ≡ has_property_of place name.now }
 {
-    match presence(place, name) {
-        Some(presence) => presence.stays(),
-        None => false,
-    }
+    presence(place, name).is_some_and(|presence| presence != Presence::UntilResolved)
 }
 
 /// The place of the property `name`. None is an unknown property.
 pub fn under(place: Place, name: &str) -> Option<Place>
     ensures { result ≡ under_of place name.now }
 {
-    let content = content(place, name)?;
-    Some(content.place())
+    content(place, name).map(Content::place)
 }
 
 impl Content {
@@ -197,22 +148,18 @@ impl Content {
         match self {
             Content::At(place) => place,
             Content::Anything => Place::Ignored,
-            Content::Whole { low: _, high: _ }
-            | Content::PowerOfTwo { high: _ }
+            Content::Whole { .. }
+            | Content::PowerOfTwo { .. }
             | Content::Flag
             | Content::OneFlag
-            | Content::Text { most_bytes: _ }
+            | Content::Text { .. }
             | Content::ClockName
             | Content::Identifier
             | Content::IdentifierOrAuto
             | Content::Word(_)
             | Content::Class
-            | Content::WholeOrText {
-                low: _,
-                high: _,
-                most_bytes: _,
-            }
-            | Content::Level { high: _ } => Place::Scalar,
+            | Content::WholeOrText { .. }
+            | Content::Level { .. } => Place::Scalar,
         }
     }
 }

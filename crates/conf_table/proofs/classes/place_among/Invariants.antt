@@ -1,7 +1,0 @@
-use Rattle.std.proofs.Common.{◌≡◌, map, drop}
-use Rattle.conf_table.specs.Classes.{class_in, class_word_of}
-use Rattle.conf_table.proofs.classes.place_among.Given as goal
-
-abbrev pub invariant-loop-class : goal.invariant-loop-class
-invariant-loop-class l = class_in l.word (map class_word_of l.classes)
-    ≡ class_in l.word (map class_word_of (drop l.class-index l.classes))
