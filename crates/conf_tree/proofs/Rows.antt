@@ -1,10 +1,10 @@
 -- The definitions on a few values.
-use Rattle.std.proofs.Common.{◌≡◌, [], ◌∷◌, None, Ok, Err, pos, refl}
+use Rattle.std.proofs.Common.{◌≡◌, [], ◌∷◌, Some, None, Ok, Err, pos, refl}
 use Rattle.std.specs.Prelude.{codes, Float}
 use Rattle.serde_json.specs.Data.{null, number, array, object, unsigned, float, no_items, item, no_members, member}
 use Rattle.conf_tree.specs.declared.fault_kind.FaultKind.TheVariants.{TooDeep, NotWhole, Missing, OutOfRange, WrongKind}
 use Rattle.conf_tree.specs.Flaw.{key, index}
-use Rattle.conf_tree.specs.Reading.{needed_as, optional_as, whole_of}
+use Rattle.conf_tree.specs.Reading.{◌>>=◌, needed, optional_as, whole_of}
 use Rattle.conf_tree.specs.Walk.{flaws, max_levels}
 
 -- `{"trace": 1e3}`
@@ -17,20 +17,19 @@ in_walk_order : (x : Float) → flaws (array (item (array no_items) (item (numbe
 in_walk_order x = refl
 
 -- `{"size": 65}` where 1 to 64 is asked for
-past_the_range : needed_as (codes "size") (whole_of (pos 1) (pos 64)) (member (codes "size") (number (unsigned 65)) no_members) ≡ Err (record { path = key (codes "size") ∷ []; kind = OutOfRange })
-unfolding whole_of
+past_the_range : optional_as (codes "size") (whole_of (pos 1) (pos 64)) (member (codes "size") (number (unsigned 65)) no_members) ≡ Err (record { path = key (codes "size") ∷ []; kind = OutOfRange })
+unfolding optional_as whole_of
 past_the_range = refl
 
-at_the_end_of_the_range : needed_as (codes "size") (whole_of (pos 1) (pos 64)) (member (codes "size") (number (unsigned 64)) no_members) ≡ Ok (pos 64)
-unfolding whole_of
+at_the_end_of_the_range : optional_as (codes "size") (whole_of (pos 1) (pos 64)) (member (codes "size") (number (unsigned 64)) no_members) ≡ Ok (Some (pos 64))
+unfolding optional_as whole_of
 at_the_end_of_the_range = refl
 
 -- `{}` and `{"size": null}`
-missing : needed_as (codes "size") (whole_of (pos 1) (pos 64)) no_members ≡ Err (record { path = key (codes "size") ∷ []; kind = Missing })
-unfolding whole_of
+missing : needed (codes "size") no_members ≡ Err (record { path = key (codes "size") ∷ []; kind = Missing })
 missing = refl
 
-null_where_needed : needed_as (codes "size") (whole_of (pos 1) (pos 64)) (member (codes "size") null no_members) ≡ Err (record { path = key (codes "size") ∷ []; kind = WrongKind })
+null_where_needed : needed (codes "size") (member (codes "size") null no_members) >>= whole_of (pos 1) (pos 64) ≡ Err (record { path = []; kind = WrongKind })
 unfolding whole_of
 null_where_needed = refl
 

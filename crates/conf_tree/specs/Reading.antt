@@ -1,8 +1,8 @@
 -- How a value of a configuration reads as what a place asks for: the value read, or the first flaw.
 -- A reader is a function from a value to `Result A Flaw`; `◌>>=◌` lets one follow the other, and `at` says where the
 -- value stands that a reader reads. `Gives` ties what a function answers to what its reader says.
-use Rattle.std.specs.Prelude.{◌≡◌, ◌⊎◌, ℕ, suc, ℤ, int_le, ◌&&◌, Bool, List, [], ◌∷◌, Option, Some, None, Result, Ok, Err, if◌then◌else◌}
-use Rattle.serde_json.specs.Data.{Data, null, Items, no_items, item, Members, no_members, member}
+use Rattle.std.specs.Prelude.{◌≡◌, ◌⊎◌, ℕ, ℤ, int_le, ◌&&◌, Bool, List, Option, Some, None, Result, Ok, Err, if◌then◌else◌}
+use Rattle.serde_json.specs.Data.{Data, null, Items, Members}
 use Rattle.serde_json.specs.Find.{get_member, as_object, as_array, as_str, as_bool, as_number, as_integer}
 use Rattle.conf_tree.specs.declared.at.At.{At}
 use Rattle.conf_tree.specs.declared.at.At.TheVariants.{Here, Property, Item}
@@ -85,10 +85,6 @@ given found = found
 abbrev pub optional : List ℕ → Members → Option Data
 optional name ms = given (get_member name ms)
 
--- a needed property, read
-abbrev pub needed_as : {A : Type 0} → List ℕ → (Data → Result A Flaw) → Members → Result A Flaw
-needed_as name reads ms = needed name ms >>= (λ d. at (key name) (reads d))
-
 abbrev pub some_read : {A : Type 0} → (Data → Result A Flaw) → Option Data → Result (Option A) Flaw
 some_read reads None = Ok None
 some_read reads (Some d) = reads d >>= (λ x. Ok (Some x))
@@ -96,15 +92,3 @@ some_read reads (Some d) = reads d >>= (λ x. Ok (Some x))
 -- an optional property, read where it is there
 unfoldable pub optional_as : {A : Type 0} → List ℕ → (Data → Result A Flaw) → Members → Result (Option A) Flaw
 optional_as name reads ms = some_read (λ d. at (key name) (reads d)) (optional name ms)
-
--- ---- all that a list or an object holds, in walk order
-
--- the items from place i on, each read
-abbrev pub each_item : {A : Type 0} → (Data → Result A Flaw) → ℕ → Items → Result (List A) Flaw
-each_item reads i no_items = Ok []
-each_item reads i (item d ds) = at (index i) (reads d) >>= (λ x. each_item reads (suc i) ds >>= (λ xs. Ok (x ∷ xs)))
-
--- the members, each read as its name asks
-abbrev pub each_member : {A : Type 0} → (List ℕ → Data → Result A Flaw) → Members → Result (List A) Flaw
-each_member reads no_members = Ok []
-each_member reads (member k d ms) = at (key k) (reads k d) >>= (λ x. each_member reads ms >>= (λ xs. Ok (x ∷ xs)))

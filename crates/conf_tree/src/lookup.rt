@@ -65,16 +65,11 @@ pub fn whole(
 ) -> Result<i128, ConfFault>
     ensures { Gives (λ z. z) result (reading_at at.entry (whole_of low high (view value.now))) }
 {
-    let Some(number) = value.as_number() else {
-        return Err(at.fault(alloc, FaultKind::WrongKind));
-    };
-    let Some(whole) = number.as_i128() else {
-        return Err(at.fault(alloc, FaultKind::NotWhole));
-    };
-    if low <= whole && whole <= high {
-        Ok(whole)
-    } else {
-        Err(at.fault(alloc, FaultKind::OutOfRange))
+    match value.as_number().map(|number| number.as_i128()) {
+        Some(Some(whole)) if low <= whole && whole <= high => Ok(whole),
+        Some(Some(_)) => Err(at.fault(alloc, FaultKind::OutOfRange)),
+        Some(None) => Err(at.fault(alloc, FaultKind::NotWhole)),
+        None => Err(at.fault(alloc, FaultKind::WrongKind)),
     }
 }
 
@@ -95,10 +90,7 @@ pub fn needed<'v>(
     ensures { Gives (λ v. view v.now) result
         (needed_of name.now (members_view members.now.entries)) }
 {
-    match member(members, name) {
-        Some(value) => Ok(value),
-        None => Err(At::Property(name).fault(alloc, FaultKind::Missing)),
-    }
+    member(members, name).ok_or_else(|| At::Property(name).fault(alloc, FaultKind::Missing))
 }
 
 /// The value of the property `name`, if it is there. A null is as if it were not.
@@ -106,8 +98,7 @@ pub fn optional<'v>(members: &'v Map<String, Value>, name: &str) -> Option<&'v V
     ensures { option_map (λ v. view v.now) result
         ≡ optional_of name.now (members_view members.now.entries) }
 {
-    let value = member(members, name)?;
-    if value.is_null() { None } else { Some(value) }
+    member(members, name).filter(|value| !value.is_null())
 }
 
 /// The whole number that the property `name` is, if it is there.
@@ -122,10 +113,9 @@ pub fn optional_whole(
     ensures { Gives (λ z. z) result
         (optional_as name.now (whole_of low high) (members_view members.now.entries)) }
 {
-    match optional(members, name) {
-        Some(value) => Ok(Some(whole(alloc, At::Property(name), value, low, high)?)),
-        None => Ok(None),
-    }
+    optional(members, name)
+        .map(|value| whole(alloc, At::Property(name), value, low, high))
+        .transpose()
 }
 
 /// The flag that the property `name` is, if it is there.
@@ -138,10 +128,9 @@ pub fn optional_flag(
     ensures { Gives (λ b. b) result
         (optional_as name.now flag_of (members_view members.now.entries)) }
 {
-    match optional(members, name) {
-        Some(value) => Ok(Some(flag(alloc, At::Property(name), value)?)),
-        None => Ok(None),
-    }
+    optional(members, name)
+        .map(|value| flag(alloc, At::Property(name), value))
+        .transpose()
 }
 
 /// The text that the property `name` is, if it is there.
@@ -154,8 +143,7 @@ pub fn optional_text<'v>(
     ensures { Gives (option_map (λ s. s.now)) result
         (optional_as name.now text_of (members_view members.now.entries)) }
 {
-    match optional(members, name) {
-        Some(value) => Ok(Some(text(alloc, At::Property(name), value)?)),
-        None => Ok(None),
-    }
+    optional(members, name)
+        .map(|value| text(alloc, At::Property(name), value))
+        .transpose()
 }

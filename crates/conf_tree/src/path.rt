@@ -49,9 +49,7 @@ impl Path {
         ensures { IfOk result (λ path. path ≡ step ∷ self) }
     {
         let Self { mut steps } = self;
-        match steps.insert(0, step) {
-            Ok(()) => Ok(Path { steps }),
-            Err(_) => Err(AllocError),
-        }
+        steps.insert(0, step)?;
+        Ok(Path { steps })
     }
 }

@@ -1,5 +1,4 @@
 //! One step of the path to a value of a configuration.
-ghost use Rattle.std.specs.Prelude.{◌≡◌};
 
 use std::fmt;
 
@@ -10,16 +9,6 @@ pub enum Step {
     Key(String),
     /// To the item at this place of a list, counted from 0.
     Index(usize),
-}
-
-impl Default for Step {
-    ghost use Rattle.conf_tree.specs.declared.step.Step.TheVariants.{Index};
-
-    ghost is_default = { λ s. s ≡ Index 0 };
-
-    fn default() -> Step {
-        Step::Index(0)
-    }
 }
 
 /// A name as it stands in the configuration, an index in decimal digits.
