@@ -1,9 +1,6 @@
 //! The names of a configuration, and the words that are no names.
 ghost use Rattle.std.specs.Prelude.{◌≡◌, IfErr};
-ghost use Rattle.std.specs.List.{list_any};
-ghost use Rattle.std.specs.Str.{bytes_eq};
 ghost use Rattle.conf_tree.specs.Reading.{Gives};
-ghost use Rattle.ctf_types.specs.Names.{unused_keywords, used_keywords};
 ghost use Rattle.conf_values.specs.Name.{name_of, plain_name_of, is_reserved as is_reserved_of};
 
 use conf_tree::{ConfFault, FaultKind};
@@ -22,9 +19,10 @@ pub fn check_name(alloc: Global, name: &str) -> Result<(), ConfFault>
     }
 }
 
-/// Whether the metadata language has the word for itself, though nothing here writes it.
-fn is_unused_keyword(word: &str) -> bool
-    ensures { result ≡ list_any (bytes_eq word.now) unused_keywords }
+/// Whether the metadata language has the word for itself: the words that nothing here writes, and those that metadata is written with.
+#[tactic(auto, unfolding(crate::specs::Name::is_reserved))]
+fn is_reserved(word: &str) -> bool
+    ensures { result ≡ is_reserved_of word.now }
 {
     matches!(
         word,
@@ -45,16 +43,7 @@ fn is_unused_keyword(word: &str) -> bool
             | "_Bool"
             | "_Complex"
             | "_Imaginary"
-    )
-}
-
-/// Whether the word is one that metadata is written with.
-fn is_used_keyword(word: &str) -> bool
-    ensures { result ≡ list_any (bytes_eq word.now) used_keywords }
-{
-    matches!(
-        word,
-        "align"
+            | "align"
             | "clock"
             | "enum"
             | "env"
@@ -66,13 +55,6 @@ fn is_used_keyword(word: &str) -> bool
             | "struct"
             | "trace"
     )
-}
-
-#[tactic(auto, unfolding(crate::specs::Name::is_reserved))]
-fn is_reserved(word: &str) -> bool
-    ensures { result ≡ is_reserved_of word.now }
-{
-    is_unused_keyword(word) || is_used_keyword(word)
 }
 
 /// Refuses a name that is no identifier of 255 bytes at most, or that is a reserved word.

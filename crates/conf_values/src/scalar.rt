@@ -1,7 +1,7 @@
 //! Numbers and texts of a configuration.
 ghost use Rattle.std.specs.Prelude.{◌≡◌};
 ghost use Rattle.serde_json.specs.View.{view};
-ghost use Rattle.conf_values.specs.Scalar.{uuid_in, is_printable as is_printable_of, as_natural as as_natural_of, natural_or_none as natural_or_none_of};
+ghost use Rattle.conf_values.specs.Scalar.{uuid_in, is_printable as is_printable_of, as_natural as as_natural_of};
 
 use serde_json::Value;
 use uuid::Uuid;
@@ -11,22 +11,7 @@ use uuid::Uuid;
 pub fn as_natural(value: &Value) -> Option<u64>
     ensures { result ≡ as_natural_of (view value.now) }
 {
-    match value.as_number() {
-        Some(number) => natural_or_none(number.as_i128()),
-        None => None,
-    }
-}
-
-fn natural_or_none(whole: Option<i128>) -> Option<u64>
-    ensures { result ≡ natural_or_none_of whole }
-{
-    match whole {
-        Some(whole) => match u64::try_from(whole) {
-            Ok(natural) => Some(natural),
-            Err(_) => None,
-        },
-        None => None,
-    }
+    u64::try_from(value.as_number()?.as_i128()?).ok()
 }
 
 /// Whether a text has no control character but newline and tab.

@@ -6,29 +6,14 @@ ghost use Rattle.conf_table.specs.declared.words.Words.TheVariants as choices;
 ghost use Rattle.conf_values.specs.Words.{word_in, base_words, order_words};
 
 use conf_table::{Words, words_in};
-use ctf_types::{Base, ByteOrder};
+use ctf_types::Base::{self, Bin, Dec, Hex, Oct};
+use ctf_types::ByteOrder::{self, Big, Little};
 
 /// What each word of a display base stands for, in the order of the table's words.
-static BASES: [Base; 8] = [
-    Base::Bin,
-    Base::Bin,
-    Base::Oct,
-    Base::Oct,
-    Base::Dec,
-    Base::Dec,
-    Base::Hex,
-    Base::Hex,
-];
+static BASES: [Base; 8] = [Bin, Bin, Oct, Oct, Dec, Dec, Hex, Hex];
 
 /// What each word of a byte order stands for, in the order of the table's words.
-static ORDERS: [ByteOrder; 6] = [
-    ByteOrder::Little,
-    ByteOrder::Little,
-    ByteOrder::Little,
-    ByteOrder::Big,
-    ByteOrder::Big,
-    ByteOrder::Big,
-];
+static ORDERS: [ByteOrder; 6] = [Little, Little, Little, Big, Big, Big];
 
 /// The display base that this word stands for.
 #[tactic(auto, unfolding(crate::specs::Words::base_words))]
