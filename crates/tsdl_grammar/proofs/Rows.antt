@@ -61,9 +61,17 @@ odd_bits : option_map (λ t. t.align) (int_meaning known (size_of 5)) ≡ Some 1
 unfolding int_meaning int_type
 odd_bits = refl
 
+no_size : int_meaning known [] ≡ None
+unfolding int_meaning
+no_size = refl
+
 too_wide : int_meaning known (size_of 65) ≡ None
 unfolding int_meaning int_type
 too_wide = refl
+
+twice : int_meaning known (count (codes "size") 8 ∷ count (codes "size") 8 ∷ []) ≡ None
+unfolding int_meaning
+twice = refl
 
 network_order : option_map (λ t. t.size) (int_meaning known (word (codes "byte_order") (codes "network") ∷ size_of 8)) ≡ Some 8
 unfolding int_meaning int_type order_value
@@ -104,6 +112,11 @@ small_streams : option_map (λ m. map (λ s. map (λ x. x.0) s.context.members) 
 unfolding text_meta streams_meaning trace_uuid header_meaning environment_meaning stream_meaning event_meaning struct_meaning struct_type members_meaning member_meaning kind_meaning int_meaning int_type bracketed
 small_streams = refl
 
+-- blocks stand in any order
+mixed : option_map (λ m. map (λ s. map (λ e. e.name) s.events) m.streams) (text_meta (event [] ∷ stream sizes ∷ trace ∷ [])) ≡ Some ((codes "e" ∷ []) ∷ [])
+unfolding text_meta streams_meaning trace_uuid header_meaning environment_meaning stream_meaning event_meaning struct_meaning struct_type members_meaning member_meaning kind_meaning int_meaning int_type bracketed
+mixed = refl
+
 abbrev is_dyn : List ℕ × MemberType → Option ℕ
 is_dyn (w, Plain t) = None
 is_dyn (w, Dyn t Auto) = None
@@ -114,6 +127,14 @@ sequence : option_map (λ m. map (λ s. map (λ e. map is_dyn e.fields.members) 
 unfolding text_meta streams_meaning trace_uuid header_meaning environment_meaning stream_meaning event_meaning struct_meaning struct_type members_meaning member_meaning kind_meaning int_meaning int_type bracketed
 sequence = refl
 
+no_length : text_meta (small (brackets.Member (codes "v") ∷ [])) ≡ None
+unfolding text_meta streams_meaning trace_uuid header_meaning environment_meaning stream_meaning event_meaning struct_meaning struct_type members_meaning member_meaning kind_meaning int_meaning int_type bracketed
+no_length = refl
+
+no_sizes : text_meta (trace ∷ stream [] ∷ []) ≡ None
+unfolding text_meta streams_meaning trace_uuid header_meaning environment_meaning stream_meaning event_meaning struct_meaning struct_type members_meaning member_meaning kind_meaning int_meaning int_type bracketed
+no_sizes = refl
+
 no_stream : text_meta (trace ∷ event [] ∷ []) ≡ None
 unfolding text_meta streams_meaning trace_uuid header_meaning environment_meaning stream_meaning event_meaning struct_meaning struct_type members_meaning member_meaning kind_meaning int_meaning int_type bracketed
 no_stream = refl
@@ -121,6 +142,14 @@ no_stream = refl
 no_trace : text_meta [] ≡ None
 unfolding text_meta
 no_trace = refl
+
+two_traces : text_meta (trace ∷ trace ∷ []) ≡ None
+unfolding text_meta
+two_traces = refl
+
+stream_twice : text_meta (trace ∷ stream sizes ∷ stream sizes ∷ []) ≡ None
+unfolding text_meta streams_meaning trace_uuid header_meaning environment_meaning stream_meaning event_meaning struct_meaning struct_type members_meaning member_meaning kind_meaning int_meaning int_type bracketed
+stream_twice = refl
 
 nine_brackets : text_meta (small (brackets.Count (number 1) ∷ brackets.Count (number 1) ∷ brackets.Count (number 1) ∷ brackets.Count (number 1) ∷ brackets.Count (number 1)
     ∷ brackets.Count (number 1) ∷ brackets.Count (number 1) ∷ brackets.Count (number 1) ∷ brackets.Count (number 1) ∷ [])) ≡ None
@@ -148,3 +177,7 @@ signed_stream_id = refl
 clock : option_map (λ c. c.frequency) (clock_meaning (items.Attribute (word (codes "name") (codes "clk")) ∷ [])) ≡ Some 1000000000
 unfolding clock_meaning
 clock = refl
+
+no_clock_name : clock_meaning [] ≡ None
+unfolding clock_meaning
+no_clock_name = refl
