@@ -1,6 +1,6 @@
 //! Attributes: of blocks, of integers, and entries of the environment.
 
-ghost use Rattle.std.specs.Prelude.{◌≡◌, ◌<◌, ◌^◌, ◌++◌, [], ◌∷◌, IfSome, OnOk, codes};
+ghost use Rattle.std.specs.Prelude.{◌≡◌, ◌<◌, ◌^◌, [], ◌∷◌, IfSome, OnOk, codes};
 ghost use Rattle.std.specs.List.{flat_map};
 ghost use Rattle.tsdl_grammar.specs.declared.atom.Atom.TheVariants as atoms;
 ghost use Rattle.tsdl_grammar.specs.declared.token.Mark.TheVariants as marks;

@@ -1,11 +1,11 @@
 //! The blocks of a configuration.
 
-ghost use Rattle.std.specs.Prelude.{◌≡◌, ◌++◌, [], ◌∷◌, map, All, IfSome, OnOk, codes};
+ghost use Rattle.std.specs.Prelude.{◌≡◌, [], ◌∷◌, All, IfSome, OnOk};
 ghost use Rattle.std.specs.List.{flat_map};
 ghost use Rattle.tsdl_grammar.specs.declared.atom.Atom.TheVariants as atoms;
 ghost use Rattle.tsdl_grammar.specs.declared.token.Mark.TheVariants as marks;
-ghost use Rattle.tsdl_grammar.specs.Spelling.{item_toks, named_fact_toks, block_and_semicolon};
-ghost use Rattle.tsdl_writer.specs.BlockTrees.{order_word, trace_block, named_fact_tree, environment_blocks, clock_numbers, clock_block, stream_block, event_block};
+ghost use Rattle.tsdl_grammar.specs.Spelling.{named_fact_toks, block_and_semicolon};
+ghost use Rattle.tsdl_writer.specs.BlockTrees.{order_word, trace_block, named_fact_tree, environment_blocks, clock_block, stream_block, event_block};
 ghost use Rattle.tsdl_writer.specs.Held.{IsHeldUuid, IsHeldClock, IsHeldValue};
 ghost use Rattle.tsdl_writer.specs.Prints.{Prints};
 

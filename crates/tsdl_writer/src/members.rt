@@ -1,16 +1,13 @@
 //! Members of structures, each on a line of its own.
 
-ghost use Rattle.std.specs.Prelude.{◌≡◌, ◌++◌, [], map, Some, OnOk};
+ghost use Rattle.std.specs.Prelude.{map, Some, OnOk};
 ghost use Rattle.std.specs.List.{flat_map};
-ghost use Rattle.ctf_types.specs.declared.IntType.{IntType};
-ghost use Rattle.ctf_types.specs.declared.MemberType.TheVariants.{Plain, Dyn};
+ghost use Rattle.ctf_types.specs.declared.MemberType.TheVariants.{Dyn};
 ghost use Rattle.ctf_types.specs.declared.Length.TheVariants.{Auto};
-ghost use Rattle.ctf_types.specs.declared.FieldType.TheVariants.{Int};
 ghost use Rattle.ctf_types.specs.FieldTypes.{chain_of};
 ghost use Rattle.ctf_types.specs.MetadataOf.{number_member, uuid_member};
-ghost use Rattle.tsdl_grammar.specs.declared.tree.Bracket.TheVariants as brackets;
-ghost use Rattle.tsdl_grammar.specs.Spelling.{bracket_toks, member_toks};
-ghost use Rattle.tsdl_writer.specs.FieldTrees.{count_bracket, length_member, array_member, member_toks_of};
+ghost use Rattle.tsdl_grammar.specs.Spelling.{bracket_toks};
+ghost use Rattle.tsdl_writer.specs.FieldTrees.{count_bracket, member_toks_of};
 ghost use Rattle.tsdl_writer.specs.Prints.{Prints};
 
 use crate::printer::{Printed, Printer};

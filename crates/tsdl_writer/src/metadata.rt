@@ -1,7 +1,6 @@
 //! The metadata text of a configuration.
 
-ghost use Rattle.std.specs.Prelude.{◌≡◌, ◌++◌, map, All, IfOk, OnOk, string_bytes};
-ghost use Rattle.std.specs.List.{flat_map};
+ghost use Rattle.std.specs.Prelude.{◌≡◌, map, All, IfOk, OnOk, string_bytes};
 ghost use Rattle.ctf_types.specs.AllowedConfig.{IsConfig};
 ghost use Rattle.ctf_types.specs.MetadataOf.{metadata_of};
 ghost use Rattle.tsdl_grammar.specs.Denotes.{Denotes};

@@ -59,8 +59,7 @@ impl Printer {
         ensures { OnOk result (Prints self.old self.new (atoms.Word (length_name name.now) ∷ [])) }
     {
         self.gap(Next::Word)?;
-        write!(self.text, "__{name}_len")?;
-        Ok(())
+        write!(self.text, "__{name}_len")
     }
 
     /// A number.
@@ -68,8 +67,7 @@ impl Printer {
         ensures { OnOk result (Prints self.old self.new (atoms.Number n ∷ [])) }
     {
         self.gap(Next::Other)?;
-        write!(self.text, "{n}")?;
-        Ok(())
+        write!(self.text, "{n}")
     }
 
     /// A number that may be below 0.
@@ -77,8 +75,7 @@ impl Printer {
         ensures { OnOk result (Prints self.old self.new (number_toks (whole_number n))) }
     {
         self.gap(Next::Other)?;
-        write!(self.text, "{n}")?;
-        Ok(())
+        write!(self.text, "{n}")
     }
 
     /// A string, between its quotes, with escapes.

@@ -6,7 +6,7 @@ ghost use Rattle.ctf_types.specs.MetadataOf.{header_members, context_numbers, ev
 ghost use Rattle.tsdl_grammar.specs.declared.atom.Atom.TheVariants as atoms;
 ghost use Rattle.tsdl_grammar.specs.declared.token.Mark.TheVariants as marks;
 ghost use Rattle.tsdl_grammar.specs.Spelling.{item_toks};
-ghost use Rattle.tsdl_writer.specs.FieldTrees.{one_word, member_toks_of};
+ghost use Rattle.tsdl_writer.specs.FieldTrees.{one_word};
 ghost use Rattle.tsdl_writer.specs.BlockTrees.{two_words, scope_items, opening, closing};
 ghost use Rattle.tsdl_writer.specs.Prints.{Prints};
 

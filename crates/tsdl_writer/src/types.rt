@@ -1,12 +1,12 @@
 //! The types of members.
 
-ghost use Rattle.std.specs.Prelude.{◌≡◌, ◌++◌, map, OnOk, option_map, codes};
+ghost use Rattle.std.specs.Prelude.{◌≡◌, OnOk, option_map};
 ghost use Rattle.std.specs.List.{flat_map};
-ghost use Rattle.ctf_types.specs.Chain.{Labelled, ByteString};
+ghost use Rattle.ctf_types.specs.Chain.{Labelled};
 ghost use Rattle.ctf_types.specs.FieldTypes.{chain_of};
 ghost use Rattle.ctf_types.specs.Shown.{length_type};
-ghost use Rattle.tsdl_grammar.specs.Spelling.{attr_toks, int_toks, high_toks, entry_toks, next_entry_toks, entries_toks, kind_toks};
-ghost use Rattle.tsdl_writer.specs.FieldTrees.{base_number, mapping_attributes, attributes, mapping_attribute, integer_attributes, high_number, entry_tree, entry_trees, kind_tree};
+ghost use Rattle.tsdl_grammar.specs.Spelling.{attr_toks, int_toks, high_toks, entry_toks, entries_toks, kind_toks};
+ghost use Rattle.tsdl_writer.specs.FieldTrees.{base_number, mapping_attributes, integer_attributes, high_number, entry_tree, entry_trees, kind_tree};
 ghost use Rattle.tsdl_writer.specs.Prints.{Prints};
 
 use crate::attributes::{flag_word, natural, word};
