@@ -1,32 +1,26 @@
 //! The properties of field types, by class (barectf 3.1, "Field type objects").
 
-use crate::Place::*;
-use crate::{Content, Place, Presence, Row, Words};
+use crate::Content::{At, Class, PowerOfTwo, Whole, Word};
+use crate::Place::{self, *};
+use crate::Presence::{ByteAlignment, Decimal, Needed, Number, Optional, UntilResolved};
+use crate::{Row, Words};
 use ctf_types::{LARGEST_ALIGN, MAX_ELEMENTS};
 
-const CLASS: Row = ("class", Presence::Needed, Content::Class);
+const CLASS: Row = ("class", Needed, Class);
 
-const INHERIT: Row = ("$inherit", Presence::UntilResolved, Content::At(FieldType));
+const INHERIT: Row = ("$inherit", UntilResolved, At(FieldType));
 
-const SIZE: Row = (
-    "size",
-    Presence::Needed,
-    Content::Whole { low: 1, high: 64 },
-);
+const SIZE: Row = ("size", Needed, Whole { low: 1, high: 64 });
 
 const ALIGNMENT: Row = (
     "alignment",
-    Presence::ByteAlignment,
-    Content::PowerOfTwo {
+    ByteAlignment,
+    PowerOfTwo {
         high: LARGEST_ALIGN,
     },
 );
 
-const BASE: Row = (
-    "preferred-display-base",
-    Presence::Decimal,
-    Content::Word(Words::DisplayBase),
-);
+const BASE: Row = ("preferred-display-base", Decimal, Word(Words::DisplayBase));
 
 /// A field type whose class is not known.
 pub(crate) static FIELD_TYPE: [Row; 2] = [CLASS, INHERIT];
@@ -36,7 +30,7 @@ pub(crate) static INTEGER: [Row; 5] = [CLASS, INHERIT, SIZE, ALIGNMENT, BASE];
 pub(crate) static ENUMERATION: [Row; 6] = [
     CLASS,
     INHERIT,
-    ("mappings", Presence::Needed, Content::At(Mappings)),
+    ("mappings", Needed, At(Mappings)),
     SIZE,
     ALIGNMENT,
     BASE,
@@ -47,15 +41,11 @@ pub(crate) static STR: [Row; 2] = [CLASS, INHERIT];
 pub(crate) static STATIC_ARRAY: [Row; 4] = [
     CLASS,
     INHERIT,
-    (
-        "element-field-type",
-        Presence::Needed,
-        Content::At(ElementType),
-    ),
+    ("element-field-type", Needed, At(ElementType)),
     (
         "length",
-        Presence::Needed,
-        Content::Whole {
+        Needed,
+        Whole {
             low: 0,
             high: MAX_ELEMENTS as i128,
         },
@@ -65,31 +55,24 @@ pub(crate) static STATIC_ARRAY: [Row; 4] = [
 pub(crate) static DYNAMIC_ARRAY: [Row; 3] = [
     CLASS,
     INHERIT,
-    (
-        "element-field-type",
-        Presence::Needed,
-        Content::At(DynamicElementType),
-    ),
+    ("element-field-type", Needed, At(DynamicElementType)),
 ];
 
 pub(crate) static STRUCTURE: [Row; 4] = [
     CLASS,
     INHERIT,
-    ("members", Presence::Optional, Content::At(Members)),
+    ("members", Optional, At(Members)),
     (
         "minimum-alignment",
-        Presence::Number(1),
-        Content::PowerOfTwo {
+        Number(1),
+        PowerOfTwo {
             high: LARGEST_ALIGN,
         },
     ),
 ];
 
 /// What an entry of a members list says of its member.
-pub(crate) static MEMBER: [Row; 2] = [
-    INHERIT,
-    ("field-type", Presence::Needed, Content::At(MemberType)),
-];
+pub(crate) static MEMBER: [Row; 2] = [INHERIT, ("field-type", Needed, At(MemberType))];
 
 /// The words of classes, and the place that is a field type of the class.
 pub(crate) static CLASSES: [(&str, Place); 18] = [

@@ -1,7 +1,11 @@
 //! The properties of the objects that are no field types (barectf 3.1, "Configuration object" and the pages below it).
 
+use crate::Content::{
+    self, Anything, At, ClockName, Identifier, IdentifierOrAuto, Level, OneFlag, Text, Whole, Word,
+};
 use crate::Place::*;
-use crate::{Content, MAX_TEXT_BYTES, Presence, Row, Words};
+use crate::Presence::{self, Needed, Number, OneOrder, Optional, WithClock, WithIdentifier};
+use crate::{MAX_TEXT_BYTES, Row, Words};
 
 /// The lowest number of 64 bits, one of which is the sign.
 pub(crate) const LOWEST: i128 = -9223372036854775808;
@@ -13,107 +17,79 @@ pub(crate) const HIGHEST: i128 = 9223372036854775807;
 pub(crate) const HIGHEST_UNSIGNED: i128 = 18446744073709551615;
 
 pub(crate) static ROOT: [Row; 2] = [
-    ("trace", Presence::Needed, Content::At(Trace)),
-    ("options", Presence::Optional, Content::Anything),
+    ("trace", Needed, At(Trace)),
+    ("options", Optional, Anything),
 ];
 
 pub(crate) static TRACE: [Row; 2] = [
-    ("type", Presence::Needed, Content::At(TraceType)),
-    ("environment", Presence::Optional, Content::At(Environment)),
+    ("type", Needed, At(TraceType)),
+    ("environment", Optional, At(Environment)),
 ];
 
 pub(crate) static TRACE_TYPE: [Row; 8] = [
-    (
-        "trace-byte-order",
-        Presence::OneOrder,
-        Content::Word(Words::ByteOrder),
-    ),
-    (
-        "native-byte-order",
-        Presence::OneOrder,
-        Content::Word(Words::ByteOrder),
-    ),
-    ("uuid", Presence::Optional, Content::IdentifierOrAuto),
-    ("clock-types", Presence::Optional, Content::At(ClockTypes)),
-    (
-        "data-stream-types",
-        Presence::Optional,
-        Content::At(StreamTypes),
-    ),
-    ("$features", Presence::Optional, Content::At(TraceFeatures)),
-    (
-        "$field-type-aliases",
-        Presence::Optional,
-        Content::At(FieldTypeAliases),
-    ),
-    (
-        "$log-level-aliases",
-        Presence::Optional,
-        Content::At(LogLevelAliases),
-    ),
+    ("trace-byte-order", OneOrder, Word(Words::ByteOrder)),
+    ("native-byte-order", OneOrder, Word(Words::ByteOrder)),
+    ("uuid", Optional, IdentifierOrAuto),
+    ("clock-types", Optional, At(ClockTypes)),
+    ("data-stream-types", Optional, At(StreamTypes)),
+    ("$features", Optional, At(TraceFeatures)),
+    ("$field-type-aliases", Optional, At(FieldTypeAliases)),
+    ("$log-level-aliases", Optional, At(LogLevelAliases)),
 ];
 
 pub(crate) static TRACE_FEATURES: [Row; 3] = [
-    (
-        "magic-field-type",
-        Presence::Flag(true),
-        Content::At(MagicFeature),
-    ),
-    (
-        "uuid-field-type",
-        Presence::WithIdentifier,
-        Content::At(IdentifierFeature),
-    ),
+    ("magic-field-type", Presence::Flag(true), At(MagicFeature)),
+    ("uuid-field-type", WithIdentifier, At(IdentifierFeature)),
     (
         "data-stream-type-id-field-type",
         Presence::Flag(true),
-        Content::At(Feature),
+        At(Feature),
     ),
 ];
 
 pub(crate) static CLOCK_TYPE: [Row; 7] = [
     (
         "frequency",
-        Presence::Number(1000000000),
-        Content::Whole {
+        Number(1000000000),
+        Whole {
             low: 1,
             high: HIGHEST_UNSIGNED,
         },
     ),
     (
         "description",
-        Presence::Optional,
-        Content::Text {
+        Optional,
+        Text {
             most_bytes: MAX_TEXT_BYTES,
         },
     ),
-    ("uuid", Presence::Optional, Content::Identifier),
+    ("uuid", Optional, Identifier),
     (
         "precision",
-        Presence::Number(0),
-        Content::Whole {
+        Number(0),
+        Whole {
             low: 0,
             high: HIGHEST_UNSIGNED,
         },
     ),
-    ("offset", Presence::Optional, Content::At(ClockOffset)),
+    ("offset", Optional, At(ClockOffset)),
     ("origin-is-unix-epoch", Presence::Flag(true), Content::Flag),
-    ("$c-type", Presence::Optional, Content::Anything),
+    ("$c-type", Optional, Anything),
 ];
 
 pub(crate) static CLOCK_OFFSET: [Row; 2] = [
     (
         "seconds",
-        Presence::Number(0),
-        Content::Whole {
+        Number(0),
+        Whole {
             low: LOWEST,
             high: HIGHEST,
         },
     ),
     (
         "cycles",
-        Presence::Number(0),
-        Content::Whole {
+        Number(0),
+        Whole {
             low: 0,
             high: HIGHEST_UNSIGNED,
         },
@@ -121,99 +97,59 @@ pub(crate) static CLOCK_OFFSET: [Row; 2] = [
 ];
 
 pub(crate) static STREAM_TYPE: [Row; 6] = [
-    ("$is-default", Presence::Flag(false), Content::OneFlag),
-    (
-        "$default-clock-type-name",
-        Presence::Optional,
-        Content::ClockName,
-    ),
-    ("$features", Presence::Optional, Content::At(StreamFeatures)),
+    ("$is-default", Presence::Flag(false), OneFlag),
+    ("$default-clock-type-name", Optional, ClockName),
+    ("$features", Optional, At(StreamFeatures)),
     (
         "packet-context-field-type-extra-members",
-        Presence::Optional,
-        Content::At(ExtraMembers),
+        Optional,
+        At(ExtraMembers),
     ),
     (
         "event-record-common-context-field-type",
-        Presence::Optional,
-        Content::At(StructureType),
+        Optional,
+        At(StructureType),
     ),
-    (
-        "event-record-types",
-        Presence::Optional,
-        Content::At(EventTypes),
-    ),
+    ("event-record-types", Optional, At(EventTypes)),
 ];
 
 pub(crate) static STREAM_FEATURES: [Row; 2] = [
-    ("packet", Presence::Optional, Content::At(PacketFeatures)),
-    (
-        "event-record",
-        Presence::Optional,
-        Content::At(EventRecordFeatures),
-    ),
+    ("packet", Optional, At(PacketFeatures)),
+    ("event-record", Optional, At(EventRecordFeatures)),
 ];
 
 pub(crate) static PACKET_FEATURES: [Row; 6] = [
     (
         "total-size-field-type",
         Presence::Flag(true),
-        Content::At(SizeFeature),
+        At(SizeFeature),
     ),
     (
         "content-size-field-type",
         Presence::Flag(true),
-        Content::At(SizeFeature),
+        At(SizeFeature),
     ),
-    (
-        "beginning-timestamp-field-type",
-        Presence::WithClock,
-        Content::At(Feature),
-    ),
-    (
-        "end-timestamp-field-type",
-        Presence::WithClock,
-        Content::At(Feature),
-    ),
+    ("beginning-timestamp-field-type", WithClock, At(Feature)),
+    ("end-timestamp-field-type", WithClock, At(Feature)),
     (
         "discarded-event-records-counter-snapshot-field-type",
         Presence::Flag(true),
-        Content::At(Feature),
+        At(Feature),
     ),
     (
         "sequence-number-field-type",
         Presence::Flag(false),
-        Content::At(Feature),
+        At(Feature),
     ),
 ];
 
 pub(crate) static EVENT_RECORD_FEATURES: [Row; 2] = [
-    (
-        "type-id-field-type",
-        Presence::Flag(true),
-        Content::At(Feature),
-    ),
-    (
-        "timestamp-field-type",
-        Presence::WithClock,
-        Content::At(Feature),
-    ),
+    ("type-id-field-type", Presence::Flag(true), At(Feature)),
+    ("timestamp-field-type", WithClock, At(Feature)),
 ];
 
 pub(crate) static EVENT_TYPE: [Row; 3] = [
-    (
-        "log-level",
-        Presence::Optional,
-        Content::Level { high: HIGHEST },
-    ),
-    (
-        "specific-context-field-type",
-        Presence::Optional,
-        Content::At(StructureType),
-    ),
-    (
-        "payload-field-type",
-        Presence::Optional,
-        Content::At(StructureType),
-    ),
+    ("log-level", Optional, Level { high: HIGHEST }),
+    ("specific-context-field-type", Optional, At(StructureType)),
+    ("payload-field-type", Optional, At(StructureType)),
 ];
