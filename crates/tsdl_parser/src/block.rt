@@ -54,10 +54,10 @@ fn fact_at(alloc: Global, atoms: Atoms<'_>) -> Read<'_, Fact>
     let (first, rest) = next_atom(alloc, atoms)?;
     match first {
         Some(Atom::Text(text)) => Ok((Fact::Text(text), rest)),
-        _ => {
-            let (number, rest) = number_at(alloc, atoms, Expected::Fact)?;
-            Ok((Fact::Number(number), rest))
-        }
+        _ => number_at(alloc, atoms, Expected::Fact).map(|(number, rest)| (
+            Fact::Number(number),
+            rest,
+        )),
     }
 }
 
@@ -104,8 +104,7 @@ impl Repeated for Block {
     #[tactic(auto, unfolding(crate::specs::ParsingBlocks::ended_block_at))]
     fn item_at(alloc: Global, atoms: Atoms<'_>) -> Read<'_, Block> {
         let (block, rest) = block_at(alloc, atoms)?;
-        let rest = mark_at(Mark::Semicolon, rest)?;
-        Ok((block, rest))
+        Ok((block, mark_at(Mark::Semicolon, rest)?))
     }
 }
 

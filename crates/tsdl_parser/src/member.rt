@@ -84,8 +84,7 @@ impl Repeated for Bracket {
     fn item_at(alloc: Global, atoms: Atoms<'_>) -> Read<'_, Bracket> {
         let inside = mark_at(Mark::OpenBracket, atoms)?;
         let (count, rest) = going_on(count_at(alloc, inside), &[CLOSE_BRACKET])?;
-        let rest = mark_at(Mark::CloseBracket, rest)?;
-        Ok((count, rest))
+        Ok((count, mark_at(Mark::CloseBracket, rest)?))
     }
 }
 

@@ -12,13 +12,10 @@ use std::alloc::{AllocError, Global};
 use tsdl_grammar::{Atom, Atoms, Front, Mark, Number, Sign, TokenKind};
 
 /// What stands at the front of some atoms, and the atoms behind it.
-pub(crate) type Read<'a, T> = Result<(T, Atoms<'a>), Unread>;
+pub(crate) type Read<'a, T, E = Unread> = Result<(T, Atoms<'a>), E>;
 
 /// The first atom, where there is one, in memory of its own, and the atoms behind it.
-pub(crate) fn next_atom(
-    alloc: Global,
-    atoms: Atoms<'_>,
-) -> Result<(Option<Atom>, Atoms<'_>), AllocError>
+pub(crate) fn next_atom(alloc: Global, atoms: Atoms<'_>) -> Read<'_, Option<Atom>, AllocError>
     ensures { IfOk result (λ x. MatchOption x.0 (shown atoms.entry ≡ []) (λ a. shown atoms.entry ≡ a ∷ shown x.1)) }
 {
     match atoms.front {

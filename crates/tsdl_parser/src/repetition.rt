@@ -80,6 +80,5 @@ pub(crate) fn braced_at<T: Repeated>(
 {
     let inside = expecting(mark_at(Mark::OpenBrace, atoms), expected)?;
     let (items, rest) = all_at(alloc, inside, Start::InBraces)?;
-    let rest = mark_at(Mark::CloseBrace, rest)?;
-    Ok((items, rest))
+    Ok((items, mark_at(Mark::CloseBrace, rest)?))
 }
