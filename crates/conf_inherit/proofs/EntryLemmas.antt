@@ -14,9 +14,7 @@ use Rattle.serde_json.specs.declared.value.Value.{Value}
 use Rattle.serde_json.proofs.Views.{get_item_within, get_item_past}
 use Rattle.conf_inherit.specs.EntryIndex.{place_if, place_from, lower, lowest, lowest_of, lay_over_found}
 use Rattle.conf_inherit.specs.Laying.{has_entry, lay_over, lay_over_entry, lay_over_member}
-use Rattle.conf_inherit.proofs.InOrder.{get_first}
-use Rattle.conf_inherit.proofs.LayingLemmas.{Meets, same, other, meets, get_other, get_same}
-use Rattle.conf_inherit.proofs.ItemLemmas.{differs}
+use Rattle.conf_inherit.proofs.LayingLemmas.{get_first, Meets, same, other, meets, get_other, get_same, differs}
 
 -- ---- the first place of a name
 

@@ -23,22 +23,18 @@ use Rattle.conf_inherit.specs.Nesting.{nests, PassesDepth}
 use Rattle.conf_inherit.specs.Places.{inner_places}
 use Rattle.conf_inherit.specs.Resolution.{aliases_of, Resolves, resolution}
 use Rattle.conf_inherit.specs.Rounds.{Outcomes, rounds, no_outcomes}
-use Rattle.conf_inherit.proofs.ExcludedPlaces.{too_many_excluded}
+use Rattle.conf_inherit.proofs.SoundPlaces.{too_many_excluded, flawless, PartSound, own_sound, part_sound, member_sound, item_sound, SoundAt, sound_along}
 use Rattle.conf_inherit.proofs.LaysOver.{lays}
 use Rattle.conf_inherit.proofs.LimitLemmas.{apart_fits}
 use Rattle.conf_inherit.proofs.NestingLemmas.{depth_excluded}
-use Rattle.conf_inherit.proofs.ListLemmas.{found_each}
+use Rattle.conf_inherit.proofs.LayingLemmas.{found_each}
 use Rattle.conf_inherit.proofs.OneReading.{one_look}
-use Rattle.conf_inherit.proofs.PartsFit.{sound_named}
-use Rattle.conf_inherit.proofs.PlacesFit.{all_fit}
+use Rattle.conf_inherit.proofs.PlacesFit.{sound_named, all_fit}
 use Rattle.conf_inherit.proofs.ReadInOrder.{read_in_order, aliases_apart}
-use Rattle.conf_inherit.proofs.ReadyLemmas.{ready}
-use Rattle.conf_inherit.proofs.ResolveLemmas.{no_flaws, ok_aliases, ok_then, resolution_sound}
+use Rattle.conf_inherit.proofs.FaultLemmas.{ready}
+use Rattle.conf_inherit.proofs.ResolveLemmas.{no_flaws, ok_aliases, ok_then, resolution_sound, circle_refused}
 use Rattle.conf_inherit.proofs.RoundLemmas.{rounds_resolved, rounds_root, all_done}
-use Rattle.conf_inherit.proofs.SoundPlaces.{flawless}
-use Rattle.conf_inherit.proofs.SoundParts.{PartSound, own_sound, part_sound, member_sound, item_sound, SoundAt, sound_along}
 use Rattle.conf_inherit.proofs.FieldPlaceLemmas.{list_place}
-use Rattle.conf_inherit.proofs.WalkLemmas.{circle_refused}
 
 -- ---- what a resolution says of the tree
 

@@ -1,19 +1,87 @@
--- What laying an object or a members list over another leaves at each name.
-use Rattle.std.proofs.Common.{◌≡◌, ℕ, List, Option, Some, None, Bool, true, false, true≢false, Ordering, Less, Equal, Greater, nat_cmp, is_eq, refl, sym, ap, ◌∙◌, subst}
+-- Objects whose names ascend: what they have at a name, and that their values at all names tell them apart.
+use Rattle.std.proofs.Common.{◌≡◌, ℕ, List, Some, None, Ordering, Less, Equal, Greater, nat_cmp, is_eq, refl, sym, ap, ◌∙◌, subst, Option, Bool, true, false, true≢false, [], ◌∷◌, ◌++◌, is_some, bytes_eq}
+use Rattle.std.proofs.lemmas.Cmp.{nat_list_cmp_total, tied_itself}
 use Rattle.std.proofs.lemmas.Map.Text.{is_eq-slice_cmp}
 use Rattle.std.proofs.lemmas.Slice.Eq.{bytes_eq-Decides}
 use Rattle.std.specs.Cmp.Lexicographic.{slice_cmp}
-use Rattle.std.specs.Ordering.{match_ordering}
-use Rattle.serde_json.specs.Data.{Data, array, Items, Members, no_members, member, put}
-use Rattle.serde_json.specs.Find.{get_member}
+use Rattle.std.specs.Ordering.{ordering_reverse, match_ordering}
+use Rattle.serde_json.specs.Data.{Data, Members, no_members, member, array, Items, put, object, no_items, item}
+use Rattle.serde_json.specs.Find.{get_member, get}
+use Rattle.conf_inherit.specs.Names.{AllAbove, IsInOrder, join_items, map_items, names_of, join_members, NoClash, properties_of, items_in, entries_of, new_names, entry_values, member_names}
 use Rattle.serde_json.proofs.Views.{get_member-put, get_member-put_other}
 use Rattle.conf_table.specs.declared.place.Place.{Place}
 use Rattle.conf_table.specs.declared.place.Place.TheVariants as places
 use Rattle.conf_inherit.specs.FieldPlaces.{place_under, is_base_name, lists_members}
-use Rattle.conf_inherit.specs.Names.{AllAbove, IsInOrder, join_items, map_items}
-use Rattle.conf_inherit.specs.Looks.{base_of}
-use Rattle.conf_inherit.specs.Laying.{items_below, lay, lay_base, lay_members, lay_over, lay_new}
-use Rattle.conf_inherit.proofs.InOrder.{get_first, get_below, get_after, equal_names, above_turned, above_through}
+use Rattle.conf_inherit.specs.Looks.{base_of, Entries, no_entry, an_entry}
+use Rattle.conf_inherit.specs.Laying.{items_below, lay, lay_base, lay_members, lay_over, lay_new, has_entry, lay_new_member, lay_over_entry, lay_over_member, lay_new_entry}
+use Rattle.std.specs.List.{list_any}
+use Rattle.serde_json.specs.View.{view, items_view}
+use Rattle.serde_json.specs.declared.value.Value.{Value}
+
+pub same_name : (k : List ℕ) → slice_cmp nat_cmp k k ≡ Equal
+same_name k = tied_itself nat_list_cmp_total k
+
+pub equal_names : (k l : List ℕ) → slice_cmp nat_cmp k l ≡ Equal → k ≡ l
+equal_names k l is = (bytes_eq-Decides k l).0 (sym (is_eq-slice_cmp k l) ∙ ap is_eq is)
+
+pub above_turned : (k l : List ℕ) → slice_cmp nat_cmp k l ≡ Greater → slice_cmp nat_cmp l k ≡ Less
+above_turned k l is = nat_list_cmp_total.antisymm l k ∙ ap ordering_reverse is
+
+pub get_first : (k : List ℕ) (d : Data) (ms : Members) → get_member k (member k d ms) ≡ Some d
+get_first k d ms = rw same_name
+
+pub get_below : (k l : List ℕ) (d : Data) (ms : Members) → slice_cmp nat_cmp k l ≡ Less → get_member k (member l d ms) ≡ get_member k ms
+get_below k l d ms is = rw is
+
+pub get_after : (k l : List ℕ) (d : Data) (ms : Members) → slice_cmp nat_cmp k l ≡ Greater → get_member k (member l d ms) ≡ get_member k ms
+get_after k l d ms is = rw is
+
+-- a name that all are above is none of them
+pub get_none : (k : List ℕ) (ms : Members) → AllAbove k ms → get_member k ms ≡ None
+get_none k no_members h = refl
+get_none k (member l d ms) h = get_below k l d ms h.0 ∙ get_none k ms h.1
+
+pub above_through : (k l : List ℕ) (ms : Members) → slice_cmp nat_cmp k l ≡ Less → AllAbove l ms → AllAbove k ms
+above_through k l no_members below h = tt
+above_through k l (member m d ms) below h = (nat_list_cmp_total.trans k l m below h.0, above_through k l ms below h.1)
+
+pub some_is_none : {A : Type 0} (x : A) → Some x ≡ None → ⊥
+some_is_none x e = cc
+
+pub value_same : {A : Type 0} (x y : A) → Some x ≡ Some y → x ≡ y
+value_same x y h = cc
+
+module _ (k l : List ℕ) (d e : Data) (ms ns : Members) where
+  -- where the first names differ, the lower one is missing on the other side
+  lower_missing : slice_cmp nat_cmp k l ≡ Less → AllAbove l ns → get_member k (member k d ms) ≡ get_member k (member l e ns) → ⊥
+  lower_missing below h same = some_is_none d (sym (get_first k d ms) ∙ same ∙ get_below k l e ns below ∙ get_none k ns (above_through k l ns below h))
+
+-- the rest agrees too
+rest_agrees : (k : List ℕ) (d : Data) (ms ns : Members) → AllAbove k ms → AllAbove k ns → ((q : List ℕ) → get_member q (member k d ms) ≡ get_member q (member k d ns)) → (q : List ℕ) → get_member q ms ≡ get_member q ns
+rest_agrees k d ms ns h i same q = go _ refl
+  where
+    go : (o : Ordering) → slice_cmp nat_cmp q k ≡ o → get_member q ms ≡ get_member q ns
+    go Less is = sym (get_below q k d ms is) ∙ same q ∙ get_below q k d ns is
+    go Greater is = sym (get_after q k d ms is) ∙ same q ∙ get_after q k d ns is
+    go Equal is = subst (λ x. get_member x ms ≡ get_member x ns) (sym (equal_names q k is)) (get_none k ms h ∙ sym (get_none k ns i))
+
+-- objects in order with the same value at each name are the same
+pub same_members : (ms ns : Members) → IsInOrder ms → IsInOrder ns → ((q : List ℕ) → get_member q ms ≡ get_member q ns) → ms ≡ ns
+same_members no_members no_members h i same = refl
+same_members no_members (member l e ns) h i same = absurd (some_is_none e (sym (get_first l e ns) ∙ sym (same l)))
+same_members (member k d ms) no_members h i same = absurd (some_is_none d (sym (get_first k d ms) ∙ same k))
+same_members (member k d ms) (member l e ns) h i same = go _ refl (same_members ms ns h.1 i.1)
+  where
+    go : (o : Ordering) → slice_cmp nat_cmp k l ≡ o → (((q : List ℕ) → get_member q ms ≡ get_member q ns) → ms ≡ ns) → member k d ms ≡ member l e ns
+    go Less is rest = absurd (lower_missing k l d e ms ns is i.0 (same k))
+    go Greater is rest = absurd (lower_missing l k e d ns ms (above_turned k l is) h.0 (sym (same l)))
+    go Equal is rest =
+        let one : k ≡ l = equal_names k l is in
+        let other : d ≡ e = value_same d e (sym (get_first k d ms) ∙ same k ∙ subst (λ x. get_member x (member l e ns) ≡ Some e) (sym one) (get_first l e ns)) in
+        let agree : (q : List ℕ) → get_member q (member k d ms) ≡ get_member q (member k d ns) = λ q. same q ∙ ap (λ x. get_member q (member x e ns)) (sym one) ∙ ap (λ x. get_member q (member k x ns)) (sym other) in
+        ap (λ x. member x d ms) one ∙ ap (λ x. member l x ms) other ∙ ap (member l e) (rest (rest_agrees k d ms ns h.0 (subst (λ x. AllAbove x ns) (sym one) i.0) agree))
+
+-- What laying an object or a members list over another leaves at each name.
 
 above_put_at : (o : Ordering) (q k l : List ℕ) (d e : Data) (ms : Members) → slice_cmp nat_cmp q k ≡ Less → slice_cmp nat_cmp q l ≡ Less → AllAbove q ms → AllAbove q (put k d ms)
     → AllAbove q (match_ordering o (member k d (member l e ms)) (member l d ms) (member l e (put k d ms)))
@@ -138,3 +206,204 @@ lay_members-found done s k v (member l d ms) base b h = go _ refl (meets k l) (l
         rw is (put_found k l _ _ e ∙ ap (λ x. Some (lay done (place_under s x) d (get_member x base))) (sym e) ∙ ap (λ x. Some (lay done (place_under s k) x (get_member k base))) g)
     go true is (other apart) rest = rw is (rest (sym (get_other k l d ms apart) ∙ h))
     go false is (other apart) rest = rw is (get_member-put_other k l _ _ apart ∙ rest (sym (get_other k l d ms apart) ∙ h))
+
+-- Lists of values item by item, and the entries of members lists.
+
+pub join_none : (ds : Items) → join_items ds no_items ≡ ds
+join_none no_items = refl
+join_none (item d ds) = ap (item d) (join_none ds)
+
+-- an item that is pushed stands before what follows
+pub join_pushed : (vs : List Value) (v : Value) (more : Items) → join_items (items_view (vs ++ v ∷ [])) more ≡ join_items (items_view vs) (item (view v) more)
+join_pushed [] v more = refl
+join_pushed (w ∷ vs) v more = ap (item (view w)) (join_pushed vs v more)
+
+-- two lists one after the other
+pub join_appended : (vs ws : List Value) → items_view (vs ++ ws) ≡ join_items (items_view vs) (items_view ws)
+join_appended [] ws = refl
+join_appended (v ∷ vs) ws = ap (item (view v)) (join_appended vs ws)
+
+pub differs : (n l : List ℕ) → (n ≡ l → ⊥) → (b : Bool) → bytes_eq n l ≡ b → b ≡ false
+differs n l apart true e = absurd (apart ((bytes_eq-Decides n l).0 e))
+differs n l apart false e = refl
+
+-- an object has a name where one of its names is that
+pub has_name : (n : List ℕ) (ms : Members) → is_some (get_member n ms) ≡ list_any (bytes_eq n) (names_of ms)
+has_name n no_members = refl
+has_name n (member l d ms) = go (meets n l) (has_name n ms)
+  where
+    go : Meets n l → is_some (get_member n ms) ≡ list_any (bytes_eq n) (names_of ms) → is_some (get_member n (member l d ms)) ≡ list_any (bytes_eq n) (names_of (member l d ms))
+    go (same e) rest = let g : bytes_eq n l ≡ true = (bytes_eq-Decides n l).1 e in rw (get_same n l d ms e, g) refl
+    go (other apart) rest = let g : bytes_eq n l ≡ false = differs n l apart (bytes_eq n l) refl in rw (get_other n l d ms apart, g) rest
+
+pub any_joined_here : (n : List ℕ) (a more : Members) → list_any (bytes_eq n) (names_of a) ≡ true → list_any (bytes_eq n) (names_of (join_members a more)) ≡ true
+any_joined_here n no_members more h = cc
+any_joined_here n (member l d a) more h = go (bytes_eq n l) refl (any_joined_here n a more)
+  where
+    go : (t : Bool) → bytes_eq n l ≡ t → (list_any (bytes_eq n) (names_of a) ≡ true → list_any (bytes_eq n) (names_of (join_members a more)) ≡ true) → list_any (bytes_eq n) (names_of (join_members (member l d a) more)) ≡ true
+    go true is rest = rw is refl
+    go false is rest = rw is (rest (rw is at h))
+
+pub any_joined_later : (n : List ℕ) (a more : Members) → list_any (bytes_eq n) (names_of a) ≡ false → list_any (bytes_eq n) (names_of (join_members a more)) ≡ list_any (bytes_eq n) (names_of more)
+any_joined_later n no_members more h = refl
+any_joined_later n (member l d a) more h = go (bytes_eq n l) refl (any_joined_later n a more)
+  where
+    go : (t : Bool) → bytes_eq n l ≡ t → (list_any (bytes_eq n) (names_of a) ≡ false → list_any (bytes_eq n) (names_of (join_members a more)) ≡ list_any (bytes_eq n) (names_of more)) → list_any (bytes_eq n) (names_of (join_members (member l d a) more)) ≡ list_any (bytes_eq n) (names_of more)
+    go true is rest = absurd (let bad = rw is at h in let no : true ≡ false = bad in cc)
+    go false is rest = rw is (rest (rw is at h))
+
+-- an entry that the base has not comes before the later new ones
+pub new_member_fresh : (done : Members) (n : List ℕ) (d : Data) (ms : Members) (seen rest : Items) → has_entry n seen ≡ false
+    → lay_new_member done (member n d ms) seen rest ≡ item (object (member n (lay done places.Member d None) no_members)) (lay_new_member done ms seen rest)
+new_member_fresh done n d ms seen rest h = rw h refl
+
+-- a property that is no base goes over the base's
+pub lay_members-first : (done : Members) (s : Place) (n : List ℕ) (d : Data) (ms base : Members) → is_base_name s n ≡ false
+    → lay_members done s (member n d ms) base ≡ put n (lay done (place_under s n) d (get_member n base)) (lay_members done s ms base)
+lay_members-first done s n d ms base h = rw h refl
+
+-- Members lists: their entries by name, and what laying one over another gives.
+
+-- ---- laying by item is laying by entry
+
+over_join : (done a more : Members) (b rest : Data) → lay_over_member done (join_members a more) b rest ≡ lay_over_member done a b (lay_over_member done more b rest)
+over_join done no_members more b rest = refl
+over_join done (member n d ms) more b rest = rw (over_join done ms more b rest) refl
+
+over_entry : (done : Members) (e b rest : Data) → lay_over_entry done e b rest ≡ lay_over_member done (properties_of e) b rest
+over_entry done (object ms) b rest = refl
+over_entry done _ b rest = refl
+
+pub over_entries : (done : Members) (es : Items) (b : Data) → lay_over done es b ≡ lay_over_member done (entries_of es) b b
+over_entries done no_items b = refl
+over_entries done (item e es) b = over_entry done e b (lay_over done es b) ∙ ap (lay_over_member done (properties_of e) b) (over_entries done es b) ∙ sym (over_join done (properties_of e) (entries_of es) b b)
+
+new_join : (done a more : Members) (seen : Items) (rest : Items) → lay_new_member done (join_members a more) seen rest ≡ lay_new_member done a seen (lay_new_member done more seen rest)
+new_join done no_members more seen rest = refl
+new_join done (member n d ms) more seen rest = rw (new_join done ms more seen rest) refl
+
+new_entry : (done : Members) (e : Data) (seen : Items) (rest : Items) → lay_new_entry done e seen rest ≡ lay_new_member done (properties_of e) seen rest
+new_entry done (object ms) seen rest = refl
+new_entry done _ seen rest = refl
+
+pub new_entries : (done : Members) (es : Items) (seen : Items) → lay_new done es seen ≡ lay_new_member done (entries_of es) seen no_items
+new_entries done no_items seen = refl
+new_entries done (item e es) seen = new_entry done e seen (lay_new done es seen) ∙ ap (lay_new_member done (properties_of e) seen) (new_entries done es seen) ∙ sym (new_join done (properties_of e) (entries_of es) seen no_items)
+
+-- a list has an entry of the name where one of its names is that
+pub get_property : (n : List ℕ) (e : Data) → get n e ≡ get_member n (properties_of e)
+get_property n (object ms) = refl
+get_property n _ = refl
+
+pub has_entry_names : (n : List ℕ) (es : Items) → has_entry n es ≡ list_any (bytes_eq n) (names_of (entries_of es))
+has_entry_names n no_items = refl
+has_entry_names n (item e es) = go (list_any (bytes_eq n) (names_of (properties_of e))) refl (has_entry_names n es)
+  where
+    found : is_some (get n e) ≡ list_any (bytes_eq n) (names_of (properties_of e))
+    found = ap is_some (get_property n e) ∙ has_name n (properties_of e)
+
+    go : (t : Bool) → list_any (bytes_eq n) (names_of (properties_of e)) ≡ t → has_entry n es ≡ list_any (bytes_eq n) (names_of (entries_of es)) → has_entry n (item e es) ≡ list_any (bytes_eq n) (names_of (entries_of (item e es)))
+    go true is rest = rw (found, is) (sym (any_joined_here n (properties_of e) (entries_of es) is))
+    go false is rest = rw (found, is) (rest ∙ sym (any_joined_later n (properties_of e) (entries_of es) is))
+
+-- ---- the base's entry, with the entry of its name over it
+
+module _ (done : Members) (n : List ℕ) (r : Data) where
+  named : Data
+  named = object (member n r no_members)
+
+  pub over_absent : (es : Members) (rest : Data) → get_member n es ≡ None → lay_over_member done es (object (member n r no_members)) rest ≡ rest
+  over_absent no_members rest h = refl
+  over_absent (member m d ms) rest h = go (meets m n) (over_absent ms rest)
+    where
+      go : Meets m n → (get_member n ms ≡ None → lay_over_member done ms (object (member n r no_members)) rest ≡ rest) → lay_over_member done (member m d ms) (object (member n r no_members)) rest ≡ rest
+      go (same e) later = absurd (let f : Some d ≡ None = sym (get_same n m d ms (sym e)) ∙ h in cc)
+      go (other apart) later =
+          let none : get_member m (member n r no_members) ≡ None = get_other m n r no_members apart in
+          rw none (later (sym (get_other n m d ms (λ e. apart (sym e))) ∙ h))
+
+  pub over_found : (es : Members) (rest v : Data) → get_member n es ≡ Some v → lay_over_member done es (object (member n r no_members)) rest ≡ object (member n (lay done places.Member v (Some r)) no_members)
+  over_found no_members rest v h = cc
+  over_found (member m d ms) rest v h = go (meets m n) (over_found ms rest v)
+    where
+      go : Meets m n → (get_member n ms ≡ Some v → lay_over_member done ms (object (member n r no_members)) rest ≡ object (member n (lay done places.Member v (Some r)) no_members))
+          → lay_over_member done (member m d ms) (object (member n r no_members)) rest ≡ object (member n (lay done places.Member v (Some r)) no_members)
+      go (same e) later =
+          let found : get_member m (member n r no_members) ≡ Some r = get_same m n r no_members e in
+          let f : Some d ≡ Some v = sym (get_same n m d ms (sym e)) ∙ h in
+          let g : d ≡ v = cc in
+          rw found (ap (λ x. object (member x (lay done places.Member d (Some r)) no_members)) e ∙ ap (λ x. object (member n (lay done places.Member x (Some r)) no_members)) g)
+      go (other apart) later =
+          let none : get_member m (member n r no_members) ≡ None = get_other m n r no_members apart in
+          rw none (later (sym (get_other n m d ms (λ e. apart (sym e))) ∙ h))
+
+-- ---- names
+
+pub entry_names : {al : Members} {cs : List Data} {ns : List (List ℕ)} {rs : Items} → Entries al cs ns rs → names_of (entries_of rs) ≡ ns
+entry_names no_entry = refl
+entry_names (an_entry {n = n} l e) = ap (λ x. n ∷ x) (entry_names e)
+
+pub entries_joined : {al : Members} {cs : List Data} {ns ms : List (List ℕ)} {rs ts : Items} → Entries al cs ns rs → Entries al cs ms ts → Entries al cs (ns ++ ms) (join_items rs ts)
+entries_joined no_entry f = f
+entries_joined (an_entry l e) f = an_entry l (entries_joined e f)
+
+-- every name with its value
+abbrev pub AllEntries : (List ℕ → Data → Type 0) → Members → Type 0
+AllEntries P no_members = Unit {0}
+AllEntries P (member k d ms) = P k d × AllEntries P ms
+
+pub all_along : (P Q : List ℕ → Data → Type 0) → ((k : List ℕ) (d : Data) → P k d → Q k d) → (ms : Members) → AllEntries P ms → AllEntries Q ms
+all_along P Q f no_members h = tt
+all_along P Q f (member k d ms) h = (f k d h.0, all_along P Q f ms h.1)
+
+pub all_joined : (P : List ℕ → Data → Type 0) (a b : Members) → AllEntries P a → AllEntries P b → AllEntries P (join_members a b)
+all_joined P no_members b h i = i
+all_joined P (member k d a) b h i = (h.0, all_joined P a b h.1 i)
+
+-- what holds of each holds of what a name finds
+pub entry_found : (P : List ℕ → Data → Type 0) (ms : Members) → AllEntries P ms → (k : List ℕ) (w : Data) → get_member k ms ≡ Some w → P k w
+entry_found P no_members each k w h = cc
+entry_found P (member l d ms) each k w h = go (meets k l) (entry_found P ms each.1 k w)
+  where
+    go : Meets k l → (get_member k ms ≡ Some w → P k w) → P k w
+    go (same e) later = subst (λ x. P x w) (sym e) (subst (P l) (value_same d w (sym (get_same k l d ms e) ∙ h)) each.0)
+    go (other apart) later = later (sym (get_other k l d ms apart) ∙ h)
+
+-- without a clash, each entry is what its name finds
+pub found_each : (ms : Members) → NoClash ms → AllEntries (λ k d. get_member k ms ≡ Some d) ms
+found_each no_members h = tt
+found_each (member l e ms) h = (get_first l e ms, all_along (λ k d. get_member k ms ≡ Some d) (λ k d. get_member k (member l e ms) ≡ Some d) later ms (found_each ms h.1))
+  where
+    later : (k : List ℕ) (d : Data) → get_member k ms ≡ Some d → get_member k (member l e ms) ≡ Some d
+    later k d f = go (meets k l)
+      where
+        go : Meets k l → get_member k (member l e ms) ≡ Some d
+        go (same is) = absurd (let g : get_member l ms ≡ Some d = subst (λ x. get_member x ms ≡ Some d) is f in let no : get_member l ms ≡ None = h.0 in let bad : Some d ≡ None = cc in cc)
+        go (other apart) = get_other k l e ms apart ∙ f
+
+-- a name that is not among those of several lists has no value there
+any_append : (n : List ℕ) (xs ys : List (List ℕ)) → list_any (bytes_eq n) (xs ++ ys) ≡ false → (list_any (bytes_eq n) xs ≡ false) × (list_any (bytes_eq n) ys ≡ false)
+any_append n [] ys h = (refl, h)
+any_append n (x ∷ xs) ys h = go (bytes_eq n x) refl (any_append n xs ys)
+  where
+    go : (t : Bool) → bytes_eq n x ≡ t → (list_any (bytes_eq n) (xs ++ ys) ≡ false → (list_any (bytes_eq n) xs ≡ false) × (list_any (bytes_eq n) ys ≡ false)) → (list_any (bytes_eq n) (x ∷ xs) ≡ false) × (list_any (bytes_eq n) ys ≡ false)
+    go true is rest = absurd (true≢false (rw is at h))
+    go false is rest = let r = rest (rw is at h) in (rw is r.0, r.1)
+
+-- a name that was not seen, and is not new, is no name of the list
+new_absent : (n : List ℕ) (seen : List (List ℕ)) (ms : Members) → list_any (bytes_eq n) seen ≡ false → list_any (bytes_eq n) (new_names seen (names_of ms)) ≡ false → get_member n ms ≡ None
+new_absent n seen no_members h i = refl
+new_absent n seen (member l d ms) h i = go (meets n l) (list_any (bytes_eq l) seen) refl (new_absent n seen ms h)
+  where
+    go : Meets n l → (t : Bool) → list_any (bytes_eq l) seen ≡ t → (list_any (bytes_eq n) (new_names seen (names_of ms)) ≡ false → get_member n ms ≡ None) → get_member n (member l d ms) ≡ None
+    go (same e) true is rest = absurd (true≢false (sym is ∙ ap (λ x. list_any (bytes_eq x) seen) (sym e) ∙ h))
+    go (same e) false is rest = absurd (true≢false (let f = rw is at i in let g : bytes_eq n l ≡ true = (bytes_eq-Decides n l).1 e in rw g at f))
+    go (other apart) true is rest = get_other n l d ms apart ∙ rest (rw is at i)
+    go (other apart) false is rest = get_other n l d ms apart ∙ rest (let f = rw is at i in (any_append n (l ∷ []) (new_names seen (names_of ms)) f).1)
+
+pub no_values : (n : List ℕ) (cs : List Data) → list_any (bytes_eq n) (member_names cs) ≡ false → entry_values n cs ≡ []
+no_values n [] h = refl
+no_values n (c ∷ cs) h =
+    let parts = any_append n (member_names cs) (new_names (member_names cs) (names_of (entries_of (items_in c)))) h in
+    let none : get_member n (entries_of (items_in c)) ≡ None = new_absent n (member_names cs) (entries_of (items_in c)) parts.0 parts.1 in
+    rw none (no_values n cs parts.0)

@@ -1,6 +1,7 @@
 -- What holds of values and of all their parts holds of what is looked up in them: that they have no float, and that the
 -- names of each object ascend.
 use Rattle.std.proofs.Common.{◌≡◌, ℕ, List, [], ◌∷◌, Option, Some, None, option_and_then, Bool, true, false, refl, sym, ◌∙◌, subst}
+use Rattle.std.proofs.lemmas.Bool.{or_parts, or_from}
 use Rattle.serde_json.specs.Data.{Data, string, array, object, Items, no_items, item, Members, no_members, member}
 use Rattle.serde_json.specs.Find.{get, get_member}
 use Rattle.serde_json.specs.Written.{has_float, items_have_float, members_have_float}
@@ -10,10 +11,7 @@ use Rattle.conf_inherit.specs.FieldPlaces.{is_base_name}
 use Rattle.conf_inherit.specs.Names.{properties_of, items_in, entries_of, join_items, cons_some, values_in, entry_values, joined}
 use Rattle.conf_inherit.specs.Looks.{Chain, nothing, alias, member_alias, heir, own, a_list, plain, Looks, looks, Shows, a_scalar, an_object, the_members, a_join, Entries, no_entry, an_entry, base_of, if_objects, if_lists, values_at}
 use Rattle.conf_inherit.specs.Resolution.{members_or_none, trace_name, type_name, aliases_name, aliases_of, Resolves}
-use Rattle.conf_inherit.proofs.InOrder.{get_first, get_none}
-use Rattle.conf_inherit.proofs.LayingLemmas.{get_other}
-use Rattle.conf_inherit.proofs.ReadyLemmas.{or_left, or_right, neither}
-use Rattle.conf_inherit.proofs.ListLemmas.{AllEntries, all_joined, entry_found}
+use Rattle.conf_inherit.proofs.LayingLemmas.{get_first, get_none, get_other, AllEntries, all_joined, entry_found}
 
 abbrev pub AllOf : (Data → Type 0) → List Data → Type 0
 AllOf P [] = Unit {0}
@@ -171,19 +169,19 @@ IsWhole d = has_float d ≡ false
 
 items_whole : (es : Items) → AllItems IsWhole es → items_have_float es ≡ false
 items_whole no_items h = refl
-items_whole (item d es) h = neither (has_float d) (items_have_float es) h.0 (items_whole es h.1)
+items_whole (item d es) h = or_from (has_float d) (items_have_float es) h.0 (items_whole es h.1)
 
 whole_items : (es : Items) → items_have_float es ≡ false → AllItems IsWhole es
 whole_items no_items h = tt
-whole_items (item d es) h = (or_left (has_float d) (items_have_float es) h, whole_items es (or_right (has_float d) (items_have_float es) h))
+whole_items (item d es) h = ((or_parts (has_float d) (items_have_float es) h).0, whole_items es ((or_parts (has_float d) (items_have_float es) h).1))
 
 members_whole : (ms : Members) → AllMembers IsWhole ms → members_have_float ms ≡ false
 members_whole no_members h = refl
-members_whole (member k d ms) h = neither (has_float d) (members_have_float ms) h.0 (members_whole ms h.1)
+members_whole (member k d ms) h = or_from (has_float d) (members_have_float ms) h.0 (members_whole ms h.1)
 
 whole_members : (ms : Members) → members_have_float ms ≡ false → AllMembers IsWhole ms
 whole_members no_members h = tt
-whole_members (member k d ms) h = (or_left (has_float d) (members_have_float ms) h, whole_members ms (or_right (has_float d) (members_have_float ms) h))
+whole_members (member k d ms) h = ((or_parts (has_float d) (members_have_float ms) h).0, whole_members ms ((or_parts (has_float d) (members_have_float ms) h).1))
 
 pub resolved_whole : (t r : Data) → has_float t ≡ false → Resolves t r → has_float r ≡ false
 resolved_whole t r h l = of_resolved IsWhole (record { a_text = λ n. refl; to_list = items_whole; of_list = whole_items; to_object = λ ms o h. members_whole ms h; of_object = whole_members }) t r h l

@@ -9,7 +9,7 @@ use Rattle.conf_inherit.specs.Circle.{Mentions, MentionsInItems, MentionsInMembe
 use Rattle.conf_inherit.specs.Ready.{Names}
 use Rattle.conf_inherit.specs.Flaws.{is_unknown, own_flaws, base_flaws, inner_flaws, item_flaws, member_flaws, mark}
 use Rattle.conf_inherit.specs.Named.{all_named, all_named_in_items, all_named_in_members, has}
-use Rattle.conf_inherit.proofs.ReadyLemmas.{part_empty, rest_empty, front_empty, back_empty, not_unknown, and_left, and_right}
+use Rattle.conf_inherit.proofs.FaultLemmas.{part_empty, rest_empty, front_empty, back_empty, not_unknown, and_left, and_right}
 
 pub both : (a b : Bool) → a ≡ true → b ≡ true → (a && b) ≡ true
 both true b h i = i

@@ -9,9 +9,8 @@ use Rattle.conf_tree.specs.Flaw.{Flaw, Place as Step, key, index, here, within}
 use Rattle.conf_tree.specs.Walk.{HasMember, LeadsTo, IsNested}
 use Rattle.conf_tree.specs.declared.fault_kind.FaultKind.TheVariants.{TooDeep}
 use Rattle.conf_inherit.specs.Nesting.{nests, items_nest, members_nest, deep_flaws, deep_item_flaws, deep_member_flaws, PassesDepth}
-use Rattle.conf_inherit.proofs.FaultLemmas.{Among, among_within, first_or_rest, Aligned, aligned_here, aligned_next}
+use Rattle.conf_inherit.proofs.FaultLemmas.{Among, among_within, first_or_rest, Aligned, aligned_here, aligned_next, part_empty, rest_empty}
 use Rattle.conf_inherit.proofs.NamedLemmas.{both}
-use Rattle.conf_inherit.proofs.ReadyLemmas.{part_empty, rest_empty}
 
 mutual
   pub shallow_nests : (d : Data) (levels : ℕ) → deep_flaws d levels ≡ [] → nests d levels ≡ true

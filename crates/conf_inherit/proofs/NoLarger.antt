@@ -7,10 +7,9 @@ use Rattle.conf_inherit.specs.Limits.{Fits}
 use Rattle.conf_inherit.specs.Names.{IsInOrder, join_items}
 use Rattle.conf_inherit.specs.Nesting.{nests, items_nest, members_nest}
 use Rattle.conf_inherit.specs.Size.{size, items_size, members_size}
-use Rattle.conf_inherit.proofs.InOrder.{get_first, get_none, equal_names, above_turned, above_through, some_is_none, value_same}
-use Rattle.conf_inherit.proofs.LayingLemmas.{Meets, same, other, meets, get_other, get_same}
+use Rattle.conf_inherit.proofs.LayingLemmas.{get_first, get_none, equal_names, above_turned, above_through, some_is_none, value_same, Meets, same, other, meets, get_other, get_same}
 use Rattle.conf_inherit.proofs.NamedLemmas.{both}
-use Rattle.conf_inherit.proofs.ReadyLemmas.{and_left, and_right}
+use Rattle.conf_inherit.proofs.FaultLemmas.{and_left, and_right}
 use Rattle.conf_inherit.proofs.SizeLemmas.{joined_size, member_size}
 
 pub record NoLarger (d e : Data) : Type 0 where

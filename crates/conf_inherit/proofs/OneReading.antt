@@ -6,7 +6,7 @@ use Rattle.conf_table.specs.declared.place.Place.{Place}
 use Rattle.conf_table.specs.declared.place.Place.TheVariants as places
 use Rattle.conf_inherit.specs.FieldPlaces.{place_under, names_alias, names_member_type}
 use Rattle.conf_inherit.specs.Looks.{Chain, nothing, alias, member_alias, heir, own, a_list, plain, Looks, looks, Shows, a_scalar, an_object, the_members, a_join, Entries, no_entry, an_entry, if_objects, if_lists, values_at}
-use Rattle.conf_inherit.proofs.InOrder.{same_members}
+use Rattle.conf_inherit.proofs.LayingLemmas.{same_members}
 
 -- a text names an alias, or a member's type, and not both
 pub one_name : (s : Place) → names_alias s ≡ true → names_member_type s ≡ true → ⊥

@@ -1,30 +1,207 @@
--- Where nothing is wrong at the places of a configuration, each field type in it fits by itself.
-use Rattle.std.proofs.Common.{◌≡◌, ◌++◌, inl, inr, ℕ, zero, suc, Bool, true, false, true≢false, List, [], ◌∷◌, Some, None, refl, sym, ap, ◌∙◌, subst}
-use Rattle.serde_json.specs.Data.{Data, array, object, Items, no_items, item, Members, no_members}
-use Rattle.serde_json.specs.Find.{get_item}
+-- Where a field type fits, and each value of a `$inherit` in it by itself, each field type in it fits by itself.
+use Rattle.std.proofs.Common.{◌≡◌, ◌&&◌, ◌⊎◌, inl, inr, ℕ, zero, suc, Bool, true, false, true≢false, List, [], ◌∷◌, Some, None, is_some, refl, sym, subst, ◌++◌, ap, ◌∙◌}
+use Rattle.serde_json.specs.Data.{Data, array, object, Items, no_items, item, Members, no_members, member}
+use Rattle.serde_json.specs.Find.{get_item, get_member}
 use Rattle.conf_tree.specs.Flaw.{Place as Step, key, index, within}
-use Rattle.conf_tree.specs.Order.{Ascends}
+use Rattle.conf_tree.specs.Order.{Ascends, ItemsAscend, MembersAscend}
 use Rattle.conf_tree.specs.Walk.{HasMember}
 use Rattle.conf_table.specs.declared.place.Place.{Place}
 use Rattle.conf_table.specs.declared.place.Place.TheVariants as places
-use Rattle.conf_inherit.specs.FieldPlaces.{place_under, place_of_items, names_alias, names_member_type, leads_on}
+use Rattle.conf_table.specs.Table.{rows_of, entries_of, content_under, place_in}
+use Rattle.conf_inherit.specs.FieldPlaces.{field_place, place_under, place_of_items, names_alias, names_member_type, is_base_name, lists_members, is_entry, leads_on}
 use Rattle.conf_inherit.specs.Faults.{Leads}
-use Rattle.conf_inherit.specs.Flaws.{own_flaws, inner_flaws, flaws, type_flaws, mark}
-use Rattle.conf_inherit.specs.Laying.{lay}
-use Rattle.conf_inherit.specs.Limits.{Fits, Inherits, limit_flaws}
+use Rattle.conf_inherit.specs.Flaws.{is_wrong, is_no_entry, own_flaws, inner_flaws, flaws, type_flaws, mark}
+use Rattle.conf_inherit.specs.Laying.{lay, lay_base, lay_members, lay_new, lay_new_entry, lay_new_member, has_entry, members_below}
+use Rattle.conf_inherit.specs.Limits.{Fits, Inherits, InheritsInItems, InheritsInMembers, limit_flaws}
 use Rattle.conf_inherit.specs.Looks.{AreResolved}
 use Rattle.conf_inherit.specs.Named.{all_named, has}
+use Rattle.conf_inherit.specs.Ready.{Names, IsReady}
+use Rattle.conf_inherit.proofs.LaysOver.{laid_entry, property_stands, ground_base, grows}
+use Rattle.conf_inherit.proofs.LayingLemmas.{lay_members-found, AllEntries, found_each, value_same}
+use Rattle.conf_inherit.proofs.NamedLemmas.{named}
+use Rattle.conf_inherit.proofs.NoLarger.{NoLargerItems, as_large, as_large_items, items_through, next_item, one_more, no_item, fits_below, property_fits, item_fits}
+use Rattle.conf_inherit.proofs.ReadInOrder.{apart}
+use Rattle.conf_inherit.proofs.FaultLemmas.{ready, single_entry, front_empty, back_empty, part_empty, rest_empty}
+use Rattle.conf_inherit.proofs.SoundPlaces.{PartSound, own_sound, member_sound, item_sound, PlaceSound, member_place, object_places, list_places, extras_there, root_place, place_of_type, place_of_member, IsOutside, under_outside, on_or_ignored, extras_or_ignored, type_or_not}
+use Rattle.conf_inherit.proofs.FieldPlaceLemmas.{list_place, base_place, ignored_under, alias_place, member_value_place, entry_place, no_alias_member, member_field}
 use Rattle.conf_inherit.specs.Places.{inner_places, item_places, place_flaws}
-use Rattle.conf_inherit.specs.Ready.{Names}
-use Rattle.conf_inherit.proofs.ExcludedPlaces.{PlaceSound, member_place, object_places, list_places, extras_there, root_place}
-use Rattle.conf_inherit.proofs.InOrder.{value_same}
 use Rattle.conf_inherit.proofs.LimitLemmas.{sound_type, alike_inner, alike_limit}
-use Rattle.conf_inherit.proofs.PartsFit.{IsFit, sound_named, fits_along, ignored_leads_nowhere, member_in_order, item_in_order, inherits_under}
-use Rattle.conf_inherit.proofs.PlaceLemmas.{place_of_type, place_of_member}
-use Rattle.conf_inherit.proofs.ReadyLemmas.{front_empty, back_empty, part_empty, rest_empty}
-use Rattle.conf_inherit.proofs.SoundPlaces.{IsOutside, under_outside, on_or_ignored, extras_or_ignored, type_or_not}
-use Rattle.conf_inherit.proofs.SoundParts.{PartSound, member_sound, item_sound}
-use Rattle.conf_inherit.proofs.FieldPlaceLemmas.{alias_place, member_value_place, entry_place, no_alias_member, member_field}
+
+-- ---- where a path leads to no field type
+
+lists_or_ignored : (s : Place) → (lists_members s ≡ true) ⊎ (place_of_items s ≡ places.Ignored)
+unfolding lists_members place_of_items
+lists_or_ignored places.Members = inl refl
+lists_or_ignored places.ExtraMembers = inl refl
+lists_or_ignored _ = inr refl
+
+led_on : (path : List Step) (v : Data) (t : Place) (w : Data) → Leads places.Ignored v path t w → t ≡ places.Ignored
+unfolding place_of_items
+led_on [] v t w (place, value) = sym place
+led_on (key k ∷ path) v t w (ms, d, is, there, leads) = led_on path d t w (subst (λ x. Leads x d path t w) (ignored_under k) leads)
+led_on (index i ∷ path) v t w (es, d, is, there, leads) = led_on path d t w leads
+
+nothing_named : Names places.Ignored → ⊥
+unfolding names_alias names_member_type
+nothing_named (inl h) = true≢false (sym h)
+nothing_named (inr h) = true≢false (sym h)
+
+-- from a value that is ignored no way leads to a field type
+pub ignored_leads_nowhere : (s : Place) (path : List Step) (v : Data) (t : Place) (w : Data) → s ≡ places.Ignored → Leads s v path t w → ¬ Names t
+ignored_leads_nowhere s path v t w ignored leads names = nothing_named (subst Names (led_on path v t w (subst (λ x. Leads x v path t w) ignored leads)) names)
+
+-- ---- what an object or a list has
+
+pub each_has : (P : List ℕ → Data → Type 0) (ms : Members) (k : List ℕ) (d : Data) → AllEntries P ms → HasMember k d ms → P k d
+each_has P no_members k d each there = absurd there
+each_has P (member l e ms) k d each (inl same) = subst (λ x. P x d) (sym same.0) (subst (P l) (sym same.1) each.0)
+each_has P (member l e ms) k d each (inr later) = each_has P ms k d each.1 later
+
+pub member_in_order : (ms : Members) (k : List ℕ) (d : Data) → MembersAscend ms → HasMember k d ms → Ascends d
+member_in_order no_members k d each there = absurd there
+member_in_order (member l e ms) k d each (inl same) = subst Ascends (sym same.1) each.0
+member_in_order (member l e ms) k d each (inr later) = member_in_order ms k d each.1 later
+
+pub item_in_order : (es : Items) (i : ℕ) (d : Data) → ItemsAscend es → get_item i es ≡ Some d → Ascends d
+item_in_order no_items i d each there = absurd cc
+item_in_order (item e es) zero d each there = subst Ascends (value_same e d there) each.0
+item_in_order (item e es) (suc i) d each there = item_in_order es i d each.1 there
+
+pub inherits_under : (x : Data) (s : Place) (ms : Members) (k : List ℕ) (d : Data) → HasMember k d ms → Inherits x (place_under s k) d → InheritsInMembers x s ms
+inherits_under x s no_members k d there h = absurd there
+inherits_under x s (member l e ms) k d (inl same) h = inl (inr (subst (λ n. Inherits x (place_under s n) e) same.0 (subst (Inherits x (place_under s k)) same.1 h)))
+inherits_under x s (member l e ms) k d (inr later) h = inr (inherits_under x s ms k d later h)
+
+base_inherits : (s : Place) (ms : Members) (k : List ℕ) (d : Data) → is_base_name s k ≡ true → HasMember k d ms → InheritsInMembers d s ms
+base_inherits s no_members k d is there = absurd there
+base_inherits s (member l e ms) k d is (inl same) = inl (inl (subst (λ n. is_base_name s n ≡ true) same.0 is, same.1))
+base_inherits s (member l e ms) k d is (inr later) = inr (base_inherits s ms k d is later)
+
+pub inherits_in_item : (x : Data) (s : Place) (es : Items) (i : ℕ) (d : Data) → get_item i es ≡ Some d → Inherits x s d → InheritsInItems x s es
+inherits_in_item x s no_items i d there h = absurd cc
+inherits_in_item x s (item e es) zero d there h = inl (subst (Inherits x s) (sym (value_same e d there)) h)
+inherits_in_item x s (item e es) (suc i) d there h = inr (inherits_in_item x s es i d there h)
+
+-- ---- the entries of a members list that is laid over nothing
+
+module _ (done : Members) where
+  behind_members : (ms : Members) (seen rest : Items) → NoLargerItems rest (lay_new_member done ms seen rest)
+  behind_members no_members seen rest = as_large_items rest
+  behind_members (member n d ms) seen rest = go (has_entry n seen) refl (behind_members ms seen rest)
+    where
+      go : (t : Bool) → has_entry n seen ≡ t → NoLargerItems rest (lay_new_member done ms seen rest) → NoLargerItems rest (lay_new_member done (member n d ms) seen rest)
+      go true is later = rw is later
+      go false is later = rw is (one_more (laid_entry done n d) rest (lay_new_member done ms seen rest) later)
+
+  behind_entry : (e : Data) (seen rest : Items) → NoLargerItems rest (lay_new_entry done e seen rest)
+  behind_entry (object ms) seen rest = behind_members ms seen rest
+  behind_entry _ seen rest = as_large_items rest
+
+  -- an entry of one property stands in the list
+  entry_stands : (es : Items) (i : ℕ) (n : List ℕ) (d : Data) → get_item i es ≡ Some (object (member n d no_members)) → NoLargerItems (item (laid_entry done n d) no_items) (lay_new done es no_items)
+  entry_stands no_items i n d there = absurd cc
+  entry_stands (item e es) zero n d there =
+      subst (λ x. NoLargerItems (item (laid_entry done n d) no_items) (lay_new_entry done x no_items (lay_new done es no_items))) (sym (value_same e (object (member n d no_members)) there))
+      (next_item (laid_entry done n d) (laid_entry done n d) no_items (lay_new done es no_items) (as_large (laid_entry done n d)) (no_item (lay_new done es no_items)))
+  entry_stands (item e es) (suc i) n d there =
+      items_through (item (laid_entry done n d) no_items) (lay_new done es no_items) (lay_new_entry done e no_items (lay_new done es no_items)) (entry_stands es i n d there) (behind_entry e no_items (lay_new done es no_items))
+
+  -- an entry by itself is laid as it is in its list
+  entry_laid : (n : List ℕ) (d : Data) → lay done places.Entry (object (member n d no_members)) None ≡ laid_entry done n d
+  unfolding place_under content_under entries_of rows_of place_in field_place is_base_name
+  entry_laid n d = refl
+
+  list_laid : (s : Place) (es : Items) → lists_members s ≡ true → Fits (lay done s (array es) None) → Fits (array (lay_new done es no_items))
+  list_laid s es is h = rw is at h
+
+  entry_fits : (s : Place) (es : Items) (i : ℕ) (e : Data) → lists_members s ≡ true → is_no_entry e ≡ false → get_item i es ≡ Some e → Fits (lay done s (array es) None) → Fits (lay done places.Entry e None)
+  entry_fits s es i (object (member n d no_members)) is single there h =
+      subst Fits (sym (entry_laid n d)) (item_fits (laid_entry done n d) (lay_new done es no_items) (entry_stands es i n d there) (list_laid s es is h))
+  entry_fits s es i (object (member n d (member m c ms))) is single there h = absurd (true≢false single)
+  entry_fits s es i (object no_members) is single there h = absurd (true≢false single)
+  entry_fits s es i _ is single there h = absurd (true≢false single)
+
+-- ---- inside a field type
+
+module _ (al done : Members) (known : AreResolved al done) (all : (n : List ℕ) → has al n ≡ true → has done n ≡ true) where
+  -- a value without a flaw fits, laid over nothing, and so does each value of a `$inherit` in it
+  pub record IsFit (s : Place) (v : Data) : Type 0 where
+    pub taken : Bool
+    pub seen : Members
+    pub sound : PartSound al s taken seen v
+    pub in_order : Ascends v
+    pub inherited : (d : Data) → Inherits d s v → all_named (has done) places.FieldType d ≡ true → Fits (lay done places.FieldType d None)
+    pub whole : Fits (lay done s v None)
+
+  pub sound_named : (s : Place) (v : Data) (taken : Bool) (seen : Members) → PartSound al s taken seen v → all_named (has done) s v ≡ true
+  sound_named s v taken seen h = named al None (has done) all v s taken seen h.own h.inner
+
+  sound_ready : (s : Place) (v : Data) (taken : Bool) (seen : Members) → PartSound al s taken seen v → IsReady done s v
+  sound_ready s v taken seen h = ready al None done v s seen h.inner (sound_named s v taken seen h)
+
+  -- a value of a `$inherit`, or another property
+  property_fit : (s : Place) (ms : Members) (k : List ℕ) (d : Data) (h : IsFit s (object ms)) → HasMember k d ms → Fits (lay done (place_under s k) d None)
+  property_fit s ms k d h there = go (is_base_name s k) refl
+    where
+      taken : Bool
+      taken = is_entry s && is_some (get_member k h.seen)
+
+      part : PartSound al (place_under s k) taken no_members d
+      part = member_sound al s h.seen ms k d h.sound.inner there
+
+      base_at : is_base_name s k ≡ true → Fits (lay done (place_under s k) d None)
+      base_at is =
+          let place = base_place s k is in
+          subst (λ x. Fits (lay done x d None)) (sym place) (h.inherited d (base_inherits s ms k d is there) (subst (λ x. all_named (has done) x d ≡ true) place (sound_named (place_under s k) d taken no_members part)))
+
+      other_at : is_base_name s k ≡ false → Fits (lay done (place_under s k) d None)
+      other_at is =
+          let base = members_below (lay_base done s ms None) in
+          let found = each_has (λ n e. get_member n ms ≡ Some e) ms k d (found_each ms (apart ms h.in_order.0)) there in
+          let (cs, g) = ground_base al done known s ms (sound_ready s (object ms) h.taken h.seen h.sound) in
+          let (vs, stands) = property_stands al done s k cs base g in
+          let laid = lay done (place_under s k) d (get_member k base) in
+          fits_below (lay done (place_under s k) d None) laid (grows al done d (place_under s k) (sound_ready (place_under s k) d taken no_members part) vs (get_member k base) stands)
+          (property_fits k laid (lay_members done s ms base) (lay_members-found done s k d ms base is found) h.whole)
+
+      go : (t : Bool) → is_base_name s k ≡ t → Fits (lay done (place_under s k) d None)
+      go true is = base_at is
+      go false is = other_at is
+
+  fit_under : (s : Place) (ms : Members) (k : List ℕ) (d : Data) → IsFit s (object ms) → HasMember k d ms → IsFit (place_under s k) d
+  fit_under s ms k d h there = record {
+    taken = is_entry s && is_some (get_member k h.seen);
+    seen = no_members;
+    sound = member_sound al s h.seen ms k d h.sound.inner there;
+    in_order = member_in_order ms k d h.in_order.1 there;
+    inherited = λ x is. h.inherited x (inherits_under x s ms k d there is);
+    whole = property_fit s ms k d h there;
+  }
+
+  fit_entry : (s : Place) (es : Items) (i : ℕ) (e : Data) → lists_members s ≡ true → IsFit s (array es) → get_item i es ≡ Some e → IsFit (place_of_items s) e
+  fit_entry s es i e is h there =
+      let one = item_sound al s 0 no_members es i e h.sound.inner there in
+      let place = list_place s is in
+      let right = (own_sound al (place_of_items s) false e one.sound.own).right in
+      record {
+        taken = false;
+        seen = one.marks;
+        sound = one.sound;
+        in_order = item_in_order es i e h.in_order there;
+        inherited = λ x within. h.inherited x (inherits_in_item x (place_of_items s) es i e there within);
+        whole = subst (λ t. Fits (lay done t e None)) (sym place) (entry_fits done s es i e is (single_entry e (subst (λ t. is_wrong t e ≡ false) place right)) there h.whole);
+      }
+
+  -- each field type that a path leads to fits
+  pub fits_along : (path : List Step) (s : Place) (v : Data) (t : Place) (w : Data) → IsFit s v → Leads s v path t w → Names t → Fits (lay done t w None)
+  fits_along [] s v t w h (place, value) names = subst (λ x. Fits (lay done x w None)) place (subst (λ x. Fits (lay done s x None)) value h.whole)
+  fits_along (key k ∷ path) s v t w h (ms, d, is, there, leads) names = fits_along path (place_under s k) d t w (fit_under s ms k d (subst (IsFit s) is h) there) leads names
+  fits_along (index i ∷ path) s v t w h (es, d, is, there, leads) names = elim (lists_or_ignored s) [
+    | inl lists ↦ fits_along path (place_of_items s) d t w (fit_entry s es i d lists (subst (IsFit s) is h) there) leads names
+    | inr ignored ↦ absurd (ignored_leads_nowhere (place_of_items s) path d t w ignored leads names)
+  ]
+
+-- Where nothing is wrong at the places of a configuration, each field type in it fits by itself.
 
 -- ---- the places on the way to a field type
 

@@ -7,7 +7,7 @@ use Rattle.conf_table.specs.declared.place.Place.TheVariants as places
 use Rattle.conf_table.specs.declared.row.Entries.{Entries}
 use Rattle.conf_table.specs.Table.{Told, rows_of, entries_of, row_in, content_under, told_under, under_entries, place_in}
 use Rattle.conf_inherit.specs.FieldPlaces.{inherit_name, field_type_name, field_place, field_place_or_none, place_in_type, place_under}
-use Rattle.conf_inherit.proofs.ReadyLemmas.{and_left, and_right}
+use Rattle.conf_inherit.proofs.FaultLemmas.{and_left, and_right}
 
 module _ (f : List ℕ → Place → Bool) (k : List ℕ) where
   abbrev true_along : List Told → Bool

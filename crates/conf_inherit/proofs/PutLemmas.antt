@@ -2,7 +2,7 @@
 use Rattle.std.proofs.Common.{◌≡◌, ℕ, suc, List, ◌++◌, map, Ordering, Less, Equal, Greater, nat_cmp, None, Ok, Bool, true, false, true≢false, bytes_eq, refl, sym, ap, ◌∙◌, subst}
 use Rattle.std.specs.Cmp.Lexicographic.{slice_cmp}
 use Rattle.std.proofs.lemmas.Slice.Eq.{bytes_eq-Decides}
-use Rattle.serde_json.specs.Data.{Data, null, boolean, number, string, array, object, Members, no_members, member, put}
+use Rattle.serde_json.specs.Data.{Data, string, array, object, Members, no_members, member, put}
 use Rattle.conf_tree.specs.Flaw.{key, within}
 use Rattle.conf_tree.specs.Reading.{◌>>=◌}
 use Rattle.conf_tree.specs.Walk.{refusal}
@@ -13,12 +13,9 @@ use Rattle.conf_inherit.specs.Laying.{lay, lay_members, lay_text}
 use Rattle.conf_inherit.specs.Nesting.{members_nest, deep_flaws, deep_member_flaws}
 use Rattle.conf_inherit.specs.Resolution.{trace_name, type_name, aliases_name, if_shallow}
 use Rattle.conf_inherit.specs.Whole.{holds_aliases, with_property, in_property, in_object, with_aliases, AreLaid}
-use Rattle.conf_inherit.proofs.InOrder.{equal_names}
-use Rattle.conf_inherit.proofs.ItemLemmas.{differs, lay_members-first}
-use Rattle.conf_inherit.proofs.LayingLemmas.{apart_greater}
+use Rattle.conf_inherit.proofs.LayingLemmas.{equal_names, differs, lay_members-first, apart_greater}
 use Rattle.conf_inherit.proofs.NestingLemmas.{nests_shallow}
-use Rattle.conf_inherit.proofs.TakenLemmas.{on_way}
-use Rattle.conf_inherit.proofs.WholeLemmas.{no_base, laid_object}
+use Rattle.conf_inherit.proofs.TakenLemmas.{on_way, no_base, laid_object}
 
 -- ---- the value of one name, where another is put
 
@@ -87,17 +84,13 @@ module _ (done : Members) (s : Place) (above : holds_aliases s ≡ true) where
     value_with (object ms) = laid_object done s (with_property n f ms) above ∙ ap object (members_with ms) ∙ ap (in_property n g) (sym (laid_object done s ms above))
     value_with (array es) = rw (no_list s above) refl
     value_with (string x) = rw (text_stays done s x above) refl
-    value_with null = refl
-    value_with (boolean b) = refl
-    value_with (number x) = refl
+    value_with _ = refl
 
   object_with : (al : Members) (v : Data) → lay done s (in_object al v) None ≡ in_object (lay_members done s al no_members) (lay done s v None)
   object_with al (object ms) = laid_object done s al above
   object_with al (array es) = rw (no_list s above) refl
   object_with al (string x) = rw (text_stays done s x above) refl
-  object_with al null = refl
-  object_with al (boolean b) = refl
-  object_with al (number x) = refl
+  object_with al _ = refl
 
 aliases_above : holds_aliases places.FieldTypeAliases ≡ true
 unfolding holds_aliases

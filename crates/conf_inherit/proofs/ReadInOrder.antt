@@ -13,8 +13,7 @@ use Rattle.conf_tree.specs.Order.{IsInOrder, Ascends, ItemsAscend, MembersAscend
 use Rattle.conf_tree.specs.Walk.{IsTreeOf}
 use Rattle.conf_inherit.specs.Names.{NoClash}
 use Rattle.conf_inherit.specs.Resolution.{members_or_none, trace_name, type_name, aliases_name, aliases_of}
-use Rattle.conf_inherit.proofs.InOrder.{get_none}
-use Rattle.conf_inherit.proofs.LayingLemmas.{in_order_put}
+use Rattle.conf_inherit.proofs.LayingLemmas.{get_none, in_order_put}
 
 -- ---- the names of each object of a tree ascend
 

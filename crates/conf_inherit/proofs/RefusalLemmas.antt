@@ -2,7 +2,7 @@
 use Rattle.std.proofs.Common.{◌≡◌, ◌<◌, ◌+◌, ◌++◌, ◌⊎◌, inl, inr, ℕ, suc, List, [], ◌∷◌, map, Option, Some, None, option_and_then, Result, Ok, Err, is_some, nat_lt, Bool, true, false, refl, sym, ap, ◌∙◌, subst, arith}
 use Rattle.std.specs.Prelude.{⊤}
 use borrow.Author.Tests.{ltb-true}
-use Rattle.serde_json.specs.Data.{Data, null, boolean, number, string, array, object, Items, no_items, item, Members, no_members, member}
+use Rattle.serde_json.specs.Data.{Data, array, object, Items, no_items, item, Members, no_members, member}
 use Rattle.serde_json.specs.Events.{items_len, members_len}
 use Rattle.serde_json.specs.Find.{get, get_member, get_item}
 use Rattle.conf_tree.specs.Flaw.{Flaw, key, index, here, within}
@@ -26,18 +26,16 @@ use Rattle.conf_inherit.specs.Names.{NoClash}
 use Rattle.conf_inherit.specs.Resolution.{members_or_none, trace_name, type_name, aliases_name, aliases_of, in_aliases, from_aliases, if_shallow, resolution, Resolves}
 use Rattle.conf_inherit.specs.Nesting.{deep_flaws, PassesDepth}
 use Rattle.conf_inherit.proofs.NestingLemmas.{deep_holds}
-use Rattle.conf_inherit.proofs.PlaceLemmas.{place_of_type, place_of_member, place_of_list, place_of_other}
-use Rattle.conf_inherit.proofs.ResolveLemmas.{laid_resolves, resolution_sound}
+use Rattle.conf_inherit.proofs.SoundPlaces.{place_of_type, place_of_member, place_of_list, place_of_other}
+use Rattle.conf_inherit.proofs.ResolveLemmas.{laid_resolves, resolution_sound, IsOpen, open_walks}
 use Rattle.conf_inherit.proofs.RoundLemmas.{rounds_resolved}
 use Rattle.conf_inherit.specs.Named.{all_named, has}
 use Rattle.conf_inherit.specs.Rounds.{Outcomes, rounds, no_outcomes}
 use Rattle.conf_inherit.specs.Limits.{Exceeds, fitting, passed, limit_flaws}
-use Rattle.conf_inherit.proofs.CircleLemmas.{IsOpen, open_walks}
 use Rattle.conf_inherit.proofs.LimitLemmas.{Judged, fits, exceeds, judged}
 use Rattle.conf_inherit.proofs.FieldPlaceLemmas.{trace_place, trace_type_place, aliases_place, alias_place_under, alias_field, base_place}
 use Rattle.conf_inherit.proofs.FaultLemmas.{Among, refused_among, BasesHold, among_within, holds_in_object, entry_holds, flaw_of_itself_holds, flaw_holds, first_or_rest, Aligned, aligned_here, aligned_next, Seen, seen_next_at, none_seen}
-use Rattle.conf_inherit.proofs.ListLemmas.{AllEntries, found_each}
-use Rattle.conf_inherit.proofs.LayingLemmas.{Meets, same, other, meets, get_same, get_other}
+use Rattle.conf_inherit.proofs.LayingLemmas.{AllEntries, found_each, Meets, same, other, meets, get_same, get_other}
 
 limit_kind : (r : Data) (o : Result Data FaultKind) (f : Flaw) → Judged r o → Among f (passed o) → (kind : FaultKind) × Exceeds kind r × (f ≡ here kind)
 limit_kind r o f (fits x) h = absurd h
@@ -217,11 +215,7 @@ lift_aliases al t f None b c e1 e2 e3 ms is h some = absurd (some (lost b c e2 e
     lost b c e2 e3 ms is = sym is ∙ ap members_or_none (sym e3) ∙ ap (λ x. members_or_none (option_and_then (get aliases_name) x)) (sym e2)
 lift_aliases al t f (Some a) None c e1 e2 e3 ms is h some = absurd (some (sym is ∙ ap members_or_none (sym e3)))
 lift_aliases al t f (Some a) (Some b) None e1 e2 e3 ms is h some = absurd (some (sym is))
-lift_aliases al t f (Some a) (Some b) (Some null) e1 e2 e3 ms is h some = absurd (some (sym is))
-lift_aliases al t f (Some a) (Some b) (Some (boolean x)) e1 e2 e3 ms is h some = absurd (some (sym is))
-lift_aliases al t f (Some a) (Some b) (Some (number x)) e1 e2 e3 ms is h some = absurd (some (sym is))
-lift_aliases al t f (Some a) (Some b) (Some (string x)) e1 e2 e3 ms is h some = absurd (some (sym is))
-lift_aliases al t f (Some a) (Some b) (Some (array x)) e1 e2 e3 ms is h some = absurd (some (sym is))
+lift_aliases al t f (Some a) (Some b) (Some _) e1 e2 e3 ms is h some = absurd (some (sym is))
 
 -- ---- a refusal
 

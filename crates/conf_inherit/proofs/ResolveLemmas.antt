@@ -1,16 +1,16 @@
 -- The parts of a resolution together.
-use Rattle.std.proofs.Common.{◌≡◌, ◌≤◌, ℕ, zero, suc, List, [], ◌∷◌, None, Result, Ok, Err, String, Global, true, false, true≢false, Less, refl, sym, ap, ◌∙◌, subst, string_cmp, string_bytes, arith}
+use Rattle.std.proofs.Common.{◌≡◌, ◌≤◌, ℕ, zero, suc, List, [], ◌∷◌, None, Result, Ok, Err, String, Global, true, false, true≢false, Less, refl, sym, ap, ◌∙◌, subst, string_cmp, string_bytes, arith, ◌&&◌, ◌<◌, Option, Some, is_some, Bool, if◌then◌else◌, ◌||◌, not}
 use Rattle.std.specs.List.{AllByRecursion}
 use Rattle.std.specs.List.Sorted.{IsStrictlySortedBy}
 use Rattle.std.specs.Map.{keys_of}
-use Rattle.serde_json.specs.Data.{Data, array, object, Items, no_items, item, Members, no_members, member, depth, items_depth, members_depth}
+use Rattle.serde_json.specs.Data.{Data, array, object, Items, no_items, item, Members, no_members, member, depth, items_depth, members_depth, put, null}
 use Rattle.serde_json.specs.View.{members_view}
-use Rattle.serde_json.proofs.Views.{Entry}
+use Rattle.serde_json.proofs.Views.{Entry, get_member-put_other}
 use Rattle.conf_tree.specs.Flaw.{Flaw}
 use Rattle.conf_tree.specs.Walk.{refusal}
 use Rattle.conf_table.specs.declared.place.Place.TheVariants as places
 use Rattle.conf_inherit.specs.AliasFlaws.{all_alias_flaws}
-use Rattle.conf_inherit.specs.Flaws.{own_flaws, inner_flaws}
+use Rattle.conf_inherit.specs.Flaws.{own_flaws, inner_flaws, flaws}
 use Rattle.conf_inherit.specs.Laying.{lay}
 use Rattle.conf_inherit.specs.Looks.{Looks, AreResolved}
 use Rattle.conf_inherit.specs.Names.{AllAbove, NoClash}
@@ -20,16 +20,18 @@ use Rattle.std.specs.Prelude.{⊤}
 use Rattle.conf_tree.specs.Reading.{◌>>=◌}
 use Rattle.serde_json.specs.Events.{members_len}
 use Rattle.conf_inherit.specs.Places.{inner_places}
-use Rattle.conf_inherit.specs.Named.{has}
-use Rattle.conf_inherit.specs.Rounds.{Outcomes, rounds, no_outcomes}
-use Rattle.conf_inherit.proofs.InOrder.{get_none}
+use Rattle.conf_inherit.specs.Named.{has, all_named}
+use Rattle.conf_inherit.specs.Rounds.{Outcomes, rounds, no_outcomes, has_outcome, is_empty, outcome, concluded, is_over, step, round, all_over, next_round}
+use Rattle.conf_inherit.proofs.LayingLemmas.{get_none, found_each, AllEntries, all_along, entry_found, Meets, same, other, meets, get_other}
 use Rattle.conf_inherit.proofs.LaysOver.{lays}
-use Rattle.conf_inherit.proofs.ListLemmas.{found_each}
-use Rattle.conf_inherit.proofs.NamedLemmas.{named}
+use Rattle.conf_inherit.proofs.NamedLemmas.{named, mentioned, blocked}
 use Rattle.conf_inherit.proofs.NestingLemmas.{shallow_nests}
-use Rattle.conf_inherit.proofs.ReadyLemmas.{ready, front_empty, back_empty, and_left, and_right}
-use Rattle.conf_inherit.proofs.RoundLemmas.{HasRoot, rounds_resolved, rounds_root, all_done}
+use Rattle.conf_inherit.proofs.FaultLemmas.{ready, front_empty, back_empty, and_left, and_right, some_of}
+use Rattle.conf_inherit.proofs.RoundLemmas.{HasRoot, rounds_resolved, rounds_root, all_done, is_put, is_still, no_value, reached_keeps, rounds_reached}
 use Rattle.conf_inherit.proofs.SoundPlaces.{flawless}
+use Rattle.std.proofs.lemmas.Bool.{or_parts, or_from}
+use Rattle.serde_json.specs.Find.{get_member}
+use Rattle.conf_inherit.specs.Circle.{Mentions, Walks}
 
 pub no_flaws : (fs : List Flaw) → refusal fs ≡ Ok tt → fs ≡ []
 no_flaws [] h = refl
@@ -124,3 +126,199 @@ resolution_sound t r apart h =
 pub resolution_is : (t : Data) (al : Members) (n : ℕ) (st : Outcomes) → al ≡ aliases_of t → members_len al ≡ n → st ≡ rounds al n no_outcomes → resolution t ≡ resolution_after al st t
 resolution_is t al n st own count turned =
     ap (λ x. resolution_under x t) (sym own) ∙ ap (λ x. resolution_after al x t) (ap (λ m. rounds al m no_outcomes) count ∙ sym turned)
+
+-- An alias that is resolved starts no walk as long as there are aliases.
+
+-- ---- how many names pass a test
+
+abbrev pub count : (List ℕ → Bool) → Members → ℕ
+count p no_members = 0
+count p (member k d ms) = if p k then suc (count p ms) else count p ms
+
+pub count_all : (p : List ℕ → Bool) (ms : Members) → count p ms ≤ members_len ms
+count_all p no_members = omega arith
+count_all p (member k d ms) = go (p k) refl (count_all p ms)
+  where
+    go : (t : Bool) → p k ≡ t → count p ms ≤ members_len ms → count p (member k d ms) ≤ members_len (member k d ms)
+    go true e rest = rw e (omega arith)
+    go false e rest = rw e (omega arith)
+
+module _ (p q : List ℕ → Bool) (more : (n : List ℕ) → p n ≡ true → q n ≡ true) where
+  pub count_more : (ms : Members) → count p ms ≤ count q ms
+  count_more no_members = omega arith
+  count_more (member k d ms) = go (p k) refl (q k) refl (count_more ms)
+    where
+      go : (t : Bool) → p k ≡ t → (u : Bool) → q k ≡ u → count p ms ≤ count q ms → count p (member k d ms) ≤ count q (member k d ms)
+      go true a true b rest = rw (a, b) (omega arith)
+      go true a false b rest = absurd (true≢false (sym (more k a) ∙ b))
+      go false a true b rest = rw (a, b) (omega arith)
+      go false a false b rest = rw (a, b) rest
+
+  -- one that passes now, and did not before, counts
+  pub count_new : (k : List ℕ) (w : Data) (ms : Members) → get_member k ms ≡ Some w → p k ≡ false → q k ≡ true → count p ms < count q ms
+  count_new k w no_members is before after = cc
+  count_new k w (member l d ms) is before after = at (meets k l) (λ e. count_new k w ms e before after)
+    where
+      at : Meets k l → (get_member k ms ≡ Some w → count p ms < count q ms) → count p (member l d ms) < count q (member l d ms)
+      at (same e) rest =
+          let a : p l ≡ false = ap p (sym e) ∙ before in
+          let b : q l ≡ true = ap q (sym e) ∙ after in
+          let all = count_more ms in
+          rw (a, b) (omega arith)
+      at (other apart) rest = go (p l) refl (q l) refl (rest (sym (get_other k l d ms apart) ∙ is))
+        where
+          go : (t : Bool) → p l ≡ t → (u : Bool) → q l ≡ u → count p ms < count q ms → count p (member l d ms) < count q (member l d ms)
+          go true a true b later = rw (a, b) (omega arith)
+          go true a false b later = absurd (true≢false (sym (more l a) ∙ b))
+          go false a true b later = rw (a, b) (omega arith)
+          go false a false b later = rw (a, b) later
+
+-- ---- the walks of a resolved alias
+
+module _ (al : Members) where
+  -- a walk from a resolved alias has fewer steps than there are resolved aliases
+  abbrev Short : Outcomes → Type 0
+  Short st = (n : ℕ) (k : List ℕ) → has st.done k ≡ true → Walks al n k → n < count (has st.done) al
+
+  short_resolved : (k : List ℕ) (w r : Data) (st : Outcomes) → get_member k al ≡ Some w → has st.done k ≡ false → all_named (has st.done) places.FieldType w ≡ true → Short st → Short (concluded k st (Some r))
+  short_resolved k w r st is open_k named short n q h walk = at (meets q k)
+    where
+      grows : count (has st.done) al < count (has (put k r st.done)) al
+      grows = count_new (has st.done) (has (put k r st.done)) (is_still k r st.done) k w al is open_k (is_put k r st.done)
+
+      of_alias : (n : ℕ) → Walks al n k → n < count (has (put k r st.done)) al
+      of_alias zero walk = omega (arith, grows)
+      of_alias (suc n) (v, m, is', x, rest) =
+          let g : Some v ≡ Some w = sym is' ∙ is in
+          let one : v ≡ w = cc in
+          let before : n < count (has st.done) al = short n m (mentioned (has st.done) m w places.FieldType named (subst (Mentions m places.FieldType) one x)) rest in
+          omega (arith, grows)
+
+      at : Meets q k → n < count (has (put k r st.done)) al
+      at (same e) = of_alias n (subst (Walks al n) e walk)
+      at (other apart) =
+          let before : n < count (has st.done) al = short n q (ap is_some (sym (get_member-put_other q k r st.done apart)) ∙ h) walk in
+          omega (arith, grows)
+
+  outcome_named : (done : Members) (w r : Data) → outcome al done w ≡ Some r → all_named (has done) places.FieldType w ≡ true
+  outcome_named done w r h = go (all_named (has done) places.FieldType w && is_empty (flaws al (Some done) places.FieldType false no_members w)) refl
+    where
+      go : (t : Bool) → (all_named (has done) places.FieldType w && is_empty (flaws al (Some done) places.FieldType false no_members w)) ≡ t → all_named (has done) places.FieldType w ≡ true
+      go true e = and_left (all_named (has done) places.FieldType w) (is_empty (flaws al (Some done) places.FieldType false no_members w)) e
+      go false e = absurd (no_value r (rw e at h))
+
+  short_next : (k : List ℕ) (w : Data) (st : Outcomes) → get_member k al ≡ Some w → has_outcome st k ≡ false → Short st → (o : Option Data) → outcome al st.done w ≡ o → Short (concluded k st o)
+  short_next k w st is free short None e = short
+  short_next k w st is free short (Some r) e = short_resolved k w r st is ((or_parts (has st.done k) (has st.refused k) free).0) (outcome_named st.done w r e) short
+
+  rounds_short : (n : ℕ) → AllEntries (λ k w. get_member k al ≡ Some w) al → Short (rounds al n no_outcomes)
+  rounds_short n each =
+      reached_keeps al Short (λ n k h walk. absurd (true≢false (sym h))) (λ k w st is free due short. short_next k w st is free short (outcome al st.done w) refl) (rounds_reached al n each)
+
+  walk_starts : (n : ℕ) (k : List ℕ) → Walks al n k → has al k ≡ true
+  walk_starts zero k (w, is) = ap is_some is
+  walk_starts (suc n) k (w, m, is, x, rest) = ap is_some is
+
+-- where there is a resolution, no alias leads into a circle
+pub circle_refused : (t r : Data) (k : List ℕ) → NoClash (aliases_of t) → Walks (aliases_of t) (members_len (aliases_of t)) k → resolution t ≡ Ok r → ⊥
+circle_refused t r k apart walk h =
+    let al = aliases_of t in
+    let n = members_len al in
+    let st = rounds al n no_outcomes in
+    let each = found_each al apart in
+    let done = all_done al st (no_flaws (all_alias_flaws al st al) (aliases_sound t r h)) (rounds_root al n each) k (walk_starts al n k walk) in
+    let long : n < count (has st.done) al = rounds_short al n each n k done walk in
+    let few : count (has st.done) al ≤ n = count_all (has st.done) al in
+    omega arith
+
+-- What the rounds leave of the aliases with no outcome: they start long walks.
+
+-- ---- an alias with no outcome
+
+-- the alias has no outcome yet
+abbrev pub IsOpen : Outcomes → List ℕ → Type 0
+IsOpen st k = (has st.done k ≡ false) × (has st.refused k ≡ false)
+
+over_false : (a b c : Bool) → (a || b || not c) ≡ false → (a ≡ false) × (b ≡ false) × (c ≡ true)
+over_false true b c h = absurd (true≢false h)
+over_false false true c h = absurd (true≢false h)
+over_false false false true h = (refl, refl, refl)
+over_false false false false h = absurd (true≢false h)
+
+-- a name that is not there once another is put was not there before
+open_put : (k : List ℕ) (r : Data) (ms : Members) (q : List ℕ) → has (put k r ms) q ≡ false → has ms q ≡ false
+open_put k r ms q h = go (has ms q) refl
+  where
+    go : (t : Bool) → has ms q ≡ t → has ms q ≡ false
+    go true e = absurd (true≢false (sym (is_still k r ms q e) ∙ h))
+    go false e = e
+
+module _ (al : Members) where
+  -- what is open after a conclusion was open before it
+  open_concluded : (k : List ℕ) (st : Outcomes) (o : Option Data) (q : List ℕ) → IsOpen (concluded k st o) q → IsOpen st q
+  open_concluded k st (Some r) q (d, f) = (open_put k r st.done q d, f)
+  open_concluded k st None q (d, f) = (d, open_put k null st.refused q f)
+
+  open_step : (k : List ℕ) (w : Data) (st : Outcomes) (q : List ℕ) → IsOpen (step al k w st) q → IsOpen st q
+  open_step k w st q h = go (has_outcome st k) refl (all_named (is_over al st) places.FieldType w) refl
+    where
+      go : (t : Bool) → has_outcome st k ≡ t → (u : Bool) → all_named (is_over al st) places.FieldType w ≡ u → IsOpen st q
+      go true a u b = rw a at h
+      go false a false b = rw (a, b) at h
+      go false a true b = open_concluded k st (outcome al st.done w) q (rw (a, b) at h)
+
+  open_round : (ms : Members) (st : Outcomes) (q : List ℕ) → IsOpen (round al ms st) q → IsOpen st q
+  open_round no_members st q h = h
+  open_round (member k w ms) st q h = open_step k w st q (open_round ms (step al k w st) q h)
+
+  -- what has an outcome after its step
+  closed : (k : List ℕ) (st : Outcomes) (o : Option Data) → IsOpen (concluded k st o) k → ⊥
+  closed k st (Some r) (d, f) = true≢false (sym (is_put k r st.done) ∙ d)
+  closed k st None (d, f) = true≢false (sym (is_put k null st.refused) ∙ f)
+
+  -- an alias that stays open names an open one
+  waits_step : (k : List ℕ) (w : Data) (st : Outcomes) → IsOpen (step al k w st) k → (m : List ℕ) × Mentions m places.FieldType w × (has al m ≡ true) × IsOpen st m
+  waits_step k w st h = go (has_outcome st k) refl (all_named (is_over al st) places.FieldType w) refl
+    where
+      go : (t : Bool) → has_outcome st k ≡ t → (u : Bool) → all_named (is_over al st) places.FieldType w ≡ u → (m : List ℕ) × Mentions m places.FieldType w × (has al m ≡ true) × IsOpen st m
+      go true a u b = let o = open_step k w st k h in absurd (true≢false (sym a ∙ or_from (has st.done k) (has st.refused k) o.0 o.1))
+      go false a true b = absurd (closed k st (outcome al st.done w) (rw (a, b) at h))
+      go false a false b =
+          let (m, x, f) = blocked (is_over al st) w places.FieldType b in
+          let parts = over_false (has st.done m) (has st.refused m) (has al m) f in
+          (m, x, parts.2, (parts.0, parts.1))
+
+  abbrev pub Waits : Outcomes → List ℕ → Data → Outcomes → Type 0
+  Waits after k w before = IsOpen after k → (m : List ℕ) × Mentions m places.FieldType w × (has al m ≡ true) × IsOpen before m
+
+  waits_earlier : (k : List ℕ) (w : Data) (st after : Outcomes) (q : List ℕ) (v : Data) → Waits after q v (step al k w st) → Waits after q v st
+  waits_earlier k w st after q v f h = let (m, x, known, o) = f h in (m, x, known, open_step k w st m o)
+
+  pub waits_round : (ms : Members) (st : Outcomes) → AllEntries (λ k w. Waits (round al ms st) k w st) ms
+  waits_round no_members st = tt
+  waits_round (member k w ms) st = (
+    λ h. waits_step k w st (open_round ms (step al k w st) k h),
+    all_along (λ q v. Waits (round al ms (step al k w st)) q v (step al k w st)) (λ q v. Waits (round al ms (step al k w st)) q v st) (waits_earlier k w st (round al ms (step al k w st))) ms (waits_round ms (step al k w st)),
+  )
+
+  all_closed : (ms : Members) (st : Outcomes) → all_over ms st ≡ true → AllEntries (λ k w. IsOpen st k → ⊥) ms
+  all_closed no_members st h = tt
+  all_closed (member k w ms) st h = (
+    λ o. true≢false (sym (and_left (has_outcome st k) (all_over ms st) h) ∙ or_from (has st.done k) (has st.refused k) o.0 o.1),
+    all_closed ms st (and_right (has_outcome st k) (all_over ms st) h),
+  )
+
+  waits_next : (k : List ℕ) (w : Data) (st : Outcomes) → get_member k al ≡ Some w → IsOpen (next_round al st) k → (m : List ℕ) × Mentions m places.FieldType w × (has al m ≡ true) × IsOpen st m
+  waits_next k w st is h = go (all_over al st) refl
+    where
+      go : (t : Bool) → all_over al st ≡ t → (m : List ℕ) × Mentions m places.FieldType w × (has al m ≡ true) × IsOpen st m
+      go true e = absurd (entry_found (λ k w. IsOpen st k → ⊥) al (all_closed al st e) k w is (rw e at h))
+      go false e = entry_found (λ k w. Waits (round al al st) k w st) al (waits_round al st) k w is (rw e at h)
+
+  -- an alias that is open after so many rounds starts a walk as long
+  pub open_walks : (n : ℕ) → (k : List ℕ) → has al k ≡ true → IsOpen (rounds al n no_outcomes) k → Walks al n k
+  open_walks zero k known h = some_of (get_member k al) known
+  open_walks (suc n) k known h =
+      let (w, is) = some_of (get_member k al) known in
+      let (m, x, there, o) = waits_next k w (rounds al n no_outcomes) is h in
+      (w, m, is, x, open_walks n m there o)

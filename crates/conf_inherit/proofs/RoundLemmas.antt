@@ -1,6 +1,7 @@
 -- What the rounds over the aliases leave: resolved aliases are what they are looked up as, and an alias with no
 -- outcome starts a walk as long as there were rounds.
 use Rattle.std.proofs.Common.{◌≡◌, ◌&&◌, ◌||◌, ◌++◌, ◌⊎◌, inl, inr, ℕ, zero, suc, List, [], ◌∷◌, Option, Some, None, Result, Ok, Err, is_some, Bool, true, false, not, true≢false, refl, sym, ap, ◌∙◌, subst}
+use Rattle.std.proofs.lemmas.Bool.{or_parts}
 use Rattle.serde_json.specs.Data.{Data, null, Members, no_members, member, put}
 use Rattle.serde_json.specs.Find.{get_member}
 use Rattle.serde_json.proofs.Views.{get_member-put, get_member-put_other}
@@ -17,13 +18,11 @@ use Rattle.conf_inherit.specs.Looks.{Looks, AreResolved}
 use Rattle.conf_inherit.specs.Named.{all_named, has}
 use Rattle.conf_inherit.specs.Rounds.{Outcomes, has_outcome, is_over, is_empty, if_fitting, outcome, concluded, step, round, all_over, next_round, rounds, no_outcomes, Reached, at_first, turned}
 use Rattle.conf_inherit.specs.SameFlaw.{is_same_flaw}
-use Rattle.conf_inherit.proofs.KeptLemmas.{more_named, kept_flaws}
-use Rattle.conf_inherit.proofs.LayingLemmas.{Meets, same, other, meets, put_found}
+use Rattle.conf_inherit.proofs.LimitLemmas.{more_named, kept_flaws, fitting_value}
+use Rattle.conf_inherit.proofs.LayingLemmas.{Meets, same, other, meets, put_found, AllEntries, entry_found}
 use Rattle.conf_inherit.proofs.LaysOver.{lays}
-use Rattle.conf_inherit.proofs.LimitLemmas.{fitting_value}
-use Rattle.conf_inherit.proofs.ListLemmas.{AllEntries, entry_found}
 use Rattle.conf_inherit.proofs.NamedLemmas.{named, named_along, blocked, mentioned}
-use Rattle.conf_inherit.proofs.ReadyLemmas.{ready, part_empty, rest_empty, front_empty, back_empty, and_left, and_right, or_left, or_right, some_of}
+use Rattle.conf_inherit.proofs.FaultLemmas.{ready, part_empty, rest_empty, front_empty, back_empty, and_left, and_right, some_of}
 
 pub empty_flaws : (fs : List Flaw) → is_empty fs ≡ true → fs ≡ []
 empty_flaws [] h = refl
@@ -165,10 +164,10 @@ module _ (al : Members) where
   root_stays k st o free (q, w, is, open_q, refused, flawed) = go o
     where
       apart : q ≡ k → ⊥
-      apart e = true≢false (sym refused ∙ ap (has st.refused) e ∙ or_right (has st.done k) (has st.refused k) free)
+      apart e = true≢false (sym refused ∙ ap (has st.refused) e ∙ (or_parts (has st.done k) (has st.refused k) free).1)
 
       go : (o : Option Data) → IsRoot al (concluded k st o)
-      go (Some r) = (q, w, is, ap is_some (get_member-put_other q k r st.done apart) ∙ open_q, refused, flawed_still k r st.done w (or_left (has st.done k) (has st.refused k) free) flawed)
+      go (Some r) = (q, w, is, ap is_some (get_member-put_other q k r st.done apart) ∙ open_q, refused, flawed_still k r st.done w ((or_parts (has st.done k) (has st.refused k) free).0) flawed)
       go None = (q, w, is, open_q, is_still k null st.refused q refused, flawed)
 
   -- a type that is not resolved, though all that it names is, has a flaw or passes a limit
@@ -188,7 +187,7 @@ module _ (al : Members) where
   new_root k w st is free due h root = go (all_named (has st.done) places.FieldType w) refl (all_named (has al) places.FieldType w) refl
     where
       here_root : IsFlawed al st.done w → IsRoot al (concluded k st None)
-      here_root flawed = (k, w, is, or_left (has st.done k) (has st.refused k) free, is_put k null st.refused, flawed)
+      here_root flawed = (k, w, is, (or_parts (has st.done k) (has st.refused k) free).0, is_put k null st.refused, flawed)
 
       go : (t : Bool) → all_named (has st.done) places.FieldType w ≡ t → (u : Bool) → all_named (has al) places.FieldType w ≡ u → IsRoot al (concluded k st None)
       go true a u b = here_root (inr (a, unresolved st.done w a h))

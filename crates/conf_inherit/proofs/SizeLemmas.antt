@@ -12,9 +12,8 @@ use Rattle.conf_table.specs.declared.place.Place.{Place}
 use Rattle.conf_inherit.specs.FieldPlaces.{place_under, is_base_name, lists_members}
 use Rattle.conf_inherit.specs.Laying.{lay, has_entry, items_below, lay_members, lay_over, lay_new, lay_new_entry, lay_new_member}
 use Rattle.conf_inherit.specs.Names.{NoClash, join_items, map_items}
-use Rattle.conf_inherit.proofs.ListLemmas.{AllEntries, found_each}
+use Rattle.conf_inherit.proofs.LayingLemmas.{AllEntries, found_each, Meets, same, other, meets, get_other, get_same, lay_members-found}
 use Rattle.conf_inherit.specs.Size.{size, items_size, members_size, Within, Past, Leaves, IsDue}
-use Rattle.conf_inherit.proofs.LayingLemmas.{Meets, same, other, meets, get_other, get_same, lay_members-found}
 
 -- ---- what a limit leaves
 

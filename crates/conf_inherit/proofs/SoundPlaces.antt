@@ -1,20 +1,285 @@
--- Where nothing is wrong at the places of a configuration, it has no flaw: no value beside them has a meaning.
-use Rattle.std.proofs.Common.{◌≡◌, ◌++◌, ◌&&◌, is_some, ◌⊎◌, inl, inr, ℕ, suc, Bool, true, false, true≢false, List, [], map, Some, None, refl, sym, ◌∙◌, subst}
-use Rattle.serde_json.specs.Data.{Data, string, array, object, Items, no_items, item, Members, no_members, member}
-use Rattle.serde_json.specs.Find.{get_member}
-use Rattle.conf_tree.specs.Flaw.{Flaw, key, index, within}
+-- What is wrong at a place of field types, part by part.
+use Rattle.std.proofs.Common.{◌≡◌, ◌++◌, ◌<◌, ◌≤◌, ℕ, List, [], length, nat_lt, true, false, Ok, Err, refl, arith, ◌&&◌, zero, suc, Bool, cond, ◌∷◌, map, Some, None, is_some, inl, inr, sym, subst, ◌⊎◌, ap, ◌∙◌, true≢false}
+use Rattle.std.proofs.lemmas.Bool.Decides.{nat_tests}
+use Rattle.serde_json.specs.Data.{Data, array, Members, null, object, Items, no_items, item, no_members, member, put, string}
+use Rattle.serde_json.specs.View.{items_view}
+use Rattle.serde_json.specs.declared.value.Value.{Value}
+use Rattle.serde_json.proofs.Views.{items_len-items_view}
+use Rattle.conf_tree.specs.Flaw.{here, Flaw, Place as Step, key, index, within}
+use Rattle.conf_tree.specs.Walk.{refusal, HasMember}
+use Rattle.conf_tree.specs.declared.fault_kind.FaultKind.TheVariants.{Limit, WrongKind, NoSuchAlias, NameClash}
 use Rattle.conf_table.specs.declared.place.Place.{Place}
+use Rattle.conf_inherit.specs.FieldPlaces.{names_alias, names_member_type, lists_extra_members, place_under, place_of_items, is_entry, field_place, leads_on, lists_members}
+use Rattle.conf_inherit.specs.Flaws.{own_flaws, type_flaws, is_wrong, is_unknown, mark_names, mark, base_flaws, inner_flaws, item_flaws, member_flaws, flaws}
+use Rattle.conf_inherit.specs.Limits.{limit_flaws}
+use Rattle.conf_inherit.specs.Places.{too_many, place_flaws, max_extra_members, inner_places, item_places, member_places}
+use Rattle.serde_json.specs.Find.{get_item, get_member}
+use Rattle.conf_inherit.specs.Faults.{Leads, HasEntry, ListsTooMany}
+use Rattle.conf_inherit.specs.Named.{has}
+use Rattle.conf_inherit.proofs.FaultLemmas.{front_empty, back_empty, part_empty, rest_empty}
+use Rattle.conf_inherit.proofs.RoundLemmas.{is_put, is_still}
+use Rattle.std.proofs.lemmas.Bool.{ltb-false}
+use Rattle.serde_json.specs.Events.{items_len}
 use Rattle.conf_table.specs.declared.place.Place.TheVariants as places
-use Rattle.conf_table.specs.Table.{rows_of, entries_of, content_under, place_in}
-use Rattle.conf_inherit.specs.FieldPlaces.{field_place, place_under, place_of_items, names_alias, names_member_type, lists_members, lists_extra_members, is_entry, leads_on}
-use Rattle.conf_inherit.specs.Flaws.{is_wrong, is_unknown, own_flaws, base_flaws, inner_flaws, item_flaws, member_flaws, flaws, mark}
-use Rattle.conf_inherit.specs.Places.{too_many, place_flaws, inner_places, item_places, member_places}
-use Rattle.conf_inherit.proofs.ExcludedPlaces.{PlaceSound, object_places, list_places, extras_there, root_place}
-use Rattle.conf_inherit.proofs.LimitLemmas.{both_empty, map_empty, alike_inner, sound_type}
-use Rattle.conf_inherit.proofs.PlaceLemmas.{place_of_type, place_of_list}
-use Rattle.conf_inherit.proofs.ReadyLemmas.{front_empty, back_empty, part_empty, rest_empty}
+use Rattle.conf_table.specs.Table.{rows_of, entries_of, place_in, content_under}
 use Rattle.conf_inherit.proofs.PlacesUnder.{true_under, under_place}
+use Rattle.conf_inherit.proofs.LimitLemmas.{both_empty, alike_inner, sound_type}
 use Rattle.conf_inherit.proofs.FieldPlaceLemmas.{ignored_under}
+
+many : (n : ℕ) → 256 < n → nat_lt 256 n ≡ true
+many n h = grind (arith, nat_tests)
+
+few_items : (n : ℕ) → n ≤ 256 → nat_lt 256 n ≡ false
+few_items n h = grind (arith, nat_tests)
+
+pub count_past : (vs : List Value) → 256 < length vs → refusal (too_many (array (items_view vs))) ≡ Err (here Limit)
+unfolding too_many
+count_past vs h = rw (items_len-items_view vs, many (length vs) h) refl
+
+pub count_within : (vs : List Value) → length vs ≤ 256 → refusal (too_many (array (items_view vs))) ≡ Ok tt
+unfolding too_many
+count_within vs h = rw (items_len-items_view vs, few_items (length vs) h) refl
+
+module _ (al done : Members) (s : Place) (v : Data) where
+  pub place_of_type : names_alias s ≡ true → place_flaws al done s v ≡ type_flaws al done s v
+  unfolding place_flaws
+  place_of_type h = rw h refl
+
+  pub place_of_member : names_alias s ≡ false → names_member_type s ≡ true → place_flaws al done s v ≡ limit_flaws done s v
+  unfolding place_flaws
+  place_of_member h i = rw (h, i) refl
+
+  pub place_of_list : names_alias s ≡ false → names_member_type s ≡ false → lists_extra_members s ≡ true → place_flaws al done s v ≡ too_many v ++ own_flaws al s false v
+  unfolding place_flaws
+  place_of_list h i j = rw (h, i, j) refl
+
+  pub place_of_other : names_alias s ≡ false → names_member_type s ≡ false → lists_extra_members s ≡ false → place_flaws al done s v ≡ []
+  unfolding place_flaws
+  place_of_other h i j = rw (h, i, j) refl
+
+-- The parts of a value without a flaw: none of them has one, and the entries of a members list have names of their own.
+
+module _ (al : Members) where
+  pub record OwnSound (s : Place) (taken : Bool) (v : Data) : Type 0 where
+    pub right : is_wrong s v ≡ false
+    pub known : is_unknown al s v ≡ false
+    pub free : taken ≡ false
+
+  pub own_sound : (s : Place) (taken : Bool) (v : Data) → own_flaws al s taken v ≡ [] → OwnSound s taken v
+  own_sound s taken v e = go (is_wrong s v) (is_unknown al s v) refl refl e
+    where
+      go : (a b : Bool) → is_wrong s v ≡ a → is_unknown al s v ≡ b → cond a (here WrongKind ∷ []) (cond b (here NoSuchAlias ∷ []) (cond taken (here NameClash ∷ []) [])) ≡ [] → OwnSound s taken v
+      go true b p q f = absurd cc
+      go false true p q f = absurd cc
+      go false false p q f = record { right = p; known = q; free = untaken taken f }
+        where
+          untaken : (c : Bool) → cond c (here NameClash ∷ []) [] ≡ [] → c ≡ false
+          untaken true g = absurd cc
+          untaken false g = refl
+
+  pub record PartSound (s : Place) (taken : Bool) (seen : Members) (v : Data) : Type 0 where
+    pub own : own_flaws al s taken v ≡ []
+    pub inner : inner_flaws al None s seen v ≡ []
+
+  pub part_sound : (s : Place) (taken : Bool) (seen : Members) (v : Data) → own_flaws al s taken v ++ inner_flaws al None s seen v ≡ [] → PartSound s taken seen v
+  part_sound s taken seen v e = record { own = front_empty (own_flaws al s taken v) (inner_flaws al None s seen v) e; inner = back_empty (own_flaws al s taken v) (inner_flaws al None s seen v) e }
+
+  pub member_sound : (s : Place) (seen ms : Members) (k : List ℕ) (d : Data) → member_flaws al None s seen ms ≡ [] → HasMember k d ms → PartSound (place_under s k) (is_entry s && is_some (get_member k seen)) no_members d
+  member_sound s seen no_members k d e there = absurd there
+  member_sound s seen (member l v ms) k d e (inl same) =
+      let fs = own_flaws al (place_under s l) (is_entry s && is_some (get_member l seen)) v ++ inner_flaws al None (place_under s l) no_members v in
+      let mine = part_empty (within (key l)) (fs ++ base_flaws None s l v) (member_flaws al None s seen ms) e in
+      let both = part_sound (place_under s l) (is_entry s && is_some (get_member l seen)) no_members v (front_empty fs (base_flaws None s l v) mine) in
+      subst (λ n. PartSound (place_under s n) (is_entry s && is_some (get_member n seen)) no_members d) (sym same.0) (subst (λ x. PartSound (place_under s l) (is_entry s && is_some (get_member l seen)) no_members x) (sym same.1) both)
+  member_sound s seen (member l v ms) k d e (inr later) =
+      let fs = own_flaws al (place_under s l) (is_entry s && is_some (get_member l seen)) v ++ inner_flaws al None (place_under s l) no_members v in
+      member_sound s seen ms k d (back_empty (map (within (key l)) (fs ++ base_flaws None s l v)) (member_flaws al None s seen ms) e) later
+
+  -- the names of the entries so far are marked
+  mark_keeps : (ms seen : Members) (n : List ℕ) → has seen n ≡ true → has (mark_names ms seen) n ≡ true
+  mark_keeps no_members seen n h = h
+  mark_keeps (member m d ms) seen n h = mark_keeps ms (put m null seen) n (is_still m null seen n h)
+
+  mark_has : (ms seen : Members) (n : List ℕ) (d : Data) → HasMember n d ms → has (mark_names ms seen) n ≡ true
+  mark_has no_members seen n d there = absurd there
+  mark_has (member m e ms) seen n d (inl same) = subst (λ k. has (mark_names ms (put m null seen)) k ≡ true) (sym same.0) (mark_keeps ms (put m null seen) m (is_put m null seen))
+  mark_has (member m e ms) seen n d (inr later) = mark_has ms (put m null seen) n d later
+
+  entry_keeps : (e : Data) (seen : Members) (n : List ℕ) → has seen n ≡ true → has (mark e seen) n ≡ true
+  entry_keeps (object ms) seen n h = mark_keeps ms seen n h
+  entry_keeps _ seen n h = h
+
+  pub record ItemSound (s : Place) (es : Items) (seen : Members) (j : ℕ) (e : Data) : Type 0 where
+    pub marks : Members
+    pub sound : PartSound (place_of_items s) false marks e
+    pub kept : (n : List ℕ) → has seen n ≡ true → has marks n ≡ true
+    pub marked : (n : List ℕ) (i : ℕ) → i < j → HasEntry i n es → has marks n ≡ true
+
+  marked_later : (s : Place) (x : Data) (es : Items) (seen : Members) (j : ℕ) (e : Data) (later : ItemSound s es (mark x seen) j e) (n : List ℕ) (k : ℕ) → k < suc j → HasEntry k n (item x es) → has later.marks n ≡ true
+  marked_later s x es seen j e later n zero below (ms, d, is, there) =
+      let same : x ≡ object ms = cc in
+      later.kept n (subst (λ y. has (mark y seen) n ≡ true) (sym same) (mark_has ms seen n d there))
+  marked_later s x es seen j e later n (suc k) below entry = later.marked n k (omega (arith, below)) entry
+
+  pub item_sound : (s : Place) (i : ℕ) (seen : Members) (es : Items) (j : ℕ) (e : Data) → item_flaws al None s i seen es ≡ [] → get_item j es ≡ Some e → ItemSound s es seen j e
+  item_sound s i seen no_items j e none there = absurd cc
+  item_sound s i seen (item x es) zero e none there =
+      let same : x ≡ e = cc in
+      let fs = own_flaws al (place_of_items s) false x ++ inner_flaws al None (place_of_items s) seen x in
+      let mine = part_empty (within (index i)) fs (item_flaws al None s (suc i) (mark x seen) es) none in
+      record {
+        marks = seen;
+        sound = subst (PartSound (place_of_items s) false seen) same (part_sound (place_of_items s) false seen x mine);
+        kept = λ n h. h;
+        marked = λ n k below entry. absurd (omega (arith, below));
+      }
+  item_sound s i seen (item x es) (suc j) e none there =
+      let fs = own_flaws al (place_of_items s) false x ++ inner_flaws al None (place_of_items s) seen x in
+      let later = item_sound s (suc i) (mark x seen) es j e (back_empty (map (within (index i)) fs) (item_flaws al None s (suc i) (mark x seen) es) none) there in
+      record {
+        marks = later.marks;
+        sound = later.sound;
+        kept = λ n h. later.kept n (entry_keeps x seen n h);
+        marked = marked_later s x es seen j e later;
+      }
+
+  -- the value that a path leads to has no flaw of its own, nor one inside
+  pub record SoundAt (t : Place) (w : Data) : Type 0 where
+    pub taken : Bool
+    pub seen : Members
+    pub sound : PartSound t taken seen w
+
+  pub sound_along : (path : List Step) (s : Place) (v : Data) (t : Place) (w : Data) (taken : Bool) (seen : Members) → PartSound s taken seen v → Leads s v path t w → SoundAt t w
+  sound_along [] s v t w taken seen h (place, value) = record { taken = taken; seen = seen; sound = subst (λ x. PartSound x taken seen w) place (subst (PartSound s taken seen) value h) }
+  sound_along (key k ∷ path) s v t w taken seen h (ms, d, is, there, leads) =
+      let inner : member_flaws al None s seen ms ≡ [] = subst (λ x. inner_flaws al None s seen x ≡ []) is h.inner in
+      sound_along path (place_under s k) d t w (is_entry s && is_some (get_member k seen)) no_members (member_sound s seen ms k d inner there) leads
+  sound_along (index i ∷ path) s v t w taken seen h (es, d, is, there, leads) =
+      let inner : item_flaws al None s 0 no_members es ≡ [] = subst (λ x. inner_flaws al None s seen x ≡ []) is h.inner in
+      let one = item_sound s 0 no_members es i d inner there in
+      sound_along path (place_of_items s) d t w false one.marks one.sound leads
+
+-- In a tree that has a resolution no packet context lists too many extra members.
+
+-- ---- where extra members stand
+
+-- no way from the place leads to a list of extra members
+abbrev leads_elsewhere : Place → Bool
+leads_elsewhere places.Root = false
+leads_elsewhere places.Trace = false
+leads_elsewhere places.TraceType = false
+leads_elsewhere places.StreamTypes = false
+leads_elsewhere places.StreamType = false
+leads_elsewhere places.ExtraMembers = false
+leads_elsewhere _ = true
+
+abbrev LeadsElsewhere : Place → Type 0
+LeadsElsewhere s = leads_elsewhere s ≡ true
+
+under_elsewhere : (s : Place) (k : List ℕ) → LeadsElsewhere s → LeadsElsewhere (place_under s k)
+unfolding true_under entries_of rows_of place_in field_place
+under_elsewhere s k h = under_place (λ n. leads_elsewhere) k s (at s h)
+  where
+    at : (s : Place) → LeadsElsewhere s → true_under (λ n. leads_elsewhere) k s ≡ true
+    at places.Root h = absurd (true≢false (sym h))
+    at places.Trace h = absurd (true≢false (sym h))
+    at places.TraceType h = absurd (true≢false (sym h))
+    at places.StreamTypes h = absurd (true≢false (sym h))
+    at places.StreamType h = absurd (true≢false (sym h))
+    at _ h = refl
+
+items_elsewhere : (s : Place) → LeadsElsewhere (place_of_items s)
+unfolding place_of_items
+items_elsewhere places.Members = refl
+items_elsewhere places.ExtraMembers = refl
+items_elsewhere _ = refl
+
+-- from a place that leads elsewhere there is no way
+led_elsewhere : (path : List Step) (s : Place) (v : Data) (t : Place) (w : Data) → LeadsElsewhere s → Leads s v path t w → LeadsElsewhere t
+led_elsewhere [] s v t w h (place, value) = subst LeadsElsewhere place h
+led_elsewhere (key k ∷ path) s v t w h (ms, d, is, there, leads) = led_elsewhere path (place_under s k) d t w (under_elsewhere s k h) leads
+led_elsewhere (index i ∷ path) s v t w h (es, d, is, there, leads) = led_elsewhere path (place_of_items s) d t w (items_elsewhere s) leads
+
+-- an object leads on, or leads elsewhere
+on_or_elsewhere : (s : Place) (k : List ℕ) → (leads_on s ≡ true) ⊎ LeadsElsewhere (place_under s k)
+unfolding leads_on true_under entries_of rows_of place_in field_place
+on_or_elsewhere s k = go (leads_on s) refl
+  where
+    at : (s : Place) → leads_on s ≡ false → true_under (λ n. leads_elsewhere) k s ≡ true
+    at places.Root off = absurd (true≢false off)
+    at places.Trace off = absurd (true≢false off)
+    at places.TraceType off = absurd (true≢false off)
+    at places.StreamTypes off = absurd (true≢false off)
+    at places.StreamType off = absurd (true≢false off)
+    at _ off = refl
+
+    go : (on : Bool) → leads_on s ≡ on → (leads_on s ≡ true) ⊎ LeadsElsewhere (place_under s k)
+    go true on = inl on
+    go false off = inr (under_place (λ n. leads_elsewhere) k s (at s off))
+
+pub extras_there : (s : Place) → lists_extra_members s ≡ true → s ≡ places.ExtraMembers
+unfolding lists_extra_members
+extras_there places.ExtraMembers h = refl
+extras_there _ h = absurd (true≢false (sym h))
+
+not_elsewhere : (s : Place) → lists_extra_members s ≡ true → LeadsElsewhere s → ⊥
+not_elsewhere s h elsewhere = true≢false (sym elsewhere ∙ ap leads_elsewhere (extras_there s h))
+
+-- ---- what the places say
+
+module _ (al done : Members) where
+  pub record PlaceSound (s : Place) (v : Data) : Type 0 where
+    pub own : place_flaws al done s v ≡ []
+    pub inner : inner_places al done s v ≡ []
+
+  pub member_place : (s : Place) (ms : Members) (k : List ℕ) (d : Data) → member_places al done s ms ≡ [] → HasMember k d ms → PlaceSound (place_under s k) d
+  member_place s no_members k d e there = absurd there
+  member_place s (member l v ms) k d e (inl same) =
+      let fs = place_flaws al done (place_under s l) v ++ inner_places al done (place_under s l) v in
+      let mine = part_empty (within (key l)) fs (member_places al done s ms) e in
+      let both : PlaceSound (place_under s l) v = record { own = front_empty (place_flaws al done (place_under s l) v) (inner_places al done (place_under s l) v) mine; inner = back_empty (place_flaws al done (place_under s l) v) (inner_places al done (place_under s l) v) mine } in
+      subst (λ n. PlaceSound (place_under s n) d) (sym same.0) (subst (PlaceSound (place_under s l)) (sym same.1) both)
+  member_place s (member l v ms) k d e (inr later) =
+      let fs = place_flaws al done (place_under s l) v ++ inner_places al done (place_under s l) v in
+      member_place s ms k d (back_empty (map (within (key l)) fs) (member_places al done s ms) e) later
+
+  pub object_places : (s : Place) (ms : Members) → leads_on s ≡ true → inner_places al done s (object ms) ≡ [] → member_places al done s ms ≡ []
+  object_places s ms on e = sym (ap (λ b. cond b (member_places al done s ms) []) on) ∙ e
+
+  pub list_places : (es : Items) → inner_places al done places.ExtraMembers (array es) ≡ [] → item_places al done places.ExtraMembers 0 no_members es ≡ []
+  unfolding lists_extra_members
+  list_places es h = h
+
+  place_along : (path : List Step) (s : Place) (v : Data) (t : Place) (w : Data) → PlaceSound s v → lists_extra_members t ≡ true → Leads s v path t w → place_flaws al done t w ≡ []
+  place_along [] s v t w h extras (place, value) = subst (λ x. place_flaws al done x w ≡ []) place (subst (λ x. place_flaws al done s x ≡ []) value h.own)
+  place_along (key k ∷ path) s v t w h extras (ms, d, is, there, leads) = elim (on_or_elsewhere s k) [
+    | inl on ↦ (let inner = object_places s ms on (subst (λ x. inner_places al done s x ≡ []) is h.inner) in
+        place_along path (place_under s k) d t w (member_place s ms k d inner there) extras leads)
+    | inr elsewhere ↦ absurd (not_elsewhere t extras (led_elsewhere path (place_under s k) d t w elsewhere leads))
+  ]
+  place_along (index i ∷ path) s v t w h extras (es, d, is, there, leads) = absurd (not_elsewhere t extras (led_elsewhere path (place_of_items s) d t w (items_elsewhere s) leads))
+
+  few : (b : Bool) → cond b (here Limit ∷ []) [] ≡ [] → b ≡ false
+  few true e = absurd cc
+  few false e = refl
+
+  extras_few : (es : Items) → place_flaws al done places.ExtraMembers (array es) ≡ [] → max_extra_members < items_len es → ⊥
+  unfolding too_many names_alias names_member_type lists_extra_members
+  extras_few es e many =
+      let told = sym (place_of_list al done places.ExtraMembers (array es) refl refl refl) ∙ e in
+      let short = ltb-false max_extra_members (items_len es) (few (nat_lt max_extra_members (items_len es)) (front_empty (too_many (array es)) (own_flaws al places.ExtraMembers false (array es)) told)) in
+      omega (arith, short, many)
+
+  pub root_place : (t : Data) → inner_places al done places.Root t ≡ [] → PlaceSound places.Root t
+  unfolding names_alias names_member_type lists_extra_members
+  root_place t e = record { own = place_of_other al done places.Root t refl refl refl; inner = e }
+
+  pub too_many_excluded : (t : Data) (path : List Step) (s : Place) (w : Data) → inner_places al done places.Root t ≡ [] → Leads places.Root t path s w → ¬ ListsTooMany s w
+  too_many_excluded t path s w e leads (es, is, extras, many) =
+      let at = place_along path places.Root t s w (root_place t e) extras leads in
+      extras_few es (subst (λ x. place_flaws al done x (array es) ≡ []) (extras_there s extras) (subst (λ x. place_flaws al done s x ≡ []) is at)) many
+
+-- Where nothing is wrong at the places of a configuration, it has no flaw: no value beside them has a meaning.
 
 -- ---- the places on the way to a field type
 
@@ -65,7 +330,7 @@ type_or_not s = go (names_alias s) refl
 
 -- a part and the rest are empty
 empty_parts : (f : Flaw → Flaw) (xs ys : List Flaw) → xs ≡ [] → ys ≡ [] → map f xs ++ ys ≡ []
-empty_parts f xs ys e h = both_empty (map f xs) ys (map_empty f xs e) h
+empty_parts f xs ys e h = both_empty (map f xs) ys (ap (map f) e) h
 
 ignored_items_place : place_of_items places.Ignored ≡ places.Ignored
 unfolding place_of_items

@@ -1,13 +1,21 @@
--- What is judged of the aliases is the same where null stands in the place of resolved bodies.
-use Rattle.std.proofs.Common.{◌≡◌, ◌+◌, string_bytes, ◌&&◌, ◌||◌, ◌++◌, ◌⊎◌, inl, inr, ℕ, suc, List, [], ◌∷◌, map, Option, Some, None, is_some, Bool, true, false, not, true≢false, bytes_eq, if◌then◌else◌, is_eq, nat_cmp, refl, sym, ap, ◌∙◌, subst}
-use Rattle.std.proofs.lemmas.Slice.Eq.{bytes_eq-Decides}
-use Rattle.std.proofs.lemmas.Map.Text.{is_eq-slice_cmp}
+-- A property whose value is written anew.
+use Rattle.std.proofs.Common.{◌≡◌, ℕ, Some, None, List, [], ◌∷◌, Ordering, Less, Equal, Greater, string_cmp, string_bytes, nat_cmp, refl, sym, ap, ◌∙◌, ◌+◌, ◌&&◌, ◌||◌, ◌++◌, ◌⊎◌, inl, inr, suc, map, Option, is_some, Bool, true, false, not, true≢false, bytes_eq, if◌then◌else◌, is_eq, subst, arith}
+use Rattle.std.specs.BTreeMap.{is_at}
 use Rattle.std.specs.Cmp.Lexicographic.{slice_cmp}
-use Rattle.serde_json.specs.Data.{Data, null, string, array, object, Items, no_items, item, Members, no_members, member, put}
+use Rattle.std.specs.List.Sorted.{IsStrictlySortedBy}
+use Rattle.std.specs.Map.{keys_of, set_value}
+use Rattle.serde_json.specs.Data.{Data, member, put, null, string, array, object, Items, no_items, item, Members, no_members}
 use Rattle.serde_json.specs.Find.{get_member}
 use Rattle.serde_json.specs.View.{view, members_view}
 use Rattle.serde_json.specs.declared.value.Value.{Value}
 use Rattle.serde_json.proofs.Views.{Entry}
+use Rattle.conf_inherit.specs.Names.{AllAbove, NoClash}
+use Rattle.conf_inherit.proofs.LayingLemmas.{above_through, get_none, Meets, same, other, meets, get_other, get_same}
+use Rattle.conf_inherit.proofs.ResolveLemmas.{above_of}
+use Rattle.std.proofs.lemmas.Bool.{or_left}
+use Rattle.std.proofs.lemmas.Slice.Eq.{bytes_eq-Decides}
+use Rattle.std.proofs.lemmas.Map.Text.{is_eq-slice_cmp}
+use Rattle.serde_json.specs.Events.{members_len}
 use Rattle.conf_tree.specs.Flaw.{Flaw, key, index, here, within}
 use Rattle.conf_tree.specs.Walk.{refusal}
 use Rattle.conf_tree.specs.declared.fault_kind.FaultKind.TheVariants.{WrongKind, NoSuchAlias, NameClash}
@@ -19,15 +27,63 @@ use Rattle.conf_inherit.specs.Flaws.{is_wrong, is_unknown, own_flaws, inner_flaw
 use Rattle.conf_inherit.specs.Laying.{lay}
 use Rattle.conf_inherit.specs.Limits.{fitting, limit_flaws}
 use Rattle.conf_inherit.specs.Named.{all_named, has}
-use Rattle.conf_inherit.specs.Names.{NoClash}
 use Rattle.conf_inherit.specs.Places.{too_many, place_flaws, inner_places, item_places, member_places}
-use Rattle.conf_inherit.specs.Rounds.{Outcomes, has_outcome, is_over, is_empty, if_fitting, outcome, concluded, step, round, no_outcomes, Reached, at_first, turned, is_settled, all_settled}
+use Rattle.conf_inherit.specs.Rounds.{Outcomes, has_outcome, is_over, is_empty, if_fitting, outcome, concluded, step, round, rounds, no_outcomes, Reached, at_first, turned, is_settled, all_settled}
 use Rattle.conf_inherit.specs.Spent.{Spends, spent, TurnsLeave}
 use Rattle.conf_inherit.proofs.FunctionLemmas.{same_function}
-use Rattle.conf_inherit.proofs.LayingLemmas.{Meets, same, other, meets, get_other, get_same}
 use Rattle.conf_inherit.proofs.RoundLemmas.{is_still, by_turn}
-use Rattle.conf_inherit.proofs.TurnLemmas.{or_first, Follows, follows_first, follows_still, follows_round}
-use Rattle.conf_inherit.proofs.WrittenLemmas.{written}
+use Rattle.conf_inherit.proofs.TurnLemmas.{Follows, follows_round, turns_are_rounds, is_settled_state}
+
+-- the properties, with w at the name n if there is one
+abbrev pub written : List ℕ → List Entry → Value → List Entry
+written n es w = set_value (is_at (λ k. slice_cmp nat_cmp n (string_bytes k))) es w
+
+-- a name below all of them is not there
+unwritten : (n : List ℕ) (w : Value) (es : List Entry) → AllAbove n (members_view es) → written n es w ≡ es
+unwritten n w [] h = refl
+unwritten n w (e ∷ es) h = rw h.0 (ap (λ xs. e ∷ xs) (unwritten n w es h.1))
+
+-- what was written at a name is gone once another value is put there
+pub put_written : (n : List ℕ) (d : Data) (w : Value) (es : List Entry) → IsStrictlySortedBy string_cmp (keys_of es) → put n d (members_view (written n es w)) ≡ put n d (members_view es)
+unfolding IsStrictlySortedBy
+put_written n d w [] h = refl
+put_written n d w (e ∷ es) h = go _ refl (put_written n d w es h.1)
+  where
+    over : slice_cmp nat_cmp n (string_bytes e.0) ≡ Equal → put n d (members_view ((e.0, w) ∷ es)) ≡ put n d (members_view (e ∷ es))
+    over is = rw is refl
+
+    later : (xs : List Entry) → slice_cmp nat_cmp n (string_bytes e.0) ≡ Greater → put n d (members_view (e ∷ xs)) ≡ member (string_bytes e.0) (view e.1) (put n d (members_view xs))
+    later xs is = rw is refl
+
+    go : (o : Ordering) → slice_cmp nat_cmp n (string_bytes e.0) ≡ o → put n d (members_view (written n es w)) ≡ put n d (members_view es) → put n d (members_view (written n (e ∷ es) w)) ≡ put n d (members_view (e ∷ es))
+    go Less is rest =
+        let skipped : written n (e ∷ es) w ≡ e ∷ written n es w = rw is refl in
+        ap (λ xs. put n d (members_view xs)) (skipped ∙ ap (λ xs. e ∷ xs) (unwritten n w es (above_through n (string_bytes e.0) (members_view es) is (above_of e.0 es h.0))))
+    go Equal is rest =
+        let here : written n (e ∷ es) w ≡ (e.0, w) ∷ es = rw is refl in
+        ap (λ xs. put n d (members_view xs)) here ∙ over is
+    go Greater is rest =
+        let skipped : written n (e ∷ es) w ≡ e ∷ written n es w = rw is refl in
+        ap (λ xs. put n d (members_view xs)) skipped ∙ later (written n es w) is ∙ ap (member (string_bytes e.0) (view e.1)) rest ∙ sym (later es is)
+
+-- writing a value at a name that is there is putting it there
+pub written_put : (n : List ℕ) (w : Value) (d : Data) (es : List Entry) → IsStrictlySortedBy string_cmp (keys_of es) → get_member n (members_view es) ≡ Some d → members_view (written n es w) ≡ put n (view w) (members_view es)
+unfolding IsStrictlySortedBy
+written_put n w d [] h there = cc
+written_put n w d (e ∷ es) h there = go _ refl (written_put n w d es h.1)
+  where
+    go : (o : Ordering) → slice_cmp nat_cmp n (string_bytes e.0) ≡ o → (get_member n (members_view es) ≡ Some d → members_view (written n es w) ≡ put n (view w) (members_view es)) → members_view (written n (e ∷ es) w) ≡ put n (view w) (members_view (e ∷ es))
+    go Less is rest =
+        let none = get_none n (members_view es) (above_through n (string_bytes e.0) (members_view es) is (above_of e.0 es h.0)) in
+        let found : get_member n (members_view es) ≡ Some d = rw is at there in
+        let bad : None ≡ Some d = sym none ∙ found in
+        cc
+    go Equal is rest = rw is refl
+    go Greater is rest =
+        let found : get_member n (members_view es) ≡ Some d = rw is at there in
+        rw (is, rest found) refl
+
+-- What is judged of the aliases is the same where null stands in the place of resolved bodies.
 
 -- ---- what is left of the aliases
 
@@ -260,7 +316,7 @@ turn_leaves al now k v st is h = subst (λ x. TurnsLeave al x now) (sym (same_st
   where
     go : (t : Bool) → has_outcome st k ≡ t → (u : Bool) → has st.done k ≡ u → Reached al (step al k v st)
     go true a u b = rw a h.reached
-    go false a true b = absurd (true≢false (sym (or_first (has st.done k) (has st.refused k) b) ∙ a))
+    go false a true b = absurd (true≢false (sym (or_left (has st.done k) (has st.refused k) b) ∙ a))
     go false a false b = turned k v st (sym (same_body st.done al now h.spends k b) ∙ is) h.reached
 
 -- the body of a resolved alias may be dropped
@@ -268,24 +324,25 @@ pub spent_leaves : (al now : Members) (k : List ℕ) (st : Outcomes) → has st.
 spent_leaves al now k st is h = record { reached = h.reached; spends = spends_spent st.done k is al now h.spends }
 
 -- turns led here and so many rounds followed, with this left of the aliases
-pub record RoundsLeave (al left : Members) (st : Outcomes) (settled : Bool) (n : ℕ) : Type 0 where
-  pub follows : Follows al st settled n
+pub record RoundsLeave (al left : Members) (st : Outcomes) (n : ℕ) : Type 0 where
+  pub follows : Follows al st n
   pub spends : Spends st.done al left
 
-pub rounds_first : (al left : Members) (st : Outcomes) → TurnsLeave al st left → RoundsLeave al left st false 0
-rounds_first al left st h = record { follows = follows_first al st h.reached; spends = h.spends }
-
-pub rounds_still : (al left : Members) (st : Outcomes) (n : ℕ) → RoundsLeave al left st true n → RoundsLeave al left st true (n + 1)
-rounds_still al left st n before = record { follows = follows_still al st n before.follows; spends = before.spends }
+pub rounds_first : (al left : Members) (st : Outcomes) → TurnsLeave al st left → RoundsLeave al left st 0
+rounds_first al left st h = record { follows = record { reached = h.reached; few = omega arith }; spends = h.spends }
 
 -- a round over what is left of the aliases
-pub rounds_more : (al left : Members) (st after : Outcomes) (settled : Bool) (n : ℕ) → NoClash al → RoundsLeave al left st false n → settled ≡ all_settled left left st → after ≡ round left left st → RoundsLeave al left after settled (n + 1)
-rounds_more al left st after settled n apart before is went =
+pub rounds_more : (al left : Members) (st after : Outcomes) (n : ℕ) → NoClash al → RoundsLeave al left st n → all_settled left left st ≡ false → after ≡ round left left st → RoundsLeave al left after (n + 1)
+rounds_more al left st after n apart before waits went =
     let turn : after ≡ round al al st = went ∙ same_round al left st before.spends in
     record {
-      follows = follows_round al st after settled n apart before.follows (is ∙ same_all_settled al left st before.spends) turn;
+      follows = follows_round al st after n apart before.follows (sym (same_all_settled al left st before.spends) ∙ waits) turn;
       spends = subst (λ x. Spends x.done al left) (sym turn) (round_spends al left st before.spends);
     }
+
+-- where all is settled, no round is due
+pub rounds_done : (al left : Members) (st : Outcomes) (n : ℕ) → NoClash al → RoundsLeave al left st n → all_settled left left st ≡ true → st ≡ rounds al (members_len al) no_outcomes
+rounds_done al left st n apart before settled = turns_are_rounds al apart before.follows.reached (is_settled_state al st (sym (same_all_settled al left st before.spends) ∙ settled))
 
 -- ---- null is written in the place of a value
 

@@ -1,6 +1,7 @@
 -- What the aliases come to does not depend on the order of their turns: where each that is due had its own, the
 -- outcomes are those that the rounds leave.
 use Rattle.std.proofs.Common.{◌≡◌, ◌+◌, ◌||◌, ◌<◌, ◌≤◌, ◌⊎◌, inl, inr, ℕ, zero, suc, List, Option, Some, None, is_some, Bool, true, false, not, true≢false, refl, sym, ap, ◌∙◌, subst, arith}
+use Rattle.std.proofs.lemmas.Bool.{or_parts, or_left, or_right}
 use Rattle.serde_json.specs.Data.{Data, null, Members, no_members, member, put}
 use Rattle.serde_json.specs.Events.{members_len}
 use Rattle.serde_json.specs.Find.{get_member}
@@ -9,14 +10,12 @@ use Rattle.conf_table.specs.declared.place.Place.TheVariants as places
 use Rattle.conf_inherit.specs.Named.{all_named, has}
 use Rattle.conf_inherit.specs.Names.{IsInOrder, NoClash}
 use Rattle.conf_inherit.specs.Rounds.{Outcomes, has_outcome, is_over, outcome, concluded, step, round, all_over, next_round, rounds, no_outcomes, Reached, is_settled, all_settled}
-use Rattle.conf_inherit.proofs.InOrder.{same_members, value_same}
-use Rattle.conf_inherit.proofs.KeptLemmas.{more_named, kept_lay, kept_inner}
-use Rattle.conf_inherit.proofs.LayingLemmas.{Meets, same, other, meets, get_other, get_same, in_order_put}
-use Rattle.conf_inherit.proofs.ListLemmas.{AllEntries, found_each, entry_found}
+use Rattle.conf_inherit.proofs.LayingLemmas.{same_members, value_same, Meets, same, other, meets, get_other, get_same, in_order_put, AllEntries, found_each, entry_found}
+use Rattle.conf_inherit.proofs.LimitLemmas.{more_named, kept_lay, kept_inner}
 use Rattle.conf_inherit.proofs.NamedLemmas.{named_along, blocked, mentioned}
-use Rattle.conf_inherit.proofs.ReadyLemmas.{and_left, and_right, or_left, or_right}
+use Rattle.conf_inherit.proofs.FaultLemmas.{and_left, and_right}
 use Rattle.conf_inherit.proofs.RoundLemmas.{is_put, by_turn, reached_keeps, round_reached, rounds_reached}
-use Rattle.conf_inherit.proofs.WalkLemmas.{count, count_all, count_new}
+use Rattle.conf_inherit.proofs.ResolveLemmas.{count, count_all, count_new}
 
 -- ---- what a conclusion changes
 
@@ -37,8 +36,8 @@ same_outcome : (st next : Outcomes) (n : List ℕ) → SameAt st next n → has_
 same_outcome st next n (d, f) = ap (λ x. is_some x || has next.refused n) d ∙ ap (λ x. has st.done n || is_some x) f
 
 concluded_at : (k : List ℕ) (st : Outcomes) (o : Option Data) → has_outcome st k ≡ false → (get_member k (concluded k st o).done ≡ o) × (get_member k (concluded k st o).refused ≡ mark_of o)
-concluded_at k st None free = (none_of (get_member k st.done) (or_left (has st.done k) (has st.refused k) free), get_member-put k null st.refused)
-concluded_at k st (Some r) free = (get_member-put k r st.done, none_of (get_member k st.refused) (or_right (has st.done k) (has st.refused k) free))
+concluded_at k st None free = (none_of (get_member k st.done) ((or_parts (has st.done k) (has st.refused k) free).0), get_member-put k null st.refused)
+concluded_at k st (Some r) free = (get_member-put k r st.done, none_of (get_member k st.refused) ((or_parts (has st.done k) (has st.refused k) free).1))
 
 concluded_other : (k : List ℕ) (st : Outcomes) (o : Option Data) (n : List ℕ) → (n ≡ k → ⊥) → SameAt st (concluded k st o) n
 concluded_other k st None n apart = (refl, get_member-put_other n k null st.refused apart)
@@ -51,14 +50,6 @@ Agrees st next = (n : List ℕ) → has_outcome st n ≡ true → SameAt st next
 concluded_agrees : (k : List ℕ) (st : Outcomes) (o : Option Data) → has_outcome st k ≡ false → Agrees st (concluded k st o)
 concluded_agrees k st o free n h = concluded_other k st o n (λ e. true≢false (sym h ∙ ap (has_outcome st) e ∙ free))
 
-pub or_first : (a b : Bool) → a ≡ true → (a || b) ≡ true
-or_first true b h = refl
-or_first false b h = absurd (true≢false (sym h))
-
-or_second : (a b : Bool) → b ≡ true → (a || b) ≡ true
-or_second true b h = refl
-or_second false b h = h
-
 or_split : (a b : Bool) → (a || b) ≡ true → (a ≡ true) ⊎ (b ≡ true)
 or_split true b h = inl refl
 or_split false b h = inr h
@@ -69,7 +60,7 @@ not_both false h e = true≢false (sym e)
 
 module _ (al : Members) where
   over_along : (st next : Outcomes) → ((n : List ℕ) → has_outcome st n ≡ true → has_outcome next n ≡ true) → (n : List ℕ) → is_over al st n ≡ true → is_over al next n ≡ true
-  over_along st next more n h = elim (or_split (has_outcome st n) (not (has al n)) h) [ inl e ↦ or_first (has_outcome next n) (not (has al n)) (more n e) | inr e ↦ or_second (has_outcome next n) (not (has al n)) e ]
+  over_along st next more n h = elim (or_split (has_outcome st n) (not (has al n)) h) [ inl e ↦ or_left (has_outcome next n) (not (has al n)) (more n e) | inr e ↦ or_right (has_outcome next n) (not (has al n)) e ]
 
   due_along : (st next : Outcomes) → ((n : List ℕ) → has_outcome st n ≡ true → has_outcome next n ≡ true) → (w : Data) → all_named (is_over al st) places.FieldType w ≡ true → all_named (is_over al next) places.FieldType w ≡ true
   due_along st next more w h = named_along (is_over al st) (is_over al next) (over_along st next more) places.FieldType w h
@@ -84,14 +75,14 @@ module _ (al : Members) where
   -- ---- an alias that is due comes to the same in each later state
   module _ (st next : Outcomes) (agrees : Agrees st next) (own : IsOfAliases next) where
     kept_done : (n : List ℕ) → has st.done n ≡ true → get_member n next.done ≡ get_member n st.done
-    kept_done n h = (agrees n (or_first (has st.done n) (has st.refused n) h)).0
+    kept_done n h = (agrees n (or_left (has st.done n) (has st.refused n) h)).0
 
     still_missing : (m : List ℕ) → is_over al st m ≡ true → has st.done m ≡ false → has next.done m ≡ false
     still_missing m over free = elim (or_split (has_outcome st m) (not (has al m)) over) [ inl e ↦ ap is_some (agrees m e).0 ∙ free | inr e ↦ never e (has next.done m) refl ]
       where
         never : not (has al m) ≡ true → (t : Bool) → has next.done m ≡ t → has next.done m ≡ false
         never e false f = f
-        never e true f = absurd (not_both (has al m) e (own m (or_first (has next.done m) (has next.refused m) f)))
+        never e true f = absurd (not_both (has al m) e (own m (or_left (has next.done m) (has next.refused m) f)))
 
     outcome_same : (w : Data) → all_named (is_over al st) places.FieldType w ≡ true → outcome al next.done w ≡ outcome al st.done w
     outcome_same w due = go (all_named (has st.done) places.FieldType w) refl
@@ -218,7 +209,7 @@ module _ (al : Members) where
   -- ---- two such states are the same
 
   no_outcome : (st : Outcomes) (q : List ℕ) → has_outcome st q ≡ false → (get_member q st.done ≡ None) × (get_member q st.refused ≡ None)
-  no_outcome st q h = (none_of (get_member q st.done) (or_left (has st.done q) (has st.refused q) h), none_of (get_member q st.refused) (or_right (has st.done q) (has st.refused q) h))
+  no_outcome st q h = (none_of (get_member q st.done) ((or_parts (has st.done q) (has st.refused q) h).0), none_of (get_member q st.refused) ((or_parts (has st.done q) (has st.refused q) h).1))
 
   same_at : (a b : Outcomes) → Agrees a b → Agrees b a → (q : List ℕ) → SameAt a b q
   same_at a b f g q = go (has_outcome a q) refl (has_outcome b q) refl
@@ -248,8 +239,8 @@ module _ (al : Members) where
   kept_round (member k w ms) st n h = kept_round ms (step al k w st) n (kept_step k w st n h)
 
   concluded_has : (k : List ℕ) (st : Outcomes) (o : Option Data) → has_outcome (concluded k st o) k ≡ true
-  concluded_has k st None = or_second (has st.done k) (has (put k null st.refused) k) (is_put k null st.refused)
-  concluded_has k st (Some r) = or_first (has (put k r st.done) k) (has st.refused k) (is_put k r st.done)
+  concluded_has k st None = or_right (has st.done k) (has (put k null st.refused) k) (is_put k null st.refused)
+  concluded_has k st (Some r) = or_left (has (put k r st.done) k) (has st.refused k) (is_put k r st.done)
 
   -- an alias that is due has its outcome after its turn
   due_step : (k : List ℕ) (w : Data) (st : Outcomes) → all_named (is_over al st) places.FieldType w ≡ true → has_outcome (step al k w st) k ≡ true
@@ -288,7 +279,7 @@ module _ (al : Members) where
   over_settled : (ms : Members) (st : Outcomes) → all_over ms st ≡ true → all_settled al ms st ≡ true
   over_settled no_members st h = refl
   over_settled (member k w ms) st h =
-      let one : is_settled al st k w ≡ true = or_first (has_outcome st k) (not (all_named (is_over al st) places.FieldType w)) (and_left (has_outcome st k) (all_over ms st) h) in
+      let one : is_settled al st k w ≡ true = or_left (has_outcome st k) (not (all_named (is_over al st) places.FieldType w)) (and_left (has_outcome st k) (all_over ms st) h) in
       rw one (over_settled ms st (and_right (has_outcome st k) (all_over ms st) h))
 
   each_settled : (ms : Members) (st : Outcomes) → all_settled al ms st ≡ true → AllEntries (λ k w. is_settled al st k w ≡ true) ms
@@ -352,34 +343,20 @@ module _ (al : Members) where
 
   -- ---- the rounds that follow
 
-  -- turns led here; all is settled, or each of so many rounds gave an outcome
-  pub record Follows (st : Outcomes) (settled : Bool) (n : ℕ) : Type 0 where
+  -- turns led here, and each of so many rounds gave an outcome
+  pub record Follows (st : Outcomes) (n : ℕ) : Type 0 where
     pub reached : Reached al st
-    pub all : settled ≡ true → all_settled al al st ≡ true
-    pub few : settled ≡ false → n ≤ count (has_outcome st) al
+    pub few : n ≤ count (has_outcome st) al
 
-  pub follows_first : (st : Outcomes) → Reached al st → Follows st false 0
-  follows_first st reached = record { reached = reached; all = λ e. absurd (true≢false (sym e)); few = λ e. omega arith }
-
-  pub follows_still : (st : Outcomes) (n : ℕ) → Follows st true n → Follows st true (n + 1)
-  follows_still st n before = record { reached = before.reached; all = before.all; few = λ e. absurd (true≢false e) }
-
-  pub follows_round : (st after : Outcomes) (settled : Bool) (n : ℕ) → NoClash al → Follows st false n → settled ≡ all_settled al al st → after ≡ round al al st → Follows after settled (n + 1)
-  follows_round st after settled n apart before is went =
-      record {
-        reached = subst (Reached al) (sym went) (round_reached al al st (found_each al apart) before.reached);
-        all = λ e. let was : all_settled al al st ≡ true = sym is ∙ e in ap (all_settled al al) (went ∙ settled_round al st was) ∙ was;
-        few = λ e.
-            let was : all_settled al al st ≡ false = sym is ∙ e in
-            let more = round_grows st apart was in
-            let few = before.few refl in
-            let all : n + 1 ≤ count (has_outcome (round al al st)) al = omega (arith, more, few) in
-            subst (λ x. n + 1 ≤ count (has_outcome x) al) (sym went) all;
-      }
+  pub follows_round : (st after : Outcomes) (n : ℕ) → NoClash al → Follows st n → all_settled al al st ≡ false → after ≡ round al al st → Follows after (n + 1)
+  follows_round st after n apart before waits went =
+      let more = round_grows st apart waits in
+      let few = before.few in
+      let all : n + 1 ≤ count (has_outcome (round al al st)) al = omega (arith, more, few) in
+      subst (λ x. Follows x (n + 1)) (sym went) (record { reached = round_reached al al st (found_each al apart) before.reached; few = all })
 
   -- what as many rounds as there are aliases lead to is what the rounds leave
-  pub follows_all : (st : Outcomes) (settled : Bool) (n : ℕ) → NoClash al → Follows st settled n → members_len al ≡ n → st ≡ rounds al n no_outcomes
-  follows_all st true n apart last len = turns_are_rounds apart last.reached (is_settled_state st (last.all refl)) ∙ ap (λ m. rounds al m no_outcomes) len
-  follows_all st false n apart last len =
-      let full : members_len al ≤ count (has_outcome st) al = subst (λ m. m ≤ count (has_outcome st) al) (sym len) (last.few refl) in
+  pub follows_all : (st : Outcomes) (n : ℕ) → NoClash al → Follows st n → members_len al ≡ n → st ≡ rounds al n no_outcomes
+  follows_all st n apart last len =
+      let full : members_len al ≤ count (has_outcome st) al = subst (λ m. m ≤ count (has_outcome st) al) (sym len) last.few in
       turns_are_rounds apart last.reached (full_settled st full) ∙ ap (λ m. rounds al m no_outcomes) len

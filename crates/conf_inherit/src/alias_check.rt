@@ -84,24 +84,6 @@ fn check_alias(
     check_circle(alloc, value, aliases, resolved, over)
 }
 
-/// Refuses the first fault of the aliases, where `over` has the names of those with an outcome.
-fn check_each(
-    alloc: Global,
-    aliases: &Map<String, Value>,
-    outcomes: &AliasOutcomes,
-    over: &Map<String, Value>,
-) -> Result<(), ConfFault>
-    requires over { members_view over.now.entries ≡ over_names (members_view aliases.now.entries) (outcomes_of outcomes.now) no_members }
-    ensures first { Gives (λ _. tt) result (refusal (all_alias_flaws (members_view aliases.now.entries) (outcomes_of outcomes.now) (members_view aliases.now.entries))) }
-{
-    for (name, value) in aliases.iter() {
-        if let Err(fault) = check_alias(alloc, name.as_str(), value, aliases, outcomes, over) {
-            return Err(fault.in_property(alloc, name.as_str()));
-        }
-    }
-    Ok(())
-}
-
 /// Refuses the first fault of the aliases.
 pub(crate) fn check_aliases(
     alloc: Global,
@@ -110,8 +92,13 @@ pub(crate) fn check_aliases(
 ) -> Result<(), ConfFault>
     ensures first { Gives (λ _. tt) result (refusal (all_alias_flaws (members_view aliases.now.entries) (outcomes_of outcomes.now) (members_view aliases.now.entries))) }
 {
-    match names_over(alloc, aliases, outcomes) {
-        Ok(over) => check_each(alloc, aliases, outcomes, &over),
-        Err(_) => Err(ConfFault::memory(alloc)),
+    let Ok(over) = names_over(alloc, aliases, outcomes) else {
+        return Err(ConfFault::memory(alloc));
+    };
+    for (name, value) in aliases.iter() {
+        if let Err(fault) = check_alias(alloc, name.as_str(), value, aliases, outcomes, &over) {
+            return Err(fault.in_property(alloc, name.as_str()));
+        }
     }
+    Ok(())
 }

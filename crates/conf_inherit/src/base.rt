@@ -18,7 +18,7 @@ pub(crate) fn properties_below(alloc: Global, base: Option<Value>) -> Map<String
 }
 
 /// The properties of a value. A value that is no object has none.
-pub(crate) fn properties_in(alloc: Global, value: Value) -> Map<String, Value>
+fn properties_in(alloc: Global, value: Value) -> Map<String, Value>
     ensures { members_view result.entries ≡ properties_of (view value) }
 {
     match value {

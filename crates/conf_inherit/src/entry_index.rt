@@ -2,12 +2,12 @@
 ghost use Rattle.std.specs.Prelude.{◌≡◌, ℕ, List, IfOk, IfSome, OnOk, option_map};
 ghost use Rattle.std.specs.List.{IsAmong};
 ghost use Rattle.std.specs.Option.{option_or};
-ghost use Rattle.serde_json.specs.Data.{Members, object};
-ghost use Rattle.serde_json.specs.View.{view, items_view, members_view};
-ghost use Rattle.conf_inherit.specs.EntryIndex.{HasPlaces, place_at, place_if, lower, lowest, lowest_of, lay_over_found};
+ghost use Rattle.serde_json.specs.Data.{Members};
+ghost use Rattle.serde_json.specs.View.{view, items_view};
+ghost use Rattle.conf_inherit.specs.EntryIndex.{HasPlaces, place_at, place_if, lower, lowest_of, lay_over_found};
 ghost use Rattle.conf_inherit.specs.Laying.{has_entry, lay_over};
 
-use serde_json::{Map, Value};
+use serde_json::Value;
 use std::alloc::{AllocError, Global};
 use std::collections::BTreeMap;
 
@@ -61,19 +61,9 @@ fn note<'a>(
 ) -> Result<(), AllocError>
     ensures { OnOk result ((n : List ℕ) → place_at places.new n ≡ option_or (place_if n (view entry.now) place) (place_at places.old n)) }
 {
-    match entry {
-        Value::Object(members) => note_names(members, place, places),
-        _ => Ok(()),
-    }
-}
-
-fn note_names<'a>(
-    members: &'a Map<String, Value>,
-    place: usize,
-    places: &mut BTreeMap<&'a str, usize>,
-) -> Result<(), AllocError>
-    ensures { OnOk result ((n : List ℕ) → place_at places.new n ≡ option_or (place_if n (object (members_view members.now.entries)) place) (place_at places.old n)) }
-{
+    let Value::Object(members) = entry else {
+        return Ok(());
+    };
     for (name, _value) in members.iter() {
         drop(places.insert(name.as_str(), place)?);
     }
@@ -84,15 +74,9 @@ fn note_names<'a>(
 fn lowest_place(places: &BTreeMap<&str, usize>, value: &Value) -> Option<usize>
     ensures { result ≡ lowest_of (λ n. place_at places.now n) (view value.now) }
 {
-    match value {
-        Value::Object(members) => lowest_among(places, members),
-        _ => None,
-    }
-}
-
-fn lowest_among(places: &BTreeMap<&str, usize>, members: &Map<String, Value>) -> Option<usize>
-    ensures { result ≡ lowest (λ n. place_at places.now n) (members_view members.now.entries) }
-{
+    let Value::Object(members) = value else {
+        return None;
+    };
     let mut lowest = None;
     for (name, _value) in members.iter() {
         lowest = lower(lowest, places.get(name.as_str()));
@@ -105,13 +89,8 @@ fn lower(place: Option<usize>, other: Option<&usize>) -> Option<usize>
     ensures { result ≡ lower place (option_map (λ p. p.now) other.entry) }
 {
     match (place, other) {
-        (Some(first), Some(second)) => {
-            if *second < first {
-                return Some(*second);
-            }
-            Some(first)
-        }
-        (None, Some(second)) => Some(*second),
+        (Some(first), Some(second)) if first <= *second => place,
+        (_, Some(second)) => Some(*second),
         (_, None) => place,
     }
 }

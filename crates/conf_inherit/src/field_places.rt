@@ -12,10 +12,7 @@ pub(crate) fn place_under(place: Place, name: &str) -> Place
 {
     match place {
         Place::FieldType | Place::Member => place_in_type(name),
-        _ => match under(place, name) {
-            Some(led) => field_place(led),
-            None => Place::Ignored,
-        },
+        _ => under(place, name).map_or(Place::Ignored, field_place),
     }
 }
 
@@ -150,8 +147,5 @@ pub(crate) fn way_to_aliases(place: Place) -> Option<&'static str>
 pub(crate) fn is_base_name(place: Place, name: &str) -> bool
     ensures { result ≡ is_base_name place name.now }
 {
-    match place {
-        Place::FieldType | Place::Member => name == "$inherit",
-        _ => false,
-    }
+    matches!(place, Place::FieldType | Place::Member) && name == "$inherit"
 }

@@ -7,7 +7,7 @@ ghost use Rattle.conf_inherit.specs.SeenNames.{seen_names};
 ghost use Rattle.conf_tree.specs.Reading.{Gives};
 ghost use Rattle.conf_tree.specs.Walk.{refusal};
 ghost use Rattle.conf_inherit.specs.FieldPlaces.{place_under, is_entry};
-ghost use Rattle.conf_inherit.specs.Flaws.{is_wrong, is_no_list, is_no_entry, is_no_member, is_unknown, own_flaws, base_flaws, flaws, type_flaws, inner_flaws, item_flaws, member_flaws, mark, mark_names};
+ghost use Rattle.conf_inherit.specs.Flaws.{is_wrong, is_no_entry, is_unknown, own_flaws, base_flaws, flaws, type_flaws, item_flaws, member_flaws, mark};
 
 use crate::field_places::{
     is_base_name, is_entry, lists_members, names_alias, names_member_type, place_of_items,
@@ -25,16 +25,9 @@ use std::collections::BTreeMap;
 fn is_wrong(value: &Value, place: Place) -> bool
     ensures { result ≡ is_wrong place (view value.now) }
 {
-    (lists_members(place) && is_no_list(value))
+    (lists_members(place) && !matches!(value, Value::Null | Value::Array(_)))
         || (is_entry(place) && is_no_entry(value))
-        || (names_member_type(place) && is_no_member(value))
-}
-
-/// Whether a value is neither a list nor null.
-fn is_no_list(value: &Value) -> bool
-    ensures { result ≡ is_no_list (view value.now) }
-{
-    !matches!(value, Value::Null | Value::Array(_))
+        || (names_member_type(place) && !matches!(value, Value::String(_) | Value::Object(_)))
 }
 
 /// Whether a value is no object of one property.
@@ -47,24 +40,14 @@ fn is_no_entry(value: &Value) -> bool
     }
 }
 
-/// Whether a value is neither a text nor an object.
-fn is_no_member(value: &Value) -> bool
-    ensures { result ≡ is_no_member (view value.now) }
-{
-    !matches!(value, Value::String(_) | Value::Object(_))
-}
-
 /// Whether a value is a text that names no alias, where it has to.
 fn is_unknown(value: &Value, place: Place, aliases: &Map<String, Value>) -> bool
     ensures { result ≡ is_unknown (members_view aliases.now.entries) place (view value.now) }
 {
-    match value {
-        Value::String(name) => {
-            (names_alias(place) || names_member_type(place))
-                && property(aliases, name.as_str()).is_none()
-        }
-        _ => false,
-    }
+    let Value::String(name) = value else {
+        return false;
+    };
+    (names_alias(place) || names_member_type(place)) && property(aliases, name.as_str()).is_none()
 }
 
 /// Refuses the first flaw of a value itself, where its name may be taken.
@@ -93,19 +76,9 @@ pub(crate) fn check_itself(
 pub(crate) fn mark<'a>(entry: &'a Value, seen: &mut BTreeMap<&'a str, ()>) -> Result<(), AllocError>
     ensures { OnOk result (seen_names seen.new ≡ mark (view entry.now) (seen_names seen.old)) }
 {
-    match entry {
-        Value::Object(members) => mark_names(members, seen),
-        _ => Ok(()),
-    }
-}
-
-fn mark_names<'a>(
-    members: &'a Map<String, Value>,
-    seen: &mut BTreeMap<&'a str, ()>,
-) -> Result<(), AllocError>
-    ensures { OnOk result (seen_names seen.new
-        ≡ mark_names (members_view members.now.entries) (seen_names seen.old)) }
-{
+    let Value::Object(members) = entry else {
+        return Ok(());
+    };
     for (name, _value) in members.iter() {
         drop(seen.insert(name.as_str(), ())?);
     }
@@ -127,23 +100,7 @@ pub(crate) fn check_flaws(
 ) -> Result<(), ConfFault>
     ensures first { Gives (λ _. tt) result (refusal (flaws (members_view aliases.now.entries) (option_map (λ m. members_view m.now.entries) resolved.entry) place taken (seen_names seen.now) (view value.now))) }
 {
-    if let Err(fault) = check_itself(alloc, value, place, taken, aliases) {
-        return Err(fault);
-    }
-    check_inner(alloc, value, place, seen, aliases, resolved)
-}
-
-#[cycle(flaws)]
-fn check_inner(
-    alloc: Global,
-    value: &Value,
-    place: Place,
-    seen: &BTreeMap<&str, ()>,
-    aliases: &Map<String, Value>,
-    resolved: Option<&Map<String, Value>>,
-) -> Result<(), ConfFault>
-    ensures first { Gives (λ _. tt) result (refusal (inner_flaws (members_view aliases.now.entries) (option_map (λ m. members_view m.now.entries) resolved.entry) place (seen_names seen.now) (view value.now))) }
-{
+    check_itself(alloc, value, place, taken, aliases)?;
     match value {
         Value::Null | Value::Bool(_) | Value::Number(_) | Value::String(_) => Ok(()),
         Value::Array(items) => check_items(alloc, items, place, aliases, resolved),
@@ -241,13 +198,10 @@ fn check_base(
     ensures first { Gives (λ _. tt) result (refusal (base_flaws (option_map (λ m. members_view m.now.entries) resolved.entry) place name.now (view member.now))) }
 {
     match resolved {
-        Some(resolved) => {
-            if is_base_name(place, name) {
-                return check_limits(alloc, member, Place::FieldType, resolved);
-            }
-            Ok(())
+        Some(resolved) if is_base_name(place, name) => {
+            check_limits(alloc, member, Place::FieldType, resolved)
         }
-        None => Ok(()),
+        _ => Ok(()),
     }
 }
 

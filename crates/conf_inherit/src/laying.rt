@@ -2,11 +2,11 @@
 ghost use Rattle.std.specs.Prelude.{◌≡◌, string_bytes, IfOk, IfErr, OnOk, MatchOption, Option, Some, option_map};
 ghost use Rattle.serde_json.specs.Data.{Data, object, array, Items, no_items};
 ghost use Rattle.serde_json.specs.View.{view, items_view, members_view};
-ghost use Rattle.conf_inherit.specs.Laying.{lay, lay_base, lay_members, lay_over, lay_over_entry, lay_over_member, lay_new, lay_new_entry, lay_new_member, lay_text, resolved};
+ghost use Rattle.conf_inherit.specs.Laying.{lay, lay_base, lay_members, lay_over, lay_over_entry, lay_new, lay_new_entry, lay_text, resolved};
 ghost use Rattle.conf_inherit.specs.Names.{join_items, map_items};
 ghost use Rattle.conf_inherit.specs.Size.{size, items_size, members_size, Within, Leaves, IsDue};
 
-use crate::base::{items_under, join, properties_below, properties_in};
+use crate::base::{items_under, join, properties_below};
 use crate::entry_index::EntryIndex;
 use crate::field_places::{
     is_base_name, lists_members, names_alias, names_member_type, place_under,
@@ -108,10 +108,8 @@ fn lay_object(
         ≡ lay (members_view aliases.now.entries) place (object (members_view members.now.entries)) (option_map view base)) }
     ensures past { IfErr result (λ stop. IsDue stop limit (size (lay (members_view aliases.now.entries) place (object (members_view members.now.entries)) (option_map view base)))) }
 {
-    let below = match lay_inherited(alloc, place, members, aliases)? {
-        Some(inherited) => properties_in(alloc, inherited),
-        None => properties_below(alloc, base),
-    };
+    let below = lay_inherited(alloc, place, members, aliases)?.or(base);
+    let below = properties_below(alloc, below);
     let laid = lay_properties(alloc, place, members, below, aliases, limit)?;
     Ok(Value::Object(laid))
 }
@@ -235,14 +233,15 @@ fn lay_over(
     ensures past { IfErr result (λ stop. IsDue stop limit (size (lay_over (members_view aliases.now.entries) (items_view own.now.items) (view entry)))) }
 {
     match index.first_over(&entry) {
-        Some(item) => lay_over_item(alloc, item, entry, aliases, limit),
+        Some(item) => lay_over_entry(alloc, item, entry, aliases, limit),
         None => Ok(entry),
     }
 }
 
 /// An entry of the base, with what an item of the list has for its name over it.
 #[cycle(laying)]
-fn lay_over_item(
+#[tactic(auto, using(crate::proofs::LayingLemmas::get_property))]
+fn lay_over_entry(
     alloc: Global,
     item: &Value,
     entry: Value,
@@ -252,28 +251,12 @@ fn lay_over_item(
     ensures laid { IfOk result (λ laid. view laid ≡ lay_over_entry (members_view aliases.now.entries) (view item.now) (view entry) (view entry)) }
     ensures past { IfErr result (λ stop. IsDue stop limit (size (lay_over_entry (members_view aliases.now.entries) (view item.now) (view entry) (view entry)))) }
 {
-    match item {
-        Value::Object(members) => lay_over_entry(alloc, members, entry, aliases, limit),
-        _ => Ok(entry),
-    }
-}
-
-/// The entry of the base, with what these properties have for its name over it.
-#[cycle(laying)]
-#[tactic(auto, using(crate::proofs::ListLemmas::get_property))]
-fn lay_over_entry(
-    alloc: Global,
-    members: &Map<String, Value>,
-    entry: Value,
-    aliases: &Map<String, Value>,
-    limit: Option<usize>,
-) -> Result<Value, Stop>
-    ensures laid { IfOk result (λ laid. view laid ≡ lay_over_member (members_view aliases.now.entries) (members_view members.now.entries) (view entry) (view entry)) }
-    ensures past { IfErr result (λ stop. IsDue stop limit (size (lay_over_member (members_view aliases.now.entries) (members_view members.now.entries) (view entry) (view entry)))) }
-{
+    let Value::Object(members) = item else {
+        return Ok(entry);
+    };
     for (name, value) in members.iter() {
         if entry.get(name.as_str()).is_some() {
-            let mut own = properties_in(alloc, entry);
+            let mut own = properties_below(alloc, Some(entry));
             let base = take_property(&mut own, name.as_str());
             let laid = lay(alloc, Place::Member, value, base, aliases, limit)?;
             return Ok(only(alloc, own, name, laid)?);
@@ -305,7 +288,7 @@ fn push_new_entries(
     Ok(())
 }
 
-/// Adds the entry that an item of the list is, if the base has none of its name.
+/// Adds the entry that an item of the list is, if the base has none of its name. It answers what the limit leaves.
 #[cycle(laying)]
 fn push_new_item(
     alloc: Global,
@@ -320,27 +303,9 @@ fn push_new_item(
     ensures left { IfOk result (λ left. Leaves limit (items_size (lay_new_entry (members_view aliases.now.entries) (view item.now) (items_view base.now.entries.now.items) no_items)) left) }
     ensures past { IfErr result (λ stop. IsDue stop limit (items_size (lay_new_entry (members_view aliases.now.entries) (view item.now) (items_view base.now.entries.now.items) no_items))) }
 {
-    match item {
-        Value::Object(members) => push_new_entry(alloc, members, base, entries, aliases, limit),
-        _ => Ok(limit),
-    }
-}
-
-/// Adds the entry, if the base has none of its name.
-#[cycle(laying)]
-fn push_new_entry(
-    alloc: Global,
-    members: &Map<String, Value>,
-    base: &EntryIndex,
-    entries: &mut Vec<Value>,
-    aliases: &Map<String, Value>,
-    limit: Option<usize>,
-) -> Result<Option<usize>, Stop>
-    ensures laid { OnOk result ((rest : Items) → join_items (items_view entries.new.items) rest
-        ≡ join_items (items_view entries.old.items) (lay_new_member (members_view aliases.now.entries) (members_view members.now.entries) (items_view base.now.entries.now.items) rest)) }
-    ensures left { IfOk result (λ left. Leaves limit (items_size (lay_new_member (members_view aliases.now.entries) (members_view members.now.entries) (items_view base.now.entries.now.items) no_items)) left) }
-    ensures past { IfErr result (λ stop. IsDue stop limit (items_size (lay_new_member (members_view aliases.now.entries) (members_view members.now.entries) (items_view base.now.entries.now.items) no_items))) }
-{
+    let Value::Object(members) = item else {
+        return Ok(limit);
+    };
     let mut room = limit;
     for (name, value) in members.iter() {
         if !base.has(name.as_str()) {

@@ -63,12 +63,8 @@ pub(crate) fn fit(
         (λ kind. fitting (lay (members_view resolved.now.entries) place (view value.now) None) ≡ Err kind)) }
 {
     match lay(alloc, place, value, None, resolved, Some(MAX_VALUES)) {
-        Ok(laid) => {
-            if !nests(&laid, MAX_LEVELS) {
-                return Ok(Err(FaultKind::TooDeep));
-            }
-            Ok(Ok(laid))
-        }
+        Ok(laid) if nests(&laid, MAX_LEVELS) => Ok(Ok(laid)),
+        Ok(_) => Ok(Err(FaultKind::TooDeep)),
         Err(Stop::Limit) => Ok(Err(FaultKind::Limit)),
         Err(Stop::Memory) => Err(AllocError),
     }
@@ -83,20 +79,13 @@ fn check_alias_limits(
 ) -> Result<(), ConfFault>
     ensures first { Gives (λ _. tt) result (refusal (passed (fitting (lay (members_view aliases.now.entries) Place.FieldType (string name.now) None)))) }
 {
-    match property(aliases, name) {
-        Some(alias) => check_fits(alloc, alias),
-        None => Ok(()),
-    }
-}
-
-/// Refuses a resolved type that passes a limit.
-fn check_fits(alloc: Global, value: &Value) -> Result<(), ConfFault>
-    ensures first { Gives (λ _. tt) result (refusal (passed (fitting (view value.now)))) }
-{
-    if count(value, MAX_VALUES).is_none() {
+    let Some(alias) = property(aliases, name) else {
+        return Ok(());
+    };
+    if count(alias, MAX_VALUES).is_none() {
         return Err(ConfFault::here(alloc, FaultKind::Limit));
     }
-    if !nests(value, MAX_LEVELS) {
+    if !nests(alias, MAX_LEVELS) {
         return Err(ConfFault::here(alloc, FaultKind::TooDeep));
     }
     Ok(())

@@ -62,7 +62,7 @@ pub(crate) fn push_waiting(
     names: &mut Vec<String>,
 ) -> Result<(), AllocError> {
     match value {
-        Value::Null | Value::Bool(_) | Value::Number(_) => Ok(()),
+        Value::Null | Value::Bool(_) | Value::Number(_) => {}
         Value::String(name) => {
             if (names_alias(place) || names_member_type(place))
                 && has(aliases, name.as_str())
@@ -70,50 +70,24 @@ pub(crate) fn push_waiting(
             {
                 names.push(name.clone()?)?;
             }
-            Ok(())
         }
         Value::Array(items) => {
-            push_waiting_in_items(items, place_of_items(place), most, aliases, outcomes, names)
+            for item in items {
+                if names.len() >= most {
+                    break;
+                }
+                push_waiting(item, place_of_items(place), most, aliases, outcomes, names)?;
+            }
         }
         Value::Object(members) => {
-            push_waiting_in_members(members, place, most, aliases, outcomes, names)
+            for (name, member) in members.iter() {
+                if names.len() >= most {
+                    break;
+                }
+                let inner = place_under(place, name.as_str());
+                push_waiting(member, inner, most, aliases, outcomes, names)?;
+            }
         }
-    }
-}
-
-#[cycle(naming)]
-fn push_waiting_in_items(
-    items: &Vec<Value>,
-    place: Place,
-    most: usize,
-    aliases: &Map<String, Value>,
-    outcomes: &AliasOutcomes,
-    names: &mut Vec<String>,
-) -> Result<(), AllocError> {
-    for item in items {
-        if names.len() >= most {
-            return Ok(());
-        }
-        push_waiting(item, place, most, aliases, outcomes, names)?;
-    }
-    Ok(())
-}
-
-#[cycle(naming)]
-fn push_waiting_in_members(
-    members: &Map<String, Value>,
-    place: Place,
-    most: usize,
-    aliases: &Map<String, Value>,
-    outcomes: &AliasOutcomes,
-    names: &mut Vec<String>,
-) -> Result<(), AllocError> {
-    for (name, member) in members.iter() {
-        if names.len() >= most {
-            return Ok(());
-        }
-        let inner = place_under(place, name.as_str());
-        push_waiting(member, inner, most, aliases, outcomes, names)?;
     }
     Ok(())
 }

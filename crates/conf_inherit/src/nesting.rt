@@ -56,18 +56,9 @@ pub(crate) fn check_nesting(alloc: Global, value: &Value, levels: usize) -> Resu
 {
     match value {
         Value::Null | Value::Bool(_) | Value::Number(_) | Value::String(_) => Ok(()),
-        Value::Array(items) => {
-            if levels == 0 {
-                return Err(ConfFault::here(alloc, FaultKind::TooDeep));
-            }
-            check_items_nesting(alloc, items, levels - 1)
-        }
-        Value::Object(members) => {
-            if levels == 0 {
-                return Err(ConfFault::here(alloc, FaultKind::TooDeep));
-            }
-            check_members_nesting(alloc, members, levels - 1)
-        }
+        _ if levels == 0 => Err(ConfFault::here(alloc, FaultKind::TooDeep)),
+        Value::Array(items) => check_items_nesting(alloc, items, levels - 1),
+        Value::Object(members) => check_members_nesting(alloc, members, levels - 1),
     }
 }
 

@@ -24,7 +24,7 @@ use std::collections::BTreeMap;
 const MAX_EXTRA_MEMBERS: usize = 256;
 
 /// Refuses a members list with more entries than a packet context may have extra members.
-#[tactic(auto, using(crate::proofs::PlaceLemmas::count_past, crate::proofs::PlaceLemmas::count_within), unfolding(crate::specs::Places::too_many))]
+#[tactic(auto, using(crate::proofs::SoundPlaces::count_past, crate::proofs::SoundPlaces::count_within), unfolding(crate::specs::Places::too_many))]
 fn check_count(alloc: Global, value: &Value) -> Result<(), ConfFault>
     ensures first { Gives (λ _. tt) result (refusal (too_many (view value.now))) }
 {
@@ -34,7 +34,7 @@ fn check_count(alloc: Global, value: &Value) -> Result<(), ConfFault>
     }
 }
 
-#[tactic(auto, using(crate::proofs::PlaceLemmas::count_past, crate::proofs::PlaceLemmas::count_within))]
+#[tactic(auto, using(crate::proofs::SoundPlaces::count_past, crate::proofs::SoundPlaces::count_within))]
 fn check_length(alloc: Global, items: &Vec<Value>) -> Result<(), ConfFault>
     ensures first { Gives (λ _. tt) result (refusal (too_many (array (items_view items.now.items)))) }
 {
@@ -93,19 +93,13 @@ pub(crate) fn check_places(
     ensures first { Gives (λ _. tt) result (refusal (inner_places (members_view aliases.now.entries) (members_view resolved.now.entries) place (view value.now))) }
 {
     match value {
-        Value::Null | Value::Bool(_) | Value::Number(_) | Value::String(_) => Ok(()),
-        Value::Array(items) => {
-            if lists_extra_members(place) {
-                return check_item_places(alloc, items, place, aliases, resolved);
-            }
-            Ok(())
+        Value::Array(items) if lists_extra_members(place) => {
+            check_item_places(alloc, items, place, aliases, resolved)
         }
-        Value::Object(members) => {
-            if leads_on(place) {
-                return check_member_places(alloc, members, place, aliases, resolved);
-            }
-            Ok(())
+        Value::Object(members) if leads_on(place) => {
+            check_member_places(alloc, members, place, aliases, resolved)
         }
+        _ => Ok(()),
     }
 }
 

@@ -1,7 +1,6 @@
 //! Resolves the inheritance of a configuration.
-ghost use Rattle.std.specs.Prelude.{◌≡◌, ◌⊎◌, ℕ, None, IfOk, IfErr, false, true};
+ghost use Rattle.std.specs.Prelude.{◌≡◌, ◌⊎◌, ℕ, None, IfOk, IfErr, true};
 ghost use Rattle.conf_tree.specs.Flaw.{flaw_of, IsMemory};
-ghost use Rattle.conf_tree.specs.Order.{Ascends};
 ghost use Rattle.conf_tree.specs.Reading.{Gives};
 ghost use Rattle.conf_tree.specs.Walk.{refusal};
 ghost use Rattle.conf_inherit.specs.AliasFlaws.{all_alias_flaws};
@@ -15,9 +14,8 @@ ghost use Rattle.conf_inherit.specs.Spent.{Spends};
 ghost use Rattle.conf_inherit.specs.Whole.{with_aliases, AreLaid};
 ghost use Rattle.serde_json.specs.Data.{Members, no_members};
 ghost use Rattle.serde_json.specs.View.{view, members_view};
-ghost use Rattle.serde_json.specs.Written.{has_float};
 ghost use Rattle.conf_inherit.specs.declared.nesting.TheConstants.{ALIAS_LEVELS};
-ghost use Rattle.conf_inherit.specs.Resolution.{aliases_of, Resolves, in_aliases, from_aliases, if_shallow, resolution_after, resolution};
+ghost use Rattle.conf_inherit.specs.Resolution.{Resolves, in_aliases, from_aliases, if_shallow, resolution_after, resolution};
 
 use crate::alias_check::check_aliases;
 use crate::laying::lay;
@@ -28,7 +26,7 @@ use crate::rounds::settle_aliases;
 use crate::size::Stop;
 use crate::whole::replace_aliases;
 use conf_table::Place;
-use conf_tree::{ConfFault, FaultKind, Tree};
+use conf_tree::{ConfFault, Tree};
 use serde_json::{Map, Value};
 use std::alloc::Global;
 
@@ -124,27 +122,6 @@ fn resolve_after(
     lay_all(alloc, value, resolved, shallow)
 }
 
-/// The resolution of the configuration that these aliases were taken out of.
-fn resolve_under(
-    alloc: Global,
-    value: &Value,
-    mut aliases: Map<String, Value>,
-) -> Result<Tree, ConfFault>
-    requires bare { with_aliases Place.Root no_members (view value.now) ≡ view value.now }
-    requires own { members_view aliases.entries ≡ aliases_of (with_aliases Place.Root (members_view aliases.entries) (view value.now)) }
-    requires whole { has_float (with_aliases Place.Root (members_view aliases.entries) (view value.now)) ≡ false }
-    requires ordered { Ascends (with_aliases Place.Root (members_view aliases.entries) (view value.now)) }
-    ensures resolved { IfOk result (λ tree. Resolves (with_aliases Place.Root (members_view aliases.entries) (view value.now)) (view tree.value)) }
-    ensures refused { IfErr result (λ fault. IsMemory fault ⊎ RefusalHolds (with_aliases Place.Root (members_view aliases.entries) (view value.now)) (flaw_of fault)) }
-    ensures first { Gives (λ tree. view tree.value) result (resolution (with_aliases Place.Root (members_view aliases.entries) (view value.now))) }
-{
-    let outcomes = settle_aliases(alloc, &mut aliases)?;
-    match resolve_after(alloc, value, &aliases, outcomes) {
-        Ok(value) => Ok(Tree { value }),
-        Err(fault) => Err(fault),
-    }
-}
-
 /// The configuration with every inheritance resolved: each property has the value that is looked up along what its
 /// object inherits from (barectf 3.1, "Field type inheritance"). The tree is spent on a refusal, which names the first
 /// fault: those of the aliases in byte order of their names, then those of the other places in walk order, and last
@@ -157,6 +134,10 @@ pub fn resolve(alloc: Global, tree: Tree) -> Result<Tree, ConfFault>
     ensures first { Gives (λ made. view made.value) result (resolution (view tree.value)) }
 {
     let Tree { mut value } = tree;
-    let aliases = replace_aliases(alloc, Place::Root, &mut value, Map::new(alloc));
-    resolve_under(alloc, &value, aliases)
+    let mut aliases = replace_aliases(alloc, Place::Root, &mut value, Map::new(alloc));
+    let outcomes = settle_aliases(alloc, &mut aliases)?;
+    match resolve_after(alloc, &value, &aliases, outcomes) {
+        Ok(value) => Ok(Tree { value }),
+        Err(fault) => Err(fault),
+    }
 }

@@ -1,6 +1,6 @@
 //! Resolves the aliases in the order in which they depend on one another.
 ghost use Rattle.std.specs.Prelude.{◌≡◌, false, Some, OnOk, IfOk, IfErr, option_map, string_bytes};
-ghost use Rattle.serde_json.specs.Data.{Members, no_members};
+ghost use Rattle.serde_json.specs.Data.{Members};
 ghost use Rattle.serde_json.specs.View.{view, members_view};
 ghost use Rattle.std.specs.BTreeMap.{btree_map_len};
 ghost use Rattle.conf_tree.specs.Flaw.{IsMemory};
@@ -8,7 +8,7 @@ ghost use Rattle.conf_inherit.specs.AliasOutcomes.{outcomes_of};
 ghost use Rattle.conf_inherit.specs.Flaws.{flaws};
 ghost use Rattle.conf_inherit.specs.Names.{NoClash};
 ghost use Rattle.conf_inherit.specs.Named.{all_named, has};
-ghost use Rattle.conf_inherit.specs.Rounds.{is_over, is_empty, outcome, step, round, all_settled, rounds, no_outcomes};
+ghost use Rattle.conf_inherit.specs.Rounds.{is_over, outcome, step, round, all_settled, rounds, no_outcomes};
 ghost use Rattle.conf_inherit.specs.Spent.{Spends, TurnsLeave};
 
 use crate::asked::Asked;
@@ -19,29 +19,9 @@ use crate::outcomes::AliasOutcomes;
 use crate::property::{has, property, take_property};
 use crate::turns::Turns;
 use conf_table::Place;
-use conf_tree::{ConfFault, FaultKind};
+use conf_tree::ConfFault;
 use serde_json::{Map, Value};
 use std::alloc::Global;
-
-/// Whether an alias has no flaw, seen where the aliases that it names are resolved.
-fn is_sound(
-    alloc: Global,
-    value: &Value,
-    aliases: &Map<String, Value>,
-    resolved: &Map<String, Value>,
-) -> Result<bool, ConfFault>
-    ensures sound { IfOk result (λ sound. sound
-        ≡ is_empty (flaws (members_view aliases.now.entries) (Some (members_view resolved.now.entries)) Place.FieldType false no_members (view value.now))) }
-    ensures memory { IfErr result IsMemory }
-{
-    if let Err(fault) = check_value(alloc, value, Place::FieldType, aliases, Some(resolved)) {
-        if fault.is_memory() {
-            return Err(fault);
-        }
-        return Ok(false);
-    }
-    Ok(true)
-}
 
 /// The resolved alias, unless it can't be resolved. `known` says whether all that it names is resolved.
 fn outcome(
@@ -59,7 +39,10 @@ fn outcome(
     if !known {
         return Ok(None);
     }
-    if !is_sound(alloc, value, aliases, resolved)? {
+    if let Err(fault) = check_value(alloc, value, Place::FieldType, aliases, Some(resolved)) {
+        if fault.is_memory() {
+            return Err(fault);
+        }
         return Ok(None);
     }
     match fit(alloc, value, Place::FieldType, resolved) {
@@ -95,20 +78,14 @@ fn step(
         ≡ step (members_view aliases.now.entries) (string_bytes name.now) (view value.now) (outcomes_of outcomes.old)) }
     ensures memory { IfErr result IsMemory }
 {
-    if outcomes.has_outcome(name.as_str()) {
-        return Ok(());
-    }
-    if !known && !is_due(value, aliases, outcomes) {
+    if outcomes.has_outcome(name.as_str()) || !(known || is_due(value, aliases, outcomes)) {
         return Ok(());
     }
     let noted = match outcome(alloc, value, known, aliases, &outcomes.resolved)? {
         Some(alias) => outcomes.resolve(name, alias),
         None => outcomes.refuse(name),
     };
-    if noted.is_err() {
-        return Err(ConfFault::memory(alloc));
-    }
-    Ok(())
+    noted.map_err(|_| ConfFault::memory(alloc))
 }
 
 /// Whether all aliases that a value names have an outcome.
@@ -163,16 +140,15 @@ fn take_turn(
         return Ok(());
     };
     let known = is_known(value, outcomes);
-    if !known {
-        match turns.is_due(alloc, name, value, aliases, outcomes) {
-            Ok(true) => {}
-            Ok(false) => return Ok(()),
-            Err(_) => return Err(ConfFault::memory(alloc)),
-        }
+    let due = known
+        || turns
+            .is_due(alloc, name, value, aliases, outcomes)
+            .map_err(|_| ConfFault::memory(alloc))?;
+    if !due {
+        return Ok(());
     }
     step(alloc, name, value, known, aliases, outcomes)?;
-    let resolved = has(&outcomes.resolved, name.as_str());
-    if resolved {
+    if has(&outcomes.resolved, name.as_str()) {
         drop(take_property(aliases, name.as_str()));
     }
     Ok(())
@@ -187,36 +163,14 @@ fn take_turns(
     ensures left { OnOk result ((al : Members) → TurnsLeave al (outcomes_of outcomes.old) (members_view aliases.old.entries) → TurnsLeave al (outcomes_of outcomes.new) (members_view aliases.new.entries)) }
     ensures memory { IfErr result IsMemory }
 {
-    let Ok(mut turns) = Turns::new(alloc, aliases) else {
-        return Err(ConfFault::memory(alloc));
-    };
+    let mut turns = Turns::new(alloc, aliases).map_err(|_| ConfFault::memory(alloc))?;
     for _turn in 0..u64::MAX {
-        let Some(name) = turns.pop() else {
+        let Some(name) = turns.names.pop() else {
             return Ok(());
         };
         take_turn(alloc, &name, &mut turns, aliases, outcomes)?;
     }
     Ok(())
-}
-
-/// One round more over the aliases. It answers whether there was no need of it: each had an outcome, or named one that
-/// has none.
-#[tactic(auto, using(crate::proofs::TurnLemmas::settled_round))]
-fn round_if_due(
-    alloc: Global,
-    aliases: &Map<String, Value>,
-    outcomes: &mut AliasOutcomes,
-) -> Result<bool, ConfFault>
-    ensures settled { IfOk result (λ settled. settled ≡ all_settled (members_view aliases.now.entries) (members_view aliases.now.entries) (outcomes_of outcomes.old)) }
-    ensures turned { OnOk result (outcomes_of outcomes.new
-        ≡ round (members_view aliases.now.entries) (members_view aliases.now.entries) (outcomes_of outcomes.old)) }
-    ensures memory { IfErr result IsMemory }
-{
-    if all_settled(aliases, outcomes) {
-        return Ok(true);
-    }
-    round(alloc, aliases, outcomes)?;
-    Ok(false)
 }
 
 /// What becomes of the aliases. Each has its turn behind those that it names, and rounds over all follow until none is
@@ -236,11 +190,11 @@ pub(crate) fn settle_aliases(
     let count = aliases.len();
     let mut outcomes = AliasOutcomes::new(alloc);
     take_turns(alloc, aliases, &mut outcomes)?;
-    let mut settled = false;
     for _turn in 0..count {
-        if !settled {
-            settled = round_if_due(alloc, aliases, &mut outcomes)?;
+        if all_settled(aliases, &outcomes) {
+            return Ok(outcomes);
         }
+        round(alloc, aliases, &mut outcomes)?;
     }
     Ok(outcomes)
 }

@@ -1,7 +1,7 @@
 //! Whether a fault of a value is one that was found of it before.
 ghost use Rattle.std.specs.Prelude.{◌≡◌, map};
 ghost use Rattle.conf_tree.specs.Flaw.{flaw_of, place_of};
-ghost use Rattle.conf_inherit.specs.SameFlaw.{is_same_step, is_same_path, is_no_alias, is_same_flaw};
+ghost use Rattle.conf_inherit.specs.SameFlaw.{is_same_step, is_same_path, is_same_flaw};
 
 use conf_tree::{ConfFault, FaultKind, Step};
 
@@ -30,17 +30,11 @@ fn is_same_path(path: &[Step], other: &[Step]) -> bool
     }
 }
 
-/// Whether a kind says that a name is no alias's.
-fn is_no_alias(kind: FaultKind) -> bool
-    ensures { result ≡ is_no_alias kind }
-{
-    matches!(kind, FaultKind::NoSuchAlias)
-}
-
 /// Whether both faults stand at the same place, and both say that a name is no alias's, or neither does.
 pub(crate) fn is_same_fault(fault: &ConfFault, other: &ConfFault) -> bool
     ensures { result ≡ is_same_flaw (flaw_of fault.now) (flaw_of other.now) }
 {
     is_same_path(fault.path.as_slice(), other.path.as_slice())
-        && is_no_alias(fault.kind) == is_no_alias(other.kind)
+        && matches!(fault.kind, FaultKind::NoSuchAlias)
+            == matches!(other.kind, FaultKind::NoSuchAlias)
 }

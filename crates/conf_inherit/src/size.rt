@@ -43,10 +43,8 @@ pub(crate) fn take(value: &Value, limit: Option<usize>) -> Result<Option<usize>,
     ensures past { IfErr result (λ stop. (stop ≡ Stop.Limit) × Past limit (size (view value.now))) }
 {
     let Some(limit) = limit else { return Ok(None) };
-    match count(value, limit) {
-        Some(left) => Ok(Some(left)),
-        None => Err(Stop::Limit),
-    }
+    let left = count(value, limit).ok_or(Stop::Limit)?;
+    Ok(Some(left))
 }
 
 /// What is left of so many values once those of a value are counted, or nothing where it has more.

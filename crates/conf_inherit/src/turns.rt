@@ -11,7 +11,7 @@ use std::collections::BTreeMap;
 #[derive(Drop)]
 pub(crate) struct Turns {
     /// Their names, that of the next one last.
-    names: Vec<String>,
+    pub names: Vec<String>,
     /// How often each alias came up without an outcome.
     visits: BTreeMap<String, usize>,
 }
@@ -29,11 +29,6 @@ impl Turns {
         })
     }
 
-    /// The name of the alias that comes up next.
-    pub(crate) fn pop(&mut self) -> Option<String> {
-        self.names.pop()
-    }
-
     /// Whether it is the turn of the alias that came up. Where others without an outcome are named in it, they come up
     /// first, and then it again: at first the first of them, since one name often leads to all others, then all. An
     /// alias that waits still when it comes up again leads into a circle, and has its turn once.
@@ -48,7 +43,8 @@ impl Turns {
         if outcomes.has_outcome(name.as_str()) {
             return Ok(false);
         }
-        let visits = self.visit(name)?;
+        let visits = self.visits.get(name.as_str()).copied().unwrap_or(0);
+        drop(self.visits.insert(name.clone()?, visits.saturating_add(1))?);
         if visits > 1 {
             return Ok(visits == 2);
         }
@@ -68,15 +64,5 @@ impl Turns {
         self.names.push(name.clone()?)?;
         self.names.append(&mut waiting)?;
         Ok(false)
-    }
-
-    /// Notes that an alias came up, and answers how often it had done so before.
-    fn visit(&mut self, name: &String) -> Result<usize, AllocError> {
-        let visits = match self.visits.get(name.as_str()) {
-            Some(visits) => *visits,
-            None => 0,
-        };
-        drop(self.visits.insert(name.clone()?, visits.saturating_add(1))?);
-        Ok(visits)
     }
 }

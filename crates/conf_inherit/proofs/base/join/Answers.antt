@@ -3,7 +3,7 @@ use Rattle.std.proofs.lemmas.List.{at_drop_more, at_drop_all}
 use Rattle.serde_json.specs.View.{view, items_view}
 use Rattle.serde_json.specs.Data.{item}
 use Rattle.conf_inherit.specs.Names.{join_items}
-use Rattle.conf_inherit.proofs.ItemLemmas.{join_none, join_pushed}
+use Rattle.conf_inherit.proofs.LayingLemmas.{join_none, join_pushed}
 use Rattle.conf_inherit.proofs.base.join.Goals as goal
 
 pub loop-item-preserved : goal.loop-item-preserved

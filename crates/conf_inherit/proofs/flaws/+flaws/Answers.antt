@@ -1,4 +1,5 @@
 use Rattle.std.proofs.Common.{◌&&◌, ◌++◌, ℕ, List, Err, is_some, option_map, string_bytes, inl, inr, sym, ap, ◌∙◌}
+use Rattle.std.proofs.lemmas.Result.{err_from_is_err_and}
 use Rattle.conf_tree.specs.Flaw.{Flaw, flaw_of, key, within}
 use Rattle.conf_tree.specs.Walk.{refusal}
 use Rattle.serde_json.specs.Data.{no_members}
@@ -10,14 +11,15 @@ use Rattle.conf_inherit.proofs.FlawLemmas.{refused_first, refused_part, sound_pa
 use Rattle.conf_inherit.specs.SeenNames.{seen_names}
 use Rattle.conf_inherit.proofs.flaws.+flaws.Goals as goal
 
-pub check_flaws-returns-in-Err : goal.check_flaws-returns-in-Err
-check_flaws-returns-in-Err t c =
+pub check_flaws-returns-in_err-check_itself : goal.check_flaws-returns-in_err-check_itself
+check_flaws-returns-in_err-check_itself t c =
     let al = members_view c.args.aliases.now.entries in
     let known = option_map (λ m. members_view m.now.entries) c.args.resolved in
     let own = own_flaws al c.args.place c.args.taken (view c.args.value.now) in
     let inner = inner_flaws al known c.args.place (seen_names c.args.seen.now) (view c.args.value.now) in
+    let p = err_from_is_err_and c.from_residual.result c.from_residual.ensures.1 in
     record {
-      first = elim c.in-Err.ensures.first [ inl memory ↦ inl memory | inr flawed ↦ inr (refused_first own inner (flaw_of c.in-Err.fault) flawed) ];
+      first = rw (p.1, p.2) (elim c.in_err-check_itself.ensures.first [ inl memory ↦ inl memory | inr flawed ↦ inr (refused_first own inner (flaw_of c.in_err-check_itself.field-0.0) flawed) ]);
     }
 
 pub check_members-returns-in-Err : goal.check_members-returns-in-Err

@@ -18,9 +18,6 @@ invariant-check_members-loop-name l =
 abbrev pub decreases-check_flaws : goal.decreases-check_flaws
 decreases-check_flaws l = 4 * goal.size-check_flaws l + 1
 
-abbrev pub decreases-check_inner : goal.decreases-check_inner
-decreases-check_inner l = 4 * goal.size-check_inner l
-
 abbrev pub decreases-check_items : goal.decreases-check_items
 decreases-check_items l = 4 * goal.size-check_items l + 3
 

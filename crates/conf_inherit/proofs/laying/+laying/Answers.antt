@@ -5,12 +5,12 @@ use Rattle.std.specs.Vec.Iter.{into_iter_items}
 use Rattle.serde_json.specs.Data.{Data, Items, no_items, item, array, object, member, no_members, put}
 use Rattle.serde_json.specs.View.{view, items_view, members_view}
 use Rattle.conf_table.specs.declared.place.Place.TheVariants as places
-use Rattle.conf_inherit.specs.Laying.{lay, items_below, has_entry, lay_members, lay_over, lay_over_entry, lay_new, lay_new_member}
+use Rattle.conf_inherit.specs.Laying.{lay, items_below, has_entry, lay_members, lay_over, lay_over_entry, lay_new, lay_new_entry, lay_new_member}
 use Rattle.conf_inherit.specs.EntryIndex.{lay_over_found}
 use Rattle.std.specs.Result.{IfOk, IfErr}
 use Rattle.conf_inherit.specs.Names.{map_items, join_items}
-use Rattle.conf_inherit.proofs.ItemLemmas.{join_none, join_pushed, join_appended, new_member_fresh, lay_members-first}
-use Rattle.serde_json.proofs.Views.{Entry, view-Array}
+use Rattle.conf_inherit.proofs.LayingLemmas.{join_none, join_pushed, join_appended, new_member_fresh, lay_members-first, lay_members-absent, lay_entries}
+use Rattle.serde_json.proofs.Views.{Entry, view-Array, view-Object}
 use Rattle.serde_json.specs.Find.{get_member}
 use Rattle.conf_inherit.specs.FieldPlaces.{place_under, is_base_name, lists_members}
 use Rattle.std.proofs.lemmas.Result.{err_from_is_err_and}
@@ -18,7 +18,6 @@ use Rattle.conf_inherit.specs.Names.{NoClash}
 use Rattle.conf_inherit.proofs.ResolveLemmas.{apart_of}
 use Rattle.conf_inherit.specs.Size.{size, items_size, Within, IsDue}
 use Rattle.conf_inherit.proofs.SizeLemmas.{IsCounted, counted_none, counted_all, leaves_within, counted_more, counted_past, due_more, past_due, over_size, new_size, new_next, property_size, found_among, absent_after}
-use Rattle.conf_inherit.proofs.LayingLemmas.{lay_members-absent, lay_entries}
 use Rattle.conf_inherit.proofs.laying.+laying.Goals as goal
 
 nothing_left : {X : Type 0} (l : List X) → length l ≡ 0 → l ≡ []
@@ -40,8 +39,21 @@ push_new_entries-returns-clause-laid t c =
     ∙ sym (at_drop_all (λ v. join_items (items_view c.loop-item.entries.items) (lay_new (members_view c.args.aliases.now.entries) (items_view v) (items_view c.args.base.now.items))) c.args.own.now.items c.loop-item.item-index (omega arith))
     ∙ c.loop-item.invariant.laid
 
-pub push_new_entry-loop-name-preserved-in_ok-push : goal.push_new_entry-loop-name-preserved-in_ok-push
-push_new_entry-loop-name-preserved-in_ok-push t c =
+pub push_new_item-loop-name-init : goal.push_new_item-loop-name-init
+push_new_item-loop-name-init t c =
+    let done = members_view c.args.aliases.now.entries in
+    let seen = items_view c.args.base.now.entries.now.items in
+    let members = c.in-Object.members.entries in
+    let value : view c.args.item.now ≡ object (members_view members) = ap view c.in-Object.is ∙ view-Object c.in-Object.members in
+    let all : (rest : Items) → lay_new_member done (members_view c.into_iter-name-iterator.result) seen rest ≡ lay_new_entry done (view c.args.item.now) seen rest
+    = λ rest. ap (λ es. lay_new_member done (members_view es) seen rest) (c.into_iter-name-iterator.ensures.into_iter_gives ∙ c.iter-name-items.ensures.rest) ∙ ap (λ d. lay_new_entry done d seen rest) (sym value) in
+    record {
+      laid = λ rest. ap (join_items (items_view c.args.entries.now.items)) (all rest);
+      left = rw (all no_items) (counted_none c.args.limit _);
+    }
+
+pub push_new_item-loop-name-preserved-in_ok-push : goal.push_new_item-loop-name-preserved-in_ok-push
+push_new_item-loop-name-preserved-in_ok-push t c =
     let done = members_view c.args.aliases.now.entries in
     let seen = items_view c.args.base.now.entries.now.items in
     let n = string_bytes c.in-Some.name.now in
@@ -146,7 +158,7 @@ lay_over-returns-in-Some-clause-laid t c =
     let b = view c.args.entry in
     let found : lay_over done (items_view c.args.own.now.items) b ≡ lay_over_entry done (view c.in-Some.item.now) b b
     = ap (λ v. lay_over done (items_view v.items) b) (sym c.requires) ∙ c.first_over.ensures.found done ∙ ap (λ o. lay_over_found done (option_map (λ e. view e.now) o) b) c.in-Some.is in
-    subst (λ d. IfOk c.lay_over_item.result (λ laid. view laid ≡ d)) (sym found) c.lay_over_item.ensures.laid
+    subst (λ d. IfOk c.lay_over_entry.result (λ laid. view laid ≡ d)) (sym found) c.lay_over_entry.ensures.laid
 
 pub lay_over-returns-in-Some-clause-past : goal.lay_over-returns-in-Some-clause-past
 lay_over-returns-in-Some-clause-past t c =
@@ -154,7 +166,7 @@ lay_over-returns-in-Some-clause-past t c =
     let b = view c.args.entry in
     let found : lay_over done (items_view c.args.own.now.items) b ≡ lay_over_entry done (view c.in-Some.item.now) b b
     = ap (λ v. lay_over done (items_view v.items) b) (sym c.requires) ∙ c.first_over.ensures.found done ∙ ap (λ o. lay_over_found done (option_map (λ e. view e.now) o) b) c.in-Some.is in
-    subst (λ d. IfErr c.lay_over_item.result (λ stop. IsDue stop c.args.limit (size d))) (sym found) c.lay_over_item.ensures.past
+    subst (λ d. IfErr c.lay_over_entry.result (λ stop. IsDue stop c.args.limit (size d))) (sym found) c.lay_over_entry.ensures.past
 
 pub lay_over_entries-returns-in_err-laid-clause-past : goal.lay_over_entries-returns-in_err-laid-clause-past
 lay_over_entries-returns-in_err-laid-clause-past t c =

@@ -3,7 +3,7 @@ use Rattle.std.specs.Vec.Iter.{into_iter_items, into_iter_len}
 use Rattle.serde_json.specs.Data.{Data, Items, no_items}
 use Rattle.serde_json.specs.View.{view, items_view, members_view}
 use Rattle.serde_json.proofs.Views.{Entry}
-use Rattle.conf_inherit.specs.Laying.{lay_base, lay_members, lay_over, lay_over_member, lay_new, lay_new_member}
+use Rattle.conf_inherit.specs.Laying.{lay_base, lay_members, lay_over, lay_over_entry, lay_over_member, lay_new, lay_new_entry, lay_new_member}
 use Rattle.conf_inherit.specs.Names.{join_items, map_items}
 use Rattle.conf_inherit.specs.Size.{items_size}
 use Rattle.conf_inherit.proofs.SizeLemmas.{IsCounted}
@@ -33,20 +33,14 @@ decreases-lay_over_entries l = 5 * goal.size-lay_over_entries l + 3
 abbrev pub decreases-lay_over : goal.decreases-lay_over
 decreases-lay_over l = 5 * goal.size-lay_over l + 2
 
-abbrev pub decreases-lay_over_item : goal.decreases-lay_over_item
-decreases-lay_over_item l = 5 * goal.size-lay_over_item l
-
 abbrev pub decreases-lay_over_entry : goal.decreases-lay_over_entry
-decreases-lay_over_entry l = 5 * goal.size-lay_over_entry l + 2
+decreases-lay_over_entry l = 5 * goal.size-lay_over_entry l
 
 abbrev pub decreases-push_new_entries : goal.decreases-push_new_entries
 decreases-push_new_entries l = 5 * goal.size-push_new_entries l + 2
 
 abbrev pub decreases-push_new_item : goal.decreases-push_new_item
 decreases-push_new_item l = 5 * goal.size-push_new_item l
-
-abbrev pub decreases-push_new_entry : goal.decreases-push_new_entry
-decreases-push_new_entry l = 5 * goal.size-push_new_entry l + 2
 
 -- the properties that are left inherit what all of them do
 abbrev pub invariant-lay_inherited-loop-name : goal.invariant-lay_inherited-loop-name
@@ -71,7 +65,7 @@ invariant-lay_over_entries-loop-entry l = record {
 -- the properties that are left are laid over the entry as all of them are
 abbrev pub invariant-lay_over_entry-loop-name : goal.invariant-lay_over_entry-loop-name
 invariant-lay_over_entry-loop-name l =
-    lay_over_member (members_view l.aliases.entries) (members_view l.members.entries) (view l.entry) (view l.entry) ≡ lay_over_member (members_view l.aliases.entries) (members_view l.name-iterator) (view l.entry) (view l.entry)
+    lay_over_entry (members_view l.aliases.entries) (view l.item) (view l.entry) (view l.entry) ≡ lay_over_member (members_view l.aliases.entries) (members_view l.name-iterator) (view l.entry) (view l.entry)
 
 -- the entries so far, and the new ones of what is left; the room is what the new ones so far leave
 abbrev pub invariant-push_new_entries-loop-item : goal.invariant-push_new_entries-loop-item
@@ -82,10 +76,10 @@ invariant-push_new_entries-loop-item l = record {
       (items_size (lay_new (members_view l.aliases.entries) (items_view (drop l.item-index l.own.items)) (items_view l.base.items)));
 }
 
-abbrev pub invariant-push_new_entry-loop-name : goal.invariant-push_new_entry-loop-name
-invariant-push_new_entry-loop-name l = record {
+abbrev pub invariant-push_new_item-loop-name : goal.invariant-push_new_item-loop-name
+invariant-push_new_item-loop-name l = record {
   laid : (rest : Items) → join_items (items_view l.entries.items) (lay_new_member (members_view l.aliases.entries) (members_view l.name-iterator) (items_view l.base.entries.now.items) rest)
-      ≡ join_items (items_view l.initial.entries.items) (lay_new_member (members_view l.aliases.entries) (members_view l.members.entries) (items_view l.base.entries.now.items) rest);
-  left : IsCounted l.fn.limit l.room (items_size (lay_new_member (members_view l.aliases.entries) (members_view l.members.entries) (items_view l.base.entries.now.items) no_items))
+      ≡ join_items (items_view l.initial.entries.items) (lay_new_entry (members_view l.aliases.entries) (view l.item) (items_view l.base.entries.now.items) rest);
+  left : IsCounted l.fn.limit l.room (items_size (lay_new_entry (members_view l.aliases.entries) (view l.item) (items_view l.base.entries.now.items) no_items))
       (items_size (lay_new_member (members_view l.aliases.entries) (members_view l.name-iterator) (items_view l.base.entries.now.items) no_items));
 }

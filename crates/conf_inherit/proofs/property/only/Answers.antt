@@ -3,8 +3,7 @@ use Rattle.serde_json.specs.Data.{Data, object, member, no_members, put}
 use Rattle.serde_json.specs.Find.{get_member}
 use Rattle.serde_json.specs.View.{view, members_view}
 use Rattle.serde_json.proofs.Views.{Entry, view-Object}
-use Rattle.conf_inherit.proofs.InOrder.{same_name}
-use Rattle.conf_inherit.proofs.LayingLemmas.{Meets, same, other, meets, get_other}
+use Rattle.conf_inherit.proofs.LayingLemmas.{same_name, Meets, same, other, meets, get_other}
 use Rattle.conf_inherit.proofs.property.only.Goals as goal
 
 -- what is put at the only name is alone there

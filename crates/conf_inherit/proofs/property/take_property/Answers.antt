@@ -4,8 +4,7 @@ use Rattle.serde_json.specs.Find.{get_member}
 use Rattle.serde_json.specs.View.{view, members_view}
 use Rattle.serde_json.proofs.Views.{view-lookup}
 use Rattle.serde_json.specs.declared.value.Value.{Null, the_lemmas}
-use Rattle.conf_inherit.proofs.SpentLemmas.{written_spent, spent_none}
-use Rattle.conf_inherit.proofs.WrittenLemmas.{put_written}
+use Rattle.conf_inherit.proofs.SpentLemmas.{written_spent, spent_none, put_written}
 use Rattle.conf_inherit.proofs.property.take_property.Goals as goal
 
 pub returns-in-Some-clause-found : goal.returns-in-Some-clause-found

@@ -1,44 +1,57 @@
-use Rattle.std.proofs.Common.{◌≡◌, false, IfOk, IfErr, ap, sym, ◌∙◌, subst}
-use Rattle.std.specs.Prelude.{◌⊎◌}
+use Rattle.std.proofs.Common.{◌≡◌, ℕ, ap, sym, ◌∙◌, subst, inl, inr}
+use Rattle.std.specs.BTreeMap.{btree_map_len}
+use Rattle.serde_json.specs.Data.{Data, Members}
+use Rattle.serde_json.specs.Events.{members_len}
 use Rattle.serde_json.specs.View.{view, members_view}
-use Rattle.serde_json.specs.Written.{has_float}
-use Rattle.conf_tree.specs.Flaw.{flaw_of, IsMemory}
-use Rattle.conf_tree.specs.Order.{Ascends}
-use Rattle.conf_tree.specs.Reading.{Gives}
-use Rattle.conf_inherit.specs.Faults.{RefusalHolds}
-use Rattle.conf_inherit.specs.Resolution.{aliases_of, Resolves, resolution}
+use Rattle.serde_json.proofs.Views.{members_len-members_view}
+use Rattle.conf_tree.specs.Flaw.{flaw_of}
+use Rattle.conf_table.specs.declared.place.Place.TheVariants as places
+use Rattle.conf_inherit.specs.Names.{NoClash}
+use Rattle.conf_inherit.specs.Resolution.{aliases_of, resolution, resolution_after}
+use Rattle.conf_inherit.specs.Rounds.{Outcomes, rounds, no_outcomes}
+use Rattle.conf_inherit.specs.Whole.{with_aliases}
+use Rattle.conf_inherit.proofs.RefusalLemmas.{refusal_holds}
+use Rattle.conf_inherit.proofs.ResolveLemmas.{resolution_is, resolution_sound, depth-nests}
+use Rattle.conf_inherit.proofs.LookedUp.{resolved_ascends, resolved_whole}
 use Rattle.conf_inherit.proofs.TakenLemmas.{back_again, bare_again}
 use Rattle.conf_inherit.proofs.resolution.resolve.Goals as goal
 
-pub resolve_under-requires-clause-bare : goal.resolve_under-requires-clause-bare
-resolve_under-requires-clause-bare c = bare_again (view c.args.tree.value) c.new.result.entries (view c.replace_aliases-aliases.new.value) c.new.ensures.empty c.replace_aliases-aliases.ensures.new
+-- what the aliases that were taken out come to, with them back in their place
+taken_resolution : (t : Data) (none : Members) {al : Members} {v : Data} {n : ℕ} {st : Outcomes} → al ≡ aliases_of t → v ≡ with_aliases places.Root none t → members_len al ≡ n → st ≡ rounds al n no_outcomes → resolution t ≡ resolution_after al st (with_aliases places.Root al v)
+taken_resolution t none {al} {v} {n} {st} own taken count settled = resolution_is t al n st own count settled ∙ ap (resolution_after al st) (sym (back_again t al none v own taken))
 
-pub resolve_under-requires-clause-own : goal.resolve_under-requires-clause-own
-resolve_under-requires-clause-own c =
-    let t = view c.args.tree.value in
-    c.replace_aliases-aliases.ensures.old ∙ ap aliases_of (sym (back_again t (members_view c.replace_aliases-aliases.result.entries) (members_view c.new.result.entries) (view c.replace_aliases-aliases.new.value) c.replace_aliases-aliases.ensures.old c.replace_aliases-aliases.ensures.new))
+pub resolve_after-requires : goal.resolve_after-requires
+resolve_after-requires c = record { bare = bare_again (view c.args.tree.value) c.new.result.entries (view c.replace_aliases-aliases.new.value) c.new.ensures.empty c.replace_aliases-aliases.ensures.new }
 
-pub resolve_under-requires-clause-whole : goal.resolve_under-requires-clause-whole
-resolve_under-requires-clause-whole c =
-    let t = view c.args.tree.value in
-    subst (λ d. has_float d ≡ false) (sym (back_again t (members_view c.replace_aliases-aliases.result.entries) (members_view c.new.result.entries) (view c.replace_aliases-aliases.new.value) c.replace_aliases-aliases.ensures.old c.replace_aliases-aliases.ensures.new)) c.args.tree.whole
+pub returns-in-Ok-clause-first : goal.returns-in-Ok-clause-first
+returns-in-Ok-clause-first c =
+    taken_resolution (view c.args.tree.value) (members_view c.new.result.entries) c.replace_aliases-aliases.ensures.old c.replace_aliases-aliases.ensures.new (members_len-members_view c.replace_aliases-aliases.result.entries) c.in_ok-outcomes.ensures.settled
+    ∙ c.in-Ok.ensures.first (members_view c.replace_aliases-aliases.result.entries) (btree_map_len c.replace_aliases-aliases.result) c.in_ok-outcomes.ensures.apart c.in_ok-outcomes.ensures.settled c.in_ok-outcomes.ensures.spent
 
-pub resolve_under-requires-clause-ordered : goal.resolve_under-requires-clause-ordered
-resolve_under-requires-clause-ordered c =
-    let t = view c.args.tree.value in
-    subst Ascends (sym (back_again t (members_view c.replace_aliases-aliases.result.entries) (members_view c.new.result.entries) (view c.replace_aliases-aliases.new.value) c.replace_aliases-aliases.ensures.old c.replace_aliases-aliases.ensures.new)) c.args.tree.ordered
+pub returns-in-Ok-clause-resolved : goal.returns-in-Ok-clause-resolved
+returns-in-Ok-clause-resolved c = (resolution_sound (view c.args.tree.value) (view c.in-Ok.value) (subst NoClash c.replace_aliases-aliases.ensures.old c.in_ok-outcomes.ensures.apart) (returns-in-Ok-clause-first c)).0
 
-pub returns-clause-resolved : goal.returns-clause-resolved
-returns-clause-resolved c =
+pub invariant_of-result : goal.invariant_of-result
+invariant_of-result c =
     let t = view c.args.tree.value in
-    subst (λ d. IfOk c.resolve_under.result (λ made. Resolves d (view made.value))) (back_again t (members_view c.replace_aliases-aliases.result.entries) (members_view c.new.result.entries) (view c.replace_aliases-aliases.new.value) c.replace_aliases-aliases.ensures.old c.replace_aliases-aliases.ensures.new) c.resolve_under.ensures.resolved
-
-pub returns-clause-refused : goal.returns-clause-refused
-returns-clause-refused c =
-    let t = view c.args.tree.value in
-    subst (λ d. IfErr c.resolve_under.result (λ fault. IsMemory fault ⊎ RefusalHolds d (flaw_of fault))) (back_again t (members_view c.replace_aliases-aliases.result.entries) (members_view c.new.result.entries) (view c.replace_aliases-aliases.new.value) c.replace_aliases-aliases.ensures.old c.replace_aliases-aliases.ensures.new) c.resolve_under.ensures.refused
+    let is = taken_resolution t (members_view c.new.result.entries) c.replace_aliases-aliases.ensures.old c.replace_aliases-aliases.ensures.new (members_len-members_view c.replace_aliases-aliases.result.entries) c.in_ok-outcomes.ensures.settled in
+    let al = members_view c.replace_aliases-aliases.result.entries in
+    let sound = resolution_sound t (view c.in-Ok.value) (subst NoClash c.replace_aliases-aliases.ensures.old c.in_ok-outcomes.ensures.apart) (is ∙ c.in-Ok.ensures.first al (btree_map_len c.replace_aliases-aliases.result) c.in_ok-outcomes.ensures.apart c.in_ok-outcomes.ensures.settled c.in_ok-outcomes.ensures.spent) in
+    record {
+      nested = depth-nests (view c.in-Ok.value) 32 sound.1;
+      whole = resolved_whole t (view c.in-Ok.value) c.args.tree.whole sound.0;
+      ordered = resolved_ascends t (view c.in-Ok.value) c.args.tree.ordered sound.0;
+    }
 
 pub returns-clause-first : goal.returns-clause-first
 returns-clause-first c =
-    let t = view c.args.tree.value in
-    subst (λ d. Gives (λ made. view made.value) c.resolve_under.result (resolution d)) (back_again t (members_view c.replace_aliases-aliases.result.entries) (members_view c.new.result.entries) (view c.replace_aliases-aliases.new.value) c.replace_aliases-aliases.ensures.old c.replace_aliases-aliases.ensures.new) c.resolve_under.ensures.first
+    elim (c.in-Err.ensures.first (members_view c.replace_aliases-aliases.result.entries) (btree_map_len c.replace_aliases-aliases.result) c.in_ok-outcomes.ensures.apart c.in_ok-outcomes.ensures.settled c.in_ok-outcomes.ensures.spent) [
+      | inl memory ↦ inl memory
+      | inr flawed ↦ inr (taken_resolution (view c.args.tree.value) (members_view c.new.result.entries) c.replace_aliases-aliases.ensures.old c.replace_aliases-aliases.ensures.new (members_len-members_view c.replace_aliases-aliases.result.entries) c.in_ok-outcomes.ensures.settled ∙ flawed)
+    ]
+
+pub returns-clause-refused : goal.returns-clause-refused
+returns-clause-refused c = elim (returns-clause-first c) [
+  | inl memory ↦ inl memory
+  | inr flawed ↦ inr (refusal_holds (view c.args.tree.value) (flaw_of c.in-Err.fault) (subst NoClash c.replace_aliases-aliases.ensures.old c.in_ok-outcomes.ensures.apart) flawed)
+]

@@ -6,9 +6,8 @@ use Rattle.serde_json.proofs.Views.{view-Object, view-lookup}
 use Rattle.conf_inherit.specs.FieldPlaces.{place_under}
 use Rattle.conf_inherit.specs.Resolution.{members_or_none}
 use Rattle.conf_inherit.specs.Whole.{holds_aliases, way_to_aliases, aliases_at, with_aliases}
-use Rattle.conf_inherit.proofs.TakenLemmas.{with_way, at_way, with_none, put_with, way_leads, as_it_is, no_object, their_own, in_order}
-use Rattle.conf_inherit.proofs.WholeLemmas.{objects_around, fewer_around}
-use Rattle.conf_inherit.proofs.WrittenLemmas.{written_put}
+use Rattle.conf_inherit.proofs.TakenLemmas.{with_way, at_way, with_none, put_with, way_leads, as_it_is, no_object, their_own, in_order, objects_around, fewer_around}
+use Rattle.conf_inherit.proofs.SpentLemmas.{written_put}
 use Rattle.conf_inherit.proofs.whole.+replacing.Goals as goal
 
 pub replace_aliases-returns-in-Object-clause-old : goal.replace_aliases-returns-in-Object-clause-old

@@ -1,5 +1,5 @@
 use Rattle.std.proofs.Common.{◌+◌, ◌*◌}
-use Rattle.conf_inherit.proofs.WholeLemmas.{objects_around}
+use Rattle.conf_inherit.proofs.TakenLemmas.{objects_around}
 use Rattle.conf_inherit.proofs.whole.+replacing.Given as goal
 
 abbrev pub decreases-replace_aliases : goal.decreases-replace_aliases

@@ -5,7 +5,7 @@ use Rattle.conf_tree.specs.Walk.{refusal}
 use Rattle.conf_inherit.specs.AliasOutcomes.{outcomes_of}
 use Rattle.conf_inherit.specs.AliasFlaws.{alias_flaws, all_alias_flaws}
 use Rattle.conf_inherit.proofs.FlawLemmas.{refused_part, sound_part}
-use Rattle.conf_inherit.proofs.alias_check.check_each.Goals as goal
+use Rattle.conf_inherit.proofs.alias_check.check_aliases.Goals as goal
 
 pub returns-in-Err : goal.returns-in-Err
 returns-in-Err c =
@@ -34,4 +34,4 @@ loop-name-preserved c =
     let name = string_bytes c.in-Some.name.now in
     let value = view c.in-Some.value.now in
     c.loop-name.invariant ∙ ap (λ es. all_alias_flaws al st (members_view es)) c.in-Some.ensures.steps
-    ∙ sound_part (key name) (alias_flaws al st name value) (all_alias_flaws al st (members_view c.next.new.self)) (ap (λ k. refusal (alias_flaws al st k value)) (sym c.as_str.ensures.value) ∙ c.in_default.ensures.first)
+    ∙ sound_part (key name) (alias_flaws al st name value) (all_alias_flaws al st (members_view c.next.new.self)) (ap (λ k. refusal (alias_flaws al st k value)) (sym c.as_str.ensures.value) ∙ c.in_default-check_alias.ensures.first)

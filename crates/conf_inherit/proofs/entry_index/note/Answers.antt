@@ -7,7 +7,7 @@ use Rattle.serde_json.specs.Data.{object}
 use Rattle.serde_json.specs.View.{view, members_view}
 use Rattle.conf_inherit.specs.EntryIndex.{place_at, place_if}
 use Rattle.conf_inherit.proofs.EntryLemmas.{noted}
-use Rattle.conf_inherit.proofs.entry_index.note_names.Goals as goal
+use Rattle.conf_inherit.proofs.entry_index.note.Goals as goal
 
 pub loop-name-preserved : goal.loop-name-preserved
 loop-name-preserved c =

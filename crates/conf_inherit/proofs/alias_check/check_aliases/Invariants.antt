@@ -2,7 +2,7 @@ use Rattle.std.proofs.Common.{◌≡◌}
 use Rattle.serde_json.specs.View.{members_view}
 use Rattle.conf_inherit.specs.AliasOutcomes.{outcomes_of}
 use Rattle.conf_inherit.specs.AliasFlaws.{all_alias_flaws}
-use Rattle.conf_inherit.proofs.alias_check.check_each.Given as goal
+use Rattle.conf_inherit.proofs.alias_check.check_aliases.Given as goal
 
 -- the aliases that are left have all the flaws
 abbrev pub invariant-loop-name : goal.invariant-loop-name

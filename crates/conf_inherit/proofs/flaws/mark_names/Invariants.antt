@@ -1,8 +1,0 @@
-use Rattle.std.proofs.Common.{◌≡◌}
-use Rattle.serde_json.specs.View.{members_view}
-use Rattle.conf_inherit.specs.Flaws.{mark_names}
-use Rattle.conf_inherit.specs.SeenNames.{seen_names}
-use Rattle.conf_inherit.proofs.flaws.mark_names.Given as goal
-
-abbrev pub invariant-loop-name : goal.invariant-loop-name
-invariant-loop-name l = mark_names (members_view l.name-iterator) (seen_names l.seen) ≡ mark_names (members_view l.members.entries) (seen_names l.initial.seen)
