@@ -1,4 +1,5 @@
 pub mod TextWords
+pub mod AnyMapped
 pub mod Identity
 pub mod WordTables
 pub mod Fronts

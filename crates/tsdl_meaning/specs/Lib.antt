@@ -4,8 +4,6 @@ pub mod IntegerParts
 pub mod Fronts
 pub mod Members
 pub mod ScopeRules
-pub mod ClockParts
-pub mod EventParts
 pub mod ClockNames
 pub mod Numbers
 pub mod Groups

@@ -72,9 +72,7 @@ pub(crate) fn counts_of(
     let mut counts = ListOf::new(alloc);
     let mut rest = brackets;
     while let [bracket, others @ ..] = rest {
-        let Some(count) = count_of(bracket) else {
-            return Ok(None);
-        };
+        let count = meant!(count_of(bracket));
         counts.push(count)?;
         rest = others;
     }

@@ -42,9 +42,7 @@ fn mappings_of(
 ) -> Result<Option<ListOf<Mapping>>, AllocError>
     ensures { IfOk result (λ ms. ms ≡ each entry_meaning (first.now ∷ others.now)) }
 {
-    let Some(mapping) = entry_meaning(alloc, first)? else {
-        return Ok(None);
-    };
+    let mapping = meant!(entry_meaning(alloc, first)?);
     let mut mappings = ListOf::new(alloc);
     mappings.push(mapping)?;
     mappings_behind(alloc, mappings, others)
@@ -60,9 +58,7 @@ fn mappings_behind(
     let mut mappings = front;
     let mut rest = entries;
     while let [entry, others @ ..] = rest {
-        let Some(mapping) = entry_meaning(alloc, entry)? else {
-            return Ok(None);
-        };
+        let mapping = meant!(entry_meaning(alloc, entry)?);
         mappings.push(mapping)?;
         rest = others;
     }

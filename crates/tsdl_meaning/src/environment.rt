@@ -43,14 +43,7 @@ fn are_distinct(facts: &[NamedFact]) -> bool
 pub(crate) fn has_fact(name: &Text, facts: &[NamedFact]) -> bool
     ensures { result ≡ list_any (bytes_eq name.now) (map (λ f. f.name) facts.now) }
 {
-    let mut rest = facts;
-    while let [fact, others @ ..] = rest {
-        if name.as_str() == fact.name.as_str() {
-            return true;
-        }
-        rest = others;
-    }
-    false
+    facts.iter().any(|fact| name.as_str() == fact.name.as_str())
 }
 
 fn entries_of(
@@ -62,9 +55,7 @@ fn entries_of(
     let mut entries = ListOf::new(alloc);
     let mut rest = facts;
     while let [fact, others @ ..] = rest {
-        let Some(entry) = named_fact_meaning(alloc, fact)? else {
-            return Ok(None);
-        };
+        let entry = meant!(named_fact_meaning(alloc, fact)?);
         entries.push(entry)?;
         rest = others;
     }
@@ -77,9 +68,7 @@ fn named_fact_meaning(
 ) -> Result<Option<EnvironmentEntry>, AllocError>
     ensures { IfOk result (λ e. e ≡ named_fact_meaning fact.now) }
 {
-    let Some(value) = fact_meaning(alloc, &fact.fact)? else {
-        return Ok(None);
-    };
+    let value = meant!(fact_meaning(alloc, &fact.fact)?);
     let name = fact.name.copy(alloc)?;
     Ok(Some(EnvironmentEntry { name, value }))
 }

@@ -8,7 +8,7 @@ ghost use Rattle.tsdl_grammar.specs.AttributeValues.{one_word, natural_value, fl
 ghost use Rattle.tsdl_grammar.specs.IntegerMeaning.{int_attrs, has_only, int_type, default_align, base_words, base_numbers, base_value, order_words, order_value, clock_value, int_meaning};
 ghost use Rattle.tsdl_grammar.specs.Lookups.{words_of, is_among};
 ghost use Rattle.tsdl_meaning.specs.FlawlessTypes.{own_word};
-ghost use Rattle.tsdl_meaning.specs.IntegerParts.{typed_parts, HasParts};
+ghost use Rattle.tsdl_meaning.specs.IntegerParts.{HasParts};
 ghost use Rattle.tsdl_meaning.specs.Judging.{IsOf};
 ghost use Rattle.tsdl_meaning.specs.Names.{texts_of};
 
@@ -52,17 +52,8 @@ impl IntegerAttribute {
     }
 }
 
-/// What the attributes of an integer say.
-#[derive(Drop)]
-struct IntegerParts<'a> {
-    size: u64,
-    align: u64,
-    signed: bool,
-    base: Base,
-    clock: Option<&'a Text>,
-}
-
 /// The integer type that a list of attributes means.
+#[tactic(auto, unfolding(tsdl_grammar::specs::IntegerMeaning::int_meaning))]
 pub(crate) fn int_meaning(
     alloc: Global,
     known: &Known,
@@ -70,37 +61,19 @@ pub(crate) fn int_meaning(
 ) -> Result<Option<IntType>, AllocError>
     ensures { IfOk result (λ t. t ≡ int_meaning known.now attributes.now) }
 {
-    let Some(parts) = parts_of(known, attributes) else {
+    if !has_only_own(attributes) {
         return Ok(None);
-    };
-    let clock = match parts.clock {
+    }
+    let size = meant!(natural_value(meant!(attr("size", attributes))));
+    let align = meant!(natural_or(default_align(size), attr("align", attributes)));
+    let signed = meant!(flag_or_false(attr("signed", attributes)));
+    let _order = meant!(order_or_own(known.order(), attr("byte_order", attributes)));
+    let base = meant!(base_or_decimal(attr("base", attributes)));
+    let clock = match meant!(clock_if_mapped(known, attr("map", attributes))) {
         None => None,
         Some(name) => Some(name.copy(alloc)?),
     };
-    Ok(int_type(parts.size, parts.align, parts.signed, parts.base, clock))
-}
-
-/// The parts of an integer type, each from its attribute or its default.
-#[tactic(auto, unfolding(tsdl_grammar::specs::IntegerMeaning::int_meaning))]
-fn parts_of<'a>(known: &Known, attributes: &'a [Attribute]) -> Option<IntegerParts<'a>>
-    ensures { int_meaning known.now attributes.now ≡ typed_parts result }
-{
-    if !has_only_own(attributes) {
-        return None;
-    }
-    let size = natural_value(attr("size", attributes)?)?;
-    let align = natural_or(default_align(size), attr("align", attributes))?;
-    let signed = flag_or_false(attr("signed", attributes))?;
-    order_or_own(known.order(), attr("byte_order", attributes))?;
-    let base = base_or_decimal(attr("base", attributes))?;
-    let clock = clock_if_mapped(known, attr("map", attributes))?;
-    Some(IntegerParts {
-        size,
-        align,
-        signed,
-        base,
-        clock,
-    })
+    Ok(int_type(size, align, signed, base, clock))
 }
 
 /// Whether each attribute is one that an integer may have, and none stands twice.
@@ -159,11 +132,7 @@ fn order_or_own(order: ByteOrder, value: Option<&Value>) -> Option<ByteOrder>
 pub(crate) fn order_value(order: ByteOrder, value: &Value) -> Option<ByteOrder>
     ensures { result ≡ order_value order value.now }
 {
-    if has_word(word_value(value)?.as_str(), order_words(order)) {
-        Some(order)
-    } else {
-        None
-    }
+    has_word(word_value(value)?.as_str(), order_words(order)).then_some(order)
 }
 
 /// The words for a trace's byte order.
@@ -234,14 +203,8 @@ pub(crate) fn clock_value<'a>(known: &Known, value: &'a Value) -> Option<&'a Tex
     match value {
         Value::Name(name) => match name.rest.as_slice() {
             [clock, last] => {
-                if name.first.as_str() == "clock"
-                    && last.as_str() == "value"
-                    && known.has_clock(clock.as_str())
-                {
-                    Some(clock)
-                } else {
-                    None
-                }
+                let is_value = name.first.as_str() == "clock" && last.as_str() == "value";
+                (is_value && known.has_clock(clock.as_str())).then_some(clock)
             }
             [] | [_] | [_, _, _, ..] => None,
         },

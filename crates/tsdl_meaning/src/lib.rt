@@ -1,6 +1,16 @@
 //! Finds the metadata that the blocks of a TSDL metadata text mean.
 #![tactic(auto)]
 
+/// What is meant. A function that uses it means nothing where nothing is meant here.
+macro_rules! meant {
+    ($meaning:expr) => {
+        match $meaning {
+            Some(meaning) => meaning,
+            None => return Ok(None),
+        }
+    };
+}
+
 mod array;
 mod clock;
 mod distinct;

@@ -83,14 +83,7 @@ pub(crate) fn has_words(name: &Name, words: &[&str]) -> bool
 pub(crate) fn is_among(names: &[&[&str]], name: &Name) -> bool
     ensures { result ≡ is_among (names_of names.now) (words_of name.now) }
 {
-    let mut rest = names;
-    while let [words, others @ ..] = rest {
-        if has_words(name, words) {
-            return true;
-        }
-        rest = others;
-    }
-    false
+    names.iter().any(|words| has_words(name, words))
 }
 
 /// The value of the attribute of this name.
@@ -111,14 +104,9 @@ pub(crate) fn attr<'a>(word: &str, attributes: &'a [Attribute]) -> Option<&'a Va
 pub(crate) fn has_attr(name: &Name, attributes: &[Attribute]) -> bool
     ensures { result ≡ list_any (same_words (words_of name.now)) (attr_names attributes.now) }
 {
-    let mut rest = attributes;
-    while let [attribute, others @ ..] = rest {
-        if is_same(name, &attribute.name) {
-            return true;
-        }
-        rest = others;
-    }
-    false
+    attributes
+        .iter()
+        .any(|attribute| is_same(name, &attribute.name))
 }
 
 /// Whether each attribute is one of these, and none stands twice.
@@ -142,14 +130,11 @@ pub(crate) fn attr_in<'a>(word: &str, items: &'a [Item]) -> Option<&'a Value>
     let mut rest = items;
     while let [item, others @ ..] = rest {
         match item {
-            Item::Attribute(attribute) => {
-                if is_word(word, &attribute.name) {
-                    return Some(&attribute.value);
-                }
+            Item::Attribute(attribute) if is_word(word, &attribute.name) => {
+                return Some(&attribute.value);
             }
-            Item::Scope(_) => {}
+            Item::Attribute(_) | Item::Scope(_) => rest = others,
         }
-        rest = others;
     }
     None
 }
@@ -175,14 +160,9 @@ pub(crate) fn scope_in<'a>(words: &[&str], items: &'a [Item]) -> Option<&'a Stru
     let mut rest = items;
     while let [item, others @ ..] = rest {
         match item {
-            Item::Scope(scope) => {
-                if has_words(&scope.name, words) {
-                    return Some(&scope.structure);
-                }
-            }
-            Item::Attribute(_) => {}
+            Item::Scope(scope) if has_words(&scope.name, words) => return Some(&scope.structure),
+            Item::Attribute(_) | Item::Scope(_) => rest = others,
         }
-        rest = others;
     }
     None
 }
@@ -194,14 +174,9 @@ fn has_scope_in(name: &Name, items: &[Item]) -> bool
     let mut rest = items;
     while let [item, others @ ..] = rest {
         match item {
-            Item::Scope(scope) => {
-                if is_same(name, &scope.name) {
-                    return true;
-                }
-            }
-            Item::Attribute(_) => {}
+            Item::Scope(scope) if is_same(name, &scope.name) => return true,
+            Item::Attribute(_) | Item::Scope(_) => rest = others,
         }
-        rest = others;
     }
     false
 }
@@ -225,9 +200,8 @@ fn attr_names<'a>(alloc: Global, items: &'a [Item]) -> Result<Vec<Vec<&'a str>>,
     let mut names = Vec::new(alloc);
     let mut rest = items;
     while let [item, others @ ..] = rest {
-        match item {
-            Item::Attribute(attribute) => names.push(words_of(alloc, &attribute.name)?)?,
-            Item::Scope(_) => {}
+        if let Item::Attribute(attribute) = item {
+            names.push(words_of(alloc, &attribute.name)?)?;
         }
         rest = others;
     }
@@ -248,14 +222,9 @@ fn has_scopes_once(items: &[Item]) -> bool
     let mut rest = items;
     while let [item, others @ ..] = rest {
         match item {
-            Item::Scope(scope) => {
-                if has_scope_in(&scope.name, others) {
-                    return false;
-                }
-            }
-            Item::Attribute(_) => {}
+            Item::Scope(scope) if has_scope_in(&scope.name, others) => return false,
+            Item::Attribute(_) | Item::Scope(_) => rest = others,
         }
-        rest = others;
     }
     true
 }
@@ -267,14 +236,9 @@ fn has_scopes_among(allowed: &[&[&str]], items: &[Item]) -> bool
     let mut rest = items;
     while let [item, others @ ..] = rest {
         match item {
-            Item::Scope(scope) => {
-                if !is_among(allowed, &scope.name) {
-                    return false;
-                }
-            }
-            Item::Attribute(_) => {}
+            Item::Scope(scope) if !is_among(allowed, &scope.name) => return false,
+            Item::Attribute(_) | Item::Scope(_) => rest = others,
         }
-        rest = others;
     }
     true
 }

@@ -30,9 +30,7 @@ pub(crate) fn member_meaning(
 ) -> Result<Option<MemberType>, AllocError>
     ensures { IfOk result (λ t. t ≡ member_meaning known.now before.now member.now) }
 {
-    let Some(field) = kind_meaning(alloc, known, &member.kind)? else {
-        return Ok(None);
-    };
+    let field = meant!(kind_meaning(alloc, known, &member.kind)?);
     bracketed(alloc, before, field, member.brackets.as_slice())
 }
 
@@ -46,18 +44,10 @@ fn kind_meaning(alloc: Global, known: &Known, kind: &Kind) -> Result<Option<Fiel
             Ok(int_meaning(alloc, known, attributes.as_slice())?.map(FieldType::Int))
         }
         Kind::Enumeration(attributes, entries) => {
-            let Some(int) = int_meaning(alloc, known, attributes.as_slice())? else {
-                return Ok(None);
-            };
+            let int = meant!(int_meaning(alloc, known, attributes.as_slice())?);
             Ok(enum_meaning(alloc, int, entries)?.map(FieldType::Enum))
         }
-        Kind::Text(attributes) => {
-            if is_text(attributes) {
-                Ok(Some(FieldType::Str))
-            } else {
-                Ok(None)
-            }
-        }
+        Kind::Text(attributes) => { Ok(is_text(attributes).then_some(FieldType::Str)) }
     }
 }
 
@@ -108,9 +98,7 @@ fn bracketed(
     match brackets {
         [] => Ok(Some(MemberType::Plain(field))),
         [Bracket::Count(_), ..] => {
-            let Some(lengths) = counts_of(alloc, brackets)? else {
-                return Ok(None);
-            };
+            let lengths = meant!(counts_of(alloc, brackets)?);
             if !are_lengths(lengths.as_slice()) {
                 return Ok(None);
             }
@@ -118,12 +106,8 @@ fn bracketed(
             Ok(Some(MemberType::Plain(array)))
         }
         [Bracket::Member(name), inner @ ..] => {
-            let Some(lengths) = counts_of(alloc, inner)? else {
-                return Ok(None);
-            };
-            let Some(place) = length_place(before, name.as_str()) else {
-                return Ok(None);
-            };
+            let lengths = meant!(counts_of(alloc, inner)?);
+            let place = meant!(length_place(before, name.as_str()));
             if !are_lengths(lengths.as_slice()) || !have_bits(lengths.as_slice()) {
                 return Ok(None);
             }

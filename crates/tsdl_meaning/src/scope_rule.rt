@@ -87,14 +87,7 @@ fn suits(names: &[&str], name: &str, member: &MemberType) -> bool
 pub(crate) fn has_word(word: &str, words: &[&str]) -> bool
     ensures { result ≡ list_any (bytes_eq word.now) (texts_of words.now) }
 {
-    let mut rest = words;
-    while let [other, others @ ..] = rest {
-        if word == *other {
-            return true;
-        }
-        rest = others;
-    }
-    false
+    words.iter().any(|other| word == *other)
 }
 
 /// Whether a member is an unsigned integer of this size.

@@ -60,12 +60,8 @@ fn struct_meaning(
     if structure.members.len() > MAX_MEMBERS {
         return Ok(None);
     }
-    let Some(members) = members_meaning(alloc, known, structure.members.as_slice())? else {
-        return Ok(None);
-    };
-    let Some(align) = align_of(structure.align) else {
-        return Ok(None);
-    };
+    let members = meant!(members_meaning(alloc, known, structure.members.as_slice())?);
+    let align = meant!(align_of(structure.align));
     let align = align_with(&members, align);
     Ok(struct_type(members, align))
 }
@@ -85,9 +81,7 @@ fn members_meaning(
         if has_member(&before, member.name.as_str()) {
             return Ok(None);
         }
-        let Some(member_type) = member_meaning(alloc, known, &before, member)? else {
-            return Ok(None);
-        };
+        let member_type = meant!(member_meaning(alloc, known, &before, member)?);
         let name = member.name.copy(alloc)?;
         before.push(name, member_type)?;
         rest = others;

@@ -2,17 +2,14 @@
 
 ghost use Rattle.std.specs.Prelude.{◌≡◌, IfOk};
 ghost use Rattle.tsdl_grammar.specs.AttributeValues.{meant_by};
-ghost use Rattle.tsdl_grammar.specs.BlockMeaning.{order_table, trace_order, has_number, is_trace, trace_uuid, header_meaning};
+ghost use Rattle.tsdl_grammar.specs.BlockMeaning.{order_table, trace_order, has_number, is_trace};
 
-use crate::known::Known;
 use crate::lookup::{attr_in, has_parts};
 use crate::scope_rule::ScopeRule;
-use crate::structure::scope_meaning;
-use crate::value::{natural_value, uuid_if_there, word_value};
-use ctf_types::{ByteOrder, StructType};
+use crate::value::{natural_value, word_value};
+use ctf_types::ByteOrder;
 use std::alloc::{AllocError, Global};
 use tsdl_grammar::Item;
-use uuid::Uuid;
 
 /// The scope of a trace block, and what it asks of its members.
 pub(crate) const PACKET_HEADER: (&[&str], ScopeRule) = (
@@ -54,23 +51,4 @@ fn has_number(word: &str, number: u64, items: &[Item]) -> bool
     ensures { result ≡ has_number word.now number items.now }
 {
     attr_in(word, items).and_then(natural_value) == Some(number)
-}
-
-#[tactic(auto, unfolding(tsdl_grammar::specs::BlockMeaning::trace_uuid))]
-pub(crate) fn trace_uuid(items: &[Item]) -> Option<Option<Uuid>>
-    ensures { result ≡ trace_uuid items.now }
-{
-    uuid_if_there(attr_in("uuid", items))
-}
-
-/// The structure of packet headers.
-#[tactic(auto, unfolding(tsdl_grammar::specs::BlockMeaning::header_meaning))]
-pub(crate) fn header_meaning(
-    alloc: Global,
-    known: &Known,
-    items: &[Item],
-) -> Result<Option<StructType>, AllocError>
-    ensures { IfOk result (λ t. t ≡ header_meaning known.now items.now) }
-{
-    scope_meaning(alloc, known, PACKET_HEADER, items)
 }

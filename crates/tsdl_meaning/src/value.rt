@@ -65,11 +65,7 @@ pub(crate) fn text_value(value: &Value) -> Option<&Text>
 pub(crate) fn one_word(name: &Name) -> Option<&Text>
     ensures { option_map (λ t. t.now) result ≡ one_word name.now }
 {
-    if name.rest.is_empty() {
-        Some(&name.first)
-    } else {
-        None
-    }
+    name.rest.is_empty().then_some(&name.first)
 }
 
 pub(crate) fn word_value(value: &Value) -> Option<&Text>
@@ -155,10 +151,7 @@ pub(crate) fn whole_or_zero(value: Option<&Value>) -> Option<i64>
 pub(crate) fn natural_if_there(value: Option<&Value>) -> Option<Option<u64>>
     ensures { result ≡ optional natural_value (option_map (λ v. v.now) value.entry) }
 {
-    match value {
-        None => Some(None),
-        Some(value) => Some(Some(natural_value(value)?)),
-    }
+    value.map_or(Some(None), |value| natural_value(value).map(Some))
 }
 
 /// The text of an attribute that may be left out.
@@ -175,8 +168,5 @@ pub(crate) fn text_if_there(value: Option<&Value>) -> Option<Option<&Text>>
 pub(crate) fn uuid_if_there(value: Option<&Value>) -> Option<Option<Uuid>>
     ensures { result ≡ optional uuid_value (option_map (λ v. v.now) value.entry) }
 {
-    match value {
-        None => Some(None),
-        Some(value) => Some(Some(uuid_value(value)?)),
-    }
+    value.map_or(Some(None), |value| uuid_value(value).map(Some))
 }

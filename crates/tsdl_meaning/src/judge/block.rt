@@ -96,7 +96,7 @@ fn judge_scope(judging: &Judging, names: &mut Names, scope: &Scope, at: usize) -
     ensures fault { IfErr result (StopsWhere (λ front. AreNamed front marks.Assign names.old.names) at (scope_toks scope.now)) }
     ensures named { IfOk result (λ _. (front : List Atom) → AreNamed front marks.Assign names.old.names → AreNamed (front ++ scope_toks scope.now) marks.Assign names.new.names) }
 {
-    let Some(rule) = rule_of(judging.kind, &scope.name) else {
+    let Some(rule) = rule_in(scopes_of(judging.kind), &scope.name) else {
         return Err(Stop::unsupported(judging.alloc, at, &scope.name, Remedy::Nothing));
     };
     names.add(judging.alloc, &scope.name, at)?;
@@ -109,13 +109,6 @@ fn judge_scope(judging: &Judging, names: &mut Names, scope: &Scope, at: usize) -
         behind,
     )?;
     Ok(())
-}
-
-/// What the scope of this name asks of its members, if the block may have it.
-fn rule_of(kind: BlockKind, name: &Name) -> Option<ScopeRule>
-    ensures { result ≡ rule_in (scopes_of kind) (words_of name.now) }
-{
-    rule_in(scopes_of(kind), name)
 }
 
 /// What the scope of this name asks of its members, if it is one of these.
@@ -149,7 +142,7 @@ fn judge_end(judging: &Judging, items: &[Item], at: usize) -> Result<(), Stop>
     ensures ended { IfOk result (λ _. IsEnded judging.now.kind judging.now.ledger.now items.now) }
     ensures fault { IfErr result (StopsWhere (IsBegun judging.now items.now) at (mark marks.CloseBrace ∷ [])) }
 {
-    if let Some(expected) = missing(judging.kind, items) {
+    if let Some(expected) = first_missing(needed(judging.kind), items) {
         return Err(Stop::at_atom(at, Flaw::Syntax(expected)));
     }
     if is_numbered_twice(judging, items) {
@@ -174,13 +167,6 @@ fn is_numbered_twice(judging: &Judging, items: &[Item]) -> bool
             None => false,
         },
     }
-}
-
-/// What a block lacks of what it has to have, in words.
-fn missing(kind: BlockKind, items: &[Item]) -> Option<&'static str>
-    ensures { is_none result ≡ list_all (λ w. is_some (attr w (attrs_in items.now))) (needed kind) }
-{
-    first_missing(needed(kind), items)
 }
 
 /// The first of these attributes that a block lacks, in words.

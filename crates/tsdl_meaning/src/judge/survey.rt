@@ -16,15 +16,21 @@ pub struct Survey {
 impl Survey {
     /// What is found among the atoms of a text.
     pub fn of(alloc: Global, text: &[u8]) -> Result<Survey, AllocError> {
-        let mut seen = Seen::nothing(alloc)?;
+        let mut seen = Seen {
+            order: None,
+            clocks: ListOf::new(alloc),
+            around: Around::Nothing,
+            depth: 0,
+            window: Vec::with_capacity(alloc, WINDOW)?,
+        };
         let mut rest = text;
         while let Some((front, behind)) = first_token(rest) {
             seen.pass(alloc, front.atom(alloc)?)?;
             rest = behind;
         }
-        let Found { order, clocks } = seen.found;
-        let has_order = order.is_some();
-        let known = Known::with_names(alloc, order.unwrap_or(ByteOrder::Little), clocks)?;
+        let has_order = seen.order.is_some();
+        let order = seen.order.unwrap_or(ByteOrder::Little);
+        let known = Known::with_names(alloc, order, seen.clocks)?;
         Ok(Survey { has_order, known })
     }
 }
@@ -32,10 +38,11 @@ impl Survey {
 /// How many atoms are looked at together: an attribute and the mark before it.
 const WINDOW: usize = 5;
 
-/// What was seen of a text so far.
+/// What was seen of a text so far: the trace's byte order and the clocks' names, as far as they are found.
 #[derive(Drop)]
 struct Seen {
-    found: Found,
+    order: Option<ByteOrder>,
+    clocks: ListOf<Text>,
     around: Around,
     depth: usize,
     /// The last atoms.
@@ -43,75 +50,46 @@ struct Seen {
 }
 
 impl Seen {
-    fn nothing(alloc: Global) -> Result<Seen, AllocError> {
-        Ok(Seen {
-            found: Found {
-                order: None,
-                clocks: ListOf::new(alloc),
-            },
-            around: Around::Nothing,
-            depth: 0,
-            window: Vec::with_capacity(alloc, WINDOW)?,
-        })
-    }
-
-    /// Passes over the next atom.
+    /// Passes over the next atom, and looks at the last ones.
     fn pass(&mut self, alloc: Global, atom: Atom) -> Result<(), AllocError> {
         if self.window.len() == WINDOW {
             self.window.remove(0);
         }
         self.window.push(atom)?;
-        if self.window.len() == WINDOW {
-            self.look(alloc)?;
+        if self.window.len() < WINDOW {
+            return Ok(());
         }
-        Ok(())
-    }
-
-    /// Looks at the last atoms.
-    fn look(&mut self, alloc: Global) -> Result<(), AllocError> {
         self.around = self.around.behind(self.depth, &self.window);
         self.depth = depth_behind(self.depth, &self.window);
         if self.depth == 1 {
-            self.found.note(alloc, self.around, &self.window)?;
+            self.note(alloc)
+        } else {
+            Ok(())
         }
-        Ok(())
     }
-}
 
-/// The trace's byte order and the clocks' names, as far as they are found.
-#[derive(Drop)]
-struct Found {
-    order: Option<ByteOrder>,
-    clocks: ListOf<Text>,
-}
-
-impl Found {
     /// Notes the attribute that stands behind the first atom, if it is one that integers have to know.
-    fn note(&mut self, alloc: Global, around: Around, next: &[Atom]) -> Result<(), AllocError> {
+    fn note(&mut self, alloc: Global) -> Result<(), AllocError> {
         let [
             Atom::Mark(Mark::OpenBrace | Mark::Semicolon),
             Atom::Word(name),
             Atom::Mark(Mark::Equals),
             value,
             Atom::Mark(Mark::Semicolon),
-        ] = next
+        ] = self.window.as_slice()
         else {
             return Ok(());
         };
-        match (around, name.as_str(), value) {
-            (Around::Trace, "byte_order", Atom::Word(order)) => self.note_order(order),
+        match (self.around, name.as_str(), value) {
+            (Around::Trace, "byte_order", Atom::Word(order)) if self.order.is_none() => {
+                self.order = order_word(order.as_str());
+            }
             (Around::Clock, "name", Atom::Word(clock) | Atom::Text(clock)) => {
                 self.clocks.push(clock.copy(alloc)?)?;
             }
             _ => {}
         }
         Ok(())
-    }
-
-    fn note_order(&mut self, order: &Text) {
-        if self.order.is_none() {
-            self.order = order_word(order.as_str());
-        }
     }
 }
 

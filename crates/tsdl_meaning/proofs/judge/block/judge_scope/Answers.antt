@@ -1,5 +1,5 @@
-use Rattle.std.proofs.Common.{arith, List, [], ◌∷◌, ◌++◌, sym, length-append}
-use Rattle.tsdl_meaning.proofs.TextWords.{AreNamed, Atom, StopsWhere, mark, name_toks, scope_toks, struct_toks}
+use Rattle.std.proofs.Common.{◌≡◌, ℕ, arith, List, [], ◌∷◌, ◌++◌, Some, sym, subst, length-append}
+use Rattle.tsdl_meaning.proofs.TextWords.{AreNamed, Atom, ScopeRule, StopsWhere, mark, name_toks, rule_in, scope_toks, struct_toks, words_of}
 use Rattle.tsdl_grammar.specs.declared.token.Mark.TheVariants as marks
 use Rattle.tsdl_meaning.proofs.JudgedParts.{handed, stops_same}
 use Rattle.tsdl_meaning.proofs.StopsInNames.{named_behind}
@@ -47,5 +47,9 @@ returns-clause-named c = λ front named.
 pub returns-clause-flawless : goal.returns-clause-flawless
 returns-clause-flawless c = record {
   name = c.in_ok-add.ensures.flawless;
-  flawless = record { rule = c.in-Some.rule; asks = sym c.in-Some.ensures; flawless = c.in_ok-judge_structure.ensures.flawless };
+  flawless = record {
+    rule = c.in-Some.rule;
+    asks = subst (λ (rows : List (List (List ℕ) × ScopeRule)). rule_in rows (words_of c.args.scope.now.name) ≡ Some c.in-Some.rule) c.scopes_of.ensures (sym c.in-Some.ensures);
+    flawless = c.in_ok-judge_structure.ensures.flawless;
+  };
 }

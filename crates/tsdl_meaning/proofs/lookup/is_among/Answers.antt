@@ -1,0 +1,11 @@
+use Rattle.std.proofs.Common.{◌∙◌, sym, rules, tests}
+use Rattle.std.proofs.lemmas.Iterator.{YieldsList-from_slice}
+use Rattle.std.proofs.lemmas.Iterator.Search.{any_from_yields_List}
+use Rattle.tsdl_meaning.proofs.TextWords.{same_words, texts_of, words_of}
+use Rattle.tsdl_meaning.proofs.AnyMapped.{any_mapped}
+use Rattle.tsdl_meaning.proofs.lookup.is_among.Goals as goal
+
+pub returns : goal.returns
+returns c =
+    any_from_yields_List (λ n. same_words (words_of c.args.name.now) (texts_of n.now)) _ _ _ c.any.ensures.ran (YieldsList-from_slice c.args.names.now cc) (λ x b q k. search (rules, tests))
+    ∙ sym (any_mapped (same_words (words_of c.args.name.now)) (λ n. texts_of n.now) c.args.names.now)
