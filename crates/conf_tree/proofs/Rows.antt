@@ -1,10 +1,10 @@
 -- The definitions on a few values.
-use Rattle.std.proofs.Common.{◌≡◌, [], ◌∷◌, Some, None, Ok, Err, pos, refl}
+use Rattle.std.proofs.Common.{◌≡◌, [], ◌∷◌, None, Ok, Err, pos, refl}
 use Rattle.std.specs.Prelude.{codes, Float}
 use Rattle.serde_json.specs.Data.{null, number, array, object, unsigned, float, no_items, item, no_members, member}
 use Rattle.conf_tree.specs.declared.fault_kind.FaultKind.TheVariants.{TooDeep, NotWhole, Missing, OutOfRange, WrongKind}
 use Rattle.conf_tree.specs.Flaw.{key, index}
-use Rattle.conf_tree.specs.Reading.{◌>>=◌, needed, optional_as, whole_of}
+use Rattle.conf_tree.specs.Reading.{◌>>=◌, needed, optional, whole_of}
 use Rattle.conf_tree.specs.Walk.{flaws, max_levels}
 
 -- `{"trace": 1e3}`
@@ -16,13 +16,13 @@ in_walk_order : (x : Float) → flaws (array (item (array no_items) (item (numbe
     ≡ record { path = index 1 ∷ []; kind = NotWhole } ∷ record { path = index 2 ∷ index 0 ∷ []; kind = TooDeep } ∷ []
 in_walk_order x = refl
 
--- `{"size": 65}` where 1 to 64 is asked for
-past_the_range : optional_as (codes "size") (whole_of (pos 1) (pos 64)) (member (codes "size") (number (unsigned 65)) no_members) ≡ Err (record { path = key (codes "size") ∷ []; kind = OutOfRange })
-unfolding optional_as whole_of
+-- 65 and 64 where 1 to 64 is asked for
+past_the_range : whole_of (pos 1) (pos 64) (number (unsigned 65)) ≡ Err (record { path = []; kind = OutOfRange })
+unfolding whole_of
 past_the_range = refl
 
-at_the_end_of_the_range : optional_as (codes "size") (whole_of (pos 1) (pos 64)) (member (codes "size") (number (unsigned 64)) no_members) ≡ Ok (Some (pos 64))
-unfolding optional_as whole_of
+at_the_end_of_the_range : whole_of (pos 1) (pos 64) (number (unsigned 64)) ≡ Ok (pos 64)
+unfolding whole_of
 at_the_end_of_the_range = refl
 
 -- `{}` and `{"size": null}`
@@ -33,6 +33,5 @@ null_where_needed : needed (codes "size") (member (codes "size") null no_members
 unfolding whole_of
 null_where_needed = refl
 
-null_where_optional : optional_as (codes "size") (whole_of (pos 1) (pos 64)) (member (codes "size") null no_members) ≡ Ok None
-unfolding optional_as whole_of
+null_where_optional : optional (codes "size") (member (codes "size") null no_members) ≡ None
 null_where_optional = refl

@@ -84,11 +84,3 @@ given found = found
 -- the value of a property that may be absent
 abbrev pub optional : List ℕ → Members → Option Data
 optional name ms = given (get_member name ms)
-
-abbrev pub some_read : {A : Type 0} → (Data → Result A Flaw) → Option Data → Result (Option A) Flaw
-some_read reads None = Ok None
-some_read reads (Some d) = reads d >>= (λ x. Ok (Some x))
-
--- an optional property, read where it is there
-unfoldable pub optional_as : {A : Type 0} → List ℕ → (Data → Result A Flaw) → Members → Result (Option A) Flaw
-optional_as name reads ms = some_read (λ d. at (key name) (reads d)) (optional name ms)

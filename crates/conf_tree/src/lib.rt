@@ -14,10 +14,7 @@ mod walk;
 pub use at::At;
 pub use fault::ConfFault;
 pub use fault_kind::FaultKind;
-pub use lookup::{
-    flag, list, member, needed, object, optional, optional_flag, optional_text, optional_whole,
-    text, whole,
-};
+pub use lookup::{flag, list, member, needed, object, optional, text, whole};
 pub use path::Path;
 pub use read::read_tree;
 pub use step::Step;

@@ -2,7 +2,7 @@
 ghost use Rattle.std.specs.Prelude.{◌≡◌, option_map};
 ghost use Rattle.serde_json.specs.Find.{get_member};
 ghost use Rattle.serde_json.specs.View.{view, items_view, members_view};
-ghost use Rattle.conf_tree.specs.Reading.{Gives, reading_at, object_of, list_of, text_of, whole_of, flag_of, needed as needed_of, optional as optional_of, optional_as};
+ghost use Rattle.conf_tree.specs.Reading.{Gives, reading_at, object_of, list_of, text_of, whole_of, flag_of, needed as needed_of, optional as optional_of};
 
 use crate::{At, ConfFault, FaultKind};
 use serde_json::{Map, Value};
@@ -99,51 +99,4 @@ pub fn optional<'v>(members: &'v Map<String, Value>, name: &str) -> Option<&'v V
         ≡ optional_of name.now (members_view members.now.entries) }
 {
     member(members, name).filter(|value| !value.is_null())
-}
-
-/// The whole number that the property `name` is, if it is there.
-#[tactic(auto, unfolding(crate::specs::Reading::optional_as))]
-pub fn optional_whole(
-    alloc: Global,
-    members: &Map<String, Value>,
-    name: &str,
-    low: i128,
-    high: i128,
-) -> Result<Option<i128>, ConfFault>
-    ensures { Gives (λ z. z) result
-        (optional_as name.now (whole_of low high) (members_view members.now.entries)) }
-{
-    optional(members, name)
-        .map(|value| whole(alloc, At::Property(name), value, low, high))
-        .transpose()
-}
-
-/// The flag that the property `name` is, if it is there.
-#[tactic(auto, unfolding(crate::specs::Reading::optional_as))]
-pub fn optional_flag(
-    alloc: Global,
-    members: &Map<String, Value>,
-    name: &str,
-) -> Result<Option<bool>, ConfFault>
-    ensures { Gives (λ b. b) result
-        (optional_as name.now flag_of (members_view members.now.entries)) }
-{
-    optional(members, name)
-        .map(|value| flag(alloc, At::Property(name), value))
-        .transpose()
-}
-
-/// The text that the property `name` is, if it is there.
-#[tactic(auto, unfolding(crate::specs::Reading::optional_as))]
-pub fn optional_text<'v>(
-    alloc: Global,
-    members: &'v Map<String, Value>,
-    name: &str,
-) -> Result<Option<&'v str>, ConfFault>
-    ensures { Gives (option_map (λ s. s.now)) result
-        (optional_as name.now text_of (members_view members.now.entries)) }
-{
-    optional(members, name)
-        .map(|value| text(alloc, At::Property(name), value))
-        .transpose()
 }

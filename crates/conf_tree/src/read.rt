@@ -29,12 +29,8 @@ pub fn read_tree(alloc: Global, text: &[u8]) -> Result<Tree, ConfFault>
 {
     let value = match Value::from_slice(alloc, text) {
         Ok(value) => value,
-        Err(error) => {
-            if error.is_memory() {
-                return Err(ConfFault::memory(alloc));
-            }
-            return Err(ConfFault::here(alloc, FaultKind::NotJson));
-        }
+        Err(error) if error.is_memory() => return Err(ConfFault::memory(alloc)),
+        Err(_) => return Err(ConfFault::here(alloc, FaultKind::NotJson)),
     };
     check_value(alloc, &value, MAX_LEVELS)?;
     Ok(Tree { value })

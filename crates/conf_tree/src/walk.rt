@@ -20,26 +20,13 @@ pub(crate) fn check_value(alloc: Global, value: &Value, levels: usize) -> Result
     ensures ordered { IfOk result (λ _. Ascends (view value.now)) }
 {
     match value {
-        Value::Null | Value::Bool(_) | Value::String(_) => Ok(()),
-        Value::Number(number) => {
-            if number.is_f64() {
-                Err(ConfFault::here(alloc, FaultKind::NotWhole))
-            } else {
-                Ok(())
-            }
+        Value::Number(number) if number.is_f64() => {
+            Err(ConfFault::here(alloc, FaultKind::NotWhole))
         }
-        Value::Array(items) => {
-            if levels == 0 {
-                return Err(ConfFault::here(alloc, FaultKind::TooDeep));
-            }
-            check_items(alloc, items, levels - 1)
-        }
-        Value::Object(members) => {
-            if levels == 0 {
-                return Err(ConfFault::here(alloc, FaultKind::TooDeep));
-            }
-            check_members(alloc, members, levels - 1)
-        }
+        Value::Array(items) if levels > 0 => check_items(alloc, items, levels - 1),
+        Value::Object(members) if levels > 0 => check_members(alloc, members, levels - 1),
+        Value::Array(_) | Value::Object(_) => Err(ConfFault::here(alloc, FaultKind::TooDeep)),
+        Value::Null | Value::Bool(_) | Value::Number(_) | Value::String(_) => Ok(()),
     }
 }
 

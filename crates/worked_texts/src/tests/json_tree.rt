@@ -1,10 +1,7 @@
 //! Worked rows of reading a tree and looking values up in it.
 
 use crate::tests::expected::same;
-use conf_tree::{
-    At, ConfFault, FaultKind, flag, list, needed, object, optional_flag, optional_text,
-    optional_whole, read_tree, whole,
-};
+use conf_tree::{At, ConfFault, FaultKind, flag, list, needed, object, optional, read_tree, whole};
 use serde_json::Value;
 use std::alloc::{AllocError, Global};
 use std::fmt::Display;
@@ -24,8 +21,6 @@ enum Look {
     FirstFlag,
     /// The number of bytes of the text that the value is.
     TextLen,
-    /// Whether the property `a` is there and a true flag, and the property `b` there and a text.
-    FlagAndText,
 }
 
 fn digit(alloc: Global, value: &Value) -> Result<i128, ConfFault> {
@@ -37,8 +32,10 @@ fn digit(alloc: Global, value: &Value) -> Result<i128, ConfFault> {
 fn number_or_none(alloc: Global, value: &Value) -> Result<i128, ConfFault> {
     let members = object(alloc, At::Here, value)?;
     let low = i128::from(i64::MIN);
-    let number = optional_whole(alloc, members, "a", low, i128::from(u64::MAX))?;
-    Ok(number.unwrap_or(-1))
+    match optional(members, "a") {
+        Some(value) => whole(alloc, At::Property("a"), value, low, i128::from(u64::MAX)),
+        None => Ok(-1),
+    }
 }
 
 fn first_flag(alloc: Global, value: &Value) -> Result<bool, ConfFault> {
@@ -50,13 +47,6 @@ fn first_flag(alloc: Global, value: &Value) -> Result<bool, ConfFault> {
 
 fn text_len(alloc: Global, value: &Value) -> Result<usize, ConfFault> {
     Ok(conf_tree::text(alloc, At::Here, value)?.len())
-}
-
-fn flag_and_text(alloc: Global, value: &Value) -> Result<bool, ConfFault> {
-    let members = object(alloc, At::Here, value)?;
-    let flag = optional_flag(alloc, members, "a")?;
-    let word = optional_text(alloc, members, "b")?;
-    Ok(flag.unwrap_or(false) && word.is_some())
 }
 
 /// What was read, or why it was refused.
@@ -77,7 +67,6 @@ fn looked_up(alloc: Global, look: Look, value: &Value) -> Result<String, AllocEr
         Look::NumberOrNone => printed(alloc, number_or_none(alloc, value)),
         Look::FirstFlag => printed(alloc, first_flag(alloc, value)),
         Look::TextLen => printed(alloc, text_len(alloc, value)),
-        Look::FlagAndText => printed(alloc, flag_and_text(alloc, value)),
     }
 }
 
@@ -218,24 +207,10 @@ static FLAGS: &[(&[u8], &str)] = &[
 
 static TEXTS: &[(&[u8], &str)] = &[(b"\"four\"", "4"), (b"4", WRONG_KIND)];
 
-static FLAGS_AND_TEXTS: &[(&[u8], &str)] = &[
-    (b"{\"a\":true,\"b\":\"\"}", "true"),
-    (b"{\"a\":null,\"b\":\"\"}", "false"),
-    (
-        b"{\"a\":0}",
-        "a: wrong kind of value: expected the kind that this place asks for",
-    ),
-    (
-        b"{\"b\":0}",
-        "b: wrong kind of value: expected the kind that this place asks for",
-    ),
-];
-
 #[test]
 fn reads_lists_flags_and_texts(rt: HostRuntime) -> Result<(), Fail> {
     are_read(&rt, rt.alloc(), Look::FirstFlag, FLAGS)?;
-    are_read(&rt, rt.alloc(), Look::TextLen, TEXTS)?;
-    are_read(&rt, rt.alloc(), Look::FlagAndText, FLAGS_AND_TEXTS)
+    are_read(&rt, rt.alloc(), Look::TextLen, TEXTS)
 }
 
 /// Each kind as it prints at a place.
