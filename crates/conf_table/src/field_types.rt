@@ -1,24 +1,25 @@
 //! The properties of field types, by class (barectf 3.1, "Field type objects").
 
-use crate::Content::{At, Class, PowerOfTwo, Whole, Word};
+use crate::Content::{self, At, Class, PowerOfTwo, Whole, Word};
 use crate::Place::{self, *};
 use crate::Presence::{ByteAlignment, Decimal, Needed, Number, Optional, UntilResolved};
 use crate::{Row, Words};
 use ctf_types::{LARGEST_ALIGN, MAX_ELEMENTS};
 
+/// An alignment in bits.
+const ALIGN: Content = PowerOfTwo {
+    high: LARGEST_ALIGN,
+};
+
 const CLASS: Row = ("class", Needed, Class);
 
 const INHERIT: Row = ("$inherit", UntilResolved, At(FieldType));
 
+const MAPPINGS: Row = ("mappings", Needed, At(Mappings));
+
 const SIZE: Row = ("size", Needed, Whole { low: 1, high: 64 });
 
-const ALIGNMENT: Row = (
-    "alignment",
-    ByteAlignment,
-    PowerOfTwo {
-        high: LARGEST_ALIGN,
-    },
-);
+const ALIGNMENT: Row = ("alignment", ByteAlignment, ALIGN);
 
 const BASE: Row = ("preferred-display-base", Decimal, Word(Words::DisplayBase));
 
@@ -27,14 +28,7 @@ pub(crate) static FIELD_TYPE: [Row; 2] = [CLASS, INHERIT];
 
 pub(crate) static INTEGER: [Row; 5] = [CLASS, INHERIT, SIZE, ALIGNMENT, BASE];
 
-pub(crate) static ENUMERATION: [Row; 6] = [
-    CLASS,
-    INHERIT,
-    ("mappings", Needed, At(Mappings)),
-    SIZE,
-    ALIGNMENT,
-    BASE,
-];
+pub(crate) static ENUMERATION: [Row; 6] = [CLASS, INHERIT, MAPPINGS, SIZE, ALIGNMENT, BASE];
 
 pub(crate) static STR: [Row; 2] = [CLASS, INHERIT];
 
@@ -62,13 +56,7 @@ pub(crate) static STRUCTURE: [Row; 4] = [
     CLASS,
     INHERIT,
     ("members", Optional, At(Members)),
-    (
-        "minimum-alignment",
-        Number(1),
-        PowerOfTwo {
-            high: LARGEST_ALIGN,
-        },
-    ),
+    ("minimum-alignment", Number(1), ALIGN),
 ];
 
 /// What an entry of a members list says of its member.

@@ -7,14 +7,24 @@ use crate::Place::*;
 use crate::Presence::{self, Needed, Number, OneOrder, Optional, WithClock, WithIdentifier};
 use crate::{MAX_TEXT_BYTES, Row, Words};
 
-/// The lowest number of 64 bits, one of which is the sign.
+/// The lowest and the highest number of 64 bits, one of which is the sign.
 pub(crate) const LOWEST: i128 = -9223372036854775808;
 
-/// The highest of these.
 pub(crate) const HIGHEST: i128 = 9223372036854775807;
 
 /// The highest number of 64 bits without a sign.
 pub(crate) const HIGHEST_UNSIGNED: i128 = 18446744073709551615;
+
+/// A number of 64 bits without a sign.
+const UNSIGNED: Content = Whole {
+    low: 0,
+    high: HIGHEST_UNSIGNED,
+};
+
+/// May be absent, and is then on, or off.
+const ON: Presence = Presence::Flag(true);
+
+const OFF: Presence = Presence::Flag(false);
 
 pub(crate) static ROOT: [Row; 2] = [
     ("trace", Needed, At(Trace)),
@@ -38,13 +48,9 @@ pub(crate) static TRACE_TYPE: [Row; 8] = [
 ];
 
 pub(crate) static TRACE_FEATURES: [Row; 3] = [
-    ("magic-field-type", Presence::Flag(true), At(MagicFeature)),
+    ("magic-field-type", ON, At(MagicFeature)),
     ("uuid-field-type", WithIdentifier, At(IdentifierFeature)),
-    (
-        "data-stream-type-id-field-type",
-        Presence::Flag(true),
-        At(Feature),
-    ),
+    ("data-stream-type-id-field-type", ON, At(Feature)),
 ];
 
 pub(crate) static CLOCK_TYPE: [Row; 7] = [
@@ -64,16 +70,9 @@ pub(crate) static CLOCK_TYPE: [Row; 7] = [
         },
     ),
     ("uuid", Optional, Identifier),
-    (
-        "precision",
-        Number(0),
-        Whole {
-            low: 0,
-            high: HIGHEST_UNSIGNED,
-        },
-    ),
+    ("precision", Number(0), UNSIGNED),
     ("offset", Optional, At(ClockOffset)),
-    ("origin-is-unix-epoch", Presence::Flag(true), Content::Flag),
+    ("origin-is-unix-epoch", ON, Content::Flag),
     ("$c-type", Optional, Anything),
 ];
 
@@ -86,18 +85,11 @@ pub(crate) static CLOCK_OFFSET: [Row; 2] = [
             high: HIGHEST,
         },
     ),
-    (
-        "cycles",
-        Number(0),
-        Whole {
-            low: 0,
-            high: HIGHEST_UNSIGNED,
-        },
-    ),
+    ("cycles", Number(0), UNSIGNED),
 ];
 
 pub(crate) static STREAM_TYPE: [Row; 6] = [
-    ("$is-default", Presence::Flag(false), OneFlag),
+    ("$is-default", OFF, OneFlag),
     ("$default-clock-type-name", Optional, ClockName),
     ("$features", Optional, At(StreamFeatures)),
     (
@@ -119,32 +111,20 @@ pub(crate) static STREAM_FEATURES: [Row; 2] = [
 ];
 
 pub(crate) static PACKET_FEATURES: [Row; 6] = [
-    (
-        "total-size-field-type",
-        Presence::Flag(true),
-        At(SizeFeature),
-    ),
-    (
-        "content-size-field-type",
-        Presence::Flag(true),
-        At(SizeFeature),
-    ),
+    ("total-size-field-type", ON, At(SizeFeature)),
+    ("content-size-field-type", ON, At(SizeFeature)),
     ("beginning-timestamp-field-type", WithClock, At(Feature)),
     ("end-timestamp-field-type", WithClock, At(Feature)),
     (
         "discarded-event-records-counter-snapshot-field-type",
-        Presence::Flag(true),
+        ON,
         At(Feature),
     ),
-    (
-        "sequence-number-field-type",
-        Presence::Flag(false),
-        At(Feature),
-    ),
+    ("sequence-number-field-type", OFF, At(Feature)),
 ];
 
 pub(crate) static EVENT_RECORD_FEATURES: [Row; 2] = [
-    ("type-id-field-type", Presence::Flag(true), At(Feature)),
+    ("type-id-field-type", ON, At(Feature)),
     ("timestamp-field-type", WithClock, At(Feature)),
 ];
 
