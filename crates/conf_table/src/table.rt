@@ -37,7 +37,20 @@ pub fn rows(place: Place) -> &'static [Row]
         Place::StaticArray => &field_types::STATIC_ARRAY,
         Place::DynamicArray => &field_types::DYNAMIC_ARRAY,
         Place::Structure => &field_types::STRUCTURE,
-        _ => &[],
+        Place::Environment
+        | Place::FieldTypeAliases
+        | Place::LogLevelAliases
+        | Place::ClockTypes
+        | Place::StreamTypes
+        | Place::EventTypes
+        | Place::Entry
+        | Place::Mappings
+        | Place::ExtraMembers
+        | Place::Members
+        | Place::Ranges
+        | Place::Range
+        | Place::Scalar
+        | Place::Ignored => &[],
     }
 }
 
@@ -135,7 +148,18 @@ impl Content {
         match self {
             Content::At(place) => place,
             Content::Anything => Place::Ignored,
-            _ => Place::Scalar,
+            Content::Whole { .. }
+            | Content::PowerOfTwo { .. }
+            | Content::Flag
+            | Content::OneFlag
+            | Content::Text { .. }
+            | Content::ClockName
+            | Content::Identifier
+            | Content::IdentifierOrAuto
+            | Content::Word(_)
+            | Content::Class
+            | Content::WholeOrText { .. }
+            | Content::Level { .. } => Place::Scalar,
         }
     }
 }
