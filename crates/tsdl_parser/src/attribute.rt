@@ -1,28 +1,26 @@
 //! Reads names, values and attributes.
+#![tactic(auto, unfolding(crate::specs::ParsingAttributes::dotted_at, crate::specs::ParsingAttributes::name_at, crate::specs::ParsingAttributes::value_at, crate::specs::ParsingAttributes::attr_behind, crate::specs::ParsingAttributes::attr_at), using(crate::proofs::Attributes::dotted_short))]
 
 ghost use Rattle.tsdl_grammar.specs.Fronts.{shown};
 ghost use Rattle.tsdl_parser.specs.Parsing.{Gives};
-ghost use Rattle.tsdl_parser.specs.ParsingAttributes.{dotted_at, name_at, value_at, attr_behind, attr_at, attrs_at};
+ghost use Rattle.tsdl_parser.specs.ParsingAttributes.{dotted_at, name_at, value_at, attr_behind, attr_at};
 
 use crate::expected::Expected;
-use crate::halt::{back_to, going_on};
-use crate::missing::{CLOSE_BRACE, SEMICOLON, ZERO};
+use crate::halt::{SEMICOLON, ZERO, back_to, going_on};
 use crate::parsing::{Read, mark_at, next_atom, number_at, word_at};
-use crate::repetition::{Repeated, Start, all_at, braced_at};
-use ctf_types::{ListOf, Text};
+use crate::repetition::{Repeated, Start, all_at};
+use ctf_types::Text;
 use std::alloc::Global;
 use tsdl_grammar::{Atom, Atoms, Attribute, Mark, Name, Value};
 
 impl Repeated for Text {
     ghost item = { dotted_at };
 
-    #[tactic(auto, unfolding(crate::specs::ParsingAttributes::dotted_at))]
     fn item_at(alloc: Global, atoms: Atoms<'_>) -> Read<'_, Text> {
         word_at(alloc, mark_at(Mark::Dot, atoms)?, Expected::Identifier)
     }
 }
 
-#[tactic(auto, unfolding(crate::specs::ParsingAttributes::name_at), using(crate::proofs::Attributes::dotted_short))]
 pub(crate) fn name_at(alloc: Global, atoms: Atoms<'_>, expected: Expected) -> Read<'_, Name>
     ensures { Gives (λ x. (x.0, shown x.1)) result (name_at (shown atoms.entry)) }
 {
@@ -31,7 +29,6 @@ pub(crate) fn name_at(alloc: Global, atoms: Atoms<'_>, expected: Expected) -> Re
     Ok((Name { first, rest }, behind))
 }
 
-#[tactic(auto, unfolding(crate::specs::ParsingAttributes::value_at))]
 fn value_at(alloc: Global, atoms: Atoms<'_>) -> Read<'_, Value>
     ensures { Gives (λ x. (x.0, shown x.1)) result (value_at (shown atoms.entry)) }
 {
@@ -50,31 +47,19 @@ fn value_at(alloc: Global, atoms: Atoms<'_>) -> Read<'_, Value>
 }
 
 /// The rest of an attribute behind its name.
-#[tactic(auto, unfolding(crate::specs::ParsingAttributes::attr_behind))]
 pub(crate) fn attr_behind(alloc: Global, name: Name, atoms: Atoms<'_>) -> Read<'_, Attribute>
     ensures { Gives (λ x. (x.0, shown x.1)) result (attr_behind name (shown atoms.entry)) }
 {
     let rest = going_on(mark_at(Mark::Equals, atoms), &[ZERO, SEMICOLON])?;
     let (value, rest) = going_on(value_at(alloc, rest), &[SEMICOLON])?;
-    let rest = mark_at(Mark::Semicolon, rest)?;
-    Ok((Attribute { name, value }, rest))
+    Ok((Attribute { name, value }, mark_at(Mark::Semicolon, rest)?))
 }
 
 impl Repeated for Attribute {
     ghost item = { attr_at };
 
-    #[tactic(auto, unfolding(crate::specs::ParsingAttributes::attr_at))]
     fn item_at(alloc: Global, atoms: Atoms<'_>) -> Read<'_, Attribute> {
         let (name, rest) = name_at(alloc, atoms, Expected::Attribute)?;
         attr_behind(alloc, name, rest)
     }
-}
-
-/// The attributes between two braces.
-#[tactic(auto, using(crate::proofs::Attributes::attr_short))]
-pub(crate) fn attrs_at(alloc: Global, atoms: Atoms<'_>) -> Read<'_, ListOf<Attribute>>
-    ensures { Gives (λ x. (x.0, shown x.1)) result (attrs_at (shown atoms.entry)) }
-{
-    let attrs = braced_at(alloc, atoms, Expected::Mark(Mark::OpenBrace));
-    going_on(attrs, &[CLOSE_BRACE])
 }

@@ -1,4 +1,5 @@
 //! Reads blocks, and what stands in them.
+#![tactic(auto, unfolding(crate::specs::ParsingBlocks::item_at, crate::specs::ParsingBlocks::scope_behind, crate::specs::ParsingBlocks::items_at, crate::specs::ParsingBlocks::fact_at, crate::specs::ParsingBlocks::named_fact_at, crate::specs::ParsingBlocks::block_at, crate::specs::ParsingBlocks::environment_at, crate::specs::ParsingBlocks::ended_block_at), using(crate::proofs::Blocks::item_short, crate::proofs::Blocks::fact_short, crate::proofs::Blocks::block_short))]
 
 ghost use Rattle.std.specs.Prelude.{◌≡◌, List, IfOk, IfErr};
 ghost use Rattle.tsdl_grammar.specs.declared.tree.Block.{Block};
@@ -10,9 +11,8 @@ ghost use Rattle.tsdl_parser.specs.ParsingBlocks.{item_at, items_at, fact_at, na
 
 use crate::attribute::{attr_behind, name_at};
 use crate::expected::Expected;
-use crate::halt::{Unread, back_to, expecting, going_on};
+use crate::halt::{CLOSE_BRACE, SEMICOLON, Unread, ZERO, back_to, expecting, going_on};
 use crate::member::struct_at;
-use crate::missing::{CLOSE_BRACE, SEMICOLON, ZERO};
 use crate::parsing::{Read, begins, keyword_at, mark_at, names, next_atom, number_at, word_at};
 use crate::repetition::{Repeated, Start, all_at, braced_at};
 use ctf_types::ListOf;
@@ -22,7 +22,6 @@ use tsdl_grammar::{Atom, Atoms, Block, Fact, Item, Mark, NamedFact, Scope};
 impl Repeated for Item {
     ghost item = { item_at };
 
-    #[tactic(auto, unfolding(crate::specs::ParsingBlocks::item_at, crate::specs::ParsingBlocks::scope_behind))]
     fn item_at(alloc: Global, atoms: Atoms<'_>) -> Read<'_, Item> {
         let (name, rest) = name_at(alloc, atoms, Expected::Item)?;
         if begins(Mark::Equals, rest) {
@@ -32,13 +31,12 @@ impl Repeated for Item {
         let rest = expecting(mark_at(Mark::Assign, rest), Expected::ItemMark);
         let rest = back_to(rest, atoms)?;
         let (structure, rest) = going_on(struct_at(alloc, rest), &[SEMICOLON])?;
-        let rest = mark_at(Mark::Semicolon, rest)?;
-        Ok((Item::Scope(Scope { name, structure }), rest))
+        let scope = Scope { name, structure };
+        Ok((Item::Scope(scope), mark_at(Mark::Semicolon, rest)?))
     }
 }
 
 /// The items of a block of this word.
-#[tactic(auto, unfolding(crate::specs::ParsingBlocks::items_at), using(crate::proofs::Blocks::item_short))]
 fn items_at<'a>(alloc: Global, keyword: &str, atoms: Atoms<'a>) -> Read<'a, ListOf<Item>>
     ensures { Gives (λ x. (x.0, shown x.1)) result (items_at keyword.now (shown atoms.entry)) }
 {
@@ -47,34 +45,28 @@ fn items_at<'a>(alloc: Global, keyword: &str, atoms: Atoms<'a>) -> Read<'a, List
     going_on(items, &[CLOSE_BRACE, SEMICOLON])
 }
 
-#[tactic(auto, unfolding(crate::specs::ParsingBlocks::fact_at))]
 fn fact_at(alloc: Global, atoms: Atoms<'_>) -> Read<'_, Fact>
     ensures { Gives (λ x. (x.0, shown x.1)) result (fact_at (shown atoms.entry)) }
 {
     let (first, rest) = next_atom(alloc, atoms)?;
-    match first {
-        Some(Atom::Text(text)) => Ok((Fact::Text(text), rest)),
-        _ => number_at(alloc, atoms, Expected::Fact).map(|(number, rest)| (
-            Fact::Number(number),
-            rest,
-        )),
-    }
+    let Some(Atom::Text(text)) = first else {
+        let (number, rest) = number_at(alloc, atoms, Expected::Fact)?;
+        return Ok((Fact::Number(number), rest));
+    };
+    Ok((Fact::Text(text), rest))
 }
 
 impl Repeated for NamedFact {
     ghost item = { named_fact_at };
 
-    #[tactic(auto, unfolding(crate::specs::ParsingBlocks::named_fact_at))]
     fn item_at(alloc: Global, atoms: Atoms<'_>) -> Read<'_, NamedFact> {
         let (name, rest) = word_at(alloc, atoms, Expected::FactName)?;
         let rest = going_on(mark_at(Mark::Equals, rest), &[ZERO, SEMICOLON])?;
         let (fact, rest) = going_on(fact_at(alloc, rest), &[SEMICOLON])?;
-        let rest = mark_at(Mark::Semicolon, rest)?;
-        Ok((NamedFact { name, fact }, rest))
+        Ok((NamedFact { name, fact }, mark_at(Mark::Semicolon, rest)?))
     }
 }
 
-#[tactic(auto, unfolding(crate::specs::ParsingBlocks::block_at, crate::specs::ParsingBlocks::environment_at), using(crate::proofs::Blocks::fact_short))]
 fn block_at(alloc: Global, atoms: Atoms<'_>) -> Read<'_, Block>
     ensures { Gives (λ x. (x.0, shown x.1)) result (block_at (shown atoms.entry)) }
 {
@@ -101,15 +93,18 @@ fn block_at(alloc: Global, atoms: Atoms<'_>) -> Read<'_, Block>
 impl Repeated for Block {
     ghost item = { ended_block_at };
 
-    #[tactic(auto, unfolding(crate::specs::ParsingBlocks::ended_block_at))]
     fn item_at(alloc: Global, atoms: Atoms<'_>) -> Read<'_, Block> {
         let (block, rest) = block_at(alloc, atoms)?;
         Ok((block, mark_at(Mark::Semicolon, rest)?))
     }
 }
 
+/// A list of atoms spells at most one list of blocks: a statement, which does nothing when it runs.
+pub fn blocks_are_unique()
+    ensures { (bs cs : List Block) → text_toks bs ≡ text_toks cs → bs ≡ cs }
+{}
+
 /// The blocks that the atoms of a text spell, or how far the atoms spell any.
-#[tactic(auto, using(crate::proofs::Blocks::block_short))]
 pub fn parse(alloc: Global, atoms: Atoms<'_>) -> Result<Vec<Block>, Unread>
     ensures found { IfOk result (λ bs. (shown atoms.entry) ≡ text_toks bs.items) }
     ensures none { IfErr result (λ e. IfHalted e ((bs : List Block) → (shown atoms.entry) ≡ text_toks bs → ⊥)) }

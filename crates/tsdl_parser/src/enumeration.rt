@@ -1,19 +1,18 @@
 //! Reads the entries of enumerations.
+#![tactic(auto, unfolding(crate::specs::Parsing::begins, crate::specs::ParsingEntries::label_at, crate::specs::ParsingEntries::high_at, crate::specs::ParsingEntries::entry_at, crate::specs::ParsingEntries::is_labelled, crate::specs::ParsingEntries::is_next, crate::specs::ParsingEntries::next_entry_at, crate::specs::ParsingEntries::closing_at, crate::specs::ParsingEntries::entries_at, crate::specs::ParsingEntries::listed_at), using(crate::proofs::Entries::next_short))]
 
 ghost use Rattle.std.specs.Prelude.{◌≡◌, IfOk};
 ghost use Rattle.tsdl_grammar.specs.Fronts.{shown};
 ghost use Rattle.tsdl_parser.specs.Parsing.{Gives};
-ghost use Rattle.tsdl_parser.specs.ParsingEntries.{label_at, high_at, entry_at, is_labelled, is_next, next_entry_at, closing_at, entries_at};
+ghost use Rattle.tsdl_parser.specs.ParsingEntries.{label_at, high_at, entry_at, is_labelled, is_next, next_entry_at, entries_at};
 
 use crate::expected::Expected;
-use crate::halt::{Halt, Unread, expecting, going_on};
-use crate::missing::ZERO;
-use crate::parsing::{Read, begins, is_mark, mark_at, next_atom, number_at};
+use crate::halt::{Halt, Unread, ZERO, expecting, going_on};
+use crate::parsing::{Read, begins, mark_at, next_atom, number_at};
 use crate::repetition::{Repeated, Start, all_at};
 use std::alloc::{AllocError, Global};
 use tsdl_grammar::{Atom, Atoms, Closing, Entries, Entry, Label, Mark, Number};
 
-#[tactic(auto, unfolding(crate::specs::ParsingEntries::label_at))]
 fn label_at(alloc: Global, atoms: Atoms<'_>) -> Read<'_, Label>
     ensures { Gives (λ x. (x.0, shown x.1)) result (label_at (shown atoms.entry)) }
 {
@@ -26,7 +25,6 @@ fn label_at(alloc: Global, atoms: Atoms<'_>) -> Read<'_, Label>
 }
 
 /// The upper end of a range, if one follows.
-#[tactic(auto, unfolding(crate::specs::ParsingEntries::high_at))]
 fn high_at(alloc: Global, atoms: Atoms<'_>) -> Read<'_, Option<Number>>
     ensures { Gives (λ x. (x.0, shown x.1)) result (high_at (shown atoms.entry)) }
 {
@@ -38,7 +36,6 @@ fn high_at(alloc: Global, atoms: Atoms<'_>) -> Read<'_, Option<Number>>
     Ok((Some(high), rest))
 }
 
-#[tactic(auto, unfolding(crate::specs::ParsingEntries::entry_at))]
 fn entry_at(alloc: Global, atoms: Atoms<'_>) -> Read<'_, Entry>
     ensures { Gives (λ x. (x.0, shown x.1)) result (entry_at (shown atoms.entry)) }
 {
@@ -49,7 +46,6 @@ fn entry_at(alloc: Global, atoms: Atoms<'_>) -> Read<'_, Entry>
     Ok((Entry { label, low, high }, rest))
 }
 
-#[tactic(auto, unfolding(crate::specs::ParsingEntries::is_labelled))]
 fn is_labelled(alloc: Global, atoms: Atoms<'_>) -> Result<bool, AllocError>
     ensures { IfOk result (λ b. b ≡ is_labelled (shown atoms.entry)) }
 {
@@ -58,39 +54,21 @@ fn is_labelled(alloc: Global, atoms: Atoms<'_>) -> Result<bool, AllocError>
 }
 
 /// Whether a comma and another entry follow.
-#[tactic(auto, unfolding(crate::specs::ParsingEntries::is_next))]
 pub(crate) fn is_next(alloc: Global, atoms: Atoms<'_>) -> Result<bool, AllocError>
     ensures { IfOk result (λ b. b ≡ is_next (shown atoms.entry)) }
 {
-    match atoms.front {
-        Some(front) if is_mark(Mark::Comma, front) => is_labelled(alloc, atoms.behind()),
-        None | Some(_) => Ok(false),
-    }
+    Ok(begins(Mark::Comma, atoms) && is_labelled(alloc, atoms.behind())?)
 }
 
 impl Repeated for Entry {
     ghost item = { next_entry_at };
 
-    #[tactic(auto, unfolding(crate::specs::ParsingEntries::next_entry_at))]
     fn item_at(alloc: Global, atoms: Atoms<'_>) -> Read<'_, Entry> {
         entry_at(alloc, mark_at(Mark::Comma, atoms)?)
     }
 }
 
-/// The comma behind the last entry, if there is one.
-#[tactic(auto, unfolding(crate::specs::ParsingEntries::closing_at))]
-fn closing_at(atoms: Atoms<'_>) -> Read<'_, Closing>
-    ensures { Gives (λ x. (x.0, shown x.1)) result (closing_at (shown atoms.entry)) }
-{
-    if begins(Mark::Comma, atoms) {
-        Ok((Closing::Comma, mark_at(Mark::Comma, atoms)?))
-    } else {
-        Ok((Closing::Plain, atoms))
-    }
-}
-
 /// What stands between an enumeration's braces.
-#[tactic(auto, unfolding(crate::specs::ParsingEntries::entries_at, crate::specs::ParsingEntries::listed_at), using(crate::proofs::Entries::next_short))]
 pub(crate) fn entries_at(alloc: Global, atoms: Atoms<'_>) -> Read<'_, Entries>
     ensures { Gives (λ x. (x.0, shown x.1)) result (entries_at (shown atoms.entry)) }
 {
@@ -99,14 +77,10 @@ pub(crate) fn entries_at(alloc: Global, atoms: Atoms<'_>) -> Read<'_, Entries>
     }
     let (first, rest) = entry_at(alloc, atoms)?;
     let (others, rest) = all_at(alloc, rest, Start::NextEntry)?;
-    let (closing, rest) = closing_at(rest)?;
+    let (closing, rest) = if begins(Mark::Comma, rest) {
+        (Closing::Comma, mark_at(Mark::Comma, rest)?)
+    } else {
+        (Closing::Plain, rest)
+    };
     Ok((Entries::Listed(first, others, closing), rest))
-}
-
-/// What is expected behind some entries before the closing brace.
-pub(crate) fn expected_behind(entries: &Entries) -> Expected {
-    match entries {
-        Entries::Empty | Entries::Listed(_, _, Closing::Comma) => Expected::Label,
-        Entries::Listed(_, _, Closing::Plain) => Expected::Mark(Mark::CloseBrace),
-    }
 }

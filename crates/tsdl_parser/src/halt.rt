@@ -6,10 +6,49 @@ ghost use Rattle.tsdl_parser.specs.Halting.{Alike};
 ghost use Rattle.tsdl_parser.specs.declared.halt.Unread.TheVariants.{Memory};
 
 use crate::expected::Expected;
-use crate::missing::Missing;
 use arrayvec::ArrayVec;
-use std::alloc::{AllocError, AllocFailed};
-use tsdl_grammar::Atoms;
+use std::alloc::AllocError;
+use tsdl_grammar::{Atoms, Mark};
+
+/// An atom that a text could go on with.
+#[derive(Clone, Copy, Debug, Default, PartialEq, Eq)]
+pub enum Missing {
+    Mark(Mark),
+    Word(&'static str),
+    /// The number 0.
+    #[default]
+    Zero,
+}
+
+impl Missing {
+    /// The atom as it is written.
+    pub fn spelling(self) -> &'static str {
+        match self {
+            Missing::Mark(mark) => mark.spelling(),
+            Missing::Word(word) => word,
+            Missing::Zero => "0",
+        }
+    }
+}
+
+pub(crate) const OPEN_BRACE: Missing = Missing::Mark(Mark::OpenBrace);
+
+pub(crate) const CLOSE_BRACE: Missing = Missing::Mark(Mark::CloseBrace);
+
+pub(crate) const CLOSE_BRACKET: Missing = Missing::Mark(Mark::CloseBracket);
+
+pub(crate) const CLOSE_PARENTHESIS: Missing = Missing::Mark(Mark::CloseParenthesis);
+
+pub(crate) const SEMICOLON: Missing = Missing::Mark(Mark::Semicolon);
+
+pub(crate) const INTEGER: Missing = Missing::Word("integer");
+
+pub(crate) const STRUCT: Missing = Missing::Word("struct");
+
+pub(crate) const ZERO: Missing = Missing::Zero;
+
+/// Any name.
+pub(crate) const NAME: Missing = Missing::Word("_");
 
 /// More than any text lacks, which is at most 12 atoms.
 const MOST_MISSING: usize = 16;
@@ -31,14 +70,6 @@ impl From<AllocError> for Unread {
     }
 }
 
-impl<T: Drop> From<AllocFailed<T>> for Unread {
-    ghost from_gives = { λ _ e. e ≡ Memory };
-
-    fn from(_e: AllocFailed<T>) -> Unread {
-        Unread::Memory
-    }
-}
-
 /// A place where the atoms of a text stop spelling blocks, and a text that goes on from there: the atoms that are
 /// kept and then the rest spell blocks.
 #[derive(Debug, Drop)]
@@ -56,13 +87,14 @@ pub struct Halt {
 impl Halt {
     /// The halt in front of these atoms, from where a text could go on with what is missing.
     pub(crate) fn before(atoms: Atoms<'_>, expected: Expected, missing: &[Missing]) -> Halt {
-        let nothing = Halt {
+        let mut rest = ArrayVec::new();
+        let _fits = rest.try_extend_from_slice(missing);
+        Halt {
             left: left(atoms),
             dropped: 0,
             expected,
-            rest: ArrayVec::new(),
-        };
-        nothing.going_on(missing)
+            rest,
+        }
     }
 
     /// The index of the place among so many atoms of a text, which is their number at the end.
@@ -80,12 +112,6 @@ impl Halt {
     {
         self.at(count).saturating_sub(self.dropped)
     }
-
-    /// The same halt, with what is missing here behind its rest.
-    fn going_on(mut self, missing: &[Missing]) -> Halt {
-        let _fits = self.rest.try_extend_from_slice(missing);
-        self
-    }
 }
 
 /// How many atoms are left.
@@ -100,13 +126,13 @@ fn left(atoms: Atoms<'_>) -> usize {
 }
 
 /// What was found, or the same halt with what is missing here behind its rest.
-pub(crate) fn going_on<T>(found: Result<T, Unread>, missing: &[Missing]) -> Result<T, Unread>
+pub(crate) fn going_on<T>(mut found: Result<T, Unread>, missing: &[Missing]) -> Result<T, Unread>
     ensures { Alike found result }
 {
-    match found {
-        Err(Unread::Halted(halt)) => Err(Unread::Halted(halt.going_on(missing))),
-        other => other,
+    if let Err(Unread::Halted(halt)) = &mut found {
+        let _fits = halt.rest.try_extend_from_slice(missing);
     }
+    found
 }
 
 /// What was found, or the same halt with this expected.
@@ -120,15 +146,12 @@ pub(crate) fn expecting<T>(found: Result<T, Unread>, expected: Expected) -> Resu
 }
 
 /// What was found, or the same halt with none of these atoms kept.
-pub(crate) fn back_to<T>(found: Result<T, Unread>, atoms: Atoms<'_>) -> Result<T, Unread>
+pub(crate) fn back_to<T>(mut found: Result<T, Unread>, atoms: Atoms<'_>) -> Result<T, Unread>
     ensures { Alike found result }
 {
-    match found {
-        Err(Unread::Halted(halt)) => Err(Unread::Halted(Halt {
-            dropped: left(atoms).saturating_sub(halt.left),
-            rest: ArrayVec::new(),
-            ..halt
-        })),
-        other => other,
+    if let Err(Unread::Halted(halt)) = &mut found {
+        halt.dropped = left(atoms).saturating_sub(halt.left);
+        halt.rest.clear();
     }
+    found
 }

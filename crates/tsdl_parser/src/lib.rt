@@ -7,15 +7,11 @@ mod enumeration;
 mod expected;
 mod halt;
 mod keyword;
-mod laws;
 mod member;
-mod missing;
 mod parsing;
 mod repetition;
 
-pub use block::parse;
+pub use block::{blocks_are_unique, parse};
 pub use expected::Expected;
-pub use halt::{Halt, Unread};
+pub use halt::{Halt, Missing, Unread};
 pub use keyword::{first_unread, is_unread};
-pub use laws::blocks_are_unique;
-pub use missing::Missing;

@@ -1,32 +1,33 @@
 //! Reads types, members and structures.
+#![tactic(auto, unfolding(crate::specs::ParsingMembers::int_at, crate::specs::ParsingMembers::enum_at, crate::specs::ParsingMembers::kind_at, crate::specs::ParsingMembers::string_at, crate::specs::ParsingMembers::count_at, crate::specs::ParsingMembers::bracket_at, crate::specs::ParsingMembers::member_at, crate::specs::ParsingMembers::align_at, crate::specs::ParsingMembers::struct_at), using(crate::proofs::Attributes::attr_short, crate::proofs::Members::bracket_short, crate::proofs::Members::member_short))]
 
 ghost use Rattle.tsdl_grammar.specs.Fronts.{shown};
 ghost use Rattle.tsdl_parser.specs.Parsing.{Gives};
 ghost use Rattle.tsdl_parser.specs.ParsingMembers.{int_at, enum_at, kind_at, count_at, bracket_at, member_at, align_at, struct_at};
 
-use crate::attribute::attrs_at;
-use crate::enumeration::{entries_at, expected_behind};
+use crate::enumeration::entries_at;
 use crate::expected::Expected;
-use crate::halt::{expecting, going_on};
-use crate::missing::{
+use crate::halt::{
     CLOSE_BRACE, CLOSE_BRACKET, CLOSE_PARENTHESIS, INTEGER, NAME, OPEN_BRACE, SEMICOLON, STRUCT,
-    ZERO,
+    ZERO, expecting, going_on,
 };
 use crate::parsing::{Read, begins, keyword_at, mark_at, names, next_atom, number_at, word_at};
 use crate::repetition::{Repeated, Start, all_at, braced_at};
 use ctf_types::ListOf;
 use std::alloc::Global;
-use tsdl_grammar::{Atom, Atoms, Attribute, Bracket, Kind, Mark, MemberTree, Number, Structure};
+use tsdl_grammar::{
+    Atom, Atoms, Attribute, Bracket, Closing, Entries, Kind, Mark, MemberTree, Number, Structure,
+};
 
-#[tactic(auto, unfolding(crate::specs::ParsingMembers::int_at))]
 fn int_at(alloc: Global, atoms: Atoms<'_>) -> Read<'_, ListOf<Attribute>>
     ensures { Gives (λ x. (x.0, shown x.1)) result (int_at (shown atoms.entry)) }
 {
     let rest = keyword_at("integer", atoms, Expected::EnumInteger);
-    attrs_at(alloc, going_on(rest, &[INTEGER, OPEN_BRACE, CLOSE_BRACE])?)
+    let rest = going_on(rest, &[INTEGER, OPEN_BRACE, CLOSE_BRACE])?;
+    let attrs = braced_at(alloc, rest, Expected::Mark(Mark::OpenBrace));
+    going_on(attrs, &[CLOSE_BRACE])
 }
 
-#[tactic(auto, unfolding(crate::specs::ParsingMembers::enum_at))]
 fn enum_at(alloc: Global, atoms: Atoms<'_>) -> Read<'_, Kind>
     ensures { Gives (λ x. (x.0, shown x.1)) result (enum_at (shown atoms.entry)) }
 {
@@ -39,11 +40,14 @@ fn enum_at(alloc: Global, atoms: Atoms<'_>) -> Read<'_, Kind>
     let (attrs, rest) = going_on(int_at(alloc, rest), &[OPEN_BRACE, CLOSE_BRACE])?;
     let inside = going_on(mark_at(Mark::OpenBrace, rest), &[CLOSE_BRACE])?;
     let (entries, rest) = going_on(entries_at(alloc, inside), &[CLOSE_BRACE])?;
-    let rest = expecting(mark_at(Mark::CloseBrace, rest), expected_behind(&entries))?;
+    let expected = match entries {
+        Entries::Empty | Entries::Listed(_, _, Closing::Comma) => Expected::Label,
+        Entries::Listed(_, _, Closing::Plain) => Expected::Mark(Mark::CloseBrace),
+    };
+    let rest = expecting(mark_at(Mark::CloseBrace, rest), expected)?;
     Ok((Kind::Enumeration(attrs, entries), rest))
 }
 
-#[tactic(auto, unfolding(crate::specs::ParsingMembers::kind_at, crate::specs::ParsingMembers::string_at))]
 fn kind_at(alloc: Global, atoms: Atoms<'_>) -> Read<'_, Kind>
     ensures { Gives (λ x. (x.0, shown x.1)) result (kind_at (shown atoms.entry)) }
 {
@@ -58,29 +62,26 @@ fn kind_at(alloc: Global, atoms: Atoms<'_>) -> Read<'_, Kind>
     if !begins(Mark::OpenBrace, rest) {
         return Ok((Kind::Text(None), rest));
     }
-    let (attrs, rest) = going_on(attrs_at(alloc, rest), &[NAME, SEMICOLON])?;
+    let attrs = braced_at(alloc, rest, Expected::Mark(Mark::OpenBrace));
+    let (attrs, rest) = going_on(attrs, &[CLOSE_BRACE, NAME, SEMICOLON])?;
     Ok((Kind::Text(Some(attrs)), rest))
 }
 
 /// What stands between an array's brackets.
-#[tactic(auto, unfolding(crate::specs::ParsingMembers::count_at))]
 fn count_at(alloc: Global, atoms: Atoms<'_>) -> Read<'_, Bracket>
     ensures { Gives (λ x. (x.0, shown x.1)) result (count_at (shown atoms.entry)) }
 {
     let (first, rest) = next_atom(alloc, atoms)?;
-    match first {
-        Some(Atom::Word(name)) => Ok((Bracket::Member(name), rest)),
-        _ => {
-            let (count, rest) = number_at(alloc, atoms, Expected::Length)?;
-            Ok((Bracket::Count(count), rest))
-        }
-    }
+    let Some(Atom::Word(name)) = first else {
+        let (count, rest) = number_at(alloc, atoms, Expected::Length)?;
+        return Ok((Bracket::Count(count), rest));
+    };
+    Ok((Bracket::Member(name), rest))
 }
 
 impl Repeated for Bracket {
     ghost item = { bracket_at };
 
-    #[tactic(auto, unfolding(crate::specs::ParsingMembers::bracket_at))]
     fn item_at(alloc: Global, atoms: Atoms<'_>) -> Read<'_, Bracket> {
         let inside = mark_at(Mark::OpenBracket, atoms)?;
         let (count, rest) = going_on(count_at(alloc, inside), &[CLOSE_BRACKET])?;
@@ -91,25 +92,22 @@ impl Repeated for Bracket {
 impl Repeated for MemberTree {
     ghost item = { member_at };
 
-    #[tactic(auto, unfolding(crate::specs::ParsingMembers::member_at), using(crate::proofs::Members::bracket_short))]
     fn item_at(alloc: Global, atoms: Atoms<'_>) -> Read<'_, MemberTree> {
         let (kind, rest) = kind_at(alloc, atoms)?;
         let name = word_at(alloc, rest, Expected::MemberName);
         let (name, rest) = going_on(name, &[NAME, SEMICOLON])?;
         let brackets = all_at(alloc, rest, Start::Mark(Mark::OpenBracket));
         let (brackets, rest) = going_on(brackets, &[SEMICOLON])?;
-        let rest = mark_at(Mark::Semicolon, rest)?;
         let member = MemberTree {
             kind,
             name,
             brackets,
         };
-        Ok((member, rest))
+        Ok((member, mark_at(Mark::Semicolon, rest)?))
     }
 }
 
 /// A structure's alignment, if it is given.
-#[tactic(auto, unfolding(crate::specs::ParsingMembers::align_at))]
 fn align_at(alloc: Global, atoms: Atoms<'_>) -> Read<'_, Option<Number>>
     ensures { Gives (λ x. (x.0, shown x.1)) result (align_at (shown atoms.entry)) }
 {
@@ -121,11 +119,9 @@ fn align_at(alloc: Global, atoms: Atoms<'_>) -> Read<'_, Option<Number>>
     let inside = going_on(inside, &[ZERO, CLOSE_PARENTHESIS])?;
     let align = number_at(alloc, inside, Expected::Number);
     let (align, rest) = going_on(align, &[CLOSE_PARENTHESIS])?;
-    let rest = mark_at(Mark::CloseParenthesis, rest)?;
-    Ok((Some(align), rest))
+    Ok((Some(align), mark_at(Mark::CloseParenthesis, rest)?))
 }
 
-#[tactic(auto, unfolding(crate::specs::ParsingMembers::struct_at), using(crate::proofs::Members::member_short))]
 pub(crate) fn struct_at(alloc: Global, atoms: Atoms<'_>) -> Read<'_, Structure>
     ensures { Gives (λ x. (x.0, shown x.1)) result (struct_at (shown atoms.entry)) }
 {

@@ -61,7 +61,9 @@ pub(crate) fn all_at<T: Repeated>(
     let mut rest = atoms;
     while starts(alloc, start, rest)? {
         let (item, behind) = T::item_at(alloc, rest)?;
-        items.push(item)?;
+        let Ok(()) = items.push(item) else {
+            return Err(Unread::Memory);
+        };
         rest = behind;
     }
     items.shrink_to_fit();
