@@ -1,13 +1,13 @@
 //! What is wrong with the atoms of a text, and where judging them stops.
 
-ghost use Rattle.std.specs.Prelude.{◌≡◌, ◌++◌, ◌∷◌, [], List};
+ghost use Rattle.std.specs.Prelude.{◌≡◌, ◌++◌, ◌∷◌, [], List, IfOk, string_bytes};
 ghost use Rattle.tsdl_grammar.specs.declared.atom.Atom.{Atom};
 ghost use Rattle.tsdl_grammar.specs.Spelling.{name_toks};
 ghost use Rattle.tsdl_flaw.specs.Flaws.{IsWrong};
 ghost use Rattle.tsdl_flaw.specs.Stopping.{kind_of, StopsIn};
+ghost use Rattle.tsdl_flaw.specs.Written.{written};
 ghost use Rattle.tsdl_flaw.specs.declared.flaw.Stop.TheVariants as stops;
 
-use crate::name::dotted;
 use crate::spelled::Spelled;
 use std::alloc::{AllocError, AllocFailed, Global};
 use tsdl_grammar::{MetaFaultKind, Name};
@@ -53,7 +53,7 @@ impl Flaw {
 
     /// What is wrong, in words, where the kind of the fault does not say all of it.
     pub fn words(&self, alloc: Global) -> Result<Option<String>, AllocError> {
-        let words = match self {
+        Ok(Some(match self {
             Flaw::Syntax(expected) => {
                 format!(in alloc; "{}: expected {expected}", MetaFaultKind::Syntax)?
             }
@@ -72,11 +72,14 @@ impl Flaw {
                 format!(in alloc; "no stream block with number {stream} for event {event:?}")?
             }
             Flaw::Unsupported(name, remedy) => {
-                format!(in alloc; "`{name}` is not supported here{}", remedy.words())?
+                let converted = match remedy {
+                    Remedy::Conversion => CONVERTED,
+                    Remedy::Nothing => "",
+                };
+                format!(in alloc; "`{name}` is not supported here{converted}")?
             }
             Flaw::Duplicate | Flaw::NoPacketSize | Flaw::BadLength => return Ok(None),
-        };
-        Ok(Some(words))
+        }))
     }
 }
 
@@ -92,15 +95,6 @@ pub struct Orphan {
 pub enum Remedy {
     Conversion,
     Nothing,
-}
-
-impl Remedy {
-    pub fn words(self) -> &'static str {
-        match self {
-            Remedy::Conversion => CONVERTED,
-            Remedy::Nothing => "",
-        }
-    }
 }
 
 /// A flaw, the index of the atom at which it stands, and the index behind what it speaks of. The end of the text has the index behind the last atom.
@@ -167,4 +161,16 @@ impl<T: Drop> From<AllocFailed<T>> for Stop {
     fn from(_e: AllocFailed<T>) -> Stop {
         Stop::NoMemory
     }
+}
+
+/// The words of a name with dots between them.
+pub fn dotted(alloc: Global, name: &Name) -> Result<String, AllocError>
+    ensures { IfOk result (λ dotted. string_bytes dotted ≡ written name.now) }
+{
+    let mut dotted = String::from_str(alloc, name.first.as_str())?;
+    for word in name.rest.as_slice() {
+        dotted.push_str(".")?;
+        dotted.push_str(word.as_str())?;
+    }
+    Ok(dotted)
 }

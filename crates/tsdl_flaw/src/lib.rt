@@ -2,9 +2,7 @@
 #![tactic(auto)]
 
 mod flaw;
-mod name;
 mod spelled;
 
-pub use flaw::{CONVERTED, Fault, Flaw, Orphan, Remedy, Stop};
-pub use name::dotted;
+pub use flaw::{CONVERTED, Fault, Flaw, Orphan, Remedy, Stop, dotted};
 pub use spelled::Spelled;

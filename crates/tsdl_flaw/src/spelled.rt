@@ -1,9 +1,9 @@
 //! How many atoms spell a tree. Its rules stand in the same order in the grammar.
 
-ghost use Rattle.std.specs.Prelude.{◌≡◌, List};
+ghost use Rattle.std.specs.Prelude.{◌≡◌, ◌++◌, List};
 ghost use Rattle.tsdl_grammar.specs.declared.atom.Atom.{Atom};
 ghost use Rattle.std.specs.List.{flat_map};
-ghost use Rattle.tsdl_grammar.specs.Spelling.{number_toks, name_toks, value_toks, attr_toks, label_toks, entry_toks, next_entry_toks, closing_toks, entries_toks, bracket_toks, kind_toks, member_toks, struct_toks, scope_toks, item_toks, named_fact_toks, block_toks};
+ghost use Rattle.tsdl_grammar.specs.Spelling.{number_toks, name_toks, value_toks, attr_toks, label_toks, entry_toks, next_entry_toks, entries_toks, bracket_toks, kind_toks, member_toks, struct_toks, scope_toks, item_toks, named_fact_toks, block_toks};
 ghost use Rattle.tsdl_flaw.specs.Lengths.{HasLength};
 
 use ctf_types::ListOf;
@@ -25,10 +25,7 @@ impl Spelled for Number {
     ghost toks = { number_toks };
 
     fn length(&self) -> usize {
-        match self.sign {
-            None => 1,
-            Some(_) => 2,
-        }
+        self.sign.map_or(1, |_| 2)
     }
 }
 
@@ -66,9 +63,8 @@ impl<T: Spelled + Drop> Spelled for ListOf<T> {
     ghost toks = { flat_map T.toks };
 
     fn length(&self) -> usize {
-        let items = self.as_slice();
         let mut count = 0usize;
-        for item in items {
+        for item in self.as_slice() {
             count = count.saturating_add(item.length());
         }
         count
@@ -79,9 +75,7 @@ impl Spelled for Label {
     ghost toks = { label_toks };
 
     fn length(&self) -> usize {
-        match self {
-            Label::Quoted(_) | Label::Bare(_) => 1,
-        }
+        1
     }
 }
 
@@ -97,37 +91,25 @@ impl Spelled for Entry {
     }
 }
 
-impl Spelled for Closing {
-    ghost toks = { closing_toks };
-
-    fn length(&self) -> usize {
-        match self {
-            Closing::Plain => 0,
-            Closing::Comma => 1,
-        }
-    }
-}
-
 impl Spelled for Entries {
     ghost toks = { entries_toks };
 
     fn length(&self) -> usize {
         match self {
             Entries::Empty => 0,
-            Entries::Listed(first, others, closing) => first
-                .length()
-                .saturating_add(behind_first(others))
-                .saturating_add(closing.length()),
+            Entries::Listed(first, rest, Closing::Plain) => listed(first, rest),
+            Entries::Listed(first, rest, Closing::Comma) => listed(first, rest).saturating_add(1),
         }
     }
 }
 
-/// How many atoms spell the entries behind the first one, each with its comma.
+/// How many atoms spell the first entry and those behind it, each with its comma.
 #[tactic(auto, using(crate::proofs::Lengths::next_entries_length))]
-fn behind_first(entries: &ListOf<Entry>) -> usize
-    ensures { HasLength (flat_map next_entry_toks entries.now) result }
+fn listed(first: &Entry, rest: &ListOf<Entry>) -> usize
+    ensures { HasLength (entry_toks first.now ++ flat_map next_entry_toks rest.now) result }
 {
-    entries.length().saturating_add(entries.len())
+    let behind = rest.length().saturating_add(rest.len());
+    first.length().saturating_add(behind)
 }
 
 impl Spelled for Bracket {
@@ -171,13 +153,10 @@ impl Spelled for Structure {
 
     fn length(&self) -> usize {
         let align = match self.align {
-            None => 0,
-            Some(number) => number.length().saturating_add(3),
+            None => 3,
+            Some(number) => number.length().saturating_add(6),
         };
-        self.members
-            .length()
-            .saturating_add(align)
-            .saturating_add(3)
+        self.members.length().saturating_add(align)
     }
 }
 
@@ -205,11 +184,10 @@ impl Spelled for NamedFact {
     ghost toks = { named_fact_toks };
 
     fn length(&self) -> usize {
-        let fact = match &self.fact {
-            Fact::Number(number) => number.length(),
-            Fact::Text(_) => 1,
-        };
-        fact.saturating_add(3)
+        match &self.fact {
+            Fact::Number(number) => number.length().saturating_add(3),
+            Fact::Text(_) => 4,
+        }
     }
 }
 
