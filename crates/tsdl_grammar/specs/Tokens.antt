@@ -2,6 +2,8 @@
 -- A text is cut into its pieces from the front on, each as long as it can be; blanks and comments are no tokens.
 use Rattle.std.specs.Prelude.{◌≡◌, ◌≢◌, ℕ, ◌+◌, ◌≤◌, ◌<◌, List, [], ◌∷◌, ◌++◌, length, drop, Option, Some, None, codes, Result, Ok, Err}
 use Rattle.std.specs.Global.{Vec}
+use Rattle.tsdl_grammar.specs.declared.token.Mark.{Mark}
+use Rattle.tsdl_grammar.specs.declared.token.Mark.TheVariants as marks
 use Rattle.tsdl_grammar.specs.declared.token.Token.{Token}
 use Rattle.tsdl_grammar.specs.declared.token.Span.{Span}
 use Rattle.tsdl_grammar.specs.declared.piece.Piece.{Piece}
@@ -18,6 +20,24 @@ magic_line = codes "/* CTF 1.8 */"
 
 abbrev pub HasMagicLine : List ℕ → Type 0
 HasMagicLine text = (rest : List ℕ) × (text ≡ magic_line ++ rest)
+
+-- how each mark is spelled
+abbrev pub mark_text : Mark → List ℕ
+mark_text marks.OpenBrace = codes "{"
+mark_text marks.CloseBrace = codes "}"
+mark_text marks.OpenBracket = codes "["
+mark_text marks.CloseBracket = codes "]"
+mark_text marks.OpenParenthesis = codes "("
+mark_text marks.CloseParenthesis = codes ")"
+mark_text marks.Semicolon = codes ";"
+mark_text marks.Comma = codes ","
+mark_text marks.Colon = codes ":"
+mark_text marks.Equals = codes "="
+mark_text marks.Minus = codes "-"
+mark_text marks.Plus = codes "+"
+mark_text marks.Dot = codes "."
+mark_text marks.Assign = codes ":="
+mark_text marks.Ellipsis = codes "..."
 
 -- the bytes are these pieces, one after the other, and then the rest
 abbrev pub Splits : List ℕ → List Cut → List ℕ → Type 0

@@ -1,5 +1,8 @@
 //! The tokens of TSDL.
 
+ghost use Rattle.std.specs.Prelude.{◌≡◌};
+ghost use Rattle.tsdl_grammar.specs.Tokens.{mark_text};
+
 /// A mark, by its bytes.
 #[derive(Clone, Copy, Debug, PartialEq, Eq)]
 pub enum Mark {
@@ -37,7 +40,9 @@ pub enum Mark {
 
 impl Mark {
     /// The mark's bytes.
-    pub fn spelling(self) -> &'static str {
+    pub fn spelling(self) -> &'static str
+        ensures { result.now ≡ mark_text self }
+    {
         match self {
             Mark::OpenBrace => "{",
             Mark::CloseBrace => "}",

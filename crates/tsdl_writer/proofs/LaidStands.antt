@@ -11,7 +11,7 @@ use Rattle.tsdl_grammar.specs.declared.atom.Atom.TheVariants as atoms
 use Rattle.tsdl_grammar.specs.declared.tree.Block.{Block}
 use Rattle.tsdl_grammar.specs.Bytes.{is_blank, is_name_start, is_name_byte}
 use Rattle.tsdl_grammar.specs.Spelling.{text_toks}
-use Rattle.tsdl_grammar.specs.Tokens.{HasMagicLine}
+use Rattle.tsdl_grammar.specs.Tokens.{HasMagicLine, mark_text}
 use Rattle.tsdl_grammar.specs.Atoms.{Spells, Reads}
 use Rattle.tsdl_grammar.specs.Denotes.{is_read}
 use Rattle.tsdl_grammar.proofs.Runs.{and_true}
@@ -28,7 +28,7 @@ use Rattle.tsdl_writer.specs.declared.layout.Place.{Place}
 use Rattle.tsdl_writer.specs.declared.layout.Place.TheVariants as places
 use Rattle.tsdl_writer.specs.declared.layout.Next.{Next}
 use Rattle.tsdl_writer.specs.declared.layout.Next.TheVariants as nexts
-use Rattle.tsdl_writer.specs.Layout.{mark_text, atom_text, depth_behind, place_behind, atom_depth, atom_place, next_of, line, closing_line, gap, laid, text_of}
+use Rattle.tsdl_writer.specs.Layout.{atom_text, depth_behind, place_behind, atom_depth, atom_place, next_of, line, closing_line, gap, laid, text_of}
 use Rattle.tsdl_writer.specs.Prints.{IsString}
 use Rattle.tsdl_writer.proofs.Writable.{IsWritable}
 

@@ -1,15 +1,16 @@
 -- Calls that print, one behind the other, and loops of such calls.
-use Rattle.std.proofs.Common.{◌≡◌, ℕ, Bool, Option, ◌+◌, ◌<◌, List, [], ◌∷◌, ◌++◌, map, length, drop, get_or, Result, Some, zero, suc, add-one, refl, sym, subst, ap, ◌∙◌, append_assoc}
-use Rattle.std.specs.Prelude.{OnOk, slice_get, codes}
+use Rattle.std.proofs.Common.{◌≡◌, ℕ, Bool, false, Option, None, ◌+◌, ◌<◌, List, [], ◌∷◌, ◌++◌, map, length, drop, get_or, Result, Some, zero, suc, add-one, refl, sym, subst, ap, ◌∙◌, append_assoc}
+use Rattle.std.specs.Prelude.{OnOk, slice_get, codes, is_none}
 use Rattle.std.specs.Option.{option_map}
 use Rattle.std.proofs.lemmas.Result.{on_ok_weaker}
 use Rattle.std.specs.List.{flat_map}
-use Rattle.std.proofs.lemmas.List.{drop_more}
+use Rattle.std.proofs.lemmas.List.{drop_more, append-nil}
 use Rattle.std.proofs.lemmas.List.Concat.{flat_map-append}
 use Rattle.ctf_types.specs.declared.EnvironmentEntry.{EnvironmentEntry}
 use Rattle.ctf_types.specs.declared.Base.{Base}
 use Rattle.ctf_types.specs.declared.IntType.{IntType}
 use Rattle.ctf_types.specs.declared.MemberType.{MemberType}
+use Rattle.ctf_types.specs.MetadataOf.{number_member, uuid_member}
 use Rattle.tsdl_grammar.specs.declared.atom.Atom.{Atom}
 use Rattle.tsdl_writer.specs.declared.printer.Printer.{Printer}
 use Rattle.tsdl_grammar.specs.declared.atom.Atom.TheVariants as atoms
@@ -74,8 +75,27 @@ nothing_behind a rest e = regroup a [] rest e
 pub line : {p : Printer} {text : List ℕ} (kind named rest : List Atom) → Ends p (kind ++ (named ++ atoms.Mark marks.Semicolon ∷ rest)) text → Ends p (kind ++ named ++ atoms.Mark marks.Semicolon ∷ [] ++ rest) text
 line kind named rest e = simp append_assoc e
 
+-- an entry, of which the numbers behind the first may be none
+pub entry_groups : {p : Printer} {text : List ℕ} (label : List ℕ) (low high rest : List Atom) → Ends p (atoms.Text label ∷ atoms.Mark marks.Equals ∷ (low ++ []) ++ (high ++ rest)) text
+    → Ends p (atoms.Text label ∷ atoms.Mark marks.Equals ∷ low ++ high ++ rest) text
+entry_groups label low high rest e = simp append_assoc (rw (append-nil low) at e)
+
 pub some_item : {A : Type 0} (x : A) (xs : List A) → x ∷ xs ≡ [] → ⊥
 some_item x xs e = cc
+
+-- two lists that have no item together have none
+pub none_in : {A : Type 0} (xs ys : List A) → xs ++ ys ≡ [] → (xs ≡ []) × (ys ≡ [])
+none_in [] ys e = (refl, e)
+none_in (x ∷ xs) ys e = absurd (some_item x (xs ++ ys) e)
+
+-- a feature that is on has its member
+pub number_stands : (name : List ℕ) (field : Option IntType) → is_none field ≡ false → number_member name field ≡ [] → ⊥
+number_stands name None off e = absurd cc
+number_stands name (Some t) off e = cc
+
+pub uuid_stands : (field : Option IntType) → is_none field ≡ false → uuid_member field ≡ [] → ⊥
+uuid_stands None off e = absurd cc
+uuid_stands (Some t) off e = cc
 
 -- a block
 pub block : {p : Printer} {text : List ℕ} (w : List ℕ) (inner rest : List Atom) → Ends p (atoms.Word w ∷ atoms.Mark marks.OpenBrace ∷ (inner ++ atoms.Mark marks.CloseBrace ∷ atoms.Mark marks.Semicolon ∷ rest)) text

@@ -10,7 +10,7 @@ use Rattle.tsdl_grammar.specs.declared.atom.Atom.TheVariants as atoms
 use Rattle.tsdl_grammar.specs.declared.tree.Block.{Block}
 use Rattle.tsdl_grammar.specs.Escapes.{escaped}
 use Rattle.tsdl_grammar.specs.Spelling.{text_toks}
-use Rattle.tsdl_grammar.specs.Tokens.{magic_line}
+use Rattle.tsdl_grammar.specs.Tokens.{magic_line, mark_text}
 use Rattle.tsdl_writer.specs.declared.layout.Depth.{Depth}
 use Rattle.tsdl_writer.specs.declared.layout.Depth.TheVariants as depths
 use Rattle.tsdl_writer.specs.declared.layout.Place.{Place}
@@ -23,23 +23,6 @@ use Rattle.tsdl_writer.specs.declared.layout.Next.TheVariants as nexts
 -- a text between its quotes
 abbrev pub quoted : List ℕ → List ℕ
 quoted text = codes "\"" ++ escaped text ++ codes "\""
-
-abbrev pub mark_text : Mark → List ℕ
-mark_text marks.OpenBrace = codes "{"
-mark_text marks.CloseBrace = codes "}"
-mark_text marks.OpenBracket = codes "["
-mark_text marks.CloseBracket = codes "]"
-mark_text marks.OpenParenthesis = codes "("
-mark_text marks.CloseParenthesis = codes ")"
-mark_text marks.Semicolon = codes ";"
-mark_text marks.Comma = codes ","
-mark_text marks.Colon = codes ":"
-mark_text marks.Equals = codes "="
-mark_text marks.Minus = codes "-"
-mark_text marks.Plus = codes "+"
-mark_text marks.Dot = codes "."
-mark_text marks.Assign = codes ":="
-mark_text marks.Ellipsis = codes "..."
 
 -- nothing spells a literal that is too large
 abbrev pub atom_text : Atom → List ℕ

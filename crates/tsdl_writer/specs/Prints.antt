@@ -1,14 +1,28 @@
 -- What a call prints, said by what is left to be printed behind it.
-use Rattle.std.specs.Prelude.{◌≡◌, ℕ, List, ◌++◌, string_bytes}
+use Rattle.std.specs.Prelude.{◌≡◌, ℕ, List, [], ◌∷◌, ◌++◌, string_bytes}
 use Rattle.std.specs.List.{AllByRecursion}
 use Rattle.std.specs.Str.{IsUtf8}
+use Rattle.ctf_types.specs.Shown.{length_name}
 use Rattle.tsdl_grammar.specs.declared.atom.Atom.{Atom}
 use Rattle.tsdl_grammar.specs.declared.atom.Atom.TheVariants as atoms
+use Rattle.tsdl_grammar.specs.Spelling.{number_toks}
 use Rattle.tsdl_grammar.specs.Tokens.{magic_line}
 use Rattle.tsdl_writer.specs.declared.layout.Depth.TheVariants.{Top}
 use Rattle.tsdl_writer.specs.declared.layout.Place.TheVariants.{Line, Apart}
 use Rattle.tsdl_writer.specs.declared.printer.Printer.{Printer}
+use Rattle.tsdl_writer.specs.declared.printer.Token.{Token}
+use Rattle.tsdl_writer.specs.declared.printer.Token.TheVariants as tokens
+use Rattle.tsdl_writer.specs.FieldTrees.{whole_number}
 use Rattle.tsdl_writer.specs.Layout.{laid}
+
+-- what is read of a token that is printed
+abbrev pub token_toks : Token → List Atom
+token_toks (tokens.Word w) = atoms.Word w.now ∷ []
+token_toks (tokens.LengthOf name) = atoms.Word (length_name name.now) ∷ []
+token_toks (tokens.Number n) = atoms.Number n ∷ []
+token_toks (tokens.Whole z) = number_toks (whole_number z)
+token_toks (tokens.Quoted s) = atoms.Text s.now ∷ []
+token_toks (tokens.Mark m) = atoms.Mark m ∷ []
 
 -- a string is a text
 abbrev pub IsString : Atom → Type 0

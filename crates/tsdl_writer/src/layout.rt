@@ -1,7 +1,7 @@
 //! The gap in front of each token: it is known from the braces that are open, from the token before and from the token itself.
 
 ghost use Rattle.std.specs.Prelude.{◌≡◌};
-ghost use Rattle.tsdl_writer.specs.Layout.{gap, mark_text, mark_next, depth_behind, place_behind};
+ghost use Rattle.tsdl_writer.specs.Layout.{gap, mark_next, depth_behind, place_behind};
 
 use tsdl_grammar::Mark;
 
@@ -94,28 +94,5 @@ pub(crate) fn depth_behind(depth: Depth, mark: Mark) -> Depth
         (Mark::CloseBrace, Depth::Structure) => Depth::Block,
         (Mark::CloseBrace, _) => Depth::Top,
         _ => depth,
-    }
-}
-
-/// A mark's bytes.
-pub(crate) fn mark_text(mark: Mark) -> &'static str
-    ensures { result.now ≡ mark_text mark }
-{
-    match mark {
-        Mark::OpenBrace => "{",
-        Mark::CloseBrace => "}",
-        Mark::OpenBracket => "[",
-        Mark::CloseBracket => "]",
-        Mark::OpenParenthesis => "(",
-        Mark::CloseParenthesis => ")",
-        Mark::Semicolon => ";",
-        Mark::Comma => ",",
-        Mark::Colon => ":",
-        Mark::Equals => "=",
-        Mark::Minus => "-",
-        Mark::Plus => "+",
-        Mark::Dot => ".",
-        Mark::Assign => ":=",
-        Mark::Ellipsis => "...",
     }
 }

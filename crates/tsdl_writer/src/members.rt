@@ -2,18 +2,17 @@
 
 ghost use Rattle.std.specs.Prelude.{map, Some, OnOk};
 ghost use Rattle.std.specs.List.{flat_map};
-ghost use Rattle.ctf_types.specs.declared.MemberType.TheVariants.{Dyn};
-ghost use Rattle.ctf_types.specs.declared.Length.TheVariants.{Auto};
 ghost use Rattle.ctf_types.specs.FieldTypes.{chain_of};
 ghost use Rattle.ctf_types.specs.MetadataOf.{number_member, uuid_member};
 ghost use Rattle.tsdl_grammar.specs.Spelling.{bracket_toks};
 ghost use Rattle.tsdl_writer.specs.FieldTrees.{count_bracket, member_toks_of};
 ghost use Rattle.tsdl_writer.specs.Prints.{Prints};
 
+use crate::printer::Token::{LengthOf, Mark, Number, Word};
 use crate::printer::{Printed, Printer};
 use crate::types::{integer, kind, length_type};
 use ctf_types::{FieldType, IntType, Length, MemberType, Members};
-use tsdl_grammar::Mark;
+use tsdl_grammar::Mark::{CloseBracket, OpenBracket, Semicolon};
 
 /// The members of a structure. A dynamic array has its length in a member before it.
 pub(crate) fn members(out: &mut Printer, members: &Members) -> Printed
@@ -25,36 +24,28 @@ pub(crate) fn members(out: &mut Printer, members: &Members) -> Printed
     Ok(())
 }
 
-/// The members for one of a configuration. None has a length in a listed member.
+/// The members for one of a configuration. A dynamic array has its length's name in the first brackets; none has a length in a listed member.
 fn member(out: &mut Printer, name: &str, member: &MemberType) -> Printed
     ensures { OnOk result (Prints out.old out.new (member_toks_of (name.now, member.now))) }
 {
     match member {
         MemberType::Plain(field) => {
             kind(out, field)?;
-            out.word(name)?;
+            out.token(Word(name))?;
             lengths(out, field)?;
-            out.mark(Mark::Semicolon)
+            out.token(Mark(Semicolon))
         }
-        MemberType::Dyn(element, Length::Auto) => sequence(out, name, element),
+        MemberType::Dyn(element, Length::Auto) => {
+            length_type(out)?;
+            out.print(&[LengthOf(name), Mark(Semicolon)])?;
+            kind(out, element)?;
+            out.print(&[Word(name), Mark(OpenBracket), LengthOf(name)])?;
+            out.token(Mark(CloseBracket))?;
+            lengths(out, element)?;
+            out.token(Mark(Semicolon))
+        }
         MemberType::Dyn(_, Length::At(_)) => Ok(()),
     }
-}
-
-/// The length's member, and the array's: the length's name stands in its first brackets.
-fn sequence(out: &mut Printer, name: &str, element: &FieldType) -> Printed
-    ensures { OnOk result (Prints out.old out.new (member_toks_of (name.now, Dyn element.now Auto))) }
-{
-    length_type(out)?;
-    out.length_word(name)?;
-    out.mark(Mark::Semicolon)?;
-    kind(out, element)?;
-    out.word(name)?;
-    out.mark(Mark::OpenBracket)?;
-    out.length_word(name)?;
-    out.mark(Mark::CloseBracket)?;
-    lengths(out, element)?;
-    out.mark(Mark::Semicolon)
 }
 
 /// The lengths of the static arrays, the outermost first.
@@ -64,19 +55,12 @@ fn lengths(out: &mut Printer, field: &FieldType) -> Printed
     match field {
         FieldType::Int(_) | FieldType::Enum(_) | FieldType::Str => Ok(()),
         FieldType::Static(element, length) => {
-            count(out, *length)?;
+            out.token(Mark(OpenBracket))?;
+            out.token(Number(u64::from(*length)))?;
+            out.token(Mark(CloseBracket))?;
             lengths(out, element.field_type())
         }
     }
-}
-
-/// `[n]`.
-fn count(out: &mut Printer, n: u32) -> Printed
-    ensures { OnOk result (Prints out.old out.new (bracket_toks (count_bracket n))) }
-{
-    out.mark(Mark::OpenBracket)?;
-    out.number(u64::from(n))?;
-    out.mark(Mark::CloseBracket)
 }
 
 /// The member of a feature, where that is on.
@@ -92,8 +76,7 @@ pub(crate) fn number(out: &mut Printer, name: &str, int: &IntType) -> Printed
     ensures { OnOk result (Prints out.old out.new (flat_map member_toks_of (number_member name.now (Some int.now)))) }
 {
     integer(out, int)?;
-    out.word(name)?;
-    out.mark(Mark::Semicolon)
+    out.print(&[Word(name), Mark(Semicolon)])
 }
 
 /// The member of the trace's identifier, where the feature is on: an array of 16 such integers.
@@ -102,7 +85,7 @@ pub(crate) fn identifier(out: &mut Printer, feature: &Option<IntType>) -> Printe
 {
     let Some(int) = feature else { return Ok(()) };
     integer(out, int)?;
-    out.word("uuid")?;
-    count(out, 16)?;
-    out.mark(Mark::Semicolon)
+    out.print(&[Word("uuid"), Mark(OpenBracket), Number(16)])?;
+    out.token(Mark(CloseBracket))?;
+    out.token(Mark(Semicolon))
 }

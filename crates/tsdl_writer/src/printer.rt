@@ -1,19 +1,31 @@
 //! Prints words, numbers, strings and marks, one behind the other, as a text. They alone decide the layout, whatever they spell.
 
 ghost use Rattle.std.specs.Prelude.{◌≡◌, ◌++◌, [], ◌∷◌, IfOk, OnOk, codes, string_bytes};
-ghost use Rattle.ctf_types.specs.Shown.{length_name};
-ghost use Rattle.tsdl_grammar.specs.Spelling.{number_toks};
+ghost use Rattle.std.specs.List.{flat_map};
 ghost use Rattle.tsdl_grammar.specs.declared.atom.Atom.TheVariants as atoms;
-ghost use Rattle.tsdl_writer.specs.FieldTrees.{whole_number};
 ghost use Rattle.tsdl_writer.specs.Layout.{gap};
-ghost use Rattle.tsdl_writer.specs.Prints.{Begins, Puts, Prints};
+ghost use Rattle.tsdl_writer.specs.Prints.{Begins, Puts, Prints, token_toks};
 
-use crate::layout::{Depth, Next, Place, depth_behind, gap, mark_next, mark_text, place_behind};
+use crate::layout::{Depth, Next, Place, depth_behind, gap, mark_next, place_behind};
 use std::alloc::{AllocError, Global};
 use tsdl_grammar::{Mark, escape};
 
 /// That a part of the text is printed, or that memory was wanting.
 pub(crate) type Printed = Result<(), AllocError>;
+
+/// A token that is printed.
+#[derive(Clone, Copy)]
+pub(crate) enum Token<'a> {
+    Word(&'a str),
+    /// The name of a dynamic array's length.
+    LengthOf(&'a str),
+    Number(u64),
+    /// A number that may be below 0.
+    Whole(i128),
+    /// A text between its quotes, with escapes.
+    Quoted(&'a str),
+    Mark(Mark),
+}
 
 /// A text that grows, and what stands at its end.
 #[derive(Drop)]
@@ -46,40 +58,49 @@ impl Printer {
         Ok(text)
     }
 
-    /// A word.
-    pub(crate) fn word(&mut self, word: &str) -> Printed
-        ensures { OnOk result (Prints self.old self.new (atoms.Word word.now ∷ [])) }
+    /// Tokens, one behind the other.
+    pub(crate) fn print(&mut self, tokens: &[Token<'_>]) -> Printed
+        ensures { OnOk result (Prints self.old self.new (flat_map token_toks tokens.now)) }
     {
-        self.gap(Next::Word)?;
-        self.text.push_str(word)
+        for token in tokens {
+            self.token(*token)?;
+        }
+        Ok(())
     }
 
-    /// The name of a dynamic array's length.
-    pub(crate) fn length_word(&mut self, name: &str) -> Printed
-        ensures { OnOk result (Prints self.old self.new (atoms.Word (length_name name.now) ∷ [])) }
+    pub(crate) fn token(&mut self, token: Token<'_>) -> Printed
+        ensures { OnOk result (Prints self.old self.new (token_toks token.entry)) }
     {
-        self.gap(Next::Word)?;
-        write!(self.text, "__{name}_len")
+        match token {
+            Token::Word(word) => {
+                self.gap(Next::Word)?;
+                self.text.push_str(word)
+            }
+            Token::LengthOf(name) => {
+                self.gap(Next::Word)?;
+                write!(self.text, "__{name}_len")
+            }
+            Token::Number(n) => {
+                self.gap(Next::Other)?;
+                write!(self.text, "{n}")
+            }
+            Token::Whole(n) => {
+                self.gap(Next::Other)?;
+                write!(self.text, "{n}")
+            }
+            Token::Quoted(text) => self.quoted(text),
+            Token::Mark(mark) => {
+                self.gap(mark_next(mark))?;
+                self.text.push_str(mark.spelling())?;
+                self.place = place_behind(self.depth, mark);
+                self.depth = depth_behind(self.depth, mark);
+                Ok(())
+            }
+        }
     }
 
-    /// A number.
-    pub(crate) fn number(&mut self, n: u64) -> Printed
-        ensures { OnOk result (Prints self.old self.new (atoms.Number n ∷ [])) }
-    {
-        self.gap(Next::Other)?;
-        write!(self.text, "{n}")
-    }
-
-    /// A number that may be below 0.
-    pub(crate) fn whole(&mut self, n: i128) -> Printed
-        ensures { OnOk result (Prints self.old self.new (number_toks (whole_number n))) }
-    {
-        self.gap(Next::Other)?;
-        write!(self.text, "{n}")
-    }
-
-    /// A string, between its quotes, with escapes.
-    pub(crate) fn string(&mut self, text: &str) -> Printed
+    /// A text between its quotes, with escapes.
+    fn quoted(&mut self, text: &str) -> Printed
         ensures { OnOk result (Prints self.old self.new (atoms.Text text.now ∷ [])) }
     {
         self.gap(Next::Other)?;
@@ -88,17 +109,6 @@ impl Printer {
             Ok(escaped) => write!(self.text, "\"{escaped}\"")?,
             Err(_) => unreachable!(),
         }
-        Ok(())
-    }
-
-    /// A mark.
-    pub(crate) fn mark(&mut self, mark: Mark) -> Printed
-        ensures { OnOk result (Prints self.old self.new (atoms.Mark mark ∷ [])) }
-    {
-        self.gap(mark_next(mark))?;
-        self.text.push_str(mark_text(mark))?;
-        self.place = place_behind(self.depth, mark);
-        self.depth = depth_behind(self.depth, mark);
         Ok(())
     }
 

@@ -1,19 +1,20 @@
 //! Structures of blocks, each under its name. One without members is left out.
 
-ghost use Rattle.std.specs.Prelude.{◌≡◌, ◌↔◌, ◌++◌, [], ◌∷◌, OnOk, IsTrue, codes};
+ghost use Rattle.std.specs.Prelude.{◌++◌, OnOk, codes};
 ghost use Rattle.std.specs.List.{flat_map};
 ghost use Rattle.ctf_types.specs.MetadataOf.{header_members, context_numbers, event_header_members};
-ghost use Rattle.tsdl_grammar.specs.declared.atom.Atom.TheVariants as atoms;
-ghost use Rattle.tsdl_grammar.specs.declared.token.Mark.TheVariants as marks;
 ghost use Rattle.tsdl_grammar.specs.Spelling.{item_toks};
 ghost use Rattle.tsdl_writer.specs.FieldTrees.{one_word};
 ghost use Rattle.tsdl_writer.specs.BlockTrees.{two_words, scope_items, opening, closing};
 ghost use Rattle.tsdl_writer.specs.Prints.{Prints};
 
 use crate::members::{feature, identifier, members, number};
+use crate::printer::Token::{Mark, Number, Word};
 use crate::printer::{Printed, Printer};
 use ctf_types::{EventFeatures, HeaderFeatures, StreamType, StructType};
-use tsdl_grammar::Mark;
+use tsdl_grammar::Mark::{
+    Assign, CloseBrace, CloseParenthesis, Dot, OpenBrace, OpenParenthesis, Semicolon,
+};
 
 /// A structure under a name of one word.
 pub(crate) fn structure(out: &mut Printer, name: &str, structure: &StructType) -> Printed
@@ -34,7 +35,7 @@ pub(crate) fn event_context(out: &mut Printer, common: &StructType) -> Printed
     if common.members.is_empty() {
         return Ok(());
     }
-    begin(out, "event")?;
+    out.print(&[Word("event"), Mark(Dot)])?;
     structure(out, "context", common)
 }
 
@@ -42,10 +43,10 @@ pub(crate) fn event_context(out: &mut Printer, common: &StructType) -> Printed
 pub(crate) fn header(out: &mut Printer, features: &HeaderFeatures) -> Printed
     ensures { OnOk result (Prints out.old out.new (flat_map item_toks (scope_items (two_words (codes "packet") (codes "header")) (header_members features.now) 8))) }
 {
-    if no_header(features) {
+    if features.magic.is_none() && features.uuid.is_none() && features.stream_id.is_none() {
         return Ok(());
     }
-    begin(out, "packet")?;
+    out.print(&[Word("packet"), Mark(Dot)])?;
     open(out, "header")?;
     feature(out, "magic", &features.magic)?;
     identifier(out, &features.uuid)?;
@@ -53,20 +54,11 @@ pub(crate) fn header(out: &mut Printer, features: &HeaderFeatures) -> Printed
     close(out, 8)
 }
 
-fn no_header(features: &HeaderFeatures) -> bool
-    ensures { IsTrue result ↔ (header_members features.now ≡ []) }
-{
-    matches!(
-        (&features.magic, &features.uuid, &features.stream_id),
-        (None, None, None)
-    )
-}
-
 /// The packet context: the tracer's own members, and then the extra ones.
 pub(crate) fn context(out: &mut Printer, stream: &StreamType) -> Printed
     ensures { OnOk result (Prints out.old out.new (flat_map item_toks (scope_items (two_words (codes "packet") (codes "context")) (context_numbers stream.now.context ++ stream.now.extras.members) 8))) }
 {
-    begin(out, "packet")?;
+    out.print(&[Word("packet"), Mark(Dot)])?;
     open(out, "context")?;
     let features = &stream.context;
     number(out, "packet_size", &features.packet_size)?;
@@ -83,48 +75,29 @@ pub(crate) fn context(out: &mut Printer, stream: &StreamType) -> Printed
 pub(crate) fn event_header(out: &mut Printer, features: &EventFeatures) -> Printed
     ensures { OnOk result (Prints out.old out.new (flat_map item_toks (scope_items (two_words (codes "event") (codes "header")) (event_header_members features.now) 8))) }
 {
-    if no_event_header(features) {
+    if features.id.is_none() && features.timestamp.is_none() {
         return Ok(());
     }
-    begin(out, "event")?;
+    out.print(&[Word("event"), Mark(Dot)])?;
     open(out, "header")?;
     feature(out, "id", &features.id)?;
     feature(out, "timestamp", &features.timestamp)?;
     close(out, 8)
 }
 
-fn no_event_header(features: &EventFeatures) -> bool
-    ensures { IsTrue result ↔ (event_header_members features.now ≡ []) }
-{
-    matches!((&features.id, &features.timestamp), (None, None))
-}
-
-/// The first word of a name of two.
-fn begin(out: &mut Printer, word: &str) -> Printed
-    ensures { OnOk result (Prints out.old out.new (atoms.Word word.now ∷ atoms.Mark marks.Dot ∷ [])) }
-{
-    out.word(word)?;
-    out.mark(Mark::Dot)
-}
-
 /// `name := struct {`.
 fn open(out: &mut Printer, name: &str) -> Printed
     ensures { OnOk result (Prints out.old out.new (opening name.now)) }
 {
-    out.word(name)?;
-    out.mark(Mark::Assign)?;
-    out.word("struct")?;
-    out.mark(Mark::OpenBrace)
+    out.print(&[Word(name), Mark(Assign), Word("struct"), Mark(OpenBrace)])
 }
 
 /// `} align(n);`.
 fn close(out: &mut Printer, align: u32) -> Printed
     ensures { OnOk result (Prints out.old out.new (closing align)) }
 {
-    out.mark(Mark::CloseBrace)?;
-    out.word("align")?;
-    out.mark(Mark::OpenParenthesis)?;
-    out.number(u64::from(align))?;
-    out.mark(Mark::CloseParenthesis)?;
-    out.mark(Mark::Semicolon)
+    out.print(&[Mark(CloseBrace), Word("align"), Mark(OpenParenthesis)])?;
+    out.token(Number(u64::from(align)))?;
+    out.token(Mark(CloseParenthesis))?;
+    out.token(Mark(Semicolon))
 }

@@ -5,14 +5,15 @@ ghost use Rattle.std.specs.List.{flat_map};
 ghost use Rattle.ctf_types.specs.Chain.{Labelled};
 ghost use Rattle.ctf_types.specs.FieldTypes.{chain_of};
 ghost use Rattle.ctf_types.specs.Shown.{length_type};
-ghost use Rattle.tsdl_grammar.specs.Spelling.{attr_toks, int_toks, high_toks, entry_toks, entries_toks, kind_toks};
-ghost use Rattle.tsdl_writer.specs.FieldTrees.{base_number, mapping_attributes, integer_attributes, high_number, entry_tree, entry_trees, kind_tree};
+ghost use Rattle.tsdl_grammar.specs.Spelling.{attr_toks, int_toks, entry_toks, entries_toks, kind_toks};
+ghost use Rattle.tsdl_writer.specs.FieldTrees.{base_number, mapping_attributes, integer_attributes, entry_tree, entry_trees, kind_tree};
 ghost use Rattle.tsdl_writer.specs.Prints.{Prints};
 
-use crate::attributes::{flag_word, natural, word};
+use crate::attributes::{attribute, flag_word};
+use crate::printer::Token::{Mark, Number, Quoted, Whole, Word};
 use crate::printer::{Printed, Printer};
 use ctf_types::{Base, EnumType, FieldType, IntType, Mapping, Text};
-use tsdl_grammar::Mark;
+use tsdl_grammar::Mark::{CloseBrace, Colon, Comma, Dot, Ellipsis, Equals, OpenBrace, Semicolon};
 
 /// What stands before a member's name: the type inside all static arrays.
 pub(crate) fn kind(out: &mut Printer, field: &FieldType) -> Printed
@@ -22,10 +23,9 @@ pub(crate) fn kind(out: &mut Printer, field: &FieldType) -> Printed
         FieldType::Int(int) => integer(out, int),
         FieldType::Enum(labels) => enumeration(out, labels),
         FieldType::Str => {
-            out.word("string")?;
-            out.mark(Mark::OpenBrace)?;
-            word(out, "encoding", "UTF8")?;
-            out.mark(Mark::CloseBrace)
+            out.print(&[Word("string"), Mark(OpenBrace)])?;
+            attribute(out, "encoding", Word("UTF8"))?;
+            out.token(Mark(CloseBrace))
         }
         FieldType::Static(element, _) => kind(out, element.field_type()),
     }
@@ -35,14 +35,13 @@ pub(crate) fn kind(out: &mut Printer, field: &FieldType) -> Printed
 pub(crate) fn integer(out: &mut Printer, int: &IntType) -> Printed
     ensures { OnOk result (Prints out.old out.new (int_toks (integer_attributes int.now))) }
 {
-    out.word("integer")?;
-    out.mark(Mark::OpenBrace)?;
-    natural(out, "size", u64::from(int.size()))?;
-    natural(out, "align", u64::from(int.align()))?;
-    word(out, "signed", flag_word(int.is_signed()))?;
-    natural(out, "base", base_number(int.base()))?;
+    out.print(&[Word("integer"), Mark(OpenBrace)])?;
+    attribute(out, "size", Number(u64::from(int.size())))?;
+    attribute(out, "align", Number(u64::from(int.align())))?;
+    attribute(out, "signed", Word(flag_word(int.is_signed())))?;
+    attribute(out, "base", Number(base_number(int.base())))?;
     mapping(out, int.clock())?;
-    out.mark(Mark::CloseBrace)
+    out.token(Mark(CloseBrace))
 }
 
 /// The type of a dynamic array's length: 32 bits, alignment 8, unsigned.
@@ -60,14 +59,9 @@ fn mapping(out: &mut Printer, clock: Option<&Text>) -> Printed
     ensures { OnOk result (Prints out.old out.new (flat_map attr_toks (mapping_attributes (option_map (λ t. t.now) clock.entry)))) }
 {
     let Some(clock) = clock else { return Ok(()) };
-    out.word("map")?;
-    out.mark(Mark::Equals)?;
-    out.word("clock")?;
-    out.mark(Mark::Dot)?;
-    out.word(clock.as_str())?;
-    out.mark(Mark::Dot)?;
-    out.word("value")?;
-    out.mark(Mark::Semicolon)
+    out.print(&[Word("map"), Mark(Equals), Word("clock"), Mark(Dot)])?;
+    out.print(&[Word(clock.as_str()), Mark(Dot), Word("value")])?;
+    out.token(Mark(Semicolon))
 }
 
 /// The number for a display base.
@@ -86,12 +80,11 @@ fn base_number(base: Base) -> u64
 fn enumeration(out: &mut Printer, labels: &EnumType) -> Printed
     ensures { OnOk result (Prints out.old out.new (kind_toks (kind_tree (Labelled labels.now)))) }
 {
-    out.word("enum")?;
-    out.mark(Mark::Colon)?;
+    out.print(&[Word("enum"), Mark(Colon)])?;
     integer(out, &labels.int)?;
-    out.mark(Mark::OpenBrace)?;
+    out.token(Mark(OpenBrace))?;
     entries(out, labels.mappings.as_slice())?;
-    out.mark(Mark::CloseBrace)
+    out.token(Mark(CloseBrace))
 }
 
 fn entries(out: &mut Printer, mappings: &[Mapping]) -> Printed
@@ -102,7 +95,7 @@ fn entries(out: &mut Printer, mappings: &[Mapping]) -> Printed
     };
     entry(out, first)?;
     for mapping in others {
-        out.mark(Mark::Comma)?;
+        out.token(Mark(Comma))?;
         entry(out, mapping)?;
     }
     Ok(())
@@ -112,18 +105,11 @@ fn entries(out: &mut Printer, mappings: &[Mapping]) -> Printed
 fn entry(out: &mut Printer, mapping: &Mapping) -> Printed
     ensures { OnOk result (Prints out.old out.new (entry_toks (entry_tree mapping.now))) }
 {
-    out.string(mapping.label.as_str())?;
-    out.mark(Mark::Equals)?;
-    out.whole(mapping.low)?;
-    high(out, mapping.low, mapping.high)
-}
-
-fn high(out: &mut Printer, low: i128, high: i128) -> Printed
-    ensures { OnOk result (Prints out.old out.new (high_toks (high_number low high))) }
-{
-    if high <= low {
+    let label = mapping.label.as_str();
+    out.print(&[Quoted(label), Mark(Equals), Whole(mapping.low)])?;
+    if mapping.high <= mapping.low {
         return Ok(());
     }
-    out.mark(Mark::Ellipsis)?;
-    out.whole(high)
+    out.token(Mark(Ellipsis))?;
+    out.token(Whole(mapping.high))
 }

@@ -1,4 +1,4 @@
 use Rattle.tsdl_writer.proofs.attributes.description.Goals as goal
 
 pub returns : goal.returns
-returns c = rw c.in-Some.is (rw c.as_str.ensures at c.text.ensures)
+returns c = rw c.in-Some.is (rw c.as_str.ensures at c.attribute.ensures)

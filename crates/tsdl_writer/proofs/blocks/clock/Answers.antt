@@ -1,6 +1,7 @@
 use Rattle.std.proofs.Common.{rules, SFits, w64, sym, [], ◌∷◌, ◌++◌}
 use Rattle.std.specs.Prelude.{codes}
 use Rattle.std.specs.List.{flat_map}
+use Rattle.std.specs.Int.{w128}
 use Rattle.std.proofs.lemmas.Int.{to_z-of_z}
 use Rattle.tsdl_grammar.specs.Spelling.{item_toks}
 use Rattle.tsdl_writer.specs.FieldTrees.{flag_word}
@@ -10,18 +11,18 @@ use Rattle.tsdl_writer.proofs.blocks.clock.Goals as goal
 
 pub returns : goal.returns
 returns c = record {
-  prints = last c.close.result c.close.ensures (λ one rest text e.
+  prints = last c.print-2.result c.print-2.ensures (λ one rest text e.
       let k = c.args.clock.now in
       let front = word_item (codes "name") k.name ∷ optional_items uuid_item k.uuid in let about = optional_items (text_item (codes "description")) k.description in
       let absolute = word_item (codes "absolute") (flag_word k.absolute) in
-      let fits : SFits w64 k.offset_seconds = search rules in
-      let behind = rw c.flag_word.ensures at (c.in_ok-word-2.ensures _ text (one rest text e)) in
-      let seconds = rw (to_z-of_z w64 k.offset_seconds fits) at (c.in_ok-whole.ensures _ text (c.in_ok-natural-3.ensures.prints _ text behind)) in
+      let fits : SFits w64 k.offset_seconds = search rules in let wide : SFits w128 c.from.result = search rules in
+      let behind = rw c.flag_word.ensures at (c.in_ok-attribute-3.ensures _ text (one rest text e)) in
+      let seconds = rw (to_z-of_z w128 c.from.result wide, c.from.ensures, to_z-of_z w64 k.offset_seconds fits) at (c.in_ok-attribute-2.ensures _ text (c.in_ok-natural-3.ensures.prints _ text behind)) in
       block (codes "clock") (flat_map item_toks (front ++ about ++ clock_numbers k ++ absolute ∷ [])) rest
-      (c.in_ok-open.ensures _ text (pair item_toks (front ++ about ++ clock_numbers k) (absolute ∷ []) _ (pair item_toks (front ++ about) (clock_numbers k) _ (pair item_toks front about _
-      (rw (sym c.as_str.ensures) (c.in_ok-word.ensures _ text (c.in_ok-uuid.ensures.prints _ text (c.in_ok-description.ensures _ text (c.in_ok-natural.ensures.prints _ text (c.in_ok-natural-2.ensures.prints _ text
+      (c.in_ok-print.ensures _ text (pair item_toks (front ++ about ++ clock_numbers k) (absolute ∷ []) _ (pair item_toks (front ++ about) (clock_numbers k) _ (pair item_toks front about _
+      (rw (sym c.as_str.ensures) (c.in_ok-attribute.ensures _ text (c.in_ok-uuid.ensures.prints _ text (c.in_ok-description.ensures _ text (c.in_ok-natural.ensures.prints _ text (c.in_ok-natural-2.ensures.prints _ text
       (regroup (item_toks (whole_item (codes "offset_s") k.offset_seconds)) (item_toks (natural_item (codes "offset") k.offset_cycles) ++ []) _ seconds))))))))))));
-  held = last c.close.result c.close.ensures (λ one. record {
+  held = last c.print-2.result c.print-2.ensures (λ one. record {
     uuid = c.in_ok-uuid.ensures.held;
     frequency = c.in_ok-natural.ensures.fits;
     precision = c.in_ok-natural-2.ensures.fits;

@@ -28,7 +28,7 @@ returns c =
     let xs = c.args.entries.now in let i = c.loop-entry.entry-index in
     let all = all_printed c.loop-entry.invariant.prints (ap (λ (es : List EnvironmentEntry). flat_map named_fact_toks (map named_fact_tree es)) (drop_all i xs c.loop-entry-test.false)) in
     record {
-      prints = last c.close.result c.close.ensures (λ one rest text e.
-          environment_stands xs rest (λ h. absurd (false≢true (sym c.if-is_empty.false ∙ c.is_empty.ensures ∙ ap (λ (es : List EnvironmentEntry). length es == 0) h))) (c.in_ok-open.ensures _ text (all _ text (one rest text e))));
-      held = last c.close.result c.close.ensures (λ one. all_met (λ (e : EnvironmentEntry). IsHeldValue e.value) xs i c.loop-entry-test.false c.loop-entry.invariant.held);
+      prints = last c.print-2.result c.print-2.ensures (λ one rest text e.
+          environment_stands xs rest (λ h. absurd (false≢true (sym c.if-is_empty.false ∙ c.is_empty.ensures ∙ ap (λ (es : List EnvironmentEntry). length es == 0) h))) (c.in_ok-print.ensures _ text (all _ text (one rest text e))));
+      held = last c.print-2.result c.print-2.ensures (λ one. all_met (λ (e : EnvironmentEntry). IsHeldValue e.value) xs i c.loop-entry-test.false c.loop-entry.invariant.held);
     }

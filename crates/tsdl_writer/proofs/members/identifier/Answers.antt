@@ -11,6 +11,6 @@ use Rattle.tsdl_writer.proofs.members.identifier.Goals as goal
 pub returns : goal.returns
 returns c =
     let t = c.in-Some.int in let m = member_toks (member_tree (codes "uuid") (chain_of (Static (chain_of (Int t)) 16)) []) in
-    rw c.in-Some.is (last c.mark.result c.mark.ensures (λ one rest text e.
+    rw c.in-Some.is (last c.token-2.result c.token-2.ensures (λ one rest text e.
     nothing_behind (m ++ []) rest (nothing_behind m rest (line (int_toks (integer_attributes t)) (atoms.Word (codes "uuid") ∷ bracket_toks (count_bracket 16)) rest
-    (c.in_ok-integer.ensures _ text (c.in_ok-word.ensures _ text (c.in_ok-count.ensures _ text (one rest text e))))))))
+    (c.in_ok-integer.ensures _ text (c.in_ok-print.ensures _ text (c.in_ok-token.ensures _ text (one rest text e))))))))

@@ -13,7 +13,7 @@ returns c = last c.close.result c.close.ensures (λ one rest text e.
     let begin = number_member (codes "timestamp_begin") f.timestamp_begin in let end = number_member (codes "timestamp_end") f.timestamp_end in
     let discarded = number_member (codes "events_discarded") f.events_discarded in let sequence = number_member (codes "packet_seq_num") f.packet_seq_num in
     scoped (two_words (codes "packet") (codes "context")) (context_numbers f ++ extras) 8 rest (λ h. some_item _ _ h)
-    (c.in_ok-begin.ensures _ text (c.in_ok-open.ensures _ text (pair member_toks_of (context_numbers f) extras _
+    (c.in_ok-print.ensures _ text (c.in_ok-open.ensures _ text (pair member_toks_of (context_numbers f) extras _
     (pair member_toks_of (size ++ content ++ begin ++ end ++ discarded) sequence _ (pair member_toks_of (size ++ content ++ begin ++ end) discarded _
     (pair member_toks_of (size ++ content ++ begin) end _ (pair member_toks_of (size ++ content) begin _ (pair member_toks_of size content _
     (c.in_ok-number.ensures _ text (c.in_ok-number-2.ensures _ text (c.in_ok-feature.ensures _ text (c.in_ok-feature-2.ensures _ text (c.in_ok-feature-3.ensures _ text (c.in_ok-feature-4.ensures _ text

@@ -16,7 +16,7 @@ loop-mapping-preserved c =
     let x = c.mapping-item.result in let ms = c.args.mappings.now in let xs = take (length ms - 1) (drop 1 ms) in let i = c.loop-mapping.mapping-index in
     one_more (next_entry_toks (entry_tree x)) (flat_map next_entry_toks (map entry_tree (drop (i + 1) xs))) c.loop-mapping.invariant
     (ap (λ (w : List Mapping). flat_map next_entry_toks (map entry_tree w)) (item xs i x c.loop-mapping-test.true c.mapping-item.is))
-    (λ rest text e. c.in_ok-mark.ensures _ text (c.in_ok-entry-2.ensures rest text e))
+    (λ rest text e. c.in_ok-token.ensures _ text (c.in_ok-entry-2.ensures rest text e))
 
 pub returns : goal.returns
 returns c rest text e =

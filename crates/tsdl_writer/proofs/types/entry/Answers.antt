@@ -1,14 +1,21 @@
-use Rattle.std.proofs.Common.{rules, SFits}
+use Rattle.std.proofs.Common.{rules, SFits, arith, inl, inr}
 use Rattle.std.specs.Int.{w128}
-use Rattle.std.proofs.lemmas.Int.{to_z-of_z}
+use Rattle.std.specs.Prelude.{int_le, Some}
+use Rattle.std.proofs.lemmas.Int.{to_z-of_z, ints}
+use Rattle.std.proofs.lemmas.Bool.{cases_Bool}
+use Rattle.std.proofs.lemmas.Grind.{common_steps}
 use Rattle.tsdl_grammar.specs.Spelling.{number_toks, high_toks}
-use Rattle.tsdl_writer.specs.FieldTrees.{whole_number, high_number}
-use Rattle.tsdl_writer.proofs.Printing.{last, regroup}
+use Rattle.tsdl_writer.specs.FieldTrees.{whole_number}
+use Rattle.tsdl_writer.proofs.Printing.{last, entry_groups}
 use Rattle.tsdl_writer.proofs.types.entry.Goals as goal
 
 pub returns : goal.returns
-returns c = last c.high.result c.high.ensures (λ one rest text e.
+returns c = last c.token-2.result c.token-2.ensures (λ one rest text e.
     let m = c.args.mapping.now in
     let low : SFits w128 m.low = search rules in let high : SFits w128 m.high = search rules in
-    rw c.as_str.ensures at (c.in_ok-string.ensures _ text (c.in_ok-mark.ensures _ text (regroup (number_toks (whole_number m.low)) (high_toks (high_number m.low m.high)) rest
-    (rw (to_z-of_z w128 m.low low, to_z-of_z w128 m.high high) at (c.in_ok-whole.ensures _ text (one rest text e)))))))
+    let behind = rw (to_z-of_z w128 m.high high) at (c.in_ok-token.ensures _ text (one rest text e)) in
+    let printed = rw (c.as_str-label.ensures, to_z-of_z w128 m.low low) at (c.in_ok-print.ensures _ text behind) in
+    elim (cases_Bool (int_le m.high m.low)) [
+      | inl t ↦ absurd (grind (arith, ints, common_steps))
+      | inr f ↦ rw f (entry_groups m.label (number_toks (whole_number m.low)) (high_toks (Some (whole_number m.high))) rest printed)
+    ])

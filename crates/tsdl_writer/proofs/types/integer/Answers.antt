@@ -5,11 +5,11 @@ use Rattle.tsdl_writer.proofs.Printing.{last, regroup}
 use Rattle.tsdl_writer.proofs.types.integer.Goals as goal
 
 pub returns : goal.returns
-returns c = last c.mark-2.result c.mark-2.ensures (λ one rest text e.
+returns c = last c.token.result c.token.ensures (λ one rest text e.
     let clock = rw c.clock.ensures at (c.in_ok-mapping.ensures _ text (one rest text e)) in
     let map = regroup _ (atoms.Mark marks.CloseBrace ∷ []) rest clock in
-    let base = rw (c.base_number.ensures, c.base.ensures) at (c.in_ok-natural-3.ensures.prints _ text map) in
-    let sign = rw (c.flag_word.ensures, c.is_signed.ensures) at (c.in_ok-word-2.ensures _ text base) in
-    let align = rw (c.from-2.ensures, c.align.ensures.is) at (c.in_ok-natural-2.ensures.prints _ text sign) in
-    let size = rw (c.from.ensures, c.size.ensures.is) at (c.in_ok-natural.ensures.prints _ text align) in
-    c.in_ok-word.ensures _ text (c.in_ok-mark.ensures _ text size))
+    let base = rw (c.base_number.ensures, c.base.ensures) at (c.in_ok-attribute-4.ensures _ text map) in
+    let sign = rw (c.flag_word.ensures, c.is_signed.ensures) at (c.in_ok-attribute-3.ensures _ text base) in
+    let align = rw (c.from-2.ensures, c.align.ensures.is) at (c.in_ok-attribute-2.ensures _ text sign) in
+    let size = rw (c.from.ensures, c.size.ensures.is) at (c.in_ok-attribute.ensures _ text align) in
+    c.in_ok-print.ensures _ text size)

@@ -1,7 +1,7 @@
 use Rattle.std.proofs.Common.{sym, subst, ◌∙◌}
 use Rattle.std.specs.Str.{IsUtf8}
 use Rattle.tsdl_grammar.proofs.EscapesUtf8.{IsUtf8-escaped}
-use Rattle.tsdl_writer.proofs.printer.Printer.string.Goals as goal
+use Rattle.tsdl_writer.proofs.printer.Printer.quoted.Goals as goal
 
 pub unreachable-requires : goal.unreachable-requires
 unreachable-requires c =
