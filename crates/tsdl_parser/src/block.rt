@@ -99,11 +99,6 @@ impl Repeated for Block {
     }
 }
 
-/// A list of atoms spells at most one list of blocks: a statement, which does nothing when it runs.
-pub fn blocks_are_unique()
-    ensures { (bs cs : List Block) → text_toks bs ≡ text_toks cs → bs ≡ cs }
-{}
-
 /// The blocks that the atoms of a text spell, or how far the atoms spell any.
 pub fn parse(alloc: Global, atoms: Atoms<'_>) -> Result<Vec<Block>, Unread>
     ensures found { IfOk result (λ bs. (shown atoms.entry) ≡ text_toks bs.items) }

@@ -7,11 +7,13 @@ mod enumeration;
 mod expected;
 mod halt;
 mod keyword;
+mod laws;
 mod member;
 mod parsing;
 mod repetition;
 
-pub use block::{blocks_are_unique, parse};
+pub use block::parse;
 pub use expected::Expected;
 pub use halt::{Halt, Missing, Unread};
 pub use keyword::{first_unread, is_unread};
+pub use laws::blocks_are_unique;
