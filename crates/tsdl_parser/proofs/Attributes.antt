@@ -1,20 +1,18 @@
 -- Names, values and attributes are read as they are spelled. A name goes on for as long as dots follow.
-use Rattle.std.proofs.Common.{◌≡◌, ℕ, false, List, [], ◌∷◌, ◌++◌, length, Option, Some, None, refl, ap, ◌∙◌, append_assoc, arith}
+use Rattle.std.proofs.Common.{◌≡◌, ℕ, false, List, [], ◌∷◌, ◌++◌, length, Some, refl, ap, ◌∙◌, append_assoc, arith}
 use Rattle.tsdl_grammar.specs.declared.token.Mark.TheVariants as marks
 use Rattle.tsdl_grammar.specs.declared.atom.Atom.{Atom}
 use Rattle.tsdl_grammar.specs.declared.atom.Atom.TheVariants as atoms
-use Rattle.tsdl_grammar.specs.declared.tree.Sign.{Sign}
-use Rattle.tsdl_grammar.specs.declared.tree.Sign.TheVariants.{Plus, Minus}
+use Rattle.tsdl_grammar.specs.declared.tree.Number.{Number}
 use Rattle.tsdl_grammar.specs.declared.tree.Name.{Name}
 use Rattle.tsdl_grammar.specs.declared.tree.Value.{Value}
 use Rattle.tsdl_grammar.specs.declared.tree.Value.TheVariants as values
 use Rattle.tsdl_grammar.specs.declared.tree.Attribute.{Attribute}
 use Rattle.tsdl_grammar.specs.Spelling.{mark, word, number_toks, dotted, name_toks, value_toks, attr_toks, attrs_toks}
-use Rattle.tsdl_grammar.specs.Steps.{◌>>=◌}
 use Rattle.tsdl_parser.specs.Parsing.{begins, mark_at, word_at, signed_at, number_at, is_open, Shortens}
 use Rattle.tsdl_parser.specs.ParsingAttributes.{dotted_at, all_dotted_at, name_at, value_at, attr_behind, attr_at, attrs_at}
 use Rattle.tsdl_parser.proofs.Steps.{along, first_of_two}
-use Rattle.tsdl_parser.proofs.Words.{mark_takes, word_takes, number_takes}
+use Rattle.tsdl_parser.proofs.Words.{mark_takes, word_takes, number_as, by_sign}
 use Rattle.tsdl_parser.proofs.Repeated.{Spells, Anything, shortens, many_take, many_again, braced_take, braced_again}
 
 -- ---- names
@@ -53,32 +51,17 @@ name_again n rest end = rw (many_again (begins marks.Dot) dotted_at dotted Anyth
 
 -- ---- values
 
-number_value : (ts : List Atom) (x : Value × List Atom) → (number_at ts >>= λ n. Some (values.Number n.0, n.1)) ≡ Some x → ts ≡ value_toks x.0 ++ x.1
-number_value ts x e =
-    let a = first_of_two (number_at ts) (λ n. Some (values.Number n.0, n.1)) x e in
-    along (λ (y : Value × List Atom). ts ≡ value_toks y.0 ++ y.1) (values.Number a.0.0, a.0.1) x a.2 (number_takes ts a.0 a.1)
-
 pub value_takes : (ts : List Atom) (x : Value × List Atom) → value_at ts ≡ Some x → ts ≡ value_toks x.0 ++ x.1
 unfolding value_at
 value_takes (atoms.Text s ∷ ts) x e = along (λ (y : Value × List Atom). (atoms.Text s ∷ ts) ≡ value_toks y.0 ++ y.1) (values.Text s, ts) x e refl
 value_takes (atoms.Word w ∷ ts) x e =
     let a = first_of_two (name_at (atoms.Word w ∷ ts)) _ x e in
     along (λ (y : Value × List Atom). (atoms.Word w ∷ ts) ≡ value_toks y.0 ++ y.1) (values.Name a.0.0, a.0.1) x a.2 (name_takes (atoms.Word w ∷ ts) a.0 a.1)
-value_takes [] x e = number_value [] x e
-value_takes (atoms.Number n ∷ ts) x e = number_value (atoms.Number n ∷ ts) x e
-value_takes (atoms.Mark m ∷ ts) x e = number_value (atoms.Mark m ∷ ts) x e
-value_takes (atoms.TooLarge ∷ ts) x e = number_value (atoms.TooLarge ∷ ts) x e
-
-number_value_again : (sign : Option Sign) (literal : ℕ) (rest : List Atom)
-    → value_at (number_toks (record { sign = sign; literal = literal }) ++ rest) ≡ Some (values.Number (record { sign = sign; literal = literal }), rest)
-unfolding value_at number_at signed_at
-number_value_again None literal rest = refl
-number_value_again (Some Plus) literal rest = refl
-number_value_again (Some Minus) literal rest = refl
+value_takes ts x e = number_as values.Number value_toks (λ n. refl) ts x e
 
 pub value_again : (v : Value) (rest : List Atom) → begins marks.Dot rest ≡ false → value_at (value_toks v ++ rest) ≡ Some (v, rest)
-unfolding value_at
-value_again (values.Number n) rest end = number_value_again n.sign n.literal rest
+unfolding value_at number_at signed_at
+value_again (values.Number n) rest end = by_sign (λ (m : Number). value_at (number_toks m ++ rest) ≡ Some (values.Number m, rest)) n refl refl refl
 value_again (values.Text s) rest end = refl
 value_again (values.Name n) rest end = rw (name_again n rest end) refl
 

@@ -1,11 +1,10 @@
 -- Blocks, and what stands in them, are read as they are spelled, so a list of atoms spells at most one list of blocks.
-use Rattle.std.proofs.Common.{◌≡◌, ℕ, ◌<◌, true, false, List, [], ◌∷◌, ◌++◌, length, Option, Some, None, codes, refl, sym, ap, ◌∙◌, append_assoc, arith, inl, inr}
+use Rattle.std.proofs.Common.{◌≡◌, ℕ, ◌<◌, true, false, List, [], ◌∷◌, ◌++◌, length, Some, None, codes, refl, sym, ap, ◌∙◌, append_assoc, arith, inl, inr}
 use Rattle.std.proofs.lemmas.List.{append-nil, length-append}
 use Rattle.tsdl_grammar.specs.declared.token.Mark.TheVariants as marks
 use Rattle.tsdl_grammar.specs.declared.atom.Atom.{Atom}
 use Rattle.tsdl_grammar.specs.declared.atom.Atom.TheVariants as atoms
-use Rattle.tsdl_grammar.specs.declared.tree.Sign.{Sign}
-use Rattle.tsdl_grammar.specs.declared.tree.Sign.TheVariants.{Plus, Minus}
+use Rattle.tsdl_grammar.specs.declared.tree.Number.{Number}
 use Rattle.tsdl_grammar.specs.declared.tree.Name.{Name}
 use Rattle.tsdl_grammar.specs.declared.tree.Scope.{Scope}
 use Rattle.tsdl_grammar.specs.declared.tree.Item.{Item}
@@ -16,7 +15,6 @@ use Rattle.tsdl_grammar.specs.declared.tree.NamedFact.{NamedFact}
 use Rattle.tsdl_grammar.specs.declared.tree.Block.{Block}
 use Rattle.tsdl_grammar.specs.declared.tree.Block.TheVariants as blocks
 use Rattle.tsdl_grammar.specs.Spelling.{mark, word, number_toks, name_toks, struct_toks, scope_toks, item_toks, items_toks, fact_toks, named_fact_toks, block_toks, block_and_semicolon, text_toks}
-use Rattle.tsdl_grammar.specs.Steps.{◌>>=◌}
 use Rattle.tsdl_parser.specs.declared.halt.Unread.{Unread}
 use Rattle.tsdl_parser.specs.declared.halt.Unread.TheVariants as unread
 use Rattle.tsdl_parser.specs.Halting.{IfHalted}
@@ -25,7 +23,7 @@ use Rattle.tsdl_parser.specs.ParsingAttributes.{name_at, attr_behind}
 use Rattle.tsdl_parser.specs.ParsingMembers.{struct_at}
 use Rattle.tsdl_parser.specs.ParsingBlocks.{scope_behind, item_at, items_at, fact_at, named_fact_at, environment_at, block_at, ended_block_at, has_more, all_blocks_at}
 use Rattle.tsdl_parser.proofs.Steps.{along, first_of_two, chosen, splice, some_is}
-use Rattle.tsdl_parser.proofs.Words.{mark_takes, word_takes, keyword_takes, number_takes}
+use Rattle.tsdl_parser.proofs.Words.{mark_takes, word_takes, keyword_takes, number_as, by_sign}
 use Rattle.tsdl_parser.proofs.Repeated.{Spells, Anything, shortens, many_take, many_again, braced_take, braced_again}
 use Rattle.tsdl_parser.proofs.Attributes.{name_takes, name_again, behind_takes, value_part, attr_parts, behind_again}
 use Rattle.tsdl_parser.proofs.Members.{struct_takes, struct_again}
@@ -96,30 +94,14 @@ item_short = shortens is_open item_at item_toks Anything item_spells
 
 -- ---- environment entries
 
-number_fact : (ts : List Atom) (x : Fact × List Atom) → (number_at ts >>= λ n. Some (facts.Number n.0, n.1)) ≡ Some x → ts ≡ fact_toks x.0 ++ x.1
-number_fact ts x e =
-    let a = first_of_two (number_at ts) (λ n. Some (facts.Number n.0, n.1)) x e in
-    along (λ (y : Fact × List Atom). ts ≡ fact_toks y.0 ++ y.1) (facts.Number a.0.0, a.0.1) x a.2 (number_takes ts a.0 a.1)
-
 fact_takes : (ts : List Atom) (x : Fact × List Atom) → fact_at ts ≡ Some x → ts ≡ fact_toks x.0 ++ x.1
 unfolding fact_at
 fact_takes (atoms.Text s ∷ ts) x e = along (λ (y : Fact × List Atom). (atoms.Text s ∷ ts) ≡ fact_toks y.0 ++ y.1) (facts.Text s, ts) x e refl
-fact_takes [] x e = number_fact [] x e
-fact_takes (atoms.Number n ∷ ts) x e = number_fact (atoms.Number n ∷ ts) x e
-fact_takes (atoms.Mark m ∷ ts) x e = number_fact (atoms.Mark m ∷ ts) x e
-fact_takes (atoms.Word w ∷ ts) x e = number_fact (atoms.Word w ∷ ts) x e
-fact_takes (atoms.TooLarge ∷ ts) x e = number_fact (atoms.TooLarge ∷ ts) x e
-
-number_fact_again : (sign : Option Sign) (literal : ℕ) (rest : List Atom)
-    → fact_at (number_toks (record { sign = sign; literal = literal }) ++ rest) ≡ Some (facts.Number (record { sign = sign; literal = literal }), rest)
-unfolding fact_at number_at signed_at
-number_fact_again None literal rest = refl
-number_fact_again (Some Plus) literal rest = refl
-number_fact_again (Some Minus) literal rest = refl
+fact_takes ts x e = number_as facts.Number fact_toks (λ n. refl) ts x e
 
 fact_again : (f : Fact) (rest : List Atom) → fact_at (fact_toks f ++ rest) ≡ Some (f, rest)
-unfolding fact_at
-fact_again (facts.Number n) rest = number_fact_again n.sign n.literal rest
+unfolding fact_at number_at signed_at
+fact_again (facts.Number n) rest = by_sign (λ (m : Number). fact_at (number_toks m ++ rest) ≡ Some (facts.Number m, rest)) n refl refl refl
 fact_again (facts.Text s) rest = refl
 
 named_parts : (f : NamedFact) (rest : List Atom) → word f.name ∷ (mark marks.Equals ∷ (fact_toks f.fact ++ (mark marks.Semicolon ∷ rest))) ≡ named_fact_toks f ++ rest
@@ -229,10 +211,7 @@ ended_again b rest = ap ended_block_at (append_assoc (block_toks b) (mark marks.
 
 block_opens : (b : Block) (rest : List Atom) → has_more (block_and_semicolon b ++ rest) ≡ true
 block_opens (blocks.Trace is) rest = refl
-block_opens (blocks.Stream is) rest = refl
-block_opens (blocks.Event is) rest = refl
-block_opens (blocks.Clock is) rest = refl
-block_opens (blocks.Environment fs) rest = refl
+block_opens _ rest = refl
 
 pub block_spells : Spells Block has_more ended_block_at block_and_semicolon Anything
 block_spells = record {

@@ -6,8 +6,6 @@ use Rattle.std.proofs.lemmas.List.{length-append}
 use Rattle.tsdl_grammar.specs.declared.token.Mark.TheVariants as marks
 use Rattle.tsdl_grammar.specs.declared.atom.Atom.{Atom}
 use Rattle.tsdl_grammar.specs.declared.atom.Atom.TheVariants as atoms
-use Rattle.tsdl_grammar.specs.declared.tree.Sign.{Sign}
-use Rattle.tsdl_grammar.specs.declared.tree.Sign.TheVariants.{Plus, Minus}
 use Rattle.tsdl_grammar.specs.declared.tree.Number.{Number}
 use Rattle.tsdl_grammar.specs.declared.tree.Attribute.{Attribute}
 use Rattle.tsdl_grammar.specs.declared.tree.Entries.{Entries}
@@ -18,13 +16,12 @@ use Rattle.tsdl_grammar.specs.declared.tree.Bracket.TheVariants as brackets
 use Rattle.tsdl_grammar.specs.declared.tree.MemberTree.{MemberTree}
 use Rattle.tsdl_grammar.specs.declared.tree.Structure.{Structure}
 use Rattle.tsdl_grammar.specs.Spelling.{mark, word, number_toks, braced, int_toks, entries_toks, kind_toks, bracket_toks, member_toks, align_toks, struct_toks}
-use Rattle.tsdl_grammar.specs.Steps.{◌>>=◌}
 use Rattle.tsdl_parser.specs.Parsing.{begins, mark_at, word_at, names, keyword_at, signed_at, number_at, is_open, braced_at, Shortens}
 use Rattle.tsdl_parser.specs.ParsingAttributes.{attrs_at}
 use Rattle.tsdl_parser.specs.ParsingEntries.{entries_at}
 use Rattle.tsdl_parser.specs.ParsingMembers.{int_at, enum_at, string_at, kind_at, count_at, bracket_at, all_brackets_at, member_at, align_at, struct_at}
 use Rattle.tsdl_parser.proofs.Steps.{along, first_of_two, chosen, splice, splice_last}
-use Rattle.tsdl_parser.proofs.Words.{mark_takes, word_takes, keyword_takes, number_takes, number_again}
+use Rattle.tsdl_parser.proofs.Words.{mark_takes, word_takes, keyword_takes, number_takes, number_again, number_as, by_sign}
 use Rattle.tsdl_parser.proofs.Repeated.{Spells, Anything, shortens, many_take, many_again, braced_take, braced_again}
 use Rattle.tsdl_parser.proofs.Attributes.{attrs_take, attrs_again}
 use Rattle.tsdl_parser.proofs.Entries.{entries_take, entries_again}
@@ -118,30 +115,14 @@ bracket_parts : (b : Bracket) (rest : List Atom) → mark marks.OpenBracket ∷ 
 bracket_parts (brackets.Count n) rest = simp append_assoc
 bracket_parts (brackets.Member w) rest = refl
 
-number_count : (ts : List Atom) (x : Bracket × List Atom) → (number_at ts >>= λ n. Some (brackets.Count n.0, n.1)) ≡ Some x → ts ≡ count_toks x.0 ++ x.1
-number_count ts x e =
-    let a = first_of_two (number_at ts) (λ n. Some (brackets.Count n.0, n.1)) x e in
-    along (λ (y : Bracket × List Atom). ts ≡ count_toks y.0 ++ y.1) (brackets.Count a.0.0, a.0.1) x a.2 (number_takes ts a.0 a.1)
-
 count_takes : (ts : List Atom) (x : Bracket × List Atom) → count_at ts ≡ Some x → ts ≡ count_toks x.0 ++ x.1
 unfolding count_at
 count_takes (atoms.Word w ∷ ts) x e = along (λ (y : Bracket × List Atom). (word w ∷ ts) ≡ count_toks y.0 ++ y.1) (brackets.Member w, ts) x e refl
-count_takes [] x e = number_count [] x e
-count_takes (atoms.Number n ∷ ts) x e = number_count (atoms.Number n ∷ ts) x e
-count_takes (atoms.Mark m ∷ ts) x e = number_count (atoms.Mark m ∷ ts) x e
-count_takes (atoms.Text s ∷ ts) x e = number_count (atoms.Text s ∷ ts) x e
-count_takes (atoms.TooLarge ∷ ts) x e = number_count (atoms.TooLarge ∷ ts) x e
-
-number_count_again : (sign : Option Sign) (literal : ℕ) (rest : List Atom)
-    → count_at (number_toks (record { sign = sign; literal = literal }) ++ rest) ≡ Some (brackets.Count (record { sign = sign; literal = literal }), rest)
-unfolding count_at number_at signed_at
-number_count_again None literal rest = refl
-number_count_again (Some Plus) literal rest = refl
-number_count_again (Some Minus) literal rest = refl
+count_takes ts x e = number_as brackets.Count count_toks (λ n. refl) ts x e
 
 count_again : (b : Bracket) (rest : List Atom) → count_at (count_toks b ++ rest) ≡ Some (b, rest)
-unfolding count_at
-count_again (brackets.Count n) rest = number_count_again n.sign n.literal rest
+unfolding count_at number_at signed_at
+count_again (brackets.Count n) rest = by_sign (λ (m : Number). count_at (number_toks m ++ rest) ≡ Some (brackets.Count m, rest)) n refl refl refl
 count_again (brackets.Member w) rest = refl
 
 bracket_takes : (ts : List Atom) (x : Bracket × List Atom) → bracket_at ts ≡ Some x → ts ≡ bracket_toks x.0 ++ x.1

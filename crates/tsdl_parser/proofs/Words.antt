@@ -11,8 +11,9 @@ use Rattle.tsdl_grammar.specs.declared.tree.Sign.{Sign}
 use Rattle.tsdl_grammar.specs.declared.tree.Sign.TheVariants.{Plus, Minus}
 use Rattle.tsdl_grammar.specs.declared.tree.Number.{Number}
 use Rattle.tsdl_grammar.specs.Spelling.{mark, word, number_toks}
+use Rattle.tsdl_grammar.specs.Steps.{◌>>=◌}
 use Rattle.tsdl_parser.specs.Parsing.{number_of, is_mark, mark_at, word_at, is_word, keyword_at, signed_at, number_at}
-use Rattle.tsdl_parser.proofs.Steps.{along}
+use Rattle.tsdl_parser.proofs.Steps.{along, first_of_two}
 
 -- ---- marks
 
@@ -24,20 +25,7 @@ all_marks =
 numbered : (m : Mark) → get_or all_marks (number_of m) marks.OpenBrace ≡ m
 unfolding all_marks
 numbered marks.OpenBrace = refl
-numbered marks.CloseBrace = refl
-numbered marks.OpenBracket = refl
-numbered marks.CloseBracket = refl
-numbered marks.OpenParenthesis = refl
-numbered marks.CloseParenthesis = refl
-numbered marks.Semicolon = refl
-numbered marks.Comma = refl
-numbered marks.Colon = refl
-numbered marks.Equals = refl
-numbered marks.Minus = refl
-numbered marks.Plus = refl
-numbered marks.Dot = refl
-numbered marks.Assign = refl
-numbered marks.Ellipsis = refl
+numbered _ = refl
 
 same_mark : (m n : Mark) → number_of m ≡ number_of n → m ≡ n
 same_mark m n e = sym (numbered m) ∙ ap (λ (k : ℕ). get_or all_marks k marks.OpenBrace) e ∙ numbered n
@@ -78,11 +66,22 @@ number_takes (atoms.Mark marks.Minus ∷ atoms.Number n ∷ ts) x e =
     along (λ (y : Number × List Atom). (mark marks.Minus ∷ atoms.Number n ∷ ts) ≡ number_toks y.0 ++ y.1) (record { sign = Some Minus; literal = n }, ts) x e refl
 number_takes _ x e = absurd cc
 
-again_of : (sign : Option Sign) (literal : ℕ) (rest : List Atom) → number_at (number_toks (record { sign = sign; literal = literal }) ++ rest) ≡ Some (record { sign = sign; literal = literal }, rest)
-unfolding number_at signed_at
-again_of None literal rest = refl
-again_of (Some Plus) literal rest = refl
-again_of (Some Minus) literal rest = refl
+-- what reads a number as a tree of its own
+pub number_as : {T : Type 0} (made : Number → T) (toks : T → List Atom) → ((n : Number) → number_toks n ≡ toks (made n)) → (ts : List Atom) (x : T × List Atom)
+    → (number_at ts >>= λ n. Some (made n.0, n.1)) ≡ Some x → ts ≡ toks x.0 ++ x.1
+number_as {T} made toks same ts x e =
+    let a = first_of_two (number_at ts) (λ n. Some (made n.0, n.1)) x e in
+    along (λ (y : T × List Atom). ts ≡ toks y.0 ++ y.1) (made a.0.0, a.0.1) x a.2 (number_takes ts a.0 a.1 ∙ ap (λ (us : List Atom). us ++ a.0.1) (same a.0.0))
+
+-- what holds without a sign and with each of both holds of a number
+pub by_sign : (P : Number → Type 0) (n : Number) → P (record { sign = None; literal = n.literal }) → P (record { sign = Some Plus; literal = n.literal }) → P (record { sign = Some Minus; literal = n.literal }) → P n
+by_sign P n none plus minus = go n.sign
+  where
+    go : (s : Option Sign) → P (record { sign = s; literal = n.literal })
+    go None = none
+    go (Some Plus) = plus
+    go (Some Minus) = minus
 
 pub number_again : (n : Number) (rest : List Atom) → number_at (number_toks n ++ rest) ≡ Some (n, rest)
-number_again n rest = again_of n.sign n.literal rest
+unfolding number_at signed_at
+number_again n rest = by_sign (λ (m : Number). number_at (number_toks m ++ rest) ≡ Some (m, rest)) n refl refl refl
