@@ -1,4 +1,4 @@
-use Rattle.std.proofs.Common.{rules, ◌≡◌, false, ◌++◌}
+use Rattle.std.proofs.Common.{rules, ◌≡◌, false}
 use Rattle.std.specs.Prelude.{codes, is_none}
 use Rattle.ctf_types.specs.MetadataOf.{number_member, event_header_members}
 use Rattle.tsdl_writer.specs.FieldTrees.{member_toks_of}
