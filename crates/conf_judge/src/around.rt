@@ -1,7 +1,7 @@
 //! What the rest of a configuration says that a value is judged by.
 ghost use Rattle.std.specs.Prelude.{◌≡◌};
 ghost use Rattle.serde_json.specs.View.{view, members_view};
-ghost use Rattle.conf_judge.specs.Known.{says_default as says_default_of};
+ghost use Rattle.conf_judge.specs.Known.{known_of, inside as inside_of, behind as behind_of, says_default as says_default_of};
 
 use crate::numbers::{Span, numbers_in};
 use conf_table::Place;
@@ -22,10 +22,6 @@ pub(crate) struct Around<'a> {
 }
 
 impl<'a> Around<'a> {
-    ghost use Rattle.std.specs.Prelude.{◌≡◌};
-    ghost use Rattle.serde_json.specs.View.{view, members_view};
-    ghost use Rattle.conf_judge.specs.Known.{known_of, inside as inside_of, behind as behind_of};
-
     /// What stands around the properties of an object at this place.
     #[tactic(auto, unfolding(crate::specs::Known::inside))]
     pub(crate) fn inside(self, place: Place, members: &'a Map<String, Value>) -> Around<'a>
@@ -33,17 +29,11 @@ impl<'a> Around<'a> {
     {
         match place {
             Place::TraceType => Around {
-                levels: optional(members, "$log-level-aliases").and_then(
-                    |aliases| aliases.as_object(),
-                ),
+                levels: optional(members, "$log-level-aliases").and_then(Value::as_object),
                 ..self
             },
-            Place::UnsignedEnumeration => Around {
-                numbers: numbers_in(false, members),
-                ..self
-            },
-            Place::SignedEnumeration => Around {
-                numbers: numbers_in(true, members),
+            Place::UnsignedEnumeration | Place::SignedEnumeration => Around {
+                numbers: numbers_in(place == Place::SignedEnumeration, members),
                 ..self
             },
             _ => self,

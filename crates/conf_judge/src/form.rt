@@ -2,11 +2,11 @@
 ghost use Rattle.std.specs.Prelude.{◌≡◌, ◌≤◌, IfErr};
 ghost use Rattle.serde_json.specs.View.{view};
 ghost use Rattle.conf_tree.specs.Reading.{Gives};
-ghost use Rattle.conf_judge.specs.Forms.{any_object, some_list, some_object, entry, feature, size_feature, form_of, itself_of};
+ghost use Rattle.conf_judge.specs.Forms.{any_object, some_list, some_object, entry, form_of, itself_of};
 ghost use Rattle.conf_judge.specs.Known.{known_of};
 
 use crate::around::Around;
-use crate::leaf::check_leaf;
+use crate::leaf::{check_leaf, check_that};
 use crate::numbers::check_range;
 use conf_table::{Content, Place};
 use conf_tree::{At, ConfFault, FaultKind, list, object};
@@ -29,7 +29,8 @@ pub(crate) fn check_itself(
     }
 }
 
-#[tactic(auto, unfolding(crate::specs::Forms::form_of, crate::specs::Forms::any_list))]
+/// A feature is on, off where the packet can do without it, or a type of its own.
+#[tactic(auto, unfolding(crate::specs::Forms::form_of, crate::specs::Forms::any_list, crate::specs::Forms::feature, crate::specs::Forms::size_feature))]
 fn check_form(
     alloc: Global,
     around: &Around<'_>,
@@ -39,18 +40,19 @@ fn check_form(
     ensures { Gives (λ _. tt) result (form_of (known_of around.now) place (view value.now)) }
 {
     match place {
-        Place::Members | Place::ExtraMembers => {
-            let _ = list(alloc, At::Here, value)?;
-            Ok(())
-        }
+        Place::Members | Place::ExtraMembers => list(alloc, At::Here, value).map(|_| ()),
         Place::Ranges => check_some_list(alloc, value),
         Place::Range => check_range(alloc, around.numbers, value),
         Place::Entry => check_entry(alloc, value),
         Place::Mappings => check_some_object(alloc, value),
-        Place::Feature | Place::MagicFeature | Place::IdentifierFeature => {
-            check_feature(alloc, value)
-        }
-        Place::SizeFeature => check_size_feature(alloc, value),
+        Place::Feature | Place::MagicFeature | Place::IdentifierFeature => match value {
+            Value::Bool(_) => Ok(()),
+            _ => check_any_object(alloc, value),
+        },
+        Place::SizeFeature => match value {
+            Value::Bool(on) => check_that(alloc, *on),
+            _ => check_any_object(alloc, value),
+        },
         Place::Scalar | Place::Ignored => Ok(()),
         _ => check_any_object(alloc, value),
     }
@@ -60,8 +62,7 @@ fn check_form(
 fn check_any_object(alloc: Global, value: &Value) -> Result<(), ConfFault>
     ensures { Gives (λ _. tt) result (any_object (view value.now)) }
 {
-    let _ = object(alloc, At::Here, value)?;
-    Ok(())
+    object(alloc, At::Here, value).map(|_| ())
 }
 
 #[tactic(auto, unfolding(crate::specs::Forms::some_list), using(crate::proofs::Sizes::items_there))]
@@ -69,10 +70,9 @@ fn check_some_list(alloc: Global, value: &Value) -> Result<(), ConfFault>
     ensures { Gives (λ _. tt) result (some_list (view value.now)) }
 {
     if list(alloc, At::Here, value)?.is_empty() {
-        Err(ConfFault::here(alloc, FaultKind::OutOfRange))
-    } else {
-        Ok(())
+        return Err(ConfFault::here(alloc, FaultKind::OutOfRange));
     }
+    Ok(())
 }
 
 #[tactic(auto, unfolding(crate::specs::Forms::some_object), using(crate::proofs::Sizes::members_there))]
@@ -80,10 +80,9 @@ fn check_some_object(alloc: Global, value: &Value) -> Result<(), ConfFault>
     ensures { Gives (λ _. tt) result (some_object (view value.now)) }
 {
     if object(alloc, At::Here, value)?.is_empty() {
-        Err(ConfFault::here(alloc, FaultKind::OutOfRange))
-    } else {
-        Ok(())
+        return Err(ConfFault::here(alloc, FaultKind::OutOfRange));
     }
+    Ok(())
 }
 
 /// An object of one property.
@@ -95,32 +94,5 @@ fn check_entry(alloc: Global, value: &Value) -> Result<(), ConfFault>
         Ok(())
     } else {
         Err(ConfFault::here(alloc, FaultKind::WrongKind))
-    }
-}
-
-/// On, off, or a type of its own.
-#[tactic(auto, unfolding(crate::specs::Forms::feature))]
-fn check_feature(alloc: Global, value: &Value) -> Result<(), ConfFault>
-    ensures { Gives (λ _. tt) result (feature (view value.now)) }
-{
-    match value {
-        Value::Bool(_) => Ok(()),
-        Value::Null | Value::Number(_) | Value::String(_) | Value::Array(_) | Value::Object(_) => {
-            check_any_object(alloc, value)
-        }
-    }
-}
-
-/// On, or a type of its own.
-#[tactic(auto, unfolding(crate::specs::Forms::size_feature))]
-fn check_size_feature(alloc: Global, value: &Value) -> Result<(), ConfFault>
-    ensures { Gives (λ _. tt) result (size_feature (view value.now)) }
-{
-    match value {
-        Value::Bool(true) => Ok(()),
-        Value::Bool(false) => Err(ConfFault::here(alloc, FaultKind::OutOfRange)),
-        Value::Null | Value::Number(_) | Value::String(_) | Value::Array(_) | Value::Object(_) => {
-            check_any_object(alloc, value)
-        }
     }
 }

@@ -10,11 +10,10 @@ ghost use Rattle.conf_judge.specs.Names.{names_beside as names_beside_of};
 ghost use Rattle.conf_judge.specs.Places.{item_content as item_content_of};
 
 use crate::around::Around;
-use crate::class::classed_place;
 use crate::form::check_itself;
 use crate::names::{check_key, names_beside, take_names};
 use crate::numbers::ALL;
-use crate::places::item_content;
+use crate::places::{classed_place, item_content};
 use crate::presence::{check_present, is_left_out, resolved_content};
 use crate::shape::check_shape;
 use conf_table::{Content, Place};
@@ -90,9 +89,7 @@ fn check_items(
 ) -> Result<(), ConfFault>
     ensures { Gives (λ _. tt) result (refusal (item_flaws (known_of around.now) place (names_beside_of place) 0 (items_view items.now.items))) }
 {
-    let Ok(mut taken) = names_beside(alloc, place) else {
-        return Err(ConfFault::memory(alloc));
-    };
+    let mut taken = names_beside(alloc, place).map_err(|_| ConfFault::memory(alloc))?;
     for (index, item) in items.iter().enumerate() {
         if let Err(fault) = check_item(alloc, around, place, item, &taken) {
             return Err(fault.inside(alloc, index));

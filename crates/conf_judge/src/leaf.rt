@@ -5,7 +5,7 @@ ghost use Rattle.std.specs.Str.{bytes_eq};
 ghost use Rattle.serde_json.specs.View.{view, members_view};
 ghost use Rattle.conf_tree.specs.Reading.{Gives};
 ghost use Rattle.conf_judge.specs.Known.{known_of, or_none};
-ghost use Rattle.conf_judge.specs.Leaves.{only_if, whole_from, power_of, is_power_of_two as is_power_of, one_flag, whole_or_text, level, leaf_of};
+ghost use Rattle.conf_judge.specs.Leaves.{only_if, whole_from, power_of, level, leaf_of};
 
 use crate::around::Around;
 use conf_table::{Content, class_place, words_in};
@@ -15,7 +15,7 @@ use serde_json::{Map, Value};
 use std::alloc::Global;
 
 /// Refuses what a value that holds no others is not.
-#[tactic(auto, unfolding(crate::specs::Leaves::leaf_of, crate::specs::Leaves::any_flag, crate::specs::Leaves::any_text, crate::specs::Leaves::printable, crate::specs::Leaves::identifier, crate::specs::Leaves::identifier_or_auto, crate::specs::Leaves::word_among, crate::specs::Leaves::class_word))]
+#[tactic(auto, unfolding(crate::specs::Leaves::leaf_of, crate::specs::Leaves::one_flag, crate::specs::Leaves::whole_or_text, crate::specs::Leaves::any_flag, crate::specs::Leaves::any_text, crate::specs::Leaves::printable, crate::specs::Leaves::identifier, crate::specs::Leaves::identifier_or_auto, crate::specs::Leaves::word_among, crate::specs::Leaves::class_word))]
 pub(crate) fn check_leaf(
     alloc: Global,
     around: &Around<'_>,
@@ -26,19 +26,14 @@ pub(crate) fn check_leaf(
 {
     match *content {
         Content::Whole { low, high } => check_whole(alloc, value, low, high),
-        Content::PowerOfTwo { high: _ } => check_power_of_two(alloc, value),
-        Content::Flag => {
-            let _ = flag(alloc, At::Here, value)?;
-            Ok(())
+        Content::PowerOfTwo { .. } => check_power_of_two(alloc, value),
+        Content::Flag => flag(alloc, At::Here, value).map(|_| ()),
+        Content::OneFlag => {
+            let is_default = flag(alloc, At::Here, value)?;
+            check_that(alloc, !(is_default && around.has_default))
         }
-        Content::OneFlag => check_one_flag(alloc, around.has_default, value),
-        Content::Text { most_bytes: _ } => {
-            check_that(alloc, is_printable(text(alloc, At::Here, value)?))
-        }
-        Content::ClockName => {
-            let _ = text(alloc, At::Here, value)?;
-            Ok(())
-        }
+        Content::Text { .. } => check_that(alloc, is_printable(text(alloc, At::Here, value)?)),
+        Content::ClockName => text(alloc, At::Here, value).map(|_| ()),
         Content::Identifier => check_that(alloc, parsed(text(alloc, At::Here, value)?).is_some()),
         Content::IdentifierOrAuto => {
             let text = text(alloc, At::Here, value)?;
@@ -49,7 +44,10 @@ pub(crate) fn check_leaf(
             check_that(alloc, is_among(words_in(words), text))
         }
         Content::Class => check_that(alloc, class_place(text(alloc, At::Here, value)?).is_some()),
-        Content::WholeOrText { low, high, .. } => check_whole_or_text(alloc, value, low, high),
+        Content::WholeOrText { low, high, .. } => match value {
+            Value::String(text) => check_that(alloc, is_printable(text.as_str())),
+            _ => check_whole(alloc, value, low, high),
+        },
         Content::Level { high } => check_level(alloc, around.levels, value, high),
         Content::At(_) | Content::Anything => Ok(()),
     }
@@ -70,8 +68,7 @@ pub(crate) fn check_that(alloc: Global, fits: bool) -> Result<(), ConfFault>
 fn check_whole(alloc: Global, value: &Value, low: i128, high: i128) -> Result<(), ConfFault>
     ensures { Gives (λ _. tt) result (whole_from low high (view value.now)) }
 {
-    let _ = whole(alloc, At::Here, value, low, high)?;
-    Ok(())
+    whole(alloc, At::Here, value, low, high).map(|_| ())
 }
 
 /// The largest power of two that a number of 64 bits can be.
@@ -83,22 +80,11 @@ fn check_power_of_two(alloc: Global, value: &Value) -> Result<(), ConfFault>
     ensures { Gives (λ _. tt) result (power_of (view value.now)) }
 {
     let number = whole(alloc, At::Here, value, 1, 18_446_744_073_709_551_615)?;
-    check_that(alloc, is_power_of_two(number))
-}
-
-fn is_power_of_two(number: i128) -> bool
-    ensures { result ≡ is_power_of number }
-{
-    u64::try_from(number).is_ok_and(|number| number > 0 && LARGEST_POWER % number == 0)
-}
-
-/// A flag that is true, where another before it is.
-#[tactic(auto, unfolding(crate::specs::Leaves::one_flag))]
-fn check_one_flag(alloc: Global, has_default: bool, value: &Value) -> Result<(), ConfFault>
-    ensures { Gives (λ _. tt) result (one_flag has_default (view value.now)) }
-{
-    let is_default = flag(alloc, At::Here, value)?;
-    check_that(alloc, !(is_default && has_default))
+    let number = u64::try_from(number);
+    check_that(
+        alloc,
+        number.is_ok_and(|number| number > 0 && LARGEST_POWER % number == 0),
+    )
 }
 
 fn is_among(words: &'static [&'static str], word: &str) -> bool
@@ -110,18 +96,6 @@ fn is_among(words: &'static [&'static str], word: &str) -> bool
         }
     }
     false
-}
-
-#[tactic(auto, unfolding(crate::specs::Leaves::whole_or_text))]
-fn check_whole_or_text(alloc: Global, value: &Value, low: i128, high: i128) -> Result<(), ConfFault>
-    ensures { Gives (λ _. tt) result (whole_or_text low high (view value.now)) }
-{
-    match value {
-        Value::String(text) => check_that(alloc, is_printable(text.as_str())),
-        Value::Null | Value::Bool(_) | Value::Number(_) | Value::Array(_) | Value::Object(_) => {
-            check_whole(alloc, value, low, high)
-        }
-    }
 }
 
 /// A number, or the name of an alias of one.
@@ -141,8 +115,6 @@ fn check_level(
                 None => Err(ConfFault::here(alloc, FaultKind::NoSuchAlias)),
             }
         }
-        Value::Null | Value::Bool(_) | Value::Number(_) | Value::Array(_) | Value::Object(_) => {
-            check_whole(alloc, value, 0, high)
-        }
+        _ => check_whole(alloc, value, 0, high),
     }
 }

@@ -2,7 +2,6 @@
 #![tactic(auto)]
 
 mod around;
-mod class;
 mod form;
 mod judge;
 mod leaf;
@@ -12,7 +11,6 @@ mod numbers;
 mod places;
 mod presence;
 mod shape;
-mod size;
 
 pub use judge::check_objects;
 pub use limits::check_limits;

@@ -1,16 +1,18 @@
 //! The first limit of size that a configuration passes, in the order of a walk.
-ghost use Rattle.std.specs.Prelude.{◌≡◌, ◌≤◌, ◌<◌, ◌+◌, ◌++◌, IfErr};
+ghost use Rattle.std.specs.Prelude.{◌≡◌, ◌≤◌, ◌<◌, ◌+◌, ◌++◌, IfErr, nat_le};
 ghost use Rattle.serde_json.specs.View.{view, items_view, members_view};
 ghost use Rattle.conf_tree.specs.Reading.{Gives};
 ghost use Rattle.conf_tree.specs.Walk.{refusal};
 ghost use Rattle.conf_table.specs.Table.{content_under};
 ghost use Rattle.conf_judge.specs.Flaws.{told_by, content_or_any as content_or_any_of};
-ghost use Rattle.conf_judge.specs.Limits.{within_limit, key_fits as key_fits_of, fits as fits_of, inner_limits, item_limits, member_limits, content_limits, configuration_limits};
+ghost use Rattle.conf_judge.specs.Limits.{within_limit, times as times_of, elements as elements_of, count_of as count_of_data, ranges_of as ranges_of_data, place_fits as place_fits_of, key_fits as key_fits_of, fits as fits_of, inner_limits, item_limits, member_limits, content_limits, configuration_limits};
 
-use crate::places::{item_content, place_of_properties};
-use crate::size::{fits, key_fits};
-use conf_table::{Content, Place, content_at};
+use crate::numbers::natural_in;
+use crate::places::{class_of, item_content, place_of_properties};
+use conf_table::{Content, Keys, MAX_RANGES, MAX_TEXT_BYTES, Place, content_at, entries_at};
 use conf_tree::{ConfFault, FaultKind};
+use conf_values::as_natural;
+use ctf_types::{MAX_ARRAYS, MAX_ELEMENTS};
 use serde_json::{Map, Value};
 use std::alloc::Global;
 
@@ -100,4 +102,106 @@ fn check_property(alloc: Global, place: Place, name: &str, value: &Value) -> Res
 {
     check_limit(alloc, key_fits(place, name))?;
     check_content(alloc, content_at(place, name).unwrap_or(&ANYTHING), value)
+}
+
+/// Whether a value is within the limits of its content, whatever it holds. A power of two that is at most another divides it.
+#[tactic(auto, unfolding(crate::specs::Limits::fits, crate::specs::Limits::power_fits))]
+fn fits(content: &Content, value: &Value) -> bool
+    ensures { result ≡ fits_of content.now (view value.now) }
+{
+    match *content {
+        Content::Text { most_bytes } | Content::WholeOrText { most_bytes, .. } => {
+            value
+                .as_str()
+                .is_none_or(|text| text.len() as u64 <= most_bytes)
+        }
+        Content::PowerOfTwo { high } => {
+            as_natural(value).is_none_or(|number| number == 0 || high % number == 0)
+        }
+        Content::At(place) => place_fits(place, value),
+        _ => true,
+    }
+}
+
+/// Whether the arrays of a field type that no array is around are few enough, and the entries of a map or a list, and the ranges.
+#[tactic(auto, unfolding(crate::specs::Limits::place_fits, crate::specs::Limits::arrays_fit, crate::specs::Limits::is_outermost, crate::specs::Limits::ranges_fit))]
+fn place_fits(place: Place, value: &Value) -> bool
+    ensures { result ≡ place_fits_of place (view value.now) }
+{
+    let arrays_fit = match place {
+        Place::MemberType | Place::DynamicElementType | Place::IdentifierFeature => {
+            elements(MAX_ARRAYS, value).is_some()
+        }
+        _ => true,
+    };
+    let most = entries_at(place).and_then(|entries| entries.most);
+    arrays_fit
+        && most.is_none_or(|most| count_of(value) as u64 <= most)
+        && (place != Place::Mappings || few_ranges(value))
+}
+
+/// The number of elements of static arrays of which so many nest at most, an empty one counted as one. None past the most.
+fn elements(levels: usize, value: &Value) -> Option<u64>
+    ensures { result ≡ elements_of levels (view value.now) }
+{
+    let Value::Object(members) = value else {
+        return Some(1);
+    };
+    if class_of(members) != Some(Place::StaticArray) {
+        return Some(1);
+    }
+    let inner = levels.checked_sub(1)?;
+    let count = Some(natural_in(members, "length").unwrap_or(1).max(1));
+    for (name, element) in members.iter() {
+        if name.as_str() == "element-field-type" {
+            return times(count, elements(inner, element));
+        }
+    }
+    count
+}
+
+fn times(count: Option<u64>, elements: Option<u64>) -> Option<u64>
+    ensures { result ≡ times_of count elements }
+{
+    count?
+        .checked_mul(elements?)
+        .filter(|all| *all <= MAX_ELEMENTS)
+}
+
+/// How many entries a map or a list has.
+fn count_of(value: &Value) -> usize
+    ensures { result ≡ count_of_data (view value.now) }
+{
+    match value {
+        Value::Array(items) => items.as_slice().len(),
+        Value::Object(members) => members.len(),
+        _ => 0,
+    }
+}
+
+/// Whether all labels of an enumeration have no more ranges than the most.
+fn few_ranges(value: &Value) -> bool
+    ensures { result ≡ nat_le (ranges_of_data (view value.now)) 1024 }
+{
+    let Value::Object(members) = value else {
+        return true;
+    };
+    let mut left = MAX_RANGES;
+    for (_label, value) in members.iter() {
+        let count = count_of(value);
+        if count > left {
+            return false;
+        }
+        left -= count;
+    }
+    true
+}
+
+/// Whether the name of an entry at this place is within its limit: a label is a text that people read.
+#[tactic(auto, unfolding(crate::specs::Limits::key_fits))]
+fn key_fits(place: Place, name: &str) -> bool
+    ensures { result ≡ key_fits_of place name.now }
+{
+    name.len() as u64 <= MAX_TEXT_BYTES
+        || entries_at(place).is_none_or(|entries| !matches!(entries.keys, Keys::Label))
 }

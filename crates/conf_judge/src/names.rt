@@ -7,8 +7,8 @@ ghost use Rattle.conf_judge.specs.Known.{known_of};
 ghost use Rattle.conf_judge.specs.Names.{is_dynamic as is_dynamic_of, names_beside as names_beside_of, take as take_of, with_names, free_of, key_of, class_of_member as class_of_member_of, take_each as take_each_of};
 
 use crate::around::Around;
-use crate::class::class_of;
 use crate::leaf::check_that;
+use crate::places::class_of;
 use conf_table::{Keys, Place, entries_at};
 use conf_tree::{ConfFault, FaultKind, member};
 use conf_values::{check_name, check_plain_name, is_printable};
@@ -26,20 +26,17 @@ pub(crate) fn check_key(
 ) -> Result<(), ConfFault>
     ensures { Gives (λ _. tt) result (key_of (known_of around.now) place name.now (view value.now)) }
 {
-    let Some(entries) = entries_at(place) else {
-        return Ok(());
-    };
-    match entries.keys {
-        Keys::Name => check_name(alloc, name),
-        Keys::PlainName => {
+    match entries_at(place).map(|entries| entries.keys) {
+        Some(Keys::Name) => check_name(alloc, name),
+        Some(Keys::PlainName) => {
             check_plain_name(alloc, name)?;
             match place {
                 Place::Entry => check_free(alloc, around.taken, name, value),
                 _ => Ok(()),
             }
         }
-        Keys::Label => check_that(alloc, is_printable(name)),
-        Keys::Index => Ok(()),
+        Some(Keys::Label) => check_that(alloc, is_printable(name)),
+        Some(Keys::Index) | None => Ok(()),
     }
 }
 
@@ -55,9 +52,7 @@ fn check_free(
 {
     let mut clashes = member(taken, name).is_some();
     if is_dynamic(value) {
-        let Ok(length) = length_name(alloc, name) else {
-            return Err(ConfFault::memory(alloc));
-        };
+        let length = length_name(alloc, name).map_err(|_| ConfFault::memory(alloc))?;
         clashes = clashes || member(taken, length.as_str()).is_some();
     }
     if clashes {

@@ -2,7 +2,7 @@
 ghost use Rattle.std.specs.Prelude.{◌≡◌, ◌≤◌, ◌^◌, IfErr, pos};
 ghost use Rattle.serde_json.specs.View.{view, items_view, members_view};
 ghost use Rattle.conf_tree.specs.Reading.{Gives};
-ghost use Rattle.conf_judge.specs.Numbers.{natural_in as natural_in_of, pair_of, range_of, inside_of, numbers_in as numbers_in_of, is_inside as is_inside_of};
+ghost use Rattle.conf_judge.specs.Numbers.{natural_in as natural_in_of, pair_of, range_of, inside_of, numbers_in as numbers_in_of};
 
 use crate::leaf::check_that;
 use conf_tree::{At, ConfFault, FaultKind, member, whole};
@@ -38,17 +38,10 @@ pub(crate) fn numbers_in(signed: bool, members: &Map<String, Value>) -> Span
 {
     match natural_in(members, "size") {
         Some(size) if size > 0 && size <= 64 => {
-            if signed {
-                let half = power(size - 1);
-                Span {
-                    low: -half,
-                    high: half - 1,
-                }
-            } else {
-                Span {
-                    low: 0,
-                    high: power(size) - 1,
-                }
+            let past = power(size - u64::from(signed));
+            Span {
+                low: if signed { -past } else { 0 },
+                high: past - 1,
             }
         }
         _ => ALL,
@@ -84,7 +77,7 @@ fn range(alloc: Global, value: &Value) -> Result<Span, ConfFault>
 {
     match value {
         Value::Array(items) => pair(alloc, items),
-        Value::Null | Value::Bool(_) | Value::Number(_) | Value::String(_) | Value::Object(_) => {
+        _ => {
             let number = whole(alloc, At::Here, value, ALL.low, ALL.high)?;
             Ok(Span {
                 low: number,
@@ -94,17 +87,12 @@ fn range(alloc: Global, value: &Value) -> Result<Span, ConfFault>
     }
 }
 
-#[tactic(auto, unfolding(crate::specs::Numbers::is_inside))]
-fn is_inside(numbers: Span, range: Span) -> bool
-    ensures { result ≡ is_inside_of numbers range }
-{
-    range.low <= range.high && numbers.low <= range.low && range.high <= numbers.high
-}
-
 /// Refuses a value that is no range inside these numbers.
-#[tactic(auto, unfolding(crate::specs::Numbers::inside_of))]
+#[tactic(auto, unfolding(crate::specs::Numbers::inside_of, crate::specs::Numbers::is_inside))]
 pub(crate) fn check_range(alloc: Global, numbers: Span, value: &Value) -> Result<(), ConfFault>
     ensures { Gives (λ _. tt) result (inside_of numbers (view value.now)) }
 {
-    check_that(alloc, is_inside(numbers, range(alloc, value)?))
+    let range = range(alloc, value)?;
+    let fits = range.low <= range.high && numbers.low <= range.low && range.high <= numbers.high;
+    check_that(alloc, fits)
 }

@@ -1,7 +1,7 @@
 use Rattle.std.proofs.Common.{◌≡◌, ◌+◌, ◌≤◌}
 use Rattle.serde_json.specs.View.{view, members_view}
 use Rattle.conf_judge.specs.Limits.{ranges_in, ranges_of}
-use Rattle.conf_judge.proofs.size.few_ranges.Given as goal
+use Rattle.conf_judge.proofs.limits.few_ranges.Given as goal
 
 -- what is left of the most, and the ranges that are to come
 abbrev pub invariant-loop-label : goal.invariant-loop-label
