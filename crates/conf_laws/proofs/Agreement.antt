@@ -1,6 +1,5 @@
 -- What a judge knows around a value is what the value stands in.
-use Rattle.std.proofs.Common.{◌≡◌, ◌⊎◌, ◌+◌, ◌<◌, ℕ, zero, suc, Some, inl, inr, sym, ap, subst, ◌∙◌, arith, ◌↔◌, ◌||◌, Bool, true, false, List, [], ◌∷◌, Contains, Option, is_some, refl}
-use Rattle.std.specs.Prelude.{codes, unwrap_or, option_map}
+use Rattle.std.proofs.Common.{◌≡◌, ◌⊎◌, ◌+◌, ◌<◌, ℕ, zero, suc, Some, inl, inr, sym, ap, subst, ◌∙◌, arith, ◌↔◌, ◌||◌, Bool, true, false, List, [], ◌∷◌, Contains, Option, is_some, refl, codes, unwrap_or, option_map}
 use Rattle.conf_laws.specs.Around.{Around, member_of, item_of, levels_around, SaysDefault, HasDefault, IsBehindDefault, enumeration_around, IsDynamic, TakesName, IsBeside, IsTaken}
 use Rattle.conf_laws.proofs.TableWords.{Place}
 use Rattle.conf_laws.proofs.TableWords.places

@@ -1,19 +1,289 @@
+-- Names, texts, integers and enumerations that have no flaw and pass no limit are ones that the rules allow.
 -- Lists that have an item for each entry of a map, under its name, are in byte order, and no longer than the map: environments and clock
 -- types that have no flaw and pass no limit are ones that the rules allow.
-use Rattle.std.proofs.Common.{◌≡◌, ℕ, ◌≤◌, true, List, [], ◌∷◌, ◌++◌, length, map, All, refl, sym, ap, subst, ◌∙◌, arith, Option, Some, pos, ◌<◌}
-use Rattle.std.specs.Prelude.{nat_le, codes, negsuc, unwrap_or}
-use Rattle.conf_laws.proofs.AllowedEnumerations.{plain_name, config_text}
-use Rattle.conf_laws.proofs.Numbers.{natural_is_in}
-use Rattle.conf_laws.proofs.Properties.{names_of, sorted_names, names_counted, entry_in, plain_rest, AreGood, IsGoodAt, own_properties, fitting_parts, by_good_object, IsGoodEntry, entry_object, property_at}
-use Rattle.conf_laws.proofs.Readings.{all_joined, was_so, word_there, by_found}
-use Rattle.conf_laws.proofs.Sound.{Leads}
-use Rattle.conf_laws.proofs.Table.{leads, ObjectPlace, is_own, is_object, MapPlace, is_map, is_plain, Property}
+use Rattle.std.proofs.Common.{◌≡◌, ℕ, ◌||◌, ◌&&◌, true, List, length, Ok, arith, ◌==◌, ◌%◌, Bool, false, Some, None, nat_lt, sym, ap, ◌≢◌, ℤ, pos, suc, ◌<◌, ◌≤◌, [], ◌∷◌, ◌++◌, Less, Equal, Greater, nat_cmp, refl, subst, ◌∙◌, length-append, All, Option, map, nat_le, int_le, codes, unwrap_or, negsuc}
+use Rattle.conf_draft.specs.Integers.{made, align_of}
+use Rattle.conf_judge.specs.Limits as limits
+use Rattle.conf_laws.proofs.Numbers.{lowest_end, highest_end, ReadSo, read_so, some_size, natural_is_in}
+use Rattle.conf_laws.proofs.Properties.{AreGoodItems, IsGoodEntry, entry_in, plain_rest, good_items, item_first, item_rest, AreGood, IsGoodAt, good_object, own_properties, fitting_parts, needed_at, names_of, sorted_names, names_counted, by_good_object, entry_object, property_at, MapPlace, is_map, is_plain, Property, leads, needed_by, mappings_own, ObjectPlace, is_own, is_object}
+use Rattle.conf_laws.proofs.Readings.{under_no_test, proved_some, was_so, all_joined, mapped_some, same_natural, word_there, by_found}
+use Rattle.conf_laws.proofs.Sound.{needed_there, Leads}
+use Rattle.conf_laws.specs.ValueFlaws.{IsPair}
 use Rattle.conf_laws.proofs.TableWords.{entries_of, Place, At, WholeOrText, Whole, Text, Content}
 use Rattle.conf_laws.proofs.TableWords.places
-use Rattle.conf_laws.proofs.JudgeWords.{itself_of, Known, leaf_of, whole_or_text, printable, fits, key_of, key_by, plain_of}
-use Rattle.conf_laws.proofs.TreeWords.{IsInOrder, optional, as_natural, Members, Data, no_members, member, string, object, members_len}
-use Rattle.conf_laws.proofs.StdWords.{leb-true, All-nil, All-from_recursion, length-map, map-append, IsStrictlySortedBy, AllByRecursion}
-use Rattle.conf_laws.proofs.DraftWords.{clock_type, clock_or_none, clocks_in, clocks_or_none, clock_types, entry_value, entries_in, entries_or_none, environment, natural, natural_of, word, InByteOrder, IsEnvironmentValue, IsClockType, IsPlainName, IsConfigText, ClockType, EnvironmentEntry}
+use Rattle.conf_laws.proofs.JudgeWords.{all_there, itself_of, form_of, some_list, some_object, Known, with_taken, key_fits, count_of, ranges_fit, key_of, key_by, names_beside, with_names, end_of, range_of, is_inside, inside_of, natural_in, numbers_of, numbers_in, numbers_or_all, item_content, leaf_of, whole_or_text, printable, fits, plain_of}
+use Rattle.conf_laws.proofs.TreeWords.{here, AllAbove, IsInOrder, whole_of, whole_or_not, given, OutOfRange, both_read, is_passed, name_of, is_reserved, plain_name_of, is_printable, Members, Data, number, array, Num, unsigned, negative, float, Items, no_items, item, no_members, member, object, items_len, as_integer, as_array, get_member, optional, as_natural, string, members_len}
+use Rattle.conf_laws.proofs.StdWords.{nat_tests, and_parts, or_parts, leb-true, nat_list_cmp_total, tied_itself, T_from_true, All-from_recursion, All-weaker, same_Some, slice_cmp, le_z_yes, list_any, AllByRecursion, bytes_eq, All-nil, length-map, map-append, IsStrictlySortedBy}
+use Rattle.conf_laws.proofs.DraftWords.{whole, low, high, ranges_in, ranges_of, labels_in, enumeration, mappings_or_none, with_mappings, integer, size_of, base_of, object_of, object as object_at, IsPlainUnsigned, LabelsInOrder, lowest, highest, IsRangeOf, IsEnumeration, is_identifier, unused_keywords, used_keywords, IsConfigName, IsPlainName, IsConfigText, Base, EnumType, IntType, Mapping, clock_type, clock_or_none, clocks_in, clocks_or_none, clock_types, entry_value, entries_in, entries_or_none, environment, natural, natural_of, word, InByteOrder, IsEnvironmentValue, IsClockType, ClockType, EnvironmentEntry}
+
+pub config_name : (name : List ℕ) → name_of name ≡ Ok tt → IsConfigName name
+unfolding name_of
+config_name name e =
+    let p = is_passed (is_identifier name && nat_le (length name) 255) tt tt _ e in
+    let q = and_parts (is_identifier name) (nat_le (length name) 255) p.0 in
+    let short : nat_le (length name) 255 ≡ true = q.1 in
+    record { identifier = q.0; short = grind (arith, nat_tests) }
+
+pub plain_name : (name : List ℕ) → plain_name_of name ≡ Ok tt → IsPlainName name
+unfolding plain_name_of is_reserved
+plain_name name e =
+    let named_well = both_read (name_of name) _ tt e in
+    let free = or_parts (list_any (bytes_eq name) unused_keywords) (list_any (bytes_eq name) used_keywords) (under_no_test (list_any (bytes_eq name) unused_keywords || list_any (bytes_eq name) used_keywords) tt tt _ named_well.2) in
+    record { named = config_name name named_well.1; no_unused_keyword = free.0; no_used_keyword = free.1 }
+
+-- a text that people read
+pub config_text : (s : List ℕ) → is_printable s ≡ true → nat_le (length s) 4096 ≡ true → IsConfigText s
+config_text s e limit = record { short = leb-true (length s) 4096 limit; printable = e }
+
+pub record IsMade (size align : ℕ) (signed : Bool) (t : IntType) : Type 0 where
+  pub size_is : t.size ≡ size
+  pub align_is : t.align ≡ align
+  pub sign_is : t.signed ≡ signed
+  pub no_clock : t.clock ≡ None
+
+made_says : (size align : ℕ) (signed : Bool) (base : Base) (t : IntType) → made size align signed base ≡ Some t → IsMade size align signed t
+unfolding made
+made_says size align signed base t e =
+    let a = proved_some (nat_lt 0 size) _ t e in
+    let b = proved_some (nat_le size 64) _ t a.1 in
+    let c = proved_some (nat_lt 0 align) _ t b.1 in
+    let d = proved_some (4096 % align == 0) _ t c.1 in
+    let same = same_Some _ t d.1 in
+    record { size_is = ap (λ x. x.size) (sym same); align_is = ap (λ x. x.align) (sym same); sign_is = ap (λ x. x.signed) (sym same); no_clock = ap (λ x. x.clock) (sym same) }
+
+pub integer_says : (signed : Bool) (ms : Members) (t : IntType) → integer signed ms ≡ Some t → IsMade (size_of ms) (align_of ms) signed t
+unfolding integer
+integer_says signed ms t e = made_says (size_of ms) (align_of ms) signed (base_of ms) t e
+
+pub unsigned_says : (ms : Members) (t : IntType) → integer false ms ≡ Some t → IsPlainUnsigned t
+unsigned_says ms t e = let made = integer_says false ms t e in (made.sign_is, made.no_clock)
+
+-- ---- one range
+
+end_says : (n : Num) (x : ℤ) → whole_or_not lowest_end highest_end (as_integer n) ≡ Ok x → whole (Some (number n)) ≡ x
+end_says (unsigned m) x e = (is_passed (int_le lowest_end (pos m) && int_le (pos m) highest_end) (pos m) x _ e).1
+end_says (negative z) x e = (is_passed (int_le lowest_end z && int_le z highest_end) z x _ e).1
+end_says (float f) x e = absurd cc
+
+end_is : (d : Data) (x : ℤ) → end_of d ≡ Ok x → whole (Some d) ≡ x
+unfolding whole_of
+end_is (number n) x e = end_says n x e
+end_is _ x e = absurd cc
+
+one_end : (d : Data) (z : ℤ) → as_array d ≡ None → end_of d ≡ Ok z → (z ≡ low d) × (z ≡ high d)
+one_end (array ds) z none e = absurd cc
+one_end d z none e = let one = sym (end_is d z e) in (one, one)
+
+two_ends : (d a b : Data) → IsPair d a b → (low d ≡ whole (Some a)) × (high d ≡ whole (Some b))
+two_ends (array ds) a b pair = let same : ds ≡ item a (item b no_items) = cc in (ap (λ x. low (array x)) same, ap (λ x. high (array x)) same)
+two_ends _ a b pair = absurd cc
+
+range_is : (d : Data) (x y : ℤ) → ReadSo d x y → (x ≡ low d) × (y ≡ high d)
+range_is d x y (ReadSo.one_number z none e) = one_end d z none e
+range_is d x y (ReadSo.two_numbers a b z w pair e f) = let ends = two_ends d a b pair in (sym (end_is a z e) ∙ sym ends.0, sym (end_is b w f) ∙ sym ends.1)
+
+-- from low to high, not empty and inside the numbers that are known
+abbrev pub is_known : Known → ℤ → ℤ → Bool
+is_known k low high = int_le low high && int_le k.numbers.low low && int_le high k.numbers.high
+
+range_inside : (k : Known) (d : Data) → inside_of k.numbers d ≡ Ok tt → is_known k (low d) (high d) ≡ true
+unfolding inside_of is_inside
+range_inside k d e =
+    let read = both_read (range_of d) _ tt e in
+    let passed = is_passed (is_inside k.numbers read.0) tt tt (here OutOfRange) read.2 in
+    let ends = range_is d read.0.low read.0.high (read_so d read.0 read.1) in
+    subst (λ x. is_known k x (high d) ≡ true) ends.0 (subst (λ y. is_known k read.0.low y ≡ true) ends.1 passed.0)
+
+-- ---- the ranges of a label
+
+-- a range inside these numbers, under a label that people read
+pub record IsGoodMapping (k : Known) (m : Mapping) : Type 0 where
+  pub inside : is_known k m.low m.high ≡ true
+  pub text : IsConfigText m.label
+
+ranges_good : (k : Known) (label : List ℕ) (taken : Members) (i : ℕ) (ds : Items) → IsConfigText label → AreGoodItems k places.Ranges taken i ds → AllByRecursion (IsGoodMapping k) (ranges_in label ds)
+unfolding item_content itself_of form_of
+ranges_good k label taken i no_items text h = tt
+ranges_good k label taken i (item d ds) text h = (
+  record { inside = range_inside (with_taken taken k) d ((item_first k places.Ranges taken i d ds h).sound.itself); text = text },
+  ranges_good k label (with_names d taken) (suc i) ds text (item_rest k places.Ranges taken i d ds h),
+)
+
+-- ---- the labels
+
+label_good : (k : Known) (label : List ℕ) (d : Data) (ms : Members) → AreGood k places.Mappings (member label d ms) → IsGoodEntry k places.Mappings label (At places.Ranges) d
+label_good k label d ms h = entry_in k places.Mappings label (At places.Ranges) d ms (is_map MapPlace.mappings) h
+
+own_good : (k : Known) (label : List ℕ) (d : Data) → IsConfigText label → IsGoodAt k (At places.Ranges) d → AllByRecursion (IsGoodMapping k) (ranges_of label d)
+own_good k label (array ds) text h = ranges_good k label (names_beside places.Ranges) 0 ds text (good_items k places.Ranges ds h)
+own_good k label _ text h = tt
+
+pub labels_good : (k : Known) (labels : Members) → AreGood k places.Mappings labels → AllByRecursion (IsGoodMapping k) (labels_in labels)
+unfolding key_of key_by key_fits entries_of
+labels_good k no_members h = tt
+labels_good k (member label d ms) h =
+    let entry = label_good k label d ms h in
+    all_joined (IsGoodMapping k) (ranges_of label d) (labels_in ms) (own_good k label d (config_text label (was_so _ entry.named) entry.short) entry.value) (labels_good k ms (plain_rest k places.Mappings label d ms (is_plain MapPlace.mappings) h))
+
+-- ---- how many there are
+
+some_here : (k : Known) (label : List ℕ) (d : Data) → itself_of k (At places.Ranges) d ≡ Ok tt → 0 < length (ranges_of label d)
+unfolding itself_of form_of some_list
+some_here k label (array (item d ds)) e = omega arith
+some_here k label _ e = absurd cc
+
+pub some_range : (k : Known) (labels : Members) → labels ≢ no_members → AreGood k places.Mappings labels → 0 < length (labels_in labels)
+some_range k no_members some h = absurd (some refl)
+some_range k (member label d ms) some h =
+    let first = some_here k label d (label_good k label d ms h).value.sound.itself in
+    omega (arith, first, length-append (ranges_of label d) (labels_in ms))
+
+ranges_counted : (label : List ℕ) (ds : Items) → length (ranges_in label ds) ≡ items_len ds
+ranges_counted label no_items = refl
+ranges_counted label (item d ds) = ap suc (ranges_counted label ds)
+
+own_few : (label : List ℕ) (d : Data) → length (ranges_of label d) ≤ count_of d
+own_few label (array ds) = omega (arith, ranges_counted label ds)
+own_few label _ = omega arith
+
+pub labels_few : (labels : Members) → length (labels_in labels) ≤ limits.ranges_in labels
+labels_few no_members = omega arith
+labels_few (member label d ms) = omega (arith, labels_few ms, own_few label d, length-append (ranges_of label d) (labels_in ms))
+
+-- ---- the order of labels
+
+abbrev NotAbove : List ℕ → List ℕ → Type 0
+NotAbove a b = slice_cmp nat_cmp a b ≢ Greater
+
+-- this label is above none of them
+abbrev NoneBelow : List ℕ → List Mapping → Type 0
+NoneBelow label ms = AllByRecursion (λ m. NotAbove label m.label) ms
+
+abbrev AllLabelled : List ℕ → List Mapping → Type 0
+AllLabelled label ms = AllByRecursion (λ m. m.label ≡ label) ms
+
+ranges_labelled : (label : List ℕ) (ds : Items) → AllLabelled label (ranges_in label ds)
+ranges_labelled label no_items = tt
+ranges_labelled label (item d ds) = (refl, ranges_labelled label ds)
+
+own_labelled : (label : List ℕ) (d : Data) → AllLabelled label (ranges_of label d)
+own_labelled label (array ds) = ranges_labelled label ds
+own_labelled label _ = tt
+
+labelled_below : (k label : List ℕ) (ms : List Mapping) → slice_cmp nat_cmp k label ≡ Less → AllLabelled label ms → NoneBelow k ms
+labelled_below k label [] below h = tt
+labelled_below k label (m ∷ ms) below h = (λ g. let b : slice_cmp nat_cmp k m.label ≡ Less = subst (λ x. slice_cmp nat_cmp k x ≡ Less) (sym h.0) below in cc, labelled_below k label ms below h.1)
+
+labels_below : (k : List ℕ) (labels : Members) → AllAbove k labels → NoneBelow k (labels_in labels)
+labels_below k no_members above = tt
+labels_below k (member label d ms) above =
+    all_joined (λ m. NotAbove k m.label) (ranges_of label d) (labels_in ms) (labelled_below k label (ranges_of label d) above.0 (own_labelled label d)) (labels_below k ms above.1)
+
+same_not_above : (a b label : List ℕ) → a ≡ label → b ≡ label → NotAbove a b
+same_not_above a b label p q = λ g. let e : slice_cmp nat_cmp a b ≡ Equal = subst (λ x. slice_cmp nat_cmp x b ≡ Equal) (sym p) (subst (λ x. slice_cmp nat_cmp label x ≡ Equal) (sym q) (tied_itself nat_list_cmp_total label)) in cc
+
+-- the ranges of a label before those of the labels that are not below it
+in_order_joined : (label : List ℕ) (own rest : List Mapping) → AllLabelled label own → NoneBelow label rest → LabelsInOrder rest → LabelsInOrder (own ++ rest)
+unfolding LabelsInOrder
+in_order_joined label [] rest labelled below h = h
+in_order_joined label (a ∷ []) [] labelled below h = tt
+in_order_joined label (a ∷ []) (b ∷ rest) labelled below h = (subst (λ x. NotAbove x b.label) (sym labelled.0) below.0, h)
+in_order_joined label (a ∷ b ∷ own) rest labelled below h = (same_not_above a.label b.label label labelled.0 labelled.1.0, in_order_joined label (b ∷ own) rest labelled.1 below h)
+
+pub labels_in_order : (labels : Members) → IsInOrder labels → LabelsInOrder (labels_in labels)
+unfolding LabelsInOrder
+labels_in_order no_members order = tt
+labels_in_order (member label d ms) order =
+    in_order_joined label (ranges_of label d) (labels_in ms) (own_labelled label d) (labels_below label ms order.0) (labels_in_order ms order.1)
+
+-- ---- the mappings as they are listed
+
+-- labels that have no flaw and pass no limit, one at least
+record AreMappings (k : Known) (ms : List Mapping) : Type 0 where
+  each : All (IsGoodMapping k) ms
+  in_order : LabelsInOrder ms
+  some : 0 < length ms
+  few : length ms ≤ 1024
+
+not_empty : (k : Known) (labels : Members) → itself_of k (At places.Mappings) (object labels) ≡ Ok tt → labels ≢ no_members
+unfolding itself_of form_of some_object
+not_empty k no_members e = absurd cc
+not_empty k (member label d ms) e = λ same. absurd cc
+
+mappings_good : (k : Known) (labels : Members) → IsGoodAt k (At places.Mappings) (object labels) → AreMappings k (labels_in labels)
+unfolding ranges_fit
+mappings_good k labels h =
+    let whole = good_object k places.Mappings labels h in
+    let good = own_properties k places.Mappings labels mappings_own whole in
+    let few = leb-true (limits.ranges_in labels) 1024 (fitting_parts places.Mappings (object labels) whole.fitting).2 in
+    record {
+      each = All-from_recursion (IsGoodMapping k) (labels_in labels) (labels_good k labels good);
+      in_order = labels_in_order labels whole.in_order;
+      some = some_range k labels (not_empty k labels h.sound.itself) good;
+      few = omega (arith, few, labels_few labels);
+    }
+
+-- ---- the property
+
+-- a needed property that is mappings
+pub record HasMappings (k : Known) (ms : Members) : Type 0 where
+  labels : Members
+  there : object_at (codes "mappings") ms ≡ Some labels
+  good : IsGoodAt k (At places.Mappings) (object labels)
+
+labels_there : (k : Known) (ms : Members) (d : Data) → get_member (codes "mappings") ms ≡ Some d → IsGoodAt k (At places.Mappings) d → HasMappings k ms
+unfolding object_at itself_of form_of some_object
+labels_there k ms (object labels) is h = record { labels = labels; there = ap (λ o. object_of (given o)) is; good = h }
+labels_there k ms _ is h = absurd (let e = h.sound.itself in cc)
+
+pub has_mappings : (k : Known) (place : Place) (ms : Members) → Property true place (codes "mappings") (At places.Mappings) → all_there place ms ≡ Ok tt → AreGood k place ms → HasMappings k ms
+has_mappings k place ms property there h =
+    let found = needed_there place (codes "mappings") ms (needed_by property) there in
+    labels_there k ms found.0 found.1 (needed_at k place (codes "mappings") (At places.Mappings) ms found.0 (leads property) (needed_by property) h found.1)
+
+-- ---- the numbers of the integer
+
+numbers_said : (signed : Bool) (o : Option ℕ) (size : ℕ) → unwrap_or o 0 ≡ size → 0 < size → numbers_or_all signed o ≡ numbers_of signed size
+numbers_said signed None size is some = absurd (omega (arith, is, some))
+numbers_said signed (Some n) size is some = ap (numbers_of signed) is
+
+abbrev AreNumbersOf : Known → IntType → Type 0
+AreNumbersOf k t = (k.numbers.low ≡ lowest t.signed t.size) × (k.numbers.high ≡ highest t.signed t.size)
+
+numbers_are : (k : Known) (signed : Bool) (ms : Members) (t : IntType) → k.numbers ≡ numbers_in signed ms → integer signed ms ≡ Some t → AreNumbersOf k t
+unfolding size_of numbers_in
+numbers_are k signed ms t known e =
+    let says = integer_says signed ms t e in
+    let size : unwrap_or (natural_in (codes "size") ms) 0 ≡ t.size = ap (λ o. unwrap_or o 0) (sym (same_natural (codes "size") ms)) ∙ sym says.size_is in
+    let said = known ∙ numbers_said signed (natural_in (codes "size") ms) t.size size t.not_empty in
+    let ends = some_size signed t.size t.not_empty t.at_most_64 in
+    (ap (λ s. s.low) said ∙ ends.0 ∙ ap (λ s. lowest s t.size) (sym says.sign_is), ap (λ s. s.high) said ∙ ends.1 ∙ ap (λ s. highest s t.size) (sym says.sign_is))
+
+-- a range inside the numbers of an integer of this size and sign
+range_in : (k : Known) (t : IntType) (m : Mapping) → AreNumbersOf k t → IsGoodMapping k m → IsRangeOf t m
+range_in k t m is h =
+    let p = and_parts (int_le m.low m.high && int_le k.numbers.low m.low) (int_le m.high k.numbers.high) h.inside in
+    let q = and_parts (int_le m.low m.high) (int_le k.numbers.low m.low) p.0 in
+    record { ordered = le_z_yes (T_from_true _ q.0); above = le_z_yes (T_from_true _ (subst (λ z. int_le z m.low ≡ true) is.0 q.1)); below = le_z_yes (T_from_true _ (subst (λ z. int_le m.high z ≡ true) is.1 p.1)) }
+
+-- ---- the whole
+
+enumeration_with : (k : Known) (signed : Bool) (ms : Members) (mappings : List Mapping) (t : IntType) → integer signed ms ≡ Some t → k.numbers ≡ numbers_in signed ms → AreMappings k mappings → IsEnumeration (with_mappings mappings t)
+enumeration_with k signed ms mappings t e known h = record {
+  no_clock = (integer_says signed ms t e).no_clock;
+  ranges = All-weaker (IsGoodMapping k) (IsRangeOf t) (λ m. range_in k t m (numbers_are k signed ms t known e)) mappings h.each;
+  labels = All-weaker (IsGoodMapping k) (λ m. IsConfigText m.label) (λ m g. g.text) mappings h.each;
+  in_order = h.in_order;
+  some = h.some;
+  few = h.few;
+}
+
+pub enumeration_allowed : (k : Known) (signed : Bool) (ms : Members) (t : EnumType) → k.numbers ≡ numbers_in signed ms → HasMappings k ms → enumeration signed ms ≡ Some t → IsEnumeration t
+unfolding enumeration
+enumeration_allowed k signed ms t known h e =
+    let read = mapped_some (with_mappings (mappings_or_none (object_at (codes "mappings") ms))) (integer signed ms) t e in
+    let mappings : AreMappings k (mappings_or_none (object_at (codes "mappings") ms)) = subst (λ o. AreMappings k (mappings_or_none o)) (sym h.there) (mappings_good k h.labels h.good) in
+    subst IsEnumeration read.2 (enumeration_with k signed ms (mappings_or_none (object_at (codes "mappings") ms)) read.0 read.1 known mappings)
 
 -- items that are good, in byte order of their names, and no more than `most`
 pub record AreAllowed {A : Type 0} (named : A → List ℕ) (good : A → Type 0) (most : ℕ) (xs : List A) : Type 0 where

@@ -26,32 +26,12 @@ pub use Rattle.conf_draft.specs.Structures.{align_for, members_or_none, structur
 unfoldable pub use Rattle.conf_draft.specs.Traces.{asks_number, draft_of_root, draft_of_trace, draft_of_type}
 pub use Rattle.conf_draft.specs.Traces.{draft_from, draft_of, draft_with}
 pub use Rattle.conf_draft.specs.declared.draft.Draft.{Draft}
-unfoldable pub use Rattle.ctf_types.specs.Allowed.{elements_of}
+unfoldable pub use Rattle.ctf_types.specs.{Allowed.elements_of, AllowedConfig.LabelsInOrder, Names.is_identifier, Shown.shown_members}
 pub use Rattle.ctf_types.specs.Allowed.{HasBits, IsNest}
-unfoldable pub use Rattle.ctf_types.specs.AllowedConfig.{LabelsInOrder}
 pub use Rattle.ctf_types.specs.AllowedConfig.{AreConfigMembers, InByteOrder, IsClockType, IsConfig, IsConfigLeaf, IsConfigMember, IsConfigStruct, IsEnumeration, IsEnvironmentValue, IsPlainUnsigned, IsRangeOf, IsStreamType, OnlyIf, highest, lowest}
 pub use Rattle.ctf_types.specs.FieldTypes.{chain_of}
 pub use Rattle.ctf_types.specs.Members.{names_in}
-unfoldable pub use Rattle.ctf_types.specs.Names.{is_identifier}
 pub use Rattle.ctf_types.specs.Names.{IsConfigName, IsConfigText, IsPlainName, unused_keywords, used_keywords}
 pub use Rattle.ctf_types.specs.Packets.{own_names}
-unfoldable pub use Rattle.ctf_types.specs.Shown.{shown_members}
 pub use Rattle.ctf_types.specs.Shown.{length_name}
-pub use Rattle.ctf_types.specs.declared.Base.{Base}
-pub use Rattle.ctf_types.specs.declared.ClockType.{ClockType}
-pub use Rattle.ctf_types.specs.declared.Config.{Config}
-pub use Rattle.ctf_types.specs.declared.ContextFeatures.{ContextFeatures}
-pub use Rattle.ctf_types.specs.declared.EnumType.{EnumType}
-pub use Rattle.ctf_types.specs.declared.EnvironmentEntry.{EnvironmentEntry}
-pub use Rattle.ctf_types.specs.declared.EventFeatures.{EventFeatures}
-pub use Rattle.ctf_types.specs.declared.EventType.{EventType}
-pub use Rattle.ctf_types.specs.declared.FieldType.TheVariants.{Enum, Int, Static, Str}
-pub use Rattle.ctf_types.specs.declared.FieldType.{FieldType}
-pub use Rattle.ctf_types.specs.declared.HeaderFeatures.{HeaderFeatures}
-pub use Rattle.ctf_types.specs.declared.IntType.{IntType}
-pub use Rattle.ctf_types.specs.declared.Length.TheVariants.{At, Auto}
-pub use Rattle.ctf_types.specs.declared.Mapping.{Mapping}
-pub use Rattle.ctf_types.specs.declared.MemberType.TheVariants.{Dyn, Plain}
-pub use Rattle.ctf_types.specs.declared.MemberType.{MemberType}
-pub use Rattle.ctf_types.specs.declared.StreamType.{StreamType}
-pub use Rattle.ctf_types.specs.declared.StructType.{StructType}
+pub use Rattle.ctf_types.specs.declared.{Base.Base, ClockType.ClockType, Config.Config, ContextFeatures.ContextFeatures, EnumType.EnumType, EnvironmentEntry.EnvironmentEntry, EventFeatures.EventFeatures, EventType.EventType, FieldType.TheVariants.Enum, FieldType.TheVariants.Int, FieldType.TheVariants.Static, FieldType.TheVariants.Str, FieldType.FieldType, HeaderFeatures.HeaderFeatures, IntType.IntType, Length.TheVariants.At, Length.TheVariants.Auto, Mapping.Mapping, MemberType.TheVariants.Dyn, MemberType.TheVariants.Plain, MemberType.MemberType, StreamType.StreamType, StructType.StructType}

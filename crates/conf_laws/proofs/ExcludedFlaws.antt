@@ -1,6 +1,5 @@
 -- Where the walk over a configuration's objects tells of nothing, the table knows of no flaw.
-use Rattle.std.proofs.Common.{◌≡◌, ◌⊎◌, ℕ, zero, suc, true, false, not, List, [], ◌∷◌, Contains, Option, Some, None, is_some, Ok, Err, inl, inr, refl, sym, ap, subst, ◌∙◌, arith, cond}
-use Rattle.std.specs.Prelude.{codes}
+use Rattle.std.proofs.Common.{◌≡◌, ◌⊎◌, ℕ, zero, suc, true, false, not, List, [], ◌∷◌, Contains, Option, Some, None, is_some, Ok, Err, inl, inr, refl, sym, ap, subst, ◌∙◌, arith, cond, codes}
 use Rattle.conf_laws.proofs.Agreement.{Agrees, nothing_agrees, inside_agrees, behind_agrees, Takes, takes_beside, takes_further, item_agrees, ItemParts, stands}
 use Rattle.conf_laws.proofs.ExcludedValues.{class_word_listed, value_excluded, at_name_excluded}
 use Rattle.conf_laws.proofs.Numbers.{number_told}

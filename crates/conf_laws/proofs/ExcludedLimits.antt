@@ -1,6 +1,5 @@
 -- Where the walk over a configuration tells of no limit, it passes none by the table.
-use Rattle.std.proofs.Common.{◌≡◌, ◌/◌, ◌%◌, ◌==◌, ◌<◌, ℕ, zero, suc, true, false, List, [], length, Some, is_some, inl, inr, refl, sym, ap, subst, ◌∙◌, arith}
-use Rattle.std.specs.Prelude.{nat_le, nat_eq}
+use Rattle.std.proofs.Common.{◌≡◌, ◌/◌, ◌%◌, ◌==◌, ◌<◌, ℕ, zero, suc, true, false, List, [], length, Some, is_some, inl, inr, refl, sym, ap, subst, ◌∙◌, arith, nat_le, nat_eq}
 use Rattle.conf_laws.proofs.ExcludedValues.{divided}
 use Rattle.conf_laws.proofs.Properties.{within_none, limits_at, first_limits, first_item_limits}
 use Rattle.conf_laws.proofs.Sound.{both_none}

@@ -1,7 +1,6 @@
 -- A value of which nothing is told by itself is what its row says that it is, and of the kind of its place; and a name of which nothing
 -- is told is one that the entry can have.
-use Rattle.std.proofs.Common.{◌≡◌, ◌⊎◌, ◌+◌, ◌*◌, ◌/◌, ◌≤◌, ◌<◌, ◌^◌, ◌%◌, ◌==◌, ◌&&◌, ◌||◌, ℕ, zero, suc, ℤ, pos, negsuc, ◌<ℤ◌, Bool, true, false, cond, List, [], ◌∷◌, map, Contains, Some, is_some, Ok, inl, inr, refl, sym, ap, subst, ◌∙◌, arith, ◌↔◌, length}
-use Rattle.std.specs.Prelude.{codes, nat_le, nat_lt, nat_eq, int_le, unwrap_or, option_map}
+use Rattle.std.proofs.Common.{◌≡◌, ◌⊎◌, ◌+◌, ◌*◌, ◌/◌, ◌≤◌, ◌<◌, ◌^◌, ◌%◌, ◌==◌, ◌&&◌, ◌||◌, ℕ, zero, suc, ℤ, pos, negsuc, ◌<ℤ◌, Bool, true, false, cond, List, [], ◌∷◌, map, Contains, Some, is_some, Ok, inl, inr, refl, sym, ap, subst, ◌∙◌, arith, ◌↔◌, length, codes, nat_le, nat_lt, nat_eq, int_le, unwrap_or, option_map}
 use Rattle.uuid.specs.Text.{parsed}
 use borrow.Author.Differences.{le-true, lt_out}
 use Rattle.conf_laws.proofs.Agreement.{Agrees, IsTrue, told_dynamic}

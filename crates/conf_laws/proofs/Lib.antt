@@ -7,16 +7,10 @@ pub mod Readings
 pub mod Sound
 pub mod Properties
 pub mod Numbers
-pub mod FieldTypes
 pub mod Structures
-pub mod Table
-pub mod Features
 pub mod Traces
 pub mod AllowedMaps
-pub mod AllowedEnumerations
 pub mod AllowedTraces
-pub mod AllowedFeatures
-pub mod AllowedFields
 pub mod AllowedStructures
 pub mod TableFlawLaws
 pub mod Agreement

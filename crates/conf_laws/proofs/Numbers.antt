@@ -1,7 +1,6 @@
 -- A whole number that is in its range is a natural number in it; what a range that was read says; and the alignments of fields, where one
 -- that passes no limit is the very number that is read.
-use Rattle.std.proofs.Common.{◌≡◌, ◌≤◌, ℕ, ℤ, pos, negsuc, true, false, List, Option, Some, Ok, nat_le, leb-true, le-leb, arith, refl, sym, ap, subst, ◌∙◌, None, ◌<◌, Bool, ◌%◌, ◌==◌, cond}
-use Rattle.std.specs.Prelude.{◌&&◌, int_le, nat_lt, nat_eq, ◌||◌, codes, option_and_then, unwrap_or}
+use Rattle.std.proofs.Common.{◌≡◌, ◌≤◌, ℕ, ℤ, pos, negsuc, true, false, List, Option, Some, Ok, nat_le, leb-true, le-leb, arith, refl, sym, ap, subst, ◌∙◌, None, ◌<◌, Bool, ◌%◌, ◌==◌, cond, ◌&&◌, int_le, nat_lt, nat_eq, ◌||◌, codes, option_and_then, unwrap_or}
 use Rattle.conf_draft.specs.Integers as integers
 use Rattle.conf_draft.specs.Structures as structures
 use Rattle.conf_laws.proofs.Readings.{optional_found}

@@ -1,7 +1,6 @@
 -- What small steps and readings say that went well; what is computed from the first property of a name; and what holds of a field type
 -- where it holds of its element.
-use Rattle.std.proofs.Common.{◌≡◌, ℕ, Bool, true, false, List, Option, Some, None, is_some, refl, ap, IsSome, [], ◌∷◌, ◌++◌, cond, Ok, Err, Ordering, Less, Equal, Greater, nat_cmp, is_eq, sym, subst, ◌∙◌}
-use Rattle.std.specs.Prelude.{option_map, option_and_then, codes}
+use Rattle.std.proofs.Common.{◌≡◌, ℕ, Bool, true, false, List, Option, Some, None, is_some, refl, ap, IsSome, [], ◌∷◌, ◌++◌, cond, Ok, Err, Ordering, Less, Equal, Greater, nat_cmp, is_eq, sym, subst, ◌∙◌, option_map, option_and_then, codes}
 use Rattle.conf_laws.proofs.JudgeWords.{is_null, only_if, times, elements, elements_in_array, natural_in, natural_or_none, has_bits, element_has_bits}
 use Rattle.conf_laws.proofs.TreeWords.{Flaw, given, optional, proved, as_natural, Data, string, array, object, Items, Members, null, no_members, member, get_member}
 use Rattle.conf_laws.proofs.StdWords.{false≢true, nat_list_cmp_total, tied_itself, is_eq-slice_cmp, same_Some, bytes_eq-Decides, slice_cmp, AllByRecursion, option_map_or, match_ordering, bytes_eq}

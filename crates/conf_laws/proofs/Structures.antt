@@ -1,19 +1,88 @@
--- The names that members take are apart, and apart from names that were taken before. The members of a structure that have no flaw say
--- something, and so do structures and the extra members of a packet context.
-use Rattle.std.proofs.Common.{◌≡◌, ℕ, ◌+◌, Bool, true, false, ◌||◌, List, [], ◌∷◌, ◌++◌, length, All, is_some, refl, sym, ap, subst, ◌∙◌, arith, length-append, append_assoc, ◌⊎◌, suc, cond, Option, Some, None, IsSome, option_map, Ok, inl, inr, ◌%◌, ◌==◌, nat_lt}
-use Rattle.std.specs.Prelude.{codes, option_and_then}
-use Rattle.conf_laws.proofs.Agreement.{taken_put}
-use Rattle.conf_laws.proofs.FieldTypes.{type_said}
-use Rattle.conf_laws.proofs.Numbers.{IsAlignment, alignment_or}
-use Rattle.conf_laws.proofs.Readings.{all_joined, under_no_test, optional_found, element_is, mapped_there, then_there, proved_there, by_found, by_test}
-use Rattle.conf_laws.proofs.Sound.{ObjectSound, ContentSound, PropertySound, object_sound, object_at, content_sound, first_item, RowsSound, rows_sound, needed_sound, first_entry, TypeSound, type_sound, Leads, given_sound}
-use Rattle.conf_laws.proofs.Table.{Property, leads, needed_by, MapPlace, is_map}
-use Rattle.conf_laws.proofs.TableWords.{admits_class, entries_of, Place, At}
+-- Field types that have no flaw say something, and so do the members of a structure, structures and the extra members of a packet
+-- context. The names that members take are apart, and apart from names that were taken before.
+use Rattle.std.proofs.Common.{◌≡◌, ◌%◌, ◌==◌, ℕ, pos, Bool, true, false, cond, Some, IsSome, nat_lt, nat_le, leb-true, lt-ltb, arith, refl, sym, ap, subst, Option, None, is_some, Ok, ◌∙◌, ◌+◌, ◌||◌, List, [], ◌∷◌, ◌++◌, length, All, length-append, append_assoc, ◌⊎◌, suc, option_map, inl, inr, codes, unwrap_or, option_and_then}
+use Rattle.conf_draft.specs.Integers as integers
+use Rattle.conf_laws.proofs.Numbers.{IsAlignment, alignment_or, needed_natural}
+use Rattle.conf_laws.proofs.Readings.{proved_there, element_is, by_element, mapped_there, all_joined, under_no_test, optional_found, then_there, by_found, by_test}
+use Rattle.conf_laws.proofs.Sound.{RowsSound, ContentSound, object_sound, needed_sound, TypeSound, type_sound, ObjectSound, PropertySound, object_at, content_sound, first_item, rows_sound, first_entry, Leads, given_sound}
+use Rattle.conf_laws.proofs.Properties.{Property, leads, needed_by, MapPlace, is_map}
+use Rattle.conf_laws.proofs.TableWords.{admits_class, is_class, Place, Whole, At, entries_of}
 use Rattle.conf_laws.proofs.TableWords.places
-use Rattle.conf_laws.proofs.JudgeWords.{inner_flaws, item_flaws, itself_of, form_of, entry, any_list, Known, inside, with_taken, take, is_taken, take_length, key_of, key_by, plain_of, free_of, is_dynamic, with_names, length_is_taken, names_beside, is_position, own_place, place_of_properties, item_content}
-use Rattle.conf_laws.proofs.TreeWords.{optional, ◌>>=◌, both_read, plain_name_of, Members, Data, object, Items, no_items, item, no_members, member, array, get_member, as_array, as_object}
+use Rattle.conf_laws.proofs.JudgeWords.{itself_of, form_of, any_object, Known, inside, is_position, inner_flaws, item_flaws, entry, any_list, with_taken, take, is_taken, take_length, key_of, key_by, plain_of, free_of, is_dynamic, with_names, length_is_taken, names_beside, own_place, place_of_properties, item_content}
+use Rattle.conf_laws.proofs.TreeWords.{Members, Data, object, get_member, optional, ◌>>=◌, both_read, plain_name_of, Items, no_items, item, no_members, member, array, as_array, as_object}
 use Rattle.conf_laws.proofs.StdWords.{false≢true, or_parts, All-push, All-nil, list_any-append, map-append, bytes_eq-Decides, IsDistinct, AllByRecursion, list_any, bytes_eq}
-use Rattle.conf_laws.proofs.DraftWords.{field_type, element, object as object_in, object_of, list as list_in, list_of, is_dynamic_array, member_type, told_type, member_of, behind as behind_done, members_behind, made, align_for, members_or_none, listed, align_of, structure_of, structure_or_none, structure, extra_members, names_in, IsPlainName, length_name, shown_members, Auto, At as AtMember, Plain, Dyn, MemberType}
+use Rattle.conf_laws.proofs.DraftWords.{enumeration, field_type, element, of_class, static, length_of, size_of, base_of, default_align, integer, Base, FieldType, object as object_in, object_of, list as list_in, list_of, is_dynamic_array, member_type, told_type, member_of, behind as behind_done, members_behind, made, align_for, members_or_none, listed, align_of, structure_of, structure_or_none, structure, extra_members, names_in, IsPlainName, length_name, shown_members, Auto, At as AtMember, Plain, Dyn, MemberType}
+use Rattle.conf_laws.proofs.Agreement.{taken_put}
+
+made_there : (size align : ℕ) (signed : Bool) (base : Base) → nat_lt 0 size ≡ true → nat_le size 64 ≡ true → IsAlignment align → IsSome (integers.made size align signed base)
+unfolding integers.made
+made_there size align signed base a b c = proved_there (nat_lt 0 size) _ a (λ _. proved_there (nat_le size 64) _ b (λ _. proved_there (nat_lt 0 align) _ c.positive (λ _. proved_there (4096 % align == 0) _ c.power (λ _. refl))))
+
+by_default : (size : ℕ) → IsAlignment (default_align size)
+by_default size = go (size % 8 == 0)
+  where
+    go : (b : Bool) → IsAlignment (cond b 8 1)
+    go true = record { positive = refl; power = refl }
+    go false = record { positive = refl; power = refl }
+
+pub integer_said : (k : Known) (place : Place) (signed : Bool) (ms : Members) → Property true place (codes "size") (Whole (pos 1) (pos 64)) → RowsSound k place ms → IsSome (integer signed ms)
+unfolding integer size_of integers.align_of
+integer_said k place signed ms rows h =
+    let n = needed_natural k place (codes "size") 1 64 ms (leads rows) (needed_by rows) h (omega arith) in
+    let is = sym (ap (λ o. unwrap_or o 0) n.1) in
+    made_there (size_of ms) (integers.align_of ms) signed (base_of ms) (subst (λ x. nat_lt 0 x ≡ true) is (lt-ltb 0 n.0 (let a = leb-true 1 n.0 n.2 in omega arith))) (subst (λ x. nat_le x 64 ≡ true) is n.3) (alignment_or (codes "alignment") (default_align (size_of ms)) ms (by_default (size_of ms)))
+
+-- ---- static arrays
+
+static_there : (n : ℕ) (o : Option FieldType) → nat_le n 1048576 ≡ true → IsSome o → IsSome (static n o)
+static_there n None l e = absurd (false≢true e)
+static_there n (Some t) l e = rw l refl
+
+length_fits : (k : Known) (ms : Members) → RowsSound k places.StaticArray ms → nat_le (length_of ms) 1048576 ≡ true
+unfolding length_of
+length_fits k ms h =
+    let n = needed_natural k places.StaticArray (codes "length") 0 1048576 ms (leads Property.static_length) (needed_by Property.static_length) h (omega arith) in
+    subst (λ o. nat_le (unwrap_or o 0) 1048576 ≡ true) (sym n.1) n.3
+
+-- ---- a field type by its class
+
+-- one whose class may stand in an array, and whose own elements say something
+class_said : (k : Known) (class : Place) (ms : Members) → admits_class places.ElementType class ≡ true → RowsSound (inside class ms k) class ms → (class ≡ places.StaticArray → IsSome (element ms))
+    → IsSome (of_class (Some class) ms (element ms))
+unfolding admits_class is_class of_class enumeration
+class_said k places.UnsignedInteger ms a h e = mapped_there _ (integer false ms) (integer_said _ places.UnsignedInteger false ms Property.unsigned_size h)
+class_said k places.SignedInteger ms a h e = mapped_there _ (integer true ms) (integer_said _ places.SignedInteger true ms Property.signed_size h)
+class_said k places.UnsignedEnumeration ms a h e = mapped_there _ (enumeration false ms) (mapped_there _ (integer false ms) (integer_said _ places.UnsignedEnumeration false ms Property.unsigned_enumeration_size h))
+class_said k places.SignedEnumeration ms a h e = mapped_there _ (enumeration true ms) (mapped_there _ (integer true ms) (integer_said _ places.SignedEnumeration true ms Property.signed_enumeration_size h))
+class_said k places.Str ms a h e = refl
+class_said k places.StaticArray ms a h e = static_there (length_of ms) (element ms) (length_fits _ ms h) (e refl)
+class_said k _ ms a h e = absurd (false≢true a)
+
+-- what stands as an element says something
+abbrev IsSaidAt : Data → Type 0
+IsSaidAt d = (k : Known) → ContentSound k (At places.ElementType) d → IsSome (field_type d)
+
+object_said : (k : Known) (place : Place) (ms : Members) (t : TypeSound k place ms) → admits_class places.ElementType t.class ≡ true → ((x : Data) → get_member (codes "element-field-type") ms ≡ Some x → IsSaidAt x) → IsSome (field_type (object ms))
+object_said k place ms t a inner = subst (λ o. IsSome (of_class o ms (element ms))) (sym t.is) (class_said k t.class ms a t.rows (λ same. of_array same))
+  where
+    of_array : t.class ≡ places.StaticArray → IsSome (element ms)
+    of_array same =
+        let h = subst (λ p. RowsSound (inside t.class ms k) p ms) same t.rows in
+        let p = needed_sound (inside t.class ms k) places.StaticArray (codes "element-field-type") (At places.ElementType) ms (leads Property.element) (needed_by Property.element) h in
+        ap is_some (element_is ms ∙ ap (option_and_then field_type) p.found) ∙ inner p.value p.found (inside t.class ms k) p.sound.value
+
+element_said : (d : Data) → IsSaidAt d
+unfolding itself_of form_of any_object is_position
+element_said d = by_element IsSaidAt step d
+  where
+    step : (d : Data) → ((ms : Members) (x : Data) → d ≡ object ms → get_member (codes "element-field-type") ms ≡ Some x → IsSaidAt x) → IsSaidAt d
+    step (object ms) inner k h =
+        let t = type_sound k places.ElementType ms refl (object_sound k places.ElementType ms h.inner) in object_said k places.ElementType ms t t.may_stand (λ x there. inner ms x refl there)
+    step d inner k h = absurd (let e : any_object d ≡ Ok tt = h.itself in cc)
+
+-- a field type where one of these classes may stand
+pub type_said : (k : Known) (place : Place) (ms : Members) (t : TypeSound k place ms) → admits_class places.ElementType t.class ≡ true → IsSome (field_type (object ms))
+type_said k place ms t a = object_said k place ms t a (λ x there. element_said x)
 
 -- ---- what a member takes
 
@@ -122,9 +191,9 @@ one_more_named before ms taken after name m h plain free keeps takes =
 
 -- ---- dynamic arrays
 
-element_said : (k : Known) (d : Data) → ContentSound k (At places.DynamicElementType) d → IsSome (field_type d)
+dynamic_element_said : (k : Known) (d : Data) → ContentSound k (At places.DynamicElementType) d → IsSome (field_type d)
 unfolding itself_of form_of is_position admits_class
-element_said k d h =
+dynamic_element_said k d h =
     let o = object_at k places.DynamicElementType d h refl in
     let t = type_sound k places.DynamicElementType o.ms refl o.sound in
     subst (λ x. IsSome (field_type x)) (sym o.is) (type_said k places.DynamicElementType o.ms t (t.may_stand))
@@ -132,7 +201,7 @@ element_said k d h =
 array_said : (k : Known) (ms : Members) → RowsSound k places.DynamicArray ms → IsSome (element ms)
 array_said k ms h =
     let p = needed_sound k places.DynamicArray (codes "element-field-type") (At places.DynamicElementType) ms (leads Property.dynamic_element) (needed_by Property.dynamic_element) h in
-    ap is_some (element_is ms ∙ ap (option_and_then field_type) p.found) ∙ element_said k p.value p.sound.value
+    ap is_some (element_is ms ∙ ap (option_and_then field_type) p.found) ∙ dynamic_element_said k p.value p.sound.value
 
 -- ---- the type of a member
 
@@ -244,9 +313,9 @@ items_said (item d ds) k place entries taken i done h f =
 no_alignment : IsAlignment 1
 no_alignment = record { positive = refl; power = refl }
 
-made_there : (members : List (List ℕ × MemberType)) (align : ℕ) → IsAlignment align → IsSome (made members align)
+structure_made : (members : List (List ℕ × MemberType)) (align : ℕ) → IsAlignment align → IsSome (made members align)
 unfolding made
-made_there members align a = proved_there (nat_lt 0 align) _ a.positive (λ _. proved_there (4096 % align == 0) _ a.power (λ _. refl))
+structure_made members align a = proved_there (nat_lt 0 align) _ a.positive (λ _. proved_there (4096 % align == 0) _ a.power (λ _. refl))
 
 aligned : (members : List (List ℕ × MemberType)) (align : ℕ) → IsAlignment align → IsAlignment (align_for members align)
 aligned [] align a = no_alignment
@@ -285,11 +354,11 @@ listed_there k around place name ms leads m h =
 
 -- ---- structures
 
-object_said : (k : Known) (ms : Members) → RowsSound k places.Structure ms → IsSome (structure_of ms)
+structure_object_said : (k : Known) (ms : Members) → RowsSound k places.Structure ms → IsSome (structure_of ms)
 unfolding structure_of align_of
-object_said k ms h =
+structure_object_said k ms h =
     then_there (λ members. made members (align_for members (align_of ms))) (listed (codes "members") ms) (listed_there k places.Structure places.Members (codes "members") ms (leads Property.members) members_list h)
-    (λ members. made_there members (align_for members (align_of ms)) (aligned members (align_of ms) (alignment_or (codes "minimum-alignment") 1 ms no_alignment)))
+    (λ members. structure_made members (align_for members (align_of ms)) (aligned members (align_of ms) (alignment_or (codes "minimum-alignment") 1 ms no_alignment)))
 
 pub structure_class : (class : Place) → admits_class places.StructureType class ≡ true → class ≡ places.Structure
 unfolding admits_class
@@ -302,15 +371,15 @@ structure_said k d h =
     let o = object_at k places.StructureType d h refl in
     let t = type_sound k places.StructureType o.ms refl o.sound in
     let rows = subst (λ p. RowsSound (inside t.class o.ms k) p o.ms) (structure_class t.class t.may_stand) t.rows in
-    subst (λ x. IsSome (structure_or_none (as_object x))) (sym o.is) (object_said (inside t.class o.ms k) o.ms rows)
+    subst (λ x. IsSome (structure_or_none (as_object x))) (sym o.is) (structure_object_said (inside t.class o.ms k) o.ms rows)
 
 pub structure_there : (k : Known) (around : Place) (name : List ℕ) (ms : Members) → Leads around name (At places.StructureType) → RowsSound k around ms → IsSome (structure name ms)
 unfolding structure object_in
 structure_there k around name ms leads h =
     by_found (λ (o : Option Data). IsSome (structure_or_none (object_of o))) (optional name ms)
-    (λ f. made_there [] 1 no_alignment) (λ d f. structure_said k d (given_sound k around name (At places.StructureType) ms d leads h f).value)
+    (λ f. structure_made [] 1 no_alignment) (λ d f. structure_said k d (given_sound k around name (At places.StructureType) ms d leads h f).value)
 
 pub extras_there : (k : Known) (around : Place) (name : List ℕ) (ms : Members) → Leads around name (At places.ExtraMembers) → RowsSound k around ms → IsSome (extra_members name ms)
 unfolding extra_members
 extras_there k around name ms leads h =
-    then_there (λ members. made members 1) (listed name ms) (listed_there k around places.ExtraMembers name ms leads extras_list h) (λ members. made_there members 1 no_alignment)
+    then_there (λ members. made members 1) (listed name ms) (listed_there k around places.ExtraMembers name ms leads extras_list h) (λ members. structure_made members 1 no_alignment)

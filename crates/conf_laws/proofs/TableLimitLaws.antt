@@ -1,6 +1,5 @@
 -- Each limit that the walk over a configuration tells of is one that it passes by the table.
-use Rattle.std.proofs.Common.{◌≡◌, ◌⊎◌, ◌*◌, ◌≤◌, ◌<◌, ℕ, zero, suc, Bool, true, false, not, cond, List, [], ◌∷◌, length, Option, Some, None, inl, inr, refl, sym, ap, subst, ◌∙◌, arith, ◌++◌, ◌%◌, ◌==◌, ◌&&◌, map, Contains, is_some, Err}
-use Rattle.std.specs.Prelude.{codes, nat_le, nat_eq}
+use Rattle.std.proofs.Common.{◌≡◌, ◌⊎◌, ◌*◌, ◌≤◌, ◌<◌, ℕ, zero, suc, Bool, true, false, not, cond, List, [], ◌∷◌, length, Option, Some, None, inl, inr, refl, sym, ap, subst, ◌∙◌, arith, ◌++◌, ◌%◌, ◌==◌, ◌&&◌, map, Contains, is_some, Err, codes, nat_le, nat_eq}
 use Rattle.conf_laws.proofs.Agreement.{ItemParts, item_found}
 use Rattle.conf_laws.proofs.Readings.{some_none, some_same, of_element, in_array, by_found, by_test}
 use Rattle.conf_laws.proofs.TableFlawLaws.{static_told, seen_and, member_there, refused_among}

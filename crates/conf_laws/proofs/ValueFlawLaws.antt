@@ -1,6 +1,5 @@
 -- What is told of a value by itself, and of the name of an entry, is a flaw of it.
-use Rattle.std.proofs.Common.{◌≡◌, ◌≢◌, ◌⊎◌, ◌↔◌, ◌≤◌, ◌^◌, ◌&&◌, ◌||◌, ℕ, zero, suc, ℤ, pos, Bool, true, false, not, cond, List, [], ◌∷◌, map, Contains, Option, Some, None, is_some, Result, Ok, Err, inl, inr, refl, sym, ap, subst, ◌∙◌, arith, get_or}
-use Rattle.std.specs.Prelude.{codes, unwrap_or, option_map, nat_lt, nat_eq, int_le}
+use Rattle.std.proofs.Common.{◌≡◌, ◌≢◌, ◌⊎◌, ◌↔◌, ◌≤◌, ◌^◌, ◌&&◌, ◌||◌, ℕ, zero, suc, ℤ, pos, Bool, true, false, not, cond, List, [], ◌∷◌, map, Contains, Option, Some, None, is_some, Result, Ok, Err, inl, inr, refl, sym, ap, subst, ◌∙◌, arith, get_or, codes, unwrap_or, option_map, nat_lt, nat_eq, int_le}
 use Rattle.uuid.specs.Text.{parsed}
 use borrow.Author.Differences.{le-true, le-false, below_in}
 use Rattle.conf_laws.proofs.Agreement.{Agrees, IsTrue, dynamic_told}

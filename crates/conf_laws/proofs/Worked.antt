@@ -1,7 +1,6 @@
 -- The flaws of a few configurations by the table, each at the path that is printed; and configurations that have no flaw, pass no limit and
 -- say something, of which a small one is allowed.
-use Rattle.std.proofs.Common.{◌≡◌, List, [], ◌∷◌, true, Some, None, inl, inr, refl, arith, ◌<◌, ℕ, length, IsSome, subst}
-use Rattle.std.specs.Prelude.{codes}
+use Rattle.std.proofs.Common.{◌≡◌, List, [], ◌∷◌, true, Some, None, inl, inr, refl, arith, ◌<◌, ℕ, length, IsSome, subst, codes}
 use Rattle.conf_draft.specs.FieldTypes as drafts
 use Rattle.conf_draft.specs.Integers.{made, align_of}
 use Rattle.conf_draft.specs.Structures as structures
