@@ -10,8 +10,8 @@ ghost use Rattle.tsdl_writer.specs.Prints.{Prints};
 
 use crate::printer::Token::{LengthOf, Mark, Number, Word};
 use crate::printer::{Printed, Printer};
-use crate::types::{integer, kind, length_type};
-use ctf_types::{FieldType, IntType, Length, MemberType, Members};
+use crate::types::{integer, kind};
+use ctf_types::{Base, FieldType, IntType, Length, MemberType, Members};
 use tsdl_grammar::Mark::{CloseBracket, OpenBracket, Semicolon};
 
 /// The members of a structure. A dynamic array has its length in a member before it.
@@ -36,7 +36,10 @@ fn member(out: &mut Printer, name: &str, member: &MemberType) -> Printed
             out.token(Mark(Semicolon))
         }
         MemberType::Dyn(element, Length::Auto) => {
-            length_type(out)?;
+            let Some(length) = IntType::new(32, 8, false, Base::Dec) else {
+                unreachable!()
+            };
+            integer(out, &length)?;
             out.print(&[LengthOf(name), Mark(Semicolon)])?;
             kind(out, element)?;
             out.print(&[Word(name), Mark(OpenBracket), LengthOf(name)])?;

@@ -106,10 +106,9 @@ impl Printer {
         self.gap(Next::Other)?;
         let escaped = escape(self.alloc, text.as_bytes())?;
         match std::str::from_utf8(&escaped) {
-            Ok(escaped) => write!(self.text, "\"{escaped}\"")?,
+            Ok(escaped) => write!(self.text, "\"{escaped}\""),
             Err(_) => unreachable!(),
         }
-        Ok(())
     }
 
     /// The gap in front of a token; what follows that stands apart.

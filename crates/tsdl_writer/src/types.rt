@@ -4,7 +4,6 @@ ghost use Rattle.std.specs.Prelude.{◌≡◌, OnOk, option_map};
 ghost use Rattle.std.specs.List.{flat_map};
 ghost use Rattle.ctf_types.specs.Chain.{Labelled};
 ghost use Rattle.ctf_types.specs.FieldTypes.{chain_of};
-ghost use Rattle.ctf_types.specs.Shown.{length_type};
 ghost use Rattle.tsdl_grammar.specs.Spelling.{attr_toks, int_toks, entry_toks, entries_toks, kind_toks};
 ghost use Rattle.tsdl_writer.specs.FieldTrees.{base_number, mapping_attributes, integer_attributes, entry_tree, entry_trees, kind_tree};
 ghost use Rattle.tsdl_writer.specs.Prints.{Prints};
@@ -42,16 +41,6 @@ pub(crate) fn integer(out: &mut Printer, int: &IntType) -> Printed
     attribute(out, "base", Number(base_number(int.base())))?;
     mapping(out, int.clock())?;
     out.token(Mark(CloseBrace))
-}
-
-/// The type of a dynamic array's length: 32 bits, alignment 8, unsigned.
-pub(crate) fn length_type(out: &mut Printer) -> Printed
-    ensures { OnOk result (Prints out.old out.new (int_toks (integer_attributes length_type))) }
-{
-    let Some(length) = IntType::new(32, 8, false, Base::Dec) else {
-        unreachable!()
-    };
-    integer(out, &length)
 }
 
 /// `map = clock.NAME.value;`, where there is a clock.

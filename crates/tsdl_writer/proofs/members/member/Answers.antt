@@ -1,4 +1,4 @@
-use Rattle.std.proofs.Common.{rules, ◌≡◌, [], ◌∷◌, ◌++◌, map}
+use Rattle.std.proofs.Common.{rules, ◌≡◌, List, [], ◌∷◌, ◌++◌, map, subst}
 use Rattle.std.specs.List.{flat_map}
 use Rattle.ctf_types.specs.declared.Length.TheVariants.{Auto}
 use Rattle.ctf_types.specs.declared.MemberType.TheVariants.{Dyn}
@@ -6,9 +6,11 @@ use Rattle.ctf_types.specs.FieldTypes.{chain_of}
 use Rattle.ctf_types.specs.Shown.{length_name, length_type}
 use Rattle.tsdl_grammar.specs.declared.atom.Atom.TheVariants as atoms
 use Rattle.tsdl_grammar.specs.declared.token.Mark.TheVariants as marks
+use Rattle.tsdl_grammar.specs.declared.tree.Attribute.{Attribute}
 use Rattle.tsdl_grammar.specs.Spelling.{int_toks, kind_toks, bracket_toks, member_toks}
 use Rattle.tsdl_writer.specs.FieldTrees.{integer_attributes, kind_tree, count_bracket, member_tree, length_member, array_member}
-use Rattle.tsdl_writer.proofs.Printing.{last, regroup, nothing_behind, line}
+use Rattle.tsdl_writer.specs.Prints.{Prints}
+use Rattle.tsdl_writer.proofs.Printing.{last, regroup, nothing_behind, line, attributes_are}
 use Rattle.tsdl_writer.proofs.members.member.Goals as goal
 
 pub returns-in_ok-lengths-in-Plain : goal.returns-in_ok-lengths-in-Plain
@@ -24,11 +26,14 @@ pub returns-in_ok-lengths-in-Dyn-default-Auto : goal.returns-in_ok-lengths-in-Dy
 returns-in_ok-lengths-in-Dyn-default-Auto c =
     let same : c.args.member.now ≡ Dyn c.in-Dyn-default-Auto.element Auto = search rules in
     let name = c.args.name.now in let chain = chain_of c.in-Dyn-default-Auto.element in
+    let t = c.in-Some.length in
+    let length_printed = subst (λ (attrs : List Attribute). Prints c.args.out.now c.integer.new.out (int_toks attrs))
+    (attributes_are length_type t.size t.align t.signed t.base t.clock c.in-Some.ensures.size c.in-Some.ensures.align c.in-Some.ensures.signed c.in-Some.ensures.base c.in-Some.ensures.no_clock) c.in_ok-integer-in-Dyn-default-Auto.ensures in
     let length = length_name name in let array = member_toks (array_member name chain) in let lengths = flat_map bracket_toks (map count_bracket chain.lengths) in
     rw same (last c.token-in-Dyn-default-Auto-2.result c.token-in-Dyn-default-Auto-2.ensures (λ one rest text e.
     regroup (member_toks (length_member name)) (array ++ []) rest
     (line (int_toks (integer_attributes length_type)) (atoms.Word length ∷ []) (array ++ [] ++ rest)
-    (c.in_ok-length_type-in-Dyn-default-Auto.ensures _ text (c.in_ok-print-in-Dyn-default-Auto.ensures _ text (nothing_behind array rest
+    (length_printed _ text (c.in_ok-print-in-Dyn-default-Auto.ensures _ text (nothing_behind array rest
     (line (kind_toks (kind_tree chain.leaf)) (atoms.Word name ∷ atoms.Mark marks.OpenBracket ∷ atoms.Word length ∷ atoms.Mark marks.CloseBracket ∷ lengths) rest
     (c.in_ok-kind-in-Dyn-default-Auto.ensures _ text (c.in_ok-print-in-Dyn-default-Auto-2.ensures _ text (c.in_ok-token-in-Dyn-default-Auto.ensures _ text
     (c.in_ok-lengths-in-Dyn-default-Auto.ensures _ text (one rest text e))))))))))))
