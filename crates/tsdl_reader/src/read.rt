@@ -3,7 +3,7 @@
 ghost use Rattle.std.specs.Prelude.{◌≡◌, ℕ, IfOk, IfErr};
 ghost use Rattle.ctf_types.specs.declared.Metadata.{Metadata};
 ghost use Rattle.ctf_types.specs.Allowed.{IsMetadata};
-ghost use Rattle.tsdl_grammar.specs.Tokens.{HasMagicLine, HasTokens, StopsAt};
+ghost use Rattle.tsdl_grammar.specs.Tokens.{HasMagicLine, StopsAt};
 ghost use Rattle.tsdl_grammar.specs.Denotes.{Denotes};
 ghost use Rattle.tsdl_reader.specs.Reading.{GivesMetadata, GivesKind, FaultHolds};
 
@@ -31,19 +31,9 @@ pub fn read_metadata(alloc: Global, text: &[u8]) -> Result<Metadata, MetaFault>
     ensures fault { IfErr result (λ f. FaultHolds text.now f.kind f.place) }
 {
     tokens_or_a_stop();
-    check_tokens(text)?;
-    judge(alloc, text)
-}
-
-/// The metadata that a text denotes that has tokens.
-fn judge(alloc: Global, text: &[u8]) -> Result<Metadata, MetaFault>
-    requires { HasMagicLine text.now × HasTokens text.now }
-    ensures found { IfOk result (λ m. Denotes text.now m × IsMetadata m) }
-    ensures only { (m : Metadata) → Denotes text.now m → GivesMetadata result m }
-    ensures fault { IfErr result (λ f. FaultHolds text.now f.kind f.place) }
-{
     tokens_are_unique();
     denoted_is_allowed();
+    check_tokens(text)?;
     match meaning(alloc, text) {
         Ok(metadata) => Ok(metadata),
         Err(Stop::Fault(fault)) => Err(MetaFault {

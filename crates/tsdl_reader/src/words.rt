@@ -52,12 +52,10 @@ fn told_by(alloc: Global, text: &[u8], fault: &MetaFault) -> Result<Option<Strin
 
 /// Metadata in packets, as tracers write it that stream it.
 fn packets_words(alloc: Global, text: &[u8]) -> Result<Option<String>, AllocError> {
-    if PACKET_MAGIC.iter().any(|magic| text.starts_with(magic)) {
-        let words = format!(in alloc; "metadata in packets is not read here{CONVERTED}")?;
-        Ok(Some(words))
-    } else {
-        Ok(None)
+    if !PACKET_MAGIC.iter().any(|magic| text.starts_with(magic)) {
+        return Ok(None);
     }
+    Ok(Some(format!(in alloc; "metadata in packets is not read here{CONVERTED}")?))
 }
 
 /// What is wrong with the atoms of a text.
