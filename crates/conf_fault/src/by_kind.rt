@@ -4,12 +4,12 @@ ghost use Rattle.std.specs.Prelude.{◌≡◌, IfOk, string_bytes};
 ghost use Rattle.std.specs.Option.{option_copied};
 ghost use Rattle.conf_fault.specs.Explanation.{IsWanted, fixed_words as words_of_kind};
 
-use crate::expected::{classes_at, push_expected, push_properties, push_words};
+use crate::expected::{classes_at, push_expected, push_words};
 use crate::found::Found;
-use crate::hints::{push_class_hint, push_hint};
 use crate::named::{push_known, push_largest_number};
 use crate::nearest::push_nearest;
-use conf_table::{Content, Place, entries, words_in};
+use crate::source::Source;
+use conf_table::{Content, Place, entries, rows, words_in};
 use conf_tree::{ConfFault, FaultKind, Step};
 use std::alloc::AllocError;
 
@@ -28,21 +28,21 @@ pub(crate) fn wanted_words(found: &Found<'_>, fault: &ConfFault) -> Result<Strin
 /// Adds what was expected by the kinds that are not the same everywhere.
 fn push_wanted(said: &mut String, found: &Found<'_>, fault: &ConfFault) -> Result<(), AllocError> {
     let path = fault.path.as_slice();
-    let name = last_name(path);
-    if let Some(words) = words_here(fault.kind, name, found.content) {
-        said.push_str(words)?;
-    } else {
-        match fault.kind {
-            FaultKind::Unknown => push_properties(found.source.alloc, said, found.holder, name)?,
-            FaultKind::OutOfRange => push_in_range(said, found)?,
-            FaultKind::NoSuchAlias => push_aliases(said, found)?,
-            FaultKind::NoClock => push_known(said, found, "clock type", "clock-types")?,
-            FaultKind::FieldTooSmall => push_largest_number(found.source, said, path)?,
-            FaultKind::Limit => push_limit(said, found)?,
-            _ => push_content(said, found)?,
-        }
+    let name = match path.last() {
+        Some(Step::Key(name)) => name.as_str(),
+        _ => "",
+    };
+    match (fault.kind, words_here(fault.kind, name, found.content)) {
+        (_, Some(words)) => said.push_str(words)?,
+        (FaultKind::Unknown, _) => push_properties(said, found, name)?,
+        (FaultKind::OutOfRange, _) => push_in_range(said, found)?,
+        (FaultKind::NoSuchAlias, _) => push_aliases(said, found)?,
+        (FaultKind::NoClock, _) => push_known(said, found, "clock type", "clock-types")?,
+        (FaultKind::FieldTooSmall, _) => push_largest_number(found.source, said, path)?,
+        (FaultKind::Limit, _) => push_limit(said, found)?,
+        _ => push_expected(said, found)?,
     }
-    push_hint(found.source, said, fault.kind, path, name)
+    push_hint(said, found, fault, name)
 }
 
 /// What is expected by the kinds that are the same everywhere.
@@ -96,21 +96,19 @@ fn words_here(kind: FaultKind, name: &str, content: Option<Content>) -> Option<&
         ),
         (FaultKind::TimestampSize, _, _) => Some("a field of 64 bits, or the feature off"),
         (FaultKind::OutOfRange, "$is-default", _) => Some("true at one data stream type at most"),
-        (FaultKind::OutOfRange, _, Some(Content::At(place))) => words_of_range(place),
-        (
-            FaultKind::NotWhole,
-            _,
-            Some(
-                Content::Whole { low: _, high: _ }
-                | Content::PowerOfTwo { high: _ }
-                | Content::Level { high: _ }
-                | Content::WholeOrText {
-                    low: _,
-                    high: _,
-                    most_bytes: _,
-                },
-            ),
-        ) => None,
+        (FaultKind::OutOfRange, _, Some(Content::At(Place::Mappings))) => Some(
+            "one label at least",
+        ),
+        (FaultKind::OutOfRange, _, Some(Content::At(Place::Ranges))) => Some(
+            "one range at least, under a label without control characters but newline and tab",
+        ),
+        (FaultKind::OutOfRange, _, Some(Content::At(Place::Range))) => Some(
+            "a range inside the integer's numbers, the lowest first",
+        ),
+        (FaultKind::OutOfRange, _, Some(Content::At(Place::ElementType))) => Some(
+            "an element with bits",
+        ),
+        (FaultKind::NotWhole, _, Some(content)) if is_whole(content) => None,
         (FaultKind::NotWhole, _, _) => Some(
             "a whole number of 64 bits, without fraction or exponent",
         ),
@@ -118,43 +116,22 @@ fn words_here(kind: FaultKind, name: &str, content: Option<Content>) -> Option<&
     }
 }
 
-/// What is expected at the places whose values can be out of range.
-fn words_of_range(place: Place) -> Option<&'static str> {
-    match place {
-        Place::Mappings => Some("one label at least"),
-        Place::Ranges => Some(
-            "one range at least, under a label without control characters but newline and tab",
-        ),
-        Place::Range => Some("a range inside the integer's numbers, the lowest first"),
-        Place::ElementType => Some("an element with bits"),
-        _ => None,
-    }
-}
-
-/// The name of the last step, where it has one.
-fn last_name(path: &[Step]) -> &str {
-    match path.last() {
-        Some(Step::Key(name)) => name.as_str(),
-        _ => "",
-    }
-}
-
-fn push_content(said: &mut String, found: &Found<'_>) -> Result<(), AllocError> {
-    match found.content {
-        Some(content) => push_expected(found.source.alloc, said, content, found.position),
-        None => said.push_str("what this place allows"),
-    }
+/// Whether a value of this content can be a whole number.
+fn is_whole(content: Content) -> bool {
+    matches!(
+        content,
+        Content::Whole { .. }
+            | Content::PowerOfTwo { .. }
+            | Content::Level { .. }
+            | Content::WholeOrText { .. }
+    )
 }
 
 fn push_in_range(said: &mut String, found: &Found<'_>) -> Result<(), AllocError> {
     match found.content {
         Some(Content::Word(choice)) => push_choice(said, found, words_in(choice)),
-        Some(Content::Class) => push_choice(
-            said,
-            found,
-            classes_at(found.source.alloc, found.position)?.as_slice(),
-        ),
-        _ => push_content(said, found),
+        Some(Content::Class) => push_choice(said, found, classes_at(found)?.as_slice()),
+        _ => push_expected(said, found),
     }
 }
 
@@ -165,12 +142,25 @@ fn push_choice(said: &mut String, found: &Found<'_>, words: &[&str]) -> Result<(
         return Ok(());
     };
     push_nearest(said, word.as_str(), words)?;
-    push_class_hint(said, word.as_str())
+    if word.as_str() == "real" {
+        said.push_str("; there are no real numbers")?;
+    }
+    Ok(())
+}
+
+/// Adds the properties of an object, with the one most like `name`.
+fn push_properties(said: &mut String, found: &Found<'_>, name: &str) -> Result<(), AllocError> {
+    let names: Vec<&str> = rows(found.holder)
+        .iter()
+        .map(|(name, _, _)| *name)
+        .collect(found.source.alloc)?;
+    push_words(said, names.as_slice())?;
+    push_nearest(said, name, names.as_slice())
 }
 
 fn push_aliases(said: &mut String, found: &Found<'_>) -> Result<(), AllocError> {
     let (thing, map) = match found.content {
-        Some(Content::Level { high: _ }) => ("log level alias", "$log-level-aliases"),
+        Some(Content::Level { .. }) => ("log level alias", "$log-level-aliases"),
         _ => ("field type alias", "$field-type-aliases"),
     };
     push_known(said, found, thing, map)
@@ -178,7 +168,7 @@ fn push_aliases(said: &mut String, found: &Found<'_>) -> Result<(), AllocError> 
 
 fn push_limit(said: &mut String, found: &Found<'_>) -> Result<(), AllocError> {
     let Some(Content::At(place)) = found.content else {
-        return push_content(said, found);
+        return push_expected(said, found);
     };
     match entries(place).and_then(|entries| entries.most) {
         Some(most) => said.push_str(format!(in found.source.alloc;
@@ -186,4 +176,32 @@ fn push_limit(said: &mut String, found: &Found<'_>) -> Result<(), AllocError> {
         )?.as_str()),
         None => said.push_str("fewer or smaller parts"),
     }
+}
+
+/// Adds what helps where a property is missing, or a name is at fault.
+fn push_hint(
+    said: &mut String,
+    found: &Found<'_>,
+    fault: &ConfFault,
+    name: &str,
+) -> Result<(), AllocError> {
+    let is_outermost = fault.path.as_slice().len() == 1;
+    match fault.kind {
+        FaultKind::Missing if is_outermost && is_of_barectf_2(found.source)? => said.push_str(
+            "; this looks like a configuration of barectf 2, and ctftrace reads those of barectf 3",
+        ),
+        FaultKind::Unknown if name == "$include" => said.push_str(
+            "; tools/yaml_to_json puts in what `$include` names",
+        ),
+        FaultKind::BadName if name.as_bytes().contains(&b'-') => said.push_str(
+            "; a hyphen stands in no name, `_` does",
+        ),
+        _ => Ok(()),
+    }
+}
+
+/// Whether the configuration has a property of barectf 2.
+fn is_of_barectf_2(source: Source<'_>) -> Result<bool, AllocError> {
+    let root = source.root();
+    Ok(source.member(root, "metadata")?.is_some() || source.member(root, "version")?.is_some())
 }

@@ -1,16 +1,15 @@
 //! What the table expects of a value, in words.
 
-use crate::nearest::push_nearest;
-use conf_table::{Content, Keys, Place, class_words, entries, rows, words_in};
+use crate::found::Found;
+use conf_table::{Content, Keys, Place, class_words, entries, words_in};
 use std::alloc::{AllocError, Global};
 
-/// Adds what a value of this content is.
-pub(crate) fn push_expected(
-    alloc: Global,
-    said: &mut String,
-    content: Content,
-    position: Place,
-) -> Result<(), AllocError> {
+/// Adds what a value is where the path leads.
+pub(crate) fn push_expected(said: &mut String, found: &Found<'_>) -> Result<(), AllocError> {
+    let alloc = found.source.alloc;
+    let Some(content) = found.content else {
+        return said.push_str("what this place allows");
+    };
     match content {
         Content::Whole { low, high } => push_range(alloc, said, low, high),
         Content::PowerOfTwo { high } => said.push_str(format!(in alloc;
@@ -22,7 +21,7 @@ pub(crate) fn push_expected(
         Content::Identifier => said.push_str("a UUID as text"),
         Content::IdentifierOrAuto => said.push_str("a UUID as text, or `auto`"),
         Content::Word(choice) => push_words(said, words_in(choice)),
-        Content::Class => push_words(said, classes_at(alloc, position)?.as_slice()),
+        Content::Class => push_words(said, classes_at(found)?.as_slice()),
         Content::WholeOrText {
             low,
             high,
@@ -65,27 +64,13 @@ pub(crate) fn push_words(said: &mut String, words: &[&str]) -> Result<(), AllocE
     said.push('`')
 }
 
-/// The words of the classes that may stand at a position.
-pub(crate) fn classes_at(alloc: Global, position: Place) -> Result<Vec<&'static str>, AllocError> {
+/// The words of the classes that may stand where the path leads.
+pub(crate) fn classes_at(found: &Found<'_>) -> Result<Vec<&'static str>, AllocError> {
+    let position = found.position;
     let classes = class_words()
         .iter()
         .filter(|(_, class)| position.admits(*class));
-    classes.map(|(word, _)| *word).collect(alloc)
-}
-
-/// Adds the properties of an object, with the one most like `name`.
-pub(crate) fn push_properties(
-    alloc: Global,
-    said: &mut String,
-    holder: Place,
-    name: &str,
-) -> Result<(), AllocError> {
-    let names: Vec<&str> = rows(holder)
-        .iter()
-        .map(|(name, _, _)| *name)
-        .collect(alloc)?;
-    push_words(said, names.as_slice())?;
-    push_nearest(said, name, names.as_slice())
+    classes.map(|(word, _)| *word).collect(found.source.alloc)
 }
 
 /// What stands at a place.

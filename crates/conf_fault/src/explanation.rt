@@ -7,8 +7,8 @@ ghost use Rattle.conf_fault.specs.Shown.{IsOneLine};
 
 use crate::by_kind::wanted_words;
 use crate::found::Found;
-use crate::hints::push_not_json;
 use crate::line_column::{line_column, push_place};
+use crate::not_json::push_not_json;
 use crate::shown::{on_one_line, push_cut};
 use crate::source::Source;
 use conf_tree::{ConfFault, FaultKind, Step};
@@ -42,11 +42,7 @@ fn push_placed(source: Source<'_>, said: &mut String, fault: &ConfFault) -> Resu
 {
     let found = source.find(fault.path.as_slice())?;
     let layer = found.layer();
-    let at = if name_words(fault.kind).is_some() {
-        layer.key
-    } else {
-        layer.at
-    };
+    let at = name_words(fault.kind).map_or(layer.at, |_| layer.key);
     push_place(source.alloc, said, line_column(source.text, at))?;
     push_path(source.alloc, said, fault.path.as_slice())?;
     push_alias(source, said, layer.alias)?;

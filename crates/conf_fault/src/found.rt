@@ -57,11 +57,15 @@ impl<'t> Source<'t> {
         step: &Step,
         next: Option<&Step>,
     ) -> Result<bool, AllocError> {
-        let position = place_of(found.content);
+        let position = found.content.map_or(Place::Ignored, Content::place);
         let holder = self.class_of(found.layers.as_slice(), position)?;
-        let told = told(holder, step);
+        let told = match step {
+            Step::Key(name) => content(holder, name.as_str()),
+            Step::Index(_) => entries(holder).map(|entries| entries.content),
+        };
         let inner = self.inside(found.layers.as_slice(), holder, step, next)?;
-        let layers = self.followed(inner, place_of(told))?;
+        let place = told.map_or(Place::Ignored, Content::place);
+        let layers = self.followed(inner, place)?;
         found.position = position;
         found.holder = holder;
         found.content = told;
@@ -86,17 +90,4 @@ impl<'t> Source<'t> {
         }
         Ok(position)
     }
-}
-
-/// What the table says of the value one step into a place.
-fn told(holder: Place, step: &Step) -> Option<Content> {
-    match step {
-        Step::Key(name) => content(holder, name.as_str()),
-        Step::Index(_) => Some(entries(holder)?.content),
-    }
-}
-
-/// The place that a value of this content is.
-fn place_of(content: Option<Content>) -> Place {
-    content.map_or(Place::Ignored, |content| content.place())
 }

@@ -22,7 +22,6 @@ pub(crate) struct Layer {
 pub(crate) fn holds_field_type(place: Place) -> bool {
     place.is_class()
         || place == Place::Member
-        || place == Place::FieldType
         || place.admits(Place::Structure)
         || place.admits(Place::UnsignedInteger)
         || place.admits(Place::StaticArray)
@@ -87,23 +86,11 @@ impl<'t> Source<'t> {
         let Some(name) = self.text_of(at)? else {
             return Ok(None);
         };
-        let alias = self.property(&["trace", "type", "$field-type-aliases", name.as_str()])?;
+        let alias = self.property(&["$field-type-aliases", name.as_str()])?;
         Ok(alias.map(|alias| Layer {
             alias: Some(alias.key),
             ..alias
         }))
-    }
-
-    /// The property to which these names lead.
-    pub(crate) fn property(&self, names: &[&str]) -> Result<Option<Layer>, AllocError> {
-        let mut value = self.root();
-        for name in names {
-            let Some(member) = self.member(value, *name)? else {
-                return Ok(None);
-            };
-            value = member;
-        }
-        Ok(Some(value))
     }
 
     /// The values one step into these, nearest first.
@@ -114,58 +101,44 @@ impl<'t> Source<'t> {
         step: &Step,
         next: Option<&Step>,
     ) -> Result<Vec<Layer>, AllocError> {
-        match step {
-            Step::Key(name) => self.members_of(layers, place, name.as_str()),
-            Step::Index(index) => {
-                if place != Place::Members && place != Place::ExtraMembers {
-                    return self.items_of(layers, *index);
-                }
-                match next {
-                    Some(Step::Key(name)) => self.entries_of(layers, *index, name.as_str()),
-                    _ => self.items_of(&layers[..layers.len().min(1)], *index),
-                }
+        let is_of_members = place == Place::Members || place == Place::ExtraMembers;
+        match (step, next) {
+            (Step::Key(name), _) => self.named(layers, place, None, name.as_str()),
+            (Step::Index(index), Some(Step::Key(name))) if is_of_members => {
+                self.named(layers, place, Some(*index), name.as_str())
             }
+            (Step::Index(index), _) if is_of_members => {
+                self.items_of(&layers[..layers.len().min(1)], *index)
+            }
+            (Step::Index(index), _) => self.items_of(layers, *index),
         }
     }
 
-    fn members_of(
+    /// The members of this name. In members lists the entries of this name: each list's own at the index, or else the one that has the name.
+    fn named(
         &self,
         layers: &[Layer],
         place: Place,
+        index: Option<usize>,
         name: &str,
     ) -> Result<Vec<Layer>, AllocError> {
+        let is_alias = place == Place::Member && name == "field-type";
         let mut found = Vec::new(self.alloc);
         for layer in layers {
-            if let Some(member) = self.member(*layer, name)? {
-                found.push(member)?;
-            } else if place == Place::Member && name == "field-type" && self.is(layer.at, b'"') {
-                found.push(*layer)?;
-            }
-        }
-        Ok(found)
-    }
-
-    /// The entries of this name in members lists: each list's own at the index, or else the one that has the name.
-    fn entries_of(
-        &self,
-        layers: &[Layer],
-        index: usize,
-        name: &str,
-    ) -> Result<Vec<Layer>, AllocError> {
-        let mut found = Vec::new(self.alloc);
-        for layer in layers {
-            if let Some(entry) = self.entry(*layer, index, name)? {
-                found.push(entry)?;
+            let value = match index {
+                Some(index) => self.entry(*layer, index, name)?,
+                None if is_alias && self.is(layer.at, b'"') => Some(*layer),
+                None => self.member(*layer, name)?,
+            };
+            if let Some(value) = value {
+                found.push(value)?;
             }
         }
         Ok(found)
     }
 
     fn entry(&self, list: Layer, index: usize, name: &str) -> Result<Option<Layer>, AllocError> {
-        if !self.is(list.at, b'[') {
-            return Ok(None);
-        }
-        let items = self.children(list)?;
+        let items = self.children(list, b'[')?;
         for item in items.get(index).into_iter().chain(items.iter()) {
             if self.member(*item, name)?.is_some() {
                 return Ok(Some(*item));
@@ -179,10 +152,7 @@ impl<'t> Source<'t> {
         let mut found = Vec::new(self.alloc);
         let mut left = index;
         for layer in layers.iter().rev() {
-            if !self.is(layer.at, b'[') {
-                continue;
-            }
-            let items = self.children(*layer)?;
+            let items = self.children(*layer, b'[')?;
             if let Some(item) = items.get(left) {
                 found.push(*item)?;
                 break;

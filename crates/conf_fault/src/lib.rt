@@ -2,21 +2,18 @@
 #![tactic(auto)]
 
 mod by_kind;
-mod child;
 mod expected;
 mod explanation;
 mod found;
-mod hints;
-mod json_front;
 mod layers;
 mod line_column;
 mod named;
 mod nearest;
+mod not_json;
 mod shown;
 mod source;
-mod yaml;
 
 pub use explanation::explain_fault;
-pub use json_front::json_place;
 pub use line_column::LineColumn;
+pub use not_json::json_place;
 pub use shown::{on_one_line, push_cut};

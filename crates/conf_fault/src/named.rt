@@ -16,7 +16,7 @@ pub(crate) fn push_known(
     map: &str,
 ) -> Result<(), AllocError> {
     let source = found.source;
-    let names = match source.property(&["trace", "type", map])? {
+    let names = match source.property(&[map])? {
         Some(map) => source.names(map)?,
         None => Vec::new(source.alloc),
     };
@@ -41,15 +41,9 @@ pub(crate) fn push_largest_number(
 ) -> Result<(), AllocError> {
     let types = match path {
         [_, _, Step::Key(map), Step::Key(stream), ..] if map.as_str() == "data-stream-types" => {
-            source.property(&[
-                "trace",
-                "type",
-                map.as_str(),
-                stream.as_str(),
-                "event-record-types",
-            ])?
+            source.property(&[map.as_str(), stream.as_str(), "event-record-types"])?
         }
-        _ => source.property(&["trace", "type", "data-stream-types"])?,
+        _ => source.property(&["data-stream-types"])?,
     };
     if let Some(types) = types
         && let Some(Value::Object(members)) = source.value_of(types.at)?

@@ -3,22 +3,12 @@
 use std::alloc::AllocError;
 
 /// How many bytes two words have in common at their beginnings and at their ends.
-fn likeness(word: &str, other: &str) -> usize {
-    let front = word
-        .as_bytes()
-        .iter()
-        .zip(other.as_bytes())
-        .take_while(|(a, b)| **a == **b)
-        .count();
-    let back = word
-        .as_bytes()
-        .iter()
-        .rev()
-        .zip(other.as_bytes().iter().rev())
-        .take_while(|(a, b)| **a == **b)
-        .count();
-    let shorter = word.len().min(other.len());
-    front.saturating_add(back).min(shorter)
+fn likeness(word: &[u8], other: &[u8]) -> usize {
+    let fronts = word.iter().zip(other);
+    let backs = word.iter().rev().zip(other.iter().rev());
+    let front = fronts.take_while(|(a, b)| **a == **b).count();
+    let back = backs.take_while(|(a, b)| **a == **b).count();
+    front.saturating_add(back).min(word.len().min(other.len()))
 }
 
 /// Adds the word most like `word`, where more than half of it is alike.
@@ -30,7 +20,7 @@ pub(crate) fn push_nearest(
     let mut nearest = "";
     let mut most = word.len() / 2;
     for other in words {
-        let alike = likeness(word, *other);
+        let alike = likeness(word.as_bytes(), other.as_bytes());
         if alike > most {
             most = alike;
             nearest = *other;

@@ -1,5 +1,5 @@
 use Rattle.std.proofs.Common.{◌-◌, ◌≤◌, length}
-use Rattle.conf_fault.proofs.json_front.longest_front.Given as goal
+use Rattle.conf_fault.proofs.not_json.longest_front.Given as goal
 
 abbrev pub invariant-loop-least : goal.invariant-loop-least
 invariant-loop-least l = record {
