@@ -14,7 +14,7 @@ alone_toks : (first : List ℕ) (rest : List (List ℕ)) (w : List ℕ) → alon
 alone_toks first [] w h = let e : first ≡ w = cc in ap (λ (n : List ℕ). word n ∷ []) e
 alone_toks first (x ∷ xs) w h = absurd (let e : None ≡ Some w = h in cc)
 
-only_word : (n : Name) (w : List ℕ) → one_word n ≡ Some w → name_toks n ≡ word w ∷ []
+pub only_word : (n : Name) (w : List ℕ) → one_word n ≡ Some w → name_toks n ≡ word w ∷ []
 only_word n w h = alone_toks n.first n.rest w h
 
 attr_parts : (a : Attribute) (behind : List Atom) → attr_toks a ++ behind ≡ name_toks a.name ++ (mark marks.Equals ∷ (value_toks a.value ++ (mark marks.Semicolon ∷ behind)))

@@ -1,7 +1,7 @@
 -- Integers, enumerations and strings without a flaw mean something.
 use Rattle.std.proofs.Common.{◌≡◌, ℕ, ◌+◌, ◌<◌, ◌%◌, ◌==◌, Bool, true, false, cond, ◌&&◌, ◌||◌, List, [], ◌∷◌, ◌++◌, length, take, get_or, Option, Some, None, IsSome, Bor, ℤ, pos, negsuc, refl, sym, ap, subst, ◌∙◌, arith, length-append, length-take}
 use Rattle.std.specs.Prelude.{codes, nat_lt, nat_le, int_le}
-use Rattle.tsdl_meaning.proofs.TextWords.{AddsOwn, AreRanges, Asked, Attribute, BTreeSet, ByteOrder, Entries, Entry, Global, Known, Number, String, Value, are_distinct, attr, attr_names, base_value, bytes_eq, clock_value, default_align, encoding_value, entries_of, entry_meaning, enum_meaning, flag_value, has_only, high_of, int_attrs, int_meaning, is_alignment, is_among, is_fit, is_size, is_some, kind_meaning, list_all, list_any, natural_value, of_integer, of_string, option_map, option_map_or, order_value, order_words, provided, signed_of, string_attrs, text_meaning, with_default, word_value, words_of, ◌>>=◌}
+use Rattle.tsdl_meaning.proofs.TextWords.{AddsOwn, AreRanges, Asked, Attribute, BTreeSet, ByteOrder, Entries, Entry, Global, Known, Number, String, Value, are_distinct, attr, attr_names, base_value, bytes_eq, clock_value, default_align, encoding_value, entries_of, entry_meaning, enum_meaning, flag_value, fits, has_only, high_of, int_attrs, int_meaning, is_alignment, is_among, is_fit, is_size, is_some, kind_meaning, list_all, list_any, natural_value, of_integer, of_string, option_map, option_map_or, order_value, order_words, own_asked, own_attrs, passes, provided, signed_of, string_attrs, text_meaning, tree_of, with_default, word_value, words_of, ◌>>=◌}
 use Rattle.std.proofs.lemmas.Bool.{ltb-true, leb-true, eqb-true, le-leb, and_from}
 use Rattle.std.proofs.lemmas.Bool.Decides.{nat_tests}
 use Rattle.std.proofs.lemmas.List.{map-append, take_more}
@@ -10,6 +10,8 @@ use Rattle.ctf_types.specs.declared.ByteOrder.TheVariants.{Little, Big}
 use Rattle.ctf_types.specs.declared.Base.TheVariants.{Dec}
 use Rattle.ctf_types.specs.declared.IntType.{IntType}
 use Rattle.tsdl_grammar.specs.declared.tree.Kind.TheVariants as kinds
+use Rattle.tsdl_meaning.specs.declared.judge.type_attributes.TypeKind.{TypeKind}
+use Rattle.tsdl_meaning.specs.declared.judge.type_attributes.TypeKind.TheVariants as types
 use Rattle.tsdl_grammar.proofs.Inversion.{bind_is}
 use Rattle.tsdl_grammar.proofs.TypeParts.{int_type-own}
 use Rattle.tsdl_meaning.proofs.FlawlessNames.{HasAll, names_more, distinct_more, and_left, and_right}
@@ -89,7 +91,7 @@ align_range : (size align : ℕ) (o : Option Value) → ((v : Value) → o ≡ S
 align_range size align None asks e = let same : default_align size ≡ align = cc in subst (λ (a : ℕ). (nat_lt 0 a && (4096 % a == 0)) ≡ true) same (default_aligned size)
 align_range size align (Some v) asks e = passes_of (λ n. nat_lt 0 n && (4096 % n == 0)) (natural_value v) align (asks v refl) e
 
-pub integer_means : (known : Known) (attrs : List Attribute) (names : BTreeSet (String Global)) → Own int_attrs (of_integer known) attrs names → is_some (attr (codes "size") attrs) ≡ true
+integer_means : (known : Known) (attrs : List Attribute) (names : BTreeSet (String Global)) → Own int_attrs (of_integer known) attrs names → is_some (attr (codes "size") attrs) ≡ true
     → IsSome (int_meaning known attrs)
 unfolding int_meaning
 integer_means known attrs names s there =
@@ -129,25 +131,41 @@ ranges_mean known attrs es int ranges =
     let few : nat_le (length (entries_of es)) 65536 ≡ true = grind (arith, nat_tests) in
     rw (t.1, few, ranges.mean) refl
 
-pub integer_kind : (known : Known) (attrs : List Attribute) → IsSome (int_meaning known attrs) → IsSome (kind_meaning known (kinds.Integer attrs))
+some_before : {A B : Type 0} (f : A → B) (o : Option A) → IsSome (option_map f o) → IsSome o
+some_before f (Some x) h = refl
+some_before f None h = absurd cc
+
+pub int_means : (known : Known) (attrs : List Attribute) → IsSome (kind_meaning known (kinds.Integer attrs)) → IsSome (int_meaning known attrs)
 unfolding kind_meaning
-integer_kind known attrs int = let t = some_is (int_meaning known attrs) int in rw t.1 refl
+int_means known attrs h = some_before _ (int_meaning known attrs) h
 
 -- ---- strings
 
-pub text_kind : (known : Known) (attrs : Option (List Attribute)) → IsSome (text_meaning attrs) → IsSome (kind_meaning known (kinds.Text attrs))
-unfolding kind_meaning
-text_kind known attrs h = h
-
-pub bare_string : IsSome (text_meaning None)
-unfolding text_meaning
-bare_string = refl
-
-pub string_means : (attrs : List Attribute) (names : BTreeSet (String Global)) → Own string_attrs of_string attrs names → IsSome (text_meaning (Some attrs))
+string_means : (attrs : List Attribute) (names : BTreeSet (String Global)) → Own string_attrs of_string attrs names → IsSome (text_meaning (Some attrs))
 unfolding text_meaning
 string_means attrs names s =
     let encoded = default_is of_string encoding_value (codes "encoding") attrs s.fit (λ v h. h) true in
     rw (only_these string_attrs of_string attrs names s, encoded.1) refl
+
+-- a string alone, and with what encoding it has
+pub bare_string : (known : Known) → IsSome (kind_meaning known (kinds.Text None))
+unfolding kind_meaning text_meaning
+bare_string known = refl
+
+-- a type that has its size, if it is an integer
+pub type_means : (known : Known) (kind : TypeKind) (attrs : List Attribute) (names : BTreeSet (String Global)) → Own (own_attrs kind) (own_asked known kind) attrs names
+    → (kind ≡ types.Integer → is_some (attr (codes "size") attrs) ≡ true) → IsSome (kind_meaning known (tree_of kind attrs))
+unfolding kind_meaning
+type_means known types.Integer attrs names s there = let t = some_is (int_meaning known attrs) (integer_means known attrs names s (there refl)) in rw t.1 refl
+type_means known types.Text attrs names s there = string_means attrs names s
+
+-- what a string has is an encoding, whatever its name
+pub encoding_fits : (w : List ℕ) (v : Value) → is_some (encoding_value v) ≡ true → fits of_string w v ≡ true
+encoding_fits w v h = by (bytes_eq (codes "encoding") w)
+  where
+    by : (b : Bool) → passes (cond b (Some (λ x. is_some (encoding_value x))) None) v ≡ true
+    by true = h
+    by false = refl
 
 -- ---- ranges
 

@@ -1,12 +1,10 @@
 -- A stop in a part of an attribute.
-use Rattle.std.proofs.Common.{◌≡◌, ℕ, ◌+◌, List, [], ◌∷◌, ◌++◌, length, take, drop, get_or, suc, ◌<◌, min, sym, ap, ◌∙◌, subst, inl, arith, append_assoc, length-append}
-use Rattle.tsdl_meaning.proofs.TextWords.{AreNamed, Atom, Attribute, BTreeSet, Global, HasLength, IsBehindOwn, IsOf, Name, StandsBehind, Stop, StopsAmong, StopsIn, StopsWhere, String, attr_toks, attrs_toks, flat_map, mark, most, name_toks, value_toks, word}
+use Rattle.std.proofs.Common.{◌≡◌, ℕ, ◌+◌, List, [], ◌∷◌, ◌++◌, length, take, drop, get_or, suc, ◌<◌, min, sym, ap, ◌∙◌, subst, arith, append_assoc, length-append}
+use Rattle.tsdl_meaning.proofs.TextWords.{AreNamed, Atom, Attribute, BTreeSet, Global, HasLength, Name, StandsBehind, Stop, StopsAmong, StopsIn, StopsWhere, String, attr_toks, attrs_toks, flat_map, mark, most, name_toks, value_toks, word}
 use Rattle.tsdl_grammar.specs.declared.token.Mark.TheVariants as marks
 use Rattle.tsdl_flaw.proofs.Parts.{stops_after, stops_item, flat_next}
 use Rattle.tsdl_meaning.proofs.Fronts.{whole}
 use Rattle.tsdl_meaning.proofs.StopsInNames.{still_named}
-use Rattle.tsdl_meaning.specs.declared.integer.IntegerAttribute.{IntegerAttribute}
-use Rattle.tsdl_meaning.specs.declared.integer.IntegerAttribute.TheVariants.{Size, Align, Signed, ByteOrder, Base, Map, Encoding}
 
 -- what stands before the value of an attribute
 abbrev pub opening : Name → List Atom
@@ -42,16 +40,6 @@ pub in_value : (P : List Atom → Type 0) (a : Attribute) (front behind : List A
 in_value P a front behind at counted before place stop counts passes ends p s =
     stops_after front (attr_toks a ++ behind) (opening a.name) (value_toks a.value ++ mark marks.Semicolon ∷ behind) at place stop (attr_parts a behind)
     (opening_passed a.name at counted before place counts passes ends) (s (front ++ opening a.name) (mark marks.Semicolon ∷ behind) p)
-
--- an alignment stands behind its name and `=`
-pub behind_own : (k : IntegerAttribute) (n : Name) (front : List Atom) → IsOf n k → IsBehindOwn k (front ++ opening n)
-behind_own Align n front e = inl (front, ap (λ (l : List Atom). front ++ (l ++ mark marks.Equals ∷ [])) e)
-behind_own Size n front e = tt
-behind_own Signed n front e = tt
-behind_own ByteOrder n front e = tt
-behind_own Base n front e = tt
-behind_own Map n front e = tt
-behind_own Encoding n front e = tt
 
 -- the names of the attributes before and of this one
 pub attr_named : (a : Attribute) (front : List Atom) (names : BTreeSet (String Global)) → AreNamed (front ++ opening a.name) marks.Equals names → AreNamed (front ++ attr_toks a) marks.Equals names

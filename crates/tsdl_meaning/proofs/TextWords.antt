@@ -73,11 +73,11 @@ pub use Rattle.tsdl_meaning.specs.ClockNames.{HasNames}
 pub use Rattle.tsdl_meaning.specs.FlawlessBlocks.{AddsAttribute, AddsItem, AddsName, AddsScope, AreFlawless, Asked, IsEnded, IsFlawlessBlock, IsFlawlessScope, asked_of, first_texts, fits, fits_word, is_fit, is_number, named_rules, of_clock, of_event, of_stream, of_trace, passes, rule_in, scopes_of}
 pub use Rattle.tsdl_meaning.specs.FlawlessBrackets.{AreBrackets, HaveNumbers, KeepsLimits, NameLength}
 pub use Rattle.tsdl_meaning.specs.FlawlessTexts.{AddsBlock, AddsClock, AddsFact, AddsStream, HaveStreams, IsEmpty, IsFlawlessBehind, MeanEntries, Surveys}
-pub use Rattle.tsdl_meaning.specs.FlawlessTypes.{AddsOwn, AreRanges, is_alignment, is_size, of_integer, of_string, own_word, string_attrs}
+pub use Rattle.tsdl_meaning.specs.FlawlessTypes.{AddsOwn, AreRanges, is_alignment, is_size, of_integer, of_string, own_asked, own_attrs, string_attrs, tree_of, type_word}
 pub use Rattle.tsdl_meaning.specs.Fronts.{with_front}
 pub use Rattle.tsdl_meaning.specs.Groups.{AddsEvent, OthersStay, group_of, with_group, with_own}
 pub use Rattle.tsdl_meaning.specs.Judged.{EndsFacts, IsAttribute, StopsAmong, StopsWhere}
-pub use Rattle.tsdl_meaning.specs.Judging.{IsBehindAlign, IsBehindBrace, IsBehindOwn, IsOf}
+pub use Rattle.tsdl_meaning.specs.Judging.{IsBehindAlign, IsBehindBrace, IsBehindName, IsBehindWord}
 pub use Rattle.tsdl_meaning.specs.Ledgers.{AreNoted, HasClock, HasEvent, HasStream, pair_cmp}
 pub use Rattle.tsdl_meaning.specs.MembersBefore.{IsBehindKind, IsBehindMembers}
 pub use Rattle.tsdl_meaning.specs.Names.{name_lists, names_of, scope_names, texts_of}

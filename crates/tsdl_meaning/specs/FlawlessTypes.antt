@@ -7,15 +7,17 @@ use Rattle.std.specs.declared.string.String.{String}
 use Rattle.std.specs.declared.alloc.Global.{Global}
 use Rattle.ctf_types.specs.declared.Mapping.{Mapping}
 use Rattle.tsdl_grammar.specs.declared.tree.Entry.{Entry}
+use Rattle.tsdl_grammar.specs.declared.tree.Kind.{Kind}
+use Rattle.tsdl_grammar.specs.declared.tree.Kind.TheVariants as kinds
 use Rattle.tsdl_grammar.specs.declared.tree.Value.{Value}
 use Rattle.tsdl_grammar.specs.declared.tree.Attribute.{Attribute}
 use Rattle.tsdl_grammar.specs.Lookups.{words_of, is_among}
 use Rattle.tsdl_grammar.specs.AttributeValues.{natural_value, flag_value}
-use Rattle.tsdl_grammar.specs.IntegerMeaning.{Known, order_value, base_value, clock_value}
+use Rattle.tsdl_grammar.specs.IntegerMeaning.{Known, int_attrs, order_value, base_value, clock_value}
 use Rattle.tsdl_grammar.specs.MemberMeaning.{encoding_value, entry_meaning}
 use Rattle.tsdl_grammar.specs.Steps.{each}
-use Rattle.tsdl_meaning.specs.declared.integer.IntegerAttribute.{IntegerAttribute}
-use Rattle.tsdl_meaning.specs.declared.integer.IntegerAttribute.TheVariants.{Size, Align, Signed, ByteOrder, Base, Map, Encoding}
+use Rattle.tsdl_meaning.specs.declared.judge.type_attributes.TypeKind.{TypeKind}
+use Rattle.tsdl_meaning.specs.declared.judge.type_attributes.TypeKind.TheVariants as types
 use Rattle.tsdl_meaning.specs.FlawlessBlocks.{Asked, is_fit, AddsName}
 
 -- a size from 1 to 64 bits
@@ -33,22 +35,30 @@ of_integer known =
     ∷ (codes "byte_order", λ v. is_some (order_value known.order v)) ∷ (codes "base", λ v. is_some (base_value v))
     ∷ (codes "map", λ v. is_some (clock_value known.clocks v)) ∷ []
 
--- the name of an attribute of an integer
-abbrev pub own_word : IntegerAttribute → List ℕ
-own_word Size = codes "size"
-own_word Align = codes "align"
-own_word Signed = codes "signed"
-own_word ByteOrder = codes "byte_order"
-own_word Base = codes "base"
-own_word Map = codes "map"
-own_word Encoding = codes "encoding"
-
 abbrev pub string_attrs : List (List (List ℕ))
 string_attrs = (codes "encoding" ∷ []) ∷ []
 
 -- what the attribute of a string is asked for
 abbrev pub of_string : Asked
 of_string = (codes "encoding", λ v. is_some (encoding_value v)) ∷ []
+
+-- an integer or a string of these attributes
+abbrev pub tree_of : TypeKind → List Attribute → Kind
+tree_of types.Integer attrs = kinds.Integer attrs
+tree_of types.Text attrs = kinds.Text (Some attrs)
+
+-- its word, the attributes that it may have, and what they are asked for
+abbrev pub type_word : TypeKind → List ℕ
+type_word types.Integer = codes "integer"
+type_word types.Text = codes "string"
+
+abbrev pub own_attrs : TypeKind → List (List (List ℕ))
+own_attrs types.Integer = int_attrs
+own_attrs types.Text = string_attrs
+
+abbrev pub own_asked : Known → TypeKind → Asked
+own_asked known types.Integer = of_integer known
+own_asked known types.Text = of_string
 
 -- one more attribute of a type that may have these
 pub record AddsOwn (allowed : List (List (List ℕ))) (asked : Asked) (before : BTreeSet (String Global)) (a : Attribute) (after : BTreeSet (String Global)) : Type 0 where

@@ -1,13 +1,11 @@
 pub mod Names
 pub mod Distinct
-pub mod IntegerParts
 pub mod Fronts
 pub mod Members
 pub mod ScopeRules
 pub mod ClockNames
 pub mod Numbers
 pub mod Groups
-pub mod TextParts
 pub mod Judged
 pub mod NamesBefore
 pub mod Ledgers

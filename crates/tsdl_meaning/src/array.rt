@@ -72,18 +72,11 @@ pub(crate) fn counts_of(
     let mut counts = ListOf::new(alloc);
     let mut rest = brackets;
     while let [bracket, others @ ..] = rest {
-        let count = meant!(count_of(bracket));
-        counts.push(count)?;
+        let Bracket::Count(number) = bracket else {
+            return Ok(None);
+        };
+        counts.push(meant!(natural(*number)))?;
         rest = others;
     }
     Ok(Some(counts))
-}
-
-fn count_of(bracket: &Bracket) -> Option<u64>
-    ensures { result ≡ count_of bracket.now }
-{
-    match bracket {
-        Bracket::Count(number) => natural(*number),
-        Bracket::Member(_) => None,
-    }
 }

@@ -4,7 +4,7 @@ ghost use Rattle.std.specs.Prelude.{◌≡◌, IfOk};
 ghost use Rattle.tsdl_grammar.specs.BlockMeaning.{clock_meaning};
 
 use crate::lookup::{attr_in, has_parts, name_in, number_or_zero};
-use crate::value::{flag_or_false, natural_or, text_if_there, uuid_if_there, whole_or_zero};
+use crate::value::{flag_or_false, natural_or, text_value, uuid_if_there, whole_value};
 use ctf_types::ClockType;
 use std::alloc::{AllocError, Global};
 use tsdl_grammar::Item;
@@ -22,10 +22,13 @@ pub(crate) fn clock_meaning(alloc: Global, items: &[Item]) -> Result<Option<Cloc
     }
     let name = meant!(name_in(items));
     let uuid = meant!(uuid_if_there(attr_in("uuid", items)));
-    let description = meant!(text_if_there(attr_in("description", items)));
+    let description = match attr_in("description", items) {
+        None => None,
+        Some(value) => Some(meant!(text_value(value))),
+    };
     let frequency = meant!(natural_or(DEFAULT_FREQUENCY, attr_in("freq", items)));
     let precision = meant!(number_or_zero("precision", items));
-    let offset_seconds = meant!(whole_or_zero(attr_in("offset_s", items)));
+    let offset_seconds = meant!(attr_in("offset_s", items).map_or(Some(0), whole_value));
     let offset_cycles = meant!(number_or_zero("offset", items));
     let absolute = meant!(flag_or_false(attr_in("absolute", items)));
     let description = match description {

@@ -42,25 +42,12 @@ fn mappings_of(
 ) -> Result<Option<ListOf<Mapping>>, AllocError>
     ensures { IfOk result (λ ms. ms ≡ each entry_meaning (first.now ∷ others.now)) }
 {
-    let mapping = meant!(entry_meaning(alloc, first)?);
     let mut mappings = ListOf::new(alloc);
-    mappings.push(mapping)?;
-    mappings_behind(alloc, mappings, others)
-}
-
-fn mappings_behind(
-    alloc: Global,
-    front: ListOf<Mapping>,
-    entries: &[Entry],
-) -> Result<Option<ListOf<Mapping>>, AllocError>
-    ensures { IfOk result (λ ms. ms ≡ with_front front (each entry_meaning entries.now)) }
-{
-    let mut mappings = front;
-    let mut rest = entries;
-    while let [entry, others @ ..] = rest {
-        let mapping = meant!(entry_meaning(alloc, entry)?);
-        mappings.push(mapping)?;
-        rest = others;
+    mappings.push(meant!(entry_meaning(alloc, first)?))?;
+    let mut rest = others;
+    while let [entry, behind @ ..] = rest {
+        mappings.push(meant!(entry_meaning(alloc, entry)?))?;
+        rest = behind;
     }
     Ok(Some(mappings))
 }
@@ -100,8 +87,5 @@ fn label_of(label: &Label) -> &Text
 fn high_of(low: i128, high: Option<Number>) -> i128
     ensures { result ≡ high_of low high }
 {
-    match high {
-        None => low,
-        Some(number) => signed_of(number),
-    }
+    high.map_or(low, signed_of)
 }

@@ -5,13 +5,13 @@ mod block;
 mod blocks_survey;
 mod brackets;
 mod environment;
-mod integer;
 mod kind;
 mod ledger;
 mod names;
 mod structure;
 mod survey;
 mod text;
+mod type_attributes;
 mod value;
 
 pub(crate) use blocks_survey::survey_of_blocks;

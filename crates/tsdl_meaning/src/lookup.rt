@@ -193,9 +193,9 @@ fn words_of<'a>(alloc: Global, name: &'a Name) -> Result<Vec<&'a str>, AllocErro
     Ok(words)
 }
 
-/// The names of the attributes of a block.
-fn attr_names<'a>(alloc: Global, items: &'a [Item]) -> Result<Vec<Vec<&'a str>>, AllocError>
-    ensures { IfOk result (λ names. name_lists names ≡ attr_names (attrs_in items.now)) }
+/// Whether no attribute of a block stands twice.
+fn has_attrs_once(alloc: Global, items: &[Item]) -> Result<bool, AllocError>
+    ensures { IfOk result (λ once. once ≡ are_distinct (attr_names (attrs_in items.now))) }
 {
     let mut names = Vec::new(alloc);
     let mut rest = items;
@@ -205,42 +205,7 @@ fn attr_names<'a>(alloc: Global, items: &'a [Item]) -> Result<Vec<Vec<&'a str>>,
         }
         rest = others;
     }
-    Ok(names)
-}
-
-/// Whether no attribute of a block stands twice.
-fn has_attrs_once(alloc: Global, items: &[Item]) -> Result<bool, AllocError>
-    ensures { IfOk result (λ once. once ≡ are_distinct (attr_names (attrs_in items.now))) }
-{
-    are_distinct(alloc, attr_names(alloc, items)?)
-}
-
-/// Whether no scope of a block stands twice.
-fn has_scopes_once(items: &[Item]) -> bool
-    ensures { result ≡ are_distinct (scope_names (scopes_in items.now)) }
-{
-    let mut rest = items;
-    while let [item, others @ ..] = rest {
-        match item {
-            Item::Scope(scope) if has_scope_in(&scope.name, others) => return false,
-            Item::Attribute(_) | Item::Scope(_) => rest = others,
-        }
-    }
-    true
-}
-
-/// Whether each scope of a block is one of these.
-fn has_scopes_among(allowed: &[&[&str]], items: &[Item]) -> bool
-    ensures { result ≡ list_all (λ s. is_among (names_of allowed.now) (words_of s.name)) (scopes_in items.now) }
-{
-    let mut rest = items;
-    while let [item, others @ ..] = rest {
-        match item {
-            Item::Scope(scope) if !is_among(allowed, &scope.name) => return false,
-            Item::Attribute(_) | Item::Scope(_) => rest = others,
-        }
-    }
-    true
+    are_distinct(alloc, names)
 }
 
 /// Whether no attribute of a block stands twice, nor a scope, and each scope is one of these.
@@ -251,8 +216,14 @@ pub(crate) fn has_parts(
 ) -> Result<bool, AllocError>
     ensures { IfOk result (λ has. has ≡ has_parts (names_of allowed.now) items.now) }
 {
-    if !has_scopes_among(allowed, items) || !has_scopes_once(items) {
-        return Ok(false);
+    let mut rest = items;
+    while let [item, others @ ..] = rest {
+        if let Item::Scope(scope) = item {
+            if !is_among(allowed, &scope.name) || has_scope_in(&scope.name, others) {
+                return Ok(false);
+            }
+        }
+        rest = others;
     }
     has_attrs_once(alloc, items)
 }

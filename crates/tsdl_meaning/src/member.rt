@@ -141,9 +141,5 @@ fn is_length(before: &Members, index: usize, name: &str) -> bool
 pub(crate) fn is_unsigned(member: &MemberType) -> bool
     ensures { result ≡ is_unsigned member.now }
 {
-    match member {
-        MemberType::Plain(FieldType::Int(int)) => !int.is_signed(),
-        MemberType::Plain(FieldType::Enum(_) | FieldType::Str | FieldType::Static(_, _))
-        | MemberType::Dyn(_, _) => false,
-    }
+    matches!(member, MemberType::Plain(FieldType::Int(int)) if !int.is_signed())
 }

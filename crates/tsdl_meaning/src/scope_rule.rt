@@ -94,31 +94,21 @@ pub(crate) fn has_word(word: &str, words: &[&str]) -> bool
 fn is_unsigned_of(size: u8, member: &MemberType) -> bool
     ensures { result ≡ is_unsigned_of size member.now }
 {
-    match member {
-        MemberType::Plain(FieldType::Int(int)) => !int.is_signed() && int.size() == size,
-        MemberType::Plain(FieldType::Enum(_) | FieldType::Str | FieldType::Static(_, _))
-        | MemberType::Dyn(_, _) => false,
-    }
+    matches!(member, MemberType::Plain(FieldType::Int(int)) if !int.is_signed() && int.size() == size)
 }
 
 /// Whether a member is an array of 16 unsigned integers of 8 bits on any byte.
 fn is_uuid(member: &MemberType) -> bool
     ensures { result ≡ is_uuid member.now }
 {
-    match member {
-        MemberType::Plain(FieldType::Static(element, length)) => {
-            *length == 16 && is_byte(element.field_type())
-        }
-        MemberType::Plain(FieldType::Int(_) | FieldType::Enum(_) | FieldType::Str)
-        | MemberType::Dyn(_, _) => false,
-    }
+    matches!(
+        member,
+        MemberType::Plain(FieldType::Static(element, length)) if *length == 16 && is_byte(element.field_type())
+    )
 }
 
 fn is_byte(field: &FieldType) -> bool
     ensures { result ≡ is_byte_chain (chain_of field.now) }
 {
-    match field {
-        FieldType::Int(int) => !int.is_signed() && int.size() == 8 && int.align() == 8,
-        FieldType::Enum(_) | FieldType::Str | FieldType::Static(_, _) => false,
-    }
+    matches!(field, FieldType::Int(int) if !int.is_signed() && int.size() == 8 && int.align() == 8)
 }

@@ -8,29 +8,23 @@ use crate::known::Known;
 use crate::lookup::{attr_in, has_parts, name_in, number_or_zero};
 use crate::scope_rule::ScopeRule;
 use crate::structure::{has_member, scope_meaning};
-use crate::value::natural_if_there;
+use crate::value::natural_value;
 use ctf_types::{Event, ListOf, Stream, StructType};
 use std::alloc::{AllocError, Global};
 use tsdl_grammar::Item;
 
-pub(crate) const PACKET_CONTEXT: (&[&str], ScopeRule) = (
-    &["packet", "context"],
-    ScopeRule::PacketContext,
-);
+/// The name of a scope, and what the scope asks of its members.
+pub(crate) type NamedRule = (&'static [&'static str], ScopeRule);
 
-pub(crate) const EVENT_HEADER: (&[&str], ScopeRule) = (
-    &["event", "header"],
-    ScopeRule::EventHeader,
-);
+pub(crate) const PACKET_CONTEXT: NamedRule = (&["packet", "context"], ScopeRule::PacketContext);
 
-pub(crate) const EVENT_CONTEXT: (&[&str], ScopeRule) = (
-    &["event", "context"],
-    ScopeRule::AnyMembers,
-);
+pub(crate) const EVENT_HEADER: NamedRule = (&["event", "header"], ScopeRule::EventHeader);
 
-pub(crate) const SPECIFIC_CONTEXT: (&[&str], ScopeRule) = (&["context"], ScopeRule::AnyMembers);
+pub(crate) const EVENT_CONTEXT: NamedRule = (&["event", "context"], ScopeRule::AnyMembers);
 
-pub(crate) const FIELDS: (&[&str], ScopeRule) = (&["fields"], ScopeRule::AnyMembers);
+pub(crate) const SPECIFIC_CONTEXT: NamedRule = (&["context"], ScopeRule::AnyMembers);
+
+pub(crate) const FIELDS: NamedRule = (&["fields"], ScopeRule::AnyMembers);
 
 /// The stream of a block, without its events. Its packet context has both sizes.
 #[tactic(auto, unfolding(tsdl_grammar::specs::BlockMeaning::stream_meaning))]
@@ -86,7 +80,10 @@ pub(crate) fn event_meaning(
     let name = meant!(name_in(items));
     let id = meant!(number_or_zero("id", items));
     let stream = meant!(number_or_zero("stream_id", items));
-    let log_level = meant!(natural_if_there(attr_in("loglevel", items)));
+    let log_level = match attr_in("loglevel", items) {
+        None => None,
+        Some(value) => Some(meant!(natural_value(value))),
+    };
     let specific = meant!(scope_meaning(alloc, known, SPECIFIC_CONTEXT, items)?);
     let fields = meant!(scope_meaning(alloc, known, FIELDS, items)?);
     let event = Event {

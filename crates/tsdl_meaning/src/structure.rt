@@ -31,21 +31,11 @@ pub(crate) fn scope_meaning(
     ensures { IfOk result (λ t. t ≡ scope_meaning known.now (texts_of scope.entry.0.now) (suits_rule scope.entry.1) (scopes_in items.now)) }
 {
     let (name, rule) = scope;
-    let structure = structure_of(alloc, known, scope_in(name, items))?;
+    let structure = match scope_in(name, items) {
+        None => struct_type(Members::new(alloc), 1),
+        Some(structure) => struct_meaning(alloc, known, structure)?,
+    };
     Ok(structure.filter(|structure| all_suit(rule, &structure.members)))
-}
-
-fn structure_of(
-    alloc: Global,
-    known: &Known,
-    structure: Option<&Structure>,
-) -> Result<Option<StructType>, AllocError>
-    ensures { IfOk result (λ t. t ≡ structure_of known.now (option_map (λ s. s.now) structure.entry)) }
-{
-    match structure {
-        None => Ok(struct_type(Members::new(alloc), 1)),
-        Some(structure) => struct_meaning(alloc, known, structure),
-    }
 }
 
 /// The structure type of a tree: at most 1,024 members, no two of one name, and the minimum alignment.
@@ -61,8 +51,11 @@ fn struct_meaning(
         return Ok(None);
     }
     let members = meant!(members_meaning(alloc, known, structure.members.as_slice())?);
-    let align = meant!(align_of(structure.align));
-    let align = align_with(&members, align);
+    let align = match structure.align {
+        None => 1,
+        Some(number) => meant!(alignment(meant!(natural(number)))),
+    };
+    let align = if members.is_empty() { 1 } else { align };
     Ok(struct_type(members, align))
 }
 
@@ -97,16 +90,6 @@ pub(crate) fn has_member(members: &Members, name: &str) -> bool
     members.contains(name)
 }
 
-/// The minimum alignment that stands behind a structure, 1 where none stands.
-fn align_of(align: Option<Number>) -> Option<u32>
-    ensures { result ≡ align_of align }
-{
-    match align {
-        None => Some(1),
-        Some(number) => alignment(natural(number)?),
-    }
-}
-
 /// The number as an alignment, if it is a power of two up to 4,096.
 pub(crate) fn alignment(align: u64) -> Option<u32>
     ensures { result ≡ provided (nat_lt 0 align && (4096 % align == 0)) (Some align) }
@@ -115,13 +98,6 @@ pub(crate) fn alignment(align: u64) -> Option<u32>
         return None;
     }
     Some(align as u32)
-}
-
-/// No members, no alignment.
-fn align_with(members: &Members, align: u32) -> u32
-    ensures { result ≡ align_with members.now align }
-{
-    if members.is_empty() { 1 } else { align }
 }
 
 /// The structure type of these parts, where its alignment is one.

@@ -7,8 +7,6 @@ ghost use Rattle.tsdl_grammar.specs.Lookups.{no_two};
 ghost use Rattle.tsdl_grammar.specs.Steps.{each, only, at_most_one};
 ghost use Rattle.tsdl_grammar.specs.BlockMeaning.{is_trace, clock_meaning};
 ghost use Rattle.tsdl_grammar.specs.Denotes.{trace_in, clock_in, environment_in, text_meta};
-ghost use Rattle.tsdl_meaning.specs.Names.{texts_of};
-ghost use Rattle.tsdl_meaning.specs.TextParts.{SaysFirstTrace, SaysFirstEnvironment};
 
 use crate::clock::clock_meaning;
 use crate::distinct::are_distinct;
@@ -53,66 +51,51 @@ pub(crate) fn text_meaning(alloc: Global, blocks: &[Block]) -> Result<Option<Met
     }))
 }
 
+/// The items of the trace block, where there is no other.
 fn only_trace(blocks: &[Block]) -> Option<&[Item]>
     ensures { option_map (λ is. is.now) result ≡ only (flat_map trace_in blocks.now) }
 {
-    let (items, others) = first_trace(blocks)?;
-    first_trace(others).is_none().then_some(items)
-}
-
-/// The first trace block, and the blocks after it.
-fn first_trace(blocks: &[Block]) -> Option<(&[Item], &[Block])>
-    ensures { SaysFirstTrace blocks.now result }
-{
+    let mut trace = None;
     let mut rest = blocks;
     while let [block, others @ ..] = rest {
         if let Block::Trace(items) = block {
-            return Some((items.as_slice(), others));
+            if trace.is_some() {
+                return None;
+            }
+            trace = Some(items.as_slice());
         }
         rest = others;
     }
-    None
+    trace
 }
 
-/// The facts of the environment block, none where there is no such block.
+/// The facts of the environment block, where there is no other, and none where there is no such block.
 fn facts_of(blocks: &[Block]) -> Option<&[NamedFact]>
     ensures { option_map (λ fs. fs.now) result ≡ at_most_one (flat_map environment_in blocks.now) }
 {
-    match first_environment(blocks) {
-        None => Some(&[]),
-        Some((facts, others)) => first_environment(others).is_none().then_some(facts),
-    }
-}
-
-/// The first environment block, and the blocks after it.
-fn first_environment(blocks: &[Block]) -> Option<(&[NamedFact], &[Block])>
-    ensures { SaysFirstEnvironment blocks.now result }
-{
+    let mut environment = None;
     let mut rest = blocks;
     while let [block, others @ ..] = rest {
         if let Block::Environment(facts) = block {
-            return Some((facts.as_slice(), others));
+            if environment.is_some() {
+                return None;
+            }
+            environment = Some(facts.as_slice());
         }
         rest = others;
     }
-    None
+    Some(environment.unwrap_or(&[]))
 }
 
 /// Whether no text stands twice.
 fn are_apart(alloc: Global, texts: &[Text]) -> Result<bool, AllocError>
     ensures { IfOk result (λ apart. apart ≡ no_two bytes_eq texts.now) }
 {
-    are_distinct(alloc, words_in(alloc, texts)?)
-}
-
-fn words_in<'a>(alloc: Global, texts: &'a [Text]) -> Result<Vec<&'a str>, AllocError>
-    ensures { IfOk result (λ words. texts_of words.items ≡ texts.now) }
-{
     let mut words = Vec::new(alloc);
     for text in texts {
         words.push(text.as_str())?;
     }
-    Ok(words)
+    are_distinct(alloc, words)
 }
 
 /// The clock types of the clock blocks.

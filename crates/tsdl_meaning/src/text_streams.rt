@@ -28,15 +28,9 @@ pub(crate) fn streams_meaning(
 ) -> Result<Option<ListOf<Stream>>, AllocError>
     ensures { IfOk result (λ ss. ss ≡ streams_meaning known.now blocks.now) }
 {
-    let Some(found) = streams_found(alloc, known, blocks)? else {
-        return Ok(None);
-    };
-    let Some(streams) = by_number(alloc, found)? else {
-        return Ok(None);
-    };
-    let Some(events) = events_found(alloc, known, blocks)? else {
-        return Ok(None);
-    };
+    let found = meant!(streams_found(alloc, known, blocks)?);
+    let streams = meant!(by_number(alloc, found)?);
+    let events = meant!(events_found(alloc, known, blocks)?);
     if !have_streams(alloc, streams.as_slice(), events.as_slice())? {
         return Ok(None);
     }
@@ -55,14 +49,8 @@ fn streams_found(
     let mut streams = ListOf::new(alloc);
     let mut rest = blocks;
     while let [block, others @ ..] = rest {
-        match block {
-            Block::Stream(items) => {
-                let Some(stream) = stream_meaning(alloc, known, items.as_slice())? else {
-                    return Ok(None);
-                };
-                streams.push(stream)?;
-            }
-            Block::Trace(_) | Block::Event(_) | Block::Clock(_) | Block::Environment(_) => {}
+        if let Block::Stream(items) = block {
+            streams.push(meant!(stream_meaning(alloc, known, items.as_slice())?))?;
         }
         rest = others;
     }
@@ -80,14 +68,8 @@ fn events_found(
     let mut events = ListOf::new(alloc);
     let mut rest = blocks;
     while let [block, others @ ..] = rest {
-        match block {
-            Block::Event(items) => {
-                let Some(event) = event_meaning(alloc, known, items.as_slice())? else {
-                    return Ok(None);
-                };
-                events.push(event)?;
-            }
-            Block::Trace(_) | Block::Stream(_) | Block::Clock(_) | Block::Environment(_) => {}
+        if let Block::Event(items) = block {
+            events.push(meant!(event_meaning(alloc, known, items.as_slice())?))?;
         }
         rest = others;
     }
@@ -164,10 +146,7 @@ fn streams_with(
     let mut left = groups;
     let mut rest = streams;
     while let [stream, others @ ..] = rest {
-        let Some(stream) = with_group(alloc, &mut left, stream)? else {
-            return Ok(None);
-        };
-        made.push(stream)?;
+        made.push(meant!(with_group(alloc, &mut left, stream)?))?;
         rest = others;
     }
     Ok(Some(made))
@@ -183,9 +162,7 @@ fn with_group(
     ensures others { OthersStay stream.now.id groups.old groups.new }
 {
     let own = take_group(alloc, groups, stream.id);
-    let Some(events) = by_number(alloc, own)? else {
-        return Ok(None);
-    };
+    let events = meant!(by_number(alloc, own)?);
     Ok(Some(Stream {
         id: stream.id,
         context: stream.context.copy(alloc)?,

@@ -140,30 +140,6 @@ pub(crate) fn flag_or_false(value: Option<&Value>) -> Option<bool>
     value.map_or(Some(false), flag_value)
 }
 
-/// The number with its sign of an attribute that is 0 where it is left out.
-pub(crate) fn whole_or_zero(value: Option<&Value>) -> Option<i64>
-    ensures { result ≡ with_default (pos 0) whole_value (option_map (λ v. v.now) value.entry) }
-{
-    value.map_or(Some(0), whole_value)
-}
-
-/// The number of an attribute that may be left out.
-pub(crate) fn natural_if_there(value: Option<&Value>) -> Option<Option<u64>>
-    ensures { result ≡ optional natural_value (option_map (λ v. v.now) value.entry) }
-{
-    value.map_or(Some(None), |value| natural_value(value).map(Some))
-}
-
-/// The text of an attribute that may be left out.
-pub(crate) fn text_if_there(value: Option<&Value>) -> Option<Option<&Text>>
-    ensures { option_map (option_map (λ t. t.now)) result ≡ optional text_value (option_map (λ v. v.now) value.entry) }
-{
-    match value {
-        None => Some(None),
-        Some(value) => Some(Some(text_value(value)?)),
-    }
-}
-
 /// The identifier of an attribute that may be left out.
 pub(crate) fn uuid_if_there(value: Option<&Value>) -> Option<Option<Uuid>>
     ensures { result ≡ optional uuid_value (option_map (λ v. v.now) value.entry) }

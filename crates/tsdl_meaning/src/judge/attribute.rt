@@ -10,7 +10,7 @@ ghost use Rattle.tsdl_meaning.specs.Judged.{StopsAmong, StopsWhere, IsAttribute}
 ghost use Rattle.tsdl_meaning.specs.Ledgers.{AreNoted};
 ghost use Rattle.tsdl_meaning.specs.NamesBefore.{AreNamed};
 ghost use Rattle.tsdl_meaning.specs.Blocks.{IsBegun};
-ghost use Rattle.tsdl_meaning.specs.FlawlessBlocks.{AddsAttribute, is_fit, asked_of, fits, of_trace, of_stream, of_event, of_clock, is_order, is_number, is_new_name};
+ghost use Rattle.tsdl_meaning.specs.FlawlessBlocks.{AddsAttribute, is_fit, asked_of, fits, of_trace, of_stream, of_event, of_clock, is_order, is_number};
 
 use crate::judge::block::{BlockKind, Judging};
 use crate::judge::ledger::Ledger;
@@ -132,7 +132,12 @@ fn judge_clock(ledger: &Ledger, word: &str, value: &Value, at: usize) -> Result<
     ensures fault { IfErr result (StopsWhere (λ front. AreNoted front ledger.now × IsAttribute (codes "clock") word.now front) at (value_toks value.now)) }
 {
     match word {
-        "name" => judge_clock_name(ledger, value, at),
+        "name" => {
+            if ledger.has_clock(judge_label(value, at)?) {
+                return Err(Stop::at(at, value, Flaw::Duplicate));
+            }
+            Ok(())
+        }
         "uuid" => judge_uuid(value, at),
         "description" => judge_text(value, at),
         "freq" | "precision" | "offset" => judge_natural(value, at).map(|_| ()),
@@ -140,15 +145,4 @@ fn judge_clock(ledger: &Ledger, word: &str, value: &Value, at: usize) -> Result<
         "absolute" => judge_flag(value, at),
         _ => Ok(()),
     }
-}
-
-/// Judges the name of a clock, which no other has.
-fn judge_clock_name(ledger: &Ledger, value: &Value, at: usize) -> Result<(), Stop>
-    ensures fit { IfOk result (λ _. IsTrue (is_new_name ledger.now value.now)) }
-    ensures fault { IfErr result (StopsWhere (λ front. AreNoted front ledger.now × IsAttribute (codes "clock") (codes "name") front) at (value_toks value.now)) }
-{
-    if ledger.has_clock(judge_label(value, at)?) {
-        return Err(Stop::at(at, value, Flaw::Duplicate));
-    }
-    Ok(())
 }

@@ -4,7 +4,7 @@ ghost use Rattle.std.specs.Prelude.{◌≡◌, ◌++◌, IfOk, OnOk};
 ghost use Rattle.std.specs.List.{flat_map};
 ghost use Rattle.tsdl_grammar.specs.Denotes.{trace_in, clock_in};
 ghost use Rattle.tsdl_meaning.specs.FlawlessTexts.{Surveys};
-ghost use Rattle.tsdl_meaning.specs.NotedBlocks.{first_of, order_of, orders_in, name_of, names_in};
+ghost use Rattle.tsdl_meaning.specs.NotedBlocks.{first_of, order_of, orders_in, names_in};
 
 use crate::judge::survey::Survey;
 use crate::known::Known;
@@ -91,25 +91,13 @@ fn add_names(alloc: Global, names: &mut ListOf<Text>, items: &[Item]) -> Result<
     let mut rest = items;
     while let [item, others @ ..] = rest {
         if let Item::Attribute(attribute) = item {
-            add_name(alloc, names, attribute)?;
+            if is_word("name", &attribute.name) {
+                if let Some(name) = name_value(&attribute.value) {
+                    names.push(name.copy(alloc)?)?;
+                }
+            }
         }
         rest = others;
-    }
-    Ok(())
-}
-
-/// Adds the name that an attribute gives.
-fn add_name(
-    alloc: Global,
-    names: &mut ListOf<Text>,
-    attribute: &Attribute,
-) -> Result<(), AllocError>
-    ensures { OnOk result (names.new ≡ names.old ++ name_of attribute.now) }
-{
-    if is_word("name", &attribute.name) {
-        if let Some(name) = name_value(&attribute.value) {
-            names.push(name.copy(alloc)?)?;
-        }
     }
     Ok(())
 }

@@ -119,21 +119,12 @@ fn judge_name(
     ensures added { IfOk result (λ _. (done : List Bracket) → HasLengths lengths.old done → HasLengths lengths.new (done ++ brackets.Member name.now ∷ [])) }
 {
     if lengths.is_sequence || lengths.count > 0 {
-        return Err(unsupported_word(alloc, at, name));
+        let name = String::from_str(alloc, name.as_str())?;
+        return Err(Stop::at_atom(at, Flaw::Unsupported(name, Remedy::Nothing)));
     }
     if length_place(before, name.as_str()).is_none() {
         return Err(Stop::at_atom(at, Flaw::BadLength));
     }
     lengths.is_sequence = true;
     Ok(())
-}
-
-/// A word at an atom that stands for a construct that is not read.
-fn unsupported_word(alloc: Global, at: usize, name: &Text) -> Stop
-    ensures { StopsAmong at (word name.now ∷ []) result }
-{
-    match String::from_str(alloc, name.as_str()) {
-        Ok(name) => Stop::at_atom(at, Flaw::Unsupported(name, Remedy::Nothing)),
-        Err(_) => Stop::NoMemory,
-    }
 }

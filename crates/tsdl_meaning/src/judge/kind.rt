@@ -1,27 +1,20 @@
 //! The first flaw of a member's kind: an integer, an enumeration or a string.
 
-ghost use Rattle.std.specs.Prelude.{List, [], ◌∷◌, ◌++◌, Some, IsSome, IfOk, IfErr, codes};
+ghost use Rattle.std.specs.Prelude.{◌∷◌, ◌++◌, IsSome, IfOk, IfErr};
 ghost use Rattle.std.specs.List.{flat_map};
-ghost use Rattle.tsdl_grammar.specs.declared.token.Mark.TheVariants as marks;
-ghost use Rattle.tsdl_grammar.specs.declared.atom.Atom.{Atom};
 ghost use Rattle.tsdl_grammar.specs.declared.tree.Kind.TheVariants as kinds;
-ghost use Rattle.tsdl_grammar.specs.Spelling.{word, kind_toks, attr_toks, attrs_toks, braced, entries_toks, entry_toks, next_entry_toks};
-ghost use Rattle.tsdl_grammar.specs.MemberMeaning.{entry_meaning, text_meaning, kind_meaning};
+ghost use Rattle.tsdl_grammar.specs.Spelling.{kind_toks, entry_toks, next_entry_toks};
+ghost use Rattle.tsdl_grammar.specs.MemberMeaning.{entry_meaning, kind_meaning};
 ghost use Rattle.tsdl_meaning.specs.Judged.{StopsAmong, StopsWhere};
 ghost use Rattle.tsdl_meaning.specs.Judging.{IsBehindBrace};
-ghost use Rattle.tsdl_meaning.specs.NamesBefore.{AreNamed};
-ghost use Rattle.tsdl_meaning.specs.FlawlessTypes.{AddsOwn, AreRanges, string_attrs, of_string};
+ghost use Rattle.tsdl_meaning.specs.FlawlessTypes.{AreRanges};
 
 use crate::enumeration::{MAX_RANGES, rises};
-use crate::judge::integer::judge_integer;
-use crate::judge::names::Names;
 use crate::judge::survey::Survey;
-use crate::judge::value::unread;
-use crate::lookup::is_among;
-use crate::member::{STRING_ATTRIBUTES, encoding_or_any};
+use crate::judge::type_attributes::{TypeKind, judge_attributes};
 use ctf_types::ListOf;
 use std::alloc::Global;
-use tsdl_flaw::{Flaw, Remedy, Spelled, Stop};
+use tsdl_flaw::{Flaw, Spelled, Stop};
 use tsdl_grammar::{Attribute, Entries, Entry, Kind};
 
 /// `integer { .. }`, `enum : integer { .. } { .. }` or `string { .. }`.
@@ -30,11 +23,18 @@ pub(crate) fn judge_kind(alloc: Global, survey: &Survey, kind: &Kind, at: usize)
     ensures fault { IfErr result (StopsAmong at (kind_toks kind.now)) }
 {
     match kind {
-        Kind::Integer(attributes) => judge_integer(alloc, survey, attributes.as_slice(), at),
+        Kind::Integer(attributes) => {
+            judge_attributes(alloc, survey, TypeKind::Integer, attributes.as_slice(), at)
+        }
         Kind::Enumeration(attributes, entries) => {
             judge_enumeration(alloc, survey, attributes, entries, at)
         }
-        Kind::Text(attributes) => judge_text_kind(alloc, attributes, at),
+        Kind::Text(attributes) => match attributes {
+            Some(attributes) => {
+                judge_attributes(alloc, survey, TypeKind::Text, attributes.as_slice(), at)
+            }
+            None => Ok(()),
+        },
     }
 }
 
@@ -50,7 +50,13 @@ fn judge_enumeration(
     ensures fault { IfErr result (StopsAmong at (kind_toks (kinds.Enumeration attributes.now entries.now))) }
 {
     let integer = at.saturating_add(2);
-    judge_integer(alloc, survey, attributes.as_slice(), integer)?;
+    judge_attributes(
+        alloc,
+        survey,
+        TypeKind::Integer,
+        attributes.as_slice(),
+        integer,
+    )?;
     let passed = integer.saturating_add(attributes.length());
     let ranges = passed.saturating_add(4);
     match entries {
@@ -90,55 +96,4 @@ fn judge_range(entry: &Entry, at: usize) -> Result<(), Stop>
     }
     let place = at.saturating_add(entry.low.length()).saturating_add(3);
     Err(Stop::expected(place, &high, "a number that is not below the range's first"))
-}
-
-/// `"string" [ "{" { attribute } "}" ]`.
-fn judge_text_kind(
-    alloc: Global,
-    attributes: &Option<ListOf<Attribute>>,
-    at: usize,
-) -> Result<(), Stop>
-    ensures meant { IfOk result (λ _. IsSome (text_meaning attributes.now)) }
-    ensures fault { IfErr result (StopsAmong at (kind_toks (kinds.Text attributes.now))) }
-{
-    match attributes {
-        Some(attributes) => judge_string(alloc, attributes.as_slice(), at),
-        None => Ok(()),
-    }
-}
-
-/// `"string" "{" { attribute } "}"`.
-fn judge_string(alloc: Global, attributes: &[Attribute], at: usize) -> Result<(), Stop>
-    ensures meant { IfOk result (λ _. IsSome (text_meaning (Some attributes.now))) }
-    ensures fault { IfErr result (StopsAmong at (word (codes "string") ∷ attrs_toks attributes.now)) }
-{
-    let mut names = Names::new(alloc);
-    let mut next = at.saturating_add(2);
-    for attribute in attributes {
-        judge_encoding(alloc, &mut names, attribute, next)?;
-        next = next.saturating_add(attribute.length());
-    }
-    Ok(())
-}
-
-/// The only attribute of a string.
-fn judge_encoding(
-    alloc: Global,
-    names: &mut Names,
-    attribute: &Attribute,
-    at: usize,
-) -> Result<(), Stop>
-    ensures own { IfOk result (λ _. AddsOwn string_attrs of_string names.old.names attribute.now names.new.names) }
-    ensures fault { IfErr result (StopsWhere (λ front. AreNamed front marks.Equals names.old.names) at (attr_toks attribute.now)) }
-    ensures named { IfOk result (λ _. (front : List Atom) → AreNamed front marks.Equals names.old.names → AreNamed (front ++ attr_toks attribute.now) marks.Equals names.new.names) }
-{
-    if !is_among(&STRING_ATTRIBUTES, &attribute.name) {
-        return Err(Stop::unsupported(alloc, at, &attribute.name, Remedy::Nothing));
-    }
-    names.add(alloc, &attribute.name, at)?;
-    if encoding_or_any(Some(&attribute.value)).is_none() {
-        let behind = at.saturating_add(attribute.name.length()).saturating_add(1);
-        return Err(unread(alloc, &attribute.value, behind, Remedy::Nothing));
-    }
-    Ok(())
 }

@@ -27,8 +27,8 @@ use tsdl_grammar::{Block, Item};
 /// The blocks so far.
 #[derive(Drop)]
 pub(crate) struct Ledger {
-    has_trace: bool,
-    has_environment: bool,
+    pub has_trace: bool,
+    pub has_environment: bool,
     clocks: BTreeSet<String>,
     streams: BTreeSet<u64>,
     /// The name of each event, by its stream and its number.
@@ -47,28 +47,6 @@ impl Ledger {
             streams: BTreeSet::new(alloc),
             events: BTreeMap::new(alloc),
         }
-    }
-
-    /// Judges whether a trace block may begin at an atom.
-    pub(crate) fn judge_trace(&self, at: usize) -> Result<(), Stop>
-        ensures first { IfOk result (λ _. self.now.has_trace ≡ false) }
-        ensures fault { IfErr result (StopsWhere (λ front. AreNoted front self.now) at (word (codes "trace") ∷ [])) }
-    {
-        if self.has_trace {
-            return Err(Stop::at_atom(at, Flaw::Duplicate));
-        }
-        Ok(())
-    }
-
-    /// Judges whether an environment block may begin at an atom.
-    pub(crate) fn judge_environment(&self, at: usize) -> Result<(), Stop>
-        ensures first { IfOk result (λ _. self.now.has_environment ≡ false) }
-        ensures fault { IfErr result (StopsWhere (λ front. AreNoted front self.now) at (word (codes "env") ∷ [])) }
-    {
-        if self.has_environment {
-            return Err(Stop::at_atom(at, Flaw::Duplicate));
-        }
-        Ok(())
     }
 
     /// Whether a clock has this name.

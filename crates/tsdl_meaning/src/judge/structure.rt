@@ -1,11 +1,11 @@
 //! The first flaw of a scope's structure: its members in order, then its alignment.
 
 ghost use Rattle.std.specs.Prelude.{◌≡◌, ◌<◌, false, List, [], ◌∷◌, ◌++◌, length, IfOk, IfErr};
-ghost use Rattle.std.specs.List.{Contains, flat_map};
+ghost use Rattle.std.specs.List.{Contains};
 ghost use Rattle.ctf_types.specs.Members.{names_in};
 ghost use Rattle.tsdl_grammar.specs.declared.tree.Kind.{Kind};
 ghost use Rattle.tsdl_grammar.specs.declared.tree.MemberTree.{MemberTree};
-ghost use Rattle.tsdl_grammar.specs.Spelling.{word, bracket_toks, member_toks, struct_toks};
+ghost use Rattle.tsdl_grammar.specs.Spelling.{word, member_toks, struct_toks};
 ghost use Rattle.tsdl_grammar.specs.StructureMeaning.{has_member};
 ghost use Rattle.tsdl_meaning.specs.Judged.{StopsAmong, StopsWhere};
 ghost use Rattle.tsdl_meaning.specs.FlawlessStructures.{AddsMember, IsFlawless};
@@ -69,7 +69,16 @@ fn judge_member(
         unreachable!()
     };
     if !suits_rule(rule, tree.name.as_str(), &member) {
-        return Err(unsuited(alloc, tree, place));
+        let end = place
+            .saturating_add(tree.brackets.length())
+            .saturating_add(1);
+        let name = String::from_str(alloc, tree.name.as_str())?;
+        let flaw = Flaw::Unsupported(name, Remedy::Nothing);
+        return Err(Stop::Fault(Fault {
+            at: place,
+            end,
+            flaw,
+        }));
     }
     members.push(tree.name.copy(alloc)?, member)?;
     Ok(())
@@ -89,18 +98,4 @@ fn judge_member_name(members: &Members, name: &Text, at: usize) -> Result<(), St
         return Err(Stop::at_atom(at, Flaw::Limit("at most 1024 members")));
     }
     Ok(())
-}
-
-/// A member that has another type than its name asks for in its scope.
-fn unsuited(alloc: Global, tree: &MemberTree, at: usize) -> Stop
-    ensures { StopsAmong at (word tree.now.name ∷ flat_map bracket_toks tree.now.brackets) result }
-{
-    let end = at.saturating_add(tree.brackets.length()).saturating_add(1);
-    match String::from_str(alloc, tree.name.as_str()) {
-        Ok(name) => {
-            let flaw = Flaw::Unsupported(name, Remedy::Nothing);
-            Stop::Fault(Fault { at, end, flaw })
-        }
-        Err(_) => Stop::NoMemory,
-    }
 }

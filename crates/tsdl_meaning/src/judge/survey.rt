@@ -59,12 +59,23 @@ impl Seen {
         if self.window.len() < WINDOW {
             return Ok(());
         }
-        self.around = self.around.behind(self.depth, &self.window);
-        self.depth = depth_behind(self.depth, &self.window);
-        if self.depth == 1 {
-            self.note(alloc)
-        } else {
-            Ok(())
+        self.step();
+        self.note(alloc)
+    }
+
+    /// Steps behind the first of the last atoms: into a block, or into or out of braces.
+    fn step(&mut self) {
+        match self.window.as_slice() {
+            [Atom::Word(word), Atom::Mark(Mark::OpenBrace), ..] if self.depth == 0 => {
+                self.around = match word.as_str() {
+                    "trace" => Around::Trace,
+                    "clock" => Around::Clock,
+                    _ => Around::Nothing,
+                };
+            }
+            [Atom::Mark(Mark::OpenBrace), ..] => self.depth = self.depth.saturating_add(1),
+            [Atom::Mark(Mark::CloseBrace), ..] => self.depth = self.depth.saturating_sub(1),
+            _ => {}
         }
     }
 
@@ -80,11 +91,11 @@ impl Seen {
         else {
             return Ok(());
         };
-        match (self.around, name.as_str(), value) {
-            (Around::Trace, "byte_order", Atom::Word(order)) if self.order.is_none() => {
+        match (self.depth, self.around, name.as_str(), value) {
+            (1, Around::Trace, "byte_order", Atom::Word(order)) if self.order.is_none() => {
                 self.order = order_word(order.as_str());
             }
-            (Around::Clock, "name", Atom::Word(clock) | Atom::Text(clock)) => {
+            (1, Around::Clock, "name", Atom::Word(clock) | Atom::Text(clock)) => {
                 self.clocks.push(clock.copy(alloc)?)?;
             }
             _ => {}
@@ -99,28 +110,4 @@ enum Around {
     Trace,
     Clock,
     Nothing,
-}
-
-impl Around {
-    /// The block behind the first of some atoms, which stand in so many braces.
-    fn behind(self, depth: usize, next: &[Atom]) -> Around {
-        let [Atom::Word(word), Atom::Mark(Mark::OpenBrace), ..] = next else {
-            return self;
-        };
-        match (depth, word.as_str()) {
-            (0, "trace") => Around::Trace,
-            (0, "clock") => Around::Clock,
-            (0, _) => Around::Nothing,
-            _ => self,
-        }
-    }
-}
-
-/// How many braces are open behind the first of some atoms.
-fn depth_behind(depth: usize, next: &[Atom]) -> usize {
-    match next {
-        [Atom::Mark(Mark::OpenBrace), ..] => depth.saturating_add(1),
-        [Atom::Mark(Mark::CloseBrace), ..] => depth.saturating_sub(1),
-        _ => depth,
-    }
 }

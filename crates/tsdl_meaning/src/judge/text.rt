@@ -16,7 +16,7 @@ use crate::judge::environment::judge_environment;
 use crate::judge::ledger::Ledger;
 use crate::judge::survey::Survey;
 use std::alloc::Global;
-use tsdl_flaw::{Spelled, Stop};
+use tsdl_flaw::{Flaw, Spelled, Stop};
 use tsdl_grammar::Block;
 
 /// Where judging the blocks of a text stops that means nothing.
@@ -77,17 +77,15 @@ fn judge_parts(
     ensures fault { IfErr result (StopsWhere (λ front. AreNoted front ledger.now) at (block_toks block.now)) }
 {
     let (kind, items) = match block {
-        Block::Trace(items) => {
-            ledger.judge_trace(at)?;
-            (BlockKind::Trace, items)
+        Block::Trace(_) if ledger.has_trace => return Err(Stop::at_atom(at, Flaw::Duplicate)),
+        Block::Environment(_) if ledger.has_environment => {
+            return Err(Stop::at_atom(at, Flaw::Duplicate));
         }
+        Block::Environment(facts) => return judge_environment(facts.as_slice(), at),
+        Block::Trace(items) => (BlockKind::Trace, items),
         Block::Stream(items) => (BlockKind::Stream, items),
         Block::Event(items) => (BlockKind::Event, items),
         Block::Clock(items) => (BlockKind::Clock, items),
-        Block::Environment(facts) => {
-            ledger.judge_environment(at)?;
-            return judge_environment(facts.as_slice(), at);
-        }
     };
     let judging = Judging {
         alloc,

@@ -1,15 +1,12 @@
 //! What attributes have, judged by what each one may have. A flaw of a value stands at its first atom.
 
-ghost use Rattle.std.specs.Prelude.{◌≡◌, false, Some, IsSome, IsTrue, IfOk, IfErr};
-ghost use Rattle.std.specs.Option.{is_some, option_map_or};
-ghost use Rattle.std.specs.List.{list_any};
-ghost use Rattle.std.specs.Str.{bytes_eq};
+ghost use Rattle.std.specs.Prelude.{◌≡◌, Some, IsSome, IsTrue, IfOk, IfErr};
+ghost use Rattle.std.specs.Option.{is_some};
 ghost use Rattle.tsdl_grammar.specs.Spelling.{value_toks, number_toks};
-ghost use Rattle.tsdl_grammar.specs.AttributeValues.{natural, natural_value, whole_value, text_value, word_value, name_value, flag_value, uuid_value};
+ghost use Rattle.tsdl_grammar.specs.AttributeValues.{natural, natural_value, whole_value, text_value, name_value, flag_value, uuid_value};
 ghost use Rattle.tsdl_grammar.specs.StructureMeaning.{align_of};
 ghost use Rattle.tsdl_meaning.specs.Judged.{StopsAmong, StopsWhere};
 ghost use Rattle.tsdl_meaning.specs.Judging.{IsBehindAlign};
-ghost use Rattle.tsdl_meaning.specs.Names.{texts_of};
 ghost use Rattle.tsdl_meaning.specs.FlawlessTypes.{is_alignment};
 
 use crate::scope_rule::has_word;
@@ -139,23 +136,6 @@ pub(crate) fn unread(alloc: Global, value: &Value, at: usize, remedy: Remedy) ->
     match value {
         Value::Name(name) => Stop::unsupported(alloc, at, name, remedy),
         Value::Number(_) | Value::Text(_) => Stop::expected(at, value, "a name"),
-    }
-}
-
-/// Judges whether this is one of these words. Another name is not supported.
-pub(crate) fn judge_words(
-    alloc: Global,
-    value: &Value,
-    at: usize,
-    words: &[&str],
-    remedy: Remedy,
-) -> Result<(), Stop>
-    ensures word { IfOk result (λ _. IsTrue (option_map_or (λ w. list_any (bytes_eq w) (texts_of words.now)) (word_value value.now) false)) }
-    ensures fault { IfErr result (StopsAmong at (value_toks value.now)) }
-{
-    match word_value(value) {
-        Some(word) if has_word(word.as_str(), words) => Ok(()),
-        _ => Err(unread(alloc, value, at, remedy)),
     }
 }
 

@@ -1,9 +1,13 @@
-use Rattle.std.proofs.Common.{◌≡◌, Bool, IfOk, subst}
-use Rattle.tsdl_meaning.proofs.TextWords.{attr_names, attrs_in}
+use Rattle.std.proofs.Common.{◌≡◌, ◌<◌, ◌++◌, ℕ, Bool, List, [], ◌∷◌, IfOk, length, append-nil, arith, subst, sym, ◌∙◌}
+use Rattle.tsdl_meaning.proofs.TextWords.{Item, attr_names, attrs_in}
 use Rattle.tsdl_meaning.proofs.DistinctWords.{distinct_names}
 use Rattle.tsdl_meaning.proofs.lookup.has_attrs_once.Goals as goal
+
+all_named : (names all : List (List (List ℕ))) (rest : List Item) → names ++ attr_names (attrs_in rest) ≡ all → length rest < 1 → names ≡ all
+all_named names all [] e ends = sym (append-nil names) ∙ e
+all_named names all (x ∷ xs) e ends = absurd (omega (arith, ends))
 
 pub returns : goal.returns
 returns c =
     subst (λ (b : Bool). IfOk c.are_distinct.result (λ once. once ≡ b))
-    (distinct_names c.in_ok-attr_names.field-0 (attr_names (attrs_in c.args.items.now)) c.in_ok-attr_names.ensures) c.are_distinct.ensures
+    (distinct_names c.loop-rest.names (attr_names (attrs_in c.args.items.now)) (all_named _ _ c.loop-rest.rest.now c.loop-rest.invariant c.in_default.len_below)) c.are_distinct.ensures

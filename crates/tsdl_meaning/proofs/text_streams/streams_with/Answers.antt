@@ -11,9 +11,9 @@ pub loop-rest-preserved : goal.loop-rest-preserved
 loop-rest-preserved c =
     let i = c.loop-rest.invariant in
     let own = own_group c.args.groups c.loop-rest.left c.loop-rest.rest.now c.stream-item.result c.in-len1-up.len_at_least c.stream-item.is i.2 in
-    let made = ap (λ es. with_own es c.stream-item.result) (sym own) ∙ sym c.in_ok-stream.ensures.made ∙ c.in-Some.is in
+    let made = ap (λ es. with_own es c.stream-item.result) (sym own) ∙ sym c.in_ok-meaning.ensures.made ∙ c.in-Some.is in
     let others = others_left c.args.groups c.loop-rest.left c.with_group.new.groups c.loop-rest.rest.now c.stream-item.result _ c.in-len1-up.len_at_least c.stream-item.is refl i.1 c.with_group.ensures.others i.2 in (
-      made_first (with_group c.args.groups) c.loop-rest.made c.push.new.self c.loop-rest.rest.now c.stream-item.result c.in-Some.stream _ _ c.in-len1-up.len_at_least
+      made_first (with_group c.args.groups) c.loop-rest.made c.push.new.self c.loop-rest.rest.now c.stream-item.result c.in-Some.meaning _ _ c.in-len1-up.len_at_least
           c.stream-item.is made c.in_ok-push.ensures.ok refl i.0,
       others.0,
       others.1,

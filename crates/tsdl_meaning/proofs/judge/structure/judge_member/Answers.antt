@@ -3,7 +3,10 @@ use Rattle.std.proofs.Common.{◌≡◌, ℕ, true, false, List, IsSome, Contain
 use Rattle.tsdl_meaning.specs.MembersBefore.{AreMembers}
 use Rattle.tsdl_meaning.proofs.FlawlessBrackets.{member_means}
 use Rattle.tsdl_meaning.proofs.JudgedParts.{handed}
-use Rattle.tsdl_meaning.proofs.StopsInMembers.{in_kind, at_name, in_brackets, at_name_and_brackets}
+use Rattle.tsdl_meaning.proofs.StopsInMembers.{in_kind, at_name, in_brackets, at_name_and_brackets, unsuited_stop}
+use Rattle.tsdl_flaw.specs.declared.flaw.Flaw.TheVariants as flaws
+use Rattle.tsdl_flaw.specs.declared.flaw.Remedy.TheVariants.{Nothing}
+use Rattle.tsdl_flaw.specs.declared.flaw.Stop.TheVariants as stops
 use Rattle.tsdl_meaning.proofs.judge.structure.judge_member.Goals as goal
 
 pub returns-in_err-judge_kind-clause-fault : goal.returns-in_err-judge_kind-clause-fault
@@ -47,7 +50,11 @@ unreachable-requires c =
 
 pub returns-then-not-suits_rule-clause-fault : goal.returns-then-not-suits_rule-clause-fault
 returns-then-not-suits_rule-clause-fault c = λ done same front behind ends.
-    at_name_and_brackets c.args.tree.now front behind c.args.at c.length.result c.saturating_add-place.result c.unsuited.result c.length.ensures c.saturating_add-place.ensures c.unsuited.ensures
+    let passed = c.saturating_add-place.result in
+    at_name_and_brackets c.args.tree.now front behind c.args.at c.length.result passed (stops.Fault (record { at = passed; end = c.saturating_add-end.result; flaw = flaws.Unsupported c.in_ok-name.name Nothing })) c.length.ensures c.saturating_add-place.ensures
+    (λ f b.
+    unsuited_stop c.args.tree.now f b passed c.length-then-not-suits_rule.result c.saturating_add.result c.saturating_add-end.result c.in_ok-name.name Nothing
+    (c.in_ok-name.ensures.ok ∙ c.as_str-then-not-suits_rule.ensures) c.length-then-not-suits_rule.ensures c.saturating_add.ensures c.saturating_add-end.ensures)
 
 pub push-requires : goal.push-requires
 push-requires c = λ there. c.in_ok-judge_member_name.ensures.fresh (subst (λ (w : List ℕ). Contains (names_in c.args.members.now) w) c.in_ok-copy.ensures there)

@@ -1,21 +1,14 @@
-use Rattle.std.proofs.Common.{List, ◌++◌, sym, subst}
-use Rattle.tsdl_meaning.proofs.TextWords.{AreNoted, Atom, Block, StopsIn, StopsWhere, block_toks, braced, flat_map, items_toks, named_fact_toks}
-use Rattle.tsdl_meaning.proofs.JudgedParts.{handed}
+use Rattle.std.proofs.Common.{◌++◌, refl, sym, subst, inl, inr, codes}
+use Rattle.tsdl_meaning.proofs.TextWords.{Block, StopsIn, block_toks, braced, flat_map, items_toks, named_fact_toks, word}
 use Rattle.tsdl_meaning.proofs.judge.text.judge_parts.Goals as goal
 
-pub returns-in_err-judge_trace-in-Trace-clause-fault : goal.returns-in_err-judge_trace-in-Trace-clause-fault
-returns-in_err-judge_trace-in-Trace-clause-fault c =
-    let stop = c.in_err-judge_trace-in-Trace.field-0.0 in
-    handed c.from_residual.result stop (StopsWhere (λ (front : List Atom). AreNoted front c.args.ledger.now) c.args.at (block_toks c.args.block.now)) c.from_residual.ensures.1
-    (λ front behind n.
-    subst (λ (b : Block). StopsIn front c.args.at (block_toks b ++ behind) stop) (sym c.in-Trace.is)
-    (c.in_err-judge_trace-in-Trace.ensures.fault front (items_toks c.in-Trace.items ++ behind) n))
+pub returns-in-Trace-clause-fault : goal.returns-in-Trace-clause-fault
+returns-in-Trace-clause-fault c = λ front behind n.
+    subst (λ (b : Block). StopsIn front c.args.at (block_toks b ++ behind) c.at_atom.result) (sym c.in-Trace.is)
+    (c.at_atom.ensures front (items_toks c.in-Trace.field-0 ++ behind) (word (codes "trace")) (inr (inr (inr (inr (inr (inl (n.trace c.if-ledger.true, refl))))))))
 
-pub returns-in_err-judge_environment-in-Environment-clause-fault : goal.returns-in_err-judge_environment-in-Environment-clause-fault
-returns-in_err-judge_environment-in-Environment-clause-fault c =
-    let stop = c.in_err-judge_environment-in-Environment.field-0.0 in
-    handed c.from_residual-in_err-judge_environment-in-Environment.result stop
-    (StopsWhere (λ (front : List Atom). AreNoted front c.args.ledger.now) c.args.at (block_toks c.args.block.now)) c.from_residual-in_err-judge_environment-in-Environment.ensures.1
-    (λ front behind n.
-    subst (λ (b : Block). StopsIn front c.args.at (block_toks b ++ behind) stop) (sym c.in-Environment.is)
-    (c.in_err-judge_environment-in-Environment.ensures.fault front (braced (flat_map named_fact_toks c.in-Environment.facts) ++ behind) n))
+pub returns-in-Environment-clause-fault : goal.returns-in-Environment-clause-fault
+returns-in-Environment-clause-fault c = λ front behind n.
+    subst (λ (b : Block). StopsIn front c.args.at (block_toks b ++ behind) c.at_atom-in-Environment.result) (sym c.in-Environment.is)
+    (c.at_atom-in-Environment.ensures front (braced (flat_map named_fact_toks c.in-Environment.field-0) ++ behind) (word (codes "env"))
+    (inr (inr (inr (inr (inr (inr (n.environment c.if-ledger-2.true, refl))))))))

@@ -1,9 +1,0 @@
-use Rattle.std.proofs.Common.{◌≡◌, length}
-use Rattle.tsdl_meaning.proofs.TextWords.{each, entry_meaning, with_front}
-use Rattle.tsdl_meaning.proofs.enumeration.mappings_behind.Given as goal
-
-abbrev pub invariant-loop-rest : goal.invariant-loop-rest
-invariant-loop-rest l = with_front l.mappings (each entry_meaning l.rest) ≡ with_front l.fn.front (each entry_meaning l.entries)
-
-abbrev pub decreases-loop-rest : goal.decreases-loop-rest
-decreases-loop-rest l = length l.rest

@@ -1,0 +1,16 @@
+use Rattle.std.proofs.Common.{ap, inl, List, ℕ, subst}
+use Rattle.tsdl_meaning.proofs.TextWords.{IsBehindAlign, IsBehindWord, StopsWhere, of_integer, passes, value_toks}
+use Rattle.tsdl_meaning.proofs.JudgedParts.{err_from}
+use Rattle.tsdl_meaning.proofs.WordTables.{absent}
+use Rattle.tsdl_meaning.proofs.judge.type_attributes.judge_integer.Goals as goal
+
+pub returns-in-align-clause-fault : goal.returns-in-align-clause-fault
+returns-in-align-clause-fault c =
+    err_from c.judge_align_value.result (StopsWhere IsBehindAlign c.args.at (value_toks c.args.value.now)) (StopsWhere (IsBehindWord c.args.word.now) c.args.at (value_toks c.args.value.now))
+    (λ stop h front behind p. h front behind (inl (subst (λ (w : List ℕ). IsBehindWord w front) c.in-align.is p))) c.judge_align_value.ensures.fault
+
+pub returns-in_default-clause-fit : goal.returns-in_default-clause-fit
+returns-in_default-clause-fit c =
+    let n = c.in_default in
+    ap (λ o. passes o c.args.value.now)
+    (absent (of_integer c.args.survey.now.known) c.args.word.now (n.not-size, (n.not-align, (n.not-signed, (n.not-byte_order, (n.not-base, (n.not-map, tt)))))))

@@ -1,9 +1,0 @@
-use Rattle.std.proofs.Common.{◌≡◌, length}
-use Rattle.tsdl_meaning.proofs.TextWords.{environment_in, flat_map}
-use Rattle.tsdl_meaning.proofs.text.first_environment.Given as goal
-
-abbrev pub invariant-loop-rest : goal.invariant-loop-rest
-invariant-loop-rest l = flat_map environment_in l.rest ≡ flat_map environment_in l.blocks
-
-abbrev pub decreases-loop-rest : goal.decreases-loop-rest
-decreases-loop-rest l = length l.rest
