@@ -1,6 +1,6 @@
 -- The types of integers and structures from their parts: each type is made from its own parts, and what is made has parts in
 -- range.
-use Rattle.std.proofs.Common.{◌≡◌, ℕ, ◌%◌, ◌<◌, ◌≤◌, Bool, true, false, eqb, ltb, leb, List, Option, Some, None, IsSome, refl, sym, ap, ◌∙◌, arith, eq-eqb, inl, inr}
+use Rattle.std.proofs.Common.{◌≡◌, ℕ, ◌%◌, ◌<◌, ◌≤◌, Bool, true, false, eqb, ltb, leb, List, Option, Some, None, IsSome, IfSome, refl, sym, subst, ap, ◌∙◌, arith, eq-eqb, inl, inr}
 use Rattle.std.proofs.Math.Nat.{mod-eq_of_lt}
 use Rattle.std.specs.Coded.{le_prop}
 use Rattle.std.proofs.Props.{props}
@@ -13,6 +13,10 @@ use Rattle.ctf_types.specs.declared.StructType.{StructType}
 use Rattle.conf_values.specs.Parts.{proved}
 use Rattle.conf_draft.specs.Integers.{made as made_integer}
 use Rattle.conf_draft.specs.Structures.{made as made_structure}
+
+-- what holds of a value that is there
+pub here : {A : Type 0} (P : A → Type 0) (o : Option A) (x : A) → o ≡ Some x → IfSome o P → P x
+here P o x is h = subst (λ q. IfSome q P) is h
 
 proved_true : {A : Type 0} (b : Bool) (f : b ≡ true → Option A) (h : b ≡ true) → proved b f ≡ f h
 proved_true true f h = let same : IsProp (true ≡ true) = hlevel props in ap f (same refl h)

@@ -1,7 +1,7 @@
 //! Clock types (barectf 3.1, "Clock type object").
-ghost use Rattle.std.specs.Prelude.{◌≡◌, ◌++◌, IfOk, OnOk};
-ghost use Rattle.serde_json.specs.View.{view, members_view};
-ghost use Rattle.conf_draft.specs.Clocks.{clock_types as clock_types_in, clock_or_none, clock_type as clock_type_of};
+ghost use Rattle.std.specs.Prelude.{◌≡◌, ◌++◌, IfOk};
+ghost use Rattle.serde_json.specs.View.{members_view};
+ghost use Rattle.conf_draft.specs.Clocks.{clock_types as clock_types_in, clock_type as clock_type_of};
 
 use crate::lookup::{flag, identifier, natural, object, object_or, signed, text};
 use ctf_types::{ClockType, ListOf, Text};
@@ -21,23 +21,11 @@ pub(crate) fn clock_types(
         return Ok(clocks);
     };
     for (name, value) in named.iter() {
-        push_clock(alloc, &mut clocks, name.as_str(), value)?;
+        if let Value::Object(members) = value {
+            clocks.push(clock_type(alloc, name.as_str(), members)?)?;
+        }
     }
     Ok(clocks)
-}
-
-fn push_clock(
-    alloc: Global,
-    clocks: &mut ListOf<ClockType>,
-    name: &str,
-    value: &Value,
-) -> Result<(), AllocError>
-    ensures { OnOk result (clocks.new ≡ clocks.old ++ clock_or_none name.now (view value.now)) }
-{
-    match value {
-        Value::Object(members) => Ok(clocks.push(clock_type(alloc, name, members)?)?),
-        _ => Ok(()),
-    }
 }
 
 #[tactic(auto, unfolding(crate::specs::Clocks::clock_type))]

@@ -1,7 +1,7 @@
 //! Enumeration field types (barectf 3.1, "Enumeration field type objects").
 ghost use Rattle.std.specs.Prelude.{◌≡◌, ◌++◌, Some, IsSome, IfOk, OnOk, codes, option_map};
-ghost use Rattle.serde_json.specs.View.{view, items_view, members_view};
-ghost use Rattle.conf_draft.specs.Enumerations.{enumeration as enumeration_of, mappings_or_none, ranges_of, low as low_of, high as high_of, whole as whole_of, second_item as second_item_of};
+ghost use Rattle.serde_json.specs.View.{view, members_view};
+ghost use Rattle.conf_draft.specs.Enumerations.{enumeration as enumeration_of, mappings_or_none, ranges_of, low as low_of, high as high_of, whole as whole_of};
 ghost use Rattle.conf_draft.specs.Lookups.{object as object_in};
 
 use crate::integer::integer;
@@ -21,10 +21,8 @@ pub(crate) fn enumeration(
     ensures { IfOk result (λ t. enumeration_of signed (members_view members.now.entries) ≡ Some t) }
 {
     let mappings = mappings(alloc, members)?;
-    Ok(EnumType {
-        int: integer(signed, members),
-        mappings,
-    })
+    let int = integer(signed, members);
+    Ok(EnumType { int, mappings })
 }
 
 /// The mappings of all labels, in byte order of the labels. Left out, there are none.
@@ -63,22 +61,14 @@ fn push_ranges(
 }
 
 /// The lowest and the highest number of a range: a number, or two.
+#[tactic(auto, using(crate::proofs::Lists::second))]
 fn ends(range: &Value) -> (i128, i128)
     ensures low { result.0 ≡ low_of (view range.now) }
     ensures high { result.1 ≡ high_of (view range.now) }
 {
     match range {
-        Value::Array(ends) => (whole(ends.first()), whole(second_item(ends))),
+        Value::Array(ends) => (whole(ends.first()), whole(ends.get(1))),
         _ => (whole(Some(range)), whole(Some(range))),
-    }
-}
-
-fn second_item(items: &Vec<Value>) -> Option<&Value>
-    ensures { option_map (λ v. view v.now) result ≡ second_item_of (items_view items.now.items) }
-{
-    match items.as_slice() {
-        [] | [_] => None,
-        [_, second, ..] => Some(second),
     }
 }
 

@@ -1,7 +1,7 @@
 //! Event record types (barectf 3.1, "Event record type object").
-ghost use Rattle.std.specs.Prelude.{◌≡◌, Some, IsSome, IfOk, OnOk, option_map};
+ghost use Rattle.std.specs.Prelude.{◌≡◌, Some, IsSome, IfOk, option_map};
 ghost use Rattle.serde_json.specs.View.{view, members_view};
-ghost use Rattle.conf_draft.specs.Events.{event_types as event_types_in, entry_behind, event_type as event_type_of, level_of};
+ghost use Rattle.conf_draft.specs.Events.{event_types as event_types_in, event_type as event_type_of, level_of};
 
 use crate::lookup::object;
 use crate::structure::structure;
@@ -27,25 +27,11 @@ pub(crate) fn event_types(
         return Ok(events);
     };
     for (name, value) in named.iter() {
-        push_event(alloc, &mut events, name.as_str(), value, levels)?;
+        if let Value::Object(members) = value {
+            events.push(event_type(alloc, name.as_str(), members, levels)?)?;
+        }
     }
     Ok(events)
-}
-
-fn push_event(
-    alloc: Global,
-    events: &mut ListOf<EventType>,
-    name: &str,
-    value: &Value,
-    levels: &Map<String, Value>,
-) -> Result<(), AllocError>
-    requires { IsSome (entry_behind (members_view levels.now.entries) events.old name.now (view value.now)) }
-    ensures { OnOk result (entry_behind (members_view levels.now.entries) events.old name.now (view value.now) ≡ Some events.new) }
-{
-    match value {
-        Value::Object(members) => Ok(events.push(event_type(alloc, name, members, levels)?)?),
-        _ => Ok(()),
-    }
 }
 
 #[tactic(auto, unfolding(crate::specs::Events::event_type))]

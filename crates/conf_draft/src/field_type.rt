@@ -1,8 +1,6 @@
 //! Field types that may stand anywhere in a structure (barectf 3.1, "Field type objects").
 ghost use Rattle.std.specs.Prelude.{◌≡◌, ◌≤◌, Some, IsSome, IfOk};
 ghost use Rattle.serde_json.specs.View.{view, members_view};
-ghost use Rattle.ctf_types.specs.declared.FieldType.TheVariants as fields;
-ghost use Rattle.ctf_types.specs.FieldTypes.{chain_of};
 ghost use Rattle.conf_draft.specs.FieldTypes.{class_of as class_of_members, of_class as of_class_of, field_type as field_type_of_data, element as element_of};
 
 use crate::enumeration::enumeration;
@@ -54,19 +52,11 @@ pub(crate) fn of_class(
         Some(Place::Str) => Ok(FieldType::Str),
         Some(Place::StaticArray) => {
             let length = natural(members, "length").unwrap_or(0);
-            static_array(alloc, length, element(alloc, members)?)
+            let element = Element::new(alloc, element(alloc, members)?)?;
+            Ok(FieldType::Static(element, length as u32))
         }
         _ => unreachable!(),
     }
-}
-
-/// An array of so many elements.
-fn static_array(alloc: Global, length: u64, element: FieldType) -> Result<FieldType, AllocError>
-    requires { length ≤ 1048576 }
-    ensures { IfOk result (λ t. t ≡ fields.Static (chain_of element) length) }
-{
-    let element = Element::new(alloc, element)?;
-    Ok(FieldType::Static(element, length as u32))
 }
 
 /// The type of an array's elements.

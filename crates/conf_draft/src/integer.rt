@@ -3,8 +3,7 @@ ghost use Rattle.std.specs.Prelude.{◌≡◌, Some, IsSome};
 ghost use Rattle.serde_json.specs.View.{members_view};
 ghost use Rattle.conf_draft.specs.Integers.{integer as integer_of, made as made_of, base_of};
 
-use crate::alignment::alignment;
-use crate::lookup::{natural, word};
+use crate::lookup::{alignment, natural, word};
 use conf_values::base_word;
 use ctf_types::{Base, IntType};
 use serde_json::{Map, Value};
@@ -27,10 +26,7 @@ fn made(size: u64, align: u64, signed: bool, base: Base) -> IntType
     requires { IsSome (made_of size align signed base) }
     ensures { made_of size align signed base ≡ Some result }
 {
-    match IntType::new(size as u8, align as u32, signed, base) {
-        Some(made) => made,
-        None => unreachable!(),
-    }
+    IntType::new(size as u8, align as u32, signed, base).unwrap()
 }
 
 /// The base in which the integer is shown, decimal where it is left out.
@@ -38,8 +34,6 @@ fn made(size: u64, align: u64, signed: bool, base: Base) -> IntType
 fn base(members: &Map<String, Value>) -> Base
     ensures { result ≡ base_of (members_view members.now.entries) }
 {
-    match word(members, "preferred-display-base") {
-        Some(word) => base_word(word).unwrap_or(Base::Dec),
-        None => Base::Dec,
-    }
+    let word = word(members, "preferred-display-base");
+    word.and_then(|word| base_word(word)).unwrap_or(Base::Dec)
 }

@@ -1,13 +1,11 @@
 //! Makes of a resolved configuration, whose objects have no flaw, what they say.
 #![tactic(auto)]
 
-mod alignment;
 mod clock_type;
 mod draft;
 mod enumeration;
 mod environment;
 mod event_type;
-mod feature;
 mod features;
 mod field_type;
 mod integer;

@@ -2,6 +2,7 @@
 ghost use Rattle.std.specs.Prelude.{◌≡◌, IfOk, option_map};
 ghost use Rattle.serde_json.specs.Data.{no_members};
 ghost use Rattle.serde_json.specs.View.{items_view, members_view};
+ghost use Rattle.conf_draft.specs.Alignments.{alignment as alignment_in};
 ghost use Rattle.conf_draft.specs.Features.{or_empty};
 ghost use Rattle.conf_draft.specs.Lookups.{natural as natural_in, signed as signed_in, flag as flag_in, word as word_in, object as object_in, list as list_in, identifier as identifier_in};
 
@@ -18,6 +19,15 @@ pub(crate) fn natural(members: &Map<String, Value>, name: &str) -> Option<u64>
     ensures { result ≡ natural_in name.now (members_view members.now.entries) }
 {
     as_natural(optional(members, name)?)
+}
+
+/// The alignment in bits that the property `name` is: a power of two up to 4,096. One that no field can have counts as left
+/// out: it is told as a limit later, so no configuration that is accepted has one.
+#[tactic(auto, unfolding(crate::specs::Alignments::alignment))]
+pub(crate) fn alignment(members: &Map<String, Value>, name: &str) -> Option<u64>
+    ensures { result ≡ alignment_in name.now (members_view members.now.entries) }
+{
+    natural(members, name).filter(|bits| *bits > 0 && 4096 % *bits == 0)
 }
 
 /// The whole number from -2^63 to 2^63 - 1 that the property `name` is.

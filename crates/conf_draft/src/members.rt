@@ -1,7 +1,7 @@
 //! Members lists (barectf 3.1, "Structure field type member object").
 ghost use Rattle.std.specs.Prelude.{◌≡◌, Some, IsSome, IfOk, OnOk, option_map};
 ghost use Rattle.serde_json.specs.View.{view, members_view};
-ghost use Rattle.conf_draft.specs.Members.{told_type as told_type_of, member_of as member_of_value, behind, behind_named, behind_entry};
+ghost use Rattle.conf_draft.specs.Members.{told_type as told_type_of, behind_named};
 ghost use Rattle.conf_draft.specs.Structures.{listed as listed_in};
 
 use crate::field_type::{class_of, element, of_class};
@@ -27,21 +27,14 @@ pub(crate) fn listed(
         return Ok(listed);
     };
     for entry in entries {
-        push_entry(alloc, &mut listed, entry)?;
+        if let Value::Object(named) = entry {
+            push_named(alloc, &mut listed, named)?;
+        }
     }
     Ok(listed)
 }
 
-fn push_entry(alloc: Global, members: &mut Members, entry: &Value) -> Result<(), AllocError>
-    requires { IsSome (behind_entry members.old (view entry.now)) }
-    ensures { OnOk result (behind_entry members.old (view entry.now) ≡ Some members.new) }
-{
-    match entry {
-        Value::Object(named) => push_named(alloc, members, named),
-        _ => Ok(()),
-    }
-}
-
+#[tactic(auto, using(crate::proofs::Names::not_there), unfolding(crate::specs::Members::behind))]
 fn push_named(
     alloc: Global,
     members: &mut Members,
@@ -51,37 +44,17 @@ fn push_named(
     ensures { OnOk result (behind_named members.old (members_view named.now.entries) ≡ Some members.new) }
 {
     for (name, value) in named.iter() {
-        push_member(alloc, members, name.as_str(), value)?;
+        let Value::Object(told) = value else {
+            unreachable!()
+        };
+        let member = told_type(alloc, optional(told, "field-type"))?;
+        let name = Text::from_str(alloc, name.as_str())?;
+        members.push(name, member)?;
     }
     Ok(())
 }
 
-#[tactic(auto, using(crate::proofs::Names::not_there), unfolding(crate::specs::Members::behind))]
-fn push_member(
-    alloc: Global,
-    members: &mut Members,
-    name: &str,
-    value: &Value,
-) -> Result<(), AllocError>
-    requires { IsSome (behind members.old name.now (member_of_value (view value.now))) }
-    ensures { OnOk result (behind members.old name.now (member_of_value (view value.now)) ≡ Some members.new) }
-{
-    let member = member_of(alloc, value)?;
-    let name = Text::from_str(alloc, name)?;
-    Ok(members.push(name, member)?)
-}
-
-/// The type of a member that an entry's value tells of.
-fn member_of(alloc: Global, value: &Value) -> Result<MemberType, AllocError>
-    requires { IsSome (member_of_value (view value.now)) }
-    ensures { IfOk result (λ t. member_of_value (view value.now) ≡ Some t) }
-{
-    match value {
-        Value::Object(told) => told_type(alloc, optional(told, "field-type")),
-        _ => unreachable!(),
-    }
-}
-
+/// The type of a member that an entry tells of.
 #[tactic(auto, unfolding(crate::specs::Members::member_type))]
 fn told_type(alloc: Global, value: Option<&Value>) -> Result<MemberType, AllocError>
     requires { IsSome (told_type_of (option_map (λ v. view v.now) value)) }

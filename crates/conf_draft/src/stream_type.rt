@@ -1,14 +1,13 @@
 //! Data stream types (barectf 3.1, "Data stream type object").
-ghost use Rattle.std.specs.Prelude.{◌≡◌, Some, IsSome, IfOk, OnOk};
-ghost use Rattle.serde_json.specs.View.{view, members_view};
-ghost use Rattle.conf_draft.specs.Features.{context as context_in, event_header as event_header_in};
-ghost use Rattle.conf_draft.specs.Streams.{stream_types as stream_types_in, entry_behind, stream_type as stream_type_of, features_of};
+ghost use Rattle.std.specs.Prelude.{◌≡◌, Some, IsSome, IfOk};
+ghost use Rattle.serde_json.specs.View.{members_view};
+ghost use Rattle.conf_draft.specs.Streams.{stream_types as stream_types_in, stream_type as stream_type_of};
 
 use crate::event_type::event_types;
 use crate::features::{context, event_header};
 use crate::lookup::{object, object_or, text};
 use crate::structure::{extra_members, structure};
-use ctf_types::{ContextFeatures, EventFeatures, ListOf, StreamType, Text};
+use ctf_types::{ListOf, StreamType, Text};
 use serde_json::{Map, Value};
 use std::alloc::{AllocError, Global};
 
@@ -28,25 +27,11 @@ pub(crate) fn stream_types(
         return Ok(streams);
     };
     for (name, value) in named.iter() {
-        push_stream(alloc, &mut streams, name.as_str(), value, levels)?;
+        if let Value::Object(members) = value {
+            streams.push(stream_type(alloc, name.as_str(), members, levels)?)?;
+        }
     }
     Ok(streams)
-}
-
-fn push_stream(
-    alloc: Global,
-    streams: &mut ListOf<StreamType>,
-    name: &str,
-    value: &Value,
-    levels: &Map<String, Value>,
-) -> Result<(), AllocError>
-    requires { IsSome (entry_behind (members_view levels.now.entries) streams.old name.now (view value.now)) }
-    ensures { OnOk result (entry_behind (members_view levels.now.entries) streams.old name.now (view value.now) ≡ Some streams.new) }
-{
-    match value {
-        Value::Object(members) => Ok(streams.push(stream_type(alloc, name, members, levels)?)?),
-        _ => Ok(()),
-    }
 }
 
 #[tactic(auto, unfolding(crate::specs::Streams::stream_type))]
@@ -61,7 +46,10 @@ fn stream_type(
 {
     let name = Text::from_str(alloc, name)?;
     let default_clock = text(alloc, members, "$default-clock-type-name")?;
-    let (context, event_header) = own_fields(alloc, members, &default_clock)?;
+    let empty = Map::new(alloc);
+    let features = object_or(members, "$features", &empty);
+    let context = context(alloc, features, &default_clock)?;
+    let event_header = event_header(alloc, features, &default_clock)?;
     let extras = extra_members(alloc, members, "packet-context-field-type-extra-members")?;
     let common = structure(alloc, members, "event-record-common-context-field-type")?;
     let events = event_types(alloc, members, levels)?;
@@ -74,22 +62,4 @@ fn stream_type(
         common,
         events,
     })
-}
-
-/// The fields of the packet context and of the event record header.
-fn own_fields(
-    alloc: Global,
-    members: &Map<String, Value>,
-    clock: &Option<Text>,
-) -> Result<(ContextFeatures, EventFeatures), AllocError>
-    requires context { IsSome (context_in clock.now (features_of (members_view members.now.entries))) }
-    requires event_header { IsSome (event_header_in clock.now (features_of (members_view members.now.entries))) }
-    ensures context { IfOk result (λ f. context_in clock.now (features_of (members_view members.now.entries)) ≡ Some f.0) }
-    ensures event_header { IfOk result (λ f. event_header_in clock.now (features_of (members_view members.now.entries)) ≡ Some f.1) }
-{
-    let empty = Map::new(alloc);
-    let features = object_or(members, "$features", &empty);
-    let context = context(alloc, features, clock)?;
-    let event_header = event_header(alloc, features, clock)?;
-    Ok((context, event_header))
 }

@@ -3,8 +3,7 @@ ghost use Rattle.std.specs.Prelude.{◌≡◌, Some, IsSome, IfOk};
 ghost use Rattle.serde_json.specs.View.{members_view};
 ghost use Rattle.conf_draft.specs.Structures.{made as made_of, structure as structure_in, extra_members as extra_members_in};
 
-use crate::alignment::alignment;
-use crate::lookup::object;
+use crate::lookup::{alignment, object};
 use crate::members::listed;
 use ctf_types::{Members, StructType};
 use serde_json::{Map, Value};
@@ -48,8 +47,5 @@ fn made(members: Members, align: u64) -> StructType
     requires { IsSome (made_of members align) }
     ensures { made_of members align ≡ Some result }
 {
-    match StructType::new(members, align as u32) {
-        Some(made) => made,
-        None => unreachable!(),
-    }
+    StructType::new(members, align as u32).unwrap()
 }

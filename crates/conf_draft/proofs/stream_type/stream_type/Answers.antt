@@ -17,9 +17,9 @@ pub returns : goal.returns
 unfolding stream_type
 returns c =
     let ms = members_view c.args.members.now.entries in
-    stream_made c.args.name.now c.in_ok-name.name (clock_of ms) c.in_ok-default_clock.default_clock _ _ _ _ _ c.in_ok-context.context c.in_ok-extras.extras c.in_ok-context.event_header c.in_ok-common.common c.in_ok-events.events
+    stream_made c.args.name.now c.in_ok-name.name (clock_of ms) c.in_ok-default_clock.default_clock _ _ _ _ _ c.in_ok-context.context c.in_ok-extras.extras c.in_ok-event_header.event_header c.in_ok-common.common c.in_ok-events.events
     c.in_ok-name.ensures c.in_ok-default_clock.ensures
-    (subst (λ k. context k (features_of ms) ≡ Some c.in_ok-context.context) c.in_ok-default_clock.ensures c.in_ok-context.ensures.context)
+    (subst (λ k. context k (features_of ms) ≡ Some c.in_ok-context.context) c.in_ok-default_clock.ensures (subst (λ f. context c.in_ok-default_clock.default_clock f ≡ Some c.in_ok-context.context) c.object_or-features.ensures c.in_ok-context.ensures))
     c.in_ok-extras.ensures
-    (subst (λ k. event_header k (features_of ms) ≡ Some c.in_ok-context.event_header) c.in_ok-default_clock.ensures c.in_ok-context.ensures.event_header)
+    (subst (λ k. event_header k (features_of ms) ≡ Some c.in_ok-event_header.event_header) c.in_ok-default_clock.ensures (subst (λ f. event_header c.in_ok-default_clock.default_clock f ≡ Some c.in_ok-event_header.event_header) c.object_or-features.ensures c.in_ok-event_header.ensures))
     c.in_ok-common.ensures c.in_ok-events.ensures
