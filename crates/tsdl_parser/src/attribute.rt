@@ -1,5 +1,4 @@
 //! Reads names, values and attributes.
-#![tactic(auto, unfolding(crate::specs::ParsingAttributes::dotted_at, crate::specs::ParsingAttributes::name_at, crate::specs::ParsingAttributes::value_at, crate::specs::ParsingAttributes::attr_behind, crate::specs::ParsingAttributes::attr_at), using(crate::proofs::Attributes::dotted_short))]
 
 ghost use Rattle.tsdl_grammar.specs.Fronts.{shown};
 ghost use Rattle.tsdl_parser.specs.Parsing.{Gives};
@@ -16,11 +15,13 @@ use tsdl_grammar::{Atom, Atoms, Attribute, Mark, Name, Value};
 impl Repeated for Text {
     ghost item = { dotted_at };
 
+    #[tactic(auto, unfolding(crate::specs::ParsingAttributes::dotted_at))]
     fn item_at(alloc: Global, atoms: Atoms<'_>) -> Read<'_, Text> {
         word_at(alloc, mark_at(Mark::Dot, atoms)?, Expected::Identifier)
     }
 }
 
+#[tactic(auto, unfolding(crate::specs::ParsingAttributes::name_at), using(crate::proofs::Attributes::dotted_short))]
 pub(crate) fn name_at(alloc: Global, atoms: Atoms<'_>, expected: Expected) -> Read<'_, Name>
     ensures { Gives (λ x. (x.0, shown x.1)) result (name_at (shown atoms.entry)) }
 {
@@ -29,6 +30,7 @@ pub(crate) fn name_at(alloc: Global, atoms: Atoms<'_>, expected: Expected) -> Re
     Ok((Name { first, rest }, behind))
 }
 
+#[tactic(auto, unfolding(crate::specs::ParsingAttributes::value_at))]
 fn value_at(alloc: Global, atoms: Atoms<'_>) -> Read<'_, Value>
     ensures { Gives (λ x. (x.0, shown x.1)) result (value_at (shown atoms.entry)) }
 {
@@ -47,6 +49,7 @@ fn value_at(alloc: Global, atoms: Atoms<'_>) -> Read<'_, Value>
 }
 
 /// The rest of an attribute behind its name.
+#[tactic(auto, unfolding(crate::specs::ParsingAttributes::attr_behind))]
 pub(crate) fn attr_behind(alloc: Global, name: Name, atoms: Atoms<'_>) -> Read<'_, Attribute>
     ensures { Gives (λ x. (x.0, shown x.1)) result (attr_behind name (shown atoms.entry)) }
 {
@@ -58,6 +61,7 @@ pub(crate) fn attr_behind(alloc: Global, name: Name, atoms: Atoms<'_>) -> Read<'
 impl Repeated for Attribute {
     ghost item = { attr_at };
 
+    #[tactic(auto, unfolding(crate::specs::ParsingAttributes::attr_at))]
     fn item_at(alloc: Global, atoms: Atoms<'_>) -> Read<'_, Attribute> {
         let (name, rest) = name_at(alloc, atoms, Expected::Attribute)?;
         attr_behind(alloc, name, rest)

@@ -1,5 +1,4 @@
 //! Reads blocks, and what stands in them.
-#![tactic(auto, unfolding(crate::specs::ParsingBlocks::item_at, crate::specs::ParsingBlocks::scope_behind, crate::specs::ParsingBlocks::items_at, crate::specs::ParsingBlocks::fact_at, crate::specs::ParsingBlocks::named_fact_at, crate::specs::ParsingBlocks::block_at, crate::specs::ParsingBlocks::environment_at, crate::specs::ParsingBlocks::ended_block_at), using(crate::proofs::Blocks::item_short, crate::proofs::Blocks::fact_short, crate::proofs::Blocks::block_short))]
 
 ghost use Rattle.std.specs.Prelude.{◌≡◌, List, IfOk, IfErr};
 ghost use Rattle.tsdl_grammar.specs.declared.tree.Block.{Block};
@@ -22,6 +21,7 @@ use tsdl_grammar::{Atom, Atoms, Block, Fact, Item, Mark, NamedFact, Scope};
 impl Repeated for Item {
     ghost item = { item_at };
 
+    #[tactic(auto, unfolding(crate::specs::ParsingBlocks::item_at, crate::specs::ParsingBlocks::scope_behind))]
     fn item_at(alloc: Global, atoms: Atoms<'_>) -> Read<'_, Item> {
         let (name, rest) = name_at(alloc, atoms, Expected::Item)?;
         if begins(Mark::Equals, rest) {
@@ -37,6 +37,7 @@ impl Repeated for Item {
 }
 
 /// The items of a block of this word.
+#[tactic(auto, unfolding(crate::specs::ParsingBlocks::items_at), using(crate::proofs::Blocks::item_short))]
 fn items_at<'a>(alloc: Global, keyword: &str, atoms: Atoms<'a>) -> Read<'a, ListOf<Item>>
     ensures { Gives (λ x. (x.0, shown x.1)) result (items_at keyword.now (shown atoms.entry)) }
 {
@@ -45,6 +46,7 @@ fn items_at<'a>(alloc: Global, keyword: &str, atoms: Atoms<'a>) -> Read<'a, List
     going_on(items, &[CLOSE_BRACE, SEMICOLON])
 }
 
+#[tactic(auto, unfolding(crate::specs::ParsingBlocks::fact_at))]
 fn fact_at(alloc: Global, atoms: Atoms<'_>) -> Read<'_, Fact>
     ensures { Gives (λ x. (x.0, shown x.1)) result (fact_at (shown atoms.entry)) }
 {
@@ -59,6 +61,7 @@ fn fact_at(alloc: Global, atoms: Atoms<'_>) -> Read<'_, Fact>
 impl Repeated for NamedFact {
     ghost item = { named_fact_at };
 
+    #[tactic(auto, unfolding(crate::specs::ParsingBlocks::named_fact_at))]
     fn item_at(alloc: Global, atoms: Atoms<'_>) -> Read<'_, NamedFact> {
         let (name, rest) = word_at(alloc, atoms, Expected::FactName)?;
         let rest = going_on(mark_at(Mark::Equals, rest), &[ZERO, SEMICOLON])?;
@@ -67,6 +70,7 @@ impl Repeated for NamedFact {
     }
 }
 
+#[tactic(auto, unfolding(crate::specs::ParsingBlocks::block_at, crate::specs::ParsingBlocks::environment_at), using(crate::proofs::Blocks::fact_short))]
 fn block_at(alloc: Global, atoms: Atoms<'_>) -> Read<'_, Block>
     ensures { Gives (λ x. (x.0, shown x.1)) result (block_at (shown atoms.entry)) }
 {
@@ -93,6 +97,7 @@ fn block_at(alloc: Global, atoms: Atoms<'_>) -> Read<'_, Block>
 impl Repeated for Block {
     ghost item = { ended_block_at };
 
+    #[tactic(auto, unfolding(crate::specs::ParsingBlocks::ended_block_at))]
     fn item_at(alloc: Global, atoms: Atoms<'_>) -> Read<'_, Block> {
         let (block, rest) = block_at(alloc, atoms)?;
         Ok((block, mark_at(Mark::Semicolon, rest)?))
@@ -100,6 +105,7 @@ impl Repeated for Block {
 }
 
 /// The blocks that the atoms of a text spell, or how far the atoms spell any.
+#[tactic(auto, using(crate::proofs::Blocks::block_short))]
 pub fn parse(alloc: Global, atoms: Atoms<'_>) -> Result<Vec<Block>, Unread>
     ensures found { IfOk result (λ bs. (shown atoms.entry) ≡ text_toks bs.items) }
     ensures none { IfErr result (λ e. IfHalted e ((bs : List Block) → (shown atoms.entry) ≡ text_toks bs → ⊥)) }

@@ -1,5 +1,4 @@
 //! Reads the entries of enumerations.
-#![tactic(auto, unfolding(crate::specs::Parsing::begins, crate::specs::ParsingEntries::label_at, crate::specs::ParsingEntries::high_at, crate::specs::ParsingEntries::entry_at, crate::specs::ParsingEntries::is_labelled, crate::specs::ParsingEntries::is_next, crate::specs::ParsingEntries::next_entry_at, crate::specs::ParsingEntries::closing_at, crate::specs::ParsingEntries::entries_at, crate::specs::ParsingEntries::listed_at), using(crate::proofs::Entries::next_short))]
 
 ghost use Rattle.std.specs.Prelude.{◌≡◌, IfOk};
 ghost use Rattle.tsdl_grammar.specs.Fronts.{shown};
@@ -13,6 +12,7 @@ use crate::repetition::{Repeated, Start, all_at};
 use std::alloc::{AllocError, Global};
 use tsdl_grammar::{Atom, Atoms, Closing, Entries, Entry, Label, Mark, Number};
 
+#[tactic(auto, unfolding(crate::specs::ParsingEntries::label_at))]
 fn label_at(alloc: Global, atoms: Atoms<'_>) -> Read<'_, Label>
     ensures { Gives (λ x. (x.0, shown x.1)) result (label_at (shown atoms.entry)) }
 {
@@ -25,6 +25,7 @@ fn label_at(alloc: Global, atoms: Atoms<'_>) -> Read<'_, Label>
 }
 
 /// The upper end of a range, if one follows.
+#[tactic(auto, unfolding(crate::specs::ParsingEntries::high_at))]
 fn high_at(alloc: Global, atoms: Atoms<'_>) -> Read<'_, Option<Number>>
     ensures { Gives (λ x. (x.0, shown x.1)) result (high_at (shown atoms.entry)) }
 {
@@ -36,6 +37,7 @@ fn high_at(alloc: Global, atoms: Atoms<'_>) -> Read<'_, Option<Number>>
     Ok((Some(high), rest))
 }
 
+#[tactic(auto, unfolding(crate::specs::ParsingEntries::entry_at))]
 fn entry_at(alloc: Global, atoms: Atoms<'_>) -> Read<'_, Entry>
     ensures { Gives (λ x. (x.0, shown x.1)) result (entry_at (shown atoms.entry)) }
 {
@@ -46,6 +48,7 @@ fn entry_at(alloc: Global, atoms: Atoms<'_>) -> Read<'_, Entry>
     Ok((Entry { label, low, high }, rest))
 }
 
+#[tactic(auto, unfolding(crate::specs::ParsingEntries::is_labelled))]
 fn is_labelled(alloc: Global, atoms: Atoms<'_>) -> Result<bool, AllocError>
     ensures { IfOk result (λ b. b ≡ is_labelled (shown atoms.entry)) }
 {
@@ -54,6 +57,7 @@ fn is_labelled(alloc: Global, atoms: Atoms<'_>) -> Result<bool, AllocError>
 }
 
 /// Whether a comma and another entry follow.
+#[tactic(auto, unfolding(crate::specs::Parsing::begins, crate::specs::ParsingEntries::is_next))]
 pub(crate) fn is_next(alloc: Global, atoms: Atoms<'_>) -> Result<bool, AllocError>
     ensures { IfOk result (λ b. b ≡ is_next (shown atoms.entry)) }
 {
@@ -63,12 +67,14 @@ pub(crate) fn is_next(alloc: Global, atoms: Atoms<'_>) -> Result<bool, AllocErro
 impl Repeated for Entry {
     ghost item = { next_entry_at };
 
+    #[tactic(auto, unfolding(crate::specs::ParsingEntries::next_entry_at))]
     fn item_at(alloc: Global, atoms: Atoms<'_>) -> Read<'_, Entry> {
         entry_at(alloc, mark_at(Mark::Comma, atoms)?)
     }
 }
 
 /// What stands between an enumeration's braces.
+#[tactic(auto, unfolding(crate::specs::ParsingEntries::entries_at, crate::specs::ParsingEntries::listed_at, crate::specs::ParsingEntries::closing_at), using(crate::proofs::Entries::next_short))]
 pub(crate) fn entries_at(alloc: Global, atoms: Atoms<'_>) -> Read<'_, Entries>
     ensures { Gives (λ x. (x.0, shown x.1)) result (entries_at (shown atoms.entry)) }
 {

@@ -1,5 +1,4 @@
 //! Reads types, members and structures.
-#![tactic(auto, unfolding(crate::specs::ParsingMembers::int_at, crate::specs::ParsingMembers::enum_at, crate::specs::ParsingMembers::kind_at, crate::specs::ParsingMembers::string_at, crate::specs::ParsingMembers::count_at, crate::specs::ParsingMembers::bracket_at, crate::specs::ParsingMembers::member_at, crate::specs::ParsingMembers::align_at, crate::specs::ParsingMembers::struct_at), using(crate::proofs::Attributes::attr_short, crate::proofs::Members::bracket_short, crate::proofs::Members::member_short))]
 
 ghost use Rattle.tsdl_grammar.specs.Fronts.{shown};
 ghost use Rattle.tsdl_parser.specs.Parsing.{Gives};
@@ -19,6 +18,7 @@ use tsdl_grammar::{
     Atom, Atoms, Attribute, Bracket, Closing, Entries, Kind, Mark, MemberTree, Number, Structure,
 };
 
+#[tactic(auto, unfolding(crate::specs::ParsingMembers::int_at), using(crate::proofs::Attributes::attr_short))]
 fn int_at(alloc: Global, atoms: Atoms<'_>) -> Read<'_, ListOf<Attribute>>
     ensures { Gives (λ x. (x.0, shown x.1)) result (int_at (shown atoms.entry)) }
 {
@@ -28,6 +28,7 @@ fn int_at(alloc: Global, atoms: Atoms<'_>) -> Read<'_, ListOf<Attribute>>
     going_on(attrs, &[CLOSE_BRACE])
 }
 
+#[tactic(auto, unfolding(crate::specs::ParsingMembers::enum_at))]
 fn enum_at(alloc: Global, atoms: Atoms<'_>) -> Read<'_, Kind>
     ensures { Gives (λ x. (x.0, shown x.1)) result (enum_at (shown atoms.entry)) }
 {
@@ -48,6 +49,7 @@ fn enum_at(alloc: Global, atoms: Atoms<'_>) -> Read<'_, Kind>
     Ok((Kind::Enumeration(attrs, entries), rest))
 }
 
+#[tactic(auto, unfolding(crate::specs::ParsingMembers::kind_at, crate::specs::ParsingMembers::string_at), using(crate::proofs::Attributes::attr_short))]
 fn kind_at(alloc: Global, atoms: Atoms<'_>) -> Read<'_, Kind>
     ensures { Gives (λ x. (x.0, shown x.1)) result (kind_at (shown atoms.entry)) }
 {
@@ -68,6 +70,7 @@ fn kind_at(alloc: Global, atoms: Atoms<'_>) -> Read<'_, Kind>
 }
 
 /// What stands between an array's brackets.
+#[tactic(auto, unfolding(crate::specs::ParsingMembers::count_at))]
 fn count_at(alloc: Global, atoms: Atoms<'_>) -> Read<'_, Bracket>
     ensures { Gives (λ x. (x.0, shown x.1)) result (count_at (shown atoms.entry)) }
 {
@@ -82,6 +85,7 @@ fn count_at(alloc: Global, atoms: Atoms<'_>) -> Read<'_, Bracket>
 impl Repeated for Bracket {
     ghost item = { bracket_at };
 
+    #[tactic(auto, unfolding(crate::specs::ParsingMembers::bracket_at))]
     fn item_at(alloc: Global, atoms: Atoms<'_>) -> Read<'_, Bracket> {
         let inside = mark_at(Mark::OpenBracket, atoms)?;
         let (count, rest) = going_on(count_at(alloc, inside), &[CLOSE_BRACKET])?;
@@ -92,6 +96,7 @@ impl Repeated for Bracket {
 impl Repeated for MemberTree {
     ghost item = { member_at };
 
+    #[tactic(auto, unfolding(crate::specs::ParsingMembers::member_at), using(crate::proofs::Members::bracket_short))]
     fn item_at(alloc: Global, atoms: Atoms<'_>) -> Read<'_, MemberTree> {
         let (kind, rest) = kind_at(alloc, atoms)?;
         let name = word_at(alloc, rest, Expected::MemberName);
@@ -108,6 +113,7 @@ impl Repeated for MemberTree {
 }
 
 /// A structure's alignment, if it is given.
+#[tactic(auto, unfolding(crate::specs::ParsingMembers::align_at))]
 fn align_at(alloc: Global, atoms: Atoms<'_>) -> Read<'_, Option<Number>>
     ensures { Gives (λ x. (x.0, shown x.1)) result (align_at (shown atoms.entry)) }
 {
@@ -122,6 +128,7 @@ fn align_at(alloc: Global, atoms: Atoms<'_>) -> Read<'_, Option<Number>>
     Ok((Some(align), mark_at(Mark::CloseParenthesis, rest)?))
 }
 
+#[tactic(auto, unfolding(crate::specs::ParsingMembers::struct_at), using(crate::proofs::Members::member_short))]
 pub(crate) fn struct_at(alloc: Global, atoms: Atoms<'_>) -> Read<'_, Structure>
     ensures { Gives (λ x. (x.0, shown x.1)) result (struct_at (shown atoms.entry)) }
 {

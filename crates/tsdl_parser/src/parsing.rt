@@ -1,5 +1,4 @@
 //! What the rules of the grammar are made of: marks, words and numbers at the front of a list of atoms.
-#![tactic(auto, unfolding(crate::specs::Parsing::begins, crate::specs::Parsing::mark_at, crate::specs::Parsing::word_at, crate::specs::Parsing::names, crate::specs::Parsing::keyword_at, crate::specs::Parsing::number_at, crate::specs::Parsing::signed_at))]
 
 ghost use Rattle.std.specs.Prelude.{◌≡◌, ◌∷◌, [], IfOk, MatchOption};
 ghost use Rattle.tsdl_grammar.specs.Fronts.{meant, shown};
@@ -31,6 +30,7 @@ fn number_of(mark: Mark) -> u8
 }
 
 /// Whether the first atom is this mark.
+#[tactic(auto, unfolding(crate::specs::Parsing::begins))]
 pub(crate) fn begins(mark: Mark, atoms: Atoms<'_>) -> bool
     ensures { result ≡ begins mark (shown atoms.entry) }
 {
@@ -39,6 +39,7 @@ pub(crate) fn begins(mark: Mark, atoms: Atoms<'_>) -> bool
 }
 
 /// What stands behind this mark.
+#[tactic(auto, unfolding(crate::specs::Parsing::begins, crate::specs::Parsing::mark_at))]
 pub(crate) fn mark_at(mark: Mark, atoms: Atoms<'_>) -> Result<Atoms<'_>, Unread>
     ensures { Gives (λ x. shown x) result (mark_at mark (shown atoms.entry)) }
 {
@@ -50,6 +51,7 @@ pub(crate) fn mark_at(mark: Mark, atoms: Atoms<'_>) -> Result<Atoms<'_>, Unread>
 }
 
 /// A word.
+#[tactic(auto, unfolding(crate::specs::Parsing::word_at))]
 pub(crate) fn word_at(alloc: Global, atoms: Atoms<'_>, expected: Expected) -> Read<'_, Text>
     ensures { Gives (λ x. (x.0, shown x.1)) result (word_at (shown atoms.entry)) }
 {
@@ -67,6 +69,7 @@ fn is_word(keyword: &str, front: Front<'_>) -> bool
 }
 
 /// Whether the first atom is this word.
+#[tactic(auto, unfolding(crate::specs::Parsing::names))]
 pub(crate) fn names(keyword: &str, atoms: Atoms<'_>) -> bool
     ensures { result ≡ names keyword.now (shown atoms.entry) }
 {
@@ -74,6 +77,7 @@ pub(crate) fn names(keyword: &str, atoms: Atoms<'_>) -> bool
 }
 
 /// What stands behind this word.
+#[tactic(auto, unfolding(crate::specs::Parsing::keyword_at))]
 pub(crate) fn keyword_at<'a>(
     keyword: &str,
     atoms: Atoms<'a>,
@@ -88,6 +92,7 @@ pub(crate) fn keyword_at<'a>(
 }
 
 /// A number with its sign. Where none stands, a sign without a literal is not kept.
+#[tactic(auto, unfolding(crate::specs::Parsing::number_at, crate::specs::Parsing::signed_at))]
 pub(crate) fn number_at(alloc: Global, atoms: Atoms<'_>, expected: Expected) -> Read<'_, Number>
     ensures { Gives (λ x. (x.0, shown x.1)) result (number_at (shown atoms.entry)) }
 {
