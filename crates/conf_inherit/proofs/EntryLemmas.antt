@@ -7,7 +7,7 @@ use Rattle.std.specs.Map.{update}
 use Rattle.std.specs.Option.{option_or, IfSome}
 use Rattle.std.specs.Slice.{IsItemAt}
 use Rattle.std.specs.Str.{bytes_eq}
-use Rattle.serde_json.specs.Data.{Data, null, boolean, number, string, array, object, Items, no_items, item, Members, no_members, member}
+use Rattle.serde_json.specs.Data.{Data, object, Items, no_items, item, Members, no_members, member}
 use Rattle.serde_json.specs.Find.{get, get_member, get_item}
 use Rattle.serde_json.specs.View.{view, items_view}
 use Rattle.serde_json.specs.declared.value.Value.{Value}
@@ -202,12 +202,8 @@ decided_members done bs (member n d ms) rest last h = go (get_member n bs) refl 
     go None is more = rw is (more (sym (shared_later n d ms bs is) ∙ h))
 
 decided : (done bs : Members) (e rest last : Data) → shares bs e ≡ true → lay_over_entry done e (object bs) rest ≡ lay_over_entry done e (object bs) last
-decided done bs null rest last h = absurd (true≢false (sym h ∙ none_shared null (λ n. refl) bs))
-decided done bs (boolean b) rest last h = absurd (true≢false (sym h ∙ none_shared (boolean b) (λ n. refl) bs))
-decided done bs (number n) rest last h = absurd (true≢false (sym h ∙ none_shared (number n) (λ m. refl) bs))
-decided done bs (string s) rest last h = absurd (true≢false (sym h ∙ none_shared (string s) (λ n. refl) bs))
-decided done bs (array ds) rest last h = absurd (true≢false (sym h ∙ none_shared (array ds) (λ n. refl) bs))
 decided done bs (object ms) rest last h = decided_members done bs ms rest last h
+decided done bs _ rest last h = absurd (true≢false (sym h ∙ none_shared _ (λ n. refl) bs))
 
 -- ---- the entry at the lowest place of a value's names is the one that is laid over it
 
@@ -245,12 +241,8 @@ plain_over done no_items b none = refl
 plain_over done (item e es) b none = plain_entry done e b (lay_over done es b) none ∙ plain_over done es b none
 
 pub finds : (es : Items) (b : Data) → Finds 0 es b (lowest_of (λ n. place_from 0 n es) b)
-finds es null = λ done. plain_over done es null (λ n. refl)
-finds es (boolean x) = λ done. plain_over done es (boolean x) (λ n. refl)
-finds es (number n) = λ done. plain_over done es (number n) (λ m. refl)
-finds es (string s) = λ done. plain_over done es (string s) (λ n. refl)
-finds es (array ds) = λ done. plain_over done es (array ds) (λ n. refl)
 finds es (object bs) = finds_object 0 es bs
+finds es _ = λ done. plain_over done es _ (λ n. refl)
 
 -- the item at a place, as data
 item_at : (vs : List Value) (p : ℕ) (r : Option (Bor Value)) → IsItemAt vs p r → option_map (λ x. view x.now) r ≡ get_item p (items_view vs)

@@ -163,6 +163,10 @@ abbrev pub Among : Flaw → List Flaw → Type 0
 Among f [] = ⊥
 Among f (g ∷ fs) = (f ≡ g) ⊎ Among f fs
 
+pub only : (f g : Flaw) → Among f (g ∷ []) → f ≡ g
+only f g (inl e) = e
+only f g (inr h) = absurd h
+
 -- the first flaw is one of them
 pub refused_among : (fs : List Flaw) (f : Flaw) → refusal fs ≡ Err f → Among f fs
 refused_among [] f h = cc
@@ -201,17 +205,13 @@ module _ (al : Members) where
   own_holds : (s : Place) (taken : Bool) (v : Data) (f : Flaw) → Among f (own_flaws al s taken v) → FlawHolds al s v f ⊎ ((f ≡ here NameClash) × (taken ≡ true))
   own_holds s taken v f h = go (is_wrong s v) refl (is_unknown al s v) refl taken refl
     where
-      only : (g : Flaw) → Among f (g ∷ []) → f ≡ g
-      only g (inl e) = e
-      only g (inr h) = absurd h
-
       at_it : (kind_says : (g : Flaw) × (f ≡ g) × (g.path ≡ []) × SaysOf al g.kind s v) → FlawHolds al s v f
       at_it (g, e, p, says) = inl (s, v, subst (λ x. Leads s v x s v) (sym (ap (λ y. y.path) e ∙ p)) (refl, refl), subst (λ x. SaysOf al x s v) (sym (ap (λ y. y.kind) e)) says)
 
       go : (t : Bool) → is_wrong s v ≡ t → (u : Bool) → is_unknown al s v ≡ u → (b : Bool) → taken ≡ b → FlawHolds al s v f ⊎ ((f ≡ here NameClash) × (taken ≡ true))
-      go true a u b t e = inl (at_it (here WrongKind, only (here WrongKind) (rw a at h), refl, inl a))
-      go false a true b t e = inl (at_it (here NoSuchAlias, only (here NoSuchAlias) (rw (a, b) at h), refl, inl b))
-      go false a false b true e = inr (only (here NameClash) (rw (a, b, e) at h), e)
+      go true a u b t e = inl (at_it (here WrongKind, only f (here WrongKind) (rw a at h), refl, inl a))
+      go false a true b t e = inl (at_it (here NoSuchAlias, only f (here NoSuchAlias) (rw (a, b) at h), refl, inl b))
+      go false a false b true e = inr (only f (here NameClash) (rw (a, b, e) at h), e)
       go false a false b false e = absurd (rw (a, b, e) at h)
 
   -- a flaw that a value has by itself holds

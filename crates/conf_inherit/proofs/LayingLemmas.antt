@@ -18,6 +18,10 @@ use Rattle.std.specs.List.{list_any}
 use Rattle.serde_json.specs.View.{view, items_view}
 use Rattle.serde_json.specs.declared.value.Value.{Value}
 
+-- functions with the same values are the same
+pub same_function : {A B : Type 0} (f g : A → B) → ((x : A) → f x ≡ g x) → f ≡ g
+same_function f g h = λ i. λ x. h x i
+
 pub same_name : (k : List ℕ) → slice_cmp nat_cmp k k ≡ Equal
 same_name k = tied_itself nat_list_cmp_total k
 

@@ -10,7 +10,7 @@ use Rattle.conf_inherit.specs.Looks.{Chain, Looks, looks, Entries, no_entry, an_
 use Rattle.conf_inherit.specs.Names.{NoClash, properties_of, items_in, entries_of, entry_values, join_items, map_items, IsInOrder, names_of, new_names, cons_some, values_in, member_names, joined}
 use Rattle.conf_inherit.specs.Ready.{IsReady, AreReady, HasReady, Names}
 use Rattle.conf_inherit.proofs.LayingLemmas.{Meets, same, other, meets, get_other, get_same, lay_base-own, lay_base-heir, in_order_lay, lay_members-base, lay_members-absent, lay_members-found, AllEntries, all_along, over_entries, over_found, new_entries, entry_found, all_joined, has_entry_names, over_absent, entry_names, entries_joined, found_each, no_values, value_same, some_is_none}
-use Rattle.conf_inherit.proofs.NoLarger.{NoLarger, NoLargerItems, as_large, as_large_items, same_items, items_through, no_larger_list, no_larger_object, next_item, one_more, turned_items, next_property, no_property, joined_behind, joined_larger, item_first, covered}
+use Rattle.conf_inherit.proofs.SizeLemmas.{NoLarger, NoLargerItems, as_large, as_large_items, same_items, items_through, no_larger_list, no_larger_object, next_item, one_more, turned_items, next_property, no_property, joined_behind, joined_larger, item_first, covered}
 use Rattle.conf_inherit.proofs.FieldPlaceLemmas.{list_place, entry_place, inheriting_place, alias_place, member_value_place, member_type_place, type_is_no_base, alias_field, base_place, SamePlace}
 use Rattle.std.specs.List.{list_any}
 
@@ -155,12 +155,8 @@ module _ (al done : Members) where
   items_joined {s} single (a_scalar {v = v} p) = plain_items v p
     where
       plain_items : (v : Data) → IsPlain s v → items_in v ≡ joined (if_lists (v ∷ []))
-      plain_items null p = refl
-      plain_items (boolean b) p = refl
-      plain_items (number n) p = refl
-      plain_items (string n) p = refl
       plain_items (array es) p = absurd p
-      plain_items (object ms) p = refl
+      plain_items _ p = refl
   items_joined single (an_object o f g) = refl
   items_joined single (the_members m e) = absurd (true≢false (sym m ∙ single))
   items_joined single (a_join m) = refl
@@ -170,12 +166,9 @@ module _ (al done : Members) where
   base_entries {s} named (a_scalar {v = v} p) = plain_entries v p
     where
       plain_entries : (v : Data) → IsPlain s v → Entries al (if_lists (v ∷ [])) (member_names (if_lists (v ∷ []))) (items_in v)
-      plain_entries null p = no_entry
-      plain_entries (boolean b) p = no_entry
-      plain_entries (number n) p = no_entry
-      plain_entries (string n) p = no_entry
       plain_entries (array es) p = absurd p
       plain_entries (object ms) p = absurd p
+      plain_entries _ p = no_entry
   base_entries named (an_object o f g) = no_entry
   base_entries named (the_members m e) = e
   base_entries named (a_join m) = absurd (true≢false (sym named ∙ m))
@@ -455,12 +448,9 @@ module _ (al done : Members) where
 
   mutual
     pub grows : (v : Data) (s : Place) → IsReady done s v → Grows s v
-    grows null s ready = λ vs base stands. as_large null
-    grows (boolean b) s ready = λ vs base stands. as_large (boolean b)
-    grows (number n) s ready = λ vs base stands. as_large (number n)
-    grows (string n) s ready = λ vs base stands. as_large (lay done s (string n) None)
     grows (array es) s ready = grows_list s es ready.0 (λ is n d h. entry_found (λ n d. Grows places.Member d) (entries_of es) (grows_entries es (subst (λ x. AreReady done x es) (list_place s is) ready.1)) n d h)
     grows (object ms) s ready = grows_object s ms (λ k d h. entry_found (λ k d. Grows (place_under s k) d) ms (grows_members ms s ready) k d h)
+    grows _ s ready = λ vs base stands. as_large _
 
     grows_members : (ms : Members) (s : Place) → HasReady done s ms → AllEntries (λ k d. Grows (place_under s k) d) ms
     grows_members no_members s ready = tt

@@ -1,12 +1,9 @@
-pub mod OneReading
 pub mod FieldPlaceLemmas
 pub mod LayingLemmas
 pub mod EntryLemmas
 pub mod SizeLemmas
 pub mod LaysOver
 pub mod FlawLemmas
-pub mod SeenLemmas
-pub mod FunctionLemmas
 pub mod NamedLemmas
 pub mod FaultLemmas
 pub mod NestingLemmas
@@ -15,11 +12,8 @@ pub mod RoundLemmas
 pub mod LookedUp
 pub mod ResolveLemmas
 pub mod ReadInOrder
-pub mod NoLarger
-pub mod PlacesUnder
 pub mod PlacesFit
 pub mod SoundPlaces
-pub mod ExcludedInheritance
 pub mod RefusalLemmas
 pub mod TurnLemmas
 pub mod SpentLemmas

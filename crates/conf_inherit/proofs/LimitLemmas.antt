@@ -11,9 +11,9 @@ use Rattle.conf_inherit.specs.Laying.{resolved, members_below, items_below, lay_
 use Rattle.conf_inherit.specs.Limits.{fitting, passed, limit_flaws, max_values, max_levels, Fits, Exceeds, Inherits, InheritsInItems, InheritsInMembers}
 use Rattle.conf_inherit.specs.Named.{all_named, all_named_in_items, all_named_in_members, has}
 use Rattle.conf_inherit.specs.Names.{join_items, map_items}
-use Rattle.conf_inherit.proofs.FunctionLemmas.{same_function}
 use Rattle.conf_inherit.proofs.NamedLemmas.{named_along}
 use Rattle.conf_inherit.proofs.FaultLemmas.{and_left, and_right, part_empty, rest_empty, front_empty, back_empty, Among, refused_among, among_within, first_or_rest, Aligned, aligned_here, aligned_next}
+use Rattle.conf_inherit.proofs.LayingLemmas.{same_function}
 use Rattle.conf_inherit.proofs.FieldPlaceLemmas.{list_place, entry_place, base_place, alias_place}
 use Rattle.std.proofs.lemmas.Bool.{ltb-false}
 use borrow.Author.Tests.{ltb-true}

@@ -9,7 +9,7 @@ use Rattle.conf_tree.specs.Flaw.{Flaw, Place as Step, key, index, here, within}
 use Rattle.conf_tree.specs.Walk.{HasMember, LeadsTo, IsNested}
 use Rattle.conf_tree.specs.declared.fault_kind.FaultKind.TheVariants.{TooDeep}
 use Rattle.conf_inherit.specs.Nesting.{nests, items_nest, members_nest, deep_flaws, deep_item_flaws, deep_member_flaws, PassesDepth}
-use Rattle.conf_inherit.proofs.FaultLemmas.{Among, among_within, first_or_rest, Aligned, aligned_here, aligned_next, part_empty, rest_empty}
+use Rattle.conf_inherit.proofs.FaultLemmas.{Among, only, among_within, first_or_rest, Aligned, aligned_here, aligned_next, part_empty, rest_empty}
 use Rattle.conf_inherit.proofs.NamedLemmas.{both}
 
 mutual
@@ -40,10 +40,6 @@ in_list es i e levels f there (g, is, (kind, (found, leads, nested, steps))) =
 in_object : (ms : Members) (k : List ℕ) (e : Data) (levels : ℕ) (f : Flaw) → HasMember k e ms → (g : Flaw) × (f ≡ within (key k) g) × PassesDepth levels e g → PassesDepth (suc levels) (object ms) f
 in_object ms k e levels f there (g, is, (kind, (found, leads, nested, steps))) =
     subst (PassesDepth (suc levels) (object ms)) (sym is) (let out : PassesDepth (suc levels) (object ms) (within (key k) g) = (kind, (found, (ms, e, refl, there, leads), nested, ap suc steps)) in out)
-
-only : (f g : Flaw) → Among f (g ∷ []) → f ≡ g
-only f g (inl e) = e
-only f g (inr x) = absurd x
 
 mutual
   pub deep_holds : (d : Data) (levels : ℕ) (f : Flaw) → Among f (deep_flaws d levels) → PassesDepth levels d f

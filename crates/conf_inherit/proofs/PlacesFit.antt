@@ -19,7 +19,7 @@ use Rattle.conf_inherit.specs.Ready.{Names, IsReady}
 use Rattle.conf_inherit.proofs.LaysOver.{laid_entry, property_stands, ground_base, grows}
 use Rattle.conf_inherit.proofs.LayingLemmas.{lay_members-found, AllEntries, found_each, value_same}
 use Rattle.conf_inherit.proofs.NamedLemmas.{named}
-use Rattle.conf_inherit.proofs.NoLarger.{NoLargerItems, as_large, as_large_items, items_through, next_item, one_more, no_item, fits_below, property_fits, item_fits}
+use Rattle.conf_inherit.proofs.SizeLemmas.{NoLargerItems, as_large, as_large_items, items_through, next_item, one_more, no_item, fits_below, property_fits, item_fits}
 use Rattle.conf_inherit.proofs.ReadInOrder.{apart}
 use Rattle.conf_inherit.proofs.FaultLemmas.{ready, single_entry, front_empty, back_empty, part_empty, rest_empty}
 use Rattle.conf_inherit.proofs.SoundPlaces.{PartSound, own_sound, member_sound, item_sound, PlaceSound, member_place, object_places, list_places, extras_there, root_place, place_of_type, place_of_member, IsOutside, under_outside, on_or_ignored, extras_or_ignored, type_or_not}

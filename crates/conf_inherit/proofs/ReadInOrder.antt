@@ -84,12 +84,8 @@ apart (member k d ms) h = (get_none k ms h.0, apart ms h.1)
 
 members_apart : (o : Option Data) → ((d : Data) → o ≡ Some d → Ascends d) → NoClash (members_or_none o)
 members_apart None h = tt
-members_apart (Some null) h = tt
-members_apart (Some (boolean b)) h = tt
-members_apart (Some (number n)) h = tt
-members_apart (Some (string s)) h = tt
-members_apart (Some (array ds)) h = tt
 members_apart (Some (object ms)) h = apart ms (h (object ms) refl).0
+members_apart (Some _) h = tt
 
 -- what is found in an option in order is in order
 inside_in_order : (k : List ℕ) (o : Option Data) → ((d : Data) → o ≡ Some d → Ascends d) → (d : Data) → option_and_then (get k) o ≡ Some d → Ascends d

@@ -1,10 +1,10 @@
 -- What is wrong at a place of field types, part by part.
-use Rattle.std.proofs.Common.{◌≡◌, ◌++◌, ◌<◌, ◌≤◌, ℕ, List, [], length, nat_lt, true, false, Ok, Err, refl, arith, ◌&&◌, zero, suc, Bool, cond, ◌∷◌, map, Some, None, is_some, inl, inr, sym, subst, ◌⊎◌, ap, ◌∙◌, true≢false}
+use Rattle.std.proofs.Common.{◌≡◌, ◌++◌, ◌<◌, ◌≤◌, ℕ, List, [], length, nat_lt, true, false, Ok, Err, refl, arith, ◌&&◌, zero, suc, Bool, cond, ◌∷◌, map, Some, None, is_some, inl, inr, sym, subst, ◌⊎◌, ap, ◌∙◌, true≢false, Vec, Global}
 use Rattle.std.proofs.lemmas.Bool.Decides.{nat_tests}
 use Rattle.serde_json.specs.Data.{Data, array, Members, null, object, Items, no_items, item, no_members, member, put, string}
-use Rattle.serde_json.specs.View.{items_view}
-use Rattle.serde_json.specs.declared.value.Value.{Value}
-use Rattle.serde_json.proofs.Views.{items_len-items_view}
+use Rattle.serde_json.specs.View.{view}
+use Rattle.serde_json.specs.declared.value.Value.{Value, Array}
+use Rattle.serde_json.proofs.Views.{items_len-items_view, view-Array}
 use Rattle.conf_tree.specs.Flaw.{here, Flaw, Place as Step, key, index, within}
 use Rattle.conf_tree.specs.Walk.{refusal, HasMember}
 use Rattle.conf_tree.specs.declared.fault_kind.FaultKind.TheVariants.{Limit, WrongKind, NoSuchAlias, NameClash}
@@ -22,7 +22,7 @@ use Rattle.std.proofs.lemmas.Bool.{ltb-false}
 use Rattle.serde_json.specs.Events.{items_len}
 use Rattle.conf_table.specs.declared.place.Place.TheVariants as places
 use Rattle.conf_table.specs.Table.{rows_of, entries_of, place_in, content_under}
-use Rattle.conf_inherit.proofs.PlacesUnder.{true_under, under_place}
+use Rattle.conf_inherit.proofs.WorkedPlaces.{true_under, under_place}
 use Rattle.conf_inherit.proofs.LimitLemmas.{both_empty, alike_inner, sound_type}
 use Rattle.conf_inherit.proofs.FieldPlaceLemmas.{ignored_under}
 
@@ -32,13 +32,20 @@ many n h = grind (arith, nat_tests)
 few_items : (n : ℕ) → n ≤ 256 → nat_lt 256 n ≡ false
 few_items n h = grind (arith, nat_tests)
 
-pub count_past : (vs : List Value) → 256 < length vs → refusal (too_many (array (items_view vs))) ≡ Err (here Limit)
+pub count_past : (v : Value) (vs : Vec Value Global) → v ≡ Array vs → 256 < length vs.items → refusal (too_many (view v)) ≡ Err (here Limit)
 unfolding too_many
-count_past vs h = rw (items_len-items_view vs, many (length vs) h) refl
+count_past v vs is h = rw (ap view is ∙ view-Array vs, items_len-items_view vs.items, many (length vs.items) h) refl
 
-pub count_within : (vs : List Value) → length vs ≤ 256 → refusal (too_many (array (items_view vs))) ≡ Ok tt
+pub count_within : (v : Value) (vs : Vec Value Global) → v ≡ Array vs → length vs.items ≤ 256 → refusal (too_many (view v)) ≡ Ok tt
 unfolding too_many
-count_within vs h = rw (items_len-items_view vs, few_items (length vs) h) refl
+count_within v vs is h = rw (ap view is ∙ view-Array vs, items_len-items_view vs.items, few_items (length vs.items) h) refl
+
+-- an entry is no field type
+pub no_entry_flaws : (al done : Members) (s : Place) (v : Data) → place_flaws al done (place_of_items s) v ≡ []
+unfolding place_flaws place_of_items names_alias names_member_type lists_extra_members
+no_entry_flaws al done places.Members v = refl
+no_entry_flaws al done places.ExtraMembers v = refl
+no_entry_flaws al done _ v = refl
 
 module _ (al done : Members) (s : Place) (v : Data) where
   pub place_of_type : names_alias s ≡ true → place_flaws al done s v ≡ type_flaws al done s v

@@ -1,5 +1,5 @@
 -- A property whose value is written anew.
-use Rattle.std.proofs.Common.{◌≡◌, ℕ, Some, None, List, [], ◌∷◌, Ordering, Less, Equal, Greater, string_cmp, string_bytes, nat_cmp, refl, sym, ap, ◌∙◌, ◌+◌, ◌&&◌, ◌||◌, ◌++◌, ◌⊎◌, inl, inr, suc, map, Option, is_some, Bool, true, false, not, true≢false, bytes_eq, if◌then◌else◌, is_eq, subst, arith}
+use Rattle.std.proofs.Common.{◌≡◌, ℕ, Some, None, List, [], ◌∷◌, Ordering, Less, Equal, Greater, string_cmp, string_bytes, nat_cmp, refl, sym, ap, ◌∙◌, ◌+◌, ◌&&◌, ◌||◌, ◌++◌, ◌⊎◌, inl, inr, suc, map, Option, is_some, Bool, true, false, not, true≢false, bytes_eq, if◌then◌else◌, is_eq, subst, arith, rules}
 use Rattle.std.specs.BTreeMap.{is_at}
 use Rattle.std.specs.Cmp.Lexicographic.{slice_cmp}
 use Rattle.std.specs.List.Sorted.{IsStrictlySortedBy}
@@ -7,10 +7,10 @@ use Rattle.std.specs.Map.{keys_of, set_value}
 use Rattle.serde_json.specs.Data.{Data, member, put, null, string, array, object, Items, no_items, item, Members, no_members}
 use Rattle.serde_json.specs.Find.{get_member}
 use Rattle.serde_json.specs.View.{view, members_view}
-use Rattle.serde_json.specs.declared.value.Value.{Value}
+use Rattle.serde_json.specs.declared.value.Value.{Value, Null, the_lemmas}
 use Rattle.serde_json.proofs.Views.{Entry}
 use Rattle.conf_inherit.specs.Names.{AllAbove, NoClash}
-use Rattle.conf_inherit.proofs.LayingLemmas.{above_through, get_none, Meets, same, other, meets, get_other, get_same}
+use Rattle.conf_inherit.proofs.LayingLemmas.{above_through, get_none, Meets, same, other, meets, get_other, get_same, same_function}
 use Rattle.conf_inherit.proofs.ResolveLemmas.{above_of}
 use Rattle.std.proofs.lemmas.Bool.{or_left}
 use Rattle.std.proofs.lemmas.Slice.Eq.{bytes_eq-Decides}
@@ -30,9 +30,11 @@ use Rattle.conf_inherit.specs.Named.{all_named, has}
 use Rattle.conf_inherit.specs.Places.{too_many, place_flaws, inner_places, item_places, member_places}
 use Rattle.conf_inherit.specs.Rounds.{Outcomes, has_outcome, is_over, is_empty, if_fitting, outcome, concluded, step, round, rounds, no_outcomes, Reached, at_first, turned, is_settled, all_settled}
 use Rattle.conf_inherit.specs.Spent.{Spends, spent, TurnsLeave}
-use Rattle.conf_inherit.proofs.FunctionLemmas.{same_function}
 use Rattle.conf_inherit.proofs.RoundLemmas.{is_still, by_turn}
 use Rattle.conf_inherit.proofs.TurnLemmas.{Follows, follows_round, turns_are_rounds, is_settled_state}
+
+pub view-null : view Null ≡ null
+view-null = search (rules, the_lemmas)
 
 -- the properties, with w at the name n if there is one
 abbrev pub written : List ℕ → List Entry → Value → List Entry

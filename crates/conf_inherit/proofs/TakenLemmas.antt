@@ -429,18 +429,19 @@ module _ (al now : Members) (n : ℕ) (st : Outcomes) (v : Data) (bare : with_al
   refused_alias flaw e = ap (λ a. a >>= then_places) (alias_fault ∙ e)
 
   module _ (sound : from_aliases (refusal (all_alias_flaws now st now)) ≡ Ok tt) where
-    place_fault : refusal (inner_places al st.done places.Root whole) ≡ refusal (inner_places now st.done places.Root v)
+    place_fault : refusal (inner_places al st.done places.Root whole) ≡ refusal (parts now st.done places.Root v)
+    unfolding place_flaws names_alias names_member_type lists_extra_members
     place_fault =
         let none = whole_sound al n st apart settled (alias_fault ∙ sound) in
         ap refusal (sym (same_places al now st.done (same_names st.done al now spent) places.Root v ∙ places_without al st.done al v bare none))
 
     -- the fault of a place
-    pub refused_place : (flaw : Flaw) → refusal (inner_places now st.done places.Root v) ≡ Err flaw → resolution_after al st whole ≡ Err flaw
+    pub refused_place : (flaw : Flaw) → refusal (parts now st.done places.Root v) ≡ Err flaw → resolution_after al st whole ≡ Err flaw
     refused_place flaw e = ap (λ a. a >>= then_places) (alias_fault ∙ sound) ∙ ap (λ a. a >>= then_laid) (place_fault ∙ e)
 
     pub aliases_laid : AreLaid st.done al
     aliases_laid = whole_laid al n st apart settled (alias_fault ∙ sound)
 
     -- or what is laid
-    pub answered : refusal (inner_places now st.done places.Root v) ≡ Ok tt → resolution_after al st whole ≡ if_shallow (lay st.done places.Root whole None)
+    pub answered : refusal (parts now st.done places.Root v) ≡ Ok tt → resolution_after al st whole ≡ if_shallow (lay st.done places.Root whole None)
     answered e = ap (λ a. a >>= then_places) (alias_fault ∙ sound) ∙ ap (λ a. a >>= then_laid) (place_fault ∙ e)

@@ -1,8 +1,8 @@
 -- What is asked of the name of an alias.
 use Rattle.std.specs.Prelude.{ℕ, List, Bool}
 use Rattle.serde_json.specs.View.{members_view}
-use Rattle.conf_inherit.specs.declared.asked.Asked.{Asked}
-use Rattle.conf_inherit.specs.declared.asked.Asked.TheVariants.{IsResolved, IsOver}
+use Rattle.conf_inherit.specs.declared.named.Asked.{Asked}
+use Rattle.conf_inherit.specs.declared.named.Asked.TheVariants.{IsResolved, IsOver}
 use Rattle.conf_inherit.specs.AliasOutcomes.{outcomes_of}
 use Rattle.conf_inherit.specs.Named.{has}
 use Rattle.conf_inherit.specs.Rounds.{is_over}

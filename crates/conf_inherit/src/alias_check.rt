@@ -1,19 +1,20 @@
 //! The first fault of the aliases, in byte order of their names.
-ghost use Rattle.std.specs.Prelude.{◌≡◌, IfOk};
+ghost use Rattle.std.specs.Prelude.{◌≡◌, IfOk, map};
 ghost use Rattle.serde_json.specs.Data.{no_members};
 ghost use Rattle.serde_json.specs.View.{view, members_view};
+ghost use Rattle.conf_tree.specs.Flaw.{flaw_of, place_of};
 ghost use Rattle.conf_tree.specs.Reading.{Gives};
 ghost use Rattle.conf_tree.specs.Walk.{refusal};
 ghost use Rattle.conf_inherit.specs.AliasOutcomes.{outcomes_of};
 ghost use Rattle.conf_inherit.specs.AliasFlaws.{over_names, first_or_circle, alias_flaws, all_alias_flaws};
 ghost use Rattle.conf_inherit.specs.Flaws.{type_flaws};
+ghost use Rattle.conf_inherit.specs.SameFlaw.{is_same_step, is_same_path, is_same_flaw};
 
 use crate::flaws::check_type;
 use crate::outcomes::AliasOutcomes;
 use crate::property::{has, put_property};
-use crate::same::is_same_fault;
 use conf_table::Place;
-use conf_tree::{ConfFault, FaultKind};
+use conf_tree::{ConfFault, FaultKind, Step};
 use serde_json::{Map, Value};
 use std::alloc::{AllocError, Global};
 
@@ -29,40 +30,14 @@ fn names_over(
     let mut over = Map::new(alloc);
     for (name, _value) in aliases.iter() {
         if outcomes.has_outcome(name.as_str()) {
-            drop(put_property(&mut over, name, Value::Null)?);
+            put_property(&mut over, name, Value::Null)?;
         }
     }
     Ok(over)
 }
 
-/// Refuses an alias that leads into a circle, or a fault of its own that stands before the text that does. `over` has
-/// the names of the aliases that lead into none.
-fn check_circle(
-    alloc: Global,
-    value: &Value,
-    aliases: &Map<String, Value>,
-    resolved: &Map<String, Value>,
-    over: &Map<String, Value>,
-) -> Result<(), ConfFault>
-    ensures first { Gives (λ _. tt) result (refusal (first_or_circle (refusal (type_flaws (members_view aliases.now.entries) (members_view resolved.now.entries) Place.FieldType (view value.now))) (refusal (type_flaws (members_view over.now.entries) (members_view resolved.now.entries) Place.FieldType (view value.now))))) }
-{
-    if let Err(own) = check_type(alloc, value, Place::FieldType, aliases, resolved) {
-        if own.is_memory() {
-            return Err(own);
-        }
-        if let Err(first) = check_type(alloc, value, Place::FieldType, over, resolved) {
-            if first.is_memory() {
-                return Err(first);
-            }
-            if is_same_fault(&own, &first) {
-                return Err(own);
-            }
-        }
-    }
-    Err(ConfFault::here(alloc, FaultKind::InheritCycle))
-}
-
-/// Refuses the first fault of an alias, where `over` has the names of the aliases with an outcome.
+/// Refuses the first fault of an alias: that it leads into a circle, where it has no outcome, unless a fault of its own
+/// stands before the text that does. `over` has the names of the aliases with an outcome.
 fn check_alias(
     alloc: Global,
     name: &str,
@@ -81,7 +56,20 @@ fn check_alias(
     if has(&outcomes.refused, name) {
         return check_type(alloc, value, Place::FieldType, aliases, resolved);
     }
-    check_circle(alloc, value, aliases, resolved, over)
+    if let Err(own) = check_type(alloc, value, Place::FieldType, aliases, resolved) {
+        if own.is_memory() {
+            return Err(own);
+        }
+        if let Err(first) = check_type(alloc, value, Place::FieldType, over, resolved) {
+            if first.is_memory() {
+                return Err(first);
+            }
+            if is_same_fault(&own, &first) {
+                return Err(own);
+            }
+        }
+    }
+    Err(ConfFault::here(alloc, FaultKind::InheritCycle))
 }
 
 /// Refuses the first fault of the aliases.
@@ -101,4 +89,38 @@ pub(crate) fn check_aliases(
         }
     }
     Ok(())
+}
+
+/// Whether both steps lead to the same place.
+fn is_same_step(step: &Step, other: &Step) -> bool
+    ensures { result ≡ is_same_step (place_of step.now) (place_of other.now) }
+{
+    match (step, other) {
+        (Step::Key(name), Step::Key(second)) => name.as_str() == second.as_str(),
+        (Step::Index(index), Step::Index(second)) => *index == *second,
+        (Step::Key(_), Step::Index(_)) | (Step::Index(_), Step::Key(_)) => false,
+    }
+}
+
+/// Whether both paths lead to the same place.
+#[cycle(path)]
+fn is_same_path(path: &[Step], other: &[Step]) -> bool
+    ensures { result ≡ is_same_path (map place_of path.now) (map place_of other.now) }
+{
+    match (path.split_first(), other.split_first()) {
+        (Some((step, rest)), Some((second, others))) => {
+            is_same_step(step, second) && is_same_path(rest, others)
+        }
+        (None, None) => true,
+        (Some(_), None) | (None, Some(_)) => false,
+    }
+}
+
+/// Whether both faults stand at the same place, and both say that a name is no alias's, or neither does.
+fn is_same_fault(fault: &ConfFault, other: &ConfFault) -> bool
+    ensures { result ≡ is_same_flaw (flaw_of fault.now) (flaw_of other.now) }
+{
+    is_same_path(fault.path.as_slice(), other.path.as_slice())
+        && matches!(fault.kind, FaultKind::NoSuchAlias)
+            == matches!(other.kind, FaultKind::NoSuchAlias)
 }

@@ -131,9 +131,7 @@ fn check_items(
         ) {
             return Err(fault.inside(alloc, index));
         }
-        if mark(item, &mut seen).is_err() {
-            return Err(ConfFault::memory(alloc));
-        }
+        mark(item, &mut seen).map_err(|_| ConfFault::memory(alloc))?;
     }
     Ok(())
 }
@@ -184,19 +182,6 @@ fn check_member(
     let nothing = BTreeMap::new(alloc);
     let inner = place_under(place, name);
     check_flaws(alloc, member, inner, taken, &nothing, aliases, resolved)?;
-    check_base(alloc, name, member, place, resolved)
-}
-
-/// Refuses the limit that a property's value passes by itself, if the object inherits from it.
-fn check_base(
-    alloc: Global,
-    name: &str,
-    member: &Value,
-    place: Place,
-    resolved: Option<&Map<String, Value>>,
-) -> Result<(), ConfFault>
-    ensures first { Gives (λ _. tt) result (refusal (base_flaws (option_map (λ m. members_view m.now.entries) resolved.entry) place name.now (view member.now))) }
-{
     match resolved {
         Some(resolved) if is_base_name(place, name) => {
             check_limits(alloc, member, Place::FieldType, resolved)

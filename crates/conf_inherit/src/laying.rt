@@ -2,11 +2,10 @@
 ghost use Rattle.std.specs.Prelude.{◌≡◌, string_bytes, IfOk, IfErr, OnOk, MatchOption, Option, Some, option_map};
 ghost use Rattle.serde_json.specs.Data.{Data, object, array, Items, no_items};
 ghost use Rattle.serde_json.specs.View.{view, items_view, members_view};
-ghost use Rattle.conf_inherit.specs.Laying.{lay, lay_base, lay_members, lay_over, lay_over_entry, lay_new, lay_new_entry, lay_text, resolved};
+ghost use Rattle.conf_inherit.specs.Laying.{lay, lay_base, lay_members, lay_over, lay_over_entry, lay_new, lay_new_entry, lay_text, resolved, members_below, items_below};
 ghost use Rattle.conf_inherit.specs.Names.{join_items, map_items};
 ghost use Rattle.conf_inherit.specs.Size.{size, items_size, members_size, Within, Leaves, IsDue};
 
-use crate::base::{items_under, join, properties_below};
 use crate::entry_index::EntryIndex;
 use crate::field_places::{
     is_base_name, lists_members, names_alias, names_member_type, place_under,
@@ -161,7 +160,7 @@ fn lay_properties(
                 aliases,
                 limit,
             )?;
-            drop(put_property(&mut laid, name, over)?);
+            put_property(&mut laid, name, over)?;
         }
     }
     Ok(laid)
@@ -316,4 +315,34 @@ fn push_new_item(
         }
     }
     Ok(room)
+}
+
+/// The properties that are laid over. A value that is no object has none.
+fn properties_below(alloc: Global, base: Option<Value>) -> Map<String, Value>
+    ensures { members_view result.entries ≡ members_below (option_map view base) }
+{
+    match base {
+        Some(Value::Object(members)) => members,
+        _ => Map::new(alloc),
+    }
+}
+
+/// The items that are laid over. A value that is no list has none.
+fn items_under(alloc: Global, base: Option<Value>) -> Vec<Value>
+    ensures { items_view result.items ≡ items_below (option_map view base) }
+{
+    match base {
+        Some(Value::Array(items)) => items,
+        _ => Vec::new(alloc),
+    }
+}
+
+/// A list with the copies of the items at its end.
+fn join(mut list: Vec<Value>, items: &Vec<Value>) -> Result<Vec<Value>, AllocError>
+    ensures { IfOk result (λ v. items_view v.items ≡ join_items (items_view list.items) (items_view items.now.items)) }
+{
+    for item in items {
+        list.push(item.clone()?)?;
+    }
+    Ok(list)
 }

@@ -2,8 +2,6 @@
 #![tactic(auto)]
 
 mod alias_check;
-mod asked;
-mod base;
 mod entry_index;
 mod field_places;
 mod flaws;
@@ -17,10 +15,7 @@ mod places;
 mod property;
 mod resolution;
 mod rounds;
-mod same;
 mod size;
-mod turns;
-mod whole;
 
 pub use law::{
     circle_is_refused, limit_is_passed, one_resolution, refusal_holds, resolution_exists,

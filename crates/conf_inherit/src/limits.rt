@@ -1,23 +1,23 @@
 //! The limits of a field type, once it is resolved.
-ghost use Rattle.std.specs.Prelude.{◌≡◌, Ok, Err, None, IfOk, MatchResult};
+ghost use Rattle.std.specs.Prelude.{◌≡◌, Ok, Err, None, IfOk, IfErr, MatchResult};
 ghost use Rattle.serde_json.specs.Data.{string};
 ghost use Rattle.serde_json.specs.View.{view, members_view};
+ghost use Rattle.conf_tree.specs.Flaw.{IsMemory};
 ghost use Rattle.conf_tree.specs.Reading.{Gives};
 ghost use Rattle.conf_tree.specs.Walk.{refusal};
 ghost use Rattle.conf_inherit.specs.Laying.{lay, resolved};
 ghost use Rattle.conf_inherit.specs.Limits.{fitting, passed, limit_flaws};
 
-use crate::asked::Asked;
 use crate::field_places::names_alias;
 use crate::laying::lay;
-use crate::named::all_named;
+use crate::named::{Asked, all_named};
 use crate::nesting::nests;
 use crate::property::property;
 use crate::size::{Stop, count};
 use conf_table::Place;
 use conf_tree::{ConfFault, FaultKind};
 use serde_json::{Map, Value};
-use std::alloc::{AllocError, Global};
+use std::alloc::Global;
 
 /// The most JSON values of one resolved field type.
 const MAX_VALUES: usize = 4096;
@@ -43,10 +43,9 @@ pub(crate) fn check_limits(
             return check_alias_limits(alloc, resolved, name.as_str());
         }
     }
-    match fit(alloc, value, place, resolved) {
-        Ok(Ok(_)) => Ok(()),
-        Ok(Err(kind)) => Err(ConfFault::here(alloc, kind)),
-        Err(_) => Err(ConfFault::memory(alloc)),
+    match fit(alloc, value, place, resolved)? {
+        Ok(_) => Ok(()),
+        Err(kind) => Err(ConfFault::here(alloc, kind)),
     }
 }
 
@@ -57,16 +56,17 @@ pub(crate) fn fit(
     value: &Value,
     place: Place,
     resolved: &Map<String, Value>,
-) -> Result<Result<Value, FaultKind>, AllocError>
-    ensures { IfOk result (λ answer. MatchResult answer
+) -> Result<Result<Value, FaultKind>, ConfFault>
+    ensures answer { IfOk result (λ answer. MatchResult answer
         (λ laid. fitting (lay (members_view resolved.now.entries) place (view value.now) None) ≡ Ok (view laid))
         (λ kind. fitting (lay (members_view resolved.now.entries) place (view value.now) None) ≡ Err kind)) }
+    ensures memory { IfErr result IsMemory }
 {
     match lay(alloc, place, value, None, resolved, Some(MAX_VALUES)) {
         Ok(laid) if nests(&laid, MAX_LEVELS) => Ok(Ok(laid)),
         Ok(_) => Ok(Err(FaultKind::TooDeep)),
         Err(Stop::Limit) => Ok(Err(FaultKind::Limit)),
-        Err(Stop::Memory) => Err(AllocError),
+        Err(Stop::Memory) => Err(ConfFault::memory(alloc)),
     }
 }
 

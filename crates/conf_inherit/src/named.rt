@@ -1,16 +1,41 @@
-//! The aliases that a value names.
+//! The aliases that a value names, and what is asked of them.
 ghost use Rattle.std.specs.Prelude.{◌≡◌};
 ghost use Rattle.serde_json.specs.View.{view, items_view, members_view};
 ghost use Rattle.conf_inherit.specs.Asked.{passes};
 ghost use Rattle.conf_inherit.specs.Named.{all_named, all_named_in_items, all_named_in_members};
 
-use crate::asked::Asked;
 use crate::field_places::{names_alias, names_member_type, place_of_items, place_under};
 use crate::outcomes::AliasOutcomes;
 use crate::property::has;
 use conf_table::Place;
 use serde_json::{Map, Value};
 use std::alloc::AllocError;
+
+/// A question about the name of an alias.
+#[derive(Clone, Copy)]
+pub(crate) enum Asked<'a> {
+    /// Whether the alias is resolved.
+    IsResolved(&'a Map<String, Value>),
+    /// Whether it is no alias, or is resolved, or can't be.
+    IsOver {
+        aliases: &'a Map<String, Value>,
+        outcomes: &'a AliasOutcomes,
+    },
+}
+
+impl Asked<'_> {
+    /// Whether the answer is yes for the name.
+    fn passes(self, name: &str) -> bool
+        ensures { result ≡ passes self.entry name.now }
+    {
+        match self {
+            Asked::IsResolved(resolved) => has(resolved, name),
+            Asked::IsOver { aliases, outcomes } => {
+                outcomes.has_outcome(name) || !has(aliases, name)
+            }
+        }
+    }
+}
 
 /// Whether every text of a value that names an alias passes the test.
 #[cycle(named)]
@@ -51,43 +76,54 @@ fn all_named_in_members(members: &Map<String, Value>, place: Place, asked: Asked
     true
 }
 
-/// Adds the texts of a value that name an alias without an outcome, until there are so many.
+/// Adds the texts of a value that name an alias and don't pass the test, until there are so many.
 #[cycle(naming)]
-pub(crate) fn push_waiting(
+pub(crate) fn push_failing(
     value: &Value,
     place: Place,
+    asked: Asked,
     most: usize,
-    aliases: &Map<String, Value>,
-    outcomes: &AliasOutcomes,
     names: &mut Vec<String>,
 ) -> Result<(), AllocError> {
     match value {
-        Value::Null | Value::Bool(_) | Value::Number(_) => {}
-        Value::String(name) => {
-            if (names_alias(place) || names_member_type(place))
-                && has(aliases, name.as_str())
-                && !outcomes.has_outcome(name.as_str())
-            {
-                names.push(name.clone()?)?;
-            }
+        Value::String(name)
+            if names.len() < most
+                && (names_alias(place) || names_member_type(place))
+                && !asked.passes(name.as_str()) => {
+            names.push(name.clone()?)?;
+            Ok(())
         }
-        Value::Array(items) => {
-            for item in items {
-                if names.len() >= most {
-                    break;
-                }
-                push_waiting(item, place_of_items(place), most, aliases, outcomes, names)?;
-            }
-        }
-        Value::Object(members) => {
-            for (name, member) in members.iter() {
-                if names.len() >= most {
-                    break;
-                }
-                let inner = place_under(place, name.as_str());
-                push_waiting(member, inner, most, aliases, outcomes, names)?;
-            }
-        }
+        Value::Array(items) => push_failing_items(items, place, asked, most, names),
+        Value::Object(members) => push_failing_members(members, place, asked, most, names),
+        _ => Ok(()),
+    }
+}
+
+#[cycle(naming)]
+fn push_failing_items(
+    items: &Vec<Value>,
+    place: Place,
+    asked: Asked,
+    most: usize,
+    names: &mut Vec<String>,
+) -> Result<(), AllocError> {
+    for item in items {
+        push_failing(item, place_of_items(place), asked, most, names)?;
+    }
+    Ok(())
+}
+
+#[cycle(naming)]
+fn push_failing_members(
+    members: &Map<String, Value>,
+    place: Place,
+    asked: Asked,
+    most: usize,
+    names: &mut Vec<String>,
+) -> Result<(), AllocError> {
+    for (name, member) in members.iter() {
+        let inner = place_under(place, name.as_str());
+        push_failing(member, inner, asked, most, names)?;
     }
     Ok(())
 }

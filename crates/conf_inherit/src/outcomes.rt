@@ -52,7 +52,7 @@ impl AliasOutcomes {
         let shallow = self.shallow && nests(&alias, ALIAS_LEVELS);
         // Of an alias that may be in or not, where memory runs out, nothing is said.
         self.shallow = false;
-        drop(put_property(&mut self.resolved, name, alias)?);
+        put_property(&mut self.resolved, name, alias)?;
         self.shallow = shallow;
         Ok(())
     }
@@ -61,7 +61,7 @@ impl AliasOutcomes {
     pub(crate) fn refuse(&mut self, name: &String) -> Result<(), AllocError>
         ensures { OnOk result (outcomes_of self.new ≡ concluded (string_bytes name.now) (outcomes_of self.old) None) }
     {
-        drop(put_property(&mut self.refused, name, Value::Null)?);
+        put_property(&mut self.refused, name, Value::Null)?;
         Ok(())
     }
 }

@@ -1,6 +1,6 @@
 //! The first fault at the places of a configuration where field types stand, in walk order.
 ghost use Rattle.std.specs.Prelude.{◌+◌, ◌++◌, Some, false};
-ghost use Rattle.serde_json.specs.Data.{array, no_members};
+ghost use Rattle.serde_json.specs.Data.{no_members};
 ghost use Rattle.serde_json.specs.View.{view, items_view, members_view};
 ghost use Rattle.conf_inherit.specs.SeenNames.{seen_names};
 ghost use Rattle.conf_tree.specs.Reading.{Gives};
@@ -28,38 +28,17 @@ const MAX_EXTRA_MEMBERS: usize = 256;
 fn check_count(alloc: Global, value: &Value) -> Result<(), ConfFault>
     ensures first { Gives (λ _. tt) result (refusal (too_many (view value.now))) }
 {
-    match value {
-        Value::Array(items) => check_length(alloc, items),
-        _ => Ok(()),
-    }
-}
-
-#[tactic(auto, using(crate::proofs::SoundPlaces::count_past, crate::proofs::SoundPlaces::count_within))]
-fn check_length(alloc: Global, items: &Vec<Value>) -> Result<(), ConfFault>
-    ensures first { Gives (λ _. tt) result (refusal (too_many (array (items_view items.now.items)))) }
-{
+    let Value::Array(items) = value else {
+        return Ok(());
+    };
     if items.len() > MAX_EXTRA_MEMBERS {
         return Err(ConfFault::here(alloc, FaultKind::Limit));
     }
     Ok(())
 }
 
-/// Refuses a list of extra members that is too long, or a value that is none.
-#[tactic(auto, using(crate::proofs::FlawLemmas::refused_later))]
-fn check_extra(
-    alloc: Global,
-    value: &Value,
-    place: Place,
-    aliases: &Map<String, Value>,
-) -> Result<(), ConfFault>
-    ensures first { Gives (λ _. tt) result (refusal (too_many (view value.now) ++ own_flaws (members_view aliases.now.entries) place false (view value.now))) }
-{
-    check_count(alloc, value)?;
-    check_itself(alloc, value, place, false, aliases)
-}
-
 /// Refuses what is wrong with a value as a whole that stands at a place of field types.
-#[tactic(auto, unfolding(crate::specs::Places::place_flaws))]
+#[tactic(auto, using(crate::proofs::FlawLemmas::refused_later), unfolding(crate::specs::Places::place_flaws))]
 fn check_place(
     alloc: Global,
     value: &Value,
@@ -76,13 +55,15 @@ fn check_place(
         return check_limits(alloc, value, place, resolved);
     }
     if lists_extra_members(place) {
-        return check_extra(alloc, value, place, aliases);
+        check_count(alloc, value)?;
+        return check_itself(alloc, value, place, false, aliases);
     }
     Ok(())
 }
 
-/// Refuses the first fault at the places in a value.
+/// Refuses what is wrong with a value as a whole, or else the first fault at the places in it.
 #[cycle(places)]
+#[tactic(auto, using(crate::proofs::FlawLemmas::refused_first, crate::proofs::FlawLemmas::refused_later))]
 pub(crate) fn check_places(
     alloc: Global,
     value: &Value,
@@ -90,8 +71,9 @@ pub(crate) fn check_places(
     aliases: &Map<String, Value>,
     resolved: &Map<String, Value>,
 ) -> Result<(), ConfFault>
-    ensures first { Gives (λ _. tt) result (refusal (inner_places (members_view aliases.now.entries) (members_view resolved.now.entries) place (view value.now))) }
+    ensures first { Gives (λ _. tt) result (refusal (place_flaws (members_view aliases.now.entries) (members_view resolved.now.entries) place (view value.now) ++ inner_places (members_view aliases.now.entries) (members_view resolved.now.entries) place (view value.now))) }
 {
+    check_place(alloc, value, place, aliases, resolved)?;
     match value {
         Value::Array(items) if lists_extra_members(place) => {
             check_item_places(alloc, items, place, aliases, resolved)
@@ -119,9 +101,7 @@ fn check_item_places(
         if let Err(fault) = check_entry(alloc, item, place, &seen, aliases, resolved) {
             return Err(fault.inside(alloc, index));
         }
-        if mark(item, &mut seen).is_err() {
-            return Err(ConfFault::memory(alloc));
-        }
+        mark(item, &mut seen).map_err(|_| ConfFault::memory(alloc))?;
     }
     Ok(())
 }
@@ -129,7 +109,7 @@ fn check_item_places(
 /// Refuses the first flaw of an entry of a list at the place, or else the limit that its field type passes. `seen` has the names of
 /// the entries before it.
 #[cycle(places)]
-#[tactic(auto, using(crate::proofs::FlawLemmas::refused_first, crate::proofs::FlawLemmas::refused_later))]
+#[tactic(auto, using(crate::proofs::FlawLemmas::refused_first, crate::proofs::FlawLemmas::refused_later, crate::proofs::SoundPlaces::no_entry_flaws))]
 fn check_entry(
     alloc: Global,
     value: &Value,
@@ -158,31 +138,10 @@ fn check_member_places(
     ensures first { Gives (λ _. tt) result (refusal (member_places (members_view aliases.now.entries) (members_view resolved.now.entries) place (members_view members.now.entries))) }
 {
     for (name, member) in members.iter() {
-        if let Err(fault) = check_place_and_inner(
-            alloc,
-            member,
-            place_under(place, name.as_str()),
-            aliases,
-            resolved,
-        ) {
+        let inner = place_under(place, name.as_str());
+        if let Err(fault) = check_places(alloc, member, inner, aliases, resolved) {
             return Err(fault.in_property(alloc, name.as_str()));
         }
     }
     Ok(())
-}
-
-/// Refuses what is wrong with a value as a whole, or else at the places in it.
-#[cycle(places)]
-#[tactic(auto, using(crate::proofs::FlawLemmas::refused_first, crate::proofs::FlawLemmas::refused_later))]
-fn check_place_and_inner(
-    alloc: Global,
-    value: &Value,
-    place: Place,
-    aliases: &Map<String, Value>,
-    resolved: &Map<String, Value>,
-) -> Result<(), ConfFault>
-    ensures first { Gives (λ _. tt) result (refusal (place_flaws (members_view aliases.now.entries) (members_view resolved.now.entries) place (view value.now) ++ inner_places (members_view aliases.now.entries) (members_view resolved.now.entries) place (view value.now))) }
-{
-    check_place(alloc, value, place, aliases, resolved)?;
-    check_places(alloc, value, place, aliases, resolved)
 }

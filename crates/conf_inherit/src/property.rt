@@ -30,18 +30,19 @@ pub(crate) fn take_property(members: &mut Map<String, Value>, name: &str) -> Opt
     }
 }
 
-/// Puts a value into a property, and answers what was there. The name is copied only where it is new.
+/// Puts a value into a property. The name is copied only where it is new.
 pub(crate) fn put_property(
     members: &mut Map<String, Value>,
     name: &String,
     value: Value,
-) -> Result<Option<Value>, AllocError>
+) -> Result<(), AllocError>
     ensures { OnOk result (members_view members.new.entries ≡ put (string_bytes name.now) (view value) (members_view members.old.entries)) }
 {
     match members.get_mut(name.as_str()) {
-        Some(place) => Ok(Some(replace(place, value))),
-        None => Ok(members.insert(name.clone()?, value)?),
+        Some(place) => *place = value,
+        None => drop(members.insert(name.clone()?, value)?),
     }
+    Ok(())
 }
 
 /// An object of one property.
@@ -65,7 +66,7 @@ pub(crate) fn only(
         ≡ object (member (string_bytes name.now) (view value) no_members)) }
 {
     if members.len() == 1 && has(&members, name.as_str()) {
-        drop(put_property(&mut members, name, value)?);
+        put_property(&mut members, name, value)?;
         return Ok(Value::Object(members));
     }
     single(alloc, name.clone()?, value)

@@ -2,8 +2,6 @@
 ghost use Rattle.std.specs.Prelude.{◌≡◌, ◌⊎◌, ℕ, None, IfOk, IfErr, true};
 ghost use Rattle.conf_tree.specs.Flaw.{flaw_of, IsMemory};
 ghost use Rattle.conf_tree.specs.Reading.{Gives};
-ghost use Rattle.conf_tree.specs.Walk.{refusal};
-ghost use Rattle.conf_inherit.specs.AliasFlaws.{all_alias_flaws};
 ghost use Rattle.conf_inherit.specs.AliasOutcomes.{outcomes_of};
 ghost use Rattle.conf_inherit.specs.Faults.{RefusalHolds};
 ghost use Rattle.conf_inherit.specs.Laying.{lay};
@@ -11,24 +9,66 @@ ghost use Rattle.conf_inherit.specs.Names.{NoClash};
 ghost use Rattle.conf_inherit.specs.Nesting.{members_nest};
 ghost use Rattle.conf_inherit.specs.Rounds.{rounds, no_outcomes};
 ghost use Rattle.conf_inherit.specs.Spent.{Spends};
-ghost use Rattle.conf_inherit.specs.Whole.{with_aliases, AreLaid};
-ghost use Rattle.serde_json.specs.Data.{Members, no_members};
+ghost use Rattle.conf_inherit.specs.Whole.{holds_aliases, aliases_at, with_aliases, AreLaid};
+ghost use Rattle.serde_json.specs.Data.{object, Members, no_members};
 ghost use Rattle.serde_json.specs.View.{view, members_view};
 ghost use Rattle.conf_inherit.specs.declared.nesting.TheConstants.{ALIAS_LEVELS};
-ghost use Rattle.conf_inherit.specs.Resolution.{Resolves, in_aliases, from_aliases, if_shallow, resolution_after, resolution};
+ghost use Rattle.conf_inherit.specs.Resolution.{members_or_none, Resolves, in_aliases, if_shallow, resolution_after, resolution};
 
 use crate::alias_check::check_aliases;
+use crate::field_places::{place_under, way_to_aliases};
 use crate::laying::lay;
 use crate::nesting::{ALIAS_LEVELS, check_nesting};
 use crate::outcomes::AliasOutcomes;
 use crate::places::check_places;
 use crate::rounds::settle_aliases;
 use crate::size::Stop;
-use crate::whole::replace_aliases;
 use conf_table::Place;
 use conf_tree::{ConfFault, Tree};
 use serde_json::{Map, Value};
 use std::alloc::Global;
+use std::mem::replace;
+
+/// Puts these aliases in the place of those of a value, and answers what they were. Where no object stands there,
+/// there were none, and nothing is put.
+#[cycle(replacing)]
+fn replace_aliases(
+    alloc: Global,
+    place: Place,
+    value: &mut Value,
+    aliases: Map<String, Value>,
+) -> Map<String, Value>
+    requires above { holds_aliases place ≡ true }
+    ensures old { members_view result.entries ≡ members_or_none (aliases_at place (view value.old)) }
+    ensures new { view value.new ≡ with_aliases place (members_view aliases.entries) (view value.old) }
+{
+    match value {
+        Value::Object(members) => replace_aliases_under(alloc, place, members, aliases),
+        Value::Null | Value::Bool(_) | Value::Number(_) | Value::String(_) | Value::Array(_) =>
+            Map::new(alloc),
+    }
+}
+
+/// Puts them into an object that has aliases in it, or is their object.
+#[cycle(replacing)]
+fn replace_aliases_under(
+    alloc: Global,
+    place: Place,
+    members: &mut Map<String, Value>,
+    aliases: Map<String, Value>,
+) -> Map<String, Value>
+    requires above { holds_aliases place ≡ true }
+    ensures old { members_view result.entries ≡ members_or_none (aliases_at place (object (members_view members.old.entries))) }
+    ensures new { object (members_view members.new.entries) ≡ with_aliases place (members_view aliases.entries) (object (members_view members.old.entries)) }
+{
+    let Some(way) = way_to_aliases(place) else {
+        return replace(members, aliases);
+    };
+    match members.get_mut(way) {
+        Some(value) => replace_aliases(alloc, place_under(place, way), value, aliases),
+        None => Map::new(alloc),
+    }
+}
 
 /// The fault of an alias, seen from the configuration.
 #[tactic(auto, unfolding(crate::specs::Resolution::trace_name, crate::specs::Resolution::type_name, crate::specs::Resolution::aliases_name))]
@@ -42,22 +82,9 @@ fn in_aliases(alloc: Global, fault: ConfFault) -> ConfFault
         .in_property(alloc, "trace")
 }
 
-/// Refuses the first fault of the aliases.
-fn check_all_aliases(
-    alloc: Global,
-    aliases: &Map<String, Value>,
-    outcomes: &AliasOutcomes,
-) -> Result<(), ConfFault>
-    ensures first { Gives (λ _. tt) result (from_aliases (refusal (all_alias_flaws (members_view aliases.now.entries) (outcomes_of outcomes.now) (members_view aliases.now.entries)))) }
-{
-    if let Err(fault) = check_aliases(alloc, aliases, outcomes) {
-        return Err(in_aliases(alloc, fault));
-    }
-    Ok(())
-}
-
 /// The resolved configuration, unless it nests too deep. Each field type in it is within the limits, so none holds
-/// for the whole. `shallow` says that each resolved alias is known to nest at most `ALIAS_LEVELS` levels.
+/// for the whole. `shallow` says that each resolved alias is known to nest at most `ALIAS_LEVELS` levels: what stands
+/// in such ones is not too deep, so the rest alone is asked.
 #[tactic(auto, unfolding(crate::specs::Whole::holds_aliases))]
 fn lay_all(
     alloc: Global,
@@ -70,26 +97,11 @@ fn lay_all(
     ensures first { (al : Members) → AreLaid (members_view resolved.entries) al
         → Gives view result (if_shallow (lay (members_view resolved.entries) Place.Root (with_aliases Place.Root al (view value.now)) None)) }
 {
-    match lay(alloc, Place::Root, value, None, &resolved, None) {
-        Ok(laid) => put_aliases(alloc, laid, resolved, shallow),
-        Err(Stop::Memory) => Err(ConfFault::memory(alloc)),
+    let mut laid = match lay(alloc, Place::Root, value, None, &resolved, None) {
+        Ok(laid) => laid,
+        Err(Stop::Memory) => return Err(ConfFault::memory(alloc)),
         Err(Stop::Limit) => unreachable!(),
-    }
-}
-
-/// The resolved aliases in their place, unless the whole nests too deep then. What stands in shallow ones does not, so
-/// the rest alone is asked.
-#[tactic(auto, unfolding(crate::specs::Whole::holds_aliases))]
-fn put_aliases(
-    alloc: Global,
-    mut laid: Value,
-    resolved: Map<String, Value>,
-    shallow: bool,
-) -> Result<Value, ConfFault>
-    requires bare { with_aliases Place.Root no_members (view laid) ≡ view laid }
-    requires shallow { shallow ≡ true → members_nest (members_view resolved.entries) ALIAS_LEVELS ≡ true }
-    ensures first { Gives view result (if_shallow (with_aliases Place.Root (members_view resolved.entries) (view laid))) }
-{
+    };
     if shallow {
         check_nesting(alloc, &laid, 32)?;
         drop(replace_aliases(alloc, Place::Root, &mut laid, resolved));
@@ -112,7 +124,9 @@ fn resolve_after(
         → Spends (members_view outcomes.resolved.entries) al (members_view aliases.now.entries)
         → Gives view result (resolution_after al (outcomes_of outcomes) (with_aliases Place.Root al (view value.now))) }
 {
-    check_all_aliases(alloc, aliases, &outcomes)?;
+    if let Err(fault) = check_aliases(alloc, aliases, &outcomes) {
+        return Err(in_aliases(alloc, fault));
+    }
     check_places(alloc, value, Place::Root, aliases, &outcomes.resolved)?;
     let AliasOutcomes {
         resolved,
@@ -136,8 +150,6 @@ pub fn resolve(alloc: Global, tree: Tree) -> Result<Tree, ConfFault>
     let Tree { mut value } = tree;
     let mut aliases = replace_aliases(alloc, Place::Root, &mut value, Map::new(alloc));
     let outcomes = settle_aliases(alloc, &mut aliases)?;
-    match resolve_after(alloc, &value, &aliases, outcomes) {
-        Ok(value) => Ok(Tree { value }),
-        Err(fault) => Err(fault),
-    }
+    let value = resolve_after(alloc, &value, &aliases, outcomes)?;
+    Ok(Tree { value })
 }

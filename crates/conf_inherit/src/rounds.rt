@@ -11,17 +11,70 @@ ghost use Rattle.conf_inherit.specs.Named.{all_named, has};
 ghost use Rattle.conf_inherit.specs.Rounds.{is_over, outcome, step, round, all_settled, rounds, no_outcomes};
 ghost use Rattle.conf_inherit.specs.Spent.{Spends, TurnsLeave};
 
-use crate::asked::Asked;
 use crate::flaws::check_value;
 use crate::limits::fit;
-use crate::named::all_named;
+use crate::named::{Asked, all_named, push_failing};
 use crate::outcomes::AliasOutcomes;
 use crate::property::{has, property, take_property};
-use crate::turns::Turns;
 use conf_table::Place;
 use conf_tree::ConfFault;
 use serde_json::{Map, Value};
-use std::alloc::Global;
+use std::alloc::{AllocError, Global};
+use std::collections::BTreeMap;
+
+/// The aliases whose turns are to come.
+#[derive(Drop)]
+struct Turns {
+    /// Their names, that of the next one last.
+    names: Vec<String>,
+    /// How often each alias came up without an outcome.
+    visits: BTreeMap<String, usize>,
+}
+
+impl Turns {
+    /// All aliases are to come.
+    fn new(alloc: Global, aliases: &Map<String, Value>) -> Result<Turns, AllocError> {
+        let mut names = Vec::new(alloc);
+        for (name, _value) in aliases.iter() {
+            names.push(name.clone()?)?;
+        }
+        Ok(Turns {
+            names,
+            visits: BTreeMap::new(alloc),
+        })
+    }
+
+    /// Whether it is the turn of the alias that came up. Where others without an outcome are named in it, they come up
+    /// first, and then it again: at first the first of them, since one name often leads to all others, then all. An
+    /// alias that waits still when it comes up again leads into a circle, and has its turn once.
+    fn is_due(
+        &mut self,
+        alloc: Global,
+        name: &String,
+        value: &Value,
+        aliases: &Map<String, Value>,
+        outcomes: &AliasOutcomes,
+    ) -> Result<bool, AllocError> {
+        if outcomes.has_outcome(name.as_str()) {
+            return Ok(false);
+        }
+        let visits = self.visits.get(name.as_str()).copied().unwrap_or(0);
+        drop(self.visits.insert(name.clone()?, visits.saturating_add(1))?);
+        if visits > 1 {
+            return Ok(visits == 2);
+        }
+        let most = if visits == 0 { 1 } else { usize::MAX };
+        let mut waiting = Vec::new(alloc);
+        let asked = Asked::IsOver { aliases, outcomes };
+        push_failing(value, Place::FieldType, asked, most, &mut waiting)?;
+        if waiting.is_empty() {
+            return Ok(true);
+        }
+        self.names.push(name.clone()?)?;
+        self.names.append(&mut waiting)?;
+        Ok(false)
+    }
+}
 
 /// The resolved alias, unless it can't be resolved. `known` says whether all that it names is resolved.
 fn outcome(
@@ -45,22 +98,15 @@ fn outcome(
         }
         return Ok(None);
     }
-    match fit(alloc, value, Place::FieldType, resolved) {
-        Ok(Ok(alias)) => Ok(Some(alias)),
-        Ok(Err(_)) => Ok(None),
-        Err(_) => Err(ConfFault::memory(alloc)),
-    }
+    Ok(fit(alloc, value, Place::FieldType, resolved)?.ok())
 }
 
 /// Whether all aliases that a value names are resolved.
 fn is_known(value: &Value, outcomes: &AliasOutcomes) -> bool
     ensures { result ≡ all_named (has (outcomes_of outcomes.now).done) Place.FieldType (view value.now) }
 {
-    all_named(
-        value,
-        Place::FieldType,
-        Asked::IsResolved(&outcomes.resolved),
-    )
+    let asked = Asked::IsResolved(&outcomes.resolved);
+    all_named(value, Place::FieldType, asked)
 }
 
 /// Gives an alias its outcome, if all that it names have theirs. `known` says whether all that it names is resolved.

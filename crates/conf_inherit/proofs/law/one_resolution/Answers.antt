@@ -1,5 +1,5 @@
 use Rattle.conf_inherit.specs.Resolution.{aliases_of}
-use Rattle.conf_inherit.proofs.OneReading.{one_look}
+use Rattle.conf_inherit.proofs.LookedUp.{one_look}
 use Rattle.conf_inherit.proofs.law.one_resolution.Goals as goal
 
 pub returns : goal.returns

@@ -1,4 +1,4 @@
-use Rattle.conf_inherit.proofs.ExcludedInheritance.{refusal_excluded}
+use Rattle.conf_inherit.proofs.RefusalLemmas.{refusal_excluded}
 use Rattle.conf_inherit.proofs.law.resolutions_faultless.Goals as goal
 
 pub returns : goal.returns

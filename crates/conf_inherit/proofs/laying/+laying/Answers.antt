@@ -86,8 +86,8 @@ lay_properties-returns-clause-laid t c =
     let whole : c.loop-name.invariant.0 ≡ c.args.members.now.entries = sym (c.loop-name.invariant.1 ∙ ap (λ xs. xs ++ c.loop-name.invariant.0) c.in-None.ensures.steps.0) in
     c.loop-name.invariant.2 ∙ ap (λ es. lay_members aliases c.args.place (members_view es) (members_view c.args.below.entries)) whole
 
-pub lay_properties-loop-name-preserved-then-not-is_base_name : goal.lay_properties-loop-name-preserved-then-not-is_base_name
-lay_properties-loop-name-preserved-then-not-is_base_name t c =
+pub lay_properties-loop-name-preserved-in-Continue-branch-2 : goal.lay_properties-loop-name-preserved-in-Continue-branch-2
+lay_properties-loop-name-preserved-in-Continue-branch-2 t c =
     let done = members_view c.args.aliases.now.entries in
     let inv = c.loop-name.invariant in
     let e : Entry = (c.in-Some.name.now, c.in-Some.value.now) in

@@ -8,9 +8,6 @@ use Rattle.conf_inherit.proofs.places.+places.Given as goal
 abbrev pub decreases-check_places : goal.decreases-check_places
 decreases-check_places l = 3 * goal.size-check_places l
 
-abbrev pub decreases-check_place_and_inner : goal.decreases-check_place_and_inner
-decreases-check_place_and_inner l = 3 * goal.size-check_place_and_inner l + 1
-
 abbrev pub decreases-check_entry : goal.decreases-check_entry
 decreases-check_entry l = 3 * goal.size-check_entry l + 1
 

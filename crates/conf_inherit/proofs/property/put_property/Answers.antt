@@ -10,9 +10,8 @@ returns-in-Some c =
     let n = c.as_str.result.now in
     let old = c.args.members.now.entries in
     let found = ap (option_map view) c.in-Some.ensures.value ∙ view-lookup n old in
-    ap members_view (c.get_mut.follows.holds c.replace.new.dest).0
-    ∙ written_put n c.replace.new.dest (view c.in-Some.place.now) old c.get_mut.ensures.ordered (sym found)
-    ∙ ap (λ w. put n (view w) (members_view old)) c.replace.ensures.after
+    ap members_view (c.get_mut.follows.holds c.args.value).0
+    ∙ written_put n c.args.value (view c.in-Some.place.now) old c.get_mut.ensures.ordered (sym found)
     ∙ ap (λ k. put k (view c.args.value) (members_view old)) c.as_str.ensures.value
 
 pub returns-in_ok-insert-in-None : goal.returns-in_ok-insert-in-None

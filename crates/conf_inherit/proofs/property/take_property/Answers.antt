@@ -1,10 +1,9 @@
-use Rattle.std.proofs.Common.{◌≡◌, Some, None, option_map, sym, ap, ◌∙◌, rules}
-use Rattle.serde_json.specs.Data.{null, put}
+use Rattle.std.proofs.Common.{◌≡◌, Some, None, option_map, sym, ap, ◌∙◌}
+use Rattle.serde_json.specs.Data.{put}
 use Rattle.serde_json.specs.Find.{get_member}
 use Rattle.serde_json.specs.View.{view, members_view}
 use Rattle.serde_json.proofs.Views.{view-lookup}
-use Rattle.serde_json.specs.declared.value.Value.{Null, the_lemmas}
-use Rattle.conf_inherit.proofs.SpentLemmas.{written_spent, spent_none, put_written}
+use Rattle.conf_inherit.proofs.SpentLemmas.{written_spent, spent_none, put_written, view-null}
 use Rattle.conf_inherit.proofs.property.take_property.Goals as goal
 
 pub returns-in-Some-clause-found : goal.returns-in-Some-clause-found
@@ -18,9 +17,6 @@ returns-in-Some-clause-others c = λ d.
 
 pub returns-in-None-clause-found : goal.returns-in-None-clause-found
 returns-in-None-clause-found c = ap (option_map view) c.in-None.ensures.value ∙ view-lookup c.args.name.now c.args.members.now.entries
-
-view-null : view Null ≡ null
-view-null = search (rules, the_lemmas)
 
 pub returns-in-Some-clause-left : goal.returns-in-Some-clause-left
 returns-in-Some-clause-left c =

@@ -1,4 +1,5 @@
 use Rattle.std.proofs.Common.{◌≡◌, ℕ, ap, sym, ◌∙◌, subst, inl, inr}
+use Rattle.std.proofs.lemmas.Result.{err_from_is_err_and}
 use Rattle.std.specs.BTreeMap.{btree_map_len}
 use Rattle.serde_json.specs.Data.{Data, Members}
 use Rattle.serde_json.specs.Events.{members_len}
@@ -23,35 +24,41 @@ taken_resolution t none {al} {v} {n} {st} own taken count settled = resolution_i
 pub resolve_after-requires : goal.resolve_after-requires
 resolve_after-requires c = record { bare = bare_again (view c.args.tree.value) c.new.result.entries (view c.replace_aliases-aliases.new.value) c.new.ensures.empty c.replace_aliases-aliases.ensures.new }
 
-pub returns-in-Ok-clause-first : goal.returns-in-Ok-clause-first
-returns-in-Ok-clause-first c =
+pub returns-clause-first : goal.returns-clause-first
+returns-clause-first c =
     taken_resolution (view c.args.tree.value) (members_view c.new.result.entries) c.replace_aliases-aliases.ensures.old c.replace_aliases-aliases.ensures.new (members_len-members_view c.replace_aliases-aliases.result.entries) c.in_ok-outcomes.ensures.settled
-    ∙ c.in-Ok.ensures.first (members_view c.replace_aliases-aliases.result.entries) (btree_map_len c.replace_aliases-aliases.result) c.in_ok-outcomes.ensures.apart c.in_ok-outcomes.ensures.settled c.in_ok-outcomes.ensures.spent
+    ∙ c.in_ok-value.ensures.first (members_view c.replace_aliases-aliases.result.entries) (btree_map_len c.replace_aliases-aliases.result) c.in_ok-outcomes.ensures.apart c.in_ok-outcomes.ensures.settled c.in_ok-outcomes.ensures.spent
 
-pub returns-in-Ok-clause-resolved : goal.returns-in-Ok-clause-resolved
-returns-in-Ok-clause-resolved c = (resolution_sound (view c.args.tree.value) (view c.in-Ok.value) (subst NoClash c.replace_aliases-aliases.ensures.old c.in_ok-outcomes.ensures.apart) (returns-in-Ok-clause-first c)).0
+pub returns-clause-resolved : goal.returns-clause-resolved
+returns-clause-resolved c = (resolution_sound (view c.args.tree.value) (view c.in_ok-value.value) (subst NoClash c.replace_aliases-aliases.ensures.old c.in_ok-outcomes.ensures.apart) (returns-clause-first c)).0
 
 pub invariant_of-result : goal.invariant_of-result
 invariant_of-result c =
     let t = view c.args.tree.value in
     let is = taken_resolution t (members_view c.new.result.entries) c.replace_aliases-aliases.ensures.old c.replace_aliases-aliases.ensures.new (members_len-members_view c.replace_aliases-aliases.result.entries) c.in_ok-outcomes.ensures.settled in
     let al = members_view c.replace_aliases-aliases.result.entries in
-    let sound = resolution_sound t (view c.in-Ok.value) (subst NoClash c.replace_aliases-aliases.ensures.old c.in_ok-outcomes.ensures.apart) (is ∙ c.in-Ok.ensures.first al (btree_map_len c.replace_aliases-aliases.result) c.in_ok-outcomes.ensures.apart c.in_ok-outcomes.ensures.settled c.in_ok-outcomes.ensures.spent) in
+    let sound = resolution_sound t (view c.in_ok-value.value) (subst NoClash c.replace_aliases-aliases.ensures.old c.in_ok-outcomes.ensures.apart) (is ∙ c.in_ok-value.ensures.first al (btree_map_len c.replace_aliases-aliases.result) c.in_ok-outcomes.ensures.apart c.in_ok-outcomes.ensures.settled c.in_ok-outcomes.ensures.spent) in
     record {
-      nested = depth-nests (view c.in-Ok.value) 32 sound.1;
-      whole = resolved_whole t (view c.in-Ok.value) c.args.tree.whole sound.0;
-      ordered = resolved_ascends t (view c.in-Ok.value) c.args.tree.ordered sound.0;
+      nested = depth-nests (view c.in_ok-value.value) 32 sound.1;
+      whole = resolved_whole t (view c.in_ok-value.value) c.args.tree.whole sound.0;
+      ordered = resolved_ascends t (view c.in_ok-value.value) c.args.tree.ordered sound.0;
     }
 
-pub returns-clause-first : goal.returns-clause-first
-returns-clause-first c =
-    elim (c.in-Err.ensures.first (members_view c.replace_aliases-aliases.result.entries) (btree_map_len c.replace_aliases-aliases.result) c.in_ok-outcomes.ensures.apart c.in_ok-outcomes.ensures.settled c.in_ok-outcomes.ensures.spent) [
+pub returns-in_err-value-clause-first : goal.returns-in_err-value-clause-first
+returns-in_err-value-clause-first c =
+    let p = err_from_is_err_and c.from_residual-in_err-value.result c.from_residual-in_err-value.ensures.1 in
+    rw (p.1, p.2)
+    (elim (c.in_err-value.ensures.first (members_view c.replace_aliases-aliases.result.entries) (btree_map_len c.replace_aliases-aliases.result) c.in_ok-outcomes.ensures.apart c.in_ok-outcomes.ensures.settled c.in_ok-outcomes.ensures.spent) [
       | inl memory ↦ inl memory
       | inr flawed ↦ inr (taken_resolution (view c.args.tree.value) (members_view c.new.result.entries) c.replace_aliases-aliases.ensures.old c.replace_aliases-aliases.ensures.new (members_len-members_view c.replace_aliases-aliases.result.entries) c.in_ok-outcomes.ensures.settled ∙ flawed)
-    ]
+    ])
 
-pub returns-clause-refused : goal.returns-clause-refused
-returns-clause-refused c = elim (returns-clause-first c) [
-  | inl memory ↦ inl memory
-  | inr flawed ↦ inr (refusal_holds (view c.args.tree.value) (flaw_of c.in-Err.fault) (subst NoClash c.replace_aliases-aliases.ensures.old c.in_ok-outcomes.ensures.apart) flawed)
-]
+pub returns-in_err-value-clause-refused : goal.returns-in_err-value-clause-refused
+returns-in_err-value-clause-refused c =
+    let p = err_from_is_err_and c.from_residual-in_err-value.result c.from_residual-in_err-value.ensures.1 in
+    rw (p.1, p.2)
+    (elim (c.in_err-value.ensures.first (members_view c.replace_aliases-aliases.result.entries) (btree_map_len c.replace_aliases-aliases.result) c.in_ok-outcomes.ensures.apart c.in_ok-outcomes.ensures.settled c.in_ok-outcomes.ensures.spent) [
+      | inl memory ↦ inl memory
+      | inr flawed ↦ inr (refusal_holds (view c.args.tree.value) (flaw_of c.in_err-value.field-0.0) (subst NoClash c.replace_aliases-aliases.ensures.old c.in_ok-outcomes.ensures.apart)
+          (taken_resolution (view c.args.tree.value) (members_view c.new.result.entries) c.replace_aliases-aliases.ensures.old c.replace_aliases-aliases.ensures.new (members_len-members_view c.replace_aliases-aliases.result.entries) c.in_ok-outcomes.ensures.settled ∙ flawed))
+    ])

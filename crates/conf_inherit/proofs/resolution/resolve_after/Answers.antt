@@ -1,27 +1,34 @@
-use Rattle.std.proofs.Common.{sym, subst, inl, inr}
+use Rattle.std.proofs.Common.{Err, sym, ap, ◌∙◌, subst, inl, inr}
 use Rattle.std.proofs.lemmas.Result.{err_from_is_err_and}
 use Rattle.serde_json.specs.View.{view, members_view}
 use Rattle.conf_tree.specs.Flaw.{flaw_of}
 use Rattle.conf_tree.specs.Reading.{Gives}
 use Rattle.conf_inherit.specs.AliasOutcomes.{outcomes_of}
+use Rattle.conf_inherit.specs.Resolution.{in_aliases, from_aliases}
 use Rattle.conf_inherit.proofs.TakenLemmas.{refused_alias, refused_place, aliases_laid, answered}
 use Rattle.conf_inherit.proofs.resolution.resolve_after.Goals as goal
 
-pub returns-in_err-check_all_aliases : goal.returns-in_err-check_all_aliases
-returns-in_err-check_all_aliases c = record {
-  first = λ al n apart settled spent. let p = err_from_is_err_and c.from_residual.result c.from_residual.ensures.1 in rw (p.1, p.2)
-      (elim c.in_err-check_all_aliases.ensures.first [
-        | inl memory ↦ inl memory
-        | inr flawed ↦ inr (refused_alias al (members_view c.args.aliases.now.entries) n (outcomes_of c.args.outcomes) (view c.args.value.now) c.requires.bare apart settled spent (flaw_of c.in_err-check_all_aliases.field-0.0) flawed)
-      ]);
+pub returns-in-Err : goal.returns-in-Err
+returns-in-Err c = record {
+  first = λ al n apart settled spent. elim c.in_aliases.ensures.moved [
+    | inl memory ↦ inl (c.in_aliases.ensures.memory memory)
+    | inr (inl memory) ↦ inl memory
+    | inr (inr moved) ↦ elim c.in-Err.ensures.first [
+      | inl memory ↦ inl (c.in_aliases.ensures.memory memory)
+      | inr flawed ↦ inr (
+          refused_alias al (members_view c.args.aliases.now.entries) n (outcomes_of c.args.outcomes) (view c.args.value.now) c.requires.bare apart settled spent (in_aliases (flaw_of c.in-Err.fault)) (ap from_aliases flawed)
+          ∙ ap (λ f. Err f) (sym moved)
+          )
+    ]
+  ];
 }
 
 pub returns-in_err-check_places : goal.returns-in_err-check_places
 returns-in_err-check_places c = record {
-  first = λ al n apart settled spent. let p = err_from_is_err_and c.from_residual-in_err-check_places.result c.from_residual-in_err-check_places.ensures.1 in rw (p.1, p.2)
+  first = λ al n apart settled spent. let p = err_from_is_err_and c.from_residual.result c.from_residual.ensures.1 in rw (p.1, p.2)
       (elim c.in_err-check_places.ensures.first [
         | inl memory ↦ inl memory
-        | inr flawed ↦ inr (refused_place al (members_view c.args.aliases.now.entries) n (outcomes_of c.args.outcomes) (view c.args.value.now) c.requires.bare apart settled spent c.in_ok-check_all_aliases.ensures.first (flaw_of c.in_err-check_places.field-0.0) flawed)
+        | inr flawed ↦ inr (refused_place al (members_view c.args.aliases.now.entries) n (outcomes_of c.args.outcomes) (view c.args.value.now) c.requires.bare apart settled spent (ap from_aliases c.in_default.ensures.first) (flaw_of c.in_err-check_places.field-0.0) flawed)
       ]);
 }
 
@@ -31,7 +38,7 @@ returns c = record {
       let now = members_view c.args.aliases.now.entries in
       let st = outcomes_of c.args.outcomes in
       let v = view c.args.value.now in
-      let sound = c.in_ok-check_all_aliases.ensures.first in
+      let sound = ap from_aliases c.in_default.ensures.first in
       subst (λ r. Gives view c.lay_all.result r) (sym (answered al now n st v c.requires.bare apart settled spent sound c.in_ok-check_places.ensures.first))
       (c.lay_all.ensures.first al (aliases_laid al now n st v c.requires.bare apart settled spent sound));
 }

@@ -1,12 +1,9 @@
-use Rattle.std.proofs.Common.{string_bytes, ap, ◌∙◌, rules, ◌≡◌}
-use Rattle.serde_json.specs.Data.{Members, null, put}
-use Rattle.serde_json.specs.View.{view, members_view}
-use Rattle.serde_json.specs.declared.value.Value.{Null, the_lemmas}
+use Rattle.std.proofs.Common.{string_bytes, ap, ◌∙◌}
+use Rattle.serde_json.specs.Data.{Members, put}
+use Rattle.serde_json.specs.View.{members_view}
 use Rattle.conf_inherit.specs.Rounds.{Outcomes}
+use Rattle.conf_inherit.proofs.SpentLemmas.{view-null}
 use Rattle.conf_inherit.proofs.outcomes.AliasOutcomes.refuse.Goals as goal
-
-view-null : view Null ≡ null
-view-null = search (rules, the_lemmas)
 
 pub returns : goal.returns
 returns c =

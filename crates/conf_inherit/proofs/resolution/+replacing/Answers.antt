@@ -8,7 +8,7 @@ use Rattle.conf_inherit.specs.Resolution.{members_or_none}
 use Rattle.conf_inherit.specs.Whole.{holds_aliases, way_to_aliases, aliases_at, with_aliases}
 use Rattle.conf_inherit.proofs.TakenLemmas.{with_way, at_way, with_none, put_with, way_leads, as_it_is, no_object, their_own, in_order, objects_around, fewer_around}
 use Rattle.conf_inherit.proofs.SpentLemmas.{written_put}
-use Rattle.conf_inherit.proofs.whole.+replacing.Goals as goal
+use Rattle.conf_inherit.proofs.resolution.+replacing.Goals as goal
 
 pub replace_aliases-returns-in-Object-clause-old : goal.replace_aliases-returns-in-Object-clause-old
 replace_aliases-returns-in-Object-clause-old t c =

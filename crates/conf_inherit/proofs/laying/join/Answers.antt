@@ -4,7 +4,7 @@ use Rattle.serde_json.specs.View.{view, items_view}
 use Rattle.serde_json.specs.Data.{item}
 use Rattle.conf_inherit.specs.Names.{join_items}
 use Rattle.conf_inherit.proofs.LayingLemmas.{join_none, join_pushed}
-use Rattle.conf_inherit.proofs.base.join.Goals as goal
+use Rattle.conf_inherit.proofs.laying.join.Goals as goal
 
 pub loop-item-preserved : goal.loop-item-preserved
 loop-item-preserved c =
