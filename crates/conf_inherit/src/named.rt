@@ -87,9 +87,7 @@ pub(crate) fn push_failing(
 ) -> Result<(), AllocError> {
     match value {
         Value::String(name)
-            if names.len() < most
-                && (names_alias(place) || names_member_type(place))
-                && !asked.passes(name.as_str()) => {
+            if (names_alias(place) || names_member_type(place)) && !asked.passes(name.as_str()) => {
             names.push(name.clone()?)?;
             Ok(())
         }
@@ -108,6 +106,9 @@ fn push_failing_items(
     names: &mut Vec<String>,
 ) -> Result<(), AllocError> {
     for item in items {
+        if names.len() >= most {
+            break;
+        }
         push_failing(item, place_of_items(place), asked, most, names)?;
     }
     Ok(())
@@ -122,6 +123,9 @@ fn push_failing_members(
     names: &mut Vec<String>,
 ) -> Result<(), AllocError> {
     for (name, member) in members.iter() {
+        if names.len() >= most {
+            break;
+        }
         let inner = place_under(place, name.as_str());
         push_failing(member, inner, asked, most, names)?;
     }
