@@ -20,8 +20,8 @@ use Rattle.conf_check.specs.Configuration.{IsNoConfiguration, HasNoFault}
 use Rattle.conf_check.specs.ConfigurationRows.{KeepsAllRules, IsWithinLimits, IsConfigurationOf}
 use Rattle.conf_check.specs.Judgement.{whole, IsJudgedTo, IsFirstFlawOf}
 use Rattle.conf_check.specs.WholeFlaws.{BreaksRule}
-use Rattle.conf_inherit.proofs.ExcludedInheritance.{refusal_excluded}
-use Rattle.conf_inherit.proofs.OneReading.{one_look}
+use Rattle.conf_inherit.proofs.RefusalLemmas.{refusal_excluded}
+use Rattle.conf_inherit.proofs.LookedUp.{one_look}
 use Rattle.conf_laws.proofs.AllowedTraces.{draft_allowed}
 use Rattle.conf_laws.proofs.ExcludedFlaws.{none_left, none_refused}
 use Rattle.conf_laws.proofs.ExcludedLimits.{none_passed}

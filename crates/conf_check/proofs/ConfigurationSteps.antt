@@ -8,7 +8,7 @@ use Rattle.conf_tree.specs.Flaw.{flaw_of, IsMemory}
 use Rattle.conf_tree.specs.Walk.{IsTreeOf, IsFirstFlaw, Reads, FlawHolds, max_levels}
 use Rattle.conf_inherit.specs.Faults.{RefusalHolds}
 use Rattle.conf_inherit.specs.Resolution.{aliases_of, resolution, Resolves}
-use Rattle.conf_inherit.proofs.OneReading.{one_look}
+use Rattle.conf_inherit.proofs.LookedUp.{one_look}
 use Rattle.conf_check.specs.Configuration.{IsInnocent, IsNoTree, RefusedForMemory, ConfiguresByLookUp, GivesThat}
 use Rattle.conf_check.specs.ConfigurationRows.{IsConfigurationOf}
 use Rattle.conf_check.proofs.ConfigurationLaws.{one_configuration}

@@ -34,11 +34,8 @@ fn whole(alloc: Global, value: &Value, draft: &Draft) -> Result<(), ConfFault>
     let config = &draft.config;
     let largest = config.streams.len().saturating_sub(1);
     if !holds(largest, &config.header.stream_id) {
-        return Err(header_fault(
-            alloc,
-            "data-stream-type-id-field-type",
-            FaultKind::FieldTooSmall,
-        ));
+        let kind = FaultKind::FieldTooSmall;
+        return Err(header_fault(alloc, "data-stream-type-id-field-type", kind));
     }
     check_streams(alloc, StreamRule::NumbersFit, config)?;
     check_streams(alloc, StreamRule::RecordsHaveBits, config)?;

@@ -5,7 +5,7 @@ ghost use Rattle.ctf_types.specs.FieldTypes.{chain_of};
 ghost use Rattle.conf_tree.specs.Flaw.{flaw_of, IsMemory};
 ghost use Rattle.conf_tree.specs.Reading.{Gives};
 ghost use Rattle.conf_check.specs.Judgement.{in_type as in_type_is};
-ghost use Rattle.conf_check.specs.StreamRules.{feature_flaw, timestamp_flaw, is_clocked as is_clocked_is, holds as holds_is, numbers_fit as numbers_fit_is, member_has_bits as member_has_bits_is, struct_has_bits as struct_has_bits_is, header_has_bits as header_has_bits_is, records_have_bits as records_have_bits_is, has_clock as has_clock_is, clock_is_there as clock_is_there_is, field_of as field_of_is, clocks_are_there as clocks_are_there_is, is_sized as is_sized_is, timestamps_sized as timestamps_sized_is, judged as judged_is, streams_judged as streams_judged_is};
+ghost use Rattle.conf_check.specs.StreamRules.{feature_flaw, timestamp_flaw, is_clocked as is_clocked_is, holds as holds_is, numbers_fit as numbers_fit_is, member_has_bits as member_has_bits_is, struct_has_bits as struct_has_bits_is, records_have_bits as records_have_bits_is, has_clock as has_clock_is, clock_is_there as clock_is_there_is, field_of as field_of_is, clocks_are_there as clocks_are_there_is, is_sized as is_sized_is, timestamps_sized as timestamps_sized_is, judged as judged_is, streams_judged as streams_judged_is};
 
 use conf_tree::{At, ConfFault, FaultKind};
 use ctf_types::{
@@ -62,15 +62,10 @@ fn numbers_fit(alloc: Global, stream: &StreamType) -> Result<(), ConfFault>
 {
     let largest = stream.events.len().saturating_sub(1);
     if holds(largest, &stream.event_header.id) {
-        Ok(())
-    } else {
-        Err(feature_fault(
-            alloc,
-            "event-record",
-            "type-id-field-type",
-            FaultKind::FieldTooSmall,
-        ))
+        return Ok(());
     }
+    let kind = FaultKind::FieldTooSmall;
+    Err(feature_fault(alloc, "event-record", "type-id-field-type", kind))
 }
 
 /// Whether a field has bits: no array in it is empty.
@@ -105,20 +100,13 @@ fn struct_has_bits(structure: &StructType) -> bool
     false
 }
 
-#[tactic(auto, unfolding(crate::specs::StreamRules::header_has_bits))]
-fn header_has_bits(stream: &StreamType) -> bool
-    ensures { result ≡ header_has_bits_is stream.now }
-{
-    stream.event_header.id.is_some()
-        || stream.event_header.timestamp.is_some()
-        || struct_has_bits(&stream.common)
-}
-
-#[tactic(auto, unfolding(crate::specs::StreamRules::records_have_bits, crate::specs::StreamRules::event_has_bits))]
+#[tactic(auto, unfolding(crate::specs::StreamRules::records_have_bits, crate::specs::StreamRules::header_has_bits, crate::specs::StreamRules::event_has_bits))]
 fn records_have_bits(alloc: Global, stream: &StreamType) -> Result<(), ConfFault>
     ensures { Gives (λ _. tt) result (records_have_bits_is stream.now) }
 {
-    let header = header_has_bits(stream);
+    let header = stream.event_header.id.is_some()
+        || stream.event_header.timestamp.is_some()
+        || struct_has_bits(&stream.common);
     for event in stream.events.as_slice() {
         if !(header || struct_has_bits(&event.specific) || struct_has_bits(&event.payload)) {
             return Err(
@@ -178,13 +166,12 @@ fn field_of(stream: &StreamType, timestamp: Timestamp) -> &Option<IntType>
 fn timestamp_fault(alloc: Global, timestamp: Timestamp, kind: FaultKind) -> ConfFault
     ensures { IsMemory result ⊎ (flaw_of result ≡ timestamp_flaw timestamp kind) }
 {
-    match timestamp {
-        Timestamp::Record => feature_fault(alloc, "event-record", "timestamp-field-type", kind),
-        Timestamp::Beginning => {
-            feature_fault(alloc, "packet", "beginning-timestamp-field-type", kind)
-        }
-        Timestamp::End => feature_fault(alloc, "packet", "end-timestamp-field-type", kind),
-    }
+    let (group, name) = match timestamp {
+        Timestamp::Record => ("event-record", "timestamp-field-type"),
+        Timestamp::Beginning => ("packet", "beginning-timestamp-field-type"),
+        Timestamp::End => ("packet", "end-timestamp-field-type"),
+    };
+    feature_fault(alloc, group, name, kind)
 }
 
 /// Whether a timestamp, if it is on, has a clock.
