@@ -1,5 +1,5 @@
 -- The field type that an object is, by its class (barectf 3.1, "Field type objects").
-use Rattle.std.specs.Prelude.{ℕ, nat_le, true, false, List, Option, Some, None, codes, option_map, unwrap_or, if◌then◌else◌}
+use Rattle.std.specs.Prelude.{ℕ, nat_le, true, false, Option, Some, None, codes, option_map, unwrap_or, if◌then◌else◌}
 use Rattle.std.specs.Str.{bytes_eq}
 use Rattle.serde_json.specs.Data.{Data, null, boolean, number, string, array, object, Members, no_members, member}
 use Rattle.ctf_types.specs.declared.FieldType.{FieldType}
@@ -7,18 +7,10 @@ use Rattle.ctf_types.specs.declared.FieldType.TheVariants as fields
 use Rattle.ctf_types.specs.FieldTypes.{chain_of}
 use Rattle.conf_table.specs.declared.place.Place.{Place}
 use Rattle.conf_table.specs.declared.place.Place.TheVariants as places
-use Rattle.conf_table.specs.Classes.{class_words, class_in}
+use Rattle.conf_table.specs.Classes.{class_of}
 use Rattle.conf_draft.specs.Enumerations.{enumeration}
 use Rattle.conf_draft.specs.Integers.{integer}
-use Rattle.conf_draft.specs.Lookups.{natural, word}
-
-abbrev pub class_named : Option (List ℕ) → Option Place
-class_named None = None
-class_named (Some w) = class_in w class_words
-
--- the place whose properties a field type has
-unfoldable pub class_of : Members → Option Place
-class_of ms = class_named (word (codes "class") ms)
+use Rattle.conf_draft.specs.Lookups.{natural}
 
 abbrev pub static : ℕ → Option FieldType → Option FieldType
 static length None = None

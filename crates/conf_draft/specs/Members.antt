@@ -11,7 +11,8 @@ use Rattle.ctf_types.specs.Members.{names_in}
 use Rattle.conf_tree.specs.Reading.{optional}
 use Rattle.conf_table.specs.declared.place.Place.{Place}
 use Rattle.conf_table.specs.declared.place.Place.TheVariants as places
-use Rattle.conf_draft.specs.FieldTypes.{class_of, field_type, element}
+use Rattle.conf_table.specs.Classes.{class_of}
+use Rattle.conf_draft.specs.FieldTypes.{field_type, element}
 
 abbrev pub is_dynamic_array : Option Place → Bool
 is_dynamic_array (Some places.DynamicArray) = true

@@ -1,23 +1,15 @@
 //! Field types that may stand anywhere in a structure (barectf 3.1, "Field type objects").
 ghost use Rattle.std.specs.Prelude.{◌≡◌, ◌≤◌, Some, IsSome, IfOk};
 ghost use Rattle.serde_json.specs.View.{view, members_view};
-ghost use Rattle.conf_draft.specs.FieldTypes.{class_of as class_of_members, of_class as of_class_of, field_type as field_type_of_data, element as element_of};
+ghost use Rattle.conf_draft.specs.FieldTypes.{of_class as of_class_of, field_type as field_type_of_data, element as element_of};
 
 use crate::enumeration::enumeration;
 use crate::integer::integer;
-use crate::lookup::{natural, word};
-use conf_table::{Place, class_place};
+use crate::lookup::natural;
+use conf_table::{Place, class_of};
 use ctf_types::{Element, FieldType};
 use serde_json::{Map, Value};
 use std::alloc::{AllocError, Global};
-
-/// The place whose properties a field type has.
-#[tactic(auto, unfolding(crate::specs::FieldTypes::class_of))]
-pub(crate) fn class_of(members: &Map<String, Value>) -> Option<Place>
-    ensures { result ≡ class_of_members (members_view members.now.entries) }
-{
-    class_place(word(members, "class")?)
-}
 
 /// The field type that a value is: an integer, an enumeration, a string, or a static array of one of them.
 #[cycle(field_type)]

@@ -4,9 +4,9 @@ ghost use Rattle.serde_json.specs.View.{view, members_view};
 ghost use Rattle.conf_draft.specs.Members.{told_type as told_type_of, behind_named};
 ghost use Rattle.conf_draft.specs.Structures.{listed as listed_in};
 
-use crate::field_type::{class_of, element, of_class};
+use crate::field_type::{element, of_class};
 use crate::lookup::list;
-use conf_table::Place;
+use conf_table::{Place, class_of};
 use conf_tree::optional;
 use ctf_types::{Length, MemberType, Members, Text};
 use serde_json::{Map, Value};

@@ -13,10 +13,10 @@ use Rattle.conf_table.specs.declared.row.Content.TheVariants as contents
 use Rattle.conf_table.specs.declared.row.Entries.{Entries}
 use Rattle.conf_table.specs.declared.row.Keys.{Keys}
 use Rattle.conf_table.specs.declared.row.Keys.TheVariants.{Label}
+use Rattle.conf_table.specs.Classes.{class_of}
 use Rattle.conf_table.specs.Table.{entries_of, content_under}
 use Rattle.conf_values.specs.Scalar.{as_natural}
 use Rattle.conf_judge.specs.Flaws.{told_by, content_or_any}
-use Rattle.conf_judge.specs.Names.{class_of}
 use Rattle.conf_judge.specs.Numbers.{natural_in}
 use Rattle.conf_judge.specs.Places.{place_of_properties, item_content, is_place, place_at}
 use Rattle.conf_judge.specs.Shapes.{is_static_array}

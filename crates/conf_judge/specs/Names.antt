@@ -2,7 +2,7 @@
 -- dynamic array (barectf 3.1, "Structure field type member object"; CTF 1.8.3, section 5.2).
 use Rattle.std.specs.Prelude.{◌||◌, ℕ, Bool, true, false, List, [], ◌∷◌, Option, Some, None, is_some, Result, Ok, Err, codes, ⊤, if◌then◌else◌}
 use Rattle.serde_json.specs.Data.{Data, null, object, Members, no_members, member, put}
-use Rattle.serde_json.specs.Find.{get_member, as_str}
+use Rattle.serde_json.specs.Find.{get_member}
 use Rattle.ctf_types.specs.Packets.{own_names}
 use Rattle.ctf_types.specs.Shown.{length_name}
 use Rattle.conf_tree.specs.declared.fault_kind.FaultKind.TheVariants.{NameClash}
@@ -13,24 +13,12 @@ use Rattle.conf_table.specs.declared.place.Place.TheVariants as places
 use Rattle.conf_table.specs.declared.row.Entries.{Entries}
 use Rattle.conf_table.specs.declared.row.Keys.{Keys}
 use Rattle.conf_table.specs.declared.row.Keys.TheVariants.{Name, PlainName, Label, Index}
-use Rattle.conf_table.specs.Classes.{class_words, class_in}
+use Rattle.conf_table.specs.Classes.{class_of}
 use Rattle.conf_table.specs.Table.{entries_of}
 use Rattle.conf_values.specs.Name.{name_of, plain_name_of}
 use Rattle.conf_values.specs.Scalar.{is_printable}
 use Rattle.conf_judge.specs.Known.{Known}
 use Rattle.conf_judge.specs.Leaves.{only_if}
-
--- the place whose properties a field type has, where its class says one
-abbrev pub class_named : Option (List ℕ) → Option Place
-class_named None = None
-class_named (Some word) = class_in word class_words
-
-abbrev pub class_said : Option Data → Option Place
-class_said None = None
-class_said (Some d) = class_named (as_str d)
-
-unfoldable pub class_of : Members → Option Place
-class_of ms = class_said (get_member (codes "class") ms)
 
 abbrev pub is_dynamic_array : Option Place → Bool
 is_dynamic_array (Some places.DynamicArray) = true

@@ -6,7 +6,7 @@ use Rattle.conf_table.specs.declared.place.Place.{Place}
 use Rattle.conf_table.specs.declared.place.Place.TheVariants as places
 use Rattle.conf_table.specs.declared.row.Content.{Content}
 use Rattle.conf_table.specs.declared.row.Content.TheVariants as contents
-use Rattle.conf_judge.specs.Names.{class_of}
+use Rattle.conf_table.specs.Classes.{class_of}
 
 -- ---- the place whose properties an object has
 

@@ -9,9 +9,9 @@ use Rattle.conf_tree.specs.Flaw.{Flaw}
 use Rattle.conf_tree.specs.Reading.{optional}
 use Rattle.conf_table.specs.declared.place.Place.{Place}
 use Rattle.conf_table.specs.declared.place.Place.TheVariants as places
+use Rattle.conf_table.specs.Classes.{class_of}
 use Rattle.conf_values.specs.Scalar.{as_natural}
 use Rattle.conf_judge.specs.Leaves.{only_if}
-use Rattle.conf_judge.specs.Names.{class_of}
 use Rattle.conf_judge.specs.Numbers.{natural_in}
 
 abbrev pub is_number : Option ℕ → ℕ → Bool

@@ -8,8 +8,10 @@ ghost use Rattle.conf_judge.specs.Flaws.{told_by, content_or_any as content_or_a
 ghost use Rattle.conf_judge.specs.Limits.{within_limit, times as times_of, elements as elements_of, count_of as count_of_data, ranges_of as ranges_of_data, place_fits as place_fits_of, key_fits as key_fits_of, fits as fits_of, inner_limits, item_limits, member_limits, content_limits, configuration_limits};
 
 use crate::numbers::natural_in;
-use crate::places::{class_of, item_content, place_of_properties};
-use conf_table::{Content, Keys, MAX_RANGES, MAX_TEXT_BYTES, Place, content_at, entries_at};
+use crate::places::{item_content, place_of_properties};
+use conf_table::{
+    Content, Keys, MAX_RANGES, MAX_TEXT_BYTES, Place, class_of, content_at, entries_at,
+};
 use conf_tree::{ConfFault, FaultKind};
 use conf_values::as_natural;
 use ctf_types::{MAX_ARRAYS, MAX_ELEMENTS};

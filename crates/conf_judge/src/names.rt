@@ -8,8 +8,7 @@ ghost use Rattle.conf_judge.specs.Names.{is_dynamic as is_dynamic_of, names_besi
 
 use crate::around::Around;
 use crate::leaf::check_that;
-use crate::places::class_of;
-use conf_table::{Keys, Place, entries_at};
+use conf_table::{Keys, Place, class_of, entries_at};
 use conf_tree::{ConfFault, FaultKind, member};
 use conf_values::{check_name, check_plain_name, is_printable};
 use serde_json::{Map, Value};

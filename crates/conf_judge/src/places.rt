@@ -4,11 +4,10 @@ ghost use Rattle.std.specs.Prelude.{◌≡◌, IfOk};
 ghost use Rattle.serde_json.specs.View.{members_view};
 ghost use Rattle.conf_tree.specs.Reading.{Gives};
 ghost use Rattle.conf_judge.specs.Flaws.{other_class as other_class_of, class_rule};
-ghost use Rattle.conf_judge.specs.Names.{class_of as class_of_members};
 ghost use Rattle.conf_judge.specs.Places.{item_content as item_content_of, is_position as is_position_of, own_place as own_place_of, place_of_properties as place_of_properties_of};
 
-use conf_table::{Content, Place, class_place};
-use conf_tree::{At, ConfFault, FaultKind, member, needed, text};
+use conf_table::{Content, Place, class_of, class_place};
+use conf_tree::{At, ConfFault, FaultKind, needed, text};
 use serde_json::{Map, Value};
 use std::alloc::Global;
 
@@ -71,7 +70,7 @@ pub(crate) fn own_place(place: Place) -> Place
 }
 
 /// The place whose properties an object has. Refuses a field type without a class, or of one that cannot stand at this place.
-#[tactic(auto, unfolding(crate::specs::Flaws::class_rule, crate::specs::Names::class_of, crate::specs::Places::place_of_properties))]
+#[tactic(auto, unfolding(crate::specs::Flaws::class_rule, conf_table::specs::Classes::class_of, crate::specs::Places::place_of_properties))]
 pub(crate) fn classed_place(
     alloc: Global,
     place: Place,
@@ -101,12 +100,4 @@ fn other_class(place: Place) -> FaultKind
         Place::IdentifierFeature => FaultKind::OutOfRange,
         _ => FaultKind::WrongKind,
     }
-}
-
-/// The place whose properties a field type has, where its class says one.
-#[tactic(auto, unfolding(crate::specs::Names::class_of))]
-pub(crate) fn class_of(members: &Map<String, Value>) -> Option<Place>
-    ensures { result ≡ class_of_members (members_view members.now.entries) }
-{
-    class_place(member(members, "class")?.as_str()?)
 }

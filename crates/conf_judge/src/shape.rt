@@ -7,8 +7,7 @@ ghost use Rattle.conf_judge.specs.Shapes.{is_byte as is_byte_of, has_bits as has
 
 use crate::leaf::check_that;
 use crate::numbers::natural_in;
-use crate::places::class_of;
-use conf_table::Place;
+use conf_table::{Place, class_of};
 use conf_tree::{ConfFault, member, optional};
 use conf_values::as_natural;
 use serde_json::{Map, Value};

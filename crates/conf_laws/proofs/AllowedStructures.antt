@@ -7,14 +7,14 @@ use Rattle.conf_laws.proofs.AllowedMaps.{enumeration_allowed, has_mappings, inte
 use Rattle.conf_laws.proofs.Numbers.{needed_natural}
 use Rattle.conf_laws.proofs.Properties.{AreGood, IsGood, IsGoodAt, good_object, properties_at, there_at, needed_at, AreGoodItems, entry_in, item_first, item_rest, own_properties, property_at, fitting_parts, good_items, list_in, by_good_object, Property, leads, needed_by, ObjectPlace, is_own, entry_own, MapPlace, is_map}
 use Rattle.conf_laws.proofs.Readings.{element_is, element_bits, in_array, by_element, mapped_some, then_some, same_natural, by_found, some_there, was_so, proved_some}
-use Rattle.conf_laws.proofs.Sound.{class_same, class_place, optional_there, type_sound, Leads}
+use Rattle.conf_laws.proofs.Sound.{class_place, optional_there, type_sound, Leads}
 use Rattle.conf_laws.proofs.TableLimitLaws.{times_told}
-use Rattle.conf_laws.proofs.TableWords.{Place, At, entries_of}
+use Rattle.conf_laws.proofs.TableWords.{Place, At, entries_of, class_of}
 use Rattle.conf_laws.proofs.TableWords.places
 use Rattle.conf_laws.proofs.JudgeWords.{Known, inside, at_least_one, elements, natural_in, is_position, is_number, is_static_array, has_bits, itself_of, form_of, with_taken, fits, arrays_fit, is_outermost, is_taken, length_is_taken, take, with_names, names_beside, item_content, shape_of}
 use Rattle.conf_laws.proofs.TreeWords.{Data, object, Members, get_member, optional, both_read, plain_name_of, Items, no_items, item, no_members, member, array, items_len}
 use Rattle.conf_laws.proofs.StdWords.{nat_tests, and_parts, All-from_recursion, same_Some, cond_some, AllByRecursion, option_map_or, leb-true, All-push, All-nil, list_any, IsDistinct, bytes_eq}
-use Rattle.conf_laws.proofs.DraftWords.{enumeration, class_of, static, length_of, of_class, field_type, element, integer, natural, HasBits, IsNest, elements_of, IsConfigLeaf, chain_of, Int, Enum, Str, Static, FieldType, list, member_type, told_type, member_of, behind_named, behind_entry, members_behind, made, align_for, align_of, members_or_none, listed, structure_of, structure_or_none, structure, extra_members, IsConfigMember, AreConfigMembers, IsConfigStruct, names_in, IsPlainName, own_names, length_name, shown_members, Auto, Plain, Dyn, MemberType, StructType}
+use Rattle.conf_laws.proofs.DraftWords.{enumeration, static, length_of, of_class, field_type, element, integer, natural, HasBits, IsNest, elements_of, IsConfigLeaf, chain_of, Int, Enum, Str, Static, FieldType, list, member_type, told_type, member_of, behind_named, behind_entry, members_behind, made, align_for, align_of, members_or_none, listed, structure_of, structure_or_none, structure, extra_members, IsConfigMember, AreConfigMembers, IsConfigStruct, names_in, IsPlainName, own_names, length_name, shown_members, Auto, Plain, Dyn, MemberType, StructType}
 use Rattle.conf_draft.specs.Members as drafts
 use Rattle.conf_laws.proofs.Agreement.{array_told}
 use Rattle.conf_laws.proofs.Structures.{names_of, AreTaken, AreFree, AreNamed, takes_itself, all_still_taken, one_more_named, with_member, keeps_taken, entry_shape, name_judged, name_free, AreApart, shown_of, none_named, members_list, extras_list, structure_class}
@@ -38,9 +38,9 @@ IsAllowedAt d = (k : Known) (place : Place) (t : FieldType) → is_position plac
 
 module _ (ms : Members) (class : Place) (is : class_of ms ≡ Some class) (other : is_static_array (Some class) ≡ false) where
   counted_one : (levels n : ℕ) → elements levels (object ms) ≡ Some n → 1 ≡ n
-  counted_one levels n e = go levels (ap is_static_array (class_same ms ∙ is) ∙ other) e
+  counted_one levels n e = go levels (ap is_static_array is ∙ other) e
     where
-      go : (l : ℕ) → is_static_array (judged.class_of ms) ≡ false → elements l (object ms) ≡ Some n → 1 ≡ n
+      go : (l : ℕ) → is_static_array (class_of ms) ≡ false → elements l (object ms) ≡ Some n → 1 ≡ n
       go zero single f = same_Some 1 n (rw single at f)
       go (suc l) single f = same_Some 1 n (rw single at f)
 
@@ -73,7 +73,7 @@ static_says ms t e =
     let read = then_some field_type (get_member (codes "element-field-type") ms) x (sym (element_is ms) ∙ f) in
     record { value = read.0; inner = x; there = read.1; says = read.2; is = (cond_some (nat_le (length_of ms) 1048576) (Static (chain_of x) (length_of ms)) t e).1 }) e
 
-module _ (k : Known) (ms : Members) (static : is_static_array (judged.class_of ms) ≡ true) (n : ℕ) (is : natural (codes "length") ms ≡ Some n) where
+module _ (k : Known) (ms : Members) (static : is_static_array (class_of ms) ≡ true) (n : ℕ) (is : natural (codes "length") ms ≡ Some n) where
   array_allowed : (t : FieldType) (s : IsStatic ms t) → IsAllowed s.value s.inner → IsAllowed (object ms) t
   unfolding length_of elements_of
   array_allowed t s one = subst (λ x. IsAllowed (object ms) x) s.is (record { leaf = one.leaf; bits = bits; nests = nests })
@@ -118,7 +118,7 @@ of_class_allowed k place (Some places.StaticArray) ms t position h inner is e =
     let n = needed_natural k places.StaticArray (codes "length") 0 1048576 ms (leads Property.static_length) (needed_by Property.static_length) (record { there = there_at k place places.StaticArray ms own h; flaws = good.flaws }) (omega arith) in
     let s = static_says ms t e in
     let value = needed_at k places.StaticArray (codes "element-field-type") (At places.ElementType) ms s.value (leads Property.element) (needed_by Property.element) good s.there in
-    array_allowed k ms (ap is_static_array (class_same ms ∙ is)) n.0 n.1 t s (inner s.value s.there k places.ElementType s.inner refl value s.says)
+    array_allowed k ms (ap is_static_array is) n.0 n.1 t s (inner s.value s.there k places.ElementType s.inner refl value s.says)
 of_class_allowed k place _ ms t position h inner is e = absurd cc
 
 pub field_allowed : (d : Data) → IsAllowedAt d
@@ -228,8 +228,7 @@ unfolding judged.is_dynamic
 dynamic_is d m tells =
     ap (λ x. judged.is_dynamic_array (judged.class_of_member x)) tells.is
     ∙ ap (λ o. judged.is_dynamic_array (judged.class_of_type o)) (optional_there (codes "field-type") tells.told (object tells.type) tells.there).0
-    ∙ same_dynamic (judged.class_of tells.type)
-    ∙ ap (λ o. drafts.is_dynamic_array o) (class_same tells.type)
+    ∙ same_dynamic (class_of tells.type)
 
 abbrev names_by : Bool → List ℕ → List (List ℕ)
 names_by true name = length_name name ∷ name ∷ []

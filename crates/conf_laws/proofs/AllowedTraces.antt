@@ -8,7 +8,7 @@ use Rattle.conf_laws.proofs.Numbers.{number_told, natural_is_in}
 use Rattle.conf_laws.proofs.Properties.{AreGood, IsOwn, good_object, own_properties, property_at, by_good_object, names_of, entry_in, entry_object, IsGood, fitting_parts, entry_rest, IsGoodAt, properties_at, object_in, content_within, Property, leads, ObjectPlace, is_object, is_own, MapPlace, is_map, type_object}
 use Rattle.conf_laws.proofs.Readings.{mapped_some, same_natural, was_so, then_some, by_found}
 use Rattle.conf_laws.proofs.Sound.{optional_there, Leads, content_sound}
-use Rattle.conf_laws.proofs.TableWords.{Place, At, entries_of, Level}
+use Rattle.conf_laws.proofs.TableWords.{Place, At, entries_of, Level, class_of}
 use Rattle.conf_laws.proofs.TableWords.places
 use Rattle.conf_laws.proofs.JudgeWords.{Known, natural_in, shape_of, is_number, is_eight, is_byte, is_identifier, is_unsigned_integer, configuration_flaws, itself_of, behind, nothing, inside, members_or_none, leaf_of, level, level_or_none, whole_from, configuration_limits, key_of, key_by}
 use Rattle.conf_laws.proofs.TreeWords.{optional, as_natural, Data, boolean, object, Members, get_member, no_members, Ascends, string, member}
@@ -100,7 +100,7 @@ eight_aligned (Some d) size e is = ap (λ o. unwrap_or (option_and_then alignmen
 byte_good : (ms : Members) (t : IntType) → is_byte (Some (object ms)) ≡ true → integer false ms ≡ Some t → IsByte t
 unfolding align_of alignment natural
 byte_good ms t e is =
-    let p = and_parts (is_unsigned_integer (judged.class_of ms)) (is_number (natural_in (codes "size") ms) 8 && is_eight (optional (codes "alignment") ms)) e in
+    let p = and_parts (is_unsigned_integer (class_of ms)) (is_number (natural_in (codes "size") ms) 8 && is_eight (optional (codes "alignment") ms)) e in
     let q = and_parts (is_number (natural_in (codes "size") ms) 8) (is_eight (optional (codes "alignment") ms)) p.1 in
     let says = integer_says false ms t is in
     let size = size_is ms t 8 is q.0 in

@@ -11,8 +11,8 @@ unfoldable pub use Rattle.conf_draft.specs.Events.{event_type, event_types}
 pub use Rattle.conf_draft.specs.Events.{entry_behind, event_behind, event_with, events_behind, events_or_none, level_of}
 unfoldable pub use Rattle.conf_draft.specs.Features.{context, context_of, event_header, event_header_of, feature, header, header_of, identifier, mapped, size, timestamp}
 pub use Rattle.conf_draft.specs.Features.{byte_of, byte_type, context_with, event_header_with, feature_of, header_with, identifier_of, if_on, magic_type, number_type, or_empty, or_number, own}
-unfoldable pub use Rattle.conf_draft.specs.FieldTypes.{class_of, length_of, of_class}
-pub use Rattle.conf_draft.specs.FieldTypes.{class_named, element, field_type, static}
+unfoldable pub use Rattle.conf_draft.specs.FieldTypes.{length_of, of_class}
+pub use Rattle.conf_draft.specs.FieldTypes.{element, field_type, static}
 unfoldable pub use Rattle.conf_draft.specs.Integers.{base_of, integer, size_of}
 pub use Rattle.conf_draft.specs.Integers.{default_align}
 unfoldable pub use Rattle.conf_draft.specs.Lookups.{list, natural, object, word}

@@ -10,11 +10,11 @@ use Rattle.conf_laws.proofs.ValueFlawLaws.{number_there}
 use Rattle.conf_laws.specs.Around.{HasNumber, Around, Parts, HasBehind, member_of, item_of}
 use Rattle.conf_laws.specs.TableFlaws.{IsNoClassAt, IsByte, IsIdentifier, HasNoBits, IsNoShapeAt, HasNotItsRows, IsFlawOf}
 use Rattle.conf_laws.specs.ValueFlaws.{words_of_classes, IsNoKey, IsNoNameAt}
-use Rattle.conf_laws.proofs.TableWords.{class_words, admits_class, Told, rows_of, entries_of, is_by_index, under_entries, told_under, content_under, presence_under, Place, At, Content, Entries, Keys}
+use Rattle.conf_laws.proofs.TableWords.{class_words, admits_class, Told, rows_of, entries_of, is_by_index, under_entries, told_under, content_under, presence_under, Place, At, Content, Entries, Keys, class_of}
 use Rattle.conf_laws.proofs.TableWords.places
 use Rattle.conf_laws.proofs.TableWords.keys
 use Rattle.conf_laws.proofs.TableWords.presences
-use Rattle.conf_laws.proofs.JudgeWords.{class_rule, row_there, rows_there, orders_there, all_there, told_by, may_inherit, resolved_content, is_left_out, content_or_any, property_flaws, inner_flaws, item_flaws, member_flaws, content_flaws, configuration_flaws, itself_of, Known, nothing, inside, behind, with_taken, class_of, names_beside, with_names, natural_in, is_position, place_of_properties, item_content, is_number, is_unsigned_integer, is_static_array, is_eight, is_byte, is_identifier, has_bits, element_has_bits, shape_of}
+use Rattle.conf_laws.proofs.JudgeWords.{class_rule, row_there, rows_there, orders_there, all_there, told_by, may_inherit, resolved_content, is_left_out, content_or_any, property_flaws, inner_flaws, item_flaws, member_flaws, content_flaws, configuration_flaws, itself_of, Known, nothing, inside, behind, with_taken, names_beside, with_names, natural_in, is_position, place_of_properties, item_content, is_number, is_unsigned_integer, is_static_array, is_eight, is_byte, is_identifier, has_bits, element_has_bits, shape_of}
 use Rattle.conf_laws.proofs.TreeWords.{Flaw, key, here, within, needed, optional, HasMember, refusal, Missing, both_read, IsNoWordOf, as_natural, Data, object, Members, array, Items, no_items, item, no_members, member, items_len, get_member, as_str}
 use Rattle.conf_laws.proofs.StdWords.{and-false, true≢false, false≢true, and_parts, option_map_or}
 

@@ -9,8 +9,8 @@ unfoldable pub use Rattle.conf_judge.specs.Leaves.{any_flag, any_text, class_wor
 pub use Rattle.conf_judge.specs.Leaves.{is_power_of_two, level_or_none, only_if}
 unfoldable pub use Rattle.conf_judge.specs.Limits.{arrays_fit, fits, is_outermost, key_fits, place_fits, power_fits, ranges_fit}
 pub use Rattle.conf_judge.specs.Limits.{at_least_one, at_most, bytes_fit, configuration_limits, content_limits, count_of, divides, elements, elements_in_array, inner_limits, is_label, item_limits, member_limits, ranges_of, times, within_limit}
-unfoldable pub use Rattle.conf_judge.specs.Names.{class_of, free_of, is_dynamic, key_by, key_of, names_beside, plain_of}
-pub use Rattle.conf_judge.specs.Names.{class_named, class_of_member, class_of_type, class_said, is_dynamic_array, is_entry, is_taken, key_in, length_is_taken, take, take_all, take_each, take_length, with_names}
+unfoldable pub use Rattle.conf_judge.specs.Names.{free_of, is_dynamic, key_by, key_of, names_beside, plain_of}
+pub use Rattle.conf_judge.specs.Names.{class_of_member, class_of_type, is_dynamic_array, is_entry, is_taken, key_in, length_is_taken, take, take_all, take_each, take_length, with_names}
 unfoldable pub use Rattle.conf_judge.specs.Numbers.{inside_of, is_inside, natural_in, numbers_in, numbers_of, pair_of, range_of}
 pub use Rattle.conf_judge.specs.Numbers.{all_numbers, end_of, natural_or_none, numbers_or_all, single_of}
 unfoldable pub use Rattle.conf_judge.specs.Places.{is_position, item_content, own_place, place_of_properties}

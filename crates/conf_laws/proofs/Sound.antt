@@ -3,12 +3,12 @@
 use Rattle.std.proofs.Common.{arith, ◌≡◌, ◌++◌, ℕ, Bool, true, false, cond, List, [], ◌∷◌, map, Option, Some, None, Result, Ok, Err, refl, sym, subst, ◌∙◌, suc, option_map, ap}
 use Rattle.std.specs.Prelude.{⊤, ◌&&◌, codes, unwrap_or}
 use Rattle.conf_laws.proofs.Readings.{at_found, optional_found, by_found}
-use Rattle.conf_laws.proofs.TableWords.{class_words, class_in, admits_class, presence_under, Told, rows_of, row_in, content_under, Place, At, Content, Needed, Presence}
+use Rattle.conf_laws.proofs.TableWords.{class_words, class_in, admits_class, presence_under, Told, rows_of, row_in, content_under, Place, At, Content, Needed, Presence, class_named, class_of, class_said}
 use Rattle.conf_laws.proofs.TableWords.places
-use Rattle.conf_laws.proofs.JudgeWords.{told_by, class_rule, all_there, resolved_content, is_left_out, left_out, is_needed, is_null, property_flaws, content_or_any, inner_flaws, member_flaws, content_flaws, item_flaws, rows_there, row_there, orders_there, may_inherit, admitted, other_class, itself_of, any_object, Known, inside, behind, with_taken, key_of, with_names, class_of as judged_class, class_said, class_named, place_of_properties, item_content, is_position, own_place, shape_of, is_unsigned_integer}
+use Rattle.conf_laws.proofs.JudgeWords.{told_by, class_rule, all_there, resolved_content, is_left_out, left_out, is_needed, is_null, property_flaws, content_or_any, inner_flaws, member_flaws, content_flaws, item_flaws, rows_there, row_there, orders_there, may_inherit, admitted, other_class, itself_of, any_object, Known, inside, behind, with_taken, key_of, with_names, place_of_properties, item_content, is_position, own_place, shape_of, is_unsigned_integer}
 use Rattle.conf_laws.proofs.TreeWords.{Flaw, key, within, index, here, optional, given, ◌>>=◌, at, needed, text_of, wanted_found, found_there, both_read, read_there, is_passed, Data, null, object, Members, member, Items, item, get_member, as_str}
 use Rattle.conf_laws.proofs.StdWords.{nat_tests, and-false, bytes_eq-Decides, bytes_eq}
-use Rattle.conf_laws.proofs.DraftWords.{class_of as drafted_class, class_named as drafted_named, word, word_of, object as object_in, object_of}
+use Rattle.conf_laws.proofs.DraftWords.{word, word_of, object as object_in, object_of}
 
 -- ---- lists of flaws that are empty
 
@@ -218,15 +218,6 @@ pub first_entry : (k : Known) (place : Place) (name : List ℕ) (content : Conte
 first_entry k place name content d ms is e =
     let both = first_flaws k place name d ms e in record { sound = property_here k place name content d (map_content place name content is) (is.stays name d) both.0; flaws = both.1 }
 
--- the class that is judged by is the one that is drafted
-pub class_same : (ms : Members) → judged_class ms ≡ drafted_class ms
-unfolding judged_class drafted_class word
-class_same ms = go (get_member (codes "class") ms)
-  where
-    go : (o : Option Data) → class_said o ≡ drafted_named (word_of (given o))
-    go (Some (object os)) = refl
-    go _ = refl
-
 -- ---- a class that is admitted
 
 -- the class that a field type has where it stands
@@ -260,8 +251,8 @@ has_class place ms position e =
       may_stand = c.2;
     }
 
-pub class_there : (place : Place) (ms : Members) (c : HasClass place ms) → judged_class ms ≡ Some c.class
-unfolding judged_class
+pub class_there : (place : Place) (ms : Members) (c : HasClass place ms) → class_of ms ≡ Some c.class
+unfolding class_of
 class_there place ms c = ap class_said c.there ∙ ap class_named c.text ∙ c.found
 
 pub unsigned_told : (o : Option Place) → is_unsigned_integer o ≡ true → o ≡ Some places.UnsignedInteger
@@ -272,21 +263,21 @@ unsigned_told _ e = absurd cc
 
 pub record TypeSound (k : Known) (place : Place) (ms : Members) : Type 0 where
   pub class : Place
-  pub is : drafted_class ms ≡ Some class
+  pub is : class_of ms ≡ Some class
   pub may_stand : admits_class place class ≡ true
   pub rows : RowsSound (inside class ms k) class ms
   pub shape : shape_of place ms ≡ Ok tt
 
 -- the rows of a field type are those of its class
-pub class_place : (place : Place) (ms : Members) (class : Place) → is_position place ≡ true → drafted_class ms ≡ Some class → place_of_properties place ms ≡ class
+pub class_place : (place : Place) (ms : Members) (class : Place) → is_position place ≡ true → class_of ms ≡ Some class → place_of_properties place ms ≡ class
 unfolding place_of_properties
 class_place place ms class position is =
-    ap (λ b. cond b (unwrap_or (judged_class ms) places.Ignored) (own_place place)) position ∙ ap (λ o. unwrap_or o places.Ignored) (class_same ms ∙ is)
+    ap (λ b. cond b (unwrap_or (class_of ms) places.Ignored) (own_place place)) position ∙ ap (λ o. unwrap_or o places.Ignored) is
 
 pub type_sound : (k : Known) (place : Place) (ms : Members) → is_position place ≡ true → ObjectSound k place ms → TypeSound k place ms
 type_sound k place ms position h =
     let c = has_class place ms position h.class_fits in
-    let is = sym (class_same ms) ∙ class_there place ms c in
+    let is = class_there place ms c in
     record { class = c.class; is = is; may_stand = c.may_stand; rows = rows_sound k place c.class ms (class_place place ms c.class position is) h; shape = h.shape }
 
 -- a place of objects with rows of its own

@@ -4,11 +4,11 @@ use Rattle.std.proofs.Common.{◌≡◌, ℕ, Bool, true, false, List, Option, S
 use Rattle.conf_table.specs.Classes as classes
 use Rattle.conf_laws.proofs.Structures.{integer_said, structure_there, extras_there}
 use Rattle.conf_laws.proofs.Readings.{some_there, was_so, optional_found, mapped_there, by_found, then_there}
-use Rattle.conf_laws.proofs.Sound.{class_same, TypeSound, type_sound, unsigned_told, Leads, RowsSound, needed_sound, given_sound, ObjectSound, ContentSound, object_sound, by_object, held_at, first_entry, needed_object, content_sound}
+use Rattle.conf_laws.proofs.Sound.{TypeSound, type_sound, unsigned_told, Leads, RowsSound, needed_sound, given_sound, ObjectSound, ContentSound, object_sound, by_object, held_at, first_entry, needed_object, content_sound}
 use Rattle.conf_laws.proofs.Properties.{Property, leads, needed_by, ObjectPlace, is_object, MapPlace, is_map, type_object}
-use Rattle.conf_laws.proofs.TableWords.{admits_class, rows_of, Place, At}
+use Rattle.conf_laws.proofs.TableWords.{admits_class, rows_of, Place, At, class_of}
 use Rattle.conf_laws.proofs.TableWords.places
-use Rattle.conf_laws.proofs.JudgeWords.{is_null, all_there, orders_there, Known, inside, class_of as judged_class, natural_in, is_position, shape_of, is_identifier, is_byte, is_unsigned_integer, is_number, is_eight, member_flaws, configuration_flaws, behind, nothing}
+use Rattle.conf_laws.proofs.JudgeWords.{is_null, all_there, orders_there, Known, inside, natural_in, is_position, shape_of, is_identifier, is_byte, is_unsigned_integer, is_number, is_eight, member_flaws, configuration_flaws, behind, nothing}
 use Rattle.conf_laws.proofs.TreeWords.{optional, Data, null, boolean, object, Members, no_members, get_member, member}
 use Rattle.conf_laws.proofs.StdWords.{false≢true, and_parts, same_Some}
 use Rattle.conf_laws.proofs.DraftWords.{number_type, byte_type, if_on, own, feature_of, feature, byte_of, identifier_of, identifier, or_number, size, mapped, timestamp, magic_type, or_empty, header_of, header, context_of, context, event_header_of, event_header, integer, IntType, environment, event_type, event_behind, entry_behind, events_behind, events_or_none, event_types, object as object_in, word, clock_of, features_of, stream_type, stream_behind, streams_behind, streams_or_none, stream_types, draft_of_type, draft_of_trace, draft_of_root, draft_of, EnvironmentEntry}
@@ -81,8 +81,8 @@ byte_said : (k : Known) (x : Data) → ContentSound k (At places.ElementType) x 
 unfolding is_position
 byte_said k (object ms) h e =
     let t = type_sound k places.ElementType ms refl (object_sound k places.ElementType ms h.inner) in
-    let unsigned = (and_parts (is_unsigned_integer (judged_class ms)) (is_number (natural_in (codes "size") ms) 8 && is_eight (optional (codes "alignment") ms)) e).0 in
-    own_there (integer false ms) (unsigned_said k places.ElementType ms t (same_Some t.class places.UnsignedInteger (sym (class_same ms ∙ t.is) ∙ unsigned_told (judged_class ms) unsigned)))
+    let unsigned = (and_parts (is_unsigned_integer (class_of ms)) (is_number (natural_in (codes "size") ms) 8 && is_eight (optional (codes "alignment") ms)) e).0 in
+    own_there (integer false ms) (unsigned_said k places.ElementType ms t (same_Some t.class places.UnsignedInteger (sym t.is ∙ unsigned_told (class_of ms) unsigned)))
 byte_said k _ h e = absurd (false≢true e)
 
 array_class : (class : Place) → admits_class places.IdentifierFeature class ≡ true → class ≡ places.StaticArray

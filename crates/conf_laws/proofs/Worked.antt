@@ -10,9 +10,9 @@ use Rattle.conf_laws.specs.Rules.{KeepsStreamRules, KeepsRules}
 use Rattle.conf_laws.specs.TableFlaws.{IsNoClassAt, HasNotItsRows, IsFlawOf}
 use Rattle.conf_laws.specs.TableLimits.{PassesLimitOf}
 use Rattle.conf_laws.specs.ValueFlaws.{IsNoDefault, IsNoMemberName}
-use Rattle.conf_laws.proofs.TableWords.{class_words, admits_class, is_class, rows_of, entries_of, content_under, presence_under, words_of, At, OneFlag, Content}
+use Rattle.conf_laws.proofs.TableWords.{class_words, admits_class, is_class, rows_of, entries_of, content_under, presence_under, words_of, At, OneFlag, Content, class_of}
 use Rattle.conf_laws.proofs.TableWords.places
-use Rattle.conf_laws.proofs.JudgeWords.{class_rule, orders_there, all_there, resolved_content, is_left_out, configuration_flaws, other_class, any_object, form_of, itself_of, any_list, entry, inside, behind, leaf_of, word_among, whole_from, any_text, class_word, fits, place_fits, arrays_fit, is_outermost, ranges_fit, key_fits, configuration_limits, power_fits, class_of, key_of, key_by, plain_of, free_of, names_beside, is_dynamic, natural_in, is_position, own_place, place_of_properties, item_content, shape_of}
+use Rattle.conf_laws.proofs.JudgeWords.{class_rule, orders_there, all_there, resolved_content, is_left_out, configuration_flaws, other_class, any_object, form_of, itself_of, any_list, entry, inside, behind, leaf_of, word_among, whole_from, any_text, class_word, fits, place_fits, arrays_fit, is_outermost, ranges_fit, key_fits, configuration_limits, power_fits, key_of, key_by, plain_of, free_of, names_beside, is_dynamic, natural_in, is_position, own_place, place_of_properties, item_content, shape_of}
 use Rattle.conf_laws.proofs.TreeWords.{Flaw, Place, key, index, here, Ascends, whole_of, WrongKind, Missing, Unknown, OutOfRange, NameClash, Limit, FaultKind, IsNoObject, name_of, is_reserved, plain_name_of, as_natural, Data, null, boolean, number, unsigned, string, array, object, no_items, item, Members, no_members, member}
 use Rattle.conf_laws.proofs.StdWords.{All-nil, same_Some}
 use Rattle.conf_laws.proofs.DraftWords.{alignment, clock_types, environment, event_type, event_types, feature, identifier, size, mapped, timestamp, header_of, header, context_of, context, event_header_of, event_header, base_of, size_of, integer, natural, word, list, object as object_at, member_type, behind as behind_member, stream_type, stream_types, asks_number, draft_of_type, draft_of_trace, draft_of_root, draft_of, Draft, IsConfig, is_identifier}
@@ -132,7 +132,7 @@ larger_no_limit = refl
 
 larger_says : IsSome (draft_of None larger)
 unfolding draft_of_root draft_of_trace draft_of_type object_at word list natural as_natural header header_of feature identifier stream_types stream_type context context_of size timestamp mapped event_header event_header_of event_types event_type
-    structures.structure structures.structure_of structures.listed structures.extra_members structures.made structures.align_of behind_member member_type drafts.class_of drafts.of_class class_words integer made size_of align_of alignment base_of environment clock_types asks_number
+    structures.structure structures.structure_of structures.listed structures.extra_members structures.made structures.align_of behind_member member_type class_of drafts.of_class class_words integer made size_of align_of alignment base_of environment clock_types asks_number
 larger_says = refl
 
 -- ---- an alignment that no field can have

@@ -9,9 +9,9 @@ use Rattle.conf_tree.specs.Reading.{optional}
 use Rattle.conf_tree.specs.Walk.{HasMember}
 use Rattle.conf_table.specs.declared.place.Place.{Place}
 use Rattle.conf_table.specs.declared.place.Place.TheVariants as places
+use Rattle.conf_table.specs.Classes.{class_of}
 use Rattle.conf_values.specs.Scalar.{as_natural}
 use Rattle.conf_judge.specs.Known.{members_or_none}
-use Rattle.conf_judge.specs.Names.{class_of}
 
 -- ---- what stands before a member
 

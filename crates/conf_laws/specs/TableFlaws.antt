@@ -13,11 +13,10 @@ use Rattle.conf_table.specs.declared.row.Content.{Content}
 use Rattle.conf_table.specs.declared.row.Content.TheVariants.{At}
 use Rattle.conf_table.specs.declared.row.Presence.{Presence}
 use Rattle.conf_table.specs.declared.row.Presence.TheVariants.{Needed}
-use Rattle.conf_table.specs.Classes.{admits_class}
+use Rattle.conf_table.specs.Classes.{admits_class, class_of}
 use Rattle.conf_table.specs.Table.{Told, rows_of, content_under, presence_under}
 use Rattle.conf_values.specs.Broken.{SaysNot}
 use Rattle.conf_values.specs.LeafFlaws.{IsNoWordOf}
-use Rattle.conf_judge.specs.Names.{class_of}
 use Rattle.conf_judge.specs.Places.{is_position, place_of_properties, item_content}
 use Rattle.conf_laws.specs.Around.{Around, HasBehind, member_of, item_of, HasNumber}
 use Rattle.conf_laws.specs.ValueFlaws.{words_of_classes, IsNoValueOf, IsNoNameAt}

@@ -1,8 +1,10 @@
 -- The classes of field types: the place that a class's word leads to, and which classes may stand at a position. A structure
 -- is a payload or a context alone, a dynamic array is a member, and a feature is an unsigned integer or the identifier's array.
-use Rattle.std.specs.Prelude.{ℕ, List, [], ◌∷◌, map, Option, Some, None, Bool, true, false, if◌then◌else◌}
+use Rattle.std.specs.Prelude.{ℕ, List, [], ◌∷◌, map, Option, Some, None, Bool, true, false, codes, if◌then◌else◌}
 use Rattle.std.specs.Str.{bytes_eq}
 use Rattle.std.specs.Borrow.{Bor}
+use Rattle.serde_json.specs.Data.{Data, Members}
+use Rattle.serde_json.specs.Find.{get_member, as_str}
 use Rattle.conf_table.specs.declared.place.Place.{Place}
 use Rattle.conf_table.specs.declared.place.Place.TheVariants as places
 use Rattle.conf_table.specs.declared.field_types.TheConstants as fields
@@ -21,6 +23,18 @@ class_words = map (λ c. record { word = c.0.now; place = c.1 }) fields.CLASSES
 abbrev pub class_in : List ℕ → List ClassWord → Option Place
 class_in w [] = None
 class_in w (c ∷ cs) = if bytes_eq c.word w then Some c.place else class_in w cs
+
+abbrev pub class_named : Option (List ℕ) → Option Place
+class_named None = None
+class_named (Some word) = class_in word class_words
+
+abbrev pub class_said : Option Data → Option Place
+class_said None = None
+class_said (Some d) = class_named (as_str d)
+
+-- the place whose properties a field type has, where its class says one
+unfoldable pub class_of : Members → Option Place
+class_of ms = class_said (get_member (codes "class") ms)
 
 -- the place is a field type of one class
 unfoldable pub is_class : Place → Bool

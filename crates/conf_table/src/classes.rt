@@ -1,9 +1,12 @@
 //! The classes of field types, and where each may stand.
 ghost use Rattle.std.specs.Prelude.{◌≡◌, map};
-ghost use Rattle.conf_table.specs.Classes.{class_words as words_of_classes, class_in, class_word_of, is_class as is_class_of, admits_class};
+ghost use Rattle.serde_json.specs.View.{members_view};
+ghost use Rattle.conf_table.specs.Classes.{class_of as class_of_members, class_words as words_of_classes, class_in, class_word_of, is_class as is_class_of, admits_class};
 
 use crate::Place;
 use crate::field_types::CLASSES;
+use conf_tree::member;
+use serde_json::{Map, Value};
 
 /// The words of classes, each with the place that is a field type of the class; those of one class beside one another.
 #[tactic(auto, unfolding(crate::specs::Classes::class_words))]
@@ -23,6 +26,14 @@ pub fn class_place(word: &str) -> Option<Place>
         }
     }
     None
+}
+
+/// The place whose properties a field type has, where its class says one.
+#[tactic(auto, unfolding(crate::specs::Classes::class_of))]
+pub fn class_of(members: &Map<String, Value>) -> Option<Place>
+    ensures { result ≡ class_of_members (members_view members.now.entries) }
+{
+    class_place(member(members, "class")?.as_str()?)
 }
 
 impl Place {

@@ -12,7 +12,7 @@ mod row;
 mod table;
 mod words;
 
-pub use classes::{class_place, class_words};
+pub use classes::{class_of, class_place, class_words};
 pub use laws::{known_by_rows, one_row_a_name};
 pub use limits::{MAX_RANGES, MAX_TEXT_BYTES};
 pub use place::Place;

@@ -4,7 +4,7 @@ ghost use Rattle.conf_tree.specs.Reading.{Gives};
 ghost use Rattle.conf_values.specs.Name.{name_of, plain_name_of, is_reserved as is_reserved_of};
 
 use conf_tree::{ConfFault, FaultKind};
-use ctf_types::is_identifier;
+use ctf_types::{is_identifier, is_unused_keyword};
 use std::alloc::Global;
 
 /// Refuses a name that is no identifier of 255 bytes at most.
@@ -24,37 +24,21 @@ pub fn check_name(alloc: Global, name: &str) -> Result<(), ConfFault>
 fn is_reserved(word: &str) -> bool
     ensures { result ≡ is_reserved_of word.now }
 {
-    matches!(
-        word,
-        "callsite"
-            | "char"
-            | "const"
-            | "double"
-            | "float"
-            | "floating_point"
-            | "int"
-            | "long"
-            | "short"
-            | "typealias"
-            | "typedef"
-            | "unsigned"
-            | "variant"
-            | "void"
-            | "_Bool"
-            | "_Complex"
-            | "_Imaginary"
-            | "align"
-            | "clock"
-            | "enum"
-            | "env"
-            | "event"
-            | "integer"
-            | "signed"
-            | "stream"
-            | "string"
-            | "struct"
-            | "trace"
-    )
+    is_unused_keyword(word)
+        || matches!(
+            word,
+            "align"
+                | "clock"
+                | "enum"
+                | "env"
+                | "event"
+                | "integer"
+                | "signed"
+                | "stream"
+                | "string"
+                | "struct"
+                | "trace"
+        )
 }
 
 /// Refuses a name that is no identifier of 255 bytes at most, or that is a reserved word.

@@ -1,8 +1,9 @@
-//! Identifiers of the metadata language.
+//! Identifiers and keywords of the metadata language.
 
 ghost use Rattle.std.specs.Prelude.{◌≡◌, ◌||◌};
-ghost use Rattle.std.specs.List.{list_all};
-ghost use Rattle.ctf_types.specs.Names.{is_identifier as is_identifier_of, is_letter as is_letter_of, is_digit as is_digit_of};
+ghost use Rattle.std.specs.List.{list_all, list_any};
+ghost use Rattle.std.specs.Str.{bytes_eq};
+ghost use Rattle.ctf_types.specs.Names.{is_identifier as is_identifier_of, is_letter as is_letter_of, is_digit as is_digit_of, unused_keywords};
 
 /// Whether a text is an identifier: a letter of ASCII or an underscore, and then letters, digits and underscores (CTF 1.8.3, appendix C.1.3).
 #[tactic(auto, unfolding(crate::specs::Names::is_identifier))]
@@ -36,4 +37,30 @@ fn are_letters_or_digits(bytes: &[u8]) -> bool
         }
     }
     true
+}
+
+/// Whether a word is a keyword of TSDL for which nothing here has a use (CTF 1.8.3, appendix C.1.2): metadata that has one anywhere is refused.
+pub fn is_unused_keyword(word: &str) -> bool
+    ensures { result ≡ list_any (bytes_eq word.now) unused_keywords }
+{
+    matches!(
+        word,
+        "callsite"
+            | "char"
+            | "const"
+            | "double"
+            | "float"
+            | "floating_point"
+            | "int"
+            | "long"
+            | "short"
+            | "typealias"
+            | "typedef"
+            | "unsigned"
+            | "variant"
+            | "void"
+            | "_Bool"
+            | "_Complex"
+            | "_Imaginary"
+    )
 }

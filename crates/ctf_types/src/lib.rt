@@ -17,7 +17,7 @@ pub use data_types::{
     StreamType, StructType, Value, Values,
 };
 pub use fitting::{call_faults, fits, is_below};
-pub use identifier::is_identifier;
+pub use identifier::{is_identifier, is_unused_keyword};
 pub use laws::{
     allowed_metadata, clean_lies, front_of_packets, joined_packets, lying_fits, one_end,
     one_packet_list, one_value, own_bits_alone, shown_lies,

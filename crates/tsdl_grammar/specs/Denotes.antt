@@ -1,7 +1,7 @@
 -- The metadata that a text denotes: the text begins with its magic line, its tokens spell blocks, and the blocks mean the metadata.
 -- Blocks stand in any order, and look-ups of clocks, of numbers and of the byte order go over the whole text. Where a rule has no
 -- case, the text denotes nothing.
-use Rattle.std.specs.Prelude.{◌≡◌, ℕ, Bool, true, not, ◌==◌, if◌then◌else◌, List, [], ◌∷◌, map, Option, Some, codes}
+use Rattle.std.specs.Prelude.{◌≡◌, ℕ, Bool, true, not, ◌==◌, if◌then◌else◌, List, [], ◌∷◌, map, Option, Some}
 use Rattle.std.specs.List.{list_all, list_any, flat_map}
 use Rattle.std.specs.Str.{bytes_eq}
 use Rattle.ctf_types.specs.declared.ByteOrder.{ByteOrder}
@@ -9,6 +9,7 @@ use Rattle.ctf_types.specs.declared.ClockType.{ClockType}
 use Rattle.ctf_types.specs.declared.Metadata.{Metadata}
 use Rattle.ctf_types.specs.declared.Stream.{Stream}
 use Rattle.ctf_types.specs.declared.Event.{Event}
+use Rattle.ctf_types.specs.Names.{unused_keywords}
 use Rattle.tsdl_grammar.specs.declared.atom.Atom.{Atom}
 use Rattle.tsdl_grammar.specs.declared.atom.Atom.TheVariants as atoms
 use Rattle.tsdl_grammar.specs.declared.tree.Item.{Item}
@@ -23,16 +24,9 @@ use Rattle.tsdl_grammar.specs.Lookups.{no_two}
 use Rattle.tsdl_grammar.specs.IntegerMeaning.{Known}
 use Rattle.tsdl_grammar.specs.BlockMeaning.{trace_order, is_trace, trace_uuid, header_meaning, clock_meaning, stream_meaning, event_meaning, environment_meaning}
 
--- the keywords of TSDL that this grammar lacks
-abbrev pub unread_words : List (List ℕ)
-unread_words =
-    codes "callsite" ∷ codes "char" ∷ codes "const" ∷ codes "double" ∷ codes "float" ∷ codes "floating_point" ∷ codes "int"
-    ∷ codes "long" ∷ codes "short" ∷ codes "typealias" ∷ codes "typedef" ∷ codes "unsigned" ∷ codes "variant" ∷ codes "void"
-    ∷ codes "_Bool" ∷ codes "_Complex" ∷ codes "_Imaginary" ∷ []
-
--- no keyword that the grammar lacks, wherever a word stands
+-- no keyword for which nothing here has a use, wherever a word stands
 abbrev pub is_read : Atom → Bool
-is_read (atoms.Word w) = not (list_any (bytes_eq w) unread_words)
+is_read (atoms.Word w) = not (list_any (bytes_eq w) unused_keywords)
 is_read (atoms.Number n) = true
 is_read (atoms.Text s) = true
 is_read (atoms.Mark m) = true

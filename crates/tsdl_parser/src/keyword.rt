@@ -1,45 +1,19 @@
 //! The keywords of TSDL that this project doesn't read.
 
 ghost use Rattle.std.specs.Prelude.{◌≡◌, ◌<◌, ◌↔◌, not, true, length, take, slice_get, IsNone, IfSome};
-ghost use Rattle.std.specs.List.{list_any, list_all};
-ghost use Rattle.std.specs.Str.{bytes_eq};
-ghost use Rattle.tsdl_grammar.specs.Denotes.{unread_words, is_read};
+ghost use Rattle.std.specs.List.{list_all};
+ghost use Rattle.tsdl_grammar.specs.Denotes.{is_read};
 ghost use Rattle.tsdl_grammar.specs.Fronts.{atoms_in, meant};
 ghost use Rattle.tsdl_parser.specs.Keywords.{IsUnreadAt};
 
+use ctf_types::is_unused_keyword;
 use tsdl_grammar::{Front, first_token};
-
-/// Whether a word is a keyword of TSDL that this project doesn't read.
-pub fn is_unread(word: &str) -> bool
-    ensures { result ≡ list_any (bytes_eq word.now) unread_words }
-{
-    matches!(
-        word,
-        "callsite"
-            | "char"
-            | "const"
-            | "double"
-            | "float"
-            | "floating_point"
-            | "int"
-            | "long"
-            | "short"
-            | "typealias"
-            | "typedef"
-            | "unsigned"
-            | "variant"
-            | "void"
-            | "_Bool"
-            | "_Complex"
-            | "_Imaginary"
-    )
-}
 
 /// Whether a token is no keyword that this project doesn't read.
 fn is_read(front: Front<'_>) -> bool
     ensures { result ≡ is_read (meant front.entry) }
 {
-    front.word().is_none_or(|word| !is_unread(word))
+    front.word().is_none_or(|word| !is_unused_keyword(word))
 }
 
 /// The index of the first atom of a text that is a keyword which this project doesn't read.

@@ -15,5 +15,5 @@ mod repetition;
 pub use block::parse;
 pub use expected::Expected;
 pub use halt::{Halt, Missing, Unread};
-pub use keyword::{first_unread, is_unread};
+pub use keyword::first_unread;
 pub use laws::blocks_are_unique;

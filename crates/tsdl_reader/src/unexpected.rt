@@ -5,10 +5,11 @@ ghost use Rattle.tsdl_grammar.specs.declared.atom.Atom.TheVariants as atoms;
 ghost use Rattle.tsdl_grammar.specs.Fronts.{atoms_in};
 ghost use Rattle.tsdl_reader.specs.Reading.{IsFaultOf, IsFlawOf};
 
+use ctf_types::is_unused_keyword;
 use std::alloc::{AllocError, Global};
 use tsdl_flaw::{Fault, Flaw, Remedy, Stop};
 use tsdl_grammar::{Atom, Mark, first_token};
-use tsdl_parser::{Expected, is_unread};
+use tsdl_parser::Expected;
 
 /// The fault of a text at an atom where something else is expected.
 pub(crate) fn unexpected(alloc: Global, text: &[u8], at: usize, expected: Expected) -> Stop
@@ -70,7 +71,7 @@ fn remedy_of(word: &str, expected: Expected) -> Option<Remedy> {
     match (expected, word) {
         (Expected::Block, "enum" | "struct" | "typealias" | "typedef") => Some(Remedy::Conversion),
         (Expected::Block, _) | (Expected::Member, "struct") => Some(Remedy::Nothing),
-        _ if !is_unread(word) => None,
+        _ if !is_unused_keyword(word) => None,
         (_, "const" | "typealias" | "typedef") => Some(Remedy::Conversion),
         (_, "_Bool" | "char" | "int" | "long" | "short" | "unsigned" | "void") => {
             Some(Remedy::Conversion)
