@@ -1,8 +1,8 @@
 -- Features: the fields that the tracer fills itself, each on or off, or of a type of its own (barectf 3.1, "Trace type features
 -- object", "Data stream type features object").
-use Rattle.std.specs.Prelude.{refl, ℕ, Bool, true, false, List, Option, Some, None, is_some, option_map, codes}
+use Rattle.std.specs.Prelude.{refl, ℕ, Bool, true, false, List, Option, Some, None, is_some, option_map, option_and_then, unwrap_or, codes}
 use Rattle.std.proofs.Common.{lit<, lit≤}
-use Rattle.serde_json.specs.Data.{Data, boolean, object, Members, no_members}
+use Rattle.serde_json.specs.Data.{Data, boolean, object, Members}
 use Rattle.ctf_types.specs.declared.Base.TheVariants.{Dec, Hex}
 use Rattle.ctf_types.specs.declared.IntType.{IntType}
 use Rattle.ctf_types.specs.declared.HeaderFeatures.{HeaderFeatures}
@@ -32,37 +32,29 @@ abbrev pub if_on : Bool → IntType → Option (Option IntType)
 if_on true t = Some (Some t)
 if_on false t = Some None
 
-abbrev pub own : Option IntType → Option (Option IntType)
-own None = None
-own (Some t) = Some (Some t)
-
 abbrev pub feature_of : Bool → IntType → Option Data → Option (Option IntType)
 feature_of by_default t (Some (boolean b)) = if_on b t
-feature_of by_default t (Some (object ms)) = own (integer false ms)
+feature_of by_default t (Some (object ms)) = option_map (λ own. Some own) (integer false ms)
 feature_of by_default t _ = if_on by_default t
 
 unfoldable pub feature : List ℕ → Bool → IntType → Members → Option (Option IntType)
 feature name by_default t ms = feature_of by_default t (optional name ms)
 
-abbrev pub byte_of : Option Data → Option (Option IntType)
-byte_of (Some (object ms)) = own (integer false ms)
-byte_of _ = None
+-- an identifier is an array, whose elements are bytes
+unfoldable pub byte_of : Members → Option IntType
+byte_of ms = option_and_then (integer false) (object_at (codes "element-field-type") ms)
 
 abbrev pub identifier_of : Bool → Option Data → Option (Option IntType)
 identifier_of by_default (Some (boolean b)) = if_on b byte_type
-identifier_of by_default (Some (object ms)) = byte_of (optional (codes "element-field-type") ms)
+identifier_of by_default (Some (object ms)) = option_map (λ own. Some own) (byte_of ms)
 identifier_of by_default _ = if_on by_default byte_type
 
 unfoldable pub identifier : List ℕ → Bool → Members → Option (Option IntType)
 identifier name by_default ms = identifier_of by_default (optional name ms)
 
 -- a size is always on
-abbrev pub or_number : Option IntType → IntType
-or_number None = number_type
-or_number (Some t) = t
-
 unfoldable pub size : List ℕ → Members → Option IntType
-size name ms = option_map or_number (feature name true number_type ms)
+size name ms = option_map (λ t. unwrap_or t number_type) (feature name true number_type ms)
 
 -- an integer whose values are those of the clock, where there is one
 unfoldable pub mapped : Option (List ℕ) → IntType → IntType
@@ -73,44 +65,31 @@ mapped (Some name) t = record { size = t.size; align = t.align; signed = t.signe
 unfoldable pub timestamp : List ℕ → Option (List ℕ) → Members → Option (Option IntType)
 timestamp name clock ms = option_map (option_map (mapped clock)) (feature name (is_some clock) number_type ms)
 
--- ---- the features of an object; what is left out is as an empty object
-
-abbrev pub or_empty : Option Members → Members
-or_empty None = no_members
-or_empty (Some ms) = ms
+-- ---- the features of an object
 
 abbrev pub header_with : Option (Option IntType) → Option (Option IntType) → Option (Option IntType) → Option HeaderFeatures
 header_with (Some magic) (Some uuid) (Some stream_id) = Some (record { magic = magic; uuid = uuid; stream_id = stream_id })
 header_with _ _ _ = None
 
 -- an identifier is on by default where the trace type has one
-unfoldable pub header_of : Bool → Members → Option HeaderFeatures
-header_of has_uuid ms =
-    header_with (feature (codes "magic-field-type") true magic_type ms) (identifier (codes "uuid-field-type") has_uuid ms) (feature (codes "data-stream-type-id-field-type") true number_type ms)
-
 unfoldable pub header : Bool → Members → Option HeaderFeatures
-header has_uuid ms = header_of has_uuid (or_empty (object_at (codes "$features") ms))
+header has_uuid ms =
+    header_with (feature (codes "magic-field-type") true magic_type ms) (identifier (codes "uuid-field-type") has_uuid ms) (feature (codes "data-stream-type-id-field-type") true number_type ms)
 
 abbrev pub context_with : Option IntType → Option IntType → Option (Option IntType) → Option (Option IntType) → Option (Option IntType) → Option (Option IntType) → Option ContextFeatures
 context_with (Some packet_size) (Some content_size) (Some begin) (Some end) (Some discarded) (Some sequence) =
     Some (record { packet_size = packet_size; content_size = content_size; timestamp_begin = begin; timestamp_end = end; events_discarded = discarded; packet_seq_num = sequence })
 context_with _ _ _ _ _ _ = None
 
-unfoldable pub context_of : Option (List ℕ) → Members → Option ContextFeatures
-context_of clock ms =
+unfoldable pub context : Option (List ℕ) → Members → Option ContextFeatures
+context clock ms =
     context_with (size (codes "total-size-field-type") ms) (size (codes "content-size-field-type") ms)
     (timestamp (codes "beginning-timestamp-field-type") clock ms) (timestamp (codes "end-timestamp-field-type") clock ms)
     (feature (codes "discarded-event-records-counter-snapshot-field-type") true number_type ms) (feature (codes "sequence-number-field-type") false number_type ms)
-
-unfoldable pub context : Option (List ℕ) → Members → Option ContextFeatures
-context clock ms = context_of clock (or_empty (object_at (codes "packet") ms))
 
 abbrev pub event_header_with : Option (Option IntType) → Option (Option IntType) → Option EventFeatures
 event_header_with (Some id) (Some timestamp) = Some (record { id = id; timestamp = timestamp })
 event_header_with _ _ = None
 
-unfoldable pub event_header_of : Option (List ℕ) → Members → Option EventFeatures
-event_header_of clock ms = event_header_with (feature (codes "type-id-field-type") true number_type ms) (timestamp (codes "timestamp-field-type") clock ms)
-
 unfoldable pub event_header : Option (List ℕ) → Members → Option EventFeatures
-event_header clock ms = event_header_of clock (or_empty (object_at (codes "event-record") ms))
+event_header clock ms = event_header_with (feature (codes "type-id-field-type") true number_type ms) (timestamp (codes "timestamp-field-type") clock ms)

@@ -1,7 +1,7 @@
 -- The field type that an object is, by its class (barectf 3.1, "Field type objects").
 use Rattle.std.specs.Prelude.{ℕ, nat_le, true, false, Option, Some, None, codes, option_map, unwrap_or, if◌then◌else◌}
 use Rattle.std.specs.Str.{bytes_eq}
-use Rattle.serde_json.specs.Data.{Data, null, boolean, number, string, array, object, Members, no_members, member}
+use Rattle.serde_json.specs.Data.{Data, object, Members, no_members, member}
 use Rattle.ctf_types.specs.declared.FieldType.{FieldType}
 use Rattle.ctf_types.specs.declared.FieldType.TheVariants as fields
 use Rattle.ctf_types.specs.FieldTypes.{chain_of}
@@ -32,11 +32,7 @@ of_class _ ms element = None
 abbrev mutual
   pub field_type : Data → Option FieldType
   field_type (object ms) = of_class (class_of ms) ms (element ms)
-  field_type null = None
-  field_type (boolean b) = None
-  field_type (number n) = None
-  field_type (string s) = None
-  field_type (array ds) = None
+  field_type _ = None
 
   -- the elements of an array
   pub element : Members → Option FieldType

@@ -1,6 +1,6 @@
 -- What the properties of an integer field type say (barectf 3.1, "Integer field type object"): its size; its alignment, by
 -- default 8 where the size is a multiple of 8, else 1; and the base in which it is shown, by default decimal.
-use Rattle.std.specs.Prelude.{ℕ, ◌%◌, ◌==◌, nat_lt, nat_le, Bool, List, Option, Some, None, codes, unwrap_or, if◌then◌else◌}
+use Rattle.std.specs.Prelude.{ℕ, ◌%◌, ◌==◌, nat_lt, nat_le, Bool, Option, Some, None, codes, option_and_then, unwrap_or, if◌then◌else◌}
 use Rattle.std.proofs.lemmas.Bool.{ltb-true, leb-true, eqb-true}
 use Rattle.serde_json.specs.Data.{Members}
 use Rattle.ctf_types.specs.declared.Base.{Base}
@@ -30,12 +30,8 @@ made size align signed base =
 abbrev pub default_align : ℕ → ℕ
 default_align size = if size % 8 == 0 then 8 else 1
 
-abbrev pub base_or_decimal : Option (List ℕ) → Base
-base_or_decimal None = Dec
-base_or_decimal (Some w) = unwrap_or (word_in base_words w) Dec
-
 unfoldable pub base_of : Members → Base
-base_of ms = base_or_decimal (word (codes "preferred-display-base") ms)
+base_of ms = unwrap_or (option_and_then (word_in base_words) (word (codes "preferred-display-base") ms)) Dec
 
 unfoldable pub size_of : Members → ℕ
 size_of ms = unwrap_or (natural (codes "size") ms) 0

@@ -1,8 +1,9 @@
 -- Structures: payloads, contexts, and the extra members of a packet context (barectf 3.1, "Structure field type object"). A
 -- structure without members aligns nothing.
-use Rattle.std.specs.Prelude.{ℕ, ◌%◌, ◌==◌, nat_lt, List, [], ◌∷◌, Option, Some, None, option_and_then, unwrap_or, codes}
+use Rattle.std.specs.Prelude.{ℕ, ◌%◌, ◌==◌, nat_lt, List, [], ◌∷◌, Option, Some, option_and_then, unwrap_or, codes}
+use Rattle.std.specs.Option.{option_map_or}
 use Rattle.std.proofs.lemmas.Bool.{ltb-true, eqb-true}
-use Rattle.serde_json.specs.Data.{Items, Members}
+use Rattle.serde_json.specs.Data.{no_items, Members}
 use Rattle.ctf_types.specs.declared.MemberType.{MemberType}
 use Rattle.ctf_types.specs.declared.StructType.{StructType}
 use Rattle.conf_values.specs.Parts.{proved}
@@ -20,12 +21,8 @@ abbrev pub align_for : List (List ℕ × MemberType) → ℕ → ℕ
 align_for [] align = 1
 align_for (m ∷ ms) align = align
 
-abbrev pub members_or_none : Option Items → Option (List (List ℕ × MemberType))
-members_or_none None = Some []
-members_or_none (Some ds) = members_behind [] ds
-
 unfoldable pub listed : List ℕ → Members → Option (List (List ℕ × MemberType))
-listed name ms = members_or_none (list name ms)
+listed name ms = members_behind [] (unwrap_or (list name ms) no_items)
 
 unfoldable pub align_of : Members → ℕ
 align_of ms = unwrap_or (alignment (codes "minimum-alignment") ms) 1
@@ -33,13 +30,9 @@ align_of ms = unwrap_or (alignment (codes "minimum-alignment") ms) 1
 unfoldable pub structure_of : Members → Option StructType
 structure_of ms = option_and_then (λ members. made members (align_for members (align_of ms))) (listed (codes "members") ms)
 
-abbrev pub structure_or_none : Option Members → Option StructType
-structure_or_none None = made [] 1
-structure_or_none (Some ms) = structure_of ms
-
 -- the structure that the property is; left out, it has no members
 unfoldable pub structure : List ℕ → Members → Option StructType
-structure name ms = structure_or_none (object name ms)
+structure name ms = option_map_or structure_of (object name ms) (made [] 1)
 
 -- extra members are a structure that aligns nothing itself
 unfoldable pub extra_members : List ℕ → Members → Option StructType

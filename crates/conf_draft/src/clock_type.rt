@@ -3,13 +3,13 @@ ghost use Rattle.std.specs.Prelude.{◌≡◌, ◌++◌, IfOk};
 ghost use Rattle.serde_json.specs.View.{members_view};
 ghost use Rattle.conf_draft.specs.Clocks.{clock_types as clock_types_in, clock_type as clock_type_of};
 
-use crate::lookup::{flag, identifier, natural, object, object_or, signed, text};
+use crate::lookup::{flag, identifier, natural, object_or, signed, text};
 use ctf_types::{ClockType, ListOf, Text};
 use serde_json::{Map, Value};
 use std::alloc::{AllocError, Global};
 
 /// The clock types of a trace type, in byte order of their names.
-#[tactic(auto, using(crate::proofs::Lists::behind_many), unfolding(crate::specs::Clocks::clock_types))]
+#[tactic(auto, using(crate::proofs::Lists::behind_one), unfolding(crate::specs::Clocks::clock_types))]
 pub(crate) fn clock_types(
     alloc: Global,
     trace_type: &Map<String, Value>,
@@ -17,10 +17,8 @@ pub(crate) fn clock_types(
     ensures { IfOk result (λ c. c ≡ clock_types_in (members_view trace_type.now.entries)) }
 {
     let mut clocks = ListOf::new(alloc);
-    let Some(named) = object(trace_type, "clock-types") else {
-        return Ok(clocks);
-    };
-    for (name, value) in named.iter() {
+    let empty = Map::new(alloc);
+    for (name, value) in object_or(trace_type, "clock-types", &empty).iter() {
         if let Value::Object(members) = value {
             clocks.push(clock_type(alloc, name.as_str(), members)?)?;
         }

@@ -1,11 +1,11 @@
 //! Enumeration field types (barectf 3.1, "Enumeration field type objects").
 ghost use Rattle.std.specs.Prelude.{◌≡◌, ◌++◌, Some, IsSome, IfOk, OnOk, codes, option_map};
 ghost use Rattle.serde_json.specs.View.{view, members_view};
-ghost use Rattle.conf_draft.specs.Enumerations.{enumeration as enumeration_of, mappings_or_none, ranges_of, low as low_of, high as high_of, whole as whole_of};
-ghost use Rattle.conf_draft.specs.Lookups.{object as object_in};
+ghost use Rattle.conf_draft.specs.Enumerations.{enumeration as enumeration_of, labels_in, ranges_of, low as low_of, high as high_of, whole as whole_of};
+ghost use Rattle.conf_draft.specs.Lookups.{properties};
 
 use crate::integer::integer;
-use crate::lookup::object;
+use crate::lookup::object_or;
 use ctf_types::{EnumType, ListOf, Mapping, Text};
 use serde_json::{Map, Value};
 use std::alloc::{AllocError, Global};
@@ -28,13 +28,11 @@ pub(crate) fn enumeration(
 /// The mappings of all labels, in byte order of the labels. Left out, there are none.
 #[tactic(auto, using(crate::proofs::Lists::behind_many))]
 fn mappings(alloc: Global, members: &Map<String, Value>) -> Result<ListOf<Mapping>, AllocError>
-    ensures { IfOk result (λ m. m ≡ mappings_or_none (object_in (codes "mappings") (members_view members.now.entries))) }
+    ensures { IfOk result (λ m. m ≡ labels_in (properties (codes "mappings") (members_view members.now.entries))) }
 {
     let mut mappings = ListOf::new(alloc);
-    let Some(labels) = object(members, "mappings") else {
-        return Ok(mappings);
-    };
-    for (label, ranges) in labels.iter() {
+    let empty = Map::new(alloc);
+    for (label, ranges) in object_or(members, "mappings", &empty).iter() {
         push_ranges(alloc, &mut mappings, label.as_str(), ranges)?;
     }
     Ok(mappings)
@@ -61,7 +59,7 @@ fn push_ranges(
 }
 
 /// The lowest and the highest number of a range: a number, or two.
-#[tactic(auto, using(crate::proofs::Lists::second))]
+#[tactic(auto, using(crate::proofs::Lists::first, crate::proofs::Lists::second))]
 fn ends(range: &Value) -> (i128, i128)
     ensures low { result.0 ≡ low_of (view range.now) }
     ensures high { result.1 ≡ high_of (view range.now) }

@@ -3,7 +3,7 @@ ghost use Rattle.std.specs.Prelude.{◌≡◌, IfOk};
 ghost use Rattle.serde_json.specs.View.{view, members_view};
 ghost use Rattle.conf_draft.specs.Environments.{environment as environment_in, entry_value as entry_value_of};
 
-use crate::lookup::object;
+use crate::lookup::object_or;
 use ctf_types::{EnvironmentEntry, EnvironmentValue, ListOf, Text};
 use serde_json::{Map, Value};
 use std::alloc::{AllocError, Global};
@@ -17,10 +17,8 @@ pub(crate) fn environment(
     ensures { IfOk result (λ e. e ≡ environment_in (members_view trace.now.entries)) }
 {
     let mut entries = ListOf::new(alloc);
-    let Some(named) = object(trace, "environment") else {
-        return Ok(entries);
-    };
-    for (name, value) in named.iter() {
+    let empty = Map::new(alloc);
+    for (name, value) in object_or(trace, "environment", &empty).iter() {
         let name = Text::from_str(alloc, name.as_str())?;
         let value = entry_value(alloc, value)?;
         entries.push(EnvironmentEntry { name, value })?;

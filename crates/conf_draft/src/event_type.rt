@@ -3,7 +3,7 @@ ghost use Rattle.std.specs.Prelude.{◌≡◌, Some, IsSome, IfOk, option_map};
 ghost use Rattle.serde_json.specs.View.{view, members_view};
 ghost use Rattle.conf_draft.specs.Events.{event_types as event_types_in, event_type as event_type_of, level_of};
 
-use crate::lookup::object;
+use crate::lookup::object_or;
 use crate::structure::structure;
 use conf_tree::{member, optional};
 use conf_values::as_natural;
@@ -23,10 +23,8 @@ pub(crate) fn event_types(
     ensures { IfOk result (λ e. event_types_in (members_view levels.now.entries) (members_view stream_type.now.entries) ≡ Some e) }
 {
     let mut events = ListOf::new(alloc);
-    let Some(named) = object(stream_type, "event-record-types") else {
-        return Ok(events);
-    };
-    for (name, value) in named.iter() {
+    let empty = Map::new(alloc);
+    for (name, value) in object_or(stream_type, "event-record-types", &empty).iter() {
         if let Value::Object(members) = value {
             events.push(event_type(alloc, name.as_str(), members, levels)?)?;
         }

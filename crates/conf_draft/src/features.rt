@@ -1,24 +1,25 @@
 //! The features of a trace type and of a data stream type: fields that the tracer fills itself.
-ghost use Rattle.std.specs.Prelude.{◌≡◌, Some, IsSome, IfOk, option_map};
-ghost use Rattle.serde_json.specs.View.{view, members_view};
-ghost use Rattle.conf_draft.specs.Features.{number_type, magic_type, byte_type, header as header_in, context as context_in, event_header as event_header_in, feature as feature_in, byte_of as byte_of_value, identifier_of as identifier_of_value, identifier as identifier_in, size as size_in, mapped as mapped_of, timestamp as timestamp_in};
+ghost use Rattle.std.specs.Prelude.{◌≡◌, Some, IsSome, IfOk, codes};
+ghost use Rattle.serde_json.specs.View.{members_view};
+ghost use Rattle.conf_draft.specs.Lookups.{properties};
+ghost use Rattle.conf_draft.specs.Features.{number_type, magic_type, byte_type, header as header_in, context as context_in, event_header as event_header_in, feature as feature_in, byte_of as byte_of_array, identifier as identifier_in, size as size_in, mapped as mapped_of, timestamp as timestamp_in};
 
 use crate::integer::integer;
-use crate::lookup::object_or;
+use crate::lookup::{object, object_or};
 use conf_tree::optional;
 use ctf_types::{Base, ContextFeatures, EventFeatures, HeaderFeatures, IntType, Text};
 use serde_json::{Map, Value};
 use std::alloc::{AllocError, Global};
 
 /// The fields of the packet header. An identifier is on by default where the trace type has one.
-#[tactic(auto, unfolding(crate::specs::Features::header, crate::specs::Features::header_of))]
+#[tactic(auto, unfolding(crate::specs::Features::header))]
 pub(crate) fn header(
     alloc: Global,
     trace_type: &Map<String, Value>,
     has_uuid: bool,
 ) -> HeaderFeatures
-    requires { IsSome (header_in has_uuid (members_view trace_type.now.entries)) }
-    ensures { header_in has_uuid (members_view trace_type.now.entries) ≡ Some result }
+    requires { IsSome (header_in has_uuid (properties (codes "$features") (members_view trace_type.now.entries))) }
+    ensures { header_in has_uuid (properties (codes "$features") (members_view trace_type.now.entries)) ≡ Some result }
 {
     let empty = Map::new(alloc);
     let features = object_or(trace_type, "$features", &empty);
@@ -30,14 +31,14 @@ pub(crate) fn header(
 }
 
 /// The fields of a packet context, where a data stream type has this default clock.
-#[tactic(auto, unfolding(crate::specs::Features::context, crate::specs::Features::context_of))]
+#[tactic(auto, unfolding(crate::specs::Features::context))]
 pub(crate) fn context(
     alloc: Global,
     features: &Map<String, Value>,
     clock: &Option<Text>,
 ) -> Result<ContextFeatures, AllocError>
-    requires { IsSome (context_in clock.now (members_view features.now.entries)) }
-    ensures { IfOk result (λ f. context_in clock.now (members_view features.now.entries) ≡ Some f) }
+    requires { IsSome (context_in clock.now (properties (codes "packet") (members_view features.now.entries))) }
+    ensures { IfOk result (λ f. context_in clock.now (properties (codes "packet") (members_view features.now.entries)) ≡ Some f) }
 {
     let empty = Map::new(alloc);
     let packet = object_or(features, "packet", &empty);
@@ -59,14 +60,14 @@ pub(crate) fn context(
 }
 
 /// The fields of an event record header, where a data stream type has this default clock.
-#[tactic(auto, unfolding(crate::specs::Features::event_header, crate::specs::Features::event_header_of))]
+#[tactic(auto, unfolding(crate::specs::Features::event_header))]
 pub(crate) fn event_header(
     alloc: Global,
     features: &Map<String, Value>,
     clock: &Option<Text>,
 ) -> Result<EventFeatures, AllocError>
-    requires { IsSome (event_header_in clock.now (members_view features.now.entries)) }
-    ensures { IfOk result (λ f. event_header_in clock.now (members_view features.now.entries) ≡ Some f) }
+    requires { IsSome (event_header_in clock.now (properties (codes "event-record") (members_view features.now.entries))) }
+    ensures { IfOk result (λ f. event_header_in clock.now (properties (codes "event-record") (members_view features.now.entries)) ≡ Some f) }
 {
     let empty = Map::new(alloc);
     let event_record = object_or(features, "event-record", &empty);
@@ -122,29 +123,20 @@ fn identifier(members: &Map<String, Value>, name: &str, by_default: bool) -> Opt
     requires { IsSome (identifier_in name.now by_default (members_view members.now.entries)) }
     ensures { identifier_in name.now by_default (members_view members.now.entries) ≡ Some result }
 {
-    identifier_of(optional(members, name), by_default)
-}
-
-fn identifier_of(value: Option<&Value>, by_default: bool) -> Option<IntType>
-    requires { IsSome (identifier_of_value by_default (option_map (λ v. view v.now) value)) }
-    ensures { identifier_of_value by_default (option_map (λ v. view v.now) value.entry) ≡ Some result }
-{
-    match value {
+    match optional(members, name) {
         Some(Value::Bool(on)) => on.then_some(byte()),
-        Some(Value::Object(array)) => byte_of(optional(array, "element-field-type")),
+        Some(Value::Object(array)) => Some(byte_of(array)),
         _ => by_default.then_some(byte()),
     }
 }
 
 /// The type of an array's elements, which are bytes.
-fn byte_of(value: Option<&Value>) -> Option<IntType>
-    requires { IsSome (byte_of_value (option_map (λ v. view v.now) value)) }
-    ensures { byte_of_value (option_map (λ v. view v.now) value.entry) ≡ Some result }
+#[tactic(auto, unfolding(crate::specs::Features::byte_of))]
+fn byte_of(array: &Map<String, Value>) -> IntType
+    requires { IsSome (byte_of_array (members_view array.now.entries)) }
+    ensures { byte_of_array (members_view array.now.entries) ≡ Some result }
 {
-    match value {
-        Some(Value::Object(own)) => Some(integer(false, own)),
-        _ => unreachable!(),
-    }
+    integer(false, object(array, "element-field-type").unwrap())
 }
 
 /// The type of a size, which is always on.

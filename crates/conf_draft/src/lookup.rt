@@ -3,8 +3,7 @@ ghost use Rattle.std.specs.Prelude.{◌≡◌, IfOk, option_map};
 ghost use Rattle.serde_json.specs.Data.{no_members};
 ghost use Rattle.serde_json.specs.View.{items_view, members_view};
 ghost use Rattle.conf_draft.specs.Alignments.{alignment as alignment_in};
-ghost use Rattle.conf_draft.specs.Features.{or_empty};
-ghost use Rattle.conf_draft.specs.Lookups.{natural as natural_in, signed as signed_in, flag as flag_in, word as word_in, object as object_in, list as list_in, identifier as identifier_in};
+ghost use Rattle.conf_draft.specs.Lookups.{natural as natural_in, signed as signed_in, flag as flag_in, word as word_in, object as object_in, properties, list as list_in, identifier as identifier_in};
 
 use conf_tree::optional;
 use conf_values::{as_natural, parsed};
@@ -66,13 +65,14 @@ pub(crate) fn object<'v>(
 }
 
 /// The object that the property `name` is. Left out, it is this empty one.
+#[tactic(auto, unfolding(crate::specs::Lookups::properties))]
 pub(crate) fn object_or<'v>(
     members: &'v Map<String, Value>,
     name: &str,
     empty: &'v Map<String, Value>,
 ) -> &'v Map<String, Value>
     requires { members_view empty.now.entries ≡ no_members }
-    ensures { members_view result.now.entries ≡ or_empty (object_in name.now (members_view members.now.entries)) }
+    ensures { members_view result.now.entries ≡ properties name.now (members_view members.now.entries) }
 {
     object(members, name).unwrap_or(empty)
 }

@@ -1,13 +1,12 @@
 //! Members lists (barectf 3.1, "Structure field type member object").
-ghost use Rattle.std.specs.Prelude.{◌≡◌, Some, IsSome, IfOk, OnOk, option_map};
-ghost use Rattle.serde_json.specs.View.{view, members_view};
-ghost use Rattle.conf_draft.specs.Members.{told_type as told_type_of, behind_named};
+ghost use Rattle.std.specs.Prelude.{◌≡◌, Some, IsSome, IfOk, OnOk};
+ghost use Rattle.serde_json.specs.View.{members_view};
+ghost use Rattle.conf_draft.specs.Members.{member_type as member_type_of, behind_named};
 ghost use Rattle.conf_draft.specs.Structures.{listed as listed_in};
 
 use crate::field_type::{element, of_class};
-use crate::lookup::list;
+use crate::lookup::{list, object};
 use conf_table::{Place, class_of};
-use conf_tree::optional;
 use ctf_types::{Length, MemberType, Members, Text};
 use serde_json::{Map, Value};
 use std::alloc::{AllocError, Global};
@@ -47,7 +46,7 @@ fn push_named(
         let Value::Object(told) = value else {
             unreachable!()
         };
-        let member = told_type(alloc, optional(told, "field-type"))?;
+        let member = member_type(alloc, object(told, "field-type").unwrap())?;
         let name = Text::from_str(alloc, name.as_str())?;
         members.push(name, member)?;
     }
@@ -56,13 +55,10 @@ fn push_named(
 
 /// The type of a member that an entry tells of.
 #[tactic(auto, unfolding(crate::specs::Members::member_type))]
-fn told_type(alloc: Global, value: Option<&Value>) -> Result<MemberType, AllocError>
-    requires { IsSome (told_type_of (option_map (λ v. view v.now) value)) }
-    ensures { IfOk result (λ t. told_type_of (option_map (λ v. view v.now) value.entry) ≡ Some t) }
+fn member_type(alloc: Global, members: &Map<String, Value>) -> Result<MemberType, AllocError>
+    requires { IsSome (member_type_of (members_view members.now.entries)) }
+    ensures { IfOk result (λ t. member_type_of (members_view members.now.entries) ≡ Some t) }
 {
-    let Some(Value::Object(members)) = value else {
-        unreachable!()
-    };
     match class_of(members) {
         Some(Place::DynamicArray) => Ok(MemberType::Dyn(element(alloc, members)?, Length::Auto)),
         class => Ok(MemberType::Plain(of_class(alloc, class, members)?)),

@@ -5,7 +5,7 @@ ghost use Rattle.conf_draft.specs.Streams.{stream_types as stream_types_in, stre
 
 use crate::event_type::event_types;
 use crate::features::{context, event_header};
-use crate::lookup::{object, object_or, text};
+use crate::lookup::{object_or, text};
 use crate::structure::{extra_members, structure};
 use ctf_types::{ListOf, StreamType, Text};
 use serde_json::{Map, Value};
@@ -23,10 +23,7 @@ pub(crate) fn stream_types(
     let empty = Map::new(alloc);
     let levels = object_or(trace_type, "$log-level-aliases", &empty);
     let mut streams = ListOf::new(alloc);
-    let Some(named) = object(trace_type, "data-stream-types") else {
-        return Ok(streams);
-    };
-    for (name, value) in named.iter() {
+    for (name, value) in object_or(trace_type, "data-stream-types", &empty).iter() {
         if let Value::Object(members) = value {
             streams.push(stream_type(alloc, name.as_str(), members, levels)?)?;
         }

@@ -2,7 +2,7 @@
 //! object").
 ghost use Rattle.std.specs.Prelude.{◌≡◌, Some, IsSome, IfOk, is_some, codes};
 ghost use Rattle.serde_json.specs.View.{view, members_view};
-ghost use Rattle.conf_draft.specs.Traces.{draft_of as draft_of_value, draft_of_type as draft_of_type_in, order as order_in, draft_from, trace_order as trace_order_in, has_two_orders as has_two_orders_in, asks_number as asks_number_in};
+ghost use Rattle.conf_draft.specs.Traces.{draft_of as draft_of_value, draft_of_type as draft_of_type_in, order as order_in, trace_order as trace_order_in, has_two_orders as has_two_orders_in, asks_number as asks_number_in};
 ghost use Rattle.conf_draft.specs.Lookups.{word as word_in};
 
 use crate::clock_type::clock_types;
@@ -47,27 +47,13 @@ fn draft_of_type(
     let header = header(alloc, trace_type, has_uuid(trace_type));
     let clocks = clock_types(alloc, trace_type)?;
     let streams = stream_types(alloc, trace_type)?;
-    Ok(draft(number, environment, clocks, header, streams, trace_type))
-}
-
-/// What a trace type of these parts says.
-fn draft(
-    number: Option<Uuid>,
-    environment: ListOf<EnvironmentEntry>,
-    clocks: ListOf<ClockType>,
-    header: HeaderFeatures,
-    streams: ListOf<StreamType>,
-    trace_type: &Map<String, Value>,
-) -> Draft
-    ensures { result ≡ draft_from number environment clocks header streams (members_view trace_type.now.entries) }
-{
     let lacks_number = number.is_none() && asks_number(trace_type);
     let uuid = if asks_number(trace_type) {
         number
     } else {
         identifier(trace_type, "uuid")
     };
-    Draft {
+    Ok(Draft {
         config: Config {
             order: trace_order(trace_type),
             uuid,
@@ -78,7 +64,7 @@ fn draft(
         },
         lacks_number,
         two_orders: has_two_orders(trace_type),
-    }
+    })
 }
 
 /// The byte order that the property `name` is.

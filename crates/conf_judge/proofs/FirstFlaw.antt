@@ -3,9 +3,8 @@ use Rattle.std.proofs.Common.{◌≡◌, ◌++◌, false, List, [], ◌∷◌, R
 use Rattle.std.specs.Prelude.{⊤}
 use Rattle.conf_tree.specs.Flaw.{Flaw}
 use Rattle.conf_tree.specs.Walk.{refusal}
-use Rattle.serde_json.specs.Data.{Data, null, boolean, number, string, array, object}
+use Rattle.serde_json.specs.Data.{Data, array, object, Members}
 use Rattle.conf_table.specs.declared.row.Content.{Content}
-use Rattle.serde_json.specs.Data.{Members}
 use Rattle.conf_table.specs.declared.place.Place.{Place as Place_of_value}
 use Rattle.conf_judge.specs.Flaws.{told_by, inner_flaws, class_rule, all_there, object_flaws}
 use Rattle.conf_judge.specs.Places.{is_place, place_of_properties}
@@ -36,20 +35,14 @@ told_alone (Err g) = refl
 
 -- a value that is no place holds nothing that is judged
 pub nothing_held : (k : Known) (content : Content) (d : Data) → is_place content ≡ false → inner_flaws k content d ≡ []
-nothing_held k content null h = refl
-nothing_held k content (boolean b) h = refl
-nothing_held k content (number n) h = refl
-nothing_held k content (string s) h = refl
 nothing_held k content (array ds) h = rw h refl
 nothing_held k content (object ms) h = rw h refl
+nothing_held k content _ h = refl
 
 pub nothing_limited : (content : Content) (d : Data) → is_place content ≡ false → inner_limits content d ≡ []
-nothing_limited content null h = refl
-nothing_limited content (boolean b) h = refl
-nothing_limited content (number n) h = refl
-nothing_limited content (string s) h = refl
 nothing_limited content (array ds) h = rw h refl
 nothing_limited content (object ms) h = rw h refl
+nothing_limited content _ h = refl
 
 -- ---- an object: its class, what is missing, its properties, and then what it is as a whole
 

@@ -2,7 +2,7 @@
 -- its content, what is missing before what is there, properties in byte order of their names, and lists by index. At one place
 -- the kind of a value comes first, then its name, then what it holds (barectf 3.1, "Configuration object" and the pages below
 -- it).
-use Rattle.std.specs.Prelude.{◌&&◌, ◌++◌, ℕ, suc, Bool, true, false, List, [], ◌∷◌, map, Option, Some, None, is_some, Result, Ok, Err, codes, ⊤, if◌then◌else◌}
+use Rattle.std.specs.Prelude.{◌&&◌, ◌||◌, ◌++◌, ℕ, suc, Bool, true, false, not, List, [], ◌∷◌, map, Option, Some, None, is_some, unwrap_or, Result, Ok, Err, codes, ⊤, if◌then◌else◌}
 use Rattle.std.specs.Str.{bytes_eq}
 use Rattle.serde_json.specs.Data.{Data, null, boolean, number, string, array, object, Items, no_items, item, Members, no_members, member}
 use Rattle.serde_json.specs.Find.{get_member}
@@ -51,23 +51,16 @@ is_needed presences.Needed = true
 is_needed _ = false
 
 abbrev pub row_there : Members → Told → Result ⊤ Flaw
-row_there ms row = if is_needed row.presence && is_none (get_member row.name ms) then Err (within (key row.name) (here Missing)) else Ok tt
-  where
-    is_none : Option Data → Bool
-    is_none None = true
-    is_none (Some d) = false
+row_there ms row = if is_needed row.presence && not (is_some (get_member row.name ms)) then Err (within (key row.name) (here Missing)) else Ok tt
 
 abbrev pub rows_there : Members → List Told → Result ⊤ Flaw
 rows_there ms [] = Ok tt
 rows_there ms (row ∷ rows) = row_there ms row >>= (λ _. rows_there ms rows)
 
 -- one of the two byte orders of a trace type is there
-abbrev pub one_there : Option Data → Option Data → Result ⊤ Flaw
-one_there None None = Err (within (key (codes "trace-byte-order")) (here Missing))
-one_there _ _ = Ok tt
-
 unfoldable pub orders_there : Place → Members → Result ⊤ Flaw
-orders_there places.TraceType ms = one_there (optional (codes "trace-byte-order") ms) (optional (codes "native-byte-order") ms)
+orders_there places.TraceType ms =
+    if is_some (optional (codes "trace-byte-order") ms) || is_some (optional (codes "native-byte-order") ms) then Ok tt else Err (within (key (codes "trace-byte-order")) (here Missing))
 orders_there _ ms = Ok tt
 
 unfoldable pub all_there : Place → Members → Result ⊤ Flaw
@@ -94,12 +87,8 @@ left_out (Some presence) d = if is_needed presence then false else is_null d
 unfoldable pub is_left_out : Place → List ℕ → Data → Bool
 is_left_out place k d = left_out (presence_under place k) d
 
--- what an unknown property is may be anything
-abbrev pub content_or_any : Option Content → Content
-content_or_any None = contents.Anything
-content_or_any (Some content) = content
-
--- the flaws of a property's value, seen from the value, with those of what it holds; None is an unknown property
+-- the flaws of a property's value, seen from the value, with those of what it holds; None is an unknown property, which may be
+-- anything
 abbrev pub property_flaws : Known → Place → List ℕ → Option Content → Data → List Flaw → List Flaw
 property_flaws k place name None d held = here Unknown ∷ []
 property_flaws k place name (Some content) d held =
@@ -131,12 +120,8 @@ abbrev mutual
   pub member_flaws : Known → Place → Members → List Flaw
   member_flaws k place no_members = []
   member_flaws k place (member name d ms) =
-      map (within (key name)) (property_flaws k place name (resolved_content place name) d (inner_flaws k (content_or_any (resolved_content place name)) d))
+      map (within (key name)) (property_flaws k place name (resolved_content place name) d (inner_flaws k (unwrap_or (resolved_content place name) contents.Anything) d))
       ++ member_flaws (behind place d k) place ms
-
--- the flaws of an object at a place, seen from it
-abbrev pub flaws_of_object : Known → Place → Members → List Flaw
-flaws_of_object k place ms = object_flaws place ms (member_flaws (inside (place_of_properties place ms) ms k) (place_of_properties place ms) ms)
 
 -- the flaws of a value and all that it holds
 abbrev pub content_flaws : Known → Content → Data → List Flaw

@@ -1,6 +1,6 @@
 -- What the rest of a configuration says that a value is judged by (barectf 3.1, "Trace type object", "Data stream type object",
 -- "Enumeration field type objects", "Structure field type member object").
-use Rattle.std.specs.Prelude.{◌||◌, Bool, true, false, Option, Some, None, option_map, codes}
+use Rattle.std.specs.Prelude.{◌||◌, Bool, true, false, Option, Some, option_map, unwrap_or, codes}
 use Rattle.serde_json.specs.Data.{Data, boolean, object, Members, no_members}
 use Rattle.serde_json.specs.View.{members_view}
 use Rattle.conf_tree.specs.Reading.{optional}
@@ -20,12 +20,8 @@ pub record Known : Type 0 where
   -- the names that the members before this one have
   pub taken : Members
 
-abbrev pub or_none : Option Members → Members
-or_none None = no_members
-or_none (Some ms) = ms
-
 abbrev pub known_of : Around → Known
-known_of a = record { levels = or_none (option_map (λ m. members_view m.now.entries) a.levels); has_default = a.has_default; numbers = a.numbers; taken = members_view a.taken.now.entries }
+known_of a = record { levels = unwrap_or (option_map (λ m. members_view m.now.entries) a.levels) no_members; has_default = a.has_default; numbers = a.numbers; taken = members_view a.taken.now.entries }
 
 -- nothing is known around a whole configuration
 abbrev pub nothing : Known

@@ -1,9 +1,10 @@
 -- Values that hold no others, and the flaw of one that is not what it is to be: it is of another kind, no whole number, or
 -- outside of what is allowed (barectf 3.1, "Configuration object" and the pages below it).
-use Rattle.std.specs.Prelude.{◌&&◌, ◌||◌, ◌==◌, ◌%◌, ℕ, ℤ, pos, negsuc, Bool, true, false, not, List, Option, Some, None, is_some, nat_lt, Result, Ok, Err, codes, ⊤}
+use Rattle.std.specs.Prelude.{◌&&◌, ◌||◌, ◌==◌, ◌%◌, ℤ, pos, negsuc, Bool, true, false, not, is_some, nat_lt, Result, Ok, Err, codes, ⊤}
 use Rattle.std.specs.List.{list_any}
+use Rattle.std.specs.Option.{option_map_or}
 use Rattle.std.specs.Str.{bytes_eq}
-use Rattle.serde_json.specs.Data.{Data, null, boolean, number, string, array, object, Members}
+use Rattle.serde_json.specs.Data.{Data, string, Members}
 use Rattle.serde_json.specs.Find.{get_member}
 use Rattle.conf_tree.specs.declared.fault_kind.FaultKind.TheVariants.{NoSuchAlias, OutOfRange}
 use Rattle.conf_tree.specs.Flaw.{Flaw, here}
@@ -31,66 +32,27 @@ is_power_of_two (negsuc n) = false
 unfoldable pub power_of : Data → Result ⊤ Flaw
 power_of d = whole_of (pos 1) (pos 18446744073709551615) d >>= (λ z. only_if (is_power_of_two z))
 
-unfoldable pub any_flag : Data → Result ⊤ Flaw
-any_flag d = flag_of d >>= (λ b. Ok tt)
-
--- a flag that is true once at most
-unfoldable pub one_flag : Bool → Data → Result ⊤ Flaw
-one_flag before d = flag_of d >>= (λ b. only_if (not (b && before)))
-
-unfoldable pub any_text : Data → Result ⊤ Flaw
-any_text d = text_of d >>= (λ s. Ok tt)
-
--- a text that people read
-unfoldable pub printable : Data → Result ⊤ Flaw
-printable d = text_of d >>= (λ s. only_if (is_printable s))
-
-unfoldable pub identifier : Data → Result ⊤ Flaw
-identifier d = text_of d >>= (λ s. only_if (is_some (uuid_in s)))
-
-unfoldable pub identifier_or_auto : Data → Result ⊤ Flaw
-identifier_or_auto d = text_of d >>= (λ s. only_if (bytes_eq s (codes "auto") || is_some (uuid_in s)))
-
--- one of these words
-unfoldable pub word_among : List (List ℕ) → Data → Result ⊤ Flaw
-word_among words d = text_of d >>= (λ s. only_if (list_any (bytes_eq s) words))
-
-unfoldable pub class_word : Data → Result ⊤ Flaw
-class_word d = text_of d >>= (λ s. only_if (is_some (class_in s class_words)))
-
 unfoldable pub whole_or_text : ℤ → ℤ → Data → Result ⊤ Flaw
 whole_or_text low high (string s) = only_if (is_printable s)
-whole_or_text low high null = whole_from low high null
-whole_or_text low high (boolean b) = whole_from low high (boolean b)
-whole_or_text low high (number n) = whole_from low high (number n)
-whole_or_text low high (array ds) = whole_from low high (array ds)
-whole_or_text low high (object ms) = whole_from low high (object ms)
-
-abbrev pub level_or_none : ℤ → Option Data → Result ⊤ Flaw
-level_or_none high None = Err (here NoSuchAlias)
-level_or_none high (Some d) = whole_from (pos 0) high d
+whole_or_text low high d = whole_from low high d
 
 -- a number, or the name of an alias of one
 unfoldable pub level : Members → ℤ → Data → Result ⊤ Flaw
-level levels high (string s) = level_or_none high (get_member s levels)
-level levels high null = whole_from (pos 0) high null
-level levels high (boolean b) = whole_from (pos 0) high (boolean b)
-level levels high (number n) = whole_from (pos 0) high (number n)
-level levels high (array ds) = whole_from (pos 0) high (array ds)
-level levels high (object ms) = whole_from (pos 0) high (object ms)
+level levels high (string s) = option_map_or (whole_from (pos 0) high) (get_member s levels) (Err (here NoSuchAlias))
+level levels high d = whole_from (pos 0) high d
 
--- what stands at a place is no leaf
+-- a flag of its kind is true once at most; a text is one that people read; what stands at a place is no leaf
 unfoldable pub leaf_of : Known → Content → Data → Result ⊤ Flaw
 leaf_of k (Whole low high) d = whole_from low high d
 leaf_of k (PowerOfTwo high) d = power_of d
-leaf_of k Flag d = any_flag d
-leaf_of k OneFlag d = one_flag k.has_default d
-leaf_of k (Text most) d = printable d
-leaf_of k ClockName d = any_text d
-leaf_of k Identifier d = identifier d
-leaf_of k IdentifierOrAuto d = identifier_or_auto d
-leaf_of k (Word words) d = word_among (words_of words) d
-leaf_of k Class d = class_word d
+leaf_of k Flag d = flag_of d >>= (λ b. Ok tt)
+leaf_of k OneFlag d = flag_of d >>= (λ b. only_if (not (b && k.has_default)))
+leaf_of k (Text most) d = text_of d >>= (λ s. only_if (is_printable s))
+leaf_of k ClockName d = text_of d >>= (λ s. Ok tt)
+leaf_of k Identifier d = text_of d >>= (λ s. only_if (is_some (uuid_in s)))
+leaf_of k IdentifierOrAuto d = text_of d >>= (λ s. only_if (bytes_eq s (codes "auto") || is_some (uuid_in s)))
+leaf_of k (Word words) d = text_of d >>= (λ s. only_if (list_any (bytes_eq s) (words_of words)))
+leaf_of k Class d = text_of d >>= (λ s. only_if (is_some (class_in s class_words)))
 leaf_of k (WholeOrText low high most) d = whole_or_text low high d
 leaf_of k (Level high) d = level k.levels high d
 leaf_of k (At place) d = Ok tt

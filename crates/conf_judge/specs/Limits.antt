@@ -1,6 +1,7 @@
 -- The limits of a configuration's size: how many entries its maps and lists have, how long its texts are, how large an alignment
 -- is, and how static arrays nest. They are this project's own. The limits that are passed stand in the order of a walk.
-use Rattle.std.specs.Prelude.{◌&&◌, ◌||◌, ◌%◌, ◌==◌, ◌++◌, ◌+◌, ◌*◌, ℕ, zero, suc, nat_le, nat_eq, Bool, true, false, List, [], map, length, Option, Some, None, is_some, Result, Ok, Err, codes, ⊤, if◌then◌else◌}
+use Rattle.std.specs.Prelude.{◌&&◌, ◌||◌, ◌%◌, ◌==◌, ◌++◌, ◌+◌, ◌*◌, ℕ, zero, suc, nat_le, nat_eq, Bool, true, false, List, [], map, length, Option, Some, None, is_some, option_and_then, unwrap_or, Result, Ok, Err, codes, ⊤, if◌then◌else◌}
+use Rattle.std.specs.Option.{option_map_or}
 use Rattle.std.specs.Str.{bytes_eq}
 use Rattle.serde_json.specs.Data.{Data, null, boolean, number, string, array, object, Items, no_items, item, Members, no_members, member}
 use Rattle.serde_json.specs.Events.{items_len, members_len}
@@ -16,7 +17,7 @@ use Rattle.conf_table.specs.declared.row.Keys.TheVariants.{Label}
 use Rattle.conf_table.specs.Classes.{class_of}
 use Rattle.conf_table.specs.Table.{entries_of, content_under}
 use Rattle.conf_values.specs.Scalar.{as_natural}
-use Rattle.conf_judge.specs.Flaws.{told_by, content_or_any}
+use Rattle.conf_judge.specs.Flaws.{told_by}
 use Rattle.conf_judge.specs.Numbers.{natural_in}
 use Rattle.conf_judge.specs.Places.{place_of_properties, item_content, is_place, place_at}
 use Rattle.conf_judge.specs.Shapes.{is_static_array}
@@ -44,9 +45,8 @@ power_fits high d = divides high (as_natural d)
 -- ---- static arrays: 8 in one another, and 2^20 elements in all, an empty one counted as one
 
 abbrev pub times : Option ℕ → Option ℕ → Option ℕ
-times None inner = None
-times (Some n) None = None
 times (Some n) (Some m) = if nat_le (n * m) 1048576 then Some (n * m) else None
+times _ _ = None
 
 abbrev pub at_least_one : Option ℕ → Option ℕ
 at_least_one None = Some 1
@@ -85,12 +85,7 @@ count_of (object ms) = members_len ms
 count_of _ = 0
 
 abbrev pub at_most : Option Entries → ℕ → Bool
-at_most None n = true
-at_most (Some entries) n = number_at_most entries.most n
-  where
-    number_at_most : Option ℕ → ℕ → Bool
-    number_at_most None n = true
-    number_at_most (Some most) n = nat_le n most
+at_most entries n = option_map_or (nat_le n) (option_and_then (λ e. e.most) entries) true
 
 -- the ranges of all labels
 abbrev pub ranges_in : Members → ℕ
@@ -117,17 +112,13 @@ fits (contents.PowerOfTwo high) d = power_fits high d
 fits (contents.At place) d = place_fits place d
 fits _ d = true
 
-abbrev pub is_label : Option Entries → Bool
-is_label None = false
-is_label (Some entries) = is_label_key entries.keys
-  where
-    is_label_key : Keys → Bool
-    is_label_key Label = true
-    is_label_key _ = false
+abbrev pub is_label : Keys → Bool
+is_label Label = true
+is_label _ = false
 
 -- a label is a text that people read
 unfoldable pub key_fits : Place → List ℕ → Bool
-key_fits place k = if is_label (entries_of place) then nat_le (length k) 4096 else true
+key_fits place k = if option_map_or (λ e. is_label e.keys) (entries_of place) false then nat_le (length k) 4096 else true
 
 abbrev mutual
   -- the limits that are passed by what a value holds
@@ -148,7 +139,7 @@ abbrev mutual
   member_limits place no_members = []
   member_limits place (member k d ms) =
       map (within (key k)) (told_by (within_limit (key_fits place k))
-      ++ (told_by (within_limit (fits (content_or_any (content_under place k)) d)) ++ inner_limits (content_or_any (content_under place k)) d)) ++ member_limits place ms
+      ++ (told_by (within_limit (fits (unwrap_or (content_under place k) contents.Anything) d)) ++ inner_limits (unwrap_or (content_under place k) contents.Anything) d)) ++ member_limits place ms
 
 -- the limits that a value and all that it holds pass
 abbrev pub content_limits : Content → Data → List Flaw

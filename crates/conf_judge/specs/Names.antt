@@ -1,8 +1,9 @@
 -- The names of the entries of maps, and the names that members take: a member's own, and that of its length where it is a
 -- dynamic array (barectf 3.1, "Structure field type member object"; CTF 1.8.3, section 5.2).
-use Rattle.std.specs.Prelude.{◌||◌, ℕ, Bool, true, false, List, [], ◌∷◌, Option, Some, None, is_some, Result, Ok, Err, codes, ⊤, if◌then◌else◌}
+use Rattle.std.specs.Prelude.{◌&&◌, ◌||◌, ℕ, Bool, false, List, [], ◌∷◌, Option, option_and_then, is_some, Result, Ok, Err, codes, ⊤, if◌then◌else◌}
 use Rattle.serde_json.specs.Data.{Data, null, object, Members, no_members, member, put}
-use Rattle.serde_json.specs.Find.{get_member}
+use Rattle.std.specs.Option.{option_map_or}
+use Rattle.serde_json.specs.Find.{get_member, as_object}
 use Rattle.ctf_types.specs.Packets.{own_names}
 use Rattle.ctf_types.specs.Shown.{length_name}
 use Rattle.conf_tree.specs.declared.fault_kind.FaultKind.TheVariants.{NameClash}
@@ -10,33 +11,22 @@ use Rattle.conf_tree.specs.Flaw.{Flaw, here}
 use Rattle.conf_tree.specs.Reading.{◌>>=◌}
 use Rattle.conf_table.specs.declared.place.Place.{Place}
 use Rattle.conf_table.specs.declared.place.Place.TheVariants as places
-use Rattle.conf_table.specs.declared.row.Entries.{Entries}
 use Rattle.conf_table.specs.declared.row.Keys.{Keys}
 use Rattle.conf_table.specs.declared.row.Keys.TheVariants.{Name, PlainName, Label, Index}
-use Rattle.conf_table.specs.Classes.{class_of}
+use Rattle.conf_table.specs.Classes.{class_of, is_dynamic_array}
 use Rattle.conf_table.specs.Table.{entries_of}
 use Rattle.conf_values.specs.Name.{name_of, plain_name_of}
 use Rattle.conf_values.specs.Scalar.{is_printable}
 use Rattle.conf_judge.specs.Known.{Known}
 use Rattle.conf_judge.specs.Leaves.{only_if}
 
-abbrev pub is_dynamic_array : Option Place → Bool
-is_dynamic_array (Some places.DynamicArray) = true
-is_dynamic_array _ = false
-
--- the class of the type that is told of
-abbrev pub class_of_type : Option Data → Option Place
-class_of_type (Some (object ms)) = class_of ms
-class_of_type _ = None
-
 -- the class of the member that an entry's value tells of
 abbrev pub class_of_member : Data → Option Place
-class_of_member (object ms) = class_of_type (get_member (codes "field-type") ms)
-class_of_member _ = None
+class_of_member d = option_and_then class_of (option_and_then as_object (option_and_then (get_member (codes "field-type")) (as_object d)))
 
 -- the member of this value is a dynamic array
 unfoldable pub is_dynamic : Data → Bool
-is_dynamic d = is_dynamic_array (class_of_member d)
+is_dynamic d = option_map_or is_dynamic_array (class_of_member d) false
 
 -- ---- names that are taken
 
@@ -52,13 +42,9 @@ unfoldable pub names_beside : Place → Members
 names_beside places.ExtraMembers = take_each own_names no_members
 names_beside _ = no_members
 
-abbrev pub take_length : Bool → List ℕ → Members → Members
-take_length true name taken = take (length_name name) taken
-take_length false name taken = taken
-
 abbrev pub take_all : Members → Members → Members
 take_all no_members taken = taken
-take_all (member k d ms) taken = take_all ms (take k (take_length (is_dynamic d) k taken))
+take_all (member k d ms) taken = take_all ms (take k (if is_dynamic d then take (length_name k) taken else taken))
 
 -- with the names that an entry's member has
 abbrev pub with_names : Data → Members → Members
@@ -68,32 +54,18 @@ with_names _ taken = taken
 abbrev pub is_taken : Members → List ℕ → Bool
 is_taken taken name = is_some (get_member name taken)
 
-abbrev pub length_is_taken : Bool → Members → List ℕ → Bool
-length_is_taken true taken name = is_taken taken (length_name name)
-length_is_taken false taken name = false
-
 unfoldable pub free_of : Members → List ℕ → Data → Result ⊤ Flaw
-free_of taken name d = if is_taken taken name || length_is_taken (is_dynamic d) taken name then Err (here NameClash) else Ok tt
+free_of taken name d = if is_taken taken name || is_dynamic d && is_taken taken (length_name name) then Err (here NameClash) else Ok tt
 
 -- ---- the name of an entry
 
-abbrev pub is_entry : Place → Bool
-is_entry places.Entry = true
-is_entry _ = false
-
-unfoldable pub plain_of : Known → Bool → List ℕ → Data → Result ⊤ Flaw
-plain_of k true name d = plain_name_of name >>= (λ _. free_of k.taken name d)
-plain_of k false name d = plain_name_of name
-
+-- the one property of an entry of a members list is a member's name
 unfoldable pub key_by : Known → Place → Keys → List ℕ → Data → Result ⊤ Flaw
 key_by k place Name name d = name_of name
-key_by k place PlainName name d = plain_of k (is_entry place) name d
+key_by k places.Entry PlainName name d = plain_name_of name >>= (λ _. free_of k.taken name d)
+key_by k place PlainName name d = plain_name_of name
 key_by k place Label name d = only_if (is_printable name)
 key_by k place Index name d = Ok tt
 
-abbrev pub key_in : Known → Place → Option Entries → List ℕ → Data → Result ⊤ Flaw
-key_in k place None name d = Ok tt
-key_in k place (Some entries) name d = key_by k place entries.keys name d
-
 unfoldable pub key_of : Known → Place → List ℕ → Data → Result ⊤ Flaw
-key_of k place name d = key_in k place (entries_of place) name d
+key_of k place name d = option_map_or (λ entries. key_by k place entries.keys name d) (entries_of place) (Ok tt)

@@ -3,7 +3,7 @@
 -- "Trace type object"; the last is this project's own).
 use Rattle.std.specs.Prelude.{◌&&◌, ◌||◌, ℕ, nat_eq, Bool, true, false, not, Option, Some, None, Result, ⊤, codes, if◌then◌else◌}
 use Rattle.std.specs.Str.{bytes_eq}
-use Rattle.serde_json.specs.Data.{Data, null, boolean, number, string, array, object, Members, no_members, member}
+use Rattle.serde_json.specs.Data.{Data, object, Members, no_members, member}
 use Rattle.serde_json.specs.Find.{get_member}
 use Rattle.conf_tree.specs.Flaw.{Flaw}
 use Rattle.conf_tree.specs.Reading.{optional}
@@ -42,11 +42,7 @@ is_identifier ms = is_number (natural_in (codes "length") ms) 16 && is_byte (get
 abbrev mutual
   pub has_bits : Data → Bool
   has_bits (object ms) = not (is_static_array (class_of ms)) || (not (is_number (natural_in (codes "length") ms) 0) && element_has_bits ms)
-  has_bits null = true
-  has_bits (boolean b) = true
-  has_bits (number n) = true
-  has_bits (string s) = true
-  has_bits (array ds) = true
+  has_bits _ = true
 
   pub element_has_bits : Members → Bool
   element_has_bits no_members = true

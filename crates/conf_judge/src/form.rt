@@ -2,7 +2,7 @@
 ghost use Rattle.std.specs.Prelude.{◌≡◌, ◌≤◌, IfErr};
 ghost use Rattle.serde_json.specs.View.{view};
 ghost use Rattle.conf_tree.specs.Reading.{Gives};
-ghost use Rattle.conf_judge.specs.Forms.{any_object, some_list, some_object, entry, form_of, itself_of};
+ghost use Rattle.conf_judge.specs.Forms.{any_object, form_of, itself_of};
 ghost use Rattle.conf_judge.specs.Known.{known_of};
 
 use crate::around::Around;
@@ -29,8 +29,8 @@ pub(crate) fn check_itself(
     }
 }
 
-/// A feature is on, off where the packet can do without it, or a type of its own.
-#[tactic(auto, unfolding(crate::specs::Forms::form_of, crate::specs::Forms::any_list, crate::specs::Forms::feature, crate::specs::Forms::size_feature))]
+/// A list or an object has one at least of what it holds, and an entry just one property. A feature is on, off where the packet can do without it, or a type of its own.
+#[tactic(auto, unfolding(crate::specs::Forms::form_of, crate::specs::Forms::feature, crate::specs::Forms::size_feature), using(crate::proofs::Sizes::items_counted, crate::proofs::Sizes::members_counted))]
 fn check_form(
     alloc: Global,
     around: &Around<'_>,
@@ -41,10 +41,16 @@ fn check_form(
 {
     match place {
         Place::Members | Place::ExtraMembers => list(alloc, At::Here, value).map(|_| ()),
-        Place::Ranges => check_some_list(alloc, value),
+        Place::Ranges => check_that(alloc, !list(alloc, At::Here, value)?.is_empty()),
         Place::Range => check_range(alloc, around.numbers, value),
-        Place::Entry => check_entry(alloc, value),
-        Place::Mappings => check_some_object(alloc, value),
+        Place::Entry => {
+            if object(alloc, At::Here, value)?.len() == 1 {
+                Ok(())
+            } else {
+                Err(ConfFault::here(alloc, FaultKind::WrongKind))
+            }
+        }
+        Place::Mappings => check_that(alloc, !object(alloc, At::Here, value)?.is_empty()),
         Place::Feature | Place::MagicFeature | Place::IdentifierFeature => match value {
             Value::Bool(_) => Ok(()),
             _ => check_any_object(alloc, value),
@@ -63,36 +69,4 @@ fn check_any_object(alloc: Global, value: &Value) -> Result<(), ConfFault>
     ensures { Gives (λ _. tt) result (any_object (view value.now)) }
 {
     object(alloc, At::Here, value).map(|_| ())
-}
-
-#[tactic(auto, unfolding(crate::specs::Forms::some_list), using(crate::proofs::Sizes::items_there))]
-fn check_some_list(alloc: Global, value: &Value) -> Result<(), ConfFault>
-    ensures { Gives (λ _. tt) result (some_list (view value.now)) }
-{
-    if list(alloc, At::Here, value)?.is_empty() {
-        return Err(ConfFault::here(alloc, FaultKind::OutOfRange));
-    }
-    Ok(())
-}
-
-#[tactic(auto, unfolding(crate::specs::Forms::some_object), using(crate::proofs::Sizes::members_there))]
-fn check_some_object(alloc: Global, value: &Value) -> Result<(), ConfFault>
-    ensures { Gives (λ _. tt) result (some_object (view value.now)) }
-{
-    if object(alloc, At::Here, value)?.is_empty() {
-        return Err(ConfFault::here(alloc, FaultKind::OutOfRange));
-    }
-    Ok(())
-}
-
-/// An object of one property.
-#[tactic(auto, unfolding(crate::specs::Forms::entry), using(crate::proofs::Sizes::just_one, crate::proofs::Sizes::not_one))]
-fn check_entry(alloc: Global, value: &Value) -> Result<(), ConfFault>
-    ensures { Gives (λ _. tt) result (entry (view value.now)) }
-{
-    if object(alloc, At::Here, value)?.len() == 1 {
-        Ok(())
-    } else {
-        Err(ConfFault::here(alloc, FaultKind::WrongKind))
-    }
 }

@@ -1,10 +1,12 @@
 //! The first flaw of an object, in the order of a walk: an object before its content, what is missing before what is there, and
 //! properties in byte order of their names.
-ghost use Rattle.std.specs.Prelude.{◌≡◌, ◌≤◌, ◌<◌, ◌+◌, IfErr};
+ghost use Rattle.std.specs.Prelude.{◌≡◌, ◌≤◌, ◌<◌, ◌+◌, IfErr, unwrap_or};
+ghost use Rattle.serde_json.specs.Data.{object};
 ghost use Rattle.serde_json.specs.View.{view, items_view, members_view};
 ghost use Rattle.conf_tree.specs.Reading.{Gives};
 ghost use Rattle.conf_tree.specs.Walk.{refusal};
-ghost use Rattle.conf_judge.specs.Flaws.{resolved_content as resolved_content_of, inner_flaws, item_flaws, member_flaws, flaws_of_object, property_flaws, content_or_any, content_flaws, configuration_flaws};
+ghost use Rattle.conf_table.specs.declared.row.Content.TheVariants.{Anything, At};
+ghost use Rattle.conf_judge.specs.Flaws.{resolved_content as resolved_content_of, inner_flaws, item_flaws, member_flaws, property_flaws, content_flaws, configuration_flaws};
 ghost use Rattle.conf_judge.specs.Known.{known_of, inside as inside_of, with_taken};
 ghost use Rattle.conf_judge.specs.Names.{names_beside as names_beside_of};
 ghost use Rattle.conf_judge.specs.Places.{item_content as item_content_of};
@@ -125,7 +127,7 @@ fn check_object(
     place: Place,
     members: &Map<String, Value>,
 ) -> Result<(), ConfFault>
-    ensures { Gives (λ _. tt) result (refusal (flaws_of_object (known_of around.now) place (members_view members.now.entries))) }
+    ensures { Gives (λ _. tt) result (refusal (inner_flaws (known_of around.now) (At place) (object (members_view members.now.entries)))) }
 {
     let own = classed_place(alloc, place, members)?;
     check_present(alloc, own, members)?;
@@ -161,7 +163,7 @@ fn check_property(
     name: &str,
     value: &Value,
 ) -> Result<(), ConfFault>
-    ensures { Gives (λ _. tt) result (refusal (property_flaws (known_of around.now) place name.now (resolved_content_of place name.now) (view value.now) (inner_flaws (known_of around.now) (content_or_any (resolved_content_of place name.now)) (view value.now)))) }
+    ensures { Gives (λ _. tt) result (refusal (property_flaws (known_of around.now) place name.now (resolved_content_of place name.now) (view value.now) (inner_flaws (known_of around.now) (unwrap_or (resolved_content_of place name.now) Anything) (view value.now)))) }
 {
     let Some(content) = resolved_content(place, name) else {
         return Err(ConfFault::here(alloc, FaultKind::Unknown));

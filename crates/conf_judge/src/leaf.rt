@@ -1,10 +1,11 @@
 //! Values that hold no others: numbers, flags, texts and words.
-ghost use Rattle.std.specs.Prelude.{◌≡◌, ◌≤◌, IfErr, map, option_map};
+ghost use Rattle.std.specs.Prelude.{◌≡◌, ◌≤◌, IfErr, map, option_map, unwrap_or};
 ghost use Rattle.std.specs.List.{list_any};
 ghost use Rattle.std.specs.Str.{bytes_eq};
+ghost use Rattle.serde_json.specs.Data.{no_members};
 ghost use Rattle.serde_json.specs.View.{view, members_view};
 ghost use Rattle.conf_tree.specs.Reading.{Gives};
-ghost use Rattle.conf_judge.specs.Known.{known_of, or_none};
+ghost use Rattle.conf_judge.specs.Known.{known_of};
 ghost use Rattle.conf_judge.specs.Leaves.{only_if, whole_from, power_of, level, leaf_of};
 
 use crate::around::Around;
@@ -15,7 +16,7 @@ use serde_json::{Map, Value};
 use std::alloc::Global;
 
 /// Refuses what a value that holds no others is not.
-#[tactic(auto, unfolding(crate::specs::Leaves::leaf_of, crate::specs::Leaves::one_flag, crate::specs::Leaves::whole_or_text, crate::specs::Leaves::any_flag, crate::specs::Leaves::any_text, crate::specs::Leaves::printable, crate::specs::Leaves::identifier, crate::specs::Leaves::identifier_or_auto, crate::specs::Leaves::word_among, crate::specs::Leaves::class_word))]
+#[tactic(auto, unfolding(crate::specs::Leaves::leaf_of, crate::specs::Leaves::whole_or_text))]
 pub(crate) fn check_leaf(
     alloc: Global,
     around: &Around<'_>,
@@ -106,7 +107,7 @@ fn check_level(
     value: &Value,
     high: i128,
 ) -> Result<(), ConfFault>
-    ensures { Gives (λ _. tt) result (level (or_none (option_map (λ m. members_view m.now.entries) levels.entry)) high (view value.now)) }
+    ensures { Gives (λ _. tt) result (level (unwrap_or (option_map (λ m. members_view m.now.entries) levels.entry) no_members) high (view value.now)) }
 {
     match value {
         Value::String(name) => {

@@ -1,10 +1,11 @@
 //! The first limit of size that a configuration passes, in the order of a walk.
-ghost use Rattle.std.specs.Prelude.{◌≡◌, ◌≤◌, ◌<◌, ◌+◌, ◌++◌, IfErr, nat_le};
+ghost use Rattle.std.specs.Prelude.{◌≡◌, ◌≤◌, ◌<◌, ◌+◌, ◌++◌, IfErr, nat_le, unwrap_or};
 ghost use Rattle.serde_json.specs.View.{view, items_view, members_view};
 ghost use Rattle.conf_tree.specs.Reading.{Gives};
 ghost use Rattle.conf_tree.specs.Walk.{refusal};
 ghost use Rattle.conf_table.specs.Table.{content_under};
-ghost use Rattle.conf_judge.specs.Flaws.{told_by, content_or_any as content_or_any_of};
+ghost use Rattle.conf_table.specs.declared.row.Content.TheVariants.{Anything};
+ghost use Rattle.conf_judge.specs.Flaws.{told_by};
 ghost use Rattle.conf_judge.specs.Limits.{within_limit, times as times_of, elements as elements_of, count_of as count_of_data, ranges_of as ranges_of_data, place_fits as place_fits_of, key_fits as key_fits_of, fits as fits_of, inner_limits, item_limits, member_limits, content_limits, configuration_limits};
 
 use crate::numbers::natural_in;
@@ -100,7 +101,7 @@ static ANYTHING: Content = Content::Anything;
 #[cycle(limits)]
 #[tactic(auto, using(crate::proofs::FirstFlaw::told_first, crate::proofs::FirstFlaw::told_later))]
 fn check_property(alloc: Global, place: Place, name: &str, value: &Value) -> Result<(), ConfFault>
-    ensures { Gives (λ _. tt) result (refusal (told_by (within_limit (key_fits_of place name.now)) ++ content_limits (content_or_any_of (content_under place name.now)) (view value.now))) }
+    ensures { Gives (λ _. tt) result (refusal (told_by (within_limit (key_fits_of place name.now)) ++ content_limits (unwrap_or (content_under place name.now) Anything) (view value.now))) }
 {
     check_limit(alloc, key_fits(place, name))?;
     check_content(alloc, content_at(place, name).unwrap_or(&ANYTHING), value)

@@ -15,7 +15,7 @@ use serde_json::{Map, Value};
 use std::alloc::{AllocError, Global};
 
 /// Refuses a name that an entry of the map at this place cannot have.
-#[tactic(auto, unfolding(crate::specs::Names::key_of, crate::specs::Names::key_by, crate::specs::Names::plain_of))]
+#[tactic(auto, unfolding(crate::specs::Names::key_of, crate::specs::Names::key_by))]
 pub(crate) fn check_key(
     alloc: Global,
     around: &Around<'_>,

@@ -3,7 +3,7 @@
 ghost use Rattle.std.specs.Prelude.{◌≡◌, IfOk};
 ghost use Rattle.serde_json.specs.View.{members_view};
 ghost use Rattle.conf_tree.specs.Reading.{Gives};
-ghost use Rattle.conf_judge.specs.Flaws.{other_class as other_class_of, class_rule};
+ghost use Rattle.conf_judge.specs.Flaws.{class_rule};
 ghost use Rattle.conf_judge.specs.Places.{item_content as item_content_of, is_position as is_position_of, own_place as own_place_of, place_of_properties as place_of_properties_of};
 
 use conf_table::{Content, Place, class_of, class_place};
@@ -70,7 +70,7 @@ pub(crate) fn own_place(place: Place) -> Place
 }
 
 /// The place whose properties an object has. Refuses a field type without a class, or of one that cannot stand at this place.
-#[tactic(auto, unfolding(crate::specs::Flaws::class_rule, conf_table::specs::Classes::class_of, crate::specs::Places::place_of_properties))]
+#[tactic(auto, unfolding(crate::specs::Flaws::class_rule, crate::specs::Flaws::other_class, conf_table::specs::Classes::class_of, crate::specs::Places::place_of_properties))]
 pub(crate) fn classed_place(
     alloc: Global,
     place: Place,
@@ -86,18 +86,10 @@ pub(crate) fn classed_place(
     let word = text(alloc, At::Property("class"), value)?;
     match class_place(word) {
         Some(class) if place.admits(class) => Ok(class),
-        Some(_) => Err(ConfFault::here(alloc, other_class(place))),
+        Some(_) if place == Place::IdentifierFeature => {
+            Err(ConfFault::here(alloc, FaultKind::OutOfRange))
+        }
+        Some(_) => Err(ConfFault::here(alloc, FaultKind::WrongKind)),
         None => Err(At::Property("class").fault(alloc, FaultKind::OutOfRange)),
-    }
-}
-
-/// The kind of fault that a field type of a class that cannot stand here is.
-#[tactic(auto, unfolding(crate::specs::Flaws::other_class))]
-fn other_class(place: Place) -> FaultKind
-    ensures { result ≡ other_class_of place }
-{
-    match place {
-        Place::IdentifierFeature => FaultKind::OutOfRange,
-        _ => FaultKind::WrongKind,
     }
 }

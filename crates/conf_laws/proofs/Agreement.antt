@@ -1,11 +1,11 @@
 -- What a judge knows around a value is what the value stands in.
-use Rattle.std.proofs.Common.{◌≡◌, ◌⊎◌, ◌+◌, ◌<◌, ℕ, zero, suc, Some, inl, inr, sym, ap, subst, ◌∙◌, arith, ◌↔◌, ◌||◌, Bool, true, false, List, [], ◌∷◌, Contains, Option, is_some, refl, codes, unwrap_or, option_map}
+use Rattle.std.proofs.Common.{◌≡◌, ◌⊎◌, ◌+◌, ◌<◌, ℕ, zero, suc, Some, inl, inr, sym, ap, subst, ◌∙◌, arith, ◌↔◌, ◌||◌, Bool, true, false, List, [], ◌∷◌, Contains, Option, is_some, refl, codes, unwrap_or, option_map, option_and_then, cond}
 use Rattle.conf_laws.specs.Around.{Around, member_of, item_of, levels_around, SaysDefault, HasDefault, IsBehindDefault, enumeration_around, IsDynamic, TakesName, IsBeside, IsTaken}
-use Rattle.conf_laws.proofs.TableWords.{Place, class_of}
+use Rattle.conf_laws.proofs.TableWords.{Place, class_of, is_dynamic_array}
 use Rattle.conf_laws.proofs.TableWords.places
-use Rattle.conf_laws.proofs.JudgeWords.{Known, nothing, inside, behind, with_taken, is_true, says_default, class_of_type, class_of_member, is_dynamic_array, is_dynamic, take, take_each, take_length, take_all, names_beside, with_names, is_taken, all_numbers, numbers_in}
-use Rattle.conf_laws.proofs.TreeWords.{optional, HasMember, get_member-put, get_member-put_other, Data, Items, no_items, item, null, boolean, object, Members, no_members, member, items_len, get_item, get_member}
-use Rattle.conf_laws.proofs.StdWords.{cases_lt, false≢true, or_cases, or_left, or_right, bytes_eq, bytes_eq-Decides}
+use Rattle.conf_laws.proofs.JudgeWords.{Known, nothing, inside, behind, with_taken, is_true, says_default, class_of_member, is_dynamic, take, take_each, take_all, names_beside, with_names, is_taken, all_numbers, numbers_in}
+use Rattle.conf_laws.proofs.TreeWords.{optional, HasMember, get_member-put, get_member-put_other, Data, Items, no_items, item, null, boolean, object, Members, no_members, member, items_len, get_item, get_member, as_object}
+use Rattle.conf_laws.proofs.StdWords.{cases_lt, false≢true, or_cases, or_left, or_right, option_map_or, bytes_eq, bytes_eq-Decides}
 use Rattle.conf_laws.proofs.Readings.{by_test}
 use Rattle.conf_laws.proofs.DraftWords.{own_names, length_name}
 
@@ -150,11 +150,11 @@ each_taken (n ∷ names) taken name = joined (each_taken names (take n taken) na
 
 -- ---- dynamic arrays
 
-pub array_told : (o : Option Place) → is_dynamic_array o ≡ true → o ≡ Some places.DynamicArray
+pub array_told : (o : Option Place) → option_map_or is_dynamic_array o false ≡ true → o ≡ Some places.DynamicArray
 array_told (Some places.DynamicArray) e = refl
 array_told _ e = absurd cc
 
-type_told : (o : Option Data) → class_of_type o ≡ Some places.DynamicArray → (type : Members) × (o ≡ Some (object type)) × (class_of type ≡ Some places.DynamicArray)
+type_told : (o : Option Data) → option_and_then class_of (option_and_then as_object o) ≡ Some places.DynamicArray → (type : Members) × (o ≡ Some (object type)) × (class_of type ≡ Some places.DynamicArray)
 type_told (Some (object ms)) e = (ms, refl, e)
 type_told _ e = absurd cc
 
@@ -168,11 +168,11 @@ dynamic_told d e = member_told d (array_told (class_of_member d) e)
 
 pub told_dynamic : (d : Data) → IsDynamic d → is_dynamic d ≡ true
 unfolding is_dynamic
-told_dynamic d (ms, type, is, there, class) = subst (λ x. is_dynamic_array (class_of_member x) ≡ true) (sym is) (ap is_dynamic_array (ap class_of_type there ∙ class))
+told_dynamic d (ms, type, is, there, class) = rw (is, there, class) refl
 
 -- ---- the names of the members before one
 
-length_taken : (b : Bool) (d : Data) (k name : List ℕ) (taken : Members) → is_dynamic d ≡ b → IsTrue (is_taken (take_length b k taken) name) ↔ ((IsDynamic d × (name ≡ length_name k)) ⊎ IsTrue (is_taken taken name))
+length_taken : (b : Bool) (d : Data) (k name : List ℕ) (taken : Members) → is_dynamic d ≡ b → IsTrue (is_taken (cond b (take (length_name k) taken) taken) name) ↔ ((IsDynamic d × (name ≡ length_name k)) ⊎ IsTrue (is_taken taken name))
 length_taken true d k name taken is =
     let put = taken_put name (length_name k) taken in
     (λ t. elim (put.0 t) [ inl same ↦ inl (dynamic_told d is, same) | inr u ↦ inr u ], λ p. elim p [ inl (dynamic, same) ↦ put.1 (inl same) | inr u ↦ put.1 (inr u) ])
@@ -188,8 +188,8 @@ MembersTake ms name = (k : List ℕ) × (d : Data) × HasMember k d ms × TakesA
 all_taken : (ms taken : Members) (name : List ℕ) → IsTrue (is_taken (take_all ms taken) name) ↔ (MembersTake ms name ⊎ IsTrue (is_taken taken name))
 all_taken no_members taken name = (λ t. inr t, λ p. elim p [ inl (k, d, has, is) ↦ absurd has | inr t ↦ t ])
 all_taken (member k d ms) taken name =
-    joined (all_taken ms (take k (take_length (is_dynamic d) k taken)) name)
-    (joined {C = TakesAs k d name} (taken_put name k (take_length (is_dynamic d) k taken)) (length_taken (is_dynamic d) d k name taken refl) (λ p. p) (λ p. p))
+    joined (all_taken ms (take k (cond (is_dynamic d) (take (length_name k) taken) taken)) name)
+    (joined {C = TakesAs k d name} (taken_put name k (cond (is_dynamic d) (take (length_name k) taken) taken)) (length_taken (is_dynamic d) d k name taken refl) (λ p. p) (λ p. p))
     (λ p. elim p [ inl (l, e, has, named) ↦ (l, e, inr has, named) | inr named ↦ (k, d, inl (refl, refl), named) ]) back
   where
     back : MembersTake (member k d ms) name → MembersTake ms name ⊎ TakesAs k d name

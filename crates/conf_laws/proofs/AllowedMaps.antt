@@ -1,20 +1,20 @@
 -- Names, texts, integers and enumerations that have no flaw and pass no limit are ones that the rules allow.
 -- Lists that have an item for each entry of a map, under its name, are in byte order, and no longer than the map: environments and clock
 -- types that have no flaw and pass no limit are ones that the rules allow.
-use Rattle.std.proofs.Common.{◌≡◌, ℕ, ◌||◌, ◌&&◌, true, List, length, Ok, arith, ◌==◌, ◌%◌, Bool, false, Some, None, nat_lt, sym, ap, ◌≢◌, ℤ, pos, suc, ◌<◌, ◌≤◌, [], ◌∷◌, ◌++◌, Less, Equal, Greater, nat_cmp, refl, subst, ◌∙◌, length-append, All, Option, map, nat_le, int_le, codes, unwrap_or, negsuc}
+use Rattle.std.proofs.Common.{◌≡◌, ℕ, ◌||◌, ◌&&◌, true, List, length, Ok, arith, ◌==◌, ◌%◌, Bool, false, Some, None, nat_lt, sym, ap, ◌≢◌, ℤ, pos, suc, ◌<◌, ◌≤◌, [], ◌∷◌, ◌++◌, Less, Equal, Greater, nat_cmp, refl, subst, ◌∙◌, length-append, All, Option, map, nat_le, int_le, codes, option_and_then, unwrap_or, negsuc}
 use Rattle.conf_draft.specs.Integers.{made, align_of}
 use Rattle.conf_judge.specs.Limits as limits
 use Rattle.conf_laws.proofs.Numbers.{lowest_end, highest_end, ReadSo, read_so, some_size, natural_is_in}
-use Rattle.conf_laws.proofs.Properties.{AreGoodItems, IsGoodEntry, entry_in, plain_rest, good_items, item_first, item_rest, AreGood, IsGoodAt, good_object, own_properties, fitting_parts, needed_at, names_of, sorted_names, names_counted, by_good_object, entry_object, property_at, MapPlace, is_map, is_plain, Property, leads, needed_by, mappings_own, ObjectPlace, is_own, is_object}
+use Rattle.conf_laws.proofs.Properties.{AreGoodItems, IsGoodEntry, entry_in, plain_rest, good_items, item_first, item_rest, AreGood, IsGoodAt, good_object, own_properties, fitting_parts, needed_at, names_of, sorted_names, names_counted, all_in, entry_object, property_at, MapPlace, is_map, is_plain, Property, leads, needed_by, mappings_own, ObjectPlace, is_own, is_object}
 use Rattle.conf_laws.proofs.Readings.{under_no_test, proved_some, was_so, all_joined, mapped_some, same_natural, word_there, by_found}
 use Rattle.conf_laws.proofs.Sound.{needed_there, Leads}
 use Rattle.conf_laws.specs.ValueFlaws.{IsPair}
 use Rattle.conf_laws.proofs.TableWords.{entries_of, Place, At, WholeOrText, Whole, Text, Content}
 use Rattle.conf_laws.proofs.TableWords.places
-use Rattle.conf_laws.proofs.JudgeWords.{all_there, itself_of, form_of, some_list, some_object, Known, with_taken, key_fits, count_of, ranges_fit, key_of, key_by, names_beside, with_names, end_of, range_of, is_inside, inside_of, natural_in, numbers_of, numbers_in, numbers_or_all, item_content, leaf_of, whole_or_text, printable, fits, plain_of}
-use Rattle.conf_laws.proofs.TreeWords.{here, AllAbove, IsInOrder, whole_of, whole_or_not, given, OutOfRange, both_read, is_passed, name_of, is_reserved, plain_name_of, is_printable, Members, Data, number, array, Num, unsigned, negative, float, Items, no_items, item, no_members, member, object, items_len, as_integer, as_array, get_member, optional, as_natural, string, members_len}
-use Rattle.conf_laws.proofs.StdWords.{nat_tests, and_parts, or_parts, leb-true, nat_list_cmp_total, tied_itself, T_from_true, All-from_recursion, All-weaker, same_Some, slice_cmp, le_z_yes, list_any, AllByRecursion, bytes_eq, All-nil, length-map, map-append, IsStrictlySortedBy}
-use Rattle.conf_laws.proofs.DraftWords.{whole, low, high, ranges_in, ranges_of, labels_in, enumeration, mappings_or_none, with_mappings, integer, size_of, base_of, object_of, object as object_at, IsPlainUnsigned, LabelsInOrder, lowest, highest, IsRangeOf, IsEnumeration, is_identifier, unused_keywords, used_keywords, IsConfigName, IsPlainName, IsConfigText, Base, EnumType, IntType, Mapping, clock_type, clock_or_none, clocks_in, clocks_or_none, clock_types, entry_value, entries_in, entries_or_none, environment, natural, natural_of, word, InByteOrder, IsEnvironmentValue, IsClockType, ClockType, EnvironmentEntry}
+use Rattle.conf_laws.proofs.JudgeWords.{all_there, itself_of, form_of, Known, with_taken, key_fits, count_of, ranges_fit, key_of, key_by, names_beside, with_names, end_of, range_of, is_inside, inside_of, natural_in, numbers_of, numbers_in, all_numbers, item_content, leaf_of, whole_or_text, fits}
+use Rattle.conf_laws.proofs.TreeWords.{here, AllAbove, IsInOrder, whole_of, whole_or_not, given, OutOfRange, both_read, is_passed, name_of, is_reserved, plain_name_of, is_printable, Members, Data, number, array, Num, unsigned, negative, float, Items, no_items, item, no_members, member, object, items_len, as_integer, as_array, get_member, optional, as_natural, string, members_len, as_object}
+use Rattle.conf_laws.proofs.StdWords.{nat_tests, and_parts, or_parts, leb-true, nat_list_cmp_total, tied_itself, T_from_true, All-from_recursion, All-weaker, same_Some, slice_cmp, le_z_yes, list_any, option_map_or, AllByRecursion, bytes_eq, length-map, map-append}
+use Rattle.conf_laws.proofs.DraftWords.{whole, low, high, ranges_in, ranges_of, labels_in, enumeration, integer, size_of, base_of, object as object_at, properties, IsPlainUnsigned, LabelsInOrder, lowest, highest, IsRangeOf, IsEnumeration, is_identifier, unused_keywords, used_keywords, IsConfigName, IsPlainName, IsConfigText, Base, EnumType, IntType, Mapping, clock_type, clocks_in, clock_types, entry_value, entries_in, environment, natural, word, InByteOrder, IsEnvironmentValue, IsClockType, ClockType, EnvironmentEntry}
 
 pub config_name : (name : List ℕ) → name_of name ≡ Ok tt → IsConfigName name
 unfolding name_of
@@ -128,7 +128,7 @@ labels_good k (member label d ms) h =
 -- ---- how many there are
 
 some_here : (k : Known) (label : List ℕ) (d : Data) → itself_of k (At places.Ranges) d ≡ Ok tt → 0 < length (ranges_of label d)
-unfolding itself_of form_of some_list
+unfolding itself_of form_of
 some_here k label (array (item d ds)) e = omega arith
 some_here k label _ e = absurd cc
 
@@ -206,7 +206,7 @@ record AreMappings (k : Known) (ms : List Mapping) : Type 0 where
   few : length ms ≤ 1024
 
 not_empty : (k : Known) (labels : Members) → itself_of k (At places.Mappings) (object labels) ≡ Ok tt → labels ≢ no_members
-unfolding itself_of form_of some_object
+unfolding itself_of form_of
 not_empty k no_members e = absurd cc
 not_empty k (member label d ms) e = λ same. absurd cc
 
@@ -232,8 +232,8 @@ pub record HasMappings (k : Known) (ms : Members) : Type 0 where
   good : IsGoodAt k (At places.Mappings) (object labels)
 
 labels_there : (k : Known) (ms : Members) (d : Data) → get_member (codes "mappings") ms ≡ Some d → IsGoodAt k (At places.Mappings) d → HasMappings k ms
-unfolding object_at itself_of form_of some_object
-labels_there k ms (object labels) is h = record { labels = labels; there = ap (λ o. object_of (given o)) is; good = h }
+unfolding object_at itself_of form_of
+labels_there k ms (object labels) is h = record { labels = labels; there = ap (λ o. option_and_then as_object (given o)) is; good = h }
 labels_there k ms _ is h = absurd (let e = h.sound.itself in cc)
 
 pub has_mappings : (k : Known) (place : Place) (ms : Members) → Property true place (codes "mappings") (At places.Mappings) → all_there place ms ≡ Ok tt → AreGood k place ms → HasMappings k ms
@@ -243,7 +243,7 @@ has_mappings k place ms property there h =
 
 -- ---- the numbers of the integer
 
-numbers_said : (signed : Bool) (o : Option ℕ) (size : ℕ) → unwrap_or o 0 ≡ size → 0 < size → numbers_or_all signed o ≡ numbers_of signed size
+numbers_said : (signed : Bool) (o : Option ℕ) (size : ℕ) → unwrap_or o 0 ≡ size → 0 < size → option_map_or (numbers_of signed) o all_numbers ≡ numbers_of signed size
 numbers_said signed None size is some = absurd (omega (arith, is, some))
 numbers_said signed (Some n) size is some = ap (numbers_of signed) is
 
@@ -268,7 +268,7 @@ range_in k t m is h =
 
 -- ---- the whole
 
-enumeration_with : (k : Known) (signed : Bool) (ms : Members) (mappings : List Mapping) (t : IntType) → integer signed ms ≡ Some t → k.numbers ≡ numbers_in signed ms → AreMappings k mappings → IsEnumeration (with_mappings mappings t)
+enumeration_with : (k : Known) (signed : Bool) (ms : Members) (mappings : List Mapping) (t : IntType) → integer signed ms ≡ Some t → k.numbers ≡ numbers_in signed ms → AreMappings k mappings → IsEnumeration (record { int = t; mappings = mappings })
 enumeration_with k signed ms mappings t e known h = record {
   no_clock = (integer_says signed ms t e).no_clock;
   ranges = All-weaker (IsGoodMapping k) (IsRangeOf t) (λ m. range_in k t m (numbers_are k signed ms t known e)) mappings h.each;
@@ -279,11 +279,12 @@ enumeration_with k signed ms mappings t e known h = record {
 }
 
 pub enumeration_allowed : (k : Known) (signed : Bool) (ms : Members) (t : EnumType) → k.numbers ≡ numbers_in signed ms → HasMappings k ms → enumeration signed ms ≡ Some t → IsEnumeration t
-unfolding enumeration
+unfolding enumeration properties
 enumeration_allowed k signed ms t known h e =
-    let read = mapped_some (with_mappings (mappings_or_none (object_at (codes "mappings") ms))) (integer signed ms) t e in
-    let mappings : AreMappings k (mappings_or_none (object_at (codes "mappings") ms)) = subst (λ o. AreMappings k (mappings_or_none o)) (sym h.there) (mappings_good k h.labels h.good) in
-    subst IsEnumeration read.2 (enumeration_with k signed ms (mappings_or_none (object_at (codes "mappings") ms)) read.0 read.1 known mappings)
+    let mappings = labels_in (properties (codes "mappings") ms) in
+    let read = mapped_some (λ x. record { int = x; mappings = mappings }) (integer signed ms) t e in
+    let good : AreMappings k mappings = subst (λ o. AreMappings k (labels_in (unwrap_or o no_members))) (sym h.there) (mappings_good k h.labels h.good) in
+    subst IsEnumeration read.2 (enumeration_with k signed ms mappings read.0 read.1 known good)
 
 -- items that are good, in byte order of their names, and no more than `most`
 pub record AreAllowed {A : Type 0} (named : A → List ℕ) (good : A → Type 0) (most : ℕ) (xs : List A) : Type 0 where
@@ -307,10 +308,6 @@ last_under named good name names x xs is one h = record {
   names_are = map-append named xs (x ∷ []) ∙ ap (λ ns. ns ++ named x ∷ []) h.names_are ∙ ap (λ n. names ++ n ∷ []) is;
   items = all_joined good xs (x ∷ []) h.items (one, tt);
 }
-
-pub none_allowed : {A : Type 0} (named : A → List ℕ) (good : A → Type 0) (most : ℕ) → AreAllowed named good most []
-unfolding IsStrictlySortedBy
-none_allowed named good most = record { each = All-nil good; in_order = tt; few = omega arith }
 
 pub map_allowed : {A : Type 0} (named : A → List ℕ) (good : A → Type 0) (most : ℕ) (ms : Members) (xs : List A) → IsInOrder ms → nat_le (members_len ms) most ≡ true → AreUnder named good (names_of ms) xs → AreAllowed named good most xs
 map_allowed named good most ms xs order few h =
@@ -337,7 +334,7 @@ abbrev pub IsEntry : EnvironmentEntry → Type 0
 IsEntry e = IsPlainName e.name × IsEnvironmentValue e.value
 
 entries_under : (k : Known) (ms : Members) → AreGood k places.Environment ms → AreUnder entry_name IsEntry (names_of ms) (entries_in ms)
-unfolding key_of key_by plain_of entries_of
+unfolding key_of key_by entries_of
 entries_under k no_members h = none_under entry_name IsEntry
 entries_under k (member name d ms) h =
     let entry = entry_in k places.Environment name entry_content d ms (is_map MapPlace.environment) h in
@@ -350,20 +347,20 @@ IsEnvironment es = AreAllowed entry_name IsEntry 256 es
 pub environment_allowed : (k : Known) (place : Place) (ms : Members) → Leads place (codes "environment") (At places.Environment) → AreGood k place ms → IsEnvironment (environment ms)
 unfolding environment entries_of
 environment_allowed k place ms leads h =
-    by_good_object k place (codes "environment") places.Environment ms leads h (λ o. IsEnvironment (entries_or_none o)) (none_allowed entry_name IsEntry 256)
-    (λ x good. map_allowed entry_name IsEntry 256 x (entries_in x) good.in_order (fitting_parts places.Environment (object x) good.fitting).1 (entries_under k x (own_properties k places.Environment x (is_own ObjectPlace.environment) good)))
+    let all = all_in k place (codes "environment") places.Environment ms leads (is_own ObjectPlace.environment) h in
+    map_allowed entry_name IsEntry 256 _ _ all.0.in_order all.1 (entries_under k _ all.0)
 
 -- ---- one clock type
 
 description_allowed : (k : Known) (ms : Members) (s : List ℕ) → AreGood k places.ClockType ms → word (codes "description") ms ≡ Some s → IsConfigText s
-unfolding itself_of leaf_of printable fits word
+unfolding itself_of leaf_of fits word
 description_allowed k ms s h e =
     let value = property_at k places.ClockType (codes "description") (Text 4096) ms (string s) (leads Property.description) h (word_there (optional (codes "description") ms) s e) in config_text s (was_so _ value.sound.itself) value.within.fitting
 
 frequency_positive : (k : Known) (ms : Members) → AreGood k places.ClockType ms → 0 < unwrap_or (natural (codes "frequency") ms) 1000000000
 unfolding itself_of leaf_of natural
 frequency_positive k ms h =
-    by_found (λ (o : Option Data). 0 < unwrap_or (natural_of o) 1000000000) (optional (codes "frequency") ms)
+    by_found (λ (o : Option Data). 0 < unwrap_or (option_and_then as_natural o) 1000000000) (optional (codes "frequency") ms)
     (λ e. omega arith) (λ d is. by_found (λ (o : Option ℕ). 0 < unwrap_or o 1000000000) (as_natural d) (λ e. omega arith) (λ n e.
     let b = (natural_is_in 1 18446744073709551615 d n (omega arith) (property_at k places.ClockType (codes "frequency") (Whole (pos 1) (pos 18446744073709551615)) ms d (leads Property.frequency) h is).sound.itself e).0 in omega (arith, b)))
 
@@ -376,18 +373,15 @@ clock_allowed k name ms plain h = record { name = plain; description = λ text i
 abbrev clock_name : ClockType → List ℕ
 clock_name c = c.name
 
--- the clock type of an entry, and those behind it
-clock_first : (k : Known) (name : List ℕ) (d : Data) (cs : List ClockType) (names : List (List ℕ)) → IsGoodEntry k places.ClockTypes name (At places.ClockType) d → AreUnder clock_name IsClockType names cs → AreUnder clock_name IsClockType (name ∷ names) (clock_or_none name d ++ cs)
-unfolding key_of key_by plain_of entries_of clock_type
-clock_first k name d cs names entry rest =
+clocks_under : (k : Known) (ms : Members) → AreGood k places.ClockTypes ms → AreUnder clock_name IsClockType (names_of ms) (clocks_in ms)
+unfolding key_of key_by entries_of clock_type
+clocks_under k no_members h = none_under clock_name IsClockType
+clocks_under k (member name d ms) h =
+    let entry = entry_in k places.ClockTypes name (At places.ClockType) d ms (is_map MapPlace.clock_types) h in
     let inner = entry_object k places.ClockType d ((is_object ObjectPlace.clock_type).form k d) entry.value in
     let one = clock_allowed k name inner.0 (plain_name name entry.named) (own_properties k places.ClockType inner.0 (is_own ObjectPlace.clock_type) inner.2) in
-    subst (λ x. AreUnder clock_name IsClockType (name ∷ names) (clock_or_none name x ++ cs)) (sym inner.1) (one_under clock_name IsClockType name names (clock_type name inner.0) cs refl one rest)
-
-clocks_under_names : (k : Known) (ms : Members) → AreGood k places.ClockTypes ms → AreUnder clock_name IsClockType (names_of ms) (clocks_in ms)
-clocks_under_names k no_members h = none_under clock_name IsClockType
-clocks_under_names k (member name d ms) h =
-    clock_first k name d (clocks_in ms) (names_of ms) (entry_in k places.ClockTypes name (At places.ClockType) d ms (is_map MapPlace.clock_types) h) (clocks_under_names k ms (plain_rest k places.ClockTypes name d ms (is_plain MapPlace.clock_types) h))
+    subst (λ x. AreUnder clock_name IsClockType (name ∷ names_of ms) (clocks_in (member name x ms))) (sym inner.1)
+    (one_under clock_name IsClockType name (names_of ms) (clock_type name inner.0) (clocks_in ms) refl one (clocks_under k ms (plain_rest k places.ClockTypes name d ms (is_plain MapPlace.clock_types) h)))
 
 abbrev pub AreClocks : List ClockType → Type 0
 AreClocks cs = AreAllowed clock_name IsClockType 64 cs
@@ -395,5 +389,5 @@ AreClocks cs = AreAllowed clock_name IsClockType 64 cs
 pub clocks_allowed : (k : Known) (place : Place) (ms : Members) → Leads place (codes "clock-types") (At places.ClockTypes) → AreGood k place ms → AreClocks (clock_types ms)
 unfolding clock_types entries_of
 clocks_allowed k place ms leads h =
-    by_good_object k place (codes "clock-types") places.ClockTypes ms leads h (λ o. AreClocks (clocks_or_none o)) (none_allowed clock_name IsClockType 64)
-    (λ x good. map_allowed clock_name IsClockType 64 x (clocks_in x) good.in_order (fitting_parts places.ClockTypes (object x) good.fitting).1 (clocks_under_names k x (own_properties k places.ClockTypes x (is_own ObjectPlace.clock_types) good)))
+    let all = all_in k place (codes "clock-types") places.ClockTypes ms leads (is_own ObjectPlace.clock_types) h in
+    map_allowed clock_name IsClockType 64 _ _ all.0.in_order all.1 (clocks_under k _ all.0)

@@ -1,21 +1,19 @@
 -- A field type that has no flaw and passes no limit is what the rules allow: it holds an integer that is no clock's, an enumeration or a
 -- string; no array in it is empty where it stands in a dynamic array; and its static arrays nest as deep as the rules allow.
 -- Members lists, structures and extra members that have no flaw and pass no limit are ones that the rules allow.
-use Rattle.std.proofs.Common.{◌≡◌, ℕ, zero, suc, ◌*◌, ◌<◌, ◌≤◌, true, false, cond, List, [], ◌∷◌, length, Option, Some, None, refl, sym, ap, subst, ◌∙◌, arith, ◌+◌, Bool, ◌++◌, All, length-append, ◌==◌, ◌%◌, nat_lt, codes, not, nat_eq, nat_le, max, unwrap_or, option_map}
-use Rattle.conf_judge.specs.Names as judged
+use Rattle.std.proofs.Common.{◌≡◌, ℕ, zero, suc, ◌*◌, ◌<◌, ◌≤◌, true, false, cond, List, [], ◌∷◌, length, Option, Some, None, refl, sym, ap, subst, ◌∙◌, arith, ◌+◌, Bool, ◌++◌, All, length-append, ◌==◌, ◌%◌, nat_lt, codes, not, nat_eq, nat_le, max, unwrap_or, option_map, option_and_then, ◌&&◌}
 use Rattle.conf_laws.proofs.AllowedMaps.{enumeration_allowed, has_mappings, integer_says, plain_name}
 use Rattle.conf_laws.proofs.Numbers.{needed_natural}
-use Rattle.conf_laws.proofs.Properties.{AreGood, IsGood, IsGoodAt, good_object, properties_at, there_at, needed_at, AreGoodItems, entry_in, item_first, item_rest, own_properties, property_at, fitting_parts, good_items, list_in, by_good_object, Property, leads, needed_by, ObjectPlace, is_own, entry_own, MapPlace, is_map}
-use Rattle.conf_laws.proofs.Readings.{element_is, element_bits, in_array, by_element, mapped_some, then_some, same_natural, by_found, some_there, was_so, proved_some}
+use Rattle.conf_laws.proofs.Properties.{AreGood, IsGood, IsGoodAt, good_object, properties_at, there_at, needed_at, AreGoodItems, entry_in, item_first, item_rest, own_properties, property_at, fitting_parts, good_items, list_in, object_in, Property, leads, needed_by, ObjectPlace, is_own, entry_own, MapPlace, is_map}
+use Rattle.conf_laws.proofs.Readings.{element_is, element_bits, in_array, by_element, mapped_some, object_there, then_some, same_natural, by_found, some_there, was_so, proved_some}
 use Rattle.conf_laws.proofs.Sound.{class_place, optional_there, type_sound, Leads}
 use Rattle.conf_laws.proofs.TableLimitLaws.{times_told}
-use Rattle.conf_laws.proofs.TableWords.{Place, At, entries_of, class_of}
+use Rattle.conf_laws.proofs.TableWords.{Place, At, entries_of, class_of, is_dynamic_array}
 use Rattle.conf_laws.proofs.TableWords.places
-use Rattle.conf_laws.proofs.JudgeWords.{Known, inside, at_least_one, elements, natural_in, is_position, is_number, is_static_array, has_bits, itself_of, form_of, with_taken, fits, arrays_fit, is_outermost, is_taken, length_is_taken, take, with_names, names_beside, item_content, shape_of}
-use Rattle.conf_laws.proofs.TreeWords.{Data, object, Members, get_member, optional, both_read, plain_name_of, Items, no_items, item, no_members, member, array, items_len}
+use Rattle.conf_laws.proofs.JudgeWords.{Known, inside, at_least_one, elements, natural_in, is_position, is_number, is_static_array, has_bits, itself_of, form_of, with_taken, fits, arrays_fit, is_outermost, is_taken, is_dynamic, class_of_member, take, with_names, names_beside, item_content, shape_of}
+use Rattle.conf_laws.proofs.TreeWords.{Data, object, Members, get_member, optional, both_read, plain_name_of, Items, no_items, item, no_members, member, array, items_len, as_object}
 use Rattle.conf_laws.proofs.StdWords.{nat_tests, and_parts, All-from_recursion, same_Some, cond_some, AllByRecursion, option_map_or, leb-true, All-push, All-nil, list_any, IsDistinct, bytes_eq}
-use Rattle.conf_laws.proofs.DraftWords.{enumeration, static, length_of, of_class, field_type, element, integer, natural, HasBits, IsNest, elements_of, IsConfigLeaf, chain_of, Int, Enum, Str, Static, FieldType, list, member_type, told_type, member_of, behind_named, behind_entry, members_behind, made, align_for, align_of, members_or_none, listed, structure_of, structure_or_none, structure, extra_members, IsConfigMember, AreConfigMembers, IsConfigStruct, names_in, IsPlainName, own_names, length_name, shown_members, Auto, Plain, Dyn, MemberType, StructType}
-use Rattle.conf_draft.specs.Members as drafts
+use Rattle.conf_laws.proofs.DraftWords.{enumeration, static, length_of, of_class, field_type, element, integer, natural, HasBits, IsNest, elements_of, IsConfigLeaf, chain_of, Int, Enum, Str, Static, FieldType, list, object as object_at, member_type, member_of, behind, behind_named, behind_entry, members_behind, made, align_for, align_of, listed, structure_of, structure, extra_members, IsConfigMember, AreConfigMembers, IsConfigStruct, names_in, IsPlainName, own_names, length_name, shown_members, Auto, Plain, Dyn, MemberType, StructType}
 use Rattle.conf_laws.proofs.Agreement.{array_told}
 use Rattle.conf_laws.proofs.Structures.{names_of, AreTaken, AreFree, AreNamed, takes_itself, all_still_taken, one_more_named, with_member, keeps_taken, entry_shape, name_judged, name_free, AreApart, shown_of, none_named, members_list, extras_list, structure_class}
 
@@ -168,19 +166,14 @@ dynamic_allowed k ms t h e =
     let allowed = field_allowed inner.value k places.DynamicElementType t refl inner.good inner.is in
     ((allowed.leaf, nest_allowed inner.value t allowed nests.0 nests.1), bits_allowed inner.value t allowed (dynamic_element_bits k inner.value t inner.good inner.is))
 
-same_dynamic : (o : Option Place) → judged.is_dynamic_array o ≡ drafts.is_dynamic_array o
-same_dynamic None = refl
-same_dynamic (Some places.DynamicArray) = refl
-same_dynamic (Some _) = refl
-
 -- what is said of a member's type, by whether it is a dynamic array
 abbrev IsTyped : Bool → Members → MemberType → Type 0
 IsTyped true ms m = (t : FieldType) × (element ms ≡ Some t) × (Dyn t Auto ≡ m)
 IsTyped false ms m = (t : FieldType) × (field_type (object ms) ≡ Some t) × (Plain t ≡ m)
 
-typed : (ms : Members) (m : MemberType) → member_type ms ≡ Some m → IsTyped (drafts.is_dynamic_array (class_of ms)) ms m
+typed : (ms : Members) (m : MemberType) → member_type ms ≡ Some m → IsTyped (option_map_or is_dynamic_array (class_of ms) false) ms m
 unfolding member_type
-typed ms m e = go (drafts.is_dynamic_array (class_of ms)) e
+typed ms m e = go (option_map_or is_dynamic_array (class_of ms) false) e
   where
     go : (b : Bool) → cond b (option_map (λ t. Dyn t Auto) (element ms)) (option_map (λ t. Plain t) (field_type (object ms))) ≡ Some m → IsTyped b ms m
     go true e = mapped_some (λ t. Dyn t Auto) (element ms) m e
@@ -188,12 +181,12 @@ typed ms m e = go (drafts.is_dynamic_array (class_of ms)) e
 
 member_type_allowed : (k : Known) (ms : Members) (m : MemberType) → IsGoodAt k (At places.MemberType) (object ms) → member_type ms ≡ Some m → IsConfigMember m
 unfolding is_position inside
-member_type_allowed k ms m h e = go (drafts.is_dynamic_array (class_of ms)) refl (typed ms m e)
+member_type_allowed k ms m h e = go (option_map_or is_dynamic_array (class_of ms) false) refl (typed ms m e)
   where
-    go : (b : Bool) → drafts.is_dynamic_array (class_of ms) ≡ b → IsTyped b ms m → IsConfigMember m
+    go : (b : Bool) → option_map_or is_dynamic_array (class_of ms) false ≡ b → IsTyped b ms m → IsConfigMember m
     go false is (t, there, same) = subst IsConfigMember same (plain_allowed k (object ms) t h there)
     go true is (t, there, same) =
-        let class = array_told (class_of ms) (same_dynamic (class_of ms) ∙ is) in
+        let class = array_told (class_of ms) is in
         let own = properties_at k places.MemberType places.DynamicArray ms (class_place places.MemberType ms places.DynamicArray refl class) (good_object k places.MemberType ms h) in
         subst IsConfigMember same (dynamic_allowed k ms t own there)
 
@@ -207,12 +200,11 @@ record Tells (d : Data) (m : MemberType) : Type 0 where
   there : optional (codes "field-type") told ≡ Some (object type)
   says : member_type type ≡ Some m
 
-told_there : (told : Members) (o : Option Data) (m : MemberType) → optional (codes "field-type") told ≡ o → told_type o ≡ Some m → Tells (object told) m
-told_there told (Some (object ms)) m is e = record { told = told; type = ms; is = refl; there = is; says = e }
-told_there told _ m is e = absurd cc
-
 member_tells : (d : Data) (m : MemberType) → member_of d ≡ Some m → Tells d m
-member_tells (object told) m e = told_there told (optional (codes "field-type") told) m refl e
+unfolding object_at
+member_tells (object told) m e =
+    let type = then_some member_type (object_at (codes "field-type") told) m e in
+    record { told = told; type = type.0; is = refl; there = object_there (optional (codes "field-type") told) type.0 type.1; says = type.2 }
 member_tells _ m e = absurd cc
 
 type_allowed : (k : Known) (d : Data) (m : MemberType) → IsGoodAt k (At places.Member) d → Tells d m → IsConfigMember m
@@ -223,12 +215,11 @@ type_allowed k d m h tells =
 
 -- ---- its names
 
-dynamic_is : (d : Data) (m : MemberType) (tells : Tells d m) → judged.is_dynamic d ≡ drafts.is_dynamic_array (class_of tells.type)
-unfolding judged.is_dynamic
+dynamic_is : (d : Data) (m : MemberType) (tells : Tells d m) → is_dynamic d ≡ option_map_or is_dynamic_array (class_of tells.type) false
+unfolding is_dynamic
 dynamic_is d m tells =
-    ap (λ x. judged.is_dynamic_array (judged.class_of_member x)) tells.is
-    ∙ ap (λ o. judged.is_dynamic_array (judged.class_of_type o)) (optional_there (codes "field-type") tells.told (object tells.type) tells.there).0
-    ∙ same_dynamic (class_of tells.type)
+    ap (λ x. option_map_or is_dynamic_array (class_of_member x) false) tells.is
+    ∙ ap (λ o. option_map_or is_dynamic_array (option_and_then class_of (option_and_then as_object o)) false) (optional_there (codes "field-type") tells.told (object tells.type) tells.there).0
 
 abbrev names_by : Bool → List ℕ → List (List ℕ)
 names_by true name = length_name name ∷ name ∷ []
@@ -238,10 +229,10 @@ names_typed : (b : Bool) (name : List ℕ) (ms : Members) (m : MemberType) → I
 names_typed true name ms m (t, there, same) = ap (λ x. names_of (name, x)) same
 names_typed false name ms m (t, there, same) = ap (λ x. names_of (name, x)) same
 
-names_are : (name : List ℕ) (d : Data) (m : MemberType) → Tells d m → names_by (judged.is_dynamic d) name ≡ names_of (name, m)
-names_are name d m tells = ap (λ b. names_by b name) (dynamic_is d m tells) ∙ names_typed (drafts.is_dynamic_array (class_of tells.type)) name tells.type m (typed tells.type m tells.says)
+names_are : (name : List ℕ) (d : Data) (m : MemberType) → Tells d m → names_by (is_dynamic d) name ≡ names_of (name, m)
+names_are name d m tells = ap (λ b. names_by b name) (dynamic_is d m tells) ∙ names_typed (option_map_or is_dynamic_array (class_of tells.type) false) name tells.type m (typed tells.type m tells.says)
 
-free_by : (taken : Members) (name : List ℕ) (b : Bool) → is_taken taken name ≡ false → length_is_taken b taken name ≡ false → AreFree taken (names_by b name)
+free_by : (taken : Members) (name : List ℕ) (b : Bool) → is_taken taken name ≡ false → (b && is_taken taken (length_name name)) ≡ false → AreFree taken (names_by b name)
 free_by taken name true own long = (long, (own, tt))
 free_by taken name false own long = (own, tt)
 
@@ -256,8 +247,8 @@ record Follows (done more : List (List ℕ × MemberType)) (name : List ℕ) (d 
   tells : member_of d ≡ Some type
   is : done ++ (name, type) ∷ [] ≡ more
 
-follows_by : (done more : List (List ℕ × MemberType)) (name : List ℕ) (d : Data) (o : Option MemberType) → member_of d ≡ o → drafts.behind done name o ≡ Some more → Follows done more name d
-unfolding drafts.behind
+follows_by : (done more : List (List ℕ × MemberType)) (name : List ℕ) (d : Data) (o : Option MemberType) → member_of d ≡ o → behind done name o ≡ Some more → Follows done more name d
+unfolding behind
 follows_by done more name d None is e = absurd cc
 follows_by done more name d (Some t) is e = go (list_any (bytes_eq name) (names_in done)) e
   where
@@ -267,7 +258,7 @@ follows_by done more name d (Some t) is e = go (list_any (bytes_eq name) (names_
 
 follows : (done more : List (List ℕ × MemberType)) (name : List ℕ) (d : Data) → behind_entry done (object (member name d no_members)) ≡ Some more → Follows done more name d
 follows done more name d e =
-    let read = then_some (λ xs. behind_named xs no_members) (drafts.behind done name (member_of d)) more e in
+    let read = then_some (λ xs. behind_named xs no_members) (behind done name (member_of d)) more e in
     follows_by done more name d (member_of d) refl (read.1 ∙ read.2)
 
 pub record AreRead (before : List (List ℕ)) (ms : List (List ℕ × MemberType)) (taken : Members) : Type 0 where
@@ -275,18 +266,18 @@ pub record AreRead (before : List (List ℕ)) (ms : List (List ℕ × MemberType
   pub named : AreNamed before ms taken
 
 one_more : (k : Known) (before : List (List ℕ)) (done more : List (List ℕ × MemberType)) (taken : Members) (name : List ℕ) (d : Data)
-    → AreRead before done taken → IsGoodAt (with_taken taken k) (At places.Entry) (object (member name d no_members)) → Follows done more name d → AreRead before more (with_member name (judged.is_dynamic d) taken)
+    → AreRead before done taken → IsGoodAt (with_taken taken k) (At places.Entry) (object (member name d no_members)) → Follows done more name d → AreRead before more (with_member name (is_dynamic d) taken)
 one_more k before done more taken name d h good next =
     let entry = entry_in (with_taken taken k) places.Entry name (At places.Member) d no_members (is_map MapPlace.entry)
     (own_properties (with_taken taken k) places.Entry (member name d no_members) entry_own (good_object (with_taken taken k) places.Entry (member name d no_members) good)) in
     let tells = member_tells d next.type next.tells in
     let judged_well = both_read (plain_name_of name) _ tt (name_judged (with_taken taken k) name d entry.named) in
     let names = names_are name d next.type tells in
-    let b = judged.is_dynamic d in
+    let b = is_dynamic d in
     subst (λ l. AreRead before l (with_member name b taken)) next.is
     (record {
       types = All-push (λ (m : List ℕ × MemberType). IsConfigMember m.1) done (name, next.type) h.types (type_allowed (with_taken taken k) d next.type entry.value tells);
-      named = one_more_named before done taken (with_member name b taken) name next.type h.named (plain_name name judged_well.1) (subst (λ l. AreFree taken l) names (let p = name_free taken name d judged_well.2 in free_by taken name (judged.is_dynamic d) p.0 p.1))
+      named = one_more_named before done taken (with_member name b taken) name next.type h.named (plain_name name judged_well.1) (subst (λ l. AreFree taken l) names (let p = name_free taken name d judged_well.2 in free_by taken name (is_dynamic d) p.0 p.1))
           (λ ns t. keeps_taken name b taken ns t) (subst (λ l. AreTaken (with_member name b taken) l) names (takes_names name b taken));
     })
 
@@ -313,7 +304,7 @@ module _ (k : Known) (place : Place) (before : List (List ℕ)) (entries : item_
           let next = follows done step.0 name value (ap (λ x. behind_entry done x) (sym is) ∙ step.1) in
           let read = one_more k before done step.0 taken name value h (subst (λ x. IsGoodAt (with_taken taken k) (At places.Entry) x) is first) next in
           let rest = subst (λ x. AreGoodItems k place (with_names x taken) (suc i) ds) is (item_rest k place taken i d ds good) in
-          let all = later step.0 (with_member name (judged.is_dynamic value) taken) read rest step.2 in
+          let all = later step.0 (with_member name (is_dynamic value) taken) read rest step.2 in
           let counted = all.counted in
           let longer = ap (λ l. length l) (sym next.is) in
           record { taken = all.taken; read = all.read; counted = omega (arith, counted, longer, length-append done ((name, next.type) ∷ [])) }
@@ -354,7 +345,7 @@ items_allowed k place before ds ms entries taken few good e =
     }
 
 -- what is listed, of a list that was found
-found_allowed : (before : List (List ℕ)) (o : Option Items) (ms : List (List ℕ × MemberType)) → ((ds : Items) → o ≡ Some ds → members_behind [] ds ≡ Some ms → AreAllowed before ms) → members_or_none o ≡ Some ms → AreAllowed before ms
+found_allowed : (before : List (List ℕ)) (o : Option Items) (ms : List (List ℕ × MemberType)) → ((ds : Items) → o ≡ Some ds → members_behind [] ds ≡ Some ms → AreAllowed before ms) → members_behind [] (unwrap_or o no_items) ≡ Some ms → AreAllowed before ms
 found_allowed before None ms each e = subst (AreAllowed before) (same_Some [] ms e) (no_members_allowed before)
 found_allowed before (Some ds) ms each e = each ds refl e
 
@@ -387,7 +378,8 @@ object_allowed k ms s h e =
 pub structure_allowed : (k : Known) (place : Place) (name : List ℕ) (ms : Members) (s : StructType) → Leads place name (At places.StructureType) → AreGood k place ms → structure name ms ≡ Some s → IsConfigStruct s
 unfolding structure
 structure_allowed k place name ms s leads h e =
-    by_good_object k place name places.StructureType ms leads h (λ o. structure_or_none o ≡ Some s → IsConfigStruct s) (λ f. struct_of [] 1 s (no_members_allowed []) f) (λ inner good f. object_allowed k inner s good f) e
+    by_found (λ (o : Option Members). option_map_or structure_of o (made [] 1) ≡ Some s → IsConfigStruct s) (object_at name ms)
+    (λ is f. struct_of [] 1 s (no_members_allowed []) f) (λ x is f. object_allowed k x s (object_in k place name places.StructureType ms x leads h is) f) e
 
 -- ---- extra members
 
@@ -408,7 +400,7 @@ extras_of members s h e =
 pub extras_allowed : (k : Known) (place : Place) (name : List ℕ) (ms : Members) (s : StructType) → Leads place name (At places.ExtraMembers) → AreGood k place ms → extra_members name ms ≡ Some s → AreExtras s
 unfolding extra_members listed entries_of fits names_beside
 extras_allowed k place name ms s leads h e =
-    let read = then_some (λ members. made members 1) (members_or_none (list name ms)) s e in
+    let read = then_some (λ members. made members 1) (listed name ms) s e in
     let allowed = found_allowed own_names (list name ms) read.0
     (λ ds there found. let good = list_in k place name places.ExtraMembers ms ds leads h there in items_allowed k places.ExtraMembers own_names ds read.0 extras_list.entries ((refl, (refl, (refl, (refl, (refl, (refl, tt))))))) (fitting_parts places.ExtraMembers (array ds) good.within.fitting).1 good found) read.1 in
     extras_of read.0 s allowed read.2

@@ -1,20 +1,18 @@
 -- Features that have no flaw have types that the rules allow.
 -- What a configuration says that has no flaw, passes no limit and keeps the rules over the whole is what the rules allow.
-use Rattle.std.proofs.Common.{◌≡◌, ℕ, ◌&&◌, Bool, true, false, List, Option, Some, None, is_some, refl, sym, ap, subst, ◌∙◌, append_assoc, pos, ◌<◌, ◌^◌, [], ◌∷◌, ◌++◌, Ok, arith, map, codes, option_map, option_and_then, unwrap_or}
+use Rattle.std.proofs.Common.{◌≡◌, ℕ, ◌&&◌, Bool, true, false, List, Option, Some, None, is_some, refl, sym, ap, subst, ◌∙◌, append_assoc, pos, ◌<◌, ◌^◌, [], ◌∷◌, ◌++◌, Ok, Err, arith, map, codes, option_map, option_and_then, unwrap_or}
 use Rattle.conf_draft.specs.Integers.{align_of}
-use Rattle.conf_judge.specs.Names as judged
-use Rattle.conf_laws.proofs.AllowedMaps.{integer_says, unsigned_says, config_name, AreAllowed, AreUnder, none_under, none_allowed, last_under, map_allowed, AreClocks, clocks_allowed, IsEnvironment, environment_allowed}
+use Rattle.conf_laws.proofs.AllowedMaps.{integer_says, unsigned_says, config_name, AreAllowed, AreUnder, none_under, last_under, map_allowed, AreClocks, clocks_allowed, IsEnvironment, environment_allowed}
 use Rattle.conf_laws.proofs.Numbers.{number_told, natural_is_in}
-use Rattle.conf_laws.proofs.Properties.{AreGood, IsOwn, good_object, own_properties, property_at, by_good_object, names_of, entry_in, entry_object, IsGood, fitting_parts, entry_rest, IsGoodAt, properties_at, object_in, content_within, Property, leads, ObjectPlace, is_object, is_own, MapPlace, is_map, type_object}
-use Rattle.conf_laws.proofs.Readings.{mapped_some, same_natural, was_so, then_some, by_found}
+use Rattle.conf_laws.proofs.Properties.{AreGood, good_object, own_properties, property_at, all_in, names_of, entry_in, entry_object, IsGood, entry_rest, IsGoodAt, properties_at, object_in, content_within, Property, leads, ObjectPlace, is_object, is_own, MapPlace, is_map, type_object}
+use Rattle.conf_laws.proofs.Readings.{mapped_some, object_there, same_natural, was_so, then_some, by_found}
 use Rattle.conf_laws.proofs.Sound.{optional_there, Leads, content_sound}
 use Rattle.conf_laws.proofs.TableWords.{Place, At, entries_of, Level, class_of}
 use Rattle.conf_laws.proofs.TableWords.places
-use Rattle.conf_laws.proofs.JudgeWords.{Known, natural_in, shape_of, is_number, is_eight, is_byte, is_identifier, is_unsigned_integer, configuration_flaws, itself_of, behind, nothing, inside, members_or_none, leaf_of, level, level_or_none, whole_from, configuration_limits, key_of, key_by}
-use Rattle.conf_laws.proofs.TreeWords.{optional, as_natural, Data, boolean, object, Members, get_member, no_members, Ascends, string, member}
-use Rattle.conf_laws.proofs.StdWords.{and_parts, same_Some, append-nil, All-map}
-use Rattle.conf_laws.proofs.DraftWords.{alignment_of, alignment, number_type, magic_type, byte_type, if_on, own, feature_of, feature, byte_of, identifier_of, identifier, or_number, size, mapped, timestamp, or_empty, header_with, header_of, context_with, context_of, context, event_header_with, event_header_of, event_header, integer, size_of, default_align, natural, natural_of, object as object_at, OnlyIf, IsPlainUnsigned, ContextFeatures, EventFeatures, HeaderFeatures, IntType, clock_types, environment, level_of, event_with, event_type, event_behind, entry_behind, events_behind, events_or_none, event_types, header, object_of, stream_with, features_of, clock_of, stream_type, stream_behind, streams_behind, streams_or_none, stream_types, draft_from, draft_with, draft_of_type, draft_of_trace, draft_of_root, draft_of, Draft, IsConfigStruct, IsStreamType, IsConfig, IsConfigName, IsPlainName, ClockType, Config, EnvironmentEntry, EventType, StreamType, StructType}
-use Rattle.conf_draft.specs.Streams.{entry_behind as stream_entry_behind}
+use Rattle.conf_laws.proofs.JudgeWords.{Known, natural_in, shape_of, is_number, is_eight, is_byte, is_identifier, is_unsigned_integer, configuration_flaws, itself_of, behind, nothing, inside, members_or_none, leaf_of, level, whole_from, configuration_limits, key_of, key_by}
+use Rattle.conf_laws.proofs.TreeWords.{optional, as_natural, Data, boolean, object, Members, get_member, no_members, Ascends, string, member, here, NoSuchAlias, as_object}
+use Rattle.conf_laws.proofs.StdWords.{and_parts, same_Some, append-nil, option_map_or, All-map}
+use Rattle.conf_laws.proofs.DraftWords.{alignment_of, alignment, number_type, magic_type, byte_type, if_on, feature_of, feature, byte_of, identifier_of, identifier, size, mapped, timestamp, header_with, header, context_with, context, event_header_with, event_header, integer, size_of, default_align, natural, object as object_at, properties, said_behind, OnlyIf, IsPlainUnsigned, ContextFeatures, EventFeatures, HeaderFeatures, IntType, clock_types, environment, level_of, event_with, event_type, event_types, stream_with, clock_of, stream_type, stream_types, draft_with, draft_of_type, draft_of_trace, draft_of_root, draft_of, Draft, IsConfigStruct, IsStreamType, IsConfig, IsConfigName, IsPlainName, ClockType, Config, EnvironmentEntry, EventType, StreamType, StructType}
 use Rattle.conf_laws.proofs.AllowedStructures.{structure_allowed, AreExtras, extras_allowed}
 use Rattle.conf_laws.specs.Rules.{KeepsStreamRules, KeepsRules}
 
@@ -24,7 +22,7 @@ on_or_off : (P : IntType → Type 0) (b : Bool) (s : IntType) (t : Option IntTyp
 on_or_off P true s t ps e = λ x is. subst P (same_Some s x (same_Some (Some s) t e ∙ is)) ps
 on_or_off P false s t ps e = λ x is. absurd (let none = same_Some None t e ∙ is in cc)
 
-own_only : (P : IntType → Type 0) (o : Option IntType) (t : Option IntType) → ((x : IntType) → o ≡ Some x → P x) → own o ≡ Some t → OnlyIf t P
+own_only : (P : IntType → Type 0) (o : Option IntType) (t : Option IntType) → ((x : IntType) → o ≡ Some x → P x) → option_map (λ own. Some own) o ≡ Some t → OnlyIf t P
 own_only P None t from e = absurd cc
 own_only P (Some y) t from e = λ x is. subst P (same_Some y x (same_Some (Some y) t e ∙ is)) (from y refl)
 
@@ -45,10 +43,10 @@ feature_allowed name b ms t e = feature_says IsPlainUnsigned name b number_type 
 size_allowed : (name : List ℕ) (ms : Members) (t : IntType) → size name ms ≡ Some t → IsPlainUnsigned t
 unfolding size
 size_allowed name ms t e =
-    let read = mapped_some or_number (feature name true number_type ms) t e in
+    let read = mapped_some (λ x. unwrap_or x number_type) (feature name true number_type ms) t e in
     subst IsPlainUnsigned read.2 (go read.0 (feature_allowed name true ms read.0 read.1))
   where
-    go : (o : Option IntType) → OnlyIf o IsPlainUnsigned → IsPlainUnsigned (or_number o)
+    go : (o : Option IntType) → OnlyIf o IsPlainUnsigned → IsPlainUnsigned (unwrap_or o number_type)
     go None only = (refl, refl)
     go (Some x) only = only x refl
 
@@ -93,7 +91,7 @@ magic_good k ms inner t h there e =
 abbrev pub IsByte : IntType → Type 0
 IsByte t = IsPlainUnsigned t × (t.size ≡ 8) × (t.align ≡ 8)
 
-eight_aligned : (o : Option Data) (size : ℕ) → is_eight o ≡ true → size ≡ 8 → unwrap_or (option_and_then alignment_of (natural_of o)) (default_align size) ≡ 8
+eight_aligned : (o : Option Data) (size : ℕ) → is_eight o ≡ true → size ≡ 8 → unwrap_or (option_and_then alignment_of (option_and_then as_natural o)) (default_align size) ≡ 8
 eight_aligned None size e is = ap default_align is
 eight_aligned (Some d) size e is = ap (λ o. unwrap_or (option_and_then alignment_of o) (default_align size)) (number_told (as_natural d) 8 e)
 
@@ -106,22 +104,20 @@ byte_good ms t e is =
     let size = size_is ms t 8 is q.0 in
     (unsigned_says ms t is, size, says.align_is ∙ eight_aligned (optional (codes "alignment") ms) (size_of ms) q.1 (sym says.size_is ∙ size))
 
-byte_only : (o : Option Data) (t : Option IntType) → ((ms : Members) (x : IntType) → o ≡ Some (object ms) → integer false ms ≡ Some x → IsByte x) → byte_of o ≡ Some t → OnlyIf t IsByte
-byte_only (Some (object ms)) t from e = own_only IsByte (integer false ms) t (λ x is. from ms x refl is) e
-byte_only _ t from e = absurd cc
-
 -- of an array whose elements are bytes
-array_good : (ms : Members) (t : Option IntType) → is_byte (get_member (codes "element-field-type") ms) ≡ true → byte_of (optional (codes "element-field-type") ms) ≡ Some t → OnlyIf t IsByte
+array_good : (ms : Members) (t : IntType) → is_byte (get_member (codes "element-field-type") ms) ≡ true → byte_of ms ≡ Some t → IsByte t
+unfolding byte_of object_at
 array_good ms t e is =
-    byte_only (optional (codes "element-field-type") ms) t
-    (λ inner x there says. byte_good inner x (subst (λ o. is_byte o ≡ true) (optional_there (codes "element-field-type") ms (object inner) there).0 e) says) is
+    let element = then_some (integer false) (object_at (codes "element-field-type") ms) t is in
+    let there = (optional_there (codes "element-field-type") ms (object element.0) (object_there _ element.0 element.1)).0 in
+    byte_good element.0 t (subst (λ o. is_byte o ≡ true) there e) element.2
 
 byte_default : IsByte byte_type
 byte_default = ((refl, refl), refl, refl)
 
 identifier_only : (b : Bool) (o : Option Data) (t : Option IntType) → ((ms : Members) → o ≡ Some (object ms) → is_byte (get_member (codes "element-field-type") ms) ≡ true) → identifier_of b o ≡ Some t → OnlyIf t IsByte
 identifier_only b (Some (boolean c)) t from e = on_or_off IsByte c byte_type t byte_default e
-identifier_only b (Some (object ms)) t from e = array_good ms t (from ms refl) e
+identifier_only b (Some (object ms)) t from e = own_only IsByte (byte_of ms) t (λ x is. array_good ms x (from ms refl) is) e
 identifier_only b _ t from e = on_or_off IsByte b byte_type t byte_default e
 
 identifier_allowed : (k : Known) (b : Bool) (ms : Members) (t : Option IntType) → AreGood k places.TraceFeatures ms → identifier (codes "uuid-field-type") b ms ≡ Some t → OnlyIf t IsByte
@@ -129,11 +125,6 @@ unfolding identifier shape_of is_identifier
 identifier_allowed k b ms t h e =
     identifier_only b (optional (codes "uuid-field-type") ms) t
     (λ inner there. ((and_parts (is_number (natural_in (codes "length") inner) 16) (is_byte (get_member (codes "element-field-type") inner)) (was_so _ (good_object k places.IdentifierFeature inner (property_at k places.TraceFeatures (codes "uuid-field-type") (At places.IdentifierFeature) ms (object inner) (leads Property.uuid) h there)).sound.shape)).1)) e
-
--- ---- the features of an object; what is left out is as an empty object
-
-pub or_empty_good : (k : Known) (place : Place) (name : List ℕ) (inner : Place) (ms : Members) → Leads place name (At inner) → IsOwn inner → AreGood k place ms → AreGood k inner (or_empty (object_at name ms))
-or_empty_good k place name inner ms leads own h = by_good_object k place name inner ms leads h (λ o. AreGood k inner (or_empty o)) (record { flaws = refl; limits = refl; in_order = tt; ascend = tt }) (λ x good. own_properties k inner x own good)
 
 -- ---- a packet's header
 
@@ -147,8 +138,8 @@ header_says (Some x) (Some y) (Some z) f e =
     let same = same_Some _ f e in (ap (λ r. Some r.magic) same, ap (λ r. Some r.uuid) same, ap (λ r. Some r.stream_id) same)
 header_says _ _ _ f e = absurd cc
 
-pub header_allowed : (k : Known) (has : Bool) (ms : Members) (f : HeaderFeatures) → AreGood k places.TraceFeatures ms → header_of has ms ≡ Some f → IsHeader f
-unfolding header_of
+pub header_allowed : (k : Known) (has : Bool) (ms : Members) (f : HeaderFeatures) → AreGood k places.TraceFeatures ms → header has ms ≡ Some f → IsHeader f
+unfolding header
 header_allowed k has ms f h e =
     let says = header_says _ _ _ f e in
     record {
@@ -175,9 +166,8 @@ context_says (Some a) (Some b) (Some c) (Some d) (Some e) (Some g) f is =
 context_says _ _ _ _ _ _ f is = absurd cc
 
 pub context_allowed : (clock : Option (List ℕ)) (ms : Members) (f : ContextFeatures) → context clock ms ≡ Some f → IsContext clock f
-unfolding context context_of
-context_allowed clock features f e =
-    let ms = or_empty (object_at (codes "packet") features) in
+unfolding context
+context_allowed clock ms f e =
     let says = context_says _ _ _ _ _ _ f e in
     record {
       packet_size = size_allowed (codes "total-size-field-type") ms f.packet_size says.0;
@@ -199,32 +189,27 @@ event_header_says (Some x) (Some y) f e = let same = same_Some _ f e in (ap (λ 
 event_header_says _ _ f e = absurd cc
 
 pub event_header_allowed : (clock : Option (List ℕ)) (ms : Members) (f : EventFeatures) → event_header clock ms ≡ Some f → IsEventHeader clock f
-unfolding event_header event_header_of
-event_header_allowed clock features f e =
-    let ms = or_empty (object_at (codes "event-record") features) in
+unfolding event_header
+event_header_allowed clock ms f e =
     let says = event_header_says _ _ f e in
     record { id = feature_allowed (codes "type-id-field-type") true ms f.id says.0; timestamp = timestamp_allowed clock (codes "timestamp-field-type") ms f.timestamp says.1 }
 
 -- ---- maps of types that are read one behind another
 
 -- each entry of such a map, an object, is read as a type, which is put behind those that are done
-module _ {A : Type 0} {b : Bool} {place inner : Place} (named : A → List ℕ) (good : A → Type 0) (map : MapPlace b place (At inner)) (one : ObjectPlace inner) (made : Members → List ℕ → Members → Option A)
-    (entry : Members → List A → List ℕ → Data → Option (List A)) (walk : Members → List A → Members → Option (List A)) (ends : (l : Members) (done : List A) → walk l done no_members ≡ Some done)
-    (goes : (l : Members) (done : List A) (name : List ℕ) (d : Data) (ms : Members) → walk l done (member name d ms) ≡ option_and_then (λ more. walk l more ms) (entry l done name d))
-    (reads : (l : Members) (done : List A) (name : List ℕ) (ms : Members) → entry l done name (object ms) ≡ option_and_then (λ x. Some (done ++ x ∷ [])) (made l name ms))
+module _ {A : Type 0} {b : Bool} {place inner : Place} (named : A → List ℕ) (good : A → Type 0) (map : MapPlace b place (At inner)) (one : ObjectPlace inner) (of : Members → List ℕ → Members → Option A)
     (keeps : (d : Data) (k : Known) → (behind place d k).levels ≡ k.levels)
-    (allowed : (k : Known) (name : List ℕ) (d : Data) (ms : Members) (x : A) → key_of k place name d ≡ Ok tt → AreGood k inner ms → made k.levels name ms ≡ Some x → (named x ≡ name) × good x) where
+    (allowed : (k : Known) (name : List ℕ) (d : Data) (ms : Members) (x : A) → key_of k place name d ≡ Ok tt → AreGood k inner ms → of k.levels name ms ≡ Some x → (named x ≡ name) × good x) where
   -- from here on, behind those that are done
-  types_from : (k j : Known) → j.levels ≡ k.levels → (ms : Members) (done xs : List A) (names : List (List ℕ)) → AreGood j place ms → AreUnder named good names done → walk k.levels done ms ≡ Some xs → AreUnder named good (names ++ names_of ms) xs
-  types_from k j is no_members done xs names own h e = subst (λ l. AreUnder named good l xs) (sym (append-nil names)) (subst (AreUnder named good names) (same_Some done xs (sym (ends k.levels done) ∙ e)) h)
+  types_from : (k j : Known) → j.levels ≡ k.levels → (ms : Members) (done xs : List A) (names : List (List ℕ)) → AreGood j place ms → AreUnder named good names done → said_behind (of k.levels) done ms ≡ Some xs → AreUnder named good (names ++ names_of ms) xs
+  types_from k j is no_members done xs names own h e = subst (λ l. AreUnder named good l xs) (sym (append-nil names)) (subst (AreUnder named good names) (same_Some done xs e) h)
   types_from k j is (member name d ms) done xs names own h e =
-      let read = then_some (λ more. walk k.levels more ms) (entry k.levels done name d) xs (sym (goes k.levels done name d ms) ∙ e) in
       let first = entry_in j place name (At inner) d ms (is_map map) own in
       let value = entry_object j inner d ((is_object one).form j d) first.value in
-      let says = then_some (λ x. Some (done ++ x ∷ [])) (made k.levels name value.0) read.0 (sym (reads k.levels done name value.0) ∙ ap (λ x. entry k.levels done name x) (sym value.1) ∙ read.1) in
-      let new = allowed j name d value.0 says.0 first.named (own_properties j inner value.0 (is_own one) value.2) (ap (λ l. made l name value.0) is ∙ says.1) in
-      let next = subst (AreUnder named good (names ++ name ∷ [])) (same_Some _ read.0 says.2) (last_under named good name names says.0 done new.0 new.1 h) in
-      subst (λ l. AreUnder named good l xs) (append_assoc names (name ∷ []) (names_of ms)) (types_from k (behind place d j) (keeps d j ∙ is) ms read.0 xs (names ++ name ∷ []) (entry_rest j place name d ms own) next read.2)
+      let read = then_some (λ x. said_behind (of k.levels) (done ++ x ∷ []) ms) (of k.levels name value.0) xs (ap (λ x. said_behind (of k.levels) done (member name x ms)) (sym value.1) ∙ e) in
+      let new = allowed j name d value.0 read.0 first.named (own_properties j inner value.0 (is_own one) value.2) (ap (λ l. of l name value.0) is ∙ read.1) in
+      subst (λ l. AreUnder named good l xs) (append_assoc names (name ∷ []) (names_of ms))
+      (types_from k (behind place d j) (keeps d j ∙ is) ms (done ++ read.0 ∷ []) xs (names ++ name ∷ []) (entry_rest j place name d ms own) (last_under named good name names read.0 done new.0 new.1 h) read.2)
 
 -- ---- log levels
 
@@ -234,7 +219,7 @@ highest = 9223372036854775807
 small : (d : Data) (n : ℕ) → whole_from (pos 0) (pos highest) d ≡ Ok tt → as_natural d ≡ Some n → n < 2 ^ 63
 small d n judged is = let b = (natural_is_in 0 highest d n (omega arith) judged is).1 in omega (arith, b)
 
-alias_small : (o : Option Data) (n : ℕ) → level_or_none (pos highest) o ≡ Ok tt → natural_of o ≡ Some n → n < 2 ^ 63
+alias_small : (o : Option Data) (n : ℕ) → option_map_or (whole_from (pos 0) (pos highest)) o (Err (here NoSuchAlias)) ≡ Ok tt → option_and_then as_natural o ≡ Some n → n < 2 ^ 63
 alias_small None n judged is = absurd cc
 alias_small (Some d) n judged is = small d n judged is
 
@@ -290,12 +275,9 @@ AreGoodEvents es = AreAllowed event_name IsGoodEvent 1024 es
 pub events_allowed : (k : Known) (place : Place) (ms : Members) (es : List EventType) → Leads place (codes "event-record-types") (At places.EventTypes) → AreGood k place ms → event_types k.levels ms ≡ Some es → AreGoodEvents es
 unfolding event_types key_of key_by entries_of behind
 events_allowed k place ms es leads h e =
-    by_good_object k place (codes "event-record-types") places.EventTypes ms leads h (λ o. events_or_none k.levels o ≡ Some es → AreGoodEvents es)
-    (λ f. subst AreGoodEvents (same_Some [] es f) (none_allowed event_name IsGoodEvent 1024))
-    (λ x good f. map_allowed event_name IsGoodEvent 1024 x es good.in_order (fitting_parts places.EventTypes (object x) good.fitting).1
-    (types_from event_name IsGoodEvent MapPlace.event_types ObjectPlace.event_type event_type entry_behind events_behind (λ l done. refl) (λ l done name d ns. refl)
-    (λ l done name ns. by_found (λ o. event_behind done o ≡ option_and_then (λ y. Some (done ++ y ∷ [])) o) (event_type l name ns) (λ is. refl) (λ y is. refl)) (λ d j. refl)
-    (λ j name d ns y judged own is. event_allowed j name ns y (config_name name judged) own is) k k refl x [] es [] (own_properties k places.EventTypes x (is_own ObjectPlace.event_types) good) (none_under event_name IsGoodEvent) f)) e
+    let all = all_in k place (codes "event-record-types") places.EventTypes ms leads (is_own ObjectPlace.event_types) h in
+    map_allowed event_name IsGoodEvent 1024 _ es all.0.in_order all.1
+    (types_from event_name IsGoodEvent MapPlace.event_types ObjectPlace.event_type event_type (λ d j. refl) (λ j name d ns y judged own is. event_allowed j name ns y (config_name name judged) own is) k k refl _ [] es [] all.0 (none_under event_name IsGoodEvent) e)
 
 -- ---- one data stream type
 
@@ -326,9 +308,9 @@ stream_allowed k name ms s named h e =
       sym says.0,
       record {
         name = subst IsConfigName says.0 named;
-        context = subst (λ c. IsContext c s.context) says.1 (context_allowed (clock_of ms) (features_of ms) s.context says.2);
+        context = subst (λ c. IsContext c s.context) says.1 (context_allowed (clock_of ms) _ s.context says.2);
         extras = extras_allowed k places.StreamType (codes "packet-context-field-type-extra-members") ms s.extras (leads Property.extras) h says.3;
-        event_header = subst (λ c. IsEventHeader c s.event_header) says.1 (event_header_allowed (clock_of ms) (features_of ms) s.event_header says.4);
+        event_header = subst (λ c. IsEventHeader c s.event_header) says.1 (event_header_allowed (clock_of ms) _ s.event_header says.4);
         common = structure_allowed k places.StreamType (codes "event-record-common-context-field-type") ms s.common (leads Property.common) h says.5;
         events = events_allowed k places.StreamType ms s.events (leads Property.event_types) h says.6;
       },
@@ -342,16 +324,13 @@ stream_name s = s.name
 abbrev pub AreGoodStreams : List StreamType → Type 0
 AreGoodStreams ss = AreAllowed stream_name IsGoodStream 64 ss
 
-pub streams_allowed : (k : Known) (place : Place) (ms : Members) (ss : List StreamType) → Leads place (codes "data-stream-types") (At places.StreamTypes) → AreGood k place ms → k.levels ≡ or_empty (object_at (codes "$log-level-aliases") ms) → stream_types ms ≡ Some ss → AreGoodStreams ss
+pub streams_allowed : (k : Known) (place : Place) (ms : Members) (ss : List StreamType) → Leads place (codes "data-stream-types") (At places.StreamTypes) → AreGood k place ms → k.levels ≡ properties (codes "$log-level-aliases") ms → stream_types ms ≡ Some ss → AreGoodStreams ss
 unfolding stream_types key_of key_by entries_of behind
 streams_allowed k place ms ss leads h levels e =
-    by_good_object k place (codes "data-stream-types") places.StreamTypes ms leads h (λ o. streams_or_none k.levels o ≡ Some ss → AreGoodStreams ss)
-    (λ f. subst AreGoodStreams (same_Some [] ss f) (none_allowed stream_name IsGoodStream 64))
-    (λ x good f. map_allowed stream_name IsGoodStream 64 x ss good.in_order (fitting_parts places.StreamTypes (object x) good.fitting).1
-    (types_from stream_name IsGoodStream MapPlace.stream_types ObjectPlace.stream_type stream_type stream_entry_behind streams_behind (λ l done. refl) (λ l done name d ns. refl)
-    (λ l done name ns. by_found (λ o. stream_behind done o ≡ option_and_then (λ y. Some (done ++ y ∷ [])) o) (stream_type l name ns) (λ is. refl) (λ y is. refl)) (λ d j. refl)
-    (λ j name d ns y judged own is. stream_allowed j name ns y (config_name name judged) own is) k k refl x [] ss [] (own_properties k places.StreamTypes x (is_own ObjectPlace.stream_types) good) (none_under stream_name IsGoodStream) f))
-    (subst (λ l. streams_or_none l (object_at (codes "data-stream-types") ms) ≡ Some ss) (sym levels) e)
+    let all = all_in k place (codes "data-stream-types") places.StreamTypes ms leads (is_own ObjectPlace.stream_types) h in
+    let said : said_behind (stream_type k.levels) [] (properties (codes "data-stream-types") ms) ≡ Some ss = subst (λ l. said_behind (stream_type l) [] (properties (codes "data-stream-types") ms) ≡ Some ss) (sym levels) e in
+    map_allowed stream_name IsGoodStream 64 _ ss all.0.in_order all.1
+    (types_from stream_name IsGoodStream MapPlace.stream_types ObjectPlace.stream_type stream_type (λ d j. refl) (λ j name d ns y judged own is. stream_allowed j name ns y (config_name name judged) own is) k k refl _ [] ss [] all.0 (none_under stream_name IsGoodStream) said)
 
 -- ---- the parts by themselves
 
@@ -361,27 +340,27 @@ pub record IsGoodConfig (c : Config) : Type 0 where
   pub header : IsHeader c.header
   pub streams : AreGoodStreams c.streams
 
-levels_same : (o : Option Data) → members_or_none o ≡ or_empty (object_of o)
+levels_same : (o : Option Data) → members_or_none o ≡ unwrap_or (option_and_then as_object o) no_members
 levels_same (Some (object ms)) = refl
 levels_same _ = refl
 
 draft_says : (given : Option (List ℕ)) (entries : List EnvironmentEntry) (ms : Members) (a : Option HeaderFeatures) (b : Option (List StreamType)) (draft : Draft) → draft_with given entries ms a b ≡ Some draft
     → (a ≡ Some draft.config.header) × (b ≡ Some draft.config.streams) × (draft.config.environment ≡ entries) × (draft.config.clocks ≡ clock_types ms)
 draft_says given entries ms (Some h) (Some ss) draft e =
-    let same = same_Some (draft_from given entries (clock_types ms) h ss ms) draft e in (ap (λ r. Some r.config.header) same, ap (λ r. Some r.config.streams) same, ap (λ r. r.config.environment) (sym same), ap (λ r. r.config.clocks) (sym same))
+    let same = same_Some _ draft e in (ap (λ r. Some r.config.header) same, ap (λ r. Some r.config.streams) same, ap (λ r. r.config.environment) (sym same), ap (λ r. r.config.clocks) (sym same))
 draft_says given entries ms _ _ draft e = absurd cc
 
 type_allowed : (k : Known) (given : Option (List ℕ)) (entries : List EnvironmentEntry) (ms : Members) (draft : Draft) → IsEnvironment entries → IsGood k places.TraceType ms → draft_of_type given entries ms ≡ Some draft → IsGoodConfig draft.config
-unfolding draft_of_type header object_at inside
+unfolding draft_of_type properties object_at inside
 type_allowed k given entries ms draft env h e =
     let j = inside places.TraceType ms k in
     let good = properties_at k places.TraceType places.TraceType ms (type_object.own ms) h in
     let says = draft_says given entries ms _ _ draft e in
-    let features = or_empty_good j places.TraceType (codes "$features") places.TraceFeatures ms (leads Property.trace_features) (is_own ObjectPlace.trace_features) good in
+    let features = all_in j places.TraceType (codes "$features") places.TraceFeatures ms (leads Property.trace_features) (is_own ObjectPlace.trace_features) good in
     record {
       environment = subst IsEnvironment (sym says.2) env;
       clocks = subst AreClocks (sym says.3) (clocks_allowed j places.TraceType ms (leads Property.clock_types) good);
-      header = header_allowed j _ _ draft.config.header features says.0;
+      header = header_allowed j _ _ draft.config.header features.0 says.0;
       streams = streams_allowed j places.TraceType ms draft.config.streams (leads Property.stream_types) good (levels_same (optional (codes "$log-level-aliases") ms)) says.1;
     }
 

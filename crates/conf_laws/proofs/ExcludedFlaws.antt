@@ -1,5 +1,5 @@
 -- Where the walk over a configuration's objects tells of nothing, the table knows of no flaw.
-use Rattle.std.proofs.Common.{◌≡◌, ◌⊎◌, ℕ, zero, suc, true, false, not, List, [], ◌∷◌, Contains, Option, Some, None, is_some, Ok, Err, inl, inr, refl, sym, ap, subst, ◌∙◌, arith, cond, codes}
+use Rattle.std.proofs.Common.{◌≡◌, ◌⊎◌, ℕ, zero, suc, true, false, not, List, [], ◌∷◌, Contains, Option, Some, None, is_some, Ok, Err, inl, inr, refl, sym, ap, subst, ◌∙◌, arith, cond, unwrap_or, codes}
 use Rattle.conf_laws.proofs.Agreement.{Agrees, nothing_agrees, inside_agrees, behind_agrees, Takes, takes_beside, takes_further, item_agrees, ItemParts, stands}
 use Rattle.conf_laws.proofs.ExcludedValues.{class_word_listed, value_excluded, at_name_excluded}
 use Rattle.conf_laws.proofs.Numbers.{number_told}
@@ -12,9 +12,10 @@ use Rattle.conf_laws.specs.TableFlaws.{IsNoClassAt, IsByte, IsIdentifier, HasNoB
 use Rattle.conf_laws.specs.ValueFlaws.{words_of_classes, IsNoKey, IsNoNameAt}
 use Rattle.conf_laws.proofs.TableWords.{class_words, admits_class, Told, rows_of, entries_of, is_by_index, under_entries, told_under, content_under, presence_under, Place, At, Content, Entries, Keys, class_of}
 use Rattle.conf_laws.proofs.TableWords.places
+use Rattle.conf_laws.proofs.TableWords.contents
 use Rattle.conf_laws.proofs.TableWords.keys
 use Rattle.conf_laws.proofs.TableWords.presences
-use Rattle.conf_laws.proofs.JudgeWords.{class_rule, row_there, rows_there, orders_there, all_there, told_by, may_inherit, resolved_content, is_left_out, content_or_any, property_flaws, inner_flaws, item_flaws, member_flaws, content_flaws, configuration_flaws, itself_of, Known, nothing, inside, behind, with_taken, names_beside, with_names, natural_in, is_position, place_of_properties, item_content, is_number, is_unsigned_integer, is_static_array, is_eight, is_byte, is_identifier, has_bits, element_has_bits, shape_of}
+use Rattle.conf_laws.proofs.JudgeWords.{class_rule, row_there, rows_there, orders_there, all_there, told_by, may_inherit, resolved_content, is_left_out, property_flaws, inner_flaws, item_flaws, member_flaws, content_flaws, configuration_flaws, itself_of, Known, nothing, inside, behind, with_taken, names_beside, with_names, natural_in, is_position, place_of_properties, item_content, is_number, is_unsigned_integer, is_static_array, is_eight, is_byte, is_identifier, has_bits, element_has_bits, shape_of}
 use Rattle.conf_laws.proofs.TreeWords.{Flaw, key, here, within, needed, optional, HasMember, refusal, Missing, both_read, IsNoWordOf, as_natural, Data, object, Members, array, Items, no_items, item, no_members, member, items_len, get_member, as_str}
 use Rattle.conf_laws.proofs.StdWords.{and-false, true≢false, false≢true, and_parts, option_map_or}
 
@@ -155,7 +156,7 @@ module _ (around : Around) (place : Place) (all : Members) where
   rows_clear flaw there start (HasNotItsRows.unknown name d has none) =
       let at_member = stands_behind around place all no_members all name d Parts.at_the_first has in
       let r = reached around place all at_member.0 (member name d at_member.1.0) at_member.1.1 start in
-      let told = subst (λ o. property_flaws r.known place name o d (inner_flaws r.known (content_or_any o) d) ≡ []) (is_none place name none) (first_flaws r.known place name d at_member.1.0 r.clear).0 in
+      let told = subst (λ o. property_flaws r.known place name o d (inner_flaws r.known (unwrap_or o contents.Anything) d) ≡ []) (is_none place name none) (first_flaws r.known place name d at_member.1.0 r.clear).0 in
       absurd cc
   rows_clear flaw there start (HasNotItsRows.missing row among needed none) = rows_excluded all (rows_of place) row (both_read (rows_there all (rows_of place)) _ tt there).1 among needed none
   rows_clear flaw there start (HasNotItsRows.no_byte_order is a b) =

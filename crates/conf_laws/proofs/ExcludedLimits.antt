@@ -1,5 +1,5 @@
 -- Where the walk over a configuration tells of no limit, it passes none by the table.
-use Rattle.std.proofs.Common.{◌≡◌, ◌/◌, ◌%◌, ◌==◌, ◌<◌, ℕ, zero, suc, true, false, List, [], length, Some, is_some, inl, inr, refl, sym, ap, subst, ◌∙◌, arith, nat_le, nat_eq}
+use Rattle.std.proofs.Common.{◌≡◌, ◌/◌, ◌%◌, ◌==◌, ◌<◌, ℕ, zero, suc, true, false, List, [], length, Some, is_some, inl, inr, refl, sym, ap, subst, ◌∙◌, arith, unwrap_or, nat_le, nat_eq}
 use Rattle.conf_laws.proofs.ExcludedValues.{divided}
 use Rattle.conf_laws.proofs.Properties.{within_none, limits_at, first_limits, first_item_limits}
 use Rattle.conf_laws.proofs.Sound.{both_none}
@@ -8,9 +8,9 @@ use Rattle.conf_laws.specs.TableLimits.{PassesAt, IsLongText, IsNoPowerUpTo, Pas
 use Rattle.conf_laws.proofs.TableWords.{entries_of, Place, Content, Entries, Label}
 use Rattle.conf_laws.proofs.TableWords.places
 use Rattle.conf_laws.proofs.TableWords.contents
-use Rattle.conf_laws.proofs.JudgeWords.{told_by, content_or_any, within_limit, bytes_fit, divides, power_fits, arrays_fit, count_of, at_most, ranges_of, ranges_fit, place_fits, fits, is_label, key_fits, item_limits, member_limits, content_limits, configuration_limits, place_of_properties, item_content}
+use Rattle.conf_laws.proofs.JudgeWords.{told_by, within_limit, bytes_fit, divides, power_fits, arrays_fit, count_of, at_most, ranges_of, ranges_fit, place_fits, fits, is_label, key_fits, item_limits, member_limits, content_limits, configuration_limits, place_of_properties, item_content}
 use Rattle.conf_laws.proofs.TreeWords.{Flaw, HasMember, Data, string, array, object, Items, no_items, item, Members, no_members, member, get_item}
-use Rattle.conf_laws.proofs.StdWords.{false≢true, or_from, lt-leb, ne_eqb, and_left, and_right}
+use Rattle.conf_laws.proofs.StdWords.{false≢true, or_from, lt-leb, ne_eqb, and_left, and_right, option_map_or}
 
 -- ---- a value by itself
 
@@ -45,7 +45,7 @@ by_fails _ d passed = absurd passed
 label_fails : (place : Place) (name : List ℕ) (entries : Entries) → entries_of place ≡ Some entries → entries.keys ≡ Label → 4096 < length name → key_fits place name ≡ false
 unfolding key_fits
 label_fails place name entries is label long =
-    let labels : is_label (entries_of place) ≡ true = ap is_label is ∙ rw label refl in
+    let labels : option_map_or (λ x. is_label x.keys) (entries_of place) false ≡ true = ap (λ o. option_map_or (λ x. is_label x.keys) o false) is ∙ rw label refl in
     rw labels (lt-leb (length name) 4096 long)
 
 -- ---- at a member, and at an item
@@ -75,7 +75,7 @@ limit_excluded content d flaw (PassesLimitOf.in_property {place = place} {ms = m
     let p = place_of_properties place ms in
     let inner = (both_none (told_by (within_limit (fits (contents.At place) (object ms)))) _ e).1 in
     let clear = (both_none (told_by (within_limit (key_fits p name))) _ (member_clear p ms name v inner has)).1 in
-    limit_excluded inside v f passed (subst (λ o. content_limits (content_or_any o) v ≡ []) is clear)
+    limit_excluded inside v f passed (subst (λ o. content_limits (unwrap_or o contents.Anything) v ≡ []) is clear)
 limit_excluded content d flaw (PassesLimitOf.in_item {place = place} {ds = ds} i v f is passed) e =
     let inner = (both_none (told_by (within_limit (fits (contents.At place) (array ds)))) _ e).1 in
     limit_excluded (item_content place) v f passed (item_clear place 0 ds i v inner is)

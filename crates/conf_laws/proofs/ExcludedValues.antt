@@ -1,6 +1,6 @@
 -- A value of which nothing is told by itself is what its row says that it is, and of the kind of its place; and a name of which nothing
 -- is told is one that the entry can have.
-use Rattle.std.proofs.Common.{◌≡◌, ◌⊎◌, ◌+◌, ◌*◌, ◌/◌, ◌≤◌, ◌<◌, ◌^◌, ◌%◌, ◌==◌, ◌&&◌, ◌||◌, ℕ, zero, suc, ℤ, pos, negsuc, ◌<ℤ◌, Bool, true, false, cond, List, [], ◌∷◌, map, Contains, Some, is_some, Ok, inl, inr, refl, sym, ap, subst, ◌∙◌, arith, ◌↔◌, length, codes, nat_le, nat_lt, nat_eq, int_le, unwrap_or, option_map}
+use Rattle.std.proofs.Common.{◌≡◌, ◌⊎◌, ◌+◌, ◌*◌, ◌/◌, ◌≤◌, ◌<◌, ◌^◌, ◌%◌, ◌==◌, ◌&&◌, ◌||◌, ℕ, zero, suc, ℤ, pos, negsuc, ◌<ℤ◌, Bool, true, false, cond, not, List, [], ◌∷◌, map, Contains, Some, is_some, Ok, inl, inr, refl, sym, ap, subst, ◌∙◌, arith, ◌↔◌, length, codes, nat_le, nat_lt, nat_eq, int_le, unwrap_or, option_map}
 use Rattle.uuid.specs.Text.{parsed}
 use borrow.Author.Differences.{le-true, lt_out}
 use Rattle.conf_laws.proofs.Agreement.{Agrees, IsTrue, told_dynamic}
@@ -14,9 +14,9 @@ use Rattle.conf_laws.proofs.TableWords.{ClassWord, class_words, class_in, words_
 use Rattle.conf_laws.proofs.TableWords.places
 use Rattle.conf_laws.proofs.TableWords.contents
 use Rattle.conf_laws.proofs.TableWords.keys
-use Rattle.conf_laws.proofs.JudgeWords.{any_object, any_list, one_member, some_list, some_object, entry, feature, size_feature, form_of, itself_of, Known, whole_from, is_power_of_two, power_of, any_flag, one_flag, any_text, printable, identifier, identifier_or_auto, word_among, class_word, whole_or_text, level, leaf_of, is_dynamic, is_taken, length_is_taken, free_of, plain_of, key_by, key_in, key_of, all_numbers, numbers_of, numbers_or_all, numbers_in, end_of, range_of, is_inside, inside_of}
-use Rattle.conf_laws.proofs.TreeWords.{Flaw, here, whole_of, OutOfRange, BadName, ReservedName, NameClash, listed, both_read, is_passed, IsNoText, IsNoFlag, IsNoWhole, IsNoConfigText, IsNoUuid, IsNoWordOf, IsControl, IsNoObject, IsNoList, IsNoName, IsNoPlainName, name_of, is_reserved, plain_name_of, is_printable, uuid_in, Data, boolean, string, array, Members, Items, no_items, item, no_members, member, items_len, members_len, as_str, as_number, as_integer, as_array}
-use Rattle.conf_laws.proofs.StdWords.{mul-zero, zero-mul, suc-mul, add-mul, mul-add, two-pow-succ, one-le-mul, true≢false, false≢true, and_parts, or_from, or_cases, ltb-true, lt-leb, ne_eqb, eqb-true, or_parts, leb-true, list_all_at, same_Some, bytes_eq-Decides, list_any, bytes_eq}
+use Rattle.conf_laws.proofs.JudgeWords.{any_object, feature, size_feature, form_of, itself_of, Known, nothing, only_if, whole_from, is_power_of_two, power_of, whole_or_text, level, leaf_of, is_dynamic, is_taken, free_of, key_by, key_of, all_numbers, numbers_of, numbers_in, end_of, range_of, is_inside, inside_of}
+use Rattle.conf_laws.proofs.TreeWords.{Flaw, here, whole_of, ◌>>=◌, text_of, flag_of, WrongKind, OutOfRange, BadName, ReservedName, NameClash, listed, both_read, is_passed, IsNoText, IsNoFlag, IsNoWhole, IsNoConfigText, IsNoUuid, IsNoWordOf, IsControl, IsNoObject, IsNoList, IsNoName, IsNoPlainName, name_of, is_reserved, plain_name_of, is_printable, uuid_in, Data, boolean, string, array, Members, Items, no_items, item, items_len, members_len, as_str, as_number, as_integer, as_array}
+use Rattle.conf_laws.proofs.StdWords.{mul-zero, zero-mul, suc-mul, add-mul, mul-add, two-pow-succ, one-le-mul, true≢false, false≢true, and_parts, and_from, option_map_or, or_from, or_cases, ltb-true, lt-leb, ne_eqb, eqb-true, or_parts, leb-true, list_all_at, same_Some, bytes_eq-Decides, list_any, bytes_eq}
 use Rattle.conf_laws.proofs.DraftWords.{lowest, highest, is_identifier, unused_keywords, used_keywords, length_name}
 
 -- ---- numbers
@@ -109,8 +109,7 @@ power_excluded d flaw e (IsNoPowerOfTwo.no_power m y is whole other) =
 
 -- ---- flags
 
-default_excluded : (k : Known) (around : Around) → Agrees k around → (d : Data) (flaw : Flaw) → one_flag k.has_default d ≡ Ok tt → ¬ IsNoDefault around d flaw
-unfolding one_flag
+default_excluded : (k : Known) (around : Around) → Agrees k around → (d : Data) (flaw : Flaw) → (flag_of d >>= (λ b. only_if (not (b && k.has_default)))) ≡ Ok tt → ¬ IsNoDefault around d flaw
 default_excluded k around h d flaw e (IsNoDefault.no_flag (IsNoFlag.no_flag none)) = absurd (let f = rw none at e in cc)
 default_excluded k around h d flaw e (IsNoDefault.a_second is behind) = let before : k.has_default ≡ true = h.second.1 behind in absurd (let f = rw (is, before) at e in cc)
 
@@ -123,13 +122,12 @@ shown_character s c e (k, among, is) control =
     let tested : (nat_le 32 c || nat_eq c 10 || nat_eq c 9) ≡ false = or_from (nat_le 32 c || nat_eq c 10) (nat_eq c 9) (or_from (nat_le 32 c) (nat_eq c 10) small (ne_eqb c 10 control.1)) (ne_eqb c 9 control.2) in
     true≢false (sym e ∙ list_all_at (λ x. nat_le 32 x || nat_eq x 10 || nat_eq x 9) s k c among (ap (λ x. nat_le 32 x || nat_eq x 10 || nat_eq x 9) is ∙ tested))
 
-printable_excluded : (d : Data) (flaw : Flaw) → printable d ≡ Ok tt → ¬ IsNoConfigText d flaw
-unfolding printable
+printable_excluded : (d : Data) (flaw : Flaw) → (text_of d >>= (λ s. only_if (is_printable s))) ≡ Ok tt → ¬ IsNoConfigText d flaw
 printable_excluded d flaw e (IsNoConfigText.no_text none) = absurd (let h = rw none at e in cc)
 printable_excluded d flaw e (IsNoConfigText.has_control s c is among control) = shown_character s c (was_so (is_printable s) (rw is at e)) among control
 
-choice_excluded : (d : Data) (flaw : Flaw) → identifier_or_auto d ≡ Ok tt → (as_str d ≡ Some (codes "auto") → ⊥) → ¬ IsNoUuid d flaw
-unfolding identifier_or_auto uuid_in
+choice_excluded : (d : Data) (flaw : Flaw) → (text_of d >>= (λ s. only_if (bytes_eq s (codes "auto") || is_some (uuid_in s)))) ≡ Ok tt → (as_str d ≡ Some (codes "auto") → ⊥) → ¬ IsNoUuid d flaw
+unfolding uuid_in
 choice_excluded d flaw e other (IsNoUuid.no_text none) = absurd (let h = rw none at e in cc)
 choice_excluded d flaw e other (IsNoUuid.no_uuid s is none) = elim (or_cases (bytes_eq s (codes "auto")) (is_some (parsed s)) (was_so _ (rw is at e))) [
   | inl auto ↦ other (is ∙ ap Some ((bytes_eq-Decides s (codes "auto")).0 auto))
@@ -147,7 +145,7 @@ class_word_listed (c ∷ cs) w e =
 -- ---- a number or a text
 
 whole_or_text_excluded : (low high : ℤ) (d : Data) (flaw : Flaw) → whole_or_text low high d ≡ Ok tt → ¬ IsNoWholeOrText low high d flaw
-unfolding whole_or_text printable
+unfolding whole_or_text
 whole_or_text_excluded low high (string s) flaw e (IsNoWholeOrText.no_number none wrong) = absurd cc
 whole_or_text_excluded low high (string s) flaw e (IsNoWholeOrText.has_control some text) = printable_excluded (string s) flaw e text
 whole_or_text_excluded low high d flaw e (IsNoWholeOrText.no_number none wrong) = whole_excluded low high d flaw e wrong
@@ -168,13 +166,9 @@ object_excluded : (d : Data) (flaw : Flaw) → any_object d ≡ Ok tt → ¬ IsN
 unfolding any_object
 object_excluded d flaw e (IsNoObject.no_object none) = absurd (let h = rw none at e in cc)
 
-list_excluded : (d : Data) (flaw : Flaw) → any_list d ≡ Ok tt → ¬ IsNoList d flaw
-unfolding any_list
+list_excluded : (d : Data) (flaw : Flaw) → form_of nothing places.Members d ≡ Ok tt → ¬ IsNoList d flaw
+unfolding form_of
 list_excluded d flaw e (IsNoList.no_list none) = absurd (let h = rw none at e in cc)
-
-one_counted : (ms : Members) → one_member ms ≡ Ok tt → members_len ms ≡ 1
-one_counted (member k d no_members) e = refl
-one_counted _ e = absurd cc
 
 feature_excluded : (d : Data) (flaw : Flaw) → feature d ≡ Ok tt → ¬ IsNoFeature d flaw
 unfolding feature
@@ -211,7 +205,7 @@ module _ (around : Around) where
   numbers_there : (signed : Bool) (n : ℕ) → HasBits around signed n → unwrap_or (option_map (λ (e : Bool × Members). numbers_in e.0 e.1) (enumeration_around around)) all_numbers ≡ numbers_of signed n
   unfolding numbers_in
   numbers_there signed n (ms, is, has, least, most) =
-      ap (λ o. unwrap_or (option_map (λ (e : Bool × Members). numbers_in e.0 e.1) o) all_numbers) is ∙ ap (numbers_or_all signed) (number_found (codes "size") ms n has)
+      ap (λ o. unwrap_or (option_map (λ (e : Bool × Members). numbers_in e.0 e.1) o) all_numbers) is ∙ ap (λ o. option_map_or (numbers_of signed) o all_numbers) (number_found (codes "size") ms n has)
 
   -- a range from x to y that was read, inside the numbers from least to most
   record Inside (least most x y : ℤ) : Type 0 where
@@ -268,14 +262,14 @@ module _ (around : Around) where
 
 module _ (k : Known) (around : Around) (h : Agrees k around) where
   none_excluded : (place : Place) (d : Data) (flaw : Flaw) → form_of k place d ≡ Ok tt → ¬ IsNoneAt around place d flaw
-  unfolding form_of some_list some_object entry
+  unfolding form_of
   none_excluded places.Members d flaw e wrong = list_excluded d flaw e wrong
   none_excluded places.ExtraMembers d flaw e wrong = list_excluded d flaw e wrong
   none_excluded places.Ranges d flaw e (IsNoSomeList.no_list (IsNoList.no_list none)) = absurd (let f = rw none at e in cc)
   none_excluded places.Ranges d flaw e (IsNoSomeList.has_none is) = absurd (let f = rw is at e in cc)
   none_excluded places.Range d flaw e wrong = range_excluded around k.numbers h.numbers d flaw e wrong
   none_excluded places.Entry d flaw e (IsNoEntry.no_object (IsNoObject.no_object none)) = absurd (let f = rw none at e in cc)
-  none_excluded places.Entry d flaw e (IsNoEntry.not_one_property ms is other) = other (one_counted ms (rw is at e))
+  none_excluded places.Entry d flaw e (IsNoEntry.not_one_property ms is other) = other (eqb-true (members_len ms) 1 (is_passed (nat_eq (members_len ms) 1) tt tt (here WrongKind) (rw is at e)).0)
   none_excluded places.Mappings d flaw e (IsNoSomeObject.no_object (IsNoObject.no_object none)) = absurd (let f = rw none at e in cc)
   none_excluded places.Mappings d flaw e (IsNoSomeObject.has_none is) = absurd (let f = rw is at e in cc)
   none_excluded places.Feature d flaw e wrong = feature_excluded d flaw e wrong
@@ -287,7 +281,7 @@ module _ (k : Known) (around : Around) (h : Agrees k around) where
   none_excluded _ d flaw e wrong = object_excluded d flaw e wrong
 
   pub value_excluded : (content : Content) (d : Data) (flaw : Flaw) → itself_of k content d ≡ Ok tt → ¬ IsNoValueOf around content d flaw
-  unfolding itself_of leaf_of any_flag any_text identifier uuid_in word_among class_word
+  unfolding itself_of leaf_of uuid_in
   value_excluded (contents.Whole low high) d flaw e wrong = whole_excluded low high d flaw e wrong
   value_excluded (contents.PowerOfTwo high) d flaw e wrong = power_excluded d flaw e wrong
   value_excluded contents.Flag d flaw e (IsNoFlag.no_flag none) = absurd (let f = rw none at e in cc)
@@ -322,18 +316,18 @@ plain_excluded name flaw e (IsNoPlainName.a_reserved_word reserved) =
     elim reserved [ inl there ↦ false≢true (sym free.0 ∙ has_by_bytes unused_keywords name there) | inr there ↦ false≢true (sym free.1 ∙ has_by_bytes used_keywords name there) ]
 
 module _ (k : Known) (around : Around) (h : (name : List ℕ) → IsTrue (is_taken k.taken name) ↔ IsTaken around name) where
-  member_excluded : (name : List ℕ) (d : Data) (flaw : Flaw) → plain_name_of name ≡ Ok tt → (is_taken k.taken name ≡ false) × (length_is_taken (is_dynamic d) k.taken name ≡ false) → ¬ IsNoMemberName around name d flaw
+  member_excluded : (name : List ℕ) (d : Data) (flaw : Flaw) → plain_name_of name ≡ Ok tt → (is_taken k.taken name ≡ false) × ((is_dynamic d && is_taken k.taken (length_name name)) ≡ false) → ¬ IsNoMemberName around name d flaw
   member_excluded name d flaw plain free (IsNoMemberName.no_name wrong) = plain_excluded name flaw plain wrong
   member_excluded name d flaw plain free (IsNoMemberName.name_clash taken) = false≢true (sym free.0 ∙ (h name).1 taken)
   member_excluded name d flaw plain free (IsNoMemberName.length_clash dynamic taken) =
-      false≢true (sym free.1 ∙ ap (λ b. length_is_taken b k.taken name) (told_dynamic d dynamic) ∙ (h (length_name name)).1 taken)
+      false≢true (sym free.1 ∙ and_from (is_dynamic d) (is_taken k.taken (length_name name)) (told_dynamic d dynamic) ((h (length_name name)).1 taken))
 
   key_excluded : (place : Place) (by : Keys) (name : List ℕ) (d : Data) (flaw : Flaw) → key_by k place by name d ≡ Ok tt → ¬ IsNoKey around place by name d flaw
-  unfolding key_by plain_of free_of
+  unfolding key_by free_of
   key_excluded place keys.Name name d flaw e wrong = name_excluded name flaw e wrong
   key_excluded places.Entry keys.PlainName name d flaw e wrong =
       let r = both_read (plain_name_of name) _ tt e in
-      let free = or_parts (is_taken k.taken name) (length_is_taken (is_dynamic d) k.taken name) (under_no_test (is_taken k.taken name || length_is_taken (is_dynamic d) k.taken name) tt tt (here NameClash) r.2) in
+      let free = or_parts (is_taken k.taken name) (is_dynamic d && is_taken k.taken (length_name name)) (under_no_test _ tt tt (here NameClash) r.2) in
       member_excluded name d flaw r.1 free wrong
   key_excluded _ keys.PlainName name d flaw e wrong = plain_excluded name flaw e wrong
   key_excluded place keys.Label name d flaw e (IsNoLabel.has_control c among control) = shown_character name c (was_so (is_printable name) e) among control
@@ -341,4 +335,4 @@ module _ (k : Known) (around : Around) (h : (name : List ℕ) → IsTrue (is_tak
 
   pub at_name_excluded : (place : Place) (name : List ℕ) (d : Data) (flaw : Flaw) → key_of k place name d ≡ Ok tt → ¬ IsNoNameAt around place name d flaw
   unfolding key_of
-  at_name_excluded place name d flaw e (entries, is, wrong) = key_excluded place entries.keys name d flaw (ap (λ o. key_in k place o name d) (sym is) ∙ e) wrong
+  at_name_excluded place name d flaw e (entries, is, wrong) = key_excluded place entries.keys name d flaw (ap (λ o. option_map_or (λ x. key_by k place x.keys name d) o (Ok tt)) (sym is) ∙ e) wrong

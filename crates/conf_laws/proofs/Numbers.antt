@@ -10,7 +10,7 @@ use Rattle.conf_laws.proofs.TableWords.{presence_under, Place, Whole, Needed}
 use Rattle.conf_laws.proofs.JudgeWords.{is_null, itself_of, Known, leaf_of, whole_from, is_power_of_two, divides, numbers_of, end_of, pair_of, single_of, range_of, is_number}
 use Rattle.conf_laws.proofs.TreeWords.{here, index, whole_of, whole_or_not, wanted, at, OutOfRange, wanted_found, both_read, is_passed, read_there, ok_same, as_natural, natural_or_none, integer_or_none, Data, number, Num, Members, array, Items, no_items, item, as_integer, as_number, as_array}
 use Rattle.conf_laws.proofs.StdWords.{nat_tests, false≢true, and_parts, eqb-true, same_Some}
-use Rattle.conf_laws.proofs.DraftWords.{is_alignment, alignment_of, alignment, natural, natural_of, lowest, highest}
+use Rattle.conf_laws.proofs.DraftWords.{is_alignment, alignment_of, alignment, natural, lowest, highest}
 
 pub whole_there : (low high : ℤ) (found : Option ℤ) (z : ℤ) → whole_or_not low high found ≡ Ok z → (found ≡ Some z) × (int_le low z ≡ true) × (int_le z high ≡ true)
 whole_there low high None z e = absurd cc
@@ -68,7 +68,7 @@ unfolding itself_of leaf_of natural
 needed_natural k place name low high ms leads is h most =
     let p = needed_sound k place name (Whole (pos low) (pos high)) ms leads is h in
     let r = natural_read low high p.value p.sound.value.itself most in
-    (r.n, ap natural_of (optional_found name ms p.value p.found r.there) ∙ r.is, r.above, r.below)
+    (r.n, ap (option_and_then as_natural) (optional_found name ms p.value p.found r.there) ∙ r.is, r.above, r.below)
 
 -- ---- a number that is told
 

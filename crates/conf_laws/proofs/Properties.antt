@@ -1,14 +1,15 @@
 -- Objects of a configuration that have no flaw and pass no limit, whose names are in order, and what stands at their properties, as
 -- entries of maps, and as items of lists.
 -- What the table says of the properties, objects and maps that are read: each property at its place, with what it holds.
-use Rattle.std.proofs.Common.{◌≡◌, ◌++◌, ℕ, Bool, true, false, List, [], Some, refl, subst, suc, ◌∷◌, length, Less, nat_cmp, ap, ◌&&◌, Ok, Option, None, sym, ◌∙◌, pos, option_map, codes, negsuc}
+use Rattle.std.proofs.Common.{◌≡◌, ◌++◌, ℕ, Bool, true, false, List, [], Some, refl, subst, suc, ◌∷◌, length, Less, nat_cmp, ap, ◌&&◌, Ok, Option, sym, ◌∙◌, pos, option_map, option_and_then, unwrap_or, nat_le, le-leb, arith, codes, negsuc}
 use Rattle.conf_laws.proofs.Readings.{at_found, object_there, list_there, by_found}
 use Rattle.conf_laws.proofs.Sound.{both_none, first_none, optional_there, ObjectSound, ContentSound, object_sound, optional_sound, property_sound, Leads, needed_kept, IsPlain, content_sound, property_here, first_flaws, is_object as object_read, first_item, IsMapOf, map_content, IsObject}
-use Rattle.conf_laws.proofs.TableWords.{content_under, entries_of, presence_under, Place, At, Content, Needed, rows_of, Whole, Text, Level, WholeOrText, Presence}
-use Rattle.conf_laws.proofs.JudgeWords.{told_by, content_or_any, all_there, member_flaws, item_flaws, itself_of, any_object, Known, inside, behind, with_taken, within_limit, fits, inner_limits, member_limits, key_fits, content_limits, item_limits, place_fits, arrays_fit, at_most, count_of, ranges_fit, key_of, names_beside, with_names, item_content, place_of_properties, resolved_content, is_left_out, is_needed, form_of, is_position, own_place}
+use Rattle.conf_laws.proofs.TableWords.{content_under, entries_of, presence_under, Place, At, Content, Needed, rows_of, Whole, Text, Level, WholeOrText, Presence, Entries}
+use Rattle.conf_laws.proofs.TableWords.contents
+use Rattle.conf_laws.proofs.JudgeWords.{told_by, all_there, member_flaws, item_flaws, itself_of, any_object, Known, inside, behind, with_taken, within_limit, fits, inner_limits, member_limits, key_fits, content_limits, item_limits, place_fits, arrays_fit, at_most, count_of, ranges_fit, key_of, names_beside, with_names, item_content, place_of_properties, resolved_content, is_left_out, is_needed, form_of, is_position, own_place}
 use Rattle.conf_laws.proofs.TreeWords.{Flaw, key, within, index, AllAbove, IsInOrder, Ascends, MembersAscend, ItemsAscend, optional, Data, Members, member, Items, item, no_members, array, object, members_len, get_member}
-use Rattle.conf_laws.proofs.StdWords.{and_parts, slice_cmp, IsStrictlySortedBy, AllByRecursion}
-use Rattle.conf_laws.proofs.DraftWords.{list, object as object_at, InByteOrder}
+use Rattle.conf_laws.proofs.StdWords.{and_parts, option_map_or, slice_cmp, IsStrictlySortedBy, AllByRecursion}
+use Rattle.conf_laws.proofs.DraftWords.{list, object as object_at, properties, InByteOrder}
 use Rattle.conf_laws.proofs.TableWords.places
 
 pub within_none : (b : Bool) → told_by (within_limit b) ≡ [] → b ≡ true
@@ -31,13 +32,13 @@ pub record PropertyWithin (place : Place) (name : List ℕ) (content : Content) 
 
 -- the limits that a property passes, seen from its value
 abbrev pub limits_at : Place → List ℕ → Data → List Flaw
-limits_at place name d = told_by (within_limit (key_fits place name)) ++ (told_by (within_limit (fits (content_or_any (content_under place name)) d)) ++ inner_limits (content_or_any (content_under place name)) d)
+limits_at place name d = told_by (within_limit (key_fits place name)) ++ (told_by (within_limit (fits (unwrap_or (content_under place name) contents.Anything) d)) ++ inner_limits (unwrap_or (content_under place name) contents.Anything) d)
 
 pub within_here : (place : Place) (name : List ℕ) (content : Content) (d : Data) → content_under place name ≡ Some content → limits_at place name d ≡ [] → PropertyWithin place name content d
 within_here place name content d under l =
     let both = both_none (told_by (within_limit (key_fits place name))) _ l in
     let inner : told_by (within_limit (fits content d)) ++ inner_limits content d ≡ [] =
-    subst (λ o. told_by (within_limit (fits (content_or_any o) d)) ++ inner_limits (content_or_any o) d ≡ []) under both.1 in
+    subst (λ o. told_by (within_limit (fits (unwrap_or o contents.Anything) d)) ++ inner_limits (unwrap_or o contents.Anything) d ≡ []) under both.1 in
     record { value = content_within content d inner; short = within_none _ both.0 }
 
 -- the first property, and those behind it
@@ -139,10 +140,11 @@ pub object_in : (k : Known) (place : Place) (name : List ℕ) (inner : Place) (m
 unfolding object_at
 object_in k place name inner ms found leads h there = good_object k inner found (property_at k place name (At inner) ms (object found) leads h (object_there (optional name ms) found there))
 
--- what holds of no object and of each good one holds of a property
-pub by_good_object : (k : Known) (place : Place) (name : List ℕ) (inner : Place) (ms : Members) → Leads place name (At inner) → AreGood k place ms → (P : Option Members → Type 0) → P None → ((x : Members) → IsGood k inner x → P (Some x)) → P (object_at name ms)
+-- what holds of no properties and of those of each good object holds
+pub by_good_object : (k : Known) (place : Place) (name : List ℕ) (inner : Place) (ms : Members) → Leads place name (At inner) → AreGood k place ms → (P : Members → Type 0) → P no_members → ((x : Members) → IsGood k inner x → P x) → P (properties name ms)
+unfolding properties
 by_good_object k place name inner ms leads h P without with =
-    by_found (λ (o : Option Members). P o) (object_at name ms) (λ is. without) (λ x is. with x (object_in k place name inner ms x leads h is))
+    by_found (λ (o : Option Members). P (unwrap_or o no_members)) (object_at name ms) (λ is. without) (λ x is. with x (object_in k place name inner ms x leads h is))
 
 pub list_in : (k : Known) (place : Place) (name : List ℕ) (inner : Place) (ms : Members) (found : Items) → Leads place name (At inner) → AreGood k place ms → list name ms ≡ Some found → IsGoodAt k (At inner) (array found)
 unfolding list
@@ -155,6 +157,17 @@ fitting_parts place d e =
     let p = and_parts (arrays_fit place d) (at_most (entries_of place) (count_of d) && ranges_fit place d) e in
     let q = and_parts (at_most (entries_of place) (count_of d)) (ranges_fit place d) p.1 in
     (p.0, q.0, q.1)
+
+none_fit : (o : Option Entries) → at_most o 0 ≡ true
+none_fit o =
+    by_found (λ (most : Option ℕ). option_map_or (nat_le 0) most true ≡ true) (option_and_then (λ (e : Entries). e.most) o) (λ is. refl) (λ n is. le-leb 0 n (omega arith))
+
+-- the properties of an object or the entries of a map: good, and no more than the place allows; left out, there are none
+pub all_in : (k : Known) (place : Place) (name : List ℕ) (inner : Place) (ms : Members) → Leads place name (At inner) → IsOwn inner → AreGood k place ms
+    → AreGood k inner (properties name ms) × (at_most (entries_of inner) (members_len (properties name ms)) ≡ true)
+all_in k place name inner ms leads own h =
+    by_good_object k place name inner ms leads h (λ x. AreGood k inner x × (at_most (entries_of inner) (members_len x) ≡ true))
+    (record { flaws = refl; limits = refl; in_order = tt; ascend = tt }, none_fit (entries_of inner)) (λ x good. (own_properties k inner x own good, (fitting_parts inner (object x) good.fitting).1))
 
 -- ---- entries
 

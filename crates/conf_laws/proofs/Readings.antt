@@ -1,10 +1,10 @@
 -- What small steps and readings say that went well; what is computed from the first property of a name; and what holds of a field type
 -- where it holds of its element.
 use Rattle.std.proofs.Common.{◌≡◌, ℕ, Bool, true, false, List, Option, Some, None, is_some, refl, ap, IsSome, [], ◌∷◌, ◌++◌, cond, Ok, Err, Ordering, Less, Equal, Greater, nat_cmp, is_eq, sym, subst, ◌∙◌, option_map, option_and_then, codes}
-use Rattle.conf_laws.proofs.JudgeWords.{is_null, only_if, times, elements, elements_in_array, natural_in, natural_or_none, has_bits, element_has_bits}
-use Rattle.conf_laws.proofs.TreeWords.{Flaw, given, optional, proved, as_natural, Data, string, array, object, Items, Members, null, no_members, member, get_member}
+use Rattle.conf_laws.proofs.JudgeWords.{is_null, only_if, times, elements, elements_in_array, natural_in, has_bits, element_has_bits}
+use Rattle.conf_laws.proofs.TreeWords.{Flaw, given, optional, proved, as_natural, Data, string, array, object, Items, Members, null, no_members, member, get_member, as_array, as_object, as_str}
 use Rattle.conf_laws.proofs.StdWords.{false≢true, nat_list_cmp_total, tied_itself, is_eq-slice_cmp, same_Some, bytes_eq-Decides, slice_cmp, AllByRecursion, option_map_or, match_ordering, bytes_eq}
-use Rattle.conf_laws.proofs.DraftWords.{field_type, element, natural, natural_of, word_of, object_of, list_of}
+use Rattle.conf_laws.proofs.DraftWords.{field_type, element, natural}
 
 pub proved_some : {A : Type 0} (b : Bool) (f : b ≡ true → Option A) (x : A) → proved b f ≡ Some x → (h : b ≡ true) × (f h ≡ Some x)
 proved_some true f x e = (refl, e)
@@ -60,21 +60,21 @@ all_joined P (x ∷ xs) ys h k = (h.0, all_joined P xs ys h.1 k)
 
 -- ---- what a look-up says of the property
 
-pub object_there : (o : Option Data) (ms : Members) → object_of o ≡ Some ms → o ≡ Some (object ms)
+pub object_there : (o : Option Data) (ms : Members) → option_and_then as_object o ≡ Some ms → o ≡ Some (object ms)
 object_there (Some (object ns)) ms e = ap (λ x. Some (object x)) (same_Some ns ms e)
 object_there _ ms e = absurd cc
 
-pub list_there : (o : Option Data) (ds : Items) → list_of o ≡ Some ds → o ≡ Some (array ds)
+pub list_there : (o : Option Data) (ds : Items) → option_and_then as_array o ≡ Some ds → o ≡ Some (array ds)
 list_there (Some (array es)) ds e = ap (λ x. Some (array x)) (same_Some es ds e)
 list_there _ ds e = absurd cc
 
-pub word_there : (o : Option Data) (w : List ℕ) → word_of o ≡ Some w → o ≡ Some (string w)
+pub word_there : (o : Option Data) (w : List ℕ) → option_and_then as_str o ≡ Some w → o ≡ Some (string w)
 word_there (Some (string s)) w e = ap (λ x. Some (string x)) (same_Some s w e)
 word_there _ w e = absurd cc
 
 -- ---- the judge's look-ups and the draft's
 
-given_natural : (o : Option Data) → natural_of (given o) ≡ natural_or_none o
+given_natural : (o : Option Data) → option_and_then as_natural (given o) ≡ option_and_then as_natural o
 unfolding as_natural
 given_natural (Some (object ns)) = refl
 given_natural _ = refl

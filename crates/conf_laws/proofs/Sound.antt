@@ -1,14 +1,15 @@
 -- What an object and its properties are that have no flaw: its class may stand where it stands, a needed property is there, and each
 -- property that is there is what its row asks for.
-use Rattle.std.proofs.Common.{arith, ◌≡◌, ◌++◌, ℕ, Bool, true, false, cond, List, [], ◌∷◌, map, Option, Some, None, Result, Ok, Err, refl, sym, subst, ◌∙◌, suc, option_map, ap}
+use Rattle.std.proofs.Common.{arith, ◌≡◌, ◌++◌, ℕ, Bool, true, false, cond, List, [], ◌∷◌, map, Option, Some, None, Result, Ok, Err, refl, sym, subst, ◌∙◌, suc, option_map, option_and_then, ap}
 use Rattle.std.specs.Prelude.{⊤, ◌&&◌, codes, unwrap_or}
 use Rattle.conf_laws.proofs.Readings.{at_found, optional_found, by_found}
 use Rattle.conf_laws.proofs.TableWords.{class_words, class_in, admits_class, presence_under, Told, rows_of, row_in, content_under, Place, At, Content, Needed, Presence, class_named, class_of, class_said}
 use Rattle.conf_laws.proofs.TableWords.places
-use Rattle.conf_laws.proofs.JudgeWords.{told_by, class_rule, all_there, resolved_content, is_left_out, left_out, is_needed, is_null, property_flaws, content_or_any, inner_flaws, member_flaws, content_flaws, item_flaws, rows_there, row_there, orders_there, may_inherit, admitted, other_class, itself_of, any_object, Known, inside, behind, with_taken, key_of, with_names, place_of_properties, item_content, is_position, own_place, shape_of, is_unsigned_integer}
-use Rattle.conf_laws.proofs.TreeWords.{Flaw, key, within, index, here, optional, given, ◌>>=◌, at, needed, text_of, wanted_found, found_there, both_read, read_there, is_passed, Data, null, object, Members, member, Items, item, get_member, as_str}
+use Rattle.conf_laws.proofs.TableWords.contents
+use Rattle.conf_laws.proofs.JudgeWords.{told_by, class_rule, all_there, resolved_content, is_left_out, left_out, is_needed, is_null, property_flaws, inner_flaws, member_flaws, content_flaws, item_flaws, rows_there, row_there, orders_there, may_inherit, admitted, other_class, itself_of, any_object, Known, inside, behind, with_taken, key_of, with_names, place_of_properties, item_content, is_position, own_place, shape_of, is_unsigned_integer}
+use Rattle.conf_laws.proofs.TreeWords.{Flaw, key, within, index, here, optional, given, ◌>>=◌, at, needed, text_of, wanted_found, found_there, both_read, read_there, is_passed, Data, null, object, Members, member, Items, item, no_members, get_member, as_object, as_str}
 use Rattle.conf_laws.proofs.StdWords.{nat_tests, and-false, bytes_eq-Decides, bytes_eq}
-use Rattle.conf_laws.proofs.DraftWords.{word, word_of, object as object_in, object_of}
+use Rattle.conf_laws.proofs.DraftWords.{object as object_in, properties}
 
 -- ---- lists of flaws that are empty
 
@@ -55,13 +56,13 @@ pub record PropertySound (k : Known) (place : Place) (name : List ℕ) (content 
 
 -- the flaws of a property, seen from its value
 abbrev pub flaws_at : Known → Place → List ℕ → Data → List Flaw
-flaws_at k place name d = property_flaws k place name (resolved_content place name) d (inner_flaws k (content_or_any (resolved_content place name)) d)
+flaws_at k place name d = property_flaws k place name (resolved_content place name) d (inner_flaws k (unwrap_or (resolved_content place name) contents.Anything) d)
 
 pub property_here : (k : Known) (place : Place) (name : List ℕ) (content : Content) (d : Data) → resolved_content place name ≡ Some content → is_left_out place name d ≡ false → flaws_at k place name d ≡ [] → PropertySound k place name content d
 property_here k place name content d is there e =
     let flaws : told_by (itself_of k content d) ++ (told_by (key_of k place name d) ++ inner_flaws k content d) ≡ [] =
     subst (λ b. cond b [] (told_by (itself_of k content d) ++ (told_by (key_of k place name d) ++ inner_flaws k content d)) ≡ []) there
-    (subst (λ o. property_flaws k place name o d (inner_flaws k (content_or_any o) d) ≡ []) is e) in
+    (subst (λ o. property_flaws k place name o d (inner_flaws k (unwrap_or o contents.Anything) d) ≡ []) is e) in
     let one = both_none (told_by (itself_of k content d)) _ flaws in
     let two = both_none (told_by (key_of k place name d)) _ one.1 in
     record { value = record { itself = told_none _ one.0; inner = two.1 }; named = told_none _ two.0 }
@@ -305,13 +306,11 @@ module _ (k : Known) (around place : Place) (name : List ℕ) (ms : Members) (le
       let p = needed_sound k around name (At place) ms leads is h in
       let s = held_at k place p.value o p.sound.value in
       let found = optional_found name ms (object s.ms) (p.found ∙ ap Some s.is) refl in
-      (s.ms, ap object_of found, s.rows)
+      (s.ms, ap (option_and_then as_object) found, s.rows)
 
-  -- what holds of no object and of each sound one holds
-  pub by_object : (P : Option Members → Type 0) → P None → ((os : Members) → RowsSound (inside place os k) place os → P (Some os)) → P (object_in name ms)
-  unfolding object_in
-  by_object P without with = go (optional name ms) refl
-    where
-      go : (x : Option Data) → optional name ms ≡ x → P (object_of x)
-      go None f = without
-      go (Some d) f = let s = held d f in subst (λ x. P (object_of (Some x))) (sym s.is) (with s.ms s.rows)
+  -- what holds of no properties and of those of each sound object holds
+  pub by_object : (P : Members → Type 0) → P no_members → ((os : Members) → RowsSound (inside place os k) place os → P os) → P (properties name ms)
+  unfolding properties object_in
+  by_object P without with =
+      by_found (λ (o : Option Data). P (unwrap_or (option_and_then as_object o) no_members)) (optional name ms)
+      (λ f. without) (λ d f. let s = held d f in subst (λ x. P (unwrap_or (as_object x) no_members)) (sym s.is) (with s.ms s.rows))

@@ -1,17 +1,17 @@
 -- Field types that have no flaw say something, and so do the members of a structure, structures and the extra members of a packet
 -- context. The names that members take are apart, and apart from names that were taken before.
-use Rattle.std.proofs.Common.{◌≡◌, ◌%◌, ◌==◌, ℕ, pos, Bool, true, false, cond, Some, IsSome, nat_lt, nat_le, leb-true, lt-ltb, arith, refl, sym, ap, subst, Option, None, is_some, Ok, ◌∙◌, ◌+◌, ◌||◌, List, [], ◌∷◌, ◌++◌, length, All, length-append, append_assoc, ◌⊎◌, suc, option_map, inl, inr, codes, unwrap_or, option_and_then}
+use Rattle.std.proofs.Common.{◌≡◌, ◌%◌, ◌==◌, ◌&&◌, ℕ, nat_eq, pos, Bool, true, false, cond, Some, IsSome, nat_lt, nat_le, leb-true, lt-ltb, arith, refl, sym, ap, subst, Option, None, is_some, Ok, ◌∙◌, ◌+◌, ◌||◌, List, [], ◌∷◌, ◌++◌, length, All, length-append, append_assoc, ◌⊎◌, suc, option_map, inl, inr, codes, unwrap_or, option_and_then}
 use Rattle.conf_draft.specs.Integers as integers
 use Rattle.conf_laws.proofs.Numbers.{IsAlignment, alignment_or, needed_natural}
 use Rattle.conf_laws.proofs.Readings.{proved_there, element_is, by_element, mapped_there, all_joined, under_no_test, optional_found, then_there, by_found, by_test}
 use Rattle.conf_laws.proofs.Sound.{RowsSound, ContentSound, object_sound, needed_sound, TypeSound, type_sound, ObjectSound, PropertySound, object_at, content_sound, first_item, rows_sound, first_entry, Leads, given_sound}
 use Rattle.conf_laws.proofs.Properties.{Property, leads, needed_by, MapPlace, is_map}
-use Rattle.conf_laws.proofs.TableWords.{admits_class, is_class, Place, Whole, At, entries_of}
+use Rattle.conf_laws.proofs.TableWords.{admits_class, is_class, is_dynamic_array, Place, Whole, At, entries_of}
 use Rattle.conf_laws.proofs.TableWords.places
-use Rattle.conf_laws.proofs.JudgeWords.{itself_of, form_of, any_object, Known, inside, is_position, inner_flaws, item_flaws, entry, any_list, with_taken, take, is_taken, take_length, key_of, key_by, plain_of, free_of, is_dynamic, with_names, length_is_taken, names_beside, own_place, place_of_properties, item_content}
-use Rattle.conf_laws.proofs.TreeWords.{Members, Data, object, get_member, optional, ◌>>=◌, both_read, plain_name_of, Items, no_items, item, no_members, member, array, as_array, as_object}
-use Rattle.conf_laws.proofs.StdWords.{false≢true, or_parts, All-push, All-nil, list_any-append, map-append, bytes_eq-Decides, IsDistinct, AllByRecursion, list_any, bytes_eq}
-use Rattle.conf_laws.proofs.DraftWords.{enumeration, field_type, element, of_class, static, length_of, size_of, base_of, default_align, integer, Base, FieldType, object as object_in, object_of, list as list_in, list_of, is_dynamic_array, member_type, told_type, member_of, behind as behind_done, members_behind, made, align_for, members_or_none, listed, align_of, structure_of, structure_or_none, structure, extra_members, names_in, IsPlainName, length_name, shown_members, Auto, At as AtMember, Plain, Dyn, MemberType}
+use Rattle.conf_laws.proofs.JudgeWords.{itself_of, form_of, any_object, Known, inside, is_position, inner_flaws, item_flaws, nothing, with_taken, take, is_taken, key_of, key_by, free_of, is_dynamic, with_names, names_beside, own_place, place_of_properties, item_content}
+use Rattle.conf_laws.proofs.TreeWords.{Members, Data, object, get_member, optional, here, WrongKind, is_passed, members_len, ◌>>=◌, both_read, plain_name_of, Items, no_items, item, no_members, member, array, as_array, as_object}
+use Rattle.conf_laws.proofs.StdWords.{eqb-true, false≢true, or_parts, All-push, All-nil, list_any-append, map-append, bytes_eq-Decides, IsDistinct, option_map_or, AllByRecursion, list_any, bytes_eq}
+use Rattle.conf_laws.proofs.DraftWords.{enumeration, field_type, element, of_class, static, length_of, size_of, base_of, default_align, integer, Base, FieldType, object as object_in, list as list_in, member_type, member_of, behind as behind_done, members_behind, made, align_for, listed, align_of, structure_of, structure, extra_members, names_in, IsPlainName, length_name, shown_members, Auto, At as AtMember, Plain, Dyn, MemberType}
 use Rattle.conf_laws.proofs.Agreement.{taken_put}
 
 made_there : (size align : ℕ) (signed : Bool) (base : Base) → nat_lt 0 size ≡ true → nat_le size 64 ≡ true → IsAlignment align → IsSome (integers.made size align signed base)
@@ -121,7 +121,7 @@ all_still_taken name taken (other ∷ names) h = ((taken_put other name taken).1
 
 -- with those of the member
 abbrev pub with_member : List ℕ → Bool → Members → Members
-with_member name b taken = take name (take_length b name taken)
+with_member name b taken = take name (cond b (take (length_name name) taken) taken)
 
 pub keeps_taken : (name : List ℕ) (b : Bool) (taken : Members) (names : List (List ℕ)) → AreTaken taken names → AreTaken (with_member name b taken) names
 keeps_taken name true taken names h = all_still_taken name (take (length_name name) taken) names (all_still_taken (length_name name) taken names h)
@@ -205,17 +205,17 @@ array_said k ms h =
 
 -- ---- the type of a member
 
-member_class : (class : Place) → admits_class places.MemberType class ≡ true → (class ≡ places.DynamicArray) ⊎ ((is_dynamic_array (Some class) ≡ false) × (admits_class places.ElementType class ≡ true))
+member_class : (class : Place) → admits_class places.MemberType class ≡ true → (class ≡ places.DynamicArray) ⊎ ((is_dynamic_array class ≡ false) × (admits_class places.ElementType class ≡ true))
 unfolding admits_class
 member_class places.DynamicArray a = inl refl
 member_class places.Structure a = absurd (false≢true a)
 member_class _ a = inr (refl, a)
 
-member_by : (k : Known) (ms : Members) (t : TypeSound k places.MemberType ms) → (t.class ≡ places.DynamicArray) ⊎ ((is_dynamic_array (Some t.class) ≡ false) × (admits_class places.ElementType t.class ≡ true))
-    → IsSome (cond (is_dynamic_array (Some t.class)) (option_map (λ x. Dyn x Auto) (element ms)) (option_map (λ x. Plain x) (field_type (object ms))))
+member_by : (k : Known) (ms : Members) (t : TypeSound k places.MemberType ms) → (t.class ≡ places.DynamicArray) ⊎ ((is_dynamic_array t.class ≡ false) × (admits_class places.ElementType t.class ≡ true))
+    → IsSome (cond (is_dynamic_array t.class) (option_map (λ x. Dyn x Auto) (element ms)) (option_map (λ x. Plain x) (field_type (object ms))))
 member_by k ms t (inl same) =
     let said = array_said (inside t.class ms k) ms (subst (λ p. RowsSound (inside t.class ms k) p ms) same t.rows) in
-    subst (λ c. IsSome (cond (is_dynamic_array (Some c)) (option_map (λ x. Dyn x Auto) (element ms)) (option_map (λ x. Plain x) (field_type (object ms))))) (sym same) (mapped_there (λ x. Dyn x Auto) (element ms) said)
+    subst (λ c. IsSome (cond (is_dynamic_array c) (option_map (λ x. Dyn x Auto) (element ms)) (option_map (λ x. Plain x) (field_type (object ms))))) (sym same) (mapped_there (λ x. Dyn x Auto) (element ms) said)
 member_by k ms t (inr other) =
     subst (λ b. IsSome (cond b (option_map (λ x. Dyn x Auto) (element ms)) (option_map (λ x. Plain x) (field_type (object ms))))) (sym other.0) (mapped_there (λ x. Plain x) (field_type (object ms)) (type_said k places.MemberType ms t other.1))
 
@@ -223,16 +223,16 @@ member_said : (k : Known) (ms : Members) → ObjectSound k places.MemberType ms 
 unfolding member_type is_position
 member_said k ms h =
     let t = type_sound k places.MemberType ms refl h in
-    subst (λ o. IsSome (cond (is_dynamic_array o) (option_map (λ x. Dyn x Auto) (element ms)) (option_map (λ x. Plain x) (field_type (object ms))))) (sym t.is) (member_by k ms t (member_class t.class t.may_stand))
+    subst (λ o. IsSome (cond (option_map_or is_dynamic_array o false) (option_map (λ x. Dyn x Auto) (element ms)) (option_map (λ x. Plain x) (field_type (object ms))))) (sym t.is) (member_by k ms t (member_class t.class t.may_stand))
 
 -- ---- the member that an entry tells of
 
-told_said : (k : Known) (told : Members) (y : Data) → get_member (codes "field-type") told ≡ Some y → ContentSound k (At places.MemberType) y → IsSome (told_type (optional (codes "field-type") told))
-unfolding itself_of form_of
+told_said : (k : Known) (told : Members) (y : Data) → get_member (codes "field-type") told ≡ Some y → ContentSound k (At places.MemberType) y → IsSome (option_and_then member_type (object_in (codes "field-type") told))
+unfolding itself_of form_of object_in
 told_said k told y found h =
     let o = object_at k places.MemberType y h refl in
     let there = optional_found (codes "field-type") told (object o.ms) (found ∙ ap Some o.is) refl in
-    subst (λ x. IsSome (told_type x)) (sym there) (member_said k o.ms o.sound)
+    subst (λ x. IsSome (option_and_then member_type (option_and_then as_object x))) (sym there) (member_said k o.ms o.sound)
 
 member_there : (k : Known) (x : Data) → ContentSound k (At places.Member) x → IsSome (member_of x)
 unfolding itself_of form_of place_of_properties is_position own_place inside
@@ -243,9 +243,10 @@ member_there k x h =
 
 -- ---- an entry
 
-pub entry_shape : (d : Data) → entry d ≡ Ok tt → (name : List ℕ) × (x : Data) × (d ≡ object (member name x no_members))
-unfolding entry
+pub entry_shape : (d : Data) → form_of nothing places.Entry d ≡ Ok tt → (name : List ℕ) × (x : Data) × (d ≡ object (member name x no_members))
+unfolding form_of
 entry_shape (object (member name x no_members)) e = (name, x, refl)
+entry_shape (object (member name x (member other y ms))) e = absurd (let one = eqb-true (suc (suc (members_len ms))) 1 (is_passed (nat_eq (suc (suc (members_len ms))) 1) tt tt (here WrongKind) e).0 in omega (arith, one))
 entry_shape _ e = absurd cc
 
 -- one property, whose value tells of a member
@@ -265,13 +266,13 @@ entry_sound k d h =
 
 -- what is judged of its name
 pub name_judged : (k : Known) (name : List ℕ) (d : Data) → key_of k places.Entry name d ≡ Ok tt → (plain_name_of name >>= (λ ok. free_of k.taken name d)) ≡ Ok tt
-unfolding key_of key_by plain_of entries_of
+unfolding key_of key_by entries_of
 name_judged k name d e = e
 
 -- it is free, and so is that of its length
-pub name_free : (taken : Members) (name : List ℕ) (d : Data) → free_of taken name d ≡ Ok tt → (is_taken taken name ≡ false) × (length_is_taken (is_dynamic d) taken name ≡ false)
+pub name_free : (taken : Members) (name : List ℕ) (d : Data) → free_of taken name d ≡ Ok tt → (is_taken taken name ≡ false) × ((is_dynamic d && is_taken taken (length_name name)) ≡ false)
 unfolding free_of
-name_free taken name d e = or_parts (is_taken taken name) (length_is_taken (is_dynamic d) taken name) (under_no_test _ tt tt _ e)
+name_free taken name d e = or_parts (is_taken taken name) (is_dynamic d && is_taken taken (length_name name)) (under_no_test _ tt tt _ e)
 
 -- ---- members, one behind another
 
@@ -279,7 +280,7 @@ name_free taken name d e = or_parts (is_taken taken name) (length_is_taken (is_d
 more_taken : (done : List (List ℕ × MemberType)) (taken : Members) (name : List ℕ) (b : Bool) (t : MemberType) → AreTaken taken (names_in done) → AreTaken (with_member name b taken) (names_in (done ++ (name, t) ∷ []))
 more_taken done taken name b t h =
     subst (λ l. AreTaken (with_member name b taken) l) (sym (map-append (λ (m : List ℕ × MemberType). m.0) done ((name, t) ∷ [])))
-    (all_joined (λ n. is_taken (with_member name b taken) n ≡ true) (names_in done) (name ∷ []) (keeps_taken name b taken (names_in done) h) (takes_itself name (take_length b name taken), tt))
+    (all_joined (λ n. is_taken (with_member name b taken) n ≡ true) (names_in done) (name ∷ []) (keeps_taken name b taken (names_in done) h) (takes_itself name (cond b (take (length_name name) taken) taken), tt))
 
 -- a member whose name is none of those before it
 behind_there : (done : List (List ℕ × MemberType)) (name : List ℕ) (o : Option MemberType) → IsSome o → list_any (bytes_eq name) (names_in done) ≡ false → (t : MemberType) × (behind_done done name o ≡ Some (done ++ (name, t) ∷ []))
@@ -325,7 +326,7 @@ aligned (m ∷ members) align a = a
 
 -- a list of entries that tell of members
 pub record IsMemberList (place : Place) : Type 0 where
-  pub form : (k : Known) (d : Data) → itself_of k (At place) d ≡ any_list d
+  pub form : (k : Known) (d : Data) → itself_of k (At place) d ≡ form_of nothing places.Members d
   pub entries : item_content place ≡ At places.Entry
 
 pub members_list : IsMemberList places.Members
@@ -336,21 +337,21 @@ pub extras_list : IsMemberList places.ExtraMembers
 unfolding itself_of form_of item_content
 extras_list = record { form = λ k d. refl; entries = refl }
 
-is_list : (d : Data) → any_list d ≡ Ok tt → (ds : Items) × (d ≡ array ds)
-unfolding any_list
+is_list : (d : Data) → form_of nothing places.Members d ≡ Ok tt → (ds : Items) × (d ≡ array ds)
+unfolding form_of
 is_list (array ds) e = (ds, refl)
 is_list _ e = absurd cc
 
-members_there : (k : Known) (place : Place) (d : Data) → IsMemberList place → ContentSound k (At place) d → IsSome (members_or_none (as_array d))
+members_there : (k : Known) (place : Place) (d : Data) → IsMemberList place → ContentSound k (At place) d → IsSome (members_behind [] (unwrap_or (as_array d) no_items))
 members_there k place d m h =
     let s = is_list d (sym (m.form k d) ∙ h.itself) in
-    subst (λ x. IsSome (members_or_none (as_array x))) (sym s.1)
+    subst (λ x. IsSome (members_behind [] (unwrap_or (as_array x) no_items))) (sym s.1)
     (items_said s.0 k place m.entries (names_beside place) 0 [] tt (subst (λ x. inner_flaws k (At place) x ≡ []) s.1 h.inner))
 
 listed_there : (k : Known) (around place : Place) (name : List ℕ) (ms : Members) → Leads around name (At place) → IsMemberList place → RowsSound k around ms → IsSome (listed name ms)
 unfolding listed list_in
 listed_there k around place name ms leads m h =
-    by_found (λ (o : Option Data). IsSome (members_or_none (list_of o))) (optional name ms) (λ f. refl) (λ d f. members_there k place d m (given_sound k around name (At place) ms d leads h f).value)
+    by_found (λ (o : Option Data). IsSome (members_behind [] (unwrap_or (option_and_then as_array o) no_items))) (optional name ms) (λ f. refl) (λ d f. members_there k place d m (given_sound k around name (At place) ms d leads h f).value)
 
 -- ---- structures
 
@@ -365,18 +366,18 @@ unfolding admits_class
 structure_class places.Structure a = refl
 structure_class _ a = absurd (false≢true a)
 
-structure_said : (k : Known) (d : Data) → ContentSound k (At places.StructureType) d → IsSome (structure_or_none (as_object d))
+structure_said : (k : Known) (d : Data) → ContentSound k (At places.StructureType) d → IsSome (option_map_or structure_of (as_object d) (made [] 1))
 unfolding itself_of form_of is_position
 structure_said k d h =
     let o = object_at k places.StructureType d h refl in
     let t = type_sound k places.StructureType o.ms refl o.sound in
     let rows = subst (λ p. RowsSound (inside t.class o.ms k) p o.ms) (structure_class t.class t.may_stand) t.rows in
-    subst (λ x. IsSome (structure_or_none (as_object x))) (sym o.is) (structure_object_said (inside t.class o.ms k) o.ms rows)
+    subst (λ x. IsSome (option_map_or structure_of (as_object x) (made [] 1))) (sym o.is) (structure_object_said (inside t.class o.ms k) o.ms rows)
 
 pub structure_there : (k : Known) (around : Place) (name : List ℕ) (ms : Members) → Leads around name (At places.StructureType) → RowsSound k around ms → IsSome (structure name ms)
 unfolding structure object_in
 structure_there k around name ms leads h =
-    by_found (λ (o : Option Data). IsSome (structure_or_none (object_of o))) (optional name ms)
+    by_found (λ (o : Option Data). IsSome (option_map_or structure_of (option_and_then as_object o) (made [] 1))) (optional name ms)
     (λ f. structure_made [] 1 no_alignment) (λ d f. structure_said k d (given_sound k around name (At places.StructureType) ms d leads h f).value)
 
 pub extras_there : (k : Known) (around : Place) (name : List ℕ) (ms : Members) → Leads around name (At places.ExtraMembers) → RowsSound k around ms → IsSome (extra_members name ms)

@@ -1,18 +1,19 @@
 -- Each flaw of the walk over a configuration's objects is one of them by the table.
-use Rattle.std.proofs.Common.{◌≡◌, ◌≢◌, ◌⊎◌, ◌&&◌, ℕ, Bool, true, false, cond, List, Option, Some, None, is_some, IsSome, inl, inr, refl, sym, ap, ◌∙◌, not, [], ◌∷◌, Contains, Ok, Err, arith, suc, ◌++◌, map, Result}
+use Rattle.std.proofs.Common.{◌≡◌, ◌≢◌, ◌⊎◌, ◌&&◌, ◌||◌, ℕ, Bool, true, false, cond, List, Option, Some, None, is_some, IsSome, inl, inr, refl, sym, ap, ◌∙◌, not, [], ◌∷◌, Contains, Ok, Err, arith, suc, ◌++◌, map, Result, option_and_then, unwrap_or}
 use Rattle.std.specs.Prelude.{codes, ⊤}
 use Rattle.conf_laws.proofs.Agreement.{Agrees, nothing_agrees, inside_agrees, behind_agrees, Takes, takes_beside, takes_further, item_agrees, ItemParts, item_found}
 use Rattle.conf_laws.proofs.Numbers.{number_told}
 use Rattle.conf_laws.proofs.Readings.{some_none, element_bits, by_element, by_found, by_test}
-use Rattle.conf_laws.proofs.ValueFlawLaws.{either_step, not_passed, no_class_word, number_there, value_told, name_told}
+use Rattle.conf_laws.proofs.ValueFlawLaws.{either_step, not_passed, no_class_word, none_there, number_there, value_told, name_told}
 use Rattle.conf_laws.specs.Around.{HasNumber, Around, Parts, member_of, item_of}
 use Rattle.conf_laws.specs.TableFlaws.{IsPropertyOf, IsLeftOut, IsNoClassAt, HasNotItsRows, IsByte, IsIdentifier, HasNoBits, IsNoShapeAt, IsFlawOf}
 use Rattle.conf_laws.specs.ValueFlaws.{words_of_classes}
 use Rattle.conf_laws.proofs.TableWords.{class_words, class_in, admits_class, content_under, presence_under, Told, rows_of, Place, At, Content, Presence, class_named, class_of, class_said}
 use Rattle.conf_laws.proofs.TableWords.places
+use Rattle.conf_laws.proofs.TableWords.contents
 use Rattle.conf_laws.proofs.TableWords.presences
-use Rattle.conf_laws.proofs.JudgeWords.{other_class, may_inherit, resolved_content, is_needed, left_out, is_left_out, admitted, class_rule, row_there, rows_there, one_there, orders_there, all_there, told_by, content_or_any, property_flaws, object_flaws, inner_flaws, item_flaws, member_flaws, configuration_flaws, itself_of, Known, nothing, inside, behind, with_taken, key_of, names_beside, with_names, natural_or_none, natural_in, is_position, place_of_properties, item_content, is_number, is_unsigned_integer, is_static_array, is_eight, is_byte, is_identifier, has_bits, element_has_bits, shape_of}
-use Rattle.conf_laws.proofs.TreeWords.{Flaw, key, here, within, index, ◌>>=◌, at, needed, optional, given, text_of, HasMember, refusal, WrongKind, OutOfRange, Missing, Unknown, same_flaw, refused_there, refused_test, wanted_refused, wanted_found, holds_of, lacks_refused, found_there, read_there, IsNoWordOf, as_natural, Data, null, object, Members, array, Items, no_items, item, no_members, member, items_len, get_member, as_str}
+use Rattle.conf_laws.proofs.JudgeWords.{other_class, may_inherit, resolved_content, is_needed, left_out, is_left_out, admitted, class_rule, row_there, rows_there, orders_there, all_there, told_by, property_flaws, object_flaws, inner_flaws, item_flaws, member_flaws, configuration_flaws, itself_of, Known, nothing, inside, behind, with_taken, key_of, names_beside, with_names, natural_in, is_position, place_of_properties, item_content, is_number, is_unsigned_integer, is_static_array, is_eight, is_byte, is_identifier, has_bits, element_has_bits, shape_of}
+use Rattle.conf_laws.proofs.TreeWords.{Flaw, key, here, within, index, ◌>>=◌, at, needed, optional, given, text_of, HasMember, refusal, WrongKind, OutOfRange, Missing, Unknown, same_flaw, refused_there, refused_test, refused_where, wanted_refused, wanted_found, holds_of, lacks_refused, found_there, read_there, IsNoWordOf, as_natural, Data, null, object, Members, array, Items, no_items, item, no_members, member, items_len, get_member, as_str}
 use Rattle.conf_laws.proofs.StdWords.{nat_tests, true≢false, false≢true, and_parts, and_from, and_cases, or_parts, All-nil, All-cons, All-map, All-append, All-weaker, All-contains, bytes_eq-Decides, All, option_map_or, bytes_eq}
 
 -- ---- properties
@@ -121,12 +122,10 @@ needed_told _ e = absurd cc
 
 module _ (ms : Members) where
   row_told : (row : Told) (flaw : Flaw) → row_there ms row ≡ Err flaw → (row.presence ≡ presences.Needed) × (get_member row.name ms ≡ None) × (flaw ≡ within (key row.name) (here Missing))
-  row_told row flaw e = go (is_needed row.presence) refl (get_member row.name ms) refl
-    where
-      go : (b : Bool) → is_needed row.presence ≡ b → (o : Option Data) → get_member row.name ms ≡ o → (row.presence ≡ presences.Needed) × (get_member row.name ms ≡ None) × (flaw ≡ within (key row.name) (here Missing))
-      go false n o g = let f : row_there ms row ≡ Ok tt = rw n refl in absurd cc
-      go true n (Some d) g = let f : row_there ms row ≡ Ok tt = rw (n, g) refl in absurd cc
-      go true n None g = let f : row_there ms row ≡ Err (within (key row.name) (here Missing)) = rw (n, g) refl in (needed_told row.presence n, g, same_flaw flaw (within (key row.name) (here Missing)) (row_there ms row) e f)
+  row_told row flaw e =
+      let told = refused_where (is_needed row.presence && not (is_some (get_member row.name ms))) tt (within (key row.name) (here Missing)) flaw e in
+      let p = and_parts (is_needed row.presence) (not (is_some (get_member row.name ms))) told.0 in
+      (needed_told row.presence p.0, none_there (get_member row.name ms) (let none : is_some (get_member row.name ms) ≡ false = grind (arith, nat_tests) in none), told.1)
 
   rows_told : (rows : List Told) (flaw : Flaw) → rows_there ms rows ≡ Err flaw → (row : Told) × Contains rows row × (row.presence ≡ presences.Needed) × (get_member row.name ms ≡ None) × (flaw ≡ within (key row.name) (here Missing))
   rows_told [] flaw e = absurd cc
@@ -137,11 +136,10 @@ module _ (ms : Members) where
 
   orders_told : (place : Place) (flaw : Flaw) → orders_there place ms ≡ Err flaw → HasNotItsRows place ms flaw
   unfolding orders_there
-  orders_told places.TraceType flaw e = go (optional (codes "trace-byte-order") ms) refl (optional (codes "native-byte-order") ms) refl e
-    where
-      go : (o : Option Data) → optional (codes "trace-byte-order") ms ≡ o → (p : Option Data) → optional (codes "native-byte-order") ms ≡ p → one_there o p ≡ Err flaw → HasNotItsRows places.TraceType ms flaw
-      go None a None b f = holds_of (HasNotItsRows places.TraceType ms) (within (key (codes "trace-byte-order")) (here Missing)) flaw (same_flaw flaw (within (key (codes "trace-byte-order")) (here Missing)) (one_there None None) f refl) (HasNotItsRows.no_byte_order refl a b)
-      go _ a _ b f = absurd cc
+  orders_told places.TraceType flaw e =
+      let told = refused_test (is_some (optional (codes "trace-byte-order") ms) || is_some (optional (codes "native-byte-order") ms)) tt (within (key (codes "trace-byte-order")) (here Missing)) flaw e in
+      let none = or_parts (is_some (optional (codes "trace-byte-order") ms)) (is_some (optional (codes "native-byte-order") ms)) told.0 in
+      holds_of (HasNotItsRows places.TraceType ms) (within (key (codes "trace-byte-order")) (here Missing)) flaw told.1 (HasNotItsRows.no_byte_order refl (none_there _ none.0) (none_there _ none.1))
   orders_told _ flaw e = absurd cc
 
   pub missing_told : (place : Place) (flaw : Flaw) → all_there place ms ≡ Err flaw → HasNotItsRows place ms flaw
@@ -155,7 +153,7 @@ module _ (ms : Members) where
 
 pub number_found : (name : List ℕ) (ms : Members) (n : ℕ) → HasNumber name ms n → natural_in name ms ≡ Some n
 unfolding natural_in
-number_found name ms n (d, there, is) = ap natural_or_none there ∙ is
+number_found name ms n (d, there, is) = ap (option_and_then as_natural) there ∙ is
 
 given_number : (d : Data) (n : ℕ) → as_natural d ≡ Some n → given (Some d) ≡ Some d
 unfolding as_natural
@@ -237,7 +235,7 @@ module _ (k : Known) (around : Around) (place : Place) (all before rest : Member
   IsFlawThere flaw = IsFlawOf around (At place) (object all) (within (key name) flaw)
 
   property_told : ((content : Content) → All (IsFlawOf (member_of (place_of_properties place all) all before ∷ around) content d) (inner_flaws k content d))
-      → All IsFlawThere (property_flaws k (place_of_properties place all) name (resolved_content (place_of_properties place all) name) d (inner_flaws k (content_or_any (resolved_content (place_of_properties place all) name)) d))
+      → All IsFlawThere (property_flaws k (place_of_properties place all) name (resolved_content (place_of_properties place all) name) d (inner_flaws k (unwrap_or (resolved_content (place_of_properties place all) name) contents.Anything) d))
   property_told held = go (resolved_content (place_of_properties place all) name) refl
     where
       of_content : (content : Content) → resolved_content (place_of_properties place all) name ≡ Some content → (b : Bool) → is_left_out (place_of_properties place all) name d ≡ b
@@ -248,7 +246,7 @@ module _ (k : Known) (around : Around) (place : Place) (all before rest : Member
           (told_and IsFlawThere (key_of k (place_of_properties place all) name d) _ (λ flaw e. IsFlawOf.wrong_name name d flaw (member_there all before (member name d rest) name d parts (inl (refl, refl))) (name_told k around h.taken (place_of_properties place all) name d flaw e))
           (All-weaker (IsFlawOf (member_of (place_of_properties place all) all before ∷ around) content d) IsFlawThere (λ flaw wrong. IsFlawOf.in_property before name d content flaw (rest, parts) (property_is (place_of_properties place all) name content is) (not_left (place_of_properties place all) name d left) wrong) (inner_flaws k content d) (held content)))
 
-      go : (o : Option Content) → resolved_content (place_of_properties place all) name ≡ o → All IsFlawThere (property_flaws k (place_of_properties place all) name o d (inner_flaws k (content_or_any o) d))
+      go : (o : Option Content) → resolved_content (place_of_properties place all) name ≡ o → All IsFlawThere (property_flaws k (place_of_properties place all) name o d (inner_flaws k (unwrap_or o contents.Anything) d))
       go None is = All-cons IsFlawThere (here Unknown) [] (IsFlawOf.wrong_rows (HasNotItsRows.unknown name d (member_there all before (member name d rest) name d parts (inl (refl, refl))) (none_is (place_of_properties place all) name is))) (All-nil IsFlawThere)
       go (Some content) is = of_content content is (is_left_out (place_of_properties place all) name d) refl
 

@@ -1,5 +1,5 @@
 -- Each limit that the walk over a configuration tells of is one that it passes by the table.
-use Rattle.std.proofs.Common.{◌≡◌, ◌⊎◌, ◌*◌, ◌≤◌, ◌<◌, ℕ, zero, suc, Bool, true, false, not, cond, List, [], ◌∷◌, length, Option, Some, None, inl, inr, refl, sym, ap, subst, ◌∙◌, arith, ◌++◌, ◌%◌, ◌==◌, ◌&&◌, map, Contains, is_some, Err, codes, nat_le, nat_eq}
+use Rattle.std.proofs.Common.{◌≡◌, ◌⊎◌, ◌*◌, ◌≤◌, ◌<◌, ℕ, zero, suc, Bool, true, false, not, cond, List, [], ◌∷◌, length, Option, Some, None, inl, inr, refl, sym, ap, subst, ◌∙◌, arith, ◌++◌, ◌%◌, ◌==◌, ◌&&◌, map, Contains, is_some, Err, codes, unwrap_or, nat_le, nat_eq}
 use Rattle.conf_laws.proofs.Agreement.{ItemParts, item_found}
 use Rattle.conf_laws.proofs.Readings.{some_none, some_same, of_element, in_array, by_found, by_test}
 use Rattle.conf_laws.proofs.TableFlawLaws.{static_told, seen_and, member_there, refused_among}
@@ -10,9 +10,9 @@ use Rattle.conf_laws.proofs.TableWords.{entries_of, content_under, Place, Conten
 use Rattle.conf_laws.proofs.TableWords.places
 use Rattle.conf_laws.proofs.TableWords.contents
 use Rattle.conf_laws.proofs.TableWords.keys
-use Rattle.conf_laws.proofs.JudgeWords.{told_by, content_or_any, times, at_least_one, elements, within_limit, bytes_fit, divides, power_fits, is_outermost, arrays_fit, count_of, at_most, ranges_of, ranges_fit, place_fits, fits, is_label, key_fits, inner_limits, item_limits, member_limits, configuration_limits, natural_in, place_of_properties, item_content, is_static_array}
+use Rattle.conf_laws.proofs.JudgeWords.{told_by, times, at_least_one, elements, within_limit, bytes_fit, divides, power_fits, is_outermost, arrays_fit, count_of, at_most, ranges_of, ranges_fit, place_fits, fits, is_label, key_fits, inner_limits, item_limits, member_limits, configuration_limits, natural_in, place_of_properties, item_content, is_static_array}
 use Rattle.conf_laws.proofs.TreeWords.{Flaw, key, index, here, within, HasMember, refusal, Limit, as_natural, Data, object, Members, string, array, Items, no_items, item, no_members, member, items_len, get_member}
-use Rattle.conf_laws.proofs.StdWords.{nat_tests, mul-one, one-le-mul, mul-mod_right, leb-true, leb-false, eqb-false, true≢false, and_cases, or_parts, All-nil, All-cons, All-map, All-append, All-weaker, All-contains, mul-le, cond_some, All}
+use Rattle.conf_laws.proofs.StdWords.{nat_tests, mul-one, one-le-mul, mul-mod_right, leb-true, leb-false, eqb-false, and_cases, or_parts, All-nil, All-cons, All-map, All-append, All-weaker, All-contains, mul-le, cond_some, option_map_or, All}
 
 -- ---- the counts of one array
 
@@ -211,13 +211,9 @@ power_told high d e =
 module _ (place : Place) (d : Data) where
   entries_told : at_most (entries_of place) (count_of d) ≡ false → PassesAt place d
   entries_told e =
-      by_found (λ (o : Option Entries). at_most o (count_of d) ≡ false → PassesAt place d) (entries_of place) (λ is f. absurd cc) (λ entries is f. by_most entries is entries.most refl f) e
-    where
-      by_most : (entries : Entries) → entries_of place ≡ Some entries → (o : Option ℕ) → entries.most ≡ o → at_most (Some entries) (count_of d) ≡ false → PassesAt place d
-      by_most entries is None most f = let fit : at_most (Some entries) (count_of d) ≡ true = rw most refl in absurd (true≢false (sym fit ∙ f))
-      by_most entries is (Some n) most f =
-          let counted : at_most (Some entries) (count_of d) ≡ nat_le (count_of d) n = rw most refl in
-          PassesAt.too_many_entries entries n is most (leb-false (count_of d) n (sym counted ∙ f))
+      by_found (λ (o : Option Entries). at_most o (count_of d) ≡ false → PassesAt place d) (entries_of place) (λ is f. absurd cc) (λ entries is.
+      by_found (λ (o : Option ℕ). option_map_or (nat_le (count_of d)) o true ≡ false → PassesAt place d) entries.most
+      (λ most f. absurd cc) (λ n most f. PassesAt.too_many_entries entries n is most (leb-false (count_of d) n f))) e
 
   arrays_told : arrays_fit place d ≡ false → PassesAt place d
   unfolding arrays_fit
@@ -246,18 +242,18 @@ by_told _ d e = absurd cc
 
 -- ---- labels
 
-label_told : (o : Option Entries) → is_label o ≡ true → (entries : Entries) × (o ≡ Some entries) × (entries.keys ≡ keys.Label)
+label_is : (by : Keys) → is_label by ≡ true → by ≡ keys.Label
+label_is keys.Label e = refl
+label_is _ e = absurd cc
+
+label_told : (o : Option Entries) → option_map_or (λ x. is_label x.keys) o false ≡ true → (entries : Entries) × (o ≡ Some entries) × (entries.keys ≡ keys.Label)
 label_told None e = absurd cc
-label_told (Some entries) e = by_keys entries.keys refl
-  where
-    by_keys : (by : Keys) → entries.keys ≡ by → (x : Entries) × (Some entries ≡ Some x) × (x.keys ≡ keys.Label)
-    by_keys keys.Label is = (entries, refl, is)
-    by_keys _ is = let other : is_label (Some entries) ≡ false = rw is refl in absurd (true≢false (sym e ∙ other))
+label_told (Some entries) e = (entries, refl, label_is entries.keys e)
 
 long_label_told : (place : Place) (name : List ℕ) → key_fits place name ≡ false → (entries : Entries) × (entries_of place ≡ Some entries) × (entries.keys ≡ keys.Label) × (4096 < length name)
 unfolding key_fits
 long_label_told place name e =
-    by_test (λ (b : Bool). cond b (nat_le (length name) 4096) true ≡ false → (entries : Entries) × (entries_of place ≡ Some entries) × (entries.keys ≡ keys.Label) × (4096 < length name)) (is_label (entries_of place))
+    by_test (λ (b : Bool). cond b (nat_le (length name) 4096) true ≡ false → (entries : Entries) × (entries_of place ≡ Some entries) × (entries.keys ≡ keys.Label) × (4096 < length name)) (option_map_or (λ x. is_label x.keys) (entries_of place) false)
     (λ is f. let label = label_told (entries_of place) is in (label.0, label.1, label.2, leb-false (length name) 4096 f)) (λ is f. absurd cc) e
 
 -- ---- lists of limits
@@ -278,7 +274,7 @@ module _ (place : Place) (all before rest : Members) (name : List ℕ) (d : Data
   there = member_there all before (member name d rest) name d parts (inl (refl, refl))
 
   of_member : ((content : Content) → All (PassesLimitOf content d) (inner_limits content d)) → (o : Option Content) → content_under (place_of_properties place all) name ≡ o
-      → All IsPassedThere (told_by (within_limit (fits (content_or_any o) d)) ++ inner_limits (content_or_any o) d)
+      → All IsPassedThere (told_by (within_limit (fits (unwrap_or o contents.Anything) d)) ++ inner_limits (unwrap_or o contents.Anything) d)
   unfolding fits
   of_member held None is = nothing_in d
     where
@@ -289,7 +285,7 @@ module _ (place : Place) (all before rest : Members) (name : List ℕ) (d : Data
       All-weaker (PassesLimitOf content d) IsPassedThere (λ flaw passed. PassesLimitOf.in_property name d content flaw there is passed) _ (value_and_held content d (held content))
 
   member_told : ((content : Content) → All (PassesLimitOf content d) (inner_limits content d))
-      → All IsPassedThere (told_by (within_limit (key_fits (place_of_properties place all) name)) ++ (told_by (within_limit (fits (content_or_any (content_under (place_of_properties place all) name)) d)) ++ inner_limits (content_or_any (content_under (place_of_properties place all) name)) d))
+      → All IsPassedThere (told_by (within_limit (key_fits (place_of_properties place all) name)) ++ (told_by (within_limit (fits (unwrap_or (content_under (place_of_properties place all) name) contents.Anything) d)) ++ inner_limits (unwrap_or (content_under (place_of_properties place all) name) contents.Anything) d))
   member_told held =
       limit_and IsPassedThere (key_fits (place_of_properties place all) name) _ (λ e. let label = long_label_told (place_of_properties place all) name e in PassesLimitOf.long_label name d label.0 there label.1 label.2 label.3)
       (of_member held (content_under (place_of_properties place all) name) refl)

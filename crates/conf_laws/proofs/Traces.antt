@@ -1,6 +1,6 @@
 -- Features that have no flaw say something: each is on or off, or of a type of its own.
 -- A resolved configuration that has no flaw says something, and so do its data stream types and their event record types.
-use Rattle.std.proofs.Common.{◌≡◌, ℕ, Bool, true, false, List, Option, Some, None, is_some, IsSome, option_map, refl, sym, ap, subst, ◌∙◌, [], ◌&&◌, codes, option_and_then}
+use Rattle.std.proofs.Common.{◌≡◌, ℕ, Bool, true, false, List, Option, Some, is_some, IsSome, option_map, refl, sym, ap, subst, ◌∙◌, [], ◌∷◌, ◌++◌, ◌&&◌, codes, unwrap_or, option_and_then}
 use Rattle.conf_table.specs.Classes as classes
 use Rattle.conf_laws.proofs.Structures.{integer_said, structure_there, extras_there}
 use Rattle.conf_laws.proofs.Readings.{some_there, was_so, optional_found, mapped_there, by_found, then_there}
@@ -9,20 +9,15 @@ use Rattle.conf_laws.proofs.Properties.{Property, leads, needed_by, ObjectPlace,
 use Rattle.conf_laws.proofs.TableWords.{admits_class, rows_of, Place, At, class_of}
 use Rattle.conf_laws.proofs.TableWords.places
 use Rattle.conf_laws.proofs.JudgeWords.{is_null, all_there, orders_there, Known, inside, natural_in, is_position, shape_of, is_identifier, is_byte, is_unsigned_integer, is_number, is_eight, member_flaws, configuration_flaws, behind, nothing}
-use Rattle.conf_laws.proofs.TreeWords.{optional, Data, null, boolean, object, Members, no_members, get_member, member}
+use Rattle.conf_laws.proofs.TreeWords.{optional, Data, null, boolean, object, Members, no_members, get_member, member, as_object}
 use Rattle.conf_laws.proofs.StdWords.{false≢true, and_parts, same_Some}
-use Rattle.conf_laws.proofs.DraftWords.{number_type, byte_type, if_on, own, feature_of, feature, byte_of, identifier_of, identifier, or_number, size, mapped, timestamp, magic_type, or_empty, header_of, header, context_of, context, event_header_of, event_header, integer, IntType, environment, event_type, event_behind, entry_behind, events_behind, events_or_none, event_types, object as object_in, word, clock_of, features_of, stream_type, stream_behind, streams_behind, streams_or_none, stream_types, draft_of_type, draft_of_trace, draft_of_root, draft_of, EnvironmentEntry}
-use Rattle.conf_draft.specs.Streams.{entry_behind as stream_entry_behind}
+use Rattle.conf_laws.proofs.DraftWords.{number_type, byte_type, if_on, feature_of, feature, byte_of, identifier_of, identifier, size, mapped, timestamp, magic_type, header, context, event_header, integer, IntType, environment, event_type, event_types, object as object_in, properties, said_behind, word, clock_of, stream_type, stream_types, draft_of_type, draft_of_trace, draft_of_root, draft_of, EnvironmentEntry}
 
 -- ---- on or off
 
 on_there : (b : Bool) (t : IntType) → IsSome (if_on b t)
 on_there true t = refl
 on_there false t = refl
-
-own_there : (o : Option IntType) → IsSome o → IsSome (own o)
-own_there None h = absurd (false≢true h)
-own_there (Some t) h = refl
 
 -- ---- a type of its own
 
@@ -51,7 +46,7 @@ unsigned_said : (k : Known) (place : Place) (ms : Members) (t : TypeSound k plac
 unsigned_said k place ms t is = integer_said (inside t.class ms k) places.UnsignedInteger false ms Property.unsigned_size (subst (λ p. RowsSound (inside t.class ms k) p ms) is t.rows)
 
 value_said : (k : Known) (place : Place) (by_default : Bool) (t : IntType) (d : Data) → IsFeature place → ContentSound k (At place) d → IsSome (feature_of by_default t (Some d))
-value_said k place by_default t (object ms) f h = let t = type_sound k place ms f.position (object_sound k place ms h.inner) in own_there (integer false ms) (unsigned_said k place ms t (f.class t.class t.may_stand))
+value_said k place by_default t (object ms) f h = let t = type_sound k place ms f.position (object_sound k place ms h.inner) in mapped_there (λ own. Some own) (integer false ms) (unsigned_said k place ms t (f.class t.class t.may_stand))
 value_said k place by_default t (boolean b) f h = on_there b t
 value_said k place by_default t _ f h = on_there by_default t
 
@@ -65,7 +60,7 @@ module _ (k : Known) (around : Place) (ms : Members) (h : RowsSound k around ms)
 
   pub size_there : (name : List ℕ) → Leads around name (At places.SizeFeature) → IsSome (size name ms)
   unfolding size
-  size_there name leads = mapped_there or_number (feature name true number_type ms) (feature_there places.SizeFeature name true number_type size_feature leads)
+  size_there name leads = mapped_there (λ t. unwrap_or t number_type) (feature name true number_type ms) (feature_there places.SizeFeature name true number_type size_feature leads)
 
   pub timestamp_there : (name : List ℕ) (clock : Option (List ℕ)) → Leads around name (At places.Feature) → IsSome (timestamp name clock ms)
   unfolding timestamp
@@ -77,12 +72,12 @@ is_no_null : (x : Data) → is_byte (Some x) ≡ true → is_null x ≡ false
 is_no_null null e = absurd (false≢true e)
 is_no_null _ e = refl
 
-byte_said : (k : Known) (x : Data) → ContentSound k (At places.ElementType) x → is_byte (Some x) ≡ true → IsSome (byte_of (Some x))
+byte_said : (k : Known) (x : Data) → ContentSound k (At places.ElementType) x → is_byte (Some x) ≡ true → IsSome (option_and_then (integer false) (as_object x))
 unfolding is_position
 byte_said k (object ms) h e =
     let t = type_sound k places.ElementType ms refl (object_sound k places.ElementType ms h.inner) in
     let unsigned = (and_parts (is_unsigned_integer (class_of ms)) (is_number (natural_in (codes "size") ms) 8 && is_eight (optional (codes "alignment") ms)) e).0 in
-    own_there (integer false ms) (unsigned_said k places.ElementType ms t (same_Some t.class places.UnsignedInteger (sym t.is ∙ unsigned_told (class_of ms) unsigned)))
+    unsigned_said k places.ElementType ms t (same_Some t.class places.UnsignedInteger (sym t.is ∙ unsigned_told (class_of ms) unsigned))
 byte_said k _ h e = absurd (false≢true e)
 
 array_class : (class : Place) → admits_class places.IdentifierFeature class ≡ true → class ≡ places.StaticArray
@@ -90,18 +85,18 @@ unfolding admits_class
 array_class places.StaticArray a = refl
 array_class _ a = absurd (false≢true a)
 
-bytes_said : (k : Known) (ms : Members) → ObjectSound k places.IdentifierFeature ms → IsSome (byte_of (optional (codes "element-field-type") ms))
-unfolding is_position shape_of is_identifier
+bytes_said : (k : Known) (ms : Members) → ObjectSound k places.IdentifierFeature ms → IsSome (byte_of ms)
+unfolding is_position shape_of is_identifier byte_of object_in
 bytes_said k ms h =
     let t = type_sound k places.IdentifierFeature ms refl h in
     let rows = subst (λ p. RowsSound (inside t.class ms k) p ms) (array_class t.class t.may_stand) t.rows in
     let p = needed_sound (inside t.class ms k) places.StaticArray (codes "element-field-type") (At places.ElementType) ms (leads Property.element) (needed_by Property.element) rows in
     let shaped = (and_parts (is_number (natural_in (codes "length") ms) 16) (is_byte (get_member (codes "element-field-type") ms)) (was_so _ t.shape)).1 in
     let byte : is_byte (Some p.value) ≡ true = ap is_byte (sym p.found) ∙ shaped in
-    subst (λ o. IsSome (byte_of o)) (sym (optional_found (codes "element-field-type") ms p.value p.found (is_no_null p.value byte))) (byte_said (inside t.class ms k) p.value p.sound.value byte)
+    subst (λ o. IsSome (option_and_then (integer false) (option_and_then as_object o))) (sym (optional_found (codes "element-field-type") ms p.value p.found (is_no_null p.value byte))) (byte_said (inside t.class ms k) p.value p.sound.value byte)
 
 identifier_said : (k : Known) (by_default : Bool) (d : Data) → ContentSound k (At places.IdentifierFeature) d → IsSome (identifier_of by_default (Some d))
-identifier_said k by_default (object ms) h = bytes_said k ms (object_sound k places.IdentifierFeature ms h.inner)
+identifier_said k by_default (object ms) h = mapped_there (λ own. Some own) (byte_of ms) (bytes_said k ms (object_sound k places.IdentifierFeature ms h.inner))
 identifier_said k by_default (boolean b) h = on_there b byte_type
 identifier_said k by_default _ h = on_there by_default byte_type
 
@@ -113,24 +108,24 @@ identifier_there k around ms h name by_default leads =
 
 -- ---- the packet header
 
-header_said : (k : Known) (has_uuid : Bool) (ms : Members) → RowsSound k places.TraceFeatures ms → IsSome (header_of has_uuid ms)
-unfolding header_of
+header_said : (k : Known) (has_uuid : Bool) (ms : Members) → RowsSound k places.TraceFeatures ms → IsSome (header has_uuid ms)
+unfolding header
 header_said k has_uuid ms h =
     let magic = some_there _ (feature_there k places.TraceFeatures ms h places.MagicFeature (codes "magic-field-type") true magic_type magic_feature (leads Property.magic)) in
     let uuid = some_there _ (identifier_there k places.TraceFeatures ms h (codes "uuid-field-type") has_uuid (leads Property.uuid)) in
     let stream_id = some_there _ (feature_there k places.TraceFeatures ms h places.Feature (codes "data-stream-type-id-field-type") true number_type any_feature (leads Property.stream_id)) in
     rw (magic.1, uuid.1, stream_id.1) refl
 
-pub header_there : (k : Known) (around : Place) (has_uuid : Bool) (ms : Members) → Leads around (codes "$features") (At places.TraceFeatures) → RowsSound k around ms → IsSome (header has_uuid ms)
-unfolding header all_there orders_there rows_of
+pub header_there : (k : Known) (around : Place) (has_uuid : Bool) (ms : Members) → Leads around (codes "$features") (At places.TraceFeatures) → RowsSound k around ms → IsSome (header has_uuid (properties (codes "$features") ms))
+unfolding all_there orders_there rows_of
 header_there k around has_uuid ms leads h =
-    by_object k around places.TraceFeatures (codes "$features") ms leads (is_object ObjectPlace.trace_features) h (λ o. IsSome (header_of has_uuid (or_empty o))) (header_said k has_uuid no_members (record { there = refl; flaws = refl }))
+    by_object k around places.TraceFeatures (codes "$features") ms leads (is_object ObjectPlace.trace_features) h (λ os. IsSome (header has_uuid os)) (header_said k has_uuid no_members (record { there = refl; flaws = refl }))
     (λ os rows. header_said (inside places.TraceFeatures os k) has_uuid os rows)
 
 -- ---- the packet context
 
-context_said : (k : Known) (clock : Option (List ℕ)) (ms : Members) → RowsSound k places.PacketFeatures ms → IsSome (context_of clock ms)
-unfolding context_of
+context_said : (k : Known) (clock : Option (List ℕ)) (ms : Members) → RowsSound k places.PacketFeatures ms → IsSome (context clock ms)
+unfolding context
 context_said k clock ms h =
     let total_size = some_there _ (size_there k places.PacketFeatures ms h (codes "total-size-field-type") (leads Property.total_size)) in
     let content_size = some_there _ (size_there k places.PacketFeatures ms h (codes "content-size-field-type") (leads Property.content_size)) in
@@ -146,40 +141,39 @@ pub no_stream_features : (k : Known) → RowsSound k places.StreamFeatures no_me
 unfolding all_there orders_there rows_of
 no_stream_features k = record { there = refl; flaws = refl }
 
-pub context_there : (k : Known) (clock : Option (List ℕ)) (ms : Members) → RowsSound k places.StreamFeatures ms → IsSome (context clock ms)
-unfolding context all_there orders_there rows_of
+pub context_there : (k : Known) (clock : Option (List ℕ)) (ms : Members) → RowsSound k places.StreamFeatures ms → IsSome (context clock (properties (codes "packet") ms))
+unfolding all_there orders_there rows_of
 context_there k clock ms h =
-    by_object k places.StreamFeatures places.PacketFeatures (codes "packet") ms (leads Property.packet) (is_object ObjectPlace.packet_features) h (λ o. IsSome (context_of clock (or_empty o))) (context_said k clock no_members (record { there = refl; flaws = refl }))
+    by_object k places.StreamFeatures places.PacketFeatures (codes "packet") ms (leads Property.packet) (is_object ObjectPlace.packet_features) h (λ os. IsSome (context clock os)) (context_said k clock no_members (record { there = refl; flaws = refl }))
     (λ os rows. context_said (inside places.PacketFeatures os k) clock os rows)
 
 -- ---- the event record header
 
-event_header_said : (k : Known) (clock : Option (List ℕ)) (ms : Members) → RowsSound k places.EventRecordFeatures ms → IsSome (event_header_of clock ms)
-unfolding event_header_of
+event_header_said : (k : Known) (clock : Option (List ℕ)) (ms : Members) → RowsSound k places.EventRecordFeatures ms → IsSome (event_header clock ms)
+unfolding event_header
 event_header_said k clock ms h =
     let id = some_there _ (feature_there k places.EventRecordFeatures ms h places.Feature (codes "type-id-field-type") true number_type any_feature (leads Property.event_id)) in
     let timestamp = some_there _ (timestamp_there k places.EventRecordFeatures ms h (codes "timestamp-field-type") clock (leads Property.timestamp)) in
     rw (id.1, timestamp.1) refl
 
-pub event_header_there : (k : Known) (clock : Option (List ℕ)) (ms : Members) → RowsSound k places.StreamFeatures ms → IsSome (event_header clock ms)
-unfolding event_header all_there orders_there rows_of
+pub event_header_there : (k : Known) (clock : Option (List ℕ)) (ms : Members) → RowsSound k places.StreamFeatures ms → IsSome (event_header clock (properties (codes "event-record") ms))
+unfolding all_there orders_there rows_of
 event_header_there k clock ms h =
-    by_object k places.StreamFeatures places.EventRecordFeatures (codes "event-record") ms (leads Property.event_record) (is_object ObjectPlace.record_features) h (λ o. IsSome (event_header_of clock (or_empty o)))
+    by_object k places.StreamFeatures places.EventRecordFeatures (codes "event-record") ms (leads Property.event_record) (is_object ObjectPlace.record_features) h (λ os. IsSome (event_header clock os))
     (event_header_said k clock no_members (record { there = refl; flaws = refl })) (λ os rows. event_header_said (inside places.EventRecordFeatures os k) clock os rows)
 
 -- ---- maps of types that are read one behind another
 
--- where each entry of such a map says something, all of it does
-module _ {A : Type 0} {b : Bool} {place inner : Place} (map : MapPlace b place (At inner)) (one : ObjectPlace inner) (entry : List A → List ℕ → Data → Option (List A)) (walk : List A → Members → Option (List A))
-    (ends : (done : List A) → IsSome (walk done no_members)) (goes : (done : List A) (name : List ℕ) (d : Data) (ms : Members) → walk done (member name d ms) ≡ option_and_then (λ more. walk more ms) (entry done name d))
-    (said : (k : Known) (done : List A) (name : List ℕ) (ms : Members) → RowsSound (inside inner ms k) inner ms → IsSome (entry done name (object ms))) where
-  types_said : (ms : Members) (k : Known) (done : List A) → member_flaws k place ms ≡ [] → IsSome (walk done ms)
-  types_said no_members k done f = ends done
+-- where each object of such a map says something, all of it does
+module _ {A : Type 0} {b : Bool} {place inner : Place} (map : MapPlace b place (At inner)) (one : ObjectPlace inner) (of : List ℕ → Members → Option A)
+    (said : (k : Known) (name : List ℕ) (ms : Members) → RowsSound (inside inner ms k) inner ms → IsSome (of name ms)) where
+  types_said : (ms : Members) (k : Known) (done : List A) → member_flaws k place ms ≡ [] → IsSome (said_behind of done ms)
+  types_said no_members k done f = refl
   types_said (member name d ms) k done f =
       let first = first_entry k place name (At inner) d ms (is_map map) f in
       let h = held_at k inner d (is_object one) first.sound.value in
-      subst (λ o. IsSome o) (sym (goes done name d ms))
-      (then_there (λ more. walk more ms) (entry done name d) (subst (λ x. IsSome (entry done name x)) (sym h.is) (said k done name h.ms h.rows)) (λ more. types_said ms (behind place d k) more first.flaws))
+      subst (λ x. IsSome (said_behind of done (member name x ms))) (sym h.is)
+      (then_there (λ x. said_behind of (done ++ x ∷ []) ms) (of name h.ms) (said k name h.ms h.rows) (λ x. types_said ms (behind place d k) (done ++ x ∷ []) first.flaws))
 
 -- ---- one event record type
 
@@ -195,21 +189,20 @@ event_said k levels name ms h =
 pub events_there : (k : Known) (around : Place) (levels ms : Members) → Leads around (codes "event-record-types") (At places.EventTypes) → RowsSound k around ms → IsSome (event_types levels ms)
 unfolding event_types
 events_there k around levels ms leads h =
-    by_object k around places.EventTypes (codes "event-record-types") ms leads (is_object ObjectPlace.event_types) h (λ o. IsSome (events_or_none levels o)) refl
-    (λ os rows. types_said MapPlace.event_types ObjectPlace.event_type (entry_behind levels) (events_behind levels) (λ done. refl) (λ done name d ms. refl)
-    (λ j done name ns own. by_found (λ o. IsSome o → IsSome (event_behind done o)) (event_type levels name ns) (λ is some. some) (λ x is some. refl) (event_said (inside places.EventType ns j) levels name ns own)) os (inside places.EventTypes os k) [] rows.flaws)
+    by_object k around places.EventTypes (codes "event-record-types") ms leads (is_object ObjectPlace.event_types) h (λ os. IsSome (said_behind (event_type levels) [] os)) refl
+    (λ os rows. types_said MapPlace.event_types ObjectPlace.event_type (event_type levels) (λ j name ns own. event_said (inside places.EventType ns j) levels name ns own) os (inside places.EventTypes os k) [] rows.flaws)
 
 -- ---- one data stream type
 
 module _ (k : Known) (ms : Members) (h : RowsSound k places.StreamType ms) where
-  stream_context_said : (clock : Option (List ℕ)) → IsSome (context clock (features_of ms))
+  stream_context_said : (clock : Option (List ℕ)) → IsSome (context clock (properties (codes "packet") (properties (codes "$features") ms)))
   stream_context_said clock =
-      by_object k places.StreamType places.StreamFeatures (codes "$features") ms (leads Property.stream_features) (is_object ObjectPlace.stream_features) h (λ o. IsSome (context clock (or_empty o))) (context_there k clock no_members (no_stream_features k))
+      by_object k places.StreamType places.StreamFeatures (codes "$features") ms (leads Property.stream_features) (is_object ObjectPlace.stream_features) h (λ os. IsSome (context clock (properties (codes "packet") os))) (context_there k clock no_members (no_stream_features k))
       (λ os rows. context_there (inside places.StreamFeatures os k) clock os rows)
 
-  stream_event_header_said : (clock : Option (List ℕ)) → IsSome (event_header clock (features_of ms))
+  stream_event_header_said : (clock : Option (List ℕ)) → IsSome (event_header clock (properties (codes "event-record") (properties (codes "$features") ms)))
   stream_event_header_said clock =
-      by_object k places.StreamType places.StreamFeatures (codes "$features") ms (leads Property.stream_features) (is_object ObjectPlace.stream_features) h (λ o. IsSome (event_header clock (or_empty o)))
+      by_object k places.StreamType places.StreamFeatures (codes "$features") ms (leads Property.stream_features) (is_object ObjectPlace.stream_features) h (λ os. IsSome (event_header clock (properties (codes "event-record") os)))
       (event_header_there k clock no_members (no_stream_features k)) (λ os rows. event_header_there (inside places.StreamFeatures os k) clock os rows)
 
   stream_said : (levels : Members) (name : List ℕ) → IsSome (stream_type levels name ms)
@@ -227,11 +220,9 @@ module _ (k : Known) (ms : Members) (h : RowsSound k places.StreamType ms) where
 pub streams_there : (k : Known) (around : Place) (ms : Members) → Leads around (codes "data-stream-types") (At places.StreamTypes) → RowsSound k around ms → IsSome (stream_types ms)
 unfolding stream_types
 streams_there k around ms leads h =
-    by_object k around places.StreamTypes (codes "data-stream-types") ms leads (is_object ObjectPlace.stream_types) h (λ o. IsSome (streams_or_none (or_empty (object_in (codes "$log-level-aliases") ms)) o)) refl
-    (λ os rows.
-    let levels = or_empty (object_in (codes "$log-level-aliases") ms) in
-    types_said MapPlace.stream_types ObjectPlace.stream_type (stream_entry_behind levels) (streams_behind levels) (λ done. refl) (λ done name d ns. refl)
-    (λ j done name ns own. by_found (λ o. IsSome o → IsSome (stream_behind done o)) (stream_type levels name ns) (λ is some. some) (λ x is some. refl) (stream_said (inside places.StreamType ns j) ns own levels name)) os (inside places.StreamTypes os k) [] rows.flaws)
+    let levels = properties (codes "$log-level-aliases") ms in
+    by_object k around places.StreamTypes (codes "data-stream-types") ms leads (is_object ObjectPlace.stream_types) h (λ os. IsSome (said_behind (stream_type levels) [] os)) refl
+    (λ os rows. types_said MapPlace.stream_types ObjectPlace.stream_type (stream_type levels) (λ j name ns own. stream_said (inside places.StreamType ns j) ns own levels name) os (inside places.StreamTypes os k) [] rows.flaws)
 
 -- ---- the trace type
 

@@ -1,5 +1,5 @@
 -- What is told of a value by itself, and of the name of an entry, is a flaw of it.
-use Rattle.std.proofs.Common.{◌≡◌, ◌≢◌, ◌⊎◌, ◌↔◌, ◌≤◌, ◌^◌, ◌&&◌, ◌||◌, ℕ, zero, suc, ℤ, pos, Bool, true, false, not, cond, List, [], ◌∷◌, map, Contains, Option, Some, None, is_some, Result, Ok, Err, inl, inr, refl, sym, ap, subst, ◌∙◌, arith, get_or, codes, unwrap_or, option_map, nat_lt, nat_eq, int_le}
+use Rattle.std.proofs.Common.{◌≡◌, ◌≢◌, ◌⊎◌, ◌↔◌, ◌≤◌, ◌^◌, ◌&&◌, ◌||◌, ℕ, zero, suc, ℤ, pos, Bool, true, false, not, cond, List, [], ◌∷◌, map, Contains, Option, Some, None, is_some, Result, Ok, Err, inl, inr, refl, sym, ap, subst, ◌∙◌, arith, get_or, codes, unwrap_or, option_map, option_and_then, nat_lt, nat_eq, int_le}
 use Rattle.uuid.specs.Text.{parsed}
 use borrow.Author.Differences.{le-true, le-false, below_in}
 use Rattle.conf_laws.proofs.Agreement.{Agrees, IsTrue, dynamic_told}
@@ -11,9 +11,9 @@ use Rattle.conf_laws.proofs.TableWords.{ClassWord, class_words, class_in, entrie
 use Rattle.conf_laws.proofs.TableWords.places
 use Rattle.conf_laws.proofs.TableWords.contents
 use Rattle.conf_laws.proofs.TableWords.keys
-use Rattle.conf_laws.proofs.JudgeWords.{any_object, any_list, some_items, some_members, one_member, some_list, some_object, entry, feature, size_feature, form_of, itself_of, Known, only_if, whole_from, is_power_of_two, power_of, any_flag, one_flag, any_text, printable, identifier, identifier_or_auto, word_among, class_word, whole_or_text, level_or_none, level, leaf_of, is_dynamic, is_taken, length_is_taken, free_of, plain_of, key_by, key_in, key_of, all_numbers, natural_or_none, natural_in, numbers_of, numbers_or_all, numbers_in, end_of, pair_of, range_of, is_inside, inside_of}
-use Rattle.conf_laws.proofs.TreeWords.{Flaw, index, here, within, ◌>>=◌, at, object_of, list_of, text_of, flag_of, whole_of, WrongKind, OutOfRange, NameClash, NoSuchAlias, same_flaw, refused_here_or_next, refused_there, refused_test, refused_where, wanted_refused, wanted_found, none_refused, holds_of, object_refused, list_refused, text_refused, flag_refused, whole_refused, control_there, name_refused, plain_name_refused, IsNoObject, IsNoWhole, IsNoConfigText, IsNoUuid, IsNoWordOf, plain_name_of, is_printable, uuid_in, Data, boolean, string, array, Items, no_items, item, Members, no_members, member, items_len, get_member, as_object, as_array, as_str, as_bool}
-use Rattle.conf_laws.proofs.StdWords.{pow_mono, true≢false, false≢true, and_cases, or_parts, or_cases, cases_lt, eqb-false, ltb-false, agree_below_at, list_any_at, bytes_eq-Decides, list_any, bytes_eq}
+use Rattle.conf_laws.proofs.JudgeWords.{any_object, feature, size_feature, form_of, itself_of, Known, only_if, whole_from, is_power_of_two, power_of, whole_or_text, level, leaf_of, is_dynamic, is_taken, free_of, key_by, key_of, all_numbers, natural_in, numbers_of, numbers_in, end_of, pair_of, range_of, is_inside, inside_of}
+use Rattle.conf_laws.proofs.TreeWords.{Flaw, index, here, within, ◌>>=◌, at, object_of, list_of, text_of, flag_of, whole_of, WrongKind, OutOfRange, NameClash, NoSuchAlias, same_flaw, refused_here_or_next, refused_there, refused_test, refused_where, wanted_refused, wanted_found, none_refused, holds_of, object_refused, list_refused, text_refused, flag_refused, whole_refused, control_there, name_refused, plain_name_refused, IsNoObject, IsNoWhole, IsNoConfigText, IsNoUuid, IsNoWordOf, plain_name_of, is_printable, uuid_in, as_natural, Data, boolean, string, array, Items, no_items, item, Members, no_members, member, items_len, members_len, get_member, as_object, as_array, as_str, as_bool}
+use Rattle.conf_laws.proofs.StdWords.{pow_mono, true≢false, false≢true, and_cases, and_parts, option_map_or, or_parts, or_cases, cases_lt, eqb-false, ltb-false, agree_below_at, list_any_at, bytes_eq-Decides, list_any, bytes_eq}
 use Rattle.conf_laws.proofs.DraftWords.{lowest, highest, length_name}
 
 -- ---- steps
@@ -70,8 +70,7 @@ both_true : (b before : Bool) → not (b && before) ≡ false → (b ≡ true) �
 both_true true true e = (refl, refl)
 both_true _ _ e = absurd cc
 
-default_told : (k : Known) (around : Around) → Agrees k around → (d : Data) (flaw : Flaw) → one_flag k.has_default d ≡ Err flaw → IsNoDefault around d flaw
-unfolding one_flag
+default_told : (k : Known) (around : Around) → Agrees k around → (d : Data) (flaw : Flaw) → (flag_of d >>= (λ b. only_if (not (b && k.has_default)))) ≡ Err flaw → IsNoDefault around d flaw
 default_told k around h d flaw e =
     either_step (flag_of d) _ flaw e
     (λ r. IsNoDefault.no_flag (flag_refused d flaw r))
@@ -94,8 +93,7 @@ uuid_told d s flaw is fails same = holds_of (IsNoUuid d) (here OutOfRange) flaw 
 no_uuid_text : (d : Data) (flaw : Flaw) → as_str d ≡ None → flaw ≡ here WrongKind → IsNoUuid d flaw
 no_uuid_text d flaw none same = holds_of (IsNoUuid d) (here WrongKind) flaw same (IsNoUuid.no_text none)
 
-choice_told : (d : Data) (flaw : Flaw) → identifier_or_auto d ≡ Err flaw → (as_str d ≢ Some (codes "auto")) × IsNoUuid d flaw
-unfolding identifier_or_auto
+choice_told : (d : Data) (flaw : Flaw) → (text_of d >>= (λ s. only_if (bytes_eq s (codes "auto") || is_some (uuid_in s)))) ≡ Err flaw → (as_str d ≢ Some (codes "auto")) × IsNoUuid d flaw
 choice_told d flaw e =
     text_told (λ s. bytes_eq s (codes "auto") || is_some (uuid_in s)) d flaw e
     (λ none same. (λ is. some_none (as_str d) (codes "auto") is none, no_uuid_text d flaw none same))
@@ -123,8 +121,8 @@ no_class_word (c ∷ cs) w e (suc k, among, same) =
 
 -- ---- a number or a text
 
-alias_told : (levels : Members) (high : ℤ) (s : List ℕ) (flaw : Flaw) (o : Option Data) → get_member s levels ≡ o → level_or_none high o ≡ Err flaw → IsNoLevel levels high (string s) flaw
-alias_told levels high s flaw None is e = holds_of (IsNoLevel levels high (string s)) (here NoSuchAlias) flaw (same_flaw flaw (here NoSuchAlias) (level_or_none high None) e refl) (IsNoLevel.no_alias s refl is)
+alias_told : (levels : Members) (high : ℤ) (s : List ℕ) (flaw : Flaw) (o : Option Data) → get_member s levels ≡ o → option_map_or (whole_from (pos 0) high) o (Err (here NoSuchAlias)) ≡ Err flaw → IsNoLevel levels high (string s) flaw
+alias_told levels high s flaw None is e = holds_of (IsNoLevel levels high (string s)) (here NoSuchAlias) flaw (same_flaw flaw (here NoSuchAlias) (option_map_or (whole_from (pos 0) high) None (Err (here NoSuchAlias))) e refl) (IsNoLevel.no_alias s refl is)
 alias_told levels high s flaw (Some a) is e = IsNoLevel.alias_is_no_level s a refl is (whole_told (pos 0) high a flaw e)
 
 level_told : (levels : Members) (high : ℤ) (d : Data) (flaw : Flaw) → level levels high d ≡ Err flaw → IsNoLevel levels high d flaw
@@ -138,19 +136,13 @@ object_told : (d : Data) (flaw : Flaw) → any_object d ≡ Err flaw → IsNoObj
 unfolding any_object
 object_told d flaw e = only_step (object_of d) (λ ms. tt) flaw e (object_refused d flaw)
 
-no_items_told : (d : Data) (ds : Items) (flaw : Flaw) → as_array d ≡ Some ds → some_items ds ≡ Err flaw → IsNoSomeList d flaw
-no_items_told d no_items flaw is e = holds_of (IsNoSomeList d) (here OutOfRange) flaw (same_flaw flaw (here OutOfRange) (some_items no_items) e refl) (IsNoSomeList.has_none is)
-no_items_told d (item a ds) flaw is e = absurd cc
+no_items_told : (d : Data) (ds : Items) (flaw : Flaw) → as_array d ≡ Some ds → only_if (nat_lt 0 (items_len ds)) ≡ Err flaw → IsNoSomeList d flaw
+no_items_told d no_items flaw is e = holds_of (IsNoSomeList d) (here OutOfRange) flaw (not_passed false flaw e).1 (IsNoSomeList.has_none is)
+no_items_told d (item a ds) flaw is e = absurd (let few = ltb-false 0 (suc (items_len ds)) (not_passed _ flaw e).0 in omega (arith, few))
 
-no_members_told : (d : Data) (ms : Members) (flaw : Flaw) → as_object d ≡ Some ms → some_members ms ≡ Err flaw → IsNoSomeObject d flaw
-no_members_told d no_members flaw is e = holds_of (IsNoSomeObject d) (here OutOfRange) flaw (same_flaw flaw (here OutOfRange) (some_members no_members) e refl) (IsNoSomeObject.has_none is)
-no_members_told d (member k a ms) flaw is e = absurd cc
-
-not_one_told : (d : Data) (ms : Members) (flaw : Flaw) → as_object d ≡ Some ms → one_member ms ≡ Err flaw → IsNoEntry d flaw
-not_one_told d no_members flaw is e = holds_of (IsNoEntry d) (here WrongKind) flaw (same_flaw flaw (here WrongKind) (one_member no_members) e refl) (IsNoEntry.not_one_property no_members is (λ one. omega (arith, one)))
-not_one_told d (member k a no_members) flaw is e = absurd cc
-not_one_told d (member k a (member l b ms)) flaw is e =
-    holds_of (IsNoEntry d) (here WrongKind) flaw (same_flaw flaw (here WrongKind) (one_member (member k a (member l b ms))) e refl) (IsNoEntry.not_one_property (member k a (member l b ms)) is (λ one. omega (arith, one)))
+no_members_told : (d : Data) (ms : Members) (flaw : Flaw) → as_object d ≡ Some ms → only_if (nat_lt 0 (members_len ms)) ≡ Err flaw → IsNoSomeObject d flaw
+no_members_told d no_members flaw is e = holds_of (IsNoSomeObject d) (here OutOfRange) flaw (not_passed false flaw e).1 (IsNoSomeObject.has_none is)
+no_members_told d (member k a ms) flaw is e = absurd (let few = ltb-false 0 (suc (members_len ms)) (not_passed _ flaw e).0 in omega (arith, few))
 
 feature_told : (d : Data) (flaw : Flaw) → feature d ≡ Err flaw → IsNoFeature d flaw
 unfolding feature
@@ -160,7 +152,7 @@ feature_told d flaw e = (refl, object_told d flaw e)
 size_told : (d : Data) (flaw : Flaw) → size_feature d ≡ Err flaw → IsNoSizeFeature d flaw
 unfolding size_feature
 size_told (boolean true) flaw e = absurd cc
-size_told (boolean false) flaw e = holds_of (IsNoSizeFeature (boolean false)) (here OutOfRange) flaw (same_flaw flaw (here OutOfRange) (size_feature (boolean false)) e refl) (IsNoSizeFeature.is_off refl)
+size_told (boolean false) flaw e = holds_of (IsNoSizeFeature (boolean false)) (here OutOfRange) flaw (not_passed false flaw e).1 (IsNoSizeFeature.is_off refl)
 size_told d flaw e = IsNoSizeFeature.no_feature (refl, object_told d flaw e)
 
 -- ---- ranges
@@ -184,7 +176,7 @@ range_read d range e = range_known d range.low range.high (read_so d range e)
 pub number_there : (name : List ℕ) (ms : Members) (n : ℕ) → natural_in name ms ≡ Some n → HasNumber name ms n
 unfolding natural_in
 number_there name ms n e =
-    by_found (λ (o : Option Data). natural_or_none o ≡ Some n → HasNumber name ms n) (get_member name ms) (λ is f. absurd cc) (λ d is f. (d, is, f)) e
+    by_found (λ (o : Option Data). option_and_then as_natural o ≡ Some n → HasNumber name ms n) (get_member name ms) (λ is f. absurd cc) (λ d is f. (d, is, f)) e
 
 module _ (around : Around) where
   no_pair_told : (ds : Items) (flaw : Flaw) → items_len ds ≢ 2 → flaw ≡ here WrongKind → IsNoRange around (array ds) flaw
@@ -192,8 +184,6 @@ module _ (around : Around) where
 
   pair_told : (ds : Items) (flaw : Flaw) → pair_of ds ≡ Err flaw → IsNoRange around (array ds) flaw
   unfolding pair_of
-  pair_told no_items flaw e = no_pair_told no_items flaw (λ two. omega (arith, two)) (same_flaw flaw (here WrongKind) (pair_of no_items) e refl)
-  pair_told (item a no_items) flaw e = no_pair_told (item a no_items) flaw (λ two. omega (arith, two)) (same_flaw flaw (here WrongKind) (pair_of (item a no_items)) e refl)
   pair_told (item a (item b no_items)) flaw e =
       either_step (at (index 0) (end_of a)) _ flaw e
       (λ r. let told = refused_there (index 0) (end_of a) flaw r in
@@ -201,7 +191,7 @@ module _ (around : Around) where
       (λ x went rest. only_step (at (index 1) (end_of b)) _ flaw rest
       (λ r. let told = refused_there (index 1) (end_of b) flaw r in
       holds_of (IsNoRange around (array (item a (item b no_items)))) (within (index 1) told.0) flaw told.2 (IsNoRange.wrong_high a b told.0 refl (whole_refused lowest_end highest_end b told.0 told.1))))
-  pair_told (item a (item b (item c ds))) flaw e = no_pair_told (item a (item b (item c ds))) flaw (λ two. omega (arith, two)) (same_flaw flaw (here WrongKind) (pair_of (item a (item b (item c ds)))) e refl)
+  pair_told ds flaw e = no_pair_told ds flaw (λ two. omega (arith, two)) (same_flaw flaw (here WrongKind) (pair_of ds) e refl)
 
   no_range_told : (d : Data) (flaw : Flaw) → range_of d ≡ Err flaw → IsNoRange around d flaw
   unfolding range_of
@@ -213,7 +203,7 @@ module _ (around : Around) where
   unfolding numbers_in numbers_of
   sized {P = P} test all sized_so =
       by_found (λ (o : Option (Bool × Members)). test (unwrap_or (option_map (λ (e : Bool × Members). numbers_in e.0 e.1) o) all_numbers) ≡ false → P) (enumeration_around around) (λ is e. absurd (true≢false (sym all ∙ e))) (λ found is.
-      by_found (λ (o : Option ℕ). test (numbers_or_all found.0 o) ≡ false → P) (natural_in (codes "size") found.1) (λ none e. absurd (true≢false (sym all ∙ e)))
+      by_found (λ (o : Option ℕ). test (option_map_or (numbers_of found.0) o all_numbers) ≡ false → P) (natural_in (codes "size") found.1) (λ none e. absurd (true≢false (sym all ∙ e)))
       (λ n has. by_size found.0 found.1 n is (number_there (codes "size") found.1 n has) (nat_eq n 0) (nat_lt 64 n) refl refl))
     where
       by_size : (signed : Bool) (ms : Members) (n : ℕ) → enumeration_around around ≡ Some (signed, ms) → HasNumber (codes "size") ms n → (a b : Bool) → nat_eq n 0 ≡ a → nat_lt 64 n ≡ b
@@ -251,13 +241,18 @@ module _ (around : Around) where
 
 module _ (k : Known) (around : Around) (h : Agrees k around) where
   none_told : (place : Place) (d : Data) (flaw : Flaw) → form_of k place d ≡ Err flaw → IsNoneAt around place d flaw
-  unfolding form_of some_list some_object entry any_list
+  unfolding form_of
   none_told places.Members d flaw e = only_step (list_of d) (λ ds. tt) flaw e (list_refused d flaw)
   none_told places.ExtraMembers d flaw e = only_step (list_of d) (λ ds. tt) flaw e (list_refused d flaw)
-  none_told places.Ranges d flaw e = either_step (list_of d) some_items flaw e (λ r. IsNoSomeList.no_list (list_refused d flaw r)) (λ ds went r. no_items_told d ds flaw (wanted_found (as_array d) ds went) r)
+  none_told places.Ranges d flaw e = either_step (list_of d) _ flaw e (λ r. IsNoSomeList.no_list (list_refused d flaw r)) (λ ds went r. no_items_told d ds flaw (wanted_found (as_array d) ds went) r)
   none_told places.Range d flaw e = range_told around k.numbers h.numbers d flaw e
-  none_told places.Entry d flaw e = either_step (object_of d) one_member flaw e (λ r. IsNoEntry.no_object (object_refused d flaw r)) (λ ms went r. not_one_told d ms flaw (wanted_found (as_object d) ms went) r)
-  none_told places.Mappings d flaw e = either_step (object_of d) some_members flaw e (λ r. IsNoSomeObject.no_object (object_refused d flaw r)) (λ ms went r. no_members_told d ms flaw (wanted_found (as_object d) ms went) r)
+  none_told places.Entry d flaw e =
+      either_step (object_of d) _ flaw e
+      (λ r. IsNoEntry.no_object (object_refused d flaw r))
+      (λ ms went r.
+      let told = refused_test (nat_eq (members_len ms) 1) tt (here WrongKind) flaw r in
+      holds_of (IsNoEntry d) (here WrongKind) flaw told.1 (IsNoEntry.not_one_property ms (wanted_found (as_object d) ms went) (eqb-false (members_len ms) 1 told.0)))
+  none_told places.Mappings d flaw e = either_step (object_of d) _ flaw e (λ r. IsNoSomeObject.no_object (object_refused d flaw r)) (λ ms went r. no_members_told d ms flaw (wanted_found (as_object d) ms went) r)
   none_told places.Feature d flaw e = feature_told d flaw e
   none_told places.MagicFeature d flaw e = feature_told d flaw e
   none_told places.IdentifierFeature d flaw e = feature_told d flaw e
@@ -267,7 +262,7 @@ module _ (k : Known) (around : Around) (h : Agrees k around) where
   none_told _ d flaw e = object_told d flaw e
 
   pub value_told : (content : Content) (d : Data) (flaw : Flaw) → itself_of k content d ≡ Err flaw → IsNoValueOf around content d flaw
-  unfolding itself_of leaf_of any_flag any_text printable identifier word_among class_word whole_or_text
+  unfolding itself_of leaf_of whole_or_text
   value_told (contents.Whole low high) d flaw e = whole_told low high d flaw e
   value_told (contents.PowerOfTwo high) d flaw e = power_told d flaw e
   value_told contents.Flag d flaw e = only_step (flag_of d) (λ b. tt) flaw e (flag_refused d flaw)
@@ -289,17 +284,13 @@ module _ (k : Known) (around : Around) (h : Agrees k around) where
 -- ---- the names of entries
 
 module _ (k : Known) (around : Around) (h : (name : List ℕ) → IsTrue (is_taken k.taken name) ↔ IsTaken around name) where
-  length_clash : (b : Bool) (name : List ℕ) (d : Data) → is_dynamic d ≡ b → length_is_taken b k.taken name ≡ true → IsNoMemberName around name d (here NameClash)
-  length_clash true name d is e = IsNoMemberName.length_clash (dynamic_told d is) ((h (length_name name)).0 e)
-  length_clash false name d is e = absurd cc
-
   clash_told : (name : List ℕ) (d : Data) (flaw : Flaw) → free_of k.taken name d ≡ Err flaw → IsNoMemberName around name d flaw
   unfolding free_of
   clash_told name d flaw e =
-      let told = refused_where (is_taken k.taken name || length_is_taken (is_dynamic d) k.taken name) tt (here NameClash) flaw e in
-      holds_of (IsNoMemberName around name d) (here NameClash) flaw told.1 (elim (or_cases (is_taken k.taken name) (length_is_taken (is_dynamic d) k.taken name) told.0) [
+      let told = refused_where (is_taken k.taken name || is_dynamic d && is_taken k.taken (length_name name)) tt (here NameClash) flaw e in
+      holds_of (IsNoMemberName around name d) (here NameClash) flaw told.1 (elim (or_cases (is_taken k.taken name) (is_dynamic d && is_taken k.taken (length_name name)) told.0) [
         | inl taken ↦ IsNoMemberName.name_clash ((h name).0 taken)
-        | inr taken ↦ length_clash (is_dynamic d) name d refl taken
+        | inr long ↦ let p = and_parts (is_dynamic d) (is_taken k.taken (length_name name)) long in IsNoMemberName.length_clash (dynamic_told d p.0) ((h (length_name name)).0 p.1)
       ])
 
   label_told : (name : List ℕ) (flaw : Flaw) → only_if (is_printable name) ≡ Err flaw → IsNoLabel name flaw
@@ -309,7 +300,7 @@ module _ (k : Known) (around : Around) (h : (name : List ℕ) → IsTrue (is_tak
       holds_of (IsNoLabel name) (here OutOfRange) flaw told.1 (IsNoLabel.has_control control.0 control.1 control.2)
 
   key_told : (place : Place) (by : Keys) (name : List ℕ) (d : Data) (flaw : Flaw) → key_by k place by name d ≡ Err flaw → IsNoKey around place by name d flaw
-  unfolding key_by plain_of
+  unfolding key_by
   key_told place keys.Name name d flaw e = name_refused name flaw e
   key_told places.Entry keys.PlainName name d flaw e = either_step (plain_name_of name) _ flaw e (λ r. IsNoMemberName.no_name (plain_name_refused name flaw r)) (λ x went r. clash_told name d flaw r)
   key_told _ keys.PlainName name d flaw e = plain_name_refused name flaw e
@@ -319,4 +310,4 @@ module _ (k : Known) (around : Around) (h : (name : List ℕ) → IsTrue (is_tak
   pub name_told : (place : Place) (name : List ℕ) (d : Data) (flaw : Flaw) → key_of k place name d ≡ Err flaw → IsNoNameAt around place name d flaw
   unfolding key_of
   name_told place name d flaw e =
-      by_found (λ (o : Option Entries). key_in k place o name d ≡ Err flaw → IsNoNameAt around place name d flaw) (entries_of place) (λ is f. absurd cc) (λ entries is f. (entries, is, key_told place entries.keys name d flaw f)) e
+      by_found (λ (o : Option Entries). option_map_or (λ x. key_by k place x.keys name d) o (Ok tt) ≡ Err flaw → IsNoNameAt around place name d flaw) (entries_of place) (λ is f. absurd cc) (λ entries is f. (entries, is, key_told place entries.keys name d flaw f)) e

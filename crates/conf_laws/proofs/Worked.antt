@@ -12,10 +12,10 @@ use Rattle.conf_laws.specs.TableLimits.{PassesLimitOf}
 use Rattle.conf_laws.specs.ValueFlaws.{IsNoDefault, IsNoMemberName}
 use Rattle.conf_laws.proofs.TableWords.{class_words, admits_class, is_class, rows_of, entries_of, content_under, presence_under, words_of, At, OneFlag, Content, class_of}
 use Rattle.conf_laws.proofs.TableWords.places
-use Rattle.conf_laws.proofs.JudgeWords.{class_rule, orders_there, all_there, resolved_content, is_left_out, configuration_flaws, other_class, any_object, form_of, itself_of, any_list, entry, inside, behind, leaf_of, word_among, whole_from, any_text, class_word, fits, place_fits, arrays_fit, is_outermost, ranges_fit, key_fits, configuration_limits, power_fits, key_of, key_by, plain_of, free_of, names_beside, is_dynamic, natural_in, is_position, own_place, place_of_properties, item_content, shape_of}
+use Rattle.conf_laws.proofs.JudgeWords.{class_rule, orders_there, all_there, resolved_content, is_left_out, configuration_flaws, other_class, any_object, form_of, itself_of, inside, behind, leaf_of, whole_from, fits, place_fits, arrays_fit, is_outermost, ranges_fit, key_fits, configuration_limits, power_fits, key_of, key_by, free_of, names_beside, is_dynamic, natural_in, is_position, own_place, place_of_properties, item_content, shape_of}
 use Rattle.conf_laws.proofs.TreeWords.{Flaw, Place, key, index, here, Ascends, whole_of, WrongKind, Missing, Unknown, OutOfRange, NameClash, Limit, FaultKind, IsNoObject, name_of, is_reserved, plain_name_of, as_natural, Data, null, boolean, number, unsigned, string, array, object, no_items, item, Members, no_members, member}
 use Rattle.conf_laws.proofs.StdWords.{All-nil, same_Some}
-use Rattle.conf_laws.proofs.DraftWords.{alignment, clock_types, environment, event_type, event_types, feature, identifier, size, mapped, timestamp, header_of, header, context_of, context, event_header_of, event_header, base_of, size_of, integer, natural, word, list, object as object_at, member_type, behind as behind_member, stream_type, stream_types, asks_number, draft_of_type, draft_of_trace, draft_of_root, draft_of, Draft, IsConfig, is_identifier}
+use Rattle.conf_laws.proofs.DraftWords.{alignment, clock_types, environment, event_type, event_types, feature, identifier, size, mapped, timestamp, header, context, event_header, base_of, size_of, integer, natural, word, list, object as object_at, properties, member_type, behind as behind_member, stream_type, stream_types, asks_number, draft_of_type, draft_of_trace, draft_of_root, draft_of, Draft, IsConfig, is_identifier}
 
 abbrev flaw_at : List Place → FaultKind → Flaw
 flaw_at path kind = record { path = path; kind = kind }
@@ -85,7 +85,7 @@ abbrev pub small : Data
 small = object (member (codes "trace") (object (member (codes "type") (object trace_type) no_members)) no_members)
 
 no_flaw : configuration_flaws small ≡ []
-unfolding content_under presence_under entries_of rows_of words_of class_rule all_there orders_there resolved_content is_left_out itself_of form_of any_object inside behind leaf_of word_among key_of place_of_properties is_position own_place shape_of
+unfolding content_under presence_under entries_of rows_of words_of class_rule all_there orders_there resolved_content is_left_out itself_of form_of any_object inside behind leaf_of key_of place_of_properties is_position own_place shape_of
 no_flaw = refl
 
 no_limit : configuration_limits small ≡ []
@@ -96,7 +96,7 @@ in_order : Ascends small
 in_order = ((tt, tt), (((tt, tt), (((tt, tt), (tt, tt)), tt)), tt))
 
 keeps_rules : (draft : Draft) → draft_of None small ≡ Some draft → KeepsRules draft.config
-unfolding draft_of_root draft_of_trace draft_of_type object_at word header header_of feature identifier stream_types environment clock_types asks_number
+unfolding draft_of_root draft_of_trace draft_of_type object_at properties word header feature identifier stream_types environment clock_types asks_number
 keeps_rules draft e =
     subst (λ (x : Draft). KeepsRules x.config) (same_Some _ draft e)
     (record { uuid_is_there = λ there. absurd cc; stream_id_holds = omega arith; streams = All-nil (KeepsStreamRules []) })
@@ -122,8 +122,8 @@ larger = object (member (codes "trace") (object (member (codes "type") (object
     (member (codes "trace-byte-order") (string (codes "le")) no_members)))) no_members)) no_members)
 
 larger_no_flaw : configuration_flaws larger ≡ []
-unfolding content_under presence_under entries_of rows_of words_of class_words class_rule admits_class is_class other_class all_there orders_there resolved_content is_left_out itself_of form_of any_object any_list inside behind leaf_of word_among whole_from whole_of any_text key_of key_by plain_of free_of names_beside class_of is_dynamic natural_in
-    as_natural name_of is_reserved plain_name_of is_identifier class_word entry item_content place_of_properties is_position own_place shape_of
+unfolding content_under presence_under entries_of rows_of words_of class_words class_rule admits_class is_class other_class all_there orders_there resolved_content is_left_out itself_of form_of any_object inside behind leaf_of whole_from whole_of key_of key_by free_of names_beside class_of is_dynamic natural_in
+    as_natural name_of is_reserved plain_name_of is_identifier item_content place_of_properties is_position own_place shape_of
 larger_no_flaw = refl
 
 larger_no_limit : configuration_limits larger ≡ []
@@ -131,7 +131,7 @@ unfolding content_under presence_under entries_of rows_of class_words fits place
 larger_no_limit = refl
 
 larger_says : IsSome (draft_of None larger)
-unfolding draft_of_root draft_of_trace draft_of_type object_at word list natural as_natural header header_of feature identifier stream_types stream_type context context_of size timestamp mapped event_header event_header_of event_types event_type
+unfolding draft_of_root draft_of_trace draft_of_type object_at properties word list natural as_natural header feature identifier stream_types stream_type context size timestamp mapped event_header event_types event_type
     structures.structure structures.structure_of structures.listed structures.extra_members structures.made structures.align_of behind_member member_type class_of drafts.of_class class_words integer made size_of align_of alignment base_of environment clock_types asks_number
 larger_says = refl
 

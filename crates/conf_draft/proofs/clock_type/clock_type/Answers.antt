@@ -1,9 +1,7 @@
-use Rattle.std.proofs.Common.{◌≡◌, ℕ, ℤ, pos, List, Option, None, Some, Bool, true, refl, ap, ◌∙◌, rules, unwrap_or}
+use Rattle.std.proofs.Common.{◌≡◌, ℕ, ℤ, pos, List, Option, Bool, true, refl, ap, ◌∙◌, rules, unwrap_or}
 use Rattle.std.specs.Prelude.{codes}
-use Rattle.serde_json.specs.Data.{Members}
 use Rattle.ctf_types.specs.declared.ClockType.{ClockType}
-use Rattle.conf_draft.specs.Clocks.{clock_type, seconds_in, cycles_in}
-use Rattle.conf_draft.specs.Features.{or_empty}
+use Rattle.conf_draft.specs.Clocks.{clock_type}
 use Rattle.conf_draft.specs.Lookups.{natural, signed}
 use Rattle.conf_draft.proofs.clock_type.clock_type.Goals as goal
 
@@ -13,23 +11,12 @@ same_clock : (n m : List ℕ) (u v d e : Option (List ℕ)) (f g p q : ℕ) (s t
     (record { name = m; uuid = v; description = e; frequency = g; precision = q; offset_seconds = t; offset_cycles = y; absolute = b })
 same_clock n m u v d e f g p q s t x y a b e1 e2 e3 e4 e5 e6 e7 e8 = rw (e1, e2, e3, e4, e5, e6, e7, e8) refl
 
--- an offset that is left out is as an empty one
-seconds_or : (o : Option Members) → unwrap_or (signed (codes "seconds") (or_empty o)) (pos 0) ≡ seconds_in o
-unfolding signed
-seconds_or None = refl
-seconds_or (Some ms) = refl
-
-cycles_or : (o : Option Members) → unwrap_or (natural (codes "cycles") (or_empty o)) 0 ≡ cycles_in o
-unfolding natural
-cycles_or None = refl
-cycles_or (Some ms) = refl
-
 pub returns : goal.returns
 unfolding clock_type
 returns c =
     same_clock _ _ _ _ _ _ _ _ _ _ _ _ _ _ _ _ c.in_ok-name.ensures c.identifier.ensures c.in_ok-description.ensures
     (c.unwrap_or.ensures ∙ ap (λ o. unwrap_or o 1000000000) c.natural.ensures)
     (c.unwrap_or-2.ensures ∙ ap (λ o. unwrap_or o 0) c.natural-2.ensures)
-    (search rules ∙ c.unwrap_or-3.ensures ∙ ap (λ o. unwrap_or o (pos 0)) (c.signed.ensures ∙ ap (signed (codes "seconds")) c.object_or-offset.ensures) ∙ seconds_or _)
-    (c.unwrap_or-4.ensures ∙ ap (λ o. unwrap_or o 0) (c.natural-3.ensures ∙ ap (natural (codes "cycles")) c.object_or-offset.ensures) ∙ cycles_or _)
+    (search rules ∙ c.unwrap_or-3.ensures ∙ ap (λ o. unwrap_or o (pos 0)) (c.signed.ensures ∙ ap (signed (codes "seconds")) c.object_or-offset.ensures))
+    (c.unwrap_or-4.ensures ∙ ap (λ o. unwrap_or o 0) (c.natural-3.ensures ∙ ap (natural (codes "cycles")) c.object_or-offset.ensures))
     (c.unwrap_or-5.ensures ∙ ap (λ o. unwrap_or o true) c.flag.ensures)

@@ -2,7 +2,7 @@ use Rattle.std.proofs.Common.{◌≡◌, Option, Some, true, false, refl, subst}
 use Rattle.std.specs.Prelude.{codes}
 use Rattle.serde_json.specs.View.{members_view}
 use Rattle.ctf_types.specs.declared.IntType.{IntType}
-use Rattle.conf_draft.specs.Features.{feature, context, context_of, context_with}
+use Rattle.conf_draft.specs.Features.{feature, context, context_with}
 use Rattle.conf_draft.proofs.features.context.Goals as goal
 
 context_made : (a b : Option IntType) (p q d s : Option (Option IntType)) (u v : IntType) (w x y z : Option IntType) → a ≡ Some u → b ≡ Some v → p ≡ Some w → q ≡ Some x → d ≡ Some y → s ≡ Some z
@@ -10,10 +10,10 @@ context_made : (a b : Option IntType) (p q d s : Option (Option IntType)) (u v :
 context_made a b p q d s u v w x y z e1 e2 e3 e4 e5 e6 = rw (e1, e2, e3, e4, e5, e6) refl
 
 pub returns : goal.returns
-unfolding context context_of
+unfolding context
 returns c =
     let ms = members_view c.object_or-packet.result.now.entries in
-    subst (λ n. context_of c.args.clock.now n ≡ Some (record {
+    subst (λ n. context c.args.clock.now n ≡ Some (record {
       packet_size = c.size.result;
       content_size = c.size-2.result;
       timestamp_begin = c.in_ok-begin.begin;

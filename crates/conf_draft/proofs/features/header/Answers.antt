@@ -2,17 +2,17 @@ use Rattle.std.proofs.Common.{◌≡◌, Option, Some, true, refl, subst}
 use Rattle.std.specs.Prelude.{codes}
 use Rattle.serde_json.specs.View.{members_view}
 use Rattle.ctf_types.specs.declared.IntType.{IntType}
-use Rattle.conf_draft.specs.Features.{feature, header, header_of, header_with}
+use Rattle.conf_draft.specs.Features.{feature, header, header_with}
 use Rattle.conf_draft.proofs.features.header.Goals as goal
 
 header_made : (m u s : Option (Option IntType)) (x y z : Option IntType) → m ≡ Some x → u ≡ Some y → s ≡ Some z → header_with m u s ≡ Some (record { magic = x; uuid = y; stream_id = z })
 header_made m u s x y z a b c = rw (a, b, c) refl
 
 pub returns : goal.returns
-unfolding header header_of
+unfolding header
 returns c =
     let ms = members_view c.object_or-features.result.now.entries in
-    subst (λ n. header_of c.args.has_uuid n ≡ Some (record { magic = c.feature.result; uuid = c.identifier.result; stream_id = c.feature-2.result })) c.object_or-features.ensures
+    subst (λ n. header c.args.has_uuid n ≡ Some (record { magic = c.feature.result; uuid = c.identifier.result; stream_id = c.feature-2.result })) c.object_or-features.ensures
     (header_made _ _ _ c.feature.result c.identifier.result c.feature-2.result
     (subst (λ t. feature (codes "magic-field-type") true t ms ≡ Some c.feature.result) c.magic.ensures c.feature.ensures)
     c.identifier.ensures
