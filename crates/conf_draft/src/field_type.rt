@@ -1,7 +1,7 @@
 //! Field types that may stand anywhere in a structure (barectf 3.1, "Field type objects").
 ghost use Rattle.std.specs.Prelude.{◌≡◌, ◌≤◌, Some, IsSome, IfOk};
-ghost use Rattle.serde_json.specs.View.{view, members_view};
-ghost use Rattle.conf_draft.specs.FieldTypes.{of_class as of_class_of, field_type as field_type_of_data, element as element_of};
+ghost use Rattle.serde_json.specs.View.{members_view};
+ghost use Rattle.conf_draft.specs.FieldTypes.{of_class as of_class_of, element as element_of};
 
 use crate::enumeration::enumeration;
 use crate::integer::integer;
@@ -11,19 +11,7 @@ use ctf_types::{Element, FieldType};
 use serde_json::{Map, Value};
 use std::alloc::{AllocError, Global};
 
-/// The field type that a value is: an integer, an enumeration, a string, or a static array of one of them.
-#[cycle(field_type)]
-fn field_type(alloc: Global, value: &Value) -> Result<FieldType, AllocError>
-    requires { IsSome (field_type_of_data (view value.now)) }
-    ensures { IfOk result (λ t. field_type_of_data (view value.now) ≡ Some t) }
-{
-    match value {
-        Value::Object(members) => of_class(alloc, class_of(members), members),
-        _ => unreachable!(),
-    }
-}
-
-/// The field type that an object of this class is.
+/// The field type that an object of this class is: an integer, an enumeration, a string, or a static array of one of them.
 #[cycle(field_type)]
 #[tactic(auto, unfolding(crate::specs::FieldTypes::of_class, crate::specs::FieldTypes::length_of))]
 pub(crate) fn of_class(
@@ -59,7 +47,10 @@ pub(crate) fn element(alloc: Global, members: &Map<String, Value>) -> Result<Fie
 {
     for (name, value) in members.iter() {
         if name.as_str() == "element-field-type" {
-            return field_type(alloc, value);
+            let Value::Object(own) = value else {
+                unreachable!()
+            };
+            return of_class(alloc, class_of(own), own);
         }
     }
     unreachable!()

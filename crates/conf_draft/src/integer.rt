@@ -1,7 +1,7 @@
 //! Integer field types (barectf 3.1, "Integer field type objects").
 ghost use Rattle.std.specs.Prelude.{◌≡◌, Some, IsSome};
 ghost use Rattle.serde_json.specs.View.{members_view};
-ghost use Rattle.conf_draft.specs.Integers.{integer as integer_of, made as made_of, base_of};
+ghost use Rattle.conf_draft.specs.Integers.{integer as integer_of, made as made_of};
 
 use crate::lookup::{alignment, natural, word};
 use conf_values::base_word;
@@ -17,7 +17,8 @@ pub(crate) fn integer(signed: bool, members: &Map<String, Value>) -> IntType
     let size = natural(members, "size").unwrap_or(0);
     let default_align = if size % 8 == 0 { 8 } else { 1 };
     let align = alignment(members, "alignment").unwrap_or(default_align);
-    made(size, align, signed, base(members))
+    let base = word(members, "preferred-display-base").and_then(|word| base_word(word));
+    made(size, align, signed, base.unwrap_or(Base::Dec))
 }
 
 /// The integer type of this size and this alignment in bits.
@@ -27,13 +28,4 @@ fn made(size: u64, align: u64, signed: bool, base: Base) -> IntType
     ensures { made_of size align signed base ≡ Some result }
 {
     IntType::new(size as u8, align as u32, signed, base).unwrap()
-}
-
-/// The base in which the integer is shown, decimal where it is left out.
-#[tactic(auto, unfolding(crate::specs::Integers::base_of))]
-fn base(members: &Map<String, Value>) -> Base
-    ensures { result ≡ base_of (members_view members.now.entries) }
-{
-    let word = word(members, "preferred-display-base");
-    word.and_then(|word| base_word(word)).unwrap_or(Base::Dec)
 }

@@ -1,9 +1,8 @@
 //! The trace, its type, and the configuration around them (barectf 3.1, "Configuration object", "Trace object", "Trace type
 //! object").
-ghost use Rattle.std.specs.Prelude.{◌≡◌, Some, IsSome, IfOk, is_some, codes};
+ghost use Rattle.std.specs.Prelude.{◌≡◌, Some, IsSome, IfOk};
 ghost use Rattle.serde_json.specs.View.{view, members_view};
 ghost use Rattle.conf_draft.specs.Traces.{draft_of as draft_of_value, draft_of_type as draft_of_type_in, order as order_in, trace_order as trace_order_in, has_two_orders as has_two_orders_in, asks_number as asks_number_in};
-ghost use Rattle.conf_draft.specs.Lookups.{word as word_in};
 
 use crate::clock_type::clock_types;
 use crate::draft::Draft;
@@ -44,7 +43,7 @@ fn draft_of_type(
     requires { IsSome (draft_of_type_in number environment (members_view trace_type.now.entries)) }
     ensures { IfOk result (λ d. draft_of_type_in number environment (members_view trace_type.now.entries) ≡ Some d) }
 {
-    let header = header(alloc, trace_type, has_uuid(trace_type));
+    let header = header(alloc, trace_type, word(trace_type, "uuid").is_some());
     let clocks = clock_types(alloc, trace_type)?;
     let streams = stream_types(alloc, trace_type)?;
     let lacks_number = number.is_none() && asks_number(trace_type);
@@ -91,12 +90,6 @@ fn has_two_orders(trace_type: &Map<String, Value>) -> bool
 {
     order(trace_type, "native-byte-order").is_some()
         && order(trace_type, "trace-byte-order").is_some()
-}
-
-fn has_uuid(trace_type: &Map<String, Value>) -> bool
-    ensures { result ≡ is_some (word_in (codes "uuid") (members_view trace_type.now.entries)) }
-{
-    word(trace_type, "uuid").is_some()
 }
 
 /// Whether a trace type asks for an identifier that is handed in.

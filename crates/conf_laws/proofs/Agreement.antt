@@ -1,13 +1,8 @@
 -- What a judge knows around a value is what the value stands in.
 use Rattle.std.proofs.Common.{◌≡◌, ◌⊎◌, ◌+◌, ◌<◌, ℕ, zero, suc, Some, inl, inr, sym, ap, subst, ◌∙◌, arith, ◌↔◌, ◌||◌, Bool, true, false, List, [], ◌∷◌, Contains, Option, is_some, refl, codes, unwrap_or, option_map, option_and_then, cond}
-use Rattle.conf_laws.specs.Around.{Around, member_of, item_of, levels_around, SaysDefault, HasDefault, IsBehindDefault, enumeration_around, IsDynamic, TakesName, IsBeside, IsTaken}
-use Rattle.conf_laws.proofs.TableWords.{Place, class_of, is_dynamic_array}
-use Rattle.conf_laws.proofs.TableWords.places
-use Rattle.conf_laws.proofs.JudgeWords.{Known, nothing, inside, behind, with_taken, is_true, says_default, class_of_member, is_dynamic, take, take_each, take_all, names_beside, with_names, is_taken, all_numbers, numbers_in}
-use Rattle.conf_laws.proofs.TreeWords.{optional, HasMember, get_member-put, get_member-put_other, Data, Items, no_items, item, null, boolean, object, Members, no_members, member, items_len, get_item, get_member, as_object}
-use Rattle.conf_laws.proofs.StdWords.{cases_lt, false≢true, or_cases, or_left, or_right, option_map_or, bytes_eq, bytes_eq-Decides}
+use Rattle.conf_laws.proofs.Words.{Around, member_of, item_of, levels_around, SaysDefault, HasDefault, IsBehindDefault, enumeration_around, IsDynamic, TakesName, IsBeside, IsTaken, Place, class_of, is_dynamic_array, Known, nothing, inside, behind, with_taken, is_true, says_default, class_of_member, is_dynamic, take, take_each, take_all, names_beside, with_names, is_taken, all_numbers, numbers_in, optional, HasMember, get_member-put, get_member-put_other, Data, Items, no_items, item, null, boolean, object, Members, no_members, member, items_len, get_item, get_member, as_object, cases_lt, false≢true, or_cases, or_left, or_right, option_map_or, bytes_eq, bytes_eq-Decides, own_names, length_name}
+use Rattle.conf_laws.proofs.Words.places
 use Rattle.conf_laws.proofs.Readings.{by_test}
-use Rattle.conf_laws.proofs.DraftWords.{own_names, length_name}
 
 -- all items are those before, the nearest first, and then the rest
 pub data ItemParts (all : Items) : Items → Items → Type 0 where

@@ -8,13 +8,8 @@ use Rattle.conf_laws.proofs.Numbers.{lowest_end, highest_end, ReadSo, read_so, s
 use Rattle.conf_laws.proofs.Properties.{AreGoodItems, IsGoodEntry, entry_in, plain_rest, good_items, item_first, item_rest, AreGood, IsGoodAt, good_object, own_properties, fitting_parts, needed_at, names_of, sorted_names, names_counted, all_in, entry_object, property_at, MapPlace, is_map, is_plain, Property, leads, needed_by, mappings_own, ObjectPlace, is_own, is_object}
 use Rattle.conf_laws.proofs.Readings.{under_no_test, proved_some, was_so, all_joined, mapped_some, same_natural, word_there, by_found}
 use Rattle.conf_laws.proofs.Sound.{needed_there, Leads}
-use Rattle.conf_laws.specs.ValueFlaws.{IsPair}
-use Rattle.conf_laws.proofs.TableWords.{entries_of, Place, At, WholeOrText, Whole, Text, Content}
-use Rattle.conf_laws.proofs.TableWords.places
-use Rattle.conf_laws.proofs.JudgeWords.{all_there, itself_of, form_of, Known, with_taken, key_fits, count_of, ranges_fit, key_of, key_by, names_beside, with_names, end_of, range_of, is_inside, inside_of, natural_in, numbers_of, numbers_in, all_numbers, item_content, leaf_of, whole_or_text, fits}
-use Rattle.conf_laws.proofs.TreeWords.{here, AllAbove, IsInOrder, whole_of, whole_or_not, given, OutOfRange, both_read, is_passed, name_of, is_reserved, plain_name_of, is_printable, Members, Data, number, array, Num, unsigned, negative, float, Items, no_items, item, no_members, member, object, items_len, as_integer, as_array, get_member, optional, as_natural, string, members_len, as_object}
-use Rattle.conf_laws.proofs.StdWords.{nat_tests, and_parts, or_parts, leb-true, nat_list_cmp_total, tied_itself, T_from_true, All-from_recursion, All-weaker, same_Some, slice_cmp, le_z_yes, list_any, option_map_or, AllByRecursion, bytes_eq, length-map, map-append}
-use Rattle.conf_laws.proofs.DraftWords.{whole, low, high, ranges_in, ranges_of, labels_in, enumeration, integer, size_of, base_of, object as object_at, properties, IsPlainUnsigned, LabelsInOrder, lowest, highest, IsRangeOf, IsEnumeration, is_identifier, unused_keywords, used_keywords, IsConfigName, IsPlainName, IsConfigText, Base, EnumType, IntType, Mapping, clock_type, clocks_in, clock_types, entry_value, entries_in, environment, natural, word, InByteOrder, IsEnvironmentValue, IsClockType, ClockType, EnvironmentEntry}
+use Rattle.conf_laws.proofs.Words.{IsPair, entries_of, Place, At, WholeOrText, Whole, Text, Content, all_there, itself_of, form_of, Known, with_taken, key_fits, count_of, ranges_fit, key_of, key_by, names_beside, with_names, end_of, range_of, is_inside, inside_of, natural_in, numbers_of, numbers_in, all_numbers, item_content, leaf_of, whole_or_text, fits, here, AllAbove, IsInOrder, whole_of, whole_or_not, given, OutOfRange, both_read, is_passed, name_of, is_reserved, plain_name_of, is_printable, Members, Data, number, array, Num, unsigned, negative, float, Items, no_items, item, no_members, member, object, items_len, as_integer, as_array, get_member, optional, as_natural, string, members_len, as_object, nat_tests, and_parts, or_parts, leb-true, nat_list_cmp_total, tied_itself, T_from_true, All-from_recursion, All-weaker, same_Some, slice_cmp, le_z_yes, list_any, option_map_or, AllByRecursion, bytes_eq, length-map, map-append, whole, low, high, ranges_in, mappings_of as ranges_of, labels_in, enumeration, integer, size_of, base_of, object_at, properties, IsPlainUnsigned, LabelsInOrder, lowest, highest, IsRangeOf, IsEnumeration, is_name as is_identifier, unused_keywords, used_keywords, IsConfigName, IsPlainName, IsConfigText, Base, EnumType, IntType, Mapping, clock_type, clocks_in, clock_types, entry_value, entries_in, environment, natural, word, InByteOrder, IsEnvironmentValue, IsClockType, ClockType, EnvironmentEntry}
+use Rattle.conf_laws.proofs.Words.places
 
 pub config_name : (name : List ℕ) → name_of name ≡ Ok tt → IsConfigName name
 unfolding name_of

@@ -7,14 +7,9 @@ use Rattle.conf_laws.proofs.Numbers.{number_told, natural_is_in}
 use Rattle.conf_laws.proofs.Properties.{AreGood, good_object, own_properties, property_at, all_in, names_of, entry_in, entry_object, IsGood, entry_rest, IsGoodAt, properties_at, object_in, content_within, Property, leads, ObjectPlace, is_object, is_own, MapPlace, is_map, type_object}
 use Rattle.conf_laws.proofs.Readings.{mapped_some, object_there, same_natural, was_so, then_some, by_found}
 use Rattle.conf_laws.proofs.Sound.{optional_there, Leads, content_sound}
-use Rattle.conf_laws.proofs.TableWords.{Place, At, entries_of, Level, class_of}
-use Rattle.conf_laws.proofs.TableWords.places
-use Rattle.conf_laws.proofs.JudgeWords.{Known, natural_in, shape_of, is_number, is_eight, is_byte, is_identifier, is_unsigned_integer, configuration_flaws, itself_of, behind, nothing, inside, members_or_none, leaf_of, level, whole_from, configuration_limits, key_of, key_by}
-use Rattle.conf_laws.proofs.TreeWords.{optional, as_natural, Data, boolean, object, Members, get_member, no_members, Ascends, string, member, here, NoSuchAlias, as_object}
-use Rattle.conf_laws.proofs.StdWords.{and_parts, same_Some, append-nil, option_map_or, All-map}
-use Rattle.conf_laws.proofs.DraftWords.{alignment_of, alignment, number_type, magic_type, byte_type, if_on, feature_of, feature, byte_of, identifier_of, identifier, size, mapped, timestamp, header_with, header, context_with, context, event_header_with, event_header, integer, size_of, default_align, natural, object as object_at, properties, said_behind, OnlyIf, IsPlainUnsigned, ContextFeatures, EventFeatures, HeaderFeatures, IntType, clock_types, environment, level_of, event_with, event_type, event_types, stream_with, clock_of, stream_type, stream_types, draft_with, draft_of_type, draft_of_trace, draft_of_root, draft_of, Draft, IsConfigStruct, IsStreamType, IsConfig, IsConfigName, IsPlainName, ClockType, Config, EnvironmentEntry, EventType, StreamType, StructType}
+use Rattle.conf_laws.proofs.Words.{Place, At, entries_of, Level, class_of, Known, natural_in, shape_of, is_number, is_eight, is_byte, is_identifier, is_unsigned_integer, configuration_flaws, itself_of, behind, nothing, inside, members_or_none, leaf_of, level, whole_from, configuration_limits, key_of, key_by, optional, as_natural, Data, boolean, object, Members, get_member, no_members, Ascends, string, member, here, NoSuchAlias, as_object, and_parts, same_Some, append-nil, option_map_or, All-map, alignment_of, alignment, number_type, magic_type, byte_type, if_on, feature_of, feature, byte_of, identifier_of, identifier, size, mapped, timestamp, header_with, header, context_with, context, event_header_with, event_header, integer, size_of, default_align, natural, object_at, properties, said_behind, OnlyIf, IsPlainUnsigned, ContextFeatures, EventFeatures, HeaderFeatures, IntType, clock_types, environment, level_of, event_with, event_type, event_types, stream_with, clock_of, stream_type, stream_types, draft_with, draft_of_type, draft_of_trace, draft_of_root, draft_of, Draft, IsConfigStruct, IsStreamType, IsConfig, IsConfigName, IsPlainName, ClockType, Config, EnvironmentEntry, EventType, StreamType, StructType, KeepsStreamRules, KeepsRules}
+use Rattle.conf_laws.proofs.Words.places
 use Rattle.conf_laws.proofs.AllowedStructures.{structure_allowed, AreExtras, extras_allowed}
-use Rattle.conf_laws.specs.Rules.{KeepsStreamRules, KeepsRules}
 
 -- ---- the type that a feature has: the one that it says itself, or its default
 

@@ -7,17 +7,11 @@ use Rattle.conf_laws.proofs.Readings.{was_so, element_bits, some_none, some_same
 use Rattle.conf_laws.proofs.Sound.{optional_there, HasClass, has_class, class_there, unsigned_told, told_none, both_none, ObjectSound, PropertySound, object_sound, property_here, first_flaws, first_item, nothing_inherited}
 use Rattle.conf_laws.proofs.TableFlawLaws.{number_found, is_property, is_none, left_not}
 use Rattle.conf_laws.proofs.ValueFlawLaws.{number_there}
-use Rattle.conf_laws.specs.Around.{HasNumber, Around, Parts, HasBehind, member_of, item_of}
-use Rattle.conf_laws.specs.TableFlaws.{IsNoClassAt, IsByte, IsIdentifier, HasNoBits, IsNoShapeAt, HasNotItsRows, IsFlawOf}
-use Rattle.conf_laws.specs.ValueFlaws.{words_of_classes, IsNoKey, IsNoNameAt}
-use Rattle.conf_laws.proofs.TableWords.{class_words, admits_class, Told, rows_of, entries_of, is_by_index, under_entries, told_under, content_under, presence_under, Place, At, Content, Entries, Keys, class_of}
-use Rattle.conf_laws.proofs.TableWords.places
-use Rattle.conf_laws.proofs.TableWords.contents
-use Rattle.conf_laws.proofs.TableWords.keys
-use Rattle.conf_laws.proofs.TableWords.presences
-use Rattle.conf_laws.proofs.JudgeWords.{class_rule, row_there, rows_there, orders_there, all_there, told_by, may_inherit, resolved_content, is_left_out, property_flaws, inner_flaws, item_flaws, member_flaws, content_flaws, configuration_flaws, itself_of, Known, nothing, inside, behind, with_taken, names_beside, with_names, natural_in, is_position, place_of_properties, item_content, is_number, is_unsigned_integer, is_static_array, is_eight, is_byte, is_identifier, has_bits, element_has_bits, shape_of}
-use Rattle.conf_laws.proofs.TreeWords.{Flaw, key, here, within, needed, optional, HasMember, refusal, Missing, both_read, IsNoWordOf, as_natural, Data, object, Members, array, Items, no_items, item, no_members, member, items_len, get_member, as_str}
-use Rattle.conf_laws.proofs.StdWords.{and-false, true≢false, false≢true, and_parts, option_map_or}
+use Rattle.conf_laws.proofs.Words.{HasNumber, Around, Parts, HasBehind, member_of, item_of, IsNoClassAt, IsByte, IsIdentifier, HasNoBits, IsNoShapeAt, HasNotItsRows, IsFlawOf, words_of_classes, IsNoKey, IsNoNameAt, class_words, admits_class, Told, rows_of, entries_of, is_by_index, under_entries, told_under, content_under, presence_under, Place, At, Content, Entries, Keys, class_of, class_rule, row_there, rows_there, orders_there, all_there, told_by, may_inherit, resolved_content, is_left_out, property_flaws, inner_flaws, item_flaws, member_flaws, content_flaws, configuration_flaws, itself_of, Known, nothing, inside, behind, with_taken, names_beside, with_names, natural_in, is_position, place_of_properties, item_content, is_number, is_unsigned_integer, is_static_array, is_eight, is_byte, is_identifier, has_bits, element_has_bits, shape_of, Flaw, key, here, within, needed, optional, HasMember, refusal, Missing, both_read, IsNoWordOf, as_natural, Data, object, Members, array, Items, no_items, item, no_members, member, items_len, get_member, as_str, and-false, true≢false, false≢true, and_parts, option_map_or}
+use Rattle.conf_laws.proofs.Words.places
+use Rattle.conf_laws.proofs.Words.contents
+use Rattle.conf_laws.proofs.Words.keys
+use Rattle.conf_laws.proofs.Words.presences
 
 -- ---- the class
 

@@ -4,13 +4,9 @@ use Rattle.conf_laws.proofs.ExcludedValues.{divided}
 use Rattle.conf_laws.proofs.Properties.{within_none, limits_at, first_limits, first_item_limits}
 use Rattle.conf_laws.proofs.Sound.{both_none}
 use Rattle.conf_laws.proofs.TableLimitLaws.{not_counted}
-use Rattle.conf_laws.specs.TableLimits.{PassesAt, IsLongText, IsNoPowerUpTo, PassesBy, PassesLimitOf}
-use Rattle.conf_laws.proofs.TableWords.{entries_of, Place, Content, Entries, Label}
-use Rattle.conf_laws.proofs.TableWords.places
-use Rattle.conf_laws.proofs.TableWords.contents
-use Rattle.conf_laws.proofs.JudgeWords.{told_by, within_limit, bytes_fit, divides, power_fits, arrays_fit, count_of, at_most, ranges_of, ranges_fit, place_fits, fits, is_label, key_fits, item_limits, member_limits, content_limits, configuration_limits, place_of_properties, item_content}
-use Rattle.conf_laws.proofs.TreeWords.{Flaw, HasMember, Data, string, array, object, Items, no_items, item, Members, no_members, member, get_item}
-use Rattle.conf_laws.proofs.StdWords.{false≢true, or_from, lt-leb, ne_eqb, and_left, and_right, option_map_or}
+use Rattle.conf_laws.proofs.Words.{PassesAt, IsLongText, IsNoPowerUpTo, PassesBy, PassesLimitOf, entries_of, Place, Content, Entries, Label, told_by, within_limit, bytes_fit, divides, power_fits, arrays_fit, count_of, at_most, ranges_of, ranges_fit, place_fits, fits, is_label, key_fits, item_limits, member_limits, content_limits, configuration_limits, place_of_properties, item_content, Flaw, HasMember, Data, string, array, object, Items, no_items, item, Members, no_members, member, get_item, false≢true, or_from, lt-leb, ne_eqb, and_left, and_right, option_map_or}
+use Rattle.conf_laws.proofs.Words.places
+use Rattle.conf_laws.proofs.Words.contents
 
 -- ---- a value by itself
 

@@ -1,6 +1,7 @@
 -- A value of which nothing is told by itself is what its row says that it is, and of the kind of its place; and a name of which nothing
 -- is told is one that the entry can have.
-use Rattle.std.proofs.Common.{◌≡◌, ◌⊎◌, ◌+◌, ◌*◌, ◌/◌, ◌≤◌, ◌<◌, ◌^◌, ◌%◌, ◌==◌, ◌&&◌, ◌||◌, ℕ, zero, suc, ℤ, pos, negsuc, ◌<ℤ◌, Bool, true, false, cond, not, List, [], ◌∷◌, map, Contains, Some, is_some, Ok, inl, inr, refl, sym, ap, subst, ◌∙◌, arith, ◌↔◌, length, codes, nat_le, nat_lt, nat_eq, int_le, unwrap_or, option_map}
+use Rattle.std.proofs.Common.{◌≡◌, ◌*◌, ◌/◌, ◌<◌, ◌%◌, ◌==◌, ◌&&◌, ◌||◌, ℕ, suc, ℤ, pos, negsuc, ◌<ℤ◌, Bool, true, false, cond, not, List, [], ◌∷◌, map, Contains, Some, is_some, Ok, inl, inr, sym, ap, subst, ◌∙◌, arith, ◌↔◌, length, codes, nat_le, nat_lt, nat_eq, int_le, unwrap_or, option_map}
+use Rattle.ctf_types.proofs.Ends.{divisors_of_pow}
 use Rattle.uuid.specs.Text.{parsed}
 use borrow.Author.Differences.{le-true, lt_out}
 use Rattle.conf_laws.proofs.Agreement.{Agrees, IsTrue, told_dynamic}
@@ -8,16 +9,10 @@ use Rattle.conf_laws.proofs.Numbers.{whole_read, whole_there, lowest_end, highes
 use Rattle.conf_laws.proofs.Readings.{was_so, under_no_test, some_none, some_same, by_test}
 use Rattle.conf_laws.proofs.TableFlawLaws.{number_found}
 use Rattle.conf_laws.proofs.ValueFlawLaws.{has_by_bytes}
-use Rattle.conf_laws.specs.Around.{Around, enumeration_around, HasBits, IsTaken}
-use Rattle.conf_laws.specs.ValueFlaws.{IsPowerOfTwo, IsNoPowerOfTwo, IsNoLevel, IsNoWholeOrText, IsNoDefault, IsWhole, IsPair, IsRange, IsNoRange, IsNoSomeList, IsNoSomeObject, IsNoEntry, IsNoFeature, IsNoSizeFeature, IsNoneAt, IsNoValueOf, IsNoMemberName, IsNoLabel, IsNoKey, IsNoNameAt}
-use Rattle.conf_laws.proofs.TableWords.{ClassWord, class_words, class_in, words_of, Place, Content, Keys}
-use Rattle.conf_laws.proofs.TableWords.places
-use Rattle.conf_laws.proofs.TableWords.contents
-use Rattle.conf_laws.proofs.TableWords.keys
-use Rattle.conf_laws.proofs.JudgeWords.{any_object, feature, size_feature, form_of, itself_of, Known, nothing, only_if, whole_from, is_power_of_two, power_of, whole_or_text, level, leaf_of, is_dynamic, is_taken, free_of, key_by, key_of, all_numbers, numbers_of, numbers_in, end_of, range_of, is_inside, inside_of}
-use Rattle.conf_laws.proofs.TreeWords.{Flaw, here, whole_of, ◌>>=◌, text_of, flag_of, WrongKind, OutOfRange, BadName, ReservedName, NameClash, listed, both_read, is_passed, IsNoText, IsNoFlag, IsNoWhole, IsNoConfigText, IsNoUuid, IsNoWordOf, IsControl, IsNoObject, IsNoList, IsNoName, IsNoPlainName, name_of, is_reserved, plain_name_of, is_printable, uuid_in, Data, boolean, string, array, Members, Items, no_items, item, items_len, members_len, as_str, as_number, as_integer, as_array}
-use Rattle.conf_laws.proofs.StdWords.{mul-zero, zero-mul, suc-mul, add-mul, mul-add, two-pow-succ, one-le-mul, true≢false, false≢true, and_parts, and_from, option_map_or, or_from, or_cases, ltb-true, lt-leb, ne_eqb, eqb-true, or_parts, leb-true, list_all_at, same_Some, bytes_eq-Decides, list_any, bytes_eq}
-use Rattle.conf_laws.proofs.DraftWords.{lowest, highest, is_identifier, unused_keywords, used_keywords, length_name}
+use Rattle.conf_laws.proofs.Words.{Around, enumeration_around, HasBits, IsTaken, IsPowerOfTwo, IsNoPowerOfTwo, IsNoLevel, IsNoWholeOrText, IsNoDefault, IsWhole, IsPair, IsRange, IsNoRange, IsNoSomeList, IsNoSomeObject, IsNoEntry, IsNoFeature, IsNoSizeFeature, IsNoneAt, IsNoValueOf, IsNoMemberName, IsNoLabel, IsNoKey, IsNoNameAt, ClassWord, class_words, class_in, words_of, Place, Content, Keys, any_object, feature_form as feature, size_feature, form_of, itself_of, Known, nothing, only_if, whole_from, is_power_of_two, power_of, whole_or_text, level, leaf_of, is_dynamic, is_taken, free_of, key_by, key_of, all_numbers, numbers_of, numbers_in, end_of, range_of, is_inside, inside_of, Flaw, here, whole_of, ◌>>=◌, text_of, flag_of, WrongKind, OutOfRange, BadName, ReservedName, NameClash, word_listed as listed, both_read, is_passed, IsNoText, IsNoFlag, IsNoWhole, IsNoConfigText, IsNoUuid, IsNoWordOf, IsControl, IsNoObject, IsNoList, IsNoName, IsNoPlainName, name_of, is_reserved, plain_name_of, is_printable, uuid_in, Data, boolean, string, array, Members, Items, no_items, item, items_len, members_len, as_str, as_number, as_integer, as_array, true≢false, false≢true, and_parts, and_from, option_map_or, or_from, or_cases, ltb-true, lt-leb, ne_eqb, eqb-true, or_parts, leb-true, list_all_at, same_Some, bytes_eq-Decides, list_any, bytes_eq, lowest, highest, is_name as is_identifier, unused_keywords, used_keywords, length_name}
+use Rattle.conf_laws.proofs.Words.places
+use Rattle.conf_laws.proofs.Words.contents
+use Rattle.conf_laws.proofs.Words.keys
 
 -- ---- numbers
 
@@ -41,63 +36,14 @@ whole_excluded low high d flaw e = let r = both_read (whole_of low high d) _ tt 
 whole_same : (d : Data) (x z : ℤ) → IsWhole d x → IsWhole d z → x ≡ z
 whole_same d x z (m, is, whole) (n, there, integer) = let same : m ≡ n = some_same (as_number d) m n is there in some_same (as_integer n) x z (ap as_integer (sym same) ∙ whole) integer
 
--- ---- the divisors of a power of two are powers of two
-
-even_or_odd : (n : ℕ) → (h : ℕ) × ((n ≡ h + h) ⊎ (n ≡ suc (h + h)))
-even_or_odd zero = (0, inl (omega arith))
-even_or_odd (suc n) = further (even_or_odd n)
-  where
-    further : (h : ℕ) × ((n ≡ h + h) ⊎ (n ≡ suc (h + h))) → (h : ℕ) × ((suc n ≡ h + h) ⊎ (suc n ≡ suc (h + h)))
-    further (h, inl even) = (h, inr (omega (arith, even)))
-    further (h, inr odd) = (suc h, inl (omega (arith, odd)))
-
--- a product of odd numbers is odd
-odd_product : (a b : ℕ) → suc (a + a) * suc (b + b) ≡ suc ((a * suc (b + b) + b) + (a * suc (b + b) + b))
-odd_product a b = omega (arith, suc-mul (a + a) (suc (b + b)), add-mul a a (suc (b + b)))
-
-divides_one : (n q : ℕ) → n * q ≡ 1 → n ≡ 1
-divides_one zero q e = omega (arith, zero-mul q, e)
-divides_one (suc zero) q e = refl
-divides_one (suc (suc n)) zero e = omega (arith, mul-zero (suc (suc n)), e)
-divides_one (suc (suc n)) (suc q) e =
-    let more : 1 ≤ suc n * suc q = one-le-mul (omega arith) (omega arith) in
-    omega (arith, suc-mul (suc n) (suc q), more, e)
-
-abbrev IsPower : ℕ → Type 0
-IsPower n = (k : ℕ) × (n ≡ 2 ^ k)
-
-divides_power : (m n q : ℕ) → n * q ≡ 2 ^ m → IsPower n
-divides_power zero n q e = (0, divides_one n q e)
-divides_power (suc m) n q e = go (even_or_odd n) (even_or_odd q) (divides_power m)
-  where
-    doubled : n * q ≡ 2 ^ m + 2 ^ m
-    doubled = e ∙ two-pow-succ m
-
-    half : (a : ℕ) → n ≡ a + a → a * q ≡ 2 ^ m
-    half a even = let product : (a + a) * q ≡ 2 ^ m + 2 ^ m = ap (λ x. x * q) (sym even) ∙ doubled in omega (arith, add-mul a a q, product)
-
-    other_half : (b : ℕ) → q ≡ b + b → n * b ≡ 2 ^ m
-    other_half b even = let product : n * (b + b) ≡ 2 ^ m + 2 ^ m = ap (λ x. n * x) (sym even) ∙ doubled in omega (arith, mul-add n b b, product)
-
-    neither : (a b : ℕ) → n ≡ suc (a + a) → q ≡ suc (b + b) → ⊥
-    neither a b p r =
-        let product : suc (a + a) * suc (b + b) ≡ 2 ^ m + 2 ^ m = ap (λ x. x * suc (b + b)) (sym p) ∙ ap (λ x. n * x) (sym r) ∙ doubled in
-        omega (arith, odd_product a b, product)
-
-    go : (h : ℕ) × ((n ≡ h + h) ⊎ (n ≡ suc (h + h))) → (h : ℕ) × ((q ≡ h + h) ⊎ (q ≡ suc (h + h))) → ((a b : ℕ) → a * b ≡ 2 ^ m → IsPower a) → IsPower n
-    go (a, inl even) (b, _) smaller = let k = smaller a q (half a even) in (suc k.0, even ∙ ap (λ x. x + x) k.1 ∙ sym (two-pow-succ k.0))
-    go (a, inr odd) (b, inl even) smaller = smaller n b (other_half b even)
-    go (a, inr odd) (b, inr odd_too) smaller = absurd (neither a b odd odd_too)
-
 pub divided : (x n : ℕ) → 0 < n → x % n ≡ 0 → n * (x / n) ≡ x
 divided x n some e = omega (arith, some, e)
 
 a_power : (z : ℤ) → is_power_of_two z ≡ true → IsPowerOfTwo z
 a_power (pos n) e =
     let b = and_parts (nat_lt 0 n) (9223372036854775808 % n == 0) e in
-    let some : 0 < n = ltb-true 0 n b.0 in
-    let power = divides_power 63 n (9223372036854775808 / n) (divided 9223372036854775808 n some (eqb-true (9223372036854775808 % n) 0 b.1)) in
-    (power.0, ap pos power.1)
+    let power = divisors_of_pow 63 n (ltb-true 0 n b.0) (eqb-true (9223372036854775808 % n) 0 b.1) in
+    (power.0, ap pos power.2)
 a_power (negsuc n) e = absurd cc
 
 power_excluded : (d : Data) (flaw : Flaw) → power_of d ≡ Ok tt → ¬ IsNoPowerOfTwo d flaw

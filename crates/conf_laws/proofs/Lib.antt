@@ -1,8 +1,4 @@
-pub mod StdWords
-pub mod DraftWords
-pub mod TreeWords
-pub mod TableWords
-pub mod JudgeWords
+pub mod Words
 pub mod Readings
 pub mod Sound
 pub mod Properties

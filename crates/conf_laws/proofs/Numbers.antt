@@ -5,12 +5,7 @@ use Rattle.conf_draft.specs.Integers as integers
 use Rattle.conf_draft.specs.Structures as structures
 use Rattle.conf_laws.proofs.Readings.{optional_found}
 use Rattle.conf_laws.proofs.Sound.{Leads, RowsSound, needed_sound}
-use Rattle.conf_laws.specs.ValueFlaws.{IsWhole, IsPair}
-use Rattle.conf_laws.proofs.TableWords.{presence_under, Place, Whole, Needed}
-use Rattle.conf_laws.proofs.JudgeWords.{is_null, itself_of, Known, leaf_of, whole_from, is_power_of_two, divides, numbers_of, end_of, pair_of, single_of, range_of, is_number}
-use Rattle.conf_laws.proofs.TreeWords.{here, index, whole_of, whole_or_not, wanted, at, OutOfRange, wanted_found, both_read, is_passed, read_there, ok_same, as_natural, natural_or_none, integer_or_none, Data, number, Num, Members, array, Items, no_items, item, as_integer, as_number, as_array}
-use Rattle.conf_laws.proofs.StdWords.{nat_tests, false≢true, and_parts, eqb-true, same_Some}
-use Rattle.conf_laws.proofs.DraftWords.{is_alignment, alignment_of, alignment, natural, lowest, highest}
+use Rattle.conf_laws.proofs.Words.{IsWhole, IsPair, presence_under, Place, Whole, Needed, is_null, itself_of, Known, leaf_of, whole_from, is_power_of_two, divides, numbers_of, end_of, pair_of, single_of, range_of, is_number, here, index, whole_of, whole_or_not, wanted, at, OutOfRange, wanted_found, both_read, is_passed, read_there, ok_same, as_natural, natural_or_none, integer_or_none, Data, number, Num, Members, array, Items, no_items, item, as_integer, as_number, as_array, nat_tests, false≢true, and_parts, eqb-true, same_Some, is_alignment, alignment_of, alignment, natural, lowest, highest}
 
 pub whole_there : (low high : ℤ) (found : Option ℤ) (z : ℤ) → whole_or_not low high found ≡ Ok z → (found ≡ Some z) × (int_le low z ≡ true) × (int_le z high ≡ true)
 whole_there low high None z e = absurd cc

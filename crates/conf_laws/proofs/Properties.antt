@@ -4,13 +4,9 @@
 use Rattle.std.proofs.Common.{◌≡◌, ◌++◌, ℕ, Bool, true, false, List, [], Some, refl, subst, suc, ◌∷◌, length, Less, nat_cmp, ap, ◌&&◌, Ok, Option, sym, ◌∙◌, pos, option_map, option_and_then, unwrap_or, nat_le, le-leb, arith, codes, negsuc}
 use Rattle.conf_laws.proofs.Readings.{at_found, object_there, list_there, by_found}
 use Rattle.conf_laws.proofs.Sound.{both_none, first_none, optional_there, ObjectSound, ContentSound, object_sound, optional_sound, property_sound, Leads, needed_kept, IsPlain, content_sound, property_here, first_flaws, is_object as object_read, first_item, IsMapOf, map_content, IsObject}
-use Rattle.conf_laws.proofs.TableWords.{content_under, entries_of, presence_under, Place, At, Content, Needed, rows_of, Whole, Text, Level, WholeOrText, Presence, Entries}
-use Rattle.conf_laws.proofs.TableWords.contents
-use Rattle.conf_laws.proofs.JudgeWords.{told_by, all_there, member_flaws, item_flaws, itself_of, any_object, Known, inside, behind, with_taken, within_limit, fits, inner_limits, member_limits, key_fits, content_limits, item_limits, place_fits, arrays_fit, at_most, count_of, ranges_fit, key_of, names_beside, with_names, item_content, place_of_properties, resolved_content, is_left_out, is_needed, form_of, is_position, own_place}
-use Rattle.conf_laws.proofs.TreeWords.{Flaw, key, within, index, AllAbove, IsInOrder, Ascends, MembersAscend, ItemsAscend, optional, Data, Members, member, Items, item, no_members, array, object, members_len, get_member}
-use Rattle.conf_laws.proofs.StdWords.{and_parts, option_map_or, slice_cmp, IsStrictlySortedBy, AllByRecursion}
-use Rattle.conf_laws.proofs.DraftWords.{list, object as object_at, properties, InByteOrder}
-use Rattle.conf_laws.proofs.TableWords.places
+use Rattle.conf_laws.proofs.Words.{content_under, entries_of, presence_under, Place, At, Content, Needed, rows_of, Whole, Text, Level, WholeOrText, Presence, Entries, told_by, all_there, member_flaws, item_flaws, itself_of, any_object, Known, inside, behind, with_taken, within_limit, fits, inner_limits, member_limits, key_fits, content_limits, item_limits, place_fits, arrays_fit, at_most, count_of, ranges_fit, key_of, names_beside, with_names, item_content, place_of_properties, resolved_content, is_left_out, is_needed, form_of, is_position, own_place, Flaw, key, within, index, AllAbove, IsInOrder, Ascends, MembersAscend, ItemsAscend, optional, Data, Members, member, Items, item, no_members, array, object, members_len, get_member, and_parts, option_map_or, slice_cmp, IsStrictlySortedBy, AllByRecursion, list, object_at, properties, InByteOrder}
+use Rattle.conf_laws.proofs.Words.contents
+use Rattle.conf_laws.proofs.Words.places
 
 pub within_none : (b : Bool) → told_by (within_limit b) ≡ [] → b ≡ true
 within_none true e = refl
@@ -123,7 +119,7 @@ own_properties k place ms is h = subst (λ j. AreGood j place ms) (is.known k ms
 -- what a property is that is there
 pub property_at : (k : Known) (place : Place) (name : List ℕ) (content : Content) (ms : Members) (d : Data) → Leads place name content → AreGood k place ms → optional name ms ≡ Some d → IsGoodAt k content d
 property_at k place name content ms d leads h there = record {
-  sound = (optional_sound k place name content ms d leads.plain leads.resolved h.flaws there).value;
+  sound = (optional_sound k place name content ms d leads h.flaws there).value;
   within = (property_within place name content ms d leads.under h.limits (optional_there name ms d there).0).value;
   ascends = (ascends_found name ms d h.ascend (optional_there name ms d there).0);
 }
@@ -131,7 +127,7 @@ property_at k place name content ms d leads h there = record {
 -- what a needed property is
 pub needed_at : (k : Known) (place : Place) (name : List ℕ) (content : Content) (ms : Members) (d : Data) → Leads place name content → presence_under place name ≡ Some Needed → AreGood k place ms → get_member name ms ≡ Some d → IsGoodAt k content d
 needed_at k place name content ms d leads needed h found = record {
-  sound = (property_sound k place name content ms d leads.plain leads.resolved h.flaws found (needed_kept place name d needed)).value;
+  sound = (property_sound k place name content ms d leads h.flaws found (needed_kept place name d needed)).value;
   within = (property_within place name content ms d leads.under h.limits found).value;
   ascends = ascends_found name ms d h.ascend found;
 }

@@ -1,10 +1,7 @@
 -- What small steps and readings say that went well; what is computed from the first property of a name; and what holds of a field type
 -- where it holds of its element.
 use Rattle.std.proofs.Common.{◌≡◌, ℕ, Bool, true, false, List, Option, Some, None, is_some, refl, ap, IsSome, [], ◌∷◌, ◌++◌, cond, Ok, Err, Ordering, Less, Equal, Greater, nat_cmp, is_eq, sym, subst, ◌∙◌, option_map, option_and_then, codes}
-use Rattle.conf_laws.proofs.JudgeWords.{is_null, only_if, times, elements, elements_in_array, natural_in, has_bits, element_has_bits}
-use Rattle.conf_laws.proofs.TreeWords.{Flaw, given, optional, proved, as_natural, Data, string, array, object, Items, Members, null, no_members, member, get_member, as_array, as_object, as_str}
-use Rattle.conf_laws.proofs.StdWords.{false≢true, nat_list_cmp_total, tied_itself, is_eq-slice_cmp, same_Some, bytes_eq-Decides, slice_cmp, AllByRecursion, option_map_or, match_ordering, bytes_eq}
-use Rattle.conf_laws.proofs.DraftWords.{field_type, element, natural}
+use Rattle.conf_laws.proofs.Words.{is_null, only_if, times, elements, elements_in_array, natural_in, has_bits, element_has_bits, Flaw, given, optional, proved, as_natural, Data, string, array, object, Items, Members, null, no_members, member, get_member, as_array, as_object, as_str, false≢true, nat_list_cmp_total, tied_itself, is_eq-slice_cmp, same_Some, bytes_eq-Decides, slice_cmp, AllByRecursion, option_map_or, match_ordering, bytes_eq, field_type, element, natural}
 
 pub proved_some : {A : Type 0} (b : Bool) (f : b ≡ true → Option A) (x : A) → proved b f ≡ Some x → (h : b ≡ true) × (f h ≡ Some x)
 proved_some true f x e = (refl, e)

@@ -3,13 +3,9 @@
 use Rattle.std.proofs.Common.{arith, ◌≡◌, ◌++◌, ℕ, Bool, true, false, cond, List, [], ◌∷◌, map, Option, Some, None, Result, Ok, Err, refl, sym, subst, ◌∙◌, suc, option_map, option_and_then, ap}
 use Rattle.std.specs.Prelude.{⊤, ◌&&◌, codes, unwrap_or}
 use Rattle.conf_laws.proofs.Readings.{at_found, optional_found, by_found}
-use Rattle.conf_laws.proofs.TableWords.{class_words, class_in, admits_class, presence_under, Told, rows_of, row_in, content_under, Place, At, Content, Needed, Presence, class_named, class_of, class_said}
-use Rattle.conf_laws.proofs.TableWords.places
-use Rattle.conf_laws.proofs.TableWords.contents
-use Rattle.conf_laws.proofs.JudgeWords.{told_by, class_rule, all_there, resolved_content, is_left_out, left_out, is_needed, is_null, property_flaws, inner_flaws, member_flaws, content_flaws, item_flaws, rows_there, row_there, orders_there, may_inherit, admitted, other_class, itself_of, any_object, Known, inside, behind, with_taken, key_of, with_names, place_of_properties, item_content, is_position, own_place, shape_of, is_unsigned_integer}
-use Rattle.conf_laws.proofs.TreeWords.{Flaw, key, within, index, here, optional, given, ◌>>=◌, at, needed, text_of, wanted_found, found_there, both_read, read_there, is_passed, Data, null, object, Members, member, Items, item, no_members, get_member, as_object, as_str}
-use Rattle.conf_laws.proofs.StdWords.{nat_tests, and-false, bytes_eq-Decides, bytes_eq}
-use Rattle.conf_laws.proofs.DraftWords.{object as object_in, properties}
+use Rattle.conf_laws.proofs.Words.{class_words, class_in, admits_class, presence_under, Told, rows_of, row_in, content_under, Place, At, Content, Needed, Presence, class_named, class_of, class_said, told_by, class_rule, all_there, resolved_content, is_left_out, left_out, is_needed, is_null, property_flaws, inner_flaws, member_flaws, content_flaws, item_flaws, rows_there, row_there, orders_there, may_inherit, admitted, other_class, itself_of, any_object, Known, inside, behind, with_taken, key_of, with_names, place_of_properties, item_content, is_position, own_place, shape_of, is_unsigned_integer, Flaw, key, within, index, here, optional, given, ◌>>=◌, at, needed, text_of, wanted_found, found_there, both_read, read_there, is_passed, Data, null, object, Members, member, Items, item, no_members, get_member, as_object, as_str, nat_tests, and-false, bytes_eq-Decides, bytes_eq, object_at as object_in, properties}
+use Rattle.conf_laws.proofs.Words.places
+use Rattle.conf_laws.proofs.Words.contents
 
 -- ---- lists of flaws that are empty
 
@@ -80,13 +76,19 @@ first_item k place taken i d ds e = first_none (within (index i)) (content_flaws
 abbrev pub IsPlain : Place → Type 0
 IsPlain place = (d : Data) (k : Known) → behind place d k ≡ k
 
-pub property_sound : (k : Known) (place : Place) (name : List ℕ) (content : Content) (ms : Members) (d : Data) → IsPlain place → resolved_content place name ≡ Some content
+-- a property of this place, whose entries say nothing of one another
+pub record Leads (place : Place) (name : List ℕ) (content : Content) : Type 0 where
+  pub plain : IsPlain place
+  pub resolved : resolved_content place name ≡ Some content
+  pub under : content_under place name ≡ Some content
+
+pub property_sound : (k : Known) (place : Place) (name : List ℕ) (content : Content) (ms : Members) (d : Data) → Leads place name content
     → member_flaws k place ms ≡ [] → get_member name ms ≡ Some d → is_left_out place name d ≡ false → PropertySound k place name content d
-property_sound k place name content ms d plain is e found there =
-    property_here k place name content d is there (at_found (λ xs. member_flaws k place xs ≡ []) (λ n x. flaws_at k place n x ≡ []) each name ms d e found)
+property_sound k place name content ms d leads e found there =
+    property_here k place name content d leads.resolved there (at_found (λ xs. member_flaws k place xs ≡ []) (λ n x. flaws_at k place n x ≡ []) each name ms d e found)
   where
     each : (n : List ℕ) (x : Data) (xs : Members) → member_flaws k place (member n x xs) ≡ [] → (flaws_at k place n x ≡ []) × (member_flaws k place xs ≡ [])
-    each n x xs f = let parts = first_flaws k place n x xs f in (parts.0, subst (λ j. member_flaws j place xs ≡ []) (plain x k) parts.1)
+    each n x xs f = let parts = first_flaws k place n x xs f in (parts.0, subst (λ j. member_flaws j place xs ≡ []) (leads.plain x k) parts.1)
 
 -- ---- a property that may be left out
 
@@ -103,11 +105,11 @@ not_left_out None d e = refl
 not_left_out (Some p) d e = grind (arith, nat_tests)
 
 -- a property that is there and is not null is sound at what it is
-pub optional_sound : (k : Known) (place : Place) (name : List ℕ) (content : Content) (ms : Members) (d : Data) → IsPlain place → resolved_content place name ≡ Some content
+pub optional_sound : (k : Known) (place : Place) (name : List ℕ) (content : Content) (ms : Members) (d : Data) → Leads place name content
     → member_flaws k place ms ≡ [] → optional name ms ≡ Some d → PropertySound k place name content d
 unfolding is_left_out
-optional_sound k place name content ms d plain is e found =
-    let o = optional_there name ms d found in property_sound k place name content ms d plain is e o.0 (not_left_out (presence_under place name) d o.1)
+optional_sound k place name content ms d leads e found =
+    let o = optional_there name ms d found in property_sound k place name content ms d leads e o.0 (not_left_out (presence_under place name) d o.1)
 
 -- ---- an object at a property
 
@@ -128,12 +130,6 @@ object_at k place d h form =
     record { ms = o.0; is = o.1; sound = object_sound k place o.0 (subst (λ x. inner_flaws k (At place) x ≡ []) o.1 h.inner) }
 
 -- ---- what the rows say
-
--- a property of this place, whose entries say nothing of one another
-pub record Leads (place : Place) (name : List ℕ) (content : Content) : Type 0 where
-  pub plain : IsPlain place
-  pub resolved : resolved_content place name ≡ Some content
-  pub under : content_under place name ≡ Some content
 
 -- the properties of an object whose rows are those of this place
 pub record RowsSound (k : Known) (place : Place) (ms : Members) : Type 0 where
@@ -186,17 +182,7 @@ pub needed_sound : (k : Known) (place : Place) (name : List ℕ) (content : Cont
     → NeededSound k place name content ms
 needed_sound k place name content ms leads is h =
     let f = needed_there place name ms is h.there in
-    record { value = f.0; found = f.1; sound = property_sound k place name content ms f.0 leads.plain leads.resolved h.flaws f.1 (needed_kept place name f.0 is) }
-
--- a property that is there and is not null
-pub given_sound : (k : Known) (place : Place) (name : List ℕ) (content : Content) (ms : Members) (d : Data) → Leads place name content → RowsSound k place ms → optional name ms ≡ Some d → PropertySound k place name content d
-given_sound k place name content ms d leads h found = optional_sound k place name content ms d leads.plain leads.resolved h.flaws found
-
--- ---- the first property, and those behind it
-
-pub record FirstSound (k : Known) (place : Place) (name : List ℕ) (content : Content) (d : Data) (ms : Members) : Type 0 where
-  pub sound : PropertySound k place name content d
-  pub flaws : member_flaws (behind place d k) place ms ≡ []
+    record { value = f.0; found = f.1; sound = property_sound k place name content ms f.0 leads h.flaws f.1 (needed_kept place name f.0 is) }
 
 -- ---- the entries of a map
 
@@ -215,9 +201,10 @@ pub record IsMapOf (place : Place) (content : Content) : Type 0 where
 pub map_content : (place : Place) (name : List ℕ) (content : Content) → IsMapOf place content → resolved_content place name ≡ Some content
 map_content place name content is = nothing_inherited place name is.inherits_none ∙ is.under name
 
-pub first_entry : (k : Known) (place : Place) (name : List ℕ) (content : Content) (d : Data) (ms : Members) → IsMapOf place content → member_flaws k place (member name d ms) ≡ [] → FirstSound k place name content d ms
+pub first_entry : (k : Known) (place : Place) (name : List ℕ) (content : Content) (d : Data) (ms : Members) → IsMapOf place content → member_flaws k place (member name d ms) ≡ []
+    → PropertySound k place name content d × (member_flaws (behind place d k) place ms ≡ [])
 first_entry k place name content d ms is e =
-    let both = first_flaws k place name d ms e in record { sound = property_here k place name content d (map_content place name content is) (is.stays name d) both.0; flaws = both.1 }
+    let both = first_flaws k place name d ms e in (property_here k place name content d (map_content place name content is) (is.stays name d) both.0, both.1)
 
 -- ---- a class that is admitted
 
@@ -297,7 +284,7 @@ held_at k place d o h = let s = object_at k place d h (o.form k d) in record { m
 
 module _ (k : Known) (around place : Place) (name : List ℕ) (ms : Members) (leads : Leads around name (At place)) (o : IsObject place) (h : RowsSound k around ms) where
   held : (d : Data) → optional name ms ≡ Some d → Held k place d
-  held d found = held_at k place d o (given_sound k around name (At place) ms d leads h found).value
+  held d found = held_at k place d o (optional_sound k around name (At place) ms d leads h.flaws found).value
 
   -- a needed object is there
   pub needed_object : presence_under around name ≡ Some Needed → (os : Members) × (object_in name ms ≡ Some os) × RowsSound (inside place os k) place os

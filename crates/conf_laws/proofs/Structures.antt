@@ -4,14 +4,10 @@ use Rattle.std.proofs.Common.{◌≡◌, ◌%◌, ◌==◌, ◌&&◌, ℕ, nat_e
 use Rattle.conf_draft.specs.Integers as integers
 use Rattle.conf_laws.proofs.Numbers.{IsAlignment, alignment_or, needed_natural}
 use Rattle.conf_laws.proofs.Readings.{proved_there, element_is, by_element, mapped_there, all_joined, under_no_test, optional_found, then_there, by_found, by_test}
-use Rattle.conf_laws.proofs.Sound.{RowsSound, ContentSound, object_sound, needed_sound, TypeSound, type_sound, ObjectSound, PropertySound, object_at, content_sound, first_item, rows_sound, first_entry, Leads, given_sound}
+use Rattle.conf_laws.proofs.Sound.{RowsSound, ContentSound, object_sound, needed_sound, TypeSound, type_sound, ObjectSound, PropertySound, object_at, content_sound, first_item, rows_sound, first_entry, Leads, optional_sound}
 use Rattle.conf_laws.proofs.Properties.{Property, leads, needed_by, MapPlace, is_map}
-use Rattle.conf_laws.proofs.TableWords.{admits_class, is_class, is_dynamic_array, Place, Whole, At, entries_of}
-use Rattle.conf_laws.proofs.TableWords.places
-use Rattle.conf_laws.proofs.JudgeWords.{itself_of, form_of, any_object, Known, inside, is_position, inner_flaws, item_flaws, nothing, with_taken, take, is_taken, key_of, key_by, free_of, is_dynamic, with_names, names_beside, own_place, place_of_properties, item_content}
-use Rattle.conf_laws.proofs.TreeWords.{Members, Data, object, get_member, optional, here, WrongKind, is_passed, members_len, ◌>>=◌, both_read, plain_name_of, Items, no_items, item, no_members, member, array, as_array, as_object}
-use Rattle.conf_laws.proofs.StdWords.{eqb-true, false≢true, or_parts, All-push, All-nil, list_any-append, map-append, bytes_eq-Decides, IsDistinct, option_map_or, AllByRecursion, list_any, bytes_eq}
-use Rattle.conf_laws.proofs.DraftWords.{enumeration, field_type, element, of_class, static, length_of, size_of, base_of, default_align, integer, Base, FieldType, object as object_in, list as list_in, member_type, member_of, behind as behind_done, members_behind, made, align_for, listed, align_of, structure_of, structure, extra_members, names_in, IsPlainName, length_name, shown_members, Auto, At as AtMember, Plain, Dyn, MemberType}
+use Rattle.conf_laws.proofs.Words.{admits_class, is_class, is_dynamic_array, Place, Whole, At, entries_of, itself_of, form_of, any_object, Known, inside, is_position, inner_flaws, item_flaws, nothing, with_taken, take, is_taken, key_of, key_by, free_of, is_dynamic, with_names, names_beside, own_place, place_of_properties, item_content, Members, Data, object, get_member, optional, here, WrongKind, is_passed, members_len, ◌>>=◌, both_read, plain_name_of, Items, no_items, item, no_members, member, array, as_array, as_object, eqb-true, false≢true, or_parts, All-push, All-nil, list_any-append, map-append, bytes_eq-Decides, IsDistinct, option_map_or, AllByRecursion, list_any, bytes_eq, enumeration, field_type, element, of_class, static, length_of, size_of, base_of, default_align, integer, Base, FieldType, object_at as object_in, list as list_in, member_type, member_said as member_of, behind_done, members_behind, made, align_for, listed, align_of, structure_of, structure, extra_members, names_in, IsPlainName, length_name, shown_members, Auto, AtMember, Plain, Dyn, MemberType}
+use Rattle.conf_laws.proofs.Words.places
 use Rattle.conf_laws.proofs.Agreement.{taken_put}
 
 made_there : (size align : ℕ) (signed : Bool) (base : Base) → nat_lt 0 size ≡ true → nat_le size 64 ≡ true → IsAlignment align → IsSome (integers.made size align signed base)
@@ -262,7 +258,7 @@ entry_sound k d h =
     let s = entry_shape d h.itself in
     let o = object_sound k places.Entry (member s.0 s.1 no_members) (subst (λ x. inner_flaws k (At places.Entry) x ≡ []) s.2 h.inner) in
     let r = rows_sound k places.Entry places.Entry (member s.0 s.1 no_members) refl o in
-    record { name = s.0; told = s.1; is = s.2; sound = (first_entry k places.Entry s.0 (At places.Member) s.1 no_members (is_map MapPlace.entry) r.flaws).sound }
+    record { name = s.0; told = s.1; is = s.2; sound = (first_entry k places.Entry s.0 (At places.Member) s.1 no_members (is_map MapPlace.entry) r.flaws).0 }
 
 -- what is judged of its name
 pub name_judged : (k : Known) (name : List ℕ) (d : Data) → key_of k places.Entry name d ≡ Ok tt → (plain_name_of name >>= (λ ok. free_of k.taken name d)) ≡ Ok tt
@@ -351,7 +347,7 @@ members_there k place d m h =
 listed_there : (k : Known) (around place : Place) (name : List ℕ) (ms : Members) → Leads around name (At place) → IsMemberList place → RowsSound k around ms → IsSome (listed name ms)
 unfolding listed list_in
 listed_there k around place name ms leads m h =
-    by_found (λ (o : Option Data). IsSome (members_behind [] (unwrap_or (option_and_then as_array o) no_items))) (optional name ms) (λ f. refl) (λ d f. members_there k place d m (given_sound k around name (At place) ms d leads h f).value)
+    by_found (λ (o : Option Data). IsSome (members_behind [] (unwrap_or (option_and_then as_array o) no_items))) (optional name ms) (λ f. refl) (λ d f. members_there k place d m (optional_sound k around name (At place) ms d leads h.flaws f).value)
 
 -- ---- structures
 
@@ -378,7 +374,7 @@ pub structure_there : (k : Known) (around : Place) (name : List ℕ) (ms : Membe
 unfolding structure object_in
 structure_there k around name ms leads h =
     by_found (λ (o : Option Data). IsSome (option_map_or structure_of (option_and_then as_object o) (made [] 1))) (optional name ms)
-    (λ f. structure_made [] 1 no_alignment) (λ d f. structure_said k d (given_sound k around name (At places.StructureType) ms d leads h f).value)
+    (λ f. structure_made [] 1 no_alignment) (λ d f. structure_said k d (optional_sound k around name (At places.StructureType) ms d leads h.flaws f).value)
 
 pub extras_there : (k : Known) (around : Place) (name : List ℕ) (ms : Members) → Leads around name (At places.ExtraMembers) → RowsSound k around ms → IsSome (extra_members name ms)
 unfolding extra_members

@@ -4,14 +4,10 @@ use Rattle.std.proofs.Common.{◌≡◌, ℕ, Bool, true, false, List, Option, S
 use Rattle.conf_table.specs.Classes as classes
 use Rattle.conf_laws.proofs.Structures.{integer_said, structure_there, extras_there}
 use Rattle.conf_laws.proofs.Readings.{some_there, was_so, optional_found, mapped_there, by_found, then_there}
-use Rattle.conf_laws.proofs.Sound.{TypeSound, type_sound, unsigned_told, Leads, RowsSound, needed_sound, given_sound, ObjectSound, ContentSound, object_sound, by_object, held_at, first_entry, needed_object, content_sound}
+use Rattle.conf_laws.proofs.Sound.{TypeSound, type_sound, unsigned_told, Leads, RowsSound, needed_sound, optional_sound, ObjectSound, ContentSound, object_sound, by_object, held_at, first_entry, needed_object, content_sound}
 use Rattle.conf_laws.proofs.Properties.{Property, leads, needed_by, ObjectPlace, is_object, MapPlace, is_map, type_object}
-use Rattle.conf_laws.proofs.TableWords.{admits_class, rows_of, Place, At, class_of}
-use Rattle.conf_laws.proofs.TableWords.places
-use Rattle.conf_laws.proofs.JudgeWords.{is_null, all_there, orders_there, Known, inside, natural_in, is_position, shape_of, is_identifier, is_byte, is_unsigned_integer, is_number, is_eight, member_flaws, configuration_flaws, behind, nothing}
-use Rattle.conf_laws.proofs.TreeWords.{optional, Data, null, boolean, object, Members, no_members, get_member, member, as_object}
-use Rattle.conf_laws.proofs.StdWords.{false≢true, and_parts, same_Some}
-use Rattle.conf_laws.proofs.DraftWords.{number_type, byte_type, if_on, feature_of, feature, byte_of, identifier_of, identifier, size, mapped, timestamp, magic_type, header, context, event_header, integer, IntType, environment, event_type, event_types, object as object_in, properties, said_behind, word, clock_of, stream_type, stream_types, draft_of_type, draft_of_trace, draft_of_root, draft_of, EnvironmentEntry}
+use Rattle.conf_laws.proofs.Words.{admits_class, rows_of, Place, At, class_of, is_null, all_there, orders_there, Known, inside, natural_in, is_position, shape_of, is_identifier, is_byte, is_unsigned_integer, is_number, is_eight, member_flaws, configuration_flaws, behind, nothing, optional, Data, null, boolean, object, Members, no_members, get_member, member, as_object, false≢true, and_parts, same_Some, number_type, byte_type, if_on, feature_of, feature, byte_of, identifier_of, identifier, size, mapped, timestamp, magic_type, header, context, event_header, integer, IntType, environment, event_type, event_types, object_at as object_in, properties, said_behind, word, clock_of, stream_type, stream_types, draft_of_type, draft_of_trace, draft_of_root, draft_of, EnvironmentEntry}
+use Rattle.conf_laws.proofs.Words.places
 
 -- ---- on or off
 
@@ -56,7 +52,7 @@ module _ (k : Known) (around : Place) (ms : Members) (h : RowsSound k around ms)
   pub feature_there : (place : Place) (name : List ℕ) (by_default : Bool) (t : IntType) → IsFeature place → Leads around name (At place) → IsSome (feature name by_default t ms)
   unfolding feature
   feature_there place name by_default t f leads =
-      by_found (λ (o : Option Data). IsSome (feature_of by_default t o)) (optional name ms) (λ e. on_there by_default t) (λ d e. value_said k place by_default t d f (given_sound k around name (At place) ms d leads h e).value)
+      by_found (λ (o : Option Data). IsSome (feature_of by_default t o)) (optional name ms) (λ e. on_there by_default t) (λ d e. value_said k place by_default t d f (optional_sound k around name (At place) ms d leads h.flaws e).value)
 
   pub size_there : (name : List ℕ) → Leads around name (At places.SizeFeature) → IsSome (size name ms)
   unfolding size
@@ -104,7 +100,7 @@ pub identifier_there : (k : Known) (around : Place) (ms : Members) (h : RowsSoun
 unfolding identifier
 identifier_there k around ms h name by_default leads =
     by_found (λ (o : Option Data). IsSome (identifier_of by_default o)) (optional name ms)
-    (λ e. on_there by_default byte_type) (λ d e. identifier_said k by_default d (given_sound k around name (At places.IdentifierFeature) ms d leads h e).value)
+    (λ e. on_there by_default byte_type) (λ d e. identifier_said k by_default d (optional_sound k around name (At places.IdentifierFeature) ms d leads h.flaws e).value)
 
 -- ---- the packet header
 
@@ -171,9 +167,9 @@ module _ {A : Type 0} {b : Bool} {place inner : Place} (map : MapPlace b place (
   types_said no_members k done f = refl
   types_said (member name d ms) k done f =
       let first = first_entry k place name (At inner) d ms (is_map map) f in
-      let h = held_at k inner d (is_object one) first.sound.value in
+      let h = held_at k inner d (is_object one) first.0.value in
       subst (λ x. IsSome (said_behind of done (member name x ms))) (sym h.is)
-      (then_there (λ x. said_behind of (done ++ x ∷ []) ms) (of name h.ms) (said k name h.ms h.rows) (λ x. types_said ms (behind place d k) (done ++ x ∷ []) first.flaws))
+      (then_there (λ x. said_behind of (done ++ x ∷ []) ms) (of name h.ms) (said k name h.ms h.rows) (λ x. types_said ms (behind place d k) (done ++ x ∷ []) first.1))
 
 -- ---- one event record type
 

@@ -5,17 +5,8 @@ use Rattle.conf_draft.specs.FieldTypes as drafts
 use Rattle.conf_draft.specs.Integers.{made, align_of}
 use Rattle.conf_draft.specs.Structures as structures
 use Rattle.conf_laws.proofs.AllowedTraces.{draft_allowed}
-use Rattle.conf_laws.specs.Around.{Parts}
-use Rattle.conf_laws.specs.Rules.{KeepsStreamRules, KeepsRules}
-use Rattle.conf_laws.specs.TableFlaws.{IsNoClassAt, HasNotItsRows, IsFlawOf}
-use Rattle.conf_laws.specs.TableLimits.{PassesLimitOf}
-use Rattle.conf_laws.specs.ValueFlaws.{IsNoDefault, IsNoMemberName}
-use Rattle.conf_laws.proofs.TableWords.{class_words, admits_class, is_class, rows_of, entries_of, content_under, presence_under, words_of, At, OneFlag, Content, class_of}
-use Rattle.conf_laws.proofs.TableWords.places
-use Rattle.conf_laws.proofs.JudgeWords.{class_rule, orders_there, all_there, resolved_content, is_left_out, configuration_flaws, other_class, any_object, form_of, itself_of, inside, behind, leaf_of, whole_from, fits, place_fits, arrays_fit, is_outermost, ranges_fit, key_fits, configuration_limits, power_fits, key_of, key_by, free_of, names_beside, is_dynamic, natural_in, is_position, own_place, place_of_properties, item_content, shape_of}
-use Rattle.conf_laws.proofs.TreeWords.{Flaw, Place, key, index, here, Ascends, whole_of, WrongKind, Missing, Unknown, OutOfRange, NameClash, Limit, FaultKind, IsNoObject, name_of, is_reserved, plain_name_of, as_natural, Data, null, boolean, number, unsigned, string, array, object, no_items, item, Members, no_members, member}
-use Rattle.conf_laws.proofs.StdWords.{All-nil, same_Some}
-use Rattle.conf_laws.proofs.DraftWords.{alignment, clock_types, environment, event_type, event_types, feature, identifier, size, mapped, timestamp, header, context, event_header, base_of, size_of, integer, natural, word, list, object as object_at, properties, member_type, behind as behind_member, stream_type, stream_types, asks_number, draft_of_type, draft_of_trace, draft_of_root, draft_of, Draft, IsConfig, is_identifier}
+use Rattle.conf_laws.proofs.Words.{Parts, KeepsStreamRules, KeepsRules, IsNoClassAt, HasNotItsRows, IsFlawOf, PassesLimitOf, IsNoDefault, IsNoMemberName, class_words, admits_class, is_class, rows_of, entries_of, content_under, presence_under, words_of, At, OneFlag, Content, class_of, class_rule, orders_there, all_there, resolved_content, is_left_out, configuration_flaws, other_class, any_object, form_of, itself_of, inside, behind, leaf_of, whole_from, fits, place_fits, arrays_fit, is_outermost, ranges_fit, key_fits, configuration_limits, power_fits, key_of, key_by, free_of, names_beside, is_dynamic, natural_in, is_position, own_place, place_of_properties, item_content, shape_of, Flaw, PathPart as Place, key, index, here, Ascends, whole_of, WrongKind, Missing, Unknown, OutOfRange, NameClash, Limit, FaultKind, IsNoObject, name_of, is_reserved, plain_name_of, as_natural, Data, null, boolean, number, unsigned, string, array, object, no_items, item, Members, no_members, member, All-nil, same_Some, alignment, clock_types, environment, event_type, event_types, feature, identifier, size, mapped, timestamp, header, context, event_header, base_of, size_of, integer, natural, word, list, object_at, properties, member_type, behind_done as behind_member, stream_type, stream_types, asks_number, draft_of_type, draft_of_trace, draft_of_root, draft_of, Draft, IsConfig, is_name as is_identifier}
+use Rattle.conf_laws.proofs.Words.places
 
 abbrev flaw_at : List Place → FaultKind → Flaw
 flaw_at path kind = record { path = path; kind = kind }

@@ -20,11 +20,13 @@ ghost use Rattle.conf_laws.specs.TableFlaws.{IsFlawOf};
 ghost use Rattle.conf_laws.specs.TableLimits.{PassesLimitOf};
 
 /// What has no flaw says something.
+#[tactic(auto, using(crate::proofs::Traces::tree_said))]
 pub fn sound_trees_say_something()
     ensures { (number : Option (List ℕ)) (d : Data) → configuration_flaws d ≡ [] → IsSome (draft_of number d) }
 {}
 
 /// A power of two that passes no limit is read as the very alignment that it is, of an integer and of a structure.
+#[tactic(auto, using(crate::proofs::Numbers::integer_kept, crate::proofs::Numbers::structure_kept))]
 pub fn alignments_are_kept()
     ensures integers { (ms : Members) (n : ℕ) → natural (codes "alignment") ms ≡ Some n → is_power_of_two (pos n) ≡ true → divides 4096 (Some n) ≡ true → align_of_integer ms ≡ n }
     ensures structures { (ms : Members) (n : ℕ) → natural (codes "minimum-alignment") ms ≡ Some n → is_power_of_two (pos n) ≡ true → divides 4096 (Some n) ≡ true → align_of_structure ms ≡ n }
@@ -36,21 +38,25 @@ pub fn sound_drafts_are_allowed()
 {}
 
 /// Each flaw that a walk over the objects tells of is one by the table.
+#[tactic(auto, using(crate::proofs::TableFlawLaws::flaw_told))]
 pub fn each_flaw_is_one()
     ensures { (d : Data) (flaw : Flaw) → Contains (configuration_flaws d) flaw → IsFlawOf [] (At Root) d flaw }
 {}
 
 /// Where a walk over the objects tells of nothing, the table knows of no flaw.
+#[tactic(auto, using(crate::proofs::ExcludedFlaws::none_left))]
 pub fn no_flaw_is_left()
     ensures { (d : Data) (flaw : Flaw) → configuration_flaws d ≡ [] → ¬ IsFlawOf [] (At Root) d flaw }
 {}
 
 /// Each limit that a walk over the objects tells of is one that the configuration passes by the table.
+#[tactic(auto, using(crate::proofs::TableLimitLaws::limit_told))]
 pub fn each_limit_is_passed()
     ensures { (d : Data) (flaw : Flaw) → Contains (configuration_limits d) flaw → PassesLimitOf (At Root) d flaw }
 {}
 
 /// Where a walk over the objects tells of no limit, the configuration passes none by the table.
+#[tactic(auto, using(crate::proofs::ExcludedLimits::none_passed))]
 pub fn no_limit_is_passed()
     ensures { (d : Data) (flaw : Flaw) → configuration_limits d ≡ [] → ¬ PassesLimitOf (At Root) d flaw }
 {}
