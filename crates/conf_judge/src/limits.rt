@@ -6,7 +6,7 @@ ghost use Rattle.conf_tree.specs.Walk.{refusal};
 ghost use Rattle.conf_table.specs.Table.{content_under};
 ghost use Rattle.conf_table.specs.declared.row.Content.TheVariants.{Anything};
 ghost use Rattle.conf_judge.specs.Flaws.{told_by};
-ghost use Rattle.conf_judge.specs.Limits.{within_limit, times as times_of, elements as elements_of, count_of as count_of_data, ranges_of as ranges_of_data, place_fits as place_fits_of, key_fits as key_fits_of, fits as fits_of, inner_limits, item_limits, member_limits, content_limits, configuration_limits};
+ghost use Rattle.conf_judge.specs.Limits.{within_limit, elements as elements_of, count_of as count_of_data, ranges_of as ranges_of_data, place_fits as place_fits_of, key_fits as key_fits_of, fits as fits_of, inner_limits, item_limits, member_limits, content_limits, configuration_limits};
 
 use crate::numbers::natural_in;
 use crate::places::{item_content, place_of_properties};
@@ -154,21 +154,14 @@ fn elements(levels: usize, value: &Value) -> Option<u64>
         return Some(1);
     }
     let inner = levels.checked_sub(1)?;
-    let count = Some(natural_in(members, "length").unwrap_or(1).max(1));
+    let count = natural_in(members, "length").unwrap_or(1).max(1);
     for (name, element) in members.iter() {
         if name.as_str() == "element-field-type" {
-            return times(count, elements(inner, element));
+            let all = count.checked_mul(elements(inner, element)?);
+            return all.filter(|all| *all <= MAX_ELEMENTS);
         }
     }
-    count
-}
-
-fn times(count: Option<u64>, elements: Option<u64>) -> Option<u64>
-    ensures { result ≡ times_of count elements }
-{
-    count?
-        .checked_mul(elements?)
-        .filter(|all| *all <= MAX_ELEMENTS)
+    Some(count)
 }
 
 /// How many entries a map or a list has.

@@ -4,7 +4,7 @@ ghost use Rattle.std.specs.Prelude.{◌≡◌, IfOk};
 ghost use Rattle.serde_json.specs.View.{members_view};
 ghost use Rattle.conf_tree.specs.Reading.{Gives};
 ghost use Rattle.conf_judge.specs.Flaws.{class_rule};
-ghost use Rattle.conf_judge.specs.Places.{item_content as item_content_of, is_position as is_position_of, own_place as own_place_of, place_of_properties as place_of_properties_of};
+ghost use Rattle.conf_judge.specs.Places.{item_content as item_content_of, is_position as is_position_of, place_of_properties as place_of_properties_of};
 
 use conf_table::{Content, Place, class_of, class_place};
 use conf_tree::{At, ConfFault, FaultKind, needed, text};
@@ -23,15 +23,23 @@ pub(crate) fn item_content(place: Place) -> Content
     }
 }
 
-/// The place whose properties an object at a place has: of a field type, that of its class.
-#[tactic(auto, unfolding(crate::specs::Places::place_of_properties))]
+/// The place whose properties an object at a place has: of a field type, that of its class. An alias is judged where it is used,
+/// and what is no object has none.
+#[tactic(auto, unfolding(crate::specs::Places::place_of_properties, crate::specs::Places::own_place))]
 pub(crate) fn place_of_properties(place: Place, members: &Map<String, Value>) -> Place
     ensures { result ≡ place_of_properties_of place (members_view members.now.entries) }
 {
     if is_position(place) {
-        class_of(members).unwrap_or(Place::Ignored)
-    } else {
-        own_place(place)
+        return class_of(members).unwrap_or(Place::Ignored);
+    }
+    match place {
+        Place::FieldType
+        | Place::Members
+        | Place::ExtraMembers
+        | Place::Ranges
+        | Place::Range
+        | Place::Scalar => Place::Ignored,
+        _ => place,
     }
 }
 
@@ -53,22 +61,6 @@ pub(crate) fn is_position(place: Place) -> bool
     )
 }
 
-/// The place whose properties an object has: an alias is judged where it is used, and what is no object has none.
-#[tactic(auto, unfolding(crate::specs::Places::own_place))]
-pub(crate) fn own_place(place: Place) -> Place
-    ensures { result ≡ own_place_of place }
-{
-    match place {
-        Place::FieldType
-        | Place::Members
-        | Place::ExtraMembers
-        | Place::Ranges
-        | Place::Range
-        | Place::Scalar => Place::Ignored,
-        _ => place,
-    }
-}
-
 /// The place whose properties an object has. Refuses a field type without a class, or of one that cannot stand at this place.
 #[tactic(auto, unfolding(crate::specs::Flaws::class_rule, crate::specs::Flaws::other_class, conf_table::specs::Classes::class_of, crate::specs::Places::place_of_properties))]
 pub(crate) fn classed_place(
@@ -80,7 +72,7 @@ pub(crate) fn classed_place(
     ensures own { IfOk result (λ own. own ≡ place_of_properties_of place (members_view members.now.entries)) }
 {
     if !is_position(place) {
-        return Ok(own_place(place));
+        return Ok(place_of_properties(place, members));
     }
     let value = needed(alloc, members, "class")?;
     let word = text(alloc, At::Property("class"), value)?;

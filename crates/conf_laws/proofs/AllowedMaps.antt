@@ -1,7 +1,7 @@
 -- Names, texts, integers and enumerations that have no flaw and pass no limit are ones that the rules allow.
 -- Lists that have an item for each entry of a map, under its name, are in byte order, and no longer than the map: environments and clock
 -- types that have no flaw and pass no limit are ones that the rules allow.
-use Rattle.std.proofs.Common.{◌≡◌, ℕ, ◌||◌, ◌&&◌, true, List, length, Ok, arith, ◌==◌, ◌%◌, Bool, false, Some, None, nat_lt, sym, ap, ◌≢◌, ℤ, pos, suc, ◌<◌, ◌≤◌, [], ◌∷◌, ◌++◌, Less, Equal, Greater, nat_cmp, refl, subst, ◌∙◌, length-append, All, Option, map, nat_le, int_le, codes, option_and_then, unwrap_or, negsuc}
+use Rattle.std.proofs.Common.{◌≡◌, ℕ, ◌||◌, ◌&&◌, true, List, length, Ok, arith, ◌==◌, ◌%◌, Bool, false, Some, None, nat_lt, sym, ap, ◌≢◌, ℤ, pos, suc, ◌<◌, ◌≤◌, [], ◌∷◌, ◌++◌, Less, Greater, nat_cmp, refl, subst, ◌∙◌, length-append, All, Option, map, nat_le, int_le, codes, option_and_then, unwrap_or, negsuc}
 use Rattle.conf_draft.specs.Integers.{made, align_of}
 use Rattle.conf_judge.specs.Limits as limits
 use Rattle.conf_laws.proofs.Numbers.{lowest_end, highest_end, ReadSo, read_so, some_size, natural_is_in}
@@ -154,42 +154,34 @@ NotAbove a b = slice_cmp nat_cmp a b ≢ Greater
 abbrev NoneBelow : List ℕ → List Mapping → Type 0
 NoneBelow label ms = AllByRecursion (λ m. NotAbove label m.label) ms
 
-abbrev AllLabelled : List ℕ → List Mapping → Type 0
-AllLabelled label ms = AllByRecursion (λ m. m.label ≡ label) ms
+ranges_below : (k label : List ℕ) (ds : Items) → slice_cmp nat_cmp k label ≡ Less → NoneBelow k (ranges_in label ds)
+ranges_below k label no_items below = tt
+ranges_below k label (item d ds) below = (λ g. cc, ranges_below k label ds below)
 
-ranges_labelled : (label : List ℕ) (ds : Items) → AllLabelled label (ranges_in label ds)
-ranges_labelled label no_items = tt
-ranges_labelled label (item d ds) = (refl, ranges_labelled label ds)
-
-own_labelled : (label : List ℕ) (d : Data) → AllLabelled label (ranges_of label d)
-own_labelled label (array ds) = ranges_labelled label ds
-own_labelled label _ = tt
-
-labelled_below : (k label : List ℕ) (ms : List Mapping) → slice_cmp nat_cmp k label ≡ Less → AllLabelled label ms → NoneBelow k ms
-labelled_below k label [] below h = tt
-labelled_below k label (m ∷ ms) below h = (λ g. let b : slice_cmp nat_cmp k m.label ≡ Less = subst (λ x. slice_cmp nat_cmp k x ≡ Less) (sym h.0) below in cc, labelled_below k label ms below h.1)
+own_below : (k label : List ℕ) (d : Data) → slice_cmp nat_cmp k label ≡ Less → NoneBelow k (ranges_of label d)
+own_below k label (array ds) below = ranges_below k label ds below
+own_below k label _ below = tt
 
 labels_below : (k : List ℕ) (labels : Members) → AllAbove k labels → NoneBelow k (labels_in labels)
 labels_below k no_members above = tt
-labels_below k (member label d ms) above =
-    all_joined (λ m. NotAbove k m.label) (ranges_of label d) (labels_in ms) (labelled_below k label (ranges_of label d) above.0 (own_labelled label d)) (labels_below k ms above.1)
-
-same_not_above : (a b label : List ℕ) → a ≡ label → b ≡ label → NotAbove a b
-same_not_above a b label p q = λ g. let e : slice_cmp nat_cmp a b ≡ Equal = subst (λ x. slice_cmp nat_cmp x b ≡ Equal) (sym p) (subst (λ x. slice_cmp nat_cmp label x ≡ Equal) (sym q) (tied_itself nat_list_cmp_total label)) in cc
+labels_below k (member label d ms) above = all_joined (λ m. NotAbove k m.label) (ranges_of label d) (labels_in ms) (own_below k label d above.0) (labels_below k ms above.1)
 
 -- the ranges of a label before those of the labels that are not below it
-in_order_joined : (label : List ℕ) (own rest : List Mapping) → AllLabelled label own → NoneBelow label rest → LabelsInOrder rest → LabelsInOrder (own ++ rest)
+ranges_in_order : (label : List ℕ) (ds : Items) (rest : List Mapping) → NoneBelow label rest → LabelsInOrder rest → LabelsInOrder (ranges_in label ds ++ rest)
 unfolding LabelsInOrder
-in_order_joined label [] rest labelled below h = h
-in_order_joined label (a ∷ []) [] labelled below h = tt
-in_order_joined label (a ∷ []) (b ∷ rest) labelled below h = (subst (λ x. NotAbove x b.label) (sym labelled.0) below.0, h)
-in_order_joined label (a ∷ b ∷ own) rest labelled below h = (same_not_above a.label b.label label labelled.0 labelled.1.0, in_order_joined label (b ∷ own) rest labelled.1 below h)
+ranges_in_order label no_items rest below h = h
+ranges_in_order label (item d no_items) [] below h = tt
+ranges_in_order label (item d no_items) (b ∷ rest) below h = (below.0, h)
+ranges_in_order label (item d (item e ds)) rest below h = (λ g. let same = tied_itself nat_list_cmp_total label in cc, ranges_in_order label (item e ds) rest below h)
+
+own_in_order : (label : List ℕ) (d : Data) (rest : List Mapping) → NoneBelow label rest → LabelsInOrder rest → LabelsInOrder (ranges_of label d ++ rest)
+own_in_order label (array ds) rest below h = ranges_in_order label ds rest below h
+own_in_order label _ rest below h = h
 
 pub labels_in_order : (labels : Members) → IsInOrder labels → LabelsInOrder (labels_in labels)
 unfolding LabelsInOrder
 labels_in_order no_members order = tt
-labels_in_order (member label d ms) order =
-    in_order_joined label (ranges_of label d) (labels_in ms) (own_labelled label d) (labels_below label ms order.0) (labels_in_order ms order.1)
+labels_in_order (member label d ms) order = own_in_order label d (labels_in ms) (labels_below label ms order.0) (labels_in_order ms order.1)
 
 -- ---- the mappings as they are listed
 

@@ -80,8 +80,6 @@ choice_excluded d flaw e other (IsNoUuid.no_uuid s is none) = elim (or_cases (by
   | inr read ↦ true≢false (sym read ∙ ap is_some none)
 ]
 
--- ---- words
-
 pub class_word_listed : (cs : List ClassWord) (w : List ℕ) → is_some (class_in w cs) ≡ true → Contains (map (λ c. c.word) cs) w
 class_word_listed [] w e = absurd cc
 class_word_listed (c ∷ cs) w e =

@@ -49,8 +49,6 @@ pub then_there : {A B : Type 0} (f : A → Option B) (o : Option A) → IsSome o
 then_there f None h each = absurd (false≢true h)
 then_there f (Some x) h each = each x
 
--- ---- lists
-
 pub all_joined : {A : Type 0} (P : A → Type 0) (xs ys : List A) → AllByRecursion P xs → AllByRecursion P ys → AllByRecursion P (xs ++ ys)
 all_joined P [] ys h k = k
 all_joined P (x ∷ xs) ys h k = (h.0, all_joined P xs ys h.1 k)

@@ -295,9 +295,9 @@ module _ (k : Known) (around place : Place) (name : List ℕ) (ms : Members) (le
       let found = optional_found name ms (object s.ms) (p.found ∙ ap Some s.is) refl in
       (s.ms, ap (option_and_then as_object) found, s.rows)
 
-  -- what holds of no properties and of those of each sound object holds
-  pub by_object : (P : Members → Type 0) → P no_members → ((os : Members) → RowsSound (inside place os k) place os → P os) → P (properties name ms)
+  -- what holds of the properties of each sound object holds of these, where none at all are sound
+  pub by_object : (P : Members → Type 0) → all_there place no_members ≡ Ok tt → ((j : Known) (os : Members) → RowsSound j place os → P os) → P (properties name ms)
   unfolding properties object_in
-  by_object P without with =
+  by_object P none each =
       by_found (λ (o : Option Data). P (unwrap_or (option_and_then as_object o) no_members)) (optional name ms)
-      (λ f. without) (λ d f. let s = held d f in subst (λ x. P (unwrap_or (as_object x) no_members)) (sym s.is) (with s.ms s.rows))
+      (λ f. each k no_members (record { there = none; flaws = refl })) (λ d f. let s = held d f in subst (λ x. P (unwrap_or (as_object x) no_members)) (sym s.is) (each (inside place s.ms k) s.ms s.rows))

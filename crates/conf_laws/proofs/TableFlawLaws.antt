@@ -67,8 +67,6 @@ module _ (place : Place) (name : List ℕ) (d : Data) where
   left_not other =
       by_test (λ (b : Bool). left_out (presence_under place name) d ≡ false) (left_out (presence_under place name) d) (λ is. absurd (other (left_told (presence_under place name) d is))) (λ is. is)
 
--- ---- a class that cannot stand where it is
-
 pub other_told : (place : Place) → ((place ≡ places.IdentifierFeature) × (other_class place ≡ OutOfRange)) ⊎ ((place ≢ places.IdentifierFeature) × (other_class place ≡ WrongKind))
 unfolding other_class
 other_told places.IdentifierFeature = inl (refl, refl)

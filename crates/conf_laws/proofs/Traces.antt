@@ -9,8 +9,6 @@ use Rattle.conf_laws.proofs.Properties.{Property, leads, needed_by, ObjectPlace,
 use Rattle.conf_laws.proofs.Words.{admits_class, rows_of, Place, At, class_of, is_null, all_there, orders_there, Known, inside, natural_in, is_position, shape_of, is_identifier, is_byte, is_unsigned_integer, is_number, is_eight, member_flaws, configuration_flaws, behind, nothing, optional, Data, null, boolean, object, Members, no_members, get_member, member, as_object, false≢true, and_parts, same_Some, number_type, byte_type, if_on, feature_of, feature, byte_of, identifier_of, identifier, size, mapped, timestamp, magic_type, header, context, event_header, integer, IntType, environment, event_type, event_types, object_at as object_in, properties, said_behind, word, clock_of, stream_type, stream_types, draft_of_type, draft_of_trace, draft_of_root, draft_of, EnvironmentEntry}
 use Rattle.conf_laws.proofs.Words.places
 
--- ---- on or off
-
 on_there : (b : Bool) (t : IntType) → IsSome (if_on b t)
 on_there true t = refl
 on_there false t = refl
@@ -102,8 +100,6 @@ identifier_there k around ms h name by_default leads =
     by_found (λ (o : Option Data). IsSome (identifier_of by_default o)) (optional name ms)
     (λ e. on_there by_default byte_type) (λ d e. identifier_said k by_default d (optional_sound k around name (At places.IdentifierFeature) ms d leads h.flaws e).value)
 
--- ---- the packet header
-
 header_said : (k : Known) (has_uuid : Bool) (ms : Members) → RowsSound k places.TraceFeatures ms → IsSome (header has_uuid ms)
 unfolding header
 header_said k has_uuid ms h =
@@ -115,10 +111,7 @@ header_said k has_uuid ms h =
 pub header_there : (k : Known) (around : Place) (has_uuid : Bool) (ms : Members) → Leads around (codes "$features") (At places.TraceFeatures) → RowsSound k around ms → IsSome (header has_uuid (properties (codes "$features") ms))
 unfolding all_there orders_there rows_of
 header_there k around has_uuid ms leads h =
-    by_object k around places.TraceFeatures (codes "$features") ms leads (is_object ObjectPlace.trace_features) h (λ os. IsSome (header has_uuid os)) (header_said k has_uuid no_members (record { there = refl; flaws = refl }))
-    (λ os rows. header_said (inside places.TraceFeatures os k) has_uuid os rows)
-
--- ---- the packet context
+    by_object k around places.TraceFeatures (codes "$features") ms leads (is_object ObjectPlace.trace_features) h (λ os. IsSome (header has_uuid os)) refl (λ j os rows. header_said j has_uuid os rows)
 
 context_said : (k : Known) (clock : Option (List ℕ)) (ms : Members) → RowsSound k places.PacketFeatures ms → IsSome (context clock ms)
 unfolding context
@@ -131,19 +124,10 @@ context_said k clock ms h =
     let sequence = some_there _ (feature_there k places.PacketFeatures ms h places.Feature (codes "sequence-number-field-type") false number_type any_feature (leads Property.sequence)) in
     rw (total_size.1, content_size.1, beginning.1, ending.1, discarded.1, sequence.1) refl
 
--- ---- the features of a data stream type
-
-pub no_stream_features : (k : Known) → RowsSound k places.StreamFeatures no_members
-unfolding all_there orders_there rows_of
-no_stream_features k = record { there = refl; flaws = refl }
-
 pub context_there : (k : Known) (clock : Option (List ℕ)) (ms : Members) → RowsSound k places.StreamFeatures ms → IsSome (context clock (properties (codes "packet") ms))
 unfolding all_there orders_there rows_of
 context_there k clock ms h =
-    by_object k places.StreamFeatures places.PacketFeatures (codes "packet") ms (leads Property.packet) (is_object ObjectPlace.packet_features) h (λ os. IsSome (context clock os)) (context_said k clock no_members (record { there = refl; flaws = refl }))
-    (λ os rows. context_said (inside places.PacketFeatures os k) clock os rows)
-
--- ---- the event record header
+    by_object k places.StreamFeatures places.PacketFeatures (codes "packet") ms (leads Property.packet) (is_object ObjectPlace.packet_features) h (λ os. IsSome (context clock os)) refl (λ j os rows. context_said j clock os rows)
 
 event_header_said : (k : Known) (clock : Option (List ℕ)) (ms : Members) → RowsSound k places.EventRecordFeatures ms → IsSome (event_header clock ms)
 unfolding event_header
@@ -155,8 +139,7 @@ event_header_said k clock ms h =
 pub event_header_there : (k : Known) (clock : Option (List ℕ)) (ms : Members) → RowsSound k places.StreamFeatures ms → IsSome (event_header clock (properties (codes "event-record") ms))
 unfolding all_there orders_there rows_of
 event_header_there k clock ms h =
-    by_object k places.StreamFeatures places.EventRecordFeatures (codes "event-record") ms (leads Property.event_record) (is_object ObjectPlace.record_features) h (λ os. IsSome (event_header clock os))
-    (event_header_said k clock no_members (record { there = refl; flaws = refl })) (λ os rows. event_header_said (inside places.EventRecordFeatures os k) clock os rows)
+    by_object k places.StreamFeatures places.EventRecordFeatures (codes "event-record") ms (leads Property.event_record) (is_object ObjectPlace.record_features) h (λ os. IsSome (event_header clock os)) refl (λ j os rows. event_header_said j clock os rows)
 
 -- ---- maps of types that are read one behind another
 
@@ -171,8 +154,6 @@ module _ {A : Type 0} {b : Bool} {place inner : Place} (map : MapPlace b place (
       subst (λ x. IsSome (said_behind of done (member name x ms))) (sym h.is)
       (then_there (λ x. said_behind of (done ++ x ∷ []) ms) (of name h.ms) (said k name h.ms h.rows) (λ x. types_said ms (behind place d k) (done ++ x ∷ []) first.1))
 
--- ---- one event record type
-
 event_said : (k : Known) (levels : Members) (name : List ℕ) (ms : Members) → RowsSound k places.EventType ms → IsSome (event_type levels name ms)
 unfolding event_type
 event_said k levels name ms h =
@@ -180,26 +161,24 @@ event_said k levels name ms h =
     let payload = some_there _ (structure_there k places.EventType (codes "payload-field-type") ms (leads Property.payload) h) in
     rw (specific.1, payload.1) refl
 
--- ---- all of a data stream type
-
 pub events_there : (k : Known) (around : Place) (levels ms : Members) → Leads around (codes "event-record-types") (At places.EventTypes) → RowsSound k around ms → IsSome (event_types levels ms)
-unfolding event_types
+unfolding event_types all_there orders_there rows_of
 events_there k around levels ms leads h =
     by_object k around places.EventTypes (codes "event-record-types") ms leads (is_object ObjectPlace.event_types) h (λ os. IsSome (said_behind (event_type levels) [] os)) refl
-    (λ os rows. types_said MapPlace.event_types ObjectPlace.event_type (event_type levels) (λ j name ns own. event_said (inside places.EventType ns j) levels name ns own) os (inside places.EventTypes os k) [] rows.flaws)
+    (λ i os rows. types_said MapPlace.event_types ObjectPlace.event_type (event_type levels) (λ j name ns own. event_said (inside places.EventType ns j) levels name ns own) os i [] rows.flaws)
 
 -- ---- one data stream type
 
 module _ (k : Known) (ms : Members) (h : RowsSound k places.StreamType ms) where
   stream_context_said : (clock : Option (List ℕ)) → IsSome (context clock (properties (codes "packet") (properties (codes "$features") ms)))
+  unfolding all_there orders_there rows_of
   stream_context_said clock =
-      by_object k places.StreamType places.StreamFeatures (codes "$features") ms (leads Property.stream_features) (is_object ObjectPlace.stream_features) h (λ os. IsSome (context clock (properties (codes "packet") os))) (context_there k clock no_members (no_stream_features k))
-      (λ os rows. context_there (inside places.StreamFeatures os k) clock os rows)
+      by_object k places.StreamType places.StreamFeatures (codes "$features") ms (leads Property.stream_features) (is_object ObjectPlace.stream_features) h (λ os. IsSome (context clock (properties (codes "packet") os))) refl (λ j os rows. context_there j clock os rows)
 
   stream_event_header_said : (clock : Option (List ℕ)) → IsSome (event_header clock (properties (codes "event-record") (properties (codes "$features") ms)))
+  unfolding all_there orders_there rows_of
   stream_event_header_said clock =
-      by_object k places.StreamType places.StreamFeatures (codes "$features") ms (leads Property.stream_features) (is_object ObjectPlace.stream_features) h (λ os. IsSome (event_header clock (properties (codes "event-record") os)))
-      (event_header_there k clock no_members (no_stream_features k)) (λ os rows. event_header_there (inside places.StreamFeatures os k) clock os rows)
+      by_object k places.StreamType places.StreamFeatures (codes "$features") ms (leads Property.stream_features) (is_object ObjectPlace.stream_features) h (λ os. IsSome (event_header clock (properties (codes "event-record") os))) refl (λ j os rows. event_header_there j clock os rows)
 
   stream_said : (levels : Members) (name : List ℕ) → IsSome (stream_type levels name ms)
   unfolding stream_type
@@ -211,16 +190,12 @@ module _ (k : Known) (ms : Members) (h : RowsSound k places.StreamType ms) where
       let events = some_there _ (events_there k places.StreamType levels ms (leads Property.event_types) h) in
       rw (context.1, extras.1, header.1, common.1, events.1) refl
 
--- ---- all of a trace type
-
 pub streams_there : (k : Known) (around : Place) (ms : Members) → Leads around (codes "data-stream-types") (At places.StreamTypes) → RowsSound k around ms → IsSome (stream_types ms)
-unfolding stream_types
+unfolding stream_types all_there orders_there rows_of
 streams_there k around ms leads h =
     let levels = properties (codes "$log-level-aliases") ms in
     by_object k around places.StreamTypes (codes "data-stream-types") ms leads (is_object ObjectPlace.stream_types) h (λ os. IsSome (said_behind (stream_type levels) [] os)) refl
-    (λ os rows. types_said MapPlace.stream_types ObjectPlace.stream_type (stream_type levels) (λ j name ns own. stream_said (inside places.StreamType ns j) ns own levels name) os (inside places.StreamTypes os k) [] rows.flaws)
-
--- ---- the trace type
+    (λ i os rows. types_said MapPlace.stream_types ObjectPlace.stream_type (stream_type levels) (λ j name ns own. stream_said (inside places.StreamType ns j) ns own levels name) os i [] rows.flaws)
 
 type_said : (k : Known) (number : Option (List ℕ)) (entries : List EnvironmentEntry) (ms : Members) → RowsSound k places.TraceType ms → IsSome (draft_of_type number entries ms)
 unfolding draft_of_type
@@ -228,8 +203,6 @@ type_said k number entries ms h =
     let header = some_there _ (header_there k places.TraceType (is_some (word (codes "uuid") ms)) ms (leads Property.trace_features) h) in
     let streams = some_there _ (streams_there k places.TraceType ms (leads Property.stream_types) h) in
     rw (header.1, streams.1) refl
-
--- ---- the trace
 
 trace_said : (k : Known) (number : Option (List ℕ)) (ms : Members) → RowsSound k places.Trace ms → IsSome (draft_of_trace number ms)
 unfolding draft_of_trace

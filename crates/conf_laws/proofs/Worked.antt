@@ -126,8 +126,7 @@ unfolding draft_of_root draft_of_trace draft_of_type object_at properties word l
     structures.structure structures.structure_of structures.listed structures.extra_members structures.made structures.align_of behind_member member_type class_of drafts.of_class class_words integer made size_of align_of alignment base_of environment clock_types asks_number
 larger_says = refl
 
--- ---- an alignment that no field can have
-
+-- an alignment that no field can have
 large_left_out : align_of (member (codes "alignment") (number (unsigned 8192)) (member (codes "size") (number (unsigned 4)) no_members)) ≡ 1
 unfolding align_of alignment size_of natural as_natural
 large_left_out = refl
