@@ -32,25 +32,21 @@ abbrev pub if_on : Bool → IntType → Option (Option IntType)
 if_on true t = Some (Some t)
 if_on false t = Some None
 
-abbrev pub feature_of : Bool → IntType → Option Data → Option (Option IntType)
-feature_of by_default t (Some (boolean b)) = if_on b t
-feature_of by_default t (Some (object ms)) = option_map (λ own. Some own) (integer false ms)
-feature_of by_default t _ = if_on by_default t
+-- an object is a type of its own, by what an object is there
+abbrev pub feature_of : (Members → Option IntType) → Bool → IntType → Option Data → Option (Option IntType)
+feature_of own by_default t (Some (boolean b)) = if_on b t
+feature_of own by_default t (Some (object ms)) = option_map (λ x. Some x) (own ms)
+feature_of own by_default t _ = if_on by_default t
 
 unfoldable pub feature : List ℕ → Bool → IntType → Members → Option (Option IntType)
-feature name by_default t ms = feature_of by_default t (optional name ms)
+feature name by_default t ms = feature_of (integer false) by_default t (optional name ms)
 
 -- an identifier is an array, whose elements are bytes
 unfoldable pub byte_of : Members → Option IntType
 byte_of ms = option_and_then (integer false) (object_at (codes "element-field-type") ms)
 
-abbrev pub identifier_of : Bool → Option Data → Option (Option IntType)
-identifier_of by_default (Some (boolean b)) = if_on b byte_type
-identifier_of by_default (Some (object ms)) = option_map (λ own. Some own) (byte_of ms)
-identifier_of by_default _ = if_on by_default byte_type
-
 unfoldable pub identifier : List ℕ → Bool → Members → Option (Option IntType)
-identifier name by_default ms = identifier_of by_default (optional name ms)
+identifier name by_default ms = feature_of byte_of by_default byte_type (optional name ms)
 
 -- a size is always on
 unfoldable pub size : List ℕ → Members → Option IntType

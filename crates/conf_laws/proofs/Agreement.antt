@@ -96,22 +96,22 @@ module _ (k : Known) (around : Around) (h : Agrees k around) where
       back (inr b) = h.second.1 b
   inside_agrees _ ms = record { levels = h.levels; second = h.second; numbers = h.numbers; taken = h.taken }
 
+-- one alternative, then another, and what they are together
+joined : {T U V A B C : Type 0} → (T ↔ (A ⊎ U)) → (U ↔ (B ⊎ V)) → (A ⊎ B → C) → (C → A ⊎ B) → T ↔ (C ⊎ V)
+joined a b f g = (
+  λ t. elim (a.0 t) [ inl x ↦ inl (f (inl x)) | inr u ↦ elim (b.0 u) [ inl y ↦ inl (f (inr y)) | inr v ↦ inr v ] ],
+  λ p. elim p [ inl c ↦ elim (g c) [ inl x ↦ a.1 (inl x) | inr y ↦ a.1 (inr (b.1 (inl y))) ] | inr v ↦ a.1 (inr (b.1 (inr v))) ],
+)
+
 module _ (around : Around) (ms before : Members) (name : List ℕ) (d : Data) where
   default_further : (b : Bool) → (IsTrue b ↔ (HasDefault before ⊎ IsBehindDefault around)) → IsTrue (b || says_default d) ↔ (HasDefault (member name d before) ⊎ IsBehindDefault around)
-  default_further b h = (λ e. there (or_cases b (says_default d) e), back)
+  default_further b h = joined
+      (λ e. elim (or_cases b (says_default d) e) [ inl x ↦ inr x | inr y ↦ inl y ], λ p. elim p [ inl y ↦ or_right b (says_default d) y | inr x ↦ or_left b (says_default d) x ]) h
+      (λ p. elim p [ inl says ↦ (name, d, inl (refl, refl), says_told d says) | inr (l, e, has, says) ↦ (l, e, inr has, says) ]) back
     where
-      further : HasDefault before ⊎ IsBehindDefault around → HasDefault (member name d before) ⊎ IsBehindDefault around
-      further (inl (l, e, has, says)) = inl (l, e, inr has, says)
-      further (inr c) = inr c
-
-      there : (b ≡ true) ⊎ (says_default d ≡ true) → HasDefault (member name d before) ⊎ IsBehindDefault around
-      there (inl e) = further (h.0 e)
-      there (inr e) = inl (name, d, inl (refl, refl), says_told d e)
-
-      back : HasDefault (member name d before) ⊎ IsBehindDefault around → IsTrue (b || says_default d)
-      back (inl (l, e, inl same, says)) = or_right b (says_default d) (told_says d (subst SaysDefault same.1 says))
-      back (inl (l, e, inr has, says)) = or_left b (says_default d) (h.1 (inl (l, e, has, says)))
-      back (inr c) = or_left b (says_default d) (h.1 (inr c))
+      back : HasDefault (member name d before) → IsTrue (says_default d) ⊎ HasDefault before
+      back (l, e, inl same, says) = inl (told_says d (subst SaysDefault same.1 says))
+      back (l, e, inr has, says) = inr (l, e, has, says)
 
   pub behind_agrees : (place : Place) (k : Known) → Agrees k (member_of place ms before ∷ around) → Agrees (behind place d k) (member_of place ms (member name d before) ∷ around)
   unfolding behind
@@ -119,13 +119,6 @@ module _ (around : Around) (ms before : Members) (name : List ℕ) (d : Data) wh
   behind_agrees _ k h = record { levels = h.levels; second = h.second; numbers = h.numbers; taken = h.taken }
 
 -- ---- names that are taken
-
--- one alternative, then another, and what they are together
-joined : {T U V A B C : Type 0} → (T ↔ (A ⊎ U)) → (U ↔ (B ⊎ V)) → (A ⊎ B → C) → (C → A ⊎ B) → T ↔ (C ⊎ V)
-joined a b f g = (
-  λ t. elim (a.0 t) [ inl x ↦ inl (f (inl x)) | inr u ↦ elim (b.0 u) [ inl y ↦ inl (f (inr y)) | inr v ↦ inr v ] ],
-  λ p. elim p [ inl c ↦ elim (g c) [ inl x ↦ a.1 (inl x) | inr y ↦ a.1 (inr (b.1 (inl y))) ] | inr v ↦ a.1 (inr (b.1 (inr v))) ],
-)
 
 pub taken_put : (name k : List ℕ) (ms : Members) → IsTrue (is_taken (take k ms) name) ↔ ((name ≡ k) ⊎ IsTrue (is_taken ms name))
 taken_put name k ms =

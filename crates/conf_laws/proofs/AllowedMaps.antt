@@ -4,8 +4,8 @@
 use Rattle.std.proofs.Common.{◌≡◌, ℕ, ◌||◌, ◌&&◌, true, List, length, Ok, arith, ◌==◌, ◌%◌, Bool, false, Some, None, nat_lt, sym, ap, ◌≢◌, ℤ, pos, suc, ◌<◌, ◌≤◌, [], ◌∷◌, ◌++◌, Less, Greater, nat_cmp, refl, subst, ◌∙◌, length-append, All, Option, map, nat_le, int_le, codes, option_and_then, unwrap_or, negsuc}
 use Rattle.conf_draft.specs.Integers.{made, align_of}
 use Rattle.conf_judge.specs.Limits as limits
-use Rattle.conf_laws.proofs.Numbers.{lowest_end, highest_end, ReadSo, read_so, some_size, natural_is_in}
-use Rattle.conf_laws.proofs.Properties.{AreGoodItems, IsGoodEntry, entry_in, plain_rest, good_items, item_first, item_rest, AreGood, IsGoodAt, good_object, own_properties, fitting_parts, needed_at, names_of, sorted_names, names_counted, all_in, entry_object, property_at, MapPlace, is_map, is_plain, Property, leads, needed_by, mappings_own, ObjectPlace, is_own, is_object}
+use Rattle.conf_laws.proofs.Numbers.{whole_there, lowest_end, highest_end, ReadSo, read_so, some_size, natural_is_in}
+use Rattle.conf_laws.proofs.Properties.{AreGoodItems, IsGoodEntry, entry_in, plain_rest, good_items, item_first, item_rest, AreGood, IsGoodAt, good_object, own_properties, fitting_parts, needed_at, names_of, sorted_names, names_counted, all_in, entry_object, property_at, MapPlace, is_map, is_plain, Property, leads, needed_by, OwnPlace, is_own, is_object}
 use Rattle.conf_laws.proofs.Readings.{under_no_test, proved_some, was_so, all_joined, mapped_some, same_natural, word_there, by_found}
 use Rattle.conf_laws.proofs.Sound.{needed_there, Leads}
 use Rattle.conf_laws.proofs.Words.{IsPair, entries_of, Place, At, WholeOrText, Whole, Text, Content, all_there, itself_of, form_of, Known, with_taken, key_fits, count_of, ranges_fit, key_of, key_by, names_beside, with_names, end_of, range_of, is_inside, inside_of, natural_in, numbers_of, numbers_in, all_numbers, item_content, leaf_of, whole_or_text, fits, here, AllAbove, IsInOrder, whole_of, whole_or_not, given, OutOfRange, both_read, is_passed, name_of, is_reserved, plain_name_of, is_printable, Members, Data, number, array, Num, unsigned, negative, float, Items, no_items, item, no_members, member, object, items_len, as_integer, as_array, get_member, optional, as_natural, string, members_len, as_object, nat_tests, and_parts, or_parts, leb-true, nat_list_cmp_total, tied_itself, T_from_true, All-from_recursion, All-weaker, same_Some, slice_cmp, le_z_yes, list_any, option_map_or, AllByRecursion, bytes_eq, length-map, map-append, whole, low, high, ranges_in, mappings_of as ranges_of, labels_in, enumeration, integer, size_of, base_of, object_at, properties, IsPlainUnsigned, LabelsInOrder, lowest, highest, IsRangeOf, IsEnumeration, is_name as is_identifier, unused_keywords, used_keywords, IsConfigName, IsPlainName, IsConfigText, Base, EnumType, IntType, Mapping, clock_type, clocks_in, clock_types, entry_value, entries_in, environment, natural, word, InByteOrder, IsEnvironmentValue, IsClockType, ClockType, EnvironmentEntry}
@@ -55,14 +55,9 @@ unsigned_says ms t e = let made = integer_says false ms t e in (made.sign_is, ma
 
 -- ---- one range
 
-end_says : (n : Num) (x : ℤ) → whole_or_not lowest_end highest_end (as_integer n) ≡ Ok x → whole (Some (number n)) ≡ x
-end_says (unsigned m) x e = (is_passed (int_le lowest_end (pos m) && int_le (pos m) highest_end) (pos m) x _ e).1
-end_says (negative z) x e = (is_passed (int_le lowest_end z && int_le z highest_end) z x _ e).1
-end_says (float f) x e = absurd cc
-
 end_is : (d : Data) (x : ℤ) → end_of d ≡ Ok x → whole (Some d) ≡ x
 unfolding whole_of
-end_is (number n) x e = end_says n x e
+end_is (number n) x e = ap (λ o. unwrap_or o (pos 0)) (whole_there lowest_end highest_end (as_integer n) x e).0
 end_is _ x e = absurd cc
 
 one_end : (d : Data) (z : ℤ) → as_array d ≡ None → end_of d ≡ Ok z → (z ≡ low d) × (z ≡ high d)
@@ -201,7 +196,7 @@ mappings_good : (k : Known) (labels : Members) → IsGoodAt k (At places.Mapping
 unfolding ranges_fit
 mappings_good k labels h =
     let whole = good_object k places.Mappings labels h in
-    let good = own_properties k places.Mappings labels mappings_own whole in
+    let good = own_properties k places.Mappings labels (is_own OwnPlace.mappings) whole in
     let few = leb-true (limits.ranges_in labels) 1024 (fitting_parts places.Mappings (object labels) whole.fitting).2 in
     record {
       each = All-from_recursion (IsGoodMapping k) (labels_in labels) (labels_good k labels good);
@@ -334,7 +329,7 @@ IsEnvironment es = AreAllowed entry_name IsEntry 256 es
 pub environment_allowed : (k : Known) (place : Place) (ms : Members) → Leads place (codes "environment") (At places.Environment) → AreGood k place ms → IsEnvironment (environment ms)
 unfolding environment entries_of
 environment_allowed k place ms leads h =
-    let all = all_in k place (codes "environment") places.Environment ms leads (is_own ObjectPlace.environment) h in
+    let all = all_in k place (codes "environment") places.Environment ms leads (is_own OwnPlace.environment) h in
     map_allowed entry_name IsEntry 256 _ _ all.0.in_order all.1 (entries_under k _ all.0)
 
 -- ---- one clock type
@@ -365,8 +360,8 @@ unfolding key_of key_by entries_of clock_type
 clocks_under k no_members h = none_under clock_name IsClockType
 clocks_under k (member name d ms) h =
     let entry = entry_in k places.ClockTypes name (At places.ClockType) d ms (is_map MapPlace.clock_types) h in
-    let inner = entry_object k places.ClockType d ((is_object ObjectPlace.clock_type).form k d) entry.value in
-    let one = clock_allowed k name inner.0 (plain_name name entry.named) (own_properties k places.ClockType inner.0 (is_own ObjectPlace.clock_type) inner.2) in
+    let inner = entry_object k places.ClockType d ((is_object OwnPlace.clock_type).form k d) entry.value in
+    let one = clock_allowed k name inner.0 (plain_name name entry.named) (own_properties k places.ClockType inner.0 (is_own OwnPlace.clock_type) inner.2) in
     subst (λ x. AreUnder clock_name IsClockType (name ∷ names_of ms) (clocks_in (member name x ms))) (sym inner.1)
     (one_under clock_name IsClockType name (names_of ms) (clock_type name inner.0) (clocks_in ms) refl one (clocks_under k ms (plain_rest k places.ClockTypes name d ms (is_plain MapPlace.clock_types) h)))
 
@@ -376,5 +371,5 @@ AreClocks cs = AreAllowed clock_name IsClockType 64 cs
 pub clocks_allowed : (k : Known) (place : Place) (ms : Members) → Leads place (codes "clock-types") (At places.ClockTypes) → AreGood k place ms → AreClocks (clock_types ms)
 unfolding clock_types entries_of
 clocks_allowed k place ms leads h =
-    let all = all_in k place (codes "clock-types") places.ClockTypes ms leads (is_own ObjectPlace.clock_types) h in
+    let all = all_in k place (codes "clock-types") places.ClockTypes ms leads (is_own OwnPlace.clock_types) h in
     map_allowed clock_name IsClockType 64 _ _ all.0.in_order all.1 (clocks_under k _ all.0)

@@ -4,8 +4,8 @@
 use Rattle.std.proofs.Common.{◌≡◌, ℕ, zero, suc, ◌*◌, ◌<◌, ◌≤◌, true, false, cond, List, [], ◌∷◌, length, Option, Some, None, refl, sym, ap, subst, ◌∙◌, arith, ◌+◌, Bool, ◌++◌, All, length-append, ◌==◌, ◌%◌, nat_lt, codes, not, nat_eq, nat_le, max, unwrap_or, option_map, option_and_then, ◌&&◌}
 use Rattle.conf_laws.proofs.AllowedMaps.{enumeration_allowed, has_mappings, integer_says, plain_name}
 use Rattle.conf_laws.proofs.Numbers.{needed_natural}
-use Rattle.conf_laws.proofs.Properties.{AreGood, IsGood, IsGoodAt, good_object, properties_at, there_at, needed_at, AreGoodItems, entry_in, item_first, item_rest, own_properties, property_at, fitting_parts, good_items, list_in, object_in, Property, leads, needed_by, ObjectPlace, is_own, entry_own, MapPlace, is_map}
-use Rattle.conf_laws.proofs.Readings.{element_is, element_bits, in_array, by_element, mapped_some, object_there, then_some, same_natural, by_found, some_there, was_so, proved_some}
+use Rattle.conf_laws.proofs.Properties.{AreGood, IsGood, IsGoodAt, good_object, properties_at, there_at, needed_at, AreGoodItems, entry_in, item_first, item_rest, own_properties, property_at, fitting_parts, good_items, list_in, object_in, Property, leads, needed_by, OwnPlace, is_own, MapPlace, is_map}
+use Rattle.conf_laws.proofs.Readings.{element_is, element_bits, in_array, by_element, mapped_some, object_there, then_some, same_natural, by_found, by_test, some_there, was_so, proved_some}
 use Rattle.conf_laws.proofs.Sound.{class_place, optional_there, type_sound, Leads}
 use Rattle.conf_laws.proofs.TableLimitLaws.{times_told}
 use Rattle.conf_laws.proofs.Words.{Place, At, entries_of, class_of, is_dynamic_array, Known, inside, at_least_one, elements, natural_in, is_position, is_number, is_static_array, has_bits, itself_of, form_of, with_taken, fits, arrays_fit, is_outermost, is_taken, is_dynamic, class_of_member, take, with_names, names_beside, item_content, shape_of, Data, object, Members, get_member, optional, both_read, plain_name_of, Items, no_items, item, no_members, member, array, items_len, as_object, nat_tests, and_parts, All-from_recursion, same_Some, cond_some, AllByRecursion, option_map_or, leb-true, All-push, All-nil, list_any, IsDistinct, bytes_eq, enumeration, static, length_of, of_class, field_type, element, integer, natural, TypeHasBits as HasBits, IsNest, elements_of, IsConfigLeaf, chain_of, Int, Enum, Str, Static, FieldType, list, object_at, member_type, member_said as member_of, behind_done as behind, behind_named, behind_entry, members_behind, made, align_for, align_of, listed, structure_of, structure, extra_members, IsConfigMember, AreConfigMembers, IsConfigStruct, names_in, IsPlainName, own_names, length_name, shown_members, Auto, Plain, Dyn, MemberType, StructType}
@@ -131,17 +131,6 @@ module _ (d : Data) (t : FieldType) (h : IsAllowed d t) where
 
 -- ---- the type of a member
 
--- the elements of a dynamic array
-record IsElement (k : Known) (t : FieldType) : Type 0 where
-  value : Data
-  good : IsGoodAt k (At places.DynamicElementType) value
-  is : field_type value ≡ Some t
-
-element_there : (k : Known) (ms : Members) (t : FieldType) → AreGood k places.DynamicArray ms → element ms ≡ Some t → IsElement k t
-element_there k ms t h e =
-    let read = then_some field_type (get_member (codes "element-field-type") ms) t (sym (element_is ms) ∙ e) in
-    record { value = read.0; good = needed_at k places.DynamicArray (codes "element-field-type") (At places.DynamicElementType) ms read.0 (leads Property.dynamic_element) (needed_by Property.dynamic_element) h read.1; is = read.2 }
-
 dynamic_element_bits : (k : Known) (d : Data) (t : FieldType) → IsGoodAt k (At places.DynamicElementType) d → field_type d ≡ Some t → has_bits d ≡ true
 unfolding shape_of
 dynamic_element_bits k (object ms) t h e = was_so _ (good_object k places.DynamicElementType ms h).sound.shape
@@ -157,10 +146,11 @@ plain_allowed k d t h e =
 dynamic_allowed : (k : Known) (ms : Members) (t : FieldType) → AreGood k places.DynamicArray ms → element ms ≡ Some t → IsConfigMember (Dyn t Auto)
 unfolding fits arrays_fit is_outermost is_position
 dynamic_allowed k ms t h e =
-    let inner = element_there k ms t h e in
-    let nests = some_there (elements 8 inner.value) (fitting_parts places.DynamicElementType inner.value inner.good.within.fitting).0 in
-    let allowed = field_allowed inner.value k places.DynamicElementType t refl inner.good inner.is in
-    ((allowed.leaf, nest_allowed inner.value t allowed nests.0 nests.1), bits_allowed inner.value t allowed (dynamic_element_bits k inner.value t inner.good inner.is))
+    let read = then_some field_type (get_member (codes "element-field-type") ms) t (sym (element_is ms) ∙ e) in
+    let good = needed_at k places.DynamicArray (codes "element-field-type") (At places.DynamicElementType) ms read.0 (leads Property.dynamic_element) (needed_by Property.dynamic_element) h read.1 in
+    let nests = some_there (elements 8 read.0) (fitting_parts places.DynamicElementType read.0 good.within.fitting).0 in
+    let allowed = field_allowed read.0 k places.DynamicElementType t refl good read.2 in
+    ((allowed.leaf, nest_allowed read.0 t allowed nests.0 nests.1), bits_allowed read.0 t allowed (dynamic_element_bits k read.0 t good read.2))
 
 -- what is said of a member's type, by whether it is a dynamic array
 abbrev IsTyped : Bool → Members → MemberType → Type 0
@@ -206,7 +196,7 @@ member_tells _ m e = absurd cc
 type_allowed : (k : Known) (d : Data) (m : MemberType) → IsGoodAt k (At places.Member) d → Tells d m → IsConfigMember m
 type_allowed k d m h tells =
     let good = good_object k places.Member tells.told (subst (λ x. IsGoodAt k (At places.Member) x) tells.is h) in
-    let own = own_properties k places.Member tells.told (is_own ObjectPlace.named_member) good in
+    let own = own_properties k places.Member tells.told (is_own OwnPlace.named_member) good in
     member_type_allowed k tells.type m (property_at k places.Member (codes "field-type") (At places.MemberType) tells.told (object tells.type) (leads Property.type_of_member) own tells.there) tells.says
 
 -- ---- its names
@@ -243,19 +233,13 @@ record Follows (done more : List (List ℕ × MemberType)) (name : List ℕ) (d 
   tells : member_of d ≡ Some type
   is : done ++ (name, type) ∷ [] ≡ more
 
-follows_by : (done more : List (List ℕ × MemberType)) (name : List ℕ) (d : Data) (o : Option MemberType) → member_of d ≡ o → behind done name o ≡ Some more → Follows done more name d
-unfolding behind
-follows_by done more name d None is e = absurd cc
-follows_by done more name d (Some t) is e = go (list_any (bytes_eq name) (names_in done)) e
-  where
-    go : (b : Bool) → cond b None (Some (done ++ (name, t) ∷ [])) ≡ Some more → Follows done more name d
-    go true e = absurd cc
-    go false e = record { type = t; tells = is; is = same_Some (done ++ (name, t) ∷ []) more e }
-
 follows : (done more : List (List ℕ × MemberType)) (name : List ℕ) (d : Data) → behind_entry done (object (member name d no_members)) ≡ Some more → Follows done more name d
+unfolding behind
 follows done more name d e =
     let read = then_some (λ xs. behind_named xs no_members) (behind done name (member_of d)) more e in
-    follows_by done more name d (member_of d) refl (read.1 ∙ read.2)
+    by_found (λ (o : Option MemberType). behind done name o ≡ Some more → Follows done more name d) (member_of d) (λ is f. absurd cc) (λ t is.
+    by_test (λ (b : Bool). cond b None (Some (done ++ (name, t) ∷ [])) ≡ Some more → Follows done more name d) (list_any (bytes_eq name) (names_in done))
+    (λ taken f. absurd cc) (λ free f. record { type = t; tells = is; is = same_Some (done ++ (name, t) ∷ []) more f })) (read.1 ∙ read.2)
 
 pub record AreRead (before : List (List ℕ)) (ms : List (List ℕ × MemberType)) (taken : Members) : Type 0 where
   pub types : All (λ m. IsConfigMember m.1) ms
@@ -265,7 +249,7 @@ one_more : (k : Known) (before : List (List ℕ)) (done more : List (List ℕ ×
     → AreRead before done taken → IsGoodAt (with_taken taken k) (At places.Entry) (object (member name d no_members)) → Follows done more name d → AreRead before more (with_member name (is_dynamic d) taken)
 one_more k before done more taken name d h good next =
     let entry = entry_in (with_taken taken k) places.Entry name (At places.Member) d no_members (is_map MapPlace.entry)
-    (own_properties (with_taken taken k) places.Entry (member name d no_members) entry_own (good_object (with_taken taken k) places.Entry (member name d no_members) good)) in
+    (own_properties (with_taken taken k) places.Entry (member name d no_members) (is_own OwnPlace.entry) (good_object (with_taken taken k) places.Entry (member name d no_members) good)) in
     let tells = member_tells d next.type next.tells in
     let judged_well = both_read (plain_name_of name) _ tt (name_judged (with_taken taken k) name d entry.named) in
     let names = names_are name d next.type tells in

@@ -4,10 +4,10 @@ use Rattle.std.proofs.Common.{◌≡◌, ℕ, ◌&&◌, Bool, true, false, List,
 use Rattle.conf_draft.specs.Integers.{align_of}
 use Rattle.conf_laws.proofs.AllowedMaps.{integer_says, unsigned_says, config_name, AreAllowed, AreUnder, none_under, last_under, map_allowed, AreClocks, clocks_allowed, IsEnvironment, environment_allowed}
 use Rattle.conf_laws.proofs.Numbers.{number_told, natural_is_in}
-use Rattle.conf_laws.proofs.Properties.{AreGood, good_object, own_properties, property_at, all_in, names_of, entry_in, entry_object, IsGood, entry_rest, IsGoodAt, properties_at, object_in, content_within, Property, leads, ObjectPlace, is_object, is_own, MapPlace, is_map, type_object}
+use Rattle.conf_laws.proofs.Properties.{AreGood, good_object, own_properties, property_at, all_in, names_of, entry_in, entry_object, IsGood, entry_rest, IsGoodAt, properties_at, object_in, content_within, Property, leads, OwnPlace, is_object, is_own, MapPlace, is_map, type_object}
 use Rattle.conf_laws.proofs.Readings.{mapped_some, object_there, same_natural, was_so, then_some, by_found}
 use Rattle.conf_laws.proofs.Sound.{optional_there, Leads, content_sound}
-use Rattle.conf_laws.proofs.Words.{Place, At, entries_of, Level, class_of, Known, natural_in, shape_of, is_number, is_eight, is_byte, is_identifier, is_unsigned_integer, configuration_flaws, itself_of, behind, nothing, inside, members_or_none, leaf_of, level, whole_from, configuration_limits, key_of, key_by, optional, as_natural, Data, boolean, object, Members, get_member, no_members, Ascends, string, member, here, NoSuchAlias, as_object, and_parts, same_Some, append-nil, option_map_or, All-map, alignment_of, alignment, number_type, magic_type, byte_type, if_on, feature_of, feature, byte_of, identifier_of, identifier, size, mapped, timestamp, header_with, header, context_with, context, event_header_with, event_header, integer, size_of, default_align, natural, object_at, properties, said_behind, OnlyIf, IsPlainUnsigned, ContextFeatures, EventFeatures, HeaderFeatures, IntType, clock_types, environment, level_of, event_with, event_type, event_types, stream_with, clock_of, stream_type, stream_types, draft_with, draft_of_type, draft_of_trace, draft_of_root, draft_of, Draft, IsConfigStruct, IsStreamType, IsConfig, IsConfigName, IsPlainName, ClockType, Config, EnvironmentEntry, EventType, StreamType, StructType, KeepsStreamRules, KeepsRules}
+use Rattle.conf_laws.proofs.Words.{Place, At, entries_of, Level, class_of, Known, natural_in, shape_of, is_number, is_eight, is_byte, is_identifier, is_unsigned_integer, configuration_flaws, itself_of, behind, nothing, inside, members_or_none, leaf_of, level, whole_from, configuration_limits, key_of, key_by, optional, as_natural, Data, boolean, object, Members, get_member, no_members, Ascends, string, member, here, NoSuchAlias, as_object, and_parts, same_Some, append-nil, option_map_or, All-map, alignment_of, alignment, number_type, magic_type, byte_type, if_on, feature_of, feature, byte_of, identifier, size, mapped, timestamp, header_with, header, context_with, context, event_header_with, event_header, integer, size_of, default_align, natural, object_at, properties, said_behind, OnlyIf, IsPlainUnsigned, ContextFeatures, EventFeatures, HeaderFeatures, IntType, clock_types, environment, level_of, event_with, event_type, event_types, stream_with, clock_of, stream_type, stream_types, draft_with, draft_of_type, draft_of_trace, draft_of_root, draft_of, Draft, IsConfigStruct, IsStreamType, IsConfig, IsConfigName, IsPlainName, ClockType, Config, EnvironmentEntry, EventType, StreamType, StructType, KeepsStreamRules, KeepsRules}
 use Rattle.conf_laws.proofs.Words.places
 use Rattle.conf_laws.proofs.AllowedStructures.{structure_allowed, AreExtras, extras_allowed}
 
@@ -22,15 +22,16 @@ own_only P None t from e = absurd cc
 own_only P (Some y) t from e = λ x is. subst P (same_Some y x (same_Some (Some y) t e ∙ is)) (from y refl)
 
 -- of a value that was found
-feature_only : (P : IntType → Type 0) (b : Bool) (s : IntType) (o : Option Data) (t : Option IntType) → P s → ((ms : Members) (x : IntType) → o ≡ Some (object ms) → integer false ms ≡ Some x → P x) → feature_of b s o ≡ Some t → OnlyIf t P
-feature_only P b s (Some (boolean c)) t ps from e = on_or_off P c s t ps e
-feature_only P b s (Some (object ms)) t ps from e = own_only P (integer false ms) t (λ x is. from ms x refl is) e
-feature_only P b s _ t ps from e = on_or_off P b s t ps e
+feature_only : (P : IntType → Type 0) (of : Members → Option IntType) (b : Bool) (s : IntType) (o : Option Data) (t : Option IntType) → P s → ((ms : Members) (x : IntType) → o ≡ Some (object ms) → of ms ≡ Some x → P x)
+    → feature_of of b s o ≡ Some t → OnlyIf t P
+feature_only P of b s (Some (boolean c)) t ps from e = on_or_off P c s t ps e
+feature_only P of b s (Some (object ms)) t ps from e = own_only P (of ms) t (λ x is. from ms x refl is) e
+feature_only P of b s _ t ps from e = on_or_off P b s t ps e
 
 feature_says : (P : IntType → Type 0) (name : List ℕ) (b : Bool) (s : IntType) (ms : Members) (t : Option IntType) → P s → ((inner : Members) (x : IntType) → optional name ms ≡ Some (object inner) → integer false inner ≡ Some x → P x)
     → feature name b s ms ≡ Some t → OnlyIf t P
 unfolding feature
-feature_says P name b s ms t ps from e = feature_only P b s (optional name ms) t ps from e
+feature_says P name b s ms t ps from e = feature_only P (integer false) b s (optional name ms) t ps from e
 
 feature_allowed : (name : List ℕ) (b : Bool) (ms : Members) (t : Option IntType) → feature name b number_type ms ≡ Some t → OnlyIf t IsPlainUnsigned
 feature_allowed name b ms t e = feature_says IsPlainUnsigned name b number_type ms t (refl, refl) (λ inner x there is. unsigned_says inner x is) e
@@ -107,19 +108,11 @@ array_good ms t e is =
     let there = (optional_there (codes "element-field-type") ms (object element.0) (object_there _ element.0 element.1)).0 in
     byte_good element.0 t (subst (λ o. is_byte o ≡ true) there e) element.2
 
-byte_default : IsByte byte_type
-byte_default = ((refl, refl), refl, refl)
-
-identifier_only : (b : Bool) (o : Option Data) (t : Option IntType) → ((ms : Members) → o ≡ Some (object ms) → is_byte (get_member (codes "element-field-type") ms) ≡ true) → identifier_of b o ≡ Some t → OnlyIf t IsByte
-identifier_only b (Some (boolean c)) t from e = on_or_off IsByte c byte_type t byte_default e
-identifier_only b (Some (object ms)) t from e = own_only IsByte (byte_of ms) t (λ x is. array_good ms x (from ms refl) is) e
-identifier_only b _ t from e = on_or_off IsByte b byte_type t byte_default e
-
 identifier_allowed : (k : Known) (b : Bool) (ms : Members) (t : Option IntType) → AreGood k places.TraceFeatures ms → identifier (codes "uuid-field-type") b ms ≡ Some t → OnlyIf t IsByte
 unfolding identifier shape_of is_identifier
 identifier_allowed k b ms t h e =
-    identifier_only b (optional (codes "uuid-field-type") ms) t
-    (λ inner there. ((and_parts (is_number (natural_in (codes "length") inner) 16) (is_byte (get_member (codes "element-field-type") inner)) (was_so _ (good_object k places.IdentifierFeature inner (property_at k places.TraceFeatures (codes "uuid-field-type") (At places.IdentifierFeature) ms (object inner) (leads Property.uuid) h there)).sound.shape)).1)) e
+    feature_only IsByte byte_of b byte_type (optional (codes "uuid-field-type") ms) t ((refl, refl), refl, refl)
+    (λ inner x there is. array_good inner x (and_parts (is_number (natural_in (codes "length") inner) 16) (is_byte (get_member (codes "element-field-type") inner)) (was_so _ (good_object k places.IdentifierFeature inner (property_at k places.TraceFeatures (codes "uuid-field-type") (At places.IdentifierFeature) ms (object inner) (leads Property.uuid) h there)).sound.shape)).1 is) e
 
 -- ---- a packet's header
 
@@ -192,7 +185,7 @@ event_header_allowed clock ms f e =
 -- ---- maps of types that are read one behind another
 
 -- each entry of such a map, an object, is read as a type, which is put behind those that are done
-module _ {A : Type 0} {b : Bool} {place inner : Place} (named : A → List ℕ) (good : A → Type 0) (map : MapPlace b place (At inner)) (one : ObjectPlace inner) (of : Members → List ℕ → Members → Option A)
+module _ {A : Type 0} {b : Bool} {place inner : Place} (named : A → List ℕ) (good : A → Type 0) (map : MapPlace b place (At inner)) (one : OwnPlace true inner) (of : Members → List ℕ → Members → Option A)
     (keeps : (d : Data) (k : Known) → (behind place d k).levels ≡ k.levels)
     (allowed : (k : Known) (name : List ℕ) (d : Data) (ms : Members) (x : A) → key_of k place name d ≡ Ok tt → AreGood k inner ms → of k.levels name ms ≡ Some x → (named x ≡ name) × good x) where
   -- from here on, behind those that are done
@@ -270,9 +263,9 @@ AreGoodEvents es = AreAllowed event_name IsGoodEvent 1024 es
 pub events_allowed : (k : Known) (place : Place) (ms : Members) (es : List EventType) → Leads place (codes "event-record-types") (At places.EventTypes) → AreGood k place ms → event_types k.levels ms ≡ Some es → AreGoodEvents es
 unfolding event_types key_of key_by entries_of behind
 events_allowed k place ms es leads h e =
-    let all = all_in k place (codes "event-record-types") places.EventTypes ms leads (is_own ObjectPlace.event_types) h in
+    let all = all_in k place (codes "event-record-types") places.EventTypes ms leads (is_own OwnPlace.event_types) h in
     map_allowed event_name IsGoodEvent 1024 _ es all.0.in_order all.1
-    (types_from event_name IsGoodEvent MapPlace.event_types ObjectPlace.event_type event_type (λ d j. refl) (λ j name d ns y judged own is. event_allowed j name ns y (config_name name judged) own is) k k refl _ [] es [] all.0 (none_under event_name IsGoodEvent) e)
+    (types_from event_name IsGoodEvent MapPlace.event_types OwnPlace.event_type event_type (λ d j. refl) (λ j name d ns y judged own is. event_allowed j name ns y (config_name name judged) own is) k k refl _ [] es [] all.0 (none_under event_name IsGoodEvent) e)
 
 -- ---- one data stream type
 
@@ -322,10 +315,10 @@ AreGoodStreams ss = AreAllowed stream_name IsGoodStream 64 ss
 pub streams_allowed : (k : Known) (place : Place) (ms : Members) (ss : List StreamType) → Leads place (codes "data-stream-types") (At places.StreamTypes) → AreGood k place ms → k.levels ≡ properties (codes "$log-level-aliases") ms → stream_types ms ≡ Some ss → AreGoodStreams ss
 unfolding stream_types key_of key_by entries_of behind
 streams_allowed k place ms ss leads h levels e =
-    let all = all_in k place (codes "data-stream-types") places.StreamTypes ms leads (is_own ObjectPlace.stream_types) h in
+    let all = all_in k place (codes "data-stream-types") places.StreamTypes ms leads (is_own OwnPlace.stream_types) h in
     let said : said_behind (stream_type k.levels) [] (properties (codes "data-stream-types") ms) ≡ Some ss = subst (λ l. said_behind (stream_type l) [] (properties (codes "data-stream-types") ms) ≡ Some ss) (sym levels) e in
     map_allowed stream_name IsGoodStream 64 _ ss all.0.in_order all.1
-    (types_from stream_name IsGoodStream MapPlace.stream_types ObjectPlace.stream_type stream_type (λ d j. refl) (λ j name d ns y judged own is. stream_allowed j name ns y (config_name name judged) own is) k k refl _ [] ss [] all.0 (none_under stream_name IsGoodStream) said)
+    (types_from stream_name IsGoodStream MapPlace.stream_types OwnPlace.stream_type stream_type (λ d j. refl) (λ j name d ns y judged own is. stream_allowed j name ns y (config_name name judged) own is) k k refl _ [] ss [] all.0 (none_under stream_name IsGoodStream) said)
 
 -- ---- the parts by themselves
 
@@ -351,7 +344,7 @@ type_allowed k given entries ms draft env h e =
     let j = inside places.TraceType ms k in
     let good = properties_at k places.TraceType places.TraceType ms (type_object.own ms) h in
     let says = draft_says given entries ms _ _ draft e in
-    let features = all_in j places.TraceType (codes "$features") places.TraceFeatures ms (leads Property.trace_features) (is_own ObjectPlace.trace_features) good in
+    let features = all_in j places.TraceType (codes "$features") places.TraceFeatures ms (leads Property.trace_features) (is_own OwnPlace.trace_features) good in
     record {
       environment = subst IsEnvironment (sym says.2) env;
       clocks = subst AreClocks (sym says.3) (clocks_allowed j places.TraceType ms (leads Property.clock_types) good);
@@ -364,14 +357,14 @@ type_allowed k given entries ms draft env h e =
 trace_allowed : (k : Known) (given : Option (List ℕ)) (ms : Members) (draft : Draft) → IsGood k places.Trace ms → draft_of_trace given ms ≡ Some draft → IsGoodConfig draft.config
 unfolding draft_of_trace
 trace_allowed k given ms draft h e =
-    let good = own_properties k places.Trace ms (is_own ObjectPlace.trace) h in
+    let good = own_properties k places.Trace ms (is_own OwnPlace.trace) h in
     let read = then_some (draft_of_type given (environment ms)) (object_at (codes "type") ms) draft e in
     type_allowed k given (environment ms) read.0 draft (environment_allowed k places.Trace ms (leads Property.environment) good) (object_in k places.Trace (codes "type") places.TraceType ms read.0 (leads Property.trace_type) good read.1) read.2
 
 root_allowed : (k : Known) (given : Option (List ℕ)) (ms : Members) (draft : Draft) → IsGood k places.Root ms → draft_of_root given ms ≡ Some draft → IsGoodConfig draft.config
 unfolding draft_of_root
 root_allowed k given ms draft h e =
-    let good = own_properties k places.Root ms (is_own ObjectPlace.root) h in
+    let good = own_properties k places.Root ms (is_own OwnPlace.root) h in
     let read = then_some (draft_of_trace given) (object_at (codes "trace") ms) draft e in
     trace_allowed k given read.0 draft (object_in k places.Root (codes "trace") places.Trace ms read.0 (leads Property.trace) good read.1) read.2
 

@@ -273,44 +273,38 @@ needed_by p = needed_only _ (presence_of p)
 
 -- ---- objects
 
--- a place of objects of any kind, whose rows are its own
-pub data ObjectPlace : Place → Type 0 where
-  root : ObjectPlace places.Root
-  trace : ObjectPlace places.Trace
-  trace_features : ObjectPlace places.TraceFeatures
-  clock_types : ObjectPlace places.ClockTypes
-  clock_type : ObjectPlace places.ClockType
-  environment : ObjectPlace places.Environment
-  stream_types : ObjectPlace places.StreamTypes
-  stream_type : ObjectPlace places.StreamType
-  stream_features : ObjectPlace places.StreamFeatures
-  packet_features : ObjectPlace places.PacketFeatures
-  record_features : ObjectPlace places.EventRecordFeatures
-  event_types : ObjectPlace places.EventTypes
-  event_type : ObjectPlace places.EventType
-  named_member : ObjectPlace places.Member
+-- a place whose rows are its own, and whether objects of any kind stand there
+pub data OwnPlace : Bool → Place → Type 0 where
+  root : OwnPlace true places.Root
+  trace : OwnPlace true places.Trace
+  trace_features : OwnPlace true places.TraceFeatures
+  clock_types : OwnPlace true places.ClockTypes
+  clock_type : OwnPlace true places.ClockType
+  environment : OwnPlace true places.Environment
+  stream_types : OwnPlace true places.StreamTypes
+  stream_type : OwnPlace true places.StreamType
+  stream_features : OwnPlace true places.StreamFeatures
+  packet_features : OwnPlace true places.PacketFeatures
+  record_features : OwnPlace true places.EventRecordFeatures
+  event_types : OwnPlace true places.EventTypes
+  event_type : OwnPlace true places.EventType
+  named_member : OwnPlace true places.Member
+  mappings : OwnPlace false places.Mappings
+  entry : OwnPlace false places.Entry
 
-pub is_object : {place : Place} → ObjectPlace place → IsObject place
+pub is_object : {place : Place} → OwnPlace true place → IsObject place
 unfolding itself_of form_of place_of_properties is_position own_place
-is_object ObjectPlace.root = record { form = λ k d. refl; own = λ ms. refl }
+is_object OwnPlace.root = record { form = λ k d. refl; own = λ ms. refl }
 is_object _ = record { form = λ k d. refl; own = λ ms. refl }
 
-pub is_own : {place : Place} → ObjectPlace place → IsOwn place
+pub is_own : {b : Bool} {place : Place} → OwnPlace b place → IsOwn place
 unfolding place_of_properties is_position own_place inside
-is_own ObjectPlace.root = record { own = λ ms. refl; known = λ k ms. refl }
+is_own OwnPlace.root = record { own = λ ms. refl; known = λ k ms. refl }
 is_own _ = record { own = λ ms. refl; known = λ k ms. refl }
 
 pub type_object : IsObject places.TraceType
 unfolding itself_of form_of place_of_properties is_position own_place
 type_object = record { form = λ k d. refl; own = λ ms. refl }
-
-pub mappings_own : IsOwn places.Mappings
-unfolding place_of_properties is_position own_place inside
-mappings_own = record { own = λ ms. refl; known = λ k ms. refl }
-
-pub entry_own : IsOwn places.Entry
-unfolding place_of_properties is_position own_place inside
-entry_own = record { own = λ ms. refl; known = λ k ms. refl }
 
 -- ---- maps
 

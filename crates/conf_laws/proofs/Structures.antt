@@ -245,21 +245,6 @@ entry_shape (object (member name x no_members)) e = (name, x, refl)
 entry_shape (object (member name x (member other y ms))) e = absurd (let one = eqb-true (suc (suc (members_len ms))) 1 (is_passed (nat_eq (suc (suc (members_len ms))) 1) tt tt (here WrongKind) e).0 in omega (arith, one))
 entry_shape _ e = absurd cc
 
--- one property, whose value tells of a member
-record EntrySound (k : Known) (d : Data) : Type 0 where
-  pub name : List ℕ
-  pub told : Data
-  pub is : d ≡ object (member name told no_members)
-  pub sound : PropertySound k places.Entry name (At places.Member) told
-
-entry_sound : (k : Known) (d : Data) → ContentSound k (At places.Entry) d → EntrySound k d
-unfolding itself_of form_of place_of_properties is_position own_place inside
-entry_sound k d h =
-    let s = entry_shape d h.itself in
-    let o = object_sound k places.Entry (member s.0 s.1 no_members) (subst (λ x. inner_flaws k (At places.Entry) x ≡ []) s.2 h.inner) in
-    let r = rows_sound k places.Entry places.Entry (member s.0 s.1 no_members) refl o in
-    record { name = s.0; told = s.1; is = s.2; sound = (first_entry k places.Entry s.0 (At places.Member) s.1 no_members (is_map MapPlace.entry) r.flaws).0 }
-
 -- what is judged of its name
 pub name_judged : (k : Known) (name : List ℕ) (d : Data) → key_of k places.Entry name d ≡ Ok tt → (plain_name_of name >>= (λ ok. free_of k.taken name d)) ≡ Ok tt
 unfolding key_of key_by entries_of
@@ -298,12 +283,17 @@ one_more k place ds taken i done name told h s f rest =
     rw more.1 (rest _ (suc i) (done ++ (name, more.0) ∷ []) (more_taken done taken name (is_dynamic told) more.0 h) f)
 
 items_said : (ds : Items) (k : Known) (place : Place) → item_content place ≡ At places.Entry → RestSaid k place ds
+unfolding itself_of form_of place_of_properties is_position own_place inside
 items_said no_items k place entries taken i done h f = refl
 items_said (item d ds) k place entries taken i done h f =
     let first = first_item k place taken i d ds f in
-    let e = entry_sound (with_taken taken k) d (subst (λ c. ContentSound (with_taken taken k) c d) entries (content_sound (with_taken taken k) (item_content place) d first.0)) in
-    subst (λ x. IsSome (members_behind done (item x ds))) (sym e.is)
-    (one_more k place ds taken i done e.name e.told h e.sound (subst (λ x. item_flaws k place (with_names x taken) (suc i) ds ≡ []) e.is first.1) (items_said ds k place entries))
+    let j = with_taken taken k in
+    let entry = subst (λ c. ContentSound j c d) entries (content_sound j (item_content place) d first.0) in
+    let s = entry_shape d entry.itself in
+    let rows = rows_sound j places.Entry places.Entry _ refl (object_sound j places.Entry (member s.0 s.1 no_members) (subst (λ x. inner_flaws j (At places.Entry) x ≡ []) s.2 entry.inner)) in
+    let sound = (first_entry j places.Entry s.0 (At places.Member) s.1 no_members (is_map MapPlace.entry) rows.flaws).0 in
+    subst (λ x. IsSome (members_behind done (item x ds))) (sym s.2)
+    (one_more k place ds taken i done s.0 s.1 h sound (subst (λ x. item_flaws k place (with_names x taken) (suc i) ds ≡ []) s.2 first.1) (items_said ds k place entries))
 
 -- ---- what a structure is made of
 

@@ -5,8 +5,8 @@ use Rattle.conf_table.specs.Classes as classes
 use Rattle.conf_laws.proofs.Structures.{integer_said, structure_there, extras_there}
 use Rattle.conf_laws.proofs.Readings.{some_there, was_so, optional_found, mapped_there, by_found, then_there}
 use Rattle.conf_laws.proofs.Sound.{TypeSound, type_sound, unsigned_told, Leads, RowsSound, needed_sound, optional_sound, ObjectSound, ContentSound, object_sound, by_object, held_at, first_entry, needed_object, content_sound}
-use Rattle.conf_laws.proofs.Properties.{Property, leads, needed_by, ObjectPlace, is_object, MapPlace, is_map, type_object}
-use Rattle.conf_laws.proofs.Words.{admits_class, rows_of, Place, At, class_of, is_null, all_there, orders_there, Known, inside, natural_in, is_position, shape_of, is_identifier, is_byte, is_unsigned_integer, is_number, is_eight, member_flaws, configuration_flaws, behind, nothing, optional, Data, null, boolean, object, Members, no_members, get_member, member, as_object, false≢true, and_parts, same_Some, number_type, byte_type, if_on, feature_of, feature, byte_of, identifier_of, identifier, size, mapped, timestamp, magic_type, header, context, event_header, integer, IntType, environment, event_type, event_types, object_at as object_in, properties, said_behind, word, clock_of, stream_type, stream_types, draft_of_type, draft_of_trace, draft_of_root, draft_of, EnvironmentEntry}
+use Rattle.conf_laws.proofs.Properties.{Property, leads, needed_by, OwnPlace, is_object, MapPlace, is_map, type_object}
+use Rattle.conf_laws.proofs.Words.{admits_class, rows_of, Place, At, class_of, is_null, all_there, orders_there, Known, inside, natural_in, is_position, shape_of, is_identifier, is_byte, is_unsigned_integer, is_number, is_eight, member_flaws, configuration_flaws, behind, nothing, optional, Data, null, boolean, object, Members, no_members, get_member, member, as_object, false≢true, and_parts, same_Some, number_type, byte_type, if_on, feature_of, feature, byte_of, identifier, size, mapped, timestamp, magic_type, header, context, event_header, integer, IntType, environment, event_type, event_types, object_at as object_in, properties, said_behind, word, clock_of, stream_type, stream_types, draft_of_type, draft_of_trace, draft_of_root, draft_of, EnvironmentEntry}
 use Rattle.conf_laws.proofs.Words.places
 
 on_there : (b : Bool) (t : IntType) → IsSome (if_on b t)
@@ -39,10 +39,10 @@ magic_feature = record { position = refl; class = only_unsigned }
 unsigned_said : (k : Known) (place : Place) (ms : Members) (t : TypeSound k place ms) → t.class ≡ places.UnsignedInteger → IsSome (integer false ms)
 unsigned_said k place ms t is = integer_said (inside t.class ms k) places.UnsignedInteger false ms Property.unsigned_size (subst (λ p. RowsSound (inside t.class ms k) p ms) is t.rows)
 
-value_said : (k : Known) (place : Place) (by_default : Bool) (t : IntType) (d : Data) → IsFeature place → ContentSound k (At place) d → IsSome (feature_of by_default t (Some d))
-value_said k place by_default t (object ms) f h = let t = type_sound k place ms f.position (object_sound k place ms h.inner) in mapped_there (λ own. Some own) (integer false ms) (unsigned_said k place ms t (f.class t.class t.may_stand))
-value_said k place by_default t (boolean b) f h = on_there b t
-value_said k place by_default t _ f h = on_there by_default t
+value_said : (of : Members → Option IntType) (by_default : Bool) (t : IntType) (o : Option Data) → ((ms : Members) → o ≡ Some (object ms) → IsSome (of ms)) → IsSome (feature_of of by_default t o)
+value_said of by_default t (Some (object ms)) own = mapped_there (λ x. Some x) (of ms) (own ms refl)
+value_said of by_default t (Some (boolean b)) own = on_there b t
+value_said of by_default t _ own = on_there by_default t
 
 -- ---- a feature of an object
 
@@ -50,7 +50,8 @@ module _ (k : Known) (around : Place) (ms : Members) (h : RowsSound k around ms)
   pub feature_there : (place : Place) (name : List ℕ) (by_default : Bool) (t : IntType) → IsFeature place → Leads around name (At place) → IsSome (feature name by_default t ms)
   unfolding feature
   feature_there place name by_default t f leads =
-      by_found (λ (o : Option Data). IsSome (feature_of by_default t o)) (optional name ms) (λ e. on_there by_default t) (λ d e. value_said k place by_default t d f (optional_sound k around name (At place) ms d leads h.flaws e).value)
+      value_said (integer false) by_default t (optional name ms)
+      (λ own e. let t = type_sound k place own f.position (object_sound k place own (optional_sound k around name (At place) ms (object own) leads h.flaws e).value.inner) in unsigned_said k place own t (f.class t.class t.may_stand))
 
   pub size_there : (name : List ℕ) → Leads around name (At places.SizeFeature) → IsSome (size name ms)
   unfolding size
@@ -89,16 +90,11 @@ bytes_said k ms h =
     let byte : is_byte (Some p.value) ≡ true = ap is_byte (sym p.found) ∙ shaped in
     subst (λ o. IsSome (option_and_then (integer false) (option_and_then as_object o))) (sym (optional_found (codes "element-field-type") ms p.value p.found (is_no_null p.value byte))) (byte_said (inside t.class ms k) p.value p.sound.value byte)
 
-identifier_said : (k : Known) (by_default : Bool) (d : Data) → ContentSound k (At places.IdentifierFeature) d → IsSome (identifier_of by_default (Some d))
-identifier_said k by_default (object ms) h = mapped_there (λ own. Some own) (byte_of ms) (bytes_said k ms (object_sound k places.IdentifierFeature ms h.inner))
-identifier_said k by_default (boolean b) h = on_there b byte_type
-identifier_said k by_default _ h = on_there by_default byte_type
-
 pub identifier_there : (k : Known) (around : Place) (ms : Members) (h : RowsSound k around ms) (name : List ℕ) (by_default : Bool) → Leads around name (At places.IdentifierFeature) → IsSome (identifier name by_default ms)
 unfolding identifier
 identifier_there k around ms h name by_default leads =
-    by_found (λ (o : Option Data). IsSome (identifier_of by_default o)) (optional name ms)
-    (λ e. on_there by_default byte_type) (λ d e. identifier_said k by_default d (optional_sound k around name (At places.IdentifierFeature) ms d leads h.flaws e).value)
+    value_said byte_of by_default byte_type (optional name ms)
+    (λ own e. bytes_said k own (object_sound k places.IdentifierFeature own (optional_sound k around name (At places.IdentifierFeature) ms (object own) leads h.flaws e).value.inner))
 
 header_said : (k : Known) (has_uuid : Bool) (ms : Members) → RowsSound k places.TraceFeatures ms → IsSome (header has_uuid ms)
 unfolding header
@@ -111,7 +107,7 @@ header_said k has_uuid ms h =
 pub header_there : (k : Known) (around : Place) (has_uuid : Bool) (ms : Members) → Leads around (codes "$features") (At places.TraceFeatures) → RowsSound k around ms → IsSome (header has_uuid (properties (codes "$features") ms))
 unfolding all_there orders_there rows_of
 header_there k around has_uuid ms leads h =
-    by_object k around places.TraceFeatures (codes "$features") ms leads (is_object ObjectPlace.trace_features) h (λ os. IsSome (header has_uuid os)) refl (λ j os rows. header_said j has_uuid os rows)
+    by_object k around places.TraceFeatures (codes "$features") ms leads (is_object OwnPlace.trace_features) h (λ os. IsSome (header has_uuid os)) refl (λ j os rows. header_said j has_uuid os rows)
 
 context_said : (k : Known) (clock : Option (List ℕ)) (ms : Members) → RowsSound k places.PacketFeatures ms → IsSome (context clock ms)
 unfolding context
@@ -127,7 +123,7 @@ context_said k clock ms h =
 pub context_there : (k : Known) (clock : Option (List ℕ)) (ms : Members) → RowsSound k places.StreamFeatures ms → IsSome (context clock (properties (codes "packet") ms))
 unfolding all_there orders_there rows_of
 context_there k clock ms h =
-    by_object k places.StreamFeatures places.PacketFeatures (codes "packet") ms (leads Property.packet) (is_object ObjectPlace.packet_features) h (λ os. IsSome (context clock os)) refl (λ j os rows. context_said j clock os rows)
+    by_object k places.StreamFeatures places.PacketFeatures (codes "packet") ms (leads Property.packet) (is_object OwnPlace.packet_features) h (λ os. IsSome (context clock os)) refl (λ j os rows. context_said j clock os rows)
 
 event_header_said : (k : Known) (clock : Option (List ℕ)) (ms : Members) → RowsSound k places.EventRecordFeatures ms → IsSome (event_header clock ms)
 unfolding event_header
@@ -139,12 +135,12 @@ event_header_said k clock ms h =
 pub event_header_there : (k : Known) (clock : Option (List ℕ)) (ms : Members) → RowsSound k places.StreamFeatures ms → IsSome (event_header clock (properties (codes "event-record") ms))
 unfolding all_there orders_there rows_of
 event_header_there k clock ms h =
-    by_object k places.StreamFeatures places.EventRecordFeatures (codes "event-record") ms (leads Property.event_record) (is_object ObjectPlace.record_features) h (λ os. IsSome (event_header clock os)) refl (λ j os rows. event_header_said j clock os rows)
+    by_object k places.StreamFeatures places.EventRecordFeatures (codes "event-record") ms (leads Property.event_record) (is_object OwnPlace.record_features) h (λ os. IsSome (event_header clock os)) refl (λ j os rows. event_header_said j clock os rows)
 
 -- ---- maps of types that are read one behind another
 
 -- where each object of such a map says something, all of it does
-module _ {A : Type 0} {b : Bool} {place inner : Place} (map : MapPlace b place (At inner)) (one : ObjectPlace inner) (of : List ℕ → Members → Option A)
+module _ {A : Type 0} {b : Bool} {place inner : Place} (map : MapPlace b place (At inner)) (one : OwnPlace true inner) (of : List ℕ → Members → Option A)
     (said : (k : Known) (name : List ℕ) (ms : Members) → RowsSound (inside inner ms k) inner ms → IsSome (of name ms)) where
   types_said : (ms : Members) (k : Known) (done : List A) → member_flaws k place ms ≡ [] → IsSome (said_behind of done ms)
   types_said no_members k done f = refl
@@ -164,8 +160,8 @@ event_said k levels name ms h =
 pub events_there : (k : Known) (around : Place) (levels ms : Members) → Leads around (codes "event-record-types") (At places.EventTypes) → RowsSound k around ms → IsSome (event_types levels ms)
 unfolding event_types all_there orders_there rows_of
 events_there k around levels ms leads h =
-    by_object k around places.EventTypes (codes "event-record-types") ms leads (is_object ObjectPlace.event_types) h (λ os. IsSome (said_behind (event_type levels) [] os)) refl
-    (λ i os rows. types_said MapPlace.event_types ObjectPlace.event_type (event_type levels) (λ j name ns own. event_said (inside places.EventType ns j) levels name ns own) os i [] rows.flaws)
+    by_object k around places.EventTypes (codes "event-record-types") ms leads (is_object OwnPlace.event_types) h (λ os. IsSome (said_behind (event_type levels) [] os)) refl
+    (λ i os rows. types_said MapPlace.event_types OwnPlace.event_type (event_type levels) (λ j name ns own. event_said (inside places.EventType ns j) levels name ns own) os i [] rows.flaws)
 
 -- ---- one data stream type
 
@@ -173,12 +169,12 @@ module _ (k : Known) (ms : Members) (h : RowsSound k places.StreamType ms) where
   stream_context_said : (clock : Option (List ℕ)) → IsSome (context clock (properties (codes "packet") (properties (codes "$features") ms)))
   unfolding all_there orders_there rows_of
   stream_context_said clock =
-      by_object k places.StreamType places.StreamFeatures (codes "$features") ms (leads Property.stream_features) (is_object ObjectPlace.stream_features) h (λ os. IsSome (context clock (properties (codes "packet") os))) refl (λ j os rows. context_there j clock os rows)
+      by_object k places.StreamType places.StreamFeatures (codes "$features") ms (leads Property.stream_features) (is_object OwnPlace.stream_features) h (λ os. IsSome (context clock (properties (codes "packet") os))) refl (λ j os rows. context_there j clock os rows)
 
   stream_event_header_said : (clock : Option (List ℕ)) → IsSome (event_header clock (properties (codes "event-record") (properties (codes "$features") ms)))
   unfolding all_there orders_there rows_of
   stream_event_header_said clock =
-      by_object k places.StreamType places.StreamFeatures (codes "$features") ms (leads Property.stream_features) (is_object ObjectPlace.stream_features) h (λ os. IsSome (event_header clock (properties (codes "event-record") os))) refl (λ j os rows. event_header_there j clock os rows)
+      by_object k places.StreamType places.StreamFeatures (codes "$features") ms (leads Property.stream_features) (is_object OwnPlace.stream_features) h (λ os. IsSome (event_header clock (properties (codes "event-record") os))) refl (λ j os rows. event_header_there j clock os rows)
 
   stream_said : (levels : Members) (name : List ℕ) → IsSome (stream_type levels name ms)
   unfolding stream_type
@@ -194,8 +190,8 @@ pub streams_there : (k : Known) (around : Place) (ms : Members) → Leads around
 unfolding stream_types all_there orders_there rows_of
 streams_there k around ms leads h =
     let levels = properties (codes "$log-level-aliases") ms in
-    by_object k around places.StreamTypes (codes "data-stream-types") ms leads (is_object ObjectPlace.stream_types) h (λ os. IsSome (said_behind (stream_type levels) [] os)) refl
-    (λ i os rows. types_said MapPlace.stream_types ObjectPlace.stream_type (stream_type levels) (λ j name ns own. stream_said (inside places.StreamType ns j) ns own levels name) os i [] rows.flaws)
+    by_object k around places.StreamTypes (codes "data-stream-types") ms leads (is_object OwnPlace.stream_types) h (λ os. IsSome (said_behind (stream_type levels) [] os)) refl
+    (λ i os rows. types_said MapPlace.stream_types OwnPlace.stream_type (stream_type levels) (λ j name ns own. stream_said (inside places.StreamType ns j) ns own levels name) os i [] rows.flaws)
 
 type_said : (k : Known) (number : Option (List ℕ)) (entries : List EnvironmentEntry) (ms : Members) → RowsSound k places.TraceType ms → IsSome (draft_of_type number entries ms)
 unfolding draft_of_type
@@ -215,9 +211,9 @@ trace_said k number ms h =
 root_said : (k : Known) (number : Option (List ℕ)) (ms : Members) → RowsSound k places.Root ms → IsSome (draft_of_root number ms)
 unfolding draft_of_root
 root_said k number ms h =
-    let t = needed_object k places.Root places.Trace (codes "trace") ms (leads Property.trace) (is_object ObjectPlace.trace) h (needed_by Property.trace) in
+    let t = needed_object k places.Root places.Trace (codes "trace") ms (leads Property.trace) (is_object OwnPlace.trace) h (needed_by Property.trace) in
     subst (λ o. IsSome (option_and_then (draft_of_trace number) o)) (sym t.1) (trace_said (inside places.Trace t.0 k) number t.0 t.2)
 
 pub tree_said : (number : Option (List ℕ)) (d : Data) → configuration_flaws d ≡ [] → IsSome (draft_of number d)
 tree_said number d f =
-    let h = held_at nothing places.Root d (is_object ObjectPlace.root) (content_sound nothing (At places.Root) d f) in subst (λ x. IsSome (draft_of number x)) (sym h.is) (root_said (inside places.Root h.ms nothing) number h.ms h.rows)
+    let h = held_at nothing places.Root d (is_object OwnPlace.root) (content_sound nothing (At places.Root) d f) in subst (λ x. IsSome (draft_of number x)) (sym h.is) (root_said (inside places.Root h.ms nothing) number h.ms h.rows)

@@ -25,12 +25,12 @@ not_passed true flaw e = absurd cc
 not_passed false flaw e = (refl, cc)
 
 -- a text of which a test does not hold
-text_told : {P : Type 0} (test : List ℕ → Bool) (d : Data) (flaw : Flaw) → (text_of d >>= (λ s. only_if (test s))) ≡ Err flaw
-    → (as_str d ≡ None → flaw ≡ here WrongKind → P) → ((s : List ℕ) → as_str d ≡ Some s → test s ≡ false → flaw ≡ here OutOfRange → P) → P
-text_told test d flaw e none fails =
+text_told : (Q : Flaw → Type 0) (test : List ℕ → Bool) (d : Data) (flaw : Flaw) → (text_of d >>= (λ s. only_if (test s))) ≡ Err flaw
+    → (as_str d ≡ None → Q (here WrongKind)) → ((s : List ℕ) → as_str d ≡ Some s → test s ≡ false → Q (here OutOfRange)) → Q flaw
+text_told Q test d flaw e none fails =
     either_step (text_of d) (λ s. only_if (test s)) flaw e
-    (λ r. let told = wanted_refused (as_str d) flaw r in none told.0 told.1)
-    (λ s went r. let told = not_passed (test s) flaw r in fails s (wanted_found (as_str d) s went) told.0 told.1)
+    (λ r. let told = wanted_refused (as_str d) flaw r in holds_of Q (here WrongKind) flaw told.1 (none told.0))
+    (λ s went r. let told = not_passed (test s) flaw r in holds_of Q (here OutOfRange) flaw told.1 (fails s (wanted_found (as_str d) s went) told.0))
 
 -- ---- numbers
 
@@ -73,39 +73,27 @@ default_told k around h d flaw e =
     let both = both_true b k.has_default told.0 in
     holds_of (IsNoDefault around d) (here OutOfRange) flaw told.1 (IsNoDefault.a_second (wanted_found (as_bool d) b went ∙ ap Some both.0) (h.second.0 both.1)))
 
-control_told : (d : Data) (s : List ℕ) (flaw : Flaw) → as_str d ≡ Some s → is_printable s ≡ false → flaw ≡ here OutOfRange → IsNoConfigText d flaw
-control_told d s flaw is fails same = let control = control_there s fails in holds_of (IsNoConfigText d) (here OutOfRange) flaw same (IsNoConfigText.has_control s control.0 is control.1 control.2)
+control_told : (d : Data) (s : List ℕ) → as_str d ≡ Some s → is_printable s ≡ false → IsNoConfigText d (here OutOfRange)
+control_told d s is fails = let control = control_there s fails in IsNoConfigText.has_control s control.0 is control.1 control.2
 
 pub none_there : {A : Type 0} (o : Option A) → is_some o ≡ false → o ≡ None
 none_there None e = refl
 none_there (Some x) e = absurd cc
 
-uuid_told : (d : Data) (s : List ℕ) (flaw : Flaw) → as_str d ≡ Some s → is_some (uuid_in s) ≡ false → flaw ≡ here OutOfRange → IsNoUuid d flaw
-unfolding uuid_in
-uuid_told d s flaw is fails same = holds_of (IsNoUuid d) (here OutOfRange) flaw same (IsNoUuid.no_uuid s is (none_there (parsed s) fails))
-
-no_uuid_text : (d : Data) (flaw : Flaw) → as_str d ≡ None → flaw ≡ here WrongKind → IsNoUuid d flaw
-no_uuid_text d flaw none same = holds_of (IsNoUuid d) (here WrongKind) flaw same (IsNoUuid.no_text none)
-
 choice_told : (d : Data) (flaw : Flaw) → (text_of d >>= (λ s. only_if (bytes_eq s (codes "auto") || is_some (uuid_in s)))) ≡ Err flaw → (as_str d ≢ Some (codes "auto")) × IsNoUuid d flaw
+unfolding uuid_in
 choice_told d flaw e =
-    text_told (λ s. bytes_eq s (codes "auto") || is_some (uuid_in s)) d flaw e
-    (λ none same. (λ is. some_none (as_str d) (codes "auto") is none, no_uuid_text d flaw none same))
-    (λ s is fails same.
+    text_told (λ f. (as_str d ≢ Some (codes "auto")) × IsNoUuid d f) (λ s. bytes_eq s (codes "auto") || is_some (uuid_in s)) d flaw e
+    (λ none. (λ is. some_none (as_str d) (codes "auto") is none, IsNoUuid.no_text none))
+    (λ s is fails.
     let parts = or_parts (bytes_eq s (codes "auto")) (is_some (uuid_in s)) fails in
-    (λ auto. false≢true (sym parts.0 ∙ (bytes_eq-Decides s (codes "auto")).1 (some_same (as_str d) s (codes "auto") is auto)), uuid_told d s flaw is parts.1 same))
+    (λ auto. false≢true (sym parts.0 ∙ (bytes_eq-Decides s (codes "auto")).1 (some_same (as_str d) s (codes "auto") is auto)), IsNoUuid.no_uuid s is (none_there (parsed s) parts.1)))
 
 -- ---- words
 
 -- a word of the list is one that the list has by its bytes
 pub has_by_bytes : (words : List (List ℕ)) (w : List ℕ) → Contains words w → list_any (bytes_eq w) words ≡ true
 has_by_bytes words w (k, among, is) = list_any_at (bytes_eq w) words k w among ((bytes_eq-Decides w (get_or words k w)).1 (sym is))
-
-no_word_text : (words : List (List ℕ)) (d : Data) (flaw : Flaw) → as_str d ≡ None → flaw ≡ here WrongKind → IsNoWordOf words d flaw
-no_word_text words d flaw none same = holds_of (IsNoWordOf words d) (here WrongKind) flaw same (IsNoWordOf.no_text none)
-
-another_word_told : (words : List (List ℕ)) (d : Data) (s : List ℕ) (flaw : Flaw) → as_str d ≡ Some s → ¬ Contains words s → flaw ≡ here OutOfRange → IsNoWordOf words d flaw
-another_word_told words d s flaw is other same = holds_of (IsNoWordOf words d) (here OutOfRange) flaw same (IsNoWordOf.another_word s is other)
 
 pub no_class_word : (cs : List ClassWord) (w : List ℕ) → is_some (class_in w cs) ≡ false → ¬ Contains (map (λ x. x.word) cs) w
 no_class_word [] w e (k, among, is) = omega (arith, among)
@@ -198,13 +186,9 @@ module _ (around : Around) where
   sized {P = P} test all sized_so =
       by_found (λ (o : Option (Bool × Members)). test (unwrap_or (option_map (λ (e : Bool × Members). numbers_in e.0 e.1) o) all_numbers) ≡ false → P) (enumeration_around around) (λ is e. absurd (true≢false (sym all ∙ e))) (λ found is.
       by_found (λ (o : Option ℕ). test (option_map_or (numbers_of found.0) o all_numbers) ≡ false → P) (natural_in (codes "size") found.1) (λ none e. absurd (true≢false (sym all ∙ e)))
-      (λ n has. by_size found.0 found.1 n is (number_there (codes "size") found.1 n has) (nat_eq n 0) (nat_lt 64 n) refl refl))
-    where
-      by_size : (signed : Bool) (ms : Members) (n : ℕ) → enumeration_around around ≡ Some (signed, ms) → HasNumber (codes "size") ms n → (a b : Bool) → nat_eq n 0 ≡ a → nat_lt 64 n ≡ b
-          → test (cond (a || b) all_numbers (record { low = lowest signed n; high = highest signed n })) ≡ false → P
-      by_size signed ms n is has true b p q e = absurd (true≢false (sym all ∙ e))
-      by_size signed ms n is has false true p q e = absurd (true≢false (sym all ∙ e))
-      by_size signed ms n is has false false p q e = sized_so signed n (ms, is, has, (let other = eqb-false n 0 p in omega (arith, other)), (let most = ltb-false 64 n q in omega (arith, most))) e
+      (λ n has. by_test (λ (b : Bool). test (cond b all_numbers (record { low = lowest found.0 n; high = highest found.0 n })) ≡ false → P) (nat_eq n 0 || nat_lt 64 n) (λ is_none e. absurd (true≢false (sym all ∙ e))) (λ is_one e.
+      let p = or_parts (nat_eq n 0) (nat_lt 64 n) is_one in
+      sized_so found.0 n (found.1, is, number_there (codes "size") found.1 n has, (let other = eqb-false n 0 p.0 in omega (arith, other)), (let most = ltb-false 64 n p.1 in omega (arith, most))) e)))
 
   range_told : (numbers : _) → numbers ≡ unwrap_or (option_map (λ (e : Bool × Members). numbers_in e.0 e.1) (enumeration_around around)) all_numbers → (d : Data) (flaw : Flaw) → inside_of numbers d ≡ Err flaw → IsNoRange around d flaw
   unfolding inside_of is_inside
@@ -256,20 +240,20 @@ module _ (k : Known) (around : Around) (h : Agrees k around) where
   none_told _ d flaw e = object_told d flaw e
 
   pub value_told : (content : Content) (d : Data) (flaw : Flaw) → itself_of k content d ≡ Err flaw → IsNoValueOf around content d flaw
-  unfolding itself_of leaf_of whole_or_text
+  unfolding itself_of leaf_of uuid_in whole_or_text
   value_told (contents.Whole low high) d flaw e = whole_told low high d flaw e
   value_told (contents.PowerOfTwo high) d flaw e = power_told d flaw e
   value_told contents.Flag d flaw e = only_step (flag_of d) (λ b. tt) flaw e (flag_refused d flaw)
   value_told contents.OneFlag d flaw e = default_told k around h d flaw e
-  value_told (contents.Text most) d flaw e = text_told is_printable d flaw e (λ none same. holds_of (IsNoConfigText d) (here WrongKind) flaw same (IsNoConfigText.no_text none)) (λ s is fails same. control_told d s flaw is fails same)
+  value_told (contents.Text most) d flaw e = text_told (IsNoConfigText d) is_printable d flaw e IsNoConfigText.no_text (control_told d)
   value_told contents.ClockName d flaw e = only_step (text_of d) (λ s. tt) flaw e (text_refused d flaw)
-  value_told contents.Identifier d flaw e = text_told (λ s. is_some (uuid_in s)) d flaw e (no_uuid_text d flaw) (λ s is fails same. uuid_told d s flaw is fails same)
+  value_told contents.Identifier d flaw e = text_told (IsNoUuid d) (λ s. is_some (uuid_in s)) d flaw e IsNoUuid.no_text (λ s is fails. IsNoUuid.no_uuid s is (none_there (parsed s) fails))
   value_told contents.IdentifierOrAuto d flaw e = choice_told d flaw e
   value_told (contents.Word words) d flaw e =
-      text_told (λ s. list_any (bytes_eq s) (words_of words)) d flaw e (no_word_text (words_of words) d flaw) (λ s is fails same. another_word_told (words_of words) d s flaw is (λ c. false≢true (sym fails ∙ has_by_bytes (words_of words) s c)) same)
+      text_told (IsNoWordOf (words_of words) d) (λ s. list_any (bytes_eq s) (words_of words)) d flaw e IsNoWordOf.no_text (λ s is fails. IsNoWordOf.another_word s is (λ c. false≢true (sym fails ∙ has_by_bytes (words_of words) s c)))
   value_told contents.Class d flaw e =
-      text_told (λ s. is_some (class_in s class_words)) d flaw e (no_word_text words_of_classes d flaw) (λ s is fails same. another_word_told words_of_classes d s flaw is (no_class_word class_words s fails) same)
-  value_told (contents.WholeOrText low high most) (string s) flaw e = let told = not_passed (is_printable s) flaw e in IsNoWholeOrText.has_control refl (control_told (string s) s flaw refl told.0 told.1)
+      text_told (IsNoWordOf words_of_classes d) (λ s. is_some (class_in s class_words)) d flaw e IsNoWordOf.no_text (λ s is fails. IsNoWordOf.another_word s is (no_class_word class_words s fails))
+  value_told (contents.WholeOrText low high most) (string s) flaw e = let told = not_passed (is_printable s) flaw e in IsNoWholeOrText.has_control refl (holds_of (IsNoConfigText (string s)) (here OutOfRange) flaw told.1 (control_told (string s) s refl told.0))
   value_told (contents.WholeOrText low high most) d flaw e = IsNoWholeOrText.no_number refl (whole_told low high d flaw e)
   value_told (contents.Level high) d flaw e = subst (λ levels. IsNoLevel levels high d flaw) h.levels (level_told k.levels high d flaw e)
   value_told (contents.At place) d flaw e = none_told place d flaw e
