@@ -81,8 +81,7 @@ says_told _ e = absurd cc
 told_says : (d : Data) → SaysDefault d → says_default d ≡ true
 told_says d (ms, is, flag) = subst (λ x. says_default x ≡ true) (sym is) (ap is_true flag)
 
--- ---- inside an object, and behind a member of it
-
+-- inside an object, and behind a member of it
 module _ (k : Known) (around : Around) (h : Agrees k around) where
   pub inside_agrees : (place : Place) (ms : Members) → Agrees (inside place ms k) (member_of place ms no_members ∷ around)
   unfolding inside

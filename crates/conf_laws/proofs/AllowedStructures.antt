@@ -28,8 +28,7 @@ pub record IsAllowed (d : Data) (t : FieldType) : Type 0 where
 abbrev IsAllowedAt : Data → Type 0
 IsAllowedAt d = (k : Known) (place : Place) (t : FieldType) → is_position place ≡ true → IsGoodAt k (At place) d → field_type d ≡ Some t → IsAllowed d t
 
--- ---- no array
-
+-- no array
 module _ (ms : Members) (class : Place) (is : class_of ms ≡ Some class) (other : is_static_array (Some class) ≡ false) where
   counted_one : (levels n : ℕ) → elements levels (object ms) ≡ Some n → 1 ≡ n
   counted_one levels n e = go levels (ap is_static_array is ∙ other) e

@@ -35,8 +35,7 @@ class_at_excluded place ms flaw e (IsNoClassAt.no_class is (inr (d, f, there, wr
 class_at_excluded place ms flaw e (IsNoClassAt.another_class class is elsewhere said other) = admitted_excluded place ms class e is said other
 class_at_excluded place ms flaw e (IsNoClassAt.no_array class identifier said other) = admitted_excluded place ms class e (ap is_position identifier ∙ refl) said other
 
--- ---- what is missing
-
+-- what is missing
 module _ (ms : Members) where
   rows_excluded : {P : Type 0} (rows : List Told) (row : Told) → rows_there ms rows ≡ Ok tt → Contains rows row → row.presence ≡ presences.Needed → get_member row.name ms ≡ None → P
   rows_excluded [] row e (i, lt, is) needed none = absurd (omega (arith, lt))
@@ -86,8 +85,7 @@ shape_excluded place ms flaw e (IsNoShapeAt.no_magic_number is other) = other (n
 shape_excluded place ms flaw e (IsNoShapeAt.no_identifier is other) = other (identifier_told ms (was_so (is_identifier ms) (subst (λ p. shape_of p ms ≡ Ok tt) is e)))
 shape_excluded place ms flaw e (IsNoShapeAt.no_bits is such) = false≢true (sym (no_bits_found (object ms) such) ∙ was_so (has_bits (object ms)) (subst (λ p. shape_of p ms ≡ Ok tt) is e))
 
--- ---- at a member
-
+-- at a member
 module _ (around : Around) (place : Place) (all : Members) where
   -- what is known at a member, and that nothing is told from it on
   record Reached (before rest : Members) : Type 0 where
@@ -156,8 +154,7 @@ module _ (around : Around) (place : Place) (all : Members) where
   rows_clear flaw there start (HasNotItsRows.no_byte_order is a b) =
       let f = rw (a, b) at (subst (λ p. orders_there p all ≡ Ok tt) is (both_read (rows_there all (rows_of place)) _ tt there).2) in absurd cc
 
--- ---- at an item
-
+-- at an item
 module _ (around : Around) (k : Known) (h : Agrees k around) (place : Place) (all : Items) where
   record ItemReached (before rest : Items) : Type 0 where
     taken : Members
@@ -170,8 +167,7 @@ module _ (around : Around) (k : Known) (h : Agrees k around) (place : Place) (al
       let one = item_reached b (item d rest) parts start in
       record { taken = with_names d one.taken; takes = takes_further one.taken place b d one.takes; clear = (first_item k place one.taken (items_len b) d rest one.clear).1 }
 
--- ---- a value and all that it holds
-
+-- a value and all that it holds
 module _ (k : Known) (around : Around) (h : Agrees k around) (place : Place) (ms : Members) (e : content_flaws k (At place) (object ms) ≡ []) where
   clear_object : ObjectSound k place ms
   clear_object = object_sound k place ms (both_none (told_by (itself_of k (At place) (object ms))) _ e).1

@@ -202,8 +202,7 @@ module _ (around : Around) where
       (ap (λ s. s.low) same ∙ ends.0, ap (λ s. s.high) same ∙ ends.1))
       (read_so d range.0 range.1) (inside_so numbers range.0 within.0)
 
--- ---- all values
-
+-- all values
 module _ (k : Known) (around : Around) (h : Agrees k around) where
   none_excluded : (place : Place) (d : Data) (flaw : Flaw) → form_of k place d ≡ Ok tt → ¬ IsNoneAt around place d flaw
   unfolding form_of

@@ -89,8 +89,7 @@ pub under_no_test : {A : Type 0} (b : Bool) (x y : A) (flaw : Flaw) → cond b (
 under_no_test true x y flaw e = absurd cc
 under_no_test false x y flaw e = refl
 
--- ---- properties
-
+-- properties
 module _ (name : List ℕ) (ms : Members) where
   given_itself : (d : Data) → is_null d ≡ false → given (Some d) ≡ Some d
   given_itself null e = absurd cc

@@ -10,8 +10,7 @@ use Rattle.conf_laws.proofs.Words.places
 use Rattle.conf_laws.proofs.Words.contents
 use Rattle.conf_laws.proofs.Words.presences
 
--- ---- properties
-
+-- properties
 module _ (place : Place) (name : List ℕ) where
   -- what an object inherits from is none of its properties
   abbrev Inherits : Type 0
@@ -72,8 +71,7 @@ unfolding other_class
 other_told places.IdentifierFeature = inl (refl, refl)
 other_told _ = inr (λ same. absurd cc, refl)
 
--- ---- the class
-
+-- the class
 module _ (place : Place) (ms : Members) (flaw : Flaw) (is : is_position place ≡ true) where
   class_admitted : (d : Data) (w : List ℕ) (o : Option Place) → get_member (codes "class") ms ≡ Some d → as_str d ≡ Some w → class_in w class_words ≡ o → admitted place o ≡ Err flaw → IsNoClassAt place ms flaw
   unfolding class_of

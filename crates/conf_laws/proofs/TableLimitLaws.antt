@@ -46,11 +46,7 @@ times_told (Some n) (Some k) m e =
     record { first = n; second = k; one = refl; two = refl; is = sym p.1; most = subst (λ x. x ≤ 1048576) p.1 (leb-true (n * k) 1048576 p.0) }
 times_told _ _ m e = absurd cc
 
-too_large_told : (n k : ℕ) → times (Some n) (Some k) ≡ None → 1048576 < n * k
-too_large_told n k e = grind (arith, nat_tests)
-
--- ---- what is counted stands in one another
-
+-- what is counted stands in one another
 module _ (ms : Members) (static : is_static_array (class_of ms) ≡ true) where
   is_array : (n : ℕ) → at_least_one (natural_in (codes "length") ms) ≡ Some n → IsArray ms n
   is_array n count = (static_told (class_of ms) (ap not static), count)
@@ -65,64 +61,49 @@ module _ (ms : Members) (static : is_static_array (class_of ms) ≡ true) where
 abbrev Counts : Data → ℕ → Type 0
 Counts d m = (ns : List ℕ) × Nest d ns × (product ns ≡ m)
 
-counts_one : (d : Data) (m : ℕ) → Some 1 ≡ Some m → Counts d m
-counts_one d m e = ([], Nest.none d, cc)
-
-array_counts : (levels : ℕ) (ms : Members) (m : ℕ) → is_static_array (class_of ms) ≡ true → ((d : Data) (k : ℕ) → elements levels d ≡ Some k → Counts d k) → (o : Option Data) → get_member (codes "element-field-type") ms ≡ o
-    → of_element levels (at_least_one (natural_in (codes "length") ms)) o ≡ Some m → Counts (object ms) m
-array_counts levels ms m static inner None is f = (m ∷ [], Nest.innermost ms m (is_array ms static m f), mul-one m)
-array_counts levels ms m static inner (Some element) is f =
-    let t = times_told (at_least_one (natural_in (codes "length") ms)) (elements levels element) m f in
-    let rest = inner element t.second t.two in
-    (t.first ∷ rest.0, Nest.around_others ms t.first element rest.0 (is_array ms static t.first t.one) is rest.1, ap (λ x. t.first * x) rest.2 ∙ sym t.is)
-
-counts_of : (levels : ℕ) (d : Data) (m : ℕ) → elements levels d ≡ Some m → Counts d m
-counts_of zero d m e = elim (array_or_one 0 d) [ inl one ↦ counts_one d m (sym one ∙ e) | inr (ms, is, static) ↦ some_none (elements 0 d) m e (ap (elements 0) is ∙ no_levels ms static) ]
-counts_of (suc levels) d m e = elim (array_or_one (suc levels) d) [
-  | inl one ↦ counts_one d m (sym one ∙ e)
-  | inr (ms, is, static) ↦ subst (λ x. Counts x m) (sym is) (array_counts levels ms m static (counts_of levels) _ refl (sym (counted ms static levels) ∙ ap (elements (suc levels)) (sym is) ∙ e))
-]
-
--- ---- what is not counted is too much
-
 abbrev IsTooDeep : ℕ → Data → Type 0
 IsTooDeep levels d = (ns : List ℕ) × Nest d ns × (levels < length ns)
 
 abbrev AreTooMany : Data → Type 0
 AreTooMany d = (ms : Members) × (element : Data) × (ns : List ℕ) × (d ≡ object ms) × HasElement ms element × Nest d ns × (1048576 < product ns)
 
+-- what is counted stands in one another, and what is not is too much
+abbrev Measured : ℕ → Data → Option ℕ → Type 0
+Measured levels d None = IsTooDeep levels d ⊎ AreTooMany d
+Measured levels d (Some m) = Counts d m
+
 larger : (n m : ℕ) → 1 ≤ n → m ≤ n * m
 larger n m some = let more : 1 * m ≤ n * m = mul-le 1 m n m some (omega arith) in omega (arith, more)
 
-array_too_much : (levels : ℕ) (ms : Members) (n : ℕ) → IsArray ms n → 1 ≤ n → ((d : Data) → elements levels d ≡ None → IsTooDeep levels d ⊎ AreTooMany d) → (o : Option Data) → get_member (codes "element-field-type") ms ≡ o
-    → of_element levels (Some n) o ≡ None → IsTooDeep (suc levels) (object ms) ⊎ AreTooMany (object ms)
-array_too_much levels ms n is_one some inner None has f = absurd cc
-array_too_much levels ms n is_one some inner (Some element) has f = go (elements levels element) refl f
+array_measured : (levels : ℕ) (ms : Members) (n : ℕ) → IsArray ms n → 1 ≤ n → ((d : Data) → Measured levels d (elements levels d)) → (o : Option Data) → get_member (codes "element-field-type") ms ≡ o → Measured (suc levels) (object ms) (of_element levels (Some n) o)
+array_measured levels ms n is_one some inner None has = (n ∷ [], Nest.innermost ms n is_one, mul-one n)
+array_measured levels ms n is_one some inner (Some element) has = go (elements levels element) (inner element)
   where
-    go : (o : Option ℕ) → elements levels element ≡ o → times (Some n) o ≡ None → IsTooDeep (suc levels) (object ms) ⊎ AreTooMany (object ms)
-    go None is g = elim (inner element is) [
-      | inl (ns, nest, deep) ↦ inl (n ∷ ns, Nest.around_others ms n element ns is_one has nest, omega (arith, deep))
-      | inr (os, other, ns, same, has_too, nest, many) ↦ let more = larger n (product ns) some in inr (ms, element, n ∷ ns, refl, has, Nest.around_others ms n element ns is_one has nest, omega (arith, many, more))
-    ]
-    go (Some k) is g =
-        let rest = counts_of levels element k is in
-        inr (ms, element, n ∷ rest.0, refl, has, Nest.around_others ms n element rest.0 is_one has rest.1, subst (λ x. 1048576 < n * x) (sym rest.2) (too_large_told n k g))
+    go : (o : Option ℕ) → Measured levels element o → Measured (suc levels) (object ms) (times (Some n) o)
+    go None (inl (ns, nest, deep)) = inl (n ∷ ns, Nest.around_others ms n element ns is_one has nest, omega (arith, deep))
+    go None (inr (os, other, ns, same, has_too, nest, many)) = let more = larger n (product ns) some in inr (ms, element, n ∷ ns, refl, has, Nest.around_others ms n element ns is_one has nest, omega (arith, many, more))
+    go (Some k) (ns, nest, is) =
+        let all = Nest.around_others ms n element ns is_one has nest in
+        by_test (λ (b : Bool). Measured (suc levels) (object ms) (cond b (Some (n * k)) None)) (nat_le (n * k) 1048576)
+        (λ fits. (n ∷ ns, all, ap (λ x. n * x) is)) (λ large. inr (ms, element, n ∷ ns, refl, has, all, subst (λ x. 1048576 < n * x) (sym is) (leb-false (n * k) 1048576 large)))
 
-too_much : (levels : ℕ) (d : Data) → elements levels d ≡ None → IsTooDeep levels d ⊎ AreTooMany d
-too_much zero d e = elim (array_or_one 0 d) [
-  | inl one ↦ some_none (elements 0 d) 1 one e
-  | inr (ms, is, static) ↦ let some = some_count (natural_in (codes "length") ms) in inl (some.0 ∷ [], subst (λ x. Nest x (some.0 ∷ [])) (sym is) (Nest.innermost ms some.0 (is_array ms static some.0 some.1)), omega arith)
-]
-too_much (suc levels) d e = elim (array_or_one (suc levels) d) [
-  | inl one ↦ some_none (elements (suc levels) d) 1 one e
+measured : (levels : ℕ) (d : Data) → Measured levels d (elements levels d)
+measured zero d = elim (array_or_one 0 d) [
+  | inl one ↦ subst (Measured 0 d) (sym one) ([], Nest.none d, refl)
   | inr (ms, is, static) ↦
       let some = some_count (natural_in (codes "length") ms) in
-      let none = ap (λ c. of_element levels c (get_member (codes "element-field-type") ms)) (sym some.1) ∙ sym (counted ms static levels) ∙ ap (elements (suc levels)) (sym is) ∙ e in
-      subst (λ x. IsTooDeep (suc levels) x ⊎ AreTooMany x) (sym is) (array_too_much levels ms some.0 (is_array ms static some.0 some.1) some.2 (too_much levels) _ refl none)
+      subst (λ x. Measured 0 x (elements 0 x)) (sym is) (subst (Measured 0 (object ms)) (sym (no_levels ms static)) (inl (some.0 ∷ [], Nest.innermost ms some.0 (is_array ms static some.0 some.1), omega arith)))
+]
+measured (suc levels) d = elim (array_or_one (suc levels) d) [
+  | inl one ↦ subst (Measured (suc levels) d) (sym one) ([], Nest.none d, refl)
+  | inr (ms, is, static) ↦
+      let some = some_count (natural_in (codes "length") ms) in
+      let counts = counted ms static levels ∙ ap (λ c. of_element levels c (get_member (codes "element-field-type") ms)) some.1 in
+      subst (λ x. Measured (suc levels) x (elements (suc levels) x)) (sym is) (subst (Measured (suc levels) (object ms)) (sym counts) (array_measured levels ms some.0 (is_array ms static some.0 some.1) some.2 (measured levels) _ refl))
 ]
 
 pub elements_told : (d : Data) → elements 8 d ≡ None → HasTooManyElements d
-elements_told d e = elim (too_much 8 d e) [
+elements_told d e = elim (subst (Measured 8 d) e (measured 8 d)) [
   | inl (ns, nest, deep) ↦ HasTooManyElements.too_deep ns nest deep
   | inr (ms, element, ns, is, has, nest, many) ↦ HasTooManyElements.too_many ms element ns is has nest many
 ]
@@ -148,7 +129,7 @@ multiplied n o p levels l (inr (k, is, le, short)) = subst (λ x. Covers (times 
 
 covered_one : (levels : ℕ) (d : Data) → Covers (elements levels d) levels 1 0
 covered_one levels d =
-    by_found (λ (o : Option ℕ). Covers (elements levels d) levels 1 0) (elements levels d) (λ is. inl is) (λ m is. let counts = counts_of levels d m is in inr (m, is, subst (λ x. 1 ≤ x) counts.2 (nest_some d counts.0 counts.1), omega arith))
+    by_found (λ (o : Option ℕ). Covers (elements levels d) levels 1 0) (elements levels d) (λ is. inl is) (λ m is. let counts = subst (Measured levels d) is (measured levels d) in inr (m, is, subst (λ x. 1 ≤ x) counts.2 (nest_some d counts.0 counts.1), omega arith))
 
 module _ (ms : Members) (n : ℕ) (is_one : IsArray ms n) where
   static : is_static_array (class_of ms) ≡ true

@@ -44,8 +44,7 @@ value_said of by_default t (Some (object ms)) own = mapped_there (λ x. Some x) 
 value_said of by_default t (Some (boolean b)) own = on_there b t
 value_said of by_default t _ own = on_there by_default t
 
--- ---- a feature of an object
-
+-- a feature of an object
 module _ (k : Known) (around : Place) (ms : Members) (h : RowsSound k around ms) where
   pub feature_there : (place : Place) (name : List ℕ) (by_default : Bool) (t : IntType) → IsFeature place → Leads around name (At place) → IsSome (feature name by_default t ms)
   unfolding feature
@@ -163,8 +162,7 @@ events_there k around levels ms leads h =
     by_object k around places.EventTypes (codes "event-record-types") ms leads (is_object OwnPlace.event_types) h (λ os. IsSome (said_behind (event_type levels) [] os)) refl
     (λ i os rows. types_said MapPlace.event_types OwnPlace.event_type (event_type levels) (λ j name ns own. event_said (inside places.EventType ns j) levels name ns own) os i [] rows.flaws)
 
--- ---- one data stream type
-
+-- one data stream type
 module _ (k : Known) (ms : Members) (h : RowsSound k places.StreamType ms) where
   stream_context_said : (clock : Option (List ℕ)) → IsSome (context clock (properties (codes "packet") (properties (codes "$features") ms)))
   unfolding all_there orders_there rows_of

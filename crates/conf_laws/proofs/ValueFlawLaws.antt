@@ -215,8 +215,7 @@ module _ (around : Around) where
         | inr small ↦ below_one range went small
       ]
 
--- ---- all values
-
+-- all values
 module _ (k : Known) (around : Around) (h : Agrees k around) where
   none_told : (place : Place) (d : Data) (flaw : Flaw) → form_of k place d ≡ Err flaw → IsNoneAt around place d flaw
   unfolding form_of
@@ -259,8 +258,7 @@ module _ (k : Known) (around : Around) (h : Agrees k around) where
   value_told (contents.At place) d flaw e = none_told place d flaw e
   value_told contents.Anything d flaw e = absurd cc
 
--- ---- the names of entries
-
+-- the names of entries
 module _ (k : Known) (around : Around) (h : (name : List ℕ) → IsTrue (is_taken k.taken name) ↔ IsTaken around name) where
   clash_told : (name : List ℕ) (d : Data) (flaw : Flaw) → free_of k.taken name d ≡ Err flaw → IsNoMemberName around name d flaw
   unfolding free_of
