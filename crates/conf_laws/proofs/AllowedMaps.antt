@@ -178,8 +178,6 @@ unfolding LabelsInOrder
 labels_in_order no_members order = tt
 labels_in_order (member label d ms) order = own_in_order label d (labels_in ms) (labels_below label ms order.0) (labels_in_order ms order.1)
 
--- ---- the mappings as they are listed
-
 -- labels that have no flaw and pass no limit, one at least
 record AreMappings (k : Known) (ms : List Mapping) : Type 0 where
   each : All (IsGoodMapping k) ms
@@ -204,8 +202,6 @@ mappings_good k labels h =
       some = some_range k labels (not_empty k labels h.sound.itself) good;
       few = omega (arith, few, labels_few labels);
     }
-
--- ---- the property
 
 -- a needed property that is mappings
 pub record HasMappings (k : Known) (ms : Members) : Type 0 where

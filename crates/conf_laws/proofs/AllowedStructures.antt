@@ -158,11 +158,9 @@ IsTyped false ms m = (t : FieldType) × (field_type (object ms) ≡ Some t) × (
 
 typed : (ms : Members) (m : MemberType) → member_type ms ≡ Some m → IsTyped (option_map_or is_dynamic_array (class_of ms) false) ms m
 unfolding member_type
-typed ms m e = go (option_map_or is_dynamic_array (class_of ms) false) e
-  where
-    go : (b : Bool) → cond b (option_map (λ t. Dyn t Auto) (element ms)) (option_map (λ t. Plain t) (field_type (object ms))) ≡ Some m → IsTyped b ms m
-    go true e = mapped_some (λ t. Dyn t Auto) (element ms) m e
-    go false e = mapped_some (λ t. Plain t) (field_type (object ms)) m e
+typed ms m e =
+    by_test (λ (b : Bool). cond b (option_map (λ t. Dyn t Auto) (element ms)) (option_map (λ t. Plain t) (field_type (object ms))) ≡ Some m → IsTyped b ms m) (option_map_or is_dynamic_array (class_of ms) false)
+    (λ is f. mapped_some (λ t. Dyn t Auto) (element ms) m f) (λ is f. mapped_some (λ t. Plain t) (field_type (object ms)) m f) e
 
 member_type_allowed : (k : Known) (ms : Members) (m : MemberType) → IsGoodAt k (At places.MemberType) (object ms) → member_type ms ≡ Some m → IsConfigMember m
 unfolding is_position inside
@@ -174,8 +172,6 @@ member_type_allowed k ms m h e = go (option_map_or is_dynamic_array (class_of ms
         let class = array_told (class_of ms) is in
         let own = properties_at k places.MemberType places.DynamicArray ms (class_place places.MemberType ms places.DynamicArray refl class) (good_object k places.MemberType ms h) in
         subst IsConfigMember same (dynamic_allowed k ms t own there)
-
--- ---- what an entry tells of
 
 -- the object that a member's type is
 record Tells (d : Data) (m : MemberType) : Type 0 where
@@ -301,8 +297,6 @@ made_says members align s e =
     let b = proved_some (4096 % align == 0) _ s a.1 in
     let same = same_Some _ s b.1 in
     record { members_are = ap (λ x. x.members) (sym same); align_is = ap (λ x. x.min_align) (sym same) }
-
--- ---- members lists
 
 -- a members list, apart from names that were taken before
 record AreAllowed (before : List (List ℕ)) (ms : List (List ℕ × MemberType)) : Type 0 where

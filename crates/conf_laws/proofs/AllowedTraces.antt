@@ -46,8 +46,6 @@ size_allowed name ms t e =
     go None only = (refl, refl)
     go (Some x) only = only x refl
 
--- ---- timestamps
-
 -- an unsigned integer of this clock, or of none
 abbrev pub IsOfClock : Option (List ℕ) → IntType → Type 0
 IsOfClock clock t = (t.signed ≡ false) × (t.clock ≡ clock)
@@ -182,8 +180,6 @@ event_header_allowed clock ms f e =
     let says = event_header_says _ _ f e in
     record { id = feature_allowed (codes "type-id-field-type") true ms f.id says.0; timestamp = timestamp_allowed clock (codes "timestamp-field-type") ms f.timestamp says.1 }
 
--- ---- maps of types that are read one behind another
-
 -- each entry of such a map, an object, is read as a type, which is put behind those that are done
 module _ {A : Type 0} {b : Bool} {place inner : Place} (named : A → List ℕ) (good : A → Type 0) (map : MapPlace b place (At inner)) (one : OwnPlace true inner) (of : Members → List ℕ → Members → Option A)
     (keeps : (d : Data) (k : Known) → (behind place d k).levels ≡ k.levels)
@@ -221,8 +217,6 @@ unfolding itself_of leaf_of
 level_allowed k ms n h e =
     by_found (λ (o : Option Data). level_of k.levels o ≡ Some n → n < 2 ^ 63) (optional (codes "log-level") ms)
     (λ is e. absurd cc) (λ d is e. level_small k.levels d n ((property_at k places.EventType (codes "log-level") (Level (pos highest)) ms d (leads Property.level) h is).sound.itself) e) e
-
--- ---- one event record type
 
 -- what the rules say of an event record type, but for its bits
 pub record IsGoodEvent (e : EventType) : Type 0 where
@@ -266,8 +260,6 @@ events_allowed k place ms es leads h e =
     let all = all_in k place (codes "event-record-types") places.EventTypes ms leads (is_own OwnPlace.event_types) h in
     map_allowed event_name IsGoodEvent 1024 _ es all.0.in_order all.1
     (types_from event_name IsGoodEvent MapPlace.event_types OwnPlace.event_type event_type (λ d j. refl) (λ j name d ns y judged own is. event_allowed j name ns y (config_name name judged) own is) k k refl _ [] es [] all.0 (none_under event_name IsGoodEvent) e)
-
--- ---- one data stream type
 
 -- what the rules say of a data stream type by itself
 pub record IsGoodStream (s : StreamType) : Type 0 where

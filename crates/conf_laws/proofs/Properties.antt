@@ -49,9 +49,6 @@ pub property_within : (place : Place) (name : List ℕ) (content : Content) (ms 
 property_within place name content ms d under l found =
     within_here place name content d under (at_found (λ xs. member_limits place xs ≡ []) (λ n x. limits_at place n x ≡ []) (first_limits place) name ms d l found)
 
-pub ascends_found : (name : List ℕ) (ms : Members) (d : Data) → MembersAscend ms → get_member name ms ≡ Some d → Ascends d
-ascends_found name ms d h is = at_found MembersAscend (λ n x. Ascends x) (λ n x xs each. each) name ms d h is
-
 abbrev pub names_of : Members → List (List ℕ)
 names_of no_members = []
 names_of (member k d ms) = k ∷ names_of ms
@@ -121,7 +118,7 @@ pub property_at : (k : Known) (place : Place) (name : List ℕ) (content : Conte
 property_at k place name content ms d leads h there = record {
   sound = (optional_sound k place name content ms d leads h.flaws there).value;
   within = (property_within place name content ms d leads.under h.limits (optional_there name ms d there).0).value;
-  ascends = (ascends_found name ms d h.ascend (optional_there name ms d there).0);
+  ascends = at_found MembersAscend (λ n x. Ascends x) (λ n x xs each. each) name ms d h.ascend (optional_there name ms d there).0;
 }
 
 -- what a needed property is
@@ -129,7 +126,7 @@ pub needed_at : (k : Known) (place : Place) (name : List ℕ) (content : Content
 needed_at k place name content ms d leads needed h found = record {
   sound = (property_sound k place name content ms d leads h.flaws found (needed_kept place name d needed)).value;
   within = (property_within place name content ms d leads.under h.limits found).value;
-  ascends = ascends_found name ms d h.ascend found;
+  ascends = at_found MembersAscend (λ n x. Ascends x) (λ n x xs each. each) name ms d h.ascend found;
 }
 
 pub object_in : (k : Known) (place : Place) (name : List ℕ) (inner : Place) (ms found : Members) → Leads place name (At inner) → AreGood k place ms → object_at name ms ≡ Some found → IsGood k inner found
@@ -210,8 +207,6 @@ module _ (k : Known) (place : Place) (taken : Members) (i : ℕ) (d : Data) (ds 
   pub item_rest : AreGoodItems k place taken i (item d ds) → AreGoodItems k place (with_names d taken) (suc i) ds
   item_rest h = record { flaws = (first_item k place taken i d ds h.flaws).1; limits = (first_item_limits place i d ds h.limits).1; ascend = h.ascend.1 }
 
--- ---- properties
-
 -- whether it has to be there, its place, its name and what it holds
 pub data Property : Bool → Place → List ℕ → Content → Type 0 where
   trace : Property true places.Root (codes "trace") (At places.Trace)
@@ -271,8 +266,6 @@ needed_only _ e = absurd cc
 pub needed_by : {place : Place} {name : List ℕ} {content : Content} → Property true place name content → presence_under place name ≡ Some Needed
 needed_by p = needed_only _ (presence_of p)
 
--- ---- objects
-
 -- a place whose rows are its own, and whether objects of any kind stand there
 pub data OwnPlace : Bool → Place → Type 0 where
   root : OwnPlace true places.Root
@@ -305,8 +298,6 @@ is_own _ = record { own = λ ms. refl; known = λ k ms. refl }
 pub type_object : IsObject places.TraceType
 unfolding itself_of form_of place_of_properties is_position own_place
 type_object = record { form = λ k d. refl; own = λ ms. refl }
-
--- ---- maps
 
 -- a map, whether its entries say nothing of one another, and what each of them holds
 pub data MapPlace : Bool → Place → Content → Type 0 where

@@ -129,8 +129,6 @@ object_at k place d h form =
     let o = is_object d (sym form ∙ h.itself) in
     record { ms = o.0; is = o.1; sound = object_sound k place o.0 (subst (λ x. inner_flaws k (At place) x ≡ []) o.1 h.inner) }
 
--- ---- what the rows say
-
 -- the properties of an object whose rows are those of this place
 pub record RowsSound (k : Known) (place : Place) (ms : Members) : Type 0 where
   pub there : all_there place ms ≡ Ok tt
@@ -205,8 +203,6 @@ pub first_entry : (k : Known) (place : Place) (name : List ℕ) (content : Conte
     → PropertySound k place name content d × (member_flaws (behind place d k) place ms ≡ [])
 first_entry k place name content d ms is e =
     let both = first_flaws k place name d ms e in (property_here k place name content d (map_content place name content is) (is.stays name d) both.0, both.1)
-
--- ---- a class that is admitted
 
 -- the class that a field type has where it stands
 pub record HasClass (place : Place) (ms : Members) : Type 0 where
@@ -283,9 +279,6 @@ pub held_at : (k : Known) (place : Place) (d : Data) → IsObject place → Cont
 held_at k place d o h = let s = object_at k place d h (o.form k d) in record { ms = s.ms; is = s.is; rows = rows_sound k place place s.ms (o.own s.ms) s.sound }
 
 module _ (k : Known) (around place : Place) (name : List ℕ) (ms : Members) (leads : Leads around name (At place)) (o : IsObject place) (h : RowsSound k around ms) where
-  held : (d : Data) → optional name ms ≡ Some d → Held k place d
-  held d found = held_at k place d o (optional_sound k around name (At place) ms d leads h.flaws found).value
-
   -- a needed object is there
   pub needed_object : presence_under around name ≡ Some Needed → (os : Members) × (object_in name ms ≡ Some os) × RowsSound (inside place os k) place os
   unfolding object_in
@@ -300,4 +293,4 @@ module _ (k : Known) (around place : Place) (name : List ℕ) (ms : Members) (le
   unfolding properties object_in
   by_object P none each =
       by_found (λ (o : Option Data). P (unwrap_or (option_and_then as_object o) no_members)) (optional name ms)
-      (λ f. each k no_members (record { there = none; flaws = refl })) (λ d f. let s = held d f in subst (λ x. P (unwrap_or (as_object x) no_members)) (sym s.is) (each (inside place s.ms k) s.ms s.rows))
+      (λ f. each k no_members (record { there = none; flaws = refl })) (λ d f. let s = held_at k place d o (optional_sound k around name (At place) ms d leads h.flaws f).value in subst (λ x. P (unwrap_or (as_object x) no_members)) (sym s.is) (each (inside place s.ms k) s.ms s.rows))

@@ -158,8 +158,6 @@ distinct_more xs name (Dyn t Auto) h free =
     let both : list_any (bytes_eq name) (xs ++ length_name name ∷ []) ≡ false = list_any-append (bytes_eq name) xs (length_name name ∷ []) ∙ rw (free.1.0, (differ name (length_name name) (λ same. let longer = ap length same in absurd (omega (arith, longer, length-append name (codes "_len")))))) refl in
     subst (λ l. IsDistinct bytes_eq l) (append_assoc xs (length_name name ∷ []) (name ∷ [])) (distinct_last (xs ++ length_name name ∷ []) name first both)
 
--- ---- the list
-
 -- the members so far, beside names that were taken before
 pub record AreNamed (before : List (List ℕ)) (ms : List (List ℕ × MemberType)) (taken : Members) : Type 0 where
   pub names : All IsPlainName (names_in ms)
@@ -255,8 +253,6 @@ pub name_free : (taken : Members) (name : List ℕ) (d : Data) → free_of taken
 unfolding free_of
 name_free taken name d e = or_parts (is_taken taken name) (is_dynamic d && is_taken taken (length_name name)) (under_no_test _ tt tt _ e)
 
--- ---- members, one behind another
-
 -- its name is taken behind it
 more_taken : (done : List (List ℕ × MemberType)) (taken : Members) (name : List ℕ) (b : Bool) (t : MemberType) → AreTaken taken (names_in done) → AreTaken (with_member name b taken) (names_in (done ++ (name, t) ∷ []))
 more_taken done taken name b t h =
@@ -307,8 +303,6 @@ structure_made members align a = proved_there (nat_lt 0 align) _ a.positive (λ 
 aligned : (members : List (List ℕ × MemberType)) (align : ℕ) → IsAlignment align → IsAlignment (align_for members align)
 aligned [] align a = no_alignment
 aligned (m ∷ members) align a = a
-
--- ---- lists of members
 
 -- a list of entries that tell of members
 pub record IsMemberList (place : Place) : Type 0 where

@@ -43,8 +43,6 @@ module _ (place : Place) (name : List ℕ) where
   is_none none =
       by_found (λ (o : Option Content). resolved_content place name ≡ None) (resolved_content place name) (λ is. is) (λ content is. absurd (none content (property_is content is)))
 
--- ---- values that are left out
-
 -- the value of a presence that is asked for
 left_told : (o : Option Presence) (d : Data) → left_out o d ≡ true → (d ≡ null) × ((presence : Presence) × (o ≡ Some presence) × (presence ≢ presences.Needed))
 left_told None d e = absurd cc
@@ -239,8 +237,6 @@ module _ (k : Known) (around : Around) (place : Place) (all before rest : Member
       go : (o : Option Content) → resolved_content (place_of_properties place all) name ≡ o → All IsFlawThere (property_flaws k (place_of_properties place all) name o d (inner_flaws k (unwrap_or o contents.Anything) d))
       go None is = All-cons IsFlawThere (here Unknown) [] (IsFlawOf.wrong_rows (HasNotItsRows.unknown name d (member_there all before (member name d rest) name d parts (inl (refl, refl))) (none_is (place_of_properties place all) name is))) (All-nil IsFlawThere)
       go (Some content) is = of_content content is (is_left_out (place_of_properties place all) name d) refl
-
--- ---- objects, lists and values
 
 -- a value and what it holds
 value_and_held : (k : Known) (around : Around) → Agrees k around → (content : Content) (d : Data) → All (IsFlawOf around content d) (inner_flaws k content d) → All (IsFlawOf around content d) (told_by (itself_of k content d) ++ inner_flaws k content d)

@@ -9,8 +9,6 @@ use Rattle.conf_laws.proofs.Words.places
 use Rattle.conf_laws.proofs.Words.contents
 use Rattle.conf_laws.proofs.Words.keys
 
--- ---- the counts of one array
-
 -- the elements of a value are counted as one, or it is an array
 array_or_one : (levels : ℕ) (d : Data) → (elements levels d ≡ Some 1) ⊎ ((ms : Members) × (d ≡ object ms) × (is_static_array (class_of ms) ≡ true))
 array_or_one levels (object ms) = go (is_static_array (class_of ms)) refl levels

@@ -13,8 +13,6 @@ on_there : (b : Bool) (t : IntType) → IsSome (if_on b t)
 on_there true t = refl
 on_there false t = refl
 
--- ---- a type of its own
-
 -- a position where an unsigned integer alone may stand
 pub record IsFeature (place : Place) : Type 0 where
   pub position : is_position place ≡ true
@@ -24,17 +22,15 @@ only_unsigned : (c : Place) → classes.is_unsigned_integer c ≡ true → c ≡
 only_unsigned places.UnsignedInteger a = refl
 only_unsigned _ a = absurd (false≢true a)
 
-pub any_feature : IsFeature places.Feature
-unfolding is_position admits_class
-any_feature = record { position = refl; class = only_unsigned }
+data FeaturePlace : Place → Type 0 where
+  any : FeaturePlace places.Feature
+  size_of_packet : FeaturePlace places.SizeFeature
+  magic_number : FeaturePlace places.MagicFeature
 
-size_feature : IsFeature places.SizeFeature
+is_feature : {place : Place} → FeaturePlace place → IsFeature place
 unfolding is_position admits_class
-size_feature = record { position = refl; class = only_unsigned }
-
-pub magic_feature : IsFeature places.MagicFeature
-unfolding is_position admits_class
-magic_feature = record { position = refl; class = only_unsigned }
+is_feature FeaturePlace.any = record { position = refl; class = only_unsigned }
+is_feature _ = record { position = refl; class = only_unsigned }
 
 unsigned_said : (k : Known) (place : Place) (ms : Members) (t : TypeSound k place ms) → t.class ≡ places.UnsignedInteger → IsSome (integer false ms)
 unsigned_said k place ms t is = integer_said (inside t.class ms k) places.UnsignedInteger false ms Property.unsigned_size (subst (λ p. RowsSound (inside t.class ms k) p ms) is t.rows)
@@ -54,11 +50,11 @@ module _ (k : Known) (around : Place) (ms : Members) (h : RowsSound k around ms)
 
   pub size_there : (name : List ℕ) → Leads around name (At places.SizeFeature) → IsSome (size name ms)
   unfolding size
-  size_there name leads = mapped_there (λ t. unwrap_or t number_type) (feature name true number_type ms) (feature_there places.SizeFeature name true number_type size_feature leads)
+  size_there name leads = mapped_there (λ t. unwrap_or t number_type) (feature name true number_type ms) (feature_there places.SizeFeature name true number_type (is_feature FeaturePlace.size_of_packet) leads)
 
   pub timestamp_there : (name : List ℕ) (clock : Option (List ℕ)) → Leads around name (At places.Feature) → IsSome (timestamp name clock ms)
   unfolding timestamp
-  timestamp_there name clock leads = mapped_there (option_map (mapped clock)) (feature name (is_some clock) number_type ms) (feature_there places.Feature name (is_some clock) number_type any_feature leads)
+  timestamp_there name clock leads = mapped_there (option_map (mapped clock)) (feature name (is_some clock) number_type ms) (feature_there places.Feature name (is_some clock) number_type (is_feature FeaturePlace.any) leads)
 
 -- ---- an identifier
 
@@ -98,9 +94,9 @@ identifier_there k around ms h name by_default leads =
 header_said : (k : Known) (has_uuid : Bool) (ms : Members) → RowsSound k places.TraceFeatures ms → IsSome (header has_uuid ms)
 unfolding header
 header_said k has_uuid ms h =
-    let magic = some_there _ (feature_there k places.TraceFeatures ms h places.MagicFeature (codes "magic-field-type") true magic_type magic_feature (leads Property.magic)) in
+    let magic = some_there _ (feature_there k places.TraceFeatures ms h places.MagicFeature (codes "magic-field-type") true magic_type (is_feature FeaturePlace.magic_number) (leads Property.magic)) in
     let uuid = some_there _ (identifier_there k places.TraceFeatures ms h (codes "uuid-field-type") has_uuid (leads Property.uuid)) in
-    let stream_id = some_there _ (feature_there k places.TraceFeatures ms h places.Feature (codes "data-stream-type-id-field-type") true number_type any_feature (leads Property.stream_id)) in
+    let stream_id = some_there _ (feature_there k places.TraceFeatures ms h places.Feature (codes "data-stream-type-id-field-type") true number_type (is_feature FeaturePlace.any) (leads Property.stream_id)) in
     rw (magic.1, uuid.1, stream_id.1) refl
 
 pub header_there : (k : Known) (around : Place) (has_uuid : Bool) (ms : Members) → Leads around (codes "$features") (At places.TraceFeatures) → RowsSound k around ms → IsSome (header has_uuid (properties (codes "$features") ms))
@@ -115,8 +111,8 @@ context_said k clock ms h =
     let content_size = some_there _ (size_there k places.PacketFeatures ms h (codes "content-size-field-type") (leads Property.content_size)) in
     let beginning = some_there _ (timestamp_there k places.PacketFeatures ms h (codes "beginning-timestamp-field-type") clock (leads Property.beginning)) in
     let ending = some_there _ (timestamp_there k places.PacketFeatures ms h (codes "end-timestamp-field-type") clock (leads Property.end)) in
-    let discarded = some_there _ (feature_there k places.PacketFeatures ms h places.Feature (codes "discarded-event-records-counter-snapshot-field-type") true number_type any_feature (leads Property.discarded)) in
-    let sequence = some_there _ (feature_there k places.PacketFeatures ms h places.Feature (codes "sequence-number-field-type") false number_type any_feature (leads Property.sequence)) in
+    let discarded = some_there _ (feature_there k places.PacketFeatures ms h places.Feature (codes "discarded-event-records-counter-snapshot-field-type") true number_type (is_feature FeaturePlace.any) (leads Property.discarded)) in
+    let sequence = some_there _ (feature_there k places.PacketFeatures ms h places.Feature (codes "sequence-number-field-type") false number_type (is_feature FeaturePlace.any) (leads Property.sequence)) in
     rw (total_size.1, content_size.1, beginning.1, ending.1, discarded.1, sequence.1) refl
 
 pub context_there : (k : Known) (clock : Option (List ℕ)) (ms : Members) → RowsSound k places.StreamFeatures ms → IsSome (context clock (properties (codes "packet") ms))
@@ -127,7 +123,7 @@ context_there k clock ms h =
 event_header_said : (k : Known) (clock : Option (List ℕ)) (ms : Members) → RowsSound k places.EventRecordFeatures ms → IsSome (event_header clock ms)
 unfolding event_header
 event_header_said k clock ms h =
-    let id = some_there _ (feature_there k places.EventRecordFeatures ms h places.Feature (codes "type-id-field-type") true number_type any_feature (leads Property.event_id)) in
+    let id = some_there _ (feature_there k places.EventRecordFeatures ms h places.Feature (codes "type-id-field-type") true number_type (is_feature FeaturePlace.any) (leads Property.event_id)) in
     let timestamp = some_there _ (timestamp_there k places.EventRecordFeatures ms h (codes "timestamp-field-type") clock (leads Property.timestamp)) in
     rw (id.1, timestamp.1) refl
 
@@ -135,8 +131,6 @@ pub event_header_there : (k : Known) (clock : Option (List ℕ)) (ms : Members) 
 unfolding all_there orders_there rows_of
 event_header_there k clock ms h =
     by_object k places.StreamFeatures places.EventRecordFeatures (codes "event-record") ms (leads Property.event_record) (is_object OwnPlace.record_features) h (λ os. IsSome (event_header clock os)) refl (λ j os rows. event_header_said j clock os rows)
-
--- ---- maps of types that are read one behind another
 
 -- where each object of such a map says something, all of it does
 module _ {A : Type 0} {b : Bool} {place inner : Place} (map : MapPlace b place (At inner)) (one : OwnPlace true inner) (of : List ℕ → Members → Option A)
