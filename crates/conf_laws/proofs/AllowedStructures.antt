@@ -164,14 +164,12 @@ typed ms m e =
 
 member_type_allowed : (k : Known) (ms : Members) (m : MemberType) → IsGoodAt k (At places.MemberType) (object ms) → member_type ms ≡ Some m → IsConfigMember m
 unfolding is_position inside
-member_type_allowed k ms m h e = go (option_map_or is_dynamic_array (class_of ms) false) refl (typed ms m e)
-  where
-    go : (b : Bool) → option_map_or is_dynamic_array (class_of ms) false ≡ b → IsTyped b ms m → IsConfigMember m
-    go false is (t, there, same) = subst IsConfigMember same (plain_allowed k (object ms) t h there)
-    go true is (t, there, same) =
-        let class = array_told (class_of ms) is in
-        let own = properties_at k places.MemberType places.DynamicArray ms (class_place places.MemberType ms places.DynamicArray refl class) (good_object k places.MemberType ms h) in
-        subst IsConfigMember same (dynamic_allowed k ms t own there)
+member_type_allowed k ms m h e =
+    by_test (λ (b : Bool). option_map_or is_dynamic_array (class_of ms) false ≡ b → IsTyped b ms m → IsConfigMember m) (option_map_or is_dynamic_array (class_of ms) false)
+    (λ is _ (t, there, same).
+    let own = properties_at k places.MemberType places.DynamicArray ms (class_place places.MemberType ms places.DynamicArray refl (array_told (class_of ms) is)) (good_object k places.MemberType ms h) in
+    subst IsConfigMember same (dynamic_allowed k ms t own there))
+    (λ is _ (t, there, same). subst IsConfigMember same (plain_allowed k (object ms) t h there)) refl (typed ms m e)
 
 -- the object that a member's type is
 record Tells (d : Data) (m : MemberType) : Type 0 where
@@ -286,17 +284,13 @@ module _ (k : Known) (place : Place) (before : List (List ℕ)) (entries : item_
 
 -- ---- a structure that is made
 
-record IsMade (members : List (List ℕ × MemberType)) (align : ℕ) (s : StructType) : Type 0 where
-  members_are : s.members ≡ members
-  align_is : s.min_align ≡ align
-
-made_says : (members : List (List ℕ × MemberType)) (align : ℕ) (s : StructType) → made members align ≡ Some s → IsMade members align s
+made_says : (members : List (List ℕ × MemberType)) (align : ℕ) (s : StructType) → made members align ≡ Some s → (s.members ≡ members) × (s.min_align ≡ align)
 unfolding made
 made_says members align s e =
     let a = proved_some (nat_lt 0 align) _ s e in
     let b = proved_some (4096 % align == 0) _ s a.1 in
     let same = same_Some _ s b.1 in
-    record { members_are = ap (λ x. x.members) (sym same); align_is = ap (λ x. x.min_align) (sym same) }
+    (ap (λ x. x.members) (sym same), ap (λ x. x.min_align) (sym same))
 
 -- a members list, apart from names that were taken before
 record AreAllowed (before : List (List ℕ)) (ms : List (List ℕ × MemberType)) : Type 0 where
@@ -335,8 +329,8 @@ struct_of : (members : List (List ℕ × MemberType)) (align : ℕ) (s : StructT
 struct_of members align s h e =
     let says = made_says members (align_for members align) s e in
     record {
-      members = subst (λ l. AreConfigMembers l) (sym says.members_are) h.members;
-      empty = λ none. says.align_is ∙ ap (λ l. align_for l align) (sym says.members_are ∙ none);
+      members = subst (λ l. AreConfigMembers l) (sym says.0) h.members;
+      empty = λ none. says.1 ∙ ap (λ l. align_for l align) (sym says.0 ∙ none);
     }
 
 object_allowed : (k : Known) (ms : Members) (s : StructType) → IsGood k places.StructureType ms → structure_of ms ≡ Some s → IsConfigStruct s
@@ -365,9 +359,9 @@ extras_of : (members : List (List ℕ × MemberType)) (s : StructType) → AreAl
 extras_of members s h e =
     let says = made_says members 1 s e in
     record {
-      members = subst (λ l. AreConfigMembers l) (sym says.members_are) h.members;
-      align = says.align_is;
-      no_own_name = subst (λ l. All (λ name. list_any (bytes_eq name) own_names ≡ false) (names_in (shown_members 0 l))) (sym says.members_are) (All-from_recursion (λ name. list_any (bytes_eq name) own_names ≡ false) (shown_of members) h.free);
+      members = subst (λ l. AreConfigMembers l) (sym says.0) h.members;
+      align = says.1;
+      no_own_name = subst (λ l. All (λ name. list_any (bytes_eq name) own_names ≡ false) (names_in (shown_members 0 l))) (sym says.0) (All-from_recursion (λ name. list_any (bytes_eq name) own_names ≡ false) (shown_of members) h.free);
     }
 
 pub extras_allowed : (k : Known) (place : Place) (name : List ℕ) (ms : Members) (s : StructType) → Leads place name (At places.ExtraMembers) → AreGood k place ms → extra_members name ms ≡ Some s → AreExtras s

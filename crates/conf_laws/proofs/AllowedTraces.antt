@@ -40,11 +40,7 @@ size_allowed : (name : List ℕ) (ms : Members) (t : IntType) → size name ms �
 unfolding size
 size_allowed name ms t e =
     let read = mapped_some (λ x. unwrap_or x number_type) (feature name true number_type ms) t e in
-    subst IsPlainUnsigned read.2 (go read.0 (feature_allowed name true ms read.0 read.1))
-  where
-    go : (o : Option IntType) → OnlyIf o IsPlainUnsigned → IsPlainUnsigned (unwrap_or o number_type)
-    go None only = (refl, refl)
-    go (Some x) only = only x refl
+    subst IsPlainUnsigned read.2 (by_found (λ (o : Option IntType). OnlyIf o IsPlainUnsigned → IsPlainUnsigned (unwrap_or o number_type)) read.0 (λ is only. (refl, refl)) (λ x is only. only x refl) (feature_allowed name true ms read.0 read.1))
 
 -- an unsigned integer of this clock, or of none
 abbrev pub IsOfClock : Option (List ℕ) → IntType → Type 0
@@ -229,11 +225,7 @@ event_says : (name : List ℕ) (level : Option ℕ) (a b : Option StructType) (e
 event_says name level (Some x) (Some y) e is = let same = same_Some _ e is in (ap (λ r. r.name) same, ap (λ r. r.log_level) same, ap (λ r. Some r.specific) same, ap (λ r. Some r.payload) same)
 event_says name level _ _ e is = absurd cc
 
--- good, and of this name
-abbrev IsUnder : List ℕ → EventType → Type 0
-IsUnder name e = (e.name ≡ name) × IsGoodEvent e
-
-event_allowed : (k : Known) (name : List ℕ) (ms : Members) (e : EventType) → IsConfigName name → AreGood k places.EventType ms → event_type k.levels name ms ≡ Some e → IsUnder name e
+event_allowed : (k : Known) (name : List ℕ) (ms : Members) (e : EventType) → IsConfigName name → AreGood k places.EventType ms → event_type k.levels name ms ≡ Some e → (e.name ≡ name) × IsGoodEvent e
 unfolding event_type
 event_allowed k name ms e named h is =
     let says = event_says name (level_of k.levels (optional (codes "log-level") ms)) _ _ e is in (
@@ -277,11 +269,7 @@ stream_says name clock (Some a) (Some b) (Some c) (Some d) (Some e) s is =
     (ap (λ r. r.name) same, ap (λ r. r.default_clock) same, ap (λ r. Some r.context) same, ap (λ r. Some r.extras) same, ap (λ r. Some r.event_header) same, ap (λ r. Some r.common) same, ap (λ r. Some r.events) same)
 stream_says name clock _ _ _ _ _ s is = absurd cc
 
--- good, and of this name
-abbrev IsStreamUnder : List ℕ → StreamType → Type 0
-IsStreamUnder name s = (s.name ≡ name) × IsGoodStream s
-
-stream_allowed : (k : Known) (name : List ℕ) (ms : Members) (s : StreamType) → IsConfigName name → AreGood k places.StreamType ms → stream_type k.levels name ms ≡ Some s → IsStreamUnder name s
+stream_allowed : (k : Known) (name : List ℕ) (ms : Members) (s : StreamType) → IsConfigName name → AreGood k places.StreamType ms → stream_type k.levels name ms ≡ Some s → (s.name ≡ name) × IsGoodStream s
 unfolding stream_type
 stream_allowed k name ms s named h e =
     let says = stream_says name (clock_of ms) _ _ _ _ _ s e in (

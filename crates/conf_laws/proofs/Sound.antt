@@ -2,7 +2,7 @@
 -- property that is there is what its row asks for.
 use Rattle.std.proofs.Common.{arith, ◌≡◌, ◌++◌, ℕ, Bool, true, false, cond, List, [], ◌∷◌, map, Option, Some, None, Result, Ok, Err, refl, sym, subst, ◌∙◌, suc, option_map, option_and_then, ap}
 use Rattle.std.specs.Prelude.{⊤, ◌&&◌, codes, unwrap_or}
-use Rattle.conf_laws.proofs.Readings.{at_found, optional_found, by_found}
+use Rattle.conf_laws.proofs.Readings.{at_found, optional_found, by_found, by_test}
 use Rattle.conf_laws.proofs.Words.{class_words, class_in, admits_class, presence_under, Told, rows_of, row_in, content_under, Place, At, Content, Needed, Presence, class_named, class_of, class_said, told_by, class_rule, all_there, resolved_content, is_left_out, left_out, is_needed, is_null, property_flaws, inner_flaws, member_flaws, content_flaws, item_flaws, rows_there, row_there, orders_there, may_inherit, admitted, other_class, itself_of, any_object, Known, inside, behind, with_taken, key_of, with_names, place_of_properties, item_content, is_position, own_place, shape_of, is_unsigned_integer, Flaw, key, within, index, here, optional, given, ◌>>=◌, at, needed, text_of, wanted_found, found_there, both_read, read_there, is_passed, Data, null, object, Members, member, Items, item, no_members, get_member, as_object, as_str, nat_tests, and-false, bytes_eq-Decides, bytes_eq, object_at as object_in, properties}
 use Rattle.conf_laws.proofs.Words.places
 use Rattle.conf_laws.proofs.Words.contents
@@ -147,14 +147,11 @@ found_among : (name : List ℕ) (ms : Members) (rows : List Told) (row : Told) �
 found_among name ms [] row e f needed = absurd cc
 found_among name ms (r ∷ rows) row e f needed =
     let parts = both_read (row_there ms r) (λ _. rows_there ms rows) tt e in
-    go (bytes_eq r.name name) refl f parts.1 (λ g. found_among name ms rows row parts.2 g needed)
-  where
-    go : (b : Bool) → bytes_eq r.name name ≡ b → cond b (Some r) (row_in name rows) ≡ Some row → row_there ms r ≡ Ok tt → (row_in name rows ≡ Some row → (d : Data) × (get_member name ms ≡ Some d)) → (d : Data) × (get_member name ms ≡ Some d)
-    go true is g first later =
-        let same : r ≡ row = cc in
-        let named : r.name ≡ name = (bytes_eq-Decides r.name name).0 is in
-        subst (λ n. (d : Data) × (get_member n ms ≡ Some d)) named (row_found r ms (ap (λ x. is_needed x.presence) same ∙ needed) first)
-    go false is g first later = later g
+    by_test (λ (b : Bool). cond b (Some r) (row_in name rows) ≡ Some row → (d : Data) × (get_member name ms ≡ Some d)) (bytes_eq r.name name)
+    (λ is g.
+    let same : r ≡ row = cc in
+    subst (λ n. (d : Data) × (get_member n ms ≡ Some d)) ((bytes_eq-Decides r.name name).0 is) (row_found r ms (ap (λ x. is_needed x.presence) same ∙ needed) parts.1))
+    (λ is g. found_among name ms rows row parts.2 g needed) f
 
 module _ (place : Place) (name : List ℕ) (ms : Members) where
   pub needed_there : presence_under place name ≡ Some Needed → all_there place ms ≡ Ok tt → (d : Data) × (get_member name ms ≡ Some d)

@@ -15,11 +15,7 @@ unfolding integers.made
 made_there size align signed base a b c = proved_there (nat_lt 0 size) _ a (λ _. proved_there (nat_le size 64) _ b (λ _. proved_there (nat_lt 0 align) _ c.positive (λ _. proved_there (4096 % align == 0) _ c.power (λ _. refl))))
 
 by_default : (size : ℕ) → IsAlignment (default_align size)
-by_default size = go (size % 8 == 0)
-  where
-    go : (b : Bool) → IsAlignment (cond b 8 1)
-    go true = record { positive = refl; power = refl }
-    go false = record { positive = refl; power = refl }
+by_default size = by_test (λ (b : Bool). IsAlignment (cond b 8 1)) (size % 8 == 0) (λ is. record { positive = refl; power = refl }) (λ is. record { positive = refl; power = refl })
 
 pub integer_said : (k : Known) (place : Place) (signed : Bool) (ms : Members) → Property true place (codes "size") (Whole (pos 1) (pos 64)) → RowsSound k place ms → IsSome (integer signed ms)
 unfolding integer size_of integers.align_of
