@@ -2,13 +2,11 @@
 -- Lists that have an item for each entry of a map, under its name, are in byte order, and no longer than the map: environments and clock
 -- types that have no flaw and pass no limit are ones that the rules allow.
 use Rattle.std.proofs.Common.{◌≡◌, ℕ, ◌||◌, ◌&&◌, true, List, length, Ok, arith, ◌==◌, ◌%◌, Bool, false, Some, None, nat_lt, sym, ap, ◌≢◌, ℤ, pos, suc, ◌<◌, ◌≤◌, [], ◌∷◌, ◌++◌, Less, Greater, nat_cmp, refl, subst, ◌∙◌, length-append, All, Option, map, nat_le, int_le, codes, option_and_then, unwrap_or, negsuc}
-use Rattle.conf_draft.specs.Integers.{made, align_of}
-use Rattle.conf_judge.specs.Limits as limits
 use Rattle.conf_laws.proofs.Numbers.{whole_there, lowest_end, highest_end, ReadSo, read_so, some_size, natural_is_in}
 use Rattle.conf_laws.proofs.Properties.{AreGoodItems, IsGoodEntry, entry_in, plain_rest, good_items, item_first, item_rest, AreGood, IsGoodAt, good_object, own_properties, fitting_parts, needed_at, names_of, sorted_names, names_counted, all_in, entry_object, property_at, MapPlace, is_map, is_plain, Property, leads, needed_by, OwnPlace, is_own, is_object}
 use Rattle.conf_laws.proofs.Readings.{under_no_test, proved_some, was_so, all_joined, mapped_some, same_natural, word_there, by_found}
 use Rattle.conf_laws.proofs.Sound.{needed_there, Leads}
-use Rattle.conf_laws.proofs.Words.{IsPair, entries_of, Place, At, WholeOrText, Whole, Text, Content, all_there, itself_of, form_of, Known, with_taken, key_fits, count_of, ranges_fit, key_of, key_by, names_beside, with_names, end_of, range_of, is_inside, inside_of, natural_in, numbers_of, numbers_in, all_numbers, item_content, leaf_of, whole_or_text, fits, here, AllAbove, IsInOrder, whole_of, whole_or_not, given, OutOfRange, both_read, is_passed, name_of, is_reserved, plain_name_of, is_printable, Members, Data, number, array, Num, unsigned, negative, float, Items, no_items, item, no_members, member, object, items_len, as_integer, as_array, get_member, optional, as_natural, string, members_len, as_object, nat_tests, and_parts, or_parts, leb-true, nat_list_cmp_total, tied_itself, T_from_true, All-from_recursion, All-weaker, same_Some, slice_cmp, le_z_yes, list_any, option_map_or, AllByRecursion, bytes_eq, length-map, map-append, whole, low, high, ranges_in, mappings_of as ranges_of, labels_in, enumeration, integer, size_of, base_of, object_at, properties, IsPlainUnsigned, LabelsInOrder, lowest, highest, IsRangeOf, IsEnumeration, is_name as is_identifier, unused_keywords, used_keywords, IsConfigName, IsPlainName, IsConfigText, Base, EnumType, IntType, Mapping, clock_type, clocks_in, clock_types, entry_value, entries_in, environment, natural, word, InByteOrder, IsEnvironmentValue, IsClockType, ClockType, EnvironmentEntry}
+use Rattle.conf_laws.proofs.Words.{IsPair, entries_of, Place, At, WholeOrText, Whole, Text, Content, all_there, itself_of, form_of, Known, with_taken, key_fits, count_of, ranges_fit, key_of, key_by, names_beside, with_names, end_of, range_of, is_inside, inside_of, natural_in, numbers_of, numbers_in, all_numbers, item_content, leaf_of, whole_or_text, fits, here, AllAbove, IsInOrder, whole_of, whole_or_not, given, OutOfRange, both_read, is_passed, name_of, is_reserved, plain_name_of, is_printable, Members, Data, number, array, Num, unsigned, negative, float, Items, no_items, item, no_members, member, object, items_len, as_integer, as_array, get_member, optional, as_natural, string, members_len, as_object, nat_tests, and_parts, or_parts, leb-true, nat_list_cmp_total, tied_itself, T_from_true, All-from_recursion, All-weaker, same_Some, slice_cmp, le_z_yes, list_any, option_map_or, AllByRecursion, bytes_eq, length-map, map-append, whole, low, high, ranges_in, mappings_of as ranges_of, labels_in, enumeration, integer, size_of, base_of, object_at, properties, IsPlainUnsigned, LabelsInOrder, lowest, highest, IsRangeOf, IsEnumeration, is_name as is_identifier, unused_keywords, used_keywords, IsConfigName, IsPlainName, IsConfigText, Base, EnumType, IntType, Mapping, clock_type, clocks_in, clock_types, entry_value, entries_in, environment, natural, word, InByteOrder, IsEnvironmentValue, IsClockType, ClockType, EnvironmentEntry, integer_made as made, integer_align as align_of, counted_ranges}
 use Rattle.conf_laws.proofs.Words.places
 
 pub config_name : (name : List ℕ) → name_of name ≡ Ok tt → IsConfigName name
@@ -36,19 +34,15 @@ pub record IsMade (size align : ℕ) (signed : Bool) (t : IntType) : Type 0 wher
   pub sign_is : t.signed ≡ signed
   pub no_clock : t.clock ≡ None
 
-made_says : (size align : ℕ) (signed : Bool) (base : Base) (t : IntType) → made size align signed base ≡ Some t → IsMade size align signed t
-unfolding made
-made_says size align signed base t e =
-    let a = proved_some (nat_lt 0 size) _ t e in
-    let b = proved_some (nat_le size 64) _ t a.1 in
-    let c = proved_some (nat_lt 0 align) _ t b.1 in
-    let d = proved_some (4096 % align == 0) _ t c.1 in
+pub integer_says : (signed : Bool) (ms : Members) (t : IntType) → integer signed ms ≡ Some t → IsMade (size_of ms) (align_of ms) signed t
+unfolding integer made
+integer_says signed ms t e =
+    let a = proved_some (nat_lt 0 (size_of ms)) _ t e in
+    let b = proved_some (nat_le (size_of ms) 64) _ t a.1 in
+    let c = proved_some (nat_lt 0 (align_of ms)) _ t b.1 in
+    let d = proved_some (4096 % align_of ms == 0) _ t c.1 in
     let same = same_Some _ t d.1 in
     record { size_is = ap (λ x. x.size) (sym same); align_is = ap (λ x. x.align) (sym same); sign_is = ap (λ x. x.signed) (sym same); no_clock = ap (λ x. x.clock) (sym same) }
-
-pub integer_says : (signed : Bool) (ms : Members) (t : IntType) → integer signed ms ≡ Some t → IsMade (size_of ms) (align_of ms) signed t
-unfolding integer
-integer_says signed ms t e = made_says (size_of ms) (align_of ms) signed (base_of ms) t e
 
 pub unsigned_says : (ms : Members) (t : IntType) → integer false ms ≡ Some t → IsPlainUnsigned t
 unsigned_says ms t e = let made = integer_says false ms t e in (made.sign_is, made.no_clock)
@@ -136,7 +130,7 @@ own_few : (label : List ℕ) (d : Data) → length (ranges_of label d) ≤ count
 own_few label (array ds) = omega (arith, ranges_counted label ds)
 own_few label _ = omega arith
 
-pub labels_few : (labels : Members) → length (labels_in labels) ≤ limits.ranges_in labels
+pub labels_few : (labels : Members) → length (labels_in labels) ≤ counted_ranges labels
 labels_few no_members = omega arith
 labels_few (member label d ms) = omega (arith, labels_few ms, own_few label d, length-append (ranges_of label d) (labels_in ms))
 
@@ -195,7 +189,7 @@ unfolding ranges_fit
 mappings_good k labels h =
     let whole = good_object k places.Mappings labels h in
     let good = own_properties k places.Mappings labels (is_own OwnPlace.mappings) whole in
-    let few = leb-true (limits.ranges_in labels) 1024 (fitting_parts places.Mappings (object labels) whole.fitting).2 in
+    let few = leb-true (counted_ranges labels) 1024 (fitting_parts places.Mappings (object labels) whole.fitting).2 in
     record {
       each = All-from_recursion (IsGoodMapping k) (labels_in labels) (labels_good k labels good);
       in_order = labels_in_order labels whole.in_order;

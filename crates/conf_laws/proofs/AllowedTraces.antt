@@ -1,13 +1,12 @@
 -- Features that have no flaw have types that the rules allow.
 -- What a configuration says that has no flaw, passes no limit and keeps the rules over the whole is what the rules allow.
 use Rattle.std.proofs.Common.{◌≡◌, ℕ, ◌&&◌, Bool, true, false, List, Option, Some, None, is_some, refl, sym, ap, subst, ◌∙◌, append_assoc, pos, ◌<◌, ◌^◌, [], ◌∷◌, ◌++◌, Ok, Err, arith, map, codes, option_map, option_and_then, unwrap_or}
-use Rattle.conf_draft.specs.Integers.{align_of}
 use Rattle.conf_laws.proofs.AllowedMaps.{integer_says, unsigned_says, config_name, AreAllowed, AreUnder, none_under, last_under, map_allowed, AreClocks, clocks_allowed, IsEnvironment, environment_allowed}
 use Rattle.conf_laws.proofs.Numbers.{number_told, natural_is_in}
 use Rattle.conf_laws.proofs.Properties.{AreGood, good_object, own_properties, property_at, all_in, names_of, entry_in, entry_object, IsGood, entry_rest, IsGoodAt, properties_at, object_in, content_within, Property, leads, OwnPlace, is_object, is_own, MapPlace, is_map, type_object}
 use Rattle.conf_laws.proofs.Readings.{mapped_some, object_there, same_natural, was_so, then_some, by_found}
 use Rattle.conf_laws.proofs.Sound.{optional_there, Leads, content_sound}
-use Rattle.conf_laws.proofs.Words.{Place, At, entries_of, Level, class_of, Known, natural_in, shape_of, is_number, is_eight, is_byte, is_identifier, is_unsigned_integer, configuration_flaws, itself_of, behind, nothing, inside, members_or_none, leaf_of, level, whole_from, configuration_limits, key_of, key_by, optional, as_natural, Data, boolean, object, Members, get_member, no_members, Ascends, string, member, here, NoSuchAlias, as_object, and_parts, same_Some, append-nil, option_map_or, All-map, alignment_of, alignment, number_type, magic_type, byte_type, if_on, feature_of, feature, byte_of, identifier, size, mapped, timestamp, header_with, header, context_with, context, event_header_with, event_header, integer, size_of, default_align, natural, object_at, properties, said_behind, OnlyIf, IsPlainUnsigned, ContextFeatures, EventFeatures, HeaderFeatures, IntType, clock_types, environment, level_of, event_with, event_type, event_types, stream_with, clock_of, stream_type, stream_types, draft_with, draft_of_type, draft_of_trace, draft_of_root, draft_of, Draft, IsConfigStruct, IsStreamType, IsConfig, IsConfigName, IsPlainName, ClockType, Config, EnvironmentEntry, EventType, StreamType, StructType, KeepsStreamRules, KeepsRules}
+use Rattle.conf_laws.proofs.Words.{Place, At, entries_of, Level, class_of, Known, natural_in, shape_of, is_number, is_eight, is_byte, is_identifier, is_unsigned_integer, configuration_flaws, itself_of, behind, nothing, inside, members_or_none, leaf_of, level, whole_from, configuration_limits, key_of, key_by, optional, as_natural, Data, boolean, object, Members, get_member, no_members, Ascends, string, member, here, NoSuchAlias, as_object, and_parts, same_Some, append-nil, option_map_or, All-map, alignment_of, alignment, number_type, magic_type, byte_type, if_on, feature_of, feature, byte_of, identifier, size, mapped, timestamp, header_with, header, context_with, context, event_header_with, event_header, integer, size_of, default_align, natural, object_at, properties, said_behind, OnlyIf, IsPlainUnsigned, ContextFeatures, EventFeatures, HeaderFeatures, IntType, clock_types, environment, level_of, event_with, event_type, event_types, stream_with, clock_of, stream_type, stream_types, draft_with, draft_of_type, draft_of_trace, draft_of_root, draft_of, Draft, IsConfigStruct, IsStreamType, IsConfig, IsConfigName, IsPlainName, ClockType, Config, EnvironmentEntry, EventType, StreamType, StructType, KeepsStreamRules, KeepsRules, integer_align as align_of}
 use Rattle.conf_laws.proofs.Words.places
 use Rattle.conf_laws.proofs.AllowedStructures.{structure_allowed, AreExtras, extras_allowed}
 
@@ -28,13 +27,9 @@ feature_only P of b s (Some (boolean c)) t ps from e = on_or_off P c s t ps e
 feature_only P of b s (Some (object ms)) t ps from e = own_only P (of ms) t (λ x is. from ms x refl is) e
 feature_only P of b s _ t ps from e = on_or_off P b s t ps e
 
-feature_says : (P : IntType → Type 0) (name : List ℕ) (b : Bool) (s : IntType) (ms : Members) (t : Option IntType) → P s → ((inner : Members) (x : IntType) → optional name ms ≡ Some (object inner) → integer false inner ≡ Some x → P x)
-    → feature name b s ms ≡ Some t → OnlyIf t P
-unfolding feature
-feature_says P name b s ms t ps from e = feature_only P (integer false) b s (optional name ms) t ps from e
-
 feature_allowed : (name : List ℕ) (b : Bool) (ms : Members) (t : Option IntType) → feature name b number_type ms ≡ Some t → OnlyIf t IsPlainUnsigned
-feature_allowed name b ms t e = feature_says IsPlainUnsigned name b number_type ms t (refl, refl) (λ inner x there is. unsigned_says inner x is) e
+unfolding feature
+feature_allowed name b ms t e = feature_only IsPlainUnsigned (integer false) b number_type (optional name ms) t (refl, refl) (λ inner x there is. unsigned_says inner x is) e
 
 size_allowed : (name : List ℕ) (ms : Members) (t : IntType) → size name ms ≡ Some t → IsPlainUnsigned t
 unfolding size
@@ -121,11 +116,11 @@ header_says (Some x) (Some y) (Some z) f e =
 header_says _ _ _ f e = absurd cc
 
 pub header_allowed : (k : Known) (has : Bool) (ms : Members) (f : HeaderFeatures) → AreGood k places.TraceFeatures ms → header has ms ≡ Some f → IsHeader f
-unfolding header
+unfolding header feature
 header_allowed k has ms f h e =
     let says = header_says _ _ _ f e in
     record {
-      magic = (feature_says IsMagic (codes "magic-field-type") true magic_type ms f.magic ((refl, refl), refl) (λ inner x there is. magic_good k ms inner x h there is) says.0);
+      magic = feature_only IsMagic (integer false) true magic_type (optional (codes "magic-field-type") ms) f.magic ((refl, refl), refl) (λ inner x there is. magic_good k ms inner x h there is) says.0;
       uuid = identifier_allowed k has ms f.uuid h says.1;
       stream_id = feature_allowed (codes "data-stream-type-id-field-type") true ms f.stream_id says.2;
     }

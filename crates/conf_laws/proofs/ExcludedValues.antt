@@ -1,15 +1,12 @@
 -- A value of which nothing is told by itself is what its row says that it is, and of the kind of its place; and a name of which nothing
 -- is told is one that the entry can have.
 use Rattle.std.proofs.Common.{◌≡◌, ◌*◌, ◌/◌, ◌<◌, ◌%◌, ◌==◌, ◌&&◌, ◌||◌, ℕ, suc, ℤ, pos, negsuc, ◌<ℤ◌, Bool, true, false, cond, not, List, [], ◌∷◌, map, Contains, Some, is_some, Ok, inl, inr, sym, ap, subst, ◌∙◌, arith, ◌↔◌, length, codes, nat_le, nat_lt, nat_eq, int_le, unwrap_or, option_map}
-use Rattle.ctf_types.proofs.Ends.{divisors_of_pow}
-use Rattle.uuid.specs.Text.{parsed}
-use borrow.Author.Differences.{le-true, lt_out}
 use Rattle.conf_laws.proofs.Agreement.{Agrees, IsTrue, told_dynamic}
 use Rattle.conf_laws.proofs.Numbers.{whole_read, whole_there, lowest_end, highest_end, ReadSo, read_so, end_whole, some_size}
 use Rattle.conf_laws.proofs.Readings.{was_so, under_no_test, some_none, some_same, by_test}
 use Rattle.conf_laws.proofs.TableFlawLaws.{number_found}
 use Rattle.conf_laws.proofs.ValueFlawLaws.{has_by_bytes}
-use Rattle.conf_laws.proofs.Words.{Around, enumeration_around, HasBits, IsTaken, IsPowerOfTwo, IsNoPowerOfTwo, IsNoLevel, IsNoWholeOrText, IsNoDefault, IsWhole, IsPair, IsRange, IsNoRange, IsNoSomeList, IsNoSomeObject, IsNoEntry, IsNoFeature, IsNoSizeFeature, IsNoneAt, IsNoValueOf, IsNoMemberName, IsNoLabel, IsNoKey, IsNoNameAt, ClassWord, class_words, class_in, words_of, Place, Content, Keys, any_object, feature_form as feature, size_feature, form_of, itself_of, Known, nothing, only_if, whole_from, is_power_of_two, power_of, whole_or_text, level, leaf_of, is_dynamic, is_taken, free_of, key_by, key_of, all_numbers, numbers_of, numbers_in, end_of, range_of, is_inside, inside_of, Flaw, here, whole_of, ◌>>=◌, text_of, flag_of, WrongKind, OutOfRange, BadName, ReservedName, NameClash, word_listed as listed, both_read, is_passed, IsNoText, IsNoFlag, IsNoWhole, IsNoConfigText, IsNoUuid, IsNoWordOf, IsControl, IsNoObject, IsNoList, IsNoName, IsNoPlainName, name_of, is_reserved, plain_name_of, is_printable, uuid_in, Data, boolean, string, array, Members, Items, no_items, item, items_len, members_len, as_str, as_number, as_integer, as_array, true≢false, false≢true, and_parts, and_from, option_map_or, or_from, or_cases, ltb-true, lt-leb, ne_eqb, eqb-true, or_parts, leb-true, list_all_at, same_Some, bytes_eq-Decides, list_any, bytes_eq, lowest, highest, is_name as is_identifier, unused_keywords, used_keywords, length_name}
+use Rattle.conf_laws.proofs.Words.{Around, enumeration_around, HasBits, IsTaken, IsPowerOfTwo, IsNoPowerOfTwo, IsNoLevel, IsNoWholeOrText, IsNoDefault, IsWhole, IsPair, IsRange, IsNoRange, IsNoSomeList, IsNoSomeObject, IsNoEntry, IsNoFeature, IsNoSizeFeature, IsNoneAt, IsNoValueOf, IsNoMemberName, IsNoLabel, IsNoKey, IsNoNameAt, ClassWord, class_words, class_in, words_of, Place, Content, Keys, any_object, feature_form as feature, size_feature, form_of, itself_of, Known, nothing, only_if, whole_from, is_power_of_two, power_of, whole_or_text, level, leaf_of, is_dynamic, is_taken, free_of, key_by, key_of, all_numbers, numbers_of, numbers_in, end_of, range_of, is_inside, inside_of, Flaw, here, whole_of, ◌>>=◌, text_of, flag_of, WrongKind, OutOfRange, BadName, ReservedName, NameClash, word_listed as listed, both_read, is_passed, IsNoText, IsNoFlag, IsNoWhole, IsNoConfigText, IsNoUuid, IsNoWordOf, IsControl, IsNoObject, IsNoList, IsNoName, IsNoPlainName, name_of, is_reserved, plain_name_of, is_printable, uuid_in, Data, boolean, string, array, Members, Items, no_items, item, items_len, members_len, as_str, as_number, as_integer, as_array, true≢false, false≢true, and_parts, and_from, option_map_or, or_from, or_cases, ltb-true, lt-leb, ne_eqb, eqb-true, or_parts, leb-true, list_all_at, same_Some, bytes_eq-Decides, list_any, bytes_eq, lowest, highest, is_name as is_identifier, unused_keywords, used_keywords, length_name, divisors_of_pow, parsed, le-true, lt_out}
 use Rattle.conf_laws.proofs.Words.places
 use Rattle.conf_laws.proofs.Words.contents
 use Rattle.conf_laws.proofs.Words.keys

@@ -1,11 +1,9 @@
 -- A whole number that is in its range is a natural number in it; what a range that was read says; and the alignments of fields, where one
 -- that passes no limit is the very number that is read.
 use Rattle.std.proofs.Common.{◌≡◌, ◌≤◌, ℕ, ℤ, pos, negsuc, true, false, List, Option, Some, Ok, nat_le, leb-true, le-leb, arith, refl, sym, ap, subst, ◌∙◌, None, ◌<◌, Bool, ◌%◌, ◌==◌, cond, ◌&&◌, int_le, nat_lt, nat_eq, ◌||◌, codes, option_and_then, unwrap_or}
-use Rattle.conf_draft.specs.Integers as integers
-use Rattle.conf_draft.specs.Structures as structures
 use Rattle.conf_laws.proofs.Readings.{optional_found, by_found, by_test}
 use Rattle.conf_laws.proofs.Sound.{Leads, RowsSound, needed_sound}
-use Rattle.conf_laws.proofs.Words.{IsWhole, IsPair, presence_under, Place, Whole, Needed, is_null, itself_of, Known, leaf_of, whole_from, is_power_of_two, divides, numbers_of, end_of, pair_of, single_of, range_of, is_number, here, index, whole_of, whole_or_not, wanted, at, OutOfRange, wanted_found, both_read, is_passed, read_there, ok_same, as_natural, natural_or_none, integer_or_none, Data, number, Num, Members, array, Items, no_items, item, as_integer, as_number, as_array, nat_tests, false≢true, and_parts, eqb-true, same_Some, is_alignment, alignment_of, alignment, natural, lowest, highest}
+use Rattle.conf_laws.proofs.Words.{IsWhole, IsPair, presence_under, Place, Whole, Needed, is_null, itself_of, Known, leaf_of, whole_from, is_power_of_two, divides, numbers_of, end_of, pair_of, single_of, range_of, is_number, here, index, whole_of, whole_or_not, wanted, at, OutOfRange, wanted_found, both_read, is_passed, read_there, ok_same, as_natural, natural_or_none, integer_or_none, Data, number, Num, Members, array, Items, no_items, item, as_integer, as_number, as_array, nat_tests, false≢true, and_parts, eqb-true, same_Some, is_alignment, alignment_of, alignment, natural, lowest, highest, integer_align, default_align, size_of, align_of}
 
 pub whole_there : (low high : ℤ) (found : Option ℤ) (z : ℤ) → whole_or_not low high found ≡ Ok z → (found ≡ Some z) × (int_le low z ≡ true) × (int_le z high ≡ true)
 whole_there low high None z e = absurd cc
@@ -139,10 +137,10 @@ module _ (ms : Members) (n : ℕ) (power : is_power_of_two (pos n) ≡ true) (fi
       let divisor : (4096 % n == 0) ≡ true = no_zero n (4096 % n == 0) some fits in
       ap (option_and_then alignment_of) is ∙ rw (some, divisor) refl
 
-  pub integer_kept : natural (codes "alignment") ms ≡ Some n → integers.align_of ms ≡ n
-  unfolding integers.align_of
-  integer_kept is = ap (λ o. unwrap_or o (integers.default_align (integers.size_of ms))) (kept (codes "alignment") is)
+  pub integer_kept : natural (codes "alignment") ms ≡ Some n → integer_align ms ≡ n
+  unfolding integer_align
+  integer_kept is = ap (λ o. unwrap_or o (default_align (size_of ms))) (kept (codes "alignment") is)
 
-  pub structure_kept : natural (codes "minimum-alignment") ms ≡ Some n → structures.align_of ms ≡ n
-  unfolding structures.align_of
+  pub structure_kept : natural (codes "minimum-alignment") ms ≡ Some n → align_of ms ≡ n
+  unfolding align_of
   structure_kept is = ap (λ o. unwrap_or o 1) (kept (codes "minimum-alignment") is)

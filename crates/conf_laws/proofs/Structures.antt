@@ -1,28 +1,27 @@
 -- Field types that have no flaw say something, and so do the members of a structure, structures and the extra members of a packet
 -- context. The names that members take are apart, and apart from names that were taken before.
 use Rattle.std.proofs.Common.{◌≡◌, ◌%◌, ◌==◌, ◌&&◌, ℕ, nat_eq, pos, Bool, true, false, cond, Some, IsSome, nat_lt, nat_le, leb-true, lt-ltb, arith, refl, sym, ap, subst, Option, None, is_some, Ok, ◌∙◌, ◌+◌, ◌||◌, List, [], ◌∷◌, ◌++◌, length, All, length-append, append_assoc, ◌⊎◌, suc, option_map, inl, inr, codes, unwrap_or, option_and_then}
-use Rattle.conf_draft.specs.Integers as integers
 use Rattle.conf_laws.proofs.Numbers.{IsAlignment, alignment_or, needed_natural}
 use Rattle.conf_laws.proofs.Readings.{proved_there, element_is, by_element, mapped_there, all_joined, under_no_test, optional_found, then_there, by_found, by_test}
 use Rattle.conf_laws.proofs.Sound.{RowsSound, ContentSound, object_sound, needed_sound, TypeSound, type_sound, ObjectSound, PropertySound, object_at, content_sound, first_item, rows_sound, first_entry, Leads, optional_sound}
 use Rattle.conf_laws.proofs.Properties.{Property, leads, needed_by, MapPlace, is_map}
-use Rattle.conf_laws.proofs.Words.{admits_class, is_class, is_dynamic_array, Place, Whole, At, entries_of, itself_of, form_of, any_object, Known, inside, is_position, inner_flaws, item_flaws, nothing, with_taken, take, is_taken, key_of, key_by, free_of, is_dynamic, with_names, names_beside, own_place, place_of_properties, item_content, Members, Data, object, get_member, optional, here, WrongKind, is_passed, members_len, ◌>>=◌, both_read, plain_name_of, Items, no_items, item, no_members, member, array, as_array, as_object, eqb-true, false≢true, or_parts, All-push, All-nil, list_any-append, map-append, bytes_eq-Decides, IsDistinct, option_map_or, AllByRecursion, list_any, bytes_eq, enumeration, field_type, element, of_class, static, length_of, size_of, base_of, default_align, integer, Base, FieldType, object_at as object_in, list as list_in, member_type, member_said as member_of, behind_done, members_behind, made, align_for, listed, align_of, structure_of, structure, extra_members, names_in, IsPlainName, length_name, shown_members, Auto, AtMember, Plain, Dyn, MemberType}
+use Rattle.conf_laws.proofs.Words.{admits_class, is_class, is_dynamic_array, Place, Whole, At, entries_of, itself_of, form_of, any_object, Known, inside, is_position, inner_flaws, item_flaws, nothing, with_taken, take, is_taken, key_of, key_by, free_of, is_dynamic, with_names, names_beside, own_place, place_of_properties, item_content, Members, Data, object, get_member, optional, here, WrongKind, is_passed, members_len, ◌>>=◌, both_read, plain_name_of, Items, no_items, item, no_members, member, array, as_array, as_object, eqb-true, false≢true, or_parts, All-push, All-nil, list_any-append, map-append, bytes_eq-Decides, IsDistinct, option_map_or, AllByRecursion, list_any, bytes_eq, enumeration, field_type, element, of_class, static, length_of, size_of, base_of, default_align, integer, Base, FieldType, object_at as object_in, list as list_in, member_type, member_said as member_of, behind_done, members_behind, made, align_for, listed, align_of, structure_of, structure, extra_members, names_in, IsPlainName, length_name, shown_members, Auto, AtMember, Plain, Dyn, MemberType, integer_align, integer_made}
 use Rattle.conf_laws.proofs.Words.places
 use Rattle.conf_laws.proofs.Agreement.{taken_put}
 
-made_there : (size align : ℕ) (signed : Bool) (base : Base) → nat_lt 0 size ≡ true → nat_le size 64 ≡ true → IsAlignment align → IsSome (integers.made size align signed base)
-unfolding integers.made
+made_there : (size align : ℕ) (signed : Bool) (base : Base) → nat_lt 0 size ≡ true → nat_le size 64 ≡ true → IsAlignment align → IsSome (integer_made size align signed base)
+unfolding integer_made
 made_there size align signed base a b c = proved_there (nat_lt 0 size) _ a (λ _. proved_there (nat_le size 64) _ b (λ _. proved_there (nat_lt 0 align) _ c.positive (λ _. proved_there (4096 % align == 0) _ c.power (λ _. refl))))
 
 by_default : (size : ℕ) → IsAlignment (default_align size)
 by_default size = by_test (λ (b : Bool). IsAlignment (cond b 8 1)) (size % 8 == 0) (λ is. record { positive = refl; power = refl }) (λ is. record { positive = refl; power = refl })
 
 pub integer_said : (k : Known) (place : Place) (signed : Bool) (ms : Members) → Property true place (codes "size") (Whole (pos 1) (pos 64)) → RowsSound k place ms → IsSome (integer signed ms)
-unfolding integer size_of integers.align_of
+unfolding integer size_of integer_align
 integer_said k place signed ms rows h =
     let n = needed_natural k place (codes "size") 1 64 ms (leads rows) (needed_by rows) h (omega arith) in
     let is = sym (ap (λ o. unwrap_or o 0) n.1) in
-    made_there (size_of ms) (integers.align_of ms) signed (base_of ms) (subst (λ x. nat_lt 0 x ≡ true) is (lt-ltb 0 n.0 (let a = leb-true 1 n.0 n.2 in omega arith))) (subst (λ x. nat_le x 64 ≡ true) is n.3) (alignment_or (codes "alignment") (default_align (size_of ms)) ms (by_default (size_of ms)))
+    made_there (size_of ms) (integer_align ms) signed (base_of ms) (subst (λ x. nat_lt 0 x ≡ true) is (lt-ltb 0 n.0 (let a = leb-true 1 n.0 n.2 in omega arith))) (subst (λ x. nat_le x 64 ≡ true) is n.3) (alignment_or (codes "alignment") (default_align (size_of ms)) ms (by_default (size_of ms)))
 
 -- ---- static arrays
 
@@ -201,19 +200,16 @@ member_class places.DynamicArray a = inl refl
 member_class places.Structure a = absurd (false≢true a)
 member_class _ a = inr (refl, a)
 
-member_by : (k : Known) (ms : Members) (t : TypeSound k places.MemberType ms) → (t.class ≡ places.DynamicArray) ⊎ ((is_dynamic_array t.class ≡ false) × (admits_class places.ElementType t.class ≡ true))
-    → IsSome (cond (is_dynamic_array t.class) (option_map (λ x. Dyn x Auto) (element ms)) (option_map (λ x. Plain x) (field_type (object ms))))
-member_by k ms t (inl same) =
-    let said = array_said (inside t.class ms k) ms (subst (λ p. RowsSound (inside t.class ms k) p ms) same t.rows) in
-    subst (λ c. IsSome (cond (is_dynamic_array c) (option_map (λ x. Dyn x Auto) (element ms)) (option_map (λ x. Plain x) (field_type (object ms))))) (sym same) (mapped_there (λ x. Dyn x Auto) (element ms) said)
-member_by k ms t (inr other) =
-    subst (λ b. IsSome (cond b (option_map (λ x. Dyn x Auto) (element ms)) (option_map (λ x. Plain x) (field_type (object ms))))) (sym other.0) (mapped_there (λ x. Plain x) (field_type (object ms)) (type_said k places.MemberType ms t other.1))
-
 member_said : (k : Known) (ms : Members) → ObjectSound k places.MemberType ms → IsSome (member_type ms)
 unfolding member_type is_position
 member_said k ms h =
     let t = type_sound k places.MemberType ms refl h in
-    subst (λ o. IsSome (cond (option_map_or is_dynamic_array o false) (option_map (λ x. Dyn x Auto) (element ms)) (option_map (λ x. Plain x) (field_type (object ms))))) (sym t.is) (member_by k ms t (member_class t.class t.may_stand))
+    subst (λ o. IsSome (cond (option_map_or is_dynamic_array o false) (option_map (λ x. Dyn x Auto) (element ms)) (option_map (λ x. Plain x) (field_type (object ms))))) (sym t.is) (elim (member_class t.class t.may_stand) [
+      | inl same ↦
+          let said = array_said (inside t.class ms k) ms (subst (λ p. RowsSound (inside t.class ms k) p ms) same t.rows) in
+          subst (λ c. IsSome (cond (is_dynamic_array c) (option_map (λ x. Dyn x Auto) (element ms)) (option_map (λ x. Plain x) (field_type (object ms))))) (sym same) (mapped_there (λ x. Dyn x Auto) (element ms) said)
+      | inr other ↦ subst (λ b. IsSome (cond b (option_map (λ x. Dyn x Auto) (element ms)) (option_map (λ x. Plain x) (field_type (object ms))))) (sym other.0) (mapped_there (λ x. Plain x) (field_type (object ms)) (type_said k places.MemberType ms t other.1))
+    ])
 
 -- ---- the member that an entry tells of
 

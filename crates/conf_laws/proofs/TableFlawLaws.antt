@@ -1,11 +1,10 @@
 -- Each flaw of the walk over a configuration's objects is one of them by the table.
-use Rattle.std.proofs.Common.{◌≡◌, ◌≢◌, ◌⊎◌, ◌&&◌, ◌||◌, ℕ, Bool, true, false, cond, List, Option, Some, None, is_some, IsSome, inl, inr, refl, sym, ap, ◌∙◌, not, [], ◌∷◌, Contains, Ok, Err, arith, suc, ◌++◌, map, Result, option_and_then, unwrap_or}
-use Rattle.std.specs.Prelude.{codes, ⊤}
+use Rattle.std.proofs.Common.{codes, ◌≡◌, ◌≢◌, ◌⊎◌, ◌&&◌, ◌||◌, ℕ, Bool, true, false, cond, List, Option, Some, None, is_some, IsSome, inl, inr, refl, sym, ap, ◌∙◌, not, [], ◌∷◌, Contains, Ok, Err, arith, suc, ◌++◌, map, Result, option_and_then, unwrap_or}
 use Rattle.conf_laws.proofs.Agreement.{Agrees, nothing_agrees, inside_agrees, behind_agrees, Takes, takes_beside, takes_further, item_agrees, ItemParts, item_found}
 use Rattle.conf_laws.proofs.Numbers.{number_told}
 use Rattle.conf_laws.proofs.Readings.{some_none, element_bits, by_element, by_found, by_test}
 use Rattle.conf_laws.proofs.ValueFlawLaws.{either_step, not_passed, no_class_word, none_there, number_there, value_told, name_told}
-use Rattle.conf_laws.proofs.Words.{HasNumber, Around, Parts, member_of, item_of, IsPropertyOf, IsLeftOut, IsNoClassAt, HasNotItsRows, IsByte, IsIdentifier, HasNoBits, IsNoShapeAt, IsFlawOf, words_of_classes, class_words, class_in, admits_class, content_under, presence_under, Told, rows_of, Place, At, Content, Presence, class_named, class_of, class_said, other_class, may_inherit, resolved_content, is_needed, left_out, is_left_out, admitted, class_rule, row_there, rows_there, orders_there, all_there, told_by, property_flaws, object_flaws, inner_flaws, item_flaws, member_flaws, configuration_flaws, itself_of, Known, nothing, inside, behind, with_taken, key_of, names_beside, with_names, natural_in, is_position, place_of_properties, item_content, is_number, is_unsigned_integer, is_static_array, is_eight, is_byte, is_identifier, has_bits, element_has_bits, shape_of, Flaw, key, here, within, index, ◌>>=◌, at, needed, optional, given, text_of, HasMember, refusal, WrongKind, OutOfRange, Missing, Unknown, same_flaw, refused_there, refused_test, refused_where, wanted_refused, wanted_found, holds_of, lacks_refused, found_there, read_there, IsNoWordOf, as_natural, Data, null, object, Members, array, Items, no_items, item, no_members, member, items_len, get_member, as_str, nat_tests, true≢false, false≢true, and_parts, and_from, and_cases, or_parts, All-nil, All-cons, All-map, All-append, All-weaker, All-contains, bytes_eq-Decides, All, option_map_or, bytes_eq}
+use Rattle.conf_laws.proofs.Words.{HasNumber, Around, Parts, member_of, item_of, IsPropertyOf, IsLeftOut, IsNoClassAt, HasNotItsRows, IsByte, IsIdentifier, HasNoBits, IsNoShapeAt, IsFlawOf, words_of_classes, class_words, class_in, admits_class, content_under, presence_under, Told, rows_of, Place, At, Content, Presence, class_named, class_of, class_said, other_class, may_inherit, resolved_content, is_needed, left_out, is_left_out, admitted, class_rule, row_there, rows_there, orders_there, all_there, told_by, property_flaws, object_flaws, inner_flaws, item_flaws, member_flaws, configuration_flaws, itself_of, Known, nothing, inside, behind, with_taken, key_of, names_beside, with_names, natural_in, is_position, place_of_properties, item_content, is_number, is_unsigned_integer, is_static_array, is_eight, is_byte, is_identifier, has_bits, element_has_bits, shape_of, Flaw, key, here, within, index, ◌>>=◌, at, needed, optional, given, text_of, HasMember, refusal, WrongKind, OutOfRange, Missing, Unknown, same_flaw, refused_there, refused_test, refused_where, wanted_refused, wanted_found, holds_of, lacks_refused, found_there, read_there, IsNoWordOf, as_natural, Data, null, object, Members, array, Items, no_items, item, no_members, member, items_len, get_member, as_str, nat_tests, true≢false, false≢true, and_parts, and_from, and_cases, or_parts, All-nil, All-cons, All-map, All-append, All-weaker, All-contains, bytes_eq-Decides, All, option_map_or, bytes_eq, ⊤}
 use Rattle.conf_laws.proofs.Words.places
 use Rattle.conf_laws.proofs.Words.contents
 use Rattle.conf_laws.proofs.Words.presences

@@ -1,12 +1,11 @@
 -- Features that have no flaw say something: each is on or off, or of a type of its own.
 -- A resolved configuration that has no flaw says something, and so do its data stream types and their event record types.
 use Rattle.std.proofs.Common.{◌≡◌, ℕ, Bool, true, false, List, Option, Some, is_some, IsSome, option_map, refl, sym, ap, subst, ◌∙◌, [], ◌∷◌, ◌++◌, ◌&&◌, codes, unwrap_or, option_and_then}
-use Rattle.conf_table.specs.Classes as classes
 use Rattle.conf_laws.proofs.Structures.{integer_said, structure_there, extras_there}
 use Rattle.conf_laws.proofs.Readings.{some_there, was_so, optional_found, mapped_there, by_found, then_there}
 use Rattle.conf_laws.proofs.Sound.{TypeSound, type_sound, unsigned_told, Leads, RowsSound, needed_sound, optional_sound, ObjectSound, ContentSound, object_sound, by_object, held_at, first_entry, needed_object, content_sound}
 use Rattle.conf_laws.proofs.Properties.{Property, leads, needed_by, OwnPlace, is_object, MapPlace, is_map, type_object}
-use Rattle.conf_laws.proofs.Words.{admits_class, rows_of, Place, At, class_of, is_null, all_there, orders_there, Known, inside, natural_in, is_position, shape_of, is_identifier, is_byte, is_unsigned_integer, is_number, is_eight, member_flaws, configuration_flaws, behind, nothing, optional, Data, null, boolean, object, Members, no_members, get_member, member, as_object, false≢true, and_parts, same_Some, number_type, byte_type, if_on, feature_of, feature, byte_of, identifier, size, mapped, timestamp, magic_type, header, context, event_header, integer, IntType, environment, event_type, event_types, object_at as object_in, properties, said_behind, word, clock_of, stream_type, stream_types, draft_of_type, draft_of_trace, draft_of_root, draft_of, EnvironmentEntry}
+use Rattle.conf_laws.proofs.Words.{admits_class, rows_of, Place, At, class_of, is_null, all_there, orders_there, Known, inside, natural_in, is_position, shape_of, is_identifier, is_byte, is_unsigned_integer, is_number, is_eight, member_flaws, configuration_flaws, behind, nothing, optional, Data, null, boolean, object, Members, no_members, get_member, member, as_object, false≢true, and_parts, same_Some, number_type, byte_type, if_on, feature_of, feature, byte_of, identifier, size, mapped, timestamp, magic_type, header, context, event_header, integer, IntType, environment, event_type, event_types, object_at as object_in, properties, said_behind, word, clock_of, stream_type, stream_types, draft_of_type, draft_of_trace, draft_of_root, draft_of, EnvironmentEntry, is_unsigned_class}
 use Rattle.conf_laws.proofs.Words.places
 
 on_there : (b : Bool) (t : IntType) → IsSome (if_on b t)
@@ -18,7 +17,7 @@ pub record IsFeature (place : Place) : Type 0 where
   pub position : is_position place ≡ true
   pub class : (c : Place) → admits_class place c ≡ true → c ≡ places.UnsignedInteger
 
-only_unsigned : (c : Place) → classes.is_unsigned_integer c ≡ true → c ≡ places.UnsignedInteger
+only_unsigned : (c : Place) → is_unsigned_class c ≡ true → c ≡ places.UnsignedInteger
 only_unsigned places.UnsignedInteger a = refl
 only_unsigned _ a = absurd (false≢true a)
 
@@ -158,22 +157,16 @@ events_there k around levels ms leads h =
 
 -- one data stream type
 module _ (k : Known) (ms : Members) (h : RowsSound k places.StreamType ms) where
-  stream_context_said : (clock : Option (List ℕ)) → IsSome (context clock (properties (codes "packet") (properties (codes "$features") ms)))
+  from_features : (P : Members → Type 0) → ((j : Known) (os : Members) → RowsSound j places.StreamFeatures os → P os) → P (properties (codes "$features") ms)
   unfolding all_there orders_there rows_of
-  stream_context_said clock =
-      by_object k places.StreamType places.StreamFeatures (codes "$features") ms (leads Property.stream_features) (is_object OwnPlace.stream_features) h (λ os. IsSome (context clock (properties (codes "packet") os))) refl (λ j os rows. context_there j clock os rows)
-
-  stream_event_header_said : (clock : Option (List ℕ)) → IsSome (event_header clock (properties (codes "event-record") (properties (codes "$features") ms)))
-  unfolding all_there orders_there rows_of
-  stream_event_header_said clock =
-      by_object k places.StreamType places.StreamFeatures (codes "$features") ms (leads Property.stream_features) (is_object OwnPlace.stream_features) h (λ os. IsSome (event_header clock (properties (codes "event-record") os))) refl (λ j os rows. event_header_there j clock os rows)
+  from_features P each = by_object k places.StreamType places.StreamFeatures (codes "$features") ms (leads Property.stream_features) (is_object OwnPlace.stream_features) h P refl each
 
   stream_said : (levels : Members) (name : List ℕ) → IsSome (stream_type levels name ms)
   unfolding stream_type
   stream_said levels name =
-      let context = some_there _ (stream_context_said (clock_of ms)) in
+      let context = some_there _ (from_features (λ os. IsSome (context (clock_of ms) (properties (codes "packet") os))) (λ j os rows. context_there j (clock_of ms) os rows)) in
       let extras = some_there _ (extras_there k places.StreamType (codes "packet-context-field-type-extra-members") ms (leads Property.extras) h) in
-      let header = some_there _ (stream_event_header_said (clock_of ms)) in
+      let header = some_there _ (from_features (λ os. IsSome (event_header (clock_of ms) (properties (codes "event-record") os))) (λ j os rows. event_header_there j (clock_of ms) os rows)) in
       let common = some_there _ (structure_there k places.StreamType (codes "event-record-common-context-field-type") ms (leads Property.common) h) in
       let events = some_there _ (events_there k places.StreamType levels ms (leads Property.event_types) h) in
       rw (context.1, extras.1, header.1, common.1, events.1) refl

@@ -1,11 +1,9 @@
 -- What is told of a value by itself, and of the name of an entry, is a flaw of it.
 use Rattle.std.proofs.Common.{◌≡◌, ◌≢◌, ◌⊎◌, ◌↔◌, ◌≤◌, ◌^◌, ◌&&◌, ◌||◌, ℕ, zero, suc, ℤ, pos, Bool, true, false, not, cond, List, [], ◌∷◌, map, Contains, Option, Some, None, is_some, Result, Ok, Err, inl, inr, refl, sym, ap, subst, ◌∙◌, arith, get_or, codes, unwrap_or, option_map, option_and_then, nat_lt, nat_eq, int_le}
-use Rattle.uuid.specs.Text.{parsed}
-use borrow.Author.Differences.{le-true, le-false, below_in}
 use Rattle.conf_laws.proofs.Agreement.{Agrees, IsTrue, dynamic_told}
 use Rattle.conf_laws.proofs.Numbers.{whole_read, lowest_end, highest_end, ReadSo, read_so}
 use Rattle.conf_laws.proofs.Readings.{some_none, some_same, by_found, by_test}
-use Rattle.conf_laws.proofs.Words.{Around, enumeration_around, HasNumber, HasBits, IsTaken, IsPowerOfTwo, IsNoPowerOfTwo, IsNoLevel, IsNoWholeOrText, IsNoDefault, IsRange, IsNoRange, IsNoSomeList, IsNoSomeObject, IsNoEntry, IsNoFeature, IsNoSizeFeature, IsNoneAt, words_of_classes, IsNoValueOf, IsNoMemberName, IsNoLabel, IsNoKey, IsNoNameAt, ClassWord, class_words, class_in, entries_of, words_of, Place, Content, Entries, Keys, any_object, feature_form as feature, size_feature, form_of, itself_of, Known, only_if, whole_from, is_power_of_two, power_of, whole_or_text, level, leaf_of, is_dynamic, is_taken, free_of, key_by, key_of, all_numbers, natural_in, numbers_of, numbers_in, end_of, pair_of, range_of, is_inside, inside_of, Flaw, index, here, within, ◌>>=◌, at, object_of, list_of, text_of, flag_of, whole_of, WrongKind, OutOfRange, NameClash, NoSuchAlias, same_flaw, refused_here_or_next, refused_there, refused_test, refused_where, wanted_refused, wanted_found, none_refused, holds_of, object_refused, list_refused, text_refused, flag_refused, whole_refused, control_there, name_refused, plain_name_refused, IsNoObject, IsNoWhole, IsNoConfigText, IsNoUuid, IsNoWordOf, plain_name_of, is_printable, uuid_in, as_natural, Data, boolean, string, array, Items, no_items, item, Members, no_members, member, items_len, members_len, get_member, as_object, as_array, as_str, as_bool, pow_mono, true≢false, false≢true, and_cases, and_parts, option_map_or, or_parts, or_cases, cases_lt, eqb-false, ltb-false, agree_below_at, list_any_at, bytes_eq-Decides, list_any, bytes_eq, lowest, highest, length_name}
+use Rattle.conf_laws.proofs.Words.{Around, enumeration_around, HasNumber, HasBits, IsTaken, IsPowerOfTwo, IsNoPowerOfTwo, IsNoLevel, IsNoWholeOrText, IsNoDefault, IsRange, IsNoRange, IsNoSomeList, IsNoSomeObject, IsNoEntry, IsNoFeature, IsNoSizeFeature, IsNoneAt, words_of_classes, IsNoValueOf, IsNoMemberName, IsNoLabel, IsNoKey, IsNoNameAt, ClassWord, class_words, class_in, entries_of, words_of, Place, Content, Entries, Keys, any_object, feature_form as feature, size_feature, form_of, itself_of, Known, only_if, whole_from, is_power_of_two, power_of, whole_or_text, level, leaf_of, is_dynamic, is_taken, free_of, key_by, key_of, all_numbers, natural_in, numbers_of, numbers_in, end_of, pair_of, range_of, is_inside, inside_of, Flaw, index, here, within, ◌>>=◌, at, object_of, list_of, text_of, flag_of, whole_of, WrongKind, OutOfRange, NameClash, NoSuchAlias, same_flaw, refused_here_or_next, refused_there, refused_test, refused_where, wanted_refused, wanted_found, none_refused, holds_of, object_refused, list_refused, text_refused, flag_refused, whole_refused, control_there, name_refused, plain_name_refused, IsNoObject, IsNoWhole, IsNoConfigText, IsNoUuid, IsNoWordOf, plain_name_of, is_printable, uuid_in, as_natural, Data, boolean, string, array, Items, no_items, item, Members, no_members, member, items_len, members_len, get_member, as_object, as_array, as_str, as_bool, pow_mono, true≢false, false≢true, and_cases, and_parts, option_map_or, or_parts, or_cases, cases_lt, eqb-false, ltb-false, agree_below_at, list_any_at, bytes_eq-Decides, list_any, bytes_eq, lowest, highest, length_name, parsed, le-true, le-false, below_in}
 use Rattle.conf_laws.proofs.Words.places
 use Rattle.conf_laws.proofs.Words.contents
 use Rattle.conf_laws.proofs.Words.keys
