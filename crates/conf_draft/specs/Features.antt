@@ -1,6 +1,6 @@
 -- Features: the fields that the tracer fills itself, each on or off, or of a type of its own (barectf 3.1, "Trace type features
 -- object", "Data stream type features object").
-use Rattle.std.specs.Prelude.{refl, ℕ, Bool, true, false, List, Option, Some, None, is_some, option_map, option_and_then, unwrap_or, codes}
+use Rattle.std.specs.Prelude.{refl, ℕ, Bool, true, false, List, Option, Some, None, is_some, option_map, option_and_then, unwrap_or, codes, if◌then◌else◌}
 use Rattle.std.proofs.Common.{lit<, lit≤}
 use Rattle.serde_json.specs.Data.{Data, boolean, object, Members}
 use Rattle.ctf_types.specs.declared.Base.TheVariants.{Dec, Hex}
@@ -29,8 +29,7 @@ byte_type = record { size = 8; align = 8; signed = false; base = Dec; clock = No
 
 -- on, with this type, or off
 abbrev pub if_on : Bool → IntType → Option (Option IntType)
-if_on true t = Some (Some t)
-if_on false t = Some None
+if_on on t = Some (if on then Some t else None)
 
 -- an object is a type of its own, by what an object is there
 abbrev pub feature_of : (Members → Option IntType) → Bool → IntType → Option Data → Option (Option IntType)

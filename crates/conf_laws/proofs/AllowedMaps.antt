@@ -78,8 +78,6 @@ range_inside k d e =
     let ends = range_is d read.0.low read.0.high (read_so d read.0 read.1) in
     subst (λ x. is_known k x (high d) ≡ true) ends.0 (subst (λ y. is_known k read.0.low y ≡ true) ends.1 passed.0)
 
--- ---- the ranges of a label
-
 -- a range inside these numbers, under a label that people read
 pub record IsGoodMapping (k : Known) (m : Mapping) : Type 0 where
   pub inside : is_known k m.low m.high ≡ true

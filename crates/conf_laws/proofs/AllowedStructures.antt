@@ -11,7 +11,7 @@ use Rattle.conf_laws.proofs.TableLimitLaws.{times_told}
 use Rattle.conf_laws.proofs.Words.{Place, At, entries_of, class_of, is_dynamic_array, Known, inside, at_least_one, elements, natural_in, is_position, is_number, is_static_array, has_bits, itself_of, form_of, with_taken, fits, arrays_fit, is_outermost, is_taken, is_dynamic, class_of_member, take, with_names, names_beside, item_content, shape_of, Data, object, Members, get_member, optional, both_read, plain_name_of, Items, no_items, item, no_members, member, array, items_len, as_object, nat_tests, and_parts, All-from_recursion, same_Some, cond_some, AllByRecursion, option_map_or, leb-true, All-push, All-nil, list_any, IsDistinct, bytes_eq, enumeration, static, length_of, of_class, field_type, element, integer, natural, TypeHasBits as HasBits, IsNest, elements_of, IsConfigLeaf, chain_of, Int, Enum, Str, Static, FieldType, list, object_at, member_type, member_said as member_of, behind_done as behind, behind_named, behind_entry, members_behind, made, align_for, align_of, listed, structure_of, structure, extra_members, IsConfigMember, AreConfigMembers, IsConfigStruct, names_in, IsPlainName, own_names, length_name, shown_members, Auto, Plain, Dyn, MemberType, StructType}
 use Rattle.conf_laws.proofs.Words.places
 use Rattle.conf_laws.proofs.Agreement.{array_told}
-use Rattle.conf_laws.proofs.Structures.{names_of, AreTaken, AreFree, AreNamed, takes_itself, all_still_taken, one_more_named, with_member, keeps_taken, entry_shape, name_judged, name_free, AreApart, shown_of, none_named, members_list, extras_list, structure_class}
+use Rattle.conf_laws.proofs.Structures.{names_of, AreTaken, AreFree, AreNamed, takes_itself, all_still_taken, one_more_named, with_member, keeps_taken, entry_shape, name_judged, AreApart, shown_of, none_named, members_list, extras_list, structure_class}
 
 -- its static arrays nest no deeper than these levels, and have n elements in all
 record Nests (levels n : ℕ) (t : FieldType) : Type 0 where
@@ -221,10 +221,9 @@ takes_names name false taken = (takes_itself name taken, tt)
 
 -- ---- the list
 
-record Follows (done more : List (List ℕ × MemberType)) (name : List ℕ) (d : Data) : Type 0 where
-  type : MemberType
-  tells : member_of d ≡ Some type
-  is : done ++ (name, type) ∷ [] ≡ more
+-- the member behind those that are done
+abbrev Follows : List (List ℕ × MemberType) → List (List ℕ × MemberType) → List ℕ → Data → Type 0
+Follows done more name d = (type : MemberType) × (member_of d ≡ Some type) × (done ++ (name, type) ∷ [] ≡ more)
 
 follows : (done more : List (List ℕ × MemberType)) (name : List ℕ) (d : Data) → behind_entry done (object (member name d no_members)) ≡ Some more → Follows done more name d
 unfolding behind
@@ -232,7 +231,7 @@ follows done more name d e =
     let read = then_some (λ xs. behind_named xs no_members) (behind done name (member_of d)) more e in
     by_found (λ (o : Option MemberType). behind done name o ≡ Some more → Follows done more name d) (member_of d) (λ is f. absurd cc) (λ t is.
     by_test (λ (b : Bool). cond b None (Some (done ++ (name, t) ∷ [])) ≡ Some more → Follows done more name d) (list_any (bytes_eq name) (names_in done))
-    (λ taken f. absurd cc) (λ free f. record { type = t; tells = is; is = same_Some (done ++ (name, t) ∷ []) more f })) (read.1 ∙ read.2)
+    (λ taken f. absurd cc) (λ free f. (t, is, same_Some (done ++ (name, t) ∷ []) more f))) (read.1 ∙ read.2)
 
 pub record AreRead (before : List (List ℕ)) (ms : List (List ℕ × MemberType)) (taken : Members) : Type 0 where
   pub types : All (λ m. IsConfigMember m.1) ms
@@ -243,14 +242,14 @@ one_more : (k : Known) (before : List (List ℕ)) (done more : List (List ℕ ×
 one_more k before done more taken name d h good next =
     let entry = entry_in (with_taken taken k) places.Entry name (At places.Member) d no_members (is_map MapPlace.entry)
     (own_properties (with_taken taken k) places.Entry (member name d no_members) (is_own OwnPlace.entry) (good_object (with_taken taken k) places.Entry (member name d no_members) good)) in
-    let tells = member_tells d next.type next.tells in
-    let judged_well = both_read (plain_name_of name) _ tt (name_judged (with_taken taken k) name d entry.named) in
-    let names = names_are name d next.type tells in
+    let tells = member_tells d next.0 next.1 in
+    let judged = name_judged (with_taken taken k) name d entry.named in
+    let names = names_are name d next.0 tells in
     let b = is_dynamic d in
-    subst (λ l. AreRead before l (with_member name b taken)) next.is
+    subst (λ l. AreRead before l (with_member name b taken)) next.2
     (record {
-      types = All-push (λ (m : List ℕ × MemberType). IsConfigMember m.1) done (name, next.type) h.types (type_allowed (with_taken taken k) d next.type entry.value tells);
-      named = one_more_named before done taken (with_member name b taken) name next.type h.named (plain_name name judged_well.1) (subst (λ l. AreFree taken l) names (let p = name_free taken name d judged_well.2 in free_by taken name (is_dynamic d) p.0 p.1))
+      types = All-push (λ (m : List ℕ × MemberType). IsConfigMember m.1) done (name, next.0) h.types (type_allowed (with_taken taken k) d next.0 entry.value tells);
+      named = one_more_named before done taken (with_member name b taken) name next.0 h.named (plain_name name judged.0) (subst (λ l. AreFree taken l) names (free_by taken name (is_dynamic d) judged.1 judged.2))
           (λ ns t. keeps_taken name b taken ns t) (subst (λ l. AreTaken (with_member name b taken) l) names (takes_names name b taken));
     })
 
@@ -279,8 +278,8 @@ module _ (k : Known) (place : Place) (before : List (List ℕ)) (entries : item_
           let rest = subst (λ x. AreGoodItems k place (with_names x taken) (suc i) ds) is (item_rest k place taken i d ds good) in
           let all = later step.0 (with_member name (is_dynamic value) taken) read rest step.2 in
           let counted = all.counted in
-          let longer = ap (λ l. length l) (sym next.is) in
-          record { taken = all.taken; read = all.read; counted = omega (arith, counted, longer, length-append done ((name, next.type) ∷ [])) }
+          let longer = ap (λ l. length l) (sym next.2) in
+          record { taken = all.taken; read = all.read; counted = omega (arith, counted, longer, length-append done ((name, next.0) ∷ [])) }
 
 -- ---- a structure that is made
 

@@ -194,13 +194,10 @@ highest = 9223372036854775807
 small : (d : Data) (n : ℕ) → whole_from (pos 0) (pos highest) d ≡ Ok tt → as_natural d ≡ Some n → n < 2 ^ 63
 small d n judged is = let b = (natural_is_in 0 highest d n (omega arith) judged is).1 in omega (arith, b)
 
-alias_small : (o : Option Data) (n : ℕ) → option_map_or (whole_from (pos 0) (pos highest)) o (Err (here NoSuchAlias)) ≡ Ok tt → option_and_then as_natural o ≡ Some n → n < 2 ^ 63
-alias_small None n judged is = absurd cc
-alias_small (Some d) n judged is = small d n judged is
-
 level_small : (levels : Members) (d : Data) (n : ℕ) → level levels (pos highest) d ≡ Ok tt → level_of levels (Some d) ≡ Some n → n < 2 ^ 63
 unfolding level
-level_small levels (string name) n judged is = alias_small (get_member name levels) n judged is
+level_small levels (string name) n judged is =
+    by_found (λ (o : Option Data). option_map_or (whole_from (pos 0) (pos highest)) o (Err (here NoSuchAlias)) ≡ Ok tt → option_and_then as_natural o ≡ Some n → n < 2 ^ 63) (get_member name levels) (λ none j e. absurd cc) (λ d there j e. small d n j e) judged is
 level_small levels d n judged is = small d n judged is
 
 level_allowed : (k : Known) (ms : Members) (n : ℕ) → AreGood k places.EventType ms → level_of k.levels (optional (codes "log-level") ms) ≡ Some n → n < 2 ^ 63

@@ -44,8 +44,6 @@ label_fails place name entries is label long =
     let labels : option_map_or (λ x. is_label x.keys) (entries_of place) false ≡ true = ap (λ o. option_map_or (λ x. is_label x.keys) o false) is ∙ rw label refl in
     rw labels (lt-leb (length name) 4096 long)
 
--- ---- at a member, and at an item
-
 member_clear : (place : Place) (ms : Members) (name : List ℕ) (d : Data) → member_limits place ms ≡ [] → HasMember name d ms → limits_at place name d ≡ []
 member_clear place no_members name d e has = absurd has
 member_clear place (member l v ms) name d e (inl (same, is)) =

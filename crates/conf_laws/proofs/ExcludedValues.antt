@@ -50,8 +50,6 @@ power_excluded d flaw e (IsNoPowerOfTwo.no_power m y is whole other) =
     let r = both_read (whole_of (pos 1) (pos 18446744073709551615) d) _ tt e in
     other (subst IsPowerOfTwo (whole_same d r.0 y (whole_read (pos 1) (pos 18446744073709551615) d r.0 r.1).whole (m, is, whole)) (a_power r.0 (was_so (is_power_of_two r.0) r.2)))
 
--- ---- flags
-
 default_excluded : (k : Known) (around : Around) → Agrees k around → (d : Data) (flaw : Flaw) → (flag_of d >>= (λ b. only_if (not (b && k.has_default)))) ≡ Ok tt → ¬ IsNoDefault around d flaw
 default_excluded k around h d flaw e (IsNoDefault.no_flag (IsNoFlag.no_flag none)) = absurd (let f = rw none at e in cc)
 default_excluded k around h d flaw e (IsNoDefault.a_second is behind) = let before : k.has_default ≡ true = h.second.1 behind in absurd (let f = rw (is, before) at e in cc)

@@ -126,15 +126,12 @@ alignment_or name otherwise ms default =
 
 -- ---- within the limit
 
-no_zero : (n : ℕ) (b : Bool) → nat_lt 0 n ≡ true → (nat_eq n 0 || b) ≡ true → b ≡ true
-no_zero n b some e = grind (arith, nat_tests)
-
 module _ (ms : Members) (n : ℕ) (power : is_power_of_two (pos n) ≡ true) (fits : divides 4096 (Some n) ≡ true) where
   kept : (name : List ℕ) → natural name ms ≡ Some n → alignment name ms ≡ Some n
   unfolding alignment
   kept name is =
       let some = (and_parts (nat_lt 0 n) _ power).0 in
-      let divisor : (4096 % n == 0) ≡ true = no_zero n (4096 % n == 0) some fits in
+      let divisor : (4096 % n == 0) ≡ true = grind (arith, nat_tests, some, fits) in
       ap (option_and_then alignment_of) is ∙ rw (some, divisor) refl
 
   pub integer_kept : natural (codes "alignment") ms ≡ Some n → integer_align ms ≡ n

@@ -25,8 +25,6 @@ pub some_there : {A : Type 0} (o : Option A) → is_some o ≡ true → (x : A) 
 some_there None e = absurd cc
 some_there (Some x) e = (x, refl)
 
--- ---- by what a test says, and by what is found
-
 pub by_test : (P : Bool → Type 0) (b : Bool) → (b ≡ true → P true) → (b ≡ false → P false) → P b
 by_test P true holds fails = holds refl
 by_test P false holds fails = fails refl
@@ -66,8 +64,6 @@ list_there _ ds e = absurd cc
 pub word_there : (o : Option Data) (w : List ℕ) → option_and_then as_str o ≡ Some w → o ≡ Some (string w)
 word_there (Some (string s)) w e = ap (λ x. Some (string x)) (same_Some s w e)
 word_there _ w e = absurd cc
-
--- ---- the judge's look-ups and the draft's
 
 given_natural : (o : Option Data) → option_and_then as_natural (given o) ≡ option_and_then as_natural o
 unfolding as_natural

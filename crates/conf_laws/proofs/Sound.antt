@@ -21,8 +21,6 @@ pub first_none : {A B : Type 0} (f : A → B) (xs : List A) (ys : List B) → ma
 first_none f [] ys e = (refl, e)
 first_none f (x ∷ xs) ys e = absurd cc
 
--- ---- an object
-
 pub record ObjectSound (k : Known) (place : Place) (ms : Members) : Type 0 where
   pub class_fits : class_rule place ms ≡ Ok tt
   pub there : all_there (place_of_properties place ms) ms ≡ Ok tt

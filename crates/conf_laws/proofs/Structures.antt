@@ -9,21 +9,17 @@ use Rattle.conf_laws.proofs.Words.{admits_class, is_class, is_dynamic_array, Pla
 use Rattle.conf_laws.proofs.Words.places
 use Rattle.conf_laws.proofs.Agreement.{taken_put}
 
-made_there : (size align : ℕ) (signed : Bool) (base : Base) → nat_lt 0 size ≡ true → nat_le size 64 ≡ true → IsAlignment align → IsSome (integer_made size align signed base)
-unfolding integer_made
-made_there size align signed base a b c = proved_there (nat_lt 0 size) _ a (λ _. proved_there (nat_le size 64) _ b (λ _. proved_there (nat_lt 0 align) _ c.positive (λ _. proved_there (4096 % align == 0) _ c.power (λ _. refl))))
-
 by_default : (size : ℕ) → IsAlignment (default_align size)
 by_default size = by_test (λ (b : Bool). IsAlignment (cond b 8 1)) (size % 8 == 0) (λ is. record { positive = refl; power = refl }) (λ is. record { positive = refl; power = refl })
 
 pub integer_said : (k : Known) (place : Place) (signed : Bool) (ms : Members) → Property true place (codes "size") (Whole (pos 1) (pos 64)) → RowsSound k place ms → IsSome (integer signed ms)
-unfolding integer size_of integer_align
+unfolding integer integer_made size_of integer_align
 integer_said k place signed ms rows h =
     let n = needed_natural k place (codes "size") 1 64 ms (leads rows) (needed_by rows) h (omega arith) in
     let is = sym (ap (λ o. unwrap_or o 0) n.1) in
-    made_there (size_of ms) (integer_align ms) signed (base_of ms) (subst (λ x. nat_lt 0 x ≡ true) is (lt-ltb 0 n.0 (let a = leb-true 1 n.0 n.2 in omega arith))) (subst (λ x. nat_le x 64 ≡ true) is n.3) (alignment_or (codes "alignment") (default_align (size_of ms)) ms (by_default (size_of ms)))
-
--- ---- static arrays
+    let align = alignment_or (codes "alignment") (default_align (size_of ms)) ms (by_default (size_of ms)) in
+    proved_there (nat_lt 0 (size_of ms)) _ (subst (λ x. nat_lt 0 x ≡ true) is (lt-ltb 0 n.0 (let a = leb-true 1 n.0 n.2 in omega arith)))
+    (λ _. proved_there (nat_le (size_of ms) 64) _ (subst (λ x. nat_le x 64 ≡ true) is n.3) (λ _. proved_there (nat_lt 0 (integer_align ms)) _ align.positive (λ _. proved_there (4096 % integer_align ms == 0) _ align.power (λ _. refl))))
 
 static_there : (n : ℕ) (o : Option FieldType) → nat_le n 1048576 ≡ true → IsSome o → IsSome (static n o)
 static_there n None l e = absurd (false≢true e)
@@ -178,8 +174,6 @@ one_more_named before ms taken after name m h plain free keeps takes =
       free = subst (λ l. AreApart before l) (sym shown) (all_joined (λ n. list_any (bytes_eq n) before ≡ false) (shown_of ms) (names_of (name, m)) h.free (all_apart taken before (names_of (name, m)) free h.before_taken));
     }
 
--- ---- dynamic arrays
-
 dynamic_element_said : (k : Known) (d : Data) → ContentSound k (At places.DynamicElementType) d → IsSome (field_type d)
 unfolding itself_of form_of is_position admits_class
 dynamic_element_said k d h =
@@ -191,8 +185,6 @@ array_said : (k : Known) (ms : Members) → RowsSound k places.DynamicArray ms �
 array_said k ms h =
     let p = needed_sound k places.DynamicArray (codes "element-field-type") (At places.DynamicElementType) ms (leads Property.dynamic_element) (needed_by Property.dynamic_element) h in
     ap is_some (element_is ms ∙ ap (option_and_then field_type) p.found) ∙ dynamic_element_said k p.value p.sound.value
-
--- ---- the type of a member
 
 member_class : (class : Place) → admits_class places.MemberType class ≡ true → (class ≡ places.DynamicArray) ⊎ ((is_dynamic_array class ≡ false) × (admits_class places.ElementType class ≡ true))
 unfolding admits_class
@@ -210,8 +202,6 @@ member_said k ms h =
           subst (λ c. IsSome (cond (is_dynamic_array c) (option_map (λ x. Dyn x Auto) (element ms)) (option_map (λ x. Plain x) (field_type (object ms))))) (sym same) (mapped_there (λ x. Dyn x Auto) (element ms) said)
       | inr other ↦ subst (λ b. IsSome (cond b (option_map (λ x. Dyn x Auto) (element ms)) (option_map (λ x. Plain x) (field_type (object ms))))) (sym other.0) (mapped_there (λ x. Plain x) (field_type (object ms)) (type_said k places.MemberType ms t other.1))
     ])
-
--- ---- the member that an entry tells of
 
 told_said : (k : Known) (told : Members) (y : Data) → get_member (codes "field-type") told ≡ Some y → ContentSound k (At places.MemberType) y → IsSome (option_and_then member_type (object_in (codes "field-type") told))
 unfolding itself_of form_of object_in
@@ -235,15 +225,13 @@ entry_shape (object (member name x no_members)) e = (name, x, refl)
 entry_shape (object (member name x (member other y ms))) e = absurd (let one = eqb-true (suc (suc (members_len ms))) 1 (is_passed (nat_eq (suc (suc (members_len ms))) 1) tt tt (here WrongKind) e).0 in omega (arith, one))
 entry_shape _ e = absurd cc
 
--- what is judged of its name
-pub name_judged : (k : Known) (name : List ℕ) (d : Data) → key_of k places.Entry name d ≡ Ok tt → (plain_name_of name >>= (λ ok. free_of k.taken name d)) ≡ Ok tt
-unfolding key_of key_by entries_of
-name_judged k name d e = e
-
--- it is free, and so is that of its length
-pub name_free : (taken : Members) (name : List ℕ) (d : Data) → free_of taken name d ≡ Ok tt → (is_taken taken name ≡ false) × ((is_dynamic d && is_taken taken (length_name name)) ≡ false)
-unfolding free_of
-name_free taken name d e = or_parts (is_taken taken name) (is_dynamic d && is_taken taken (length_name name)) (under_no_test _ tt tt _ e)
+-- its name is one that a member can have, it is free, and so is that of its length
+pub name_judged : (k : Known) (name : List ℕ) (d : Data) → key_of k places.Entry name d ≡ Ok tt → (plain_name_of name ≡ Ok tt) × (is_taken k.taken name ≡ false) × ((is_dynamic d && is_taken k.taken (length_name name)) ≡ false)
+unfolding key_of key_by entries_of free_of
+name_judged k name d e =
+    let judged = both_read (plain_name_of name) _ tt e in
+    let free = or_parts (is_taken k.taken name) (is_dynamic d && is_taken k.taken (length_name name)) (under_no_test _ tt tt _ judged.2) in
+    (judged.1, free.0, free.1)
 
 -- its name is taken behind it
 more_taken : (done : List (List ℕ × MemberType)) (taken : Members) (name : List ℕ) (b : Bool) (t : MemberType) → AreTaken taken (names_in done) → AreTaken (with_member name b taken) (names_in (done ++ (name, t) ∷ []))
@@ -265,8 +253,7 @@ one_more : (k : Known) (place : Place) (ds : Items) (taken : Members) (i : ℕ) 
     → PropertySound (with_taken taken k) places.Entry name (At places.Member) told
     → item_flaws k place (with_names (object (member name told no_members)) taken) (suc i) ds ≡ [] → RestSaid k place ds → IsSome (members_behind done (item (object (member name told no_members)) ds))
 one_more k place ds taken i done name told h s f rest =
-    let judged = both_read (plain_name_of name) _ tt (name_judged (with_taken taken k) name told s.named) in
-    let free = apart_from_taken taken name (names_in done) (name_free taken name told judged.2).0 h in
+    let free = apart_from_taken taken name (names_in done) (name_judged (with_taken taken k) name told s.named).1 h in
     let more = behind_there done name (member_of told) (member_there (with_taken taken k) told s.value) free in
     rw more.1 (rest _ (suc i) (done ++ (name, more.0) ∷ []) (more_taken done taken name (is_dynamic told) more.0 h) f)
 

@@ -8,10 +8,6 @@ use Rattle.conf_laws.proofs.Properties.{Property, leads, needed_by, OwnPlace, is
 use Rattle.conf_laws.proofs.Words.{admits_class, rows_of, Place, At, class_of, is_null, all_there, orders_there, Known, inside, natural_in, is_position, shape_of, is_identifier, is_byte, is_unsigned_integer, is_number, is_eight, member_flaws, configuration_flaws, behind, nothing, optional, Data, null, boolean, object, Members, no_members, get_member, member, as_object, false≢true, and_parts, same_Some, number_type, byte_type, if_on, feature_of, feature, byte_of, identifier, size, mapped, timestamp, magic_type, header, context, event_header, integer, IntType, environment, event_type, event_types, object_at as object_in, properties, said_behind, word, clock_of, stream_type, stream_types, draft_of_type, draft_of_trace, draft_of_root, draft_of, EnvironmentEntry, is_unsigned_class}
 use Rattle.conf_laws.proofs.Words.places
 
-on_there : (b : Bool) (t : IntType) → IsSome (if_on b t)
-on_there true t = refl
-on_there false t = refl
-
 -- a position where an unsigned integer alone may stand
 pub record IsFeature (place : Place) : Type 0 where
   pub position : is_position place ≡ true
@@ -36,8 +32,8 @@ unsigned_said k place ms t is = integer_said (inside t.class ms k) places.Unsign
 
 value_said : (of : Members → Option IntType) (by_default : Bool) (t : IntType) (o : Option Data) → ((ms : Members) → o ≡ Some (object ms) → IsSome (of ms)) → IsSome (feature_of of by_default t o)
 value_said of by_default t (Some (object ms)) own = mapped_there (λ x. Some x) (of ms) (own ms refl)
-value_said of by_default t (Some (boolean b)) own = on_there b t
-value_said of by_default t _ own = on_there by_default t
+value_said of by_default t (Some (boolean b)) own = refl
+value_said of by_default t _ own = refl
 
 -- a feature of an object
 module _ (k : Known) (around : Place) (ms : Members) (h : RowsSound k around ms) where
@@ -190,8 +186,6 @@ unfolding draft_of_trace
 trace_said k number ms h =
     let t = needed_object k places.Trace places.TraceType (codes "type") ms (leads Property.trace_type) type_object h (needed_by Property.trace_type) in
     subst (λ o. IsSome (option_and_then (draft_of_type number (environment ms)) o)) (sym t.1) (type_said (inside places.TraceType t.0 k) number (environment ms) t.0 t.2)
-
--- ---- the whole configuration
 
 root_said : (k : Known) (number : Option (List ℕ)) (ms : Members) → RowsSound k places.Root ms → IsSome (draft_of_root number ms)
 unfolding draft_of_root

@@ -3,7 +3,7 @@ use Rattle.std.proofs.Common.{◌≡◌, ◌≢◌, ◌⊎◌, ◌↔◌, ◌≤
 use Rattle.conf_laws.proofs.Agreement.{Agrees, IsTrue, dynamic_told}
 use Rattle.conf_laws.proofs.Numbers.{whole_read, lowest_end, highest_end, ReadSo, read_so}
 use Rattle.conf_laws.proofs.Readings.{some_none, some_same, by_found, by_test}
-use Rattle.conf_laws.proofs.Words.{Around, enumeration_around, HasNumber, HasBits, IsTaken, IsPowerOfTwo, IsNoPowerOfTwo, IsNoLevel, IsNoWholeOrText, IsNoDefault, IsRange, IsNoRange, IsNoSomeList, IsNoSomeObject, IsNoEntry, IsNoFeature, IsNoSizeFeature, IsNoneAt, words_of_classes, IsNoValueOf, IsNoMemberName, IsNoLabel, IsNoKey, IsNoNameAt, ClassWord, class_words, class_in, entries_of, words_of, Place, Content, Entries, Keys, any_object, feature_form as feature, size_feature, form_of, itself_of, Known, only_if, whole_from, is_power_of_two, power_of, whole_or_text, level, leaf_of, is_dynamic, is_taken, free_of, key_by, key_of, all_numbers, natural_in, numbers_of, numbers_in, end_of, pair_of, range_of, is_inside, inside_of, Flaw, index, here, within, ◌>>=◌, at, object_of, list_of, text_of, flag_of, whole_of, WrongKind, OutOfRange, NameClash, NoSuchAlias, same_flaw, refused_here_or_next, refused_there, refused_test, refused_where, wanted_refused, wanted_found, none_refused, holds_of, object_refused, list_refused, text_refused, flag_refused, whole_refused, control_there, name_refused, plain_name_refused, IsNoObject, IsNoWhole, IsNoConfigText, IsNoUuid, IsNoWordOf, plain_name_of, is_printable, uuid_in, as_natural, Data, boolean, string, array, Items, no_items, item, Members, no_members, member, items_len, members_len, get_member, as_object, as_array, as_str, as_bool, pow_mono, true≢false, false≢true, and_cases, and_parts, option_map_or, or_parts, or_cases, cases_lt, eqb-false, ltb-false, agree_below_at, list_any_at, bytes_eq-Decides, list_any, bytes_eq, lowest, highest, length_name, parsed, le-true, le-false, below_in}
+use Rattle.conf_laws.proofs.Words.{Around, enumeration_around, HasNumber, HasBits, IsTaken, IsPowerOfTwo, IsNoPowerOfTwo, IsNoLevel, IsNoWholeOrText, IsNoDefault, IsRange, IsNoRange, IsNoSomeList, IsNoSomeObject, IsNoEntry, IsNoFeature, IsNoSizeFeature, IsNoneAt, words_of_classes, IsNoValueOf, IsNoMemberName, IsNoLabel, IsNoKey, IsNoNameAt, ClassWord, class_words, class_in, entries_of, words_of, Place, Content, Entries, Keys, any_object, feature_form as feature, size_feature, form_of, itself_of, Known, only_if, whole_from, is_power_of_two, power_of, whole_or_text, level, leaf_of, is_dynamic, is_taken, free_of, key_by, key_of, all_numbers, natural_in, numbers_of, numbers_in, end_of, pair_of, range_of, is_inside, inside_of, Flaw, index, here, within, ◌>>=◌, at, object_of, list_of, text_of, flag_of, whole_of, WrongKind, OutOfRange, NameClash, NoSuchAlias, same_flaw, refused_here_or_next, refused_there, refused_test, refused_where, wanted_refused, wanted_found, none_refused, holds_of, object_refused, list_refused, text_refused, flag_refused, whole_refused, control_there, name_refused, plain_name_refused, IsNoObject, IsNoWhole, IsNoConfigText, IsNoUuid, IsNoWordOf, plain_name_of, is_printable, uuid_in, as_natural, Data, boolean, string, array, Items, no_items, item, Members, no_members, member, items_len, members_len, get_member, as_object, as_array, as_str, as_bool, pow_mono, true≢false, false≢true, and_cases, and_parts, option_map_or, or_parts, or_cases, cases_lt, eqb-false, ltb-false, agree_below_at, list_any_at, bytes_eq-Decides, list_any, bytes_eq, lowest, highest, length_name, parsed, le-true, le-false, below_in, nat_tests}
 use Rattle.conf_laws.proofs.Words.places
 use Rattle.conf_laws.proofs.Words.contents
 use Rattle.conf_laws.proofs.Words.keys
@@ -58,17 +58,13 @@ power_told d flaw e =
 
 -- ---- flags and texts
 
-both_true : (b before : Bool) → not (b && before) ≡ false → (b ≡ true) × (before ≡ true)
-both_true true true e = (refl, refl)
-both_true _ _ e = absurd cc
-
 default_told : (k : Known) (around : Around) → Agrees k around → (d : Data) (flaw : Flaw) → (flag_of d >>= (λ b. only_if (not (b && k.has_default)))) ≡ Err flaw → IsNoDefault around d flaw
 default_told k around h d flaw e =
     either_step (flag_of d) _ flaw e
     (λ r. IsNoDefault.no_flag (flag_refused d flaw r))
     (λ b went r.
     let told = not_passed (not (b && k.has_default)) flaw r in
-    let both = both_true b k.has_default told.0 in
+    let both = and_parts b k.has_default (let p : (b && k.has_default) ≡ true = grind (arith, nat_tests) in p) in
     holds_of (IsNoDefault around d) (here OutOfRange) flaw told.1 (IsNoDefault.a_second (wanted_found (as_bool d) b went ∙ ap Some both.0) (h.second.0 both.1)))
 
 control_told : (d : Data) (s : List ℕ) → as_str d ≡ Some s → is_printable s ≡ false → IsNoConfigText d (here OutOfRange)
@@ -87,8 +83,6 @@ choice_told d flaw e =
     let parts = or_parts (bytes_eq s (codes "auto")) (is_some (uuid_in s)) fails in
     (λ auto. false≢true (sym parts.0 ∙ (bytes_eq-Decides s (codes "auto")).1 (some_same (as_str d) s (codes "auto") is auto)), IsNoUuid.no_uuid s is (none_there (parsed s) parts.1)))
 
--- ---- words
-
 -- a word of the list is one that the list has by its bytes
 pub has_by_bytes : (words : List (List ℕ)) (w : List ℕ) → Contains words w → list_any (bytes_eq w) words ≡ true
 has_by_bytes words w (k, among, is) = list_any_at (bytes_eq w) words k w among ((bytes_eq-Decides w (get_or words k w)).1 (sym is))
@@ -98,8 +92,6 @@ no_class_word [] w e (k, among, is) = omega (arith, among)
 no_class_word (c ∷ cs) w e (zero, among, same) = let is = (bytes_eq-Decides c.word w).1 same in absurd (let f = rw is at e in cc)
 no_class_word (c ∷ cs) w e (suc k, among, same) =
     by_test (λ (b : Bool). is_some (cond b (Some c.place) (class_in w cs)) ≡ false → ⊥) (bytes_eq c.word w) (λ is f. absurd cc) (λ is f. no_class_word cs w f (k, omega (arith, among), same)) e
-
--- ---- a number or a text
 
 alias_told : (levels : Members) (high : ℤ) (s : List ℕ) (flaw : Flaw) (o : Option Data) → get_member s levels ≡ o → option_map_or (whole_from (pos 0) high) o (Err (here NoSuchAlias)) ≡ Err flaw → IsNoLevel levels high (string s) flaw
 alias_told levels high s flaw None is e = holds_of (IsNoLevel levels high (string s)) (here NoSuchAlias) flaw (same_flaw flaw (here NoSuchAlias) (option_map_or (whole_from (pos 0) high) None (Err (here NoSuchAlias))) e refl) (IsNoLevel.no_alias s refl is)
