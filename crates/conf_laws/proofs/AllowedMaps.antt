@@ -3,10 +3,10 @@
 -- types that have no flaw and pass no limit are ones that the rules allow.
 use Rattle.std.proofs.Common.{◌≡◌, ℕ, ◌||◌, ◌&&◌, true, List, length, Ok, arith, ◌==◌, ◌%◌, Bool, false, Some, None, nat_lt, sym, ap, ◌≢◌, ℤ, pos, suc, ◌<◌, ◌≤◌, [], ◌∷◌, ◌++◌, Less, Greater, nat_cmp, refl, subst, ◌∙◌, length-append, All, Option, map, nat_le, int_le, codes, option_and_then, unwrap_or, negsuc}
 use Rattle.conf_laws.proofs.Numbers.{whole_there, lowest_end, highest_end, ReadSo, read_so, some_size, natural_is_in}
-use Rattle.conf_laws.proofs.Properties.{AreGoodItems, IsGoodEntry, entry_in, plain_rest, good_items, item_first, item_rest, AreGood, IsGoodAt, good_object, own_properties, fitting_parts, needed_at, names_of, sorted_names, names_counted, all_in, entry_object, property_at, MapPlace, is_map, is_plain, Property, leads, needed_by, OwnPlace, is_own, is_object}
+use Rattle.conf_laws.proofs.Properties.{AreGoodItems, entry_in, plain_rest, good_items, item_first, item_rest, AreGood, IsGoodAt, good_object, own_properties, fitting_parts, needed_at, names_of, sorted_names, names_counted, all_in, entry_object, property_at, MapPlace, is_map, is_plain, Property, leads, needed_by, OwnPlace, is_own, is_object}
 use Rattle.conf_laws.proofs.Readings.{under_no_test, proved_some, was_so, all_joined, mapped_some, same_natural, word_there, by_found}
 use Rattle.conf_laws.proofs.Sound.{needed_there, Leads}
-use Rattle.conf_laws.proofs.Words.{IsPair, entries_of, Place, At, WholeOrText, Whole, Text, Content, all_there, itself_of, form_of, Known, with_taken, key_fits, count_of, ranges_fit, key_of, key_by, names_beside, with_names, end_of, range_of, is_inside, inside_of, natural_in, numbers_of, numbers_in, all_numbers, item_content, leaf_of, whole_or_text, fits, here, AllAbove, IsInOrder, whole_of, whole_or_not, given, OutOfRange, both_read, is_passed, name_of, is_reserved, plain_name_of, is_printable, Members, Data, number, array, Num, unsigned, negative, float, Items, no_items, item, no_members, member, object, items_len, as_integer, as_array, get_member, optional, as_natural, string, members_len, as_object, nat_tests, and_parts, or_parts, leb-true, nat_list_cmp_total, tied_itself, T_from_true, All-from_recursion, All-weaker, same_Some, slice_cmp, le_z_yes, list_any, option_map_or, AllByRecursion, bytes_eq, length-map, map-append, whole, low, high, ranges_in, mappings_of as ranges_of, labels_in, enumeration, integer, size_of, base_of, object_at, properties, IsPlainUnsigned, LabelsInOrder, lowest, highest, IsRangeOf, IsEnumeration, is_name as is_identifier, unused_keywords, used_keywords, IsConfigName, IsPlainName, IsConfigText, Base, EnumType, IntType, Mapping, clock_type, clocks_in, clock_types, entry_value, entries_in, environment, natural, word, InByteOrder, IsEnvironmentValue, IsClockType, ClockType, EnvironmentEntry, integer_made as made, integer_align as align_of, counted_ranges}
+use Rattle.conf_laws.proofs.Words.{IsPair, entries_of, Place, At, WholeOrText, Whole, Text, Content, all_there, itself_of, form_of, Known, with_taken, key_fits, count_of, ranges_fit, key_of, key_by, names_beside, with_names, end_of, range_of, is_inside, inside_of, natural_in, numbers_of, numbers_in, all_numbers, item_content, leaf_of, whole_or_text, fits, here, AllAbove, IsInOrder, whole_of, given, OutOfRange, both_read, is_passed, name_of, is_reserved, plain_name_of, is_printable, Members, Data, number, array, Items, no_items, item, no_members, member, object, items_len, as_integer, as_array, get_member, optional, as_natural, string, members_len, as_object, nat_tests, and_parts, or_parts, leb-true, nat_list_cmp_total, tied_itself, T_from_true, All-from_recursion, All-weaker, same_Some, slice_cmp, le_z_yes, list_any, option_map_or, AllByRecursion, bytes_eq, length-map, map-append, whole, low, high, ranges_in, mappings_of as ranges_of, labels_in, enumeration, integer, size_of, object_at, properties, IsPlainUnsigned, LabelsInOrder, lowest, highest, IsRangeOf, IsEnumeration, is_name as is_identifier, unused_keywords, used_keywords, IsConfigName, IsPlainName, IsConfigText, EnumType, IntType, Mapping, clock_type, clocks_in, clock_types, entry_value, entries_in, environment, natural, word, InByteOrder, IsEnvironmentValue, IsClockType, ClockType, EnvironmentEntry, integer_made as made, integer_align as align_of, counted_ranges}
 use Rattle.conf_laws.proofs.Words.places
 
 pub config_name : (name : List ℕ) → name_of name ≡ Ok tt → IsConfigName name
@@ -93,9 +93,6 @@ ranges_good k label taken i (item d ds) text h = (
 
 -- ---- the labels
 
-label_good : (k : Known) (label : List ℕ) (d : Data) (ms : Members) → AreGood k places.Mappings (member label d ms) → IsGoodEntry k places.Mappings label (At places.Ranges) d
-label_good k label d ms h = entry_in k places.Mappings label (At places.Ranges) d ms (is_map MapPlace.mappings) h
-
 own_good : (k : Known) (label : List ℕ) (d : Data) → IsConfigText label → IsGoodAt k (At places.Ranges) d → AllByRecursion (IsGoodMapping k) (ranges_of label d)
 own_good k label (array ds) text h = ranges_good k label (names_beside places.Ranges) 0 ds text (good_items k places.Ranges ds h)
 own_good k label _ text h = tt
@@ -104,7 +101,7 @@ pub labels_good : (k : Known) (labels : Members) → AreGood k places.Mappings l
 unfolding key_of key_by key_fits entries_of
 labels_good k no_members h = tt
 labels_good k (member label d ms) h =
-    let entry = label_good k label d ms h in
+    let entry = entry_in k places.Mappings label (At places.Ranges) d ms (is_map MapPlace.mappings) h in
     all_joined (IsGoodMapping k) (ranges_of label d) (labels_in ms) (own_good k label d (config_text label (was_so _ entry.named) entry.short) entry.value) (labels_good k ms (plain_rest k places.Mappings label d ms (is_plain MapPlace.mappings) h))
 
 -- ---- how many there are
@@ -114,10 +111,11 @@ unfolding itself_of form_of
 some_here k label (array (item d ds)) e = omega arith
 some_here k label _ e = absurd cc
 
-pub some_range : (k : Known) (labels : Members) → labels ≢ no_members → AreGood k places.Mappings labels → 0 < length (labels_in labels)
-some_range k no_members some h = absurd (some refl)
+pub some_range : (k : Known) (labels : Members) → itself_of k (At places.Mappings) (object labels) ≡ Ok tt → AreGood k places.Mappings labels → 0 < length (labels_in labels)
+unfolding itself_of form_of
+some_range k no_members some h = absurd cc
 some_range k (member label d ms) some h =
-    let first = some_here k label d (label_good k label d ms h).value.sound.itself in
+    let first = some_here k label d (entry_in k places.Mappings label (At places.Ranges) d ms (is_map MapPlace.mappings) h).value.sound.itself in
     omega (arith, first, length-append (ranges_of label d) (labels_in ms))
 
 ranges_counted : (label : List ℕ) (ds : Items) → length (ranges_in label ds) ≡ items_len ds
@@ -177,11 +175,6 @@ record AreMappings (k : Known) (ms : List Mapping) : Type 0 where
   some : 0 < length ms
   few : length ms ≤ 1024
 
-not_empty : (k : Known) (labels : Members) → itself_of k (At places.Mappings) (object labels) ≡ Ok tt → labels ≢ no_members
-unfolding itself_of form_of
-not_empty k no_members e = absurd cc
-not_empty k (member label d ms) e = λ same. absurd cc
-
 mappings_good : (k : Known) (labels : Members) → IsGoodAt k (At places.Mappings) (object labels) → AreMappings k (labels_in labels)
 unfolding ranges_fit
 mappings_good k labels h =
@@ -191,19 +184,17 @@ mappings_good k labels h =
     record {
       each = All-from_recursion (IsGoodMapping k) (labels_in labels) (labels_good k labels good);
       in_order = labels_in_order labels whole.in_order;
-      some = some_range k labels (not_empty k labels h.sound.itself) good;
+      some = some_range k labels h.sound.itself good;
       few = omega (arith, few, labels_few labels);
     }
 
 -- a needed property that is mappings
-pub record HasMappings (k : Known) (ms : Members) : Type 0 where
-  labels : Members
-  there : object_at (codes "mappings") ms ≡ Some labels
-  good : IsGoodAt k (At places.Mappings) (object labels)
+abbrev pub HasMappings : Known → Members → Type 0
+HasMappings k ms = (labels : Members) × (object_at (codes "mappings") ms ≡ Some labels) × IsGoodAt k (At places.Mappings) (object labels)
 
 labels_there : (k : Known) (ms : Members) (d : Data) → get_member (codes "mappings") ms ≡ Some d → IsGoodAt k (At places.Mappings) d → HasMappings k ms
 unfolding object_at itself_of form_of
-labels_there k ms (object labels) is h = record { labels = labels; there = ap (λ o. option_and_then as_object (given o)) is; good = h }
+labels_there k ms (object labels) is h = (labels, ap (λ o. option_and_then as_object (given o)) is, h)
 labels_there k ms _ is h = absurd (let e = h.sound.itself in cc)
 
 pub has_mappings : (k : Known) (place : Place) (ms : Members) → Property true place (codes "mappings") (At places.Mappings) → all_there place ms ≡ Ok tt → AreGood k place ms → HasMappings k ms
@@ -253,7 +244,7 @@ unfolding enumeration properties
 enumeration_allowed k signed ms t known h e =
     let mappings = labels_in (properties (codes "mappings") ms) in
     let read = mapped_some (λ x. record { int = x; mappings = mappings }) (integer signed ms) t e in
-    let good : AreMappings k mappings = subst (λ o. AreMappings k (labels_in (unwrap_or o no_members))) (sym h.there) (mappings_good k h.labels h.good) in
+    let good : AreMappings k mappings = subst (λ o. AreMappings k (labels_in (unwrap_or o no_members))) (sym h.1) (mappings_good k h.0 h.2) in
     subst IsEnumeration read.2 (enumeration_with k signed ms mappings read.0 read.1 known good)
 
 -- items that are good, in byte order of their names, and no more than `most`

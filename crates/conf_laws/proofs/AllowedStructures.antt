@@ -8,7 +8,7 @@ use Rattle.conf_laws.proofs.Properties.{AreGood, IsGood, IsGoodAt, good_object, 
 use Rattle.conf_laws.proofs.Readings.{element_is, element_bits, in_array, by_element, mapped_some, object_there, then_some, same_natural, by_found, by_test, some_there, was_so, proved_some}
 use Rattle.conf_laws.proofs.Sound.{class_place, optional_there, type_sound, Leads}
 use Rattle.conf_laws.proofs.TableLimitLaws.{times_told}
-use Rattle.conf_laws.proofs.Words.{Place, At, entries_of, class_of, is_dynamic_array, Known, inside, at_least_one, elements, natural_in, is_position, is_number, is_static_array, has_bits, itself_of, form_of, with_taken, fits, arrays_fit, is_outermost, is_taken, is_dynamic, class_of_member, take, with_names, names_beside, item_content, shape_of, Data, object, Members, get_member, optional, both_read, plain_name_of, Items, no_items, item, no_members, member, array, items_len, as_object, nat_tests, and_parts, All-from_recursion, same_Some, cond_some, AllByRecursion, option_map_or, leb-true, All-push, All-nil, list_any, IsDistinct, bytes_eq, enumeration, static, length_of, of_class, field_type, element, integer, natural, TypeHasBits as HasBits, IsNest, elements_of, IsConfigLeaf, chain_of, Int, Enum, Str, Static, FieldType, list, object_at, member_type, member_said as member_of, behind_done as behind, behind_named, behind_entry, members_behind, made, align_for, align_of, listed, structure_of, structure, extra_members, IsConfigMember, AreConfigMembers, IsConfigStruct, names_in, IsPlainName, own_names, length_name, shown_members, Auto, Plain, Dyn, MemberType, StructType}
+use Rattle.conf_laws.proofs.Words.{Place, At, entries_of, class_of, is_dynamic_array, Known, inside, at_least_one, elements, natural_in, is_position, is_number, is_static_array, has_bits, itself_of, form_of, with_taken, fits, arrays_fit, is_outermost, is_taken, is_dynamic, class_of_member, take, with_names, names_beside, item_content, shape_of, Data, object, Members, get_member, optional, Items, no_items, item, no_members, member, array, items_len, as_object, nat_tests, and_parts, All-from_recursion, same_Some, cond_some, AllByRecursion, option_map_or, leb-true, All-push, All-nil, list_any, IsDistinct, bytes_eq, enumeration, static, length_of, of_class, field_type, element, integer, natural, TypeHasBits as HasBits, IsNest, elements_of, IsConfigLeaf, chain_of, Int, Enum, Str, Static, FieldType, list, object_at, member_type, member_said as member_of, behind_done as behind, behind_named, behind_entry, members_behind, made, align_for, align_of, listed, structure_of, structure, extra_members, IsConfigMember, AreConfigMembers, IsConfigStruct, names_in, IsPlainName, own_names, length_name, shown_members, Auto, Plain, Dyn, MemberType, StructType}
 use Rattle.conf_laws.proofs.Words.places
 use Rattle.conf_laws.proofs.Agreement.{array_told}
 use Rattle.conf_laws.proofs.Structures.{names_of, AreTaken, AreFree, AreNamed, takes_itself, all_still_taken, one_more_named, with_member, keeps_taken, entry_shape, name_judged, AreApart, shown_of, none_named, members_list, extras_list, structure_class}

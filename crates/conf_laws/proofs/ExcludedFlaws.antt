@@ -47,9 +47,6 @@ module _ (ms : Members) where
 
 -- ---- what a field type is as a whole
 
-number_has : (name : List ℕ) (ms : Members) (n : ℕ) → is_number (natural_in name ms) n ≡ true → HasNumber name ms n
-number_has name ms n e = number_there name ms n (number_told (natural_in name ms) n e)
-
 eight_told : (ms : Members) → is_eight (optional (codes "alignment") ms) ≡ true → (optional (codes "alignment") ms ≡ None) ⊎ HasNumber (codes "alignment") ms 8
 eight_told ms e =
     by_found (λ (o : Option Data). is_eight o ≡ true → (optional (codes "alignment") ms ≡ None) ⊎ HasNumber (codes "alignment") ms 8) (optional (codes "alignment") ms)
@@ -59,7 +56,7 @@ byte_told : (o : Option Data) → is_byte o ≡ true → (element : Members) × 
 byte_told (Some (object ms)) e =
     let p = and_parts (is_unsigned_integer (class_of ms)) _ e in
     let q = and_parts (is_number (natural_in (codes "size") ms) 8) (is_eight (optional (codes "alignment") ms)) p.1 in
-    (ms, refl, (unsigned_told (class_of ms) p.0, number_has (codes "size") ms 8 q.0, eight_told ms q.1))
+    (ms, refl, (unsigned_told (class_of ms) p.0, number_there (codes "size") ms 8 (number_told (natural_in (codes "size") ms) 8 q.0), eight_told ms q.1))
 byte_told _ e = absurd cc
 
 identifier_told : (ms : Members) → is_identifier ms ≡ true → IsIdentifier ms
@@ -67,7 +64,7 @@ unfolding is_identifier
 identifier_told ms e =
     let p = and_parts (is_number (natural_in (codes "length") ms) 16) (is_byte (get_member (codes "element-field-type") ms)) e in
     let byte = byte_told (get_member (codes "element-field-type") ms) p.1 in
-    (byte.0, number_has (codes "length") ms 16 p.0, byte.1, byte.2)
+    (byte.0, number_there (codes "length") ms 16 (number_told (natural_in (codes "length") ms) 16 p.0), byte.1, byte.2)
 
 no_bits_found : (d : Data) → HasNoBits d → has_bits d ≡ false
 no_bits_found d (HasNoBits.an_empty_array ms class length) =
@@ -81,7 +78,7 @@ no_bits_found d (HasNoBits.an_array_of_such ms element class there such) =
 
 pub shape_excluded : (place : Place) (ms : Members) (flaw : Flaw) → shape_of place ms ≡ Ok tt → ¬ IsNoShapeAt place ms flaw
 unfolding shape_of
-shape_excluded place ms flaw e (IsNoShapeAt.no_magic_number is other) = other (number_has (codes "size") ms 32 (was_so (is_number (natural_in (codes "size") ms) 32) (subst (λ p. shape_of p ms ≡ Ok tt) is e)))
+shape_excluded place ms flaw e (IsNoShapeAt.no_magic_number is other) = other (number_there (codes "size") ms 32 (number_told (natural_in (codes "size") ms) 32 (was_so (is_number (natural_in (codes "size") ms) 32) (subst (λ p. shape_of p ms ≡ Ok tt) is e))))
 shape_excluded place ms flaw e (IsNoShapeAt.no_identifier is other) = other (identifier_told ms (was_so (is_identifier ms) (subst (λ p. shape_of p ms ≡ Ok tt) is e)))
 shape_excluded place ms flaw e (IsNoShapeAt.no_bits is such) = false≢true (sym (no_bits_found (object ms) such) ∙ was_so (has_bits (object ms)) (subst (λ p. shape_of p ms ≡ Ok tt) is e))
 

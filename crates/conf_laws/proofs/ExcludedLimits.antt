@@ -18,15 +18,11 @@ power_fails : (high : ℕ) (d : Data) → IsNoPowerUpTo high d → power_fits hi
 unfolding power_fits
 power_fails high d (n, is, some, none) = ap (divides high) is ∙ or_from (nat_eq n 0) (high % n == 0) (ne_eqb n 0 some) (ne_eqb (high % n) 0 (λ e. none (high / n) (divided high n (omega (arith, some)) e)))
 
-entries_fail : (place : Place) (d : Data) (entries : Entries) (most : ℕ) → entries_of place ≡ Some entries → entries.most ≡ Some most → most < count_of d → at_most (entries_of place) (count_of d) ≡ false
-entries_fail place d entries most is number_is more =
-    let counted : at_most (Some entries) (count_of d) ≡ nat_le (count_of d) most = rw number_is refl in
-    ap (λ o. at_most o (count_of d)) is ∙ counted ∙ lt-leb (count_of d) most more
-
 at_fails : (place : Place) (d : Data) → PassesAt place d → place_fits place d ≡ false
 unfolding place_fits ranges_fit arrays_fit
 at_fails place d (PassesAt.too_many_entries entries most is number_is more) =
-    and_right (arrays_fit place d) _ (and_left (at_most (entries_of place) (count_of d)) (ranges_fit place d) (entries_fail place d entries most is number_is more))
+    let counted : at_most (Some entries) (count_of d) ≡ nat_le (count_of d) most = rw number_is refl in
+    and_right (arrays_fit place d) _ (and_left (at_most (entries_of place) (count_of d)) (ranges_fit place d) (ap (λ o. at_most o (count_of d)) is ∙ counted ∙ lt-leb (count_of d) most more))
 at_fails place d (PassesAt.too_many_ranges is more) = and_right (arrays_fit place d) _ (and_right (at_most (entries_of place) (count_of d)) (ranges_fit place d) (subst (λ p. ranges_fit p d ≡ false) (sym is) (lt-leb (ranges_of d) 1024 more)))
 at_fails place d (PassesAt.too_many_elements outermost many) = and_left (arrays_fit place d) _ (rw outermost (ap is_some (not_counted d many)))
 

@@ -1,6 +1,6 @@
 -- A whole number that is in its range is a natural number in it; what a range that was read says; and the alignments of fields, where one
 -- that passes no limit is the very number that is read.
-use Rattle.std.proofs.Common.{◌≡◌, ◌≤◌, ℕ, ℤ, pos, negsuc, true, false, List, Option, Some, Ok, nat_le, leb-true, le-leb, arith, refl, sym, ap, subst, ◌∙◌, None, ◌<◌, Bool, ◌%◌, ◌==◌, cond, ◌&&◌, int_le, nat_lt, nat_eq, ◌||◌, codes, option_and_then, unwrap_or}
+use Rattle.std.proofs.Common.{◌≡◌, ◌≤◌, ℕ, ℤ, pos, negsuc, true, false, List, Option, Some, Ok, nat_le, leb-true, le-leb, arith, refl, sym, ap, subst, ◌∙◌, None, ◌<◌, Bool, ◌%◌, ◌==◌, cond, ◌&&◌, int_le, nat_lt, nat_eq, codes, option_and_then, unwrap_or}
 use Rattle.conf_laws.proofs.Readings.{optional_found, by_found, by_test}
 use Rattle.conf_laws.proofs.Sound.{Leads, RowsSound, needed_sound}
 use Rattle.conf_laws.proofs.Words.{IsWhole, IsPair, presence_under, Place, Whole, Needed, is_null, itself_of, Known, leaf_of, whole_from, is_power_of_two, divides, numbers_of, end_of, pair_of, single_of, range_of, is_number, here, index, whole_of, whole_or_not, wanted, at, OutOfRange, wanted_found, both_read, is_passed, read_there, ok_same, as_natural, natural_or_none, integer_or_none, Data, number, Num, Members, array, Items, no_items, item, as_integer, as_number, as_array, nat_tests, false≢true, and_parts, eqb-true, same_Some, is_alignment, alignment_of, alignment, natural, lowest, highest, integer_align, default_align, size_of, align_of}
@@ -123,8 +123,6 @@ alignment_or name otherwise ms default =
     by_found (λ (o : Option ℕ). IsAlignment (unwrap_or (option_and_then alignment_of o) otherwise)) (natural name ms) (λ none. default) (λ n there.
     by_test (λ (b : Bool). IsAlignment (unwrap_or (cond b (Some n) None) otherwise)) (is_alignment n)
     (λ is. let parts = and_parts (nat_lt 0 n) (4096 % n == 0) is in record { positive = parts.0; power = parts.1 }) (λ is. default))
-
--- ---- within the limit
 
 module _ (ms : Members) (n : ℕ) (power : is_power_of_two (pos n) ≡ true) (fits : divides 4096 (Some n) ≡ true) where
   kept : (name : List ℕ) → natural name ms ≡ Some n → alignment name ms ≡ Some n

@@ -85,15 +85,13 @@ pub under_no_test : {A : Type 0} (b : Bool) (x y : A) (flaw : Flaw) → cond b (
 under_no_test true x y flaw e = absurd cc
 under_no_test false x y flaw e = refl
 
--- properties
-module _ (name : List ℕ) (ms : Members) where
-  given_itself : (d : Data) → is_null d ≡ false → given (Some d) ≡ Some d
-  given_itself null e = absurd cc
-  given_itself _ e = refl
+given_itself : (d : Data) → is_null d ≡ false → given (Some d) ≡ Some d
+given_itself null e = absurd cc
+given_itself _ e = refl
 
-  -- what is there and is not null
-  pub optional_found : (d : Data) → get_member name ms ≡ Some d → is_null d ≡ false → optional name ms ≡ Some d
-  optional_found d found some = ap given found ∙ given_itself d some
+-- what is there and is not null
+pub optional_found : (name : List ℕ) (ms : Members) (d : Data) → get_member name ms ≡ Some d → is_null d ≡ false → optional name ms ≡ Some d
+optional_found name ms d found some = ap given found ∙ given_itself d some
 
 -- ---- what is at a name
 

@@ -5,7 +5,7 @@ use Rattle.conf_laws.proofs.Numbers.{IsAlignment, alignment_or, needed_natural}
 use Rattle.conf_laws.proofs.Readings.{proved_there, element_is, by_element, mapped_there, all_joined, under_no_test, optional_found, then_there, by_found, by_test}
 use Rattle.conf_laws.proofs.Sound.{RowsSound, ContentSound, object_sound, needed_sound, TypeSound, type_sound, ObjectSound, PropertySound, object_at, content_sound, first_item, rows_sound, first_entry, Leads, optional_sound}
 use Rattle.conf_laws.proofs.Properties.{Property, leads, needed_by, MapPlace, is_map}
-use Rattle.conf_laws.proofs.Words.{admits_class, is_class, is_dynamic_array, Place, Whole, At, entries_of, itself_of, form_of, any_object, Known, inside, is_position, inner_flaws, item_flaws, nothing, with_taken, take, is_taken, key_of, key_by, free_of, is_dynamic, with_names, names_beside, own_place, place_of_properties, item_content, Members, Data, object, get_member, optional, here, WrongKind, is_passed, members_len, ◌>>=◌, both_read, plain_name_of, Items, no_items, item, no_members, member, array, as_array, as_object, eqb-true, false≢true, or_parts, All-push, All-nil, list_any-append, map-append, bytes_eq-Decides, IsDistinct, option_map_or, AllByRecursion, list_any, bytes_eq, enumeration, field_type, element, of_class, static, length_of, size_of, base_of, default_align, integer, Base, FieldType, object_at as object_in, list as list_in, member_type, member_said as member_of, behind_done, members_behind, made, align_for, listed, align_of, structure_of, structure, extra_members, names_in, IsPlainName, length_name, shown_members, Auto, AtMember, Plain, Dyn, MemberType, integer_align, integer_made}
+use Rattle.conf_laws.proofs.Words.{admits_class, is_class, is_dynamic_array, Place, Whole, At, entries_of, itself_of, form_of, any_object, Known, inside, is_position, inner_flaws, item_flaws, nothing, with_taken, take, is_taken, key_of, key_by, free_of, is_dynamic, with_names, names_beside, own_place, place_of_properties, item_content, Members, Data, object, get_member, optional, here, WrongKind, is_passed, members_len, both_read, plain_name_of, Items, no_items, item, no_members, member, array, as_array, as_object, eqb-true, false≢true, or_parts, All-push, All-nil, list_any-append, map-append, bytes_eq-Decides, IsDistinct, option_map_or, AllByRecursion, list_any, bytes_eq, enumeration, field_type, element, of_class, static, length_of, size_of, default_align, integer, FieldType, object_at as object_in, list as list_in, member_type, member_said as member_of, behind_done, members_behind, made, align_for, listed, align_of, structure_of, structure, extra_members, names_in, IsPlainName, length_name, shown_members, Auto, AtMember, Plain, Dyn, MemberType, integer_align, integer_made}
 use Rattle.conf_laws.proofs.Words.places
 use Rattle.conf_laws.proofs.Agreement.{taken_put}
 

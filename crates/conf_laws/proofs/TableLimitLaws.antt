@@ -1,7 +1,7 @@
 -- Each limit that the walk over a configuration tells of is one that it passes by the table.
 use Rattle.std.proofs.Common.{◌≡◌, ◌⊎◌, ◌*◌, ◌≤◌, ◌<◌, ℕ, zero, suc, Bool, true, false, not, cond, List, [], ◌∷◌, length, Option, Some, None, inl, inr, refl, sym, ap, subst, ◌∙◌, arith, ◌++◌, ◌%◌, ◌==◌, ◌&&◌, map, Contains, is_some, Err, codes, unwrap_or, nat_le, nat_eq}
 use Rattle.conf_laws.proofs.Agreement.{ItemParts, item_found}
-use Rattle.conf_laws.proofs.Readings.{some_none, some_same, of_element, in_array, by_found, by_test}
+use Rattle.conf_laws.proofs.Readings.{some_same, of_element, in_array, by_found, by_test}
 use Rattle.conf_laws.proofs.TableFlawLaws.{static_told, seen_and, member_there, refused_among}
 use Rattle.conf_laws.proofs.ValueFlawLaws.{none_there}
 use Rattle.conf_laws.proofs.Words.{Parts, IsArray, HasElement, Nest, product, HasTooManyElements, PassesAt, IsLongText, IsNoPowerUpTo, PassesBy, PassesLimitOf, entries_of, content_under, Place, Content, Entries, Keys, class_of, told_by, times, at_least_one, elements, within_limit, bytes_fit, divides, power_fits, is_outermost, arrays_fit, count_of, at_most, ranges_of, ranges_fit, place_fits, fits, is_label, key_fits, inner_limits, item_limits, member_limits, configuration_limits, natural_in, place_of_properties, item_content, is_static_array, Flaw, key, index, here, within, HasMember, refusal, Limit, as_natural, Data, object, Members, string, array, Items, no_items, item, no_members, member, items_len, get_member, nat_tests, mul-one, one-le-mul, mul-mod_right, leb-true, leb-false, eqb-false, and_cases, or_parts, All-nil, All-cons, All-map, All-append, All-weaker, All-contains, mul-le, cond_some, option_map_or, All}

@@ -2,10 +2,10 @@
 -- A resolved configuration that has no flaw says something, and so do its data stream types and their event record types.
 use Rattle.std.proofs.Common.{◌≡◌, ℕ, Bool, true, false, List, Option, Some, is_some, IsSome, option_map, refl, sym, ap, subst, ◌∙◌, [], ◌∷◌, ◌++◌, ◌&&◌, codes, unwrap_or, option_and_then}
 use Rattle.conf_laws.proofs.Structures.{integer_said, structure_there, extras_there}
-use Rattle.conf_laws.proofs.Readings.{some_there, was_so, optional_found, mapped_there, by_found, then_there}
+use Rattle.conf_laws.proofs.Readings.{some_there, was_so, optional_found, mapped_there, then_there}
 use Rattle.conf_laws.proofs.Sound.{TypeSound, type_sound, unsigned_told, Leads, RowsSound, needed_sound, optional_sound, ObjectSound, ContentSound, object_sound, by_object, held_at, first_entry, needed_object, content_sound}
 use Rattle.conf_laws.proofs.Properties.{Property, leads, needed_by, OwnPlace, is_object, MapPlace, is_map, type_object}
-use Rattle.conf_laws.proofs.Words.{admits_class, rows_of, Place, At, class_of, is_null, all_there, orders_there, Known, inside, natural_in, is_position, shape_of, is_identifier, is_byte, is_unsigned_integer, is_number, is_eight, member_flaws, configuration_flaws, behind, nothing, optional, Data, null, boolean, object, Members, no_members, get_member, member, as_object, false≢true, and_parts, same_Some, number_type, byte_type, if_on, feature_of, feature, byte_of, identifier, size, mapped, timestamp, magic_type, header, context, event_header, integer, IntType, environment, event_type, event_types, object_at as object_in, properties, said_behind, word, clock_of, stream_type, stream_types, draft_of_type, draft_of_trace, draft_of_root, draft_of, EnvironmentEntry, is_unsigned_class}
+use Rattle.conf_laws.proofs.Words.{admits_class, rows_of, Place, At, class_of, is_null, all_there, orders_there, Known, inside, natural_in, is_position, shape_of, is_identifier, is_byte, is_unsigned_integer, is_number, is_eight, member_flaws, configuration_flaws, behind, nothing, optional, Data, null, boolean, object, Members, no_members, get_member, member, as_object, false≢true, and_parts, same_Some, number_type, byte_type, feature_of, feature, byte_of, identifier, size, mapped, timestamp, magic_type, header, context, event_header, integer, IntType, environment, event_type, event_types, object_at as object_in, properties, said_behind, word, clock_of, stream_type, stream_types, draft_of_type, draft_of_trace, draft_of_root, draft_of, EnvironmentEntry, is_unsigned_class}
 use Rattle.conf_laws.proofs.Words.places
 
 -- a position where an unsigned integer alone may stand

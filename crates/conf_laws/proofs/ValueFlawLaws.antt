@@ -142,9 +142,6 @@ range_known d low high (ReadSo.two_numbers a b z w pair e f) =
     let second = whole_read lowest_end highest_end b w f in
     record { is = IsRange.two_numbers a b z w pair first.whole second.whole; least = first.least; most = second.most }
 
-range_read : (d : Data) (range : _) → range_of d ≡ Ok range → RangeRead d range.low range.high
-range_read d range e = range_known d range.low range.high (read_so d range e)
-
 pub number_there : (name : List ℕ) (ms : Members) (n : ℕ) → natural_in name ms ≡ Some n → HasNumber name ms n
 unfolding natural_in
 number_there name ms n e =
@@ -189,19 +186,19 @@ module _ (around : Around) where
       holds_of (IsNoRange around d) (here OutOfRange) flaw told.1 (outside range went (and_cases (int_le range.low range.high && int_le numbers.low range.low) (int_le range.high numbers.high) told.0)))
     where
       below_one : (range : _) → range_of d ≡ Ok range → int_le numbers.low range.low ≡ false → IsNoRange around d (here OutOfRange)
-      below_one range went small = let read = range_read d range went in sized (λ s. int_le s.low range.low) read.least
+      below_one range went small = let read = range_known d range.low range.high (read_so d range went) in sized (λ s. int_le s.low range.low) read.least
           (λ signed n bits less. IsNoRange.below_the_integer range.low range.high signed n read.is bits (below_in range.low (lowest signed n) (le-false (lowest signed n) range.low less)))
           (ap (λ s. int_le s.low range.low) (sym agrees) ∙ small)
 
       above_one : (range : _) → range_of d ≡ Ok range → int_le range.high numbers.high ≡ false → IsNoRange around d (here OutOfRange)
-      above_one range went large = let read = range_read d range went in sized (λ s. int_le range.high s.high) read.most
+      above_one range went large = let read = range_known d range.low range.high (read_so d range went) in sized (λ s. int_le range.high s.high) read.most
           (λ signed n bits more. IsNoRange.above_the_integer range.low range.high signed n read.is bits (below_in (highest signed n) range.high (le-false range.high (highest signed n) more)))
           (ap (λ s. int_le range.high s.high) (sym agrees) ∙ large)
 
       outside : (range : _) → range_of d ≡ Ok range → ((int_le range.low range.high && int_le numbers.low range.low) ≡ false) ⊎ (int_le range.high numbers.high ≡ false) → IsNoRange around d (here OutOfRange)
       outside range went (inr large) = above_one range went large
       outside range went (inl either) = elim (and_cases (int_le range.low range.high) (int_le numbers.low range.low) either) [
-        | inl empty ↦ IsNoRange.low_above_high range.low range.high (range_read d range went).is (below_in range.high range.low (le-false range.low range.high empty))
+        | inl empty ↦ IsNoRange.low_above_high range.low range.high (range_known d range.low range.high (read_so d range went)).is (below_in range.high range.low (le-false range.low range.high empty))
         | inr small ↦ below_one range went small
       ]
 
