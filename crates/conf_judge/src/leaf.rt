@@ -109,13 +109,11 @@ fn check_level(
 ) -> Result<(), ConfFault>
     ensures { Gives (λ _. tt) result (level (unwrap_or (option_map (λ m. members_view m.now.entries) levels.entry) no_members) high (view value.now)) }
 {
-    match value {
-        Value::String(name) => {
-            match levels.and_then(|levels| member(levels, name.as_str())) {
-                Some(level) => check_whole(alloc, level, 0, high),
-                None => Err(ConfFault::here(alloc, FaultKind::NoSuchAlias)),
-            }
-        }
-        _ => check_whole(alloc, value, 0, high),
+    let Value::String(name) = value else {
+        return check_whole(alloc, value, 0, high);
+    };
+    match levels.and_then(|levels| member(levels, name.as_str())) {
+        Some(level) => check_whole(alloc, level, 0, high),
+        None => Err(ConfFault::here(alloc, FaultKind::NoSuchAlias)),
     }
 }
