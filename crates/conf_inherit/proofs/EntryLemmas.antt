@@ -1,5 +1,6 @@
 -- What an index of entries answers is what a search of the entries answers.
-use Rattle.std.proofs.Common.{Bor, ◌≡◌, ◌+◌, ◌≤◌, ◌||◌, ℕ, suc, List, [], ◌∷◌, length, Option, Some, None, option_map, is_some, nat_lt, if◌then◌else◌, Bool, true, false, true≢false, refl, sym, ap, ◌∙◌, subst, arith}
+use Rattle.std.proofs.Common.{inr, inl, Bor, ◌≡◌, ◌+◌, ◌≤◌, ◌||◌, ℕ, suc, List, [], ◌∷◌, length, Option, Some, None, option_map, is_some, nat_lt, if◌then◌else◌, Bool, true, false, true≢false, refl, sym, ap, ◌∙◌, subst, arith}
+use Rattle.std.proofs.lemmas.Bool.{cases_Bool}
 use Rattle.std.proofs.lemmas.Bool.Decides.{nat_tests}
 use Rattle.std.proofs.lemmas.Slice.Eq.{bytes_eq-Decides}
 use Rattle.std.specs.List.{IsAmong, push}
@@ -20,11 +21,7 @@ use Rattle.conf_inherit.proofs.LayingLemmas.{get_first, Meets, same, other, meet
 
 pub has_place : (i : ℕ) (n : List ℕ) (es : Items) → is_some (place_from i n es) ≡ has_entry n es
 has_place i n no_items = refl
-has_place i n (item e es) = go (is_some (get n e)) refl (has_place (suc i) n es)
-  where
-    go : (t : Bool) → is_some (get n e) ≡ t → is_some (place_from (suc i) n es) ≡ has_entry n es → is_some (place_from i n (item e es)) ≡ has_entry n (item e es)
-    go true is rest = rw is refl
-    go false is rest = rw is rest
+has_place i n (item e es) = elim (cases_Bool (is_some (get n e))) [ inl is ↦ rw is refl | inr is ↦ rw is (has_place (suc i) n es) ]
 
 -- one entry more at the end of a list
 pub place_pushed : (i : ℕ) (n : List ℕ) (vs : List Value) (v : Value) → place_from i n (items_view (push vs v)) ≡ option_or (place_from i n (items_view vs)) (place_if n (view v) (i + length vs))
@@ -78,11 +75,10 @@ sooner i (Some p) h = omega arith
 
 place_at_least : (i : ℕ) (n : List ℕ) (es : Items) → AtLeast i (place_from i n es)
 place_at_least i n no_items = tt
-place_at_least i n (item e es) = go (is_some (get n e)) refl (sooner i (place_from (suc i) n es) (place_at_least (suc i) n es))
-  where
-    go : (t : Bool) → is_some (get n e) ≡ t → AtLeast i (place_from (suc i) n es) → AtLeast i (place_from i n (item e es))
-    go true is rest = rw is (let e : i ≤ i = omega arith in e)
-    go false is rest = rw is rest
+place_at_least i n (item e es) = elim (cases_Bool (is_some (get n e))) [
+  | inl is ↦ rw is (let e : i ≤ i = omega arith in e)
+  | inr is ↦ rw is (sooner i (place_from (suc i) n es) (place_at_least (suc i) n es))
+]
 
 -- ---- the lowest place of some names
 
@@ -95,11 +91,7 @@ is_before i j h = grind (arith, nat_tests)
 lower_at_least : (i : ℕ) (o q : Option ℕ) → AtLeast i o → AtLeast i q → AtLeast i (lower o q)
 lower_at_least i None q a b = b
 lower_at_least i (Some p) None a b = a
-lower_at_least i (Some p) (Some r) a b = go (nat_lt r p) refl
-  where
-    go : (t : Bool) → nat_lt r p ≡ t → AtLeast i (lower (Some p) (Some r))
-    go true is = rw is b
-    go false is = rw is a
+lower_at_least i (Some p) (Some r) a b = elim (cases_Bool (nat_lt r p)) [ inl is ↦ rw is b | inr is ↦ rw is a ]
 
 lowest_at_least : (i : ℕ) (f : List ℕ → Option ℕ) (ms : Members) → ((n : List ℕ) → AtLeast i (f n)) → AtLeast i (lowest f ms)
 lowest_at_least i f no_members h = tt
@@ -131,12 +123,10 @@ shares (member n d ms) e = is_some (get n e) || shares ms e
 
 lowest_later : (i : ℕ) (e : Data) (es : Items) (ms : Members) → shares ms e ≡ false → lowest (λ n. place_from i n (item e es)) ms ≡ lowest (λ n. place_from (suc i) n es) ms
 lowest_later i e es no_members h = refl
-lowest_later i e es (member n d ms) h = go (is_some (get n e)) refl (lowest_later i e es ms)
-  where
-    go : (t : Bool) → is_some (get n e) ≡ t → (shares ms e ≡ false → lowest (λ n. place_from i n (item e es)) ms ≡ lowest (λ n. place_from (suc i) n es) ms)
-        → lowest (λ n. place_from i n (item e es)) (member n d ms) ≡ lowest (λ n. place_from (suc i) n es) (member n d ms)
-    go true is rest = absurd (true≢false (rw is at h))
-    go false is rest = rw is (ap (lower (place_from (suc i) n es)) (rest (rw is at h)))
+lowest_later i e es (member n d ms) h = elim (cases_Bool (is_some (get n e))) [
+  | inl is ↦ absurd (true≢false (rw is at h))
+  | inr is ↦ rw is (ap (lower (place_from (suc i) n es)) (lowest_later i e es ms (rw is at h)))
+]
 
 lowest_here : (i : ℕ) (e : Data) (es : Items) (ms : Members) → shares ms e ≡ true → lowest (λ n. place_from i n (item e es)) ms ≡ Some i
 lowest_here i e es no_members h = absurd (true≢false (sym h))
@@ -159,11 +149,7 @@ unshared n (member l d bs) e h is = go (is_some (get l e)) refl (unshared n bs e
     go false at rest (other apart) = get_other n l d bs apart ∙ rest (rw at at h) is
 
 still_there : (n l : List ℕ) (d : Data) (ms : Members) → is_some (get_member n ms) ≡ true → is_some (get_member n (member l d ms)) ≡ true
-still_there n l d ms h = go (meets n l)
-  where
-    go : Meets n l → is_some (get_member n (member l d ms)) ≡ true
-    go (same x) = ap is_some (get_same n l d ms x)
-    go (other apart) = ap is_some (get_other n l d ms apart) ∙ h
+still_there n l d ms h = elim (meets n l) [ same x ↦ ap is_some (get_same n l d ms x) | other apart ↦ ap is_some (get_other n l d ms apart) ∙ h ]
 
 -- where no name is shared, what comes later is laid
 passed_members : (done bs : Members) (e : Data) (ms : Members) (rest : Data) → shares bs e ≡ false → ((n : List ℕ) → is_some (get_member n ms) ≡ true → is_some (get n e) ≡ true)
@@ -222,11 +208,10 @@ none_low i (member n d bs) = none_low i bs
 
 finds_object : (i : ℕ) (es : Items) (bs : Members) → Finds i es (object bs) (lowest (λ n. place_from i n es) bs)
 finds_object i no_items bs = subst (Finds i no_items (object bs)) (sym (none_low i bs)) (λ done. refl)
-finds_object i (item e es) bs = go (shares bs e) refl (finds_object (suc i) es bs)
-  where
-    go : (t : Bool) → shares bs e ≡ t → Finds (suc i) es (object bs) (lowest (λ n. place_from (suc i) n es) bs) → Finds i (item e es) (object bs) (lowest (λ n. place_from i n (item e es)) bs)
-    go true is later = subst (Finds i (item e es) (object bs)) (sym (lowest_here i e es bs is)) (0, e, omega arith, refl, λ done. decided done bs e (lay_over done es (object bs)) (object bs) is)
-    go false is later = subst (Finds i (item e es) (object bs)) (sym (lowest_later i e es bs is)) (finds_later i e es bs is _ later)
+finds_object i (item e es) bs = elim (cases_Bool (shares bs e)) [
+  | inl is ↦ subst (Finds i (item e es) (object bs)) (sym (lowest_here i e es bs is)) (0, e, omega arith, refl, λ done. decided done bs e (lay_over done es (object bs)) (object bs) is)
+  | inr is ↦ subst (Finds i (item e es) (object bs)) (sym (lowest_later i e es bs is)) (finds_later i e es bs is _ (finds_object (suc i) es bs))
+]
 
 plain_members : (done ms : Members) (b rest : Data) → ((n : List ℕ) → get n b ≡ None) → lay_over_member done ms b rest ≡ rest
 plain_members done no_members b rest none = refl

@@ -1,6 +1,6 @@
 -- A value without a flaw, whose names are all of resolved aliases, is ready to be resolved.
-use Rattle.std.proofs.Common.{◌≡◌, ◌&&◌, ◌++◌, inl, inr, ℕ, suc, List, [], ◌∷◌, map, Option, Some, None, is_some, Bool, true, false, true≢false, refl, sym, ap, ◌∙◌, subst, ◌<◌, ◌+◌, ◌⊎◌, Err, arith}
-use Rattle.std.proofs.lemmas.Bool.{or_parts}
+use Rattle.std.proofs.Common.{cond, ◌≡◌, ◌&&◌, ◌++◌, inl, inr, ℕ, suc, List, [], ◌∷◌, map, Option, Some, None, is_some, Bool, true, false, true≢false, refl, sym, ap, ◌∙◌, subst, ◌<◌, ◌+◌, ◌⊎◌, Err, arith, ◌||◌, not}
+use Rattle.std.proofs.lemmas.Bool.{and_parts, cases_Bool, or_parts, and_cases, and_from}
 use Rattle.serde_json.specs.Data.{Data, null, string, array, object, Items, no_items, item, Members, no_members, member, put}
 use Rattle.serde_json.specs.Find.{get_member, get_item}
 use Rattle.serde_json.proofs.Views.{get_member-put, get_member-put_other}
@@ -17,6 +17,7 @@ use Rattle.conf_inherit.proofs.LayingLemmas.{get_other, Meets, same, other, meet
 use Rattle.conf_tree.specs.Walk.{HasMember, refusal}
 use Rattle.conf_tree.specs.declared.fault_kind.FaultKind.TheVariants.{WrongKind, NoSuchAlias, NameClash}
 use Rattle.conf_inherit.specs.Faults.{Leads, HasEntry, SaysOf, FlawHolds}
+use Rattle.conf_inherit.specs.Circle.{Mentions, MentionsInItems, MentionsInMembers}
 
 pub part_empty : {A B : Type 0} (f : A → B) (xs : List A) (ys : List B) → map f xs ++ ys ≡ [] → xs ≡ []
 part_empty f [] ys e = refl
@@ -34,42 +35,32 @@ pub back_empty : {A : Type 0} (xs ys : List A) → xs ++ ys ≡ [] → ys ≡ []
 back_empty [] ys e = e
 back_empty (x ∷ xs) ys e = cc
 
-pub and_left : (a b : Bool) → (a && b) ≡ true → a ≡ true
-and_left true b h = refl
-and_left false b h = h
-
-pub and_right : (a b : Bool) → (a && b) ≡ true → b ≡ true
-and_right true b h = h
-and_right false b h = absurd (true≢false (sym h))
+pub same_part : (f : Flaw → Flaw) (a b c x y z : List Flaw) → a ≡ x → b ≡ y → c ≡ z → map f (a ++ b) ++ c ≡ map f (x ++ y) ++ z
+same_part f a b c x y z p q r = cc
 
 pub some_of : {A : Type 0} (o : Option A) → is_some o ≡ true → (x : A) × (o ≡ Some x)
 some_of None h = absurd (true≢false (sym h))
 some_of (Some x) h = (x, refl)
 
--- a value without a flaw of its own is not of a wrong kind, and its name is not taken
-not_wrong : (al : Members) (s : Place) (taken : Bool) (v : Data) → own_flaws al s taken v ≡ [] → is_wrong s v ≡ false
-not_wrong al s taken v h = go (is_wrong s v) refl
-  where
-    go : (t : Bool) → is_wrong s v ≡ t → is_wrong s v ≡ false
-    go true is = let f = rw is at h in cc
-    go false is = is
+none_refused : (a b c : Bool) → cond a (here WrongKind ∷ []) (cond b (here NoSuchAlias ∷ []) (cond c (here NameClash ∷ []) [])) ≡ [] → (a ≡ false) × (b ≡ false) × (c ≡ false)
+none_refused false false false e = (refl, refl, refl)
+none_refused true b c e = absurd cc
+none_refused false true c e = absurd cc
+none_refused false false true e = absurd cc
 
-pub not_unknown : (al : Members) (s : Place) (taken : Bool) (v : Data) → own_flaws al s taken v ≡ [] → is_unknown al s v ≡ false
-not_unknown al s taken v h = go (is_wrong s v) refl (is_unknown al s v) refl
-  where
-    go : (t : Bool) → is_wrong s v ≡ t → (u : Bool) → is_unknown al s v ≡ u → is_unknown al s v ≡ false
-    go t is false is' = is'
-    go true is true is' = let f = rw is at h in cc
-    go false is true is' = let f = rw (is, is') at h in cc
+-- a value without a flaw of its own is not of a wrong kind, its name is known, and not taken
+pub record OwnSound (al : Members) (s : Place) (taken : Bool) (v : Data) : Type 0 where
+  pub right : is_wrong s v ≡ false
+  pub known : is_unknown al s v ≡ false
+  pub free : taken ≡ false
 
-not_taken : (al : Members) (s : Place) (taken : Bool) (v : Data) → own_flaws al s taken v ≡ [] → taken ≡ false
-not_taken al s false v h = refl
-not_taken al s true v h = go (is_wrong s v) refl (is_unknown al s v) refl
-  where
-    go : (t : Bool) → is_wrong s v ≡ t → (u : Bool) → is_unknown al s v ≡ u → true ≡ false
-    go true is u is' = let f = rw is at h in cc
-    go false is true is' = let f = rw (is, is') at h in cc
-    go false is false is' = let f = rw (is, is') at h in cc
+pub own_sound : (al : Members) (s : Place) (taken : Bool) (v : Data) → own_flaws al s taken v ≡ [] → OwnSound al s taken v
+own_sound al s taken v h = let none = none_refused (is_wrong s v) (is_unknown al s v) taken h in record { right = none.0; known = none.1; free = none.2 }
+
+-- a name that is asked passes a test that every name in a value passes
+passes_text : (p : List ℕ → Bool) (s : Place) (n : List ℕ) → Names s → all_named p s (string n) ≡ true → p n ≡ true
+passes_text p s n (inl is) h = rw is at h
+passes_text p s n (inr is) h = elim (cases_Bool (names_alias s)) [ inl e ↦ rw e at h | inr e ↦ rw (e, is) at h ]
 
 entry_is : is_entry places.Entry ≡ true
 unfolding is_entry
@@ -88,15 +79,19 @@ pub record Apart (seen : Members) (es : Members) : Type 0 where
   pub distinct : NoClash es
   pub new : (n : List ℕ) → has seen n ≡ true → get_member n es ≡ None
 
-has_put : (n : List ℕ) (seen : Members) → has (put n null seen) n ≡ true
-has_put n seen = ap is_some (get_member-put n null seen)
+-- a name that is put is there, and what was there is there still
+pub is_put : (k : List ℕ) (r : Data) (ms : Members) → has (put k r ms) k ≡ true
+is_put k r ms = ap is_some (get_member-put k r ms)
+
+pub is_still : (k : List ℕ) (r : Data) (ms : Members) (n : List ℕ) → has ms n ≡ true → has (put k r ms) n ≡ true
+is_still k r ms n h = elim (meets n k) [ same e ↦ ap (has (put k r ms)) e ∙ is_put k r ms | other apart ↦ ap is_some (get_member-put_other n k r ms apart) ∙ h ]
 
 some_or_none : (n : List ℕ) (ms : Members) → has ms n ≡ false → (q : List ℕ) → has ms q ≡ true → q ≡ n → ⊥
 some_or_none n ms h q f e = true≢false (sym f ∙ ap (has ms) e ∙ h)
 
 apart_more : (n : List ℕ) (d : Data) (seen es : Members) → has seen n ≡ false → Apart (put n null seen) es → Apart seen (member n d es)
 apart_more n d seen es h a = record {
-  distinct = (a.new n (has_put n seen), a.distinct);
+  distinct = (a.new n (is_put n null seen), a.distinct);
   new = λ q f. get_other q n d es (some_or_none n seen h q f) ∙ a.new q (ap is_some (get_member-put_other q n null seen (some_or_none n seen h q f)) ∙ f);
 }
 
@@ -104,7 +99,7 @@ module _ (al : Members) (rs : Option Members) where
   apart_at : (s : Place) (i : ℕ) (seen : Members) (v : Data) (es : Items) → is_no_entry v ≡ false → inner_flaws al rs places.Entry seen v ≡ [] → (Apart (mark v seen) (entries_of es)) → Apart seen (entries_of (item v es))
   apart_at s i seen (object (member n d no_members)) es single h a =
       let own = front_empty _ _ (front_empty _ _ (part_empty (within (key n)) _ _ h)) in
-      let free : (is_entry places.Entry && has seen n) ≡ false = not_taken al (place_under places.Entry n) (is_entry places.Entry && has seen n) d own in
+      let free : (is_entry places.Entry && has seen n) ≡ false = (own_sound al (place_under places.Entry n) (is_entry places.Entry && has seen n) d own).free in
       apart_more n d seen (entries_of es) (rw entry_is at free) a
   apart_at s i seen (object (member n d (member m e ms))) es single h a = absurd (true≢false single)
   apart_at s i seen (object no_members) es single h a = absurd (true≢false single)
@@ -117,16 +112,11 @@ module _ (al : Members) (rs : Option Members) where
       let later_none = rest_empty (within (index i)) (own_flaws al (place_of_items s) false v ++ inner_flaws al rs (place_of_items s) seen v) (item_flaws al rs s (suc i) (mark v seen) es) h in
       let own : own_flaws al places.Entry false v ≡ [] = subst (λ x. own_flaws al x false v ≡ []) place (front_empty _ _ here_none) in
       let inner : inner_flaws al rs places.Entry seen v ≡ [] = subst (λ x. inner_flaws al rs x seen v ≡ []) place (back_empty (own_flaws al (place_of_items s) false v) (inner_flaws al rs (place_of_items s) seen v) here_none) in
-      apart_at s i seen v es (single_entry v (not_wrong al places.Entry false v own)) inner (apart_entries s (suc i) (mark v seen) es place later_none)
+      apart_at s i seen v es (single_entry v (own_sound al places.Entry false v own).right) inner (apart_entries s (suc i) (mark v seen) es place later_none)
 
   module _ (done : Members) where
     ready_text : (s : Place) (n : List ℕ) → all_named (has done) s (string n) ≡ true → Names s → (r : Data) × (get_member n done ≡ Some r)
-    ready_text s n h (inl is) = some_of (get_member n done) (rw is at h)
-    ready_text s n h (inr is) = some_of (get_member n done) (go (names_alias s) refl)
-      where
-        go : (t : Bool) → names_alias s ≡ t → has done n ≡ true
-        go true e = rw e at h
-        go false e = rw (e, is) at h
+    ready_text s n h names = some_of (get_member n done) (passes_text (has done) s n names h)
 
     mutual
       pub ready : (v : Data) (s : Place) (seen : Members) → inner_flaws al rs s seen v ≡ [] → all_named (has done) s v ≡ true → IsReady done s v
@@ -140,8 +130,8 @@ module _ (al : Members) (rs : Option Members) where
       ready_items (item v es) s i seen h named =
           let here_none = part_empty (within (index i)) (own_flaws al (place_of_items s) false v ++ inner_flaws al rs (place_of_items s) seen v) (item_flaws al rs s (suc i) (mark v seen) es) h in
           let later_none = rest_empty (within (index i)) (own_flaws al (place_of_items s) false v ++ inner_flaws al rs (place_of_items s) seen v) (item_flaws al rs s (suc i) (mark v seen) es) h in (
-            ready v (place_of_items s) seen (back_empty (own_flaws al (place_of_items s) false v) (inner_flaws al rs (place_of_items s) seen v) here_none) (and_left (all_named (has done) (place_of_items s) v) (all_named_in_items (has done) (place_of_items s) es) named),
-            ready_items es s (suc i) (mark v seen) later_none (and_right (all_named (has done) (place_of_items s) v) (all_named_in_items (has done) (place_of_items s) es) named),
+            ready v (place_of_items s) seen (back_empty (own_flaws al (place_of_items s) false v) (inner_flaws al rs (place_of_items s) seen v) here_none) (and_parts (all_named (has done) (place_of_items s) v) (all_named_in_items (has done) (place_of_items s) es) named).0,
+            ready_items es s (suc i) (mark v seen) later_none (and_parts (all_named (has done) (place_of_items s) v) (all_named_in_items (has done) (place_of_items s) es) named).1,
           )
 
       ready_members : (ms : Members) (s : Place) (seen : Members) → member_flaws al rs s seen ms ≡ [] → all_named_in_members (has done) s ms ≡ true → HasReady done s ms
@@ -152,8 +142,8 @@ module _ (al : Members) (rs : Option Members) where
           let base = base_flaws rs s k d in
           let here_none = front_empty (own ++ inner) base (part_empty (within (key k)) ((own ++ inner) ++ base) (member_flaws al rs s seen ms) h) in
           let later_none = rest_empty (within (key k)) ((own ++ inner) ++ base) (member_flaws al rs s seen ms) h in (
-            ready d (place_under s k) no_members (back_empty own inner here_none) (and_left (all_named (has done) (place_under s k) d) (all_named_in_members (has done) s ms) named),
-            ready_members ms s seen later_none (and_right (all_named (has done) (place_under s k) d) (all_named_in_members (has done) s ms) named),
+            ready d (place_under s k) no_members (back_empty own inner here_none) (and_parts (all_named (has done) (place_under s k) d) (all_named_in_members (has done) s ms) named).0,
+            ready_members ms s seen later_none (and_parts (all_named (has done) (place_under s k) d) (all_named_in_members (has done) s ms) named).1,
           )
 
 -- Each flaw that is listed holds at its path.
@@ -201,18 +191,28 @@ module _ (al : Members) where
   holds_in_list s i d es f m (inr (inr (e, (front, n, path, leads, walks)))) =
       inr (inr (e, (index i ∷ front, n, ap (λ p. index i ∷ p) path, (es, d, refl, m, leads), walks)))
 
+  -- the flaw of a value itself: its kind is wrong, its name unknown, or its name taken
+  pub own_is : (s : Place) (taken : Bool) (v : Data) (f : Flaw) → Among f (own_flaws al s taken v)
+      → ((f ≡ here WrongKind) × (is_wrong s v ≡ true)) ⊎ (((f ≡ here NoSuchAlias) × (is_unknown al s v ≡ true)) ⊎ ((f ≡ here NameClash) × (taken ≡ true)))
+  own_is s taken v f h = go (is_wrong s v) refl (is_unknown al s v) refl taken refl
+    where
+      go : (t : Bool) → is_wrong s v ≡ t → (u : Bool) → is_unknown al s v ≡ u → (b : Bool) → taken ≡ b
+          → ((f ≡ here WrongKind) × (is_wrong s v ≡ true)) ⊎ (((f ≡ here NoSuchAlias) × (is_unknown al s v ≡ true)) ⊎ ((f ≡ here NameClash) × (taken ≡ true)))
+      go true a u b t e = inl (only f (here WrongKind) (rw a at h), a)
+      go false a true b t e = inr (inl (only f (here NoSuchAlias) (rw (a, b) at h), b))
+      go false a false b true e = inr (inr (only f (here NameClash) (rw (a, b, e) at h), e))
+      go false a false b false e = absurd (rw (a, b, e) at h)
+
+  holds_here : (s : Place) (v : Data) (f g : Flaw) → f ≡ g → g.path ≡ [] → SaysOf al g.kind s v → FlawHolds al s v f
+  holds_here s v f g e p says = inl (s, v, subst (λ x. Leads s v x s v) (sym (ap (λ y. y.path) e ∙ p)) (refl, refl), subst (λ x. SaysOf al x s v) (sym (ap (λ y. y.kind) e)) says)
+
   -- a flaw of a value itself holds, or its name is taken
   own_holds : (s : Place) (taken : Bool) (v : Data) (f : Flaw) → Among f (own_flaws al s taken v) → FlawHolds al s v f ⊎ ((f ≡ here NameClash) × (taken ≡ true))
-  own_holds s taken v f h = go (is_wrong s v) refl (is_unknown al s v) refl taken refl
-    where
-      at_it : (kind_says : (g : Flaw) × (f ≡ g) × (g.path ≡ []) × SaysOf al g.kind s v) → FlawHolds al s v f
-      at_it (g, e, p, says) = inl (s, v, subst (λ x. Leads s v x s v) (sym (ap (λ y. y.path) e ∙ p)) (refl, refl), subst (λ x. SaysOf al x s v) (sym (ap (λ y. y.kind) e)) says)
-
-      go : (t : Bool) → is_wrong s v ≡ t → (u : Bool) → is_unknown al s v ≡ u → (b : Bool) → taken ≡ b → FlawHolds al s v f ⊎ ((f ≡ here NameClash) × (taken ≡ true))
-      go true a u b t e = inl (at_it (here WrongKind, only f (here WrongKind) (rw a at h), refl, inl a))
-      go false a true b t e = inl (at_it (here NoSuchAlias, only f (here NoSuchAlias) (rw (a, b) at h), refl, inl b))
-      go false a false b true e = inr (only f (here NameClash) (rw (a, b, e) at h), e)
-      go false a false b false e = absurd (rw (a, b, e) at h)
+  own_holds s taken v f h = elim (own_is s taken v f h) [
+    | inl (e, wrong) ↦ inl (holds_here s v f (here WrongKind) e refl (inl wrong))
+    | inr (inl (e, unknown)) ↦ inl (holds_here s v f (here NoSuchAlias) e refl (inl unknown))
+    | inr (inr clash) ↦ inr clash
+  ]
 
   -- a flaw that a value has by itself holds
   pub flaw_of_itself_holds : (s : Place) (v : Data) (f : Flaw) → Among f (own_flaws al s false v) → FlawHolds al s v f
@@ -266,63 +266,41 @@ BasesHold al rs = (s : Place) (k : List ℕ) (d : Data) (f : Flaw) → Among f (
 module _ (al : Members) (rs : Option Members) (bases : BasesHold al rs) where
   -- a flaw of an item, or in it
   item_at : (s : Place) (es : Items) (i : ℕ) (seen : Members) (e : Data) (f : Flaw) → get_item i es ≡ Some e → Seen es i seen
-      → Among f (map (within (index i)) (own_flaws al (place_of_items s) false e ++ inner_flaws al rs (place_of_items s) seen e))
+      → (g : Flaw) × (f ≡ within (index i) g) × Among g (own_flaws al (place_of_items s) false e ++ inner_flaws al rs (place_of_items s) seen e)
       → ((g : Flaw) → Among g (inner_flaws al rs (place_of_items s) seen e) → FlawHolds al (place_of_items s) e g ⊎ Taken (place_of_items s) seen e g)
       → FlawHolds al s (array es) f
-  item_at s es i seen e f is before h deeper = go (among_within (index i) f (own_flaws al (place_of_items s) false e ++ inner_flaws al rs (place_of_items s) seen e) h)
+  item_at s es i seen e f is before (g, same_f, a) deeper = first_or_rest g (own_flaws al (place_of_items s) false e) (inner_flaws al rs (place_of_items s) seen e) a
+      (λ b. holds (flaw_of_itself_holds al (place_of_items s) e g b))
+      (λ b. elim (deeper g b) [ inl x ↦ holds x | inr taken ↦ clash taken ])
     where
-      here_holds : (g : Flaw) → f ≡ within (index i) g → FlawHolds al (place_of_items s) e g → FlawHolds al s (array es) f
-      here_holds g e' holds = subst (FlawHolds al s (array es)) (sym e') (holds_in_list al s i e es g is holds)
+      holds : FlawHolds al (place_of_items s) e g → FlawHolds al s (array es) f
+      holds x = subst (FlawHolds al s (array es)) (sym same_f) (holds_in_list al s i e es g is x)
 
-      clash : (g : Flaw) → f ≡ within (index i) g → Taken (place_of_items s) seen e g → FlawHolds al s (array es) f
-      clash g e' (n, d, ms, v, m, entry, b, flaw) =
+      clash : Taken (place_of_items s) seen e g → FlawHolds al s (array es) f
+      clash (n, d, ms, v, m, entry, b, flaw) =
           let (j, lt, first) = before n b in
-          let all : f ≡ within (index i) (within (key n) (here NameClash)) = e' ∙ ap (within (index i)) flaw in
+          let all : f ≡ within (index i) (within (key n) (here NameClash)) = same_f ∙ ap (within (index i)) flaw in
           inr (inl (ap (λ x. x.kind) all, ([], s, es, j, i, n, ap (λ x. x.path) all, (refl, refl), entry_list s entry, lt, first, (ms, d, is ∙ ap Some v, m))))
-
-      own : (g : Flaw) → f ≡ within (index i) g → FlawHolds al (place_of_items s) e g ⊎ ((g ≡ here NameClash) × (false ≡ true)) → FlawHolds al s (array es) f
-      own g e' (inl holds) = here_holds g e' holds
-      own g e' (inr (x, bad)) = absurd (true≢false (sym bad))
-
-      inner : (g : Flaw) → f ≡ within (index i) g → FlawHolds al (place_of_items s) e g ⊎ Taken (place_of_items s) seen e g → FlawHolds al s (array es) f
-      inner g e' (inl holds) = here_holds g e' holds
-      inner g e' (inr taken) = clash g e' taken
-
-      either : (g : Flaw) → f ≡ within (index i) g → Among g (own_flaws al (place_of_items s) false e) ⊎ Among g (inner_flaws al rs (place_of_items s) seen e) → FlawHolds al s (array es) f
-      either g e' (inl a) = own g e' (own_holds al (place_of_items s) false e g a)
-      either g e' (inr a) = inner g e' (deeper g a)
-
-      go : (g : Flaw) × (f ≡ within (index i) g) × Among g (own_flaws al (place_of_items s) false e ++ inner_flaws al rs (place_of_items s) seen e) → FlawHolds al s (array es) f
-      go (g, e', a) = either g e' (among_joined g (own_flaws al (place_of_items s) false e) (inner_flaws al rs (place_of_items s) seen e) a)
 
   -- a flaw of a property, or in it
   member_at : (s : Place) (ms : Members) (seen : Members) (k : List ℕ) (d : Data) (f : Flaw) → HasMember k d ms
-      → Among f (map (within (key k)) ((own_flaws al (place_under s k) (is_entry s && has seen k) d ++ inner_flaws al rs (place_under s k) no_members d) ++ base_flaws rs s k d))
+      → (g : Flaw) × (f ≡ within (key k) g) × Among g ((own_flaws al (place_under s k) (is_entry s && has seen k) d ++ inner_flaws al rs (place_under s k) no_members d) ++ base_flaws rs s k d)
       → ((g : Flaw) → Among g (inner_flaws al rs (place_under s k) no_members d) → FlawHolds al (place_under s k) d g ⊎ Taken (place_under s k) no_members d g)
       → FlawHolds al s (object ms) f ⊎ Taken s seen (object ms) f
-  member_at s ms seen k d f m h deeper = go (among_within (key k) f ((own_flaws al (place_under s k) (is_entry s && has seen k) d ++ inner_flaws al rs (place_under s k) no_members d) ++ base_flaws rs s k d) h)
+  member_at s ms seen k d f m (g, same_f, a) deeper =
+      let own = own_flaws al (place_under s k) (is_entry s && has seen k) d in
+      let inner = inner_flaws al rs (place_under s k) no_members d in
+      first_or_rest g (own ++ inner) (base_flaws rs s k d) a
+      (λ b. first_or_rest g own inner b
+      (λ c. elim (own_holds al (place_under s k) (is_entry s && has seen k) d g c) [ inl x ↦ inl (holds x) | inr (clash, both) ↦ inr (taken clash (and_parts (is_entry s) (has seen k) both)) ])
+      (λ c. elim (deeper g c) [ inl x ↦ inl (holds x) | inr bad ↦ absurd (none_seen bad.0 bad.6) ]))
+      (λ b. inl (holds (bases s k d g b)))
     where
-      here_holds : (g : Flaw) → f ≡ within (key k) g → FlawHolds al (place_under s k) d g → FlawHolds al s (object ms) f
-      here_holds g e' holds = subst (FlawHolds al s (object ms)) (sym e') (holds_in_object al s k d ms g m holds)
+      holds : FlawHolds al (place_under s k) d g → FlawHolds al s (object ms) f
+      holds x = subst (FlawHolds al s (object ms)) (sym same_f) (holds_in_object al s k d ms g m x)
 
-      own : (g : Flaw) → f ≡ within (key k) g → FlawHolds al (place_under s k) d g ⊎ ((g ≡ here NameClash) × ((is_entry s && has seen k) ≡ true)) → FlawHolds al s (object ms) f ⊎ Taken s seen (object ms) f
-      own g e' (inl holds) = inl (here_holds g e' holds)
-      own g e' (inr (x, both)) = inr (k, d, ms, refl, m, and_left (is_entry s) (has seen k) both, and_right (is_entry s) (has seen k) both, e' ∙ ap (within (key k)) x)
-
-      inner : (g : Flaw) → f ≡ within (key k) g → FlawHolds al (place_under s k) d g ⊎ Taken (place_under s k) no_members d g → FlawHolds al s (object ms) f ⊎ Taken s seen (object ms) f
-      inner g e' (inl holds) = inl (here_holds g e' holds)
-      inner g e' (inr (n, d', ns, v, m', entry, b, flaw)) = absurd (none_seen n b)
-
-      either : (g : Flaw) → f ≡ within (key k) g → Among g (own_flaws al (place_under s k) (is_entry s && has seen k) d) ⊎ Among g (inner_flaws al rs (place_under s k) no_members d) → FlawHolds al s (object ms) f ⊎ Taken s seen (object ms) f
-      either g e' (inl a) = own g e' (own_holds al (place_under s k) (is_entry s && has seen k) d g a)
-      either g e' (inr a) = inner g e' (deeper g a)
-
-      with_base : (g : Flaw) → f ≡ within (key k) g → Among g (own_flaws al (place_under s k) (is_entry s && has seen k) d ++ inner_flaws al rs (place_under s k) no_members d) ⊎ Among g (base_flaws rs s k d) → FlawHolds al s (object ms) f ⊎ Taken s seen (object ms) f
-      with_base g e' (inl a) = either g e' (among_joined g (own_flaws al (place_under s k) (is_entry s && has seen k) d) (inner_flaws al rs (place_under s k) no_members d) a)
-      with_base g e' (inr a) = inl (here_holds g e' (bases s k d g a))
-
-      go : (g : Flaw) × (f ≡ within (key k) g) × Among g ((own_flaws al (place_under s k) (is_entry s && has seen k) d ++ inner_flaws al rs (place_under s k) no_members d) ++ base_flaws rs s k d) → FlawHolds al s (object ms) f ⊎ Taken s seen (object ms) f
-      go (g, e', a) = with_base g e' (among_joined g (own_flaws al (place_under s k) (is_entry s && has seen k) d ++ inner_flaws al rs (place_under s k) no_members d) (base_flaws rs s k d) a)
+      taken : g ≡ here NameClash → (is_entry s ≡ true) × (has seen k ≡ true) → Taken s seen (object ms) f
+      taken clash both = (k, d, ms, refl, m, both.0, both.1, same_f ∙ ap (within (key k)) clash)
 
   mutual
     inner_holds : (v : Data) (s : Place) (seen : Members) (f : Flaw) → Among f (inner_flaws al rs s seen v) → FlawHolds al s v f ⊎ Taken s seen v f
@@ -334,35 +312,134 @@ module _ (al : Members) (rs : Option Members) (bases : BasesHold al rs) where
     items_hold no_items s es i seen f al' before h = absurd h
     items_hold (item e rest) s es i seen f al' before h =
         first_or_rest f (map (within (index i)) (own_flaws al (place_of_items s) false e ++ inner_flaws al rs (place_of_items s) seen e)) (item_flaws al rs s (suc i) (mark e seen) rest) h
-        (λ a. item_at s es i seen e f (aligned_here es i e rest al') before a (λ g b. inner_holds e (place_of_items s) seen g b))
+        (λ a. item_at s es i seen e f (aligned_here es i e rest al') before (among_within (index i) f (own_flaws al (place_of_items s) false e ++ inner_flaws al rs (place_of_items s) seen e) a) (λ g b. inner_holds e (place_of_items s) seen g b))
         (λ a. items_hold rest s es (suc i) (mark e seen) f (aligned_next es i e rest al') (seen_next_at es i e seen (aligned_here es i e rest al') before) a)
 
     members_hold : (rest : Members) (s : Place) (ms : Members) (seen : Members) (f : Flaw) → ((k : List ℕ) (d : Data) → HasMember k d rest → HasMember k d ms) → Among f (member_flaws al rs s seen rest) → FlawHolds al s (object ms) f ⊎ Taken s seen (object ms) f
     members_hold no_members s ms seen f within_all h = absurd h
     members_hold (member k d rest) s ms seen f within_all h =
         first_or_rest f (map (within (key k)) ((own_flaws al (place_under s k) (is_entry s && has seen k) d ++ inner_flaws al rs (place_under s k) no_members d) ++ base_flaws rs s k d)) (member_flaws al rs s seen rest) h
-        (λ a. member_at s ms seen k d f (within_all k d (inl (refl, refl))) a (λ g b. inner_holds d (place_under s k) no_members g b))
+        (λ a. member_at s ms seen k d f (within_all k d (inl (refl, refl))) (among_within (key k) f ((own_flaws al (place_under s k) (is_entry s && has seen k) d ++ inner_flaws al rs (place_under s k) no_members d) ++ base_flaws rs s k d) a) (λ g b. inner_holds d (place_under s k) no_members g b))
         (λ a. members_hold rest s ms seen f (λ q e m. within_all q e (inr m)) a)
 
   -- each flaw of a value, with no entry before it, holds
   pub flaw_holds : (s : Place) (v : Data) (f : Flaw) → Among f (own_flaws al s false v ++ inner_flaws al rs s no_members v) → FlawHolds al s v f
-  flaw_holds s v f h = first_or_rest f (own_flaws al s false v) (inner_flaws al rs s no_members v) h own inner
-    where
-      own : Among f (own_flaws al s false v) → FlawHolds al s v f
-      own a = elim (own_holds al s false v f a) [ inl holds ↦ holds | inr bad ↦ absurd (true≢false (sym bad.1)) ]
-
-      inner : Among f (inner_flaws al rs s no_members v) → FlawHolds al s v f
-      inner a = elim (inner_holds v s no_members f a) [ inl holds ↦ holds | inr taken ↦ absurd (none_seen taken.0 taken.6) ]
-
-  among_mapped : (p : Step) (f g : Flaw) (xs : List Flaw) → f ≡ within p g → Among g xs → Among f (map (within p) xs)
-  among_mapped p f g (x ∷ xs) e (inl is) = inl (e ∙ ap (within p) is)
-  among_mapped p f g (x ∷ xs) e (inr h) = inr (among_mapped p f g xs e h)
-  among_mapped p f g [] e h = absurd h
+  flaw_holds s v f h = first_or_rest f (own_flaws al s false v) (inner_flaws al rs s no_members v) h (flaw_of_itself_holds al s v f)
+      (λ a. elim (inner_holds v s no_members f a) [ inl holds ↦ holds | inr taken ↦ absurd (none_seen taken.0 taken.6) ])
 
   -- a flaw of an entry, with the names of the entries before it, holds, and so does what else is wrong in it
   pub entry_holds : (s : Place) (es : Items) (i : ℕ) (seen : Members) (e : Data) (f : Flaw) (more : List Flaw) → get_item i es ≡ Some e → Seen es i seen
       → (g : Flaw) × (f ≡ within (index i) g) × Among g ((own_flaws al (place_of_items s) false e ++ inner_flaws al rs (place_of_items s) seen e) ++ more)
       → ((g : Flaw) → Among g more → FlawHolds al (place_of_items s) e g) → FlawHolds al s (array es) f
   entry_holds s es i seen e f more is before (g, same_f, a) deeper = first_or_rest g (own_flaws al (place_of_items s) false e ++ inner_flaws al rs (place_of_items s) seen e) more a
-      (λ b. item_at s es i seen e f is before (among_mapped (index i) f g (own_flaws al (place_of_items s) false e ++ inner_flaws al rs (place_of_items s) seen e) same_f b) (λ x c. inner_holds e (place_of_items s) seen x c))
+      (λ b. item_at s es i seen e f is before (g, same_f, b) (λ x c. inner_holds e (place_of_items s) seen x c))
       (λ b. subst (FlawHolds al s (array es)) (sym same_f) (holds_in_list al s i e es g is (deeper g b)))
+
+-- The names of aliases in a value: where one test passes and another doesn't, and that a value without a flaw
+-- names aliases alone.
+
+-- ---- what a value names passes a test that every name in it passes
+
+mutual
+  pub mentioned : (p : List ℕ → Bool) (m : List ℕ) (v : Data) (s : Place) → all_named p s v ≡ true → Mentions m s v → p m ≡ true
+  mentioned p m (string n) s h (names, is) = ap p (sym is) ∙ passes_text p s n names h
+  mentioned p m (array ds) s h x = mentioned_in_items p m ds (place_of_items s) h x
+  mentioned p m (object ms) s h x = mentioned_in_members p m ms s h x
+  mentioned p m _ s h x = absurd x
+
+  mentioned_in_items : (p : List ℕ → Bool) (m : List ℕ) (ds : Items) (s : Place) → all_named_in_items p s ds ≡ true → MentionsInItems m s ds → p m ≡ true
+  mentioned_in_items p m no_items s h x = absurd x
+  mentioned_in_items p m (item d ds) s h (inl x) = mentioned p m d s (and_parts (all_named p s d) (all_named_in_items p s ds) h).0 x
+  mentioned_in_items p m (item d ds) s h (inr x) = mentioned_in_items p m ds s (and_parts (all_named p s d) (all_named_in_items p s ds) h).1 x
+
+  mentioned_in_members : (p : List ℕ → Bool) (m : List ℕ) (ms : Members) (s : Place) → all_named_in_members p s ms ≡ true → MentionsInMembers m s ms → p m ≡ true
+  mentioned_in_members p m no_members s h x = absurd x
+  mentioned_in_members p m (member k d ms) s h (inl x) = mentioned p m d (place_under s k) (and_parts (all_named p (place_under s k) d) (all_named_in_members p s ms) h).0 x
+  mentioned_in_members p m (member k d ms) s h (inr x) = mentioned_in_members p m ms s (and_parts (all_named p (place_under s k) d) (all_named_in_members p s ms) h).1 x
+
+-- ---- a name that keeps a value from its turn
+
+abbrev pub Blocks : (List ℕ → Bool) → Place → Data → Type 0
+Blocks p s v = (m : List ℕ) × Mentions m s v × (p m ≡ false)
+
+names_of : (s : Place) (t : Bool) → (names_alias s || names_member_type s) ≡ t → t ≡ true → Names s
+names_of s t e f = elim (cases_Bool (names_alias s)) [ inl a ↦ inl a | inr a ↦ inr (rw a at (e ∙ f)) ]
+
+blocks_text : (p : List ℕ → Bool) (s : Place) (n : List ℕ) → (t : Bool) → (names_alias s || names_member_type s) ≡ t → (not t || p n) ≡ false → Blocks p s (string n)
+blocks_text p s n true e h = (n, (names_of s true e refl, refl), h)
+blocks_text p s n false e h = absurd (true≢false h)
+
+blocked_item : (p : List ℕ → Bool) (d : Data) (ds : Items) (s : Place) → (all_named p s d ≡ false) ⊎ (all_named_in_items p s ds ≡ false)
+    → (all_named p s d ≡ false → Blocks p s d) → (all_named_in_items p s ds ≡ false → (m : List ℕ) × MentionsInItems m s ds × (p m ≡ false)) → (m : List ℕ) × MentionsInItems m s (item d ds) × (p m ≡ false)
+blocked_item p d ds s (inl e) f g = let (m, x, h) = f e in (m, inl x, h)
+blocked_item p d ds s (inr e) f g = let (m, x, h) = g e in (m, inr x, h)
+
+blocked_member : (p : List ℕ → Bool) (k : List ℕ) (d : Data) (ms : Members) (s : Place) → (all_named p (place_under s k) d ≡ false) ⊎ (all_named_in_members p s ms ≡ false)
+    → (all_named p (place_under s k) d ≡ false → Blocks p (place_under s k) d) → (all_named_in_members p s ms ≡ false → (m : List ℕ) × MentionsInMembers m s ms × (p m ≡ false)) → (m : List ℕ) × MentionsInMembers m s (member k d ms) × (p m ≡ false)
+blocked_member p k d ms s (inl e) f g = let (m, x, h) = f e in (m, inl x, h)
+blocked_member p k d ms s (inr e) f g = let (m, x, h) = g e in (m, inr x, h)
+
+mutual
+  pub blocked : (p : List ℕ → Bool) (v : Data) (s : Place) → all_named p s v ≡ false → Blocks p s v
+  blocked p (string n) s h = blocks_text p s n (names_alias s || names_member_type s) refl h
+  blocked p (array ds) s h = blocked_items p ds (place_of_items s) h
+  blocked p (object ms) s h = blocked_members p ms s h
+  blocked p _ s h = absurd (true≢false h)
+
+  blocked_items : (p : List ℕ → Bool) (ds : Items) (s : Place) → all_named_in_items p s ds ≡ false → (m : List ℕ) × MentionsInItems m s ds × (p m ≡ false)
+  blocked_items p no_items s h = absurd (true≢false h)
+  blocked_items p (item d ds) s h = blocked_item p d ds s (and_cases (all_named p s d) (all_named_in_items p s ds) h) (blocked p d s) (blocked_items p ds s)
+
+  blocked_members : (p : List ℕ → Bool) (ms : Members) (s : Place) → all_named_in_members p s ms ≡ false → (m : List ℕ) × MentionsInMembers m s ms × (p m ≡ false)
+  blocked_members p no_members s h = absurd (true≢false h)
+  blocked_members p (member k d ms) s h = blocked_member p k d ms s (and_cases (all_named p (place_under s k) d) (all_named_in_members p s ms) h) (blocked p d (place_under s k)) (blocked_members p ms s)
+
+-- ---- tests that all names pass
+
+-- a text without a flaw passes a test that all aliases pass
+module _ (al : Members) (rs : Option Members) (p : List ℕ → Bool) (passes : (n : List ℕ) → has al n ≡ true → p n ≡ true) where
+  named_text : (s : Place) (taken : Bool) (n : List ℕ) → own_flaws al s taken (string n) ≡ [] → all_named p s (string n) ≡ true
+  named_text s taken n h = go (names_alias s || names_member_type s) refl (has al n) refl
+    where
+      known : is_unknown al s (string n) ≡ false
+      known = (own_sound al s taken (string n) h).known
+
+      go : (t : Bool) → (names_alias s || names_member_type s) ≡ t → (u : Bool) → has al n ≡ u → all_named p s (string n) ≡ true
+      go false is u e = rw is refl
+      go true is true e = rw is (passes n e)
+      go true is false e = absurd (true≢false (rw (is, e) at known))
+
+  mutual
+    pub named : (v : Data) (s : Place) (taken : Bool) (seen : Members) → own_flaws al s taken v ≡ [] → inner_flaws al rs s seen v ≡ [] → all_named p s v ≡ true
+    named (string n) s taken seen o h = named_text s taken n o
+    named (array es) s taken seen o h = named_items es s 0 no_members h
+    named (object ms) s taken seen o h = named_members ms s seen h
+    named _ s taken seen o h = refl
+
+    named_items : (es : Items) (s : Place) (i : ℕ) (seen : Members) → item_flaws al rs s i seen es ≡ [] → all_named_in_items p (place_of_items s) es ≡ true
+    named_items no_items s i seen h = refl
+    named_items (item v es) s i seen h =
+        let own = own_flaws al (place_of_items s) false v in
+        let inner = inner_flaws al rs (place_of_items s) seen v in
+        let here_none = part_empty (within (index i)) (own ++ inner) (item_flaws al rs s (suc i) (mark v seen) es) h in
+        let later_none = rest_empty (within (index i)) (own ++ inner) (item_flaws al rs s (suc i) (mark v seen) es) h in
+        and_from (all_named p (place_of_items s) v) (all_named_in_items p (place_of_items s) es)
+        (named v (place_of_items s) false seen (front_empty own inner here_none) (back_empty own inner here_none))
+        (named_items es s (suc i) (mark v seen) later_none)
+
+    named_members : (ms : Members) (s : Place) (seen : Members) → member_flaws al rs s seen ms ≡ [] → all_named_in_members p s ms ≡ true
+    named_members no_members s seen h = refl
+    named_members (member k d ms) s seen h =
+        let taken = is_entry s && has seen k in
+        let own = own_flaws al (place_under s k) taken d in
+        let inner = inner_flaws al rs (place_under s k) no_members d in
+        let base = base_flaws rs s k d in
+        let here_none = front_empty (own ++ inner) base (part_empty (within (key k)) ((own ++ inner) ++ base) (member_flaws al rs s seen ms) h) in
+        let later_none = rest_empty (within (key k)) ((own ++ inner) ++ base) (member_flaws al rs s seen ms) h in
+        and_from (all_named p (place_under s k) d) (all_named_in_members p s ms)
+        (named d (place_under s k) taken no_members (front_empty own inner here_none) (back_empty own inner here_none))
+        (named_members ms s seen later_none)
+
+-- names that pass a test pass each that is passed more often
+pub named_along : (p q : List ℕ → Bool) → ((n : List ℕ) → p n ≡ true → q n ≡ true) → (s : Place) (v : Data) → all_named p s v ≡ true → all_named q s v ≡ true
+named_along p q along s v h = elim (cases_Bool (all_named q s v)) [ inl e ↦ e | inr e ↦ (let (m, x, open_m) = blocked q v s e in absurd (true≢false (sym (along m (mentioned p m v s h x)) ∙ open_m))) ]

@@ -1,5 +1,6 @@
 -- Where some names lead, and what the places of a field type and of a member's value have in common.
-use Rattle.std.proofs.Common.{◌≡◌, ℕ, List, Some, Bool, true, false, true≢false, refl, sym, subst, bytes_eq}
+use Rattle.std.proofs.Common.{inr, inl, ◌≡◌, ℕ, List, Some, true, false, true≢false, refl, sym, subst, bytes_eq}
+use Rattle.std.proofs.lemmas.Bool.{cases_Bool}
 use Rattle.std.proofs.lemmas.Slice.Eq.{bytes_eq-Decides}
 use Rattle.serde_json.specs.Data.{Data, Members, no_members, member}
 use Rattle.conf_table.specs.declared.place.Place.{Place}
@@ -8,6 +9,7 @@ use Rattle.conf_table.specs.Table.{rows_of, entries_of, content_under, place_in}
 use Rattle.conf_inherit.specs.FieldPlaces.{field_place, place_under, place_in_type, place_of_items, names_alias, names_member_type, is_base_name, lists_members, is_entry, inherit_name, field_type_name}
 use Rattle.conf_inherit.specs.Looks.{base_of}
 use Rattle.conf_inherit.specs.Resolution.{trace_name, type_name, aliases_name}
+use Rattle.conf_tree.specs.Walk.{HasMember}
 
 -- ---- where some names lead
 
@@ -102,10 +104,13 @@ base_place places.FieldType k h = base_place_at k h
 base_place places.Member k h = base_place_at k h
 base_place _ k h = absurd (true≢false (sym h))
 
+-- what an object inherits from is its property of that name
+pub base_named : (s : Place) (ms : Members) (b : Data) → base_of s ms ≡ Some b → (k : List ℕ) × (is_base_name s k ≡ true) × HasMember k b ms
+base_named s no_members b h = absurd cc
+base_named s (member k d ms) b h = elim (cases_Bool (is_base_name s k)) [
+  | inl is ↦ (let f : Some d ≡ Some b = rw is at h in (k, is, inl (refl, let same : b ≡ d = cc in same)))
+  | inr is ↦ (let (l, named, there) = base_named s ms b (rw is at h) in (l, named, inr there))
+]
+
 pub inheriting_place : (s : Place) (ms : Members) (b : Data) → base_of s ms ≡ Some b → SamePlace s
-inheriting_place s no_members b h = cc
-inheriting_place s (member k d ms) b h = go _ refl (inheriting_place s ms b)
-  where
-    go : (t : Bool) → is_base_name s k ≡ t → (base_of s ms ≡ Some b → SamePlace s) → SamePlace s
-    go true is rest = base_name_place s k is
-    go false is rest = rest (rw is at h)
+inheriting_place s ms b h = let (k, is, there) = base_named s ms b h in base_name_place s k is

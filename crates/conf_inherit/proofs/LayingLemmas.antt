@@ -1,5 +1,6 @@
 -- Objects whose names ascend: what they have at a name, and that their values at all names tell them apart.
-use Rattle.std.proofs.Common.{◌≡◌, ℕ, List, Some, None, Ordering, Less, Equal, Greater, nat_cmp, is_eq, refl, sym, ap, ◌∙◌, subst, Option, Bool, true, false, true≢false, [], ◌∷◌, ◌++◌, is_some, bytes_eq}
+use Rattle.std.proofs.Common.{inr, inl, ◌≡◌, ℕ, List, Some, None, Ordering, Less, Equal, Greater, nat_cmp, is_eq, refl, sym, ap, ◌∙◌, subst, Option, Bool, true, false, true≢false, [], ◌∷◌, ◌++◌, is_some, bytes_eq}
+use Rattle.std.proofs.lemmas.Bool.{cases_Bool}
 use Rattle.std.proofs.lemmas.Cmp.{nat_list_cmp_total, tied_itself}
 use Rattle.std.proofs.lemmas.Map.Text.{is_eq-slice_cmp}
 use Rattle.std.proofs.lemmas.Slice.Eq.{bytes_eq-Decides}
@@ -17,6 +18,7 @@ use Rattle.conf_inherit.specs.Laying.{items_below, lay, lay_base, lay_members, l
 use Rattle.std.specs.List.{list_any}
 use Rattle.serde_json.specs.View.{view, items_view}
 use Rattle.serde_json.specs.declared.value.Value.{Value}
+use Rattle.conf_tree.specs.Walk.{HasMember}
 
 -- functions with the same values are the same
 pub same_function : {A B : Type 0} (f g : A → B) → ((x : A) → f x ≡ g x) → f ≡ g
@@ -146,19 +148,17 @@ get_same k l d ms e = subst (λ x. get_member x (member l d ms) ≡ Some d) (sym
 
 pub lay_base-own : (done : Members) (s : Place) (ms : Members) (base : Option Data) → base_of s ms ≡ None → lay_base done s ms base ≡ base
 lay_base-own done s no_members base h = refl
-lay_base-own done s (member k d ms) base h = go _ refl (lay_base-own done s ms base)
-  where
-    go : (t : Bool) → is_base_name s k ≡ t → (base_of s ms ≡ None → lay_base done s ms base ≡ base) → lay_base done s (member k d ms) base ≡ base
-    go true is rest = absurd (let e : Some d ≡ None = rw is at h in cc)
-    go false is rest = rw is (rest (rw is at h))
+lay_base-own done s (member k d ms) base h = elim (cases_Bool (is_base_name s k)) [
+  | inl is ↦ absurd (let e : Some d ≡ None = rw is at h in cc)
+  | inr is ↦ rw is (lay_base-own done s ms base (rw is at h))
+]
 
 pub lay_base-heir : (done : Members) (s : Place) (ms : Members) (base : Option Data) (b : Data) → base_of s ms ≡ Some b → lay_base done s ms base ≡ Some (lay done places.FieldType b None)
 lay_base-heir done s no_members base b h = cc
-lay_base-heir done s (member k d ms) base b h = go _ refl (lay_base-heir done s ms base b)
-  where
-    go : (t : Bool) → is_base_name s k ≡ t → (base_of s ms ≡ Some b → lay_base done s ms base ≡ Some (lay done places.FieldType b None)) → lay_base done s (member k d ms) base ≡ Some (lay done places.FieldType b None)
-    go true is rest = let e : Some d ≡ Some b = rw is at h in let same : d ≡ b = cc in rw is (ap (λ x. Some (lay done places.FieldType x None)) same)
-    go false is rest = rw is (rest (rw is at h))
+lay_base-heir done s (member k d ms) base b h = elim (cases_Bool (is_base_name s k)) [
+  | inl is ↦ (let e : Some d ≡ Some b = rw is at h in let same : d ≡ b = cc in rw is (ap (λ x. Some (lay done places.FieldType x None)) same))
+  | inr is ↦ rw is (lay_base-heir done s ms base b (rw is at h))
+]
 
 -- ---- the entries
 
@@ -170,20 +170,18 @@ lay_entries done s es base is = rw is refl
 
 pub in_order_lay : (done : Members) (s : Place) (ms base : Members) → IsInOrder base → IsInOrder (lay_members done s ms base)
 in_order_lay done s no_members base h = h
-in_order_lay done s (member k d ms) base h = go _ refl (in_order_lay done s ms base h)
-  where
-    go : (t : Bool) → is_base_name s k ≡ t → IsInOrder (lay_members done s ms base) → IsInOrder (lay_members done s (member k d ms) base)
-    go true is rest = rw is rest
-    go false is rest = rw is (in_order_put k _ _ rest)
+in_order_lay done s (member k d ms) base h = elim (cases_Bool (is_base_name s k)) [
+  | inl is ↦ rw is (in_order_lay done s ms base h)
+  | inr is ↦ rw is (in_order_put k _ _ (in_order_lay done s ms base h))
+]
 
 -- a name that inheritance takes keeps what the base has
 pub lay_members-base : (done : Members) (s : Place) (k : List ℕ) (ms base : Members) → is_base_name s k ≡ true → get_member k (lay_members done s ms base) ≡ get_member k base
 lay_members-base done s k no_members base h = refl
-lay_members-base done s k (member l d ms) base h = go _ refl (lay_members-base done s k ms base h)
-  where
-    go : (t : Bool) → is_base_name s l ≡ t → get_member k (lay_members done s ms base) ≡ get_member k base → get_member k (lay_members done s (member l d ms) base) ≡ get_member k base
-    go true is rest = rw is rest
-    go false is rest = rw is (get_member-put_other k l _ _ (λ e. true≢false (sym h ∙ ap (is_base_name s) e ∙ is)) ∙ rest)
+lay_members-base done s k (member l d ms) base h = elim (cases_Bool (is_base_name s l)) [
+  | inl is ↦ rw is (lay_members-base done s k ms base h)
+  | inr is ↦ rw is (get_member-put_other k l _ _ (λ e. true≢false (sym h ∙ ap (is_base_name s) e ∙ is)) ∙ lay_members-base done s k ms base h)
+]
 
 -- a name that the object has not keeps what the base has
 pub lay_members-absent : (done : Members) (s : Place) (k : List ℕ) (ms base : Members) → get_member k ms ≡ None → get_member k (lay_members done s ms base) ≡ get_member k base
@@ -234,27 +232,21 @@ differs n l apart false e = refl
 -- an object has a name where one of its names is that
 pub has_name : (n : List ℕ) (ms : Members) → is_some (get_member n ms) ≡ list_any (bytes_eq n) (names_of ms)
 has_name n no_members = refl
-has_name n (member l d ms) = go (meets n l) (has_name n ms)
-  where
-    go : Meets n l → is_some (get_member n ms) ≡ list_any (bytes_eq n) (names_of ms) → is_some (get_member n (member l d ms)) ≡ list_any (bytes_eq n) (names_of (member l d ms))
-    go (same e) rest = let g : bytes_eq n l ≡ true = (bytes_eq-Decides n l).1 e in rw (get_same n l d ms e, g) refl
-    go (other apart) rest = let g : bytes_eq n l ≡ false = differs n l apart (bytes_eq n l) refl in rw (get_other n l d ms apart, g) rest
+has_name n (member l d ms) = elim (meets n l) [
+  | same e ↦ (let g : bytes_eq n l ≡ true = (bytes_eq-Decides n l).1 e in rw (get_same n l d ms e, g) refl)
+  | other apart ↦ (let g : bytes_eq n l ≡ false = differs n l apart (bytes_eq n l) refl in rw (get_other n l d ms apart, g) (has_name n ms))
+]
 
 pub any_joined_here : (n : List ℕ) (a more : Members) → list_any (bytes_eq n) (names_of a) ≡ true → list_any (bytes_eq n) (names_of (join_members a more)) ≡ true
 any_joined_here n no_members more h = cc
-any_joined_here n (member l d a) more h = go (bytes_eq n l) refl (any_joined_here n a more)
-  where
-    go : (t : Bool) → bytes_eq n l ≡ t → (list_any (bytes_eq n) (names_of a) ≡ true → list_any (bytes_eq n) (names_of (join_members a more)) ≡ true) → list_any (bytes_eq n) (names_of (join_members (member l d a) more)) ≡ true
-    go true is rest = rw is refl
-    go false is rest = rw is (rest (rw is at h))
+any_joined_here n (member l d a) more h = elim (cases_Bool (bytes_eq n l)) [ inl is ↦ rw is refl | inr is ↦ rw is (any_joined_here n a more (rw is at h)) ]
 
 pub any_joined_later : (n : List ℕ) (a more : Members) → list_any (bytes_eq n) (names_of a) ≡ false → list_any (bytes_eq n) (names_of (join_members a more)) ≡ list_any (bytes_eq n) (names_of more)
 any_joined_later n no_members more h = refl
-any_joined_later n (member l d a) more h = go (bytes_eq n l) refl (any_joined_later n a more)
-  where
-    go : (t : Bool) → bytes_eq n l ≡ t → (list_any (bytes_eq n) (names_of a) ≡ false → list_any (bytes_eq n) (names_of (join_members a more)) ≡ list_any (bytes_eq n) (names_of more)) → list_any (bytes_eq n) (names_of (join_members (member l d a) more)) ≡ list_any (bytes_eq n) (names_of more)
-    go true is rest = absurd (let bad = rw is at h in let no : true ≡ false = bad in cc)
-    go false is rest = rw is (rest (rw is at h))
+any_joined_later n (member l d a) more h = elim (cases_Bool (bytes_eq n l)) [
+  | inl is ↦ absurd (let bad = rw is at h in let no : true ≡ false = bad in cc)
+  | inr is ↦ rw is (any_joined_later n a more (rw is at h))
+]
 
 -- an entry that the base has not comes before the later new ones
 pub new_member_fresh : (done : Members) (n : List ℕ) (d : Data) (ms : Members) (seen rest : Items) → has_entry n seen ≡ false
@@ -367,11 +359,19 @@ all_joined P (member k d a) b h i = (h.0, all_joined P a b h.1 i)
 -- what holds of each holds of what a name finds
 pub entry_found : (P : List ℕ → Data → Type 0) (ms : Members) → AllEntries P ms → (k : List ℕ) (w : Data) → get_member k ms ≡ Some w → P k w
 entry_found P no_members each k w h = cc
-entry_found P (member l d ms) each k w h = go (meets k l) (entry_found P ms each.1 k w)
-  where
-    go : Meets k l → (get_member k ms ≡ Some w → P k w) → P k w
-    go (same e) later = subst (λ x. P x w) (sym e) (subst (P l) (value_same d w (sym (get_same k l d ms e) ∙ h)) each.0)
-    go (other apart) later = later (sym (get_other k l d ms apart) ∙ h)
+entry_found P (member l d ms) each k w h = elim (meets k l) [
+  | same e ↦ subst (λ x. P x w) (sym e) (subst (P l) (value_same d w (sym (get_same k l d ms e) ∙ h)) each.0)
+  | other apart ↦ entry_found P ms each.1 k w (sym (get_other k l d ms apart) ∙ h)
+]
+
+pub each_has : (P : List ℕ → Data → Type 0) (ms : Members) (k : List ℕ) (d : Data) → AllEntries P ms → HasMember k d ms → P k d
+each_has P no_members k d each there = absurd there
+each_has P (member l e ms) k d each (inl one) = subst (λ x. P x d) (sym one.0) (subst (P l) (sym one.1) each.0)
+each_has P (member l e ms) k d each (inr later) = each_has P ms k d each.1 later
+
+pub has_found : (k : List ℕ) (d : Data) (ms : Members) → get_member k ms ≡ Some d → HasMember k d ms
+has_found k d no_members h = cc
+has_found k d (member l e ms) h = elim (meets k l) [ same f ↦ inl (f, value_same d e (sym h ∙ get_same k l e ms f)) | other apart ↦ inr (has_found k d ms (sym (get_other k l e ms apart) ∙ h)) ]
 
 -- without a clash, each entry is what its name finds
 pub found_each : (ms : Members) → NoClash ms → AllEntries (λ k d. get_member k ms ≡ Some d) ms
@@ -379,20 +379,15 @@ found_each no_members h = tt
 found_each (member l e ms) h = (get_first l e ms, all_along (λ k d. get_member k ms ≡ Some d) (λ k d. get_member k (member l e ms) ≡ Some d) later ms (found_each ms h.1))
   where
     later : (k : List ℕ) (d : Data) → get_member k ms ≡ Some d → get_member k (member l e ms) ≡ Some d
-    later k d f = go (meets k l)
-      where
-        go : Meets k l → get_member k (member l e ms) ≡ Some d
-        go (same is) = absurd (let g : get_member l ms ≡ Some d = subst (λ x. get_member x ms ≡ Some d) is f in let no : get_member l ms ≡ None = h.0 in let bad : Some d ≡ None = cc in cc)
-        go (other apart) = get_other k l e ms apart ∙ f
+    later k d f = elim (meets k l) [
+      | same is ↦ absurd (let g : get_member l ms ≡ Some d = subst (λ x. get_member x ms ≡ Some d) is f in let no : get_member l ms ≡ None = h.0 in let bad : Some d ≡ None = cc in cc)
+      | other apart ↦ get_other k l e ms apart ∙ f
+    ]
 
 -- a name that is not among those of several lists has no value there
 any_append : (n : List ℕ) (xs ys : List (List ℕ)) → list_any (bytes_eq n) (xs ++ ys) ≡ false → (list_any (bytes_eq n) xs ≡ false) × (list_any (bytes_eq n) ys ≡ false)
 any_append n [] ys h = (refl, h)
-any_append n (x ∷ xs) ys h = go (bytes_eq n x) refl (any_append n xs ys)
-  where
-    go : (t : Bool) → bytes_eq n x ≡ t → (list_any (bytes_eq n) (xs ++ ys) ≡ false → (list_any (bytes_eq n) xs ≡ false) × (list_any (bytes_eq n) ys ≡ false)) → (list_any (bytes_eq n) (x ∷ xs) ≡ false) × (list_any (bytes_eq n) ys ≡ false)
-    go true is rest = absurd (true≢false (rw is at h))
-    go false is rest = let r = rest (rw is at h) in (rw is r.0, r.1)
+any_append n (x ∷ xs) ys h = elim (cases_Bool (bytes_eq n x)) [ inl is ↦ absurd (true≢false (rw is at h)) | inr is ↦ (let r = any_append n xs ys (rw is at h) in (rw is r.0, r.1)) ]
 
 -- a name that was not seen, and is not new, is no name of the list
 new_absent : (n : List ℕ) (seen : List (List ℕ)) (ms : Members) → list_any (bytes_eq n) seen ≡ false → list_any (bytes_eq n) (new_names seen (names_of ms)) ≡ false → get_member n ms ≡ None

@@ -1,6 +1,7 @@
 -- A value laid over what stands for other values is looked up among itself and those values.
 use Rattle.std.proofs.Common.{◌≡◌, ℕ, List, [], ◌∷◌, Option, Some, None, Bool, true, false, refl, sym, ap, ◌∙◌, subst, if◌then◌else◌, true≢false, inl, inr, bytes_eq}
-use Rattle.serde_json.specs.Data.{Data, null, boolean, number, string, array, object, Items, no_items, item, Members, no_members, member}
+use Rattle.std.proofs.lemmas.Bool.{cases_Bool}
+use Rattle.serde_json.specs.Data.{Data, string, array, object, Items, no_items, item, Members, no_members, member}
 use Rattle.serde_json.specs.Find.{get_member}
 use Rattle.conf_table.specs.declared.place.Place.{Place}
 use Rattle.conf_table.specs.declared.place.Place.TheVariants as places
@@ -9,10 +10,11 @@ use Rattle.conf_inherit.specs.Laying.{lay, has_entry, lay_base, lay_members, lay
 use Rattle.conf_inherit.specs.Looks.{Chain, Looks, looks, Entries, no_entry, an_entry, base_of, if_objects, values_at, AreResolved, nothing, alias, member_alias, heir, own, a_list, plain, Shows, a_scalar, an_object, the_members, a_join, if_lists, IsPlain}
 use Rattle.conf_inherit.specs.Names.{NoClash, properties_of, items_in, entries_of, entry_values, join_items, map_items, IsInOrder, names_of, new_names, cons_some, values_in, member_names, joined}
 use Rattle.conf_inherit.specs.Ready.{IsReady, AreReady, HasReady, Names}
-use Rattle.conf_inherit.proofs.LayingLemmas.{Meets, same, other, meets, get_other, get_same, lay_base-own, lay_base-heir, in_order_lay, lay_members-base, lay_members-absent, lay_members-found, AllEntries, all_along, over_entries, over_found, new_entries, entry_found, all_joined, has_entry_names, over_absent, entry_names, entries_joined, found_each, no_values, value_same, some_is_none}
+use Rattle.conf_inherit.proofs.LayingLemmas.{has_found, each_has, Meets, same, other, meets, get_other, get_same, lay_base-own, lay_base-heir, in_order_lay, lay_members-base, lay_members-absent, lay_members-found, AllEntries, all_along, over_entries, over_found, new_entries, entry_found, all_joined, has_entry_names, over_absent, entry_names, entries_joined, found_each, no_values, value_same, some_is_none}
 use Rattle.conf_inherit.proofs.SizeLemmas.{NoLarger, NoLargerItems, as_large, as_large_items, same_items, items_through, no_larger_list, no_larger_object, next_item, one_more, turned_items, next_property, no_property, joined_behind, joined_larger, item_first, covered}
-use Rattle.conf_inherit.proofs.FieldPlaceLemmas.{list_place, entry_place, inheriting_place, alias_place, member_value_place, member_type_place, type_is_no_base, alias_field, base_place, SamePlace}
+use Rattle.conf_inherit.proofs.FieldPlaceLemmas.{base_named, list_place, entry_place, inheriting_place, alias_place, member_value_place, member_type_place, type_is_no_base, alias_field, base_place, SamePlace}
 use Rattle.std.specs.List.{list_any}
+use Rattle.conf_tree.specs.Walk.{HasMember}
 
 -- what a base stands for: no values, or those that are looked up as it
 abbrev pub StandsFor : Members → Place → List Data → Option Data → Type 0
@@ -32,11 +34,7 @@ pub record Ground (al : Members) (s : Place) (cs : List Data) (acc : Members) : 
 
 module _ (al : Members) where
   no_values_at : (s : Place) (k : List ℕ) → values_at s k [] ≡ []
-  no_values_at s k = go (is_base_name s k) refl
-    where
-      go : (t : Bool) → is_base_name s k ≡ t → values_at s k [] ≡ []
-      go true is = rw is refl
-      go false is = rw is refl
+  no_values_at s k = elim (cases_Bool (is_base_name s k)) [ inl is ↦ rw is refl | inr is ↦ rw is refl ]
 
   values_at-base : (s : Place) (k : List ℕ) (cs : List Data) → is_base_name s k ≡ true → values_at s k cs ≡ []
   values_at-base s k cs is = rw is refl
@@ -89,11 +87,10 @@ module _ (al done : Members) where
           subst (λ x. Looks al (place_under s k) (d ∷ values_in k cs) x) same (each k d e (values_in k cs) (get_member k acc) (base_below k (get_member k acc) refl is))
 
       found : (k : List ℕ) (r : Data) → get_member k (lay_members done s ms acc) ≡ Some r → Looks al (place_under s k) (values_at s k (object ms ∷ cs)) r
-      found k r h = go (is_base_name s k) refl
-        where
-          go : (t : Bool) → is_base_name s k ≡ t → Looks al (place_under s k) (values_at s k (object ms ∷ cs)) r
-          go true is = subst (λ x. Looks al (place_under s k) x r) (values_at-base al s k cs is ∙ sym (values_at-base al s k (object ms ∷ cs) is)) (g.found k r (sym (lay_members-base done s k ms acc is) ∙ h))
-          go false is = subst (λ x. Looks al (place_under s k) x r) (sym (values_at-other al s k (object ms ∷ cs) is)) (by_value k r (get_member k ms) refl is h)
+      found k r h = elim (cases_Bool (is_base_name s k)) [
+        | inl is ↦ subst (λ x. Looks al (place_under s k) x r) (values_at-base al s k cs is ∙ sym (values_at-base al s k (object ms ∷ cs) is)) (g.found k r (sym (lay_members-base done s k ms acc is) ∙ h))
+        | inr is ↦ subst (λ x. Looks al (place_under s k) x r) (sym (values_at-other al s k (object ms ∷ cs) is)) (by_value k r (get_member k ms) refl is h)
+      ]
 
       absent : (k : List ℕ) → get_member k (lay_members done s ms acc) ≡ None → values_at s k (object ms ∷ cs) ≡ []
       absent k h = go (is_base_name s k) refl (get_member k ms) refl
@@ -136,16 +133,35 @@ module _ (al done : Members) where
           let here : Looks al places.Member (entry_values n (array es ∷ cs)) (lay done places.Member d None) = rw all.0 (each n d all.0 (entry_values n cs) None below) in
           rw (is, agree n ∙ is) (an_entry here rest)
 
--- ---- one of several properties
+-- ---- what holds of each value that is ready
 
-module _ (al done : Members) where
-  lays_from_at : (s : Place) (l : List ℕ) (v b : Data) (ms : Members) → (t : Bool) → is_base_name s l ≡ t → base_of s (member l v ms) ≡ Some b
-      → Lays al done (place_under s l) v → (base_of s ms ≡ Some b → Looks al places.FieldType (b ∷ []) (lay done places.FieldType b None)) → Looks al places.FieldType (b ∷ []) (lay done places.FieldType b None)
-  lays_from_at s l v b ms true is h here later =
-      let f : Some v ≡ Some b = rw is at h in
-      let g : v ≡ b = cc in
-      subst (λ x. Looks al places.FieldType (x ∷ []) (lay done places.FieldType x None)) g (subst (λ x. Lays al done x v) (base_place s l is) here [] None refl)
-  lays_from_at s l v b ms false is h here later = later (rw is at h)
+ready_under : (done : Members) (s : Place) (ms : Members) → HasReady done s ms → (k : List ℕ) (d : Data) → HasMember k d ms → IsReady done (place_under s k) d
+ready_under done s no_members ready k d there = absurd there
+ready_under done s (member l e ms) ready k d (inl one) = subst (λ n. IsReady done (place_under s n) d) (sym one.0) (subst (IsReady done (place_under s l)) (sym one.1) ready.0)
+ready_under done s (member l e ms) ready k d (inr later) = ready_under done s ms ready.1 k d later
+
+module _ (done : Members) (P : Place → Data → Type 0) (of_plain : (s : Place) (v : Data) → IsPlain s v → P s v)
+    (of_text : (s : Place) (n : List ℕ) → (Names s → (r : Data) × (get_member n done ≡ Some r)) → P s (string n))
+    (of_list : (s : Place) (es : Items) → (lists_members s ≡ true → NoClash (entries_of es)) → (lists_members s ≡ true → (n : List ℕ) (d : Data) → get_member n (entries_of es) ≡ Some d → P places.Member d) → P s (array es))
+    (of_object : (s : Place) (ms : Members) → HasReady done s ms → ((k : List ℕ) (d : Data) → HasMember k d ms → P (place_under s k) d) → P s (object ms)) where
+  mutual
+    pub of_ready : (v : Data) (s : Place) → IsReady done s v → P s v
+    of_ready (string n) s ready = of_text s n ready
+    of_ready (array es) s ready = of_list s es ready.0 (λ is. entry_found (λ n d. P places.Member d) (entries_of es) (of_entries es (subst (λ x. AreReady done x es) (list_place s is) ready.1)))
+    of_ready (object ms) s ready = of_object s ms ready (λ k d there. each_has (λ k d. P (place_under s k) d) ms k d (of_members ms s ready) there)
+    of_ready _ s ready = of_plain s _ tt
+
+    of_members : (ms : Members) (s : Place) → HasReady done s ms → AllEntries (λ k d. P (place_under s k) d) ms
+    of_members no_members s ready = tt
+    of_members (member k d ms) s ready = (of_ready d (place_under s k) ready.0, of_members ms s ready.1)
+
+    of_entries : (es : Items) → AreReady done places.Entry es → AllEntries (λ n d. P places.Member d) (entries_of es)
+    of_entries no_items ready = tt
+    of_entries (item v es) ready = all_joined (λ n d. P places.Member d) (properties_of v) (entries_of es) (of_entry v ready.0) (of_entries es ready.1)
+
+    of_entry : (v : Data) → IsReady done places.Entry v → AllEntries (λ n d. P places.Member d) (properties_of v)
+    of_entry (object ms) ready = all_along (λ k d. P (place_under places.Entry k) d) (λ n d. P places.Member d) (λ k d h. subst (λ x. P x d) (entry_place k) h) ms (of_members ms places.Entry ready)
+    of_entry _ ready = tt
 
 -- ---- members lists and other lists
 
@@ -234,20 +250,26 @@ module _ (al done : Members) where
 
     -- ---- every value
 
-    lays_object : (s : Place) (ms : Members) → ((k : List ℕ) (d : Data) → get_member k ms ≡ Some d → Lays al done (place_under s k) d)
-        → ((b : Data) → base_of s ms ≡ Some b → Looks al places.FieldType (b ∷ []) (lay done places.FieldType b None)) → Lays al done s (object ms)
-    lays_object s ms each from vs base stands = go (base_of s ms) refl
+    -- what an object inherits from, where each of its values is looked up
+    inherited : (s : Place) (ms : Members) → ((k : List ℕ) (d : Data) → HasMember k d ms → Lays al done (place_under s k) d) → (b : Data) → base_of s ms ≡ Some b → Looks al places.FieldType (b ∷ []) (lay done places.FieldType b None)
+    inherited s ms each b e = let (k, is, there) = base_named s ms b e in subst (λ x. Lays al done x b) (base_place s k is) (each k b there) [] None refl
+
+    lays_object : (s : Place) (ms : Members) → ((k : List ℕ) (d : Data) → HasMember k d ms → Lays al done (place_under s k) d) → Lays al done s (object ms)
+    lays_object s ms each vs base stands = go (base_of s ms) refl
       where
+        found : (k : List ℕ) (d : Data) → get_member k ms ≡ Some d → Lays al done (place_under s k) d
+        found k d h = each k d (has_found k d ms h)
+
         heir_at : (b : Data) → base_of s ms ≡ Some b → Looks al places.FieldType (b ∷ []) (lay done places.FieldType b None) → Looks al s (object ms ∷ vs) (object (lay_members done s ms (members_below (lay_base done s ms base))))
         heir_at b e (looks {cs = cs} c h) = rw (lay_base-heir done s ms base b e)
-            (looks (heir e c) (object_shown al done s ms (if_objects cs) (properties_of (lay done places.FieldType b None)) (ground_along al s (if_objects cs) (properties_of (lay done places.FieldType b None)) (inheriting_place s ms b e) (ground_shown al h)) each))
+            (looks (heir e c) (object_shown al done s ms (if_objects cs) (properties_of (lay done places.FieldType b None)) (ground_along al s (if_objects cs) (properties_of (lay done places.FieldType b None)) (inheriting_place s ms b e) (ground_shown al h)) found))
 
         own_at : base_of s ms ≡ None → (cs : List Data) × Chain al s vs cs × Ground al s (if_objects cs) (members_below base) → Looks al s (object ms ∷ vs) (object (lay_members done s ms (members_below (lay_base done s ms base))))
-        own_at e (cs, c, g) = rw (lay_base-own done s ms base e) (looks (own e c) (object_shown al done s ms (if_objects cs) (members_below base) g each))
+        own_at e (cs, c, g) = rw (lay_base-own done s ms base e) (looks (own e c) (object_shown al done s ms (if_objects cs) (members_below base) g found))
 
         go : (o : Option Data) → base_of s ms ≡ o → Looks al s (object ms ∷ vs) (object (lay_members done s ms (members_below (lay_base done s ms base))))
         go None e = own_at e (ground_below al s vs base stands)
-        go (Some b) e = heir_at b e (from b e)
+        go (Some b) e = heir_at b e (inherited s ms each b e)
 
     lays_list : (s : Place) (es : Items) → (lists_members s ≡ true → NoClash (entries_of es))
         → (lists_members s ≡ true → (n : List ℕ) (d : Data) → get_member n (entries_of es) ≡ Some d → Lays al done places.Member d) → Lays al done s (array es)
@@ -268,30 +290,11 @@ module _ (al done : Members) where
     lays_string : (s : Place) (n : List ℕ) → (Names s → (r : Data) × (get_member n done ≡ Some r)) → Lays al done s (string n)
     lays_string s n ready vs base stands = lays_text s n vs ready
 
-    mutual
-      pub lays : (v : Data) (s : Place) → IsReady done s v → Lays al done s v
-      lays null s ready = lays_plain s null tt
-      lays (boolean b) s ready = lays_plain s (boolean b) tt
-      lays (number n) s ready = lays_plain s (number n) tt
-      lays (string n) s ready = lays_string s n ready
-      lays (array es) s ready = lays_list s es ready.0 (λ is. entry_found (λ n d. Lays al done places.Member d) (entries_of es) (lays_entries es (subst (λ x. AreReady done x es) (list_place s is) ready.1)))
-      lays (object ms) s ready = lays_object s ms (entry_found (λ k d. Lays al done (place_under s k) d) ms (lays_each ms s ready)) (lays_from ms s ready)
+    pub lays : (v : Data) (s : Place) → IsReady done s v → Lays al done s v
+    lays v s ready = of_ready done (Lays al done) lays_plain lays_string (λ s es clear each. lays_list s es clear each) (λ s ms rest each. lays_object s ms each) v s ready
 
-      lays_each : (ms : Members) (s : Place) → HasReady done s ms → AllEntries (λ k d. Lays al done (place_under s k) d) ms
-      lays_each no_members s ready = tt
-      lays_each (member k d ms) s ready = (lays d (place_under s k) ready.0, lays_each ms s ready.1)
-
-      pub lays_from : (ms : Members) (s : Place) → HasReady done s ms → (b : Data) → base_of s ms ≡ Some b → Looks al places.FieldType (b ∷ []) (lay done places.FieldType b None)
-      lays_from no_members s ready b e = cc
-      lays_from (member l v ms) s ready b e = lays_from_at al done s l v b ms (is_base_name s l) refl e (lays v (place_under s l) ready.0) (lays_from ms s ready.1 b)
-
-      lays_entries : (es : Items) → AreReady done places.Entry es → AllEntries (λ n d. Lays al done places.Member d) (entries_of es)
-      lays_entries no_items ready = tt
-      lays_entries (item v es) ready = all_joined (λ n d. Lays al done places.Member d) (properties_of v) (entries_of es) (lays_entry v ready.0) (lays_entries es ready.1)
-
-      lays_entry : (v : Data) → IsReady done places.Entry v → AllEntries (λ n d. Lays al done places.Member d) (properties_of v)
-      lays_entry (object ms) ready = all_along (λ k d. Lays al done (place_under places.Entry k) d) (λ n d. Lays al done places.Member d) (λ k d h. subst (λ x. Lays al done x d) (entry_place k) h) ms (lays_each ms places.Entry ready)
-      lays_entry _ ready = tt
+    pub lays_from : (ms : Members) (s : Place) → HasReady done s ms → (b : Data) → base_of s ms ≡ Some b → Looks al places.FieldType (b ∷ []) (lay done places.FieldType b None)
+    lays_from ms s ready b e = inherited s ms (λ k d there. lays d (place_under s k) (ready_under done s ms ready k d there)) b e
 
 -- A value laid over nothing is no larger than laid over a base.
 
@@ -446,20 +449,11 @@ module _ (al done : Members) where
 
   -- ---- every value
 
-  mutual
-    pub grows : (v : Data) (s : Place) → IsReady done s v → Grows s v
-    grows (array es) s ready = grows_list s es ready.0 (λ is n d h. entry_found (λ n d. Grows places.Member d) (entries_of es) (grows_entries es (subst (λ x. AreReady done x es) (list_place s is) ready.1)) n d h)
-    grows (object ms) s ready = grows_object s ms (λ k d h. entry_found (λ k d. Grows (place_under s k) d) ms (grows_members ms s ready) k d h)
-    grows _ s ready = λ vs base stands. as_large _
+  plain_grows : (s : Place) (v : Data) → IsPlain s v → Grows s v
+  plain_grows s (array es) p vs base stands = absurd p
+  plain_grows s (object ms) p vs base stands = absurd p
+  plain_grows s (string n) p vs base stands = as_large (lay_text done s n)
+  plain_grows s v p vs base stands = as_large v
 
-    grows_members : (ms : Members) (s : Place) → HasReady done s ms → AllEntries (λ k d. Grows (place_under s k) d) ms
-    grows_members no_members s ready = tt
-    grows_members (member k d ms) s ready = (grows d (place_under s k) ready.0, grows_members ms s ready.1)
-
-    grows_entries : (es : Items) → AreReady done places.Entry es → AllEntries (λ n d. Grows places.Member d) (entries_of es)
-    grows_entries no_items ready = tt
-    grows_entries (item v es) ready = all_joined (λ n d. Grows places.Member d) (properties_of v) (entries_of es) (grows_entry v ready.0) (grows_entries es ready.1)
-
-    grows_entry : (v : Data) → IsReady done places.Entry v → AllEntries (λ n d. Grows places.Member d) (properties_of v)
-    grows_entry (object ms) ready = all_along (λ k d. Grows (place_under places.Entry k) d) (λ n d. Grows places.Member d) (λ k d h. subst (λ x. Grows x d) (entry_place k) h) ms (grows_members ms places.Entry ready)
-    grows_entry _ ready = tt
+  pub grows : (v : Data) (s : Place) → IsReady done s v → Grows s v
+  grows v s ready = of_ready done Grows plain_grows (λ s n ready vs base stands. as_large (lay_text done s n)) grows_list (λ s ms rest each. grows_object s ms (λ k d h. each k d (has_found k d ms h))) v s ready

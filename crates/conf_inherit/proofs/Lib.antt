@@ -4,14 +4,11 @@ pub mod EntryLemmas
 pub mod SizeLemmas
 pub mod LaysOver
 pub mod FlawLemmas
-pub mod NamedLemmas
 pub mod FaultLemmas
-pub mod NestingLemmas
 pub mod LimitLemmas
 pub mod RoundLemmas
 pub mod LookedUp
 pub mod ResolveLemmas
-pub mod ReadInOrder
 pub mod PlacesFit
 pub mod SoundPlaces
 pub mod RefusalLemmas

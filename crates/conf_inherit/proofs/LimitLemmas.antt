@@ -1,25 +1,24 @@
 -- What is said of a value whose names are all resolved is said of it too where more aliases are resolved.
-use Rattle.std.proofs.Common.{◌≡◌, ◌&&◌, ◌++◌, ℕ, suc, List, map, Option, Some, None, is_some, unwrap_or, Bool, true, false, refl, ap, ◌∙◌, subst, ◌+◌, ◌⊎◌, inl, inr, ◌↔◌, [], ◌∷◌, Result, Ok, Err, nat_lt, true≢false, sym, arith}
+use Rattle.std.proofs.Common.{if◌then◌else◌, ◌||◌, ◌≡◌, ◌&&◌, ◌++◌, ℕ, suc, List, map, Option, Some, None, is_some, unwrap_or, Bool, true, false, refl, ap, ◌∙◌, subst, ◌+◌, ◌⊎◌, inl, inr, ◌↔◌, [], ◌∷◌, Result, Ok, Err, nat_lt, true≢false, sym, arith}
 use Rattle.serde_json.specs.Data.{Data, null, string, array, object, Items, no_items, item, Members, no_members, member, put}
 use Rattle.serde_json.specs.Find.{get, get_member, get_item}
 use Rattle.conf_tree.specs.Flaw.{key, index, within, Flaw, here}
 use Rattle.conf_table.specs.declared.place.Place.{Place}
 use Rattle.conf_table.specs.declared.place.Place.TheVariants as places
 use Rattle.conf_inherit.specs.FieldPlaces.{place_under, place_of_items, names_alias, names_member_type, is_base_name, lists_members, is_entry, field_type_name}
-use Rattle.conf_inherit.specs.Flaws.{own_flaws, base_flaws, inner_flaws, item_flaws, member_flaws, type_flaws, mark, is_wrong, is_unknown, flaws}
-use Rattle.conf_inherit.specs.Laying.{resolved, members_below, items_below, lay_text, has_entry, lay, lay_base, lay_members, lay_over, lay_over_entry, lay_over_member, lay_new, lay_new_entry, lay_new_member}
+use Rattle.conf_inherit.specs.Flaws.{own_flaws, base_flaws, inner_flaws, item_flaws, member_flaws, type_flaws, mark, flaws}
+use Rattle.conf_inherit.specs.Laying.{members_below, items_below, lay_text, has_entry, lay, lay_base, lay_members, lay_over, lay_over_entry, lay_over_member, lay_new, lay_new_entry, lay_new_member}
 use Rattle.conf_inherit.specs.Limits.{fitting, passed, limit_flaws, max_values, max_levels, Fits, Exceeds, Inherits, InheritsInItems, InheritsInMembers}
 use Rattle.conf_inherit.specs.Named.{all_named, all_named_in_items, all_named_in_members, has}
 use Rattle.conf_inherit.specs.Names.{join_items, map_items}
-use Rattle.conf_inherit.proofs.NamedLemmas.{named_along}
-use Rattle.conf_inherit.proofs.FaultLemmas.{and_left, and_right, part_empty, rest_empty, front_empty, back_empty, Among, refused_among, among_within, first_or_rest, Aligned, aligned_here, aligned_next}
+use Rattle.conf_inherit.proofs.FaultLemmas.{named_along, own_is, same_part, part_empty, rest_empty, front_empty, back_empty, Among, refused_among, among_within, first_or_rest, Aligned, aligned_here, aligned_next}
 use Rattle.conf_inherit.proofs.LayingLemmas.{same_function}
 use Rattle.conf_inherit.proofs.FieldPlaceLemmas.{list_place, entry_place, base_place, alias_place}
-use Rattle.std.proofs.lemmas.Bool.{ltb-false}
+use Rattle.std.proofs.lemmas.Bool.{or_parts, and_parts, cases_Bool, ltb-false}
 use borrow.Author.Tests.{ltb-true}
 use Rattle.conf_tree.specs.Walk.{HasMember, refusal}
 use Rattle.conf_tree.specs.declared.fault_kind.FaultKind.{FaultKind}
-use Rattle.conf_tree.specs.declared.fault_kind.FaultKind.TheVariants.{TooDeep, Limit, WrongKind, NoSuchAlias, NameClash}
+use Rattle.conf_tree.specs.declared.fault_kind.FaultKind.TheVariants.{TooDeep, Limit}
 use Rattle.conf_inherit.specs.Faults.{Leads}
 use Rattle.conf_inherit.specs.Nesting.{nests}
 use Rattle.conf_inherit.specs.Size.{size}
@@ -33,27 +32,22 @@ module _ (done more : Members) (kept : (n : List ℕ) → has done n ≡ true �
   more_named s v h = named_along (has done) (has more) (λ n is. ap is_some (kept n is) ∙ is) s v h
 
   kept_text : (s : Place) (n : List ℕ) → IsNamed s (string n) → lay_text more s n ≡ lay_text done s n
-  kept_text s n h = go (names_alias s) refl (names_member_type s) refl
-    where
-      one : has done n ≡ true → resolved more n ≡ resolved done n
-      one is = ap (λ o. unwrap_or o null) (kept n is)
-
-      go : (a : Bool) → names_alias s ≡ a → (b : Bool) → names_member_type s ≡ b → lay_text more s n ≡ lay_text done s n
-      go true a b b' = let is : has done n ≡ true = rw a at h in rw a (one is)
-      go false a true b = let is : has done n ≡ true = rw (a, b) at h in rw (a, b) (ap (λ r. object (member field_type_name r no_members)) (one is))
-      go false a false b = rw (a, b) refl
+  kept_text s n h = elim (cases_Bool (names_alias s || names_member_type s)) [
+    | inl e ↦ (let is : has done n ≡ true = rw e at h in
+        ap (λ r. if names_alias s then r else if names_member_type s then object (member field_type_name r no_members) else string n) (ap (λ o. unwrap_or o null) (kept n is)))
+    | inr e ↦ (let none = or_parts (names_alias s) (names_member_type s) e in rw (none.0, none.1) refl)
+  ]
 
   mutual
     pub kept_lay : (v : Data) (s : Place) (base : Option Data) → IsNamed s v → lay more s v base ≡ lay done s v base
     kept_lay (string n) s base h = kept_text s n h
-    kept_lay (array es) s base h = go (lists_members s) refl (λ is. kept_over es (subst (λ t. all_named_in_items (has done) t es ≡ true) (list_place s is) h)) (λ is. kept_new es (items_below base) (subst (λ t. all_named_in_items (has done) t es ≡ true) (list_place s is) h))
-      where
-        go : (t : Bool) → lists_members s ≡ t → (lists_members s ≡ true → (b : Data) → lay_over more es b ≡ lay_over done es b)
-            → (lists_members s ≡ true → lay_new more es (items_below base) ≡ lay_new done es (items_below base)) → lay more s (array es) base ≡ lay done s (array es) base
-        go false is over new = rw is refl
-        go true is over new = rw is
-            (ap (λ f. array (join_items (map_items f (items_below base)) (lay_new more es (items_below base)))) (same_function (λ b. lay_over more es b) (λ b. lay_over done es b) (over is))
-            ∙ ap (λ x. array (join_items (map_items (λ b. lay_over done es b) (items_below base)) x)) (new is))
+    kept_lay (array es) s base h = elim (cases_Bool (lists_members s)) [
+      | inl is ↦ (let named = subst (λ t. all_named_in_items (has done) t es ≡ true) (list_place s is) h in
+          rw is
+          (ap (λ f. array (join_items (map_items f (items_below base)) (lay_new more es (items_below base)))) (same_function (λ b. lay_over more es b) (λ b. lay_over done es b) (kept_over es named))
+          ∙ ap (λ x. array (join_items (map_items (λ b. lay_over done es b) (items_below base)) x)) (kept_new es (items_below base) named)))
+      | inr is ↦ rw is refl
+    ]
     kept_lay (object ms) s base h =
         ap object (kept_members ms s (members_below (lay_base more s ms base)) h ∙ ap (λ b. lay_members done s ms (members_below b)) (kept_base ms s base h))
     kept_lay _ s base h = refl
@@ -61,29 +55,26 @@ module _ (done more : Members) (kept : (n : List ℕ) → has done n ≡ true �
     kept_base : (ms : Members) (s : Place) (base : Option Data) → all_named_in_members (has done) s ms ≡ true → lay_base more s ms base ≡ lay_base done s ms base
     kept_base no_members s base h = refl
     kept_base (member k d ms) s base h =
-        go (is_base_name s k) refl (λ is. kept_lay d places.FieldType None (subst (λ t. all_named (has done) t d ≡ true) (base_place s k is) (and_left (all_named (has done) (place_under s k) d) (all_named_in_members (has done) s ms) h)))
-        (kept_base ms s base (and_right (all_named (has done) (place_under s k) d) (all_named_in_members (has done) s ms) h))
-      where
-        go : (t : Bool) → is_base_name s k ≡ t → (is_base_name s k ≡ true → lay more places.FieldType d None ≡ lay done places.FieldType d None) → lay_base more s ms base ≡ lay_base done s ms base
-            → lay_base more s (member k d ms) base ≡ lay_base done s (member k d ms) base
-        go true is one rest = rw is (ap Some (one is))
-        go false is one rest = rw is rest
+        let parts = and_parts (all_named (has done) (place_under s k) d) (all_named_in_members (has done) s ms) h in
+        elim (cases_Bool (is_base_name s k)) [
+          | inl is ↦ rw is (ap Some (kept_lay d places.FieldType None (subst (λ t. all_named (has done) t d ≡ true) (base_place s k is) parts.0)))
+          | inr is ↦ rw is (kept_base ms s base parts.1)
+        ]
 
     kept_members : (ms : Members) (s : Place) (base : Members) → all_named_in_members (has done) s ms ≡ true → lay_members more s ms base ≡ lay_members done s ms base
     kept_members no_members s base h = refl
     kept_members (member k d ms) s base h =
-        go (is_base_name s k) refl (kept_lay d (place_under s k) (get_member k base) (and_left (all_named (has done) (place_under s k) d) (all_named_in_members (has done) s ms) h))
-        (kept_members ms s base (and_right (all_named (has done) (place_under s k) d) (all_named_in_members (has done) s ms) h))
-      where
-        go : (t : Bool) → is_base_name s k ≡ t → lay more (place_under s k) d (get_member k base) ≡ lay done (place_under s k) d (get_member k base) → lay_members more s ms base ≡ lay_members done s ms base
-            → lay_members more s (member k d ms) base ≡ lay_members done s (member k d ms) base
-        go true is one rest = rw is rest
-        go false is one rest = rw is (ap (λ x. put k x (lay_members more s ms base)) one ∙ ap (put k (lay done (place_under s k) d (get_member k base))) rest)
+        let parts = and_parts (all_named (has done) (place_under s k) d) (all_named_in_members (has done) s ms) h in
+        let later = kept_members ms s base parts.1 in
+        elim (cases_Bool (is_base_name s k)) [
+          | inl is ↦ rw is later
+          | inr is ↦ rw is (ap (λ x. put k x (lay_members more s ms base)) (kept_lay d (place_under s k) (get_member k base) parts.0) ∙ ap (put k (lay done (place_under s k) d (get_member k base))) later)
+        ]
 
     kept_over : (es : Items) → all_named_in_items (has done) places.Entry es ≡ true → (b : Data) → lay_over more es b ≡ lay_over done es b
     kept_over no_items h b = refl
-    kept_over (item e es) h b = kept_over_entry e b (lay_over more es b) (lay_over done es b) (and_left (all_named (has done) places.Entry e) (all_named_in_items (has done) places.Entry es) h)
-        (kept_over es (and_right (all_named (has done) places.Entry e) (all_named_in_items (has done) places.Entry es) h) b)
+    kept_over (item e es) h b = kept_over_entry e b (lay_over more es b) (lay_over done es b) (and_parts (all_named (has done) places.Entry e) (all_named_in_items (has done) places.Entry es) h).0
+        (kept_over es (and_parts (all_named (has done) places.Entry e) (all_named_in_items (has done) places.Entry es) h).1 b)
 
     kept_over_entry : (e b rest last : Data) → IsNamed places.Entry e → rest ≡ last → lay_over_entry more e b rest ≡ lay_over_entry done e b last
     kept_over_entry (object ms) b rest last h same = kept_over_member ms b rest last h same
@@ -92,18 +83,16 @@ module _ (done more : Members) (kept : (n : List ℕ) → has done n ≡ true �
     kept_over_member : (ms : Members) (b rest last : Data) → all_named_in_members (has done) places.Entry ms ≡ true → rest ≡ last → lay_over_member more ms b rest ≡ lay_over_member done ms b last
     kept_over_member no_members b rest last h same = same
     kept_over_member (member n d ms) b rest last h same =
-        go (is_some (get n b)) refl (kept_lay d places.Member (get n b) (subst (λ t. all_named (has done) t d ≡ true) (entry_place n) (and_left (all_named (has done) (place_under places.Entry n) d) (all_named_in_members (has done) places.Entry ms) h)))
-        (kept_over_member ms b rest last (and_right (all_named (has done) (place_under places.Entry n) d) (all_named_in_members (has done) places.Entry ms) h) same)
-      where
-        go : (t : Bool) → is_some (get n b) ≡ t → lay more places.Member d (get n b) ≡ lay done places.Member d (get n b) → lay_over_member more ms b rest ≡ lay_over_member done ms b last
-            → lay_over_member more (member n d ms) b rest ≡ lay_over_member done (member n d ms) b last
-        go true is one later = rw is (ap (λ x. object (member n x no_members)) one)
-        go false is one later = rw is later
+        let parts = and_parts (all_named (has done) (place_under places.Entry n) d) (all_named_in_members (has done) places.Entry ms) h in
+        elim (cases_Bool (is_some (get n b))) [
+          | inl is ↦ rw is (ap (λ x. object (member n x no_members)) (kept_lay d places.Member (get n b) (subst (λ t. all_named (has done) t d ≡ true) (entry_place n) parts.0)))
+          | inr is ↦ rw is (kept_over_member ms b rest last parts.1 same)
+        ]
 
     kept_new : (es seen : Items) → all_named_in_items (has done) places.Entry es ≡ true → lay_new more es seen ≡ lay_new done es seen
     kept_new no_items seen h = refl
-    kept_new (item e es) seen h = kept_new_entry e seen (lay_new more es seen) (lay_new done es seen) (and_left (all_named (has done) places.Entry e) (all_named_in_items (has done) places.Entry es) h)
-        (kept_new es seen (and_right (all_named (has done) places.Entry e) (all_named_in_items (has done) places.Entry es) h))
+    kept_new (item e es) seen h = kept_new_entry e seen (lay_new more es seen) (lay_new done es seen) (and_parts (all_named (has done) places.Entry e) (all_named_in_items (has done) places.Entry es) h).0
+        (kept_new es seen (and_parts (all_named (has done) places.Entry e) (all_named_in_items (has done) places.Entry es) h).1)
 
     kept_new_entry : (e : Data) (seen rest last : Items) → IsNamed places.Entry e → rest ≡ last → lay_new_entry more e seen rest ≡ lay_new_entry done e seen last
     kept_new_entry (object ms) seen rest last h same = kept_new_member ms seen rest last h same
@@ -112,24 +101,21 @@ module _ (done more : Members) (kept : (n : List ℕ) → has done n ≡ true �
     kept_new_member : (ms : Members) (seen rest last : Items) → all_named_in_members (has done) places.Entry ms ≡ true → rest ≡ last → lay_new_member more ms seen rest ≡ lay_new_member done ms seen last
     kept_new_member no_members seen rest last h same = same
     kept_new_member (member n d ms) seen rest last h same =
-        go (has_entry n seen) refl (kept_lay d places.Member None (subst (λ t. all_named (has done) t d ≡ true) (entry_place n) (and_left (all_named (has done) (place_under places.Entry n) d) (all_named_in_members (has done) places.Entry ms) h)))
-        (kept_new_member ms seen rest last (and_right (all_named (has done) (place_under places.Entry n) d) (all_named_in_members (has done) places.Entry ms) h) same)
-      where
-        go : (t : Bool) → has_entry n seen ≡ t → lay more places.Member d None ≡ lay done places.Member d None → lay_new_member more ms seen rest ≡ lay_new_member done ms seen last
-            → lay_new_member more (member n d ms) seen rest ≡ lay_new_member done (member n d ms) seen last
-        go true is one later = rw is later
-        go false is one later = rw is
-            (ap (λ x. item (object (member n x no_members)) (lay_new_member more ms seen rest)) one ∙ ap (item (object (member n (lay done places.Member d None) no_members))) later)
+        let parts = and_parts (all_named (has done) (place_under places.Entry n) d) (all_named_in_members (has done) places.Entry ms) h in
+        let later = kept_new_member ms seen rest last parts.1 same in
+        elim (cases_Bool (has_entry n seen)) [
+          | inl is ↦ rw is later
+          | inr is ↦ rw is (ap (λ x. item (object (member n x no_members)) (lay_new_member more ms seen rest)) (kept_lay d places.Member None (subst (λ t. all_named (has done) t d ≡ true) (entry_place n) parts.0)) ∙ ap (item (object (member n (lay done places.Member d None) no_members))) later)
+        ]
 
   kept_limit : (s : Place) (v : Data) → IsNamed s v → limit_flaws more s v ≡ limit_flaws done s v
   kept_limit s v h = rw (more_named s v h, h) (ap (λ r. passed (fitting r)) (kept_lay v s None h))
 
   kept_base_flaws : (s : Place) (k : List ℕ) (d : Data) → IsNamed (place_under s k) d → base_flaws (Some more) s k d ≡ base_flaws (Some done) s k d
-  kept_base_flaws s k d h = go (is_base_name s k) refl
-    where
-      go : (t : Bool) → is_base_name s k ≡ t → base_flaws (Some more) s k d ≡ base_flaws (Some done) s k d
-      go true is = rw is (kept_limit places.FieldType d (subst (λ t. all_named (has done) t d ≡ true) (base_place s k is) h))
-      go false is = rw is refl
+  kept_base_flaws s k d h = elim (cases_Bool (is_base_name s k)) [
+    | inl is ↦ rw is (kept_limit places.FieldType d (subst (λ t. all_named (has done) t d ≡ true) (base_place s k is) h))
+    | inr is ↦ rw is refl
+  ]
 
   module _ (al : Members) where
     mutual
@@ -141,20 +127,15 @@ module _ (done more : Members) (kept : (n : List ℕ) → has done n ≡ true �
       kept_item_flaws : (es : Items) (s : Place) (i : ℕ) (seen : Members) → all_named_in_items (has done) (place_of_items s) es ≡ true → item_flaws al (Some more) s i seen es ≡ item_flaws al (Some done) s i seen es
       kept_item_flaws no_items s i seen h = refl
       kept_item_flaws (item e es) s i seen h =
-          ap (λ x. map (within (index i)) (own_flaws al (place_of_items s) false e ++ x) ++ item_flaws al (Some more) s (suc i) (mark e seen) es)
-          (kept_inner e (place_of_items s) seen (and_left (all_named (has done) (place_of_items s) e) (all_named_in_items (has done) (place_of_items s) es) h))
-          ∙ ap (λ x. map (within (index i)) (own_flaws al (place_of_items s) false e ++ inner_flaws al (Some done) (place_of_items s) seen e) ++ x)
-          (kept_item_flaws es s (suc i) (mark e seen) (and_right (all_named (has done) (place_of_items s) e) (all_named_in_items (has done) (place_of_items s) es) h))
+          let parts = and_parts (all_named (has done) (place_of_items s) e) (all_named_in_items (has done) (place_of_items s) es) h in
+          same_part (within (index i)) _ _ _ _ _ _ refl (kept_inner e (place_of_items s) seen parts.0) (kept_item_flaws es s (suc i) (mark e seen) parts.1)
 
       kept_member_flaws : (ms : Members) (s : Place) (seen : Members) → all_named_in_members (has done) s ms ≡ true → member_flaws al (Some more) s seen ms ≡ member_flaws al (Some done) s seen ms
       kept_member_flaws no_members s seen h = refl
       kept_member_flaws (member k d ms) s seen h =
-          let own = own_flaws al (place_under s k) (is_entry s && is_some (get_member k seen)) d in
-          let one = and_left (all_named (has done) (place_under s k) d) (all_named_in_members (has done) s ms) h in
-          ap (λ x. map (within (key k)) ((own ++ x) ++ base_flaws (Some more) s k d) ++ member_flaws al (Some more) s seen ms) (kept_inner d (place_under s k) no_members one)
-          ∙ ap (λ x. map (within (key k)) ((own ++ inner_flaws al (Some done) (place_under s k) no_members d) ++ x) ++ member_flaws al (Some more) s seen ms) (kept_base_flaws s k d one)
-          ∙ ap (λ x. map (within (key k)) ((own ++ inner_flaws al (Some done) (place_under s k) no_members d) ++ base_flaws (Some done) s k d) ++ x)
-          (kept_member_flaws ms s seen (and_right (all_named (has done) (place_under s k) d) (all_named_in_members (has done) s ms) h))
+          let parts = and_parts (all_named (has done) (place_under s k) d) (all_named_in_members (has done) s ms) h in
+          let inner = ap (λ x. own_flaws al (place_under s k) (is_entry s && is_some (get_member k seen)) d ++ x) (kept_inner d (place_under s k) no_members parts.0) in
+          same_part (within (key k)) _ _ _ _ _ _ inner (kept_base_flaws s k d parts.0) (kept_member_flaws ms s seen parts.1)
 
     -- the flaws of a type stay the same
     pub kept_flaws : (s : Place) (v : Data) → IsNamed s v → type_flaws al more s v ≡ type_flaws al done s v
@@ -186,18 +167,11 @@ apart_fits _ r f h = h
 
 -- what fits is the value itself
 pub fitting_value : (r t : Data) → fitting r ≡ Ok t → r ≡ t
-fitting_value r t h = go (nat_lt max_values (size r)) refl (nests r max_levels) refl
+fitting_value r t h = go (fitting r) (judged r) h
   where
-    same_value : (let o : Result Data FaultKind = Ok r in o ≡ Ok t) → r ≡ t
-    same_value e = cc
-
-    no_limit : (kind : FaultKind) → (let o : Result Data FaultKind = Err kind in o ≡ Ok t) → r ≡ t
-    no_limit kind e = cc
-
-    go : (a : Bool) → nat_lt max_values (size r) ≡ a → (b : Bool) → nests r max_levels ≡ b → r ≡ t
-    go true is b e = no_limit Limit (rw is at h)
-    go false is true e = same_value (rw (is, e) at h)
-    go false is false e = no_limit TooDeep (rw (is, e) at h)
+    go : (o : Result Data FaultKind) → Judged r o → o ≡ Ok t → r ≡ t
+    go o (fits f) e = cc
+    go o (exceeds kind past) e = cc
 
 -- a limit that is listed is passed
 past_at : (r : Data) (o : Result Data FaultKind) (f : Flaw) → Judged r o → Among f (passed o) → (f ≡ here f.kind) × Exceeds f.kind r
@@ -255,11 +229,10 @@ module _ (done : Members) where
   EachFits In = (d : Data) → In d → FitsAlone places.FieldType d
 
   pub alike_limit : (s : Place) (v : Data) → Alike (limit_flaws done s v) [] (FitsAlone s v)
-  alike_limit s v = go (all_named (has done) s v) refl (fits_at (lay done s v None) (fitting (lay done s v None)) (judged (lay done s v None)))
-    where
-      go : (t : Bool) → all_named (has done) s v ≡ t → (passed (fitting (lay done s v None)) ≡ [] → Fits (lay done s v None)) × (Fits (lay done s v None) → passed (fitting (lay done s v None)) ≡ []) → Alike (limit_flaws done s v) [] (FitsAlone s v)
-      go true is f = let at : limit_flaws done s v ≡ passed (fitting (lay done s v None)) = rw is refl in ((λ e. (refl, λ x. f.0 (sym at ∙ e))), (λ h. at ∙ f.1 (h.1 is)))
-      go false is f = let at : limit_flaws done s v ≡ [] = rw is refl in ((λ e. (refl, λ x. absurd (true≢false (sym x ∙ is)))), (λ h. at))
+  alike_limit s v = elim (cases_Bool (all_named (has done) s v)) [
+    | inl is ↦ (let at : limit_flaws done s v ≡ passed (fitting (lay done s v None)) = rw is refl in ((λ e. (refl, λ x. (fits_at (lay done s v None) (fitting (lay done s v None)) (judged (lay done s v None))).0 (sym at ∙ e))), (λ h. at ∙ (fits_at (lay done s v None) (fitting (lay done s v None)) (judged (lay done s v None))).1 (h.1 is))))
+    | inr is ↦ (let at : limit_flaws done s v ≡ [] = rw is refl in ((λ e. (refl, λ x. absurd (true≢false (sym x ∙ is)))), (λ h. at)))
+  ]
 
   abbrev BaseFits : Place → List ℕ → Data → Type 0
   BaseFits s k d = is_base_name s k ≡ true → FitsAlone places.FieldType d
@@ -333,53 +306,31 @@ module _ (done : Members) where
 
     -- ---- a limit that is refused
 
-    abbrev IsLimit : FaultKind → Type 0
-    IsLimit kind = (kind ≡ Limit) ⊎ (kind ≡ TooDeep)
+    abbrev is_limit : FaultKind → Bool
+    is_limit Limit = true
+    is_limit TooDeep = true
+    is_limit _ = false
 
     -- the type that the path leads to is past the limit
     abbrev LimitAt : Place → Data → Flaw → Type 0
     LimitAt s v f = (d : Data) × Leads s v f.path places.FieldType d × (all_named (has done) places.FieldType d ≡ true) × Exceeds f.kind (lay done places.FieldType d None)
 
     limit_at : (v : Data) (f : Flaw) → Among f (limit_flaws done places.FieldType v) → LimitAt places.FieldType v f
-    limit_at v f h = go (all_named (has done) places.FieldType v) refl
-      where
-        go : (t : Bool) → all_named (has done) places.FieldType v ≡ t → LimitAt places.FieldType v f
-        go false is = absurd (rw is at h)
-        go true is =
-            let past = past_at (lay done places.FieldType v None) (fitting (lay done places.FieldType v None)) f (judged (lay done places.FieldType v None)) (rw is at h) in
-            (v, subst (λ p. Leads places.FieldType v p places.FieldType v) (sym (ap (λ x. x.path) past.0)) (refl, refl), is, past.1)
+    limit_at v f h = elim (cases_Bool (all_named (has done) places.FieldType v)) [
+      | inl is ↦ (let past = past_at (lay done places.FieldType v None) (fitting (lay done places.FieldType v None)) f (judged (lay done places.FieldType v None)) (rw is at h) in
+          (v, subst (λ p. Leads places.FieldType v p places.FieldType v) (sym (ap (λ x. x.path) past.0)) (refl, refl), is, past.1))
+      | inr is ↦ absurd (rw is at h)
+    ]
 
-    not_limit : (kind : FaultKind) (f : Flaw) → (IsLimit kind → ⊥) → Among f (here kind ∷ []) → IsLimit f.kind → ⊥
-    not_limit kind f other (inl e) is = other (subst IsLimit (ap (λ x. x.kind) e) is)
-    not_limit kind f other (inr x) is = x
-
-    own_limit : (s : Place) (taken : Bool) (v : Data) (f : Flaw) → Among f (own_flaws al s taken v) → IsLimit f.kind → ⊥
-    own_limit s taken v f h is = go (is_wrong s v) refl (is_unknown al s v) refl taken refl
-      where
-        wrong : IsLimit WrongKind → ⊥
-        wrong (inl e) = cc
-        wrong (inr e) = cc
-
-        unknown : IsLimit NoSuchAlias → ⊥
-        unknown (inl e) = cc
-        unknown (inr e) = cc
-
-        clash : IsLimit NameClash → ⊥
-        clash (inl e) = cc
-        clash (inr e) = cc
-
-        go : (a : Bool) → is_wrong s v ≡ a → (b : Bool) → is_unknown al s v ≡ b → (c : Bool) → taken ≡ c → ⊥
-        go true a b b' c c' = not_limit WrongKind f wrong (rw a at h) is
-        go false a true b c c' = not_limit NoSuchAlias f unknown (rw (a, b) at h) is
-        go false a false b true c = not_limit NameClash f clash (rw (a, b, c) at h) is
-        go false a false b false c = rw (a, b, c) at h
+    own_limit : (s : Place) (taken : Bool) (v : Data) (f : Flaw) → Among f (own_flaws al s taken v) → is_limit f.kind ≡ true → ⊥
+    own_limit s taken v f h is = true≢false (sym is ∙ elim (own_is al s taken v f h) [
+      | inl (e, wrong) ↦ ap (λ g. is_limit g.kind) e
+      | inr (inl (e, unknown)) ↦ ap (λ g. is_limit g.kind) e
+      | inr (inr (e, clash)) ↦ ap (λ g. is_limit g.kind) e
+    ])
 
     base_limit : (s : Place) (k : List ℕ) (d : Data) (f : Flaw) → Among f (base_flaws (Some done) s k d) → LimitAt (place_under s k) d f
-    base_limit s k d f h = go (is_base_name s k) refl
-      where
-        go : (t : Bool) → is_base_name s k ≡ t → LimitAt (place_under s k) d f
-        go true is = subst (λ t. LimitAt t d f) (sym (base_place s k is)) (limit_at d f (rw is at h))
-        go false is = absurd (rw is at h)
+    base_limit s k d f h = elim (cases_Bool (is_base_name s k)) [ inl is ↦ subst (λ t. LimitAt t d f) (sym (base_place s k is)) (limit_at d f (rw is at h)) | inr is ↦ absurd (rw is at h) ]
 
     in_member : (s : Place) (k : List ℕ) (e : Data) (ms : Members) (f g : Flaw) → HasMember k e ms → f ≡ within (key k) g → LimitAt (place_under s k) e g → LimitAt s (object ms) f
     in_member s k e ms f g m is (d, leads, named, past) = subst (LimitAt s (object ms)) (sym is) (d, (ms, e, refl, m, leads), named, past)
@@ -388,12 +339,12 @@ module _ (done : Members) where
     in_item s i e es f g m is (d, leads, named, past) = subst (LimitAt s (array es)) (sym is) (d, (es, e, refl, m, leads), named, past)
 
     mutual
-      inner_limit : (v : Data) (s : Place) (seen : Members) (f : Flaw) → Among f (inner_flaws al (Some done) s seen v) → IsLimit f.kind → LimitAt s v f
+      inner_limit : (v : Data) (s : Place) (seen : Members) (f : Flaw) → Among f (inner_flaws al (Some done) s seen v) → is_limit f.kind ≡ true → LimitAt s v f
       inner_limit (array es) s seen f h is = item_limit es s es 0 no_members f (λ j d g. let same : j ≡ 0 + j = omega arith in subst (λ x. get_item x es ≡ Some d) same g) h is
       inner_limit (object ms) s seen f h is = member_limit ms s ms seen f (λ k d m. m) h is
       inner_limit _ s seen f h is = absurd h
 
-      item_limit : (rest : Items) (s : Place) (es : Items) (i : ℕ) (seen : Members) (f : Flaw) → Aligned es i rest → Among f (item_flaws al (Some done) s i seen rest) → IsLimit f.kind → LimitAt s (array es) f
+      item_limit : (rest : Items) (s : Place) (es : Items) (i : ℕ) (seen : Members) (f : Flaw) → Aligned es i rest → Among f (item_flaws al (Some done) s i seen rest) → is_limit f.kind ≡ true → LimitAt s (array es) f
       item_limit no_items s es i seen f al' h is = absurd h
       item_limit (item e rest) s es i seen f al' h is =
           let t = place_of_items s in
@@ -401,11 +352,11 @@ module _ (done : Members) where
           let inner = inner_flaws al (Some done) t seen e in
           first_or_rest f (map (within (index i)) (own ++ inner)) (item_flaws al (Some done) s (suc i) (mark e seen) rest) h
           (λ a. let (g, e', b) = among_within (index i) f (own ++ inner) a in
-          let kind : IsLimit g.kind = subst IsLimit (ap (λ x. x.kind) e') is in
+          let kind : is_limit g.kind ≡ true = ap (λ x. is_limit x.kind) (sym e') ∙ is in
           in_item s i e es f g (aligned_here es i e rest al') e' (first_or_rest g own inner b (λ c. absurd (own_limit t false e g c kind)) (λ c. inner_limit e t seen g c kind)))
           (λ a. item_limit rest s es (suc i) (mark e seen) f (aligned_next es i e rest al') a is)
 
-      member_limit : (rest : Members) (s : Place) (ms : Members) (seen : Members) (f : Flaw) → ((k : List ℕ) (d : Data) → HasMember k d rest → HasMember k d ms) → Among f (member_flaws al (Some done) s seen rest) → IsLimit f.kind → LimitAt s (object ms) f
+      member_limit : (rest : Members) (s : Place) (ms : Members) (seen : Members) (f : Flaw) → ((k : List ℕ) (d : Data) → HasMember k d rest → HasMember k d ms) → Among f (member_flaws al (Some done) s seen rest) → is_limit f.kind ≡ true → LimitAt s (object ms) f
       member_limit no_members s ms seen f sub h is = absurd h
       member_limit (member k e rest) s ms seen f sub h is =
           let t = place_under s k in
@@ -414,7 +365,7 @@ module _ (done : Members) where
           let inner = inner_flaws al (Some done) t no_members e in
           first_or_rest f (map (within (key k)) ((own ++ inner) ++ base_flaws (Some done) s k e)) (member_flaws al (Some done) s seen rest) h
           (λ a. let (g, e', b) = among_within (key k) f ((own ++ inner) ++ base_flaws (Some done) s k e) a in
-          let kind : IsLimit g.kind = subst IsLimit (ap (λ x. x.kind) e') is in
+          let kind : is_limit g.kind ≡ true = ap (λ x. is_limit x.kind) (sym e') ∙ is in
           in_member s k e ms f g (sub k e (inl (refl, refl))) e'
           (first_or_rest g (own ++ inner) (base_flaws (Some done) s k e) b
           (λ c. first_or_rest g own inner c (λ d. absurd (own_limit t taken e g d kind)) (λ d. inner_limit e t no_members g d kind))
@@ -422,8 +373,9 @@ module _ (done : Members) where
           (λ a. member_limit rest s ms seen f (λ q d m. sub q d (inr m)) a is)
 
     -- a type that is refused for a limit leads to one that passes it
-    pub refused_limit : (v : Data) (f : Flaw) → refusal (type_flaws al done places.FieldType v) ≡ Err f → IsLimit f.kind → LimitAt places.FieldType v f
-    refused_limit v f h is =
+    pub refused_limit : (v : Data) (f : Flaw) → refusal (type_flaws al done places.FieldType v) ≡ Err f → (f.kind ≡ Limit) ⊎ (f.kind ≡ TooDeep) → LimitAt places.FieldType v f
+    refused_limit v f h named =
+        let is : is_limit f.kind ≡ true = elim named [ inl e ↦ ap is_limit e | inr e ↦ ap is_limit e ] in
         let own = own_flaws al places.FieldType false v in
         let inner = inner_flaws al (Some done) places.FieldType no_members v in
         first_or_rest f (own ++ inner) (limit_flaws done places.FieldType v) (refused_among (type_flaws al done places.FieldType v) f h)

@@ -1,17 +1,26 @@
 -- Values are looked up as at most one.
-use Rattle.std.proofs.Common.{◌≡◌, ℕ, List, [], ◌∷◌, Option, Some, None, true, true≢false, refl, sym, ap, ◌∙◌, subst, option_and_then, Bool, false}
-use Rattle.serde_json.specs.Data.{Data, array, object, Items, item, Members, no_members, member, string, no_items}
+use Rattle.std.proofs.Common.{inr, inl, ◌≡◌, ℕ, List, [], ◌∷◌, Option, Some, None, true, true≢false, refl, sym, ap, ◌∙◌, subst, option_and_then, false, option_map}
+use Rattle.serde_json.specs.Data.{Data, array, object, Items, item, Members, no_members, member, string, no_items, null, boolean, number, put}
 use Rattle.serde_json.specs.Find.{get_member, get}
 use Rattle.conf_table.specs.declared.place.Place.{Place}
 use Rattle.conf_table.specs.declared.place.Place.TheVariants as places
 use Rattle.conf_inherit.specs.FieldPlaces.{place_under, names_alias, names_member_type, is_base_name}
 use Rattle.conf_inherit.specs.Looks.{Chain, nothing, alias, member_alias, heir, own, a_list, plain, Looks, looks, Shows, a_scalar, an_object, the_members, a_join, Entries, no_entry, an_entry, if_objects, if_lists, values_at, base_of}
-use Rattle.conf_inherit.proofs.LayingLemmas.{same_members, get_first, get_none, get_other, AllEntries, all_joined, entry_found}
-use Rattle.std.proofs.lemmas.Bool.{or_parts, or_from}
+use Rattle.conf_inherit.proofs.LayingLemmas.{each_has, same_members, get_first, get_none, get_other, AllEntries, all_joined, entry_found, in_order_put}
+use Rattle.std.proofs.lemmas.Bool.{cases_Bool, or_parts, or_from}
 use Rattle.serde_json.specs.Written.{has_float, items_have_float, members_have_float}
 use Rattle.conf_tree.specs.Order.{IsInOrder, Ascends, ItemsAscend, MembersAscend}
-use Rattle.conf_inherit.specs.Names.{properties_of, items_in, entries_of, join_items, cons_some, values_in, entry_values, joined}
+use Rattle.conf_inherit.specs.Names.{properties_of, items_in, entries_of, join_items, cons_some, values_in, entry_values, joined, NoClash}
 use Rattle.conf_inherit.specs.Resolution.{members_or_none, trace_name, type_name, aliases_name, aliases_of, Resolves}
+use Rattle.conf_inherit.proofs.FieldPlaceLemmas.{base_named}
+use Rattle.std.specs.declared.cmp.Ordering.{Ordering}
+use Rattle.std.specs.declared.cmp.Ordering.TheVariants.{Less, Equal, Greater}
+use Rattle.std.specs.Ordering.{nat_cmp, match_ordering}
+use Rattle.std.specs.Cmp.Lexicographic.{slice_cmp}
+use Rattle.json.specs.Json as json
+use Rattle.json.specs.Lex.{tokens}
+use Rattle.serde_json.specs.Read.{number_of, of_json, of_items, of_members, max_depth, read}
+use Rattle.conf_tree.specs.Walk.{IsTreeOf}
 
 -- a text names an alias, or a member's type, and not both
 pub one_name : (s : Place) → names_alias s ≡ true → names_member_type s ≡ true → ⊥
@@ -96,7 +105,7 @@ abbrev pub AllMembers : (Data → Type 0) → Members → Type 0
 AllMembers P ms = AllEntries (λ k d. P d) ms
 
 -- P holds of every text, and of a list or an object in order where it holds of the parts
-record IsOfParts (P : Data → Type 0) : Type 0 where
+pub record IsOfParts (P : Data → Type 0) : Type 0 where
   pub a_text : (n : List ℕ) → P (string n)
   pub to_list : (es : Items) → AllItems P es → P (array es)
   pub of_list : (es : Items) → P (array es) → AllItems P es
@@ -104,13 +113,8 @@ record IsOfParts (P : Data → Type 0) : Type 0 where
   pub of_object : (ms : Members) → P (object ms) → AllMembers P ms
 
 module _ (P : Data → Type 0) (parts : IsOfParts P) where
-  base_at : (s : Place) (k : List ℕ) (d b : Data) (ms : Members) → (t : Bool) → is_base_name s k ≡ t → base_of s (member k d ms) ≡ Some b → P d → (base_of s ms ≡ Some b → P b) → P b
-  base_at s k d b ms true is h here later = let g : Some d ≡ Some b = rw is at h in let one : d ≡ b = cc in subst P one here
-  base_at s k d b ms false is h here later = later (rw is at h)
-
   of_base : (s : Place) (b : Data) (ms : Members) → AllMembers P ms → base_of s ms ≡ Some b → P b
-  of_base s b no_members w h = cc
-  of_base s b (member k d ms) w h = base_at s k d b ms (is_base_name s k) refl h w.0 (of_base s b ms w.1)
+  of_base s b ms w h = let (k, is, there) = base_named s ms b h in each_has (λ n d. P d) ms k b w there
 
   of_objects : (ds : List Data) → AllOf P ds → AllOf P (if_objects ds)
   of_objects [] w = tt
@@ -126,11 +130,11 @@ module _ (P : Data → Type 0) (parts : IsOfParts P) where
   of_properties (object ms) w = parts.of_object ms w
   of_properties _ w = tt
 
-  of_items : (d : Data) → P d → AllItems P (items_in d)
-  of_items (array es) w = parts.of_list es w
-  of_items _ w = tt
+  of_its_items : (d : Data) → P d → AllItems P (items_in d)
+  of_its_items (array es) w = parts.of_list es w
+  of_its_items _ w = tt
 
-  of_property : (k : List ℕ) (d e : Data) → P d → get k d ≡ Some e → P e
+  pub of_property : (k : List ℕ) (d e : Data) → P d → get k d ≡ Some e → P e
   of_property k (object ms) e w h = entry_found (λ n x. P x) ms (parts.of_object ms w) k e h
   of_property k _ e w h = cc
 
@@ -143,11 +147,7 @@ module _ (P : Data → Type 0) (parts : IsOfParts P) where
   of_values k (d ∷ ds) w = with_some (get k d) (values_in k ds) (λ e h. of_property k d e w.0 h) (of_values k ds w.1)
 
   of_values_at : (s : Place) (k : List ℕ) (ds : List Data) → AllOf P ds → AllOf P (values_at s k ds)
-  of_values_at s k ds w = go (is_base_name s k) refl
-    where
-      go : (t : Bool) → is_base_name s k ≡ t → AllOf P (values_at s k ds)
-      go true is = rw is tt
-      go false is = rw is (of_values k ds w)
+  of_values_at s k ds w = elim (cases_Bool (is_base_name s k)) [ inl is ↦ rw is tt | inr is ↦ rw is (of_values k ds w) ]
 
   both_items : (a b : Items) → AllItems P a → AllItems P b → AllItems P (join_items a b)
   both_items no_items b h i = i
@@ -159,11 +159,11 @@ module _ (P : Data → Type 0) (parts : IsOfParts P) where
 
   of_entry_values : (n : List ℕ) (ds : List Data) → AllOf P ds → AllOf P (entry_values n ds)
   of_entry_values n [] w = tt
-  of_entry_values n (d ∷ ds) w = with_some (get_member n (entries_of (items_in d))) (entry_values n ds) (λ e h. entry_found (λ k x. P x) (entries_of (items_in d)) (of_entries (items_in d) (of_items d w.0)) n e h) (of_entry_values n ds w.1)
+  of_entry_values n (d ∷ ds) w = with_some (get_member n (entries_of (items_in d))) (entry_values n ds) (λ e h. entry_found (λ k x. P x) (entries_of (items_in d)) (of_entries (items_in d) (of_its_items d w.0)) n e h) (of_entry_values n ds w.1)
 
   of_joined : (ds : List Data) → AllOf P ds → AllItems P (joined ds)
   of_joined [] w = tt
-  of_joined (d ∷ ds) w = both_items (joined ds) (items_in d) (of_joined ds w.1) (of_items d w.0)
+  of_joined (d ∷ ds) w = both_items (joined ds) (items_in d) (of_joined ds w.1) (of_its_items d w.0)
 
   -- it holds of the values of an object in order where it holds of each that is found
   by_names : (rs : Members) → IsInOrder rs → ((k : List ℕ) (r : Data) → get_member k rs ≡ Some r → P r) → AllMembers P rs
@@ -199,17 +199,17 @@ module _ (P : Data → Type 0) (parts : IsOfParts P) where
 
   -- ---- a whole configuration
 
-  of_found : (k : List ℕ) (o : Option Data) → ((d : Data) → o ≡ Some d → P d) → (d : Data) → option_and_then (get k) o ≡ Some d → P d
+  pub of_found : (k : List ℕ) (o : Option Data) → ((d : Data) → o ≡ Some d → P d) → (d : Data) → option_and_then (get k) o ≡ Some d → P d
   of_found k None h d is = cc
   of_found k (Some e) h d is = of_property k e d (h e refl) is
 
-  of_members : (o : Option Data) → ((d : Data) → o ≡ Some d → P d) → AllMembers P (members_or_none o)
-  of_members (Some (object ms)) h = parts.of_object ms (h (object ms) refl)
-  of_members _ h = tt
+  of_its_members : (o : Option Data) → ((d : Data) → o ≡ Some d → P d) → AllMembers P (members_or_none o)
+  of_its_members (Some (object ms)) h = parts.of_object ms (h (object ms) refl)
+  of_its_members _ h = tt
 
   of_resolved : (t r : Data) → P t → Resolves t r → P r
   of_resolved t r h l =
-      let aliases = of_members _ (of_found aliases_name _ (of_found type_name (get trace_name t) (λ d is. of_property trace_name t d h is))) in
+      let aliases = of_its_members _ (of_found aliases_name _ (of_found type_name (get trace_name t) (λ d is. of_property trace_name t d h is))) in
       of_looks (aliases_of t) aliases l (h, tt)
 
 -- ---- names in order
@@ -226,12 +226,15 @@ members_ascend : (ms : Members) → AllMembers Ascends ms → MembersAscend ms
 members_ascend no_members h = tt
 members_ascend (member k d ms) h = (h.0, members_ascend ms h.1)
 
-ascending_members : (ms : Members) → MembersAscend ms → AllMembers Ascends ms
+pub ascending_members : (ms : Members) → MembersAscend ms → AllMembers Ascends ms
 ascending_members no_members h = tt
 ascending_members (member k d ms) h = (h.0, ascending_members ms h.1)
 
+pub ascending : IsOfParts Ascends
+ascending = record { a_text = λ n. tt; to_list = items_ascend; of_list = ascending_items; to_object = λ ms o h. (o, members_ascend ms h); of_object = λ ms h. ascending_members ms h.1 }
+
 pub resolved_ascends : (t r : Data) → Ascends t → Resolves t r → Ascends r
-resolved_ascends t r h l = of_resolved Ascends (record { a_text = λ n. tt; to_list = items_ascend; of_list = ascending_items; to_object = λ ms o h. (o, members_ascend ms h); of_object = λ ms h. ascending_members ms h.1 }) t r h l
+resolved_ascends t r h l = of_resolved Ascends ascending t r h l
 
 -- ---- no float
 
@@ -256,3 +259,70 @@ whole_members (member k d ms) h = ((or_parts (has_float d) (members_have_float m
 
 pub resolved_whole : (t r : Data) → has_float t ≡ false → Resolves t r → has_float r ≡ false
 resolved_whole t r h l = of_resolved IsWhole (record { a_text = λ n. refl; to_list = items_whole; of_list = whole_items; to_object = λ ms o h. members_whole ms h; of_object = whole_members }) t r h l
+
+-- In the value of a text the names of each object ascend, so no name stands twice in one of its objects.
+
+-- ---- the names of each object of a tree ascend
+
+mapped : {A B : Type 0} (f : A → B) (o : Option A) (y : B) → option_map f o ≡ Some y → (x : A) × (o ≡ Some x) × (f x ≡ y)
+mapped f None y e = absurd cc
+mapped f (Some x) y e = (x, refl, cc)
+
+pub both_there : {A B : Type 0} (next_step : A → Option B) (o : Option A) (y : B) → option_and_then next_step o ≡ Some y → (x : A) × (o ≡ Some x) × (next_step x ≡ Some y)
+both_there next_step None y e = absurd cc
+both_there next_step (Some x) y e = (x, refl, e)
+
+each_put_at : (o : Ordering) (k l : List ℕ) (d e : Data) (ms : Members) → Ascends d → Ascends e → MembersAscend ms → MembersAscend (put k d ms) → MembersAscend (match_ordering o (member k d (member l e ms)) (member l d ms) (member l e (put k d ms)))
+each_put_at Less k l d e ms mine first rest later = (mine, (first, rest))
+each_put_at Equal k l d e ms mine first rest later = (mine, rest)
+each_put_at Greater k l d e ms mine first rest later = (first, later)
+
+each_put : (k : List ℕ) (d : Data) (ms : Members) → Ascends d → MembersAscend ms → MembersAscend (put k d ms)
+each_put k d no_members mine h = (mine, tt)
+each_put k d (member l e ms) mine h = each_put_at (slice_cmp nat_cmp k l) k l d e ms mine h.0 h.1 (each_put k d ms mine h.1)
+
+as_value : (d e : Data) → Some d ≡ Some e → Ascends d → Ascends e
+as_value d e is h = let same : d ≡ e = cc in subst Ascends same h
+
+mutual
+  json_in_order : (j : json.Json) (d : Data) → of_json j ≡ Some d → Ascends d
+  json_in_order json.null d e = as_value null d e tt
+  json_in_order (json.boolean b) d e = as_value (boolean b) d e tt
+  json_in_order (json.number s) d e = let n = mapped number (number_of s) d e in subst Ascends n.2 tt
+  json_in_order (json.string s) d e = as_value (string s) d e tt
+  json_in_order (json.array js) d e = let ds = mapped array (of_items js) d e in subst Ascends ds.2 (items_in_order js ds.0 ds.1)
+  json_in_order (json.object js) d e = let ms = mapped object (of_members js no_members) d e in subst Ascends ms.2 (members_in_order js no_members ms.0 ms.1 tt tt)
+
+  items_in_order : (js : json.Items) (ds : Items) → of_items js ≡ Some ds → ItemsAscend ds
+  items_in_order json.no_items ds e = let same : no_items ≡ ds = cc in subst ItemsAscend same tt
+  items_in_order (json.item j js) ds e =
+      let d = both_there (λ x. option_map (item x) (of_items js)) (of_json j) ds e in
+      let rest = mapped (item d.0) (of_items js) ds d.2 in
+      subst ItemsAscend rest.2 (json_in_order j d.0 d.1, items_in_order js rest.0 rest.1)
+
+  members_in_order : (js : json.Members) (found ms : Members) → of_members js found ≡ Some ms → IsInOrder found → MembersAscend found → IsInOrder ms × MembersAscend ms
+  members_in_order json.no_members found ms e h each = let same : found ≡ ms = cc in subst (λ l. IsInOrder l × MembersAscend l) same (h, each)
+  members_in_order (json.member k j js) found ms e h each =
+      let d = both_there (λ x. of_members js (put k x found)) (of_json j) ms e in
+      members_in_order js (put k d.0 found) ms d.2 (in_order_put k d.0 found h) (each_put k d.0 found (json_in_order j d.0 d.1) each)
+
+pub read_in_order : (text : List ℕ) (t : Data) → read text ≡ Some t → Ascends t
+read_in_order text t e = let j = both_there of_json (option_and_then (λ p. json.if_last p.0 p.1) (json.value max_depth (tokens text))) t e in json_in_order j.0 t j.2
+
+-- ---- so no alias has the name of another
+
+-- names that ascend do not stand twice
+pub apart : (ms : Members) → IsInOrder ms → NoClash ms
+apart no_members h = tt
+apart (member k d ms) h = (get_none k ms h.0, apart ms h.1)
+
+members_apart : (o : Option Data) → ((d : Data) → o ≡ Some d → Ascends d) → NoClash (members_or_none o)
+members_apart None h = tt
+members_apart (Some (object ms)) h = apart ms (h (object ms) refl).0
+members_apart (Some _) h = tt
+
+pub aliases_apart : (text : List ℕ) (t : Data) → IsTreeOf text t → NoClash (aliases_of t)
+aliases_apart text t tree =
+    let type = option_and_then (get type_name) (get trace_name t) in
+    members_apart (option_and_then (get aliases_name) type)
+    (of_found Ascends ascending aliases_name type (of_found Ascends ascending type_name (get trace_name t) (λ d is. of_property Ascends ascending trace_name t d (read_in_order text t tree.0.1) is)))

@@ -1,9 +1,10 @@
 -- Where a field type fits, and each value of a `$inherit` in it by itself, each field type in it fits by itself.
 use Rattle.std.proofs.Common.{◌≡◌, ◌&&◌, ◌⊎◌, inl, inr, ℕ, zero, suc, Bool, true, false, true≢false, List, [], ◌∷◌, Some, None, is_some, refl, sym, subst, ◌++◌, ap, ◌∙◌}
+use Rattle.std.proofs.lemmas.Bool.{cases_Bool}
 use Rattle.serde_json.specs.Data.{Data, array, object, Items, no_items, item, Members, no_members, member}
 use Rattle.serde_json.specs.Find.{get_item, get_member}
 use Rattle.conf_tree.specs.Flaw.{Place as Step, key, index, within}
-use Rattle.conf_tree.specs.Order.{Ascends, ItemsAscend, MembersAscend}
+use Rattle.conf_tree.specs.Order.{Ascends, ItemsAscend}
 use Rattle.conf_tree.specs.Walk.{HasMember}
 use Rattle.conf_table.specs.declared.place.Place.{Place}
 use Rattle.conf_table.specs.declared.place.Place.TheVariants as places
@@ -17,12 +18,11 @@ use Rattle.conf_inherit.specs.Looks.{AreResolved}
 use Rattle.conf_inherit.specs.Named.{all_named, has}
 use Rattle.conf_inherit.specs.Ready.{Names, IsReady}
 use Rattle.conf_inherit.proofs.LaysOver.{laid_entry, property_stands, ground_base, grows}
-use Rattle.conf_inherit.proofs.LayingLemmas.{lay_members-found, AllEntries, found_each, value_same}
-use Rattle.conf_inherit.proofs.NamedLemmas.{named}
+use Rattle.conf_inherit.proofs.LayingLemmas.{each_has, lay_members-found, found_each, value_same}
+use Rattle.conf_inherit.proofs.FaultLemmas.{named, own_sound, ready, single_entry, front_empty, back_empty, part_empty, rest_empty}
 use Rattle.conf_inherit.proofs.SizeLemmas.{NoLargerItems, as_large, as_large_items, items_through, next_item, one_more, no_item, fits_below, property_fits, item_fits}
-use Rattle.conf_inherit.proofs.ReadInOrder.{apart}
-use Rattle.conf_inherit.proofs.FaultLemmas.{ready, single_entry, front_empty, back_empty, part_empty, rest_empty}
-use Rattle.conf_inherit.proofs.SoundPlaces.{PartSound, own_sound, member_sound, item_sound, PlaceSound, member_place, object_places, list_places, extras_there, root_place, place_of_type, place_of_member, IsOutside, under_outside, on_or_ignored, extras_or_ignored, type_or_not}
+use Rattle.conf_inherit.proofs.LookedUp.{apart, ascending_members}
+use Rattle.conf_inherit.proofs.SoundPlaces.{PartSound, member_sound, item_sound, PlaceSound, member_place, object_places, list_places, extras_there, root_place, place_of_type, place_of_member, IsOutside, under_outside, on_or_ignored, extras_or_ignored}
 use Rattle.conf_inherit.proofs.FieldPlaceLemmas.{list_place, base_place, ignored_under, alias_place, member_value_place, entry_place, no_alias_member, member_field}
 use Rattle.conf_inherit.specs.Places.{inner_places, item_places, place_flaws}
 use Rattle.conf_inherit.proofs.LimitLemmas.{sound_type, alike_inner, alike_limit}
@@ -52,16 +52,6 @@ ignored_leads_nowhere s path v t w ignored leads names = nothing_named (subst Na
 
 -- ---- what an object or a list has
 
-pub each_has : (P : List ℕ → Data → Type 0) (ms : Members) (k : List ℕ) (d : Data) → AllEntries P ms → HasMember k d ms → P k d
-each_has P no_members k d each there = absurd there
-each_has P (member l e ms) k d each (inl same) = subst (λ x. P x d) (sym same.0) (subst (P l) (sym same.1) each.0)
-each_has P (member l e ms) k d each (inr later) = each_has P ms k d each.1 later
-
-pub member_in_order : (ms : Members) (k : List ℕ) (d : Data) → MembersAscend ms → HasMember k d ms → Ascends d
-member_in_order no_members k d each there = absurd there
-member_in_order (member l e ms) k d each (inl same) = subst Ascends (sym same.1) each.0
-member_in_order (member l e ms) k d each (inr later) = member_in_order ms k d each.1 later
-
 pub item_in_order : (es : Items) (i : ℕ) (d : Data) → ItemsAscend es → get_item i es ≡ Some d → Ascends d
 item_in_order no_items i d each there = absurd cc
 item_in_order (item e es) zero d each there = subst Ascends (value_same e d there) each.0
@@ -87,11 +77,10 @@ inherits_in_item x s (item e es) (suc i) d there h = inr (inherits_in_item x s e
 module _ (done : Members) where
   behind_members : (ms : Members) (seen rest : Items) → NoLargerItems rest (lay_new_member done ms seen rest)
   behind_members no_members seen rest = as_large_items rest
-  behind_members (member n d ms) seen rest = go (has_entry n seen) refl (behind_members ms seen rest)
-    where
-      go : (t : Bool) → has_entry n seen ≡ t → NoLargerItems rest (lay_new_member done ms seen rest) → NoLargerItems rest (lay_new_member done (member n d ms) seen rest)
-      go true is later = rw is later
-      go false is later = rw is (one_more (laid_entry done n d) rest (lay_new_member done ms seen rest) later)
+  behind_members (member n d ms) seen rest = elim (cases_Bool (has_entry n seen)) [
+    | inl is ↦ rw is (behind_members ms seen rest)
+    | inr is ↦ rw is (one_more (laid_entry done n d) rest (lay_new_member done ms seen rest) (behind_members ms seen rest))
+  ]
 
   behind_entry : (e : Data) (seen rest : Items) → NoLargerItems rest (lay_new_entry done e seen rest)
   behind_entry (object ms) seen rest = behind_members ms seen rest
@@ -173,7 +162,7 @@ module _ (al done : Members) (known : AreResolved al done) (all : (n : List ℕ)
     taken = is_entry s && is_some (get_member k h.seen);
     seen = no_members;
     sound = member_sound al s h.seen ms k d h.sound.inner there;
-    in_order = member_in_order ms k d h.in_order.1 there;
+    in_order = each_has (λ n e. Ascends e) ms k d (ascending_members ms h.in_order.1) there;
     inherited = λ x is. h.inherited x (inherits_under x s ms k d there is);
     whole = property_fit s ms k d h there;
   }
@@ -274,7 +263,7 @@ module _ (al done : Members) (known : AreResolved al done) (all : (n : List ℕ)
         taken = _;
         seen = no_members;
         sound = mine;
-        in_order = member_in_order ms k d ordered.1 there;
+        in_order = each_has (λ n e. Ascends e) ms k d (ascending_members ms ordered.1) there;
         inherited = λ x within. extra_inherits (object ms) h x (inherits_under x places.Entry ms k d there within);
         whole = subst (λ t. Fits (lay done t d None)) (sym (entry_place k)) (whole (subst (λ t. all_named (has done) t d ≡ true) (entry_place k) (sound_named al done known all (place_under places.Entry k) d _ no_members mine)));
       }
@@ -308,7 +297,7 @@ module _ (al done : Members) (known : AreResolved al done) (all : (n : List ℕ)
     taken = _;
     seen = no_members;
     sound = member_sound al s h.seen ms k d h.sound.inner there;
-    in_order = member_in_order ms k d h.in_order.1 there;
+    in_order = each_has (λ n e. Ascends e) ms k d (ascending_members ms h.in_order.1) there;
     places = member_place al done s ms k d (object_places al done s ms on h.places.inner) there;
   }
 
@@ -319,11 +308,11 @@ module _ (al done : Members) (known : AreResolved al done) (all : (n : List ℕ)
 
   -- each field type that a path leads to fits
   place_along : (path : List Step) (s : Place) (v : Data) (t : Place) (w : Data) → IsOutside s → SoundPlace s v → Leads s v path t w → Names t → Fits (lay done t w None)
-  place_along [] s v t w out h leads names = elim (type_or_not s) [
+  place_along [] s v t w out h leads names = elim (cases_Bool (names_alias s)) [
     | inl is ↦ type_along [] s v t w h is leads names
     | inr no_type ↦ absurd (unnamed_outside s out no_type (subst Names (sym leads.0) names))
   ]
-  place_along (key k ∷ path) s v t w out h (ms, d, is, there, leads) names = elim (type_or_not s) [
+  place_along (key k ∷ path) s v t w out h (ms, d, is, there, leads) names = elim (cases_Bool (names_alias s)) [
     | inl named ↦ type_along (key k ∷ path) s v t w h named (ms, d, is, there, leads) names
     | inr no_type ↦ elim (on_or_ignored s k out no_type) [
       | inl on ↦ place_along path (place_under s k) d t w (under_outside s k out on) (sound_under s ms k d (subst (SoundPlace s) is h) on there) leads names

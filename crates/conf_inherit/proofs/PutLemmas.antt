@@ -1,5 +1,6 @@
 -- The resolved aliases, put into what the rest of a configuration is laid to.
-use Rattle.std.proofs.Common.{◌≡◌, ℕ, suc, List, ◌++◌, map, Ordering, Less, Equal, Greater, nat_cmp, None, Ok, Bool, true, false, true≢false, bytes_eq, refl, sym, ap, ◌∙◌, subst}
+use Rattle.std.proofs.Common.{inr, inl, ◌≡◌, ℕ, suc, List, ◌++◌, map, Ordering, Less, Equal, Greater, nat_cmp, None, Ok, Bool, true, false, true≢false, bytes_eq, refl, sym, ap, ◌∙◌, subst}
+use Rattle.std.proofs.lemmas.Bool.{cases_Bool}
 use Rattle.std.specs.Cmp.Lexicographic.{slice_cmp}
 use Rattle.std.proofs.lemmas.Slice.Eq.{bytes_eq-Decides}
 use Rattle.serde_json.specs.Data.{Data, string, array, object, Members, no_members, member, put}
@@ -14,7 +15,7 @@ use Rattle.conf_inherit.specs.Nesting.{members_nest, deep_flaws, deep_member_fla
 use Rattle.conf_inherit.specs.Resolution.{trace_name, type_name, aliases_name, if_shallow}
 use Rattle.conf_inherit.specs.Whole.{holds_aliases, with_property, in_property, in_object, with_aliases, AreLaid}
 use Rattle.conf_inherit.proofs.LayingLemmas.{equal_names, differs, lay_members-first, apart_greater}
-use Rattle.conf_inherit.proofs.NestingLemmas.{nests_shallow}
+use Rattle.conf_inherit.proofs.SizeLemmas.{nests_shallow}
 use Rattle.conf_inherit.proofs.TakenLemmas.{on_way, no_base, laid_object}
 
 -- ---- the value of one name, where another is put
@@ -47,19 +48,15 @@ put_beside n k g x (member l e ms) away = go _ refl (bytes_eq l n) refl (put_bes
 
 text_stays : (done : Members) (s : Place) (n : List ℕ) → holds_aliases s ≡ true → lay_text done s n ≡ string n
 unfolding holds_aliases names_alias names_member_type
-text_stays done places.Root n h = refl
-text_stays done places.Trace n h = refl
-text_stays done places.TraceType n h = refl
-text_stays done places.FieldTypeAliases n h = refl
-text_stays done _ n h = absurd (true≢false (sym h))
+text_stays done places.FieldType n h = absurd (true≢false (sym h))
+text_stays done places.Member n h = absurd (true≢false (sym h))
+text_stays done _ n h = refl
 
 no_list : (s : Place) → holds_aliases s ≡ true → lists_members s ≡ false
 unfolding holds_aliases lists_members
-no_list places.Root h = refl
-no_list places.Trace h = refl
-no_list places.TraceType h = refl
-no_list places.FieldTypeAliases h = refl
-no_list _ h = absurd (true≢false (sym h))
+no_list places.Members h = absurd (true≢false (sym h))
+no_list places.ExtraMembers h = absurd (true≢false (sym h))
+no_list _ h = refl
 
 module _ (done : Members) (s : Place) (above : holds_aliases s ≡ true) where
   module _ (n : List ℕ) (f g : Data → Data) (each : (d : Data) → lay done (place_under s n) (f d) None ≡ g (lay done (place_under s n) d None)) where
@@ -114,11 +111,10 @@ laid_bare done v bare = sym (whole_with done no_members v) ∙ ap (λ d. lay don
 module _ (n : List ℕ) (f g : Data → Data) (levels : ℕ) (each : (d : Data) → deep_flaws (f d) levels ≡ deep_flaws (g d) levels) where
   members_deep : (ms : Members) → deep_member_flaws (with_property n f ms) levels ≡ deep_member_flaws (with_property n g ms) levels
   members_deep no_members = refl
-  members_deep (member k d ms) = go (bytes_eq k n) refl (members_deep ms)
-    where
-      go : (t : Bool) → bytes_eq k n ≡ t → deep_member_flaws (with_property n f ms) levels ≡ deep_member_flaws (with_property n g ms) levels → deep_member_flaws (with_property n f (member k d ms)) levels ≡ deep_member_flaws (with_property n g (member k d ms)) levels
-      go true is rest = rw is (ap (λ fs. map (within (key k)) fs ++ deep_member_flaws ms levels) (each d))
-      go false is rest = rw is (ap (λ fs. map (within (key k)) (deep_flaws d levels) ++ fs) rest)
+  members_deep (member k d ms) = elim (cases_Bool (bytes_eq k n)) [
+    | inl is ↦ rw is (ap (λ fs. map (within (key k)) fs ++ deep_member_flaws ms levels) (each d))
+    | inr is ↦ rw is (ap (λ fs. map (within (key k)) (deep_flaws d levels) ++ fs) (members_deep ms))
+  ]
 
   value_deep : (v : Data) → deep_flaws (in_property n f v) (suc levels) ≡ deep_flaws (in_property n g v) (suc levels)
   value_deep (object ms) = members_deep ms

@@ -25,8 +25,8 @@ use Rattle.conf_inherit.specs.Laying.{lay}
 use Rattle.conf_inherit.specs.Names.{NoClash}
 use Rattle.conf_inherit.specs.Resolution.{members_or_none, trace_name, type_name, aliases_name, aliases_of, in_aliases, from_aliases, if_shallow, resolution, Resolves}
 use Rattle.conf_inherit.specs.Nesting.{deep_flaws, PassesDepth, nests}
-use Rattle.conf_inherit.proofs.NestingLemmas.{deep_holds, depth_excluded}
-use Rattle.conf_inherit.proofs.SoundPlaces.{place_of_type, place_of_member, place_of_list, place_of_other, too_many_excluded, flawless, PartSound, own_sound, part_sound, member_sound, item_sound, SoundAt, sound_along}
+use Rattle.conf_inherit.proofs.SizeLemmas.{deep_holds, depth_excluded}
+use Rattle.conf_inherit.proofs.SoundPlaces.{place_of_type, place_of_member, place_of_list, place_of_other, too_many_excluded, flawless, PartSound, part_sound, member_sound, item_sound, SoundAt, sound_along}
 use Rattle.conf_inherit.proofs.ResolveLemmas.{laid_resolves, resolution_sound, IsOpen, open_walks, no_flaws, ok_aliases, ok_then, circle_refused}
 use Rattle.conf_inherit.proofs.RoundLemmas.{rounds_resolved, rounds_root, all_done}
 use Rattle.conf_inherit.specs.Named.{all_named, has}
@@ -34,13 +34,12 @@ use Rattle.conf_inherit.specs.Rounds.{Outcomes, rounds, no_outcomes}
 use Rattle.conf_inherit.specs.Limits.{Exceeds, fitting, passed, limit_flaws}
 use Rattle.conf_inherit.proofs.LimitLemmas.{Judged, fits, exceeds, judged, apart_fits}
 use Rattle.conf_inherit.proofs.FieldPlaceLemmas.{trace_place, trace_type_place, aliases_place, alias_place_under, alias_field, base_place, list_place}
-use Rattle.conf_inherit.proofs.FaultLemmas.{Among, refused_among, BasesHold, among_within, holds_in_object, entry_holds, flaw_of_itself_holds, flaw_holds, first_or_rest, Aligned, aligned_here, aligned_next, Seen, seen_next_at, none_seen, ready, only}
-use Rattle.conf_inherit.proofs.LayingLemmas.{AllEntries, found_each, Meets, same, other, meets, get_same, get_other}
-use Rattle.std.proofs.lemmas.Bool.{true≢false, and_from}
+use Rattle.conf_inherit.proofs.FaultLemmas.{own_sound, Among, refused_among, BasesHold, among_within, holds_in_object, entry_holds, flaw_of_itself_holds, flaw_holds, first_or_rest, Aligned, aligned_here, aligned_next, Seen, seen_next_at, none_seen, ready, only}
+use Rattle.conf_inherit.proofs.LayingLemmas.{has_found, AllEntries, found_each}
+use Rattle.std.proofs.lemmas.Bool.{cases_Bool, true≢false, and_from}
 use Rattle.conf_inherit.proofs.LaysOver.{lays}
-use Rattle.conf_inherit.proofs.LookedUp.{one_look}
+use Rattle.conf_inherit.proofs.LookedUp.{one_look, both_there, read_in_order, aliases_apart}
 use Rattle.conf_inherit.proofs.PlacesFit.{sound_named, all_fit}
-use Rattle.conf_inherit.proofs.ReadInOrder.{read_in_order, aliases_apart}
 
 limit_kind : (r : Data) (o : Result Data FaultKind) (f : Flaw) → Judged r o → Among f (passed o) → (kind : FaultKind) × Exceeds kind r × (f ≡ here kind)
 limit_kind r o f (fits x) h = absurd h
@@ -59,20 +58,17 @@ module _ (al : Members) where
 
   module _ (done : Members) (known : AreResolved al done) where
     limit_here : (s : Place) (v : Data) (f : Flaw) → Names s → Among f (limit_flaws done s v) → FlawHolds al s v f
-    limit_here s v f names h = go (all_named (has done) s v) refl
-      where
-        go : (t : Bool) → all_named (has done) s v ≡ t → FlawHolds al s v f
-        go false is = absurd (rw is at h)
-        go true is =
-            let (kind, past, e) = limit_kind (lay done s v None) (fitting (lay done s v None)) f (judged (lay done s v None)) (rw is at h) in
-            along s v f (here kind) e (passes_here s v kind (names, (done, known, is, past)))
+    limit_here s v f names h = elim (cases_Bool (all_named (has done) s v)) [
+      | inl is ↦ (let (kind, past, e) = limit_kind (lay done s v None) (fitting (lay done s v None)) f (judged (lay done s v None)) (rw is at h) in
+          along s v f (here kind) e (passes_here s v kind (names, (done, known, is, past))))
+      | inr is ↦ absurd (rw is at h)
+    ]
 
     bases_hold : BasesHold al (Some done)
-    bases_hold s k d f h = go (is_base_name s k) refl
-      where
-        go : (t : Bool) → is_base_name s k ≡ t → FlawHolds al (place_under s k) d f
-        go true is = subst (λ t. FlawHolds al t d f) (sym (base_place s k is)) (limit_here places.FieldType d f (inl alias_field) (rw is at h))
-        go false is = absurd (rw is at h)
+    bases_hold s k d f h = elim (cases_Bool (is_base_name s k)) [
+      | inl is ↦ subst (λ t. FlawHolds al t d f) (sym (base_place s k is)) (limit_here places.FieldType d f (inl alias_field) (rw is at h))
+      | inr is ↦ absurd (rw is at h)
+    ]
 
     type_holds : (s : Place) (v : Data) (f : Flaw) → Names s → Among f (type_flaws al done s v) → FlawHolds al s v f
     type_holds s v f names h = first_or_rest f (flaws al (Some done) s false no_members v) (limit_flaws done s v) h (flaw_holds al (Some done) bases_hold s v f) (limit_here s v f names)
@@ -81,11 +77,10 @@ module _ (al : Members) where
     own_or_circle : (s : Place) (w : Data) (f : Flaw) → Names s → (own over : Result ⊤ Flaw) → refusal (type_flaws al done s w) ≡ own → Among f (first_or_circle own over) → FlawHolds al s w f ⊎ (f ≡ here InheritCycle)
     own_or_circle s w f names (Ok x) over is h = inr (only f (here InheritCycle) h)
     own_or_circle s w f names (Err g) (Ok x) is h = inr (only f (here InheritCycle) h)
-    own_or_circle s w f names (Err g) (Err first) is h = by (is_same_flaw g first) refl
-      where
-        by : (t : Bool) → is_same_flaw g first ≡ t → FlawHolds al s w f ⊎ (f ≡ here InheritCycle)
-        by true e = inl (along s w f g (only f g (rw e at h)) (type_holds s w g names (refused_among (type_flaws al done s w) g is)))
-        by false e = inr (only f (here InheritCycle) (rw e at h))
+    own_or_circle s w f names (Err g) (Err first) is h = elim (cases_Bool (is_same_flaw g first)) [
+      | inl e ↦ inl (along s w f g (only f g (rw e at h)) (type_holds s w g names (refused_among (type_flaws al done s w) g is)))
+      | inr e ↦ inr (only f (here InheritCycle) (rw e at h))
+    ]
 
   -- ---- the aliases
 
@@ -98,41 +93,33 @@ module _ (al : Members) where
     alias_at : (k : List ℕ) (w : Data) (f : Flaw) → get_member k al ≡ Some w → Among f (alias_flaws al st k w) → FlawHolds al places.FieldType w f ⊎ CircleOf k f
     alias_at k w f is h = go (has st.done k) refl (has st.refused k) refl
       where
-        circle : has st.done k ≡ false → has st.refused k ≡ false → FlawHolds al places.FieldType w f ⊎ (f ≡ here InheritCycle) → FlawHolds al places.FieldType w f ⊎ CircleOf k f
-        circle a b (inl holds) = inl holds
-        circle a b (inr e) = inr (e, walks k (ap is_some is) (a, b))
-
         go : (t : Bool) → has st.done k ≡ t → (u : Bool) → has st.refused k ≡ u → FlawHolds al places.FieldType w f ⊎ CircleOf k f
         go true a u b = absurd (rw a at h)
         go false a true b = inl (type_holds st.done known places.FieldType w f (inl alias_field) (rw (a, b) at h))
-        go false a false b = circle a b (own_or_circle st.done known places.FieldType w f (inl alias_field) (refusal (type_flaws al st.done places.FieldType w)) (refusal (type_flaws (over_names al st no_members) st.done places.FieldType w)) refl (rw (a, b) at h))
+        go false a false b =
+            elim (own_or_circle st.done known places.FieldType w f (inl alias_field) (refusal (type_flaws al st.done places.FieldType w)) (refusal (type_flaws (over_names al st no_members) st.done places.FieldType w)) refl (rw (a, b) at h)) [ inl holds ↦ inl holds | inr e ↦ inr (e, walks k (ap is_some is) (a, b)) ]
 
     aliases_hold : (ms : Members) (f : Flaw) → AllEntries (λ k w. get_member k al ≡ Some w) ms → ((k : List ℕ) (d : Data) → HasMember k d ms → HasMember k d al) → Among f (all_alias_flaws al st ms) → FlawHolds al places.FieldTypeAliases (object al) f
     aliases_hold no_members f each sub h = absurd h
     aliases_hold (member k w ms) f each sub h =
         first_or_rest f (map (within (key k)) (alias_flaws al st k w)) (all_alias_flaws al st ms) h
-        (λ a. one (among_within (key k) f (alias_flaws al st k w) a))
+        (λ a. let (g, e, b) = among_within (key k) f (alias_flaws al st k w) a in
+        elim (alias_at k w g each.0 b) [
+          | inl holds ↦ along places.FieldTypeAliases (object al) f (within (key k) g) e (holds_in_object al places.FieldTypeAliases k w al g (sub k w (inl (refl, refl))) (subst (λ x. FlawHolds al x w g) (sym (alias_place_under k)) holds))
+          | inr (circle, steps) ↦ (let all : f ≡ within (key k) (here InheritCycle) = e ∙ ap (within (key k)) circle in
+              inr (inr (ap (λ x. x.kind) all, ([], k, ap (λ x. x.path) all, (refl, refl), steps))))
+        ])
         (λ a. aliases_hold ms f each.1 (λ q d m. sub q d (inr m)) a)
-      where
-        one : (g : Flaw) × (f ≡ within (key k) g) × Among g (alias_flaws al st k w) → FlawHolds al places.FieldTypeAliases (object al) f
-        one (g, e, a) = at (alias_at k w g each.0 a)
-          where
-            at : FlawHolds al places.FieldType w g ⊎ CircleOf k g → FlawHolds al places.FieldTypeAliases (object al) f
-            at (inl holds) = along places.FieldTypeAliases (object al) f (within (key k) g) e (holds_in_object al places.FieldTypeAliases k w al g (sub k w (inl (refl, refl))) (subst (λ x. FlawHolds al x w g) (sym (alias_place_under k)) holds))
-            at (inr (circle, steps)) =
-                let all : f ≡ within (key k) (here InheritCycle) = e ∙ ap (within (key k)) circle in
-                inr (inr (ap (λ x. x.kind) all, ([], k, ap (λ x. x.path) all, (refl, refl), steps)))
 
   -- ---- the places
 
   module _ (done : Members) (known : AreResolved al done) where
     many_here : (s : Place) (v : Data) (f : Flaw) → lists_extra_members s ≡ true → Among f (too_many v) → FlawHolds al s v f
     unfolding too_many
-    many_here s (array es) f is h = go (nat_lt max_extra_members (items_len es)) refl
-      where
-        go : (t : Bool) → nat_lt max_extra_members (items_len es) ≡ t → FlawHolds al s (array es) f
-        go true e = along s (array es) f (here Limit) (only f (here Limit) (rw e at h)) (inl (s, array es, (refl, refl), inl (es, refl, is, ltb-true max_extra_members (items_len es) e)))
-        go false e = absurd (rw e at h)
+    many_here s (array es) f is h = elim (cases_Bool (nat_lt max_extra_members (items_len es))) [
+      | inl e ↦ along s (array es) f (here Limit) (only f (here Limit) (rw e at h)) (inl (s, array es, (refl, refl), inl (es, refl, is, ltb-true max_extra_members (items_len es) e)))
+      | inr e ↦ absurd (rw e at h)
+    ]
     many_here s _ f is h = absurd h
 
     place_holds : (s : Place) (v : Data) (f : Flaw) → Among f (place_flaws al done s v) → FlawHolds al s v f
@@ -144,14 +131,6 @@ module _ (al : Members) where
         go false a false b true c = first_or_rest f (too_many v) (own_flaws al s false v) (subst (Among f) (place_of_list al done s v a b c) h) (many_here s v f c) (flaw_of_itself_holds al s v f)
         go false a false b false c = absurd (subst (Among f) (place_of_other al done s v a b c) h)
 
-    items_at : (s : Place) (es : Items) (f : Flaw) → (t : Bool) → lists_extra_members s ≡ t → Among f (inner_places al done s (array es)) → (Among f (item_places al done s 0 no_members es) → FlawHolds al s (array es) f) → FlawHolds al s (array es) f
-    items_at s es f true is h k = k (rw is at h)
-    items_at s es f false is h k = absurd (rw is at h)
-
-    members_at : (s : Place) (ms : Members) (f : Flaw) → (t : Bool) → leads_on s ≡ t → Among f (inner_places al done s (object ms)) → (Among f (member_places al done s ms) → FlawHolds al s (object ms) f) → FlawHolds al s (object ms) f
-    members_at s ms f true is h k = k (rw is at h)
-    members_at s ms f false is h k = absurd (rw is at h)
-
     member_here : (s : Place) (ms : Members) (k : List ℕ) (d : Data) (f : Flaw) → HasMember k d ms → (g : Flaw) × (f ≡ within (key k) g) × Among g (place_flaws al done (place_under s k) d ++ inner_places al done (place_under s k) d)
         → ((g : Flaw) → Among g (inner_places al done (place_under s k) d) → FlawHolds al (place_under s k) d g) → FlawHolds al s (object ms) f
     member_here s ms k d f m (g, same_f, a) deeper = along s (object ms) f (within (key k) g) same_f (holds_in_object al s k d ms g m
@@ -159,8 +138,11 @@ module _ (al : Members) where
 
     mutual
       places_hold : (v : Data) (s : Place) (f : Flaw) → Among f (inner_places al done s v) → FlawHolds al s v f
-      places_hold (array es) s f h = items_at s es f (lists_extra_members s) refl h (items_hold es s es 0 no_members f (λ j d g. let same : j ≡ 0 + j = omega arith in subst (λ x. get_item x es ≡ Some d) same g) (λ n b. absurd (none_seen n b)))
-      places_hold (object ms) s f h = members_at s ms f (leads_on s) refl h (members_hold ms s ms f (λ k d m. m))
+      places_hold (array es) s f h = elim (cases_Bool (lists_extra_members s)) [
+        | inl is ↦ items_hold es s es 0 no_members f (λ j d g. let same : j ≡ 0 + j = omega arith in subst (λ x. get_item x es ≡ Some d) same g) (λ n b. absurd (none_seen n b)) (rw is at h)
+        | inr is ↦ absurd (rw is at h)
+      ]
+      places_hold (object ms) s f h = elim (cases_Bool (leads_on s)) [ inl is ↦ members_hold ms s ms f (λ k d m. m) (rw is at h) | inr is ↦ absurd (rw is at h) ]
       places_hold _ s f h = absurd h
 
       items_hold : (rest : Items) (s : Place) (es : Items) (i : ℕ) (seen : Members) (f : Flaw) → Aligned es i rest → Seen es i seen → Among f (item_places al done s i seen rest) → FlawHolds al s (array es) f
@@ -180,33 +162,24 @@ module _ (al : Members) where
 
 -- ---- seen from the configuration
 
-has_found : (k : List ℕ) (d : Data) (ms : Members) → get_member k ms ≡ Some d → HasMember k d ms
-has_found k d no_members h = cc
-has_found k d (member l e ms) h = go (meets k l) (has_found k d ms)
-  where
-    go : Meets k l → (get_member k ms ≡ Some d → HasMember k d ms) → HasMember k d (member l e ms)
-    go (same f) rest = let g : Some e ≡ Some d = sym (get_same k l e ms f) ∙ h in let one : d ≡ e = cc in inl (f, one)
-    go (other apart) rest = inr (rest (sym (get_other k l e ms apart) ∙ h))
-
 lift : (al : Members) (s t : Place) (k : List ℕ) (v d : Data) (f : Flaw) → place_under s k ≡ t → get k v ≡ Some d → FlawHolds al t d f → FlawHolds al s v (within (key k) f)
 lift al s t k (object ms) d f place is h = holds_in_object al s k d ms f (has_found k d ms is) (subst (λ x. FlawHolds al x d f) (sym place) h)
 lift al s t k _ d f place is h = cc
 
+some_members : (o : Option Data) → (members_or_none o ≡ no_members → ⊥) → o ≡ Some (object (members_or_none o))
+some_members (Some (object ms)) some = refl
+some_members (Some _) some = absurd (some refl)
+some_members None some = absurd (some refl)
+
 -- the flaws of the aliases, seen from the configuration
-lift_aliases : (al : Members) (t : Data) (f : Flaw) → (a b c : Option Data) → get trace_name t ≡ a → option_and_then (get type_name) a ≡ b → option_and_then (get aliases_name) b ≡ c → (ms : Members) → members_or_none c ≡ ms
-    → (FlawHolds al places.FieldTypeAliases (object ms) f ⊎ (ms ≡ no_members)) → (ms ≡ no_members → ⊥) → FlawHolds al places.Root t (in_aliases f)
-lift_aliases al t f (Some a) (Some b) (Some (object ns)) e1 e2 e3 ms is (inl h) some =
-    lift al places.Root places.Trace trace_name t a (within (key type_name) (within (key aliases_name) f)) trace_place e1
-    (lift al places.Trace places.TraceType type_name a b (within (key aliases_name) f) trace_type_place e2
-    (lift al places.TraceType places.FieldTypeAliases aliases_name b (object ns) f aliases_place e3 (subst (λ x. FlawHolds al places.FieldTypeAliases (object x) f) (sym is) h)))
-lift_aliases al t f a b c e1 e2 e3 ms is (inr none) some = absurd (some none)
-lift_aliases al t f None b c e1 e2 e3 ms is h some = absurd (some (lost b c e2 e3 ms is))
-  where
-    lost : (b c : Option Data) → None ≡ b → option_and_then (get aliases_name) b ≡ c → (ms : Members) → members_or_none c ≡ ms → ms ≡ no_members
-    lost b c e2 e3 ms is = sym is ∙ ap members_or_none (sym e3) ∙ ap (λ x. members_or_none (option_and_then (get aliases_name) x)) (sym e2)
-lift_aliases al t f (Some a) None c e1 e2 e3 ms is h some = absurd (some (sym is ∙ ap members_or_none (sym e3)))
-lift_aliases al t f (Some a) (Some b) None e1 e2 e3 ms is h some = absurd (some (sym is))
-lift_aliases al t f (Some a) (Some b) (Some _) e1 e2 e3 ms is h some = absurd (some (sym is))
+lift_aliases : (al : Members) (t : Data) (f : Flaw) → (aliases_of t ≡ no_members → ⊥) → FlawHolds al places.FieldTypeAliases (object (aliases_of t)) f → FlawHolds al places.Root t (in_aliases f)
+lift_aliases al t f some h =
+    let type = option_and_then (get type_name) (get trace_name t) in
+    let (b, has_type, found) = both_there (get aliases_name) type (object (aliases_of t)) (some_members (option_and_then (get aliases_name) type) some) in
+    let (a, has_trace, in_trace) = both_there (get type_name) (get trace_name t) b has_type in
+    lift al places.Root places.Trace trace_name t a (within (key type_name) (within (key aliases_name) f)) trace_place has_trace
+    (lift al places.Trace places.TraceType type_name a b (within (key aliases_name) f) trace_type_place in_trace
+    (lift al places.TraceType places.FieldTypeAliases aliases_name b (object (aliases_of t)) f aliases_place found h))
 
 -- ---- a refusal
 
@@ -237,24 +210,20 @@ module _ (t : Data) (f : Flaw) (apart : NoClash (aliases_of t)) where
       let among = refused_among (all_alias_flaws al_of st_of al_of) g h in
       let known = rounds_resolved al_of (members_len al_of) each in
       let walks : (k : List ℕ) → has al_of k ≡ true → IsOpen st_of k → Walks al_of (members_len al_of) k = λ k known o. open_walks al_of (members_len al_of) k known o in
-      lift_aliases al_of t g (get trace_name t) (option_and_then (get type_name) (get trace_name t)) (option_and_then (get aliases_name) (option_and_then (get type_name) (get trace_name t))) refl refl refl al_of refl
-      (inl (aliases_hold al_of st_of known walks al_of g each (λ k d m. m) among)) (λ none. subst (λ x. Among g (all_alias_flaws al_of st_of x)) none among)
+      lift_aliases al_of t g (λ none. subst (λ x. Among g (all_alias_flaws al_of st_of x)) none among) (aliases_hold al_of st_of known walks al_of g each (λ k d m. m) among)
 
-  laid_deep : refusal (all_alias_flaws al_of st_of al_of) ≡ Ok tt → refusal (inner_places al_of st_of.done places.Root t) ≡ Ok tt → if_shallow (lay st_of.done places.Root t None) ≡ Err f → RefusalHolds t f
-  laid_deep a b h =
-      inr (lay st_of.done places.Root t None, laid_resolves t al_of (members_len al_of) st_of refl apart refl a b, err_shallow (lay st_of.done places.Root t None) f h)
-
-  after_aliases : refusal (all_alias_flaws al_of st_of al_of) ≡ Ok tt → (refusal (inner_places al_of st_of.done places.Root t) ≡ Err f) ⊎ ((refusal (inner_places al_of st_of.done places.Root t) ≡ Ok tt) × (if_shallow (lay st_of.done places.Root t None) ≡ Err f)) → RefusalHolds t f
-  after_aliases a (inl h) = inl (places_hold al_of st_of.done (rounds_resolved al_of (members_len al_of) (found_each al_of apart)) t places.Root f (refused_among (inner_places al_of st_of.done places.Root t) f h))
-  after_aliases a (inr (b, h)) = laid_deep a b h
-
-  from_first : ((g : Flaw) × (refusal (all_alias_flaws al_of st_of al_of) ≡ Err g) × (f ≡ in_aliases g)) ⊎ ((refusal (all_alias_flaws al_of st_of al_of) ≡ Ok tt) × ((refusal (inner_places al_of st_of.done places.Root t) >>= (λ b. if_shallow (lay st_of.done places.Root t None))) ≡ Err f)) → RefusalHolds t f
-  from_first (inl (g, h, e)) = inl (subst (FlawHolds al_of places.Root t) (sym e) (alias_refused g h))
-  from_first (inr (a, h)) = after_aliases a (err_then (refusal (inner_places al_of st_of.done places.Root t)) (λ b. if_shallow (lay st_of.done places.Root t None)) f h)
+  after_aliases : refusal (all_alias_flaws al_of st_of al_of) ≡ Ok tt → (refusal (inner_places al_of st_of.done places.Root t) >>= (λ b. if_shallow (lay st_of.done places.Root t None))) ≡ Err f → RefusalHolds t f
+  after_aliases a h = elim (err_then (refusal (inner_places al_of st_of.done places.Root t)) (λ b. if_shallow (lay st_of.done places.Root t None)) f h) [
+    | inl e ↦ inl (places_hold al_of st_of.done (rounds_resolved al_of (members_len al_of) (found_each al_of apart)) t places.Root f (refused_among (inner_places al_of st_of.done places.Root t) f e))
+    | inr (b, e) ↦ inr (lay st_of.done places.Root t None, laid_resolves t al_of (members_len al_of) st_of refl apart refl a b, err_shallow (lay st_of.done places.Root t None) f e)
+  ]
 
   -- the kind of a refusal holds at its path
   pub refusal_holds : resolution t ≡ Err f → RefusalHolds t f
-  refusal_holds h = from_first (err_aliases (refusal (all_alias_flaws al_of st_of al_of)) (λ a. refusal (inner_places al_of st_of.done places.Root t) >>= (λ b. if_shallow (lay st_of.done places.Root t None))) f h)
+  refusal_holds h = elim (err_aliases (refusal (all_alias_flaws al_of st_of al_of)) (λ a. refusal (inner_places al_of st_of.done places.Root t) >>= (λ b. if_shallow (lay st_of.done places.Root t None))) f h) [
+    | inl (g, e, is) ↦ inl (subst (FlawHolds al_of places.Root t) (sym is) (alias_refused g e))
+    | inr (a, e) ↦ after_aliases a e
+  ]
 
 -- a configuration has a resolution, or a fault that holds
 pub resolved_or_refused : (t : Data) → NoClash (aliases_of t) → ((r : Data) × Resolves t r) ⊎ ((f : Flaw) × RefusalHolds t f)

@@ -1,5 +1,5 @@
 -- The parts of a resolution together.
-use Rattle.std.proofs.Common.{◌≡◌, ◌≤◌, ℕ, zero, suc, List, [], ◌∷◌, None, Result, Ok, Err, String, Global, true, false, true≢false, Less, refl, sym, ap, ◌∙◌, subst, string_cmp, string_bytes, arith, ◌&&◌, ◌<◌, Option, Some, is_some, Bool, if◌then◌else◌, ◌||◌, not}
+use Rattle.std.proofs.Common.{◌+◌, inr, inl, ◌≡◌, ◌≤◌, ℕ, zero, suc, List, [], ◌∷◌, None, Result, Ok, Err, String, Global, true, false, true≢false, Less, refl, sym, ap, ◌∙◌, subst, string_cmp, string_bytes, arith, ◌<◌, Option, Some, is_some, Bool, if◌then◌else◌, ◌||◌, not}
 use Rattle.std.specs.List.{AllByRecursion}
 use Rattle.std.specs.List.Sorted.{IsStrictlySortedBy}
 use Rattle.std.specs.Map.{keys_of}
@@ -10,7 +10,7 @@ use Rattle.conf_tree.specs.Flaw.{Flaw}
 use Rattle.conf_tree.specs.Walk.{refusal}
 use Rattle.conf_table.specs.declared.place.Place.TheVariants as places
 use Rattle.conf_inherit.specs.AliasFlaws.{all_alias_flaws}
-use Rattle.conf_inherit.specs.Flaws.{own_flaws, inner_flaws, flaws}
+use Rattle.conf_inherit.specs.Flaws.{own_flaws, inner_flaws}
 use Rattle.conf_inherit.specs.Laying.{lay}
 use Rattle.conf_inherit.specs.Looks.{Looks, AreResolved}
 use Rattle.conf_inherit.specs.Names.{AllAbove, NoClash}
@@ -21,15 +21,14 @@ use Rattle.conf_tree.specs.Reading.{◌>>=◌}
 use Rattle.serde_json.specs.Events.{members_len}
 use Rattle.conf_inherit.specs.Places.{inner_places}
 use Rattle.conf_inherit.specs.Named.{has, all_named}
-use Rattle.conf_inherit.specs.Rounds.{Outcomes, rounds, no_outcomes, has_outcome, is_empty, outcome, concluded, is_over, step, round, all_over, next_round}
+use Rattle.conf_inherit.specs.Rounds.{Outcomes, rounds, no_outcomes, has_outcome, outcome, concluded, is_over, step, round, all_over, next_round}
 use Rattle.conf_inherit.proofs.LayingLemmas.{get_none, found_each, AllEntries, all_along, entry_found, Meets, same, other, meets, get_other}
 use Rattle.conf_inherit.proofs.LaysOver.{lays}
-use Rattle.conf_inherit.proofs.NamedLemmas.{named, mentioned, blocked}
-use Rattle.conf_inherit.proofs.NestingLemmas.{shallow_nests}
-use Rattle.conf_inherit.proofs.FaultLemmas.{ready, front_empty, back_empty, and_left, and_right, some_of}
-use Rattle.conf_inherit.proofs.RoundLemmas.{HasRoot, rounds_resolved, rounds_root, all_done, is_put, is_still, no_value, reached_keeps, rounds_reached}
+use Rattle.conf_inherit.proofs.FaultLemmas.{named, mentioned, blocked, is_still, is_put, ready, front_empty, back_empty, some_of}
+use Rattle.conf_inherit.proofs.SizeLemmas.{shallow_nests}
+use Rattle.conf_inherit.proofs.RoundLemmas.{by_turn, outcome_is, HasRoot, rounds_resolved, rounds_root, all_done, reached_keeps, rounds_reached}
 use Rattle.conf_inherit.proofs.SoundPlaces.{flawless}
-use Rattle.std.proofs.lemmas.Bool.{or_parts, or_from}
+use Rattle.std.proofs.lemmas.Bool.{and_parts, cases_Bool, or_parts, or_from}
 use Rattle.serde_json.specs.Find.{get_member}
 use Rattle.conf_inherit.specs.Circle.{Mentions, Walks}
 
@@ -65,15 +64,15 @@ mutual
   depth-items_nest : (ds : Items) (levels : ℕ) → items_nest ds levels ≡ true → items_depth ds ≤ levels
   depth-items_nest no_items levels h = omega arith
   depth-items_nest (item d ds) levels h =
-      let one : depth d ≤ levels = depth-nests d levels (and_left (nests d levels) (items_nest ds levels) h) in
-      let rest : items_depth ds ≤ levels = depth-items_nest ds levels (and_right (nests d levels) (items_nest ds levels) h) in
+      let one : depth d ≤ levels = depth-nests d levels (and_parts (nests d levels) (items_nest ds levels) h).0 in
+      let rest : items_depth ds ≤ levels = depth-items_nest ds levels (and_parts (nests d levels) (items_nest ds levels) h).1 in
       omega arith
 
   depth-members_nest : (ms : Members) (levels : ℕ) → members_nest ms levels ≡ true → members_depth ms ≤ levels
   depth-members_nest no_members levels h = omega arith
   depth-members_nest (member k d ms) levels h =
-      let one : depth d ≤ levels = depth-nests d levels (and_left (nests d levels) (members_nest ms levels) h) in
-      let rest : members_depth ms ≤ levels = depth-members_nest ms levels (and_right (nests d levels) (members_nest ms levels) h) in
+      let one : depth d ≤ levels = depth-nests d levels (and_parts (nests d levels) (members_nest ms levels) h).0 in
+      let rest : members_depth ms ≤ levels = depth-members_nest ms levels (and_parts (nests d levels) (members_nest ms levels) h).1 in
       omega arith
 
 -- ---- the names of a map are in order
@@ -137,41 +136,27 @@ count p (member k d ms) = if p k then suc (count p ms) else count p ms
 
 pub count_all : (p : List ℕ → Bool) (ms : Members) → count p ms ≤ members_len ms
 count_all p no_members = omega arith
-count_all p (member k d ms) = go (p k) refl (count_all p ms)
-  where
-    go : (t : Bool) → p k ≡ t → count p ms ≤ members_len ms → count p (member k d ms) ≤ members_len (member k d ms)
-    go true e rest = rw e (omega arith)
-    go false e rest = rw e (omega arith)
+count_all p (member k d ms) = elim (cases_Bool (p k)) [ inl e ↦ rw e (omega (arith, count_all p ms)) | inr e ↦ rw e (omega (arith, count_all p ms)) ]
 
 module _ (p q : List ℕ → Bool) (more : (n : List ℕ) → p n ≡ true → q n ≡ true) where
+  -- so many more names pass q where one name more is asked
+  count_next : (c : ℕ) (k : List ℕ) (d : Data) (ms : Members) → c + count p ms ≤ count q ms → c + count p (member k d ms) ≤ count q (member k d ms)
+  count_next c k d ms h = elim (cases_Bool (p k)) [
+    | inl a ↦ (let b = more k a in rw (a, b) (omega (arith, h)))
+    | inr a ↦ elim (cases_Bool (q k)) [ inl b ↦ rw (a, b) (omega (arith, h)) | inr b ↦ rw (a, b) h ]
+  ]
+
   pub count_more : (ms : Members) → count p ms ≤ count q ms
   count_more no_members = omega arith
-  count_more (member k d ms) = go (p k) refl (q k) refl (count_more ms)
-    where
-      go : (t : Bool) → p k ≡ t → (u : Bool) → q k ≡ u → count p ms ≤ count q ms → count p (member k d ms) ≤ count q (member k d ms)
-      go true a true b rest = rw (a, b) (omega arith)
-      go true a false b rest = absurd (true≢false (sym (more k a) ∙ b))
-      go false a true b rest = rw (a, b) (omega arith)
-      go false a false b rest = rw (a, b) rest
+  count_more (member k d ms) = let rest = count_more ms in omega (arith, count_next 0 k d ms (omega (arith, rest)))
 
   -- one that passes now, and did not before, counts
   pub count_new : (k : List ℕ) (w : Data) (ms : Members) → get_member k ms ≡ Some w → p k ≡ false → q k ≡ true → count p ms < count q ms
   count_new k w no_members is before after = cc
-  count_new k w (member l d ms) is before after = at (meets k l) (λ e. count_new k w ms e before after)
-    where
-      at : Meets k l → (get_member k ms ≡ Some w → count p ms < count q ms) → count p (member l d ms) < count q (member l d ms)
-      at (same e) rest =
-          let a : p l ≡ false = ap p (sym e) ∙ before in
-          let b : q l ≡ true = ap q (sym e) ∙ after in
-          let all = count_more ms in
-          rw (a, b) (omega arith)
-      at (other apart) rest = go (p l) refl (q l) refl (rest (sym (get_other k l d ms apart) ∙ is))
-        where
-          go : (t : Bool) → p l ≡ t → (u : Bool) → q l ≡ u → count p ms < count q ms → count p (member l d ms) < count q (member l d ms)
-          go true a true b later = rw (a, b) (omega arith)
-          go true a false b later = absurd (true≢false (sym (more l a) ∙ b))
-          go false a true b later = rw (a, b) (omega arith)
-          go false a false b later = rw (a, b) later
+  count_new k w (member l d ms) is before after = elim (meets k l) [
+    | same e ↦ (let a : p l ≡ false = ap p (sym e) ∙ before in let b : q l ≡ true = ap q (sym e) ∙ after in let all = count_more ms in rw (a, b) (omega (arith, all)))
+    | other apart ↦ (let rest = count_new k w ms (sym (get_other k l d ms apart) ∙ is) before after in omega (arith, count_next 1 l d ms (omega (arith, rest))))
+  ]
 
 -- ---- the walks of a resolved alias
 
@@ -200,16 +185,9 @@ module _ (al : Members) where
           let before : n < count (has st.done) al = short n q (ap is_some (sym (get_member-put_other q k r st.done apart)) ∙ h) walk in
           omega (arith, grows)
 
-  outcome_named : (done : Members) (w r : Data) → outcome al done w ≡ Some r → all_named (has done) places.FieldType w ≡ true
-  outcome_named done w r h = go (all_named (has done) places.FieldType w && is_empty (flaws al (Some done) places.FieldType false no_members w)) refl
-    where
-      go : (t : Bool) → (all_named (has done) places.FieldType w && is_empty (flaws al (Some done) places.FieldType false no_members w)) ≡ t → all_named (has done) places.FieldType w ≡ true
-      go true e = and_left (all_named (has done) places.FieldType w) (is_empty (flaws al (Some done) places.FieldType false no_members w)) e
-      go false e = absurd (no_value r (rw e at h))
-
   short_next : (k : List ℕ) (w : Data) (st : Outcomes) → get_member k al ≡ Some w → has_outcome st k ≡ false → Short st → (o : Option Data) → outcome al st.done w ≡ o → Short (concluded k st o)
   short_next k w st is free short None e = short
-  short_next k w st is free short (Some r) e = short_resolved k w r st is ((or_parts (has st.done k) (has st.refused k) free).0) (outcome_named st.done w r e) short
+  short_next k w st is free short (Some r) e = short_resolved k w r st is ((or_parts (has st.done k) (has st.refused k) free).0) (outcome_is al st.done w r e).named short
 
   rounds_short : (n : ℕ) → AllEntries (λ k w. get_member k al ≡ Some w) al → Short (rounds al n no_outcomes)
   rounds_short n each =
@@ -240,18 +218,14 @@ abbrev pub IsOpen : Outcomes → List ℕ → Type 0
 IsOpen st k = (has st.done k ≡ false) × (has st.refused k ≡ false)
 
 over_false : (a b c : Bool) → (a || b || not c) ≡ false → (a ≡ false) × (b ≡ false) × (c ≡ true)
+over_false false false true h = (refl, refl, refl)
 over_false true b c h = absurd (true≢false h)
 over_false false true c h = absurd (true≢false h)
-over_false false false true h = (refl, refl, refl)
 over_false false false false h = absurd (true≢false h)
 
 -- a name that is not there once another is put was not there before
 open_put : (k : List ℕ) (r : Data) (ms : Members) (q : List ℕ) → has (put k r ms) q ≡ false → has ms q ≡ false
-open_put k r ms q h = go (has ms q) refl
-  where
-    go : (t : Bool) → has ms q ≡ t → has ms q ≡ false
-    go true e = absurd (true≢false (sym (is_still k r ms q e) ∙ h))
-    go false e = e
+open_put k r ms q h = elim (cases_Bool (has ms q)) [ inl e ↦ absurd (true≢false (sym (is_still k r ms q e) ∙ h)) | inr e ↦ e ]
 
 module _ (al : Members) where
   -- what is open after a conclusion was open before it
@@ -260,12 +234,7 @@ module _ (al : Members) where
   open_concluded k st None q (d, f) = (d, open_put k null st.refused q f)
 
   open_step : (k : List ℕ) (w : Data) (st : Outcomes) (q : List ℕ) → IsOpen (step al k w st) q → IsOpen st q
-  open_step k w st q h = go (has_outcome st k) refl (all_named (is_over al st) places.FieldType w) refl
-    where
-      go : (t : Bool) → has_outcome st k ≡ t → (u : Bool) → all_named (is_over al st) places.FieldType w ≡ u → IsOpen st q
-      go true a u b = rw a at h
-      go false a false b = rw (a, b) at h
-      go false a true b = open_concluded k st (outcome al st.done w) q (rw (a, b) at h)
+  open_step k w st q h = by_turn al (λ x. IsOpen x q → IsOpen st q) k w st (λ o. o) (λ free due o. open_concluded k st (outcome al st.done w) q o) h
 
   open_round : (ms : Members) (st : Outcomes) (q : List ℕ) → IsOpen (round al ms st) q → IsOpen st q
   open_round no_members st q h = h
@@ -304,16 +273,15 @@ module _ (al : Members) where
   all_closed : (ms : Members) (st : Outcomes) → all_over ms st ≡ true → AllEntries (λ k w. IsOpen st k → ⊥) ms
   all_closed no_members st h = tt
   all_closed (member k w ms) st h = (
-    λ o. true≢false (sym (and_left (has_outcome st k) (all_over ms st) h) ∙ or_from (has st.done k) (has st.refused k) o.0 o.1),
-    all_closed ms st (and_right (has_outcome st k) (all_over ms st) h),
+    λ o. true≢false (sym (and_parts (has_outcome st k) (all_over ms st) h).0 ∙ or_from (has st.done k) (has st.refused k) o.0 o.1),
+    all_closed ms st (and_parts (has_outcome st k) (all_over ms st) h).1,
   )
 
   waits_next : (k : List ℕ) (w : Data) (st : Outcomes) → get_member k al ≡ Some w → IsOpen (next_round al st) k → (m : List ℕ) × Mentions m places.FieldType w × (has al m ≡ true) × IsOpen st m
-  waits_next k w st is h = go (all_over al st) refl
-    where
-      go : (t : Bool) → all_over al st ≡ t → (m : List ℕ) × Mentions m places.FieldType w × (has al m ≡ true) × IsOpen st m
-      go true e = absurd (entry_found (λ k w. IsOpen st k → ⊥) al (all_closed al st e) k w is (rw e at h))
-      go false e = entry_found (λ k w. Waits (round al al st) k w st) al (waits_round al st) k w is (rw e at h)
+  waits_next k w st is h = elim (cases_Bool (all_over al st)) [
+    | inl e ↦ absurd (entry_found (λ k w. IsOpen st k → ⊥) al (all_closed al st e) k w is (rw e at h))
+    | inr e ↦ entry_found (λ k w. Waits (round al al st) k w st) al (waits_round al st) k w is (rw e at h)
+  ]
 
   -- an alias that is open after so many rounds starts a walk as long
   pub open_walks : (n : ℕ) → (k : List ℕ) → has al k ≡ true → IsOpen (rounds al n no_outcomes) k → Walks al n k

@@ -1,10 +1,10 @@
 -- What the rounds over the aliases leave: resolved aliases are what they are looked up as, and an alias with no
 -- outcome starts a walk as long as there were rounds.
 use Rattle.std.proofs.Common.{◌≡◌, ◌&&◌, ◌||◌, ◌++◌, ◌⊎◌, inl, inr, ℕ, zero, suc, List, [], ◌∷◌, Option, Some, None, Result, Ok, Err, is_some, Bool, true, false, not, true≢false, refl, sym, ap, ◌∙◌, subst}
-use Rattle.std.proofs.lemmas.Bool.{or_parts}
+use Rattle.std.proofs.lemmas.Bool.{and_parts, cases_Bool, or_parts}
 use Rattle.serde_json.specs.Data.{Data, null, Members, no_members, member, put}
 use Rattle.serde_json.specs.Find.{get_member}
-use Rattle.serde_json.proofs.Views.{get_member-put, get_member-put_other}
+use Rattle.serde_json.proofs.Views.{get_member-put_other}
 use Rattle.std.specs.Prelude.{⊤}
 use Rattle.conf_tree.specs.Flaw.{Flaw, key, within}
 use Rattle.conf_tree.specs.Walk.{refusal}
@@ -21,8 +21,7 @@ use Rattle.conf_inherit.specs.SameFlaw.{is_same_flaw}
 use Rattle.conf_inherit.proofs.LimitLemmas.{more_named, kept_flaws, fitting_value}
 use Rattle.conf_inherit.proofs.LayingLemmas.{Meets, same, other, meets, put_found, AllEntries, entry_found}
 use Rattle.conf_inherit.proofs.LaysOver.{lays}
-use Rattle.conf_inherit.proofs.NamedLemmas.{named, named_along, blocked, mentioned}
-use Rattle.conf_inherit.proofs.FaultLemmas.{ready, part_empty, rest_empty, front_empty, back_empty, and_left, and_right, some_of}
+use Rattle.conf_inherit.proofs.FaultLemmas.{named, named_along, blocked, mentioned, is_still, is_put, ready, part_empty, rest_empty, front_empty, back_empty, some_of}
 
 pub empty_flaws : (fs : List Flaw) → is_empty fs ≡ true → fs ≡ []
 empty_flaws [] h = refl
@@ -54,11 +53,7 @@ module _ (al : Members) where
   round_reached (member k w ms) st each h = round_reached ms (step al k w st) each.1 (turned k w st each.0 h)
 
   next_reached : (st : Outcomes) → Reached al st → Reached al (round al al st) → Reached al (next_round al st)
-  next_reached st before after = go (all_over al st) refl
-    where
-      go : (t : Bool) → all_over al st ≡ t → Reached al (next_round al st)
-      go true is = rw is before
-      go false is = rw is after
+  next_reached st before after = elim (cases_Bool (all_over al st)) [ inl is ↦ rw is before | inr is ↦ rw is after ]
 
   pub rounds_reached : (n : ℕ) → AllEntries (λ k w. get_member k al ≡ Some w) al → Reached al (rounds al n no_outcomes)
   rounds_reached zero each = at_first
@@ -73,19 +68,28 @@ pub fitting_ok : (o : Result Data FaultKind) (t : Data) → if_fitting o ≡ Som
 fitting_ok (Ok r) t h = cc
 fitting_ok (Err kind) t h = cc
 
+-- an alias that is resolved names resolved ones alone, has no flaw and fits
+pub record IsOutcome (al done : Members) (w r : Data) : Type 0 where
+  pub named : all_named (has done) places.FieldType w ≡ true
+  pub flawless : flaws al (Some done) places.FieldType false no_members w ≡ []
+  pub fits : fitting (lay done places.FieldType w None) ≡ Ok r
+
+pub outcome_is : (al done : Members) (w r : Data) → outcome al done w ≡ Some r → IsOutcome al done w r
+outcome_is al done w r h =
+    let none = flaws al (Some done) places.FieldType false no_members w in
+    elim (cases_Bool (all_named (has done) places.FieldType w && is_empty none)) [
+      | inl is ↦ (let parts = and_parts (all_named (has done) places.FieldType w) (is_empty none) is in
+          record { named = parts.0; flawless = empty_flaws none parts.1; fits = fitting_ok (fitting (lay done places.FieldType w None)) r (rw is at h) })
+      | inr is ↦ absurd (no_value r (rw is at h))
+    ]
+
 module _ (al : Members) where
   -- an alias that is resolved is what it is looked up as
   outcome_looks : (done : Members) (w r : Data) → AreResolved al done → outcome al done w ≡ Some r → Looks al places.FieldType (w ∷ []) r
-  outcome_looks done w r known h = go (all_named (has done) places.FieldType w && is_empty (flaws al (Some done) places.FieldType false no_members w)) refl
-    where
-      go : (t : Bool) → (all_named (has done) places.FieldType w && is_empty (flaws al (Some done) places.FieldType false no_members w)) ≡ t → Looks al places.FieldType (w ∷ []) r
-      go false is = absurd (no_value r (rw is at h))
-      go true is =
-          let value : fitting (lay done places.FieldType w None) ≡ Ok r = fitting_ok (fitting (lay done places.FieldType w None)) r (rw is at h) in
-          let none = empty_flaws (flaws al (Some done) places.FieldType false no_members w) (and_right (all_named (has done) places.FieldType w) (is_empty (flaws al (Some done) places.FieldType false no_members w)) is) in
-          let named = and_left (all_named (has done) places.FieldType w) (is_empty (flaws al (Some done) places.FieldType false no_members w)) is in
-          subst (Looks al places.FieldType (w ∷ [])) (fitting_value (lay done places.FieldType w None) r value)
-          (lays al done known w places.FieldType (ready al (Some done) done w places.FieldType no_members (back_empty (own_flaws al places.FieldType false w) (inner_flaws al (Some done) places.FieldType no_members w) none) named) [] None refl)
+  outcome_looks done w r known h =
+      let is = outcome_is al done w r h in
+      subst (Looks al places.FieldType (w ∷ [])) (fitting_value (lay done places.FieldType w None) r is.fits)
+      (lays al done known w places.FieldType (ready al (Some done) done w places.FieldType no_members (back_empty (own_flaws al places.FieldType false w) (inner_flaws al (Some done) places.FieldType no_members w) is.flawless) is.named) [] None refl)
 
   resolved_more : (done : Members) (k : List ℕ) (w r : Data) → AreResolved al done → get_member k al ≡ Some w → Looks al places.FieldType (w ∷ []) r → AreResolved al (put k r done)
   resolved_more done k w r known is l n t h = go (meets n k)
@@ -120,25 +124,13 @@ abbrev pub HasRoot : Members → Outcomes → Type 0
 HasRoot al st = (q : List ℕ) → has st.refused q ≡ true → IsRoot al st
 
 or_true : (a b c : Bool) → (a || b || not c) ≡ true → a ≡ false → c ≡ true → b ≡ true
-or_true true b c h e f = absurd (true≢false e)
 or_true false true c h e f = refl
-or_true false false true h e f = h
-or_true false false false h e f = f
+or_true true b c h e f = absurd (true≢false e)
+or_true false false c h e f = absurd (true≢false (sym (rw f at h)))
 
 -- what is resolved stays so
 still : (k : List ℕ) (r : Data) (done : Members) → has done k ≡ false → (n : List ℕ) → has done n ≡ true → get_member n (put k r done) ≡ get_member n done
 still k r done free n h = get_member-put_other n k r done (λ e. true≢false (sym h ∙ ap (has done) e ∙ free))
-
--- a name that is put is there, and what was there is there still
-pub is_put : (k : List ℕ) (r : Data) (ms : Members) → has (put k r ms) k ≡ true
-is_put k r ms = ap is_some (get_member-put k r ms)
-
-pub is_still : (k : List ℕ) (r : Data) (ms : Members) (n : List ℕ) → has ms n ≡ true → has (put k r ms) n ≡ true
-is_still k r ms n h = at (meets n k)
-  where
-    at : Meets n k → has (put k r ms) n ≡ true
-    at (same e) = ap (has (put k r ms)) e ∙ is_put k r ms
-    at (other apart) = ap is_some (get_member-put_other n k r ms apart) ∙ h
 
 joined_flawed : (xs ys : List Flaw) → is_empty ys ≡ false → is_empty (xs ++ ys) ≡ false
 joined_flawed [] ys h = h
@@ -211,11 +203,7 @@ module _ (al : Members) where
 open_flawed : (own known : Result ⊤ Flaw) → first_or_circle own known ≡ [] → ⊥
 open_flawed (Ok x) known h = cc
 open_flawed (Err f) (Ok x) h = cc
-open_flawed (Err f) (Err g) h = go (is_same_flaw f g) refl
-  where
-    go : (t : Bool) → is_same_flaw f g ≡ t → ⊥
-    go true is = let bad = rw is at h in cc
-    go false is = let bad = rw is at h in cc
+open_flawed (Err f) (Err g) h = elim (cases_Bool (is_same_flaw f g)) [ inl is ↦ (let bad = rw is at h in cc) | inr is ↦ (let bad = rw is at h in cc) ]
 
 each_sound : (al : Members) (st : Outcomes) (ms : Members) → all_alias_flaws al st ms ≡ [] → AllEntries (λ k w. alias_flaws al st k w ≡ []) ms
 each_sound al st no_members h = tt

@@ -1,8 +1,9 @@
 -- Counting: the parts of a whole, and what a limit leaves.
-use Rattle.std.proofs.Common.{◌≡◌, ◌+◌, ◌<◌, ◌≤◌, ◌++◌, ℕ, List, [], ◌∷◌, length, drop, get_or, Option, Some, None, Bool, true, false, string_bytes, refl, sym, ap, ◌∙◌, subst, arith, ◌&&◌, zero, suc, true≢false, Ordering, Less, Equal, Greater, nat_cmp}
+use Rattle.std.proofs.Common.{inr, inl, ◌≡◌, ◌+◌, ◌<◌, ◌≤◌, ◌++◌, ℕ, List, [], ◌∷◌, length, drop, get_or, Option, Some, None, Bool, true, false, string_bytes, refl, sym, ap, ◌∙◌, subst, arith, ◌&&◌, zero, suc, true≢false, Ordering, Less, Equal, Greater, nat_cmp, map}
+use Rattle.std.proofs.lemmas.Bool.{and_from, and_parts, cases_Bool}
 use Rattle.std.proofs.lemmas.List.{at_drop_more}
-use Rattle.serde_json.specs.Data.{Data, array, object, Items, no_items, item, Members, no_members, member}
-use Rattle.serde_json.specs.Find.{get_member}
+use Rattle.serde_json.specs.Data.{Data, array, object, Items, no_items, item, Members, no_members, member, put}
+use Rattle.serde_json.specs.Find.{get_member, get_item}
 use Rattle.serde_json.specs.View.{view, items_view, members_view}
 use Rattle.serde_json.proofs.Views.{Entry}
 use Rattle.serde_json.specs.declared.value.Value.{Value}
@@ -12,13 +13,16 @@ use Rattle.conf_table.specs.declared.place.Place.{Place}
 use Rattle.conf_inherit.specs.FieldPlaces.{place_under, is_base_name, lists_members}
 use Rattle.conf_inherit.specs.Laying.{lay, has_entry, items_below, lay_members, lay_over, lay_new, lay_new_entry, lay_new_member}
 use Rattle.conf_inherit.specs.Names.{NoClash, join_items, map_items, IsInOrder}
-use Rattle.conf_inherit.proofs.LayingLemmas.{AllEntries, found_each, Meets, same, other, meets, get_other, get_same, lay_members-found, get_first, get_none, equal_names, above_turned, above_through, some_is_none, value_same}
+use Rattle.conf_inherit.proofs.LayingLemmas.{AllEntries, found_each, same, other, meets, get_other, get_same, lay_members-found, get_first, get_none, equal_names, above_turned, above_through, some_is_none, value_same}
 use Rattle.conf_inherit.specs.Size.{size, items_size, members_size, Within, Past, Leaves, IsDue}
 use Rattle.std.specs.Cmp.Lexicographic.{slice_cmp}
 use Rattle.conf_inherit.specs.Limits.{Fits}
-use Rattle.conf_inherit.specs.Nesting.{nests, items_nest, members_nest}
-use Rattle.conf_inherit.proofs.NamedLemmas.{both}
-use Rattle.conf_inherit.proofs.FaultLemmas.{and_left, and_right}
+use Rattle.conf_inherit.specs.Nesting.{nests, items_nest, members_nest, deep_flaws, deep_item_flaws, deep_member_flaws, PassesDepth}
+use Rattle.std.specs.Ordering.{match_ordering}
+use Rattle.conf_tree.specs.Flaw.{Flaw, Place as Step, key, index, here, within}
+use Rattle.conf_tree.specs.Walk.{HasMember, LeadsTo, IsNested}
+use Rattle.conf_tree.specs.declared.fault_kind.FaultKind.TheVariants.{TooDeep}
+use Rattle.conf_inherit.proofs.FaultLemmas.{Among, only, among_within, first_or_rest, Aligned, aligned_here, aligned_next, part_empty, rest_empty}
 
 -- ---- what a limit leaves
 
@@ -53,7 +57,6 @@ leaves_within (Some room) left n (rest, is, sum) = omega arith
 pub past_due : (stop : Stop) (limit : Option ℕ) (n : ℕ) → stop ≡ Limit → Past limit n → IsDue stop limit n
 past_due stop limit n e h = rw e h
 
--- without a limit, a stop is for want of memory
 -- the room is what a limit leaves, where a whole has so many values and so many of them are still to come
 pub record IsCounted (limit room : Option ℕ) (whole rest : ℕ) : Type 0 where
   pub taken : ℕ
@@ -83,16 +86,12 @@ counted_all limit room whole c =
 
 -- ---- the parts of a whole
 
-member_size_at : (k l : List ℕ) (d e : Data) (ms : Members) → Meets k l → get_member k (member l d ms) ≡ Some e → (get_member k ms ≡ Some e → size e ≤ members_size ms) → size e ≤ members_size (member l d ms)
-member_size_at k l d e ms (same f) h later =
-    let g : Some d ≡ Some e = sym (get_same k l d ms f) ∙ h in
-    let one : d ≡ e = cc in
-    subst (λ x. size x ≤ members_size (member l d ms)) one (let small : size d ≤ size d + members_size ms = omega arith in small)
-member_size_at k l d e ms (other apart) h later = let rest : size e ≤ members_size ms = later (sym (get_other k l d ms apart) ∙ h) in omega arith
-
 pub member_size : (k : List ℕ) (e : Data) (ms : Members) → get_member k ms ≡ Some e → size e ≤ members_size ms
 member_size k e no_members h = cc
-member_size k e (member l d ms) h = member_size_at k l d e ms (meets k l) h (member_size k e ms)
+member_size k e (member l d ms) h = elim (meets k l) [
+  | same f ↦ (let small : size d ≤ size d + members_size ms = omega arith in subst (λ x. size x ≤ members_size (member l d ms)) (value_same d e (sym (get_same k l d ms f) ∙ h)) small)
+  | other apart ↦ omega (arith, member_size k e ms (sym (get_other k l d ms apart) ∙ h))
+]
 
 -- a property that is laid is a part of the laid object
 pub property_size : (done : Members) (s : Place) (k : List ℕ) (v : Data) (ms base : Members) → is_base_name s k ≡ false → get_member k ms ≡ Some v
@@ -122,31 +121,22 @@ absent_after front e back whole is apart = clear front (subst (λ es. NoClash (m
     clear (x ∷ xs) h = clear xs h.1
 
 -- the base's entries with those of their names over them, and the new ones, are parts of the laid list
+list_parts : (done : Members) (s : Place) (es : Items) (base : Option Data) → lists_members s ≡ true
+    → size (lay done s (array es) base) ≡ suc (items_size (map_items (λ b. lay_over done es b) (items_below base)) + items_size (lay_new done es (items_below base)))
+list_parts done s es base is = rw is (ap suc (joined_size (map_items (λ b. lay_over done es b) (items_below base)) (lay_new done es (items_below base))))
+
 pub over_size : (done : Members) (s : Place) (es : Items) (base : Option Data) → lists_members s ≡ true
     → items_size (map_items (λ b. lay_over done es b) (items_below base)) ≤ size (lay done s (array es) base)
-over_size done s es base is =
-    let both : items_size (join_items (map_items (λ b. lay_over done es b) (items_below base)) (lay_new done es (items_below base)))
-    ≡ items_size (map_items (λ b. lay_over done es b) (items_below base)) + items_size (lay_new done es (items_below base))
-    = joined_size (map_items (λ b. lay_over done es b) (items_below base)) (lay_new done es (items_below base)) in
-    rw is (omega arith)
+over_size done s es base is = omega (arith, list_parts done s es base is)
 
 pub new_size : (done : Members) (s : Place) (es : Items) (base : Option Data) → lists_members s ≡ true
     → items_size (lay_new done es (items_below base)) ≤ size (lay done s (array es) base)
-new_size done s es base is =
-    let both : items_size (join_items (map_items (λ b. lay_over done es b) (items_below base)) (lay_new done es (items_below base)))
-    ≡ items_size (map_items (λ b. lay_over done es b) (items_below base)) + items_size (lay_new done es (items_below base))
-    = joined_size (map_items (λ b. lay_over done es b) (items_below base)) (lay_new done es (items_below base)) in
-    rw is (omega arith)
+new_size done s es base is = omega (arith, list_parts done s es base is)
 
 -- the new entries of an object, before the others
 new_member_size : (done ms : Members) (seen rest : Items) → items_size (lay_new_member done ms seen rest) ≡ items_size (lay_new_member done ms seen no_items) + items_size rest
 new_member_size done no_members seen rest = omega arith
-new_member_size done (member n d ms) seen rest = go (has_entry n seen) refl (new_member_size done ms seen rest)
-  where
-    go : (t : Bool) → has_entry n seen ≡ t → items_size (lay_new_member done ms seen rest) ≡ items_size (lay_new_member done ms seen no_items) + items_size rest
-        → items_size (lay_new_member done (member n d ms) seen rest) ≡ items_size (lay_new_member done (member n d ms) seen no_items) + items_size rest
-    go true is more = rw is more
-    go false is more = rw is (omega arith)
+new_member_size done (member n d ms) seen rest = elim (cases_Bool (has_entry n seen)) [ inl is ↦ rw is (new_member_size done ms seen rest) | inr is ↦ rw is (omega (arith, new_member_size done ms seen rest)) ]
 
 pub new_entry_size : (done : Members) (e : Data) (seen rest : Items) → items_size (lay_new_entry done e seen rest) ≡ items_size (lay_new_entry done e seen no_items) + items_size rest
 new_entry_size done (object ms) seen rest = new_member_size done ms seen rest
@@ -164,17 +154,19 @@ new_next done seen vs i v below is =
 
 -- ---- values that are no larger than others: they have no more JSON values, and nest no deeper
 
-pub record NoLarger (d e : Data) : Type 0 where
-  pub few : size d ≤ size e
-  pub flat : (levels : ℕ) → nests e levels ≡ true → nests d levels ≡ true
+-- no more values, and no deeper
+pub record NoMore (m n : ℕ) (f g : ℕ → Bool) : Type 0 where
+  pub few : m ≤ n
+  pub flat : (levels : ℕ) → g levels ≡ true → f levels ≡ true
 
-pub record NoLargerItems (ds es : Items) : Type 0 where
-  pub few : items_size ds ≤ items_size es
-  pub flat : (levels : ℕ) → items_nest es levels ≡ true → items_nest ds levels ≡ true
+abbrev pub NoLarger : Data → Data → Type 0
+NoLarger d e = NoMore (size d) (size e) (nests d) (nests e)
 
-pub record NoLargerMembers (ms ns : Members) : Type 0 where
-  pub few : members_size ms ≤ members_size ns
-  pub flat : (levels : ℕ) → members_nest ns levels ≡ true → members_nest ms levels ≡ true
+abbrev pub NoLargerItems : Items → Items → Type 0
+NoLargerItems ds es = NoMore (items_size ds) (items_size es) (items_nest ds) (items_nest es)
+
+abbrev pub NoLargerMembers : Members → Members → Type 0
+NoLargerMembers ms ns = NoMore (members_size ms) (members_size ns) (members_nest ms) (members_nest ns)
 
 pub as_large : (d : Data) → NoLarger d d
 as_large d = record { few = omega arith; flat = λ levels h. h }
@@ -208,14 +200,22 @@ no_larger_object ms ns h = record { few = (let a : members_size ms ≤ members_s
 
 -- ---- items
 
-pub next_item : (d e : Data) (ds es : Items) → NoLarger d e → NoLargerItems ds es → NoLargerItems (item d ds) (item e es)
-next_item d e ds es h i = record {
-  few = (let a : size d ≤ size e = h.few in let b : items_size ds ≤ items_size es = i.few in omega arith);
-  flat = λ levels n. both (nests d levels) (items_nest ds levels) (h.flat levels (and_left (nests e levels) (items_nest es levels) n)) (i.flat levels (and_right (nests e levels) (items_nest es levels) n));
+-- one value more on both sides
+next_value : (d e : Data) (m n : ℕ) (f g : ℕ → Bool) → NoLarger d e → NoMore m n f g → NoMore (size d + m) (size e + n) (λ levels. nests d levels && f levels) (λ levels. nests e levels && g levels)
+next_value d e m n f g h i = record {
+  few = (let a : size d ≤ size e = h.few in let b : m ≤ n = i.few in omega arith);
+  flat = λ levels both. let parts = and_parts (nests e levels) (g levels) both in and_from (nests d levels) (f levels) (h.flat levels parts.0) (i.flat levels parts.1);
 }
 
+-- and on the other side alone
+further_value : (e : Data) (m n : ℕ) (f g : ℕ → Bool) → NoMore m n f g → NoMore m (size e + n) f (λ levels. nests e levels && g levels)
+further_value e m n f g i = record { few = (let b : m ≤ n = i.few in omega arith); flat = λ levels both. i.flat levels (and_parts (nests e levels) (g levels) both).1 }
+
+pub next_item : (d e : Data) (ds es : Items) → NoLarger d e → NoLargerItems ds es → NoLargerItems (item d ds) (item e es)
+next_item d e ds es h i = next_value d e (items_size ds) (items_size es) (items_nest ds) (items_nest es) h i
+
 pub one_more : (e : Data) (ds es : Items) → NoLargerItems ds es → NoLargerItems ds (item e es)
-one_more e ds es i = record { few = (let b : items_size ds ≤ items_size es = i.few in omega arith); flat = λ levels n. i.flat levels (and_right (nests e levels) (items_nest es levels) n) }
+one_more e ds es i = further_value e (items_size ds) (items_size es) (items_nest ds) (items_nest es) i
 
 pub no_item : (es : Items) → NoLargerItems no_items es
 no_item es = record { few = omega arith; flat = λ levels n. refl }
@@ -225,17 +225,17 @@ pub turned_items : (d e : Data) (ds : Items) → NoLargerItems (item d (item e d
 turned_items d e ds = record {
   few = omega arith;
   flat = λ levels n.
-      let first = and_left (nests e levels) (nests d levels && items_nest ds levels) n in
-      let later = and_right (nests e levels) (nests d levels && items_nest ds levels) n in
-      both (nests d levels) (nests e levels && items_nest ds levels) (and_left (nests d levels) (items_nest ds levels) later)
-      (both (nests e levels) (items_nest ds levels) first (and_right (nests d levels) (items_nest ds levels) later));
+      let first = (and_parts (nests e levels) (nests d levels && items_nest ds levels) n).0 in
+      let later = (and_parts (nests e levels) (nests d levels && items_nest ds levels) n).1 in
+      and_from (nests d levels) (nests e levels && items_nest ds levels) (and_parts (nests d levels) (items_nest ds levels) later).0
+      (and_from (nests e levels) (items_nest ds levels) first (and_parts (nests d levels) (items_nest ds levels) later).1);
 }
 
 pub joined_nest : (a b : Items) (levels : ℕ) → items_nest (join_items a b) levels ≡ true → (items_nest a levels ≡ true) × (items_nest b levels ≡ true)
 joined_nest no_items b levels n = (refl, n)
 joined_nest (item d a) b levels n =
-    let rest = joined_nest a b levels (and_right (nests d levels) (items_nest (join_items a b) levels) n) in
-    (both (nests d levels) (items_nest a levels) (and_left (nests d levels) (items_nest (join_items a b) levels) n) rest.0, rest.1)
+    let rest = joined_nest a b levels (and_parts (nests d levels) (items_nest (join_items a b) levels) n).1 in
+    (and_from (nests d levels) (items_nest a levels) (and_parts (nests d levels) (items_nest (join_items a b) levels) n).0 rest.0, rest.1)
 
 pub joined_behind : (a ds es : Items) → NoLargerItems ds es → NoLargerItems ds (join_items a es)
 joined_behind a ds es h = record {
@@ -262,13 +262,7 @@ abbrev pub Covers : Members → Members → Type 0
 Covers ms ns = (k : List ℕ) (d : Data) → get_member k ms ≡ Some d → (e : Data) × (get_member k ns ≡ Some e) × NoLarger d e
 
 pub next_property : (k l : List ℕ) (d e : Data) (ms ns : Members) → NoLarger d e → NoLargerMembers ms ns → NoLargerMembers (member k d ms) (member l e ns)
-next_property k l d e ms ns h i = record {
-  few = (let a : size d ≤ size e = h.few in let b : members_size ms ≤ members_size ns = i.few in omega arith);
-  flat = λ levels n. both (nests d levels) (members_nest ms levels) (h.flat levels (and_left (nests e levels) (members_nest ns levels) n)) (i.flat levels (and_right (nests e levels) (members_nest ns levels) n));
-}
-
-further_property : (l : List ℕ) (e : Data) (ms ns : Members) → NoLargerMembers ms ns → NoLargerMembers ms (member l e ns)
-further_property l e ms ns i = record { few = (let b : members_size ms ≤ members_size ns = i.few in omega arith); flat = λ levels n. i.flat levels (and_right (nests e levels) (members_nest ns levels) n) }
+next_property k l d e ms ns h i = next_value d e (members_size ms) (members_size ns) (members_nest ms) (members_nest ns) h i
 
 pub no_property : (ns : Members) → NoLargerMembers no_members ns
 no_property ns = record { few = omega arith; flat = λ levels n. refl }
@@ -305,7 +299,7 @@ covered (member l e ns) (member k d ms) h i covers = go _ refl (covered ns)
     go Less is rest = absurd (none_found k d ms (member l e ns) covers (get_none k (member l e ns) (is, above_through k l ns is i.0)))
     go Greater is rest =
         let below = above_turned k l is in
-        further_property l e (member k d ms) ns (rest (member k d ms) h i.1 (skipped l e (member k d ms) ns (get_none l (member k d ms) (below, above_through l k ms below h.0)) covers))
+        further_value e (members_size (member k d ms)) (members_size ns) (members_nest (member k d ms)) (members_nest ns) (rest (member k d ms) h i.1 (skipped l e (member k d ms) ns (get_none l (member k d ms) (below, above_through l k ms below h.0)) covers))
     go Equal is rest =
         let one = equal_names k l is in
         next_property k l d e ms ns (first_covers k l d e ms ns one covers) (rest ms h.1 i.1 (rest_covers k l d e ms ns one (get_none k ms h.0) covers))
@@ -323,19 +317,20 @@ mutual
 
   items_nest_more : (ds : Items) (levels : ℕ) → items_nest ds levels ≡ true → items_nest ds (suc levels) ≡ true
   items_nest_more no_items levels h = refl
-  items_nest_more (item d ds) levels h = both (nests d (suc levels)) (items_nest ds (suc levels)) (nests_more d levels (and_left (nests d levels) (items_nest ds levels) h)) (items_nest_more ds levels (and_right (nests d levels) (items_nest ds levels) h))
+  items_nest_more (item d ds) levels h = and_from (nests d (suc levels)) (items_nest ds (suc levels)) (nests_more d levels (and_parts (nests d levels) (items_nest ds levels) h).0) (items_nest_more ds levels (and_parts (nests d levels) (items_nest ds levels) h).1)
 
   members_nest_more : (ms : Members) (levels : ℕ) → members_nest ms levels ≡ true → members_nest ms (suc levels) ≡ true
   members_nest_more no_members levels h = refl
-  members_nest_more (member k d ms) levels h = both (nests d (suc levels)) (members_nest ms (suc levels)) (nests_more d levels (and_left (nests d levels) (members_nest ms levels) h)) (members_nest_more ms levels (and_right (nests d levels) (members_nest ms levels) h))
-
-member_nests_at : (k l : List ℕ) (d e : Data) (ms : Members) (levels : ℕ) → Meets k l → get_member k (member l d ms) ≡ Some e → members_nest (member l d ms) levels ≡ true → (get_member k ms ≡ Some e → members_nest ms levels ≡ true → nests e levels ≡ true) → nests e levels ≡ true
-member_nests_at k l d e ms levels (same f) h n later = subst (λ x. nests x levels ≡ true) (value_same d e (sym (get_same k l d ms f) ∙ h)) (and_left (nests d levels) (members_nest ms levels) n)
-member_nests_at k l d e ms levels (other apart) h n later = later (sym (get_other k l d ms apart) ∙ h) (and_right (nests d levels) (members_nest ms levels) n)
+  members_nest_more (member k d ms) levels h = and_from (nests d (suc levels)) (members_nest ms (suc levels)) (nests_more d levels (and_parts (nests d levels) (members_nest ms levels) h).0) (members_nest_more ms levels (and_parts (nests d levels) (members_nest ms levels) h).1)
 
 member_nests : (k : List ℕ) (e : Data) (ms : Members) (levels : ℕ) → get_member k ms ≡ Some e → members_nest ms levels ≡ true → nests e levels ≡ true
 member_nests k e no_members levels h n = absurd (some_is_none e (sym h))
-member_nests k e (member l d ms) levels h n = member_nests_at k l d e ms levels (meets k l) h n (member_nests k e ms levels)
+member_nests k e (member l d ms) levels h n =
+    let parts = and_parts (nests d levels) (members_nest ms levels) n in
+    elim (meets k l) [
+      | same f ↦ subst (λ x. nests x levels ≡ true) (value_same d e (sym (get_same k l d ms f) ∙ h)) parts.0
+      | other apart ↦ member_nests k e ms levels (sym (get_other k l d ms apart) ∙ h) parts.1
+    ]
 
 -- a property of an object that fits does fit
 pub property_fits : (k : List ℕ) (e : Data) (ms : Members) → get_member k ms ≡ Some e → Fits (object ms) → Fits e
@@ -344,4 +339,108 @@ property_fits k e ms h (few, flat) = ((let a : size e ≤ members_size ms = memb
 -- a list of one item that is no larger than a list that fits
 pub item_fits : (e : Data) (ds : Items) → NoLargerItems (item e no_items) ds → Fits (array ds) → Fits e
 item_fits e ds h (few, flat) =
-    ((let a : size e + 0 ≤ items_size ds = h.few in omega arith), nests_more e 31 (and_left (nests e 31) true (h.flat 31 flat)))
+    ((let a : size e + 0 ≤ items_size ds = h.few in omega arith), nests_more e 31 (and_parts (nests e 31) true (h.flat 31 flat)).0)
+
+-- What stands too deep in a value: nothing just where it nests at most so deep, and else what its path leads to.
+
+mutual
+  pub shallow_nests : (d : Data) (levels : ℕ) → deep_flaws d levels ≡ [] → nests d levels ≡ true
+  shallow_nests (array ds) zero h = cc
+  shallow_nests (array ds) (suc levels) h = shallow_items 0 ds levels h
+  shallow_nests (object ms) zero h = cc
+  shallow_nests (object ms) (suc levels) h = shallow_members ms levels h
+  shallow_nests _ levels h = refl
+
+  shallow_items : (i : ℕ) (ds : Items) (levels : ℕ) → deep_item_flaws i ds levels ≡ [] → items_nest ds levels ≡ true
+  shallow_items i no_items levels h = refl
+  shallow_items i (item d ds) levels h = and_from (nests d levels) (items_nest ds levels)
+      (shallow_nests d levels (part_empty (within (index i)) (deep_flaws d levels) (deep_item_flaws (suc i) ds levels) h))
+      (shallow_items (suc i) ds levels (rest_empty (within (index i)) (deep_flaws d levels) (deep_item_flaws (suc i) ds levels) h))
+
+  shallow_members : (ms : Members) (levels : ℕ) → deep_member_flaws ms levels ≡ [] → members_nest ms levels ≡ true
+  shallow_members no_members levels h = refl
+  shallow_members (member k d ms) levels h = and_from (nests d levels) (members_nest ms levels)
+      (shallow_nests d levels (part_empty (within (key k)) (deep_flaws d levels) (deep_member_flaws ms levels) h))
+      (shallow_members ms levels (rest_empty (within (key k)) (deep_flaws d levels) (deep_member_flaws ms levels) h))
+
+-- what is too deep in a part is too deep in the whole
+in_list : (es : Items) (i : ℕ) (e : Data) (levels : ℕ) (f : Flaw) → get_item i es ≡ Some e → (g : Flaw) × (f ≡ within (index i) g) × PassesDepth levels e g → PassesDepth (suc levels) (array es) f
+in_list es i e levels f there (g, is, (kind, (found, leads, nested, steps))) =
+    subst (PassesDepth (suc levels) (array es)) (sym is) (let out : PassesDepth (suc levels) (array es) (within (index i) g) = (kind, (found, (es, e, refl, there, leads), nested, ap suc steps)) in out)
+
+in_object : (ms : Members) (k : List ℕ) (e : Data) (levels : ℕ) (f : Flaw) → HasMember k e ms → (g : Flaw) × (f ≡ within (key k) g) × PassesDepth levels e g → PassesDepth (suc levels) (object ms) f
+in_object ms k e levels f there (g, is, (kind, (found, leads, nested, steps))) =
+    subst (PassesDepth (suc levels) (object ms)) (sym is) (let out : PassesDepth (suc levels) (object ms) (within (key k) g) = (kind, (found, (ms, e, refl, there, leads), nested, ap suc steps)) in out)
+
+mutual
+  pub deep_holds : (d : Data) (levels : ℕ) (f : Flaw) → Among f (deep_flaws d levels) → PassesDepth levels d f
+  deep_holds (array ds) zero f h = subst (PassesDepth 0 (array ds)) (sym (only f (here TooDeep) h)) (let out : PassesDepth 0 (array ds) (here TooDeep) = (refl, (array ds, refl, tt, refl)) in out)
+  deep_holds (array ds) (suc levels) f h = deep_items_hold ds ds 0 levels f (λ j d g. let same : j ≡ 0 + j = omega arith in subst (λ x. get_item x ds ≡ Some d) same g) h
+  deep_holds (object ms) zero f h = subst (PassesDepth 0 (object ms)) (sym (only f (here TooDeep) h)) (let out : PassesDepth 0 (object ms) (here TooDeep) = (refl, (object ms, refl, tt, refl)) in out)
+  deep_holds (object ms) (suc levels) f h = deep_members_hold ms ms levels f (λ k d m. m) h
+  deep_holds _ levels f h = absurd h
+
+  deep_items_hold : (rest es : Items) (i levels : ℕ) (f : Flaw) → Aligned es i rest → Among f (deep_item_flaws i rest levels) → PassesDepth (suc levels) (array es) f
+  deep_items_hold no_items es i levels f al h = absurd h
+  deep_items_hold (item e rest) es i levels f al h =
+      first_or_rest f (map (within (index i)) (deep_flaws e levels)) (deep_item_flaws (suc i) rest levels) h
+      (λ a. let (g, is, b) = among_within (index i) f (deep_flaws e levels) a in in_list es i e levels f (aligned_here es i e rest al) (g, is, deep_holds e levels g b))
+      (λ a. deep_items_hold rest es (suc i) levels f (aligned_next es i e rest al) a)
+
+  deep_members_hold : (rest ms : Members) (levels : ℕ) (f : Flaw) → ((k : List ℕ) (d : Data) → HasMember k d rest → HasMember k d ms) → Among f (deep_member_flaws rest levels) → PassesDepth (suc levels) (object ms) f
+  deep_members_hold no_members ms levels f sub h = absurd h
+  deep_members_hold (member k e rest) ms levels f sub h =
+      first_or_rest f (map (within (key k)) (deep_flaws e levels)) (deep_member_flaws rest levels) h
+      (λ a. let (g, is, b) = among_within (key k) f (deep_flaws e levels) a in in_object ms k e levels f (sub k e (inl (refl, refl))) (g, is, deep_holds e levels g b))
+      (λ a. deep_members_hold rest ms levels f (λ q d m. sub q d (inr m)) a)
+
+-- ---- what nests at most so deep has nothing too deep
+
+items_shallow : (ds : Items) (levels i : ℕ) (e : Data) → items_nest ds levels ≡ true → get_item i ds ≡ Some e → nests e levels ≡ true
+items_shallow no_items levels i e h there = absurd cc
+items_shallow (item d ds) levels zero e h there = let same : d ≡ e = cc in subst (λ x. nests x levels ≡ true) same (and_parts (nests d levels) (items_nest ds levels) h).0
+items_shallow (item d ds) levels (suc i) e h there = items_shallow ds levels i e (and_parts (nests d levels) (items_nest ds levels) h).1 there
+
+members_shallow : (ms : Members) (levels : ℕ) (k : List ℕ) (e : Data) → members_nest ms levels ≡ true → HasMember k e ms → nests e levels ≡ true
+members_shallow no_members levels k e h there = absurd there
+members_shallow (member l d ms) levels k e h (inl one) = subst (λ x. nests x levels ≡ true) (sym one.1) (and_parts (nests d levels) (members_nest ms levels) h).0
+members_shallow (member l d ms) levels k e h (inr later) = members_shallow ms levels k e (and_parts (nests d levels) (members_nest ms levels) h).1 later
+
+not_nested : (d : Data) (levels : ℕ) → nests d levels ≡ true → levels ≡ 0 → IsNested d → ⊥
+not_nested (array ds) zero h none nested = cc
+not_nested (object ms) zero h none nested = cc
+not_nested (array ds) (suc levels) h none nested = omega (arith, none)
+not_nested (object ms) (suc levels) h none nested = omega (arith, none)
+not_nested _ levels h none nested = nested
+
+none_deeper : (path : List Step) (d found : Data) (levels : ℕ) → nests d levels ≡ true → LeadsTo path d found → IsNested found → length path ≡ levels → ⊥
+none_deeper [] d found levels h is nested steps = not_nested d levels h (sym steps) (subst IsNested is nested)
+none_deeper (index i ∷ path) d found zero h leads nested steps = omega (arith, steps)
+none_deeper (key k ∷ path) d found zero h leads nested steps = omega (arith, steps)
+none_deeper (index i ∷ path) d found (suc levels) h (ds, e, is, there, leads) nested steps =
+    none_deeper path e found levels (items_shallow ds levels i e (subst (λ x. nests x (suc levels) ≡ true) is h) there) leads nested (omega (arith, steps))
+none_deeper (key k ∷ path) d found (suc levels) h (ms, e, is, there, leads) nested steps =
+    none_deeper path e found levels (members_shallow ms levels k e (subst (λ x. nests x (suc levels) ≡ true) is h) there) leads nested (omega (arith, steps))
+
+pub depth_excluded : (d : Data) (levels : ℕ) (flaw : Flaw) → nests d levels ≡ true → PassesDepth levels d flaw → ⊥
+depth_excluded d levels flaw h (kind, (found, leads, nested, steps)) = none_deeper flaw.path d found levels h leads nested steps
+
+pub nests_shallow : (d : Data) (levels : ℕ) → nests d levels ≡ true → deep_flaws d levels ≡ []
+nests_shallow d levels h = go (deep_flaws d levels) refl
+  where
+    go : (fs : List Flaw) → deep_flaws d levels ≡ fs → deep_flaws d levels ≡ []
+    go [] is = is
+    go (f ∷ fs) is = absurd (depth_excluded d levels f h (deep_holds d levels f (subst (Among f) (sym is) (inl refl))))
+
+-- one more value that nests at most so deep
+nest_put_at : (o : Ordering) (k l : List ℕ) (v d : Data) (ms : Members) (levels : ℕ) → nests v levels ≡ true → (nests d levels ≡ true) × (members_nest ms levels ≡ true) → members_nest (put k v ms) levels ≡ true
+    → members_nest (match_ordering o (member k v (member l d ms)) (member l v ms) (member l d (put k v ms))) levels ≡ true
+nest_put_at Less k l v d ms levels new (here, rest) later = and_from (nests v levels) (nests d levels && members_nest ms levels) new (and_from (nests d levels) (members_nest ms levels) here rest)
+nest_put_at Equal k l v d ms levels new (here, rest) later = and_from (nests v levels) (members_nest ms levels) new rest
+nest_put_at Greater k l v d ms levels new (here, rest) later = and_from (nests d levels) (members_nest (put k v ms) levels) here later
+
+pub nest_put : (k : List ℕ) (v : Data) (ms : Members) (levels : ℕ) → nests v levels ≡ true → members_nest ms levels ≡ true → members_nest (put k v ms) levels ≡ true
+nest_put k v no_members levels new h = and_from (nests v levels) true new refl
+nest_put k v (member l d ms) levels new h =
+    let parts = and_parts (nests d levels) (members_nest ms levels) h in
+    nest_put_at (slice_cmp nat_cmp k l) k l v d ms levels new parts (nest_put k v ms levels new parts.1)

@@ -7,7 +7,7 @@ use Rattle.serde_json.specs.declared.value.Value.{Value, Array}
 use Rattle.serde_json.proofs.Views.{items_len-items_view, view-Array}
 use Rattle.conf_tree.specs.Flaw.{here, Flaw, Place as Step, key, index, within}
 use Rattle.conf_tree.specs.Walk.{refusal, HasMember}
-use Rattle.conf_tree.specs.declared.fault_kind.FaultKind.TheVariants.{Limit, WrongKind, NoSuchAlias, NameClash}
+use Rattle.conf_tree.specs.declared.fault_kind.FaultKind.TheVariants.{Limit}
 use Rattle.conf_table.specs.declared.place.Place.{Place}
 use Rattle.conf_inherit.specs.FieldPlaces.{names_alias, names_member_type, lists_extra_members, place_under, place_of_items, is_entry, field_place, leads_on, lists_members}
 use Rattle.conf_inherit.specs.Flaws.{own_flaws, type_flaws, is_wrong, is_unknown, mark_names, mark, base_flaws, inner_flaws, item_flaws, member_flaws, flaws}
@@ -16,9 +16,8 @@ use Rattle.conf_inherit.specs.Places.{too_many, place_flaws, max_extra_members, 
 use Rattle.serde_json.specs.Find.{get_item, get_member}
 use Rattle.conf_inherit.specs.Faults.{Leads, HasEntry, ListsTooMany}
 use Rattle.conf_inherit.specs.Named.{has}
-use Rattle.conf_inherit.proofs.FaultLemmas.{front_empty, back_empty, part_empty, rest_empty}
-use Rattle.conf_inherit.proofs.RoundLemmas.{is_put, is_still}
-use Rattle.std.proofs.lemmas.Bool.{ltb-false}
+use Rattle.conf_inherit.proofs.FaultLemmas.{is_still, is_put, front_empty, back_empty, part_empty, rest_empty}
+use Rattle.std.proofs.lemmas.Bool.{cases_Bool, ltb-false}
 use Rattle.serde_json.specs.Events.{items_len}
 use Rattle.conf_table.specs.declared.place.Place.TheVariants as places
 use Rattle.conf_table.specs.Table.{rows_of, entries_of, place_in, content_under}
@@ -67,23 +66,6 @@ module _ (al done : Members) (s : Place) (v : Data) where
 -- The parts of a value without a flaw: none of them has one, and the entries of a members list have names of their own.
 
 module _ (al : Members) where
-  pub record OwnSound (s : Place) (taken : Bool) (v : Data) : Type 0 where
-    pub right : is_wrong s v ≡ false
-    pub known : is_unknown al s v ≡ false
-    pub free : taken ≡ false
-
-  pub own_sound : (s : Place) (taken : Bool) (v : Data) → own_flaws al s taken v ≡ [] → OwnSound s taken v
-  own_sound s taken v e = go (is_wrong s v) (is_unknown al s v) refl refl e
-    where
-      go : (a b : Bool) → is_wrong s v ≡ a → is_unknown al s v ≡ b → cond a (here WrongKind ∷ []) (cond b (here NoSuchAlias ∷ []) (cond taken (here NameClash ∷ []) [])) ≡ [] → OwnSound s taken v
-      go true b p q f = absurd cc
-      go false true p q f = absurd cc
-      go false false p q f = record { right = p; known = q; free = untaken taken f }
-        where
-          untaken : (c : Bool) → cond c (here NameClash ∷ []) [] ≡ [] → c ≡ false
-          untaken true g = absurd cc
-          untaken false g = refl
-
   pub record PartSound (s : Place) (taken : Bool) (seen : Members) (v : Data) : Type 0 where
     pub own : own_flaws al s taken v ≡ []
     pub inner : inner_flaws al None s seen v ≡ []
@@ -209,20 +191,14 @@ led_elsewhere (index i ∷ path) s v t w h (es, d, is, there, leads) = led_elsew
 
 -- an object leads on, or leads elsewhere
 on_or_elsewhere : (s : Place) (k : List ℕ) → (leads_on s ≡ true) ⊎ LeadsElsewhere (place_under s k)
-unfolding leads_on true_under entries_of rows_of place_in field_place
-on_or_elsewhere s k = go (leads_on s) refl
-  where
-    at : (s : Place) → leads_on s ≡ false → true_under (λ n. leads_elsewhere) k s ≡ true
-    at places.Root off = absurd (true≢false off)
-    at places.Trace off = absurd (true≢false off)
-    at places.TraceType off = absurd (true≢false off)
-    at places.StreamTypes off = absurd (true≢false off)
-    at places.StreamType off = absurd (true≢false off)
-    at _ off = refl
-
-    go : (on : Bool) → leads_on s ≡ on → (leads_on s ≡ true) ⊎ LeadsElsewhere (place_under s k)
-    go true on = inl on
-    go false off = inr (under_place (λ n. leads_elsewhere) k s (at s off))
+unfolding leads_on place_under content_under entries_of rows_of place_in field_place
+on_or_elsewhere places.Root k = inl refl
+on_or_elsewhere places.Trace k = inl refl
+on_or_elsewhere places.TraceType k = inl refl
+on_or_elsewhere places.StreamTypes k = inl refl
+on_or_elsewhere places.StreamType k = inl refl
+on_or_elsewhere places.ExtraMembers k = inr refl
+on_or_elsewhere s k = inr (under_elsewhere s k refl)
 
 pub extras_there : (s : Place) → lists_extra_members s ≡ true → s ≡ places.ExtraMembers
 unfolding lists_extra_members
@@ -328,13 +304,6 @@ extras_or_ignored places.Members h = absurd (true≢false (sym h))
 extras_or_ignored places.ExtraMembers h = inl refl
 extras_or_ignored _ h = inr refl
 
-pub type_or_not : (s : Place) → (names_alias s ≡ true) ⊎ (names_alias s ≡ false)
-type_or_not s = go (names_alias s) refl
-  where
-    go : (b : Bool) → names_alias s ≡ b → (names_alias s ≡ true) ⊎ (names_alias s ≡ false)
-    go true is = inl is
-    go false is = inr is
-
 -- a part and the rest are empty
 empty_parts : (f : Flaw → Flaw) (xs ys : List Flaw) → xs ≡ [] → ys ≡ [] → map f xs ++ ys ≡ []
 empty_parts f xs ys e h = both_empty (map f xs) ys (ap (map f) e) h
@@ -416,7 +385,7 @@ module _ (al done : Members) where
       (extras_sound es (suc i) (mark x seen) (rest_empty (within (index i)) (fs ++ inner_places al done t x) (item_places al done places.ExtraMembers (suc i) (mark x seen) es) e))
 
   sound_value : (v : Data) (s : Place) → IsOutside s → PlaceSound al done s v → (names_alias s ≡ false → inner_flaws al None s no_members v ≡ []) → flaws al None s false no_members v ≡ []
-  sound_value v s out p inner = elim (type_or_not s) [
+  sound_value v s out p inner = elim (cases_Bool (names_alias s)) [
     | inl is ↦ ((sound_type done al s v).0 (sym (place_of_type al done s v is) ∙ p.own)).0
     | inr no_type ↦ both_empty (own_flaws al s false v) (inner_flaws al None s no_members v) (own_outside s v out no_type p.own) (inner no_type)
   ]

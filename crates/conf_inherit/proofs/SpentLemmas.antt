@@ -12,11 +12,11 @@ use Rattle.serde_json.proofs.Views.{Entry}
 use Rattle.conf_inherit.specs.Names.{AllAbove, NoClash}
 use Rattle.conf_inherit.proofs.LayingLemmas.{above_through, get_none, Meets, same, other, meets, get_other, get_same, same_function}
 use Rattle.conf_inherit.proofs.ResolveLemmas.{above_of}
-use Rattle.std.proofs.lemmas.Bool.{or_left}
+use Rattle.std.proofs.lemmas.Bool.{cases_Bool, or_left}
 use Rattle.std.proofs.lemmas.Slice.Eq.{bytes_eq-Decides}
 use Rattle.std.proofs.lemmas.Map.Text.{is_eq-slice_cmp}
 use Rattle.serde_json.specs.Events.{members_len}
-use Rattle.conf_tree.specs.Flaw.{Flaw, key, index, here, within}
+use Rattle.conf_tree.specs.Flaw.{key, index, here, within}
 use Rattle.conf_tree.specs.Walk.{refusal}
 use Rattle.conf_tree.specs.declared.fault_kind.FaultKind.TheVariants.{WrongKind, NoSuchAlias, NameClash}
 use Rattle.conf_table.specs.declared.place.Place.{Place}
@@ -30,8 +30,9 @@ use Rattle.conf_inherit.specs.Named.{all_named, has}
 use Rattle.conf_inherit.specs.Places.{too_many, place_flaws, inner_places, item_places, member_places}
 use Rattle.conf_inherit.specs.Rounds.{Outcomes, has_outcome, is_over, is_empty, if_fitting, outcome, concluded, step, round, rounds, no_outcomes, Reached, at_first, turned, is_settled, all_settled}
 use Rattle.conf_inherit.specs.Spent.{Spends, spent, TurnsLeave}
-use Rattle.conf_inherit.proofs.RoundLemmas.{is_still, by_turn}
+use Rattle.conf_inherit.proofs.RoundLemmas.{by_turn}
 use Rattle.conf_inherit.proofs.TurnLemmas.{Follows, follows_round, turns_are_rounds, is_settled_state}
+use Rattle.conf_inherit.proofs.FaultLemmas.{same_part, is_still}
 
 pub view-null : view Null ≡ null
 view-null = search (rules, the_lemmas)
@@ -104,11 +105,10 @@ spends_more done more kept _ _ h = absurd h
 -- the body of a resolved alias may be dropped
 spends_spent : (done : Members) (n : List ℕ) → has done n ≡ true → (al now : Members) → Spends done al now → Spends done al (spent n now)
 spends_spent done n is no_members no_members h = tt
-spends_spent done n is (member k w ms) (member j v vs) h = go (bytes_eq n j) refl (spends_spent done n is ms vs h.1.1)
-  where
-    go : (t : Bool) → bytes_eq n j ≡ t → Spends done ms (spent n vs) → Spends done (member k w ms) (spent n (member j v vs))
-    go true e later = rw e (h.0, (inr (refl, ap (has done) (h.0 ∙ sym ((bytes_eq-Decides n j).0 e)) ∙ is), h.1.1))
-    go false e later = rw e (h.0, (h.1.0, later))
+spends_spent done n is (member k w ms) (member j v vs) h = elim (cases_Bool (bytes_eq n j)) [
+  | inl e ↦ rw e (h.0, (inr (refl, ap (has done) (h.0 ∙ sym ((bytes_eq-Decides n j).0 e)) ∙ is), h.1.1))
+  | inr e ↦ rw e (h.0, (h.1.0, spends_spent done n is ms vs h.1.1))
+]
 spends_spent done n is _ _ h = absurd h
 
 -- each name is left
@@ -133,9 +133,6 @@ same_body done (member k w ms) (member j v vs) h n free = ap (λ l. get_member n
 same_body done _ _ h n free = absurd h
 
 -- ---- what is judged by the names of the aliases alone
-
-same_part : (f : Flaw → Flaw) (a b c x y z : List Flaw) → a ≡ x → b ≡ y → c ≡ z → map f (a ++ b) ++ c ≡ map f (x ++ y) ++ z
-same_part f a b c x y z p q r = cc
 
 module _ (al now : Members) (names : (n : List ℕ) → is_some (get_member n now) ≡ is_some (get_member n al)) where
   same_unknown : (s : Place) (v : Data) → is_unknown now s v ≡ is_unknown al s v
@@ -350,17 +347,15 @@ rounds_done al left st n apart before settled = turns_are_rounds al apart before
 
 pub written_spent : (n : List ℕ) (w : Value) (es : List Entry) → view w ≡ null → members_view (written n es w) ≡ spent n (members_view es)
 written_spent n w [] h = refl
-written_spent n w (e ∷ es) h = go (bytes_eq n (string_bytes e.0)) refl (written_spent n w es h)
-  where
-    go : (t : Bool) → bytes_eq n (string_bytes e.0) ≡ t → members_view (written n es w) ≡ spent n (members_view es) → members_view (written n (e ∷ es) w) ≡ spent n (members_view (e ∷ es))
-    go true is later = let at : is_eq (slice_cmp nat_cmp n (string_bytes e.0)) ≡ true = is_eq-slice_cmp n (string_bytes e.0) ∙ is in rw (at, is) (ap (λ d. member (string_bytes e.0) d (members_view es)) h)
-    go false is later = let at : is_eq (slice_cmp nat_cmp n (string_bytes e.0)) ≡ false = is_eq-slice_cmp n (string_bytes e.0) ∙ is in rw (at, is) (ap (member (string_bytes e.0) (view e.1)) later)
+written_spent n w (e ∷ es) h = elim (cases_Bool (bytes_eq n (string_bytes e.0))) [
+  | inl is ↦ (let at : is_eq (slice_cmp nat_cmp n (string_bytes e.0)) ≡ true = is_eq-slice_cmp n (string_bytes e.0) ∙ is in rw (at, is) (ap (λ d. member (string_bytes e.0) d (members_view es)) h))
+  | inr is ↦ (let at : is_eq (slice_cmp nat_cmp n (string_bytes e.0)) ≡ false = is_eq-slice_cmp n (string_bytes e.0) ∙ is in rw (at, is) (ap (member (string_bytes e.0) (view e.1)) (written_spent n w es h)))
+]
 
 -- a name that is not there
 pub spent_none : (n : List ℕ) (ms : Members) → get_member n ms ≡ None → spent n ms ≡ ms
 spent_none n no_members h = refl
-spent_none n (member k d ms) h = go (bytes_eq n k) refl (spent_none n ms)
-  where
-    go : (t : Bool) → bytes_eq n k ≡ t → (get_member n ms ≡ None → spent n ms ≡ ms) → spent n (member k d ms) ≡ member k d ms
-    go true is later = let f : Some d ≡ None = sym (get_same n k d ms ((bytes_eq-Decides n k).0 is)) ∙ h in cc
-    go false is later = rw is (ap (member k d) (later (sym (get_other n k d ms (λ e. true≢false (sym ((bytes_eq-Decides n k).1 e) ∙ is))) ∙ h)))
+spent_none n (member k d ms) h = elim (cases_Bool (bytes_eq n k)) [
+  | inl is ↦ (let f : Some d ≡ None = sym (get_same n k d ms ((bytes_eq-Decides n k).0 is)) ∙ h in cc)
+  | inr is ↦ rw is (ap (member k d) (spent_none n ms (sym (get_other n k d ms (λ e. true≢false (sym ((bytes_eq-Decides n k).1 e) ∙ is))) ∙ h)))
+]

@@ -1,6 +1,6 @@
 -- The aliases of a configuration: that each was resolved as it is laid, and is sound.
-use Rattle.std.proofs.Common.{◌≡◌, ◌&&◌, ◌+◌, ◌++◌, ℕ, List, [], map, Option, Some, None, Result, Ok, Err, is_some, Bool, true, false, true≢false, refl, sym, ap, ◌∙◌, subst, ◌⊎◌, inl, inr, String, Vec, Global, rules, if◌then◌else◌, ◌∷◌, option_and_then, Ordering, Less, Equal, Greater, nat_cmp, string_cmp}
-use Rattle.std.proofs.lemmas.Bool.{or_left}
+use Rattle.std.proofs.Common.{◌≡◌, ◌+◌, ◌++◌, ℕ, List, [], map, Option, Some, None, Result, Ok, Err, is_some, Bool, true, false, true≢false, refl, sym, ap, ◌∙◌, subst, ◌⊎◌, inl, inr, String, Vec, Global, rules, if◌then◌else◌, ◌∷◌, option_and_then, Ordering, Less, Equal, Greater, nat_cmp, string_cmp}
+use Rattle.std.proofs.lemmas.Bool.{cases_Bool, or_left}
 use Rattle.std.specs.Prelude.{⊤}
 use Rattle.serde_json.specs.Data.{Data, null, object, Members, no_members, member, put}
 use Rattle.serde_json.specs.Find.{get_member, get, as_object}
@@ -10,23 +10,23 @@ use Rattle.conf_table.specs.declared.place.Place.{Place}
 use Rattle.conf_table.specs.declared.place.Place.TheVariants as places
 use Rattle.conf_table.specs.Table.{rows_of, entries_of, content_under, place_in}
 use Rattle.conf_inherit.specs.AliasFlaws.{all_alias_flaws}
-use Rattle.conf_inherit.specs.Flaws.{flaws, type_flaws}
+use Rattle.conf_inherit.specs.Flaws.{type_flaws}
 use Rattle.conf_inherit.specs.Laying.{lay, lay_base, lay_members}
-use Rattle.conf_inherit.specs.Limits.{fitting, limit_flaws}
-use Rattle.conf_inherit.specs.Named.{all_named, has}
+use Rattle.conf_inherit.specs.Limits.{limit_flaws}
+use Rattle.conf_inherit.specs.Named.{has}
 use Rattle.conf_inherit.specs.Names.{NoClash, IsInOrder}
 use Rattle.conf_inherit.specs.Places.{place_flaws, inner_places, member_places}
 use Rattle.conf_inherit.specs.Resolution.{trace_name, type_name, aliases_name, from_aliases, aliases_of, members_or_none, if_shallow, resolution_after}
-use Rattle.conf_inherit.specs.Rounds.{Outcomes, has_outcome, is_empty, outcome, rounds, no_outcomes, Reached}
+use Rattle.conf_inherit.specs.Rounds.{Outcomes, has_outcome, outcome, rounds, no_outcomes, Reached}
 use Rattle.conf_inherit.specs.FieldPlaces.{field_place, place_under, names_alias, is_base_name, lists_extra_members, leads_on, names_member_type}
 use Rattle.conf_inherit.specs.Whole.{holds_aliases, way_to_aliases, AreLaid, aliases_at, with_property, in_property, in_object, with_aliases}
 use Rattle.conf_inherit.proofs.FieldPlaceLemmas.{trace_place, trace_type_place, aliases_place}
 use Rattle.conf_inherit.proofs.LayingLemmas.{value_same, same_members, same_name, equal_names, above_through, get_none, in_order_lay, lay_members-absent, lay_members-found, Meets, same, other, meets, get_other, get_same, AllEntries, all_along, found_each}
 use Rattle.conf_inherit.proofs.LimitLemmas.{fitting_value}
 use Rattle.conf_inherit.proofs.SoundPlaces.{place_of_type}
-use Rattle.conf_inherit.proofs.FaultLemmas.{and_left, and_right, some_of}
+use Rattle.conf_inherit.proofs.FaultLemmas.{some_of}
 use Rattle.conf_inherit.proofs.ResolveLemmas.{no_flaws, above_of}
-use Rattle.conf_inherit.proofs.RoundLemmas.{HasRoot, empty_flaws, rounds_root, all_done, fitting_ok, no_value, rounds_reached}
+use Rattle.conf_inherit.proofs.RoundLemmas.{outcome_is, HasRoot, rounds_root, all_done, rounds_reached}
 use Rattle.conf_inherit.proofs.TurnLemmas.{reached_sound}
 use Rattle.std.specs.List.Sorted.{IsStrictlySortedBy}
 use Rattle.std.specs.Map.{keys_of}
@@ -51,25 +51,25 @@ objects_around places.Trace = 2
 objects_around places.TraceType = 1
 objects_around _ = 0
 
-fewer_at : (s : Place) (n k : List ℕ) → way_to_aliases s ≡ Some n → way_to_aliases s ≡ Some k → objects_around s ≡ objects_around (place_under s n) + 1 → objects_around s ≡ objects_around (place_under s k) + 1
-fewer_at s n k one way h = subst (λ x. objects_around s ≡ objects_around (place_under s x) + 1) (value_same n k (sym one ∙ way)) h
+-- what holds of each step of the way holds of the name that leads on
+by_way : (P : Place → List ℕ → Place → Type 0) → P places.Root trace_name places.Trace → P places.Trace type_name places.TraceType → P places.TraceType aliases_name places.FieldTypeAliases
+    → (s : Place) (n : List ℕ) → way_to_aliases s ≡ Some n → P s n (place_under s n)
+unfolding way_to_aliases
+by_way P a b c places.Root n way = subst (λ k. P places.Root k (place_under places.Root k)) (value_same trace_name n way) (subst (P places.Root trace_name) (sym trace_place) a)
+by_way P a b c places.Trace n way = subst (λ k. P places.Trace k (place_under places.Trace k)) (value_same type_name n way) (subst (P places.Trace type_name) (sym trace_type_place) b)
+by_way P a b c places.TraceType n way = subst (λ k. P places.TraceType k (place_under places.TraceType k)) (value_same aliases_name n way) (subst (P places.TraceType aliases_name) (sym aliases_place) c)
+by_way P a b c _ n way = absurd (let bad : None ≡ Some n = way in cc)
 
 -- one object fewer is around the aliases at a property on the way to them
 pub fewer_around : (s : Place) (k : List ℕ) → way_to_aliases s ≡ Some k → objects_around s ≡ objects_around (place_under s k) + 1
-unfolding way_to_aliases
-fewer_around places.Root k way = fewer_at places.Root trace_name k refl way (ap (λ p. objects_around p + 1) (sym trace_place))
-fewer_around places.Trace k way = fewer_at places.Trace type_name k refl way (ap (λ p. objects_around p + 1) (sym trace_type_place))
-fewer_around places.TraceType k way = fewer_at places.TraceType aliases_name k refl way (ap (λ p. objects_around p + 1) (sym aliases_place))
-fewer_around _ k way = let bad : None ≡ Some k = way in cc
+fewer_around s k way = by_way (λ s k t. objects_around s ≡ objects_around t + 1) refl refl refl s k way
 
 -- such an object inherits nothing
 pub no_base : (s : Place) (k : List ℕ) → holds_aliases s ≡ true → is_base_name s k ≡ false
 unfolding holds_aliases is_base_name
-no_base places.Root k h = refl
-no_base places.Trace k h = refl
-no_base places.TraceType k h = refl
-no_base places.FieldTypeAliases k h = refl
-no_base _ k h = absurd (true≢false (sym h))
+no_base places.FieldType k h = absurd (true≢false (sym h))
+no_base places.Member k h = absurd (true≢false (sym h))
+no_base _ k h = refl
 
 no_lay_base : (done : Members) (s : Place) (ms : Members) → holds_aliases s ≡ true → lay_base done s ms None ≡ None
 no_lay_base done s no_members h = refl
@@ -81,11 +81,7 @@ laid_object done s ms h = rw (no_lay_base done s ms h) refl
 -- ---- the resolved aliases
 
 laid_outcome : (al done : Members) (w r : Data) → outcome al done w ≡ Some r → lay done places.FieldType w None ≡ r
-laid_outcome al done w r h = go (all_named (has done) places.FieldType w && is_empty (flaws al (Some done) places.FieldType false no_members w)) refl
-  where
-    go : (t : Bool) → (all_named (has done) places.FieldType w && is_empty (flaws al (Some done) places.FieldType false no_members w)) ≡ t → lay done places.FieldType w None ≡ r
-    go false is = absurd (no_value r (rw is at h))
-    go true is = fitting_value (lay done places.FieldType w None) r (fitting_ok (fitting (lay done places.FieldType w None)) r (rw is at h))
+laid_outcome al done w r h = fitting_value (lay done places.FieldType w None) r (outcome_is al done w r h).fits
 
 no_done : (al : Members) (st : Outcomes) (q : List ℕ) → (has_outcome st q ≡ true → has al q ≡ true) → get_member q al ≡ None → get_member q st.done ≡ None
 no_done al st q own none = go (get_member q st.done) refl
@@ -126,15 +122,11 @@ module _ (al : Members) (n : ℕ) (st : Outcomes) (apart : NoClash al) (turned :
 -- ---- what was found to be sound
 
 sound_outcome : (al done : Members) (w r : Data) → outcome al done w ≡ Some r → type_flaws al done places.FieldType w ≡ []
-sound_outcome al done w r h = go (all_named (has done) places.FieldType w && is_empty (flaws al (Some done) places.FieldType false no_members w)) refl
-  where
-    go : (t : Bool) → (all_named (has done) places.FieldType w && is_empty (flaws al (Some done) places.FieldType false no_members w)) ≡ t → type_flaws al done places.FieldType w ≡ []
-    go false is = absurd (no_value r (rw is at h))
-    go true is =
-        let named = and_left (all_named (has done) places.FieldType w) (is_empty (flaws al (Some done) places.FieldType false no_members w)) is in
-        let none = empty_flaws (flaws al (Some done) places.FieldType false no_members w) (and_right (all_named (has done) places.FieldType w) (is_empty (flaws al (Some done) places.FieldType false no_members w)) is) in
-        let fits : fitting (lay done places.FieldType w None) ≡ Ok r = fitting_ok (fitting (lay done places.FieldType w None)) r (rw is at h) in
-        ap (λ fs. fs ++ limit_flaws done places.FieldType w) none ∙ rw (named, fits) refl
+sound_outcome al done w r h =
+    let is = outcome_is al done w r h in
+    let named = is.named in
+    let fits = is.fits in
+    ap (λ fs. fs ++ limit_flaws done places.FieldType w) is.flawless ∙ rw (named, fits) refl
 
 -- a field type has no places below it
 no_places : (al done : Members) (w : Data) → inner_places al done places.FieldType w ≡ []
@@ -178,11 +170,10 @@ then_some (Some d) = refl
 
 members_twice : (n : List ℕ) (f g h : Data → Data) → ((d : Data) → f (g d) ≡ h d) → (ms : Members) → with_property n f (with_property n g ms) ≡ with_property n h ms
 members_twice n f g h each no_members = refl
-members_twice n f g h each (member k d ms) = go (bytes_eq k n) refl (members_twice n f g h each ms)
-  where
-    go : (t : Bool) → bytes_eq k n ≡ t → with_property n f (with_property n g ms) ≡ with_property n h ms → with_property n f (with_property n g (member k d ms)) ≡ with_property n h (member k d ms)
-    go true is rest = rw (is, is) (ap (λ x. member k x ms) (each d))
-    go false is rest = rw (is, is) (ap (member k d) rest)
+members_twice n f g h each (member k d ms) = elim (cases_Bool (bytes_eq k n)) [
+  | inl is ↦ rw (is, is) (ap (λ x. member k x ms) (each d))
+  | inr is ↦ rw (is, is) (ap (member k d) (members_twice n f g h each ms))
+]
 
 value_twice : (n : List ℕ) (f g h : Data → Data) → ((d : Data) → f (g d) ≡ h d) → (v : Data) → in_property n f (in_property n g v) ≡ in_property n h v
 value_twice n f g h each (object ms) = ap object (members_twice n f g h each ms)
@@ -277,50 +268,20 @@ bare_again t es v none taken =
 -- ---- at each place on the way
 
 pub with_way : (s : Place) (n : List ℕ) (al ms : Members) → way_to_aliases s ≡ Some n → with_aliases s al (object ms) ≡ object (with_property n (with_aliases (place_under s n) al) ms)
-unfolding way_to_aliases with_aliases
-with_way places.Root n al ms way =
-    let is : trace_name ≡ n = value_same trace_name n way in
-    ap (λ t. object (with_property trace_name (with_aliases t al) ms)) (sym trace_place)
-    ∙ ap (λ x. object (with_property x (with_aliases (place_under places.Root x) al) ms)) is
-with_way places.Trace n al ms way =
-    let is : type_name ≡ n = value_same type_name n way in
-    ap (λ t. object (with_property type_name (with_aliases t al) ms)) (sym trace_type_place)
-    ∙ ap (λ x. object (with_property x (with_aliases (place_under places.Trace x) al) ms)) is
-with_way places.TraceType n al ms way =
-    let is : aliases_name ≡ n = value_same aliases_name n way in
-    ap (λ t. object (with_property aliases_name (with_aliases t al) ms)) (sym aliases_place)
-    ∙ ap (λ x. object (with_property x (with_aliases (place_under places.TraceType x) al) ms)) is
-with_way _ n al ms way = let bad : None ≡ Some n = way in cc
+unfolding with_aliases
+with_way s n al ms way = by_way (λ s n t. with_aliases s al (object ms) ≡ object (with_property n (with_aliases t al) ms)) refl refl refl s n way
 
 then_then : (f g : Data → Option Data) (o : Option Data) → option_and_then f (option_and_then g o) ≡ option_and_then (λ d. option_and_then f (g d)) o
 then_then f g None = refl
 then_then f g (Some d) = refl
 
 pub at_way : (s : Place) (n : List ℕ) (ms : Members) → way_to_aliases s ≡ Some n → aliases_at s (object ms) ≡ option_and_then (aliases_at (place_under s n)) (get_member n ms)
-unfolding way_to_aliases
-at_way places.Root n ms way =
-    let is : trace_name ≡ n = value_same trace_name n way in
-    then_then (get aliases_name) (get type_name) (get_member trace_name ms)
-    ∙ ap (λ t. option_and_then (aliases_at t) (get_member trace_name ms)) (sym trace_place)
-    ∙ ap (λ x. option_and_then (aliases_at (place_under places.Root x)) (get_member x ms)) is
-at_way places.Trace n ms way =
-    let is : type_name ≡ n = value_same type_name n way in
-    ap (λ t. option_and_then (aliases_at t) (get_member type_name ms)) (sym trace_type_place)
-    ∙ ap (λ x. option_and_then (aliases_at (place_under places.Trace x)) (get_member x ms)) is
-at_way places.TraceType n ms way =
-    let is : aliases_name ≡ n = value_same aliases_name n way in
-    then_some (get_member aliases_name ms)
-    ∙ ap (λ t. option_and_then (aliases_at t) (get_member aliases_name ms)) (sym aliases_place)
-    ∙ ap (λ x. option_and_then (aliases_at (place_under places.TraceType x)) (get_member x ms)) is
-at_way _ n ms way = let bad : None ≡ Some n = way in cc
+at_way s n ms way = by_way (λ s n t. aliases_at s (object ms) ≡ option_and_then (aliases_at t) (get_member n ms)) (then_then (get aliases_name) (get type_name) (get_member trace_name ms)) refl (then_some (get_member aliases_name ms)) s n way
 
 -- a name on the way leads on
 pub way_leads : (s : Place) (n : List ℕ) → way_to_aliases s ≡ Some n → holds_aliases (place_under s n) ≡ true
-unfolding way_to_aliases holds_aliases
-way_leads places.Root n way = ap (λ x. holds_aliases (place_under places.Root x)) (sym (value_same trace_name n way)) ∙ ap holds_aliases trace_place
-way_leads places.Trace n way = ap (λ x. holds_aliases (place_under places.Trace x)) (sym (value_same type_name n way)) ∙ ap holds_aliases trace_type_place
-way_leads places.TraceType n way = ap (λ x. holds_aliases (place_under places.TraceType x)) (sym (value_same aliases_name n way)) ∙ ap holds_aliases aliases_place
-way_leads _ n way = let bad : None ≡ Some n = way in cc
+unfolding holds_aliases
+way_leads s n way = by_way (λ s n t. holds_aliases t ≡ true) refl refl refl s n way
 
 -- an object with no such name is that of the aliases
 pub no_way : (s : Place) (P : Place → Type 0) → holds_aliases s ≡ true → way_to_aliases s ≡ None → P places.FieldTypeAliases → P s
@@ -351,11 +312,10 @@ module _ (al done : Members) where
   -- an object with the aliases in it is no field type
   no_type : (s : Place) (v : Data) → holds_aliases s ≡ true → place_flaws al done s v ≡ []
   unfolding holds_aliases place_flaws names_alias names_member_type lists_extra_members
-  no_type places.Root v above = refl
-  no_type places.Trace v above = refl
-  no_type places.TraceType v above = refl
-  no_type places.FieldTypeAliases v above = refl
-  no_type _ v above = absurd (true≢false (sym above))
+  no_type places.FieldType v above = absurd (true≢false (sym above))
+  no_type places.Member v above = absurd (true≢false (sym above))
+  no_type places.ExtraMembers v above = absurd (true≢false (sym above))
+  no_type _ v above = refl
 
   module _ (s : Place) (n : List ℕ) (f g : Data → Data) (above : holds_aliases s ≡ true) (alike : (d : Data) → parts (place_under s n) (f d) ≡ parts (place_under s n) (g d)) where
     members_alike : (ms : Members) → member_places al done s (with_property n f ms) ≡ member_places al done s (with_property n g ms)

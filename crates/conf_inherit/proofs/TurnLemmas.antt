@@ -1,7 +1,7 @@
 -- What the aliases come to does not depend on the order of their turns: where each that is due had its own, the
 -- outcomes are those that the rounds leave.
 use Rattle.std.proofs.Common.{◌≡◌, ◌+◌, ◌||◌, ◌<◌, ◌≤◌, ◌⊎◌, inl, inr, ℕ, zero, suc, List, Option, Some, None, is_some, Bool, true, false, not, true≢false, refl, sym, ap, ◌∙◌, subst, arith}
-use Rattle.std.proofs.lemmas.Bool.{or_parts, or_left, or_right}
+use Rattle.std.proofs.lemmas.Bool.{or_cases, and_parts, cases_Bool, or_parts, or_left, or_right}
 use Rattle.serde_json.specs.Data.{Data, null, Members, no_members, member, put}
 use Rattle.serde_json.specs.Events.{members_len}
 use Rattle.serde_json.specs.Find.{get_member}
@@ -12,9 +12,8 @@ use Rattle.conf_inherit.specs.Names.{IsInOrder, NoClash}
 use Rattle.conf_inherit.specs.Rounds.{Outcomes, has_outcome, is_over, outcome, concluded, step, round, all_over, next_round, rounds, no_outcomes, Reached, is_settled, all_settled}
 use Rattle.conf_inherit.proofs.LayingLemmas.{same_members, value_same, Meets, same, other, meets, get_other, get_same, in_order_put, AllEntries, found_each, entry_found}
 use Rattle.conf_inherit.proofs.LimitLemmas.{more_named, kept_lay, kept_inner}
-use Rattle.conf_inherit.proofs.NamedLemmas.{named_along, blocked, mentioned}
-use Rattle.conf_inherit.proofs.FaultLemmas.{and_left, and_right}
-use Rattle.conf_inherit.proofs.RoundLemmas.{is_put, by_turn, reached_keeps, round_reached, rounds_reached}
+use Rattle.conf_inherit.proofs.FaultLemmas.{named_along, blocked, mentioned, is_put}
+use Rattle.conf_inherit.proofs.RoundLemmas.{by_turn, reached_keeps, round_reached, rounds_reached}
 use Rattle.conf_inherit.proofs.ResolveLemmas.{count, count_all, count_new}
 
 -- ---- what a conclusion changes
@@ -50,17 +49,13 @@ Agrees st next = (n : List ℕ) → has_outcome st n ≡ true → SameAt st next
 concluded_agrees : (k : List ℕ) (st : Outcomes) (o : Option Data) → has_outcome st k ≡ false → Agrees st (concluded k st o)
 concluded_agrees k st o free n h = concluded_other k st o n (λ e. true≢false (sym h ∙ ap (has_outcome st) e ∙ free))
 
-or_split : (a b : Bool) → (a || b) ≡ true → (a ≡ true) ⊎ (b ≡ true)
-or_split true b h = inl refl
-or_split false b h = inr h
-
 not_both : (a : Bool) → not a ≡ true → a ≡ true → ⊥
 not_both true h e = true≢false (sym h)
 not_both false h e = true≢false (sym e)
 
 module _ (al : Members) where
   over_along : (st next : Outcomes) → ((n : List ℕ) → has_outcome st n ≡ true → has_outcome next n ≡ true) → (n : List ℕ) → is_over al st n ≡ true → is_over al next n ≡ true
-  over_along st next more n h = elim (or_split (has_outcome st n) (not (has al n)) h) [ inl e ↦ or_left (has_outcome next n) (not (has al n)) (more n e) | inr e ↦ or_right (has_outcome next n) (not (has al n)) e ]
+  over_along st next more n h = elim (or_cases (has_outcome st n) (not (has al n)) h) [ inl e ↦ or_left (has_outcome next n) (not (has al n)) (more n e) | inr e ↦ or_right (has_outcome next n) (not (has al n)) e ]
 
   due_along : (st next : Outcomes) → ((n : List ℕ) → has_outcome st n ≡ true → has_outcome next n ≡ true) → (w : Data) → all_named (is_over al st) places.FieldType w ≡ true → all_named (is_over al next) places.FieldType w ≡ true
   due_along st next more w h = named_along (is_over al st) (is_over al next) (over_along st next more) places.FieldType w h
@@ -78,7 +73,7 @@ module _ (al : Members) where
     kept_done n h = (agrees n (or_left (has st.done n) (has st.refused n) h)).0
 
     still_missing : (m : List ℕ) → is_over al st m ≡ true → has st.done m ≡ false → has next.done m ≡ false
-    still_missing m over free = elim (or_split (has_outcome st m) (not (has al m)) over) [ inl e ↦ ap is_some (agrees m e).0 ∙ free | inr e ↦ never e (has next.done m) refl ]
+    still_missing m over free = elim (or_cases (has_outcome st m) (not (has al m)) over) [ inl e ↦ ap is_some (agrees m e).0 ∙ free | inr e ↦ never e (has next.done m) refl ]
       where
         never : not (has al m) ≡ true → (t : Bool) → has next.done m ≡ t → has next.done m ≡ false
         never e false f = f
@@ -244,11 +239,7 @@ module _ (al : Members) where
 
   -- an alias that is due has its outcome after its turn
   due_step : (k : List ℕ) (w : Data) (st : Outcomes) → all_named (is_over al st) places.FieldType w ≡ true → has_outcome (step al k w st) k ≡ true
-  due_step k w st due = go (has_outcome st k) refl
-    where
-      go : (t : Bool) → has_outcome st k ≡ t → has_outcome (step al k w st) k ≡ true
-      go true a = kept_step k w st k a
-      go false a = rw (a, due) (concluded_has k st (outcome al st.done w))
+  due_step k w st due = elim (cases_Bool (has_outcome st k)) [ inl a ↦ kept_step k w st k a | inr a ↦ rw (a, due) (concluded_has k st (outcome al st.done w)) ]
 
   due_round : (ms : Members) (st : Outcomes) (k : List ℕ) (w : Data) → get_member k ms ≡ Some w → all_named (is_over al st) places.FieldType w ≡ true → has_outcome (round al ms st) k ≡ true
   due_round no_members st k w is due = cc
@@ -264,31 +255,26 @@ module _ (al : Members) where
   -- ---- a state that is settled, and one that is not
 
   settled_step : (k : List ℕ) (w : Data) (st : Outcomes) → is_settled al st k w ≡ true → step al k w st ≡ st
-  settled_step k w st h = go (has_outcome st k) refl (all_named (is_over al st) places.FieldType w) refl
-    where
-      go : (t : Bool) → has_outcome st k ≡ t → (u : Bool) → all_named (is_over al st) places.FieldType w ≡ u → step al k w st ≡ st
-      go true a u b = rw a refl
-      go false a false b = rw (a, b) refl
-      go false a true b = absurd (true≢false (sym (rw (a, b) at h)))
+  settled_step k w st h = by_turn al (λ x. x ≡ st) k w st refl (λ free due. absurd (true≢false (sym (rw (free, due) at h))))
 
   pub settled_round : (ms : Members) (st : Outcomes) → all_settled al ms st ≡ true → round al ms st ≡ st
   settled_round no_members st h = refl
   settled_round (member k w ms) st h =
-      ap (round al ms) (settled_step k w st (and_left (is_settled al st k w) (all_settled al ms st) h)) ∙ settled_round ms st (and_right (is_settled al st k w) (all_settled al ms st) h)
+      ap (round al ms) (settled_step k w st (and_parts (is_settled al st k w) (all_settled al ms st) h).0) ∙ settled_round ms st (and_parts (is_settled al st k w) (all_settled al ms st) h).1
 
   over_settled : (ms : Members) (st : Outcomes) → all_over ms st ≡ true → all_settled al ms st ≡ true
   over_settled no_members st h = refl
   over_settled (member k w ms) st h =
-      let one : is_settled al st k w ≡ true = or_left (has_outcome st k) (not (all_named (is_over al st) places.FieldType w)) (and_left (has_outcome st k) (all_over ms st) h) in
-      rw one (over_settled ms st (and_right (has_outcome st k) (all_over ms st) h))
+      let one : is_settled al st k w ≡ true = or_left (has_outcome st k) (not (all_named (is_over al st) places.FieldType w)) (and_parts (has_outcome st k) (all_over ms st) h).0 in
+      rw one (over_settled ms st (and_parts (has_outcome st k) (all_over ms st) h).1)
 
   each_settled : (ms : Members) (st : Outcomes) → all_settled al ms st ≡ true → AllEntries (λ k w. is_settled al st k w ≡ true) ms
   each_settled no_members st h = tt
-  each_settled (member k w ms) st h = (and_left (is_settled al st k w) (all_settled al ms st) h, each_settled ms st (and_right (is_settled al st k w) (all_settled al ms st) h))
+  each_settled (member k w ms) st h = ((and_parts (is_settled al st k w) (all_settled al ms st) h).0, each_settled ms st (and_parts (is_settled al st k w) (all_settled al ms st) h).1)
 
   pub is_settled_state : (st : Outcomes) → all_settled al al st ≡ true → IsSettled st
   is_settled_state st h k w is due =
-      elim (or_split (has_outcome st k) (not (all_named (is_over al st) places.FieldType w)) (entry_found (λ k w. is_settled al st k w ≡ true) al (each_settled al st h) k w is)) [ inl e ↦ e | inr e ↦ absurd (not_both (all_named (is_over al st) places.FieldType w) e due) ]
+      elim (or_cases (has_outcome st k) (not (all_named (is_over al st) places.FieldType w)) (entry_found (λ k w. is_settled al st k w ≡ true) al (each_settled al st h) k w is)) [ inl e ↦ e | inr e ↦ absurd (not_both (all_named (is_over al st) places.FieldType w) e due) ]
 
   -- an alias that is due and has no outcome
   abbrev Waits : Outcomes → Type 0

@@ -1,5 +1,6 @@
 -- Where names lead: what is true of each row of an object, and of what no row has, is true of the place that a name leads to.
-use Rattle.std.proofs.Common.{◌≡◌, ◌&&◌, ℕ, Bool, true, false, cond, List, [], ◌∷◌, Option, Some, None, option_map, refl, subst, bytes_eq, ◌||◌, true≢false, if◌then◌else◌, sym, ap, ◌∙◌}
+use Rattle.std.proofs.Common.{inr, inl, ◌≡◌, ◌&&◌, ℕ, Bool, true, false, cond, List, [], ◌∷◌, Option, Some, None, option_map, refl, subst, bytes_eq, ◌||◌, true≢false, if◌then◌else◌, sym, ap, ◌∙◌}
+use Rattle.std.proofs.lemmas.Bool.{and_parts, cases_Bool}
 use Rattle.std.proofs.lemmas.Slice.Eq.{bytes_eq-Decides}
 use Rattle.std.specs.Prelude.{codes}
 use Rattle.conf_table.specs.declared.place.Place.{Place}
@@ -7,7 +8,6 @@ use Rattle.conf_table.specs.declared.place.Place.TheVariants as places
 use Rattle.conf_table.specs.declared.row.Entries.{Entries}
 use Rattle.conf_table.specs.Table.{Told, rows_of, entries_of, row_in, content_under, told_under, under_entries, place_in}
 use Rattle.conf_inherit.specs.FieldPlaces.{inherit_name, field_type_name, field_place, field_place_or_none, place_in_type, place_under, leads_on, names_alias, names_member_type, lists_members}
-use Rattle.conf_inherit.proofs.FaultLemmas.{and_left, and_right}
 
 module _ (f : List ℕ → Place → Bool) (k : List ℕ) where
   abbrev true_along : List Told → Bool
@@ -30,12 +30,10 @@ module _ (f : List ℕ → Place → Bool) (k : List ℕ) where
 
   of_rows : (rs : List Told) → true_along rs ≡ true → f k (field_place_or_none (option_map place_in (option_map (λ r. r.content) (row_in k rs)))) ≡ true
   of_rows [] h = h
-  of_rows (r ∷ rs) h = go (bytes_eq r.name k) refl (of_rows rs (and_right (f r.name (field_place (place_in r.content))) (true_along rs) h))
-    where
-      go : (b : Bool) → bytes_eq r.name k ≡ b → f k (field_place_or_none (option_map place_in (option_map (λ r. r.content) (row_in k rs)))) ≡ true
-          → f k (field_place_or_none (option_map place_in (option_map (λ r. r.content) (cond b (Some r) (row_in k rs))))) ≡ true
-      go true is rest = subst (λ n. f n (field_place (place_in r.content)) ≡ true) ((bytes_eq-Decides r.name k).0 is) (and_left (f r.name (field_place (place_in r.content))) (true_along rs) h)
-      go false is rest = rest
+  of_rows (r ∷ rs) h = elim (cases_Bool (bytes_eq r.name k)) [
+    | inl is ↦ rw is (subst (λ n. f n (field_place (place_in r.content)) ≡ true) ((bytes_eq-Decides r.name k).0 is) (and_parts (f r.name (field_place (place_in r.content))) (true_along rs) h).0)
+    | inr is ↦ rw is (of_rows rs (and_parts (f r.name (field_place (place_in r.content))) (true_along rs) h).1)
+  ]
 
   of_told : (o : Option Entries) (rs : List Told) → true_told o rs ≡ true → f k (field_place_or_none (option_map place_in (told_under o rs k))) ≡ true
   of_told (Some entries) rs h = h
@@ -48,11 +46,11 @@ module _ (f : List ℕ → Place → Bool) (k : List ℕ) where
   of_type : true_in_type ≡ true → f k (place_in_type k) ≡ true
   unfolding place_in_type
   of_type h =
-      let members = and_left (f k places.Members) (f k places.FieldType && f k places.Ignored) h in
-      let others = and_right (f k places.Members) (f k places.FieldType && f k places.Ignored) h in
-      let a_type = and_left (f k places.FieldType) (f k places.Ignored) others in
+      let members = (and_parts (f k places.Members) (f k places.FieldType && f k places.Ignored) h).0 in
+      let others = (and_parts (f k places.Members) (f k places.FieldType && f k places.Ignored) h).1 in
+      let a_type = (and_parts (f k places.FieldType) (f k places.Ignored) others).0 in
       either (bytes_eq k (codes "members")) places.Members _ members (either (bytes_eq k field_type_name) places.FieldType _ a_type
-      (either (bytes_eq k (codes "element-field-type")) places.FieldType _ a_type (either (bytes_eq k inherit_name) places.FieldType places.Ignored a_type (and_right (f k places.FieldType) (f k places.Ignored) others))))
+      (either (bytes_eq k (codes "element-field-type")) places.FieldType _ a_type (either (bytes_eq k inherit_name) places.FieldType places.Ignored a_type (and_parts (f k places.FieldType) (f k places.Ignored) others).1)))
 
   pub under_place : (s : Place) → true_under s ≡ true → f k (place_under s k) ≡ true
   unfolding true_under place_under content_under field_place place_in
@@ -114,11 +112,7 @@ ignored_there _ h = absurd (true≢false (sym h))
 module _ (s : Place) (k : List ℕ) where
   along_rows : (rs : List (List ℕ × Place)) → AreLed s rs → (is_ignored (place_under s k) || is_named k rs) ≡ true → place_under s k ≡ in_rows rs k
   along_rows [] each h = ignored_there (place_under s k) h
-  along_rows (r ∷ rs) each h = go (bytes_eq k r.0) refl (along_rows rs each.1)
-    where
-      go : (b : Bool) → bytes_eq k r.0 ≡ b → ((is_ignored (place_under s k) || is_named k rs) ≡ true → place_under s k ≡ in_rows rs k) → place_under s k ≡ in_rows (r ∷ rs) k
-      go true is rest = rw is (ap (place_under s) ((bytes_eq-Decides k r.0).0 is) ∙ each.0)
-      go false is rest = rw is (rest (rw is at h))
+  along_rows (r ∷ rs) each h = elim (cases_Bool (bytes_eq k r.0)) [ inl is ↦ rw is (ap (place_under s) ((bytes_eq-Decides k r.0).0 is) ∙ each.0) | inr is ↦ rw is (along_rows rs each.1 (rw is at h)) ]
 
   by_rows : AreLed s (rows s) → true_under (λ n t. is_ignored t || is_named n (rows s)) k s ≡ true → place_under s k ≡ in_rows (rows s) k
   by_rows each all = along_rows (rows s) each (under_place (λ n t. is_ignored t || is_named n (rows s)) k s all)

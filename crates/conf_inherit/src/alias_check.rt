@@ -11,7 +11,7 @@ ghost use Rattle.conf_inherit.specs.Flaws.{type_flaws};
 ghost use Rattle.conf_inherit.specs.SameFlaw.{is_same_step, is_same_path, is_same_flaw};
 
 use crate::flaws::check_type;
-use crate::outcomes::AliasOutcomes;
+use crate::outcomes::{AliasOutcomes, Known};
 use crate::property::{has, put_property};
 use conf_table::Place;
 use conf_tree::{ConfFault, FaultKind, Step};
@@ -53,14 +53,28 @@ fn check_alias(
     if has(resolved, name) {
         return Ok(());
     }
+    let own = check_type(
+        Known {
+            alloc,
+            aliases,
+            resolved,
+        },
+        value,
+        Place::FieldType,
+    );
     if has(&outcomes.refused, name) {
-        return check_type(alloc, value, Place::FieldType, aliases, resolved);
+        return own;
     }
-    if let Err(own) = check_type(alloc, value, Place::FieldType, aliases, resolved) {
+    if let Err(own) = own {
         if own.is_memory() {
             return Err(own);
         }
-        if let Err(first) = check_type(alloc, value, Place::FieldType, over, resolved) {
+        let known = Known {
+            alloc,
+            aliases: over,
+            resolved,
+        };
+        if let Err(first) = check_type(known, value, Place::FieldType) {
             if first.is_memory() {
                 return Err(first);
             }

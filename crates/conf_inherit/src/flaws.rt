@@ -1,5 +1,5 @@
 //! The first flaw of a value, in walk order.
-ghost use Rattle.std.specs.Prelude.{◌≡◌, ◌+◌, ◌&&◌, ◌++◌, false, OnOk, is_some, option_map};
+ghost use Rattle.std.specs.Prelude.{◌≡◌, ◌+◌, ◌&&◌, ◌++◌, Some, false, OnOk, is_some};
 ghost use Rattle.serde_json.specs.Data.{no_members};
 ghost use Rattle.serde_json.specs.Find.{get_member};
 ghost use Rattle.serde_json.specs.View.{view, items_view, members_view};
@@ -14,11 +14,12 @@ use crate::field_places::{
     place_under,
 };
 use crate::limits::check_limits;
+use crate::outcomes::Known;
 use crate::property::property;
 use conf_table::Place;
 use conf_tree::{ConfFault, FaultKind};
 use serde_json::{Map, Value};
-use std::alloc::{AllocError, Global};
+use std::alloc::AllocError;
 use std::collections::BTreeMap;
 
 /// Whether a value is of another kind than its place asks for.
@@ -52,22 +53,21 @@ fn is_unknown(value: &Value, place: Place, aliases: &Map<String, Value>) -> bool
 
 /// Refuses the first flaw of a value itself, where its name may be taken.
 pub(crate) fn check_itself(
-    alloc: Global,
+    known: Known,
     value: &Value,
     place: Place,
     taken: bool,
-    aliases: &Map<String, Value>,
 ) -> Result<(), ConfFault>
-    ensures first { Gives (λ _. tt) result (refusal (own_flaws (members_view aliases.now.entries) place taken (view value.now))) }
+    ensures first { Gives (λ _. tt) result (refusal (own_flaws (members_view known.entry.aliases.now.entries) place taken (view value.now))) }
 {
     if is_wrong(value, place) {
-        return Err(ConfFault::here(alloc, FaultKind::WrongKind));
+        return Err(ConfFault::here(known.alloc, FaultKind::WrongKind));
     }
-    if is_unknown(value, place, aliases) {
-        return Err(ConfFault::here(alloc, FaultKind::NoSuchAlias));
+    if is_unknown(value, place, known.aliases) {
+        return Err(ConfFault::here(known.alloc, FaultKind::NoSuchAlias));
     }
     if taken {
-        return Err(ConfFault::here(alloc, FaultKind::NameClash));
+        return Err(ConfFault::here(known.alloc, FaultKind::NameClash));
     }
     Ok(())
 }
@@ -85,79 +85,53 @@ pub(crate) fn mark<'a>(entry: &'a Value, seen: &mut BTreeMap<&'a str, ()>) -> Re
     Ok(())
 }
 
-/// Refuses the first flaw of a value and all that is in it, the limits that the values of `$inherit` pass among them
-/// where the resolved aliases are given. `seen` has the names of the entries before it.
+/// Refuses the first flaw of a value and all that is in it, the limits that the values of `$inherit` pass among them.
+/// `seen` has the names of the entries before it.
 #[cycle(flaws)]
 #[tactic(auto, using(crate::proofs::FlawLemmas::refused_first, crate::proofs::FlawLemmas::refused_later))]
 pub(crate) fn check_flaws(
-    alloc: Global,
+    known: Known,
     value: &Value,
     place: Place,
     taken: bool,
     seen: &BTreeMap<&str, ()>,
-    aliases: &Map<String, Value>,
-    resolved: Option<&Map<String, Value>>,
 ) -> Result<(), ConfFault>
-    ensures first { Gives (λ _. tt) result (refusal (flaws (members_view aliases.now.entries) (option_map (λ m. members_view m.now.entries) resolved.entry) place taken (seen_names seen.now) (view value.now))) }
+    ensures first { Gives (λ _. tt) result (refusal (flaws (members_view known.entry.aliases.now.entries) (Some (members_view known.entry.resolved.now.entries)) place taken (seen_names seen.now) (view value.now))) }
 {
-    check_itself(alloc, value, place, taken, aliases)?;
+    check_itself(known, value, place, taken)?;
     match value {
         Value::Null | Value::Bool(_) | Value::Number(_) | Value::String(_) => Ok(()),
-        Value::Array(items) => check_items(alloc, items, place, aliases, resolved),
-        Value::Object(members) => check_members(alloc, members, place, seen, aliases, resolved),
+        Value::Array(items) => check_items(known, items, place),
+        Value::Object(members) => check_members(known, members, place, seen),
     }
 }
 
 #[cycle(flaws)]
-fn check_items(
-    alloc: Global,
-    items: &Vec<Value>,
-    place: Place,
-    aliases: &Map<String, Value>,
-    resolved: Option<&Map<String, Value>>,
-) -> Result<(), ConfFault>
-    ensures first { Gives (λ _. tt) result (refusal (item_flaws (members_view aliases.now.entries) (option_map (λ m. members_view m.now.entries) resolved.entry) place 0 no_members (items_view items.now.items))) }
+fn check_items(known: Known, items: &Vec<Value>, place: Place) -> Result<(), ConfFault>
+    ensures first { Gives (λ _. tt) result (refusal (item_flaws (members_view known.entry.aliases.now.entries) (Some (members_view known.entry.resolved.now.entries)) place 0 no_members (items_view items.now.items))) }
 {
-    let mut seen = BTreeMap::new(alloc);
+    let mut seen = BTreeMap::new(known.alloc);
     for (index, item) in items.iter().enumerate() {
-        if let Err(fault) = check_flaws(
-            alloc,
-            item,
-            place_of_items(place),
-            false,
-            &seen,
-            aliases,
-            resolved,
-        ) {
-            return Err(fault.inside(alloc, index));
+        if let Err(fault) = check_flaws(known, item, place_of_items(place), false, &seen) {
+            return Err(fault.inside(known.alloc, index));
         }
-        mark(item, &mut seen).map_err(|_| ConfFault::memory(alloc))?;
+        mark(item, &mut seen).map_err(|_| ConfFault::memory(known.alloc))?;
     }
     Ok(())
 }
 
 #[cycle(flaws)]
 fn check_members(
-    alloc: Global,
+    known: Known,
     members: &Map<String, Value>,
     place: Place,
     seen: &BTreeMap<&str, ()>,
-    aliases: &Map<String, Value>,
-    resolved: Option<&Map<String, Value>>,
 ) -> Result<(), ConfFault>
-    ensures first { Gives (λ _. tt) result (refusal (member_flaws (members_view aliases.now.entries) (option_map (λ m. members_view m.now.entries) resolved.entry) place (seen_names seen.now) (members_view members.now.entries))) }
+    ensures first { Gives (λ _. tt) result (refusal (member_flaws (members_view known.entry.aliases.now.entries) (Some (members_view known.entry.resolved.now.entries)) place (seen_names seen.now) (members_view members.now.entries))) }
 {
     for (name, member) in members.iter() {
-        if let Err(fault) = check_member(
-            alloc,
-            name.as_str(),
-            member,
-            place,
-            seen,
-            aliases,
-            resolved,
-        ) {
-            return Err(fault.in_property(alloc, name.as_str()));
+        if let Err(fault) = check_member(known, name.as_str(), member, place, seen) {
+            return Err(fault.in_property(known.alloc, name.as_str()));
         }
     }
     Ok(())
@@ -168,26 +142,22 @@ fn check_members(
 #[cycle(flaws)]
 #[tactic(auto, using(crate::proofs::FlawLemmas::refused_first, crate::proofs::FlawLemmas::refused_later))]
 fn check_member(
-    alloc: Global,
+    known: Known,
     name: &str,
     member: &Value,
     place: Place,
     seen: &BTreeMap<&str, ()>,
-    aliases: &Map<String, Value>,
-    resolved: Option<&Map<String, Value>>,
 ) -> Result<(), ConfFault>
-    ensures first { Gives (λ _. tt) result (refusal (flaws (members_view aliases.now.entries) (option_map (λ m. members_view m.now.entries) resolved.entry) (place_under place name.now) (is_entry place && is_some (get_member name.now (seen_names seen.now))) no_members (view member.now) ++ base_flaws (option_map (λ m. members_view m.now.entries) resolved.entry) place name.now (view member.now))) }
+    ensures first { Gives (λ _. tt) result (refusal (flaws (members_view known.entry.aliases.now.entries) (Some (members_view known.entry.resolved.now.entries)) (place_under place name.now) (is_entry place && is_some (get_member name.now (seen_names seen.now))) no_members (view member.now) ++ base_flaws (Some (members_view known.entry.resolved.now.entries)) place name.now (view member.now))) }
 {
     let taken = is_taken(name, place, seen);
-    let nothing = BTreeMap::new(alloc);
+    let nothing = BTreeMap::new(known.alloc);
     let inner = place_under(place, name);
-    check_flaws(alloc, member, inner, taken, &nothing, aliases, resolved)?;
-    match resolved {
-        Some(resolved) if is_base_name(place, name) => {
-            check_limits(alloc, member, Place::FieldType, resolved)
-        }
-        _ => Ok(()),
+    check_flaws(known, member, inner, taken, &nothing)?;
+    if is_base_name(place, name) {
+        return check_limits(known.alloc, member, Place::FieldType, known.resolved);
     }
+    Ok(())
 }
 
 /// Whether the name of an entry is taken by one before it.
@@ -198,30 +168,18 @@ fn is_taken(name: &str, place: Place, seen: &BTreeMap<&str, ()>) -> bool
 }
 
 /// Refuses the first flaw of a value as a whole.
-pub(crate) fn check_value(
-    alloc: Global,
-    value: &Value,
-    place: Place,
-    aliases: &Map<String, Value>,
-    resolved: Option<&Map<String, Value>>,
-) -> Result<(), ConfFault>
-    ensures first { Gives (λ _. tt) result (refusal (flaws (members_view aliases.now.entries) (option_map (λ m. members_view m.now.entries) resolved.entry) place false no_members (view value.now))) }
+pub(crate) fn check_value(known: Known, value: &Value, place: Place) -> Result<(), ConfFault>
+    ensures first { Gives (λ _. tt) result (refusal (flaws (members_view known.entry.aliases.now.entries) (Some (members_view known.entry.resolved.now.entries)) place false no_members (view value.now))) }
 {
-    let nothing = BTreeMap::new(alloc);
-    check_flaws(alloc, value, place, false, &nothing, aliases, resolved)
+    let nothing = BTreeMap::new(known.alloc);
+    check_flaws(known, value, place, false, &nothing)
 }
 
 /// Refuses the first flaw of a field type, or else the limit that it passes.
 #[tactic(auto, using(crate::proofs::FlawLemmas::refused_later))]
-pub(crate) fn check_type(
-    alloc: Global,
-    value: &Value,
-    place: Place,
-    aliases: &Map<String, Value>,
-    resolved: &Map<String, Value>,
-) -> Result<(), ConfFault>
-    ensures first { Gives (λ _. tt) result (refusal (type_flaws (members_view aliases.now.entries) (members_view resolved.now.entries) place (view value.now))) }
+pub(crate) fn check_type(known: Known, value: &Value, place: Place) -> Result<(), ConfFault>
+    ensures first { Gives (λ _. tt) result (refusal (type_flaws (members_view known.entry.aliases.now.entries) (members_view known.entry.resolved.now.entries) place (view value.now))) }
 {
-    check_value(alloc, value, place, aliases, Some(resolved))?;
-    check_limits(alloc, value, place, resolved)
+    check_value(known, value, place)?;
+    check_limits(known.alloc, value, place, known.resolved)
 }

@@ -89,28 +89,13 @@ fn lay_value(
         Value::Number(number) => Ok(Value::Number(*number)),
         Value::String(name) => Ok(lay_name(alloc, aliases, place, name)?),
         Value::Array(items) => lay_list(alloc, place, items, base, aliases, limit),
-        Value::Object(members) => lay_object(alloc, place, members, base, aliases, limit),
+        Value::Object(members) => {
+            let below = lay_inherited(alloc, place, members, aliases)?.or(base);
+            let below = properties_below(alloc, below);
+            let laid = lay_properties(alloc, place, members, below, aliases, limit)?;
+            Ok(Value::Object(laid))
+        }
     }
-}
-
-/// An object, laid over what it inherits from, or else over the base.
-#[cycle(laying)]
-fn lay_object(
-    alloc: Global,
-    place: Place,
-    members: &Map<String, Value>,
-    base: Option<Value>,
-    aliases: &Map<String, Value>,
-    limit: Option<usize>,
-) -> Result<Value, Stop>
-    ensures laid { IfOk result (λ laid. view laid
-        ≡ lay (members_view aliases.now.entries) place (object (members_view members.now.entries)) (option_map view base)) }
-    ensures past { IfErr result (λ stop. IsDue stop limit (size (lay (members_view aliases.now.entries) place (object (members_view members.now.entries)) (option_map view base)))) }
-{
-    let below = lay_inherited(alloc, place, members, aliases)?.or(base);
-    let below = properties_below(alloc, below);
-    let laid = lay_properties(alloc, place, members, below, aliases, limit)?;
-    Ok(Value::Object(laid))
 }
 
 /// What an object inherits from, resolved. It is no part of what the object becomes, so the limit is not its own.

@@ -21,6 +21,14 @@ pub(crate) struct AliasOutcomes {
     ghost nested: { shallow ≡ true → members_nest (members_view resolved.entries) ALIAS_LEVELS ≡ true },
 }
 
+/// The aliases that a value may name, and those of them that are resolved.
+#[derive(Clone, Copy)]
+pub(crate) struct Known<'a> {
+    pub alloc: Global,
+    pub aliases: &'a Map<String, Value>,
+    pub resolved: &'a Map<String, Value>,
+}
+
 impl AliasOutcomes {
     ghost use Rattle.std.specs.Prelude.{◌≡◌, OnOk, string_bytes, None, Some};
     ghost use Rattle.serde_json.specs.View.{view};

@@ -14,6 +14,7 @@ use crate::field_places::{
 };
 use crate::flaws::{check_flaws, check_itself, check_type, mark};
 use crate::limits::check_limits;
+use crate::outcomes::Known;
 use conf_table::Place;
 use conf_tree::{ConfFault, FaultKind};
 use serde_json::{Map, Value};
@@ -39,24 +40,18 @@ fn check_count(alloc: Global, value: &Value) -> Result<(), ConfFault>
 
 /// Refuses what is wrong with a value as a whole that stands at a place of field types.
 #[tactic(auto, using(crate::proofs::FlawLemmas::refused_later), unfolding(crate::specs::Places::place_flaws))]
-fn check_place(
-    alloc: Global,
-    value: &Value,
-    place: Place,
-    aliases: &Map<String, Value>,
-    resolved: &Map<String, Value>,
-) -> Result<(), ConfFault>
-    ensures first { Gives (λ _. tt) result (refusal (place_flaws (members_view aliases.now.entries) (members_view resolved.now.entries) place (view value.now))) }
+fn check_place(known: Known, value: &Value, place: Place) -> Result<(), ConfFault>
+    ensures first { Gives (λ _. tt) result (refusal (place_flaws (members_view known.entry.aliases.now.entries) (members_view known.entry.resolved.now.entries) place (view value.now))) }
 {
     if names_alias(place) {
-        return check_type(alloc, value, place, aliases, resolved);
+        return check_type(known, value, place);
     }
     if names_member_type(place) {
-        return check_limits(alloc, value, place, resolved);
+        return check_limits(known.alloc, value, place, known.resolved);
     }
     if lists_extra_members(place) {
-        check_count(alloc, value)?;
-        return check_itself(alloc, value, place, false, aliases);
+        check_count(known.alloc, value)?;
+        return check_itself(known, value, place, false);
     }
     Ok(())
 }
@@ -64,44 +59,28 @@ fn check_place(
 /// Refuses what is wrong with a value as a whole, or else the first fault at the places in it.
 #[cycle(places)]
 #[tactic(auto, using(crate::proofs::FlawLemmas::refused_first, crate::proofs::FlawLemmas::refused_later))]
-pub(crate) fn check_places(
-    alloc: Global,
-    value: &Value,
-    place: Place,
-    aliases: &Map<String, Value>,
-    resolved: &Map<String, Value>,
-) -> Result<(), ConfFault>
-    ensures first { Gives (λ _. tt) result (refusal (place_flaws (members_view aliases.now.entries) (members_view resolved.now.entries) place (view value.now) ++ inner_places (members_view aliases.now.entries) (members_view resolved.now.entries) place (view value.now))) }
+pub(crate) fn check_places(known: Known, value: &Value, place: Place) -> Result<(), ConfFault>
+    ensures first { Gives (λ _. tt) result (refusal (place_flaws (members_view known.entry.aliases.now.entries) (members_view known.entry.resolved.now.entries) place (view value.now) ++ inner_places (members_view known.entry.aliases.now.entries) (members_view known.entry.resolved.now.entries) place (view value.now))) }
 {
-    check_place(alloc, value, place, aliases, resolved)?;
+    check_place(known, value, place)?;
     match value {
-        Value::Array(items) if lists_extra_members(place) => {
-            check_item_places(alloc, items, place, aliases, resolved)
-        }
-        Value::Object(members) if leads_on(place) => {
-            check_member_places(alloc, members, place, aliases, resolved)
-        }
+        Value::Array(items) if lists_extra_members(place) => check_item_places(known, items, place),
+        Value::Object(members) if leads_on(place) => check_member_places(known, members, place),
         _ => Ok(()),
     }
 }
 
 /// Refuses the first fault of the extra members of a packet context, in their order.
 #[cycle(places)]
-fn check_item_places(
-    alloc: Global,
-    items: &Vec<Value>,
-    place: Place,
-    aliases: &Map<String, Value>,
-    resolved: &Map<String, Value>,
-) -> Result<(), ConfFault>
-    ensures first { Gives (λ _. tt) result (refusal (item_places (members_view aliases.now.entries) (members_view resolved.now.entries) place 0 no_members (items_view items.now.items))) }
+fn check_item_places(known: Known, items: &Vec<Value>, place: Place) -> Result<(), ConfFault>
+    ensures first { Gives (λ _. tt) result (refusal (item_places (members_view known.entry.aliases.now.entries) (members_view known.entry.resolved.now.entries) place 0 no_members (items_view items.now.items))) }
 {
-    let mut seen = BTreeMap::new(alloc);
+    let mut seen = BTreeMap::new(known.alloc);
     for (index, item) in items.iter().enumerate() {
-        if let Err(fault) = check_entry(alloc, item, place, &seen, aliases, resolved) {
-            return Err(fault.inside(alloc, index));
+        if let Err(fault) = check_entry(known, item, place, &seen) {
+            return Err(fault.inside(known.alloc, index));
         }
-        mark(item, &mut seen).map_err(|_| ConfFault::memory(alloc))?;
+        mark(item, &mut seen).map_err(|_| ConfFault::memory(known.alloc))?;
     }
     Ok(())
 }
@@ -111,36 +90,31 @@ fn check_item_places(
 #[cycle(places)]
 #[tactic(auto, using(crate::proofs::FlawLemmas::refused_first, crate::proofs::FlawLemmas::refused_later, crate::proofs::SoundPlaces::no_entry_flaws))]
 fn check_entry(
-    alloc: Global,
+    known: Known,
     value: &Value,
     place: Place,
     seen: &BTreeMap<&str, ()>,
-    aliases: &Map<String, Value>,
-    resolved: &Map<String, Value>,
 ) -> Result<(), ConfFault>
-    ensures first { Gives (λ _. tt) result (refusal (flaws (members_view aliases.now.entries) (Some (members_view resolved.now.entries)) (place_of_items place) false (seen_names seen.now) (view value.now) ++ inner_places (members_view aliases.now.entries) (members_view resolved.now.entries) (place_of_items place) (view value.now))) }
+    ensures first { Gives (λ _. tt) result (refusal (flaws (members_view known.entry.aliases.now.entries) (Some (members_view known.entry.resolved.now.entries)) (place_of_items place) false (seen_names seen.now) (view value.now) ++ inner_places (members_view known.entry.aliases.now.entries) (members_view known.entry.resolved.now.entries) (place_of_items place) (view value.now))) }
 {
     let entry = place_of_items(place);
-    let known = Some(resolved);
-    check_flaws(alloc, value, entry, false, seen, aliases, known)?;
-    check_places(alloc, value, entry, aliases, resolved)
+    check_flaws(known, value, entry, false, seen)?;
+    check_places(known, value, entry)
 }
 
 /// Refuses the first fault at the places in an object's properties.
 #[cycle(places)]
 fn check_member_places(
-    alloc: Global,
+    known: Known,
     members: &Map<String, Value>,
     place: Place,
-    aliases: &Map<String, Value>,
-    resolved: &Map<String, Value>,
 ) -> Result<(), ConfFault>
-    ensures first { Gives (λ _. tt) result (refusal (member_places (members_view aliases.now.entries) (members_view resolved.now.entries) place (members_view members.now.entries))) }
+    ensures first { Gives (λ _. tt) result (refusal (member_places (members_view known.entry.aliases.now.entries) (members_view known.entry.resolved.now.entries) place (members_view members.now.entries))) }
 {
     for (name, member) in members.iter() {
         let inner = place_under(place, name.as_str());
-        if let Err(fault) = check_places(alloc, member, inner, aliases, resolved) {
-            return Err(fault.in_property(alloc, name.as_str()));
+        if let Err(fault) = check_places(known, member, inner) {
+            return Err(fault.in_property(known.alloc, name.as_str()));
         }
     }
     Ok(())

@@ -19,7 +19,7 @@ use crate::alias_check::check_aliases;
 use crate::field_places::{place_under, way_to_aliases};
 use crate::laying::lay;
 use crate::nesting::{ALIAS_LEVELS, check_nesting};
-use crate::outcomes::AliasOutcomes;
+use crate::outcomes::{AliasOutcomes, Known};
 use crate::places::check_places;
 use crate::rounds::settle_aliases;
 use crate::size::Stop;
@@ -127,7 +127,12 @@ fn resolve_after(
     if let Err(fault) = check_aliases(alloc, aliases, &outcomes) {
         return Err(in_aliases(alloc, fault));
     }
-    check_places(alloc, value, Place::Root, aliases, &outcomes.resolved)?;
+    let known = Known {
+        alloc,
+        aliases,
+        resolved: &outcomes.resolved,
+    };
+    check_places(known, value, Place::Root)?;
     let AliasOutcomes {
         resolved,
         refused: _,

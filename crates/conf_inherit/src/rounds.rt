@@ -14,7 +14,7 @@ ghost use Rattle.conf_inherit.specs.Spent.{Spends, TurnsLeave};
 use crate::flaws::check_value;
 use crate::limits::fit;
 use crate::named::{Asked, all_named, push_failing};
-use crate::outcomes::AliasOutcomes;
+use crate::outcomes::{AliasOutcomes, Known};
 use crate::property::{has, property, take_property};
 use conf_table::Place;
 use conf_tree::ConfFault;
@@ -92,7 +92,12 @@ fn outcome(
     if !known {
         return Ok(None);
     }
-    if let Err(fault) = check_value(alloc, value, Place::FieldType, aliases, Some(resolved)) {
+    let judged = Known {
+        alloc,
+        aliases,
+        resolved,
+    };
+    if let Err(fault) = check_value(judged, value, Place::FieldType) {
         if fault.is_memory() {
             return Err(fault);
         }

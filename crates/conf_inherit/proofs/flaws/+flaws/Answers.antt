@@ -1,4 +1,4 @@
-use Rattle.std.proofs.Common.{◌&&◌, ◌++◌, ℕ, List, Err, is_some, option_map, string_bytes, inl, inr, sym, ap, ◌∙◌}
+use Rattle.std.proofs.Common.{◌&&◌, ◌++◌, ℕ, List, Err, is_some, Some, string_bytes, inl, inr, sym, ap, ◌∙◌}
 use Rattle.std.proofs.lemmas.Result.{err_from_is_err_and}
 use Rattle.conf_tree.specs.Flaw.{Flaw, flaw_of, key, within}
 use Rattle.conf_tree.specs.Walk.{refusal}
@@ -13,8 +13,8 @@ use Rattle.conf_inherit.proofs.flaws.+flaws.Goals as goal
 
 pub check_flaws-returns-in_err-check_itself : goal.check_flaws-returns-in_err-check_itself
 check_flaws-returns-in_err-check_itself t c =
-    let al = members_view c.args.aliases.now.entries in
-    let known = option_map (λ m. members_view m.now.entries) c.args.resolved in
+    let al = members_view c.args.known.aliases.now.entries in
+    let known = Some (members_view c.args.known.resolved.now.entries) in
     let own = own_flaws al c.args.place c.args.taken (view c.args.value.now) in
     let inner = inner_flaws al known c.args.place (seen_names c.args.seen.now) (view c.args.value.now) in
     let p = err_from_is_err_and c.from_residual.result c.from_residual.ensures.1 in
@@ -24,8 +24,8 @@ check_flaws-returns-in_err-check_itself t c =
 
 pub check_members-returns-in-Err : goal.check_members-returns-in-Err
 check_members-returns-in-Err t c =
-    let al = members_view c.args.aliases.now.entries in
-    let known = option_map (λ m. members_view m.now.entries) c.args.resolved in
+    let al = members_view c.args.known.aliases.now.entries in
+    let known = Some (members_view c.args.known.resolved.now.entries) in
     let place = c.args.place in
     let seen = seen_names c.args.seen.now in
     let name = string_bytes c.in-Some.name.now in
@@ -47,8 +47,8 @@ check_members-returns-in-Err t c =
 
 pub check_members-loop-name-preserved : goal.check_members-loop-name-preserved
 check_members-loop-name-preserved t c =
-    let al = members_view c.args.aliases.now.entries in
-    let known = option_map (λ m. members_view m.now.entries) c.args.resolved in
+    let al = members_view c.args.known.aliases.now.entries in
+    let known = Some (members_view c.args.known.resolved.now.entries) in
     let place = c.args.place in
     let seen = seen_names c.args.seen.now in
     let name = string_bytes c.in-Some.name.now in

@@ -15,9 +15,6 @@ decreases-lay l = 5 * goal.size-lay l + 1
 abbrev pub decreases-lay_value : goal.decreases-lay_value
 decreases-lay_value l = 5 * goal.size-lay_value l
 
-abbrev pub decreases-lay_object : goal.decreases-lay_object
-decreases-lay_object l = 5 * goal.size-lay_object l + 3
-
 abbrev pub decreases-lay_inherited : goal.decreases-lay_inherited
 decreases-lay_inherited l = 5 * goal.size-lay_inherited l + 2
 

@@ -20,9 +20,9 @@ decreases-check_member_places l = 3 * goal.size-check_member_places l + 2
 -- what is left of the list has all the flaws
 abbrev pub invariant-check_item_places-loop-index : goal.invariant-check_item_places-loop-index
 invariant-check_item_places-loop-index l =
-    item_places (members_view l.aliases.entries) (members_view l.resolved.entries) l.place 0 no_members (items_view l.items.items) ≡ item_places (members_view l.aliases.entries) (members_view l.resolved.entries) l.place l.index (seen_names l.seen) (items_view (drop l.index l.items.items))
+    item_places (members_view l.known.aliases.now.entries) (members_view l.known.resolved.now.entries) l.place 0 no_members (items_view l.items.items) ≡ item_places (members_view l.known.aliases.now.entries) (members_view l.known.resolved.now.entries) l.place l.index (seen_names l.seen) (items_view (drop l.index l.items.items))
 
 -- what is left of the object has all the flaws
 abbrev pub invariant-check_member_places-loop-name : goal.invariant-check_member_places-loop-name
 invariant-check_member_places-loop-name l =
-    member_places (members_view l.aliases.entries) (members_view l.resolved.entries) l.place (members_view l.members.entries) ≡ member_places (members_view l.aliases.entries) (members_view l.resolved.entries) l.place (members_view l.name-iterator)
+    member_places (members_view l.known.aliases.now.entries) (members_view l.known.resolved.now.entries) l.place (members_view l.members.entries) ≡ member_places (members_view l.known.aliases.now.entries) (members_view l.known.resolved.now.entries) l.place (members_view l.name-iterator)

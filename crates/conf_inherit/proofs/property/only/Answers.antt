@@ -3,17 +3,16 @@ use Rattle.serde_json.specs.Data.{Data, object, member, no_members, put}
 use Rattle.serde_json.specs.Find.{get_member}
 use Rattle.serde_json.specs.View.{view, members_view}
 use Rattle.serde_json.proofs.Views.{Entry, view-Object}
-use Rattle.conf_inherit.proofs.LayingLemmas.{same_name, Meets, same, other, meets, get_other}
+use Rattle.conf_inherit.proofs.LayingLemmas.{same_name, same, other, meets, get_other}
 use Rattle.conf_inherit.proofs.property.only.Goals as goal
 
 -- what is put at the only name is alone there
 alone : (n : List ℕ) (d : Data) (es : List Entry) → length es ≡ 1 → is_some (get_member n (members_view es)) ≡ true → put n d (members_view es) ≡ member n d no_members
 alone n d [] one there = absurd (omega arith)
-alone n d (e ∷ []) one there = go (meets n (string_bytes e.0))
-  where
-    go : Meets n (string_bytes e.0) → put n d (members_view (e ∷ [])) ≡ member n d no_members
-    go (same is) = rw (← is, same_name n) refl
-    go (other apart) = absurd (true≢false (sym there ∙ ap is_some (get_other n (string_bytes e.0) (view e.1) no_members apart)))
+alone n d (e ∷ []) one there = elim (meets n (string_bytes e.0)) [
+  | same is ↦ rw (← is, same_name n) refl
+  | other apart ↦ absurd (true≢false (sym there ∙ ap is_some (get_other n (string_bytes e.0) (view e.1) no_members apart)))
+]
 alone n d (e ∷ f ∷ es) one there = absurd (omega arith)
 
 pub returns-then-has : goal.returns-then-has

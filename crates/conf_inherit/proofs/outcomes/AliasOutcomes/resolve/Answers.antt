@@ -4,7 +4,7 @@ use Rattle.serde_json.specs.View.{view, members_view}
 use Rattle.conf_inherit.specs.declared.nesting.TheConstants.{ALIAS_LEVELS}
 use Rattle.conf_inherit.specs.Nesting.{members_nest}
 use Rattle.conf_inherit.specs.Rounds.{Outcomes}
-use Rattle.conf_inherit.proofs.NestingLemmas.{nest_put}
+use Rattle.conf_inherit.proofs.SizeLemmas.{nest_put}
 use Rattle.conf_inherit.proofs.outcomes.AliasOutcomes.resolve.Goals.{then-self, else-self}
 use Rattle.conf_inherit.proofs.outcomes.AliasOutcomes.resolve.Goals as goal
 
