@@ -1,7 +1,6 @@
 -- What an index of entries answers is what a search of the entries answers.
 use Rattle.std.proofs.Common.{inr, inl, Bor, ◌≡◌, ◌+◌, ◌≤◌, ◌||◌, ℕ, suc, List, [], ◌∷◌, length, Option, Some, None, option_map, is_some, nat_lt, if◌then◌else◌, Bool, true, false, true≢false, refl, sym, ap, ◌∙◌, subst, arith}
-use Rattle.std.proofs.lemmas.Bool.{cases_Bool}
-use Rattle.std.proofs.lemmas.Bool.Decides.{nat_tests}
+use Rattle.std.proofs.lemmas.Bool.{or_parts, le-ltb, lt-ltb, cases_Bool}
 use Rattle.std.proofs.lemmas.Slice.Eq.{bytes_eq-Decides}
 use Rattle.std.specs.List.{IsAmong, push}
 use Rattle.std.specs.Map.{update}
@@ -15,7 +14,7 @@ use Rattle.serde_json.specs.declared.value.Value.{Value}
 use Rattle.serde_json.proofs.Views.{get_item_within, get_item_past}
 use Rattle.conf_inherit.specs.EntryIndex.{place_if, place_from, lower, lowest, lowest_of, lay_over_found}
 use Rattle.conf_inherit.specs.Laying.{has_entry, lay_over, lay_over_entry, lay_over_member}
-use Rattle.conf_inherit.proofs.LayingLemmas.{get_first, Meets, same, other, meets, get_other, get_same, differs}
+use Rattle.conf_inherit.proofs.LayingLemmas.{some_is_none, cases_Option, get_first, same, other, meets, get_other, get_same, differs}
 
 -- ---- the first place of a name
 
@@ -26,16 +25,12 @@ has_place i n (item e es) = elim (cases_Bool (is_some (get n e))) [ inl is ↦ r
 -- one entry more at the end of a list
 pub place_pushed : (i : ℕ) (n : List ℕ) (vs : List Value) (v : Value) → place_from i n (items_view (push vs v)) ≡ option_or (place_from i n (items_view vs)) (place_if n (view v) (i + length vs))
 place_pushed i n [] v = let e : i ≡ i + 0 = omega arith in ap (place_if n (view v)) e
-place_pushed i n (w ∷ vs) v = go (is_some (get n (view w))) refl (place_pushed (suc i) n vs v)
-  where
-    shifted : place_if n (view v) (suc i + length vs) ≡ place_if n (view v) (i + suc (length vs))
-    shifted = let e : suc i + length vs ≡ i + suc (length vs) = omega arith in ap (place_if n (view v)) e
-
-    go : (t : Bool) → is_some (get n (view w)) ≡ t
-        → place_from (suc i) n (items_view (push vs v)) ≡ option_or (place_from (suc i) n (items_view vs)) (place_if n (view v) (suc i + length vs))
-        → place_from i n (items_view (push (w ∷ vs) v)) ≡ option_or (place_from i n (items_view (w ∷ vs))) (place_if n (view v) (i + suc (length vs)))
-    go true is later = rw is refl
-    go false is later = rw is (later ∙ ap (option_or (place_from (suc i) n (items_view vs))) shifted)
+place_pushed i n (w ∷ vs) v =
+    let shifted : suc i + length vs ≡ i + suc (length vs) = omega arith in
+    elim (cases_Bool (is_some (get n (view w)))) [
+      | inl is ↦ rw is refl
+      | inr is ↦ rw is (place_pushed (suc i) n vs v ∙ ap (λ x. option_or (place_from (suc i) n (items_view vs)) (place_if n (view v) x)) shifted)
+    ]
 
 pub length_pushed : (vs : List Value) (v : Value) → length (push vs v) ≡ length vs + 1
 length_pushed [] v = refl
@@ -48,22 +43,19 @@ or_assoc (Some i) b c = refl
 -- once a name is noted, the names that are left are still to be noted
 pub noted : (old new : List ℕ → Option ℕ) (k : List ℕ) (place : ℕ) (d : Data) (ms : Members) → ((n : List ℕ) → new n ≡ update bytes_eq old k (Some place) n)
     → (n : List ℕ) → option_or (place_if n (object ms) place) (new n) ≡ option_or (place_if n (object (member k d ms)) place) (old n)
-noted old new k place d ms put n = go (meets n k)
+noted old new k place d ms put n = elim (meets n k) [
+  | same e ↦ (let eq : bytes_eq k n ≡ true = (bytes_eq-Decides k n).1 (sym e) in
+      let made : new n ≡ Some place = put n ∙ rw eq refl in
+      let found : place_if n (object (member k d ms)) place ≡ Some place = let f = get_same n k d ms e in rw f refl in
+      ap (option_or (place_if n (object ms) place)) made ∙ again (is_some (get n (object ms))) ∙ sym (ap (λ o. option_or o (old n)) found))
+  | other apart ↦ (let eq : bytes_eq k n ≡ false = differs k n (λ e. apart (sym e)) (bytes_eq k n) refl in
+      let kept : new n ≡ old n = put n ∙ rw eq refl in
+      ap (option_or (place_if n (object ms) place)) kept ∙ ap (λ o. option_or (if is_some o then Some place else None) (old n)) (sym (get_other n k d ms apart)))
+]
   where
     again : (b : Bool) → option_or (if b then Some place else None) (Some place) ≡ Some place
     again true = refl
     again false = refl
-
-    go : Meets n k → option_or (place_if n (object ms) place) (new n) ≡ option_or (place_if n (object (member k d ms)) place) (old n)
-    go (same e) =
-        let eq : bytes_eq k n ≡ true = (bytes_eq-Decides k n).1 (sym e) in
-        let made : new n ≡ Some place = put n ∙ rw eq refl in
-        let found : place_if n (object (member k d ms)) place ≡ Some place = let f = get_same n k d ms e in rw f refl in
-        ap (option_or (place_if n (object ms) place)) made ∙ again (is_some (get n (object ms))) ∙ sym (ap (λ o. option_or o (old n)) found)
-    go (other apart) =
-        let eq : bytes_eq k n ≡ false = differs k n (λ e. apart (sym e)) (bytes_eq k n) refl in
-        let kept : new n ≡ old n = put n ∙ rw eq refl in
-        ap (option_or (place_if n (object ms) place)) kept ∙ ap (λ o. option_or (if is_some o then Some place else None) (old n)) (sym (get_other n k d ms apart))
 
 abbrev AtLeast : ℕ → Option ℕ → Type 0
 AtLeast i None = Unit {0}
@@ -82,12 +74,6 @@ place_at_least i n (item e es) = elim (cases_Bool (is_some (get n e))) [
 
 -- ---- the lowest place of some names
 
-not_before : (i j : ℕ) → i ≤ j → nat_lt j i ≡ false
-not_before i j h = grind (arith, nat_tests)
-
-is_before : (i j : ℕ) → suc i ≤ j → nat_lt i j ≡ true
-is_before i j h = grind (arith, nat_tests)
-
 lower_at_least : (i : ℕ) (o q : Option ℕ) → AtLeast i o → AtLeast i q → AtLeast i (lower o q)
 lower_at_least i None q a b = b
 lower_at_least i (Some p) None a b = a
@@ -99,11 +85,11 @@ lowest_at_least i f (member n d ms) h = lower_at_least i (f n) (lowest f ms) (h 
 
 lower_first : (i : ℕ) (q : Option ℕ) → AtLeast i q → lower (Some i) q ≡ Some i
 lower_first i None h = refl
-lower_first i (Some j) h = rw (not_before i j h) refl
+lower_first i (Some j) h = rw (le-ltb j i h) refl
 
 lower_second : (i : ℕ) (o q : Option ℕ) → AtLeast (suc i) o → q ≡ Some i → lower o q ≡ Some i
 lower_second i None q h e = e
-lower_second i (Some p) q h e = rw (e, is_before i p h) refl
+lower_second i (Some p) q h e = rw (e, lt-ltb i p h) refl
 
 -- names that have the same places have the same lowest one
 pub same_lowest : (f g : List ℕ → Option ℕ) → ((n : List ℕ) → f n ≡ g n) → (d : Data) → lowest_of f d ≡ lowest_of g d
@@ -113,8 +99,6 @@ same_lowest f g h (object ms) = go ms
     go no_members = refl
     go (member n d ms) = ap (λ o. lower o (lowest f ms)) (h n) ∙ ap (lower (g n)) (go ms)
 same_lowest f g h _ = refl
-
--- ---- an entry that has one of the names, and one that has none
 
 -- one of the names is that of a property of the value
 abbrev shares : Members → Data → Bool
@@ -130,23 +114,16 @@ lowest_later i e es (member n d ms) h = elim (cases_Bool (is_some (get n e))) [
 
 lowest_here : (i : ℕ) (e : Data) (es : Items) (ms : Members) → shares ms e ≡ true → lowest (λ n. place_from i n (item e es)) ms ≡ Some i
 lowest_here i e es no_members h = absurd (true≢false (sym h))
-lowest_here i e es (member n d ms) h = go (is_some (get n e)) refl (lowest_here i e es ms)
-  where
-    least : AtLeast i (lowest (λ n. place_from i n (item e es)) ms)
-    least = lowest_at_least i (λ n. place_from i n (item e es)) ms (λ n. place_at_least i n (item e es))
-
-    go : (t : Bool) → is_some (get n e) ≡ t → (shares ms e ≡ true → lowest (λ n. place_from i n (item e es)) ms ≡ Some i) → lowest (λ n. place_from i n (item e es)) (member n d ms) ≡ Some i
-    go true is rest = rw is (lower_first i _ least)
-    go false is rest = rw is (lower_second i (place_from (suc i) n es) _ (place_at_least (suc i) n es) (rest (rw is at h)))
+lowest_here i e es (member n d ms) h = elim (cases_Bool (is_some (get n e))) [
+  | inl is ↦ rw is (lower_first i _ (lowest_at_least i (λ n. place_from i n (item e es)) ms (λ n. place_at_least i n (item e es))))
+  | inr is ↦ rw is (lower_second i (place_from (suc i) n es) _ (place_at_least (suc i) n es) (lowest_here i e es ms (rw is at h)))
+]
 
 unshared : (n : List ℕ) (bs : Members) (e : Data) → shares bs e ≡ false → is_some (get n e) ≡ true → get_member n bs ≡ None
 unshared n no_members e h is = refl
-unshared n (member l d bs) e h is = go (is_some (get l e)) refl (unshared n bs e) (meets n l)
-  where
-    go : (t : Bool) → is_some (get l e) ≡ t → (shares bs e ≡ false → is_some (get n e) ≡ true → get_member n bs ≡ None) → Meets n l → get_member n (member l d bs) ≡ None
-    go true at rest m = absurd (true≢false (rw at at h))
-    go false at rest (same x) = absurd (true≢false (sym is ∙ ap (λ k. is_some (get k e)) x ∙ at))
-    go false at rest (other apart) = get_other n l d bs apart ∙ rest (rw at at h) is
+unshared n (member l d bs) e h is =
+    let parts = or_parts (is_some (get l e)) (shares bs e) h in
+    elim (meets n l) [ same x ↦ absurd (true≢false (sym is ∙ ap (λ k. is_some (get k e)) x ∙ parts.0)) | other apart ↦ get_other n l d bs apart ∙ unshared n bs e parts.1 is ]
 
 still_there : (n l : List ℕ) (d : Data) (ms : Members) → is_some (get_member n ms) ≡ true → is_some (get_member n (member l d ms)) ≡ true
 still_there n l d ms h = elim (meets n l) [ same x ↦ ap is_some (get_same n l d ms x) | other apart ↦ ap is_some (get_other n l d ms apart) ∙ h ]
@@ -169,23 +146,19 @@ none_shared e none (member n d bs) = let f : is_some (get n e) ≡ false = ap is
 
 shared_later : (n : List ℕ) (d : Data) (ms bs : Members) → get_member n bs ≡ None → shares bs (object (member n d ms)) ≡ shares bs (object ms)
 shared_later n d ms no_members h = refl
-shared_later n d ms (member l x bs) h = go (meets n l) (shared_later n d ms bs)
-  where
-    go : Meets n l → (get_member n bs ≡ None → shares bs (object (member n d ms)) ≡ shares bs (object ms)) → shares (member l x bs) (object (member n d ms)) ≡ shares (member l x bs) (object ms)
-    go (same e) rest = absurd (let f : Some x ≡ None = sym (get_same n l x bs e) ∙ h in cc)
-    go (other apart) rest =
-        ap (λ o. is_some o || shares bs (object (member n d ms))) (get_other l n d ms (λ e. apart (sym e)))
-        ∙ ap (λ t. is_some (get_member l ms) || t) (rest (sym (get_other n l x bs apart) ∙ h))
+shared_later n d ms (member l x bs) h = elim (meets n l) [
+  | same e ↦ absurd (some_is_none x (sym (get_same n l x bs e) ∙ h))
+  | other apart ↦ ap (λ o. is_some o || shares bs (object (member n d ms))) (get_other l n d ms (λ e. apart (sym e)))
+      ∙ ap (λ t. is_some (get_member l ms) || t) (shared_later n d ms bs (sym (get_other n l x bs apart) ∙ h))
+]
 
 -- where a name is shared, it does not matter what comes later
 decided_members : (done bs ms : Members) (rest last : Data) → shares bs (object ms) ≡ true → lay_over_member done ms (object bs) rest ≡ lay_over_member done ms (object bs) last
 decided_members done bs no_members rest last h = absurd (true≢false (sym h ∙ none_shared (object no_members) (λ n. refl) bs))
-decided_members done bs (member n d ms) rest last h = go (get_member n bs) refl (decided_members done bs ms rest last)
-  where
-    go : (o : Option Data) → get_member n bs ≡ o → (shares bs (object ms) ≡ true → lay_over_member done ms (object bs) rest ≡ lay_over_member done ms (object bs) last)
-        → lay_over_member done (member n d ms) (object bs) rest ≡ lay_over_member done (member n d ms) (object bs) last
-    go (Some x) is more = rw is refl
-    go None is more = rw is (more (sym (shared_later n d ms bs is) ∙ h))
+decided_members done bs (member n d ms) rest last h = elim (cases_Option (get_member n bs)) [
+  | inl is ↦ rw is (decided_members done bs ms rest last (sym (shared_later n d ms bs is) ∙ h))
+  | inr (x, is) ↦ rw is refl
+]
 
 decided : (done bs : Members) (e rest last : Data) → shares bs e ≡ true → lay_over_entry done e (object bs) rest ≡ lay_over_entry done e (object bs) last
 decided done bs (object ms) rest last h = decided_members done bs ms rest last h

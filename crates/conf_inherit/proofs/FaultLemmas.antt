@@ -1,6 +1,6 @@
 -- A value without a flaw, whose names are all of resolved aliases, is ready to be resolved.
-use Rattle.std.proofs.Common.{cond, ◌≡◌, ◌&&◌, ◌++◌, inl, inr, ℕ, suc, List, [], ◌∷◌, map, Option, Some, None, is_some, Bool, true, false, true≢false, refl, sym, ap, ◌∙◌, subst, ◌<◌, ◌+◌, ◌⊎◌, Err, arith, ◌||◌, not}
-use Rattle.std.proofs.lemmas.Bool.{and_parts, cases_Bool, or_parts, and_cases, and_from}
+use Rattle.std.proofs.Common.{cond, ◌≡◌, ◌&&◌, ◌++◌, inl, inr, ℕ, suc, List, [], ◌∷◌, map, Option, Some, None, is_some, Bool, true, false, true≢false, refl, sym, ap, ◌∙◌, subst, ◌<◌, ◌+◌, ◌⊎◌, Err, arith, ◌||◌, Ok, Ordering, Less, Equal, Greater, nat_cmp}
+use Rattle.std.proofs.lemmas.Bool.{or_cases, and_parts, cases_Bool, or_parts, and_cases, and_from}
 use Rattle.serde_json.specs.Data.{Data, null, string, array, object, Items, no_items, item, Members, no_members, member, put}
 use Rattle.serde_json.specs.Find.{get_member, get_item}
 use Rattle.serde_json.proofs.Views.{get_member-put, get_member-put_other}
@@ -13,11 +13,17 @@ use Rattle.conf_inherit.specs.Flaws.{is_wrong, is_no_entry, is_no_member, is_unk
 use Rattle.conf_inherit.specs.Ready.{Names, IsReady, AreReady, HasReady}
 use Rattle.conf_inherit.specs.Named.{all_named, all_named_in_items, all_named_in_members, has}
 use Rattle.conf_inherit.proofs.FieldPlaceLemmas.{list_place, entry_list}
-use Rattle.conf_inherit.proofs.LayingLemmas.{get_other, Meets, same, other, meets}
+use Rattle.conf_inherit.proofs.LayingLemmas.{get_other, same, other, meets}
 use Rattle.conf_tree.specs.Walk.{HasMember, refusal}
 use Rattle.conf_tree.specs.declared.fault_kind.FaultKind.TheVariants.{WrongKind, NoSuchAlias, NameClash}
 use Rattle.conf_inherit.specs.Faults.{Leads, HasEntry, SaysOf, FlawHolds}
 use Rattle.conf_inherit.specs.Circle.{Mentions, MentionsInItems, MentionsInMembers}
+use Rattle.std.specs.Prelude.{⊤}
+use Rattle.std.specs.Borrow.{Bor}
+use Rattle.std.specs.BTreeMap.{is_at, insert_entry}
+use Rattle.std.specs.Cmp.Lexicographic.{slice_cmp}
+use Rattle.std.specs.Map.{lookup}
+use Rattle.conf_inherit.specs.SeenNames.{members_named}
 
 pub part_empty : {A B : Type 0} (f : A → B) (xs : List A) (ys : List B) → map f xs ++ ys ≡ [] → xs ≡ []
 part_empty f [] ys e = refl
@@ -62,17 +68,10 @@ passes_text : (p : List ℕ → Bool) (s : Place) (n : List ℕ) → Names s →
 passes_text p s n (inl is) h = rw is at h
 passes_text p s n (inr is) h = elim (cases_Bool (names_alias s)) [ inl e ↦ rw e at h | inr e ↦ rw (e, is) at h ]
 
-entry_is : is_entry places.Entry ≡ true
-unfolding is_entry
-entry_is = refl
-
-entry_lists : lists_members places.Entry ≡ false
-unfolding lists_members
-entry_lists = refl
-
 -- an entry without a flaw is an object of one property
 pub single_entry : (v : Data) → is_wrong places.Entry v ≡ false → is_no_entry v ≡ false
-single_entry v h = (or_parts (is_no_entry v) (names_member_type places.Entry && is_no_member v) (rw (entry_lists, entry_is) at h)).0
+unfolding is_entry lists_members
+single_entry v h = (or_parts (is_no_entry v) (names_member_type places.Entry && is_no_member v) h).0
 
 -- the entries of a members list without a flaw have names of their own, which none before them has
 pub record Apart (seen : Members) (es : Members) : Type 0 where
@@ -96,11 +95,31 @@ apart_more n d seen es h a = record {
 }
 
 module _ (al : Members) (rs : Option Members) where
+  -- where a list has no flaw, its first item has none, and the others have none
+  pub item_parts : (s : Place) (i : ℕ) (seen : Members) (v : Data) (es : Items) → item_flaws al rs s i seen (item v es) ≡ []
+      → (own_flaws al (place_of_items s) false v ≡ []) × (inner_flaws al rs (place_of_items s) seen v ≡ []) × (item_flaws al rs s (suc i) (mark v seen) es ≡ [])
+  item_parts s i seen v es h =
+      let own = own_flaws al (place_of_items s) false v in
+      let inner = inner_flaws al rs (place_of_items s) seen v in
+      let here_none = part_empty (within (index i)) (own ++ inner) (item_flaws al rs s (suc i) (mark v seen) es) h in
+      (front_empty own inner here_none, back_empty own inner here_none, rest_empty (within (index i)) (own ++ inner) (item_flaws al rs s (suc i) (mark v seen) es) h)
+
+  -- so it is with the properties of an object
+  pub member_parts : (s : Place) (seen : Members) (k : List ℕ) (d : Data) (ms : Members) → member_flaws al rs s seen (member k d ms) ≡ []
+      → (own_flaws al (place_under s k) (is_entry s && is_some (get_member k seen)) d ≡ []) × (inner_flaws al rs (place_under s k) no_members d ≡ []) × (member_flaws al rs s seen ms ≡ [])
+  member_parts s seen k d ms h =
+      let own = own_flaws al (place_under s k) (is_entry s && is_some (get_member k seen)) d in
+      let inner = inner_flaws al rs (place_under s k) no_members d in
+      let both = (own ++ inner) ++ base_flaws rs s k d in
+      let here_none = front_empty (own ++ inner) (base_flaws rs s k d) (part_empty (within (key k)) both (member_flaws al rs s seen ms) h) in
+      (front_empty own inner here_none, back_empty own inner here_none, rest_empty (within (key k)) both (member_flaws al rs s seen ms) h)
+
   apart_at : (s : Place) (i : ℕ) (seen : Members) (v : Data) (es : Items) → is_no_entry v ≡ false → inner_flaws al rs places.Entry seen v ≡ [] → (Apart (mark v seen) (entries_of es)) → Apart seen (entries_of (item v es))
+  unfolding is_entry
   apart_at s i seen (object (member n d no_members)) es single h a =
       let own = front_empty _ _ (front_empty _ _ (part_empty (within (key n)) _ _ h)) in
-      let free : (is_entry places.Entry && has seen n) ≡ false = (own_sound al (place_under places.Entry n) (is_entry places.Entry && has seen n) d own).free in
-      apart_more n d seen (entries_of es) (rw entry_is at free) a
+      let free : has seen n ≡ false = (own_sound al (place_under places.Entry n) (is_entry places.Entry && has seen n) d own).free in
+      apart_more n d seen (entries_of es) free a
   apart_at s i seen (object (member n d (member m e ms))) es single h a = absurd (true≢false single)
   apart_at s i seen (object no_members) es single h a = absurd (true≢false single)
   apart_at s i seen _ es single h a = absurd (true≢false single)
@@ -108,11 +127,10 @@ module _ (al : Members) (rs : Option Members) where
   apart_entries : (s : Place) (i : ℕ) (seen : Members) (es : Items) → place_of_items s ≡ places.Entry → item_flaws al rs s i seen es ≡ [] → Apart seen (entries_of es)
   apart_entries s i seen no_items place h = record { distinct = tt; new = λ n f. refl }
   apart_entries s i seen (item v es) place h =
-      let here_none = part_empty (within (index i)) (own_flaws al (place_of_items s) false v ++ inner_flaws al rs (place_of_items s) seen v) (item_flaws al rs s (suc i) (mark v seen) es) h in
-      let later_none = rest_empty (within (index i)) (own_flaws al (place_of_items s) false v ++ inner_flaws al rs (place_of_items s) seen v) (item_flaws al rs s (suc i) (mark v seen) es) h in
-      let own : own_flaws al places.Entry false v ≡ [] = subst (λ x. own_flaws al x false v ≡ []) place (front_empty _ _ here_none) in
-      let inner : inner_flaws al rs places.Entry seen v ≡ [] = subst (λ x. inner_flaws al rs x seen v ≡ []) place (back_empty (own_flaws al (place_of_items s) false v) (inner_flaws al rs (place_of_items s) seen v) here_none) in
-      apart_at s i seen v es (single_entry v (own_sound al places.Entry false v own).right) inner (apart_entries s (suc i) (mark v seen) es place later_none)
+      let (own_none, inner_none, later) = item_parts s i seen v es h in
+      let own : own_flaws al places.Entry false v ≡ [] = subst (λ x. own_flaws al x false v ≡ []) place own_none in
+      let inner : inner_flaws al rs places.Entry seen v ≡ [] = subst (λ x. inner_flaws al rs x seen v ≡ []) place inner_none in
+      apart_at s i seen v es (single_entry v (own_sound al places.Entry false v own).right) inner (apart_entries s (suc i) (mark v seen) es place later)
 
   module _ (done : Members) where
     ready_text : (s : Place) (n : List ℕ) → all_named (has done) s (string n) ≡ true → Names s → (r : Data) × (get_member n done ≡ Some r)
@@ -128,23 +146,16 @@ module _ (al : Members) (rs : Option Members) where
       ready_items : (es : Items) (s : Place) (i : ℕ) (seen : Members) → item_flaws al rs s i seen es ≡ [] → all_named_in_items (has done) (place_of_items s) es ≡ true → AreReady done (place_of_items s) es
       ready_items no_items s i seen h named = tt
       ready_items (item v es) s i seen h named =
-          let here_none = part_empty (within (index i)) (own_flaws al (place_of_items s) false v ++ inner_flaws al rs (place_of_items s) seen v) (item_flaws al rs s (suc i) (mark v seen) es) h in
-          let later_none = rest_empty (within (index i)) (own_flaws al (place_of_items s) false v ++ inner_flaws al rs (place_of_items s) seen v) (item_flaws al rs s (suc i) (mark v seen) es) h in (
-            ready v (place_of_items s) seen (back_empty (own_flaws al (place_of_items s) false v) (inner_flaws al rs (place_of_items s) seen v) here_none) (and_parts (all_named (has done) (place_of_items s) v) (all_named_in_items (has done) (place_of_items s) es) named).0,
-            ready_items es s (suc i) (mark v seen) later_none (and_parts (all_named (has done) (place_of_items s) v) (all_named_in_items (has done) (place_of_items s) es) named).1,
-          )
+          let (own, inner, later) = item_parts s i seen v es h in
+          let parts = and_parts (all_named (has done) (place_of_items s) v) (all_named_in_items (has done) (place_of_items s) es) named in
+          (ready v (place_of_items s) seen inner parts.0, ready_items es s (suc i) (mark v seen) later parts.1)
 
       ready_members : (ms : Members) (s : Place) (seen : Members) → member_flaws al rs s seen ms ≡ [] → all_named_in_members (has done) s ms ≡ true → HasReady done s ms
       ready_members no_members s seen h named = tt
       ready_members (member k d ms) s seen h named =
-          let own = own_flaws al (place_under s k) (is_entry s && is_some (get_member k seen)) d in
-          let inner = inner_flaws al rs (place_under s k) no_members d in
-          let base = base_flaws rs s k d in
-          let here_none = front_empty (own ++ inner) base (part_empty (within (key k)) ((own ++ inner) ++ base) (member_flaws al rs s seen ms) h) in
-          let later_none = rest_empty (within (key k)) ((own ++ inner) ++ base) (member_flaws al rs s seen ms) h in (
-            ready d (place_under s k) no_members (back_empty own inner here_none) (and_parts (all_named (has done) (place_under s k) d) (all_named_in_members (has done) s ms) named).0,
-            ready_members ms s seen later_none (and_parts (all_named (has done) (place_under s k) d) (all_named_in_members (has done) s ms) named).1,
-          )
+          let (own, inner, later) = member_parts s seen k d ms h in
+          let parts = and_parts (all_named (has done) (place_under s k) d) (all_named_in_members (has done) s ms) named in
+          (ready d (place_under s k) no_members inner parts.0, ready_members ms s seen later parts.1)
 
 -- Each flaw that is listed holds at its path.
 
@@ -222,9 +233,6 @@ module _ (al : Members) where
 abbrev Taken : Place → Members → Data → Flaw → Type 0
 Taken s seen v f = (n : List ℕ) × (d : Data) × (ms : Members) × (v ≡ object ms) × HasMember n d ms × (is_entry s ≡ true) × (has seen n ≡ true) × (f ≡ within (key n) (here NameClash))
 
-below_next : (j i : ℕ) → j < i → j < suc i
-below_next j i lt = omega arith
-
 -- the names that are seen are those of entries before the place i
 abbrev pub Seen : Items → ℕ → Members → Type 0
 Seen es i seen = (n : List ℕ) → has seen n ≡ true → (j : ℕ) × (j < i) × HasEntry j n es
@@ -241,20 +249,17 @@ aligned_here es i e rest h = let same : i + 0 ≡ i = omega arith in subst (λ x
 
 has_marked : (ms seen : Members) (n : List ℕ) → has (mark_names ms seen) n ≡ true → (has seen n ≡ true) ⊎ ((d : Data) × HasMember n d ms)
 has_marked no_members seen n h = inl h
-has_marked (member k d ms) seen n h = go (has_marked ms (put k null seen) n h) (meets n k)
-  where
-    go : (has (put k null seen) n ≡ true) ⊎ ((d : Data) × HasMember n d ms) → Meets n k → (has seen n ≡ true) ⊎ ((e : Data) × HasMember n e (member k d ms))
-    go (inr (e, m)) x = inr (e, inr m)
-    go (inl f) (same e) = inr (d, inl (e, refl))
-    go (inl f) (other apart) = inl (ap is_some (sym (get_member-put_other n k null seen apart)) ∙ f)
+has_marked (member k d ms) seen n h = elim (has_marked ms (put k null seen) n h) [
+  | inl f ↦ elim (meets n k) [ same e ↦ inr (d, inl (e, refl)) | other apart ↦ inl (ap is_some (sym (get_member-put_other n k null seen apart)) ∙ f) ]
+  | inr (e, m) ↦ inr (e, inr m)
+]
 
 pub seen_next_at : (es : Items) (i : ℕ) (e : Data) (seen : Members) → get_item i es ≡ Some e → Seen es i seen → (n : List ℕ) → has (mark e seen) n ≡ true → (j : ℕ) × (j < suc i) × HasEntry j n es
-seen_next_at es i (object ms) seen is before n h = go (has_marked ms seen n h)
-  where
-    go : (has seen n ≡ true) ⊎ ((d : Data) × HasMember n d ms) → (j : ℕ) × (j < suc i) × HasEntry j n es
-    go (inl f) = let (j, lt, m) = before n f in (j, below_next j i lt, m)
-    go (inr (d, m)) = (i, omega arith, (ms, d, is, m))
-seen_next_at es i _ seen is before n h = let (j, lt, m) = before n h in (j, below_next j i lt, m)
+seen_next_at es i (object ms) seen is before n h = elim (has_marked ms seen n h) [
+  | inl f ↦ (let (j, lt, m) = before n f in (j, (let up : j < suc i = omega (arith, lt) in up), m))
+  | inr (d, m) ↦ (i, omega arith, (ms, d, is, m))
+]
+seen_next_at es i _ seen is before n h = let (j, lt, m) = before n h in (j, (let up : j < suc i = omega (arith, lt) in up), m)
 
 pub none_seen : (n : List ℕ) → has no_members n ≡ true → ⊥
 none_seen n h = true≢false (sym h)
@@ -362,52 +367,39 @@ mutual
 abbrev pub Blocks : (List ℕ → Bool) → Place → Data → Type 0
 Blocks p s v = (m : List ℕ) × Mentions m s v × (p m ≡ false)
 
-names_of : (s : Place) (t : Bool) → (names_alias s || names_member_type s) ≡ t → t ≡ true → Names s
-names_of s t e f = elim (cases_Bool (names_alias s)) [ inl a ↦ inl a | inr a ↦ inr (rw a at (e ∙ f)) ]
-
-blocks_text : (p : List ℕ → Bool) (s : Place) (n : List ℕ) → (t : Bool) → (names_alias s || names_member_type s) ≡ t → (not t || p n) ≡ false → Blocks p s (string n)
-blocks_text p s n true e h = (n, (names_of s true e refl, refl), h)
-blocks_text p s n false e h = absurd (true≢false h)
-
-blocked_item : (p : List ℕ → Bool) (d : Data) (ds : Items) (s : Place) → (all_named p s d ≡ false) ⊎ (all_named_in_items p s ds ≡ false)
-    → (all_named p s d ≡ false → Blocks p s d) → (all_named_in_items p s ds ≡ false → (m : List ℕ) × MentionsInItems m s ds × (p m ≡ false)) → (m : List ℕ) × MentionsInItems m s (item d ds) × (p m ≡ false)
-blocked_item p d ds s (inl e) f g = let (m, x, h) = f e in (m, inl x, h)
-blocked_item p d ds s (inr e) f g = let (m, x, h) = g e in (m, inr x, h)
-
-blocked_member : (p : List ℕ → Bool) (k : List ℕ) (d : Data) (ms : Members) (s : Place) → (all_named p (place_under s k) d ≡ false) ⊎ (all_named_in_members p s ms ≡ false)
-    → (all_named p (place_under s k) d ≡ false → Blocks p (place_under s k) d) → (all_named_in_members p s ms ≡ false → (m : List ℕ) × MentionsInMembers m s ms × (p m ≡ false)) → (m : List ℕ) × MentionsInMembers m s (member k d ms) × (p m ≡ false)
-blocked_member p k d ms s (inl e) f g = let (m, x, h) = f e in (m, inl x, h)
-blocked_member p k d ms s (inr e) f g = let (m, x, h) = g e in (m, inr x, h)
+blocks_text : (p : List ℕ → Bool) (s : Place) (n : List ℕ) → all_named p s (string n) ≡ false → Blocks p s (string n)
+blocks_text p s n h = elim (cases_Bool (names_alias s || names_member_type s)) [ inl e ↦ (n, (or_cases (names_alias s) (names_member_type s) e, refl), rw e at h) | inr e ↦ absurd (true≢false (rw e at h)) ]
 
 mutual
   pub blocked : (p : List ℕ → Bool) (v : Data) (s : Place) → all_named p s v ≡ false → Blocks p s v
-  blocked p (string n) s h = blocks_text p s n (names_alias s || names_member_type s) refl h
+  blocked p (string n) s h = blocks_text p s n h
   blocked p (array ds) s h = blocked_items p ds (place_of_items s) h
   blocked p (object ms) s h = blocked_members p ms s h
   blocked p _ s h = absurd (true≢false h)
 
   blocked_items : (p : List ℕ → Bool) (ds : Items) (s : Place) → all_named_in_items p s ds ≡ false → (m : List ℕ) × MentionsInItems m s ds × (p m ≡ false)
   blocked_items p no_items s h = absurd (true≢false h)
-  blocked_items p (item d ds) s h = blocked_item p d ds s (and_cases (all_named p s d) (all_named_in_items p s ds) h) (blocked p d s) (blocked_items p ds s)
+  blocked_items p (item d ds) s h = elim (and_cases (all_named p s d) (all_named_in_items p s ds) h) [
+    | inl e ↦ (let (m, x, f) = blocked p d s e in (m, inl x, f))
+    | inr e ↦ (let (m, x, f) = blocked_items p ds s e in (m, inr x, f))
+  ]
 
   blocked_members : (p : List ℕ → Bool) (ms : Members) (s : Place) → all_named_in_members p s ms ≡ false → (m : List ℕ) × MentionsInMembers m s ms × (p m ≡ false)
   blocked_members p no_members s h = absurd (true≢false h)
-  blocked_members p (member k d ms) s h = blocked_member p k d ms s (and_cases (all_named p (place_under s k) d) (all_named_in_members p s ms) h) (blocked p d (place_under s k)) (blocked_members p ms s)
+  blocked_members p (member k d ms) s h = elim (and_cases (all_named p (place_under s k) d) (all_named_in_members p s ms) h) [
+    | inl e ↦ (let (m, x, f) = blocked p d (place_under s k) e in (m, inl x, f))
+    | inr e ↦ (let (m, x, f) = blocked_members p ms s e in (m, inr x, f))
+  ]
 
 -- ---- tests that all names pass
 
 -- a text without a flaw passes a test that all aliases pass
 module _ (al : Members) (rs : Option Members) (p : List ℕ → Bool) (passes : (n : List ℕ) → has al n ≡ true → p n ≡ true) where
   named_text : (s : Place) (taken : Bool) (n : List ℕ) → own_flaws al s taken (string n) ≡ [] → all_named p s (string n) ≡ true
-  named_text s taken n h = go (names_alias s || names_member_type s) refl (has al n) refl
-    where
-      known : is_unknown al s (string n) ≡ false
-      known = (own_sound al s taken (string n) h).known
-
-      go : (t : Bool) → (names_alias s || names_member_type s) ≡ t → (u : Bool) → has al n ≡ u → all_named p s (string n) ≡ true
-      go false is u e = rw is refl
-      go true is true e = rw is (passes n e)
-      go true is false e = absurd (true≢false (rw (is, e) at known))
+  named_text s taken n h = elim (cases_Bool (names_alias s || names_member_type s)) [
+    | inl is ↦ elim (cases_Bool (has al n)) [ inl e ↦ rw is (passes n e) | inr e ↦ (let known = (own_sound al s taken (string n) h).known in absurd (true≢false (rw (is, e) at known))) ]
+    | inr is ↦ rw is refl
+  ]
 
   mutual
     pub named : (v : Data) (s : Place) (taken : Bool) (seen : Members) → own_flaws al s taken v ≡ [] → inner_flaws al rs s seen v ≡ [] → all_named p s v ≡ true
@@ -419,27 +411,54 @@ module _ (al : Members) (rs : Option Members) (p : List ℕ → Bool) (passes : 
     named_items : (es : Items) (s : Place) (i : ℕ) (seen : Members) → item_flaws al rs s i seen es ≡ [] → all_named_in_items p (place_of_items s) es ≡ true
     named_items no_items s i seen h = refl
     named_items (item v es) s i seen h =
-        let own = own_flaws al (place_of_items s) false v in
-        let inner = inner_flaws al rs (place_of_items s) seen v in
-        let here_none = part_empty (within (index i)) (own ++ inner) (item_flaws al rs s (suc i) (mark v seen) es) h in
-        let later_none = rest_empty (within (index i)) (own ++ inner) (item_flaws al rs s (suc i) (mark v seen) es) h in
-        and_from (all_named p (place_of_items s) v) (all_named_in_items p (place_of_items s) es)
-        (named v (place_of_items s) false seen (front_empty own inner here_none) (back_empty own inner here_none))
-        (named_items es s (suc i) (mark v seen) later_none)
+        let (own, inner, later) = item_parts al rs s i seen v es h in
+        and_from (all_named p (place_of_items s) v) (all_named_in_items p (place_of_items s) es) (named v (place_of_items s) false seen own inner) (named_items es s (suc i) (mark v seen) later)
 
     named_members : (ms : Members) (s : Place) (seen : Members) → member_flaws al rs s seen ms ≡ [] → all_named_in_members p s ms ≡ true
     named_members no_members s seen h = refl
     named_members (member k d ms) s seen h =
-        let taken = is_entry s && has seen k in
-        let own = own_flaws al (place_under s k) taken d in
-        let inner = inner_flaws al rs (place_under s k) no_members d in
-        let base = base_flaws rs s k d in
-        let here_none = front_empty (own ++ inner) base (part_empty (within (key k)) ((own ++ inner) ++ base) (member_flaws al rs s seen ms) h) in
-        let later_none = rest_empty (within (key k)) ((own ++ inner) ++ base) (member_flaws al rs s seen ms) h in
-        and_from (all_named p (place_under s k) d) (all_named_in_members p s ms)
-        (named d (place_under s k) taken no_members (front_empty own inner here_none) (back_empty own inner here_none))
-        (named_members ms s seen later_none)
+        let (own, inner, later) = member_parts al rs s seen k d ms h in
+        and_from (all_named p (place_under s k) d) (all_named_in_members p s ms) (named d (place_under s k) (is_entry s && has seen k) no_members own inner) (named_members ms s seen later)
 
 -- names that pass a test pass each that is passed more often
 pub named_along : (p q : List ℕ → Bool) → ((n : List ℕ) → p n ≡ true → q n ≡ true) → (s : Place) (v : Data) → all_named p s v ≡ true → all_named q s v ≡ true
 named_along p q along s v h = elim (cases_Bool (all_named q s v)) [ inl e ↦ e | inr e ↦ (let (m, x, open_m) = blocked q v s e in absurd (true≢false (sym (along m (mentioned p m v s h x)) ∙ open_m))) ]
+
+-- The first of several flaws.
+
+pub refused_first : (xs ys : List Flaw) (f : Flaw) → refusal xs ≡ Err f → refusal (xs ++ ys) ≡ Err f
+refused_first [] ys f e = cc
+refused_first (x ∷ xs) ys f e = e
+
+pub refused_later : (xs ys : List Flaw) → refusal xs ≡ Ok tt → refusal (xs ++ ys) ≡ refusal ys
+refused_later [] ys e = refl
+refused_later (x ∷ xs) ys e = cc
+
+-- the first flaw of a part is the first, seen from the whole
+pub refused_part : (p : Step) (xs ys : List Flaw) (f : Flaw) → refusal xs ≡ Err f → refusal (map (within p) xs ++ ys) ≡ Err (within p f)
+refused_part p [] ys f e = cc
+refused_part p (x ∷ xs) ys f e = let same : x ≡ f = cc in ap (λ g. Err (within p g)) same
+
+pub sound_part : (p : Step) (xs ys : List Flaw) → refusal xs ≡ Ok tt → map (within p) xs ++ ys ≡ ys
+sound_part p [] ys e = refl
+sound_part p (x ∷ xs) ys e = cc
+
+-- ---- a name that is noted, and one that is looked for
+
+pub noted : (es : List (Bor (List ℕ) × ⊤)) (k : Bor (List ℕ)) (v : ⊤) → members_named (insert_entry (λ x y. slice_cmp nat_cmp x.now y.now) es k v) ≡ put k.now null (members_named es)
+noted [] k v = refl
+noted (e ∷ es) k v = go (slice_cmp nat_cmp k.now e.0.now) refl (noted es k v)
+  where
+    go : (o : Ordering) → slice_cmp nat_cmp k.now e.0.now ≡ o → members_named (insert_entry (λ x y. slice_cmp nat_cmp x.now y.now) es k v) ≡ put k.now null (members_named es) → members_named (insert_entry (λ x y. slice_cmp nat_cmp x.now y.now) (e ∷ es) k v) ≡ put k.now null (members_named (e ∷ es))
+    go Less is rest = rw is refl
+    go Equal is rest = rw is refl
+    go Greater is rest = rw (is, rest) refl
+
+pub looked_for : (n : List ℕ) (es : List (Bor (List ℕ) × ⊤)) → is_some (lookup (is_at (λ k. slice_cmp nat_cmp n k.now)) es) ≡ is_some (get_member n (members_named es))
+looked_for n [] = refl
+looked_for n (e ∷ es) = go (slice_cmp nat_cmp n e.0.now) refl (looked_for n es)
+  where
+    go : (o : Ordering) → slice_cmp nat_cmp n e.0.now ≡ o → is_some (lookup (is_at (λ k. slice_cmp nat_cmp n k.now)) es) ≡ is_some (get_member n (members_named es)) → is_some (lookup (is_at (λ k. slice_cmp nat_cmp n k.now)) (e ∷ es)) ≡ is_some (get_member n (members_named (e ∷ es)))
+    go Less is rest = rw is rest
+    go Equal is rest = rw is refl
+    go Greater is rest = rw is rest

@@ -1,5 +1,5 @@
 -- Objects whose names ascend: what they have at a name, and that their values at all names tell them apart.
-use Rattle.std.proofs.Common.{inr, inl, ◌≡◌, ℕ, List, Some, None, Ordering, Less, Equal, Greater, nat_cmp, is_eq, refl, sym, ap, ◌∙◌, subst, Option, Bool, true, false, true≢false, [], ◌∷◌, ◌++◌, is_some, bytes_eq}
+use Rattle.std.proofs.Common.{◌⊎◌, inr, inl, ◌≡◌, ℕ, List, Some, None, Ordering, Less, Equal, Greater, nat_cmp, is_eq, refl, sym, ap, ◌∙◌, subst, Option, Bool, true, false, true≢false, [], ◌∷◌, ◌++◌, is_some, bytes_eq}
 use Rattle.std.proofs.lemmas.Bool.{cases_Bool}
 use Rattle.std.proofs.lemmas.Cmp.{nat_list_cmp_total, tied_itself}
 use Rattle.std.proofs.lemmas.Map.Text.{is_eq-slice_cmp}
@@ -39,9 +39,6 @@ get_first k d ms = rw same_name
 pub get_below : (k l : List ℕ) (d : Data) (ms : Members) → slice_cmp nat_cmp k l ≡ Less → get_member k (member l d ms) ≡ get_member k ms
 get_below k l d ms is = rw is
 
-pub get_after : (k l : List ℕ) (d : Data) (ms : Members) → slice_cmp nat_cmp k l ≡ Greater → get_member k (member l d ms) ≡ get_member k ms
-get_after k l d ms is = rw is
-
 -- a name that all are above is none of them
 pub get_none : (k : List ℕ) (ms : Members) → AllAbove k ms → get_member k ms ≡ None
 get_none k no_members h = refl
@@ -54,38 +51,61 @@ above_through k l (member m d ms) below h = (nat_list_cmp_total.trans k l m belo
 pub some_is_none : {A : Type 0} (x : A) → Some x ≡ None → ⊥
 some_is_none x e = cc
 
+pub cases_Option : {A : Type 0} (o : Option A) → (o ≡ None) ⊎ ((x : A) × (o ≡ Some x))
+cases_Option None = inl refl
+cases_Option (Some x) = inr (x, refl)
+
 pub value_same : {A : Type 0} (x y : A) → Some x ≡ Some y → x ≡ y
 value_same x y h = cc
 
-module _ (k l : List ℕ) (d e : Data) (ms ns : Members) where
-  -- where the first names differ, the lower one is missing on the other side
-  lower_missing : slice_cmp nat_cmp k l ≡ Less → AllAbove l ns → get_member k (member k d ms) ≡ get_member k (member l e ns) → ⊥
-  lower_missing below h same = some_is_none d (sym (get_first k d ms) ∙ same ∙ get_below k l e ns below ∙ get_none k ns (above_through k l ns below h))
+-- the same name, or another that is skipped
+pub data Meets (k l : List ℕ) : Type 0 where
+  same : k ≡ l → Meets k l
+  other : (k ≡ l → ⊥) → Meets k l
+
+pub apart_greater : (k l : List ℕ) → slice_cmp nat_cmp k l ≡ Greater → k ≡ l → ⊥
+apart_greater k l is e = let f = ap is_eq is in true≢false (sym ((bytes_eq-Decides k l).1 e) ∙ sym (is_eq-slice_cmp k l) ∙ f)
+
+pub meets : (k l : List ℕ) → Meets k l
+meets k l = elim (cases_Bool (bytes_eq k l)) [ inl e ↦ same ((bytes_eq-Decides k l).0 e) | inr e ↦ other (λ q. true≢false (sym ((bytes_eq-Decides k l).1 q) ∙ e)) ]
+
+pub get_other : (k l : List ℕ) (d : Data) (ms : Members) → (k ≡ l → ⊥) → get_member k (member l d ms) ≡ get_member k ms
+get_other k l d ms apart = go _ refl
+  where
+    go : (o : Ordering) → slice_cmp nat_cmp k l ≡ o → get_member k (member l d ms) ≡ get_member k ms
+    go Less is = get_below k l d ms is
+    go Equal is = absurd (apart (equal_names k l is))
+    go Greater is = rw is
+
+pub get_same : (k l : List ℕ) (d : Data) (ms : Members) → k ≡ l → get_member k (member l d ms) ≡ Some d
+get_same k l d ms e = subst (λ x. get_member x (member l d ms) ≡ Some d) (sym e) (get_first l d ms)
+
+-- where the first names differ, the lower one is missing on the other side
+lower_missing : (k l : List ℕ) (d e : Data) (ms ns : Members) → slice_cmp nat_cmp k l ≡ Less → AllAbove l ns → get_member k (member k d ms) ≡ get_member k (member l e ns) → ⊥
+lower_missing k l d e ms ns below h alike = some_is_none d (sym (get_first k d ms) ∙ alike ∙ get_below k l e ns below ∙ get_none k ns (above_through k l ns below h))
 
 -- the rest agrees too
 rest_agrees : (k : List ℕ) (d : Data) (ms ns : Members) → AllAbove k ms → AllAbove k ns → ((q : List ℕ) → get_member q (member k d ms) ≡ get_member q (member k d ns)) → (q : List ℕ) → get_member q ms ≡ get_member q ns
-rest_agrees k d ms ns h i same q = go _ refl
-  where
-    go : (o : Ordering) → slice_cmp nat_cmp q k ≡ o → get_member q ms ≡ get_member q ns
-    go Less is = sym (get_below q k d ms is) ∙ same q ∙ get_below q k d ns is
-    go Greater is = sym (get_after q k d ms is) ∙ same q ∙ get_after q k d ns is
-    go Equal is = subst (λ x. get_member x ms ≡ get_member x ns) (sym (equal_names q k is)) (get_none k ms h ∙ sym (get_none k ns i))
+rest_agrees k d ms ns h i alike q = elim (meets q k) [
+  | same e ↦ subst (λ x. get_member x ms ≡ get_member x ns) (sym e) (get_none k ms h ∙ sym (get_none k ns i))
+  | other apart ↦ sym (get_other q k d ms apart) ∙ alike q ∙ get_other q k d ns apart
+]
 
 -- objects in order with the same value at each name are the same
 pub same_members : (ms ns : Members) → IsInOrder ms → IsInOrder ns → ((q : List ℕ) → get_member q ms ≡ get_member q ns) → ms ≡ ns
-same_members no_members no_members h i same = refl
-same_members no_members (member l e ns) h i same = absurd (some_is_none e (sym (get_first l e ns) ∙ sym (same l)))
-same_members (member k d ms) no_members h i same = absurd (some_is_none d (sym (get_first k d ms) ∙ same k))
-same_members (member k d ms) (member l e ns) h i same = go _ refl (same_members ms ns h.1 i.1)
+same_members no_members no_members h i alike = refl
+same_members no_members (member l e ns) h i alike = absurd (some_is_none e (sym (get_first l e ns) ∙ sym (alike l)))
+same_members (member k d ms) no_members h i alike = absurd (some_is_none d (sym (get_first k d ms) ∙ alike k))
+same_members (member k d ms) (member l e ns) h i alike = go _ refl (same_members ms ns h.1 i.1)
   where
     go : (o : Ordering) → slice_cmp nat_cmp k l ≡ o → (((q : List ℕ) → get_member q ms ≡ get_member q ns) → ms ≡ ns) → member k d ms ≡ member l e ns
-    go Less is rest = absurd (lower_missing k l d e ms ns is i.0 (same k))
-    go Greater is rest = absurd (lower_missing l k e d ns ms (above_turned k l is) h.0 (sym (same l)))
+    go Less is rest = absurd (lower_missing k l d e ms ns is i.0 (alike k))
+    go Greater is rest = absurd (lower_missing l k e d ns ms (above_turned k l is) h.0 (sym (alike l)))
     go Equal is rest =
         let one : k ≡ l = equal_names k l is in
-        let other : d ≡ e = value_same d e (sym (get_first k d ms) ∙ same k ∙ subst (λ x. get_member x (member l e ns) ≡ Some e) (sym one) (get_first l e ns)) in
-        let agree : (q : List ℕ) → get_member q (member k d ms) ≡ get_member q (member k d ns) = λ q. same q ∙ ap (λ x. get_member q (member x e ns)) (sym one) ∙ ap (λ x. get_member q (member k x ns)) (sym other) in
-        ap (λ x. member x d ms) one ∙ ap (λ x. member l x ms) other ∙ ap (member l e) (rest (rest_agrees k d ms ns h.0 (subst (λ x. AllAbove x ns) (sym one) i.0) agree))
+        let value : d ≡ e = value_same d e (sym (get_first k d ms) ∙ alike k ∙ subst (λ x. get_member x (member l e ns) ≡ Some e) (sym one) (get_first l e ns)) in
+        let agree : (q : List ℕ) → get_member q (member k d ms) ≡ get_member q (member k d ns) = λ q. alike q ∙ ap (λ x. get_member q (member x e ns)) (sym one) ∙ ap (λ x. get_member q (member k x ns)) (sym value) in
+        ap (λ x. member x d ms) one ∙ ap (λ x. member l x ms) value ∙ ap (member l e) (rest (rest_agrees k d ms ns h.0 (subst (λ x. AllAbove x ns) (sym one) i.0) agree))
 
 -- What laying an object or a members list over another leaves at each name.
 
@@ -112,37 +132,7 @@ in_order_put k d (member l e ms) h = in_order_put_at _ k l d e ms refl h.0 h.1 (
 
 -- what is at k after d was put at l
 pub put_found : (k l : List ℕ) (d : Data) (ms : Members) → k ≡ l → get_member k (put l d ms) ≡ Some d
-put_found k l d ms same = subst (λ x. get_member x (put l d ms) ≡ Some d) (sym same) (get_member-put l d ms)
-
--- the same name, or another that is skipped
-pub data Meets (k l : List ℕ) : Type 0 where
-  same : k ≡ l → Meets k l
-  other : (k ≡ l → ⊥) → Meets k l
-
-apart_less : (k l : List ℕ) → slice_cmp nat_cmp k l ≡ Less → k ≡ l → ⊥
-apart_less k l is e = let f = ap is_eq is in true≢false (sym ((bytes_eq-Decides k l).1 e) ∙ sym (is_eq-slice_cmp k l) ∙ f)
-
-pub apart_greater : (k l : List ℕ) → slice_cmp nat_cmp k l ≡ Greater → k ≡ l → ⊥
-apart_greater k l is e = let f = ap is_eq is in true≢false (sym ((bytes_eq-Decides k l).1 e) ∙ sym (is_eq-slice_cmp k l) ∙ f)
-
-pub meets : (k l : List ℕ) → Meets k l
-meets k l = go _ refl
-  where
-    go : (o : Ordering) → slice_cmp nat_cmp k l ≡ o → Meets k l
-    go Less is = other (apart_less k l is)
-    go Equal is = same (equal_names k l is)
-    go Greater is = other (apart_greater k l is)
-
-pub get_other : (k l : List ℕ) (d : Data) (ms : Members) → (k ≡ l → ⊥) → get_member k (member l d ms) ≡ get_member k ms
-get_other k l d ms apart = go _ refl
-  where
-    go : (o : Ordering) → slice_cmp nat_cmp k l ≡ o → get_member k (member l d ms) ≡ get_member k ms
-    go Less is = get_below k l d ms is
-    go Equal is = absurd (apart (equal_names k l is))
-    go Greater is = get_after k l d ms is
-
-pub get_same : (k l : List ℕ) (d : Data) (ms : Members) → k ≡ l → get_member k (member l d ms) ≡ Some d
-get_same k l d ms e = subst (λ x. get_member x (member l d ms) ≡ Some d) (sym e) (get_first l d ms)
+put_found k l d ms alike = subst (λ x. get_member x (put l d ms) ≡ Some d) (sym alike) (get_member-put l d ms)
 
 -- ---- what an object is laid over
 
@@ -160,13 +150,9 @@ lay_base-heir done s (member k d ms) base b h = elim (cases_Bool (is_base_name s
   | inr is ↦ rw is (lay_base-heir done s ms base b (rw is at h))
 ]
 
--- ---- the entries
-
 pub lay_entries : (done : Members) (s : Place) (es : Items) (base : Option Data) → lists_members s ≡ true
     → lay done s (array es) base ≡ array (join_items (map_items (λ b. lay_over done es b) (items_below base)) (lay_new done es (items_below base)))
 lay_entries done s es base is = rw is refl
-
--- ---- the properties
 
 pub in_order_lay : (done : Members) (s : Place) (ms base : Members) → IsInOrder base → IsInOrder (lay_members done s ms base)
 in_order_lay done s no_members base h = h
@@ -186,28 +172,22 @@ lay_members-base done s k (member l d ms) base h = elim (cases_Bool (is_base_nam
 -- a name that the object has not keeps what the base has
 pub lay_members-absent : (done : Members) (s : Place) (k : List ℕ) (ms base : Members) → get_member k ms ≡ None → get_member k (lay_members done s ms base) ≡ get_member k base
 lay_members-absent done s k no_members base h = refl
-lay_members-absent done s k (member l d ms) base h = go _ refl (meets k l) (lay_members-absent done s k ms base)
-  where
-    go : (t : Bool) → is_base_name s l ≡ t → Meets k l → (get_member k ms ≡ None → get_member k (lay_members done s ms base) ≡ get_member k base) → get_member k (lay_members done s (member l d ms) base) ≡ get_member k base
-    go t is (same e) rest = absurd (let f : Some d ≡ None = sym (get_same k l d ms e) ∙ h in cc)
-    go true is (other apart) rest = rw is (rest (sym (get_other k l d ms apart) ∙ h))
-    go false is (other apart) rest = rw is (get_member-put_other k l _ _ apart ∙ rest (sym (get_other k l d ms apart) ∙ h))
+lay_members-absent done s k (member l d ms) base h = elim (meets k l) [
+  | same e ↦ absurd (some_is_none d (sym (get_same k l d ms e) ∙ h))
+  | other apart ↦ (let later = lay_members-absent done s k ms base (sym (get_other k l d ms apart) ∙ h) in
+      elim (cases_Bool (is_base_name s l)) [ inl is ↦ rw is later | inr is ↦ rw is (get_member-put_other k l _ _ apart ∙ later) ])
+]
 
 -- a name that the object has gets its value, laid over the base's
 pub lay_members-found : (done : Members) (s : Place) (k : List ℕ) (v : Data) (ms base : Members) → is_base_name s k ≡ false → get_member k ms ≡ Some v
     → get_member k (lay_members done s ms base) ≡ Some (lay done (place_under s k) v (get_member k base))
 lay_members-found done s k v no_members base b h = cc
-lay_members-found done s k v (member l d ms) base b h = go _ refl (meets k l) (lay_members-found done s k v ms base b)
-  where
-    go : (t : Bool) → is_base_name s l ≡ t → Meets k l → (get_member k ms ≡ Some v → get_member k (lay_members done s ms base) ≡ Some (lay done (place_under s k) v (get_member k base)))
-        → get_member k (lay_members done s (member l d ms) base) ≡ Some (lay done (place_under s k) v (get_member k base))
-    go true is (same e) rest = absurd (true≢false (sym is ∙ ap (is_base_name s) (sym e) ∙ b))
-    go false is (same e) rest =
-        let f : Some d ≡ Some v = sym (get_same k l d ms e) ∙ h in
-        let g : d ≡ v = cc in
-        rw is (put_found k l _ _ e ∙ ap (λ x. Some (lay done (place_under s x) d (get_member x base))) (sym e) ∙ ap (λ x. Some (lay done (place_under s k) x (get_member k base))) g)
-    go true is (other apart) rest = rw is (rest (sym (get_other k l d ms apart) ∙ h))
-    go false is (other apart) rest = rw is (get_member-put_other k l _ _ apart ∙ rest (sym (get_other k l d ms apart) ∙ h))
+lay_members-found done s k v (member l d ms) base b h = elim (meets k l) [
+  | same e ↦ (let is : is_base_name s l ≡ false = ap (is_base_name s) (sym e) ∙ b in
+      rw is (put_found k l _ _ e ∙ ap (λ x. Some (lay done (place_under s x) d (get_member x base))) (sym e) ∙ ap (λ x. Some (lay done (place_under s k) x (get_member k base))) (value_same d v (sym (get_same k l d ms e) ∙ h))))
+  | other apart ↦ (let later = lay_members-found done s k v ms base b (sym (get_other k l d ms apart) ∙ h) in
+      elim (cases_Bool (is_base_name s l)) [ inl is ↦ rw is later | inr is ↦ rw is (get_member-put_other k l _ _ apart ∙ later) ])
+]
 
 -- Lists of values item by item, and the entries of members lists.
 
@@ -293,47 +273,33 @@ get_property n _ = refl
 
 pub has_entry_names : (n : List ℕ) (es : Items) → has_entry n es ≡ list_any (bytes_eq n) (names_of (entries_of es))
 has_entry_names n no_items = refl
-has_entry_names n (item e es) = go (list_any (bytes_eq n) (names_of (properties_of e))) refl (has_entry_names n es)
-  where
-    found : is_some (get n e) ≡ list_any (bytes_eq n) (names_of (properties_of e))
-    found = ap is_some (get_property n e) ∙ has_name n (properties_of e)
-
-    go : (t : Bool) → list_any (bytes_eq n) (names_of (properties_of e)) ≡ t → has_entry n es ≡ list_any (bytes_eq n) (names_of (entries_of es)) → has_entry n (item e es) ≡ list_any (bytes_eq n) (names_of (entries_of (item e es)))
-    go true is rest = rw (found, is) (sym (any_joined_here n (properties_of e) (entries_of es) is))
-    go false is rest = rw (found, is) (rest ∙ sym (any_joined_later n (properties_of e) (entries_of es) is))
+has_entry_names n (item e es) =
+    let found : is_some (get n e) ≡ list_any (bytes_eq n) (names_of (properties_of e)) = ap is_some (get_property n e) ∙ has_name n (properties_of e) in
+    elim (cases_Bool (list_any (bytes_eq n) (names_of (properties_of e)))) [
+      | inl is ↦ rw (found, is) (sym (any_joined_here n (properties_of e) (entries_of es) is))
+      | inr is ↦ rw (found, is) (has_entry_names n es ∙ sym (any_joined_later n (properties_of e) (entries_of es) is))
+    ]
 
 -- ---- the base's entry, with the entry of its name over it
 
 module _ (done : Members) (n : List ℕ) (r : Data) where
-  named : Data
-  named = object (member n r no_members)
-
   pub over_absent : (es : Members) (rest : Data) → get_member n es ≡ None → lay_over_member done es (object (member n r no_members)) rest ≡ rest
   over_absent no_members rest h = refl
-  over_absent (member m d ms) rest h = go (meets m n) (over_absent ms rest)
-    where
-      go : Meets m n → (get_member n ms ≡ None → lay_over_member done ms (object (member n r no_members)) rest ≡ rest) → lay_over_member done (member m d ms) (object (member n r no_members)) rest ≡ rest
-      go (same e) later = absurd (let f : Some d ≡ None = sym (get_same n m d ms (sym e)) ∙ h in cc)
-      go (other apart) later =
-          let none : get_member m (member n r no_members) ≡ None = get_other m n r no_members apart in
-          rw none (later (sym (get_other n m d ms (λ e. apart (sym e))) ∙ h))
+  over_absent (member m d ms) rest h = elim (meets m n) [
+    | same e ↦ absurd (some_is_none d (sym (get_same n m d ms (sym e)) ∙ h))
+    | other apart ↦ (let none : get_member m (member n r no_members) ≡ None = get_other m n r no_members apart in
+        rw none (over_absent ms rest (sym (get_other n m d ms (λ e. apart (sym e))) ∙ h)))
+  ]
 
   pub over_found : (es : Members) (rest v : Data) → get_member n es ≡ Some v → lay_over_member done es (object (member n r no_members)) rest ≡ object (member n (lay done places.Member v (Some r)) no_members)
   over_found no_members rest v h = cc
-  over_found (member m d ms) rest v h = go (meets m n) (over_found ms rest v)
-    where
-      go : Meets m n → (get_member n ms ≡ Some v → lay_over_member done ms (object (member n r no_members)) rest ≡ object (member n (lay done places.Member v (Some r)) no_members))
-          → lay_over_member done (member m d ms) (object (member n r no_members)) rest ≡ object (member n (lay done places.Member v (Some r)) no_members)
-      go (same e) later =
-          let found : get_member m (member n r no_members) ≡ Some r = get_same m n r no_members e in
-          let f : Some d ≡ Some v = sym (get_same n m d ms (sym e)) ∙ h in
-          let g : d ≡ v = cc in
-          rw found (ap (λ x. object (member x (lay done places.Member d (Some r)) no_members)) e ∙ ap (λ x. object (member n (lay done places.Member x (Some r)) no_members)) g)
-      go (other apart) later =
-          let none : get_member m (member n r no_members) ≡ None = get_other m n r no_members apart in
-          rw none (later (sym (get_other n m d ms (λ e. apart (sym e))) ∙ h))
-
--- ---- names
+  over_found (member m d ms) rest v h = elim (meets m n) [
+    | same e ↦ (let found : get_member m (member n r no_members) ≡ Some r = get_same m n r no_members e in
+        let g : d ≡ v = value_same d v (sym (get_same n m d ms (sym e)) ∙ h) in
+        rw found (ap (λ x. object (member x (lay done places.Member d (Some r)) no_members)) e ∙ ap (λ x. object (member n (lay done places.Member x (Some r)) no_members)) g))
+    | other apart ↦ (let none : get_member m (member n r no_members) ≡ None = get_other m n r no_members apart in
+        rw none (over_found ms rest v (sym (get_other n m d ms (λ e. apart (sym e))) ∙ h)))
+  ]
 
 pub entry_names : {al : Members} {cs : List Data} {ns : List (List ℕ)} {rs : Items} → Entries al cs ns rs → names_of (entries_of rs) ≡ ns
 entry_names no_entry = refl

@@ -10,8 +10,8 @@ use Rattle.conf_inherit.specs.Laying.{lay, has_entry, lay_base, lay_members, lay
 use Rattle.conf_inherit.specs.Looks.{Chain, Looks, looks, Entries, no_entry, an_entry, base_of, if_objects, values_at, AreResolved, nothing, alias, member_alias, heir, own, a_list, plain, Shows, a_scalar, an_object, the_members, a_join, if_lists, IsPlain}
 use Rattle.conf_inherit.specs.Names.{NoClash, properties_of, items_in, entries_of, entry_values, join_items, map_items, IsInOrder, names_of, new_names, cons_some, values_in, member_names, joined}
 use Rattle.conf_inherit.specs.Ready.{IsReady, AreReady, HasReady, Names}
-use Rattle.conf_inherit.proofs.LayingLemmas.{has_found, each_has, Meets, same, other, meets, get_other, get_same, lay_base-own, lay_base-heir, in_order_lay, lay_members-base, lay_members-absent, lay_members-found, AllEntries, all_along, over_entries, over_found, new_entries, entry_found, all_joined, has_entry_names, over_absent, entry_names, entries_joined, found_each, no_values, value_same, some_is_none}
-use Rattle.conf_inherit.proofs.SizeLemmas.{NoLarger, NoLargerItems, as_large, as_large_items, same_items, items_through, no_larger_list, no_larger_object, next_item, one_more, turned_items, next_property, no_property, joined_behind, joined_larger, item_first, covered}
+use Rattle.conf_inherit.proofs.LayingLemmas.{cases_Option, has_found, each_has, Meets, same, other, meets, get_other, get_same, lay_base-own, lay_base-heir, in_order_lay, lay_members-base, lay_members-absent, lay_members-found, AllEntries, all_along, over_entries, over_found, new_entries, entry_found, all_joined, has_entry_names, over_absent, entry_names, entries_joined, found_each, no_values, value_same, some_is_none}
+use Rattle.conf_inherit.proofs.SizeLemmas.{NoLarger, NoLargerItems, as_large, as_large_items, items_through, no_larger_list, no_larger_object, next_value, further_value, turned_items, none_more, joined_behind, joined_larger, item_first, covered}
 use Rattle.conf_inherit.proofs.FieldPlaceLemmas.{base_named, list_place, entry_place, inheriting_place, alias_place, member_value_place, member_type_place, type_is_no_base, alias_field, base_place, SamePlace}
 use Rattle.std.specs.List.{list_any}
 use Rattle.conf_tree.specs.Walk.{HasMember}
@@ -104,18 +104,14 @@ module _ (al done : Members) where
   entries_over : (es : Items) (cs : List Data) → ((n : List ℕ) (d : Data) → get_member n (entries_of es) ≡ Some d → Lays al done places.Member d)
       → {ns : List (List ℕ)} {rs : Items} → Entries al cs ns rs → Entries al (array es ∷ cs) ns (map_items (λ b. lay_over done es b) rs)
   entries_over es cs each no_entry = no_entry
-  entries_over es cs each (an_entry {n = n} {r = r} {ns = ns} {rs = rs} l e) = go (get_member n (entries_of es)) refl (entries_over es cs each e)
-    where
-      go : (o : Option Data) → get_member n (entries_of es) ≡ o → Entries al (array es ∷ cs) ns (map_items (λ b. lay_over done es b) rs)
-          → Entries al (array es ∷ cs) (n ∷ ns) (item (lay_over done es (object (member n r no_members))) (map_items (λ b. lay_over done es b) rs))
-      go None is rest =
-          let kept = over_entries done es (object (member n r no_members)) ∙ over_absent done n r (entries_of es) (object (member n r no_members)) is in
-          let here : Looks al places.Member (entry_values n (array es ∷ cs)) r = rw is l in
-          subst (λ x. Entries al (array es ∷ cs) (n ∷ ns) (item x (map_items (λ b. lay_over done es b) rs))) (sym kept) (an_entry here rest)
-      go (Some d) is rest =
-          let laid = over_entries done es (object (member n r no_members)) ∙ over_found done n r (entries_of es) (object (member n r no_members)) d is in
-          let here : Looks al places.Member (entry_values n (array es ∷ cs)) (lay done places.Member d (Some r)) = rw is (each n d is (entry_values n cs) (Some r) l) in
-          subst (λ x. Entries al (array es ∷ cs) (n ∷ ns) (item x (map_items (λ b. lay_over done es b) rs))) (sym laid) (an_entry here rest)
+  entries_over es cs each (an_entry {n = n} {r = r} {ns = ns} {rs = rs} l e) = elim (cases_Option (get_member n (entries_of es))) [
+    | inl is ↦ (let kept = over_entries done es (object (member n r no_members)) ∙ over_absent done n r (entries_of es) (object (member n r no_members)) is in
+        let here : Looks al places.Member (entry_values n (array es ∷ cs)) r = rw is l in
+        subst (λ x. Entries al (array es ∷ cs) (n ∷ ns) (item x (map_items (λ b. lay_over done es b) rs))) (sym kept) (an_entry here (entries_over es cs each e)))
+    | inr (d, is) ↦ (let laid = over_entries done es (object (member n r no_members)) ∙ over_found done n r (entries_of es) (object (member n r no_members)) d is in
+        let here : Looks al places.Member (entry_values n (array es ∷ cs)) (lay done places.Member d (Some r)) = rw is (each n d is (entry_values n cs) (Some r) l) in
+        subst (λ x. Entries al (array es ∷ cs) (n ∷ ns) (item x (map_items (λ b. lay_over done es b) rs))) (sym laid) (an_entry here (entries_over es cs each e)))
+  ]
 
   -- the entries that the base has not
   entries_new : (es : Items) (cs : List Data) → ((n : List ℕ) (d : Data) → get_member n (entries_of es) ≡ Some d → Lays al done places.Member d)
@@ -123,15 +119,12 @@ module _ (al done : Members) where
       → (ms : Members) → AllEntries (λ n d. get_member n (entries_of es) ≡ Some d) ms
       → Entries al (array es ∷ cs) (new_names (member_names cs) (names_of ms)) (lay_new_member done ms seen no_items)
   entries_new es cs each seen agree no_members all = no_entry
-  entries_new es cs each seen agree (member n d ms) all = go (list_any (bytes_eq n) (member_names cs)) refl (entries_new es cs each seen agree ms all.1)
-    where
-      go : (t : Bool) → list_any (bytes_eq n) (member_names cs) ≡ t → Entries al (array es ∷ cs) (new_names (member_names cs) (names_of ms)) (lay_new_member done ms seen no_items)
-          → Entries al (array es ∷ cs) (new_names (member_names cs) (names_of (member n d ms))) (lay_new_member done (member n d ms) seen no_items)
-      go true is rest = rw (is, agree n ∙ is) rest
-      go false is rest =
-          let below : StandsFor al places.Member (entry_values n cs) None = no_values n cs is in
-          let here : Looks al places.Member (entry_values n (array es ∷ cs)) (lay done places.Member d None) = rw all.0 (each n d all.0 (entry_values n cs) None below) in
-          rw (is, agree n ∙ is) (an_entry here rest)
+  entries_new es cs each seen agree (member n d ms) all = elim (cases_Bool (list_any (bytes_eq n) (member_names cs))) [
+    | inl is ↦ rw (is, agree n ∙ is) (entries_new es cs each seen agree ms all.1)
+    | inr is ↦ (let below : StandsFor al places.Member (entry_values n cs) None = no_values n cs is in
+        let here : Looks al places.Member (entry_values n (array es ∷ cs)) (lay done places.Member d None) = rw all.0 (each n d all.0 (entry_values n cs) None below) in
+        rw (is, agree n ∙ is) (an_entry here (entries_new es cs each seen agree ms all.1)))
+  ]
 
 -- ---- what holds of each value that is ready
 
@@ -200,62 +193,50 @@ module _ (al done : Members) where
       let same : lay_new_member done (entries_of es) rs no_items ≡ lay_new done es rs = sym (new_entries done es rs) in
       the_members named (entries_joined old (subst (λ x. Entries al (array es ∷ cs) (new_names (member_names cs) (names_of (entries_of es))) x) same new))
 
-  -- ---- texts
-
   module _ (known : AreResolved al done) where
     text_alias : (s : Place) (n : List ℕ) (r : Data) (vs : List Data) → names_alias s ≡ true → get_member n done ≡ Some r → Looks al s (string n ∷ vs) r
-    text_alias s n r vs is f = go (known n r f)
+    text_alias s n r vs is f = let (w, e, l) = known n r f in through e l
       where
-        go : (w : Data) × (get_member n al ≡ Some w) × Looks al places.FieldType (w ∷ []) r → Looks al s (string n ∷ vs) r
-        go (w, e, looks {cs = cs} c h) = looks (alias is e c) (subst (λ x. Shows al x cs r) (sym (alias_place s is)) h)
+        through : {w : Data} → get_member n al ≡ Some w → Looks al places.FieldType (w ∷ []) r → Looks al s (string n ∷ vs) r
+        through e (looks {cs = cs} c h) = looks (alias is e c) (subst (λ x. Shows al x cs r) (sym (alias_place s is)) h)
 
     text_member : (n : List ℕ) (r : Data) (vs : List Data) → names_member_type places.Member ≡ true → get_member n done ≡ Some r → Looks al places.Member (string n ∷ vs) (object (member field_type_name r no_members))
-    text_member n r vs is f = looks (member_alias is) (an_object (tt, tt) found absent)
+    text_member n r vs is f = looks (member_alias is) (subst (λ x. Shows al places.Member (object named ∷ []) (object x)) laid (object_shown al done places.Member named [] no_members (no_ground al places.Member) each))
       where
-        found : (k : List ℕ) (t : Data) → get_member k (member field_type_name r no_members) ≡ Some t → Looks al (place_under places.Member k) (values_at places.Member k (object (member field_type_name (string n) no_members) ∷ [])) t
-        found k t e = go (meets k field_type_name)
-          where
-            go : Meets k field_type_name → Looks al (place_under places.Member k) (values_at places.Member k (object (member field_type_name (string n) no_members) ∷ [])) t
-            go (same is_type) =
-                let g : Some r ≡ Some t = sym (get_same k field_type_name r no_members is_type) ∙ e in
-                let one : r ≡ t = cc in
-                let values : values_at places.Member k (object (member field_type_name (string n) no_members) ∷ []) ≡ string n ∷ [] =
-                rw (ap (is_base_name places.Member) is_type ∙ type_is_no_base, get_same k field_type_name (string n) no_members is_type) refl in
-                let place : place_under places.Member k ≡ places.FieldType = ap (place_under places.Member) is_type ∙ member_type_place in
-                subst (λ x. Looks al x (values_at places.Member k (object (member field_type_name (string n) no_members) ∷ [])) t) (sym place)
-                (subst (λ x. Looks al places.FieldType x t) (sym values) (subst (Looks al places.FieldType (string n ∷ [])) one (text_alias places.FieldType n r [] alias_field f)))
-            go (other apart) = let g : None ≡ Some t = sym (get_other k field_type_name r no_members apart) ∙ e in cc
+        named : Members
+        named = member field_type_name (string n) no_members
 
-        absent : (k : List ℕ) → get_member k (member field_type_name r no_members) ≡ None → values_at places.Member k (object (member field_type_name (string n) no_members) ∷ []) ≡ []
-        absent k e = go (meets k field_type_name) (is_base_name places.Member k) refl
-          where
-            go : Meets k field_type_name → (t : Bool) → is_base_name places.Member k ≡ t → values_at places.Member k (object (member field_type_name (string n) no_members) ∷ []) ≡ []
-            go (same is_type) t b = absurd (let g : Some r ≡ None = sym (get_same k field_type_name r no_members is_type) ∙ e in cc)
-            go (other apart) true b = rw b refl
-            go (other apart) false b = rw (b, get_other k field_type_name (string n) no_members apart) refl
+        laid : lay_members done places.Member named no_members ≡ member field_type_name r no_members
+        laid = rw (type_is_no_base, member_type_place, alias_field, f) refl
 
-    lays_text : (s : Place) (n : List ℕ) (vs : List Data) → (Names s → (r : Data) × (get_member n done ≡ Some r)) → Looks al s (string n ∷ vs) (lay_text done s n)
-    lays_text s n vs ready = go (names_alias s) refl (names_member_type s) refl
-      where
-        alias_at : names_alias s ≡ true → (r : Data) × (get_member n done ≡ Some r) → Looks al s (string n ∷ vs) (lay_text done s n)
-        alias_at is (r, f) = rw (is, f) (text_alias s n r vs is f)
+        type_at : Lays al done places.FieldType (string n)
+        type_at ws base stands = rw (alias_field, f) (text_alias places.FieldType n r ws alias_field f)
 
-        member_at : names_alias s ≡ false → names_member_type s ≡ true → (r : Data) × (get_member n done ≡ Some r) → Looks al s (string n ∷ vs) (lay_text done s n)
-        member_at not_alias is (r, f) = rw (not_alias, is, f) (subst (λ x. Looks al x (string n ∷ vs) (object (member field_type_name r no_members))) (sym (member_value_place s is)) (text_member n r vs (subst (λ x. names_member_type x ≡ true) (member_value_place s is) is) f))
+        each : (k : List ℕ) (d : Data) → get_member k named ≡ Some d → Lays al done (place_under places.Member k) d
+        each k d h = elim (meets k field_type_name) [
+          | same e ↦ subst (λ t. Lays al done t d) (sym (ap (place_under places.Member) e ∙ member_type_place)) (subst (Lays al done places.FieldType) (value_same (string n) d (sym (get_same k field_type_name (string n) no_members e) ∙ h)) type_at)
+          | other apart ↦ absurd (some_is_none d (sym (sym (get_other k field_type_name (string n) no_members apart) ∙ h)))
+        ]
 
-        go : (t : Bool) → names_alias s ≡ t → (u : Bool) → names_member_type s ≡ u → Looks al s (string n ∷ vs) (lay_text done s n)
-        go true is u is' = alias_at is (ready (inl is))
-        go false is true is' = member_at is is' (ready (inr is'))
-        go false is false is' = let stands : IsPlain s (string n) = (is, is') in rw (is, is') (looks (plain stands) (a_scalar stands))
-
-    -- ---- every value
+    lays_text : (s : Place) (n : List ℕ) → (Names s → (r : Data) × (get_member n done ≡ Some r)) → Lays al done s (string n)
+    lays_text s n ready vs base stands = elim (cases_Bool (names_alias s)) [
+      | inl is ↦ (let (r, f) = ready (inl is) in rw (is, f) (text_alias s n r vs is f))
+      | inr off ↦ elim (cases_Bool (names_member_type s)) [
+        | inl is ↦ (let (r, f) = ready (inr is) in let place = member_value_place s is in
+            rw (off, is, f) (subst (λ x. Looks al x (string n ∷ vs) (object (member field_type_name r no_members))) (sym place) (text_member n r vs (subst (λ x. names_member_type x ≡ true) place is) f)))
+        | inr none ↦ (let plain_text : IsPlain s (string n) = (off, none) in rw (off, none) (looks (plain plain_text) (a_scalar plain_text)))
+      ]
+    ]
 
     -- what an object inherits from, where each of its values is looked up
     inherited : (s : Place) (ms : Members) → ((k : List ℕ) (d : Data) → HasMember k d ms → Lays al done (place_under s k) d) → (b : Data) → base_of s ms ≡ Some b → Looks al places.FieldType (b ∷ []) (lay done places.FieldType b None)
     inherited s ms each b e = let (k, is, there) = base_named s ms b e in subst (λ x. Lays al done x b) (base_place s k is) (each k b there) [] None refl
 
     lays_object : (s : Place) (ms : Members) → ((k : List ℕ) (d : Data) → HasMember k d ms → Lays al done (place_under s k) d) → Lays al done s (object ms)
-    lays_object s ms each vs base stands = go (base_of s ms) refl
+    lays_object s ms each vs base stands = elim (cases_Option (base_of s ms)) [
+      | inl e ↦ (let (cs, c, g) = ground_below al s vs base stands in rw (lay_base-own done s ms base e) (looks (own e c) (object_shown al done s ms (if_objects cs) (members_below base) g found)))
+      | inr (b, e) ↦ heir_at b e (inherited s ms each b e)
+    ]
       where
         found : (k : List ℕ) (d : Data) → get_member k ms ≡ Some d → Lays al done (place_under s k) d
         found k d h = each k d (has_found k d ms h)
@@ -263,13 +244,6 @@ module _ (al done : Members) where
         heir_at : (b : Data) → base_of s ms ≡ Some b → Looks al places.FieldType (b ∷ []) (lay done places.FieldType b None) → Looks al s (object ms ∷ vs) (object (lay_members done s ms (members_below (lay_base done s ms base))))
         heir_at b e (looks {cs = cs} c h) = rw (lay_base-heir done s ms base b e)
             (looks (heir e c) (object_shown al done s ms (if_objects cs) (properties_of (lay done places.FieldType b None)) (ground_along al s (if_objects cs) (properties_of (lay done places.FieldType b None)) (inheriting_place s ms b e) (ground_shown al h)) found))
-
-        own_at : base_of s ms ≡ None → (cs : List Data) × Chain al s vs cs × Ground al s (if_objects cs) (members_below base) → Looks al s (object ms ∷ vs) (object (lay_members done s ms (members_below (lay_base done s ms base))))
-        own_at e (cs, c, g) = rw (lay_base-own done s ms base e) (looks (own e c) (object_shown al done s ms (if_objects cs) (members_below base) g found))
-
-        go : (o : Option Data) → base_of s ms ≡ o → Looks al s (object ms ∷ vs) (object (lay_members done s ms (members_below (lay_base done s ms base))))
-        go None e = own_at e (ground_below al s vs base stands)
-        go (Some b) e = heir_at b e (inherited s ms each b e)
 
     lays_list : (s : Place) (es : Items) → (lists_members s ≡ true → NoClash (entries_of es))
         → (lists_members s ≡ true → (n : List ℕ) (d : Data) → get_member n (entries_of es) ≡ Some d → Lays al done places.Member d) → Lays al done s (array es)
@@ -287,11 +261,8 @@ module _ (al done : Members) where
     lays_plain s (object ms) p vs base stands = absurd p
     lays_plain s _ p vs base stands = looks (plain p) (a_scalar p)
 
-    lays_string : (s : Place) (n : List ℕ) → (Names s → (r : Data) × (get_member n done ≡ Some r)) → Lays al done s (string n)
-    lays_string s n ready vs base stands = lays_text s n vs ready
-
     pub lays : (v : Data) (s : Place) → IsReady done s v → Lays al done s v
-    lays v s ready = of_ready done (Lays al done) lays_plain lays_string (λ s es clear each. lays_list s es clear each) (λ s ms rest each. lays_object s ms each) v s ready
+    lays v s ready = of_ready done (Lays al done) lays_plain lays_text (λ s es clear each. lays_list s es clear each) (λ s ms rest each. lays_object s ms each) v s ready
 
     pub lays_from : (ms : Members) (s : Place) → HasReady done s ms → (b : Data) → base_of s ms ≡ Some b → Looks al places.FieldType (b ∷ []) (lay done places.FieldType b None)
     lays_from ms s ready b e = inherited s ms (λ k d there. lays d (place_under s k) (ready_under done s ms ready k d there)) b e
@@ -303,33 +274,26 @@ abbrev pub laid_entry : Members → List ℕ → Data → Data
 laid_entry done n d = object (member n (lay done places.Member d None) no_members)
 
 one_value : (n : List ℕ) (d e : Data) → NoLarger d e → NoLarger (object (member n d no_members)) (object (member n e no_members))
-one_value n d e h = no_larger_object (member n d no_members) (member n e no_members) (next_property n n d e no_members no_members h (no_property no_members))
+one_value n d e h = no_larger_object (member n d no_members) (member n e no_members) (next_value d e h none_more)
 
 module _ (al done : Members) where
   -- laid over nothing, it is no larger than over what stands for other values
   abbrev pub Grows : Place → Data → Type 0
   Grows s v = (vs : List Data) (base : Option Data) → StandsFor al s vs base → NoLarger (lay done s v None) (lay done s v base)
 
-  -- ---- objects
-
   -- what a base has at a name stands for the values that its chain has there
   pub property_stands : (s : Place) (k : List ℕ) (cs : List Data) (base : Members) → Ground al s cs base → (vs : List Data) × StandsFor al (place_under s k) vs (get_member k base)
-  property_stands s k cs base g = go (get_member k base) refl
-    where
-      go : (o : Option Data) → get_member k base ≡ o → (vs : List Data) × StandsFor al (place_under s k) vs o
-      go None e = ([], refl)
-      go (Some b) e = (values_at s k cs, g.found k b e)
+  property_stands s k cs base g = elim (cases_Option (get_member k base)) [ inl e ↦ ([], rw e refl) | inr (b, e) ↦ (values_at s k cs, rw e (g.found k b e)) ]
 
   -- what an object is laid over, where nothing else is below it
   pub ground_base : AreResolved al done → (s : Place) (ms : Members) → HasReady done s ms → (cs : List Data) × Ground al s cs (members_below (lay_base done s ms None))
-  ground_base known s ms ready = go (base_of s ms) refl
+  ground_base known s ms ready = elim (cases_Option (base_of s ms)) [
+    | inl e ↦ rw (lay_base-own done s ms None e) ([], no_ground al s)
+    | inr (b, e) ↦ rw (lay_base-heir done s ms None b e) (heir_at b e (lays_from al done known ms s ready b e))
+  ]
     where
       heir_at : (b : Data) → base_of s ms ≡ Some b → Looks al places.FieldType (b ∷ []) (lay done places.FieldType b None) → (cs : List Data) × Ground al s cs (members_below (Some (lay done places.FieldType b None)))
       heir_at b e (looks {cs = cs} c h) = (if_objects cs, ground_along al s (if_objects cs) (properties_of (lay done places.FieldType b None)) (inheriting_place s ms b e) (ground_shown al h))
-
-      go : (o : Option Data) → base_of s ms ≡ o → (cs : List Data) × Ground al s cs (members_below (lay_base done s ms None))
-      go None e = rw (lay_base-own done s ms None e) ([], no_ground al s)
-      go (Some b) e = rw (lay_base-heir done s ms None b e) (heir_at b e (lays_from al done known ms s ready b e))
 
   module _ (s : Place) (ms : Members) (each : (k : List ℕ) (d : Data) → get_member k ms ≡ Some d → Grows (place_under s k) d) where
     -- a property that is laid over nothing, and over the base's
@@ -354,14 +318,10 @@ module _ (al done : Members) where
         (covered (lay_members done s ms base) (lay_members done s ms no_members) (in_order_lay done s ms no_members tt) (in_order_lay done s ms base g.in_order) (λ k d there. property_larger k d cs base g there))
 
     grows_object : Grows s (object ms)
-    grows_object vs base stands = go (base_of s ms) refl (ground_below al s vs base stands)
-      where
-        go : (o : Option Data) → base_of s ms ≡ o → (cs : List Data) × Chain al s vs cs × Ground al s (if_objects cs) (members_below base)
-            → NoLarger (object (lay_members done s ms (members_below (lay_base done s ms None)))) (object (lay_members done s ms (members_below (lay_base done s ms base))))
-        go (Some b) e below = rw (lay_base-heir done s ms base b e, lay_base-heir done s ms None b e) (as_large (object (lay_members done s ms (properties_of (lay done places.FieldType b None)))))
-        go None e (cs, c, g) = rw (lay_base-own done s ms base e, lay_base-own done s ms None e) (own_larger (if_objects cs) (members_below base) g)
-
-  -- ---- members lists
+    grows_object vs base stands = elim (cases_Option (base_of s ms)) [
+      | inl e ↦ (let (cs, c, g) = ground_below al s vs base stands in rw (lay_base-own done s ms base e, lay_base-own done s ms None e) (own_larger (if_objects cs) (members_below base) g))
+      | inr (b, e) ↦ rw (lay_base-heir done s ms base b e, lay_base-heir done s ms None b e) (as_large (object (lay_members done s ms (properties_of (lay done places.FieldType b None)))))
+    ]
 
   -- an entry of the base that the list has not leaves what is new
   new_absent : (n : List ℕ) (r : Data) (rs : Items) (ms : Members) → get_member n ms ≡ None → lay_new_member done ms rs no_items ≡ lay_new_member done ms (item (object (member n r no_members)) rs) no_items
@@ -378,53 +338,40 @@ module _ (al done : Members) where
   new_found : (n : List ℕ) (r v : Data) (rs : Items) (ms : Members) → NoClash ms → get_member n ms ≡ Some v
       → NoLargerItems (lay_new_member done ms rs no_items) (item (laid_entry done n v) (lay_new_member done ms (item (object (member n r no_members)) rs) no_items))
   new_found n r v rs no_members clear h = absurd (some_is_none v (sym h))
-  new_found n r v rs (member m d ms) clear h = go (meets m n) (has_entry m rs) refl (new_found n r v rs ms clear.1)
-    where
-      seen : Items
-      seen = item (object (member n r no_members)) rs
-
-      here_same : m ≡ n → laid_entry done m d ≡ laid_entry done n v
-      here_same e = ap (λ x. laid_entry done x d) e ∙ ap (laid_entry done n) (value_same d v (sym (get_same n m d ms (sym e)) ∙ h))
-
-      later_same : m ≡ n → lay_new_member done ms rs no_items ≡ lay_new_member done ms seen no_items
-      later_same e = new_absent n r rs ms (subst (λ x. get_member x ms ≡ None) e clear.0)
-
-      go : Meets m n → (t : Bool) → has_entry m rs ≡ t → (get_member n ms ≡ Some v → NoLargerItems (lay_new_member done ms rs no_items) (item (laid_entry done n v) (lay_new_member done ms seen no_items)))
-          → NoLargerItems (lay_new_member done (member m d ms) rs no_items) (item (laid_entry done n v) (lay_new_member done (member m d ms) seen no_items))
-      go (same e) true is later = rw (get_same m n r no_members e, is)
-          (one_more (laid_entry done n v) (lay_new_member done ms rs no_items) (lay_new_member done ms seen no_items) (same_items (lay_new_member done ms rs no_items) (lay_new_member done ms seen no_items) (later_same e)))
-      go (same e) false is later = rw (get_same m n r no_members e, is)
-          (next_item (laid_entry done m d) (laid_entry done n v) (lay_new_member done ms rs no_items) (lay_new_member done ms seen no_items)
-          (subst (NoLarger (laid_entry done m d)) (here_same e) (as_large (laid_entry done m d))) (same_items (lay_new_member done ms rs no_items) (lay_new_member done ms seen no_items) (later_same e)))
-      go (other apart) true is later = rw (get_other m n r no_members apart, is) (later (sym (get_other n m d ms (λ e. apart (sym e))) ∙ h))
-      go (other apart) false is later = rw (get_other m n r no_members apart, is)
-          (items_through (item (laid_entry done m d) (lay_new_member done ms rs no_items)) (item (laid_entry done m d) (item (laid_entry done n v) (lay_new_member done ms seen no_items))) (item (laid_entry done n v) (item (laid_entry done m d) (lay_new_member done ms seen no_items)))
-          (next_item (laid_entry done m d) (laid_entry done m d) (lay_new_member done ms rs no_items) (item (laid_entry done n v) (lay_new_member done ms seen no_items)) (as_large (laid_entry done m d)) (later (sym (get_other n m d ms (λ e. apart (sym e))) ∙ h)))
-          (turned_items (laid_entry done m d) (laid_entry done n v) (lay_new_member done ms seen no_items)))
+  new_found n r v rs (member m d ms) clear h =
+      let seen = item (object (member n r no_members)) rs in
+      let old = lay_new_member done ms rs no_items in
+      let new = lay_new_member done ms seen no_items in
+      elim (meets m n) [
+        | same e ↦ (let at = get_same m n r no_members e in
+            let one = ap (λ x. laid_entry done x d) e ∙ ap (laid_entry done n) (value_same d v (sym (get_same n m d ms (sym e)) ∙ h)) in
+            let later : NoLargerItems old new = subst (NoLargerItems old) (new_absent n r rs ms (subst (λ x. get_member x ms ≡ None) e clear.0)) (as_large_items old) in
+            elim (cases_Bool (has_entry m rs)) [
+              | inl is ↦ rw (at, is) (further_value (laid_entry done n v) later)
+              | inr is ↦ rw (at, is) (next_value (laid_entry done m d) (laid_entry done n v) (subst (NoLarger (laid_entry done m d)) one (as_large (laid_entry done m d))) later)
+            ])
+        | other apart ↦ (let at = get_other m n r no_members apart in
+            let later = new_found n r v rs ms clear.1 (sym (get_other n m d ms (λ e. apart (sym e))) ∙ h) in
+            elim (cases_Bool (has_entry m rs)) [
+              | inl is ↦ rw (at, is) later
+              | inr is ↦ rw (at, is) (items_through (next_value (laid_entry done m d) (laid_entry done m d) (as_large (laid_entry done m d)) later) (turned_items (laid_entry done m d) (laid_entry done n v) new))
+            ])
+      ]
 
   module _ (es : Items) (clear : NoClash (entries_of es)) (each : (n : List ℕ) (d : Data) → get_member n (entries_of es) ≡ Some d → Grows places.Member d) where
     -- one entry of the base more
     entry_larger : (n : List ℕ) (r : Data) (vs : List Data) (rs : Items) → Looks al places.Member vs r
         → NoLargerItems (lay_new done es rs) (item (lay_over done es (object (member n r no_members))) (lay_new done es (item (object (member n r no_members)) rs)))
-    entry_larger n r vs rs looked = rw (new_entries done es rs, new_entries done es (item (object (member n r no_members)) rs), over_entries done es (object (member n r no_members))) (go (get_member n (entries_of es)) refl)
-      where
-        base : Data
-        base = object (member n r no_members)
-
-        old : Items
-        old = lay_new_member done (entries_of es) rs no_items
-
-        new : Items
-        new = lay_new_member done (entries_of es) (item base rs) no_items
-
-        go : (o : Option Data) → get_member n (entries_of es) ≡ o → NoLargerItems old (item (lay_over_member done (entries_of es) base base) new)
-        go None is = one_more (lay_over_member done (entries_of es) base base) old new (same_items old new (new_absent n r rs (entries_of es) is))
-        go (Some v) is =
-            let laid = over_found done n r (entries_of es) base v is in
-            subst (λ x. NoLargerItems old (item x new)) (sym laid)
-            (items_through old (item (laid_entry done n v) new) (item (object (member n (lay done places.Member v (Some r)) no_members)) new)
-            (new_found n r v rs (entries_of es) clear is)
-            (next_item (laid_entry done n v) (object (member n (lay done places.Member v (Some r)) no_members)) new new (one_value n (lay done places.Member v None) (lay done places.Member v (Some r)) (each n v is vs (Some r) looked)) (as_large_items new)))
+    entry_larger n r vs rs looked =
+        let base = object (member n r no_members) in
+        let old = lay_new_member done (entries_of es) rs no_items in
+        let new = lay_new_member done (entries_of es) (item base rs) no_items in
+        rw (new_entries done es rs, new_entries done es (item base rs), over_entries done es base)
+        (elim (cases_Option (get_member n (entries_of es))) [
+          | inl is ↦ further_value (lay_over_member done (entries_of es) base base) (subst (NoLargerItems old) (new_absent n r rs (entries_of es) is) (as_large_items old))
+          | inr (v, is) ↦ subst (λ x. NoLargerItems old (item x new)) (sym (over_found done n r (entries_of es) base v is)) (items_through (new_found n r v rs (entries_of es) clear is)
+              (next_value (laid_entry done n v) (object (member n (lay done places.Member v (Some r)) no_members)) (one_value n (lay done places.Member v None) (lay done places.Member v (Some r)) (each n v is vs (Some r) looked)) (as_large_items new)))
+        ])
 
     -- the list laid over nothing, and over the base's entries
     entries_larger : {cs : List Data} {ns : List (List ℕ)} {rs : Items} → Entries al cs ns rs → NoLargerItems (lay_new done es no_items) (join_items (map_items (λ b. lay_over done es b) rs) (lay_new done es rs))
@@ -433,8 +380,7 @@ module _ (al done : Members) where
         let b = object (member n r no_members) in
         let over = map_items (λ x. lay_over done es x) rs in
         let new = lay_new done es (item b rs) in
-        items_through (lay_new done es no_items) (join_items over (lay_new done es rs)) (item (lay_over done es b) (join_items over new)) (entries_larger e)
-        (items_through (join_items over (lay_new done es rs)) (join_items over (item (lay_over done es b) new)) (item (lay_over done es b) (join_items over new))
+        items_through (entries_larger e) (items_through
         (joined_larger over (lay_new done es rs) (item (lay_over done es b) new) (entry_larger n r (entry_values n cs) rs l))
         (item_first over (lay_over done es b) new))
 
@@ -446,8 +392,6 @@ module _ (al done : Members) where
       go true is (Some b) (looks {cs = cs} c h) = rw is
           (no_larger_list (lay_new done es no_items) (join_items (map_items (λ b. lay_over done es b) (items_in b)) (lay_new done es (items_in b))) (entries_larger es (clear is) (each is) (base_entries al done is h)))
       go false is (Some b) l = rw is (no_larger_list es (join_items (items_in b) es) (joined_behind (items_in b) es es (as_large_items es)))
-
-  -- ---- every value
 
   plain_grows : (s : Place) (v : Data) → IsPlain s v → Grows s v
   plain_grows s (array es) p vs base stands = absurd p

@@ -3,12 +3,10 @@ pub mod LayingLemmas
 pub mod EntryLemmas
 pub mod SizeLemmas
 pub mod LaysOver
-pub mod FlawLemmas
 pub mod FaultLemmas
 pub mod LimitLemmas
 pub mod RoundLemmas
 pub mod LookedUp
-pub mod ResolveLemmas
 pub mod PlacesFit
 pub mod SoundPlaces
 pub mod RefusalLemmas
@@ -16,5 +14,4 @@ pub mod TurnLemmas
 pub mod SpentLemmas
 pub mod TakenLemmas
 pub mod PutLemmas
-pub mod WorkedPlaces
 pub mod WorkedRows

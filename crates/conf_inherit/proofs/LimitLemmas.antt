@@ -174,7 +174,7 @@ fitting_value r t h = go (fitting r) (judged r) h
     go o (exceeds kind past) e = cc
 
 -- a limit that is listed is passed
-past_at : (r : Data) (o : Result Data FaultKind) (f : Flaw) → Judged r o → Among f (passed o) → (f ≡ here f.kind) × Exceeds f.kind r
+pub past_at : (r : Data) (o : Result Data FaultKind) (f : Flaw) → Judged r o → Among f (passed o) → (f ≡ here f.kind) × Exceeds f.kind r
 past_at r o f (fits h) a = absurd a
 past_at r o f (exceeds kind past) (inr a) = absurd a
 past_at r o f (exceeds kind past) (inl e) = (e ∙ ap (λ x. here x) (ap (λ x. x.kind) (sym e)), subst (λ x. Exceeds x r) (ap (λ x. x.kind) (sym e)) past)
@@ -238,14 +238,12 @@ module _ (done : Members) where
   BaseFits s k d = is_base_name s k ≡ true → FitsAlone places.FieldType d
 
   alike_base : (s : Place) (k : List ℕ) (d : Data) → Alike (base_flaws (Some done) s k d) (base_flaws None s k d) (BaseFits s k d)
-  alike_base s k d = go (is_base_name s k) refl
-    where
-      go : (t : Bool) → is_base_name s k ≡ t → Alike (base_flaws (Some done) s k d) (base_flaws None s k d) (BaseFits s k d)
-      go true is =
-          let at : base_flaws (Some done) s k d ≡ limit_flaws done places.FieldType d = rw is refl in
-          let a = alike_limit places.FieldType d in
-          ((λ e. (refl, λ x. (a.0 (sym at ∙ e)).1)), (λ h. at ∙ a.1 (refl, h.1 is)))
-      go false is = let at : base_flaws (Some done) s k d ≡ [] = rw is refl in ((λ e. (refl, λ x. absurd (true≢false (sym x ∙ is)))), (λ h. at))
+  alike_base s k d = elim (cases_Bool (is_base_name s k)) [
+    | inl is ↦ (let at : base_flaws (Some done) s k d ≡ limit_flaws done places.FieldType d = rw is refl in
+        let a = alike_limit places.FieldType d in
+        ((λ e. (refl, λ x. (a.0 (sym at ∙ e)).1)), (λ h. at ∙ a.1 (refl, h.1 is))))
+    | inr is ↦ (let at : base_flaws (Some done) s k d ≡ [] = rw is refl in ((λ e. (refl, λ x. absurd (true≢false (sym x ∙ is)))), (λ h. at)))
+  ]
 
   -- d is what the value of a name is inherited from as, or is in it, or in what is left
   member_there : (s : Place) (k : List ℕ) (e : Data) (ms : Members) → ((Unit {0} × EachFits (λ d. Inherits d (place_under s k) e)) × BaseFits s k e) × EachFits (λ d. InheritsInMembers d s ms) → EachFits (λ d. InheritsInMembers d s (member k e ms))

@@ -6,7 +6,7 @@ use Rattle.conf_table.specs.declared.place.Place.{Place}
 use Rattle.conf_table.specs.declared.place.Place.TheVariants as places
 use Rattle.conf_inherit.specs.FieldPlaces.{place_under, names_alias, names_member_type, is_base_name}
 use Rattle.conf_inherit.specs.Looks.{Chain, nothing, alias, member_alias, heir, own, a_list, plain, Looks, looks, Shows, a_scalar, an_object, the_members, a_join, Entries, no_entry, an_entry, if_objects, if_lists, values_at, base_of}
-use Rattle.conf_inherit.proofs.LayingLemmas.{each_has, same_members, get_first, get_none, get_other, AllEntries, all_joined, entry_found, in_order_put}
+use Rattle.conf_inherit.proofs.LayingLemmas.{value_same, each_has, same_members, get_first, get_none, get_other, AllEntries, all_joined, entry_found, in_order_put}
 use Rattle.std.proofs.lemmas.Bool.{cases_Bool, or_parts, or_from}
 use Rattle.serde_json.specs.Written.{has_float, items_have_float, members_have_float}
 use Rattle.conf_tree.specs.Order.{IsInOrder, Ascends, ItemsAscend, MembersAscend}
@@ -281,15 +281,12 @@ each_put : (k : List ℕ) (d : Data) (ms : Members) → Ascends d → MembersAsc
 each_put k d no_members mine h = (mine, tt)
 each_put k d (member l e ms) mine h = each_put_at (slice_cmp nat_cmp k l) k l d e ms mine h.0 h.1 (each_put k d ms mine h.1)
 
-as_value : (d e : Data) → Some d ≡ Some e → Ascends d → Ascends e
-as_value d e is h = let same : d ≡ e = cc in subst Ascends same h
-
 mutual
   json_in_order : (j : json.Json) (d : Data) → of_json j ≡ Some d → Ascends d
-  json_in_order json.null d e = as_value null d e tt
-  json_in_order (json.boolean b) d e = as_value (boolean b) d e tt
+  json_in_order json.null d e = subst Ascends (value_same null d e) tt
+  json_in_order (json.boolean b) d e = subst Ascends (value_same (boolean b) d e) tt
   json_in_order (json.number s) d e = let n = mapped number (number_of s) d e in subst Ascends n.2 tt
-  json_in_order (json.string s) d e = as_value (string s) d e tt
+  json_in_order (json.string s) d e = subst Ascends (value_same (string s) d e) tt
   json_in_order (json.array js) d e = let ds = mapped array (of_items js) d e in subst Ascends ds.2 (items_in_order js ds.0 ds.1)
   json_in_order (json.object js) d e = let ms = mapped object (of_members js no_members) d e in subst Ascends ms.2 (members_in_order js no_members ms.0 ms.1 tt tt)
 

@@ -20,10 +20,10 @@ use Rattle.conf_inherit.specs.Ready.{Names, IsReady}
 use Rattle.conf_inherit.proofs.LaysOver.{laid_entry, property_stands, ground_base, grows}
 use Rattle.conf_inherit.proofs.LayingLemmas.{each_has, lay_members-found, found_each, value_same}
 use Rattle.conf_inherit.proofs.FaultLemmas.{named, own_sound, ready, single_entry, front_empty, back_empty, part_empty, rest_empty}
-use Rattle.conf_inherit.proofs.SizeLemmas.{NoLargerItems, as_large, as_large_items, items_through, next_item, one_more, no_item, fits_below, property_fits, item_fits}
+use Rattle.conf_inherit.proofs.SizeLemmas.{NoLargerItems, as_large, as_large_items, items_through, next_value, further_value, none_more, fits_below, property_fits, item_fits}
 use Rattle.conf_inherit.proofs.LookedUp.{apart, ascending_members}
 use Rattle.conf_inherit.proofs.SoundPlaces.{PartSound, member_sound, item_sound, PlaceSound, member_place, object_places, list_places, extras_there, root_place, place_of_type, place_of_member, IsOutside, under_outside, on_or_ignored, extras_or_ignored}
-use Rattle.conf_inherit.proofs.FieldPlaceLemmas.{list_place, base_place, ignored_under, alias_place, member_value_place, entry_place, no_alias_member, member_field}
+use Rattle.conf_inherit.proofs.FieldPlaceLemmas.{list_place, base_place, ignored_under, alias_place, member_value_place, entry_place}
 use Rattle.conf_inherit.specs.Places.{inner_places, item_places, place_flaws}
 use Rattle.conf_inherit.proofs.LimitLemmas.{sound_type, alike_inner, alike_limit}
 
@@ -49,8 +49,6 @@ nothing_named (inr h) = true≢false (sym h)
 -- from a value that is ignored no way leads to a field type
 pub ignored_leads_nowhere : (s : Place) (path : List Step) (v : Data) (t : Place) (w : Data) → s ≡ places.Ignored → Leads s v path t w → ¬ Names t
 ignored_leads_nowhere s path v t w ignored leads names = nothing_named (subst Names (led_on path v t w (subst (λ x. Leads x v path t w) ignored leads)) names)
-
--- ---- what an object or a list has
 
 pub item_in_order : (es : Items) (i : ℕ) (d : Data) → ItemsAscend es → get_item i es ≡ Some d → Ascends d
 item_in_order no_items i d each there = absurd cc
@@ -79,7 +77,7 @@ module _ (done : Members) where
   behind_members no_members seen rest = as_large_items rest
   behind_members (member n d ms) seen rest = elim (cases_Bool (has_entry n seen)) [
     | inl is ↦ rw is (behind_members ms seen rest)
-    | inr is ↦ rw is (one_more (laid_entry done n d) rest (lay_new_member done ms seen rest) (behind_members ms seen rest))
+    | inr is ↦ rw is (further_value (laid_entry done n d) (behind_members ms seen rest))
   ]
 
   behind_entry : (e : Data) (seen rest : Items) → NoLargerItems rest (lay_new_entry done e seen rest)
@@ -91,9 +89,9 @@ module _ (done : Members) where
   entry_stands no_items i n d there = absurd cc
   entry_stands (item e es) zero n d there =
       subst (λ x. NoLargerItems (item (laid_entry done n d) no_items) (lay_new_entry done x no_items (lay_new done es no_items))) (sym (value_same e (object (member n d no_members)) there))
-      (next_item (laid_entry done n d) (laid_entry done n d) no_items (lay_new done es no_items) (as_large (laid_entry done n d)) (no_item (lay_new done es no_items)))
+      (next_value (laid_entry done n d) (laid_entry done n d) (as_large (laid_entry done n d)) none_more)
   entry_stands (item e es) (suc i) n d there =
-      items_through (item (laid_entry done n d) no_items) (lay_new done es no_items) (lay_new_entry done e no_items (lay_new done es no_items)) (entry_stands es i n d there) (behind_entry e no_items (lay_new done es no_items))
+      items_through (entry_stands es i n d there) (behind_entry e no_items (lay_new done es no_items))
 
   -- an entry by itself is laid as it is in its list
   entry_laid : (n : List ℕ) (d : Data) → lay done places.Entry (object (member n d no_members)) None ≡ laid_entry done n d
@@ -130,32 +128,20 @@ module _ (al done : Members) (known : AreResolved al done) (all : (n : List ℕ)
 
   -- a value of a `$inherit`, or another property
   property_fit : (s : Place) (ms : Members) (k : List ℕ) (d : Data) (h : IsFit s (object ms)) → HasMember k d ms → Fits (lay done (place_under s k) d None)
-  property_fit s ms k d h there = go (is_base_name s k) refl
-    where
-      taken : Bool
-      taken = is_entry s && is_some (get_member k h.seen)
-
-      part : PartSound al (place_under s k) taken no_members d
-      part = member_sound al s h.seen ms k d h.sound.inner there
-
-      base_at : is_base_name s k ≡ true → Fits (lay done (place_under s k) d None)
-      base_at is =
-          let place = base_place s k is in
-          subst (λ x. Fits (lay done x d None)) (sym place) (h.inherited d (base_inherits s ms k d is there) (subst (λ x. all_named (has done) x d ≡ true) place (sound_named (place_under s k) d taken no_members part)))
-
-      other_at : is_base_name s k ≡ false → Fits (lay done (place_under s k) d None)
-      other_at is =
-          let base = members_below (lay_base done s ms None) in
-          let found = each_has (λ n e. get_member n ms ≡ Some e) ms k d (found_each ms (apart ms h.in_order.0)) there in
-          let (cs, g) = ground_base al done known s ms (sound_ready s (object ms) h.taken h.seen h.sound) in
-          let (vs, stands) = property_stands al done s k cs base g in
-          let laid = lay done (place_under s k) d (get_member k base) in
-          fits_below (lay done (place_under s k) d None) laid (grows al done d (place_under s k) (sound_ready (place_under s k) d taken no_members part) vs (get_member k base) stands)
-          (property_fits k laid (lay_members done s ms base) (lay_members-found done s k d ms base is found) h.whole)
-
-      go : (t : Bool) → is_base_name s k ≡ t → Fits (lay done (place_under s k) d None)
-      go true is = base_at is
-      go false is = other_at is
+  property_fit s ms k d h there =
+      let taken = is_entry s && is_some (get_member k h.seen) in
+      let part = member_sound al s h.seen ms k d h.sound.inner there in
+      elim (cases_Bool (is_base_name s k)) [
+        | inl is ↦ (let place = base_place s k is in
+            subst (λ x. Fits (lay done x d None)) (sym place) (h.inherited d (base_inherits s ms k d is there) (subst (λ x. all_named (has done) x d ≡ true) place (sound_named (place_under s k) d taken no_members part))))
+        | inr is ↦ (let base = members_below (lay_base done s ms None) in
+            let found = each_has (λ n e. get_member n ms ≡ Some e) ms k d (found_each ms (apart ms h.in_order.0)) there in
+            let (cs, g) = ground_base al done known s ms (sound_ready s (object ms) h.taken h.seen h.sound) in
+            let (vs, stands) = property_stands al done s k cs base g in
+            let laid = lay done (place_under s k) d (get_member k base) in
+            fits_below (lay done (place_under s k) d None) laid (grows al done d (place_under s k) (sound_ready (place_under s k) d taken no_members part) vs (get_member k base) stands)
+            (property_fits k laid (lay_members done s ms base) (lay_members-found done s k d ms base is found) h.whole))
+      ]
 
   fit_under : (s : Place) (ms : Members) (k : List ℕ) (d : Data) → IsFit s (object ms) → HasMember k d ms → IsFit (place_under s k) d
   fit_under s ms k d h there = record {
@@ -200,17 +186,9 @@ unfolding leads_on
 unnamed_outside s out no_type (inl h) = true≢false (sym h ∙ no_type)
 unnamed_outside s out no_type (inr h) = true≢false (sym (subst IsOutside (member_value_place s h) out))
 
-entry_items : place_of_items places.Entry ≡ places.Ignored
-unfolding place_of_items
-entry_items = refl
-
 extra_items : place_of_items places.ExtraMembers ≡ places.Entry
 unfolding place_of_items
 extra_items = refl
-
-entry_leads : leads_on places.Entry ≡ true
-unfolding leads_on
-entry_leads = refl
 
 entry_unnamed : Names places.Entry → ⊥
 unfolding names_alias names_member_type
@@ -218,8 +196,6 @@ entry_unnamed (inl h) = true≢false (sym h)
 entry_unnamed (inr h) = true≢false (sym h)
 
 module _ (al done : Members) (known : AreResolved al done) (all : (n : List ℕ) → has al n ≡ true → has done n ≡ true) where
-  -- ---- a field type at a place
-
   type_fit : (v : Data) (taken : Bool) (seen : Members) → PartSound al places.FieldType taken seen v → Ascends v → type_flaws al done places.FieldType v ≡ [] → IsFit al done known all places.FieldType v
   type_fit v taken seen part ordered none =
       let sound = (sound_type done al places.FieldType v).0 none in
@@ -253,11 +229,12 @@ module _ (al done : Members) (known : AreResolved al done) (all : (n : List ℕ)
   extra_inherits e h = ((alike_inner done al e places.Entry h.marks).0 (back_empty (own_flaws al places.Entry false e) (inner_flaws al (Some done) places.Entry h.marks e) h.flawless)).1
 
   member_fit : (ms : Members) (k : List ℕ) (d : Data) (marks : Members) → PartSound al places.Entry false marks (object ms) → Ascends (object ms) → ExtraSound (object ms) → HasMember k d ms → IsFit al done known all (place_under places.Entry k) d
+  unfolding leads_on names_alias names_member_type
   member_fit ms k d marks part ordered h there =
       let mine = member_sound al places.Entry marks ms k d part.inner there in
-      let place = member_place al done places.Entry ms k d (object_places al done places.Entry ms entry_leads h.places) there in
+      let place = member_place al done places.Entry ms k d (object_places al done places.Entry ms refl h.places) there in
       let none : limit_flaws done places.Member d ≡ [] =
-      sym (place_of_member al done places.Member d no_alias_member member_field) ∙ subst (λ t. place_flaws al done t d ≡ []) (entry_place k) place.own in
+      sym (place_of_member al done places.Member d refl refl) ∙ subst (λ t. place_flaws al done t d ≡ []) (entry_place k) place.own in
       let whole = ((alike_limit done places.Member d).0 none).1 in
       record {
         taken = _;
@@ -269,12 +246,11 @@ module _ (al done : Members) (known : AreResolved al done) (all : (n : List ℕ)
       }
 
   extra_along : (path : List Step) (e : Data) (t : Place) (w : Data) (marks : Members) → PartSound al places.Entry false marks e → Ascends e → ExtraSound e → Leads places.Entry e path t w → Names t → Fits (lay done t w None)
+  unfolding place_of_items
   extra_along [] e t w marks part ordered h (place, value) names = absurd (entry_unnamed (subst Names (sym place) names))
-  extra_along (index i ∷ path) e t w marks part ordered h (es, d, is, there, leads) names = absurd (ignored_leads_nowhere (place_of_items places.Entry) path d t w entry_items leads names)
+  extra_along (index i ∷ path) e t w marks part ordered h (es, d, is, there, leads) names = absurd (ignored_leads_nowhere (place_of_items places.Entry) path d t w refl leads names)
   extra_along (key k ∷ path) e t w marks part ordered h (ms, d, is, there, leads) names =
       fits_along al done known all path (place_under places.Entry k) d t w (member_fit ms k d marks (subst (PartSound al places.Entry false marks) is part) (subst Ascends is ordered) (subst ExtraSound is h) there) leads names
-
-  -- ---- along a path from the top
 
   -- nothing is wrong with a value, nor at the places in it
   record SoundPlace (s : Place) (v : Data) : Type 0 where

@@ -62,20 +62,15 @@ module _ (done : Members) (s : Place) (above : holds_aliases s ≡ true) where
   module _ (n : List ℕ) (f g : Data → Data) (each : (d : Data) → lay done (place_under s n) (f d) None ≡ g (lay done (place_under s n) d None)) where
     members_with : (ms : Members) → lay_members done s (with_property n f ms) no_members ≡ with_property n g (lay_members done s ms no_members)
     members_with no_members = refl
-    members_with (member k d ms) = go (bytes_eq k n) refl (members_with ms)
-      where
-        first : (e : Data) (xs : Members) → lay_members done s (member k e xs) no_members ≡ put k (lay done (place_under s k) e None) (lay_members done s xs no_members)
-        first e xs = lay_members-first done s k e xs no_members (no_base s k above)
-
-        go : (t : Bool) → bytes_eq k n ≡ t → lay_members done s (with_property n f ms) no_members ≡ with_property n g (lay_members done s ms no_members)
-            → lay_members done s (with_property n f (member k d ms)) no_members ≡ with_property n g (lay_members done s (member k d ms) no_members)
-        go true is rest =
-            let laid = lay done (place_under s k) d None in
-            let one : lay done (place_under s k) (f d) None ≡ g laid = subst (λ x. lay done (place_under s x) (f d) None ≡ g (lay done (place_under s x) d None)) (sym ((bytes_eq-Decides k n).0 is)) (each d) in
-            rw is (first (f d) ms ∙ ap (λ x. put k x (lay_members done s ms no_members)) one ∙ sym (put_here n k g laid (lay_members done s ms no_members) is) ∙ ap (with_property n g) (sym (first d ms)))
-        go false is rest =
-            let laid = lay done (place_under s k) d None in
-            rw is (first d (with_property n f ms) ∙ ap (put k laid) rest ∙ sym (put_beside n k g laid (lay_members done s ms no_members) is) ∙ ap (with_property n g) (sym (first d ms)))
+    members_with (member k d ms) =
+        let laid = lay done (place_under s k) d None in
+        let rest = lay_members done s ms no_members in
+        let first : (e : Data) (xs : Members) → lay_members done s (member k e xs) no_members ≡ put k (lay done (place_under s k) e None) (lay_members done s xs no_members) = λ e xs. lay_members-first done s k e xs no_members (no_base s k above) in
+        elim (cases_Bool (bytes_eq k n)) [
+          | inl is ↦ (let one : lay done (place_under s k) (f d) None ≡ g laid = subst (λ x. lay done (place_under s x) (f d) None ≡ g (lay done (place_under s x) d None)) (sym ((bytes_eq-Decides k n).0 is)) (each d) in
+              rw is (first (f d) ms ∙ ap (λ x. put k x rest) one ∙ sym (put_here n k g laid rest is) ∙ ap (with_property n g) (sym (first d ms))))
+          | inr is ↦ rw is (first d (with_property n f ms) ∙ ap (put k laid) (members_with ms) ∙ sym (put_beside n k g laid rest is) ∙ ap (with_property n g) (sym (first d ms)))
+        ]
 
     value_with : (v : Data) → lay done s (in_property n f v) None ≡ in_property n g (lay done s v None)
     value_with (object ms) = laid_object done s (with_property n f ms) above ∙ ap object (members_with ms) ∙ ap (in_property n g) (sym (laid_object done s ms above))
@@ -89,14 +84,11 @@ module _ (done : Members) (s : Place) (above : holds_aliases s ≡ true) where
   object_with al (string x) = rw (text_stays done s x above) refl
   object_with al _ = refl
 
-aliases_above : holds_aliases places.FieldTypeAliases ≡ true
-unfolding holds_aliases
-aliases_above = refl
-
 -- a configuration with other aliases is laid to what it is laid to, with those laid
 whole_with : (done al : Members) (v : Data) → lay done places.Root (with_aliases places.Root al v) None ≡ with_aliases places.Root (lay_members done places.FieldTypeAliases al no_members) (lay done places.Root v None)
+unfolding holds_aliases
 whole_with done al v = on_way (λ s f g. (d : Data) → lay done s (f d) None ≡ g (lay done s d None)) al (lay_members done places.FieldTypeAliases al no_members)
-    (object_with done places.FieldTypeAliases aliases_above al) (λ s n f g above each. value_with done s above n f g each) v
+    (object_with done places.FieldTypeAliases refl al) (λ s n f g above each. value_with done s above n f g each) v
 
 -- the resolved ones in their place
 pub laid_with : (done al : Members) (v : Data) → AreLaid done al → lay done places.Root (with_aliases places.Root al v) None ≡ with_aliases places.Root done (lay done places.Root v None)

@@ -12,7 +12,7 @@ use Rattle.conf_tree.specs.declared.fault_kind.FaultKind.{FaultKind}
 use Rattle.conf_tree.specs.declared.fault_kind.FaultKind.TheVariants.{InheritCycle, Limit, WrongKind, NoSuchAlias}
 use Rattle.conf_table.specs.declared.place.Place.{Place}
 use Rattle.conf_table.specs.declared.place.Place.TheVariants as places
-use Rattle.conf_inherit.specs.FieldPlaces.{place_under, place_of_items, names_alias, names_member_type, is_base_name, lists_extra_members, leads_on, lists_members, is_entry}
+use Rattle.conf_inherit.specs.FieldPlaces.{field_place, place_under, place_of_items, names_alias, names_member_type, is_base_name, lists_extra_members, leads_on, lists_members, is_entry}
 use Rattle.conf_inherit.specs.AliasFlaws.{over_names, first_or_circle, alias_flaws, all_alias_flaws}
 use Rattle.conf_inherit.specs.Circle.{Walks}
 use Rattle.conf_inherit.specs.SameFlaw.{is_same_flaw}
@@ -24,27 +24,22 @@ use Rattle.conf_inherit.specs.Places.{too_many, place_flaws, inner_places, item_
 use Rattle.conf_inherit.specs.Laying.{lay}
 use Rattle.conf_inherit.specs.Names.{NoClash}
 use Rattle.conf_inherit.specs.Resolution.{members_or_none, trace_name, type_name, aliases_name, aliases_of, in_aliases, from_aliases, if_shallow, resolution, Resolves}
-use Rattle.conf_inherit.specs.Nesting.{deep_flaws, PassesDepth, nests}
+use Rattle.conf_inherit.specs.Nesting.{deep_flaws, PassesDepth}
 use Rattle.conf_inherit.proofs.SizeLemmas.{deep_holds, depth_excluded}
 use Rattle.conf_inherit.proofs.SoundPlaces.{place_of_type, place_of_member, place_of_list, place_of_other, too_many_excluded, flawless, PartSound, part_sound, member_sound, item_sound, SoundAt, sound_along}
-use Rattle.conf_inherit.proofs.ResolveLemmas.{laid_resolves, resolution_sound, IsOpen, open_walks, no_flaws, ok_aliases, ok_then, circle_refused}
-use Rattle.conf_inherit.proofs.RoundLemmas.{rounds_resolved, rounds_root, all_done}
+use Rattle.conf_inherit.proofs.RoundLemmas.{rounds_of, TreeSound, tree_sound, laid_resolves, resolution_sound, IsOpen, open_walks, no_flaws, circle_refused, rounds_resolved, rounds_root, all_done}
 use Rattle.conf_inherit.specs.Named.{all_named, has}
-use Rattle.conf_inherit.specs.Rounds.{Outcomes, rounds, no_outcomes}
-use Rattle.conf_inherit.specs.Limits.{Exceeds, fitting, passed, limit_flaws}
-use Rattle.conf_inherit.proofs.LimitLemmas.{Judged, fits, exceeds, judged, apart_fits}
-use Rattle.conf_inherit.proofs.FieldPlaceLemmas.{trace_place, trace_type_place, aliases_place, alias_place_under, alias_field, base_place, list_place}
+use Rattle.conf_inherit.specs.Rounds.{Outcomes}
+use Rattle.conf_inherit.specs.Limits.{Exceeds, fitting, limit_flaws}
+use Rattle.conf_inherit.proofs.LimitLemmas.{past_at, judged, apart_fits}
+use Rattle.conf_inherit.proofs.FieldPlaceLemmas.{trace_place, trace_type_place, aliases_place, alias_field, base_place, list_place}
 use Rattle.conf_inherit.proofs.FaultLemmas.{own_sound, Among, refused_among, BasesHold, among_within, holds_in_object, entry_holds, flaw_of_itself_holds, flaw_holds, first_or_rest, Aligned, aligned_here, aligned_next, Seen, seen_next_at, none_seen, ready, only}
 use Rattle.conf_inherit.proofs.LayingLemmas.{has_found, AllEntries, found_each}
 use Rattle.std.proofs.lemmas.Bool.{cases_Bool, true≢false, and_from}
 use Rattle.conf_inherit.proofs.LaysOver.{lays}
 use Rattle.conf_inherit.proofs.LookedUp.{one_look, both_there, read_in_order, aliases_apart}
 use Rattle.conf_inherit.proofs.PlacesFit.{sound_named, all_fit}
-
-limit_kind : (r : Data) (o : Result Data FaultKind) (f : Flaw) → Judged r o → Among f (passed o) → (kind : FaultKind) × Exceeds kind r × (f ≡ here kind)
-limit_kind r o f (fits x) h = absurd h
-limit_kind r o f (exceeds kind past) (inl e) = (kind, past, e)
-limit_kind r o f (exceeds kind past) (inr h) = absurd h
+use Rattle.conf_table.specs.Table.{content_under, entries_of, rows_of, place_in}
 
 module _ (al : Members) where
   -- a limit that a value passes holds at it
@@ -59,8 +54,8 @@ module _ (al : Members) where
   module _ (done : Members) (known : AreResolved al done) where
     limit_here : (s : Place) (v : Data) (f : Flaw) → Names s → Among f (limit_flaws done s v) → FlawHolds al s v f
     limit_here s v f names h = elim (cases_Bool (all_named (has done) s v)) [
-      | inl is ↦ (let (kind, past, e) = limit_kind (lay done s v None) (fitting (lay done s v None)) f (judged (lay done s v None)) (rw is at h) in
-          along s v f (here kind) e (passes_here s v kind (names, (done, known, is, past))))
+      | inl is ↦ (let past = past_at (lay done s v None) (fitting (lay done s v None)) f (judged (lay done s v None)) (rw is at h) in
+          along s v f (here f.kind) past.0 (passes_here s v f.kind (names, (done, known, is, past.1))))
       | inr is ↦ absurd (rw is at h)
     ]
 
@@ -100,12 +95,13 @@ module _ (al : Members) where
             elim (own_or_circle st.done known places.FieldType w f (inl alias_field) (refusal (type_flaws al st.done places.FieldType w)) (refusal (type_flaws (over_names al st no_members) st.done places.FieldType w)) refl (rw (a, b) at h)) [ inl holds ↦ inl holds | inr e ↦ inr (e, walks k (ap is_some is) (a, b)) ]
 
     aliases_hold : (ms : Members) (f : Flaw) → AllEntries (λ k w. get_member k al ≡ Some w) ms → ((k : List ℕ) (d : Data) → HasMember k d ms → HasMember k d al) → Among f (all_alias_flaws al st ms) → FlawHolds al places.FieldTypeAliases (object al) f
+    unfolding place_under content_under entries_of rows_of place_in field_place
     aliases_hold no_members f each sub h = absurd h
     aliases_hold (member k w ms) f each sub h =
         first_or_rest f (map (within (key k)) (alias_flaws al st k w)) (all_alias_flaws al st ms) h
         (λ a. let (g, e, b) = among_within (key k) f (alias_flaws al st k w) a in
         elim (alias_at k w g each.0 b) [
-          | inl holds ↦ along places.FieldTypeAliases (object al) f (within (key k) g) e (holds_in_object al places.FieldTypeAliases k w al g (sub k w (inl (refl, refl))) (subst (λ x. FlawHolds al x w g) (sym (alias_place_under k)) holds))
+          | inl holds ↦ along places.FieldTypeAliases (object al) f (within (key k) g) e (holds_in_object al places.FieldTypeAliases k w al g (sub k w (inl (refl, refl))) holds)
           | inr (circle, steps) ↦ (let all : f ≡ within (key k) (here InheritCycle) = e ∙ ap (within (key k)) circle in
               inr (inr (ap (λ x. x.kind) all, ([], k, ap (λ x. x.path) all, (refl, refl), steps))))
         ])
@@ -198,30 +194,23 @@ err_shallow : (x : Data) (f : Flaw) → if_shallow x ≡ Err f → PassesDepth 3
 err_shallow x f h = elim (err_then (refusal (deep_flaws x 32)) (λ a. Ok x) f h) [ inl e ↦ deep_holds x 32 f (refused_among (deep_flaws x 32) f e) | inr e ↦ absurd (no_err x f e.1) ]
 
 module _ (t : Data) (f : Flaw) (apart : NoClash (aliases_of t)) where
-  abbrev al_of : Members
-  al_of = aliases_of t
-
-  abbrev st_of : Outcomes
-  st_of = rounds al_of (members_len al_of) no_outcomes
-
-  alias_refused : (g : Flaw) → refusal (all_alias_flaws al_of st_of al_of) ≡ Err g → FlawHolds al_of places.Root t (in_aliases g)
+  alias_refused : (g : Flaw) → refusal (all_alias_flaws (aliases_of t) (rounds_of t) (aliases_of t)) ≡ Err g → FlawHolds (aliases_of t) places.Root t (in_aliases g)
   alias_refused g h =
-      let each = found_each al_of apart in
-      let among = refused_among (all_alias_flaws al_of st_of al_of) g h in
-      let known = rounds_resolved al_of (members_len al_of) each in
-      let walks : (k : List ℕ) → has al_of k ≡ true → IsOpen st_of k → Walks al_of (members_len al_of) k = λ k known o. open_walks al_of (members_len al_of) k known o in
-      lift_aliases al_of t g (λ none. subst (λ x. Among g (all_alias_flaws al_of st_of x)) none among) (aliases_hold al_of st_of known walks al_of g each (λ k d m. m) among)
+      let each = found_each (aliases_of t) apart in
+      let among = refused_among (all_alias_flaws (aliases_of t) (rounds_of t) (aliases_of t)) g h in
+      let known = rounds_resolved (aliases_of t) (members_len (aliases_of t)) each in
+      lift_aliases (aliases_of t) t g (λ none. subst (λ x. Among g (all_alias_flaws (aliases_of t) (rounds_of t) x)) none among) (aliases_hold (aliases_of t) (rounds_of t) known (open_walks (aliases_of t) (members_len (aliases_of t))) (aliases_of t) g each (λ k d m. m) among)
 
-  after_aliases : refusal (all_alias_flaws al_of st_of al_of) ≡ Ok tt → (refusal (inner_places al_of st_of.done places.Root t) >>= (λ b. if_shallow (lay st_of.done places.Root t None))) ≡ Err f → RefusalHolds t f
-  after_aliases a h = elim (err_then (refusal (inner_places al_of st_of.done places.Root t)) (λ b. if_shallow (lay st_of.done places.Root t None)) f h) [
-    | inl e ↦ inl (places_hold al_of st_of.done (rounds_resolved al_of (members_len al_of) (found_each al_of apart)) t places.Root f (refused_among (inner_places al_of st_of.done places.Root t) f e))
-    | inr (b, e) ↦ inr (lay st_of.done places.Root t None, laid_resolves t al_of (members_len al_of) st_of refl apart refl a b, err_shallow (lay st_of.done places.Root t None) f e)
+  after_aliases : refusal (all_alias_flaws (aliases_of t) (rounds_of t) (aliases_of t)) ≡ Ok tt → (refusal (inner_places (aliases_of t) (rounds_of t).done places.Root t) >>= (λ b. if_shallow (lay (rounds_of t).done places.Root t None))) ≡ Err f → RefusalHolds t f
+  after_aliases a h = elim (err_then (refusal (inner_places (aliases_of t) (rounds_of t).done places.Root t)) (λ b. if_shallow (lay (rounds_of t).done places.Root t None)) f h) [
+    | inl e ↦ inl (places_hold (aliases_of t) (rounds_of t).done (rounds_resolved (aliases_of t) (members_len (aliases_of t)) (found_each (aliases_of t) apart)) t places.Root f (refused_among (inner_places (aliases_of t) (rounds_of t).done places.Root t) f e))
+    | inr (b, e) ↦ inr (lay (rounds_of t).done places.Root t None, laid_resolves t (aliases_of t) (members_len (aliases_of t)) (rounds_of t) refl apart refl (no_flaws (all_alias_flaws (aliases_of t) (rounds_of t) (aliases_of t)) a) (no_flaws (inner_places (aliases_of t) (rounds_of t).done places.Root t) b), err_shallow (lay (rounds_of t).done places.Root t None) f e)
   ]
 
   -- the kind of a refusal holds at its path
   pub refusal_holds : resolution t ≡ Err f → RefusalHolds t f
-  refusal_holds h = elim (err_aliases (refusal (all_alias_flaws al_of st_of al_of)) (λ a. refusal (inner_places al_of st_of.done places.Root t) >>= (λ b. if_shallow (lay st_of.done places.Root t None))) f h) [
-    | inl (g, e, is) ↦ inl (subst (FlawHolds al_of places.Root t) (sym is) (alias_refused g e))
+  refusal_holds h = elim (err_aliases (refusal (all_alias_flaws (aliases_of t) (rounds_of t) (aliases_of t))) (λ a. refusal (inner_places (aliases_of t) (rounds_of t).done places.Root t) >>= (λ b. if_shallow (lay (rounds_of t).done places.Root t None))) f h) [
+    | inl (g, e, is) ↦ inl (subst (FlawHolds (aliases_of t) places.Root t) (sym is) (alias_refused g e))
     | inr (a, e) ↦ after_aliases a e
   ]
 
@@ -235,47 +224,15 @@ resolved_or_refused t apart = go (resolution t) refl
 
 -- ---- a tree that was read and has a resolution has no fault of inheritance
 
--- ---- what a resolution says of the tree
-
-module _ (t r : Data) (h : resolution t ≡ Ok r) where
-  abbrev al : Members
-  al = aliases_of t
-
-  abbrev st : Outcomes
-  st = rounds al (members_len al) no_outcomes
-
-  -- nothing was found in its aliases or at its places, so that it has no flaw, and what it is laid to is shallow
-  record TreeSound : Type 0 where
-    outcomes : all_alias_flaws al st al ≡ []
-    at_places : inner_places al st.done places.Root t ≡ []
-    whole : flaws al None places.Root false no_members t ≡ []
-    shallow : nests r 32 ≡ true
-
-  tree_sound : NoClash al → TreeSound
-  tree_sound apart =
-      let first = ok_aliases (refusal (all_alias_flaws al st al)) _ r h in
-      let second = ok_then (refusal (inner_places al st.done places.Root t)) _ r first.1 in
-      record {
-        outcomes = no_flaws (all_alias_flaws al st al) first.0;
-        at_places = no_flaws (inner_places al st.done places.Root t) second.0;
-        whole = flawless al st.done t (no_flaws (inner_places al st.done places.Root t) second.0);
-        shallow = (resolution_sound t r apart h).1;
-      }
-
--- ---- names that clash
-
 module _ (al : Members) where
   -- no entry of a members list has the name of one before it
-  entry_of_list : (s : Place) → lists_members s ≡ true → is_entry (place_of_items s) ≡ true
-  unfolding is_entry
-  entry_of_list s lists = ap is_entry (list_place s lists)
-
   no_clash : (s : Place) (es : Items) (taken : Bool) (seen : Members) (i j : ℕ) (n : List ℕ) → PartSound al s taken seen (array es) → lists_members s ≡ true → i < j → HasEntry i n es → HasEntry j n es → ⊥
+  unfolding is_entry
   no_clash s es taken seen i j n h lists before first (ms, d, there, has_it) =
       let one = item_sound al s 0 no_members es j (object ms) h.inner there in
       let mine = member_sound al (place_of_items s) one.marks ms n d one.sound.inner has_it in
       let free = (own_sound al (place_under (place_of_items s) n) (is_entry (place_of_items s) && is_some (get_member n one.marks)) d mine.own).free in
-      true≢false (sym (and_from (is_entry (place_of_items s)) (is_some (get_member n one.marks)) (entry_of_list s lists) (one.marked n i before first)) ∙ free)
+      true≢false (sym (and_from (is_entry (place_of_items s)) (is_some (get_member n one.marks)) (ap is_entry (list_place s lists)) (one.marked n i before first)) ∙ free)
 
   clash_excluded : (s : Place) (v : Data) (path : List Step) (taken : Bool) (seen : Members) → PartSound al s taken seen v → ¬ Clashes s v path
   clash_excluded s v path taken seen h (front, t, es, i, j, n, is, leads, lists, before, first, second) =
@@ -294,23 +251,20 @@ module _ (text : List ℕ) (t r : Data) (tree : IsTreeOf text t) (h : resolution
   apart : NoClash (aliases_of t)
   apart = aliases_apart text t tree
 
-  sound : TreeSound t r h
-  sound = tree_sound t r h apart
+  sound : TreeSound t r
+  sound = tree_sound t r h
 
   abbrev done : Members
-  done = (st t r h).done
-
-  resolves : Resolves t r
-  resolves = (resolution_sound t r apart h).0
+  done = (rounds_of t).done
 
   root_sound : PartSound (aliases_of t) places.Root false no_members t
-  root_sound = part_sound (aliases_of t) places.Root false no_members t sound.whole
+  root_sound = part_sound (aliases_of t) places.Root false no_members t (flawless (aliases_of t) done t sound.at_places)
 
   known : AreResolved (aliases_of t) done
   known = rounds_resolved (aliases_of t) (members_len (aliases_of t)) (found_each (aliases_of t) apart)
 
   all_known : (n : List ℕ) → has (aliases_of t) n ≡ true → has done n ≡ true
-  all_known = all_done (aliases_of t) (st t r h) sound.outcomes (rounds_root (aliases_of t) (members_len (aliases_of t)) (found_each (aliases_of t) apart))
+  all_known = all_done (aliases_of t) (rounds_of t) sound.outcomes (rounds_root (aliases_of t) (members_len (aliases_of t)) (found_each (aliases_of t) apart))
 
   -- what a value is laid to is what it is looked up as, under whatever resolved aliases
   laid : (others : Members) (s : Place) (w : Data) → AreResolved (aliases_of t) others → SoundAt (aliases_of t) s w → all_named (has others) s w ≡ true → Looks (aliases_of t) s (w ∷ []) (lay others s w None)
@@ -336,4 +290,4 @@ module _ (text : List ℕ) (t r : Data) (tree : IsTreeOf text t) (h : resolution
   -- no fault of inheritance holds of it
   pub refusal_excluded : (flaw : Flaw) → ¬ RefusalHolds t flaw
   refusal_excluded flaw (inl holds) = flaw_excluded flaw holds
-  refusal_excluded flaw (inr (s, looked, deep)) = depth_excluded r 32 flaw sound.shallow (subst (λ x. PassesDepth 32 x flaw) (one_look (aliases_of t) looked resolves) deep)
+  refusal_excluded flaw (inr (s, looked, deep)) = depth_excluded r 32 flaw sound.shallow (subst (λ x. PassesDepth 32 x flaw) (one_look (aliases_of t) looked (resolution_sound t r apart h).0) deep)

@@ -1,10 +1,10 @@
 -- What the rounds over the aliases leave: resolved aliases are what they are looked up as, and an alias with no
 -- outcome starts a walk as long as there were rounds.
-use Rattle.std.proofs.Common.{◌≡◌, ◌&&◌, ◌||◌, ◌++◌, ◌⊎◌, inl, inr, ℕ, zero, suc, List, [], ◌∷◌, Option, Some, None, Result, Ok, Err, is_some, Bool, true, false, not, true≢false, refl, sym, ap, ◌∙◌, subst}
-use Rattle.std.proofs.lemmas.Bool.{and_parts, cases_Bool, or_parts}
-use Rattle.serde_json.specs.Data.{Data, null, Members, no_members, member, put}
+use Rattle.std.proofs.Common.{◌≡◌, ◌&&◌, ◌||◌, ◌++◌, ◌⊎◌, inl, inr, ℕ, zero, suc, List, [], ◌∷◌, Option, Some, None, Result, Ok, Err, is_some, Bool, true, false, not, true≢false, refl, sym, ap, ◌∙◌, subst, ◌+◌, ◌≤◌, String, Global, Less, string_cmp, string_bytes, arith, ◌<◌, if◌then◌else◌}
+use Rattle.std.proofs.lemmas.Bool.{not-false, and_parts, cases_Bool, or_parts, or_from}
+use Rattle.serde_json.specs.Data.{Data, null, Members, no_members, member, put, array, object, Items, no_items, item, depth, items_depth, members_depth}
 use Rattle.serde_json.specs.Find.{get_member}
-use Rattle.serde_json.proofs.Views.{get_member-put_other}
+use Rattle.serde_json.proofs.Views.{get_member-put_other, Entry}
 use Rattle.std.specs.Prelude.{⊤}
 use Rattle.conf_tree.specs.Flaw.{Flaw, key, within}
 use Rattle.conf_tree.specs.Walk.{refusal}
@@ -19,9 +19,22 @@ use Rattle.conf_inherit.specs.Named.{all_named, has}
 use Rattle.conf_inherit.specs.Rounds.{Outcomes, has_outcome, is_over, is_empty, if_fitting, outcome, concluded, step, round, all_over, next_round, rounds, no_outcomes, Reached, at_first, turned}
 use Rattle.conf_inherit.specs.SameFlaw.{is_same_flaw}
 use Rattle.conf_inherit.proofs.LimitLemmas.{more_named, kept_flaws, fitting_value}
-use Rattle.conf_inherit.proofs.LayingLemmas.{Meets, same, other, meets, put_found, AllEntries, entry_found}
+use Rattle.conf_inherit.proofs.LayingLemmas.{some_is_none, Meets, same, other, meets, put_found, AllEntries, entry_found, get_none, found_each, all_along, get_other}
 use Rattle.conf_inherit.proofs.LaysOver.{lays}
 use Rattle.conf_inherit.proofs.FaultLemmas.{named, named_along, blocked, mentioned, is_still, is_put, ready, part_empty, rest_empty, front_empty, back_empty, some_of}
+use Rattle.std.specs.List.{AllByRecursion}
+use Rattle.std.specs.List.Sorted.{IsStrictlySortedBy}
+use Rattle.std.specs.Map.{keys_of}
+use Rattle.serde_json.specs.View.{members_view}
+use Rattle.conf_inherit.specs.Names.{AllAbove, NoClash}
+use Rattle.conf_inherit.specs.Nesting.{nests, items_nest, members_nest, deep_flaws}
+use Rattle.conf_inherit.specs.Resolution.{aliases_of, Resolves, from_aliases, if_shallow, resolution_after, resolution_under, resolution}
+use Rattle.conf_tree.specs.Reading.{◌>>=◌}
+use Rattle.serde_json.specs.Events.{members_len}
+use Rattle.conf_inherit.specs.Places.{inner_places}
+use Rattle.conf_inherit.proofs.SizeLemmas.{shallow_nests}
+use Rattle.conf_inherit.proofs.SoundPlaces.{flawless}
+use Rattle.conf_inherit.specs.Circle.{Mentions, Walks}
 
 pub empty_flaws : (fs : List Flaw) → is_empty fs ≡ true → fs ≡ []
 empty_flaws [] h = refl
@@ -52,17 +65,13 @@ module _ (al : Members) where
   round_reached no_members st each h = h
   round_reached (member k w ms) st each h = round_reached ms (step al k w st) each.1 (turned k w st each.0 h)
 
-  next_reached : (st : Outcomes) → Reached al st → Reached al (round al al st) → Reached al (next_round al st)
-  next_reached st before after = elim (cases_Bool (all_over al st)) [ inl is ↦ rw is before | inr is ↦ rw is after ]
-
   pub rounds_reached : (n : ℕ) → AllEntries (λ k w. get_member k al ≡ Some w) al → Reached al (rounds al n no_outcomes)
   rounds_reached zero each = at_first
-  rounds_reached (suc n) each = next_reached (rounds al n no_outcomes) (rounds_reached n each) (round_reached al (rounds al n no_outcomes) each (rounds_reached n each))
+  rounds_reached (suc n) each =
+      let before = rounds_reached n each in
+      elim (cases_Bool (all_over al (rounds al n no_outcomes))) [ inl is ↦ rw is before | inr is ↦ rw is (round_reached al (rounds al n no_outcomes) each before) ]
 
 -- ---- a resolved alias
-
-pub no_value : (r : Data) → (let o : Option Data = None in o ≡ Some r) → ⊥
-no_value r h = cc
 
 pub fitting_ok : (o : Result Data FaultKind) (t : Data) → if_fitting o ≡ Some t → o ≡ Ok t
 fitting_ok (Ok r) t h = cc
@@ -80,7 +89,7 @@ outcome_is al done w r h =
     elim (cases_Bool (all_named (has done) places.FieldType w && is_empty none)) [
       | inl is ↦ (let parts = and_parts (all_named (has done) places.FieldType w) (is_empty none) is in
           record { named = parts.0; flawless = empty_flaws none parts.1; fits = fitting_ok (fitting (lay done places.FieldType w None)) r (rw is at h) })
-      | inr is ↦ absurd (no_value r (rw is at h))
+      | inr is ↦ absurd (let bad : None ≡ Some r = rw is at h in some_is_none r (sym bad))
     ]
 
 module _ (al : Members) where
@@ -92,14 +101,12 @@ module _ (al : Members) where
       (lays al done known w places.FieldType (ready al (Some done) done w places.FieldType no_members (back_empty (own_flaws al places.FieldType false w) (inner_flaws al (Some done) places.FieldType no_members w) is.flawless) is.named) [] None refl)
 
   resolved_more : (done : Members) (k : List ℕ) (w r : Data) → AreResolved al done → get_member k al ≡ Some w → Looks al places.FieldType (w ∷ []) r → AreResolved al (put k r done)
-  resolved_more done k w r known is l n t h = go (meets n k)
-    where
-      go : Meets n k → (w : Data) × (get_member n al ≡ Some w) × Looks al places.FieldType (w ∷ []) t
-      go (same e) =
-          let f : Some r ≡ Some t = sym (put_found n k r done e) ∙ h in
-          let g : r ≡ t = cc in
-          (w, ap (λ x. get_member x al) e ∙ is, subst (Looks al places.FieldType (w ∷ [])) g l)
-      go (other apart) = known n t (sym (get_member-put_other n k r done apart) ∙ h)
+  resolved_more done k w r known is l n t h = elim (meets n k) [
+    | same e ↦ (let f : Some r ≡ Some t = sym (put_found n k r done e) ∙ h in
+        let g : r ≡ t = cc in
+        (w, ap (λ x. get_member x al) e ∙ is, subst (Looks al places.FieldType (w ∷ [])) g l))
+    | other apart ↦ known n t (sym (get_member-put_other n k r done apart) ∙ h)
+  ]
 
   next_resolved : (k : List ℕ) (w : Data) (st : Outcomes) → get_member k al ≡ Some w → AreResolved al st.done → (o : Option Data) → outcome al st.done w ≡ o → AreResolved al (concluded k st o).done
   next_resolved k w st is known None e = known
@@ -109,11 +116,9 @@ module _ (al : Members) where
   rounds_resolved n each =
       reached_keeps al (λ st. AreResolved al st.done) (λ n r h. cc) (λ k w st is free due known. next_resolved k w st is known (outcome al st.done w) refl) (rounds_reached al n each)
 
--- ---- why an alias is refused
-
 -- a type names what is no alias, or all that it names is resolved and it has a flaw or passes a limit
 abbrev IsFlawed : Members → Members → Data → Type 0
-IsFlawed al done w = (all_named (has al) places.FieldType w ≡ false) ⊎ ((all_named (has done) places.FieldType w ≡ true) × (is_empty (type_flaws al done places.FieldType w) ≡ false))
+IsFlawed al done w = (all_named (has al) places.FieldType w ≡ false) ⊎ ((all_named (has done) places.FieldType w ≡ true) × (type_flaws al done places.FieldType w ≡ [] → ⊥))
 
 -- an alias that is refused for what is wrong in it
 abbrev pub IsRoot : Members → Outcomes → Type 0
@@ -132,24 +137,16 @@ or_true false false c h e f = absurd (true≢false (sym (rw f at h)))
 still : (k : List ℕ) (r : Data) (done : Members) → has done k ≡ false → (n : List ℕ) → has done n ≡ true → get_member n (put k r done) ≡ get_member n done
 still k r done free n h = get_member-put_other n k r done (λ e. true≢false (sym h ∙ ap (has done) e ∙ free))
 
-joined_flawed : (xs ys : List Flaw) → is_empty ys ≡ false → is_empty (xs ++ ys) ≡ false
-joined_flawed [] ys h = h
-joined_flawed (x ∷ xs) ys h = refl
-
-front_flawed : (xs ys : List Flaw) → is_empty xs ≡ false → is_empty (xs ++ ys) ≡ false
-front_flawed [] ys h = absurd (true≢false h)
-front_flawed (x ∷ xs) ys h = refl
-
-limit_listed : (o : Result Data FaultKind) → if_fitting o ≡ None → is_empty (passed o) ≡ false
-limit_listed (Ok r) h = cc
-limit_listed (Err kind) h = refl
+limit_listed : (o : Result Data FaultKind) → if_fitting o ≡ None → passed o ≡ [] → ⊥
+limit_listed (Ok r) h none = cc
+limit_listed (Err kind) h none = cc
 
 module _ (al : Members) where
   -- what is flawed stays so when another alias is resolved
   flawed_still : (k : List ℕ) (r : Data) (done : Members) (w : Data) → has done k ≡ false → IsFlawed al done w → IsFlawed al (put k r done) w
   flawed_still k r done w free (inl e) = inl e
   flawed_still k r done w free (inr (named, e)) =
-      inr (more_named done (put k r done) (still k r done free) places.FieldType w named, ap is_empty (kept_flaws done (put k r done) (still k r done free) al places.FieldType w named) ∙ e)
+      inr (more_named done (put k r done) (still k r done free) places.FieldType w named, λ none. e (sym (kept_flaws done (put k r done) (still k r done free) al places.FieldType w named) ∙ none))
 
   -- a root stays one when another alias gets its outcome
   root_stays : (k : List ℕ) (st : Outcomes) (o : Option Data) → has_outcome st k ≡ false → IsRoot al st → IsRoot al (concluded k st o)
@@ -163,15 +160,12 @@ module _ (al : Members) where
       go None = (q, w, is, open_q, is_still k null st.refused q refused, flawed)
 
   -- a type that is not resolved, though all that it names is, has a flaw or passes a limit
-  unresolved : (done : Members) (w : Data) → all_named (has done) places.FieldType w ≡ true → outcome al done w ≡ None → is_empty (type_flaws al done places.FieldType w) ≡ false
-  unresolved done w named h = go (is_empty (flaws al (Some done) places.FieldType false no_members w)) refl
-    where
-      go : (t : Bool) → is_empty (flaws al (Some done) places.FieldType false no_members w) ≡ t → is_empty (type_flaws al done places.FieldType w) ≡ false
-      go false e = front_flawed (flaws al (Some done) places.FieldType false no_members w) (limit_flaws done places.FieldType w) e
-      go true e =
-          let limit : is_empty (passed (fitting (lay done places.FieldType w None))) ≡ false = limit_listed (fitting (lay done places.FieldType w None)) (rw (named, e) at h) in
-          let at : limit_flaws done places.FieldType w ≡ passed (fitting (lay done places.FieldType w None)) = rw named refl in
-          joined_flawed (flaws al (Some done) places.FieldType false no_members w) (limit_flaws done places.FieldType w) (ap is_empty at ∙ limit)
+  unresolved : (done : Members) (w : Data) → all_named (has done) places.FieldType w ≡ true → outcome al done w ≡ None → type_flaws al done places.FieldType w ≡ [] → ⊥
+  unresolved done w named h none =
+      let fs = flaws al (Some done) places.FieldType false no_members w in
+      let empty : is_empty fs ≡ true = ap is_empty (front_empty fs (limit_flaws done places.FieldType w) none) in
+      let at : limit_flaws done places.FieldType w ≡ passed (fitting (lay done places.FieldType w None)) = rw named refl in
+      limit_listed (fitting (lay done places.FieldType w None)) (rw (named, empty) at h) (sym at ∙ back_empty fs (limit_flaws done places.FieldType w) none)
 
   -- an alias that is refused has a flaw, or names one that is refused
   new_root : (k : List ℕ) (w : Data) (st : Outcomes) → get_member k al ≡ Some w → has_outcome st k ≡ false → all_named (is_over al st) places.FieldType w ≡ true
@@ -223,26 +217,284 @@ module _ (al : Members) (st : Outcomes) (sound : all_alias_flaws al st al ≡ []
 
   -- a root has a flaw
   no_root : IsRoot al st → ⊥
-  no_root (k, w, is, open_k, refused, flawed) = at flawed
-    where
-      none : type_flaws al st.done places.FieldType w ≡ []
-      none = rw (open_k, refused) at (sound_alias k w is)
-
-      at : IsFlawed al st.done w → ⊥
-      at (inl e) = true≢false (sym (sound_names w none) ∙ e)
-      at (inr (all, e)) = true≢false (sym (ap is_empty none) ∙ e)
+  no_root (k, w, is, open_k, refused, flawed) =
+      let none : type_flaws al st.done places.FieldType w ≡ [] = rw (open_k, refused) at (sound_alias k w is) in
+      elim flawed [ inl e ↦ true≢false (sym (sound_names w none) ∙ e) | inr (all, e) ↦ e none ]
 
   pub all_done : (n : List ℕ) → has al n ≡ true → has st.done n ≡ true
-  all_done n h = found (some_of (get_member n al) h)
-    where
-      at : (w : Data) → get_member n al ≡ Some w → (t : Bool) → has st.done n ≡ t → (u : Bool) → has st.refused n ≡ u → has st.done n ≡ true
-      at w is true e u f = e
-      at w is false e true f = absurd (no_root (root n f))
-      at w is false e false f = absurd (open_flawed (refusal (type_flaws al st.done places.FieldType w)) (refusal (type_flaws (over_names al st no_members) st.done places.FieldType w)) (rw (e, f) at (sound_alias n w is)))
-
-      found : (w : Data) × (get_member n al ≡ Some w) → has st.done n ≡ true
-      found (w, is) = at w is (has st.done n) refl (has st.refused n) refl
+  all_done n h =
+      let (w, is) = some_of (get_member n al) h in
+      elim (cases_Bool (has st.done n)) [
+        | inl e ↦ e
+        | inr e ↦ elim (cases_Bool (has st.refused n)) [
+          | inl f ↦ absurd (no_root (root n f))
+          | inr f ↦ absurd (open_flawed (refusal (type_flaws al st.done places.FieldType w)) (refusal (type_flaws (over_names al st no_members) st.done places.FieldType w)) (rw (e, f) at (sound_alias n w is)))
+        ]
+      ]
 
 -- where all that a value names is resolved, it is due
 pub resolved_due : (al : Members) (st : Outcomes) (v : Data) → all_named (has st.done) places.FieldType v ≡ true → all_named (is_over al st) places.FieldType v ≡ true
 resolved_due al st v h = named_along (has st.done) (is_over al st) (λ n d. rw d refl) places.FieldType v h
+
+-- The parts of a resolution together.
+
+pub no_flaws : (fs : List Flaw) → refusal fs ≡ Ok tt → fs ≡ []
+no_flaws [] h = refl
+no_flaws (f ∷ fs) h = cc
+
+-- ---- a configuration without a flaw is resolved
+
+pub laid_resolves : (t : Data) (al : Members) (n : ℕ) (st : Outcomes) → al ≡ aliases_of t → NoClash al → st ≡ rounds al n no_outcomes
+    → all_alias_flaws al st al ≡ [] → inner_places al st.done places.Root t ≡ [] → Resolves t (lay st.done places.Root t None)
+laid_resolves t al n st is apart went sound whole =
+    let each = found_each al apart in
+    let known : AreResolved al st.done = subst (λ x. AreResolved al x.done) (sym went) (rounds_resolved al n each) in
+    let root : HasRoot al st = subst (HasRoot al) (sym went) (rounds_root al n each) in
+    let none = flawless al st.done t whole in
+    let own = front_empty (own_flaws al places.Root false t) (inner_flaws al None places.Root no_members t) none in
+    let inner = back_empty (own_flaws al places.Root false t) (inner_flaws al None places.Root no_members t) none in
+    let all = all_done al st sound root in
+    subst (λ x. Looks x places.Root (t ∷ []) (lay st.done places.Root t None)) is
+    (lays al st.done known t places.Root (ready al None st.done t places.Root no_members inner (named al None (has st.done) all t places.Root false no_members own inner)) [] None refl)
+
+mutual
+  pub depth-nests : (d : Data) (levels : ℕ) → nests d levels ≡ true → depth d ≤ levels
+  depth-nests (array ds) zero h = absurd (true≢false (sym h))
+  depth-nests (array ds) (suc levels) h = let below : items_depth ds ≤ levels = depth-items_nest ds levels h in omega arith
+  depth-nests (object ms) zero h = absurd (true≢false (sym h))
+  depth-nests (object ms) (suc levels) h = let below : members_depth ms ≤ levels = depth-members_nest ms levels h in omega arith
+  depth-nests _ levels h = omega arith
+
+  depth-items_nest : (ds : Items) (levels : ℕ) → items_nest ds levels ≡ true → items_depth ds ≤ levels
+  depth-items_nest no_items levels h = omega arith
+  depth-items_nest (item d ds) levels h =
+      let one : depth d ≤ levels = depth-nests d levels (and_parts (nests d levels) (items_nest ds levels) h).0 in
+      let rest : items_depth ds ≤ levels = depth-items_nest ds levels (and_parts (nests d levels) (items_nest ds levels) h).1 in
+      omega arith
+
+  depth-members_nest : (ms : Members) (levels : ℕ) → members_nest ms levels ≡ true → members_depth ms ≤ levels
+  depth-members_nest no_members levels h = omega arith
+  depth-members_nest (member k d ms) levels h =
+      let one : depth d ≤ levels = depth-nests d levels (and_parts (nests d levels) (members_nest ms levels) h).0 in
+      let rest : members_depth ms ≤ levels = depth-members_nest ms levels (and_parts (nests d levels) (members_nest ms levels) h).1 in
+      omega arith
+
+-- ---- the names of a map are in order
+
+pub above_of : (k : String Global) (es : List Entry) → AllByRecursion (λ y. string_cmp k y ≡ Less) (keys_of es) → AllAbove (string_bytes k) (members_view es)
+above_of k [] h = tt
+above_of k (e ∷ es) h = (h.0, above_of k es h.1)
+
+pub apart_of : (es : List Entry) → IsStrictlySortedBy string_cmp (keys_of es) → NoClash (members_view es)
+unfolding IsStrictlySortedBy
+apart_of [] h = tt
+apart_of (e ∷ es) h = (get_none (string_bytes e.0) (members_view es) (above_of e.0 es h.0), apart_of es h.1)
+
+-- ---- the answer
+
+pub ok_aliases : (a : Result ⊤ Flaw) (k : ⊤ → Result Data Flaw) (r : Data) → (from_aliases a >>= k) ≡ Ok r → (a ≡ Ok tt) × (k tt ≡ Ok r)
+ok_aliases (Ok x) k r h = (refl, h)
+ok_aliases (Err f) k r h = cc
+
+pub ok_then : (a : Result ⊤ Flaw) (k : ⊤ → Result Data Flaw) (r : Data) → (a >>= k) ≡ Ok r → (a ≡ Ok tt) × (k tt ≡ Ok r)
+ok_then (Ok x) k r h = (refl, h)
+ok_then (Err f) k r h = cc
+
+same_ok : (x r : Data) → (let o : Result Data Flaw = Ok x in o ≡ Ok r) → x ≡ r
+same_ok x r h = cc
+
+ok_shallow : (x r : Data) → if_shallow x ≡ Ok r → (x ≡ r) × (nests r 32 ≡ true)
+ok_shallow x r h =
+    let parts = ok_then (refusal (deep_flaws x 32)) (λ a. Ok x) r h in
+    let value : x ≡ r = same_ok x r parts.1 in
+    (value, ap (λ y. nests y 32) (sym value) ∙ shallow_nests x 32 (no_flaws (deep_flaws x 32) parts.0))
+
+-- what becomes of the aliases of a configuration
+abbrev pub rounds_of : Data → Outcomes
+rounds_of t = rounds (aliases_of t) (members_len (aliases_of t)) no_outcomes
+
+-- where there is an answer, nothing was found in the aliases or at the places, and what is laid is shallow
+pub record TreeSound (t r : Data) : Type 0 where
+  pub outcomes : all_alias_flaws (aliases_of t) (rounds_of t) (aliases_of t) ≡ []
+  pub at_places : inner_places (aliases_of t) (rounds_of t).done places.Root t ≡ []
+  pub value : lay (rounds_of t).done places.Root t None ≡ r
+  pub shallow : nests r 32 ≡ true
+
+pub tree_sound : (t r : Data) → resolution t ≡ Ok r → TreeSound t r
+tree_sound t r h =
+    let al = aliases_of t in
+    let st = rounds_of t in
+    let first = ok_aliases (refusal (all_alias_flaws al st al)) _ r h in
+    let second = ok_then (refusal (inner_places al st.done places.Root t)) _ r first.1 in
+    let last = ok_shallow (lay st.done places.Root t None) r second.1 in
+    record { outcomes = no_flaws (all_alias_flaws al st al) first.0; at_places = no_flaws (inner_places al st.done places.Root t) second.0; value = last.0; shallow = last.1 }
+
+-- what is answered is the resolution, and nests at most 32 deep
+pub resolution_sound : (t r : Data) → NoClash (aliases_of t) → resolution t ≡ Ok r → Resolves t r × (nests r 32 ≡ true)
+resolution_sound t r apart h =
+    let sound = tree_sound t r h in
+    (subst (Resolves t) sound.value (laid_resolves t (aliases_of t) (members_len (aliases_of t)) (rounds_of t) refl apart refl sound.outcomes sound.at_places), sound.shallow)
+
+pub resolution_is : (t : Data) (al : Members) (n : ℕ) (st : Outcomes) → al ≡ aliases_of t → members_len al ≡ n → st ≡ rounds al n no_outcomes → resolution t ≡ resolution_after al st t
+resolution_is t al n st own count went =
+    ap (λ x. resolution_under x t) (sym own) ∙ ap (λ x. resolution_after al x t) (ap (λ m. rounds al m no_outcomes) count ∙ sym went)
+
+-- An alias that is resolved starts no walk as long as there are aliases.
+
+-- ---- how many names pass a test
+
+abbrev pub count : (List ℕ → Bool) → Members → ℕ
+count p no_members = 0
+count p (member k d ms) = if p k then suc (count p ms) else count p ms
+
+pub count_all : (p : List ℕ → Bool) (ms : Members) → count p ms ≤ members_len ms
+count_all p no_members = omega arith
+count_all p (member k d ms) = elim (cases_Bool (p k)) [ inl e ↦ rw e (omega (arith, count_all p ms)) | inr e ↦ rw e (omega (arith, count_all p ms)) ]
+
+module _ (p q : List ℕ → Bool) (more : (n : List ℕ) → p n ≡ true → q n ≡ true) where
+  -- so many more names pass q where one name more is asked
+  count_next : (c : ℕ) (k : List ℕ) (d : Data) (ms : Members) → c + count p ms ≤ count q ms → c + count p (member k d ms) ≤ count q (member k d ms)
+  count_next c k d ms h = elim (cases_Bool (p k)) [
+    | inl a ↦ (let b = more k a in rw (a, b) (omega (arith, h)))
+    | inr a ↦ elim (cases_Bool (q k)) [ inl b ↦ rw (a, b) (omega (arith, h)) | inr b ↦ rw (a, b) h ]
+  ]
+
+  pub count_more : (ms : Members) → count p ms ≤ count q ms
+  count_more no_members = omega arith
+  count_more (member k d ms) = let rest = count_more ms in omega (arith, count_next 0 k d ms (omega (arith, rest)))
+
+  -- one that passes now, and did not before, counts
+  pub count_new : (k : List ℕ) (w : Data) (ms : Members) → get_member k ms ≡ Some w → p k ≡ false → q k ≡ true → count p ms < count q ms
+  count_new k w no_members is before after = cc
+  count_new k w (member l d ms) is before after = elim (meets k l) [
+    | same e ↦ (let a : p l ≡ false = ap p (sym e) ∙ before in let b : q l ≡ true = ap q (sym e) ∙ after in let all = count_more ms in rw (a, b) (omega (arith, all)))
+    | other apart ↦ (let rest = count_new k w ms (sym (get_other k l d ms apart) ∙ is) before after in omega (arith, count_next 1 l d ms (omega (arith, rest))))
+  ]
+
+-- ---- the walks of a resolved alias
+
+module _ (al : Members) where
+  -- a walk from a resolved alias has fewer steps than there are resolved aliases
+  abbrev Short : Outcomes → Type 0
+  Short st = (n : ℕ) (k : List ℕ) → has st.done k ≡ true → Walks al n k → n < count (has st.done) al
+
+  short_resolved : (k : List ℕ) (w r : Data) (st : Outcomes) → get_member k al ≡ Some w → has st.done k ≡ false → all_named (has st.done) places.FieldType w ≡ true → Short st → Short (concluded k st (Some r))
+  short_resolved k w r st is open_k named short n q h walk = at (meets q k)
+    where
+      grows : count (has st.done) al < count (has (put k r st.done)) al
+      grows = count_new (has st.done) (has (put k r st.done)) (is_still k r st.done) k w al is open_k (is_put k r st.done)
+
+      of_alias : (n : ℕ) → Walks al n k → n < count (has (put k r st.done)) al
+      of_alias zero walk = omega (arith, grows)
+      of_alias (suc n) (v, m, is', x, rest) =
+          let g : Some v ≡ Some w = sym is' ∙ is in
+          let one : v ≡ w = cc in
+          let before : n < count (has st.done) al = short n m (mentioned (has st.done) m w places.FieldType named (subst (Mentions m places.FieldType) one x)) rest in
+          omega (arith, grows)
+
+      at : Meets q k → n < count (has (put k r st.done)) al
+      at (same e) = of_alias n (subst (Walks al n) e walk)
+      at (other apart) =
+          let before : n < count (has st.done) al = short n q (ap is_some (sym (get_member-put_other q k r st.done apart)) ∙ h) walk in
+          omega (arith, grows)
+
+  short_next : (k : List ℕ) (w : Data) (st : Outcomes) → get_member k al ≡ Some w → has_outcome st k ≡ false → Short st → (o : Option Data) → outcome al st.done w ≡ o → Short (concluded k st o)
+  short_next k w st is free short None e = short
+  short_next k w st is free short (Some r) e = short_resolved k w r st is ((or_parts (has st.done k) (has st.refused k) free).0) (outcome_is al st.done w r e).named short
+
+  rounds_short : (n : ℕ) → AllEntries (λ k w. get_member k al ≡ Some w) al → Short (rounds al n no_outcomes)
+  rounds_short n each =
+      reached_keeps al Short (λ n k h walk. absurd (true≢false (sym h))) (λ k w st is free due short. short_next k w st is free short (outcome al st.done w) refl) (rounds_reached al n each)
+
+  walk_starts : (n : ℕ) (k : List ℕ) → Walks al n k → has al k ≡ true
+  walk_starts zero k (w, is) = ap is_some is
+  walk_starts (suc n) k (w, m, is, x, rest) = ap is_some is
+
+-- where there is a resolution, no alias leads into a circle
+pub circle_refused : (t r : Data) (k : List ℕ) → NoClash (aliases_of t) → Walks (aliases_of t) (members_len (aliases_of t)) k → resolution t ≡ Ok r → ⊥
+circle_refused t r k apart walk h =
+    let al = aliases_of t in
+    let n = members_len al in
+    let st = rounds al n no_outcomes in
+    let each = found_each al apart in
+    let done = all_done al st (tree_sound t r h).outcomes (rounds_root al n each) k (walk_starts al n k walk) in
+    let long : n < count (has st.done) al = rounds_short al n each n k done walk in
+    let few : count (has st.done) al ≤ n = count_all (has st.done) al in
+    omega arith
+
+-- What the rounds leave of the aliases with no outcome: they start long walks.
+
+-- the alias has no outcome yet
+abbrev pub IsOpen : Outcomes → List ℕ → Type 0
+IsOpen st k = (has st.done k ≡ false) × (has st.refused k ≡ false)
+
+over_false : (a b c : Bool) → (a || b || not c) ≡ false → (a ≡ false) × (b ≡ false) × (c ≡ true)
+over_false a b c h = let parts = or_parts (a || b) (not c) h in let both = or_parts a b parts.0 in (both.0, both.1, not-false c parts.1)
+
+-- a name that is not there once another is put was not there before
+open_put : (k : List ℕ) (r : Data) (ms : Members) (q : List ℕ) → has (put k r ms) q ≡ false → has ms q ≡ false
+open_put k r ms q h = elim (cases_Bool (has ms q)) [ inl e ↦ absurd (true≢false (sym (is_still k r ms q e) ∙ h)) | inr e ↦ e ]
+
+module _ (al : Members) where
+  -- what is open after a conclusion was open before it
+  open_concluded : (k : List ℕ) (st : Outcomes) (o : Option Data) (q : List ℕ) → IsOpen (concluded k st o) q → IsOpen st q
+  open_concluded k st (Some r) q (d, f) = (open_put k r st.done q d, f)
+  open_concluded k st None q (d, f) = (d, open_put k null st.refused q f)
+
+  open_step : (k : List ℕ) (w : Data) (st : Outcomes) (q : List ℕ) → IsOpen (step al k w st) q → IsOpen st q
+  open_step k w st q h = by_turn al (λ x. IsOpen x q → IsOpen st q) k w st (λ o. o) (λ free due o. open_concluded k st (outcome al st.done w) q o) h
+
+  open_round : (ms : Members) (st : Outcomes) (q : List ℕ) → IsOpen (round al ms st) q → IsOpen st q
+  open_round no_members st q h = h
+  open_round (member k w ms) st q h = open_step k w st q (open_round ms (step al k w st) q h)
+
+  -- what has an outcome after its step
+  closed : (k : List ℕ) (st : Outcomes) (o : Option Data) → IsOpen (concluded k st o) k → ⊥
+  closed k st (Some r) (d, f) = true≢false (sym (is_put k r st.done) ∙ d)
+  closed k st None (d, f) = true≢false (sym (is_put k null st.refused) ∙ f)
+
+  -- an alias that stays open names an open one
+  waits_step : (k : List ℕ) (w : Data) (st : Outcomes) → IsOpen (step al k w st) k → (m : List ℕ) × Mentions m places.FieldType w × (has al m ≡ true) × IsOpen st m
+  waits_step k w st h = go (has_outcome st k) refl (all_named (is_over al st) places.FieldType w) refl
+    where
+      go : (t : Bool) → has_outcome st k ≡ t → (u : Bool) → all_named (is_over al st) places.FieldType w ≡ u → (m : List ℕ) × Mentions m places.FieldType w × (has al m ≡ true) × IsOpen st m
+      go true a u b = let o = open_step k w st k h in absurd (true≢false (sym a ∙ or_from (has st.done k) (has st.refused k) o.0 o.1))
+      go false a true b = absurd (closed k st (outcome al st.done w) (rw (a, b) at h))
+      go false a false b =
+          let (m, x, f) = blocked (is_over al st) w places.FieldType b in
+          let parts = over_false (has st.done m) (has st.refused m) (has al m) f in
+          (m, x, parts.2, (parts.0, parts.1))
+
+  abbrev pub Waits : Outcomes → List ℕ → Data → Outcomes → Type 0
+  Waits after k w before = IsOpen after k → (m : List ℕ) × Mentions m places.FieldType w × (has al m ≡ true) × IsOpen before m
+
+  waits_earlier : (k : List ℕ) (w : Data) (st after : Outcomes) (q : List ℕ) (v : Data) → Waits after q v (step al k w st) → Waits after q v st
+  waits_earlier k w st after q v f h = let (m, x, known, o) = f h in (m, x, known, open_step k w st m o)
+
+  pub waits_round : (ms : Members) (st : Outcomes) → AllEntries (λ k w. Waits (round al ms st) k w st) ms
+  waits_round no_members st = tt
+  waits_round (member k w ms) st = (
+    λ h. waits_step k w st (open_round ms (step al k w st) k h),
+    all_along (λ q v. Waits (round al ms (step al k w st)) q v (step al k w st)) (λ q v. Waits (round al ms (step al k w st)) q v st) (waits_earlier k w st (round al ms (step al k w st))) ms (waits_round ms (step al k w st)),
+  )
+
+  all_closed : (ms : Members) (st : Outcomes) → all_over ms st ≡ true → AllEntries (λ k w. IsOpen st k → ⊥) ms
+  all_closed no_members st h = tt
+  all_closed (member k w ms) st h = (
+    λ o. true≢false (sym (and_parts (has_outcome st k) (all_over ms st) h).0 ∙ or_from (has st.done k) (has st.refused k) o.0 o.1),
+    all_closed ms st (and_parts (has_outcome st k) (all_over ms st) h).1,
+  )
+
+  waits_next : (k : List ℕ) (w : Data) (st : Outcomes) → get_member k al ≡ Some w → IsOpen (next_round al st) k → (m : List ℕ) × Mentions m places.FieldType w × (has al m ≡ true) × IsOpen st m
+  waits_next k w st is h = elim (cases_Bool (all_over al st)) [
+    | inl e ↦ absurd (entry_found (λ k w. IsOpen st k → ⊥) al (all_closed al st e) k w is (rw e at h))
+    | inr e ↦ entry_found (λ k w. Waits (round al al st) k w st) al (waits_round al st) k w is (rw e at h)
+  ]
+
+  -- an alias that is open after so many rounds starts a walk as long
+  pub open_walks : (n : ℕ) → (k : List ℕ) → has al k ≡ true → IsOpen (rounds al n no_outcomes) k → Walks al n k
+  open_walks zero k known h = some_of (get_member k al) known
+  open_walks (suc n) k known h =
+      let (w, is) = some_of (get_member k al) known in
+      let (m, x, there, o) = waits_next k w (rounds al n no_outcomes) is h in
+      (w, m, is, x, open_walks n m there o)

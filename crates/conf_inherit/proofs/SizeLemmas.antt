@@ -14,7 +14,7 @@ use Rattle.conf_inherit.specs.FieldPlaces.{place_under, is_base_name, lists_memb
 use Rattle.conf_inherit.specs.Laying.{lay, has_entry, items_below, lay_members, lay_over, lay_new, lay_new_entry, lay_new_member}
 use Rattle.conf_inherit.specs.Names.{NoClash, join_items, map_items, IsInOrder}
 use Rattle.conf_inherit.proofs.LayingLemmas.{AllEntries, found_each, same, other, meets, get_other, get_same, lay_members-found, get_first, get_none, equal_names, above_turned, above_through, some_is_none, value_same}
-use Rattle.conf_inherit.specs.Size.{size, items_size, members_size, Within, Past, Leaves, IsDue}
+use Rattle.conf_inherit.specs.Size.{size, items_size, members_size, Within, Leaves, IsDue}
 use Rattle.std.specs.Cmp.Lexicographic.{slice_cmp}
 use Rattle.conf_inherit.specs.Limits.{Fits}
 use Rattle.conf_inherit.specs.Nesting.{nests, items_nest, members_nest, deep_flaws, deep_item_flaws, deep_member_flaws, PassesDepth}
@@ -53,9 +53,6 @@ leaves_all (Some room) = (room, refl, omega arith)
 pub leaves_within : (limit left : Option ℕ) (n : ℕ) → Leaves limit n left → Within limit n
 leaves_within None left n h = tt
 leaves_within (Some room) left n (rest, is, sum) = omega arith
-
-pub past_due : (stop : Stop) (limit : Option ℕ) (n : ℕ) → stop ≡ Limit → Past limit n → IsDue stop limit n
-past_due stop limit n e h = rw e h
 
 -- the room is what a limit leaves, where a whole has so many values and so many of them are still to come
 pub record IsCounted (limit room : Option ℕ) (whole rest : ℕ) : Type 0 where
@@ -142,8 +139,6 @@ pub new_entry_size : (done : Members) (e : Data) (seen rest : Items) → items_s
 new_entry_size done (object ms) seen rest = new_member_size done ms seen rest
 new_entry_size done _ seen rest = omega arith
 
--- ---- what is left of a list of values
-
 -- the new entries of the next item, and those of the later ones
 pub new_next : (done : Members) (seen : Items) (vs : List Value) (i : ℕ) (v : Value) → i < length vs → v ≡ get_or vs i v
     → items_size (lay_new done (items_view (drop i vs)) seen) ≡ items_size (lay_new_entry done (view v) seen no_items) + items_size (lay_new done (items_view (drop (i + 1) vs)) seen)
@@ -174,11 +169,8 @@ as_large d = record { few = omega arith; flat = λ levels h. h }
 pub as_large_items : (ds : Items) → NoLargerItems ds ds
 as_large_items ds = record { few = omega arith; flat = λ levels h. h }
 
-pub same_items : (ds es : Items) → ds ≡ es → NoLargerItems ds es
-same_items ds es is = subst (NoLargerItems ds) is (as_large_items ds)
-
-pub items_through : (ds es fs : Items) → NoLargerItems ds es → NoLargerItems es fs → NoLargerItems ds fs
-items_through ds es fs h i = record { few = (let a : items_size ds ≤ items_size es = h.few in let b : items_size es ≤ items_size fs = i.few in omega arith); flat = λ levels n. h.flat levels (i.flat levels n) }
+pub items_through : {m n o : ℕ} {f g h : ℕ → Bool} → NoMore m n f g → NoMore n o g h → NoMore m o f h
+items_through {m} {n} {o} i j = record { few = (let a : m ≤ n = i.few in let b : n ≤ o = j.few in omega arith); flat = λ levels h. i.flat levels (j.flat levels h) }
 
 -- what is no larger than what fits does fit
 pub fits_below : (d e : Data) → NoLarger d e → Fits e → Fits d
@@ -198,27 +190,19 @@ object_flat ms ns h (suc levels) n = h levels n
 pub no_larger_object : (ms ns : Members) → NoLargerMembers ms ns → NoLarger (object ms) (object ns)
 no_larger_object ms ns h = record { few = (let a : members_size ms ≤ members_size ns = h.few in omega arith); flat = object_flat ms ns h.flat }
 
--- ---- items
-
 -- one value more on both sides
-next_value : (d e : Data) (m n : ℕ) (f g : ℕ → Bool) → NoLarger d e → NoMore m n f g → NoMore (size d + m) (size e + n) (λ levels. nests d levels && f levels) (λ levels. nests e levels && g levels)
-next_value d e m n f g h i = record {
+pub next_value : {m n : ℕ} {f g : ℕ → Bool} (d e : Data) → NoLarger d e → NoMore m n f g → NoMore (size d + m) (size e + n) (λ levels. nests d levels && f levels) (λ levels. nests e levels && g levels)
+next_value {m} {n} {f} {g} d e h i = record {
   few = (let a : size d ≤ size e = h.few in let b : m ≤ n = i.few in omega arith);
   flat = λ levels both. let parts = and_parts (nests e levels) (g levels) both in and_from (nests d levels) (f levels) (h.flat levels parts.0) (i.flat levels parts.1);
 }
 
 -- and on the other side alone
-further_value : (e : Data) (m n : ℕ) (f g : ℕ → Bool) → NoMore m n f g → NoMore m (size e + n) f (λ levels. nests e levels && g levels)
-further_value e m n f g i = record { few = (let b : m ≤ n = i.few in omega arith); flat = λ levels both. i.flat levels (and_parts (nests e levels) (g levels) both).1 }
+pub further_value : {m n : ℕ} {f g : ℕ → Bool} (e : Data) → NoMore m n f g → NoMore m (size e + n) f (λ levels. nests e levels && g levels)
+further_value {m} {n} {f} {g} e i = record { few = (let b : m ≤ n = i.few in omega arith); flat = λ levels both. i.flat levels (and_parts (nests e levels) (g levels) both).1 }
 
-pub next_item : (d e : Data) (ds es : Items) → NoLarger d e → NoLargerItems ds es → NoLargerItems (item d ds) (item e es)
-next_item d e ds es h i = next_value d e (items_size ds) (items_size es) (items_nest ds) (items_nest es) h i
-
-pub one_more : (e : Data) (ds es : Items) → NoLargerItems ds es → NoLargerItems ds (item e es)
-one_more e ds es i = further_value e (items_size ds) (items_size es) (items_nest ds) (items_nest es) i
-
-pub no_item : (es : Items) → NoLargerItems no_items es
-no_item es = record { few = omega arith; flat = λ levels n. refl }
+pub none_more : {n : ℕ} {g : ℕ → Bool} → NoMore 0 n (λ levels. true) g
+none_more = record { few = omega arith; flat = λ levels n. refl }
 
 -- items may change places
 pub turned_items : (d e : Data) (ds : Items) → NoLargerItems (item d (item e ds)) (item e (item d ds))
@@ -246,26 +230,17 @@ joined_behind a ds es h = record {
 -- what is joined behind may be larger
 pub joined_larger : (a ds es : Items) → NoLargerItems ds es → NoLargerItems (join_items a ds) (join_items a es)
 joined_larger no_items ds es h = h
-joined_larger (item d a) ds es h = next_item d d (join_items a ds) (join_items a es) (as_large d) (joined_larger a ds es h)
+joined_larger (item d a) ds es h = next_value d d (as_large d) (joined_larger a ds es h)
 
 -- an item behind others may stand before them
 pub item_first : (a : Items) (d : Data) (ds : Items) → NoLargerItems (join_items a (item d ds)) (item d (join_items a ds))
 item_first no_items d ds = as_large_items (item d ds)
 item_first (item e a) d ds =
-    items_through (item e (join_items a (item d ds))) (item e (item d (join_items a ds))) (item d (item e (join_items a ds)))
-    (next_item e e (join_items a (item d ds)) (item d (join_items a ds)) (as_large e) (item_first a d ds)) (turned_items e d (join_items a ds))
-
--- ---- properties
+    items_through (next_value e e (as_large e) (item_first a d ds)) (turned_items e d (join_items a ds))
 
 -- what each name finds in the one object, it finds in the other, and there it is no smaller
 abbrev pub Covers : Members → Members → Type 0
 Covers ms ns = (k : List ℕ) (d : Data) → get_member k ms ≡ Some d → (e : Data) × (get_member k ns ≡ Some e) × NoLarger d e
-
-pub next_property : (k l : List ℕ) (d e : Data) (ms ns : Members) → NoLarger d e → NoLargerMembers ms ns → NoLargerMembers (member k d ms) (member l e ns)
-next_property k l d e ms ns h i = next_value d e (members_size ms) (members_size ns) (members_nest ms) (members_nest ns) h i
-
-pub no_property : (ns : Members) → NoLargerMembers no_members ns
-no_property ns = record { few = omega arith; flat = λ levels n. refl }
 
 none_found : (k : List ℕ) (d : Data) (ms ns : Members) → Covers (member k d ms) ns → get_member k ns ≡ None → ⊥
 none_found k d ms ns covers none = let (e, is, h) = covers k d (get_first k d ms) in some_is_none e (sym is ∙ none)
@@ -291,7 +266,7 @@ first_covers k l d e ms ns one covers =
 
 -- an object in order is no larger than one in order that covers it
 pub covered : (ns ms : Members) → IsInOrder ms → IsInOrder ns → Covers ms ns → NoLargerMembers ms ns
-covered ns no_members h i covers = no_property ns
+covered ns no_members h i covers = none_more
 covered no_members (member k d ms) h i covers = absurd (none_found k d ms no_members covers refl)
 covered (member l e ns) (member k d ms) h i covers = go _ refl (covered ns)
   where
@@ -299,10 +274,10 @@ covered (member l e ns) (member k d ms) h i covers = go _ refl (covered ns)
     go Less is rest = absurd (none_found k d ms (member l e ns) covers (get_none k (member l e ns) (is, above_through k l ns is i.0)))
     go Greater is rest =
         let below = above_turned k l is in
-        further_value e (members_size (member k d ms)) (members_size ns) (members_nest (member k d ms)) (members_nest ns) (rest (member k d ms) h i.1 (skipped l e (member k d ms) ns (get_none l (member k d ms) (below, above_through l k ms below h.0)) covers))
+        further_value e (rest (member k d ms) h i.1 (skipped l e (member k d ms) ns (get_none l (member k d ms) (below, above_through l k ms below h.0)) covers))
     go Equal is rest =
         let one = equal_names k l is in
-        next_property k l d e ms ns (first_covers k l d e ms ns one covers) (rest ms h.1 i.1 (rest_covers k l d e ms ns one (get_none k ms h.0) covers))
+        next_value d e (first_covers k l d e ms ns one covers) (rest ms h.1 i.1 (rest_covers k l d e ms ns one (get_none k ms h.0) covers))
 
 -- ---- a part of what fits
 

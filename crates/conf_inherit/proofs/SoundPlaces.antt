@@ -1,6 +1,5 @@
 -- What is wrong at a place of field types, part by part.
 use Rattle.std.proofs.Common.{◌≡◌, ◌++◌, ◌<◌, ◌≤◌, ℕ, List, [], length, nat_lt, true, false, Ok, Err, refl, arith, ◌&&◌, zero, suc, Bool, cond, ◌∷◌, map, Some, None, is_some, inl, inr, sym, subst, ◌⊎◌, ap, ◌∙◌, true≢false, Vec, Global}
-use Rattle.std.proofs.lemmas.Bool.Decides.{nat_tests}
 use Rattle.serde_json.specs.Data.{Data, array, Members, null, object, Items, no_items, item, no_members, member, put, string}
 use Rattle.serde_json.specs.View.{view}
 use Rattle.serde_json.specs.declared.value.Value.{Value, Array}
@@ -16,28 +15,21 @@ use Rattle.conf_inherit.specs.Places.{too_many, place_flaws, max_extra_members, 
 use Rattle.serde_json.specs.Find.{get_item, get_member}
 use Rattle.conf_inherit.specs.Faults.{Leads, HasEntry, ListsTooMany}
 use Rattle.conf_inherit.specs.Named.{has}
-use Rattle.conf_inherit.proofs.FaultLemmas.{is_still, is_put, front_empty, back_empty, part_empty, rest_empty}
-use Rattle.std.proofs.lemmas.Bool.{cases_Bool, ltb-false}
+use Rattle.conf_inherit.proofs.FaultLemmas.{member_parts, item_parts, is_still, is_put, front_empty, back_empty, part_empty, rest_empty}
+use Rattle.std.proofs.lemmas.Bool.{le-ltb, lt-ltb, cases_Bool, ltb-false}
 use Rattle.serde_json.specs.Events.{items_len}
 use Rattle.conf_table.specs.declared.place.Place.TheVariants as places
 use Rattle.conf_table.specs.Table.{rows_of, entries_of, place_in, content_under}
-use Rattle.conf_inherit.proofs.WorkedPlaces.{true_under, under_place}
+use Rattle.conf_inherit.proofs.FieldPlaceLemmas.{true_under, under_place, ignored_under}
 use Rattle.conf_inherit.proofs.LimitLemmas.{both_empty, alike_inner, sound_type}
-use Rattle.conf_inherit.proofs.FieldPlaceLemmas.{ignored_under}
-
-many : (n : ℕ) → 256 < n → nat_lt 256 n ≡ true
-many n h = grind (arith, nat_tests)
-
-few_items : (n : ℕ) → n ≤ 256 → nat_lt 256 n ≡ false
-few_items n h = grind (arith, nat_tests)
 
 pub count_past : (v : Value) (vs : Vec Value Global) → v ≡ Array vs → 256 < length vs.items → refusal (too_many (view v)) ≡ Err (here Limit)
 unfolding too_many
-count_past v vs is h = rw (ap view is ∙ view-Array vs, items_len-items_view vs.items, many (length vs.items) h) refl
+count_past v vs is h = rw (ap view is ∙ view-Array vs, items_len-items_view vs.items, lt-ltb 256 (length vs.items) h) refl
 
 pub count_within : (v : Value) (vs : Vec Value Global) → v ≡ Array vs → length vs.items ≤ 256 → refusal (too_many (view v)) ≡ Ok tt
 unfolding too_many
-count_within v vs is h = rw (ap view is ∙ view-Array vs, items_len-items_view vs.items, few_items (length vs.items) h) refl
+count_within v vs is h = rw (ap view is ∙ view-Array vs, items_len-items_view vs.items, le-ltb 256 (length vs.items) h) refl
 
 -- an entry is no field type
 pub no_entry_flaws : (al done : Members) (s : Place) (v : Data) → place_flaws al done (place_of_items s) v ≡ []
@@ -76,13 +68,10 @@ module _ (al : Members) where
   pub member_sound : (s : Place) (seen ms : Members) (k : List ℕ) (d : Data) → member_flaws al None s seen ms ≡ [] → HasMember k d ms → PartSound (place_under s k) (is_entry s && is_some (get_member k seen)) no_members d
   member_sound s seen no_members k d e there = absurd there
   member_sound s seen (member l v ms) k d e (inl same) =
-      let fs = own_flaws al (place_under s l) (is_entry s && is_some (get_member l seen)) v ++ inner_flaws al None (place_under s l) no_members v in
-      let mine = part_empty (within (key l)) (fs ++ base_flaws None s l v) (member_flaws al None s seen ms) e in
-      let both = part_sound (place_under s l) (is_entry s && is_some (get_member l seen)) no_members v (front_empty fs (base_flaws None s l v) mine) in
+      let (own, inner, later) = member_parts al None s seen l v ms e in
+      let both : PartSound (place_under s l) (is_entry s && is_some (get_member l seen)) no_members v = record { own = own; inner = inner } in
       subst (λ n. PartSound (place_under s n) (is_entry s && is_some (get_member n seen)) no_members d) (sym same.0) (subst (λ x. PartSound (place_under s l) (is_entry s && is_some (get_member l seen)) no_members x) (sym same.1) both)
-  member_sound s seen (member l v ms) k d e (inr later) =
-      let fs = own_flaws al (place_under s l) (is_entry s && is_some (get_member l seen)) v ++ inner_flaws al None (place_under s l) no_members v in
-      member_sound s seen ms k d (back_empty (map (within (key l)) (fs ++ base_flaws None s l v)) (member_flaws al None s seen ms) e) later
+  member_sound s seen (member l v ms) k d e (inr later) = let parts = member_parts al None s seen l v ms e in member_sound s seen ms k d parts.2 later
 
   -- the names of the entries so far are marked
   mark_keeps : (ms seen : Members) (n : List ℕ) → has seen n ≡ true → has (mark_names ms seen) n ≡ true
@@ -114,17 +103,17 @@ module _ (al : Members) where
   item_sound s i seen no_items j e none there = absurd cc
   item_sound s i seen (item x es) zero e none there =
       let same : x ≡ e = cc in
-      let fs = own_flaws al (place_of_items s) false x ++ inner_flaws al None (place_of_items s) seen x in
-      let mine = part_empty (within (index i)) fs (item_flaws al None s (suc i) (mark x seen) es) none in
+      let (own, inner, later) = item_parts al None s i seen x es none in
+      let mine : PartSound (place_of_items s) false seen x = record { own = own; inner = inner } in
       record {
         marks = seen;
-        sound = subst (PartSound (place_of_items s) false seen) same (part_sound (place_of_items s) false seen x mine);
+        sound = subst (PartSound (place_of_items s) false seen) same mine;
         kept = λ n h. h;
         marked = λ n k below entry. absurd (omega (arith, below));
       }
   item_sound s i seen (item x es) (suc j) e none there =
-      let fs = own_flaws al (place_of_items s) false x ++ inner_flaws al None (place_of_items s) seen x in
-      let later = item_sound s (suc i) (mark x seen) es j e (back_empty (map (within (index i)) fs) (item_flaws al None s (suc i) (mark x seen) es) none) there in
+      let parts = item_parts al None s i seen x es none in
+      let later = item_sound s (suc i) (mark x seen) es j e parts.2 there in
       record {
         marks = later.marks;
         sound = later.sound;
@@ -308,10 +297,6 @@ extras_or_ignored _ h = inr refl
 empty_parts : (f : Flaw → Flaw) (xs ys : List Flaw) → xs ≡ [] → ys ≡ [] → map f xs ++ ys ≡ []
 empty_parts f xs ys e h = both_empty (map f xs) ys (ap (map f) e) h
 
-ignored_items_place : place_of_items places.Ignored ≡ places.Ignored
-unfolding place_of_items
-ignored_items_place = refl
-
 not_entry : (s : Place) → IsOutside s → is_entry s ≡ false
 unfolding is_entry
 not_entry places.Entry h = absurd (true≢false (sym h))
@@ -344,8 +329,10 @@ module _ (al : Members) where
   ignored_value s seen v is inner = subst (λ t. flaws al None t false seen v ≡ []) (sym is) (both_empty (own_flaws al places.Ignored false v) (inner_flaws al None places.Ignored seen v) (own_ignored v) inner)
 
   mutual
+    unfolding place_of_items
+
     ignored_inner : (v : Data) (seen : Members) → inner_flaws al None places.Ignored seen v ≡ []
-    ignored_inner (array es) seen = ignored_items es places.Ignored 0 no_members ignored_items_place
+    ignored_inner (array es) seen = ignored_items es places.Ignored 0 no_members refl
     ignored_inner (object ms) seen = ignored_members ms seen
     ignored_inner _ seen = refl
 

@@ -11,26 +11,24 @@ use Rattle.serde_json.specs.declared.value.Value.{Value, Null, the_lemmas}
 use Rattle.serde_json.proofs.Views.{Entry}
 use Rattle.conf_inherit.specs.Names.{AllAbove, NoClash}
 use Rattle.conf_inherit.proofs.LayingLemmas.{above_through, get_none, Meets, same, other, meets, get_other, get_same, same_function}
-use Rattle.conf_inherit.proofs.ResolveLemmas.{above_of}
+use Rattle.conf_inherit.proofs.RoundLemmas.{above_of, by_turn}
 use Rattle.std.proofs.lemmas.Bool.{cases_Bool, or_left}
 use Rattle.std.proofs.lemmas.Slice.Eq.{bytes_eq-Decides}
 use Rattle.std.proofs.lemmas.Map.Text.{is_eq-slice_cmp}
 use Rattle.serde_json.specs.Events.{members_len}
 use Rattle.conf_tree.specs.Flaw.{key, index, here, within}
-use Rattle.conf_tree.specs.Walk.{refusal}
 use Rattle.conf_tree.specs.declared.fault_kind.FaultKind.TheVariants.{WrongKind, NoSuchAlias, NameClash}
 use Rattle.conf_table.specs.declared.place.Place.{Place}
 use Rattle.conf_table.specs.declared.place.Place.TheVariants as places
 use Rattle.conf_inherit.specs.FieldPlaces.{place_under, place_of_items, names_alias, names_member_type, lists_extra_members, leads_on, is_entry}
-use Rattle.conf_inherit.specs.AliasFlaws.{over_names, first_or_circle, alias_flaws, all_alias_flaws}
+use Rattle.conf_inherit.specs.AliasFlaws.{over_names, alias_flaws, all_alias_flaws}
 use Rattle.conf_inherit.specs.Flaws.{is_wrong, is_unknown, own_flaws, inner_flaws, item_flaws, member_flaws, flaws, type_flaws, mark}
 use Rattle.conf_inherit.specs.Laying.{lay}
 use Rattle.conf_inherit.specs.Limits.{fitting, limit_flaws}
 use Rattle.conf_inherit.specs.Named.{all_named, has}
-use Rattle.conf_inherit.specs.Places.{too_many, place_flaws, inner_places, item_places, member_places}
+use Rattle.conf_inherit.specs.Places.{place_flaws, inner_places, item_places, member_places}
 use Rattle.conf_inherit.specs.Rounds.{Outcomes, has_outcome, is_over, is_empty, if_fitting, outcome, concluded, step, round, rounds, no_outcomes, Reached, at_first, turned, is_settled, all_settled}
 use Rattle.conf_inherit.specs.Spent.{Spends, spent, TurnsLeave}
-use Rattle.conf_inherit.proofs.RoundLemmas.{by_turn}
 use Rattle.conf_inherit.proofs.TurnLemmas.{Follows, follows_round, turns_are_rounds, is_settled_state}
 use Rattle.conf_inherit.proofs.FaultLemmas.{same_part, is_still}
 
@@ -52,22 +50,10 @@ unfolding IsStrictlySortedBy
 put_written n d w [] h = refl
 put_written n d w (e ∷ es) h = go _ refl (put_written n d w es h.1)
   where
-    over : slice_cmp nat_cmp n (string_bytes e.0) ≡ Equal → put n d (members_view ((e.0, w) ∷ es)) ≡ put n d (members_view (e ∷ es))
-    over is = rw is refl
-
-    later : (xs : List Entry) → slice_cmp nat_cmp n (string_bytes e.0) ≡ Greater → put n d (members_view (e ∷ xs)) ≡ member (string_bytes e.0) (view e.1) (put n d (members_view xs))
-    later xs is = rw is refl
-
     go : (o : Ordering) → slice_cmp nat_cmp n (string_bytes e.0) ≡ o → put n d (members_view (written n es w)) ≡ put n d (members_view es) → put n d (members_view (written n (e ∷ es) w)) ≡ put n d (members_view (e ∷ es))
-    go Less is rest =
-        let skipped : written n (e ∷ es) w ≡ e ∷ written n es w = rw is refl in
-        ap (λ xs. put n d (members_view xs)) (skipped ∙ ap (λ xs. e ∷ xs) (unwritten n w es (above_through n (string_bytes e.0) (members_view es) is (above_of e.0 es h.0))))
-    go Equal is rest =
-        let here : written n (e ∷ es) w ≡ (e.0, w) ∷ es = rw is refl in
-        ap (λ xs. put n d (members_view xs)) here ∙ over is
-    go Greater is rest =
-        let skipped : written n (e ∷ es) w ≡ e ∷ written n es w = rw is refl in
-        ap (λ xs. put n d (members_view xs)) skipped ∙ later (written n es w) is ∙ ap (member (string_bytes e.0) (view e.1)) rest ∙ sym (later es is)
+    go Less is rest = rw (is, is) (ap (λ xs. member n d (member (string_bytes e.0) (view e.1) (members_view xs))) (unwritten n w es (above_through n (string_bytes e.0) (members_view es) is (above_of e.0 es h.0))))
+    go Equal is rest = rw (is, is) refl
+    go Greater is rest = rw (is, is) (ap (member (string_bytes e.0) (view e.1)) rest)
 
 -- writing a value at a name that is there is putting it there
 pub written_put : (n : List ℕ) (w : Value) (d : Data) (es : List Entry) → IsStrictlySortedBy string_cmp (keys_of es) → get_member n (members_view es) ≡ Some d → members_view (written n es w) ≡ put n (view w) (members_view es)
@@ -87,8 +73,6 @@ written_put n w d (e ∷ es) h there = go _ refl (written_put n w d es h.1)
         rw (is, rest found) refl
 
 -- What is judged of the aliases is the same where null stands in the place of resolved bodies.
-
--- ---- what is left of the aliases
 
 -- the aliases as they are given are all left
 spends_none : (done ms : Members) → Spends done ms ms
@@ -170,9 +154,7 @@ module _ (al now : Members) (names : (n : List ℕ) → is_some (get_member n no
 
   same_place : (done : Members) (s : Place) (v : Data) → place_flaws now done s v ≡ place_flaws al done s v
   unfolding place_flaws
-  same_place done s v =
-      ap (λ x. if names_alias s then x else if names_member_type s then limit_flaws done s v else if lists_extra_members s then too_many v ++ own_flaws now s false v else []) (same_type done s v)
-      ∙ ap (λ x. if names_alias s then type_flaws al done s v else if names_member_type s then limit_flaws done s v else if lists_extra_members s then too_many v ++ x else []) (same_own s false v)
+  same_place done s v = let type = same_type done s v in let own = same_own s false v in cc
 
   mutual
     same_places_in : (done : Members) (s : Place) (v : Data) → inner_places now done s v ≡ inner_places al done s v
@@ -198,9 +180,7 @@ module _ (al now : Members) (names : (n : List ℕ) → is_some (get_member n no
       ap (λ x. if all_named (has done) places.FieldType w && is_empty x then if_fitting (fitting (lay done places.FieldType w None)) else None) (same_flaws (Some done) places.FieldType false no_members w)
 
   same_step : (k : List ℕ) (w : Data) (st : Outcomes) → step now k w st ≡ step al k w st
-  same_step k w st =
-      ap (λ t. if has_outcome st k then st else if t then concluded k st (outcome now st.done w) else st) (same_due st w)
-      ∙ ap (λ o. if has_outcome st k then st else if all_named (is_over al st) places.FieldType w then concluded k st o else st) (same_outcome st.done w)
+  same_step k w st = let due = same_due st w in let value = same_outcome st.done w in cc
 
   same_turns : (ms : Members) (st : Outcomes) → round now ms st ≡ round al ms st
   same_turns no_members st = refl
@@ -215,8 +195,6 @@ module _ (al now : Members) (names : (n : List ℕ) → is_some (get_member n no
 pub same_places : (al now done : Members) → ((n : List ℕ) → is_some (get_member n now) ≡ is_some (get_member n al)) → (s : Place) (v : Data) → inner_places now done s v ≡ inner_places al done s v
 same_places al now done names s v = same_places_in al now names done s v
 
--- ---- a round
-
 -- what is resolved stays so
 kept_step : (al : Members) (k : List ℕ) (w : Data) (st : Outcomes) (n : List ℕ) → has st.done n ≡ true → has (step al k w st).done n ≡ true
 kept_step al k w st n h = by_turn al (λ x. has x.done n ≡ true) k w st h (λ free due. kept (outcome al st.done w))
@@ -229,13 +207,13 @@ kept_round : (al ms : Members) (st : Outcomes) (n : List ℕ) → has st.done n 
 kept_round al no_members st n h = h
 kept_round al (member k w ms) st n h = kept_round al ms (step al k w st) n (kept_step al k w st n h)
 
--- a resolved alias has had its turn
-done_step : (al : Members) (k : List ℕ) (v w : Data) (st : Outcomes) → has st.done k ≡ true → step al k v st ≡ step al k w st
-done_step al k v w st h = rw h refl
+-- what is the same of a resolved alias whatever its body is the same of what is left
+spent_same : {A : Type 0} (f : Data → A) (st : Outcomes) (k : List ℕ) (v w : Data) → (v ≡ w) ⊎ ((v ≡ null) × (has st.done k ≡ true)) → (has st.done k ≡ true → f v ≡ f w) → f v ≡ f w
+spent_same f st k v w (inl is) resolved = ap f is
+spent_same f st k v w (inr is) resolved = resolved is.1
 
 spent_step : (al : Members) (k j : List ℕ) (v w : Data) (st : Outcomes) → k ≡ j → (v ≡ w) ⊎ ((v ≡ null) × (has st.done k ≡ true)) → step al j v st ≡ step al k w st
-spent_step al k j v w st e (inl is) = ap (λ l. step al l v st) (sym e) ∙ ap (λ d. step al k d st) is
-spent_step al k j v w st e (inr is) = ap (λ l. step al l v st) (sym e) ∙ done_step al k v w st is.1
+spent_step al k j v w st e at = ap (λ l. step al l v st) (sym e) ∙ spent_same (λ d. step al k d st) st k v w at (λ h. rw h refl)
 
 spent_round : (al ms vs : Members) (st : Outcomes) → Spends st.done ms vs → round al vs st ≡ round al ms st
 spent_round al no_members no_members st h = refl
@@ -247,11 +225,9 @@ spent_round al _ _ st h = absurd h
 spent_settled : (al ms vs : Members) (st : Outcomes) → Spends st.done ms vs → all_settled al vs st ≡ all_settled al ms st
 spent_settled al no_members no_members st h = refl
 spent_settled al (member k w ms) (member j v vs) st h =
-    ap (λ l. is_settled al st l v && all_settled al vs st) (sym h.0) ∙ go h.1.0 ∙ ap (λ t. is_settled al st k w && t) (spent_settled al ms vs st h.1.1)
-  where
-    go : (v ≡ w) ⊎ ((v ≡ null) × (has st.done k ≡ true)) → (is_settled al st k v && all_settled al vs st) ≡ (is_settled al st k w && all_settled al vs st)
-    go (inl is) = ap (λ d. is_settled al st k d && all_settled al vs st) is
-    go (inr is) = rw is.1 refl
+    ap (λ l. is_settled al st l v && all_settled al vs st) (sym h.0)
+    ∙ spent_same (λ d. is_settled al st k d && all_settled al vs st) st k v w h.1.0 (λ is. rw is refl)
+    ∙ ap (λ t. is_settled al st k w && t) (spent_settled al ms vs st h.1.1)
 spent_settled al _ _ st h = absurd h
 
 -- a round over what is left of the aliases is one over the aliases
@@ -276,33 +252,21 @@ same_over_names _ _ done st over h = absurd h
 module _ (al now : Members) (st : Outcomes) (left : Spends st.done al now) where
   same_flaws_at : (k : List ℕ) (w : Data) → alias_flaws now st k w ≡ alias_flaws al st k w
   same_flaws_at k w =
-      let judged = same_type al now (same_names st.done al now left) st.done places.FieldType w in
-      let known = ap refusal (ap (λ x. type_flaws x st.done places.FieldType w) (same_over_names al now st.done st no_members left)) in
-      let own = ap refusal judged in
-      ap (λ x. if has st.done k then [] else if has st.refused k then x else first_or_circle (refusal (type_flaws now st.done places.FieldType w)) (refusal (type_flaws (over_names now st no_members) st.done places.FieldType w))) judged
-      ∙ ap (λ x. if has st.done k then [] else if has st.refused k then type_flaws al st.done places.FieldType w else first_or_circle x (refusal (type_flaws (over_names now st no_members) st.done places.FieldType w))) own
-      ∙ ap (λ x. if has st.done k then [] else if has st.refused k then type_flaws al st.done places.FieldType w else first_or_circle (refusal (type_flaws al st.done places.FieldType w)) x) known
+      let own = same_type al now (same_names st.done al now left) st.done places.FieldType w in
+      let known = ap (λ x. type_flaws x st.done places.FieldType w) (same_over_names al now st.done st no_members left) in
+      cc
 
   spent_flaws_at : (k j : List ℕ) (v w : Data) → k ≡ j → (v ≡ w) ⊎ ((v ≡ null) × (has st.done k ≡ true)) → map (within (key j)) (alias_flaws al st j v) ≡ map (within (key k)) (alias_flaws al st k w)
-  spent_flaws_at k j v w e at = ap (λ l. map (within (key l)) (alias_flaws al st l v)) (sym e) ∙ ap (map (within (key k))) (go at)
-    where
-      go : (v ≡ w) ⊎ ((v ≡ null) × (has st.done k ≡ true)) → alias_flaws al st k v ≡ alias_flaws al st k w
-      go (inl is) = ap (alias_flaws al st k) is
-      go (inr is) = rw is.1 refl
+  spent_flaws_at k j v w e at = ap (λ l. map (within (key l)) (alias_flaws al st l v)) (sym e) ∙ ap (map (within (key k))) (spent_same (alias_flaws al st k) st k v w at (λ is. rw is refl))
 
   same_each : (ms vs : Members) → Spends st.done ms vs → all_alias_flaws now st vs ≡ all_alias_flaws al st ms
   same_each no_members no_members h = refl
-  same_each (member k w ms) (member j v vs) h =
-      ap (λ x. map (within (key j)) x ++ all_alias_flaws now st vs) (same_flaws_at j v)
-      ∙ ap (λ x. x ++ all_alias_flaws now st vs) (spent_flaws_at k j v w h.0 h.1.0)
-      ∙ ap (λ x. map (within (key k)) (alias_flaws al st k w) ++ x) (same_each ms vs h.1.1)
+  same_each (member k w ms) (member j v vs) h = let mine = same_flaws_at j v in let body = spent_flaws_at k j v w h.0 h.1.0 in let rest = same_each ms vs h.1.1 in cc
   same_each _ _ h = absurd h
 
 -- what is wrong with the aliases is told by what is left of them
 pub same_alias_flaws : (al now : Members) (st : Outcomes) → Spends st.done al now → all_alias_flaws now st now ≡ all_alias_flaws al st al
 same_alias_flaws al now st h = same_each al now st h al now h
-
--- ---- a turn
 
 -- before the first turn
 pub first_leaves : (al : Members) (st : Outcomes) → st ≡ no_outcomes → TurnsLeave al st al

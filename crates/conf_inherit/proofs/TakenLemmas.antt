@@ -1,8 +1,8 @@
 -- The aliases of a configuration: that each was resolved as it is laid, and is sound.
-use Rattle.std.proofs.Common.{◌≡◌, ◌+◌, ◌++◌, ℕ, List, [], map, Option, Some, None, Result, Ok, Err, is_some, Bool, true, false, true≢false, refl, sym, ap, ◌∙◌, subst, ◌⊎◌, inl, inr, String, Vec, Global, rules, if◌then◌else◌, ◌∷◌, option_and_then, Ordering, Less, Equal, Greater, nat_cmp, string_cmp}
+use Rattle.std.proofs.Common.{string_bytes, is_eq, ◌≡◌, ◌+◌, ◌++◌, ℕ, List, [], map, Option, Some, None, Result, Ok, Err, is_some, Bool, true, false, true≢false, refl, sym, ap, ◌∙◌, subst, ◌⊎◌, inl, inr, String, Vec, Global, rules, if◌then◌else◌, ◌∷◌, option_and_then, nat_cmp}
 use Rattle.std.proofs.lemmas.Bool.{cases_Bool, or_left}
 use Rattle.std.specs.Prelude.{⊤}
-use Rattle.serde_json.specs.Data.{Data, null, object, Members, no_members, member, put}
+use Rattle.serde_json.specs.Data.{Data, null, object, Members, no_members, member}
 use Rattle.serde_json.specs.Find.{get_member, get, as_object}
 use Rattle.conf_tree.specs.Flaw.{Flaw, key, within}
 use Rattle.conf_tree.specs.Walk.{refusal}
@@ -14,22 +14,19 @@ use Rattle.conf_inherit.specs.Flaws.{type_flaws}
 use Rattle.conf_inherit.specs.Laying.{lay, lay_base, lay_members}
 use Rattle.conf_inherit.specs.Limits.{limit_flaws}
 use Rattle.conf_inherit.specs.Named.{has}
-use Rattle.conf_inherit.specs.Names.{NoClash, IsInOrder}
+use Rattle.conf_inherit.specs.Names.{NoClash}
 use Rattle.conf_inherit.specs.Places.{place_flaws, inner_places, member_places}
 use Rattle.conf_inherit.specs.Resolution.{trace_name, type_name, aliases_name, from_aliases, aliases_of, members_or_none, if_shallow, resolution_after}
 use Rattle.conf_inherit.specs.Rounds.{Outcomes, has_outcome, outcome, rounds, no_outcomes, Reached}
 use Rattle.conf_inherit.specs.FieldPlaces.{field_place, place_under, names_alias, is_base_name, lists_extra_members, leads_on, names_member_type}
 use Rattle.conf_inherit.specs.Whole.{holds_aliases, way_to_aliases, AreLaid, aliases_at, with_property, in_property, in_object, with_aliases}
 use Rattle.conf_inherit.proofs.FieldPlaceLemmas.{trace_place, trace_type_place, aliases_place}
-use Rattle.conf_inherit.proofs.LayingLemmas.{value_same, same_members, same_name, equal_names, above_through, get_none, in_order_lay, lay_members-absent, lay_members-found, Meets, same, other, meets, get_other, get_same, AllEntries, all_along, found_each}
+use Rattle.conf_inherit.proofs.LayingLemmas.{differs, cases_Option, value_same, same_members, in_order_lay, lay_members-absent, lay_members-found, same, other, meets, get_other, get_same, AllEntries, all_along, found_each}
 use Rattle.conf_inherit.proofs.LimitLemmas.{fitting_value}
 use Rattle.conf_inherit.proofs.SoundPlaces.{place_of_type}
 use Rattle.conf_inherit.proofs.FaultLemmas.{some_of}
-use Rattle.conf_inherit.proofs.ResolveLemmas.{no_flaws, above_of}
-use Rattle.conf_inherit.proofs.RoundLemmas.{outcome_is, HasRoot, rounds_root, all_done, rounds_reached}
+use Rattle.conf_inherit.proofs.RoundLemmas.{no_flaws, outcome_is, HasRoot, rounds_root, all_done, rounds_reached}
 use Rattle.conf_inherit.proofs.TurnLemmas.{reached_sound}
-use Rattle.std.specs.List.Sorted.{IsStrictlySortedBy}
-use Rattle.std.specs.Map.{keys_of}
 use Rattle.std.specs.Str.{bytes_eq}
 use Rattle.std.specs.Cmp.Lexicographic.{slice_cmp}
 use Rattle.std.proofs.lemmas.Slice.Eq.{bytes_eq-Decides}
@@ -40,7 +37,8 @@ use Rattle.serde_json.specs.declared.value.Value as values
 use Rattle.serde_json.proofs.Views.{Entry}
 use Rattle.conf_tree.specs.Reading.{◌>>=◌}
 use Rattle.conf_inherit.specs.Spent.{Spends}
-use Rattle.conf_inherit.proofs.SpentLemmas.{same_names, same_alias_flaws, same_places}
+use Rattle.conf_inherit.proofs.SpentLemmas.{written, same_names, same_alias_flaws, same_places}
+use Rattle.std.proofs.lemmas.Map.Text.{is_eq-slice_cmp}
 
 -- ---- an object that has the aliases in it
 
@@ -78,24 +76,25 @@ no_lay_base done s (member k d ms) h = rw (no_base s k h) (no_lay_base done s ms
 pub laid_object : (done : Members) (s : Place) (ms : Members) → holds_aliases s ≡ true → lay done s (object ms) None ≡ object (lay_members done s ms no_members)
 laid_object done s ms h = rw (no_lay_base done s ms h) refl
 
--- ---- the resolved aliases
-
 laid_outcome : (al done : Members) (w r : Data) → outcome al done w ≡ Some r → lay done places.FieldType w None ≡ r
 laid_outcome al done w r h = fitting_value (lay done places.FieldType w None) r (outcome_is al done w r h).fits
 
 no_done : (al : Members) (st : Outcomes) (q : List ℕ) → (has_outcome st q ≡ true → has al q ≡ true) → get_member q al ≡ None → get_member q st.done ≡ None
-no_done al st q own none = go (get_member q st.done) refl
-  where
-    go : (o : Option Data) → get_member q st.done ≡ o → get_member q st.done ≡ None
-    go None e = e
-    go (Some r) e = absurd (true≢false (sym (own (or_left (has st.done q) (has st.refused q) (ap is_some e))) ∙ ap is_some none))
+no_done al st q own none = elim (cases_Option (get_member q st.done)) [
+  | inl e ↦ e
+  | inr (r, e) ↦ absurd (true≢false (sym (own (or_left (has st.done q) (has st.refused q) (ap is_some e))) ∙ ap is_some none))
+]
 
 -- an alias is a field type
 alias_laid : (done : Members) (q : List ℕ) (w : Data) (al : Members) → get_member q al ≡ Some w → get_member q (lay_members done places.FieldTypeAliases al no_members) ≡ Some (lay done places.FieldType w None)
 unfolding place_under content_under entries_of rows_of place_in field_place is_base_name
 alias_laid done q w al is = lay_members-found done places.FieldTypeAliases q w al no_members refl is
 
-module _ (al : Members) (n : ℕ) (st : Outcomes) (apart : NoClash al) (turned : st ≡ rounds al n no_outcomes) (sound : refusal (all_alias_flaws al st al) ≡ Ok tt) where
+sound_of : (a : Result ⊤ Flaw) → from_aliases a ≡ Ok tt → a ≡ Ok tt
+sound_of (Ok x) h = refl
+sound_of (Err f) h = cc
+
+module _ (al : Members) (n : ℕ) (st : Outcomes) (apart : NoClash al) (turned : st ≡ rounds al n no_outcomes) (sound : from_aliases (refusal (all_alias_flaws al st al)) ≡ Ok tt) where
   reached : Reached al st
   reached = subst (Reached al) (sym turned) (rounds_reached al n (found_each al apart))
 
@@ -103,14 +102,14 @@ module _ (al : Members) (n : ℕ) (st : Outcomes) (apart : NoClash al) (turned :
   found_alias : (k : List ℕ) (w : Data) → get_member k al ≡ Some w → (r : Data) × (outcome al st.done w ≡ Some r) × (get_member k st.done ≡ Some r)
   found_alias k w is =
       let root : HasRoot al st = subst (HasRoot al) (sym turned) (rounds_root al n (found_each al apart)) in
-      let done : has st.done k ≡ true = all_done al st (no_flaws (all_alias_flaws al st al) sound) root k (ap is_some is) in
+      let done : has st.done k ≡ true = all_done al st (no_flaws (all_alias_flaws al st al) (sound_of (refusal (all_alias_flaws al st al)) sound)) root k (ap is_some is) in
       let found = some_of (get_member k st.done) done in
       let comes = (reached_sound al reached).comes k w is (or_left (has st.done k) (has st.refused k) done) in
       (found.0, sym comes.value ∙ found.1, found.1)
 
   -- and as it is laid
-  are_laid : AreLaid st.done al
-  are_laid =
+  pub whole_laid : AreLaid st.done al
+  whole_laid =
       same_members st.done (lay_members st.done places.FieldTypeAliases al no_members) (reached_sound al reached).done_order (in_order_lay st.done places.FieldTypeAliases al no_members tt) (λ q. at q (get_member q al) refl)
     where
       at : (q : List ℕ) (o : Option Data) → get_member q al ≡ o → get_member q st.done ≡ get_member q (lay_members st.done places.FieldTypeAliases al no_members)
@@ -143,21 +142,13 @@ sound_places al done no_members each = refl
 sound_places al done (member k w ms) each =
     ap (λ fs. map (within (key k)) fs ++ member_places al done places.FieldTypeAliases ms) (sound_place al done k w each.0) ∙ sound_places al done ms each.1
 
-sound_of : (a : Result ⊤ Flaw) → from_aliases a ≡ Ok tt → a ≡ Ok tt
-sound_of (Ok x) h = refl
-sound_of (Err f) h = cc
-
--- so are all together
-pub whole_laid : (al : Members) (n : ℕ) (st : Outcomes) → NoClash al → st ≡ rounds al n no_outcomes → from_aliases (refusal (all_alias_flaws al st al)) ≡ Ok tt → AreLaid st.done al
-whole_laid al n st apart turned sound = are_laid al n st apart turned (sound_of (refusal (all_alias_flaws al st al)) sound)
-
 pub whole_sound : (al : Members) (n : ℕ) (st : Outcomes) → NoClash al → st ≡ rounds al n no_outcomes → from_aliases (refusal (all_alias_flaws al st al)) ≡ Ok tt → member_places al st.done places.FieldTypeAliases al ≡ []
 whole_sound al n st apart turned sound =
     sound_places al st.done al (all_along (λ k w. get_member k al ≡ Some w) (λ k w. type_flaws al st.done places.FieldType w ≡ []) each al (found_each al apart))
   where
     each : (k : List ℕ) (w : Data) → get_member k al ≡ Some w → type_flaws al st.done places.FieldType w ≡ []
     each k w is =
-        let found = found_alias al n st apart turned (sound_of (refusal (all_alias_flaws al st al)) sound) k w is in
+        let found = found_alias al n st apart turned sound k w is in
         sound_outcome al st.done w found.0 found.1
 
 -- A configuration with other aliases in the place of its own: what is found, laid and refused in it.
@@ -181,12 +172,10 @@ value_twice n f g h each _ = refl
 
 members_same : (n : List ℕ) (f : Data → Data) (ms : Members) → ((d : Data) → get_member n ms ≡ Some d → f d ≡ d) → with_property n f ms ≡ ms
 members_same n f no_members each = refl
-members_same n f (member k d ms) each = go (bytes_eq k n) refl (meets n k) (members_same n f ms)
-  where
-    go : (t : Bool) → bytes_eq k n ≡ t → Meets n k → (((e : Data) → get_member n ms ≡ Some e → f e ≡ e) → with_property n f ms ≡ ms) → with_property n f (member k d ms) ≡ member k d ms
-    go true is m rest = rw is (ap (λ x. member k x ms) (each d (get_same n k d ms (sym ((bytes_eq-Decides k n).0 is)))))
-    go false is (same e) rest = absurd (true≢false (sym ((bytes_eq-Decides k n).1 (sym e)) ∙ is))
-    go false is (other away) rest = rw is (ap (member k d) (rest (λ e at. each e (get_other n k d ms away ∙ at))))
+members_same n f (member k d ms) each = elim (meets n k) [
+  | same e ↦ (let is : bytes_eq k n ≡ true = (bytes_eq-Decides k n).1 (sym e) in rw is (ap (λ x. member k x ms) (each d (get_same n k d ms e))))
+  | other away ↦ (let is : bytes_eq k n ≡ false = differs k n (λ e. away (sym e)) (bytes_eq k n) refl in rw is (ap (member k d) (members_same n f ms (λ e at. each e (get_other n k d ms away ∙ at)))))
+]
 
 value_stays : (n : List ℕ) (f : Data → Data) (v : Data) → ((d : Data) → get n v ≡ Some d → f d ≡ d) → in_property n f v ≡ v
 value_stays n f (object ms) each = ap object (members_same n f ms each)
@@ -196,28 +185,20 @@ value_stays n f _ each = refl
 pub with_none : (n : List ℕ) (f : Data → Data) (ms : Members) → get_member n ms ≡ None → with_property n f ms ≡ ms
 with_none n f ms none = members_same n f ms (λ d is. absurd (let bad : None ≡ Some d = sym none ∙ is in cc))
 
--- it is put in its place
-pub put_with : (n : List ℕ) (f : Data → Data) (d : Data) (ms : Members) → IsInOrder ms → get_member n ms ≡ Some d → put n (f d) ms ≡ with_property n f ms
-put_with n f d no_members order at = cc
-put_with n f d (member k e ms) order at = go _ refl (put_with n f d ms order.1)
-  where
-    go : (o : Ordering) → slice_cmp nat_cmp n k ≡ o → (get_member n ms ≡ Some d → put n (f d) ms ≡ with_property n f ms) → put n (f d) (member k e ms) ≡ with_property n f (member k e ms)
-    go Less is rest =
-        let none : get_member n ms ≡ None = get_none n ms (above_through n k ms is order.0) in
-        let found : get_member n ms ≡ Some d = rw is at at in
-        let bad : None ≡ Some d = sym none ∙ found in
-        cc
-    go Equal is rest =
-        let one : n ≡ k = equal_names n k is in
-        let way : bytes_eq k n ≡ true = (bytes_eq-Decides k n).1 (sym one) in
-        let mine : d ≡ e = value_same d e (sym at ∙ get_same n k e ms one) in
-        rw (is, way) (ap (λ x. member k (f x) ms) mine)
-    go Greater is rest =
-        let found : get_member n ms ≡ Some d = rw is at at in
-        elim (bytes_eq k n) as (λ t. bytes_eq k n ≡ t → put n (f d) (member k e ms) ≡ with_property n f (member k e ms)) [
-          | true ↦ (λ way. absurd (let bad : Greater ≡ Equal = sym is ∙ ap (slice_cmp nat_cmp n) ((bytes_eq-Decides k n).0 way) ∙ same_name n in cc))
-          | false ↦ (λ way. rw (is, way) (ap (member k e) (rest found)))
-        ] refl
+-- it is written in its place
+pub written_with : (n : List ℕ) (f : Data → Data) (d : Data) (w : Value) (es : List Entry) → get_member n (members_view es) ≡ Some d → view w ≡ f d → members_view (written n es w) ≡ with_property n f (members_view es)
+written_with n f d w [] there is = cc
+written_with n f d w (e ∷ es) there is =
+    let at = is_eq-slice_cmp n (string_bytes e.0) in
+    elim (meets n (string_bytes e.0)) [
+      | same one ↦ (let here : is_eq (slice_cmp nat_cmp n (string_bytes e.0)) ≡ true = at ∙ (bytes_eq-Decides n (string_bytes e.0)).1 one in
+          let way : bytes_eq (string_bytes e.0) n ≡ true = (bytes_eq-Decides (string_bytes e.0) n).1 (sym one) in
+          let mine : d ≡ view e.1 = value_same d (view e.1) (sym there ∙ get_same n (string_bytes e.0) (view e.1) (members_view es) one) in
+          rw (here, way) (ap (λ x. member (string_bytes e.0) x (members_view es)) (is ∙ ap f mine)))
+      | other apart ↦ (let here : is_eq (slice_cmp nat_cmp n (string_bytes e.0)) ≡ false = at ∙ differs n (string_bytes e.0) apart _ refl in
+          let way : bytes_eq (string_bytes e.0) n ≡ false = differs (string_bytes e.0) n (λ q. apart (sym q)) _ refl in
+          rw (here, way) (ap (member (string_bytes e.0) (view e.1)) (written_with n f d w es (sym (get_other n (string_bytes e.0) (view e.1) (members_view es) apart) ∙ there) is)))
+    ]
 
 -- ---- the aliases of a configuration
 
@@ -297,12 +278,6 @@ pub their_own : (s : Place) (al ms : Members) → holds_aliases s ≡ true → w
 unfolding with_aliases
 their_own s al ms above none = no_way s (λ x. (ms ≡ members_or_none (aliases_at x (object ms))) × (object al ≡ with_aliases x al (object ms))) above none (refl, refl)
 
--- the names of a map are in order
-pub in_order : (es : List Entry) → IsStrictlySortedBy string_cmp (keys_of es) → IsInOrder (members_view es)
-unfolding IsStrictlySortedBy
-in_order [] h = tt
-in_order (e ∷ es) h = (above_of e.0 es h.0, in_order es h.1)
-
 -- ---- what is wrong at the places, whatever sound aliases there are
 
 module _ (al done : Members) where
@@ -320,13 +295,11 @@ module _ (al done : Members) where
   module _ (s : Place) (n : List ℕ) (f g : Data → Data) (above : holds_aliases s ≡ true) (alike : (d : Data) → parts (place_under s n) (f d) ≡ parts (place_under s n) (g d)) where
     members_alike : (ms : Members) → member_places al done s (with_property n f ms) ≡ member_places al done s (with_property n g ms)
     members_alike no_members = refl
-    members_alike (member k d ms) = go (bytes_eq k n) refl (members_alike ms)
-      where
-        go : (t : Bool) → bytes_eq k n ≡ t → member_places al done s (with_property n f ms) ≡ member_places al done s (with_property n g ms) → member_places al done s (with_property n f (member k d ms)) ≡ member_places al done s (with_property n g (member k d ms))
-        go true is rest =
-            let here : parts (place_under s k) (f d) ≡ parts (place_under s k) (g d) = subst (λ x. parts (place_under s x) (f d) ≡ parts (place_under s x) (g d)) (sym ((bytes_eq-Decides k n).0 is)) (alike d) in
-            rw is (ap (λ fs. map (within (key k)) fs ++ member_places al done s ms) here)
-        go false is rest = rw is (ap (λ fs. map (within (key k)) (parts (place_under s k) d) ++ fs) rest)
+    members_alike (member k d ms) = elim (cases_Bool (bytes_eq k n)) [
+      | inl is ↦ (let here : parts (place_under s k) (f d) ≡ parts (place_under s k) (g d) = subst (λ x. parts (place_under s x) (f d) ≡ parts (place_under s x) (g d)) (sym ((bytes_eq-Decides k n).0 is)) (alike d) in
+          rw is (ap (λ fs. map (within (key k)) fs ++ member_places al done s ms) here))
+      | inr is ↦ rw is (ap (λ fs. map (within (key k)) (parts (place_under s k) d) ++ fs) (members_alike ms))
+    ]
 
     alike_under : (v : Data) → parts s (in_property n f v) ≡ parts s (in_property n g v)
     alike_under (object ms) = rw (no_type s (object (with_property n f ms)) above, no_type s (object (with_property n g ms)) above) (ap (λ fs. if leads_on s then fs else []) (members_alike ms))

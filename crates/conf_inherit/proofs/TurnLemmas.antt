@@ -13,8 +13,7 @@ use Rattle.conf_inherit.specs.Rounds.{Outcomes, has_outcome, is_over, outcome, c
 use Rattle.conf_inherit.proofs.LayingLemmas.{same_members, value_same, Meets, same, other, meets, get_other, get_same, in_order_put, AllEntries, found_each, entry_found}
 use Rattle.conf_inherit.proofs.LimitLemmas.{more_named, kept_lay, kept_inner}
 use Rattle.conf_inherit.proofs.FaultLemmas.{named_along, blocked, mentioned, is_put}
-use Rattle.conf_inherit.proofs.RoundLemmas.{by_turn, reached_keeps, round_reached, rounds_reached}
-use Rattle.conf_inherit.proofs.ResolveLemmas.{count, count_all, count_new}
+use Rattle.conf_inherit.proofs.RoundLemmas.{by_turn, reached_keeps, round_reached, rounds_reached, count, count_all, count_new}
 
 -- ---- what a conclusion changes
 
@@ -73,28 +72,23 @@ module _ (al : Members) where
     kept_done n h = (agrees n (or_left (has st.done n) (has st.refused n) h)).0
 
     still_missing : (m : List ℕ) → is_over al st m ≡ true → has st.done m ≡ false → has next.done m ≡ false
-    still_missing m over free = elim (or_cases (has_outcome st m) (not (has al m)) over) [ inl e ↦ ap is_some (agrees m e).0 ∙ free | inr e ↦ never e (has next.done m) refl ]
-      where
-        never : not (has al m) ≡ true → (t : Bool) → has next.done m ≡ t → has next.done m ≡ false
-        never e false f = f
-        never e true f = absurd (not_both (has al m) e (own m (or_left (has next.done m) (has next.refused m) f)))
+    still_missing m over free = elim (or_cases (has_outcome st m) (not (has al m)) over) [
+      | inl e ↦ ap is_some (agrees m e).0 ∙ free
+      | inr e ↦ elim (cases_Bool (has next.done m)) [ inl f ↦ absurd (not_both (has al m) e (own m (or_left (has next.done m) (has next.refused m) f))) | inr f ↦ f ]
+    ]
 
     outcome_same : (w : Data) → all_named (is_over al st) places.FieldType w ≡ true → outcome al next.done w ≡ outcome al st.done w
-    outcome_same w due = go (all_named (has st.done) places.FieldType w) refl
-      where
-        none : all_named (has st.done) places.FieldType w ≡ false → (t : Bool) → all_named (has next.done) places.FieldType w ≡ t → outcome al next.done w ≡ outcome al st.done w
-        none e false f = rw (f, e) refl
-        none e true f =
-            let (m, x, free) = blocked (has st.done) w places.FieldType e in
-            absurd (true≢false (sym (mentioned (has next.done) m w places.FieldType f x) ∙ still_missing m (mentioned (is_over al st) m w places.FieldType due x) free))
-
-        go : (t : Bool) → all_named (has st.done) places.FieldType w ≡ t → outcome al next.done w ≡ outcome al st.done w
-        go false e = none e (all_named (has next.done) places.FieldType w) refl
-        go true e =
-            let f = more_named st.done next.done kept_done places.FieldType w e in
-            let inner = kept_inner st.done next.done kept_done al w places.FieldType no_members e in
-            let laid = kept_lay st.done next.done kept_done w places.FieldType None e in
-            rw (f, e, inner, laid) refl
+    outcome_same w due = elim (cases_Bool (all_named (has st.done) places.FieldType w)) [
+      | inl e ↦ (let f = more_named st.done next.done kept_done places.FieldType w e in
+          let inner = kept_inner st.done next.done kept_done al w places.FieldType no_members e in
+          let laid = kept_lay st.done next.done kept_done w places.FieldType None e in
+          rw (f, e, inner, laid) refl)
+      | inr e ↦ elim (cases_Bool (all_named (has next.done) places.FieldType w)) [
+        | inl f ↦ (let (m, x, free) = blocked (has st.done) w places.FieldType e in
+            absurd (true≢false (sym (mentioned (has next.done) m w places.FieldType f x) ∙ still_missing m (mentioned (is_over al st) m w places.FieldType due x) free)))
+        | inr f ↦ rw (f, e) refl
+      ]
+    ]
 
   -- ---- what holds of each state
 
@@ -118,11 +112,7 @@ module _ (al : Members) where
     agrees_next = concluded_agrees k st (outcome al st.done w) free
 
     own_next : IsOfAliases next
-    own_next n h = at (meets n k)
-      where
-        at : Meets n k → has al n ≡ true
-        at (same e) = ap (has al) e ∙ ap is_some is
-        at (other apart) = sound.own n (sym (same_outcome st next n (concluded_other k st (outcome al st.done w) n apart)) ∙ h)
+    own_next n h = elim (meets n k) [ same e ↦ ap (has al) e ∙ ap is_some is | other apart ↦ sound.own n (sym (same_outcome st next n (concluded_other k st (outcome al st.done w) n apart)) ∙ h) ]
 
     same_next : (v : Data) → all_named (is_over al st) places.FieldType v ≡ true → outcome al next.done v ≡ outcome al st.done v
     same_next v h = outcome_same st next agrees_next own_next v h
@@ -137,20 +127,17 @@ module _ (al : Members) where
         }
 
     comes_next : (q : List ℕ) (v : Data) → get_member q al ≡ Some v → has_outcome next q ≡ true → Comes next q v
-    comes_next q v is_q h = at (meets q k)
-      where
-        at : Meets q k → Comes next q v
-        at (same e) =
-            let one : w ≡ v = value_same w v (sym is ∙ ap (λ x. get_member x al) (sym e) ∙ is_q) in
-            subst (λ x. Comes next x v) (sym e) (subst (Comes next k) one comes_here)
-        at (other apart) =
-            let kept = concluded_other k st (outcome al st.done w) q apart in
-            let before = sound.comes q v is_q (sym (same_outcome st next q kept) ∙ h) in
-            record {
-              due = due_along st next (outcome_kept st next agrees_next) v before.due;
-              value = kept.0 ∙ before.value ∙ sym (same_next v before.due);
-              mark = kept.1 ∙ before.mark ∙ ap mark_of (sym (same_next v before.due));
-            }
+    comes_next q v is_q h = elim (meets q k) [
+      | same e ↦ (let one : w ≡ v = value_same w v (sym is ∙ ap (λ x. get_member x al) (sym e) ∙ is_q) in
+          subst (λ x. Comes next x v) (sym e) (subst (Comes next k) one comes_here))
+      | other apart ↦ (let kept = concluded_other k st (outcome al st.done w) q apart in
+          let before = sound.comes q v is_q (sym (same_outcome st next q kept) ∙ h) in
+          record {
+            due = due_along st next (outcome_kept st next agrees_next) v before.due;
+            value = kept.0 ∙ before.value ∙ sym (same_next v before.due);
+            mark = kept.1 ∙ before.mark ∙ ap mark_of (sym (same_next v before.due));
+          })
+    ]
 
     done_next : (o : Option Data) → IsInOrder (concluded k st o).done
     done_next None = sound.done_order
@@ -243,14 +230,12 @@ module _ (al : Members) where
 
   due_round : (ms : Members) (st : Outcomes) (k : List ℕ) (w : Data) → get_member k ms ≡ Some w → all_named (is_over al st) places.FieldType w ≡ true → has_outcome (round al ms st) k ≡ true
   due_round no_members st k w is due = cc
-  due_round (member l d ms) st k w is due = at (meets k l) (due_round ms (step al l d st) k w)
-    where
-      at : Meets k l → (get_member k ms ≡ Some w → all_named (is_over al (step al l d st)) places.FieldType w ≡ true → has_outcome (round al ms (step al l d st)) k ≡ true) → has_outcome (round al ms (step al l d st)) k ≡ true
-      at (same e) later =
-          let one : d ≡ w = value_same d w (sym (get_same k l d ms e) ∙ is) in
-          let turn : has_outcome (step al l d st) l ≡ true = due_step l d st (subst (λ x. all_named (is_over al st) places.FieldType x ≡ true) (sym one) due) in
-          kept_round ms (step al l d st) k (ap (has_outcome (step al l d st)) e ∙ turn)
-      at (other apart) later = later (sym (get_other k l d ms apart) ∙ is) (due_along st (step al l d st) (kept_step l d st) w due)
+  due_round (member l d ms) st k w is due = elim (meets k l) [
+    | same e ↦ (let one : d ≡ w = value_same d w (sym (get_same k l d ms e) ∙ is) in
+        let turn : has_outcome (step al l d st) l ≡ true = due_step l d st (subst (λ x. all_named (is_over al st) places.FieldType x ≡ true) (sym one) due) in
+        kept_round ms (step al l d st) k (ap (has_outcome (step al l d st)) e ∙ turn))
+    | other apart ↦ due_round ms (step al l d st) k w (sym (get_other k l d ms apart) ∙ is) (due_along st (step al l d st) (kept_step l d st) w due)
+  ]
 
   -- ---- a state that is settled, and one that is not
 
@@ -297,14 +282,12 @@ module _ (al : Members) where
 
   -- where there are as many outcomes as aliases, all is settled
   pub full_settled : (st : Outcomes) → members_len al ≤ count (has_outcome st) al → IsSettled st
-  full_settled st full k w is due = go (has_outcome st k) refl
-    where
-      go : (t : Bool) → has_outcome st k ≡ t → has_outcome st k ≡ true
-      go true e = e
-      go false e =
-          let more : count (has_outcome st) al < count (λ n. true) al = count_new (has_outcome st) (λ n. true) (λ n x. refl) k w al is e refl in
-          let most : count (λ n. true) al ≤ members_len al = count_all (λ n. true) al in
-          absurd (omega (arith, full, more, most))
+  full_settled st full k w is due = elim (cases_Bool (has_outcome st k)) [
+    | inl e ↦ e
+    | inr e ↦ (let more : count (has_outcome st) al < count (λ n. true) al = count_new (has_outcome st) (λ n. true) (λ n x. refl) k w al is e refl in
+        let most : count (λ n. true) al ≤ members_len al = count_all (λ n. true) al in
+        absurd (omega (arith, full, more, most)))
+  ]
 
   -- the next round leaves all settled, or gives an outcome more
   next_full : (st : Outcomes) (n : ℕ) → NoClash al → (all_settled al al st ≡ true) ⊎ (n ≤ count (has_outcome st) al) → (all_settled al al (next_round al st) ≡ true) ⊎ (suc n ≤ count (has_outcome (next_round al st)) al)

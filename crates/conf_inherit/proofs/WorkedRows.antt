@@ -7,7 +7,7 @@ use Rattle.conf_tree.specs.Flaw.{key, index}
 use Rattle.conf_table.specs.Table.{rows_of, entries_of, content_under, place_in}
 use Rattle.conf_inherit.specs.Resolution.{Resolves, aliases_of, resolution, trace_name, type_name, aliases_name}
 use Rattle.conf_inherit.specs.Names.{NoClash}
-use Rattle.conf_inherit.proofs.ResolveLemmas.{resolution_sound}
+use Rattle.conf_inherit.proofs.RoundLemmas.{resolution_sound}
 use Rattle.conf_inherit.specs.FieldPlaces.{field_place, field_type_name, names_alias, place_under, place_in_type, inherit_name, names_member_type, place_of_items, lists_members, lists_extra_members, is_entry, is_base_name, leads_on}
 use Rattle.conf_inherit.specs.Places.{place_flaws}
 

@@ -88,7 +88,7 @@ pub(crate) fn mark<'a>(entry: &'a Value, seen: &mut BTreeMap<&'a str, ()>) -> Re
 /// Refuses the first flaw of a value and all that is in it, the limits that the values of `$inherit` pass among them.
 /// `seen` has the names of the entries before it.
 #[cycle(flaws)]
-#[tactic(auto, using(crate::proofs::FlawLemmas::refused_first, crate::proofs::FlawLemmas::refused_later))]
+#[tactic(auto, using(crate::proofs::FaultLemmas::refused_first, crate::proofs::FaultLemmas::refused_later))]
 pub(crate) fn check_flaws(
     known: Known,
     value: &Value,
@@ -140,7 +140,7 @@ fn check_members(
 /// Refuses the first flaw of a property's value and all that is in it, and then the limit that it passes, if the
 /// object inherits from it.
 #[cycle(flaws)]
-#[tactic(auto, using(crate::proofs::FlawLemmas::refused_first, crate::proofs::FlawLemmas::refused_later))]
+#[tactic(auto, using(crate::proofs::FaultLemmas::refused_first, crate::proofs::FaultLemmas::refused_later))]
 fn check_member(
     known: Known,
     name: &str,
@@ -176,7 +176,7 @@ pub(crate) fn check_value(known: Known, value: &Value, place: Place) -> Result<(
 }
 
 /// Refuses the first flaw of a field type, or else the limit that it passes.
-#[tactic(auto, using(crate::proofs::FlawLemmas::refused_later))]
+#[tactic(auto, using(crate::proofs::FaultLemmas::refused_later))]
 pub(crate) fn check_type(known: Known, value: &Value, place: Place) -> Result<(), ConfFault>
     ensures first { Gives (λ _. tt) result (refusal (type_flaws (members_view known.entry.aliases.now.entries) (members_view known.entry.resolved.now.entries) place (view value.now))) }
 {

@@ -39,7 +39,7 @@ fn check_count(alloc: Global, value: &Value) -> Result<(), ConfFault>
 }
 
 /// Refuses what is wrong with a value as a whole that stands at a place of field types.
-#[tactic(auto, using(crate::proofs::FlawLemmas::refused_later), unfolding(crate::specs::Places::place_flaws))]
+#[tactic(auto, using(crate::proofs::FaultLemmas::refused_later), unfolding(crate::specs::Places::place_flaws))]
 fn check_place(known: Known, value: &Value, place: Place) -> Result<(), ConfFault>
     ensures first { Gives (λ _. tt) result (refusal (place_flaws (members_view known.entry.aliases.now.entries) (members_view known.entry.resolved.now.entries) place (view value.now))) }
 {
@@ -58,7 +58,7 @@ fn check_place(known: Known, value: &Value, place: Place) -> Result<(), ConfFaul
 
 /// Refuses what is wrong with a value as a whole, or else the first fault at the places in it.
 #[cycle(places)]
-#[tactic(auto, using(crate::proofs::FlawLemmas::refused_first, crate::proofs::FlawLemmas::refused_later))]
+#[tactic(auto, using(crate::proofs::FaultLemmas::refused_first, crate::proofs::FaultLemmas::refused_later))]
 pub(crate) fn check_places(known: Known, value: &Value, place: Place) -> Result<(), ConfFault>
     ensures first { Gives (λ _. tt) result (refusal (place_flaws (members_view known.entry.aliases.now.entries) (members_view known.entry.resolved.now.entries) place (view value.now) ++ inner_places (members_view known.entry.aliases.now.entries) (members_view known.entry.resolved.now.entries) place (view value.now))) }
 {
@@ -88,7 +88,7 @@ fn check_item_places(known: Known, items: &Vec<Value>, place: Place) -> Result<(
 /// Refuses the first flaw of an entry of a list at the place, or else the limit that its field type passes. `seen` has the names of
 /// the entries before it.
 #[cycle(places)]
-#[tactic(auto, using(crate::proofs::FlawLemmas::refused_first, crate::proofs::FlawLemmas::refused_later, crate::proofs::SoundPlaces::no_entry_flaws))]
+#[tactic(auto, using(crate::proofs::FaultLemmas::refused_first, crate::proofs::FaultLemmas::refused_later, crate::proofs::SoundPlaces::no_entry_flaws))]
 fn check_entry(
     known: Known,
     value: &Value,

@@ -7,7 +7,7 @@ use Rattle.serde_json.specs.Find.{get_member}
 use Rattle.serde_json.specs.View.{view, members_view}
 use Rattle.conf_inherit.specs.Flaws.{own_flaws, base_flaws, flaws, inner_flaws, member_flaws}
 use Rattle.conf_inherit.specs.FieldPlaces.{place_under, is_entry}
-use Rattle.conf_inherit.proofs.FlawLemmas.{refused_first, refused_part, sound_part}
+use Rattle.conf_inherit.proofs.FaultLemmas.{refused_first, refused_part, sound_part}
 use Rattle.conf_inherit.specs.SeenNames.{seen_names}
 use Rattle.conf_inherit.proofs.flaws.+flaws.Goals as goal
 

@@ -3,7 +3,7 @@ use Rattle.serde_json.specs.Data.{null, put}
 use Rattle.serde_json.specs.View.{members_view}
 use Rattle.conf_inherit.specs.Flaws.{mark_names}
 use Rattle.conf_inherit.specs.SeenNames.{members_named, seen_names}
-use Rattle.conf_inherit.proofs.FlawLemmas.{noted}
+use Rattle.conf_inherit.proofs.FaultLemmas.{noted}
 use Rattle.conf_inherit.proofs.flaws.mark.Goals as goal
 
 pub loop-name-preserved : goal.loop-name-preserved

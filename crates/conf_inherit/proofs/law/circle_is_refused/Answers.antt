@@ -1,4 +1,4 @@
-use Rattle.conf_inherit.proofs.ResolveLemmas.{circle_refused}
+use Rattle.conf_inherit.proofs.RoundLemmas.{circle_refused}
 use Rattle.conf_inherit.proofs.law.circle_is_refused.Goals as goal
 
 pub returns : goal.returns

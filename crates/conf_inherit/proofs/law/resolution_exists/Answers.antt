@@ -1,4 +1,4 @@
-use Rattle.conf_inherit.proofs.ResolveLemmas.{resolution_sound}
+use Rattle.conf_inherit.proofs.RoundLemmas.{resolution_sound}
 use Rattle.conf_inherit.proofs.law.resolution_exists.Goals as goal
 
 pub returns : goal.returns

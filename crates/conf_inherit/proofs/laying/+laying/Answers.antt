@@ -1,6 +1,6 @@
-use Rattle.std.proofs.Common.{rules, ◌≡◌, ◌+◌, List, length, None, true, false, string_bytes, [], ◌∷◌, ◌++◌, get_or, ap, sym, ◌∙◌, arith, append-nil, append_assoc, option_map, refl, drop, subst}
+use Rattle.std.proofs.Common.{rules, ◌≡◌, ◌+◌, length, None, true, false, string_bytes, [], ◌∷◌, ◌++◌, get_or, ap, sym, ◌∙◌, arith, append-nil, append_assoc, option_map, refl, drop, subst}
 use Rattle.std.proofs.lemmas.Grind.{common_steps}
-use Rattle.std.proofs.lemmas.List.{at_drop_all}
+use Rattle.std.proofs.lemmas.List.{at_drop_all, nil_from_length}
 use Rattle.std.specs.Vec.Iter.{into_iter_items}
 use Rattle.serde_json.specs.Data.{Data, Items, no_items, item, array, object, member, no_members, put}
 use Rattle.serde_json.specs.View.{view, items_view, members_view}
@@ -8,27 +8,22 @@ use Rattle.conf_table.specs.declared.place.Place.TheVariants as places
 use Rattle.conf_inherit.specs.Laying.{lay, items_below, has_entry, lay_members, lay_over, lay_over_entry, lay_new, lay_new_entry, lay_new_member}
 use Rattle.conf_inherit.specs.EntryIndex.{lay_over_found}
 use Rattle.std.specs.Result.{IfOk, IfErr}
-use Rattle.conf_inherit.specs.Names.{map_items, join_items}
+use Rattle.conf_inherit.specs.Names.{map_items, join_items, NoClash}
 use Rattle.conf_inherit.proofs.LayingLemmas.{join_none, join_pushed, join_appended, new_member_fresh, lay_members-first, lay_members-absent, lay_entries}
 use Rattle.serde_json.proofs.Views.{Entry, view-Array, view-Object}
 use Rattle.serde_json.specs.Find.{get_member}
 use Rattle.conf_inherit.specs.FieldPlaces.{place_under, is_base_name, lists_members}
 use Rattle.std.proofs.lemmas.Result.{err_from_is_err_and}
-use Rattle.conf_inherit.specs.Names.{NoClash}
-use Rattle.conf_inherit.proofs.ResolveLemmas.{apart_of}
+use Rattle.conf_inherit.proofs.RoundLemmas.{apart_of}
 use Rattle.conf_inherit.specs.Size.{size, items_size, Within, IsDue}
-use Rattle.conf_inherit.proofs.SizeLemmas.{IsCounted, counted_none, counted_all, leaves_within, counted_more, counted_past, due_more, past_due, over_size, new_size, new_next, property_size, found_among, absent_after}
+use Rattle.conf_inherit.proofs.SizeLemmas.{IsCounted, counted_none, counted_all, leaves_within, counted_more, counted_past, due_more, over_size, new_size, new_next, property_size, found_among, absent_after}
 use Rattle.conf_inherit.proofs.laying.+laying.Goals as goal
-
-nothing_left : {X : Type 0} (l : List X) → length l ≡ 0 → l ≡ []
-nothing_left [] h = refl
-nothing_left (x ∷ xs) h = absurd (omega arith)
 
 pub lay_over_entries-returns-clause-laid : goal.lay_over_entries-returns-clause-laid
 lay_over_entries-returns-clause-laid t c =
     let l = c.loop-entry in
     let over = λ (b : Data). lay_over (members_view c.args.aliases.now.entries) (items_view c.args.own.now.items) b in
-    let empty : into_iter_items l.entry-iterator ≡ [] = nothing_left _ (sym l.invariant.count ∙ c.in-None.ensures.steps.0) in
+    let empty : into_iter_items l.entry-iterator ≡ [] = nil_from_length _ (sym l.invariant.count ∙ c.in-None.ensures.steps.0) in
     sym (join_none (items_view l.entries.items))
     ∙ ap (λ vs. join_items (items_view l.entries.items) (map_items over (items_view vs))) (sym empty)
     ∙ l.invariant.laid
@@ -184,7 +179,7 @@ lay_over_entries-returns-in_err-room-clause-past t c =
     let over = λ (b : Data). lay_over (members_view c.args.aliases.now.entries) (items_view c.args.own.now.items) b in
     let steps : into_iter_items l.entry-iterator ≡ c.in-Some.entry ∷ into_iter_items c.next.new.self = c.in-Some.ensures.steps.0 in
     let next = ap (λ vs. items_size (map_items over (items_view vs))) steps in
-    let past = past_due c.in_err-room.field-0.0 l.room (size (view c.in_ok-laid.laid)) c.in_err-room.ensures.past.0 c.in_err-room.ensures.past.1 in
+    let past : IsDue c.in_err-room.field-0.0 l.room (size (view c.in_ok-laid.laid)) = rw c.in_err-room.ensures.past.0 c.in_err-room.ensures.past.1 in
     rw (p.1, p.2) (counted_past c.in_err-room.field-0.0 c.args.limit l.room _ _ _ _ l.invariant.left next (rw c.in_ok-laid.ensures.laid at past))
 
 pub lay_over_entries-loop-entry-preserved : goal.lay_over_entries-loop-entry-preserved
@@ -261,7 +256,7 @@ pub lay_over_entries-returns-clause-within : goal.lay_over_entries-returns-claus
 lay_over_entries-returns-clause-within t c =
     let l = c.loop-entry in
     let over = λ (b : Data). lay_over (members_view c.args.aliases.now.entries) (items_view c.args.own.now.items) b in
-    let empty : into_iter_items l.entry-iterator ≡ [] = nothing_left _ (sym l.invariant.count ∙ c.in-None.ensures.steps.0) in
+    let empty : into_iter_items l.entry-iterator ≡ [] = nil_from_length _ (sym l.invariant.count ∙ c.in-None.ensures.steps.0) in
     let none : items_size (map_items over (items_view (into_iter_items l.entry-iterator))) ≡ 0 = ap (λ vs. items_size (map_items over (items_view vs))) empty in
     let whole = leaves_within c.args.limit l.room _ (counted_all c.args.limit l.room _ (rw none at l.invariant.left)) in
     subst (λ x. Within c.args.limit (items_size x)) (sym (lay_over_entries-returns-clause-laid t c)) whole

@@ -1,13 +1,12 @@
 use Rattle.std.proofs.Common.{◌≡◌, ◌+◌, None, Some, option_map, option_and_then, ap, sym, ◌∙◌, arith}
-use Rattle.serde_json.specs.Data.{object, put}
+use Rattle.serde_json.specs.Data.{object}
 use Rattle.serde_json.specs.Find.{get_member}
 use Rattle.serde_json.specs.View.{view, members_view}
 use Rattle.serde_json.proofs.Views.{view-Object, view-lookup}
 use Rattle.conf_inherit.specs.FieldPlaces.{place_under}
 use Rattle.conf_inherit.specs.Resolution.{members_or_none}
 use Rattle.conf_inherit.specs.Whole.{holds_aliases, way_to_aliases, aliases_at, with_aliases}
-use Rattle.conf_inherit.proofs.TakenLemmas.{with_way, at_way, with_none, put_with, way_leads, as_it_is, no_object, their_own, in_order, objects_around, fewer_around}
-use Rattle.conf_inherit.proofs.SpentLemmas.{written_put}
+use Rattle.conf_inherit.proofs.TakenLemmas.{with_way, at_way, with_none, written_with, way_leads, as_it_is, no_object, their_own, objects_around, fewer_around}
 use Rattle.conf_inherit.proofs.resolution.+replacing.Goals as goal
 
 pub replace_aliases-returns-in-Object-clause-old : goal.replace_aliases-returns-in-Object-clause-old
@@ -64,9 +63,7 @@ replace_aliases_under-returns-in-Some-get_mut-clause-new t c =
     let found : get_member w (members_view old) ≡ Some d = sym (ap (option_map view) c.in-Some-get_mut.ensures.value ∙ view-lookup w old) in
     let inner : view c.replace_aliases.new.value ≡ f d = c.replace_aliases.ensures.new ∙ ap (λ x. with_aliases x al d) c.place_under.ensures in
     ap (λ es. object (members_view es)) (c.get_mut.follows.holds c.replace_aliases.new.value).0
-    ∙ ap object (written_put w c.replace_aliases.new.value d old c.get_mut.ensures.ordered found
-    ∙ ap (λ x. put w x (members_view old)) inner
-    ∙ put_with w f d (members_view old) (in_order old c.get_mut.ensures.ordered) found)
+    ∙ ap object (written_with w f d c.replace_aliases.new.value old found inner)
     ∙ sym (with_way s w (members_view c.args.aliases.entries) (members_view old) (sym c.in-Some.ensures))
 
 pub replace_aliases_under-returns-in-None-clause-old : goal.replace_aliases_under-returns-in-None-clause-old

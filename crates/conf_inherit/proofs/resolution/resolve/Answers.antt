@@ -12,7 +12,7 @@ use Rattle.conf_inherit.specs.Resolution.{aliases_of, resolution, resolution_aft
 use Rattle.conf_inherit.specs.Rounds.{Outcomes, rounds, no_outcomes}
 use Rattle.conf_inherit.specs.Whole.{with_aliases}
 use Rattle.conf_inherit.proofs.RefusalLemmas.{refusal_holds}
-use Rattle.conf_inherit.proofs.ResolveLemmas.{resolution_is, resolution_sound, depth-nests}
+use Rattle.conf_inherit.proofs.RoundLemmas.{resolution_is, resolution_sound, depth-nests}
 use Rattle.conf_inherit.proofs.LookedUp.{resolved_ascends, resolved_whole}
 use Rattle.conf_inherit.proofs.TakenLemmas.{back_again, bare_again}
 use Rattle.conf_inherit.proofs.resolution.resolve.Goals as goal

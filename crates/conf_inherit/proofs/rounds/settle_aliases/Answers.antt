@@ -5,7 +5,7 @@ use Rattle.serde_json.proofs.Views.{members_len-members_view}
 use Rattle.conf_inherit.specs.AliasOutcomes.{outcomes_of}
 use Rattle.conf_inherit.specs.Names.{NoClash}
 use Rattle.conf_inherit.specs.Rounds.{all_settled, rounds, no_outcomes}
-use Rattle.conf_inherit.proofs.ResolveLemmas.{apart_of}
+use Rattle.conf_inherit.proofs.RoundLemmas.{apart_of}
 use Rattle.conf_inherit.proofs.TurnLemmas.{follows_all}
 use Rattle.conf_inherit.proofs.SpentLemmas.{first_leaves, rounds_first, rounds_more, rounds_done}
 use Rattle.conf_inherit.proofs.rounds.settle_aliases.Goals as goal
