@@ -341,8 +341,6 @@ resolution_is t al n st own count went =
 
 -- An alias that is resolved starts no walk as long as there are aliases.
 
--- ---- how many names pass a test
-
 abbrev pub count : (List ℕ → Bool) → Members → ℕ
 count p no_members = 0
 count p (member k d ms) = if p k then suc (count p ms) else count p ms

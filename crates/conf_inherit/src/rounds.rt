@@ -106,14 +106,6 @@ fn outcome(
     Ok(fit(alloc, value, Place::FieldType, resolved)?.ok())
 }
 
-/// Whether all aliases that a value names are resolved.
-fn is_known(value: &Value, outcomes: &AliasOutcomes) -> bool
-    ensures { result ≡ all_named (has (outcomes_of outcomes.now).done) Place.FieldType (view value.now) }
-{
-    let asked = Asked::IsResolved(&outcomes.resolved);
-    all_named(value, Place::FieldType, asked)
-}
-
 /// Gives an alias its outcome, if all that it names have theirs. `known` says whether all that it names is resolved.
 #[tactic(auto, using(crate::proofs::RoundLemmas::resolved_due))]
 fn step(
@@ -157,7 +149,8 @@ fn round(
     ensures memory { IfErr result IsMemory }
 {
     for (name, value) in aliases.iter() {
-        let known = is_known(value, outcomes);
+        let asked = Asked::IsResolved(&outcomes.resolved);
+        let known = all_named(value, Place::FieldType, asked);
         step(alloc, name, value, known, aliases, outcomes)?;
     }
     Ok(())
@@ -190,7 +183,8 @@ fn take_turn(
     let Some(value) = property(aliases, name.as_str()) else {
         return Ok(());
     };
-    let known = is_known(value, outcomes);
+    let asked = Asked::IsResolved(&outcomes.resolved);
+    let known = all_named(value, Place::FieldType, asked);
     let due = known
         || turns
             .is_due(alloc, name, value, aliases, outcomes)
