@@ -14,4 +14,5 @@ pub mod TurnLemmas
 pub mod SpentLemmas
 pub mod TakenLemmas
 pub mod PutLemmas
+pub mod WorkedPlaces
 pub mod WorkedRows

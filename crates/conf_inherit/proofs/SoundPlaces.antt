@@ -20,7 +20,8 @@ use Rattle.std.proofs.lemmas.Bool.{le-ltb, lt-ltb, cases_Bool, ltb-false}
 use Rattle.serde_json.specs.Events.{items_len}
 use Rattle.conf_table.specs.declared.place.Place.TheVariants as places
 use Rattle.conf_table.specs.Table.{rows_of, entries_of, place_in, content_under}
-use Rattle.conf_inherit.proofs.FieldPlaceLemmas.{true_under, under_place, ignored_under}
+use Rattle.conf_inherit.proofs.FieldPlaceLemmas.{ignored_under}
+use Rattle.conf_inherit.proofs.WorkedPlaces.{true_under, under_place}
 use Rattle.conf_inherit.proofs.LimitLemmas.{both_empty, alike_inner, sound_type}
 
 pub count_past : (v : Value) (vs : Vec Value Global) → v ≡ Array vs → 256 < length vs.items → refusal (too_many (view v)) ≡ Err (here Limit)
