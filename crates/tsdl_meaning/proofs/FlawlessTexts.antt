@@ -1,6 +1,6 @@
 -- Blocks without a flaw, one behind the other, and the metadata that they mean.
 use Rattle.std.proofs.Common.{◌≡◌, ℕ, ◌+◌, ◌<◌, ◌==◌, Bool, true, false, not, cond, ◌&&◌, ◌||◌, List, [], ◌∷◌, ◌++◌, map, length, take, get_or, Contains, Option, Some, None, refl, sym, ap, ap₂, subst, ◌∙◌, inl, inr, arith}
-use Rattle.tsdl_meaning.proofs.TextWords.{AddsBlock, AddsClock, AddsStream, AllByRecursion, BTreeMap, BTreeSet, Block, ClockType, ContainsKey, EnvironmentEntry, Event, Global, HaveStreams, IfSizesMissed, IsEmpty, IsFlawlessBehind, Item, Known, LacksSizes, Ledger, MeanEntries, NamedFact, SaysMetadata, Stop, Stream, String, Surveys, at_most_one, by_number, bytes_eq, clock_meaning, contains, contains_text, each, environment_in, environment_meaning, event_in, event_meaning, events_of, flat_map, has_sizes, have_streams, header_meaning, list_all, list_any, nat_cmp, no_two, only, pair_cmp, provided, stream_in, stream_meaning, streams_meaning, text_meta, trace_in, with_events, ◌>>=◌}
+use Rattle.tsdl_meaning.proofs.TextWords.{AddsBlock, AddsClock, AddsStream, AllByRecursion, BTreeMap, BTreeSet, Block, ClockType, ContainsKey, EnvironmentEntry, Event, Global, HaveStreams, IsEmpty, IsFlawlessBehind, Item, Known, LacksSizes, Ledger, MeanEntries, NamedFact, SaysMetadata, Stream, String, Surveys, at_most_one, by_number, bytes_eq, clock_meaning, contains, contains_text, each, environment_in, environment_meaning, event_in, event_meaning, events_of, flat_map, has_sizes, have_streams, header_meaning, list_all, list_any, nat_cmp, no_two, only, pair_cmp, provided, stream_in, stream_meaning, streams_meaning, text_meta, trace_in, with_events, ◌>>=◌}
 use Rattle.std.proofs.lemmas.Bool.{cases_Bool, eqb-true, not-true, not_from_false, or_right, or_left, and_from, or_parts}
 use Rattle.std.proofs.lemmas.Bool.Decides.{nat_tests}
 use Rattle.std.proofs.lemmas.List.{append-nil, map-append, take_more}
@@ -11,7 +11,6 @@ use Rattle.tsdl_grammar.specs.declared.tree.Block.TheVariants as blocks
 use Rattle.tsdl_grammar.specs.Denotes.{clock_in}
 use Rattle.tsdl_grammar.proofs.Inversion.{bind_is}
 use Rattle.tsdl_grammar.proofs.MeaningParts.{text_says}
-use Rattle.tsdl_flaw.specs.declared.flaw.Stop.TheVariants as stops
 use Rattle.tsdl_meaning.specs.FlawlessTexts.{AddsEvent}
 use Rattle.tsdl_meaning.proofs.MemberNames.{contains_first, contains_later}
 use Rattle.tsdl_meaning.proofs.FlawlessNames.{and_left, and_right, all_more, all_weaker, flat_more, no_two_more}
@@ -363,7 +362,3 @@ sizes_missed known ledger bs s traced have surveys none =
       | inl sized ↦ (let m = text_means known ledger bs s traced have surveys sized in let never : None ≡ Some m.0 = sym none ∙ m.1 in absurd cc)
       | inr not_all ↦ (let l = lacking (flat_map stream_in bs) not_all in record { stream = l.0; there = l.1; lacks = l.2 })
     ]
-
-pub sizes_end : (bs : List Block) (stop : Stop) (P : Type 0) → IfSizesMissed stop P → (P → LacksSizes bs) → IfSizesMissed stop (LacksSizes bs)
-sizes_end bs (stops.Fault fault) P h f = λ kind. f (h kind)
-sizes_end bs stops.NoMemory P h f = tt

@@ -70,13 +70,11 @@ pub(crate) fn counts_of(
     ensures { IfOk result (λ ns. ns ≡ each count_of brackets.now) }
 {
     let mut counts = ListOf::new(alloc);
-    let mut rest = brackets;
-    while let [bracket, others @ ..] = rest {
+    for bracket in brackets {
         let Bracket::Count(number) = bracket else {
             return Ok(None);
         };
         counts.push(meant!(natural(*number)))?;
-        rest = others;
     }
     Ok(Some(counts))
 }

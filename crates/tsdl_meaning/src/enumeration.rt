@@ -44,10 +44,8 @@ fn mappings_of(
 {
     let mut mappings = ListOf::new(alloc);
     mappings.push(meant!(entry_meaning(alloc, first)?))?;
-    let mut rest = others;
-    while let [entry, behind @ ..] = rest {
+    for entry in others {
         mappings.push(meant!(entry_meaning(alloc, entry)?))?;
-        rest = behind;
     }
     Ok(Some(mappings))
 }
@@ -62,7 +60,8 @@ fn entry_meaning(alloc: Global, entry: &Entry) -> Result<Option<Mapping>, AllocE
     }
     let low = signed_of(entry.low);
     let high = high_of(low, entry.high);
-    let label = label_of(&entry.label).copy(alloc)?;
+    let (Label::Quoted(label) | Label::Bare(label)) = &entry.label;
+    let label = label.copy(alloc)?;
     Ok(Some(Mapping { label, low, high }))
 }
 
@@ -72,15 +71,6 @@ pub(crate) fn rises(entry: &Entry) -> bool
 {
     let low = signed_of(entry.low);
     low <= high_of(low, entry.high)
-}
-
-fn label_of(label: &Label) -> &Text
-    ensures { result.now ≡ label_of label.now }
-{
-    match label {
-        Label::Quoted(text) => text,
-        Label::Bare(word) => word,
-    }
 }
 
 /// The upper end of a range: one number is its own range.

@@ -53,11 +53,9 @@ fn entries_of(
     ensures { IfOk result (λ es. es ≡ each named_fact_meaning facts.now) }
 {
     let mut entries = ListOf::new(alloc);
-    let mut rest = facts;
-    while let [fact, others @ ..] = rest {
+    for fact in facts {
         let entry = meant!(named_fact_meaning(alloc, fact)?);
         entries.push(entry)?;
-        rest = others;
     }
     Ok(Some(entries))
 }

@@ -90,12 +90,10 @@ pub(crate) fn is_among(names: &[&[&str]], name: &Name) -> bool
 pub(crate) fn attr<'a>(word: &str, attributes: &'a [Attribute]) -> Option<&'a Value>
     ensures { option_map (λ v. v.now) result ≡ attr word.now attributes.now }
 {
-    let mut rest = attributes;
-    while let [attribute, others @ ..] = rest {
+    for attribute in attributes {
         if is_word(word, &attribute.name) {
             return Some(&attribute.value);
         }
-        rest = others;
     }
     None
 }
@@ -127,13 +125,12 @@ pub(crate) fn has_only(allowed: &[&[&str]], attributes: &[Attribute]) -> bool
 pub(crate) fn attr_in<'a>(word: &str, items: &'a [Item]) -> Option<&'a Value>
     ensures { option_map (λ v. v.now) result ≡ attr word.now (attrs_in items.now) }
 {
-    let mut rest = items;
-    while let [item, others @ ..] = rest {
+    for item in items {
         match item {
             Item::Attribute(attribute) if is_word(word, &attribute.name) => {
                 return Some(&attribute.value);
             }
-            Item::Attribute(_) | Item::Scope(_) => rest = others,
+            Item::Attribute(_) | Item::Scope(_) => {}
         }
     }
     None
@@ -157,11 +154,10 @@ pub(crate) fn name_in(items: &[Item]) -> Option<&Text>
 pub(crate) fn scope_in<'a>(words: &[&str], items: &'a [Item]) -> Option<&'a Structure>
     ensures { option_map (λ s. s.now) result ≡ scope (texts_of words.now) (scopes_in items.now) }
 {
-    let mut rest = items;
-    while let [item, others @ ..] = rest {
+    for item in items {
         match item {
             Item::Scope(scope) if has_words(&scope.name, words) => return Some(&scope.structure),
-            Item::Attribute(_) | Item::Scope(_) => rest = others,
+            Item::Attribute(_) | Item::Scope(_) => {}
         }
     }
     None
@@ -171,11 +167,10 @@ pub(crate) fn scope_in<'a>(words: &[&str], items: &'a [Item]) -> Option<&'a Stru
 fn has_scope_in(name: &Name, items: &[Item]) -> bool
     ensures { result ≡ list_any (same_words (words_of name.now)) (scope_names (scopes_in items.now)) }
 {
-    let mut rest = items;
-    while let [item, others @ ..] = rest {
+    for item in items {
         match item {
             Item::Scope(scope) if is_same(name, &scope.name) => return true,
-            Item::Attribute(_) | Item::Scope(_) => rest = others,
+            Item::Attribute(_) | Item::Scope(_) => {}
         }
     }
     false
@@ -198,12 +193,10 @@ fn has_attrs_once(alloc: Global, items: &[Item]) -> Result<bool, AllocError>
     ensures { IfOk result (λ once. once ≡ are_distinct (attr_names (attrs_in items.now))) }
 {
     let mut names = Vec::new(alloc);
-    let mut rest = items;
-    while let [item, others @ ..] = rest {
+    for item in items {
         if let Item::Attribute(attribute) = item {
             names.push(words_of(alloc, &attribute.name)?)?;
         }
-        rest = others;
     }
     are_distinct(alloc, names)
 }

@@ -3,7 +3,8 @@
 
 ghost use Rattle.std.specs.Prelude.{◌≡◌, ◌<◌, length, true, false, Some, None, option_map, IfOk};
 ghost use Rattle.ctf_types.specs.Chain.{Leaf, ByteString};
-ghost use Rattle.tsdl_grammar.specs.AttributeValues.{meant_by, with_default};
+ghost use Rattle.std.specs.Option.{is_some};
+ghost use Rattle.tsdl_grammar.specs.AttributeValues.{meant_by};
 ghost use Rattle.tsdl_grammar.specs.MemberMeaning.{field_of, encoding_words, encoding_value, text_meaning, kind_meaning, is_unsigned, length_place, bracketed, member_meaning};
 ghost use Rattle.tsdl_meaning.specs.Members.{text_leaf, IsLengthAt};
 
@@ -61,28 +62,23 @@ fn is_text(attributes: &Option<ListOf<Attribute>>) -> bool
         Some(attributes) => {
             let attributes = attributes.as_slice();
             has_only(&STRING_ATTRIBUTES, attributes)
-                && encoding_or_any(attr("encoding", attributes)).is_some()
+                && attr("encoding", attributes).is_none_or(is_encoding)
         }
     }
 }
 
-pub(crate) fn encoding_or_any(value: Option<&Value>) -> Option<bool>
-    ensures { result ≡ with_default true encoding_value (option_map (λ v. v.now) value.entry) }
+/// Whether a value is the word of an encoding that is read.
+pub(crate) fn is_encoding(value: &Value) -> bool
+    ensures { result ≡ is_some (encoding_value value.now) }
 {
-    match value {
-        None => Some(true),
-        Some(value) => encoding_word(word_value(value)?.as_str()),
-    }
+    word_value(value).is_some_and(|word| is_encoding_word(word.as_str()))
 }
 
 #[tactic(auto, using(crate::proofs::WordTables::other_word))]
-fn encoding_word(word: &str) -> Option<bool>
-    ensures { result ≡ meant_by encoding_words word.now }
+fn is_encoding_word(word: &str) -> bool
+    ensures { result ≡ is_some (meant_by encoding_words word.now) }
 {
-    match word {
-        "UTF8" | "utf8" | "ASCII" | "ascii" | "none" => Some(true),
-        _ => None,
-    }
+    matches!(word, "UTF8" | "utf8" | "ASCII" | "ascii" | "none")
 }
 
 /// A field in its arrays. A name in the first bracket makes it a sequence.

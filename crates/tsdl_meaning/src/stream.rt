@@ -80,10 +80,8 @@ pub(crate) fn event_meaning(
     let name = meant!(name_in(items));
     let id = meant!(number_or_zero("id", items));
     let stream = meant!(number_or_zero("stream_id", items));
-    let log_level = match attr_in("loglevel", items) {
-        None => None,
-        Some(value) => Some(meant!(natural_value(value))),
-    };
+    let level = attr_in("loglevel", items);
+    let log_level = meant!(level.map_or(Some(None), |value| natural_value(value).map(Some)));
     let specific = meant!(scope_meaning(alloc, known, SPECIFIC_CONTEXT, items)?);
     let fields = meant!(scope_meaning(alloc, known, FIELDS, items)?);
     let event = Event {

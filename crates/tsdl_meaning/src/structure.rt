@@ -69,15 +69,13 @@ fn members_meaning(
     ensures { IfOk result (λ ms. ms ≡ members_meaning known.now [] members.now) }
 {
     let mut before = Members::with_capacity(alloc, members.len())?;
-    let mut rest = members;
-    while let [member, others @ ..] = rest {
+    for member in members {
         if has_member(&before, member.name.as_str()) {
             return Ok(None);
         }
         let member_type = meant!(member_meaning(alloc, known, &before, member)?);
         let name = member.name.copy(alloc)?;
         before.push(name, member_type)?;
-        rest = others;
     }
     Ok(Some(before))
 }

@@ -56,15 +56,13 @@ fn only_trace(blocks: &[Block]) -> Option<&[Item]>
     ensures { option_map (λ is. is.now) result ≡ only (flat_map trace_in blocks.now) }
 {
     let mut trace = None;
-    let mut rest = blocks;
-    while let [block, others @ ..] = rest {
+    for block in blocks {
         if let Block::Trace(items) = block {
             if trace.is_some() {
                 return None;
             }
             trace = Some(items.as_slice());
         }
-        rest = others;
     }
     trace
 }
@@ -74,15 +72,13 @@ fn facts_of(blocks: &[Block]) -> Option<&[NamedFact]>
     ensures { option_map (λ fs. fs.now) result ≡ at_most_one (flat_map environment_in blocks.now) }
 {
     let mut environment = None;
-    let mut rest = blocks;
-    while let [block, others @ ..] = rest {
+    for block in blocks {
         if let Block::Environment(facts) = block {
             if environment.is_some() {
                 return None;
             }
             environment = Some(facts.as_slice());
         }
-        rest = others;
     }
     Some(environment.unwrap_or(&[]))
 }
@@ -103,12 +99,10 @@ fn clocks_of(alloc: Global, blocks: &[Block]) -> Result<Option<ListOf<ClockType>
     ensures { IfOk result (λ cs. cs ≡ each clock_meaning (flat_map clock_in blocks.now)) }
 {
     let mut clocks = ListOf::new(alloc);
-    let mut rest = blocks;
-    while let [block, others @ ..] = rest {
+    for block in blocks {
         if let Block::Clock(items) = block {
             clocks.push(meant!(clock_meaning(alloc, items.as_slice())?))?;
         }
-        rest = others;
     }
     Ok(Some(clocks))
 }

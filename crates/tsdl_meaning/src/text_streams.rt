@@ -85,12 +85,10 @@ fn have_streams(
     ensures { IfOk result (λ have. have ≡ have_streams streams.now events.now) }
 {
     let numbers = numbers_of(alloc, streams)?;
-    let mut rest = events;
-    while let [event, others @ ..] = rest {
+    for event in events {
         if !numbers.contains(&event.0) {
             return Ok(false);
         }
-        rest = others;
     }
     Ok(true)
 }
@@ -124,10 +122,7 @@ fn add_event(alloc: Global, groups: &mut Groups, event: (u64, Event)) -> Result<
     ensures { OnOk result (AddsEvent groups.old event groups.new) }
 {
     let (id, event) = event;
-    let mut group = match groups.remove(&id) {
-        Some(group) => group,
-        None => Vec::new(alloc),
-    };
+    let mut group = groups.remove(&id).unwrap_or(Vec::new(alloc));
     group.push(event)?;
     drop(groups.insert(id, group)?);
     Ok(())
@@ -177,8 +172,5 @@ fn take_group(alloc: Global, groups: &mut Groups, id: u64) -> ListOf<Event>
     ensures own { result ≡ group_of groups.old id }
     ensures others { OthersStay id groups.old groups.new }
 {
-    match groups.remove(&id) {
-        None => ListOf::new(alloc),
-        Some(group) => ListOf::from_vec(group),
-    }
+    ListOf::from_vec(groups.remove(&id).unwrap_or(Vec::new(alloc)))
 }

@@ -1,8 +1,6 @@
 //! The first flaw of a block with attributes and scopes: a trace, a stream, an event or a clock.
 
 ghost use Rattle.std.specs.Prelude.{◌≡◌, false, List, [], ◌∷◌, ◌++◌, IfOk, IfErr, IsTrue};
-ghost use Rattle.std.specs.Option.{is_some, is_none};
-ghost use Rattle.std.specs.List.{list_all};
 ghost use Rattle.tsdl_grammar.specs.declared.atom.Atom.{Atom};
 ghost use Rattle.tsdl_grammar.specs.declared.token.Mark.TheVariants as marks;
 ghost use Rattle.tsdl_grammar.specs.declared.tree.Item.{Item};
@@ -11,9 +9,8 @@ ghost use Rattle.tsdl_flaw.specs.Twice.{IsTwice};
 ghost use Rattle.tsdl_meaning.specs.Judged.{StopsWhere};
 ghost use Rattle.tsdl_meaning.specs.Ledgers.{AreNoted};
 ghost use Rattle.tsdl_meaning.specs.NamesBefore.{AreNamed};
-ghost use Rattle.tsdl_grammar.specs.Lookups.{words_of, attr, attrs_in};
 ghost use Rattle.tsdl_meaning.specs.Blocks.{word_of, IsBegun, AreKept};
-ghost use Rattle.tsdl_meaning.specs.FlawlessBlocks.{IsFlawlessBlock, AddsItem, AddsScope, IsEnded, IsNumberedAnew, rule_in, scopes_of, needed, named_rules, first_texts};
+ghost use Rattle.tsdl_meaning.specs.FlawlessBlocks.{IsFlawlessBlock, AddsItem, AddsScope, IsEnded, IsNumberedAnew, scopes_of, needed, named_rules, first_texts};
 
 use crate::judge::attribute::judge_attribute;
 use crate::judge::ledger::{Ledger, event_numbers};
@@ -26,7 +23,7 @@ use crate::stream::{EVENT_CONTEXT, EVENT_HEADER, FIELDS, PACKET_CONTEXT, SPECIFI
 use crate::trace::PACKET_HEADER;
 use std::alloc::Global;
 use tsdl_flaw::{Flaw, Remedy, Spelled, Stop};
-use tsdl_grammar::{Item, Name, Scope};
+use tsdl_grammar::{Item, Scope};
 
 #[derive(Clone, Copy)]
 pub(crate) enum BlockKind {
@@ -96,7 +93,8 @@ fn judge_scope(judging: &Judging, names: &mut Names, scope: &Scope, at: usize) -
     ensures fault { IfErr result (StopsWhere (λ front. AreNamed front marks.Assign names.old.names) at (scope_toks scope.now)) }
     ensures named { IfOk result (λ _. (front : List Atom) → AreNamed front marks.Assign names.old.names → AreNamed (front ++ scope_toks scope.now) marks.Assign names.new.names) }
 {
-    let Some(rule) = rule_in(scopes_of(judging.kind), &scope.name) else {
+    let mut rows = scopes_of(judging.kind).iter();
+    let Some(row) = rows.find(|row| has_words(&scope.name, row.0)) else {
         return Err(Stop::unsupported(judging.alloc, at, &scope.name, Remedy::Nothing));
     };
     names.add(judging.alloc, &scope.name, at)?;
@@ -104,25 +102,11 @@ fn judge_scope(judging: &Judging, names: &mut Names, scope: &Scope, at: usize) -
     judge_structure(
         judging.alloc,
         judging.survey,
-        rule,
+        row.1,
         &scope.structure,
         behind,
     )?;
     Ok(())
-}
-
-/// What the scope of this name asks of its members, if it is one of these.
-fn rule_in(scopes: &[(&[&str], ScopeRule)], name: &Name) -> Option<ScopeRule>
-    ensures { result ≡ rule_in (named_rules scopes.now) (words_of name.now) }
-{
-    let mut rest = scopes;
-    while let [(words, rule), others @ ..] = rest {
-        if has_words(name, *words) {
-            return Some(*rule);
-        }
-        rest = others;
-    }
-    None
 }
 
 /// The scopes that a block may have, and what each one asks of its members.
@@ -142,8 +126,9 @@ fn judge_end(judging: &Judging, items: &[Item], at: usize) -> Result<(), Stop>
     ensures ended { IfOk result (λ _. IsEnded judging.now.kind judging.now.ledger.now items.now) }
     ensures fault { IfErr result (StopsWhere (IsBegun judging.now items.now) at (mark marks.CloseBrace ∷ [])) }
 {
-    if let Some(expected) = first_missing(needed(judging.kind), items) {
-        return Err(Stop::at_atom(at, Flaw::Syntax(expected)));
+    let mut rows = needed(judging.kind).iter();
+    if let Some(missing) = rows.find(|row| attr_in(row.0, items).is_none()) {
+        return Err(Stop::at_atom(at, Flaw::Syntax(missing.1)));
     }
     if is_numbered_twice(judging, items) {
         return Err(Stop::at_atom(at, Flaw::Duplicate));
@@ -167,20 +152,6 @@ fn is_numbered_twice(judging: &Judging, items: &[Item]) -> bool
             None => false,
         },
     }
-}
-
-/// The first of these attributes that a block lacks, in words.
-fn first_missing(needed: &[(&'static str, &'static str)], items: &[Item]) -> Option<&'static str>
-    ensures { is_none result ≡ list_all (λ w. is_some (attr w (attrs_in items.now))) (first_texts needed.now) }
-{
-    let mut rest = needed;
-    while let [(name, quoted), others @ ..] = rest {
-        if attr_in(*name, items).is_none() {
-            return Some(*quoted);
-        }
-        rest = others;
-    }
-    None
 }
 
 /// The attributes that a block has to have, and what is expected in words.

@@ -30,14 +30,12 @@ pub(crate) fn survey_of_blocks(alloc: Global, blocks: &[Block]) -> Result<Survey
 fn order_among(blocks: &[Block]) -> Option<ByteOrder>
     ensures { result ≡ first_of orders_in (flat_map trace_in blocks.now) }
 {
-    let mut rest = blocks;
-    while let [block, others @ ..] = rest {
+    for block in blocks {
         if let Block::Trace(items) = block {
             if let Some(order) = order_in(items.as_slice()) {
                 return Some(order);
             }
         }
-        rest = others;
     }
     None
 }
@@ -46,14 +44,12 @@ fn order_among(blocks: &[Block]) -> Option<ByteOrder>
 fn order_in(items: &[Item]) -> Option<ByteOrder>
     ensures { result ≡ orders_in items.now }
 {
-    let mut rest = items;
-    while let [item, others @ ..] = rest {
+    for item in items {
         if let Item::Attribute(attribute) = item {
             if let Some(order) = order_of(attribute) {
                 return Some(order);
             }
         }
-        rest = others;
     }
     None
 }
@@ -74,12 +70,10 @@ fn names_among(alloc: Global, blocks: &[Block]) -> Result<ListOf<Text>, AllocErr
     ensures { IfOk result (λ names. names ≡ flat_map names_in (flat_map clock_in blocks.now)) }
 {
     let mut names = ListOf::new(alloc);
-    let mut rest = blocks;
-    while let [block, others @ ..] = rest {
+    for block in blocks {
         if let Block::Clock(items) = block {
             add_names(alloc, &mut names, items.as_slice())?;
         }
-        rest = others;
     }
     Ok(names)
 }
@@ -88,8 +82,7 @@ fn names_among(alloc: Global, blocks: &[Block]) -> Result<ListOf<Text>, AllocErr
 fn add_names(alloc: Global, names: &mut ListOf<Text>, items: &[Item]) -> Result<(), AllocError>
     ensures { OnOk result (names.new ≡ names.old ++ names_in items.now) }
 {
-    let mut rest = items;
-    while let [item, others @ ..] = rest {
+    for item in items {
         if let Item::Attribute(attribute) = item {
             if is_word("name", &attribute.name) {
                 if let Some(name) = name_value(&attribute.value) {
@@ -97,7 +90,6 @@ fn add_names(alloc: Global, names: &mut ListOf<Text>, items: &[Item]) -> Result<
                 }
             }
         }
-        rest = others;
     }
     Ok(())
 }

@@ -32,19 +32,15 @@ fn judge_entry(before: &[NamedFact], fact: &NamedFact, at: usize) -> Result<(), 
     ensures flawless { IfOk result (λ _. AddsFact before.now fact.now) }
     ensures fault { IfErr result (StopsWhere (EndsFacts before.now) at (named_fact_toks fact.now)) }
 {
-    let behind = at.saturating_add(2);
+    let end = at.saturating_add(2);
     if has_fact(&fact.name, before) {
         let flaw = Flaw::Duplicate;
-        return Err(Stop::Fault(Fault {
-            at,
-            end: behind,
-            flaw,
-        }));
+        return Err(Stop::Fault(Fault { at, end, flaw }));
     }
     if before.len() >= MAX_ENVIRONMENT {
         return Err(Stop::at_atom(at, Flaw::Limit("at most 256 names")));
     }
-    judge_fact(&fact.fact, behind)
+    judge_fact(&fact.fact, end)
 }
 
 /// Judges what an entry has: a number is one from -2^63 to 2^63 - 1.
@@ -53,10 +49,9 @@ fn judge_fact(fact: &Fact, at: usize) -> Result<(), Stop>
     ensures fault { IfErr result (StopsAmong at (fact_toks fact.now)) }
 {
     match fact {
-        Fact::Number(number) => match whole(*number) {
-            Some(_) => Ok(()),
-            None => Err(Stop::expected(at, number, "a number from -2^63 to 2^63 - 1")),
-        },
-        Fact::Text(_) => Ok(()),
+        Fact::Number(number) if whole(*number).is_none() => {
+            Err(Stop::expected(at, number, "a number from -2^63 to 2^63 - 1"))
+        }
+        Fact::Number(_) | Fact::Text(_) => Ok(()),
     }
 }

@@ -2,7 +2,6 @@
 
 ghost use Rattle.std.specs.Prelude.{◌∷◌, ◌++◌, IsSome, IfOk, IfErr};
 ghost use Rattle.std.specs.List.{flat_map};
-ghost use Rattle.tsdl_grammar.specs.declared.tree.Kind.TheVariants as kinds;
 ghost use Rattle.tsdl_grammar.specs.Spelling.{kind_toks, entry_toks, next_entry_toks};
 ghost use Rattle.tsdl_grammar.specs.MemberMeaning.{entry_meaning, kind_meaning};
 ghost use Rattle.tsdl_meaning.specs.Judged.{StopsAmong, StopsWhere};
@@ -12,10 +11,9 @@ ghost use Rattle.tsdl_meaning.specs.FlawlessTypes.{AreRanges};
 use crate::enumeration::{MAX_RANGES, rises};
 use crate::judge::survey::Survey;
 use crate::judge::type_attributes::{TypeKind, judge_attributes};
-use ctf_types::ListOf;
 use std::alloc::Global;
 use tsdl_flaw::{Flaw, Spelled, Stop};
-use tsdl_grammar::{Attribute, Entries, Entry, Kind};
+use tsdl_grammar::{Entries, Entry, Kind};
 
 /// `integer { .. }`, `enum : integer { .. } { .. }` or `string { .. }`.
 pub(crate) fn judge_kind(alloc: Global, survey: &Survey, kind: &Kind, at: usize) -> Result<(), Stop>
@@ -27,7 +25,21 @@ pub(crate) fn judge_kind(alloc: Global, survey: &Survey, kind: &Kind, at: usize)
             judge_attributes(alloc, survey, TypeKind::Integer, attributes.as_slice(), at)
         }
         Kind::Enumeration(attributes, entries) => {
-            judge_enumeration(alloc, survey, attributes, entries, at)
+            let integer = at.saturating_add(2);
+            judge_attributes(
+                alloc,
+                survey,
+                TypeKind::Integer,
+                attributes.as_slice(),
+                integer,
+            )?;
+            let passed = integer.saturating_add(attributes.length());
+            match entries {
+                Entries::Empty => Ok(()),
+                Entries::Listed(first, others, _) => {
+                    judge_ranges(first, others.as_slice(), passed.saturating_add(4))
+                }
+            }
         }
         Kind::Text(attributes) => match attributes {
             Some(attributes) => {
@@ -35,33 +47,6 @@ pub(crate) fn judge_kind(alloc: Global, survey: &Survey, kind: &Kind, at: usize)
             }
             None => Ok(()),
         },
-    }
-}
-
-/// `"enum" ":" integer "{" entries "}"`.
-fn judge_enumeration(
-    alloc: Global,
-    survey: &Survey,
-    attributes: &ListOf<Attribute>,
-    entries: &Entries,
-    at: usize,
-) -> Result<(), Stop>
-    ensures meant { IfOk result (λ _. IsSome (kind_meaning survey.now.known (kinds.Enumeration attributes.now entries.now))) }
-    ensures fault { IfErr result (StopsAmong at (kind_toks (kinds.Enumeration attributes.now entries.now))) }
-{
-    let integer = at.saturating_add(2);
-    judge_attributes(
-        alloc,
-        survey,
-        TypeKind::Integer,
-        attributes.as_slice(),
-        integer,
-    )?;
-    let passed = integer.saturating_add(attributes.length());
-    let ranges = passed.saturating_add(4);
-    match entries {
-        Entries::Empty => Ok(()),
-        Entries::Listed(first, others, _) => judge_ranges(first, others.as_slice(), ranges),
     }
 }
 

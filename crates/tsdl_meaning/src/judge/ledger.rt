@@ -7,21 +7,18 @@ ghost use Rattle.std.specs.BTreeSet.{contains, contains_text};
 ghost use Rattle.tsdl_grammar.specs.declared.atom.Atom.{Atom};
 ghost use Rattle.tsdl_grammar.specs.Spelling.{word, block_toks};
 ghost use Rattle.tsdl_flaw.specs.Fronts.{Holds};
-ghost use Rattle.tsdl_flaw.specs.Lengths.{HasLength};
 ghost use Rattle.tsdl_grammar.specs.declared.fault.MetaFaultKind.TheVariants as faults;
 ghost use Rattle.tsdl_flaw.specs.Stopping.{kind_of};
-ghost use Rattle.tsdl_flaw.specs.TextStops.{StopsText};
 ghost use Rattle.tsdl_meaning.specs.Judged.{StopsWhere};
 ghost use Rattle.tsdl_flaw.specs.Twice.{HasNumbers};
 ghost use Rattle.tsdl_meaning.specs.FlawlessTexts.{AddsBlock, AddsClock, AddsStream, AddsEvent, HaveStreams, IsEmpty};
-ghost use Rattle.tsdl_meaning.specs.PacketSizes.{IfSizesMissed};
 ghost use Rattle.tsdl_meaning.specs.Ledgers.{AreNoted, HasClock, HasStream, HasEvent, pair_cmp};
 
 use crate::lookup::{name_in, number_or_zero};
 use ctf_types::Text;
 use std::alloc::{AllocError, Global};
 use std::collections::{BTreeMap, BTreeSet};
-use tsdl_flaw::{Fault, Flaw, Orphan, Stop};
+use tsdl_flaw::{Flaw, Orphan};
 use tsdl_grammar::{Block, Item};
 
 /// The blocks so far.
@@ -120,18 +117,8 @@ impl Ledger {
         Ok(())
     }
 
-    /// Where judging a text stops that has no flaw before its end.
-    pub(crate) fn stop_at_end(&self, alloc: Global, at: usize) -> Stop
-        ensures complete { IfSizesMissed result ((self.now.has_trace ≡ true) × HaveStreams self.now) }
-        ensures stops { (toks : List Atom) → HasLength toks at → StopsText toks result }
-    {
-        match self.flaw_at_end(alloc) {
-            Err(error) => Stop::from(error),
-            Ok(flaw) => Stop::Fault(Fault { at, end: at, flaw }),
-        }
-    }
-
-    fn flaw_at_end(&self, alloc: Global) -> Result<Flaw, AllocError>
+    /// The flaw of a text that has none before its end.
+    pub(crate) fn flaw_at_end(&self, alloc: Global) -> Result<Flaw, AllocError>
         ensures complete { IfOk result (λ flaw. kind_of flaw ≡ faults.NoPacketSize → (self.now.has_trace ≡ true) × HaveStreams self.now) }
         ensures kind { IfOk result (λ flaw. (kind_of flaw ≡ faults.Syntax) ⊎ (kind_of flaw ≡ faults.NoPacketSize)) }
     {

@@ -1,14 +1,13 @@
 //! The first flaw of a text that means nothing, by one pass over its blocks.
 
-ghost use Rattle.std.specs.Prelude.{◌≡◌, List, [], ◌++◌, None, OnOk, IfOk, IfErr};
-ghost use Rattle.tsdl_grammar.specs.declared.atom.Atom.{Atom};
+ghost use Rattle.std.specs.Prelude.{◌≡◌, [], None, IfOk, IfErr};
 ghost use Rattle.tsdl_grammar.specs.Spelling.{block_toks, text_toks};
 ghost use Rattle.tsdl_grammar.specs.Denotes.{text_meta};
 ghost use Rattle.tsdl_flaw.specs.Stopping.{StopsIn};
 ghost use Rattle.tsdl_flaw.specs.TextStops.{StopsText};
 ghost use Rattle.tsdl_meaning.specs.Judged.{StopsWhere};
 ghost use Rattle.tsdl_meaning.specs.Ledgers.{AreNoted};
-ghost use Rattle.tsdl_meaning.specs.FlawlessTexts.{IsFlawlessBehind, AddsBlock, Surveys};
+ghost use Rattle.tsdl_meaning.specs.FlawlessTexts.{IsFlawlessBehind, Surveys};
 ghost use Rattle.tsdl_meaning.specs.PacketSizes.{MissesSizes};
 
 use crate::judge::block::{BlockKind, Judging, judge_items};
@@ -16,7 +15,7 @@ use crate::judge::environment::judge_environment;
 use crate::judge::ledger::Ledger;
 use crate::judge::survey::Survey;
 use std::alloc::Global;
-use tsdl_flaw::{Flaw, Spelled, Stop};
+use tsdl_flaw::{Fault, Flaw, Spelled, Stop};
 use tsdl_grammar::Block;
 
 /// Where judging the blocks of a text stops that means nothing.
@@ -40,33 +39,18 @@ fn judge_blocks(alloc: Global, survey: &Survey, blocks: &[Block]) -> Result<Stop
     ensures fault { IfErr result (StopsIn [] 0 (text_toks blocks.now)) }
 {
     let mut ledger = Ledger::new(alloc);
-    let mut next = 0usize;
+    let mut at = 0usize;
     for block in blocks {
-        judge_block(alloc, survey, &mut ledger, block, next)?;
-        next = next.saturating_add(block.length()).saturating_add(1);
+        judge_block(alloc, survey, &ledger, block, at)?;
+        ledger.add(alloc, block)?;
+        at = at.saturating_add(block.length()).saturating_add(1);
     }
-    Ok(ledger.stop_at_end(alloc, next))
+    let flaw = ledger.flaw_at_end(alloc)?;
+    Ok(Stop::Fault(Fault { at, end: at, flaw }))
 }
 
-/// Judges a block, whose word stands at an atom, and adds it to the others.
+/// Judges a block, whose word stands at an atom.
 fn judge_block(
-    alloc: Global,
-    survey: &Survey,
-    ledger: &mut Ledger,
-    block: &Block,
-    at: usize,
-) -> Result<(), Stop>
-    ensures flawless { IfOk result (λ _. IsFlawlessBehind survey.now.known ledger.old block.now) }
-    ensures adds { OnOk result (AddsBlock ledger.old block.now ledger.new) }
-    ensures fault { IfErr result (StopsWhere (λ front. AreNoted front ledger.old) at (block_toks block.now)) }
-    ensures noted { (front : List Atom) → AreNoted front ledger.old → OnOk result (AreNoted (front ++ block_toks block.now) ledger.new) }
-{
-    judge_parts(alloc, survey, ledger, block, at)?;
-    ledger.add(alloc, block)?;
-    Ok(())
-}
-
-fn judge_parts(
     alloc: Global,
     survey: &Survey,
     ledger: &Ledger,

@@ -19,7 +19,7 @@ use crate::judge::names::Names;
 use crate::judge::survey::Survey;
 use crate::judge::value::{judge_align_value, judge_flag, judge_natural, order_remedy, unread};
 use crate::lookup::{attr, is_among};
-use crate::member::{STRING_ATTRIBUTES, encoding_or_any};
+use crate::member::{STRING_ATTRIBUTES, is_encoding};
 use crate::scope_rule::has_word;
 use crate::value::{one_word, word_value};
 use std::alloc::Global;
@@ -105,7 +105,8 @@ fn judge_value(
     };
     match kind {
         TypeKind::Integer => judge_integer(alloc, survey, word.as_str(), &attribute.value, at),
-        TypeKind::Text => judge_encoding(alloc, &attribute.value, at),
+        TypeKind::Text if is_encoding(&attribute.value) => Ok(()),
+        TypeKind::Text => Err(unread(alloc, &attribute.value, at, Remedy::Nothing)),
     }
 }
 
@@ -122,35 +123,16 @@ fn judge_integer(
     ensures fault { IfErr result (StopsWhere (IsBehindWord word.now) at (value_toks value.now)) }
 {
     match word {
-        "size" => judge_size(value, at),
+        "size" => match judge_natural(value, at)? {
+            1..=64 => Ok(()),
+            _ => Err(Stop::expected(at, value, "a size from 1 to 64 bits")),
+        },
         "align" => judge_align_value(value, at),
         "signed" => judge_flag(value, at),
         "byte_order" => judge_order(alloc, survey, value, at),
         "base" => judge_base(alloc, value, at),
         "map" => judge_map(survey, value, at),
         _ => Ok(()),
-    }
-}
-
-/// The encoding of a string.
-fn judge_encoding(alloc: Global, value: &Value, at: usize) -> Result<(), Stop>
-    ensures fit { IfOk result (λ _. IsTrue (is_some (encoding_value value.now))) }
-    ensures fault { IfErr result (StopsAmong at (value_toks value.now)) }
-{
-    match encoding_or_any(Some(value)) {
-        Some(_) => Ok(()),
-        None => Err(unread(alloc, value, at, Remedy::Nothing)),
-    }
-}
-
-/// A size from 1 to 64 bits.
-fn judge_size(value: &Value, at: usize) -> Result<(), Stop>
-    ensures fit { IfOk result (λ _. IsTrue (is_size value.now)) }
-    ensures fault { IfErr result (StopsAmong at (value_toks value.now)) }
-{
-    match judge_natural(value, at)? {
-        1..=64 => Ok(()),
-        _ => Err(Stop::expected(at, value, "a size from 1 to 64 bits")),
     }
 }
 
@@ -192,12 +174,11 @@ fn judge_map(survey: &Survey, value: &Value, at: usize) -> Result<(), Stop>
     let Value::Name(name) = value else {
         return Err(Stop::expected(at, value, "a name"));
     };
-    let [_, last] = name.rest.as_slice() else {
-        return Err(Stop::expected(at, value, "`clock.NAME.value`"));
-    };
-    if name.first.as_str() != "clock" || last.as_str() != "value" {
-        return Err(Stop::expected(at, value, "`clock.NAME.value`"));
+    match name.rest.as_slice() {
+        [_, last] if name.first.as_str() == "clock" && last.as_str() == "value" => {
+            let place = at.saturating_add(2);
+            Err(Stop::at_atom(place, Flaw::Syntax("the name of a clock")))
+        }
+        _ => Err(Stop::expected(at, value, "`clock.NAME.value`")),
     }
-    let place = at.saturating_add(2);
-    Err(Stop::at_atom(place, Flaw::Syntax("the name of a clock")))
 }

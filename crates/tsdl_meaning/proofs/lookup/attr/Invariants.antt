@@ -1,9 +1,6 @@
-use Rattle.std.proofs.Common.{◌≡◌, length}
+use Rattle.std.proofs.Common.{◌≡◌, drop}
 use Rattle.tsdl_meaning.proofs.TextWords.{attr}
 use Rattle.tsdl_meaning.proofs.lookup.attr.Given as goal
 
-abbrev pub invariant-loop-rest : goal.invariant-loop-rest
-invariant-loop-rest l = attr l.word l.rest ≡ attr l.word l.attributes
-
-abbrev pub decreases-loop-rest : goal.decreases-loop-rest
-decreases-loop-rest l = length l.rest
+abbrev pub invariant-loop-attribute : goal.invariant-loop-attribute
+invariant-loop-attribute l = attr l.word (drop l.attribute-index l.attributes) ≡ attr l.word l.attributes

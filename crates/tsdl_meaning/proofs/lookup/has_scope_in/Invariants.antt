@@ -1,9 +1,6 @@
-use Rattle.std.proofs.Common.{◌≡◌, length}
+use Rattle.std.proofs.Common.{◌≡◌, drop}
 use Rattle.tsdl_meaning.proofs.TextWords.{list_any, same_words, scope_names, scopes_in, words_of}
 use Rattle.tsdl_meaning.proofs.lookup.has_scope_in.Given as goal
 
-abbrev pub invariant-loop-rest : goal.invariant-loop-rest
-invariant-loop-rest l = list_any (same_words (words_of l.name)) (scope_names (scopes_in l.rest)) ≡ list_any (same_words (words_of l.name)) (scope_names (scopes_in l.items))
-
-abbrev pub decreases-loop-rest : goal.decreases-loop-rest
-decreases-loop-rest l = length l.rest
+abbrev pub invariant-loop-item : goal.invariant-loop-item
+invariant-loop-item l = list_any (same_words (words_of l.name)) (scope_names (scopes_in (drop l.item-index l.items))) ≡ list_any (same_words (words_of l.name)) (scope_names (scopes_in l.items))

@@ -1,5 +1,8 @@
-use Rattle.std.proofs.Common.{◌≡◌, ℕ, true, List, sym, ap, ◌∙◌, subst}
-use Rattle.tsdl_meaning.proofs.TextWords.{attr, attrs_in, is_none, is_some, list_all, mark}
+use Rattle.std.proofs.Common.{◌≡◌, ℕ, true, not, List, Bor, option_map, sym, ap, ◌∙◌, subst, rules, tests}
+use Rattle.std.proofs.lemmas.Iterator.{YieldsList-from_slice}
+use Rattle.std.proofs.lemmas.Iterator.Search.{find_from_yields_List}
+use Rattle.tsdl_meaning.proofs.JudgedScopes.{none_missed}
+use Rattle.tsdl_meaning.proofs.TextWords.{attr, attrs_in, is_some, list_all, mark}
 use Rattle.tsdl_grammar.specs.declared.token.Mark.TheVariants as marks
 use Rattle.tsdl_meaning.proofs.judge.block.judge_end.Goals as goal
 
@@ -13,7 +16,11 @@ returns-then-is_numbered_twice-clause-fault c = λ front behind b.
 pub returns-clause-ended : goal.returns-clause-ended
 returns-clause-ended c = record {
   complete =
-      subst (λ (ws : List (List ℕ)). list_all (λ w. is_some (attr w (attrs_in c.args.items.now))) ws ≡ true) c.needed.ensures
-      (sym c.first_missing.ensures ∙ ap is_none c.in_default.is);
+      let rows = c.needed.result.now in
+      let there = λ (w : List ℕ). is_some (attr w (attrs_in c.args.items.now)) in
+      subst (λ (ws : List (List ℕ)). list_all there ws ≡ true) c.needed.ensures
+      (none_missed there rows
+      (sym (find_from_yields_List (λ row. not (there row.0.now)) _ _ _ c.find.ensures.ran (YieldsList-from_slice rows cc) (λ x b q k. search (rules, tests)))
+      ∙ ap (option_map (λ (r : Bor (Bor (List ℕ) × Bor (List ℕ))). r.now)) c.in_default.is));
   anew = c.is_numbered_twice.ensures.anew c.if-is_numbered_twice.false;
 }

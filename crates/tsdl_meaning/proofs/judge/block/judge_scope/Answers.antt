@@ -1,9 +1,11 @@
-use Rattle.std.proofs.Common.{◌≡◌, ℕ, arith, List, [], ◌∷◌, ◌++◌, Some, sym, subst, length-append}
-use Rattle.tsdl_meaning.proofs.TextWords.{AreNamed, Atom, ScopeRule, StopsWhere, mark, name_toks, rule_in, scope_toks, struct_toks, words_of}
+use Rattle.std.proofs.Common.{◌≡◌, ℕ, arith, List, [], ◌∷◌, ◌++◌, Some, Bor, option_map, sym, ap, ◌∙◌, subst, length-append, rules, tests}
+use Rattle.std.proofs.lemmas.Iterator.{YieldsList-from_slice}
+use Rattle.std.proofs.lemmas.Iterator.Search.{find_from_yields_List}
+use Rattle.tsdl_meaning.proofs.TextWords.{AreNamed, Atom, ScopeRule, StopsWhere, mark, name_toks, rule_in, same_words, scope_toks, struct_toks, texts_of, words_of}
 use Rattle.tsdl_grammar.specs.declared.token.Mark.TheVariants as marks
 use Rattle.tsdl_meaning.proofs.JudgedParts.{handed, stops_same}
 use Rattle.tsdl_meaning.proofs.StopsInNames.{named_behind}
-use Rattle.tsdl_meaning.proofs.JudgedScopes.{scope_parts, scope_opening, scope_rest}
+use Rattle.tsdl_meaning.proofs.JudgedScopes.{scope_parts, scope_opening, scope_rest, rule_found}
 use Rattle.tsdl_flaw.proofs.Parts.{stops_after}
 use Rattle.tsdl_meaning.proofs.judge.block.judge_scope.Goals as goal
 
@@ -48,8 +50,14 @@ pub returns-clause-flawless : goal.returns-clause-flawless
 returns-clause-flawless c = record {
   name = c.in_ok-add.ensures.flawless;
   flawless = record {
-    rule = c.in-Some.rule;
-    asks = subst (λ (rows : List (List (List ℕ) × ScopeRule)). rule_in rows (words_of c.args.scope.now.name) ≡ Some c.in-Some.rule) c.scopes_of.ensures (sym c.in-Some.ensures);
+    rule = c.in-Some.row.now.1;
+    asks =
+        let rows = c.scopes_of.result.now in
+        let n = words_of c.args.scope.now.name in
+        subst (λ (named : List (List (List ℕ) × ScopeRule)). rule_in named n ≡ Some c.in-Some.row.now.1) c.scopes_of.ensures
+        (rule_found n rows c.in-Some.row.now
+        (sym (find_from_yields_List (λ r. same_words n (texts_of r.0.now)) _ _ _ c.find.ensures.ran (YieldsList-from_slice rows cc) (λ x b q k. search (rules, tests)))
+        ∙ ap (option_map (λ (r : Bor (Bor (List (Bor (List ℕ))) × ScopeRule)). r.now)) c.in-Some.is));
     flawless = c.in_ok-judge_structure.ensures.flawless;
   };
 }

@@ -1,9 +1,6 @@
-use Rattle.std.proofs.Common.{◌≡◌, ◌++◌, length}
+use Rattle.std.proofs.Common.{◌≡◌, ◌++◌, drop}
 use Rattle.tsdl_meaning.specs.NotedBlocks.{names_in}
 use Rattle.tsdl_meaning.proofs.judge.blocks_survey.add_names.Given as goal
 
-abbrev pub invariant-loop-rest : goal.invariant-loop-rest
-invariant-loop-rest l = l.names ++ names_in l.rest ≡ l.fn.names ++ names_in l.items
-
-abbrev pub decreases-loop-rest : goal.decreases-loop-rest
-decreases-loop-rest l = length l.rest
+abbrev pub invariant-loop-item : goal.invariant-loop-item
+invariant-loop-item l = l.names ++ names_in (drop l.item-index l.items) ≡ l.fn.names ++ names_in l.items

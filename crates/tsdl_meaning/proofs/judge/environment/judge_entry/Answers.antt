@@ -12,7 +12,7 @@ pub returns-then-has_fact-clause-fault : goal.returns-then-has_fact-clause-fault
 returns-then-has_fact-clause-fault c = λ front behind ends.
     let fact = c.args.fact.now in
     whole front (word fact.name ∷ mark marks.Equals ∷ []) ((fact_toks fact.fact ++ mark marks.Semicolon ∷ []) ++ behind)
-    (record { at = c.args.at; end = c.saturating_add-behind.result; flaw = flaws.Duplicate }) c.args.at c.saturating_add-behind.result refl refl (λ some fits. omega arith)
+    (record { at = c.args.at; end = c.saturating_add-end.result; flaw = flaws.Duplicate }) c.args.at c.saturating_add-end.result refl refl (λ some fits. omega arith)
     (fact_twice fact.name c.args.before.now front (sym c.has_fact.ensures ∙ c.if-has_fact.true) ends)
 
 pub returns-then-before-ge-MAX_ENVIRONMENT-clause-fault : goal.returns-then-before-ge-MAX_ENVIRONMENT-clause-fault
@@ -24,10 +24,10 @@ returns-then-before-ge-MAX_ENVIRONMENT-clause-fault c = λ front behind ends.
 pub returns-clause-fault : goal.returns-clause-fault
 returns-clause-fault c =
     let fact = c.args.fact.now in
-    err_from c.judge_fact.result (StopsAmong c.saturating_add-behind.result (fact_toks fact.fact)) (StopsWhere (EndsFacts c.args.before.now) c.args.at (named_fact_toks fact))
+    err_from c.judge_fact.result (StopsAmong c.saturating_add-end.result (fact_toks fact.fact)) (StopsWhere (EndsFacts c.args.before.now) c.args.at (named_fact_toks fact))
     (λ stop h front behind ends.
     let opening = word fact.name ∷ mark marks.Equals ∷ [] in
-    stops_after front (named_fact_toks fact ++ behind) opening (fact_toks fact.fact ++ mark marks.Semicolon ∷ behind) c.args.at c.saturating_add-behind.result stop (simp append_assoc)
+    stops_after front (named_fact_toks fact ++ behind) opening (fact_toks fact.fact ++ mark marks.Semicolon ∷ behind) c.args.at c.saturating_add-end.result stop (simp append_assoc)
     (λ fits. omega arith) (h (front ++ opening) (mark marks.Semicolon ∷ behind)))
     c.judge_fact.ensures.fault
 

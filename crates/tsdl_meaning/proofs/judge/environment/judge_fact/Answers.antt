@@ -3,6 +3,6 @@ use Rattle.tsdl_grammar.specs.declared.tree.Fact.{Fact}
 use Rattle.tsdl_meaning.proofs.TextWords.{StopsIn, fact_toks}
 use Rattle.tsdl_meaning.proofs.judge.environment.judge_fact.Goals as goal
 
-pub returns-in-None-clause-fault : goal.returns-in-None-clause-fault
-returns-in-None-clause-fault c = λ front behind.
+pub returns-in-Number-clause-fault : goal.returns-in-Number-clause-fault
+returns-in-Number-clause-fault c = λ front behind.
     subst (λ (f : Fact). StopsIn front c.args.at (fact_toks f ++ behind) c.expected.result) (sym c.in-Number.is) (c.expected.ensures front behind)

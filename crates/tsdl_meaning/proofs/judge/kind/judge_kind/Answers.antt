@@ -1,8 +1,10 @@
-use Rattle.std.proofs.Common.{IsSome, List, subst}
+use Rattle.std.proofs.Common.{IsSome, List, ◌∷◌, ◌++◌, subst}
+use Rattle.tsdl_meaning.proofs.TextWords.{AreRanges, Attribute, Entry, IsBehindBrace, StopsAmong, StopsWhere, entry_toks, flat_map, int_meaning, int_toks, kind_meaning, kind_toks, next_entry_toks}
+use Rattle.tsdl_grammar.specs.declared.tree.Entries.TheVariants as entries
 use Rattle.tsdl_grammar.specs.declared.tree.Kind.TheVariants as kinds
-use Rattle.tsdl_meaning.proofs.TextWords.{Attribute, kind_meaning}
-use Rattle.tsdl_meaning.proofs.JudgedParts.{ok_map}
-use Rattle.tsdl_meaning.proofs.FlawlessTypes.{bare_string}
+use Rattle.tsdl_meaning.proofs.JudgedParts.{ok_map, handed, err_from}
+use Rattle.tsdl_meaning.proofs.FlawlessTypes.{bare_string, int_means, ranges_mean, no_ranges}
+use Rattle.tsdl_meaning.proofs.StopsInKinds.{in_integer, in_ranges}
 use Rattle.tsdl_meaning.proofs.judge.kind.judge_kind.Goals as goal
 
 pub returns-in-Integer-clause-meant : goal.returns-in-Integer-clause-meant
@@ -13,3 +15,46 @@ returns-in-Integer-clause-meant c =
 
 pub returns-in-None-clause-meant : goal.returns-in-None-clause-meant
 returns-in-None-clause-meant c = rw (c.in-Text.is, c.in-None.is) (bare_string c.args.survey.now.known)
+
+pub returns-in_err-judge_attributes-in-Enumeration-clause-fault : goal.returns-in_err-judge_attributes-in-Enumeration-clause-fault
+returns-in_err-judge_attributes-in-Enumeration-clause-fault c =
+    let stop = c.in_err-judge_attributes-in-Enumeration.field-0.0 in
+    rw c.in-Enumeration.is
+    (handed c.from_residual.result stop (StopsAmong c.args.at (kind_toks (kinds.Enumeration c.in-Enumeration.attributes c.in-Enumeration.entries))) c.from_residual.ensures.1
+    (λ front behind.
+    in_integer c.in-Enumeration.attributes c.in-Enumeration.entries front behind c.args.at c.saturating_add-integer.result stop c.saturating_add-integer.ensures
+    (subst (λ (l : List Attribute). StopsAmong c.saturating_add-integer.result (int_toks l) stop) c.as_slice-in-Enumeration.ensures c.in_err-judge_attributes-in-Enumeration.ensures.fault)))
+
+pub returns-in-Listed-clause-fault : goal.returns-in-Listed-clause-fault
+returns-in-Listed-clause-fault c =
+    let attrs = c.in-Enumeration.attributes in
+    let first = c.in-Listed.first in
+    let others = c.in-Listed.others in
+    let place = c.saturating_add.result in
+    rw (c.in-Enumeration.is, c.in-Listed.is)
+    (err_from c.judge_ranges.result (StopsWhere IsBehindBrace place (entry_toks first ++ flat_map next_entry_toks c.as_slice-in-Listed.result.now))
+    (StopsAmong c.args.at (kind_toks (kinds.Enumeration attrs (entries.Listed first others c.in-Listed.field-2))))
+    (λ s h front behind.
+    in_ranges attrs first others c.in-Listed.field-2 front behind c.args.at c.saturating_add-integer.result c.length.result c.saturating_add-passed.result place s c.saturating_add-integer.ensures
+    c.length.ensures c.saturating_add-passed.ensures c.saturating_add.ensures
+    (subst (λ (l : List Entry). StopsWhere IsBehindBrace place (entry_toks first ++ flat_map next_entry_toks l) s) c.as_slice-in-Listed.ensures h))
+    c.judge_ranges.ensures.fault)
+
+pub returns-in-Listed-clause-meant : goal.returns-in-Listed-clause-meant
+returns-in-Listed-clause-meant c =
+    let known = c.args.survey.now.known in
+    let attrs = c.in-Enumeration.attributes in
+    let first = c.in-Listed.first in
+    let int = subst (λ (l : List Attribute). IsSome (int_meaning known l)) c.as_slice-in-Enumeration.ensures (int_means known _ c.in_ok-judge_attributes-in-Enumeration.ensures.meant) in
+    rw (c.in-Enumeration.is, c.in-Listed.is)
+    (ok_map c.judge_ranges.result (λ x. AreRanges (first ∷ c.as_slice-in-Listed.result.now)) (λ x. IsSome (kind_meaning known (kinds.Enumeration attrs (entries.Listed first c.in-Listed.others c.in-Listed.field-2))))
+    (λ x h.
+    ranges_mean known attrs (entries.Listed first c.in-Listed.others c.in-Listed.field-2) int
+    (subst (λ (l : List Entry). AreRanges (first ∷ l)) c.as_slice-in-Listed.ensures h))
+    c.judge_ranges.ensures.meant)
+
+pub returns-in-Empty-clause-meant : goal.returns-in-Empty-clause-meant
+returns-in-Empty-clause-meant c =
+    let known = c.args.survey.now.known in
+    let int = subst (λ (l : List Attribute). IsSome (int_meaning known l)) c.as_slice-in-Enumeration.ensures (int_means known _ c.in_ok-judge_attributes-in-Enumeration.ensures.meant) in
+    rw (c.in-Enumeration.is, c.in-Empty.is) (ranges_mean known c.in-Enumeration.attributes entries.Empty int no_ranges)

@@ -2,9 +2,10 @@ use Rattle.std.proofs.Common.{arith, List, [], ◌∷◌, ◌++◌, take, refl, 
 use Rattle.std.proofs.lemmas.List.{append-nil, take_all}
 use Rattle.tsdl_meaning.proofs.TextWords.{AreNoted, Atom, Block, StandsBehind, StopsIn, block_and_semicolon, block_toks, mark, text_toks}
 use Rattle.tsdl_grammar.specs.declared.token.Mark.TheVariants as marks
-use Rattle.tsdl_meaning.proofs.JudgedParts.{handed, stops_same, stops_item}
+use Rattle.tsdl_meaning.proofs.JudgedParts.{handed, holds_last, stops_same, stops_item}
+use Rattle.tsdl_meaning.proofs.JudgedEnds.{at_end}
 use Rattle.tsdl_meaning.proofs.JudgedLedgers.{noted_more}
-use Rattle.tsdl_meaning.proofs.FlawlessTexts.{Text, next_block, no_blocks, sizes_missed, sizes_end}
+use Rattle.tsdl_meaning.proofs.FlawlessTexts.{Text, next_block, no_blocks, sizes_missed}
 use Rattle.tsdl_flaw.proofs.Parts.{behind_more, flat_next}
 use Rattle.tsdl_meaning.proofs.judge.text.judge_blocks.Goals as goal
 
@@ -15,7 +16,7 @@ returns-in_err-judge_block-clause-fault c =
     let b = c.block-item.result in
     let toks = text_toks blocks in
     let before = text_toks (take i blocks) in
-    let next = c.loop-block.next in
+    let next = c.loop-block.at in
     let stop = c.in_err-judge_block.field-0.0 in
     handed c.from_residual.result stop (StopsIn [] 0 toks) c.from_residual.ensures.1
     (stops_item block_and_semicolon blocks i b [] toks [] [] 0 next stop (omega arith) c.block-item.is (sym (append-nil toks)) c.loop-block.invariant.place
@@ -34,34 +35,35 @@ loop-block-preserved c =
     let e = append_assoc before (block_toks b) closing ∙ sym (flat_next block_and_semicolon blocks i b (omega arith) c.block-item.is) in
     record {
       place =
-          subst (λ (l : List Atom). StandsBehind 0 l c.saturating_add-next.result) e
-          (behind_more (before ++ block_toks b) closing 0 c.saturating_add.result 1 c.saturating_add-next.result
-          (behind_more before (block_toks b) 0 c.loop-block.next c.length.result c.saturating_add.result c.loop-block.invariant.place c.length.ensures c.saturating_add.ensures)
-          (λ h. refl) c.saturating_add-next.ensures);
+          subst (λ (l : List Atom). StandsBehind 0 l c.saturating_add-at.result) e
+          (behind_more (before ++ block_toks b) closing 0 c.saturating_add.result 1 c.saturating_add-at.result
+          (behind_more before (block_toks b) 0 c.loop-block.at c.length.result c.saturating_add.result c.loop-block.invariant.place c.length.ensures c.saturating_add.ensures)
+          (λ h. refl) c.saturating_add-at.ensures);
       noted =
-          subst (λ (l : List Atom). AreNoted l c.judge_block.new.ledger) e
-          (noted_more (before ++ block_toks b) closing c.judge_block.new.ledger (c.in_ok-judge_block.ensures.noted before c.loop-block.invariant.noted));
+          subst (λ (l : List Atom). AreNoted l c.add.new.self) e
+          (noted_more (before ++ block_toks b) closing c.add.new.self (c.in_ok-add.ensures.noted (before ++ block_toks b) (noted_more before (block_toks b) c.loop-block.ledger c.loop-block.invariant.noted) (holds_last before (block_toks b))));
       text =
-          next_block c.args.survey.now.known c.loop-block.ledger c.judge_block.new.ledger blocks i b (omega arith) c.block-item.is c.loop-block.invariant.text
-          c.in_ok-judge_block.ensures.flawless c.in_ok-judge_block.ensures.adds;
+          next_block c.args.survey.now.known c.loop-block.ledger c.add.new.self blocks i b (omega arith) c.block-item.is c.loop-block.invariant.text
+          c.in_ok-judge_block.ensures.flawless c.in_ok-add.ensures.adds;
     }
 
 pub returns-clause-end : goal.returns-clause-end
 returns-clause-end c =
     let blocks = c.args.blocks.now in
     let toks = text_toks blocks in
-    let next = c.loop-block.next in
+    let next = c.loop-block.at in
     let place : StandsBehind 0 toks next =
     subst (λ (bs : List Block). StandsBehind 0 (text_toks bs) next) (take_all c.loop-block.block-index blocks (omega arith)) c.loop-block.invariant.place
     in
-    c.stop_at_end.ensures.stops toks (λ bound. let e = place (omega arith) in omega arith)
+    λ bound. at_end toks next c.in_ok-flaw.flaw (let e = place (omega arith) in omega arith) c.in_ok-flaw.ensures.kind
 
 pub loop-block-init : goal.loop-block-init
 loop-block-init c = record { place = λ fits. refl; noted = c.new-ledger.ensures.noted []; text = no_blocks c.args.survey.now.known c.new-ledger.result c.new-ledger.ensures.empty }
 
 pub returns-clause-sizes : goal.returns-clause-sizes
-returns-clause-sizes c = λ surveys none bounded.
+returns-clause-sizes c = λ surveys none bounded kind.
     let blocks = c.args.blocks.now in
     let known = c.args.survey.now.known in
     let text = subst (λ (bs : List Block). Text known c.loop-block.ledger bs) (take_all c.loop-block.block-index blocks (omega arith)) c.loop-block.invariant.text in
-    sizes_end blocks c.stop_at_end.result _ c.stop_at_end.ensures.complete (λ complete. sizes_missed known c.loop-block.ledger blocks text complete.0 complete.1 surveys none)
+    let complete = c.in_ok-flaw.ensures.complete kind in
+    sizes_missed known c.loop-block.ledger blocks text complete.0 complete.1 surveys none

@@ -7,4 +7,4 @@ use Rattle.tsdl_meaning.proofs.judge.text.judge_blocks.Given as goal
 abbrev pub invariant-loop-block : goal.invariant-loop-block
 invariant-loop-block l =
     let before = text_toks (take l.block-index l.blocks) in
-    record { place : StandsBehind 0 before l.next; noted : AreNoted before l.ledger; text : Text l.survey.known l.ledger (take l.block-index l.blocks) }
+    record { place : StandsBehind 0 before l.at; noted : AreNoted before l.ledger; text : Text l.survey.known l.ledger (take l.block-index l.blocks) }

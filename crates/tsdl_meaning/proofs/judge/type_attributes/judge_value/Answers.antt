@@ -2,7 +2,6 @@ use Rattle.std.proofs.Common.{◌≡◌, ℕ, List, Some, [], ◌∷◌, ◌++�
 use Rattle.tsdl_grammar.specs.declared.token.Mark.TheVariants as marks
 use Rattle.tsdl_meaning.proofs.TextWords.{Atom, Ends, IsBehindName, IsBehindWord, StopsWhere, mark, one_word, value_toks}
 use Rattle.tsdl_meaning.proofs.BlockAttributes.{only_word}
-use Rattle.tsdl_meaning.proofs.HandedOn.{any_front}
 use Rattle.tsdl_meaning.proofs.JudgedParts.{err_from}
 use Rattle.tsdl_meaning.proofs.judge.type_attributes.judge_value.Goals as goal
 
@@ -14,5 +13,5 @@ returns-in-Integer-clause-fault c =
     err_from c.judge_integer.result (StopsWhere (IsBehindWord w) c.args.at (value_toks a.value)) (StopsWhere (IsBehindName a.name) c.args.at (value_toks a.value))
     (λ stop h front behind p. h front behind (subst (λ (l : List Atom). Ends front (l ++ mark marks.Equals ∷ [])) (only_word a.name w one) p)) c.judge_integer.ensures.fault
 
-pub returns-in-Text-clause-fault : goal.returns-in-Text-clause-fault
-returns-in-Text-clause-fault c = any_front c.judge_encoding.result (IsBehindName c.args.attribute.now.name) c.args.at (value_toks c.args.attribute.now.value) c.judge_encoding.ensures.fault
+pub returns-in-Text-2-clause-fault : goal.returns-in-Text-2-clause-fault
+returns-in-Text-2-clause-fault c = λ front behind stands. c.unread.ensures front behind
