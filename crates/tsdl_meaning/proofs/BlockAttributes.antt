@@ -1,12 +1,13 @@
--- Stops in the attributes of blocks.
-use Rattle.std.proofs.Common.{◌≡◌, ℕ, ◌+◌, List, [], ◌∷◌, ◌++◌, Some, None, min, refl, sym, ap, ◌∙◌, subst, inl, inr, arith, append_assoc, codes, Result}
-use Rattle.tsdl_meaning.proofs.TextWords.{AreNoted, Atom, Attribute, BlockKind, Ends, HasClock, HasStream, IfErr, IsAttribute, IsBegun, IsPartOfVersion, IsTwice, IsUnsupported, Item, Name, Stop, StopsIn, StopsWhere, Value, alone, attr_toks, begun, dotted, flat_map, mark, most, name_toks, name_value, natural_value, one_word, value_toks, word, word_of}
+-- The parts of a block where it is judged: its attributes, its scopes, its tables, and numbers that stand twice.
+use Rattle.std.proofs.Common.{◌≡◌, ℕ, ◌+◌, List, [], ◌∷◌, ◌++◌, Some, None, min, refl, sym, ap, ◌∙◌, subst, inl, inr, arith, append_assoc, codes, Result, Bool, true, false, not, ◌&&◌, cond, Option, Bor}
+use Rattle.tsdl_meaning.proofs.TextWords.{AreNoted, Atom, Attribute, BlockKind, Ends, HasClock, HasStream, IfErr, IsAttribute, IsBegun, IsPartOfVersion, IsTwice, IsUnsupported, Item, Name, Stop, StopsIn, StopsWhere, Value, alone, attr_toks, begun, dotted, flat_map, mark, most, name_toks, name_value, natural_value, one_word, value_toks, word, word_of, Scope, ScopeRule, first_texts, list_all, named_rules, rule_in, same_words, scope_toks, struct_toks, texts_of, HasEvent, HasNumbers, attr, attrs_in}
 use Rattle.tsdl_grammar.specs.declared.token.Mark.TheVariants as marks
 use Rattle.tsdl_grammar.specs.declared.tree.Value.TheVariants as values
 use Rattle.tsdl_meaning.specs.declared.judge.block.Judging.{Judging}
 use Rattle.tsdl_meaning.proofs.JudgedLedgers.{noted_more}
 use Rattle.tsdl_meaning.proofs.JudgedParts.{ends_more, ends_part, err_from}
 use Rattle.tsdl_flaw.proofs.Parts.{stops_after}
+use Rattle.std.specs.List.{find}
 
 -- ---- the value of an attribute
 
@@ -75,3 +76,57 @@ stream_twice (values.Name n) id front h has b = absurd (let e : None ≡ Some id
 pub clock_twice : (v : Value) (name : List ℕ) (front : List Atom) → name_value v ≡ Some name → HasClock front name → IsAttribute (codes "clock") (codes "name") front → IsTwice front (value_toks v)
 clock_twice v name front h (other, before, named) (items, ends) =
     inr (inr (inl (record { name = name; other = other; items = items; value = v; before = before; named = named; ends = ends; here = refl; same = h })))
+
+pub scope_parts : (s : Scope) (behind : List Atom) → scope_toks s ++ behind ≡ name_toks s.name ++ (mark marks.Assign ∷ (struct_toks s.structure ++ (mark marks.Semicolon ∷ behind)))
+scope_parts s behind =
+    let own = mark marks.Assign ∷ struct_toks s.structure in
+    append_assoc (name_toks s.name ++ own) (mark marks.Semicolon ∷ []) behind ∙ append_assoc (name_toks s.name) own (mark marks.Semicolon ∷ behind)
+
+-- a name with its mark, and the rest of the scope
+pub scope_opening : (s : Scope) (behind : List Atom) → scope_toks s ++ behind ≡ (name_toks s.name ++ (mark marks.Assign ∷ [])) ++ (struct_toks s.structure ++ (mark marks.Semicolon ∷ behind))
+scope_opening s behind = scope_parts s behind ∙ sym (append_assoc (name_toks s.name) (mark marks.Assign ∷ []) (struct_toks s.structure ++ (mark marks.Semicolon ∷ behind)))
+
+pub scope_rest : (s : Scope) → scope_toks s ≡ name_toks s.name ++ (mark marks.Assign ∷ (struct_toks s.structure ++ (mark marks.Semicolon ∷ [])))
+scope_rest s = append_assoc (name_toks s.name) (mark marks.Assign ∷ struct_toks s.structure) (mark marks.Semicolon ∷ [])
+
+-- where no row of a table is missed, each of its names is there
+pub none_missed : (there : List ℕ → Bool) (rows : List (Bor (List ℕ) × Bor (List ℕ))) → find (λ row. not (there row.0.now)) rows ≡ None → list_all there (first_texts rows) ≡ true
+none_missed there [] e = refl
+none_missed there (row ∷ rows) e = by (there row.0.now) row (find (λ r. not (there r.0.now)) rows) (list_all there (first_texts rows)) e (none_missed there rows)
+  where
+    by : {A : Type 0} (b : Bool) (x : A) (later : Option A) (all : Bool) → cond (not b) (Some x) later ≡ None → (later ≡ None → all ≡ true) → (b && all) ≡ true
+    by true x later all e h = h e
+    by false x later all e h = absurd cc
+
+-- the row of a scope says its rule
+pub rule_found : (n : List (List ℕ)) (rows : List (Bor (List (Bor (List ℕ))) × ScopeRule)) (row : Bor (List (Bor (List ℕ))) × ScopeRule)
+    → find (λ r. same_words n (texts_of r.0.now)) rows ≡ Some row → rule_in (named_rules rows) n ≡ Some row.1
+rule_found n [] row e = absurd cc
+rule_found n (r ∷ rows) row e = by (same_words n (texts_of r.0.now)) (find (λ x. same_words n (texts_of x.0.now)) rows) (rule_in (named_rules rows) n) e (rule_found n rows row)
+  where
+    by : (b : Bool) (later : Option (Bor (List (Bor (List ℕ))) × ScopeRule)) (rule : Option ScopeRule) → cond b (Some r) later ≡ Some row → (later ≡ Some row → rule ≡ Some row.1)
+        → cond b (Some r.1) rule ≡ Some row.1
+    by true later rule e h = cc
+    by false later rule e h = h e
+
+-- a stream without a number, behind one that has the number 0
+pub unnumbered_twice : (items : List Item) (front : List Atom) → Ends front (begun (codes "stream") items) → attr (codes "id") (attrs_in items) ≡ None → HasStream front 0
+    → IsTwice front (mark marks.CloseBrace ∷ [])
+unnumbered_twice items front ends none (other, before, numbered) =
+    inr (inr (inr (inl (record { id = 0; other = other; items = items; before = before; numbered = numbered; here = inr (ends, refl, none, refl) }))))
+
+-- an event whose numbers another has
+pub event_twice : (items : List Item) (numbers : ℕ × ℕ) (front : List Atom) → Ends front (begun (codes "event") items) → HasNumbers items numbers.0 numbers.1 → HasEvent front numbers
+    → IsTwice front (mark marks.CloseBrace ∷ [])
+event_twice items numbers front ends same (other, before, numbered) =
+    inr (inr (inr (inr (inl (record {
+      stream = numbers.0;
+      id = numbers.1;
+      other = other;
+      items = items;
+      before = before;
+      numbered = numbered;
+      ends = ends;
+      same = same;
+      here = refl;
+    })))))

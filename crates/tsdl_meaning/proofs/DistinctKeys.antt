@@ -1,9 +1,10 @@
 -- Lists of which no two items are the same, walked from the last item to the first.
-use Rattle.std.proofs.Common.{◌≡◌, Bool, true, false, not, cond, ◌&&◌, ◌||◌, List, [], ◌∷◌, ◌++◌, map, refl, sym, ap, ap₂, ◌∙◌}
+use Rattle.std.proofs.Common.{◌≡◌, Bool, true, false, not, cond, ◌&&◌, ◌||◌, List, [], ◌∷◌, ◌++◌, map, refl, sym, ap, ap₂, ◌∙◌, ℕ, Bor, nat_cmp}
 use Rattle.std.proofs.lemmas.Bool.{not-true}
-use Rattle.tsdl_meaning.proofs.TextWords.{IsTotalOrder, eq_by_cmp, eq_by_cmp_equiv, is_at, list_any, no_two}
+use Rattle.tsdl_meaning.proofs.TextWords.{IsTotalOrder, eq_by_cmp, eq_by_cmp_equiv, is_at, list_any, no_two, are_distinct, bytes_eq, lists_ties, name_lists, pointwise, same_words, slice_cmp, texts_of, texts_ties, BTreeSet, Global, HasNames, String, contains_text, nat_list_eq_equiv}
 use Rattle.std.specs.declared.cmp.Ordering.{Ordering}
 use Rattle.tsdl_meaning.specs.Distinct.{no_two_before}
+use Rattle.std.specs.Global.{Vec}
 
 -- ---- tests
 
@@ -86,3 +87,27 @@ or_swap true true = refl
 or_swap true false = refl
 or_swap false true = refl
 or_swap false false = refl
+
+pub distinct_texts : (words : List (Bor (List ℕ))) (texts : List (List ℕ)) → texts_of words ≡ texts → no_two (eq_by_cmp (λ x y. slice_cmp nat_cmp x.now y.now)) words ≡ no_two bytes_eq texts
+distinct_texts words texts e =
+    no_two_seen (eq_by_cmp (λ x y. slice_cmp nat_cmp x.now y.now)) bytes_eq (λ w. w.now) words (λ x y. sym (texts_ties x.now y.now)) ∙ ap (no_two bytes_eq) e
+
+same_texts : (xs ys : List (Bor (List ℕ))) → pointwise (λ v w. bytes_eq v.now w.now) xs ys ≡ same_words (texts_of xs) (texts_of ys)
+same_texts [] [] = refl
+same_texts [] (y ∷ ys) = refl
+same_texts (x ∷ xs) [] = refl
+same_texts (x ∷ xs) (y ∷ ys) = ap (λ (b : Bool). bytes_eq x.now y.now && b) (same_texts xs ys)
+
+pub distinct_names : (names : Vec (Vec (Bor (List ℕ)))) (ns : List (List (List ℕ))) → name_lists names ≡ ns
+    → no_two (eq_by_cmp (λ x y. slice_cmp (λ v w. slice_cmp nat_cmp v.now w.now) x.items y.items)) names.items ≡ are_distinct ns
+distinct_names names ns e =
+    no_two_seen (eq_by_cmp (λ x y. slice_cmp (λ v w. slice_cmp nat_cmp v.now w.now) x.items y.items)) same_words (λ n. texts_of n.items) names.items
+    (λ x y. sym (lists_ties (λ v w. slice_cmp nat_cmp v.now w.now) (λ v w. texts_ties v.now w.now) x.items y.items) ∙ same_texts x.items y.items)
+    ∙ ap are_distinct e
+
+-- one more name
+pub one_name : (old new : BTreeSet (String Global)) (before names : List (List ℕ)) (name : List ℕ) → names ≡ before ++ name ∷ [] → HasNames old before
+    → ((w : List ℕ) → contains_text new w ≡ cond (bytes_eq name w) true (contains_text old w)) → HasNames new names
+one_name old new before names name e h u w =
+    u w ∙ or_swap (bytes_eq name w) (contains_text old w) ∙ ap (λ (b : Bool). contains_text old w || b) (nat_list_eq_equiv.symm name w) ∙ ap (λ (b : Bool). b || bytes_eq w name) (h w)
+    ∙ sym (any_behind (bytes_eq w) before name) ∙ ap (list_any (bytes_eq w)) (sym e)

@@ -1,13 +1,15 @@
--- The entries of an environment, one behind the other.
-use Rattle.std.proofs.Common.{◌≡◌, ℕ, ◌+◌, ◌<◌, ◌≤◌, Bool, true, false, ◌&&◌, List, [], ◌∷◌, ◌++◌, map, length, take, get_or, Option, Some, refl, sym, ap, subst, ◌∙◌, arith, length-append}
-use Rattle.std.proofs.lemmas.Bool.{and_from, or_parts}
+-- The entries of an environment: what those without a flaw mean, and names that stand twice.
+use Rattle.std.proofs.Common.{◌≡◌, ℕ, ◌+◌, ◌<◌, ◌≤◌, Bool, true, false, ◌&&◌, List, [], ◌∷◌, ◌++◌, map, length, take, get_or, Option, Some, refl, sym, ap, subst, ◌∙◌, arith, length-append, ◌||◌, inl, inr, append_assoc, bytes_eq}
+use Rattle.std.proofs.lemmas.Bool.{and_from, or_parts, cases_Bool}
 use Rattle.std.specs.Prelude.{nat_le}
-use Rattle.tsdl_meaning.proofs.TextWords.{AddsFact, AllByRecursion, EnvironmentEntry, MeanEntries, NamedFact, bytes_eq, each, environment_meaning, fact_meaning, list_any, named_fact_meaning, nat_list_eq_equiv, no_two, option_map, provided, ◌>>=◌}
+use Rattle.tsdl_meaning.proofs.TextWords.{AddsFact, AllByRecursion, EnvironmentEntry, MeanEntries, NamedFact, bytes_eq, each, environment_meaning, fact_meaning, list_any, named_fact_meaning, nat_list_eq_equiv, no_two, option_map, provided, ◌>>=◌, Atom, EndsFacts, Holds, IsTwice, fact_toks, flat_map, mark, named_fact_toks, word}
 use Rattle.std.proofs.lemmas.Bool.Decides.{nat_tests}
 use Rattle.std.proofs.lemmas.List.{map-append, take_more}
 use Rattle.tsdl_grammar.proofs.Inversion.{bind_some, bind_is, some_same}
 use Rattle.tsdl_meaning.proofs.FlawlessNames.{no_two_more}
 use Rattle.tsdl_meaning.proofs.FlawlessValues.{some_is}
+use Rattle.std.proofs.lemmas.Slice.Eq.{bytes_eq-Decides}
+use Rattle.tsdl_grammar.specs.declared.token.Mark.TheVariants as marks
 
 -- what is made of one more item
 pub each_more : {A B : Type 0} (f : A → Option B) (xs : List A) (ys : List B) (x : A) (y : B) → each f xs ≡ Some ys → f x ≡ Some y → each f (xs ++ x ∷ []) ≡ Some (ys ++ y ∷ [])
@@ -61,3 +63,31 @@ facts_mean facts s =
     let few : nat_le (length facts) 256 ≡ true = grind (arith, nat_tests) in
     let both : (nat_le (length facts) 256 && no_two bytes_eq (map (λ f. f.name) facts)) ≡ true = and_from (nat_le (length facts) 256) (no_two bytes_eq (map (λ f. f.name) facts)) few s.once in
     (s.entries, ap (λ (b : Bool). provided b (each named_fact_meaning facts)) both ∙ s.mean)
+
+-- an entry that has a name stands among the others
+fact_among : (w : List ℕ) (facts : List NamedFact) → list_any (bytes_eq w) (map (λ f. f.name) facts) ≡ true → Holds (flat_map named_fact_toks facts) (word w ∷ mark marks.Equals ∷ [])
+fact_among w [] h = absurd (let e : false ≡ true = h in cc)
+fact_among w (f ∷ fs) h = elim (cases_Bool (bytes_eq w f.name)) [
+  | inl e ↦
+      let same : w ≡ f.name = (bytes_eq-Decides w f.name).0 e in
+      subst (λ (n : List ℕ). Holds (flat_map named_fact_toks (f ∷ fs)) (word n ∷ mark marks.Equals ∷ [])) (sym same)
+      ([], (fact_toks f.fact ++ mark marks.Semicolon ∷ []) ++ flat_map named_fact_toks fs, refl)
+  | inr e ↦
+      let others : Holds (flat_map named_fact_toks fs) (word w ∷ mark marks.Equals ∷ []) = fact_among w fs (ap (λ (b : Bool). b || list_any (bytes_eq w) (map (λ f. f.name) fs)) (sym e) ∙ h) in (
+        named_fact_toks f ++ others.0,
+        others.1,
+        ap (λ (l : List Atom). named_fact_toks f ++ l) others.2 ∙ sym (append_assoc (named_fact_toks f) others.0 ((word w ∷ mark marks.Equals ∷ []) ++ others.1)),
+      )
+]
+
+pub fact_twice : (w : List ℕ) (facts : List NamedFact) (front : List Atom) → list_any (bytes_eq w) (map (λ f. f.name) facts) ≡ true → EndsFacts facts front
+    → IsTwice front (word w ∷ mark marks.Equals ∷ [])
+fact_twice w facts front h (others, e) =
+    let among = fact_among w facts h in
+    let here : Holds front (word w ∷ mark marks.Equals ∷ []) = (
+      others ++ mark marks.OpenBrace ∷ among.0,
+      among.1,
+      e ∙ ap (λ (l : List Atom). others ++ mark marks.OpenBrace ∷ l) among.2 ∙ sym (append_assoc others (mark marks.OpenBrace ∷ among.0) ((word w ∷ mark marks.Equals ∷ []) ++ among.1)),
+    )
+    in
+    inl (record { name = record { first = w; rest = [] }; other = record { first = w; rest = [] }; behind = marks.Equals; same = refl; before = here; here = refl })

@@ -16,7 +16,7 @@ use Rattle.tsdl_meaning.proofs.MemberNames.{contains_first, contains_later}
 use Rattle.tsdl_meaning.proofs.FlawlessNames.{and_left, and_right, all_more, all_weaker, flat_more, no_two_more}
 use Rattle.tsdl_meaning.proofs.FlawlessFacts.{each_more, no_facts, facts_mean}
 use Rattle.tsdl_meaning.proofs.FlawlessBlocks.{TraceOf, ClockOf, StreamOf, EventOf, trace_means, clock_means, stream_means, event_means}
-use Rattle.tsdl_meaning.proofs.NumberedItems.{numbers_order}
+use Rattle.tsdl_meaning.proofs.NumberOrder.{numbers_order}
 
 -- ---- clocks
 
@@ -165,67 +165,31 @@ pub record Parts (known : Known) (ledger : Ledger) (traces streams events clocks
 abbrev pub Text : Known → Ledger → List Block → Type 0
 Text known ledger bs = Parts known ledger (flat_map trace_in bs) (flat_map stream_in bs) (flat_map event_in bs) (flat_map clock_in bs) (flat_map environment_in bs)
 
-none_more : {A : Type 0} (P : List A → Type 0) (xs : List A) → P xs → P (xs ++ [])
-none_more P xs p = subst P (sym (append-nil xs)) p
-
-sized_more : (known : Known) (numbers : BTreeSet ℕ) (xs : List (List Item)) → (list_all has_sizes xs ≡ true → Streams known numbers xs) → list_all has_sizes (xs ++ []) ≡ true → Streams known numbers (xs ++ [])
-sized_more known numbers xs s = none_more (λ l. list_all has_sizes l ≡ true → Streams known numbers l) xs s
-
 abbrev Next : Known → Ledger → List Block → Block → Type 0
 Next known ledger bs b =
     Parts known ledger (flat_map trace_in bs ++ trace_in b) (flat_map stream_in bs ++ stream_in b) (flat_map event_in bs ++ event_in b) (flat_map clock_in bs ++ clock_in b) (flat_map environment_in bs ++ environment_in b)
 
 next : (known : Known) (ledger after : Ledger) (bs : List Block) (b : Block) → Text known ledger bs → IsFlawlessBehind known ledger b → AddsBlock ledger b after → Next known after bs b
 next known ledger after bs (blocks.Trace is) s f adds =
-    subst (λ (l : Ledger). Next known l bs (blocks.Trace is)) (sym adds) (record {
-      trace_seen = first_seen ledger.has_trace (flat_map trace_in bs) is f.0 s.trace_seen;
-      trace = all_more (TraceOf known) (flat_map trace_in bs) is s.trace (trace_means known ledger is f.1);
-      environment_seen = none_more (IsSeen ledger.has_environment) (flat_map environment_in bs) s.environment_seen;
-      environment = none_more (AllByRecursion MeanEntries) (flat_map environment_in bs) s.environment;
-      clocks_mean = none_more (Clocks ledger.clocks) (flat_map clock_in bs) s.clocks_mean;
-      streams_mean = sized_more known ledger.streams (flat_map stream_in bs) s.streams_mean;
-      events_mean = none_more (Events known ledger.events) (flat_map event_in bs) s.events_mean;
-    })
+    subst (λ (l : Ledger). Next known l bs (blocks.Trace is)) (sym adds)
+    (rw (append-nil (flat_map stream_in bs), append-nil (flat_map event_in bs), append-nil (flat_map clock_in bs), append-nil (flat_map environment_in bs))
+    (record { trace_seen = first_seen ledger.has_trace (flat_map trace_in bs) is f.0 s.trace_seen; trace = all_more (TraceOf known) (flat_map trace_in bs) is s.trace (trace_means known ledger is f.1); environment_seen = s.environment_seen; environment = s.environment; clocks_mean = s.clocks_mean; streams_mean = s.streams_mean; events_mean = s.events_mean }))
 next known ledger after bs (blocks.Stream is) s f adds =
-    subst (λ (l : Ledger). Next known l bs (blocks.Stream is)) (sym adds.others) (record {
-      trace_seen = none_more (IsSeen ledger.has_trace) (flat_map trace_in bs) s.trace_seen;
-      trace = none_more (AllByRecursion (TraceOf known)) (flat_map trace_in bs) s.trace;
-      environment_seen = none_more (IsSeen ledger.has_environment) (flat_map environment_in bs) s.environment_seen;
-      environment = none_more (AllByRecursion MeanEntries) (flat_map environment_in bs) s.environment;
-      clocks_mean = none_more (Clocks ledger.clocks) (flat_map clock_in bs) s.clocks_mean;
-      streams_mean = stream_more known ledger after (flat_map stream_in bs) is (stream_means known ledger is f) adds s.streams_mean;
-      events_mean = none_more (Events known ledger.events) (flat_map event_in bs) s.events_mean;
-    })
+    subst (λ (l : Ledger). Next known l bs (blocks.Stream is)) (sym adds.others)
+    (rw (append-nil (flat_map trace_in bs), append-nil (flat_map event_in bs), append-nil (flat_map clock_in bs), append-nil (flat_map environment_in bs))
+    (record { trace_seen = s.trace_seen; trace = s.trace; environment_seen = s.environment_seen; environment = s.environment; clocks_mean = s.clocks_mean; streams_mean = stream_more known ledger after (flat_map stream_in bs) is (stream_means known ledger is f) adds s.streams_mean; events_mean = s.events_mean }))
 next known ledger after bs (blocks.Event is) s f adds =
-    subst (λ (l : Ledger). Next known l bs (blocks.Event is)) (sym adds.others) (record {
-      trace_seen = none_more (IsSeen ledger.has_trace) (flat_map trace_in bs) s.trace_seen;
-      trace = none_more (AllByRecursion (TraceOf known)) (flat_map trace_in bs) s.trace;
-      environment_seen = none_more (IsSeen ledger.has_environment) (flat_map environment_in bs) s.environment_seen;
-      environment = none_more (AllByRecursion MeanEntries) (flat_map environment_in bs) s.environment;
-      clocks_mean = none_more (Clocks ledger.clocks) (flat_map clock_in bs) s.clocks_mean;
-      streams_mean = sized_more known ledger.streams (flat_map stream_in bs) s.streams_mean;
-      events_mean = event_more known ledger after (flat_map event_in bs) is (event_means known ledger is f) s.events_mean adds;
-    })
+    subst (λ (l : Ledger). Next known l bs (blocks.Event is)) (sym adds.others)
+    (rw (append-nil (flat_map trace_in bs), append-nil (flat_map stream_in bs), append-nil (flat_map clock_in bs), append-nil (flat_map environment_in bs))
+    (record { trace_seen = s.trace_seen; trace = s.trace; environment_seen = s.environment_seen; environment = s.environment; clocks_mean = s.clocks_mean; streams_mean = s.streams_mean; events_mean = event_more known ledger after (flat_map event_in bs) is (event_means known ledger is f) s.events_mean adds }))
 next known ledger after bs (blocks.Clock is) s f adds =
-    subst (λ (l : Ledger). Next known l bs (blocks.Clock is)) (sym adds.others) (record {
-      trace_seen = none_more (IsSeen ledger.has_trace) (flat_map trace_in bs) s.trace_seen;
-      trace = none_more (AllByRecursion (TraceOf known)) (flat_map trace_in bs) s.trace;
-      environment_seen = none_more (IsSeen ledger.has_environment) (flat_map environment_in bs) s.environment_seen;
-      environment = none_more (AllByRecursion MeanEntries) (flat_map environment_in bs) s.environment;
-      clocks_mean = clock_more ledger after (flat_map clock_in bs) is (clock_means known ledger is f) s.clocks_mean adds;
-      streams_mean = sized_more known ledger.streams (flat_map stream_in bs) s.streams_mean;
-      events_mean = none_more (Events known ledger.events) (flat_map event_in bs) s.events_mean;
-    })
+    subst (λ (l : Ledger). Next known l bs (blocks.Clock is)) (sym adds.others)
+    (rw (append-nil (flat_map trace_in bs), append-nil (flat_map stream_in bs), append-nil (flat_map event_in bs), append-nil (flat_map environment_in bs))
+    (record { trace_seen = s.trace_seen; trace = s.trace; environment_seen = s.environment_seen; environment = s.environment; clocks_mean = clock_more ledger after (flat_map clock_in bs) is (clock_means known ledger is f) s.clocks_mean adds; streams_mean = s.streams_mean; events_mean = s.events_mean }))
 next known ledger after bs (blocks.Environment facts) s f adds =
-    subst (λ (l : Ledger). Next known l bs (blocks.Environment facts)) (sym adds) (record {
-      trace_seen = none_more (IsSeen ledger.has_trace) (flat_map trace_in bs) s.trace_seen;
-      trace = none_more (AllByRecursion (TraceOf known)) (flat_map trace_in bs) s.trace;
-      environment_seen = first_seen ledger.has_environment (flat_map environment_in bs) facts f.0 s.environment_seen;
-      environment = all_more MeanEntries (flat_map environment_in bs) facts s.environment f.1;
-      clocks_mean = none_more (Clocks ledger.clocks) (flat_map clock_in bs) s.clocks_mean;
-      streams_mean = sized_more known ledger.streams (flat_map stream_in bs) s.streams_mean;
-      events_mean = none_more (Events known ledger.events) (flat_map event_in bs) s.events_mean;
-    })
+    subst (λ (l : Ledger). Next known l bs (blocks.Environment facts)) (sym adds)
+    (rw (append-nil (flat_map trace_in bs), append-nil (flat_map stream_in bs), append-nil (flat_map event_in bs), append-nil (flat_map clock_in bs))
+    (record { trace_seen = s.trace_seen; trace = s.trace; environment_seen = first_seen ledger.has_environment (flat_map environment_in bs) facts f.0 s.environment_seen; environment = all_more MeanEntries (flat_map environment_in bs) facts s.environment f.1; clocks_mean = s.clocks_mean; streams_mean = s.streams_mean; events_mean = s.events_mean }))
 
 pub block_more : (known : Known) (ledger after : Ledger) (bs : List Block) (b : Block) → Text known ledger bs → IsFlawlessBehind known ledger b → AddsBlock ledger b after → Text known after (bs ++ b ∷ [])
 block_more known ledger after bs b s f adds =

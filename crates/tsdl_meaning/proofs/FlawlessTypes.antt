@@ -1,7 +1,7 @@
 -- Integers, enumerations and strings without a flaw mean something.
 use Rattle.std.proofs.Common.{◌≡◌, ℕ, ◌+◌, ◌<◌, ◌%◌, ◌==◌, Bool, true, false, cond, ◌&&◌, ◌||◌, List, [], ◌∷◌, ◌++◌, length, take, get_or, Option, Some, None, IsSome, Bor, ℤ, pos, negsuc, refl, sym, ap, subst, ◌∙◌, arith, length-append, length-take}
 use Rattle.std.specs.Prelude.{codes, nat_lt, nat_le, int_le}
-use Rattle.tsdl_meaning.proofs.TextWords.{AddsOwn, AreRanges, Asked, Attribute, BTreeSet, ByteOrder, Entries, Entry, Global, Known, Number, String, Value, are_distinct, attr, attr_names, base_value, bytes_eq, clock_value, default_align, encoding_value, entries_of, entry_meaning, enum_meaning, flag_value, fits, has_only, high_of, int_attrs, int_meaning, is_alignment, is_among, is_fit, is_size, is_some, kind_meaning, list_all, list_any, natural_value, of_integer, of_string, option_map, option_map_or, order_value, order_words, own_asked, own_attrs, passes, provided, signed_of, string_attrs, text_meaning, tree_of, with_default, word_value, words_of, ◌>>=◌}
+use Rattle.tsdl_meaning.proofs.TextWords.{AddsOwn, AreRanges, Asked, Attribute, BTreeSet, ByteOrder, Entries, Entry, Global, Known, Number, String, Value, are_distinct, attr, attr_names, base_value, bytes_eq, clock_value, default_align, encoding_value, entries_of, entry_meaning, enum_meaning, flag_value, has_only, high_of, int_attrs, int_meaning, is_alignment, is_among, is_fit, is_size, is_some, kind_meaning, list_all, list_any, natural_value, of_integer, of_string, option_map, option_map_or, order_value, order_words, own_asked, own_attrs, provided, signed_of, string_attrs, text_meaning, tree_of, with_default, word_value, words_of, ◌>>=◌}
 use Rattle.std.proofs.lemmas.Bool.{ltb-true, leb-true, eqb-true, le-leb, and_from}
 use Rattle.std.proofs.lemmas.Bool.Decides.{nat_tests}
 use Rattle.std.proofs.lemmas.List.{map-append, take_more}
@@ -10,8 +10,8 @@ use Rattle.ctf_types.specs.declared.ByteOrder.TheVariants.{Little, Big}
 use Rattle.ctf_types.specs.declared.Base.TheVariants.{Dec}
 use Rattle.ctf_types.specs.declared.IntType.{IntType}
 use Rattle.tsdl_grammar.specs.declared.tree.Kind.TheVariants as kinds
-use Rattle.tsdl_meaning.specs.declared.judge.type_attributes.TypeKind.{TypeKind}
-use Rattle.tsdl_meaning.specs.declared.judge.type_attributes.TypeKind.TheVariants as types
+use Rattle.tsdl_meaning.specs.declared.judge.kind.TypeKind.{TypeKind}
+use Rattle.tsdl_meaning.specs.declared.judge.kind.TypeKind.TheVariants as types
 use Rattle.tsdl_grammar.proofs.Inversion.{bind_is}
 use Rattle.tsdl_grammar.proofs.TypeParts.{int_type-own}
 use Rattle.tsdl_meaning.proofs.FlawlessNames.{HasAll, names_more, distinct_more, and_left, and_right}
@@ -158,14 +158,6 @@ pub type_means : (known : Known) (kind : TypeKind) (attrs : List Attribute) (nam
 unfolding kind_meaning
 type_means known types.Integer attrs names s there = let t = some_is (int_meaning known attrs) (integer_means known attrs names s (there refl)) in rw t.1 refl
 type_means known types.Text attrs names s there = string_means attrs names s
-
--- what a string has is an encoding, whatever its name
-pub encoding_fits : (w : List ℕ) (v : Value) → is_some (encoding_value v) ≡ true → fits of_string w v ≡ true
-encoding_fits w v h = by (bytes_eq (codes "encoding") w)
-  where
-    by : (b : Bool) → passes (cond b (Some (λ x. is_some (encoding_value x))) None) v ≡ true
-    by true = h
-    by false = refl
 
 -- ---- ranges
 

@@ -1,7 +1,8 @@
--- What is made of each item of a list, one item after the other.
-use Rattle.std.proofs.Common.{◌≡◌, ℕ, ◌+◌, ◌-◌, ◌≤◌, ◌<◌, List, [], ◌∷◌, ◌++◌, map, length, take, drop, get_or, take-suc, add-one, Option, Some, None, refl, sym, ap, ◌∙◌, append_assoc, arith}
+-- What is made of each item of a list, one item after the other, and whether a test holds of what is made.
+use Rattle.std.proofs.Common.{◌≡◌, ℕ, ◌+◌, ◌-◌, ◌≤◌, ◌<◌, List, [], ◌∷◌, ◌++◌, map, length, take, drop, get_or, take-suc, add-one, Option, Some, None, refl, sym, ap, ◌∙◌, append_assoc, arith, Bool, ◌&&◌, ◌||◌}
 use Rattle.std.proofs.Math.Seq.{take-length}
-use Rattle.tsdl_meaning.proofs.TextWords.{each, flat_map, with_front, ◌>>=◌}
+use Rattle.tsdl_meaning.proofs.TextWords.{each, flat_map, with_front, ◌>>=◌, bytes_eq, list_all, list_any, same_words}
+use Rattle.std.specs.List.{zip}
 
 -- one more item at the front's end
 front_more : {A : Type 0} (front : List A) (y : A) (o : Option (List A)) → with_front (front ++ y ∷ []) o ≡ with_front front (o >>= λ ys. Some (y ∷ ys))
@@ -44,3 +45,14 @@ pub made_up_to : {A B : Type 0} (f : A → B) (xs : List A) (i : ℕ) (x : A) (o
 made_up_to {A} f xs i x old new h is made adds =
     adds ∙ ap (λ (ys : List _). ys ++ f x ∷ []) made ∙ sym (map_behind f (take i xs) x)
     ∙ ap (map f) (ap (λ (y : A). take i xs ++ y ∷ []) is ∙ sym (take-suc xs i x h) ∙ ap (λ (k : ℕ). take k xs) (sym (add-one i)))
+
+pub any_mapped : {A B : Type 0} (p : B → Bool) (f : A → B) (xs : List A) → list_any p (map f xs) ≡ list_any (λ x. p (f x)) xs
+any_mapped p f [] = refl
+any_mapped p f (x ∷ xs) = ap (λ (b : Bool). p (f x) || b) (any_mapped p f xs)
+
+-- texts beside as many others are the same
+pub same_zipped : {B : Type 0} (text : B → List ℕ) (xs : List (List ℕ)) (ys : List B) → length xs ≡ length ys → list_all (λ p. bytes_eq p.0 (text p.1)) (zip xs ys) ≡ same_words xs (map text ys)
+same_zipped text [] [] e = refl
+same_zipped text [] (y ∷ ys) e = absurd (omega (arith, e))
+same_zipped text (x ∷ xs) [] e = absurd (omega (arith, e))
+same_zipped text (x ∷ xs) (y ∷ ys) e = ap (λ (b : Bool). bytes_eq x (text y) && b) (same_zipped text xs ys (omega (arith, e)))

@@ -1,6 +1,6 @@
--- A stop in a part of a tree is a stop in the tree.
+-- A stop in a part of a tree is a stop in the tree, and what a judge hands on from a part.
 use Rattle.std.proofs.Common.{◌≡◌, ℕ, suc, ◌<◌, List, [], ◌++◌, length, take, drop, get_or, sym, ap, ◌∙◌, subst, append_assoc, Result, Ok, Err}
-use Rattle.tsdl_meaning.proofs.TextWords.{Atom, Ends, Holds, IfErr, IfOk, IsErrAnd, StandsBehind, Stop, StopsIn, flat_map}
+use Rattle.tsdl_meaning.proofs.TextWords.{Atom, Ends, Holds, IfErr, IfOk, IsErrAnd, StandsBehind, Stop, StopsIn, flat_map, StopsAmong, StopsWhere}
 use Rattle.std.proofs.lemmas.List.{append-nil}
 use Rattle.tsdl_flaw.proofs.Parts as parts
 
@@ -53,3 +53,12 @@ pub stops_item : {A : Type 0} (f : A → List Atom) (xs : List A) (i : ℕ) (x :
 stops_item f xs i x front toks opening closing at place stop h is e after s =
     stops_same front toks (opening ++ flat_map f xs ++ closing) at stop (e ∙ sym (append_assoc opening (flat_map f xs) closing))
     (parts.stops_item f xs i x opening closing front at place stop h is after (s (flat_map f (drop (suc i) xs) ++ closing)))
+
+-- a stop that any front allows is one behind a front that something is known of
+pub handed_weaker : {T : Type 0} (r : Result T Stop) (e : Stop) (P : List Atom → Type 0) (at : ℕ) (toks : List Atom) → IsErrAnd r (λ x. x ≡ e) → StopsAmong at toks e
+    → IfErr r (StopsWhere P at toks)
+handed_weaker r e P at toks is s = handed r e (StopsWhere P at toks) is (λ front behind stands. s front behind)
+
+pub any_front : {T : Type 0} (r : Result T Stop) (P : List Atom → Type 0) (at : ℕ) (toks : List Atom) → IfErr r (StopsAmong at toks) → IfErr r (StopsWhere P at toks)
+any_front (Ok v) P at toks h = tt
+any_front (Err s) P at toks h = λ front behind stands. h front behind

@@ -1,9 +1,10 @@
--- Whether a name is a member's.
-use Rattle.std.proofs.Common.{◌≡◌, ℕ, zero, suc, ◌<◌, List, [], ◌∷◌, length, slice_index_or, Contains, Bool, true, false, ◌||◌, Decides, refl, sym, subst, ◌⊎◌, inl, inr, arith, bytes_eq}
+-- Whether a name is a member's, and the first member that may hold a length.
+use Rattle.std.proofs.Common.{◌≡◌, ℕ, zero, suc, ◌<◌, List, [], ◌∷◌, length, slice_index_or, Contains, Bool, true, false, ◌||◌, Decides, refl, sym, subst, ◌⊎◌, inl, inr, arith, bytes_eq, ltb, Some, None, get_or}
 use Rattle.std.proofs.lemmas.Bool.{false≢true}
-use Rattle.std.proofs.lemmas.Bool.Decides.{same_from_decides}
+use Rattle.std.proofs.lemmas.Bool.Decides.{same_from_decides, nat_tests}
 use Rattle.std.proofs.lemmas.Slice.Eq.{bytes_eq-Decides}
-use Rattle.tsdl_meaning.proofs.TextWords.{MemberType, has_member, names_in}
+use Rattle.tsdl_meaning.proofs.TextWords.{MemberType, has_member, names_in, position, position_or_len}
+use Rattle.std.proofs.lemmas.List.Sums.{position_or_len_is}
 
 pub contains_first : {X : Type 0} (x : X) (xs : List X) → Contains (x ∷ xs) x
 contains_first x xs = (0, omega arith, refl)
@@ -32,3 +33,20 @@ member_says w (m ∷ ms) = by (bytes_eq w m.0) (bytes_eq-Decides w m.0) (member_
 
 pub same_answer : (w : List ℕ) (ms : List (List ℕ × MemberType)) (r : Bool) → Decides r (Contains (names_in ms) w) → r ≡ has_member w ms
 same_answer w ms r d = same_from_decides r (has_member w ms) d (member_says w ms)
+
+within : (i n : ℕ) → i < n → ltb i n ≡ true
+within i n h = grind (arith, nat_tests)
+
+not_within : (n : ℕ) → ltb n n ≡ false
+not_within n = grind (arith, nat_tests)
+
+-- the first index at which the test passes
+pub first_place : {A : Type 0} (p : A → Bool) (xs : List A) (i : ℕ) (d : A) → i < length xs → ((k : ℕ) → k < i → p (get_or xs k d) ≡ false) → p (get_or xs i d) ≡ true → Some i ≡ position p xs
+first_place p xs i d h before here =
+    let e : position_or_len p xs ≡ i = position_or_len_is p xs i d (omega arith) before (λ _. here) in
+    rw e (rw (within i (length xs) h) refl)
+
+pub no_place : {A : Type 0} (p : A → Bool) (xs : List A) (d : A) → ((k : ℕ) → k < length xs → p (get_or xs k d) ≡ false) → None ≡ position p xs
+no_place p xs d before =
+    let e : position_or_len p xs ≡ length xs = position_or_len_is p xs (length xs) d (omega arith) before (λ h. absurd (omega arith)) in
+    rw e (rw (not_within (length xs)) refl)

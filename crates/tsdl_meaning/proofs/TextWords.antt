@@ -20,7 +20,7 @@ pub use Rattle.std.specs.Cmp.{Equal-is, IsTotalOrder, eq_by_cmp_equiv, nat_cmp_i
 pub use Rattle.std.specs.Cmp.Lexicographic.{lists_ties, nat_list_eq_equiv, pointwise, slice_cmp, texts_ties}
 unfoldable pub use Rattle.std.specs.List.{IsDistinct}
 pub use Rattle.std.specs.List.{AllByRecursion, flat_map, list_all, list_any, position, position_or_len, prefix_len}
-pub use Rattle.std.specs.Option.{IsSome, is_none, is_some, option_and_then, option_map, option_map_or, option_or, unwrap_or}
+pub use Rattle.std.specs.Option.{IsSome, is_some, option_and_then, option_map, option_map_or, option_or, unwrap_or}
 pub use Rattle.std.specs.Ordering.{eq_by_cmp, is_eq, match_ordering, nat_cmp}
 pub use Rattle.std.specs.Result.{IfErr, IfOk, IsErrAnd, result_ok}
 pub use Rattle.std.specs.Str.{bytes_eq, is_utf8}
@@ -36,7 +36,7 @@ pub use Rattle.tsdl_flaw.specs.Stopping.{StopsIn, kind_of}
 pub use Rattle.tsdl_flaw.specs.Twice.{HasNumbers, IsMemberTwice, IsNameTwice, IsTwice, begun, clock_name}
 pub use Rattle.tsdl_flaw.specs.Written.{with_dot, written}
 pub use Rattle.tsdl_flaw.specs.declared.flaw.Stop.{Stop}
-pub use Rattle.tsdl_grammar.specs.AttributeValues.{alone, flag_words, is_negative, meant_by, name_value, natural, natural_value, one_word, optional, signed_of, text_value, whole_value, with_default, word_value}
+pub use Rattle.tsdl_grammar.specs.AttributeValues.{alone, is_negative, meant_by, name_value, natural, natural_value, one_word, optional, signed_of, text_value, whole_value, with_default, word_value}
 unfoldable pub use Rattle.tsdl_grammar.specs.AttributeValues.{flag_value, uuid_value}
 pub use Rattle.tsdl_grammar.specs.BlockMeaning.{context_names, event_context, event_header, fact_meaning, fields_scope, has_number, is_byte, is_flat, is_trace, is_unsigned_of, is_uuid, named_fact_meaning, number_or_zero, order_table, packet_context, packet_header, specific_context, suits, suits_header, trace_order}
 unfoldable pub use Rattle.tsdl_grammar.specs.BlockMeaning.{clock_meaning, environment_meaning, event_meaning, header_meaning, stream_meaning, trace_uuid}
@@ -46,7 +46,7 @@ pub use Rattle.tsdl_grammar.specs.IntegerMeaning.{Known, base_words, clock_in, d
 unfoldable pub use Rattle.tsdl_grammar.specs.IntegerMeaning.{base_value, clock_value, int_meaning, order_value}
 pub use Rattle.tsdl_grammar.specs.Laws.{NumbersRise, SaysClock, SaysEvent, SaysMetadata, SaysStream}
 pub use Rattle.tsdl_grammar.specs.Lookups.{are_distinct, attr, attr_in, attr_names, attrs_in, has_parts, is_among, is_word, no_two, same_words, scope, scope_in, scopes_in, words_of}
-pub use Rattle.tsdl_grammar.specs.MemberMeaning.{are_lengths, arrays_of, count_of, elements_of, encoding_value, encoding_words, entries_of, field_of, high_of, is_unsigned, length_place}
+pub use Rattle.tsdl_grammar.specs.MemberMeaning.{are_lengths, arrays_of, count_of, elements_of, encoding_value, entries_of, field_of, high_of, is_unsigned, length_place}
 unfoldable pub use Rattle.tsdl_grammar.specs.MemberMeaning.{bracketed, entry_meaning, enum_meaning, kind_meaning, member_meaning, text_meaning}
 pub use Rattle.tsdl_grammar.specs.Spelling.{align_toks, attr_toks, attrs_toks, block_and_semicolon, block_toks, braced, bracket_toks, closing_toks, dotted, entries_toks, entry_toks, fact_toks, high_toks, int_toks, item_toks, items_toks, kind_toks, label_toks, mark, member_toks, name_toks, named_fact_toks, next_entry_toks, number_toks, scope_toks, sign_toks, struct_toks, text_toks, value_toks, word}
 pub use Rattle.tsdl_grammar.specs.Steps.{at_most_one, by_number, each, insert_numbered, only, provided, ◌>>=◌}

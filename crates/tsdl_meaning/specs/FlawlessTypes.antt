@@ -16,8 +16,8 @@ use Rattle.tsdl_grammar.specs.AttributeValues.{natural_value, flag_value}
 use Rattle.tsdl_grammar.specs.IntegerMeaning.{Known, int_attrs, order_value, base_value, clock_value}
 use Rattle.tsdl_grammar.specs.MemberMeaning.{encoding_value, entry_meaning}
 use Rattle.tsdl_grammar.specs.Steps.{each}
-use Rattle.tsdl_meaning.specs.declared.judge.type_attributes.TypeKind.{TypeKind}
-use Rattle.tsdl_meaning.specs.declared.judge.type_attributes.TypeKind.TheVariants as types
+use Rattle.tsdl_meaning.specs.declared.judge.kind.TypeKind.{TypeKind}
+use Rattle.tsdl_meaning.specs.declared.judge.kind.TypeKind.TheVariants as types
 use Rattle.tsdl_meaning.specs.FlawlessBlocks.{Asked, is_fit, AddsName}
 
 -- a size from 1 to 64 bits

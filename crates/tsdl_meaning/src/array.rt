@@ -6,7 +6,7 @@ ghost use Rattle.ctf_types.specs.Chain.{Leaf};
 ghost use Rattle.tsdl_grammar.specs.Steps.{each};
 ghost use Rattle.tsdl_grammar.specs.MemberMeaning.{field_of, arrays_of, elements_of, are_lengths, count_of};
 
-use crate::value::natural;
+use crate::value::{Meant, natural};
 use ctf_types::{Element, FieldType, ListOf, MAX_ARRAYS, MAX_ELEMENTS};
 use std::alloc::{AllocError, Global};
 use tsdl_grammar::Bracket;
@@ -63,10 +63,7 @@ pub(crate) fn have_bits(lengths: &[u64]) -> bool
 }
 
 /// The lengths in brackets, where each has a number.
-pub(crate) fn counts_of(
-    alloc: Global,
-    brackets: &[Bracket],
-) -> Result<Option<ListOf<u64>>, AllocError>
+pub(crate) fn counts_of(alloc: Global, brackets: &[Bracket]) -> Meant<ListOf<u64>>
     ensures { IfOk result (λ ns. ns ≡ each count_of brackets.now) }
 {
     let mut counts = ListOf::new(alloc);

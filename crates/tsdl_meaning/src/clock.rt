@@ -4,9 +4,9 @@ ghost use Rattle.std.specs.Prelude.{◌≡◌, IfOk};
 ghost use Rattle.tsdl_grammar.specs.BlockMeaning.{clock_meaning};
 
 use crate::lookup::{attr_in, has_parts, name_in, number_or_zero};
-use crate::value::{flag_or_false, natural_or, text_value, uuid_if_there, whole_value};
+use crate::value::{Meant, flag_or_false, natural_or, text_value, uuid_if_there, whole_value};
 use ctf_types::ClockType;
-use std::alloc::{AllocError, Global};
+use std::alloc::Global;
 use tsdl_grammar::Item;
 
 /// The frequency of a clock that says none, in cycles a second.
@@ -14,7 +14,7 @@ const DEFAULT_FREQUENCY: u64 = 1_000_000_000;
 
 /// The clock type of a block.
 #[tactic(auto, unfolding(tsdl_grammar::specs::BlockMeaning::clock_meaning))]
-pub(crate) fn clock_meaning(alloc: Global, items: &[Item]) -> Result<Option<ClockType>, AllocError>
+pub(crate) fn clock_meaning(alloc: Global, items: &[Item]) -> Meant<ClockType>
     ensures { IfOk result (λ c. c ≡ clock_meaning items.now) }
 {
     if !has_parts(alloc, &[], items)? {

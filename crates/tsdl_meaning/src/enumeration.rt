@@ -6,9 +6,9 @@ ghost use Rattle.tsdl_grammar.specs.AttributeValues.{signed_of};
 ghost use Rattle.tsdl_grammar.specs.MemberMeaning.{label_of, high_of, entry_meaning, enum_meaning};
 ghost use Rattle.tsdl_meaning.specs.Fronts.{with_front};
 
-use crate::value::signed_of;
+use crate::value::{Meant, signed_of};
 use ctf_types::{EnumType, IntType, ListOf, Mapping, Text};
-use std::alloc::{AllocError, Global};
+use std::alloc::Global;
 use tsdl_grammar::{Entries, Entry, Label, Number};
 
 /// The most ranges that an enumeration has.
@@ -16,11 +16,7 @@ pub(crate) const MAX_RANGES: usize = 65536;
 
 /// The enumeration over an integer type, of at most 65,536 ranges.
 #[tactic(auto, unfolding(tsdl_grammar::specs::MemberMeaning::enum_meaning))]
-pub(crate) fn enum_meaning(
-    alloc: Global,
-    int: IntType,
-    entries: &Entries,
-) -> Result<Option<EnumType>, AllocError>
+pub(crate) fn enum_meaning(alloc: Global, int: IntType, entries: &Entries) -> Meant<EnumType>
     ensures { IfOk result (λ t. t ≡ enum_meaning int entries.now) }
 {
     let made = match entries {
@@ -35,11 +31,7 @@ pub(crate) fn enum_meaning(
     Ok(made.map(|mappings| EnumType { int, mappings }))
 }
 
-fn mappings_of(
-    alloc: Global,
-    first: &Entry,
-    others: &[Entry],
-) -> Result<Option<ListOf<Mapping>>, AllocError>
+fn mappings_of(alloc: Global, first: &Entry, others: &[Entry]) -> Meant<ListOf<Mapping>>
     ensures { IfOk result (λ ms. ms ≡ each entry_meaning (first.now ∷ others.now)) }
 {
     let mut mappings = ListOf::new(alloc);
@@ -52,7 +44,7 @@ fn mappings_of(
 
 /// A label and its range, where the range does not fall.
 #[tactic(auto, unfolding(tsdl_grammar::specs::MemberMeaning::entry_meaning))]
-fn entry_meaning(alloc: Global, entry: &Entry) -> Result<Option<Mapping>, AllocError>
+fn entry_meaning(alloc: Global, entry: &Entry) -> Meant<Mapping>
     ensures { IfOk result (λ m. m ≡ entry_meaning entry.now) }
 {
     if !rises(entry) {

@@ -7,9 +7,9 @@ ghost use Rattle.tsdl_grammar.specs.Lookups.{no_two};
 ghost use Rattle.tsdl_grammar.specs.Steps.{each};
 ghost use Rattle.tsdl_grammar.specs.BlockMeaning.{fact_meaning, named_fact_meaning, environment_meaning};
 
-use crate::value::whole;
+use crate::value::{Meant, whole};
 use ctf_types::{EnvironmentEntry, EnvironmentValue, ListOf, MAX_ENVIRONMENT, Text};
-use std::alloc::{AllocError, Global};
+use std::alloc::Global;
 use tsdl_grammar::{Fact, NamedFact};
 
 /// The environment of at most 256 names, of which none stands twice.
@@ -17,7 +17,7 @@ use tsdl_grammar::{Fact, NamedFact};
 pub(crate) fn environment_meaning(
     alloc: Global,
     facts: &[NamedFact],
-) -> Result<Option<ListOf<EnvironmentEntry>>, AllocError>
+) -> Meant<ListOf<EnvironmentEntry>>
     ensures { IfOk result (λ es. es ≡ environment_meaning facts.now) }
 {
     if facts.len() > MAX_ENVIRONMENT || !are_distinct(facts) {
@@ -46,10 +46,7 @@ pub(crate) fn has_fact(name: &Text, facts: &[NamedFact]) -> bool
     facts.iter().any(|fact| name.as_str() == fact.name.as_str())
 }
 
-fn entries_of(
-    alloc: Global,
-    facts: &[NamedFact],
-) -> Result<Option<ListOf<EnvironmentEntry>>, AllocError>
+fn entries_of(alloc: Global, facts: &[NamedFact]) -> Meant<ListOf<EnvironmentEntry>>
     ensures { IfOk result (λ es. es ≡ each named_fact_meaning facts.now) }
 {
     let mut entries = ListOf::new(alloc);
@@ -60,10 +57,7 @@ fn entries_of(
     Ok(Some(entries))
 }
 
-fn named_fact_meaning(
-    alloc: Global,
-    fact: &NamedFact,
-) -> Result<Option<EnvironmentEntry>, AllocError>
+fn named_fact_meaning(alloc: Global, fact: &NamedFact) -> Meant<EnvironmentEntry>
     ensures { IfOk result (λ e. e ≡ named_fact_meaning fact.now) }
 {
     let value = meant!(fact_meaning(alloc, &fact.fact)?);
@@ -71,7 +65,7 @@ fn named_fact_meaning(
     Ok(Some(EnvironmentEntry { name, value }))
 }
 
-fn fact_meaning(alloc: Global, fact: &Fact) -> Result<Option<EnvironmentValue>, AllocError>
+fn fact_meaning(alloc: Global, fact: &Fact) -> Meant<EnvironmentValue>
     ensures { IfOk result (λ v. v ≡ fact_meaning fact.now) }
 {
     match fact {

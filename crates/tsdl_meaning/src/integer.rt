@@ -8,9 +8,11 @@ ghost use Rattle.tsdl_meaning.specs.Names.{texts_of};
 use crate::known::Known;
 use crate::lookup::{attr, has_only};
 use crate::scope_rule::has_word;
-use crate::value::{flag_or_false, natural, natural_or, natural_value, one_word, word_value};
+use crate::value::{
+    Meant, flag_or_false, natural, natural_or, natural_value, one_word, word_value,
+};
 use ctf_types::{Base, ByteOrder, IntType, LARGEST_ALIGN, Text};
-use std::alloc::{AllocError, Global};
+use std::alloc::Global;
 use tsdl_grammar::{Attribute, Value};
 
 /// The attributes that an integer may have.
@@ -26,11 +28,7 @@ pub(crate) const INTEGER_ATTRIBUTES: [&[&str]; 7] = [
 
 /// The integer type that a list of attributes means.
 #[tactic(auto, unfolding(tsdl_grammar::specs::IntegerMeaning::int_meaning))]
-pub(crate) fn int_meaning(
-    alloc: Global,
-    known: &Known,
-    attributes: &[Attribute],
-) -> Result<Option<IntType>, AllocError>
+pub(crate) fn int_meaning(alloc: Global, known: &Known, attributes: &[Attribute]) -> Meant<IntType>
     ensures { IfOk result (λ t. t ≡ int_meaning known.now attributes.now) }
 {
     if !has_only(&INTEGER_ATTRIBUTES, attributes) {

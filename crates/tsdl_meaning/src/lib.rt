@@ -13,7 +13,6 @@ macro_rules! meant {
 
 mod array;
 mod clock;
-mod distinct;
 mod enumeration;
 mod environment;
 mod integer;
@@ -22,7 +21,6 @@ mod known;
 mod laws;
 mod lookup;
 mod member;
-mod metadata;
 mod numbered;
 mod scope_rule;
 mod stream;
@@ -34,5 +32,5 @@ mod value;
 
 pub use judge::{Survey, first_flaw};
 pub use laws::denoted_is_allowed;
-pub use metadata::metadata_of;
+pub use text::metadata_of;
 pub use value::{natural, signed_of, whole};

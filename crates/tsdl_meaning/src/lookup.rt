@@ -2,16 +2,17 @@
 
 ghost use Rattle.std.specs.Prelude.{◌≡◌, map, option_map, IfOk};
 ghost use Rattle.std.specs.List.{list_any, list_all};
-ghost use Rattle.tsdl_grammar.specs.Lookups.{words_of, same_words, is_word, is_among, attr, attr_names, attrs_in, scopes_in, scope, are_distinct, has_parts};
+ghost use Rattle.tsdl_grammar.specs.Lookups.{words_of, same_words, is_word, is_among, attr, attr_names, attrs_in, scopes_in, scope, are_distinct, has_parts, no_two};
 ghost use Rattle.tsdl_grammar.specs.IntegerMeaning.{has_only};
 ghost use Rattle.tsdl_grammar.specs.BlockMeaning.{number_or_zero};
 ghost use Rattle.tsdl_flaw.specs.Twice.{clock_name};
 ghost use Rattle.tsdl_meaning.specs.Names.{names_of, texts_of, name_lists, scope_names};
+ghost use Rattle.std.specs.Ordering.{eq_by_cmp};
 
-use crate::distinct::are_distinct;
 use crate::value::{name_value, natural_or};
 use ctf_types::Text;
 use std::alloc::{AllocError, Global};
+use std::collections::BTreeSet;
 use tsdl_grammar::{Attribute, Item, Name, Structure, Value};
 
 /// Whether a name is this one word.
@@ -25,19 +26,11 @@ pub(crate) fn is_word(word: &str, name: &Name) -> bool
 fn same_texts(left: &[Text], right: &[Text]) -> bool
     ensures { result ≡ same_words left.now right.now }
 {
-    let mut left_rest = left;
-    let mut right_rest = right;
-    while let [x, xs @ ..] = left_rest {
-        let [y, ys @ ..] = right_rest else {
-            return false;
-        };
-        if x.as_str() != y.as_str() {
-            return false;
-        }
-        left_rest = xs;
-        right_rest = ys;
-    }
-    right_rest.is_empty()
+    left.len() == right.len()
+        && left
+            .iter()
+            .zip(right)
+            .all(|(x, y)| x.as_str() == y.as_str())
 }
 
 /// Whether two names are the same.
@@ -52,19 +45,11 @@ fn is_same(left: &Name, right: &Name) -> bool
 fn are_words(texts: &[Text], words: &[&str]) -> bool
     ensures { result ≡ same_words texts.now (texts_of words.now) }
 {
-    let mut rest = words;
-    let mut text_rest = texts;
-    while let [x, xs @ ..] = text_rest {
-        let [y, ys @ ..] = rest else {
-            return false;
-        };
-        if x.as_str() != *y {
-            return false;
-        }
-        text_rest = xs;
-        rest = ys;
-    }
-    rest.is_empty()
+    texts.len() == words.len()
+        && texts
+            .iter()
+            .zip(words)
+            .all(|(text, word)| text.as_str() == *word)
 }
 
 /// Whether a name has these words.
@@ -219,4 +204,18 @@ pub(crate) fn has_parts(
         rest = others;
     }
     has_attrs_once(alloc, items)
+}
+
+/// Whether no two of these keys are equal.
+pub(crate) fn are_distinct<K: Ord + Drop>(alloc: Global, keys: Vec<K>) -> Result<bool, AllocError>
+    ensures { IfOk result (λ distinct. distinct ≡ no_two (eq_by_cmp K.cmp) keys.items) }
+{
+    let mut left = keys;
+    let mut behind = BTreeSet::new(alloc);
+    while let Some(key) = left.pop() {
+        if !behind.insert(key)? {
+            return Ok(false);
+        }
+    }
+    Ok(true)
 }

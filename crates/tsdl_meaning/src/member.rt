@@ -13,9 +13,9 @@ use crate::enumeration::enum_meaning;
 use crate::integer::int_meaning;
 use crate::known::Known;
 use crate::lookup::{attr, has_only};
-use crate::value::word_value;
+use crate::value::{Meant, word_value};
 use ctf_types::{FieldType, Length, ListOf, MemberType, Members};
-use std::alloc::{AllocError, Global};
+use std::alloc::Global;
 use tsdl_grammar::{Attribute, Bracket, Kind, MemberTree, Value};
 
 /// The attributes that a string may have.
@@ -28,7 +28,7 @@ pub(crate) fn member_meaning(
     known: &Known,
     before: &Members,
     member: &MemberTree,
-) -> Result<Option<MemberType>, AllocError>
+) -> Meant<MemberType>
     ensures { IfOk result (λ t. t ≡ member_meaning known.now before.now member.now) }
 {
     let field = meant!(kind_meaning(alloc, known, &member.kind)?);
@@ -37,7 +37,7 @@ pub(crate) fn member_meaning(
 
 /// The type of a member before its brackets.
 #[tactic(auto, unfolding(tsdl_grammar::specs::MemberMeaning::kind_meaning))]
-fn kind_meaning(alloc: Global, known: &Known, kind: &Kind) -> Result<Option<FieldType>, AllocError>
+fn kind_meaning(alloc: Global, known: &Known, kind: &Kind) -> Meant<FieldType>
     ensures { IfOk result (λ t. t ≡ option_map field_of (kind_meaning known.now kind.now)) }
 {
     match kind {
@@ -88,7 +88,7 @@ fn bracketed(
     before: &Members,
     field: FieldType,
     brackets: &[Bracket],
-) -> Result<Option<MemberType>, AllocError>
+) -> Meant<MemberType>
     ensures { (leaf : Leaf) → field ≡ field_of leaf → IfOk result (λ t. t ≡ bracketed before.now leaf brackets.now) }
 {
     match brackets {

@@ -8,9 +8,9 @@ use crate::known::Known;
 use crate::lookup::{attr_in, has_parts, name_in, number_or_zero};
 use crate::scope_rule::ScopeRule;
 use crate::structure::{has_member, scope_meaning};
-use crate::value::natural_value;
+use crate::value::{Meant, natural_value};
 use ctf_types::{Event, ListOf, Stream, StructType};
-use std::alloc::{AllocError, Global};
+use std::alloc::Global;
 use tsdl_grammar::Item;
 
 /// The name of a scope, and what the scope asks of its members.
@@ -28,18 +28,11 @@ pub(crate) const FIELDS: NamedRule = (&["fields"], ScopeRule::AnyMembers);
 
 /// The stream of a block, without its events. Its packet context has both sizes.
 #[tactic(auto, unfolding(tsdl_grammar::specs::BlockMeaning::stream_meaning))]
-pub(crate) fn stream_meaning(
-    alloc: Global,
-    known: &Known,
-    items: &[Item],
-) -> Result<Option<Stream>, AllocError>
+pub(crate) fn stream_meaning(alloc: Global, known: &Known, items: &[Item]) -> Meant<Stream>
     ensures { IfOk result (λ s. s ≡ stream_meaning known.now items.now) }
 {
-    if !has_parts(
-        alloc,
-        &[PACKET_CONTEXT.0, EVENT_HEADER.0, EVENT_CONTEXT.0],
-        items,
-    )? {
+    let scopes = [PACKET_CONTEXT.0, EVENT_HEADER.0, EVENT_CONTEXT.0];
+    if !has_parts(alloc, &scopes, items)? {
         return Ok(None);
     }
     let id = meant!(number_or_zero("id", items));
@@ -67,11 +60,7 @@ fn has_sizes(context: &StructType) -> bool
 
 /// The event of a block, and the number of its stream.
 #[tactic(auto, unfolding(tsdl_grammar::specs::BlockMeaning::event_meaning))]
-pub(crate) fn event_meaning(
-    alloc: Global,
-    known: &Known,
-    items: &[Item],
-) -> Result<Option<(u64, Event)>, AllocError>
+pub(crate) fn event_meaning(alloc: Global, known: &Known, items: &[Item]) -> Meant<(u64, Event)>
     ensures { IfOk result (λ e. e ≡ event_meaning known.now items.now) }
 {
     if !has_parts(alloc, &[SPECIFIC_CONTEXT.0, FIELDS.0], items)? {

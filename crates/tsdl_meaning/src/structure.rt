@@ -13,9 +13,9 @@ use crate::known::Known;
 use crate::lookup::scope_in;
 use crate::member::member_meaning;
 use crate::scope_rule::{ScopeRule, all_suit};
-use crate::value::natural;
+use crate::value::{Meant, natural};
 use ctf_types::{LARGEST_ALIGN, Members, StructType};
-use std::alloc::{AllocError, Global};
+use std::alloc::Global;
 use tsdl_grammar::{Item, MemberTree, Number, Structure};
 
 /// The most members of a structure.
@@ -27,7 +27,7 @@ pub(crate) fn scope_meaning(
     known: &Known,
     scope: (&[&str], ScopeRule),
     items: &[Item],
-) -> Result<Option<StructType>, AllocError>
+) -> Meant<StructType>
     ensures { IfOk result (λ t. t ≡ scope_meaning known.now (texts_of scope.entry.0.now) (suits_rule scope.entry.1) (scopes_in items.now)) }
 {
     let (name, rule) = scope;
@@ -40,11 +40,7 @@ pub(crate) fn scope_meaning(
 
 /// The structure type of a tree: at most 1,024 members, no two of one name, and the minimum alignment.
 #[tactic(auto, unfolding(tsdl_grammar::specs::StructureMeaning::struct_meaning))]
-fn struct_meaning(
-    alloc: Global,
-    known: &Known,
-    structure: &Structure,
-) -> Result<Option<StructType>, AllocError>
+fn struct_meaning(alloc: Global, known: &Known, structure: &Structure) -> Meant<StructType>
     ensures { IfOk result (λ t. t ≡ struct_meaning known.now structure.now) }
 {
     if structure.members.len() > MAX_MEMBERS {
@@ -61,11 +57,7 @@ fn struct_meaning(
 
 /// The members, each with those before it.
 #[tactic(auto, unfolding(tsdl_grammar::specs::StructureMeaning::members_meaning))]
-fn members_meaning(
-    alloc: Global,
-    known: &Known,
-    members: &[MemberTree],
-) -> Result<Option<Members>, AllocError>
+fn members_meaning(alloc: Global, known: &Known, members: &[MemberTree]) -> Meant<Members>
     ensures { IfOk result (λ ms. ms ≡ members_meaning known.now [] members.now) }
 {
     let mut before = Members::with_capacity(alloc, members.len())?;

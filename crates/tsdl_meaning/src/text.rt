@@ -1,29 +1,46 @@
-//! What the blocks of a metadata text mean (CTF 1.8.3, section 7).
+//! What the blocks of a metadata text mean (CTF 1.8.3, section 7), or where they mean nothing their first fault.
 
-ghost use Rattle.std.specs.Prelude.{◌≡◌, option_map, IfOk};
+ghost use Rattle.std.specs.Prelude.{◌≡◌, option_map, IfOk, Some, None, IfErr};
 ghost use Rattle.std.specs.List.{flat_map};
 ghost use Rattle.std.specs.Str.{bytes_eq};
 ghost use Rattle.tsdl_grammar.specs.Lookups.{no_two};
 ghost use Rattle.tsdl_grammar.specs.Steps.{each, only, at_most_one};
 ghost use Rattle.tsdl_grammar.specs.BlockMeaning.{is_trace, clock_meaning};
 ghost use Rattle.tsdl_grammar.specs.Denotes.{trace_in, clock_in, environment_in, text_meta};
+ghost use Rattle.tsdl_grammar.specs.Spelling.{text_toks};
+ghost use Rattle.tsdl_flaw.specs.TextStops.{StopsText, IfFault};
+ghost use Rattle.tsdl_meaning.specs.PacketSizes.{MissesSizes};
 
 use crate::clock::clock_meaning;
-use crate::distinct::are_distinct;
 use crate::environment::environment_meaning;
+use crate::judge::{first_flaw, survey_of_blocks};
 use crate::known::Known;
-use crate::lookup::attr_in;
+use crate::lookup::{are_distinct, attr_in};
 use crate::structure::scope_meaning;
 use crate::text_streams::streams_meaning;
 use crate::trace::{PACKET_HEADER, is_trace, trace_order};
-use crate::value::uuid_if_there;
+use crate::value::{Meant, uuid_if_there};
 use ctf_types::{ClockType, ListOf, Metadata, Text};
 use std::alloc::{AllocError, Global};
+use tsdl_flaw::Stop;
 use tsdl_grammar::{Block, Item, NamedFact};
+
+/// The metadata that the blocks of a text mean. `NoPacketSize` is a stream's that lacks a size.
+pub fn metadata_of(alloc: Global, blocks: &[Block]) -> Result<Metadata, Stop>
+    ensures found { IfOk result (λ m. text_meta blocks.now ≡ Some m) }
+    ensures none { IfErr result (λ stop. IfFault stop (text_meta blocks.now ≡ None)) }
+    ensures fault { IfErr result (StopsText (text_toks blocks.now)) }
+    ensures sizes { IfErr result (MissesSizes blocks.now) }
+{
+    match text_meaning(alloc, blocks)? {
+        Some(metadata) => Ok(metadata),
+        None => Err(first_flaw(alloc, &survey_of_blocks(alloc, blocks)?, blocks)),
+    }
+}
 
 /// The metadata that the blocks of a text mean, if they mean any.
 #[tactic(auto, unfolding(tsdl_grammar::specs::Denotes::text_meta, tsdl_grammar::specs::BlockMeaning::trace_uuid, tsdl_grammar::specs::BlockMeaning::header_meaning))]
-pub(crate) fn text_meaning(alloc: Global, blocks: &[Block]) -> Result<Option<Metadata>, AllocError>
+pub(crate) fn text_meaning(alloc: Global, blocks: &[Block]) -> Meant<Metadata>
     ensures { IfOk result (λ m. m ≡ text_meta blocks.now) }
 {
     let trace = meant!(only_trace(blocks));
@@ -95,7 +112,7 @@ fn are_apart(alloc: Global, texts: &[Text]) -> Result<bool, AllocError>
 }
 
 /// The clock types of the clock blocks.
-fn clocks_of(alloc: Global, blocks: &[Block]) -> Result<Option<ListOf<ClockType>>, AllocError>
+fn clocks_of(alloc: Global, blocks: &[Block]) -> Meant<ListOf<ClockType>>
     ensures { IfOk result (λ cs. cs ≡ each clock_meaning (flat_map clock_in blocks.now)) }
 {
     let mut clocks = ListOf::new(alloc);

@@ -11,6 +11,7 @@ ghost use Rattle.tsdl_meaning.specs.Groups.{HasNumbers, AddsEvent, OthersStay, g
 use crate::known::Known;
 use crate::numbered::by_number;
 use crate::stream::{event_meaning, stream_meaning};
+use crate::value::Meant;
 use ctf_types::{Duplicate, Event, ListOf, Stream};
 use std::alloc::{AllocError, Global};
 use std::collections::{BTreeMap, BTreeSet};
@@ -25,7 +26,7 @@ pub(crate) fn streams_meaning(
     alloc: Global,
     known: &Known,
     blocks: &[Block],
-) -> Result<Option<ListOf<Stream>>, AllocError>
+) -> Meant<ListOf<Stream>>
     ensures { IfOk result (λ ss. ss ≡ streams_meaning known.now blocks.now) }
 {
     let found = meant!(streams_found(alloc, known, blocks)?);
@@ -39,11 +40,7 @@ pub(crate) fn streams_meaning(
 }
 
 /// The streams of the stream blocks, as they stand.
-fn streams_found(
-    alloc: Global,
-    known: &Known,
-    blocks: &[Block],
-) -> Result<Option<ListOf<Stream>>, AllocError>
+fn streams_found(alloc: Global, known: &Known, blocks: &[Block]) -> Meant<ListOf<Stream>>
     ensures { IfOk result (λ ss. ss ≡ each (stream_meaning known.now) (flat_map stream_in blocks.now)) }
 {
     let mut streams = ListOf::new(alloc);
@@ -58,11 +55,7 @@ fn streams_found(
 }
 
 /// The events of the event blocks, as they stand, each with the number of its stream.
-fn events_found(
-    alloc: Global,
-    known: &Known,
-    blocks: &[Block],
-) -> Result<Option<ListOf<(u64, Event)>>, AllocError>
+fn events_found(alloc: Global, known: &Known, blocks: &[Block]) -> Meant<ListOf<(u64, Event)>>
     ensures { IfOk result (λ es. es ≡ each (event_meaning known.now) (flat_map event_in blocks.now)) }
 {
     let mut events = ListOf::new(alloc);
@@ -129,11 +122,7 @@ fn add_event(alloc: Global, groups: &mut Groups, event: (u64, Event)) -> Result<
 }
 
 /// Each stream with the events of its group.
-fn streams_with(
-    alloc: Global,
-    groups: Groups,
-    streams: &[Stream],
-) -> Result<Option<ListOf<Stream>>, AllocError>
+fn streams_with(alloc: Global, groups: Groups, streams: &[Stream]) -> Meant<ListOf<Stream>>
     requires { NumbersRise (λ s. s.id) streams.now }
     ensures { IfOk result (λ ss. ss ≡ each (with_group groups) streams.now) }
 {
@@ -148,11 +137,7 @@ fn streams_with(
 }
 
 /// A stream with the events of its group, by number, which are taken out of the groups.
-fn with_group(
-    alloc: Global,
-    groups: &mut Groups,
-    stream: &Stream,
-) -> Result<Option<Stream>, AllocError>
+fn with_group(alloc: Global, groups: &mut Groups, stream: &Stream) -> Meant<Stream>
     ensures made { IfOk result (λ s. s ≡ with_group groups.old stream.now) }
     ensures others { OthersStay stream.now.id groups.old groups.new }
 {

@@ -4,8 +4,12 @@ ghost use Rattle.std.specs.Prelude.{◌≡◌, false, pos, option_map};
 ghost use Rattle.tsdl_grammar.specs.AttributeValues.{natural, whole, signed_of, natural_value, whole_value, text_value, one_word, word_value, name_value, flag_value, flag_words, meant_by, with_default, optional, uuid_value};
 
 use ctf_types::Text;
+use std::alloc::AllocError;
 use tsdl_grammar::{Name, Number, Sign, Value};
 use uuid::Uuid;
+
+/// What is meant, if anything is, where it is made of memory.
+pub(crate) type Meant<T> = Result<Option<T>, AllocError>;
 
 /// A number with its sign.
 pub fn signed_of(number: Number) -> i128

@@ -1,17 +1,22 @@
-//! The first flaw of a block with attributes and scopes: a trace, a stream, an event or a clock.
+//! The first flaw of a block: of an environment, or of a trace, a stream, an event or a clock with its attributes and scopes.
 
-ghost use Rattle.std.specs.Prelude.{◌≡◌, false, List, [], ◌∷◌, ◌++◌, IfOk, IfErr, IsTrue};
+ghost use Rattle.std.specs.Prelude.{◌≡◌, false, List, [], ◌∷◌, ◌++◌, IfOk, IfErr, IsTrue, codes};
 ghost use Rattle.tsdl_grammar.specs.declared.atom.Atom.{Atom};
 ghost use Rattle.tsdl_grammar.specs.declared.token.Mark.TheVariants as marks;
 ghost use Rattle.tsdl_grammar.specs.declared.tree.Item.{Item};
-ghost use Rattle.tsdl_grammar.specs.Spelling.{mark, word, scope_toks, item_toks, items_toks};
+ghost use Rattle.tsdl_grammar.specs.Spelling.{mark, word, scope_toks, item_toks, items_toks, braced, fact_toks, named_fact_toks};
 ghost use Rattle.tsdl_flaw.specs.Twice.{IsTwice};
-ghost use Rattle.tsdl_meaning.specs.Judged.{StopsWhere};
+ghost use Rattle.tsdl_meaning.specs.Judged.{StopsWhere, StopsAmong, EndsFacts};
 ghost use Rattle.tsdl_meaning.specs.Ledgers.{AreNoted};
 ghost use Rattle.tsdl_meaning.specs.NamesBefore.{AreNamed};
 ghost use Rattle.tsdl_meaning.specs.Blocks.{word_of, IsBegun, AreKept};
 ghost use Rattle.tsdl_meaning.specs.FlawlessBlocks.{IsFlawlessBlock, AddsItem, AddsScope, IsEnded, IsNumberedAnew, scopes_of, needed, named_rules, first_texts};
+ghost use Rattle.std.specs.List.{flat_map};
+ghost use Rattle.std.specs.Option.{is_some};
+ghost use Rattle.tsdl_grammar.specs.BlockMeaning.{fact_meaning};
+ghost use Rattle.tsdl_meaning.specs.FlawlessTexts.{MeanEntries, AddsFact};
 
+use crate::environment::has_fact;
 use crate::judge::attribute::judge_attribute;
 use crate::judge::ledger::{Ledger, event_numbers};
 use crate::judge::names::Names;
@@ -21,9 +26,11 @@ use crate::lookup::{attr_in, has_words};
 use crate::scope_rule::ScopeRule;
 use crate::stream::{EVENT_CONTEXT, EVENT_HEADER, FIELDS, PACKET_CONTEXT, SPECIFIC_CONTEXT};
 use crate::trace::PACKET_HEADER;
+use crate::value::whole;
+use ctf_types::MAX_ENVIRONMENT;
 use std::alloc::Global;
-use tsdl_flaw::{Flaw, Remedy, Spelled, Stop};
-use tsdl_grammar::{Item, Scope};
+use tsdl_flaw::{Fault, Flaw, Remedy, Spelled, Stop};
+use tsdl_grammar::{Fact, Item, NamedFact, Scope};
 
 #[derive(Clone, Copy)]
 pub(crate) enum BlockKind {
@@ -49,23 +56,14 @@ struct BlockNames {
     scopes: Names,
 }
 
-impl BlockNames {
-    fn new(alloc: Global) -> BlockNames
-        ensures { (front : List Atom) → AreKept result front }
-    {
-        BlockNames {
-            attributes: Names::new(alloc),
-            scopes: Names::new(alloc),
-        }
-    }
-}
-
 /// Judges a block of these items, whose word stands at an atom.
 pub(crate) fn judge_items(judging: &Judging, items: &[Item], at: usize) -> Result<(), Stop>
     ensures flawless { IfOk result (λ _. IsFlawlessBlock judging.now.survey.now.known judging.now.kind judging.now.ledger.now items.now) }
     ensures fault { IfErr result (StopsWhere (λ front. AreNoted front judging.now.ledger.now) at (word (word_of judging.now.kind) ∷ items_toks items.now)) }
 {
-    let mut names = BlockNames::new(judging.alloc);
+    let attributes = Names::new(judging.alloc);
+    let scopes = Names::new(judging.alloc);
+    let mut names = BlockNames { attributes, scopes };
     let mut next = at.saturating_add(2);
     for item in items {
         judge_item(judging, &mut names, item, next)?;
@@ -99,13 +97,7 @@ fn judge_scope(judging: &Judging, names: &mut Names, scope: &Scope, at: usize) -
     };
     names.add(judging.alloc, &scope.name, at)?;
     let behind = at.saturating_add(scope.name.length()).saturating_add(1);
-    judge_structure(
-        judging.alloc,
-        judging.survey,
-        row.1,
-        &scope.structure,
-        behind,
-    )?;
+    judge_structure(judging, row.1, &scope.structure, behind)?;
     Ok(())
 }
 
@@ -166,5 +158,47 @@ fn needed(kind: BlockKind) -> &'static [(&'static str, &'static str)]
         ],
         BlockKind::Stream => &[],
         BlockKind::Event | BlockKind::Clock => &[("name", "a `name`")],
+    }
+}
+
+/// Judges an environment block, whose word stands at an atom.
+pub(crate) fn judge_environment(facts: &[NamedFact], at: usize) -> Result<(), Stop>
+    ensures flawless { IfOk result (λ _. MeanEntries facts.now) }
+    ensures fault { IfErr result (StopsAmong at (word (codes "env") ∷ braced (flat_map named_fact_toks facts.now))) }
+{
+    let mut next = at.saturating_add(2);
+    for (index, fact) in facts.iter().enumerate() {
+        judge_entry(&facts[..index], fact, next)?;
+        next = next.saturating_add(fact.length());
+    }
+    Ok(())
+}
+
+/// Judges an entry behind others.
+fn judge_entry(before: &[NamedFact], fact: &NamedFact, at: usize) -> Result<(), Stop>
+    ensures flawless { IfOk result (λ _. AddsFact before.now fact.now) }
+    ensures fault { IfErr result (StopsWhere (EndsFacts before.now) at (named_fact_toks fact.now)) }
+{
+    let end = at.saturating_add(2);
+    if has_fact(&fact.name, before) {
+        let flaw = Flaw::Duplicate;
+        return Err(Stop::Fault(Fault { at, end, flaw }));
+    }
+    if before.len() >= MAX_ENVIRONMENT {
+        return Err(Stop::at_atom(at, Flaw::Limit("at most 256 names")));
+    }
+    judge_fact(&fact.fact, end)
+}
+
+/// Judges what an entry has: a number is one from -2^63 to 2^63 - 1.
+fn judge_fact(fact: &Fact, at: usize) -> Result<(), Stop>
+    ensures meant { IfOk result (λ _. IsTrue (is_some (fact_meaning fact.now))) }
+    ensures fault { IfErr result (StopsAmong at (fact_toks fact.now)) }
+{
+    match fact {
+        Fact::Number(number) if whole(*number).is_none() => {
+            Err(Stop::expected(at, number, "a number from -2^63 to 2^63 - 1"))
+        }
+        Fact::Number(_) | Fact::Text(_) => Ok(()),
     }
 }

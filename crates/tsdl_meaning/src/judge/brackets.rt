@@ -88,21 +88,14 @@ fn judge_bracket(
 {
     let place = at.saturating_add(1);
     match bracket {
-        Bracket::Count(number) => judge_count(lengths, number, place),
+        Bracket::Count(number) => {
+            let length = judge_number(number, place)?;
+            match lengths.add(length) {
+                None => Ok(()),
+                Some(limit) => Err(Stop::at(place, number, Flaw::Limit(limit))),
+            }
+        }
         Bracket::Member(name) => judge_name(alloc, before, lengths, name, place),
-    }
-}
-
-/// A number in a bracket.
-fn judge_count(lengths: &mut Lengths, number: &Number, at: usize) -> Result<(), Stop>
-    ensures meant { IfOk result (λ _. (before : List (List ℕ × MemberType)) (done : List Bracket) → AreBrackets before done lengths.old → AreBrackets before (done ++ brackets.Count number.now ∷ []) lengths.new) }
-    ensures fault { IfErr result (λ s. (done : List Bracket) → HasLengths lengths.old done → StopsWhere (IsInBrackets done) at (number_toks number.now) s) }
-    ensures added { IfOk result (λ _. (done : List Bracket) → HasLengths lengths.old done → HasLengths lengths.new (done ++ brackets.Count number.now ∷ [])) }
-{
-    let length = judge_number(number, at)?;
-    match lengths.add(length) {
-        None => Ok(()),
-        Some(limit) => Err(Stop::at(at, number, Flaw::Limit(limit))),
     }
 }
 

@@ -1,19 +1,32 @@
-//! The first flaw of a member's kind: an integer, an enumeration or a string.
+//! The first flaw of a member's kind: an integer, an enumeration or a string, and of its attributes.
 
-ghost use Rattle.std.specs.Prelude.{◌∷◌, ◌++◌, IsSome, IfOk, IfErr};
+ghost use Rattle.std.specs.Prelude.{◌∷◌, ◌++◌, IsSome, IfOk, IfErr, ◌≡◌, List, [], IsTrue};
 ghost use Rattle.std.specs.List.{flat_map};
-ghost use Rattle.tsdl_grammar.specs.Spelling.{kind_toks, entry_toks, next_entry_toks};
-ghost use Rattle.tsdl_grammar.specs.MemberMeaning.{entry_meaning, kind_meaning};
+ghost use Rattle.tsdl_grammar.specs.Spelling.{kind_toks, entry_toks, next_entry_toks, word, attr_toks, attrs_toks, value_toks};
+ghost use Rattle.tsdl_grammar.specs.MemberMeaning.{entry_meaning, kind_meaning, encoding_value};
 ghost use Rattle.tsdl_meaning.specs.Judged.{StopsAmong, StopsWhere};
-ghost use Rattle.tsdl_meaning.specs.Judging.{IsBehindBrace};
-ghost use Rattle.tsdl_meaning.specs.FlawlessTypes.{AreRanges};
+ghost use Rattle.tsdl_meaning.specs.Judging.{IsBehindBrace, IsBehindName, IsBehindWord};
+ghost use Rattle.tsdl_meaning.specs.FlawlessTypes.{AreRanges, AddsOwn, of_integer, tree_of, type_word, own_attrs, own_asked, is_size};
+ghost use Rattle.tsdl_grammar.specs.declared.token.Mark.TheVariants as marks;
+ghost use Rattle.tsdl_grammar.specs.declared.atom.Atom.{Atom};
+ghost use Rattle.std.specs.Option.{is_some};
+ghost use Rattle.tsdl_grammar.specs.IntegerMeaning.{order_value, base_value, clock_value};
+ghost use Rattle.tsdl_meaning.specs.Names.{names_of};
+ghost use Rattle.tsdl_meaning.specs.NamesBefore.{AreNamed};
+ghost use Rattle.tsdl_meaning.specs.FlawlessBlocks.{fits, is_fit};
 
 use crate::enumeration::{MAX_RANGES, rises};
+use crate::integer::{INTEGER_ATTRIBUTES, base_value, clock_value, order_value};
+use crate::judge::names::Names;
 use crate::judge::survey::Survey;
-use crate::judge::type_attributes::{TypeKind, judge_attributes};
+use crate::judge::value::{judge_align, judge_flag, judge_natural, number, order_remedy, unread};
+use crate::lookup::{attr, is_among};
+use crate::member::{STRING_ATTRIBUTES, is_encoding};
+use crate::scope_rule::has_word;
+use crate::value::{one_word, word_value};
 use std::alloc::Global;
-use tsdl_flaw::{Flaw, Spelled, Stop};
-use tsdl_grammar::{Entries, Entry, Kind};
+use tsdl_flaw::{Flaw, Remedy, Spelled, Stop};
+use tsdl_grammar::{Attribute, Entries, Entry, Kind, Value};
 
 /// `integer { .. }`, `enum : integer { .. } { .. }` or `string { .. }`.
 pub(crate) fn judge_kind(alloc: Global, survey: &Survey, kind: &Kind, at: usize) -> Result<(), Stop>
@@ -25,15 +38,10 @@ pub(crate) fn judge_kind(alloc: Global, survey: &Survey, kind: &Kind, at: usize)
             judge_attributes(alloc, survey, TypeKind::Integer, attributes.as_slice(), at)
         }
         Kind::Enumeration(attributes, entries) => {
-            let integer = at.saturating_add(2);
-            judge_attributes(
-                alloc,
-                survey,
-                TypeKind::Integer,
-                attributes.as_slice(),
-                integer,
-            )?;
-            let passed = integer.saturating_add(attributes.length());
+            let integer = TypeKind::Integer;
+            let place = at.saturating_add(2);
+            judge_attributes(alloc, survey, integer, attributes.as_slice(), place)?;
+            let passed = place.saturating_add(attributes.length());
             match entries {
                 Entries::Empty => Ok(()),
                 Entries::Listed(first, others, _) => {
@@ -81,4 +89,161 @@ fn judge_range(entry: &Entry, at: usize) -> Result<(), Stop>
     }
     let place = at.saturating_add(entry.low.length()).saturating_add(3);
     Err(Stop::expected(place, &high, "a number that is not below the range's first"))
+}
+
+/// A type that may have attributes.
+#[derive(Clone, Copy)]
+pub(crate) enum TypeKind {
+    Integer,
+    Text,
+}
+
+/// The attributes of a type behind its word, an atom.
+pub(crate) fn judge_attributes(
+    alloc: Global,
+    survey: &Survey,
+    kind: TypeKind,
+    attributes: &[Attribute],
+    at: usize,
+) -> Result<(), Stop>
+    ensures meant { IfOk result (λ _. IsSome (kind_meaning survey.now.known (tree_of kind attributes.now))) }
+    ensures fault { IfErr result (StopsAmong at (word (type_word kind) ∷ attrs_toks attributes.now)) }
+{
+    let mut names = Names::new(alloc);
+    let mut next = at.saturating_add(2);
+    for attribute in attributes {
+        judge_attribute(alloc, survey, kind, &mut names, attribute, next)?;
+        next = next.saturating_add(attribute.length());
+    }
+    match kind {
+        TypeKind::Integer if attr("size", attributes).is_none() => {
+            Err(Stop::at_atom(next, Flaw::Syntax("a `size`")))
+        }
+        TypeKind::Integer | TypeKind::Text => Ok(()),
+    }
+}
+
+/// `name "=" value ";"`, an attribute behind others of these names.
+fn judge_attribute(
+    alloc: Global,
+    survey: &Survey,
+    kind: TypeKind,
+    names: &mut Names,
+    attribute: &Attribute,
+    at: usize,
+) -> Result<(), Stop>
+    ensures own { IfOk result (λ _. AddsOwn (own_attrs kind) (own_asked survey.now.known kind) names.old.names attribute.now names.new.names) }
+    ensures fault { IfErr result (StopsWhere (λ front. AreNamed front marks.Equals names.old.names) at (attr_toks attribute.now)) }
+    ensures named { IfOk result (λ _. (front : List Atom) → AreNamed front marks.Equals names.old.names → AreNamed (front ++ attr_toks attribute.now) marks.Equals names.new.names) }
+{
+    if !is_among(attributes_of(kind), &attribute.name) {
+        return Err(Stop::unsupported(alloc, at, &attribute.name, Remedy::Nothing));
+    }
+    names.add(alloc, &attribute.name, at)?;
+    let behind = at.saturating_add(attribute.name.length()).saturating_add(1);
+    judge_value(alloc, survey, kind, attribute, behind)
+}
+
+/// The attributes that a type may have.
+fn attributes_of(kind: TypeKind) -> &'static [&'static [&'static str]]
+    ensures { names_of result.now ≡ own_attrs kind }
+{
+    match kind {
+        TypeKind::Integer => &INTEGER_ATTRIBUTES,
+        TypeKind::Text => &STRING_ATTRIBUTES,
+    }
+}
+
+/// The value of an attribute, behind its name and `=`.
+fn judge_value(
+    alloc: Global,
+    survey: &Survey,
+    kind: TypeKind,
+    attribute: &Attribute,
+    at: usize,
+) -> Result<(), Stop>
+    ensures fit { IfOk result (λ _. IsTrue (is_fit (own_asked survey.now.known kind) attribute.now)) }
+    ensures fault { IfErr result (StopsWhere (IsBehindName attribute.now.name) at (value_toks attribute.now.value)) }
+{
+    let Some(word) = one_word(&attribute.name) else {
+        return Ok(());
+    };
+    match kind {
+        TypeKind::Integer => judge_integer(alloc, survey, word.as_str(), &attribute.value, at),
+        TypeKind::Text if is_encoding(&attribute.value) => Ok(()),
+        TypeKind::Text => Err(unread(alloc, &attribute.value, at, Remedy::Nothing)),
+    }
+}
+
+/// What the attribute of this name of an integer has.
+#[tactic(auto, using(crate::proofs::JudgedParts::any_front))]
+fn judge_integer(
+    alloc: Global,
+    survey: &Survey,
+    word: &str,
+    value: &Value,
+    at: usize,
+) -> Result<(), Stop>
+    ensures fit { IfOk result (λ _. IsTrue (fits (of_integer survey.now.known) word.now value.now)) }
+    ensures fault { IfErr result (StopsWhere (IsBehindWord word.now) at (value_toks value.now)) }
+{
+    match word {
+        "size" => match judge_natural(value, at)? {
+            1..=64 => Ok(()),
+            _ => Err(Stop::expected(at, value, "a size from 1 to 64 bits")),
+        },
+        "align" => judge_align(number(value, at)?, at),
+        "signed" => judge_flag(value, at),
+        "byte_order" => judge_order(alloc, survey, value, at),
+        "base" => judge_base(alloc, value, at),
+        "map" => judge_map(survey, value, at),
+        _ => Ok(()),
+    }
+}
+
+/// `native`, or the trace's own byte order.
+fn judge_order(alloc: Global, survey: &Survey, value: &Value, at: usize) -> Result<(), Stop>
+    ensures fit { IfOk result (λ _. IsTrue (is_some (order_value survey.now.known.order value.now))) }
+    ensures fault { IfErr result (StopsAmong at (value_toks value.now)) }
+{
+    match word_value(value) {
+        Some(word) if !survey.has_order && has_word(word.as_str(), &["native"]) => Ok(()),
+        Some(_) if survey.has_order && order_value(survey.known.order(), value).is_some() => Ok(()),
+        _ => Err(unread(alloc, value, at, order_remedy(value))),
+    }
+}
+
+/// `2 binary b`, `8 octal oct o`, `10 decimal dec d i u` or `16 hexadecimal hex x X p`.
+fn judge_base(alloc: Global, value: &Value, at: usize) -> Result<(), Stop>
+    ensures fit { IfOk result (λ _. IsTrue (is_some (base_value value.now))) }
+    ensures fault { IfErr result (StopsAmong at (value_toks value.now)) }
+{
+    if base_value(value).is_some() {
+        return Ok(());
+    }
+    if let Value::Number(_) = value {
+        judge_natural(value, at)?;
+        return Err(Stop::expected(at, value, "2, 8, 10 or 16"));
+    }
+    Err(unread(alloc, value, at, Remedy::Nothing))
+}
+
+/// `clock.NAME.value`. A clock that is not there is a flaw of its name.
+fn judge_map(survey: &Survey, value: &Value, at: usize) -> Result<(), Stop>
+    ensures fit { IfOk result (λ _. IsTrue (is_some (clock_value survey.now.known.clocks value.now))) }
+    ensures fault { IfErr result (StopsAmong at (value_toks value.now)) }
+{
+    if clock_value(&survey.known, value).is_some() {
+        return Ok(());
+    }
+    let Value::Name(name) = value else {
+        return Err(Stop::expected(at, value, "a name"));
+    };
+    match name.rest.as_slice() {
+        [_, last] if name.first.as_str() == "clock" && last.as_str() == "value" => {
+            let place = at.saturating_add(2);
+            Err(Stop::at_atom(place, Flaw::Syntax("the name of a clock")))
+        }
+        _ => Err(Stop::expected(at, value, "`clock.NAME.value`")),
+    }
 }

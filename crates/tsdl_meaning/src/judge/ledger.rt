@@ -78,42 +78,25 @@ impl Ledger {
         match block {
             Block::Trace(_) => self.has_trace = true,
             Block::Environment(_) => self.has_environment = true,
-            Block::Clock(items) => self.add_clock(alloc, items.as_slice())?,
-            Block::Stream(items) => self.add_stream(items.as_slice())?,
-            Block::Event(items) => self.add_event(alloc, items.as_slice())?,
+            Block::Clock(items) => {
+                if let Some(name) = name_in(items.as_slice()) {
+                    let _is_new = self.clocks.insert(String::from_str(alloc, name.as_str())?)?;
+                }
+            }
+            Block::Stream(items) => {
+                if let Some(id) = number_or_zero("id", items.as_slice()) {
+                    let _is_new = self.streams.insert(id)?;
+                }
+            }
+            Block::Event(items) => {
+                let items = items.as_slice();
+                let (Some(name), Some(numbers)) = (name_in(items), event_numbers(items)) else {
+                    return Ok(());
+                };
+                let name = String::from_str(alloc, name.as_str())?;
+                drop(self.events.insert(numbers, name)?);
+            }
         }
-        Ok(())
-    }
-
-    fn add_clock(&mut self, alloc: Global, items: &[Item]) -> Result<(), AllocError>
-        ensures adds { OnOk result (AddsClock self.old items.now self.new) }
-        ensures noted { (front : List Atom) → AreNoted front self.old → Holds front (block_toks (Block.Clock items.now)) → OnOk result (AreNoted front self.new) }
-    {
-        if let Some(name) = name_in(items) {
-            let _is_new = self.clocks.insert(String::from_str(alloc, name.as_str())?)?;
-        }
-        Ok(())
-    }
-
-    fn add_stream(&mut self, items: &[Item]) -> Result<(), AllocError>
-        ensures adds { OnOk result (AddsStream self.old items.now self.new) }
-        ensures noted { (front : List Atom) → AreNoted front self.old → Holds front (block_toks (Block.Stream items.now)) → OnOk result (AreNoted front self.new) }
-    {
-        if let Some(id) = number_or_zero("id", items) {
-            let _is_new = self.streams.insert(id)?;
-        }
-        Ok(())
-    }
-
-    fn add_event(&mut self, alloc: Global, items: &[Item]) -> Result<(), AllocError>
-        ensures adds { OnOk result (AddsEvent self.old items.now self.new) }
-        ensures noted { (front : List Atom) → AreNoted front self.old → Holds front (block_toks (Block.Event items.now)) → OnOk result (AreNoted front self.new) }
-    {
-        let (Some(name), Some(numbers)) = (name_in(items), event_numbers(items)) else {
-            return Ok(());
-        };
-        let name = String::from_str(alloc, name.as_str())?;
-        drop(self.events.insert(numbers, name)?);
         Ok(())
     }
 
@@ -125,10 +108,8 @@ impl Ledger {
         if !self.has_trace {
             return Ok(Flaw::Syntax("a trace block"));
         }
-        match self.first_orphan(alloc)? {
-            Some(orphan) => Ok(Flaw::NoStream(orphan)),
-            None => Ok(Flaw::NoPacketSize),
-        }
+        let orphan = self.first_orphan(alloc)?;
+        Ok(orphan.map_or(Flaw::NoPacketSize, Flaw::NoStream))
     }
 
     /// The first event by number whose stream is not there.

@@ -11,6 +11,7 @@ ghost use Rattle.tsdl_meaning.specs.Judged.{StopsAmong, StopsWhere};
 ghost use Rattle.tsdl_meaning.specs.FlawlessStructures.{AddsMember, IsFlawless};
 ghost use Rattle.tsdl_meaning.specs.MembersBefore.{AreMembers, IsBehindMembers, IsBehindKind};
 
+use crate::judge::block::Judging;
 use crate::judge::brackets::judge_brackets;
 use crate::judge::kind::judge_kind;
 use crate::judge::survey::Survey;
@@ -25,20 +26,26 @@ use tsdl_grammar::{MemberTree, Structure};
 
 /// `"struct" "{" { member } "}" [ "align" "(" number ")" ]`.
 pub(crate) fn judge_structure(
-    alloc: Global,
-    survey: &Survey,
+    judging: &Judging,
     rule: ScopeRule,
     structure: &Structure,
     at: usize,
 ) -> Result<(), Stop>
     ensures fault { IfErr result (StopsAmong at (struct_toks structure.now)) }
-    ensures flawless { IfOk result (λ _. IsFlawless survey.now.known rule structure.now) }
+    ensures flawless { IfOk result (λ _. IsFlawless judging.now.survey.now.known rule structure.now) }
 {
-    let mut members = Members::new(alloc);
+    let mut members = Members::new(judging.alloc);
     let mut next = at.saturating_add(2);
     let trees = structure.members.as_slice();
     for tree in trees {
-        judge_member(alloc, survey, rule, &mut members, tree, next)?;
+        judge_member(
+            judging.alloc,
+            judging.survey,
+            rule,
+            &mut members,
+            tree,
+            next,
+        )?;
         next = next.saturating_add(tree.length());
     }
     match structure.align {
@@ -61,24 +68,18 @@ fn judge_member(
     ensures flawless { IfOk result (λ _. AddsMember survey.now.known rule members.old tree.now members.new) }
 {
     judge_kind(alloc, survey, &tree.kind, at)?;
-    let place = at.saturating_add(tree.kind.length());
-    judge_member_name(members, &tree.name, place)?;
-    let behind = place.saturating_add(1);
+    let at = at.saturating_add(tree.kind.length());
+    judge_member_name(members, &tree.name, at)?;
+    let behind = at.saturating_add(1);
     judge_brackets(alloc, members, tree.brackets.as_slice(), behind)?;
     let Some(member) = member_meaning(alloc, &survey.known, members, tree)? else {
         unreachable!()
     };
     if !suits_rule(rule, tree.name.as_str(), &member) {
-        let end = place
-            .saturating_add(tree.brackets.length())
-            .saturating_add(1);
+        let end = at.saturating_add(tree.brackets.length()).saturating_add(1);
         let name = String::from_str(alloc, tree.name.as_str())?;
         let flaw = Flaw::Unsupported(name, Remedy::Nothing);
-        return Err(Stop::Fault(Fault {
-            at: place,
-            end,
-            flaw,
-        }));
+        return Err(Stop::Fault(Fault { at, end, flaw }));
     }
     members.push(tree.name.copy(alloc)?, member)?;
     Ok(())

@@ -10,8 +10,7 @@ ghost use Rattle.tsdl_meaning.specs.Ledgers.{AreNoted};
 ghost use Rattle.tsdl_meaning.specs.FlawlessTexts.{IsFlawlessBehind, Surveys};
 ghost use Rattle.tsdl_meaning.specs.PacketSizes.{MissesSizes};
 
-use crate::judge::block::{BlockKind, Judging, judge_items};
-use crate::judge::environment::judge_environment;
+use crate::judge::block::{BlockKind, Judging, judge_environment, judge_items};
 use crate::judge::ledger::Ledger;
 use crate::judge::survey::Survey;
 use std::alloc::Global;

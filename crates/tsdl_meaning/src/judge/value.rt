@@ -18,7 +18,7 @@ use tsdl_flaw::{Flaw, Remedy, Stop};
 use tsdl_grammar::{Number, Value};
 
 /// The number of a value that has to be one.
-fn number(value: &Value, at: usize) -> Result<&Number, Stop>
+pub(crate) fn number(value: &Value, at: usize) -> Result<&Number, Stop>
     ensures fault { IfErr result (StopsAmong at (value_toks value.now)) }
     ensures number { IfOk result (λ n. value.now ≡ Value.Number n.now) }
 {
@@ -71,14 +71,6 @@ pub(crate) fn judge_align(number: &Number, at: usize) -> Result<(), Stop>
         return Err(Stop::at(at, number, Flaw::Limit("an alignment of at most 4096 bits")));
     }
     Err(Stop::expected(at, number, "a power of two"))
-}
-
-/// Judges the alignment that an attribute has.
-pub(crate) fn judge_align_value(value: &Value, at: usize) -> Result<(), Stop>
-    ensures fit { IfOk result (λ _. IsTrue (is_alignment value.now)) }
-    ensures fault { IfErr result (StopsWhere IsBehindAlign at (value_toks value.now)) }
-{
-    judge_align(number(value, at)?, at)
 }
 
 /// A string.

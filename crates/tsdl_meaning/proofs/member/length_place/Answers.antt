@@ -1,7 +1,7 @@
 use Rattle.std.proofs.Common.{List, [], ℕ, arith}
 use Rattle.tsdl_meaning.proofs.TextWords.{MemberType, Plain, Str}
 use Rattle.tsdl_meaning.specs.Members.{is_length}
-use Rattle.tsdl_meaning.proofs.LengthPlaces.{first_place, no_place}
+use Rattle.tsdl_meaning.proofs.MemberNames.{first_place, no_place}
 use Rattle.tsdl_meaning.proofs.member.length_place.Goals as goal
 
 a_member : List ℕ × MemberType

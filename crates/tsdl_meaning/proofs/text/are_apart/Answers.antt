@@ -1,6 +1,6 @@
 use Rattle.std.proofs.Common.{◌≡◌, Bool, IfOk, subst, arith, ◌∙◌}
 use Rattle.std.proofs.lemmas.List.{take_all}
-use Rattle.tsdl_meaning.proofs.DistinctWords.{distinct_texts}
+use Rattle.tsdl_meaning.proofs.DistinctKeys.{distinct_texts}
 use Rattle.tsdl_meaning.proofs.text.are_apart.Goals as goal
 
 pub returns : goal.returns

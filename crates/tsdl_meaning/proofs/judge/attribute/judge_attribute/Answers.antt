@@ -3,7 +3,7 @@ use Rattle.tsdl_meaning.proofs.TextWords.{AddsAttribute, AreNamed, Atom, IsBegun
 use Rattle.tsdl_grammar.specs.declared.token.Mark.TheVariants as marks
 use Rattle.tsdl_meaning.proofs.JudgedParts.{handed, err_from, ok_from, ok_map, stops_same}
 use Rattle.tsdl_meaning.proofs.BlockAttributes.{attr_opening, attr_rest}
-use Rattle.tsdl_meaning.proofs.StopsInNames.{named_behind}
+use Rattle.tsdl_meaning.proofs.StopsInAttributes.{named_behind}
 use Rattle.tsdl_meaning.proofs.judge.attribute.judge_attribute.Goals as goal
 
 pub returns-in_err-add-clause-fault : goal.returns-in_err-add-clause-fault

@@ -1,7 +1,7 @@
 use Rattle.std.proofs.Common.{ℕ, List, Some, sym, ap, ◌∙◌, codes}
 use Rattle.tsdl_meaning.proofs.TextWords.{AreNoted, Atom, IsAttribute, value_toks}
 use Rattle.tsdl_meaning.specs.declared.judge.block.BlockKind.TheVariants as kinds
-use Rattle.tsdl_meaning.proofs.HandedOn.{any_front}
+use Rattle.tsdl_meaning.proofs.JudgedParts.{any_front}
 use Rattle.tsdl_meaning.proofs.BlockAttributes.{in_block}
 use Rattle.tsdl_meaning.proofs.judge.attribute.judge_value.Goals as goal
 

@@ -1,6 +1,6 @@
 use Rattle.std.proofs.Common.{sym, subst}
 use Rattle.tsdl_meaning.proofs.TextWords.{BlockKind, Ends, begun, word_of}
-use Rattle.tsdl_meaning.proofs.BlockNumbers.{unnumbered_twice, event_twice}
+use Rattle.tsdl_meaning.proofs.BlockAttributes.{unnumbered_twice, event_twice}
 use Rattle.tsdl_meaning.proofs.judge.block.is_numbered_twice.Goals as goal
 
 pub returns-in-None-clause-twice : goal.returns-in-None-clause-twice

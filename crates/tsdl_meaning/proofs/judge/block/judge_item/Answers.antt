@@ -3,7 +3,7 @@ use Rattle.tsdl_meaning.proofs.TextWords.{AddsAttribute, AddsItem, AddsScope, Ar
 use Rattle.tsdl_grammar.specs.declared.token.Mark.TheVariants as marks
 use Rattle.tsdl_meaning.specs.declared.judge.block.BlockNames.{BlockNames}
 use Rattle.tsdl_meaning.proofs.JudgedParts.{err_from, ok_map}
-use Rattle.tsdl_meaning.proofs.StopsInNames.{still_named}
+use Rattle.tsdl_meaning.proofs.StopsInAttributes.{still_named}
 use Rattle.tsdl_meaning.proofs.judge.block.judge_item.Goals as goal
 
 pub returns-in-Attribute-clause-fault : goal.returns-in-Attribute-clause-fault

@@ -27,7 +27,13 @@ returns-in_err-judge_item-clause-fault c =
     (record { noted = noted_more front before judging.ledger.now n; ends = (front, refl) }, c.loop-item.invariant.kept front)))
 
 pub loop-item-init : goal.loop-item-init
-loop-item-init c = record { place = λ fits. omega (arith, c.saturating_add-next.ensures); kept = λ front. c.new-names.ensures (front ++ begun (word_of c.args.judging.now.kind) []); flawless = no_items c.args.judging.now.survey.now.known c.args.judging.now.kind c.args.judging.now.ledger.now c.new-names.result }
+loop-item-init c = record {
+  place = λ fits. omega (arith, c.saturating_add-next.ensures);
+  kept = λ front.
+      let before = front ++ begun (word_of c.args.judging.now.kind) [] in
+      record { attributes = c.new-attributes.ensures before marks.Equals; scopes = c.new-scopes.ensures before marks.Assign };
+  flawless = no_items c.args.judging.now.survey.now.known c.args.judging.now.kind c.args.judging.now.ledger.now (record { attributes = c.new-attributes.result; scopes = c.new-scopes.result });
+}
 
 pub loop-item-preserved : goal.loop-item-preserved
 loop-item-preserved c =

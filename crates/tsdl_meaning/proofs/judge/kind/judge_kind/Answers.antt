@@ -22,8 +22,8 @@ returns-in_err-judge_attributes-in-Enumeration-clause-fault c =
     rw c.in-Enumeration.is
     (handed c.from_residual.result stop (StopsAmong c.args.at (kind_toks (kinds.Enumeration c.in-Enumeration.attributes c.in-Enumeration.entries))) c.from_residual.ensures.1
     (λ front behind.
-    in_integer c.in-Enumeration.attributes c.in-Enumeration.entries front behind c.args.at c.saturating_add-integer.result stop c.saturating_add-integer.ensures
-    (subst (λ (l : List Attribute). StopsAmong c.saturating_add-integer.result (int_toks l) stop) c.as_slice-in-Enumeration.ensures c.in_err-judge_attributes-in-Enumeration.ensures.fault)))
+    in_integer c.in-Enumeration.attributes c.in-Enumeration.entries front behind c.args.at c.saturating_add-place.result stop c.saturating_add-place.ensures
+    (subst (λ (l : List Attribute). StopsAmong c.saturating_add-place.result (int_toks l) stop) c.as_slice-in-Enumeration.ensures c.in_err-judge_attributes-in-Enumeration.ensures.fault)))
 
 pub returns-in-Listed-clause-fault : goal.returns-in-Listed-clause-fault
 returns-in-Listed-clause-fault c =
@@ -35,7 +35,7 @@ returns-in-Listed-clause-fault c =
     (err_from c.judge_ranges.result (StopsWhere IsBehindBrace place (entry_toks first ++ flat_map next_entry_toks c.as_slice-in-Listed.result.now))
     (StopsAmong c.args.at (kind_toks (kinds.Enumeration attrs (entries.Listed first others c.in-Listed.field-2))))
     (λ s h front behind.
-    in_ranges attrs first others c.in-Listed.field-2 front behind c.args.at c.saturating_add-integer.result c.length.result c.saturating_add-passed.result place s c.saturating_add-integer.ensures
+    in_ranges attrs first others c.in-Listed.field-2 front behind c.args.at c.saturating_add-place.result c.length.result c.saturating_add-passed.result place s c.saturating_add-place.ensures
     c.length.ensures c.saturating_add-passed.ensures c.saturating_add.ensures
     (subst (λ (l : List Entry). StopsWhere IsBehindBrace place (entry_toks first ++ flat_map next_entry_toks l) s) c.as_slice-in-Listed.ensures h))
     c.judge_ranges.ensures.fault)

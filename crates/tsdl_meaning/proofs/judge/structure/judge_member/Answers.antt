@@ -24,7 +24,7 @@ returns-in_err-judge_member_name-clause-fault c =
     (λ (s : Stop). (done : List MemberTree) → AreMembers done c.args.members.now → StopsWhere (IsBehindMembers done) c.args.at (member_toks t) s)
     c.from_residual-in_err-judge_member_name.ensures.1
     (λ done same front behind ends.
-    at_name t done front behind c.args.at c.length.result c.saturating_add-place.result stop c.length.ensures c.saturating_add-place.ensures ends
+    at_name t done front behind c.args.at c.length.result c.saturating_add-at.result stop c.length.ensures c.saturating_add-at.ensures ends
     (c.in_err-judge_member_name.ensures.fault done t.kind same))
 
 pub returns-in_err-judge_brackets-clause-fault : goal.returns-in_err-judge_brackets-clause-fault
@@ -36,7 +36,7 @@ returns-in_err-judge_brackets-clause-fault c =
     (λ (s : Stop). (done : List MemberTree) → AreMembers done c.args.members.now → StopsWhere (IsBehindMembers done) c.args.at (member_toks t) s)
     c.from_residual-in_err-judge_brackets.ensures.1
     (λ done same front behind ends.
-    in_brackets t front behind c.args.at c.length.result c.saturating_add-place.result next stop c.length.ensures c.saturating_add-place.ensures c.saturating_add-behind.ensures
+    in_brackets t front behind c.args.at c.length.result c.saturating_add-at.result next stop c.length.ensures c.saturating_add-at.ensures c.saturating_add-behind.ensures
     (subst (λ (l : List Bracket). StopsAmong next (flat_map bracket_toks l) stop) c.as_slice.ensures c.in_err-judge_brackets.ensures.fault))
 
 pub unreachable-requires : goal.unreachable-requires
@@ -50,8 +50,8 @@ unreachable-requires c =
 
 pub returns-then-not-suits_rule-clause-fault : goal.returns-then-not-suits_rule-clause-fault
 returns-then-not-suits_rule-clause-fault c = λ done same front behind ends.
-    let passed = c.saturating_add-place.result in
-    at_name_and_brackets c.args.tree.now front behind c.args.at c.length.result passed (stops.Fault (record { at = passed; end = c.saturating_add-end.result; flaw = flaws.Unsupported c.in_ok-name.name Nothing })) c.length.ensures c.saturating_add-place.ensures
+    let passed = c.saturating_add-at.result in
+    at_name_and_brackets c.args.tree.now front behind c.args.at c.length.result passed (stops.Fault (record { at = passed; end = c.saturating_add-end.result; flaw = flaws.Unsupported c.in_ok-name.name Nothing })) c.length.ensures c.saturating_add-at.ensures
     (λ f b.
     unsuited_stop c.args.tree.now f b passed c.length-then-not-suits_rule.result c.saturating_add.result c.saturating_add-end.result c.in_ok-name.name Nothing
     (c.in_ok-name.ensures.ok ∙ c.as_str-then-not-suits_rule.ensures) c.length-then-not-suits_rule.ensures c.saturating_add.ensures c.saturating_add-end.ensures)

@@ -28,7 +28,7 @@ loop-tree-preserved c =
           c.loop-tree.invariant.stands c.length.ensures c.saturating_add-next-in-loop-tree.ensures;
       members = next_members ts i t c.judge_member.new.members (omega arith) c.tree-item.is (c.in_ok-judge_member.ensures.added (take i ts) c.loop-tree.invariant.members);
       flawless =
-          next_flawless c.args.survey.now.known c.args.rule ts i t c.loop-tree.members c.judge_member.new.members (omega arith) c.tree-item.is c.loop-tree.invariant.flawless
+          next_flawless c.args.judging.now.survey.now.known c.args.rule ts i t c.loop-tree.members c.judge_member.new.members (omega arith) c.tree-item.is c.loop-tree.invariant.flawless
           c.in_ok-judge_member.ensures.flawless;
     }
 
@@ -45,22 +45,22 @@ pub loop-tree-init : goal.loop-tree-init
 loop-tree-init c = record {
   stands = λ fits. omega (arith, c.saturating_add-next.ensures);
   members = ap names_in c.new-members.ensures;
-  flawless = none_flawless c.args.survey.now.known c.args.rule c.new-members.result c.new-members.ensures;
+  flawless = none_flawless c.args.judging.now.survey.now.known c.args.rule c.new-members.result c.new-members.ensures;
 }
 
 pub returns-in-None-clause-flawless : goal.returns-in-None-clause-flawless
 returns-in-None-clause-flawless c =
-    all_flawless c.args.survey.now.known c.args.rule c.args.structure.now c.loop-tree.members
+    all_flawless c.args.judging.now.survey.now.known c.args.rule c.args.structure.now c.loop-tree.members
     (rw (sym c.as_slice-trees.ensures)
-    (subst (λ (ts : List MemberTree). AreFlawless c.args.survey.now.known c.args.rule ts c.loop-tree.members) (take_all c.loop-tree.tree-index c.as_slice-trees.result.now (omega arith)) c.loop-tree.invariant.flawless))
+    (subst (λ (ts : List MemberTree). AreFlawless c.args.judging.now.survey.now.known c.args.rule ts c.loop-tree.members) (take_all c.loop-tree.tree-index c.as_slice-trees.result.now (omega arith)) c.loop-tree.invariant.flawless))
     (ap (λ (o : Option Number). is_some (align_of o)) c.in-None.is)
 
 pub returns-clause-flawless : goal.returns-clause-flawless
 returns-clause-flawless c =
-    ok_map c.judge_align.result (λ u. IsSome (align_of (Some c.in-Some.number))) (λ u. IsFlawless c.args.survey.now.known c.args.rule c.args.structure.now)
+    ok_map c.judge_align.result (λ u. IsSome (align_of (Some c.in-Some.number))) (λ u. IsFlawless c.args.judging.now.survey.now.known c.args.rule c.args.structure.now)
     (λ u aligned.
-    all_flawless c.args.survey.now.known c.args.rule c.args.structure.now c.loop-tree.members
+    all_flawless c.args.judging.now.survey.now.known c.args.rule c.args.structure.now c.loop-tree.members
     (rw (sym c.as_slice-trees.ensures)
-    (subst (λ (ts : List MemberTree). AreFlawless c.args.survey.now.known c.args.rule ts c.loop-tree.members) (take_all c.loop-tree.tree-index c.as_slice-trees.result.now (omega arith)) c.loop-tree.invariant.flawless))
+    (subst (λ (ts : List MemberTree). AreFlawless c.args.judging.now.survey.now.known c.args.rule ts c.loop-tree.members) (take_all c.loop-tree.tree-index c.as_slice-trees.result.now (omega arith)) c.loop-tree.invariant.flawless))
     (ap (λ (o : Option Number). is_some (align_of o)) c.in-Some.is ∙ aligned))
     c.judge_align.ensures.aligned

@@ -1,7 +1,7 @@
 use Rattle.std.proofs.Common.{◌≡◌, ℕ, Bool, true, false, not, cond, List, sym, ap, ◌∙◌}
 use Rattle.tsdl_meaning.proofs.TextWords.{bytes_eq, contains_text, string_bytes, written}
 use Rattle.std.proofs.lemmas.Map.Text.{btree_set_updates_text}
-use Rattle.tsdl_meaning.proofs.StopsInNames.{named_twice, one_named}
+use Rattle.tsdl_meaning.proofs.StopsInAttributes.{named_twice, one_named}
 use Rattle.tsdl_meaning.proofs.judge.names.Names.add.Goals as goal
 
 was_there : (there new : Bool) → new ≡ not there → there ≡ not new
