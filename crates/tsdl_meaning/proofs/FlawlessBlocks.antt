@@ -5,9 +5,7 @@ use Rattle.tsdl_meaning.proofs.TextWords.{AllByRecursion, AreFlawless, BlockKind
 use Rattle.std.proofs.lemmas.Bool.{cases_Bool, not-true, and_from}
 use Rattle.tsdl_meaning.specs.declared.judge.block.BlockKind.TheVariants as kinds
 use Rattle.tsdl_meaning.specs.declared.scope_rule.ScopeRule.TheVariants.{AnyMembers, PacketHeader, PacketContext, EventHeader}
-use Rattle.tsdl_meaning.proofs.FlawlessNames.{and_left, and_right}
-use Rattle.tsdl_meaning.proofs.FlawlessValues.{some_is, value_fits, needed_is, default_is, option_is}
-use Rattle.tsdl_meaning.proofs.FlawlessScopes.{scope_means, has_alike}
+use Rattle.tsdl_meaning.proofs.FlawlessItems.{and_left, and_right, some_is, value_fits, needed_is, default_is, option_is, scope_means, has_alike}
 
 -- ---- the parts of a block
 

@@ -6,8 +6,7 @@ use Rattle.tsdl_meaning.proofs.TextWords.{AddsFact, AllByRecursion, EnvironmentE
 use Rattle.std.proofs.lemmas.Bool.Decides.{nat_tests}
 use Rattle.std.proofs.lemmas.List.{map-append, take_more}
 use Rattle.tsdl_grammar.proofs.Inversion.{bind_some, bind_is, some_same}
-use Rattle.tsdl_meaning.proofs.FlawlessNames.{no_two_more}
-use Rattle.tsdl_meaning.proofs.FlawlessValues.{some_is}
+use Rattle.tsdl_meaning.proofs.FlawlessItems.{no_two_more, some_is}
 use Rattle.std.proofs.lemmas.Slice.Eq.{bytes_eq-Decides}
 use Rattle.tsdl_grammar.specs.declared.token.Mark.TheVariants as marks
 

@@ -1,12 +1,229 @@
--- The attributes and scopes of a block, one behind the other.
-use Rattle.std.proofs.Common.{◌≡◌, ℕ, ◌+◌, ◌<◌, true, ◌&&◌, List, [], ◌∷◌, ◌++◌, length, take, get_or, refl, sym, ap, subst, ◌∙◌}
-use Rattle.std.proofs.lemmas.Bool.{and_from}
-use Rattle.tsdl_meaning.proofs.TextWords.{AddsAttribute, AddsItem, AddsScope, AllByRecursion, AreFlawless, Attribute, BTreeSet, BlockKind, Global, IsFlawlessScope, Item, Known, Ledger, Scope, String, are_distinct, asked_of, attr_in, attr_names, attrs_in, is_fit, list_all, scope_in, scope_names, scopes_in, words_of}
+-- Names, attributes and scopes without a flaw, one behind the other, and what is looked up among them.
+use Rattle.std.proofs.Common.{◌≡◌, ℕ, Bool, true, false, not, cond, ◌&&◌, ◌||◌, List, [], ◌∷◌, ◌++◌, refl, ap, ap₂, ◌∙◌, inl, inr, Option, Some, None, sym, subst, map, append_assoc, ◌+◌, ◌<◌, length, take, get_or}
+use Rattle.tsdl_meaning.proofs.TextWords.{AddsName, AllByRecursion, BTreeSet, Global, Name, String, are_distinct, bytes_eq, contains_text, flat_map, list_any, no_two, same_words, with_dot, words_of, written, Asked, Attribute, Value, alone, attr, fits, fits_word, is_fit, is_some, is_word, list_all, one_word, option_map, optional, with_default, ◌>>=◌, BlockKind, IsFlawlessScope, Known, MemberTree, MemberType, Scope, ScopeRule, StructType, Structure, has_member, member_names, members_meaning, names_in, provided, rule_in, scope, scope_meaning, scopes_of, struct_meaning, struct_type, structure_of, suits_rule, AddsAttribute, AddsItem, AddsScope, AreFlawless, Item, Ledger, asked_of, attr_in, attr_names, attrs_in, scope_in, scope_names, scopes_in}
+use Rattle.std.proofs.lemmas.Bool.{cases_Bool, not-true, not_from_false, and_from, ltb-true, eqb-true}
 use Rattle.std.proofs.lemmas.List.{append-nil, map-append, take_more}
+use Rattle.std.proofs.lemmas.List.Concat.{flat_map-append}
+use Rattle.std.proofs.lemmas.Slice.Eq.{bytes_eq-Decides}
+use Rattle.tsdl_meaning.proofs.DistinctKeys.{any_behind}
+use Rattle.tsdl_grammar.proofs.Inversion.{bind_some, bind_is, some_same}
+use Rattle.tsdl_grammar.proofs.TypeParts.{struct_type-own}
+use Rattle.tsdl_grammar.proofs.MeaningParts.{says_structure}
+use Rattle.tsdl_meaning.specs.FlawlessStructures.{IsFlawless}
 use Rattle.std.proofs.lemmas.List.Folds.{list_all-append}
 use Rattle.tsdl_grammar.specs.declared.tree.Item.TheVariants as items
 use Rattle.tsdl_meaning.specs.declared.judge.block.BlockNames.{BlockNames}
-use Rattle.tsdl_meaning.proofs.FlawlessNames.{HasAll, names_more, distinct_more, all_more, flat_more}
+
+-- ---- tests
+
+pub and_left : (a b : Bool) → (a && b) ≡ true → a ≡ true
+and_left true b e = refl
+and_left false b e = absurd cc
+
+pub and_right : (a b : Bool) → (a && b) ≡ true → b ≡ true
+and_right true b e = e
+and_right false b e = absurd cc
+
+or_none : (a b : Bool) → a ≡ false → b ≡ false → (a || b) ≡ false
+or_none true b e f = absurd cc
+or_none false b e f = f
+
+-- ---- lists
+
+pub all_more : {A : Type 0} (P : A → Type 0) (xs : List A) (x : A) → AllByRecursion P xs → P x → AllByRecursion P (xs ++ x ∷ [])
+all_more P [] x all p = (p, tt)
+all_more P (y ∷ ys) x all p = (all.0, all_more P ys x all.1 p)
+
+pub all_weaker : {A : Type 0} (P Q : A → Type 0) (xs : List A) → ((x : A) → P x → Q x) → AllByRecursion P xs → AllByRecursion Q xs
+all_weaker P Q [] f all = tt
+all_weaker P Q (x ∷ xs) f all = (f x all.0, all_weaker P Q xs f all.1)
+
+pub flat_more : {A B : Type 0} (f : A → List B) (xs : List A) (x : A) → flat_map f (xs ++ x ∷ []) ≡ flat_map f xs ++ f x
+flat_more {A} {B} f xs x = flat_map-append f xs (x ∷ []) ∙ ap (λ (l : List B). flat_map f xs ++ l) (append-nil (f x))
+
+-- one more item that is none of the others
+pub no_two_more : {A : Type 0} (same : A → A → Bool) (xs : List A) (x : A) → AllByRecursion (λ y. same y x ≡ false) xs → no_two same xs ≡ true → no_two same (xs ++ x ∷ []) ≡ true
+no_two_more same [] x others d = refl
+no_two_more same (y ∷ ys) x others d =
+    let none = not-true (list_any (same y) ys) (and_left (not (list_any (same y) ys)) (no_two same ys) d) in
+    and_from (not (list_any (same y) (ys ++ x ∷ []))) (no_two same (ys ++ x ∷ []))
+    (not_from_false (list_any (same y) (ys ++ x ∷ [])) (any_behind (same y) ys x ∙ or_none (list_any (same y) ys) (same y x) none others.0))
+    (no_two_more same ys x others.1 (and_right (not (list_any (same y) ys)) (no_two same ys) d))
+
+-- ---- names as they are written
+
+pub same_words-is : (xs ys : List (List ℕ)) → same_words xs ys ≡ true → xs ≡ ys
+same_words-is [] [] e = refl
+same_words-is [] (y ∷ ys) e = absurd cc
+same_words-is (x ∷ xs) [] e = absurd cc
+same_words-is (x ∷ xs) (y ∷ ys) e =
+    ap₂ (λ (w : List ℕ) (ws : List (List ℕ)). w ∷ ws) ((bytes_eq-Decides x y).0 (and_left (bytes_eq x y) (same_words xs ys) e)) (same_words-is xs ys (and_right (bytes_eq x y) (same_words xs ys) e))
+
+abbrev pub written_words : List (List ℕ) → List ℕ
+written_words [] = []
+written_words (w ∷ ws) = w ++ flat_map with_dot ws
+
+-- all these names are in the set
+abbrev pub HasAll : BTreeSet (String Global) → List (List (List ℕ)) → Type 0
+HasAll names all = AllByRecursion (λ n. contains_text names (written_words n) ≡ true) all
+
+other_words : (names : BTreeSet (String Global)) (m n : List (List ℕ)) → contains_text names (written_words n) ≡ false → contains_text names (written_words m) ≡ true → same_words m n ≡ false
+other_words names m n fresh there =
+    elim (cases_Bool (same_words m n)) [
+      | inr e ↦ e
+      | inl e ↦ absurd (let same : contains_text names (written_words m) ≡ contains_text names (written_words n) = ap (λ (ws : List (List ℕ)). contains_text names (written_words ws)) (same_words-is m n e) in cc)
+    ]
+
+still : (names : BTreeSet (String Global)) (b : Bool) (w : List ℕ) → contains_text names w ≡ true → cond b true (contains_text names w) ≡ true
+still names true w e = refl
+still names false w e = e
+
+-- one more name
+pub names_more : (before after : BTreeSet (String Global)) (all : List (List (List ℕ))) (name : Name) → AddsName before name after → HasAll before all → HasAll after (all ++ words_of name ∷ [])
+names_more before after all name a has =
+    let same : bytes_eq (written name) (written name) ≡ true = (bytes_eq-Decides (written name) (written name)).1 refl in
+    all_more (λ n. contains_text after (written_words n) ≡ true) all (words_of name)
+    (all_weaker (λ n. contains_text before (written_words n) ≡ true) (λ n. contains_text after (written_words n) ≡ true) all
+    (λ n e. a.kept (written_words n) ∙ still before (bytes_eq (written name) (written_words n)) (written_words n) e) has)
+    (a.kept (written name) ∙ ap (λ (b : Bool). cond b true (contains_text before (written name))) same)
+
+pub distinct_more : (before after : BTreeSet (String Global)) (all : List (List (List ℕ))) (name : Name) → AddsName before name after → HasAll before all → are_distinct all ≡ true
+    → are_distinct (all ++ words_of name ∷ []) ≡ true
+distinct_more before after all name a has d =
+    no_two_more same_words all (words_of name)
+    (all_weaker (λ n. contains_text before (written_words n) ≡ true) (λ n. same_words n (words_of name) ≡ false) all (λ n e. other_words before n (words_of name) a.fresh e) has) d
+
+-- ---- values of attributes
+
+pub some_is : {A : Type 0} (o : Option A) → is_some o ≡ true → (x : A) × (o ≡ Some x)
+some_is (Some x) e = (x, refl)
+some_is None e = absurd cc
+
+-- ---- one word
+
+alone_is : (first : List ℕ) (rest : List (List ℕ)) (w : List ℕ) → is_word w (record { first = first; rest = rest }) ≡ true → alone first rest ≡ Some w
+alone_is first [] w e = ap (λ (x : List ℕ). Some x) ((bytes_eq-Decides first w).0 (and_left (bytes_eq first w) true e))
+alone_is first (x ∷ rest) w e = absurd (let f : false ≡ true = and_right (bytes_eq first w) false e in cc)
+
+word_is : (w : List ℕ) (n : Name) → is_word w n ≡ true → one_word n ≡ Some w
+word_is w n e = alone_is n.first n.rest w e
+
+-- the value of an attribute of this name is what the name asks for
+pub value_fits : (asked : Asked) (w : List ℕ) (attrs : List Attribute) (v : Value) → list_all (is_fit asked) attrs ≡ true → attr w attrs ≡ Some v → fits asked w v ≡ true
+value_fits asked w [] v h e = absurd cc
+value_fits asked w (a ∷ attrs) v h e =
+    elim (cases_Bool (is_word w a.name)) [
+      | inl t ↦
+          let found : Some a.value ≡ Some v = sym (rw t refl) ∙ e in
+          let same : a.value ≡ v = cc in
+          let fit : is_fit asked a ≡ true = and_left (is_fit asked a) (list_all (is_fit asked) attrs) h in
+          let by_word : fits_word asked (Some w) a.value ≡ true = ap (λ (o : Option (List ℕ)). fits_word asked o a.value) (sym (word_is w a.name t)) ∙ fit in
+          subst (λ (x : Value). fits asked w x ≡ true) same by_word
+      | inr f ↦
+          let later : attr w attrs ≡ Some v = sym (rw f refl) ∙ e in
+          value_fits asked w attrs v (and_right (is_fit asked a) (list_all (is_fit asked) attrs) h) later
+    ]
+
+-- ---- what is needed, has a default, or may be left out
+
+module _ {A : Type 0} (asked : Asked) (f : Value → Option A) (w : List ℕ) (attrs : List Attribute) (all : list_all (is_fit asked) attrs ≡ true) (asks : (v : Value) → fits asked w v ≡ true → is_some (f v) ≡ true) where
+  pub needed_is : is_some (attr w attrs) ≡ true → (x : A) × ((attr w attrs >>= f) ≡ Some x)
+  needed_is there =
+      let found = some_is (attr w attrs) there in
+      let meant = some_is (f found.0) (asks found.0 (value_fits asked w attrs found.0 all found.1)) in
+      (meant.0, ap (λ (o : Option Value). o >>= f) found.1 ∙ meant.1)
+
+  default_of : (d : A) (o : Option Value) → ((v : Value) → o ≡ Some v → is_some (f v) ≡ true) → (x : A) × (with_default d f o ≡ Some x)
+  default_of d None h = (d, refl)
+  default_of d (Some v) h = some_is (f v) (h v refl)
+
+  pub default_is : (d : A) → (x : A) × (with_default d f (attr w attrs) ≡ Some x)
+  default_is d = default_of d (attr w attrs) (λ v e. asks v (value_fits asked w attrs v all e))
+
+  option_of : (o : Option Value) → ((v : Value) → o ≡ Some v → is_some (f v) ≡ true) → (x : Option A) × (optional f o ≡ Some x)
+  option_of None h = (None, refl)
+  option_of (Some v) h = let x = some_is (f v) (h v refl) in (Some x.0, ap (option_map (λ (y : A). Some y)) x.1)
+
+  pub option_is : (x : Option A) × (optional f (attr w attrs) ≡ Some x)
+  option_is = option_of (attr w attrs) (λ v e. asks v (value_fits asked w attrs v all e))
+
+-- ---- scopes
+
+-- ---- the names of members
+
+named_alike : (known : Known) (before : List (List ℕ × MemberType)) (trees : List MemberTree) (members : List (List ℕ × MemberType)) → members_meaning known before trees ≡ Some members
+    → names_in members ≡ names_in before ++ map (λ t. t.name) trees
+unfolding members_meaning
+named_alike known before [] members e = ap names_in (some_same members before (Some before) e refl) ∙ sym (append-nil (names_in before))
+named_alike known before (t ∷ trees) members e =
+    let a = bind_some _ (λ u. members_meaning known (before ++ (t.name, u) ∷ []) trees) members e in
+    named_alike known (before ++ (t.name, a.0) ∷ []) trees members a.2
+    ∙ ap (λ (l : List (List ℕ)). l ++ map (λ x. x.name) trees) (map-append (λ m. m.0) before ((t.name, a.0) ∷ []))
+    ∙ append_assoc (names_in before) (t.name ∷ []) (map (λ x. x.name) trees)
+
+member_there : (w : List ℕ) (members : List (List ℕ × MemberType)) → has_member w members ≡ list_any (bytes_eq w) (names_in members)
+member_there w [] = refl
+member_there w (m ∷ ms) = ap (λ (b : Bool). bytes_eq w m.0 || b) (member_there w ms)
+
+-- ---- the structure of a scope
+
+-- the structure of a scope is not there, or has no flaw
+abbrev MayBeFlawless : Known → ScopeRule → Option Structure → Type 0
+MayBeFlawless known rule None = Unit {0}
+MayBeFlawless known rule (Some s) = IsFlawless known rule s
+
+found : (known : Known) (kind : BlockKind) (n : List (List ℕ)) (rule : ScopeRule) (scopes : List Scope) → AllByRecursion (IsFlawlessScope known kind) scopes → rule_in (scopes_of kind) n ≡ Some rule
+    → MayBeFlawless known rule (scope n scopes)
+found known kind n rule [] all asks = tt
+found known kind n rule (s ∷ scopes) all asks =
+    elim (cases_Bool (same_words (words_of s.name) n)) [
+      | inl t ↦
+          let same : rule_in (scopes_of kind) (words_of s.name) ≡ Some rule = ap (rule_in (scopes_of kind)) (same_words-is (words_of s.name) n t) ∙ asks in
+          let flawless = subst (λ (r : ScopeRule). IsFlawless known r s.structure) (some_same all.0.rule rule (rule_in (scopes_of kind) (words_of s.name)) all.0.asks same) all.0.flawless in
+          let here : scope n (s ∷ scopes) ≡ Some s.structure = rw t refl in
+          subst (MayBeFlawless known rule) (sym here) flawless
+      | inr f ↦ (let later : scope n (s ∷ scopes) ≡ scope n scopes = rw f refl in subst (MayBeFlawless known rule) (sym later) (found known kind n rule scopes all.1 asks))
+    ]
+
+-- a scope means a structure, of which the members are those that stand there
+pub record Means (known : Known) (n : List (List ℕ)) (rule : ScopeRule) (scopes : List Scope) : Type 0 where
+  pub meant : StructType
+  pub means : scope_meaning known n (suits_rule rule) scopes ≡ Some meant
+  pub names : names_in meant.members ≡ member_names (scope n scopes)
+
+nothing : StructType
+nothing = record { members = []; min_align = 1; positive = ltb-true 0 1 refl; power_of_two = eqb-true 0 0 refl }
+
+record Held (known : Known) (rule : ScopeRule) (o : Option Structure) : Type 0 where
+  meant : StructType
+  means : (structure_of known o >>= λ t. provided (list_all (suits_rule rule) t.members) (Some t)) ≡ Some meant
+  names : names_in meant.members ≡ member_names o
+
+meant_by : (known : Known) (rule : ScopeRule) (o : Option Structure) → MayBeFlawless known rule o → Held known rule o
+unfolding nothing
+meant_by known rule None h = record {
+  meant = nothing;
+  means = bind_is (struct_type [] 1) (λ t. provided (list_all (suits_rule rule) t.members) (Some t)) nothing nothing (struct_type-own nothing) refl;
+  names = refl;
+}
+meant_by known rule (Some s) h = record {
+  meant = h.meant;
+  means =
+      bind_is (struct_meaning known s) (λ t. provided (list_all (suits_rule rule) t.members) (Some t)) h.meant h.meant h.means (ap (λ (b : Bool). provided b (Some h.meant)) h.suit);
+  names = named_alike known [] s.members h.meant.members (says_structure known s h.meant h.means).members;
+}
+
+pub scope_means : (known : Known) (kind : BlockKind) (n : List (List ℕ)) (rule : ScopeRule) (scopes : List Scope) → AllByRecursion (IsFlawlessScope known kind) scopes
+    → rule_in (scopes_of kind) n ≡ Some rule → Means known n rule scopes
+scope_means known kind n rule scopes all asks =
+    let h = meant_by known rule (scope n scopes) (found known kind n rule scopes all asks) in
+    record { meant = h.meant; means = h.means; names = h.names }
+
+-- a member of this name is there where one stands there
+pub has_alike : (known : Known) (n : List (List ℕ)) (rule : ScopeRule) (scopes : List Scope) (w : List ℕ) (m : Means known n rule scopes) → has_member w m.meant.members ≡ list_any (bytes_eq w) (member_names (scope n scopes))
+has_alike known n rule scopes w m = member_there w m.meant.members ∙ ap (list_any (bytes_eq w)) m.names
+
+-- ---- items
 
 -- attributes without a flaw, and the names so far
 pub record Attributes (kind : BlockKind) (ledger : Ledger) (names : BTreeSet (String Global)) (all : List Attribute) : Type 0 where

@@ -13,7 +13,7 @@ use Rattle.tsdl_grammar.proofs.Inversion.{bind_is}
 use Rattle.tsdl_grammar.proofs.MeaningParts.{text_says}
 use Rattle.tsdl_meaning.specs.FlawlessTexts.{AddsEvent}
 use Rattle.tsdl_meaning.proofs.MemberNames.{contains_first, contains_later}
-use Rattle.tsdl_meaning.proofs.FlawlessNames.{and_left, and_right, all_more, all_weaker, flat_more, no_two_more}
+use Rattle.tsdl_meaning.proofs.FlawlessItems.{and_left, and_right, all_more, all_weaker, flat_more, no_two_more}
 use Rattle.tsdl_meaning.proofs.FlawlessFacts.{each_more, no_facts, facts_mean}
 use Rattle.tsdl_meaning.proofs.FlawlessBlocks.{TraceOf, ClockOf, StreamOf, EventOf, trace_means, clock_means, stream_means, event_means}
 use Rattle.tsdl_meaning.proofs.NumberOrder.{numbers_order}

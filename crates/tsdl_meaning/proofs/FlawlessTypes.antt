@@ -1,7 +1,7 @@
--- Integers, enumerations and strings without a flaw mean something.
-use Rattle.std.proofs.Common.{◌≡◌, ℕ, ◌+◌, ◌<◌, ◌%◌, ◌==◌, Bool, true, false, cond, ◌&&◌, ◌||◌, List, [], ◌∷◌, ◌++◌, length, take, get_or, Option, Some, None, IsSome, Bor, ℤ, pos, negsuc, refl, sym, ap, subst, ◌∙◌, arith, length-append, length-take}
+-- What the kinds, the brackets and the members of a structure mean in which no flaw is found.
+use Rattle.std.proofs.Common.{◌≡◌, ℕ, ◌+◌, ◌<◌, ◌%◌, ◌==◌, Bool, true, false, cond, ◌&&◌, ◌||◌, List, [], ◌∷◌, ◌++◌, length, take, get_or, Option, Some, None, IsSome, Bor, ℤ, pos, negsuc, refl, sym, ap, subst, ◌∙◌, arith, length-append, length-take, ◌*◌, ◌≤◌, ◌⊎◌, ◌^◌, max, inl, inr, not}
 use Rattle.std.specs.Prelude.{codes, nat_lt, nat_le, int_le}
-use Rattle.tsdl_meaning.proofs.TextWords.{AddsOwn, AreRanges, Asked, Attribute, BTreeSet, ByteOrder, Entries, Entry, Global, Known, Number, String, Value, are_distinct, attr, attr_names, base_value, bytes_eq, clock_value, default_align, encoding_value, entries_of, entry_meaning, enum_meaning, flag_value, has_only, high_of, int_attrs, int_meaning, is_alignment, is_among, is_fit, is_size, is_some, kind_meaning, list_all, list_any, natural_value, of_integer, of_string, option_map, option_map_or, order_value, order_words, own_asked, own_attrs, provided, signed_of, string_attrs, text_meaning, tree_of, with_default, word_value, words_of, ◌>>=◌}
+use Rattle.tsdl_meaning.proofs.TextWords.{AddsOwn, AreRanges, Asked, Attribute, BTreeSet, ByteOrder, Entries, Entry, Global, Known, Number, String, Value, are_distinct, attr, attr_names, base_value, bytes_eq, clock_value, default_align, encoding_value, entries_of, entry_meaning, enum_meaning, flag_value, has_only, high_of, int_attrs, int_meaning, is_alignment, is_among, is_fit, is_size, is_some, kind_meaning, list_all, list_any, natural_value, of_integer, of_string, option_map, option_map_or, order_value, order_words, own_asked, own_attrs, provided, signed_of, string_attrs, text_meaning, tree_of, with_default, word_value, words_of, ◌>>=◌, Adds, AreBrackets, Bracket, HaveNumbers, KeepsLimits, Leaf, MemberTree, MemberType, NameLength, are_lengths, bracketed, count_of, each, elements_of, length_place, member_meaning, natural, ScopeRule, StructType, Structure, align_of, align_with, has_member, members_meaning, struct_meaning, struct_type, suits_rule}
 use Rattle.std.proofs.lemmas.Bool.{ltb-true, leb-true, eqb-true, le-leb, and_from}
 use Rattle.std.proofs.lemmas.Bool.Decides.{nat_tests}
 use Rattle.std.proofs.lemmas.List.{map-append, take_more}
@@ -12,11 +12,14 @@ use Rattle.ctf_types.specs.declared.IntType.{IntType}
 use Rattle.tsdl_grammar.specs.declared.tree.Kind.TheVariants as kinds
 use Rattle.tsdl_meaning.specs.declared.judge.kind.TypeKind.{TypeKind}
 use Rattle.tsdl_meaning.specs.declared.judge.kind.TypeKind.TheVariants as types
-use Rattle.tsdl_grammar.proofs.Inversion.{bind_is}
-use Rattle.tsdl_grammar.proofs.TypeParts.{int_type-own}
-use Rattle.tsdl_meaning.proofs.FlawlessNames.{HasAll, names_more, distinct_more, and_left, and_right}
+use Rattle.tsdl_grammar.proofs.Inversion.{bind_is, bind_some, provided_some, some_same}
+use Rattle.tsdl_grammar.proofs.TypeParts.{int_type-own, struct_type-own}
+use Rattle.tsdl_meaning.proofs.FlawlessItems.{HasAll, names_more, distinct_more, and_left, and_right, some_is, value_fits, default_is, option_is}
 use Rattle.tsdl_meaning.proofs.FlawlessFacts.{each_more}
-use Rattle.tsdl_meaning.proofs.FlawlessValues.{some_is, value_fits, default_is, option_is}
+use Rattle.std.proofs.Math.Nat.{mul_assoc, mul-one, one-mul}
+use Rattle.tsdl_grammar.specs.declared.tree.Bracket.TheVariants as brackets
+use Rattle.tsdl_meaning.specs.declared.judge.brackets.Lengths.{Lengths}
+use Rattle.tsdl_meaning.specs.FlawlessStructures.{AddsMember, IsFlawless}
 
 -- ---- the attributes of a type
 
@@ -199,3 +202,219 @@ next_range first others i e h is s few meant =
 pub seen : (o : Option (Bor Value)) (p : Option Value) → option_map (λ v. v.now) o ≡ p → is_some o ≡ true → is_some p ≡ true
 seen None p e h = absurd cc
 seen (Some v) p e h = ap is_some (sym e)
+
+-- ---- brackets
+
+elements_behind : (ns : List ℕ) (n : ℕ) → elements_of (ns ++ n ∷ []) ≡ elements_of ns * max n 1
+elements_behind [] n = mul-one (max 1 n) ∙ turned ∙ sym (one-mul (max n 1))
+  where
+    turned : max 1 n ≡ max n 1
+    turned = omega arith
+elements_behind (m ∷ ns) n = ap (λ (k : ℕ). max 1 m * k) (elements_behind ns n) ∙ sym (mul_assoc (max 1 m) (elements_of ns) (max n 1))
+
+all_bits : (ns : List ℕ) (n : ℕ) → list_all (nat_lt 0) ns ≡ true → 0 < n → list_all (nat_lt 0) (ns ++ n ∷ []) ≡ true
+all_bits ns n all some =
+    let one : nat_lt 0 n ≡ true = grind (arith, nat_tests) in
+    list_all-append (nat_lt 0) ns (n ∷ []) ∙ and_from (list_all (nat_lt 0) ns) (nat_lt 0 n && true) all (and_from (nat_lt 0 n) true one refl)
+
+-- one more number
+pub count_more : (before : List (List ℕ × MemberType)) (done : List Bracket) (old new : Lengths) (number : Number) (n : ℕ) → AreBrackets before done old → natural number ≡ Some n → KeepsLimits old n new
+    → Adds old n new → AreBrackets before (done ++ brackets.Count number ∷ []) new
+count_more before done old new number n s e keeps adds =
+    let made = adds.made ∙ ap (λ (k : ℕ). k * max n 1) s.made ∙ sym (elements_behind s.numbers n) in
+    let l = length-append s.numbers (n ∷ []) in
+    let c = s.counted in let a = adds.counted in let f = keeps.few in let small = keeps.small in
+    record {
+      numbers = s.numbers ++ n ∷ [];
+      counted = omega (arith, l, c, a);
+      made = made;
+      few = omega (arith, l, c, f);
+      small = subst (λ (k : ℕ). k ≤ 1048576) made small;
+      shape = by s.shape;
+    }
+  where
+    by : ((old.is_sequence ≡ false) × HaveNumbers done s.numbers) ⊎ ((old.is_sequence ≡ true) × NameLength before done s.numbers)
+        → ((new.is_sequence ≡ false) × HaveNumbers (done ++ brackets.Count number ∷ []) (s.numbers ++ n ∷ [])) ⊎ ((new.is_sequence ≡ true) × NameLength before (done ++ brackets.Count number ∷ []) (s.numbers ++ n ∷ []))
+    by (inl plain) = inl (adds.sequence ∙ plain.0, each_more count_of done s.numbers (brackets.Count number) n plain.1 e)
+    by (inr named) = inr (
+      adds.sequence ∙ named.0,
+      record {
+        name = named.1.name;
+        rest = named.1.rest ++ brackets.Count number ∷ [];
+        begins = ap (λ (l : List Bracket). l ++ brackets.Count number ∷ []) named.1.begins;
+        numbered = each_more count_of named.1.rest s.numbers (brackets.Count number) n named.1.numbered e;
+        place = named.1.place;
+        bits = all_bits s.numbers n named.1.bits (keeps.bits named.0);
+      },
+    )
+
+none_there : (done : List Bracket) (numbers : List ℕ) → HaveNumbers done numbers → length numbers ≡ 0 → done ≡ []
+none_there [] numbers e z = refl
+none_there (b ∷ done) numbers e z =
+    let a = bind_some (count_of b) (λ y. each count_of done >>= λ ys. Some (y ∷ ys)) numbers e in
+    let r = bind_some (each count_of done) (λ ys. Some (a.0 ∷ ys)) numbers a.2 in
+    let same : a.0 ∷ r.0 ≡ numbers = cc in
+    absurd (let l = ap length same in omega (arith, l, z))
+
+-- the name of a length, which is the first
+pub name_more : (before : List (List ℕ × MemberType)) (done : List Bracket) (old : Lengths) (name : List ℕ) → AreBrackets before done old → old.is_sequence ≡ false → old.count ≡ 0
+    → IsSome (length_place before name) → AreBrackets before (done ++ brackets.Member name ∷ []) (record old { is_sequence = true })
+name_more before done old name s plain none place = by s.shape
+  where
+    by : ((old.is_sequence ≡ false) × HaveNumbers done s.numbers) ⊎ ((old.is_sequence ≡ true) × NameLength before done s.numbers)
+        → AreBrackets before (done ++ brackets.Member name ∷ []) (record old { is_sequence = true })
+    by (inr named) = absurd (let never : false ≡ true = sym plain ∙ named.0 in cc)
+    by (inl numbered) =
+        let empty = none_there done s.numbers numbered.1 (sym s.counted ∙ none) in
+        let first = ap (λ (l : List Bracket). l ++ brackets.Member name ∷ []) empty in
+        record {
+          numbers = [];
+          counted = none;
+          made = s.made ∙ ap elements_of (empty_numbers s.numbers (sym s.counted ∙ none));
+          few = omega arith;
+          small = omega arith;
+          shape = inr (refl, record { name = name; rest = []; begins = first; numbered = refl; place = place; bits = refl });
+        }
+      where
+        empty_numbers : (ns : List ℕ) → length ns ≡ 0 → ns ≡ []
+        empty_numbers [] e = refl
+        empty_numbers (n ∷ ns) e = absurd (omega (arith, e))
+
+pub next_brackets : (before : List (List ℕ × MemberType)) (bs : List Bracket) (i : ℕ) (x : Bracket) (new : Lengths) → i < length bs → x ≡ get_or bs i x → AreBrackets before (take i bs ++ x ∷ []) new
+    → AreBrackets before (take (i + 1) bs) new
+next_brackets before bs i x new h is s =
+    subst (λ (l : List Bracket). AreBrackets before l new) (sym (take_more bs i x h ∙ ap (λ (y : Bracket). take i bs ++ y ∷ []) (sym is))) s
+
+-- ---- the type
+
+lengths_are : (ns : List ℕ) → length ns ≤ 8 → elements_of ns ≤ 1048576 → are_lengths ns ≡ true
+lengths_are ns few small =
+    let a : nat_le (length ns) 8 ≡ true = grind (arith, nat_tests) in
+    let b : nat_le (elements_of ns) (2 ^ 20) ≡ true = grind (arith, nat_tests) in
+    and_from (nat_le (length ns) 8) (nat_le (elements_of ns) (2 ^ 20)) a b
+
+arrays_mean : (before : List (List ℕ × MemberType)) (leaf : Leaf) (bs : List Bracket) (numbers : List ℕ) → HaveNumbers bs numbers → are_lengths numbers ≡ true → IsSome (bracketed before leaf bs)
+unfolding bracketed
+arrays_mean before leaf [] numbers e limits = refl
+arrays_mean before leaf (brackets.Count n ∷ rest) numbers e limits = rw (e, limits) refl
+arrays_mean before leaf (brackets.Member w ∷ rest) numbers e limits = absurd cc
+
+sequence_means : (before : List (List ℕ × MemberType)) (leaf : Leaf) (bs : List Bracket) (numbers : List ℕ) → NameLength before bs numbers → are_lengths numbers ≡ true → IsSome (bracketed before leaf bs)
+unfolding bracketed
+sequence_means before leaf bs numbers s limits =
+    let place = some_is (length_place before s.name) s.place in
+    let made : IsSome (bracketed before leaf (brackets.Member s.name ∷ s.rest)) = rw (s.numbered, place.1, limits, s.bits) refl in
+    subst (λ (l : List Bracket). IsSome (bracketed before leaf l)) (sym s.begins) made
+
+pub brackets_mean : (before : List (List ℕ × MemberType)) (leaf : Leaf) (bs : List Bracket) (l : Lengths) → AreBrackets before bs l → IsSome (bracketed before leaf bs)
+brackets_mean before leaf bs l s =
+    let limits = lengths_are s.numbers s.few s.small in
+    elim s.shape [
+      | inl plain ↦ arrays_mean before leaf bs s.numbers plain.1 limits
+      | inr named ↦ sequence_means before leaf bs s.numbers named.1 limits
+    ]
+
+pub member_means : (known : Known) (before : List (List ℕ × MemberType)) (t : MemberTree) → IsSome (kind_meaning known t.kind) → ((leaf : Leaf) → IsSome (bracketed before leaf t.brackets))
+    → IsSome (member_meaning known before t)
+unfolding member_meaning
+member_means known before t kind arrays = let leaf = some_is (kind_meaning known t.kind) kind in rw leaf.1 (arrays leaf.0)
+
+-- ---- structures
+
+-- these members have no flaw
+pub record AreFlawless (known : Known) (rule : ScopeRule) (trees : List MemberTree) (members : List (List ℕ × MemberType)) : Type 0 where
+  pub few : length members ≤ 1024
+  pub counted : length members ≡ length trees
+  pub mean : members_meaning known [] trees ≡ Some members
+  pub suit : list_all (suits_rule rule) members ≡ true
+
+-- one more member behind these
+more_mean : (known : Known) (before : List (List ℕ × MemberType)) (trees : List MemberTree) (members : List (List ℕ × MemberType)) (tree : MemberTree) (t : MemberType)
+    → members_meaning known before trees ≡ Some members → has_member tree.name members ≡ false → member_meaning known members tree ≡ Some t
+    → members_meaning known before (trees ++ tree ∷ []) ≡ Some (members ++ (tree.name, t) ∷ [])
+unfolding members_meaning
+more_mean known before [] members tree t e fresh meant =
+    let same : members ≡ before = some_same members before (Some before) e refl in
+    let one : provided (not (has_member tree.name before)) (member_meaning known before tree) ≡ Some t =
+    subst (λ (ms : List (List ℕ × MemberType)). provided (not (has_member tree.name ms)) (member_meaning known ms tree) ≡ Some t) same (ap (λ (b : Bool). provided (not b) (member_meaning known members tree)) fresh ∙ meant)
+    in
+    bind_is (provided (not (has_member tree.name before)) (member_meaning known before tree)) (λ u. Some (before ++ (tree.name, u) ∷ [])) t (members ++ (tree.name, t) ∷ []) one
+    (ap (λ (ms : List (List ℕ × MemberType)). Some (ms ++ (tree.name, t) ∷ [])) (sym same))
+more_mean known before (x ∷ trees) members tree t e fresh meant =
+    let first = provided (not (has_member x.name before)) (member_meaning known before x) in
+    let a = bind_some first (λ u. members_meaning known (before ++ (x.name, u) ∷ []) trees) members e in
+    bind_is first (λ u. members_meaning known (before ++ (x.name, u) ∷ []) (trees ++ tree ∷ [])) a.0 (members ++ (tree.name, t) ∷ []) a.1
+    (more_mean known (before ++ (x.name, a.0) ∷ []) trees members tree t a.2 fresh meant)
+
+one_more : (known : Known) (rule : ScopeRule) (trees : List MemberTree) (before after : List (List ℕ × MemberType)) (tree : MemberTree) → AreFlawless known rule trees before
+    → AddsMember known rule before tree after → AreFlawless known rule (trees ++ tree ∷ []) after
+one_more known rule trees before after tree f a =
+    let more = before ++ (tree.name, a.member) ∷ [] in
+    let m = length-append before ((tree.name, a.member) ∷ []) in
+    let n = length-append trees (tree ∷ []) in
+    let few = f.few in let counted = f.counted in let below = a.few in
+    let made : AreFlawless known rule (trees ++ tree ∷ []) more = record {
+      few = omega (arith, m, below);
+      counted = omega (arith, m, n, counted);
+      mean = more_mean known [] trees before tree a.member f.mean a.fresh a.meant;
+      suit = list_all-append (suits_rule rule) before ((tree.name, a.member) ∷ []) ∙ and_from (list_all (suits_rule rule) before) (suits_rule rule (tree.name, a.member) && true) f.suit (and_from (suits_rule rule (tree.name, a.member)) true a.suits refl);
+    } in
+    subst (AreFlawless known rule (trees ++ tree ∷ [])) (sym a.added) made
+
+pub next_flawless : (known : Known) (rule : ScopeRule) (trees : List MemberTree) (i : ℕ) (tree : MemberTree) (before after : List (List ℕ × MemberType)) → i < length trees
+    → tree ≡ get_or trees i tree → AreFlawless known rule (take i trees) before → AddsMember known rule before tree after → AreFlawless known rule (take (i + 1) trees) after
+next_flawless known rule trees i tree before after h is f a =
+    subst (λ (l : List MemberTree). AreFlawless known rule l after) (sym (take_more trees i tree h ∙ ap (λ (t : MemberTree). take i trees ++ t ∷ []) (sym is)))
+    (one_more known rule (take i trees) before after tree f a)
+
+pub none_flawless : (known : Known) (rule : ScopeRule) (members : List (List ℕ × MemberType)) → members ≡ [] → AreFlawless known rule [] members
+unfolding members_meaning
+none_flawless known rule members e = subst (AreFlawless known rule []) (sym e) (record { few = omega arith; counted = refl; mean = refl; suit = refl })
+
+-- a number that is an alignment in range
+aligned : (n : ℕ) → (nat_lt 0 n && (4096 % n == 0)) ≡ true → (nat_lt 0 n ≡ true) × ((4096 % n == 0) ≡ true)
+aligned n e = both (nat_lt 0 n) (4096 % n == 0) e
+  where
+    both : (a b : Bool) → (a && b) ≡ true → (a ≡ true) × (b ≡ true)
+    both true b e = (refl, e)
+    both false b e = absurd cc
+
+-- the alignment of a structure is in range
+in_range : (o : Option Number) (a : ℕ) → align_of o ≡ Some a → (nat_lt 0 a ≡ true) × ((4096 % a == 0) ≡ true)
+in_range None a e = let one : 1 ≡ a = some_same 1 a (Some 1) refl e in subst (λ (n : ℕ). (nat_lt 0 n ≡ true) × ((4096 % n == 0) ≡ true)) one (refl, refl)
+in_range (Some number) a e =
+    let b = bind_some (natural number) (λ n. provided (nat_lt 0 n && (4096 % n == 0)) (Some n)) a e in
+    let c = provided_some (nat_lt 0 b.0 && (4096 % b.0 == 0)) (Some b.0) a b.2 in
+    subst (λ (n : ℕ). (nat_lt 0 n ≡ true) × ((4096 % n == 0) ≡ true)) (some_same b.0 a (Some b.0) refl c.1) (aligned b.0 c.0)
+
+-- and so is the one that it has with its members
+in_range_with : (members : List (List ℕ × MemberType)) (a : ℕ) → (nat_lt 0 a ≡ true) × ((4096 % a == 0) ≡ true)
+    → (nat_lt 0 (align_with members a) ≡ true) × ((4096 % align_with members a == 0) ≡ true)
+in_range_with [] a h = (refl, refl)
+in_range_with (m ∷ ms) a h = h
+
+pub some_of : {A : Type 0} (o : Option A) → IsSome o → (x : A) × (o ≡ Some x)
+some_of (Some x) h = (x, refl)
+some_of None h = absurd cc
+
+-- all the members and the alignment
+pub all_flawless : (known : Known) (rule : ScopeRule) (s : Structure) (members : List (List ℕ × MemberType)) → AreFlawless known rule s.members members → IsSome (align_of s.align)
+    → IsFlawless known rule s
+unfolding struct_meaning
+all_flawless known rule s members f is =
+    let aligned_at = some_of (align_of s.align) is in
+    let align = aligned_at.0 in
+    let e = aligned_at.1 in
+    let a = align_with members align in
+    let r = in_range_with members align (in_range s.align align e) in
+    let meant : StructType = record { members = members; min_align = a; positive = ltb-true 0 a r.0; power_of_two = eqb-true (4096 % a) 0 r.1 } in
+    let m = f.few in let n = f.counted in
+    let few : nat_le (length s.members) 1024 ≡ true = grind (arith, nat_tests) in
+    record {
+      meant = meant;
+      means =
+          bind_is (provided (nat_le (length s.members) 1024) (members_meaning known [] s.members)) (λ ms. align_of s.align >>= λ n. struct_type ms (align_with ms n)) members meant
+          (ap (λ (b : Bool). provided b (members_meaning known [] s.members)) few ∙ f.mean)
+          (bind_is (align_of s.align) (λ n. struct_type members (align_with members n)) align meant e (struct_type-own meant));
+      suit = f.suit;
+    }

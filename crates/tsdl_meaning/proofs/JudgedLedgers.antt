@@ -1,12 +1,18 @@
--- What a ledger has of the blocks before a place.
-use Rattle.std.proofs.Common.{◌≡◌, ℕ, Bool, true, cond, List, [], ◌∷◌, ◌++◌, refl, Option, Some, sym, ap, ◌∙◌, subst, inl, inr, bytes_eq}
+-- What a ledger has of the blocks before a place, and flaws where a text ends.
+use Rattle.std.proofs.Common.{◌≡◌, ℕ, Bool, true, cond, List, [], ◌∷◌, ◌++◌, refl, Option, Some, sym, ap, ◌∙◌, subst, inl, inr, bytes_eq, ◌≤◌, ◌⊎◌, length, arith}
 use Rattle.std.proofs.lemmas.Bool.{cases_Bool}
 use Rattle.std.proofs.lemmas.Slice.Eq.{bytes_eq-Decides}
 use Rattle.std.proofs.lemmas.Map.Lookups.{exact_unsigned, exact_pairs}
-use Rattle.tsdl_meaning.proofs.TextWords.{AllByRecursion, AreNoted, Atom, BTreeMap, BTreeSet, ContainsKey, Equal-is, Global, HasClock, HasEvent, HasNumbers, Holds, IsSome, Item, Ledger, String, block_toks, clock_name, contains, contains_text, get, is_at, is_eq, is_some, nat_cmp, pair_cmp}
+use Rattle.tsdl_meaning.proofs.TextWords.{AllByRecursion, AreNoted, Atom, BTreeMap, BTreeSet, ContainsKey, Equal-is, Global, HasClock, HasEvent, HasNumbers, Holds, IsSome, Item, Ledger, String, block_toks, clock_name, contains, contains_text, get, is_at, is_eq, is_some, nat_cmp, pair_cmp, IfSizesMissed, IsWrong, Stop, StopsIn, kind_of, most}
 use Rattle.std.specs.Map.{lookup}
 use Rattle.tsdl_grammar.specs.declared.tree.Block.TheVariants as blocks
 use Rattle.tsdl_meaning.proofs.JudgedParts.{holds_more}
+use Rattle.std.proofs.lemmas.List.{append-nil}
+use Rattle.tsdl_grammar.specs.declared.fault.MetaFaultKind.{MetaFaultKind}
+use Rattle.tsdl_grammar.specs.declared.fault.MetaFaultKind.TheVariants as faults
+use Rattle.tsdl_flaw.specs.declared.flaw.Flaw.{Flaw}
+use Rattle.tsdl_flaw.specs.declared.flaw.Stop.TheVariants as stops
+use Rattle.tsdl_flaw.specs.TextStops.{IsTextFault, StopsText}
 
 -- what stands before a place stands before a later one
 pub noted_more : (front more : List Atom) (ledger : Ledger) → AreNoted front ledger → AreNoted (front ++ more) ledger
@@ -63,3 +69,38 @@ key_streams streams (e ∷ es) key all there =
           let later : lookup (is_at (pair_cmp key)) (e ∷ es) ≡ lookup (is_at (pair_cmp key)) es = rw f refl in
           key_streams streams es key all.1 (sym (ap is_some later) ∙ there)
     ]
+
+-- ---- the end of a text
+
+pub at_end : (toks : List Atom) (at : ℕ) (flaw : Flaw) → at ≡ length toks → (kind_of flaw ≡ faults.Syntax) ⊎ (kind_of flaw ≡ faults.NoPacketSize)
+    → IsTextFault toks (record { at = at; end = at; flaw = flaw })
+at_end toks at flaw e (inl syntax) =
+    inl (record {
+      from = length toks;
+      to = length toks;
+      begins = omega (arith, e);
+      ends = omega (arith, e);
+      flaw =
+          record {
+            before = toks;
+            piece = [];
+            behind = [];
+            parts = sym (append-nil toks);
+            begins = refl;
+            ends = omega arith;
+            wrong = subst (λ (k : MetaFaultKind). IsWrong toks [] k) (sym syntax) tt;
+          };
+    })
+at_end toks at flaw e (inr sizes) = inr (sizes, e, e)
+
+-- a stop among the atoms of a text
+pub text_stop : (toks : List Atom) (stop : Stop) → StopsIn [] 0 toks stop → StopsText toks stop
+text_stop toks (stops.Fault fault) s = λ h. inl (s (omega arith))
+text_stop toks stops.NoMemory s = tt
+
+-- a stop among the atoms of a text is never for want of a size
+pub never_sizes : (toks : List Atom) (stop : Stop) (P : Type 0) → StopsIn [] 0 toks stop → length toks ≤ most → IfSizesMissed stop P
+never_sizes toks (stops.Fault fault) P s bound =
+    let stands = s (omega (arith, bound)) in
+    λ kind. absurd (subst (λ (k : MetaFaultKind). IsWrong stands.flaw.before stands.flaw.piece k) kind stands.flaw.wrong)
+never_sizes toks stops.NoMemory P s bound = tt

@@ -8,7 +8,7 @@ use Rattle.tsdl_grammar.specs.Denotes.{clock_in}
 use Rattle.tsdl_grammar.proofs.Inversion.{bind_some, some_same}
 use Rattle.tsdl_grammar.proofs.BlockParts.{says_clock}
 use Rattle.tsdl_meaning.specs.NotedBlocks.{names_in}
-use Rattle.tsdl_meaning.proofs.FlawlessNames.{and_left, and_right, same_words-is}
+use Rattle.tsdl_meaning.proofs.FlawlessItems.{and_left, and_right, same_words-is}
 
 -- ---- tests
 

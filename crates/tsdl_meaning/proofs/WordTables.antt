@@ -1,8 +1,9 @@
--- A word that is none of a table's stands for nothing.
-use Rattle.std.proofs.Common.{◌≡◌, ℕ, false, List, [], ◌∷◌, None, refl, sym, inl, inr, bytes_eq}
-use Rattle.std.proofs.lemmas.Bool.{cases_Bool}
+-- A word that is none of a table's stands for nothing, and an identifier that a text parses from is an option.
+use Rattle.std.proofs.Common.{◌≡◌, ℕ, false, List, [], ◌∷◌, None, refl, sym, inl, inr, bytes_eq, ◌↔◌, Option, Some, Result, Ok, Err, IsOk, IfOk}
+use Rattle.std.proofs.lemmas.Bool.{cases_Bool, false≢true}
 use Rattle.std.proofs.lemmas.Slice.Eq.{bytes_eq-Decides}
-use Rattle.tsdl_meaning.proofs.TextWords.{meant_by}
+use Rattle.tsdl_meaning.proofs.TextWords.{meant_by, result_ok}
+use Rattle.uuid.specs.declared.error.Error.{Error}
 
 pub other_word : (a b : List ℕ) → (b ≡ a → ⊥) → bytes_eq a b ≡ false
 other_word a b h = elim (cases_Bool (bytes_eq a b)) [ inr e ↦ e | inl e ↦ absurd (h (sym ((bytes_eq-Decides a b).0 e))) ]
@@ -15,3 +16,8 @@ IsAbsent (row ∷ rows) w = (w ≡ row.0 → ⊥) × IsAbsent rows w
 pub absent : {A : Type 0} (rows : List (List ℕ × A)) (w : List ℕ) → IsAbsent rows w → meant_by rows w ≡ None
 absent [] w h = refl
 absent (row ∷ rows) w h = rw (other_word row.0 w h.0) (absent rows w h.1)
+
+pub parses_to : (r : Result (List ℕ) Error) (o : Option (List ℕ)) → (IsOk r ↔ ((u : List ℕ) × (o ≡ Some u))) → IfOk r (λ u. Some u ≡ o) → result_ok r ≡ o
+parses_to (Ok u) o iff is = is
+parses_to (Err e) None iff is = refl
+parses_to (Err e) (Some u) iff is = absurd (false≢true (iff.1 (u, refl)))

@@ -1,7 +1,7 @@
 use Rattle.std.proofs.Common.{sym, ◌∙◌, arith}
 use Rattle.std.proofs.lemmas.Bool.{false≢true}
 use Rattle.tsdl_grammar.proofs.TypeParts.{int_type-gives, int_type-refuses}
-use Rattle.tsdl_meaning.proofs.StructureTypes.{divisor_at_most}
+use Rattle.tsdl_meaning.proofs.MemberNames.{divisor_at_most}
 use Rattle.tsdl_meaning.proofs.integer.int_type.Goals as goal
 
 pub returns-then-size-gt64 : goal.returns-then-size-gt64

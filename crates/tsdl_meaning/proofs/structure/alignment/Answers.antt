@@ -1,5 +1,5 @@
 use Rattle.std.proofs.Common.{arith}
-use Rattle.tsdl_meaning.proofs.StructureTypes.{divisor_at_most}
+use Rattle.tsdl_meaning.proofs.MemberNames.{divisor_at_most}
 use Rattle.tsdl_meaning.proofs.structure.alignment.Goals as goal
 
 pub overflow_cast-result : goal.overflow_cast-result

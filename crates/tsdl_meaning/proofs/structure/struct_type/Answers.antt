@@ -1,4 +1,4 @@
-use Rattle.tsdl_meaning.proofs.StructureTypes.{struct_made}
+use Rattle.tsdl_meaning.proofs.MemberNames.{struct_made}
 use Rattle.tsdl_meaning.proofs.structure.struct_type.Goals as goal
 
 pub returns : goal.returns

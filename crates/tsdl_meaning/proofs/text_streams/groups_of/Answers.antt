@@ -1,5 +1,5 @@
 use Rattle.tsdl_meaning.proofs.TextWords.{events_of}
-use Rattle.tsdl_meaning.proofs.GroupsTaken.{one_more_event}
+use Rattle.tsdl_meaning.proofs.NumberOrder.{one_more_event}
 use Rattle.tsdl_meaning.proofs.text_streams.groups_of.Goals as goal
 
 pub loop-event-preserved : goal.loop-event-preserved

@@ -1,7 +1,7 @@
 use Rattle.std.proofs.Common.{refl, sym, ap, ◌∙◌}
 use Rattle.tsdl_meaning.proofs.TextWords.{with_group, with_own}
 use Rattle.tsdl_meaning.proofs.Fronts.{made_first}
-use Rattle.tsdl_meaning.proofs.GroupsTaken.{as_at_first, none_in_front, own_group, others_left}
+use Rattle.tsdl_meaning.proofs.NumberOrder.{as_at_first, none_in_front, own_group, others_left}
 use Rattle.tsdl_meaning.proofs.text_streams.streams_with.Goals as goal
 
 pub loop-rest-init : goal.loop-rest-init

@@ -1,6 +1,6 @@
 use Rattle.std.proofs.Common.{◌≡◌, length}
 use Rattle.tsdl_meaning.proofs.TextWords.{NumbersRise, each, with_front, with_group}
-use Rattle.tsdl_meaning.proofs.GroupsTaken.{SameGroups}
+use Rattle.tsdl_meaning.proofs.NumberOrder.{SameGroups}
 use Rattle.tsdl_meaning.proofs.text_streams.streams_with.Given as goal
 
 abbrev pub invariant-loop-rest : goal.invariant-loop-rest

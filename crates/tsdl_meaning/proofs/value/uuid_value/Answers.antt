@@ -1,7 +1,7 @@
 use Rattle.std.proofs.Common.{◌∙◌, refl}
 use Rattle.uuid.specs.Text.{parsed}
 use Rattle.tsdl_meaning.proofs.TextWords.{uuid_value}
-use Rattle.tsdl_meaning.proofs.Identity.{parses_to}
+use Rattle.tsdl_meaning.proofs.WordTables.{parses_to}
 use Rattle.tsdl_meaning.proofs.value.uuid_value.Goals as goal
 
 pub returns-in-Text : goal.returns-in-Text

@@ -2,8 +2,8 @@ use Rattle.std.proofs.Common.{List, [], ◌∷◌}
 use Rattle.tsdl_meaning.proofs.TextWords.{Bracket, HasLengths, IsBehindBrackets, IsInBracket, Stop, StopsWhere, bracket_toks, word}
 use Rattle.tsdl_meaning.proofs.JudgedParts.{handed, err_from}
 use Rattle.tsdl_grammar.specs.declared.tree.Bracket.TheVariants as brackets
-use Rattle.tsdl_meaning.proofs.FlawlessBrackets.{count_more}
-use Rattle.tsdl_meaning.proofs.StopsInBrackets.{in_count, in_member, lengths_more, long_length}
+use Rattle.tsdl_meaning.proofs.FlawlessTypes.{count_more}
+use Rattle.tsdl_meaning.proofs.StopsInMembers.{in_count, in_name, lengths_more, long_length}
 use Rattle.tsdl_meaning.proofs.judge.brackets.judge_bracket.Goals as goal
 
 pub returns-in_err-length-in-Count-clause-fault : goal.returns-in_err-length-in-Count-clause-fault
@@ -40,7 +40,7 @@ returns-in-Member-clause-fault c =
     rw c.in-Member.is
     (err_from c.judge_name.result (StopsWhere IsInBracket place (word w ∷ []))
     (λ (s : Stop). (done : List Bracket) → HasLengths old done → StopsWhere (IsBehindBrackets done) c.args.at (bracket_toks (brackets.Member w)) s)
-    (λ s f done h. in_member (IsBehindBrackets done) w c.args.at place s c.saturating_add-place.ensures f) c.judge_name.ensures.fault)
+    (λ s f done h. in_name (IsBehindBrackets done) w c.args.at place s c.saturating_add-place.ensures f) c.judge_name.ensures.fault)
 
 pub returns-in-Member-clause-meant : goal.returns-in-Member-clause-meant
 returns-in-Member-clause-meant c = rw c.in-Member.is c.judge_name.ensures.meant

@@ -3,8 +3,8 @@ use Rattle.std.proofs.lemmas.List.{take_all}
 use Rattle.tsdl_meaning.proofs.TextWords.{AreBrackets, Bracket, StopsAmong, bracket_toks, flat_map}
 use Rattle.tsdl_flaw.proofs.Parts.{behind_item}
 use Rattle.tsdl_meaning.proofs.JudgedParts.{handed}
-use Rattle.tsdl_meaning.proofs.FlawlessBrackets.{next_brackets, brackets_mean}
-use Rattle.tsdl_meaning.proofs.StopsInBrackets.{in_bracket, next_lengths}
+use Rattle.tsdl_meaning.proofs.FlawlessTypes.{next_brackets, brackets_mean}
+use Rattle.tsdl_meaning.proofs.StopsInMembers.{in_bracket, next_lengths}
 use Rattle.tsdl_meaning.proofs.judge.brackets.judge_brackets.Goals as goal
 
 pub returns-in_err-judge_bracket-clause-fault : goal.returns-in_err-judge_bracket-clause-fault

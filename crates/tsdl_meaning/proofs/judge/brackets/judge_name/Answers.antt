@@ -1,7 +1,7 @@
 use Rattle.std.proofs.Common.{[], refl, sym, ap, ◌∙◌, arith}
 use Rattle.tsdl_meaning.proofs.TextWords.{is_some, length_place, word}
-use Rattle.tsdl_meaning.proofs.FlawlessBrackets.{name_more}
-use Rattle.tsdl_meaning.proofs.StopsInBrackets.{word_unread}
+use Rattle.tsdl_meaning.proofs.FlawlessTypes.{name_more}
+use Rattle.tsdl_meaning.proofs.StopsInMembers.{word_unread}
 use Rattle.tsdl_meaning.proofs.judge.brackets.judge_name.Goals as goal
 
 pub returns-then-lengths-clause-fault : goal.returns-then-lengths-clause-fault

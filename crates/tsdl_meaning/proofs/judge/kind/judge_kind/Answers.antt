@@ -4,7 +4,7 @@ use Rattle.tsdl_grammar.specs.declared.tree.Entries.TheVariants as entries
 use Rattle.tsdl_grammar.specs.declared.tree.Kind.TheVariants as kinds
 use Rattle.tsdl_meaning.proofs.JudgedParts.{ok_map, handed, err_from}
 use Rattle.tsdl_meaning.proofs.FlawlessTypes.{bare_string, int_means, ranges_mean, no_ranges}
-use Rattle.tsdl_meaning.proofs.StopsInKinds.{in_integer, in_ranges}
+use Rattle.tsdl_meaning.proofs.StopsInMembers.{in_integer, in_ranges}
 use Rattle.tsdl_meaning.proofs.judge.kind.judge_kind.Goals as goal
 
 pub returns-in-Integer-clause-meant : goal.returns-in-Integer-clause-meant

@@ -1,5 +1,5 @@
 use Rattle.std.proofs.Common.{sym, ◌∙◌}
-use Rattle.tsdl_meaning.proofs.StopsInKinds.{in_high}
+use Rattle.tsdl_meaning.proofs.StopsInMembers.{in_high}
 use Rattle.tsdl_meaning.proofs.FlawlessTypes.{number_means, range_means}
 use Rattle.tsdl_meaning.proofs.judge.kind.judge_range.Goals as goal
 

@@ -5,7 +5,7 @@ use Rattle.tsdl_meaning.proofs.TextWords.{AreRanges, Entry, IsBehindBrace, Stops
 use Rattle.tsdl_flaw.proofs.Parts.{behind_item}
 use Rattle.tsdl_meaning.proofs.JudgedParts.{handed}
 use Rattle.tsdl_meaning.proofs.FlawlessTypes.{first_range, next_range}
-use Rattle.tsdl_meaning.proofs.StopsInKinds.{in_first, in_range, range_many, range_front, at_label}
+use Rattle.tsdl_meaning.proofs.StopsInMembers.{in_first, in_range, range_many, range_front, at_label}
 use Rattle.tsdl_meaning.proofs.judge.kind.judge_ranges.Goals as goal
 
 pub returns-in_err-judge_range-clause-fault : goal.returns-in_err-judge_range-clause-fault

@@ -1,6 +1,6 @@
 use Rattle.std.proofs.Common.{◌∷◌, take}
 use Rattle.tsdl_meaning.proofs.TextWords.{AreRanges, StandsBehind}
-use Rattle.tsdl_meaning.proofs.StopsInKinds.{range_before}
+use Rattle.tsdl_meaning.proofs.StopsInMembers.{range_before}
 use Rattle.tsdl_meaning.proofs.judge.kind.judge_ranges.Given as goal
 
 -- the ranges so far stand before the place

@@ -1,7 +1,7 @@
 use Rattle.tsdl_meaning.proofs.TextWords.{Bracket, IsBehindMembers, MemberTree, Stop, StopsAmong, StopsWhere, bracket_toks, bracketed, flat_map, is_some, member_toks, names_in}
 use Rattle.std.proofs.Common.{◌≡◌, ℕ, true, false, List, IsSome, Contains, sym, ap, ◌∙◌, subst}
 use Rattle.tsdl_meaning.specs.MembersBefore.{AreMembers}
-use Rattle.tsdl_meaning.proofs.FlawlessBrackets.{member_means}
+use Rattle.tsdl_meaning.proofs.FlawlessTypes.{member_means}
 use Rattle.tsdl_meaning.proofs.JudgedParts.{handed}
 use Rattle.tsdl_meaning.proofs.StopsInMembers.{in_kind, at_name, in_brackets, at_name_and_brackets, unsuited_stop}
 use Rattle.tsdl_flaw.specs.declared.flaw.Flaw.TheVariants as flaws

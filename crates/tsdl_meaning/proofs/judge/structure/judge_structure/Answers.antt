@@ -5,7 +5,7 @@ use Rattle.tsdl_flaw.proofs.Parts.{behind_item}
 use Rattle.tsdl_meaning.specs.FlawlessStructures.{IsFlawless}
 use Rattle.tsdl_meaning.proofs.JudgedParts.{handed, err_from, ok_map}
 use Rattle.tsdl_meaning.proofs.StopsInMembers.{struct_opening, in_member, next_members, in_align}
-use Rattle.tsdl_meaning.proofs.FlawlessStructures.{AreFlawless, none_flawless, next_flawless, all_flawless}
+use Rattle.tsdl_meaning.proofs.FlawlessTypes.{AreFlawless, none_flawless, next_flawless, all_flawless}
 use Rattle.tsdl_meaning.proofs.judge.structure.judge_structure.Goals as goal
 
 pub returns-in_err-judge_member-clause-fault : goal.returns-in_err-judge_member-clause-fault

@@ -2,7 +2,7 @@ use Rattle.std.proofs.Common.{◌++◌, take}
 use Rattle.tsdl_meaning.proofs.TextWords.{StandsBehind, flat_map, member_toks}
 use Rattle.tsdl_meaning.specs.MembersBefore.{AreMembers}
 use Rattle.tsdl_meaning.proofs.StopsInMembers.{struct_opening}
-use Rattle.tsdl_meaning.proofs.FlawlessStructures.{AreFlawless}
+use Rattle.tsdl_meaning.proofs.FlawlessTypes.{AreFlawless}
 use Rattle.tsdl_meaning.proofs.judge.structure.judge_structure.Given as goal
 
 -- the members so far stand before the place

@@ -1,5 +1,5 @@
 use Rattle.tsdl_meaning.proofs.TextWords.{LacksSizes, text_toks}
-use Rattle.tsdl_meaning.proofs.JudgedEnds.{text_stop, never_sizes}
+use Rattle.tsdl_meaning.proofs.JudgedLedgers.{text_stop, never_sizes}
 use Rattle.tsdl_meaning.proofs.judge.text.first_flaw.Goals as goal
 
 pub returns-in-Err-clause-stops : goal.returns-in-Err-clause-stops

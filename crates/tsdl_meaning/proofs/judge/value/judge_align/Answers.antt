@@ -1,7 +1,7 @@
 use Rattle.std.proofs.Common.{sym, ap, ◌∙◌, arith}
 use Rattle.tsdl_meaning.proofs.TextWords.{IsBehindAlign, is_some, number_toks}
 use Rattle.tsdl_meaning.proofs.JudgedParts.{handed_weaker}
-use Rattle.tsdl_meaning.proofs.StructureTypes.{large_align, aligned_is}
+use Rattle.tsdl_meaning.proofs.MemberNames.{large_align, aligned_is}
 use Rattle.tsdl_meaning.proofs.judge.value.judge_align.Goals as goal
 
 pub returns-in_err-align-clause-fault : goal.returns-in_err-align-clause-fault
