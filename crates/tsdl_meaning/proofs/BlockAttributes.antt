@@ -1,11 +1,11 @@
 -- The parts of a block where it is judged: its attributes, its scopes, its tables, and numbers that stand twice.
-use Rattle.std.proofs.Common.{◌≡◌, ℕ, ◌+◌, List, [], ◌∷◌, ◌++◌, Some, None, min, refl, sym, ap, ◌∙◌, subst, inl, inr, arith, append_assoc, codes, Result, Bool, true, false, not, ◌&&◌, cond, Option, Bor}
-use Rattle.tsdl_meaning.proofs.TextWords.{AreNoted, Atom, Attribute, BlockKind, Ends, HasClock, HasStream, IfErr, IsAttribute, IsBegun, IsPartOfVersion, IsTwice, IsUnsupported, Item, Name, Stop, StopsIn, StopsWhere, Value, alone, attr_toks, begun, dotted, flat_map, mark, most, name_toks, name_value, natural_value, one_word, value_toks, word, word_of, Scope, ScopeRule, first_texts, list_all, named_rules, rule_in, same_words, scope_toks, struct_toks, texts_of, HasEvent, HasNumbers, attr, attrs_in}
+use Rattle.std.proofs.Common.{◌≡◌, ℕ, ◌+◌, ◌<◌, length, take, get_or, List, [], ◌∷◌, ◌++◌, Some, None, min, refl, sym, ap, ◌∙◌, subst, inl, inr, arith, append_assoc, codes, Result, Bool, true, false, not, ◌&&◌, cond, Option, Bor}
+use Rattle.tsdl_meaning.proofs.TextWords.{IsErrAnd, StandsBehind, item_toks, items_toks, AreNoted, Atom, Attribute, BlockKind, Ends, HasClock, HasStream, IfErr, IsAttribute, IsBegun, IsPartOfVersion, IsTwice, IsUnsupported, Item, Name, Stop, StopsIn, StopsWhere, Value, alone, attr_toks, begun, dotted, flat_map, mark, most, name_toks, name_value, natural_value, one_word, value_toks, word, word_of, Scope, ScopeRule, first_texts, list_all, named_rules, rule_in, same_words, scope_toks, struct_toks, texts_of, HasEvent, HasNumbers, attr, attrs_in}
 use Rattle.tsdl_grammar.specs.declared.token.Mark.TheVariants as marks
 use Rattle.tsdl_grammar.specs.declared.tree.Value.TheVariants as values
 use Rattle.tsdl_meaning.specs.declared.judge.block.Judging.{Judging}
 use Rattle.tsdl_meaning.proofs.JudgedLedgers.{noted_more}
-use Rattle.tsdl_meaning.proofs.JudgedParts.{ends_more, ends_part, err_from}
+use Rattle.tsdl_meaning.proofs.JudgedParts.{ends_more, ends_part, err_from, handed, stops_item}
 use Rattle.tsdl_flaw.proofs.Parts.{stops_after}
 use Rattle.std.specs.List.{find}
 
@@ -130,3 +130,16 @@ event_twice items numbers front ends same (other, before, numbered) =
       same = same;
       here = refl;
     })))))
+
+-- a stop in an item of a block that is begun behind the blocks of a ledger
+pub in_item : (judging : Judging) (items : List Item) (i : ℕ) (x : Item) (at next : ℕ) (stop : Stop) (r : Result (Unit {0}) Stop) → i < length items → x ≡ get_or items i x
+    → StandsBehind at (begun (word_of judging.kind) (take i items)) next → IsErrAnd r (λ s. s ≡ stop)
+    → ((front : List Atom) → AreNoted front judging.ledger.now → (after : List Atom) → StopsIn (front ++ begun (word_of judging.kind) (take i items)) next (item_toks x ++ after) stop)
+    → IfErr r (StopsWhere (λ (front : List Atom). AreNoted front judging.ledger.now) at (word (word_of judging.kind) ∷ items_toks items))
+in_item judging items i x at next stop r h is place handed_on s =
+    let w = word_of judging.kind in
+    let toks = word w ∷ items_toks items in
+    handed r stop (StopsWhere (λ (front : List Atom). AreNoted front judging.ledger.now) at toks) handed_on
+    (λ front behind n.
+    stops_item item_toks items i x front (toks ++ behind) (word w ∷ mark marks.OpenBrace ∷ []) (mark marks.CloseBrace ∷ behind) at next stop h is
+    (append_assoc (begun w items) (mark marks.CloseBrace ∷ []) behind) place (s front n))

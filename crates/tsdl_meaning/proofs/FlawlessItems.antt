@@ -1,6 +1,6 @@
 -- Names, attributes and scopes without a flaw, one behind the other, and what is looked up among them.
 use Rattle.std.proofs.Common.{◌≡◌, ℕ, Bool, true, false, not, cond, ◌&&◌, ◌||◌, List, [], ◌∷◌, ◌++◌, refl, ap, ap₂, ◌∙◌, inl, inr, Option, Some, None, sym, subst, map, append_assoc, ◌+◌, ◌<◌, length, take, get_or}
-use Rattle.tsdl_meaning.proofs.TextWords.{AddsName, AllByRecursion, BTreeSet, Global, Name, String, are_distinct, bytes_eq, contains_text, flat_map, list_any, no_two, same_words, with_dot, words_of, written, Asked, Attribute, Value, alone, attr, fits, fits_word, is_fit, is_some, is_word, list_all, one_word, option_map, optional, with_default, ◌>>=◌, BlockKind, IsFlawlessScope, Known, MemberTree, MemberType, Scope, ScopeRule, StructType, Structure, has_member, member_names, members_meaning, names_in, provided, rule_in, scope, scope_meaning, scopes_of, struct_meaning, struct_type, structure_of, suits_rule, AddsAttribute, AddsItem, AddsScope, AreFlawless, Item, Ledger, asked_of, attr_in, attr_names, attrs_in, scope_in, scope_names, scopes_in}
+use Rattle.tsdl_meaning.proofs.TextWords.{AddsName, AllByRecursion, BTreeSet, Global, Name, String, are_distinct, bytes_eq, contains_text, flat_map, list_any, no_two, same_words, with_dot, words_of, written, Asked, Attribute, Value, alone, attr, fits, fits_word, is_fit, is_some, is_word, list_all, one_word, option_map, optional, with_default, ◌>>=◌, BlockKind, IsFlawlessScope, Known, MemberTree, MemberType, Scope, ScopeRule, StructType, Structure, has_member, member_names, members_meaning, names_in, provided, rule_in, scope, scope_meaning, scopes_of, struct_meaning, struct_type, structure_of, suits_rule, AddsAttribute, AddsScope, AreFlawless, Item, Ledger, asked_of, attr_in, attr_names, attrs_in, scope_in, scope_names, scopes_in}
 use Rattle.std.proofs.lemmas.Bool.{cases_Bool, not-true, not_from_false, and_from, ltb-true, eqb-true}
 use Rattle.std.proofs.lemmas.List.{append-nil, map-append, take_more}
 use Rattle.std.proofs.lemmas.List.Concat.{flat_map-append}
@@ -12,7 +12,6 @@ use Rattle.tsdl_grammar.proofs.MeaningParts.{says_structure}
 use Rattle.tsdl_meaning.specs.FlawlessStructures.{IsFlawless}
 use Rattle.std.proofs.lemmas.List.Folds.{list_all-append}
 use Rattle.tsdl_grammar.specs.declared.tree.Item.TheVariants as items
-use Rattle.tsdl_meaning.specs.declared.judge.block.BlockNames.{BlockNames}
 
 -- ---- tests
 
@@ -259,38 +258,31 @@ scope_more known kind before after all x s adds =
     }
 
 -- the items so far
-pub record Items (known : Known) (kind : BlockKind) (ledger : Ledger) (is : List Item) (names : BlockNames) : Type 0 where
-  pub attributes : Attributes kind ledger names.attributes.names (attrs_in is)
-  pub scopes : Scopes known kind names.scopes.names (scopes_in is)
+pub record Items (known : Known) (kind : BlockKind) (ledger : Ledger) (is : List Item) (named scoped : BTreeSet (String Global)) : Type 0 where
+  pub attributes : Attributes kind ledger named (attrs_in is)
+  pub scopes : Scopes known kind scoped (scopes_in is)
 
-item_more : (known : Known) (kind : BlockKind) (ledger : Ledger) (is : List Item) (i : Item) (before after : BlockNames) → Items known kind ledger is before → AddsItem known kind ledger before i after
-    → Items known kind ledger (is ++ i ∷ []) after
-item_more known kind ledger is (items.Attribute a) before after s adds = record {
-  attributes =
-      subst (Attributes kind ledger after.attributes.names) (sym (flat_more attr_in is (items.Attribute a)))
-      (attribute_more kind ledger before.attributes.names after.attributes.names (attrs_in is) a s.attributes adds.0);
-  scopes =
-      subst (Scopes known kind after.scopes.names) (sym (flat_more scope_in is (items.Attribute a) ∙ append-nil (scopes_in is)))
-      (subst (λ (names : _). Scopes known kind names.names (scopes_in is)) (sym adds.1) s.scopes);
-}
-item_more known kind ledger is (items.Scope x) before after s adds = record {
-  attributes =
-      subst (Attributes kind ledger after.attributes.names) (sym (flat_more attr_in is (items.Scope x) ∙ append-nil (attrs_in is)))
-      (subst (λ (names : _). Attributes kind ledger names.names (attrs_in is)) (sym adds.1) s.attributes);
-  scopes =
-      subst (Scopes known kind after.scopes.names) (sym (flat_more scope_in is (items.Scope x)))
-      (scope_more known kind before.scopes.names after.scopes.names (scopes_in is) x s.scopes adds.0);
-}
+module _ (known : Known) (kind : BlockKind) (ledger : Ledger) (is : List Item) (n : ℕ) (i : Item) (named scoped : BTreeSet (String Global)) (h : n < length is) (e : i ≡ get_or is n i) (s : Items known kind ledger (take n is) named scoped) where
+  next_is : (x : Item) → i ≡ x → take (n + 1) is ≡ take n is ++ x ∷ []
+  next_is x same = take_more is n i h ∙ ap (λ (y : Item). take n is ++ y ∷ []) (sym e ∙ same)
 
-pub next_item : (known : Known) (kind : BlockKind) (ledger : Ledger) (is : List Item) (n : ℕ) (i : Item) (before after : BlockNames) → n < length is → i ≡ get_or is n i
-    → Items known kind ledger (take n is) before → AddsItem known kind ledger before i after → Items known kind ledger (take (n + 1) is) after
-next_item known kind ledger is n i before after h e s adds =
-    subst (λ (l : List Item). Items known kind ledger l after) (sym (take_more is n i h ∙ ap (λ (x : Item). take n is ++ x ∷ []) (sym e)))
-    (item_more known kind ledger (take n is) i before after s adds)
+  pub next_attribute : (a : Attribute) (after : BTreeSet (String Global)) → i ≡ items.Attribute a → AddsAttribute kind ledger named a after → Items known kind ledger (take (n + 1) is) after scoped
+  next_attribute a after same adds = subst (λ (l : List Item). Items known kind ledger l after scoped) (sym (next_is (items.Attribute a) same)) (record {
+    attributes =
+        subst (Attributes kind ledger after) (sym (flat_more attr_in (take n is) (items.Attribute a))) (attribute_more kind ledger named after (attrs_in (take n is)) a s.attributes adds);
+    scopes = subst (Scopes known kind scoped) (sym (flat_more scope_in (take n is) (items.Attribute a) ∙ append-nil (scopes_in (take n is)))) s.scopes;
+  })
 
-pub no_items : (known : Known) (kind : BlockKind) (ledger : Ledger) (names : BlockNames) → Items known kind ledger [] names
-no_items known kind ledger names = record { attributes = record { fit = refl; once = refl; kept = tt }; scopes = record { flawless = tt; once = refl; kept = tt } }
+  pub next_scope : (x : Scope) (after : BTreeSet (String Global)) → i ≡ items.Scope x → AddsScope known kind scoped x after → Items known kind ledger (take (n + 1) is) named after
+  next_scope x after same adds = subst (λ (l : List Item). Items known kind ledger l named after) (sym (next_is (items.Scope x) same)) (record {
+    attributes = subst (Attributes kind ledger named) (sym (flat_more attr_in (take n is) (items.Scope x) ∙ append-nil (attrs_in (take n is)))) s.attributes;
+    scopes = subst (Scopes known kind after) (sym (flat_more scope_in (take n is) (items.Scope x))) (scope_more known kind scoped after (scopes_in (take n is)) x s.scopes adds);
+  })
 
-pub items_flawless : (known : Known) (kind : BlockKind) (ledger : Ledger) (is : List Item) (names : BlockNames) → Items known kind ledger is names → AreFlawless known kind ledger is
-items_flawless known kind ledger is names s =
+pub no_items : (known : Known) (kind : BlockKind) (ledger : Ledger) (named scoped : BTreeSet (String Global)) → Items known kind ledger [] named scoped
+no_items known kind ledger named scoped = record { attributes = record { fit = refl; once = refl; kept = tt }; scopes = record { flawless = tt; once = refl; kept = tt } }
+
+pub items_flawless : (known : Known) (kind : BlockKind) (ledger : Ledger) (is : List Item) (named scoped : BTreeSet (String Global)) → Items known kind ledger is named scoped
+    → AreFlawless known kind ledger is
+items_flawless known kind ledger is named scoped s =
     record { attributes = s.attributes.fit; attributes_once = s.attributes.once; scopes = s.scopes.flawless; scopes_once = s.scopes.once }

@@ -70,7 +70,7 @@ pub use Rattle.tsdl_grammar.specs.declared.tree.Value.{Value}
 pub use Rattle.tsdl_meaning.specs.Blocks.{AreKept, IsBegun, word_of}
 pub use Rattle.tsdl_meaning.specs.BracketLengths.{Adds, BeginsWithName, HasLengths, IsBehindBrackets, IsInBracket, IsInBrackets, PassesLimit}
 pub use Rattle.tsdl_meaning.specs.ClockNames.{HasNames}
-pub use Rattle.tsdl_meaning.specs.FlawlessBlocks.{AddsAttribute, AddsItem, AddsName, AddsScope, AreFlawless, Asked, IsEnded, IsFlawlessBlock, IsFlawlessScope, asked_of, first_texts, fits, fits_word, is_fit, is_number, named_rules, of_clock, of_event, of_stream, of_trace, passes, rule_in, scopes_of}
+pub use Rattle.tsdl_meaning.specs.FlawlessBlocks.{AddsAttribute, AddsName, AddsScope, AreFlawless, Asked, IsEnded, IsFlawlessBlock, IsFlawlessScope, asked_of, first_texts, fits, fits_word, is_fit, is_number, named_rules, of_clock, of_event, of_stream, of_trace, passes, rule_in, scopes_of}
 pub use Rattle.tsdl_meaning.specs.FlawlessBrackets.{AreBrackets, HaveNumbers, KeepsLimits, NameLength}
 pub use Rattle.tsdl_meaning.specs.FlawlessTexts.{AddsBlock, AddsClock, AddsFact, AddsStream, HaveStreams, IsEmpty, IsFlawlessBehind, MeanEntries, Surveys}
 pub use Rattle.tsdl_meaning.specs.FlawlessTypes.{AddsOwn, AreRanges, is_alignment, is_size, of_integer, of_string, own_asked, own_attrs, string_attrs, tree_of, type_word}

@@ -1,5 +1,8 @@
 -- The blocks that have attributes and scopes, and what stands before their parts.
 use Rattle.std.specs.Prelude.{ℕ, List, codes}
+use Rattle.std.specs.BTreeSet.{BTreeSet}
+use Rattle.std.specs.declared.string.String.{String}
+use Rattle.std.specs.declared.alloc.Global.{Global}
 use Rattle.tsdl_grammar.specs.declared.atom.Atom.{Atom}
 use Rattle.tsdl_grammar.specs.declared.token.Mark.TheVariants as marks
 use Rattle.tsdl_grammar.specs.declared.tree.Item.{Item}
@@ -7,7 +10,6 @@ use Rattle.tsdl_flaw.specs.Fronts.{Ends}
 use Rattle.tsdl_flaw.specs.Twice.{begun}
 use Rattle.tsdl_meaning.specs.declared.judge.block.BlockKind.{BlockKind}
 use Rattle.tsdl_meaning.specs.declared.judge.block.BlockKind.TheVariants as kinds
-use Rattle.tsdl_meaning.specs.declared.judge.block.BlockNames.{BlockNames}
 use Rattle.tsdl_meaning.specs.declared.judge.block.Judging.{Judging}
 use Rattle.tsdl_meaning.specs.NamesBefore.{AreNamed}
 use Rattle.tsdl_meaning.specs.Ledgers.{AreNoted}
@@ -25,6 +27,6 @@ pub record IsBegun (judging : Judging) (items : List Item) (front : List Atom) :
   pub ends : Ends front (begun (word_of judging.kind) items)
 
 -- the names of the attributes and scopes stand in the front, each with its mark
-pub record AreKept (names : BlockNames) (front : List Atom) : Type 0 where
-  pub attributes : AreNamed front marks.Equals names.attributes.names
-  pub scopes : AreNamed front marks.Assign names.scopes.names
+pub record AreKept (attributes scopes : BTreeSet (String Global)) (front : List Atom) : Type 0 where
+  pub named : AreNamed front marks.Equals attributes
+  pub scoped : AreNamed front marks.Assign scopes

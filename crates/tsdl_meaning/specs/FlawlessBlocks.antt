@@ -15,7 +15,6 @@ use Rattle.tsdl_grammar.specs.declared.tree.Value.{Value}
 use Rattle.tsdl_grammar.specs.declared.tree.Attribute.{Attribute}
 use Rattle.tsdl_grammar.specs.declared.tree.Scope.{Scope}
 use Rattle.tsdl_grammar.specs.declared.tree.Item.{Item}
-use Rattle.tsdl_grammar.specs.declared.tree.Item.TheVariants as items
 use Rattle.tsdl_grammar.specs.Steps.{◌>>=◌}
 use Rattle.tsdl_grammar.specs.Lookups.{words_of, same_words, attr, attrs_in, scopes_in, attr_names, are_distinct}
 use Rattle.tsdl_grammar.specs.AttributeValues.{natural_value, whole_value, text_value, word_value, name_value, flag_value, uuid_value, one_word, meant_by}
@@ -25,7 +24,6 @@ use Rattle.tsdl_flaw.specs.Written.{written}
 use Rattle.tsdl_flaw.specs.Twice.{HasNumbers}
 use Rattle.tsdl_meaning.specs.declared.judge.block.BlockKind.{BlockKind}
 use Rattle.tsdl_meaning.specs.declared.judge.block.BlockKind.TheVariants as kinds
-use Rattle.tsdl_meaning.specs.declared.judge.block.BlockNames.{BlockNames}
 use Rattle.tsdl_meaning.specs.declared.judge.ledger.Ledger.{Ledger}
 use Rattle.tsdl_meaning.specs.declared.scope_rule.ScopeRule.{ScopeRule}
 use Rattle.tsdl_meaning.specs.declared.scope_rule.ScopeRule.TheVariants.{AnyMembers, PacketHeader, PacketContext, EventHeader}
@@ -142,13 +140,6 @@ pub record AddsAttribute (kind : BlockKind) (ledger : Ledger) (before : BTreeSet
 pub record AddsScope (known : Known) (kind : BlockKind) (before : BTreeSet (String Global)) (s : Scope) (after : BTreeSet (String Global)) : Type 0 where
   pub name : AddsName before s.name after
   pub flawless : IsFlawlessScope known kind s
-
--- one more attribute or scope without a flaw
-abbrev pub AddsItem : Known → BlockKind → Ledger → BlockNames → Item → BlockNames → Type 0
-AddsItem known kind ledger before (items.Attribute a) after =
-    AddsAttribute kind ledger before.attributes.names a after.attributes.names × (after.scopes ≡ before.scopes)
-AddsItem known kind ledger before (items.Scope s) after =
-    AddsScope known kind before.scopes.names s after.scopes.names × (after.attributes ≡ before.attributes)
 
 -- ---- blocks
 

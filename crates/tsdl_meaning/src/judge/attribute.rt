@@ -1,4 +1,5 @@
 //! The first flaw of an attribute of a block. An attribute that no rule names is passed over.
+#![tactic(auto, using(crate::proofs::JudgedParts::any_front))]
 
 ghost use Rattle.std.specs.Prelude.{List, ◌++◌, IfOk, IfErr, IsTrue, codes};
 ghost use Rattle.tsdl_grammar.specs.declared.atom.Atom.{Atom};

@@ -4,13 +4,13 @@ ghost use Rattle.std.specs.Prelude.{◌≡◌, false, List, [], ◌∷◌, ◌++
 ghost use Rattle.tsdl_grammar.specs.declared.atom.Atom.{Atom};
 ghost use Rattle.tsdl_grammar.specs.declared.token.Mark.TheVariants as marks;
 ghost use Rattle.tsdl_grammar.specs.declared.tree.Item.{Item};
-ghost use Rattle.tsdl_grammar.specs.Spelling.{mark, word, scope_toks, item_toks, items_toks, braced, fact_toks, named_fact_toks};
+ghost use Rattle.tsdl_grammar.specs.Spelling.{mark, word, scope_toks, items_toks, braced, fact_toks, named_fact_toks};
 ghost use Rattle.tsdl_flaw.specs.Twice.{IsTwice};
 ghost use Rattle.tsdl_meaning.specs.Judged.{StopsWhere, StopsAmong, EndsFacts};
 ghost use Rattle.tsdl_meaning.specs.Ledgers.{AreNoted};
 ghost use Rattle.tsdl_meaning.specs.NamesBefore.{AreNamed};
-ghost use Rattle.tsdl_meaning.specs.Blocks.{word_of, IsBegun, AreKept};
-ghost use Rattle.tsdl_meaning.specs.FlawlessBlocks.{IsFlawlessBlock, AddsItem, AddsScope, IsEnded, IsNumberedAnew, scopes_of, needed, named_rules, first_texts};
+ghost use Rattle.tsdl_meaning.specs.Blocks.{word_of, IsBegun};
+ghost use Rattle.tsdl_meaning.specs.FlawlessBlocks.{IsFlawlessBlock, AddsScope, IsEnded, IsNumberedAnew, scopes_of, needed, named_rules, first_texts};
 ghost use Rattle.std.specs.List.{flat_map};
 ghost use Rattle.std.specs.Option.{is_some};
 ghost use Rattle.tsdl_grammar.specs.BlockMeaning.{fact_meaning};
@@ -49,40 +49,24 @@ pub(crate) struct Judging<'a> {
     pub kind: BlockKind,
 }
 
-/// The names of a block so far.
-#[derive(Drop)]
-struct BlockNames {
-    attributes: Names,
-    scopes: Names,
-}
-
 /// Judges a block of these items, whose word stands at an atom.
 pub(crate) fn judge_items(judging: &Judging, items: &[Item], at: usize) -> Result<(), Stop>
     ensures flawless { IfOk result (λ _. IsFlawlessBlock judging.now.survey.now.known judging.now.kind judging.now.ledger.now items.now) }
     ensures fault { IfErr result (StopsWhere (λ front. AreNoted front judging.now.ledger.now) at (word (word_of judging.now.kind) ∷ items_toks items.now)) }
 {
-    let attributes = Names::new(judging.alloc);
-    let scopes = Names::new(judging.alloc);
-    let mut names = BlockNames { attributes, scopes };
+    let mut attributes = Names::new(judging.alloc);
+    let mut scopes = Names::new(judging.alloc);
     let mut next = at.saturating_add(2);
     for item in items {
-        judge_item(judging, &mut names, item, next)?;
+        match item {
+            Item::Attribute(attribute) => {
+                judge_attribute(judging, &mut attributes, attribute, next)?;
+            }
+            Item::Scope(scope) => judge_scope(judging, &mut scopes, scope, next)?,
+        }
         next = next.saturating_add(item.length());
     }
     judge_end(judging, items, next)
-}
-
-fn judge_item(judging: &Judging, names: &mut BlockNames, item: &Item, at: usize) -> Result<(), Stop>
-    ensures flawless { IfOk result (λ _. AddsItem judging.now.survey.now.known judging.now.kind judging.now.ledger.now names.old item.now names.new) }
-    ensures fault { (items : List Item) → IfErr result (StopsWhere (λ front. IsBegun judging.now items front × AreKept names.old front) at (item_toks item.now)) }
-    ensures named { IfOk result (λ _. (front : List Atom) → AreKept names.old front → AreKept names.new (front ++ item_toks item.now)) }
-{
-    match item {
-        Item::Attribute(attribute) => {
-            judge_attribute(judging, &mut names.attributes, attribute, at)
-        }
-        Item::Scope(scope) => judge_scope(judging, &mut names.scopes, scope, at),
-    }
 }
 
 /// Judges a scope of a block behind the names of others.

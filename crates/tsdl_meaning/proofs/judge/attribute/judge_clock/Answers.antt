@@ -1,6 +1,5 @@
-use Rattle.std.proofs.Common.{List, ap, codes, sym}
-use Rattle.tsdl_meaning.proofs.TextWords.{AreNoted, Atom, IsAttribute, StopsWhere, of_clock, passes, value_toks}
-use Rattle.tsdl_meaning.proofs.JudgedParts.{handed}
+use Rattle.std.proofs.Common.{ap, sym}
+use Rattle.tsdl_meaning.proofs.TextWords.{of_clock, passes}
 use Rattle.tsdl_meaning.proofs.BlockAttributes.{clock_twice}
 use Rattle.tsdl_meaning.proofs.WordTables.{absent}
 use Rattle.tsdl_meaning.proofs.judge.attribute.judge_clock.Goals as goal
@@ -11,12 +10,6 @@ returns-in_default-clause-fit c =
     ap (λ o. passes o c.args.value.now)
     (absent (of_clock c.args.ledger.now) c.args.word.now
     (n.not-name, (n.not-uuid, (n.not-description, (n.not-freq, (n.not-precision, (n.not-offset, (n.not-offset_s, (n.not-absolute, tt)))))))))
-
-pub returns-in_err-judge_label-in-name-clause-fault : goal.returns-in_err-judge_label-in-name-clause-fault
-returns-in_err-judge_label-in-name-clause-fault c =
-    handed c.from_residual.result c.in_err-judge_label-in-name.field-0.0
-    (StopsWhere (λ (front : List Atom). AreNoted front c.args.ledger.now × IsAttribute (codes "clock") c.args.word.now front) c.args.at (value_toks c.args.value.now)) c.from_residual.ensures.1
-    (λ front behind p. c.in_err-judge_label-in-name.ensures.fault front behind)
 
 pub returns-then-has_clock-clause-fault : goal.returns-then-has_clock-clause-fault
 returns-then-has_clock-clause-fault c = λ front behind p.

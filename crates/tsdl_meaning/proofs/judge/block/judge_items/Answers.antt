@@ -1,59 +1,90 @@
-use Rattle.std.proofs.Common.{arith, List, [], ◌∷◌, ◌++◌, take, refl, sym, ap, ◌∙◌, subst, append_assoc}
+use Rattle.std.proofs.Common.{◌≡◌, ◌+◌, arith, List, [], ◌∷◌, ◌++◌, take, refl, sym, ap, ◌∙◌, subst, append_assoc}
 use Rattle.std.proofs.lemmas.List.{take_all}
-use Rattle.tsdl_meaning.proofs.TextWords.{AreKept, AreNoted, Atom, IsBegun, IsEnded, IsFlawlessBlock, Item, StandsBehind, StopsWhere, begun, item_toks, items_toks, mark, word, word_of}
+use Rattle.tsdl_meaning.proofs.TextWords.{AreKept, AreNoted, Atom, IsBegun, IsEnded, IsFlawlessBlock, Item, StandsBehind, StopsIn, StopsWhere, begun, item_toks, items_toks, mark, word, word_of}
 use Rattle.tsdl_grammar.specs.declared.token.Mark.TheVariants as marks
-use Rattle.tsdl_meaning.proofs.FlawlessItems.{Items, next_item, no_items, items_flawless}
-use Rattle.tsdl_meaning.proofs.JudgedParts.{handed, err_from, ok_map, stops_item}
+use Rattle.tsdl_meaning.proofs.FlawlessItems.{Items, next_attribute, next_scope, no_items, items_flawless}
+use Rattle.tsdl_meaning.proofs.JudgedParts.{err_from, ok_map}
 use Rattle.tsdl_meaning.proofs.JudgedLedgers.{noted_more}
+use Rattle.tsdl_meaning.proofs.BlockAttributes.{in_item}
 use Rattle.tsdl_flaw.proofs.Parts.{stops_after, behind_item, flat_next}
+use Rattle.tsdl_meaning.proofs.StopsInAttributes.{still_named}
 use Rattle.tsdl_meaning.proofs.judge.block.judge_items.Goals as goal
+use Rattle.tsdl_meaning.proofs.judge.block.judge_items.Goals.{in-Attribute+in_ok-judge_attribute-in-Attribute, in-Scope+in_ok-judge_scope-in-Scope}
 
-pub returns-in_err-judge_item-clause-fault : goal.returns-in_err-judge_item-clause-fault
-returns-in_err-judge_item-clause-fault c =
+pub returns-in_err-judge_attribute-in-Attribute-clause-fault : goal.returns-in_err-judge_attribute-in-Attribute-clause-fault
+returns-in_err-judge_attribute-in-Attribute-clause-fault c =
     let judging = c.args.judging.now in
-    let w = word_of judging.kind in
     let items = c.args.items.now in
     let i = c.loop-item.item-index in
-    let toks = word w ∷ items_toks items in
-    let opening = word w ∷ mark marks.OpenBrace ∷ [] in
-    let before = begun w (take i items) in
-    let stop = c.in_err-judge_item.field-0.0 in
-    handed c.from_residual.result stop (StopsWhere (λ (front : List Atom). AreNoted front judging.ledger.now) c.args.at toks) c.from_residual.ensures.1
-    (λ front behind n.
-    stops_item item_toks items i c.item-item.result front (toks ++ behind) opening (mark marks.CloseBrace ∷ behind) c.args.at c.loop-item.next stop (omega arith) c.item-item.is
-    (append_assoc (begun w items) (mark marks.CloseBrace ∷ []) behind) c.loop-item.invariant.place
-    (λ after.
-    c.in_err-judge_item.ensures.fault (take i items) (front ++ before) after
-    (record { noted = noted_more front before judging.ledger.now n; ends = (front, refl) }, c.loop-item.invariant.kept front)))
+    let before = begun (word_of judging.kind) (take i items) in
+    let stop = c.in_err-judge_attribute-in-Attribute.field-0.0 in
+    in_item judging items i c.item-item.result c.args.at c.loop-item.next stop c.from_residual.result (omega arith) c.item-item.is c.loop-item.invariant.place c.from_residual.ensures.1
+    (λ front n after.
+    subst (λ (x : Item). StopsIn (front ++ before) c.loop-item.next (item_toks x ++ after) stop) (sym c.in-Attribute.is)
+    (c.in_err-judge_attribute-in-Attribute.ensures.fault (take i items) (front ++ before) after (record { noted = noted_more front before judging.ledger.now n; ends = (front, refl) }, (c.loop-item.invariant.kept front).named)))
+
+pub returns-in_err-judge_scope-in-Scope-clause-fault : goal.returns-in_err-judge_scope-in-Scope-clause-fault
+returns-in_err-judge_scope-in-Scope-clause-fault c =
+    let judging = c.args.judging.now in
+    let items = c.args.items.now in
+    let i = c.loop-item.item-index in
+    let before = begun (word_of judging.kind) (take i items) in
+    let stop = c.in_err-judge_scope-in-Scope.field-0.0 in
+    in_item judging items i c.item-item.result c.args.at c.loop-item.next stop c.from_residual-in_err-judge_scope-in-Scope.result (omega arith) c.item-item.is c.loop-item.invariant.place c.from_residual-in_err-judge_scope-in-Scope.ensures.1
+    (λ front n after.
+    subst (λ (x : Item). StopsIn (front ++ before) c.loop-item.next (item_toks x ++ after) stop) (sym c.in-Scope.is)
+    (c.in_err-judge_scope-in-Scope.ensures.fault (front ++ before) after (c.loop-item.invariant.kept front).scoped))
 
 pub loop-item-init : goal.loop-item-init
 loop-item-init c = record {
   place = λ fits. omega (arith, c.saturating_add-next.ensures);
   kept = λ front.
       let before = front ++ begun (word_of c.args.judging.now.kind) [] in
-      record { attributes = c.new-attributes.ensures before marks.Equals; scopes = c.new-scopes.ensures before marks.Assign };
-  flawless = no_items c.args.judging.now.survey.now.known c.args.judging.now.kind c.args.judging.now.ledger.now (record { attributes = c.new-attributes.result; scopes = c.new-scopes.result });
+      record { named = c.new-attributes.ensures before marks.Equals; scoped = c.new-scopes.ensures before marks.Assign };
+  flawless = no_items c.args.judging.now.survey.now.known c.args.judging.now.kind c.args.judging.now.ledger.now c.new-attributes.result.names c.new-scopes.result.names;
 }
 
 pub loop-item-preserved : goal.loop-item-preserved
 loop-item-preserved c =
-    let w = word_of c.args.judging.now.kind in
+    let judging = c.args.judging.now in
+    let w = word_of judging.kind in
     let items = c.args.items.now in
     let i = c.loop-item.item-index in
     let x = c.item-item.result in
     let opening = word w ∷ mark marks.OpenBrace ∷ [] in
     let before = begun w (take i items) in
+    let kept = c.loop-item.invariant.kept in
+    let same : (front : List Atom) → (front ++ before) ++ item_toks x ≡ front ++ begun w (take (i + 1) items) = λ front.
+    append_assoc front before (item_toks x) ∙ ap (λ (l : List Atom). front ++ (opening ++ l)) (sym (flat_next item_toks items i x (omega arith) c.item-item.is))
+    in
+    let named = c.match-item.attributes.names in
+    let scoped = c.match-item.scopes.names in
+    let both : ((front : List Atom) → AreKept named scoped ((front ++ before) ++ item_toks x)) × Items judging.survey.now.known judging.kind judging.ledger.now (take (i + 1) items) named scoped =
+    elim c.match-item.branch [
+      | in-Attribute+in_ok-judge_attribute-in-Attribute v ↦ rw (v.attributes-is, v.scopes-is) (
+        λ front. record {
+          named = rw v.in-Attribute.is (v.in_ok-judge_attribute-in-Attribute.ensures.named (front ++ before) (kept front).named);
+          scoped = still_named (front ++ before) (item_toks x) marks.Assign c.loop-item.scopes.names (kept front).scoped;
+        },
+        next_attribute judging.survey.now.known judging.kind judging.ledger.now items i x c.loop-item.attributes.names c.loop-item.scopes.names (omega arith) c.item-item.is c.loop-item.invariant.flawless
+            v.in-Attribute.attribute v.judge_attribute.new.names.names v.in-Attribute.is v.in_ok-judge_attribute-in-Attribute.ensures.flawless,
+      )
+      | in-Scope+in_ok-judge_scope-in-Scope v ↦ rw (v.attributes-is, v.scopes-is) (
+        λ front. record {
+          named = still_named (front ++ before) (item_toks x) marks.Equals c.loop-item.attributes.names (kept front).named;
+          scoped = rw v.in-Scope.is (v.in_ok-judge_scope-in-Scope.ensures.named (front ++ before) (kept front).scoped);
+        },
+        next_scope judging.survey.now.known judging.kind judging.ledger.now items i x c.loop-item.attributes.names c.loop-item.scopes.names (omega arith) c.item-item.is c.loop-item.invariant.flawless
+            v.in-Scope.scope v.judge_scope.new.names.names v.in-Scope.is v.in_ok-judge_scope-in-Scope.ensures.flawless,
+      )
+    ]
+    in
     record {
       place =
           behind_item item_toks items i x opening c.args.at c.loop-item.next c.length.result _ (omega arith) c.item-item.is c.loop-item.invariant.place c.length.ensures
           c.saturating_add-next-in-loop-item.ensures;
-      kept = λ front.
-          subst (λ (l : List Atom). AreKept c.judge_item.new.names l)
-          (append_assoc front before (item_toks x) ∙ ap (λ (l : List Atom). front ++ (opening ++ l)) (sym (flat_next item_toks items i x (omega arith) c.item-item.is)))
-          (c.in_ok-judge_item.ensures.named (front ++ before) (c.loop-item.invariant.kept front));
-      flawless =
-          next_item c.args.judging.now.survey.now.known c.args.judging.now.kind c.args.judging.now.ledger.now items i x c.loop-item.names c.judge_item.new.names (omega arith) c.item-item.is
-          c.loop-item.invariant.flawless c.in_ok-judge_item.ensures.flawless;
+      kept = λ front. subst (AreKept named scoped) (same front) (both.0 front);
+      flawless = both.1;
     }
 
 pub returns-clause-fault : goal.returns-clause-fault
@@ -80,8 +111,8 @@ returns-clause-flawless c =
     let items = c.args.items.now in
     ok_map c.judge_end.result (λ x. IsEnded judging.kind ledger items) (λ x. IsFlawlessBlock known judging.kind ledger items)
     (λ x ended. record {
-      parts = items_flawless known judging.kind ledger items c.loop-item.names
-          (subst (λ (is : List Item). Items known judging.kind ledger is c.loop-item.names) (take_all c.loop-item.item-index items (omega arith)) c.loop-item.invariant.flawless);
+      parts = items_flawless known judging.kind ledger items c.loop-item.attributes.names c.loop-item.scopes.names
+          (subst (λ (is : List Item). Items known judging.kind ledger is c.loop-item.attributes.names c.loop-item.scopes.names) (take_all c.loop-item.item-index items (omega arith)) c.loop-item.invariant.flawless);
       ended = ended;
     })
     c.judge_end.ensures.ended
