@@ -1,12 +1,11 @@
 -- The parts of a block where it is judged: its attributes, its scopes, its tables, and numbers that stand twice.
 use Rattle.std.proofs.Common.{◌≡◌, ℕ, ◌+◌, ◌<◌, length, take, get_or, List, [], ◌∷◌, ◌++◌, Some, None, min, refl, sym, ap, ◌∙◌, subst, inl, inr, arith, append_assoc, codes, Result, Bool, true, false, not, ◌&&◌, cond, Option, Bor}
-use Rattle.tsdl_meaning.proofs.TextWords.{IsErrAnd, StandsBehind, item_toks, items_toks, AreNoted, Atom, Attribute, BlockKind, Ends, HasClock, HasStream, IfErr, IsAttribute, IsBegun, IsPartOfVersion, IsTwice, IsUnsupported, Item, Name, Stop, StopsIn, StopsWhere, Value, alone, attr_toks, begun, dotted, flat_map, mark, most, name_toks, name_value, natural_value, one_word, value_toks, word, word_of, Scope, ScopeRule, first_texts, list_all, named_rules, rule_in, same_words, scope_toks, struct_toks, texts_of, HasEvent, HasNumbers, attr, attrs_in}
+use Rattle.tsdl_meaning.proofs.TextWords.{AreNoted, Atom, Attribute, BlockKind, Ends, HasClock, HasEvent, HasNumbers, HasStream, IfErr, IsAttribute, IsBegun, IsErrAnd, IsPartOfVersion, IsTwice, IsUnsupported, Item, Name, Scope, ScopeRule, StandsBehind, Stop, StopsIn, StopsWhere, Value, alone, attr, attr_toks, attrs_in, begun, dotted, first_texts, flat_map, item_toks, items_toks, list_all, mark, most, name_toks, name_value, named_rules, natural_value, one_word, rule_in, same_words, scope_toks, stops_after, struct_toks, texts_of, value_toks, word, word_of}
 use Rattle.tsdl_grammar.specs.declared.token.Mark.TheVariants as marks
 use Rattle.tsdl_grammar.specs.declared.tree.Value.TheVariants as values
 use Rattle.tsdl_meaning.specs.declared.judge.block.Judging.{Judging}
 use Rattle.tsdl_meaning.proofs.JudgedLedgers.{noted_more}
 use Rattle.tsdl_meaning.proofs.JudgedParts.{ends_more, ends_part, err_from, handed, stops_item}
-use Rattle.tsdl_flaw.proofs.Parts.{stops_after}
 use Rattle.std.specs.List.{find}
 
 -- ---- the value of an attribute

@@ -1,7 +1,6 @@
 -- Lists of which no two items are the same, walked from the last item to the first.
 use Rattle.std.proofs.Common.{◌≡◌, Bool, true, false, not, cond, ◌&&◌, ◌||◌, List, [], ◌∷◌, ◌++◌, map, refl, sym, ap, ap₂, ◌∙◌, ℕ, Bor, nat_cmp}
-use Rattle.std.proofs.lemmas.Bool.{not-true}
-use Rattle.tsdl_meaning.proofs.TextWords.{IsTotalOrder, eq_by_cmp, eq_by_cmp_equiv, is_at, list_any, no_two, are_distinct, bytes_eq, lists_ties, name_lists, pointwise, same_words, slice_cmp, texts_of, texts_ties, BTreeSet, Global, HasNames, String, contains_text, nat_list_eq_equiv}
+use Rattle.tsdl_meaning.proofs.TextWords.{BTreeSet, Global, HasNames, IsTotalOrder, String, are_distinct, bytes_eq, contains_text, eq_by_cmp, eq_by_cmp_equiv, is_at, list_any, lists_ties, name_lists, nat_list_eq_equiv, no_two, not-true, pointwise, same_words, slice_cmp, texts_of, texts_ties}
 use Rattle.std.specs.declared.cmp.Ordering.{Ordering}
 use Rattle.tsdl_meaning.specs.Distinct.{no_two_before}
 use Rattle.std.specs.Global.{Vec}

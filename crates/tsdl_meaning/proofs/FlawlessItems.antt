@@ -1,12 +1,8 @@
 -- Names, attributes and scopes without a flaw, one behind the other, and what is looked up among them.
 use Rattle.std.proofs.Common.{◌≡◌, ℕ, Bool, true, false, not, cond, ◌&&◌, ◌||◌, List, [], ◌∷◌, ◌++◌, refl, ap, ap₂, ◌∙◌, inl, inr, Option, Some, None, sym, subst, map, append_assoc, ◌+◌, ◌<◌, length, take, get_or}
-use Rattle.tsdl_meaning.proofs.TextWords.{AddsName, AllByRecursion, BTreeSet, Global, Name, String, are_distinct, bytes_eq, contains_text, flat_map, list_any, no_two, same_words, with_dot, words_of, written, Asked, Attribute, Value, alone, attr, fits, fits_word, is_fit, is_some, is_word, list_all, one_word, option_map, optional, with_default, ◌>>=◌, BlockKind, IsFlawlessScope, Known, MemberTree, MemberType, Scope, ScopeRule, StructType, Structure, has_member, member_names, members_meaning, names_in, provided, rule_in, scope, scope_meaning, scopes_of, struct_meaning, struct_type, structure_of, suits_rule, AddsAttribute, AddsScope, AreFlawless, Item, Ledger, asked_of, attr_in, attr_names, attrs_in, scope_in, scope_names, scopes_in}
-use Rattle.std.proofs.lemmas.Bool.{cases_Bool, not-true, not_from_false, and_from, ltb-true, eqb-true}
-use Rattle.std.proofs.lemmas.List.{append-nil, map-append, take_more}
+use Rattle.tsdl_meaning.proofs.TextWords.{AddsAttribute, AddsName, AddsScope, AllByRecursion, AreFlawless, Asked, Attribute, BTreeSet, BlockKind, Global, IsFlawlessScope, Item, Known, Ledger, MemberTree, MemberType, Name, Scope, ScopeRule, String, StructType, Structure, Value, alone, and_from, append-nil, are_distinct, asked_of, attr, attr_in, attr_names, attrs_in, bind_is, bind_some, bytes_eq, bytes_eq-Decides, cases_Bool, contains_text, eqb-true, fits, fits_word, flat_map, has_member, is_fit, is_some, is_word, list_all, list_any, ltb-true, map-append, member_names, members_meaning, names_in, no_two, not-true, not_from_false, one_word, option_map, optional, provided, rule_in, same_words, scope, scope_in, scope_meaning, scope_names, scopes_in, scopes_of, some_same, struct_meaning, struct_type, structure_of, suits_rule, take_more, with_default, with_dot, words_of, written, ◌>>=◌}
 use Rattle.std.proofs.lemmas.List.Concat.{flat_map-append}
-use Rattle.std.proofs.lemmas.Slice.Eq.{bytes_eq-Decides}
 use Rattle.tsdl_meaning.proofs.DistinctKeys.{any_behind}
-use Rattle.tsdl_grammar.proofs.Inversion.{bind_some, bind_is, some_same}
 use Rattle.tsdl_grammar.proofs.TypeParts.{struct_type-own}
 use Rattle.tsdl_grammar.proofs.MeaningParts.{says_structure}
 use Rattle.tsdl_meaning.specs.FlawlessStructures.{IsFlawless}

@@ -1,15 +1,11 @@
 -- Blocks without a flaw, one behind the other, and the metadata that they mean.
 use Rattle.std.proofs.Common.{◌≡◌, ℕ, ◌+◌, ◌<◌, ◌==◌, Bool, true, false, not, cond, ◌&&◌, ◌||◌, List, [], ◌∷◌, ◌++◌, map, length, take, get_or, Contains, Option, Some, None, refl, sym, ap, ap₂, subst, ◌∙◌, inl, inr, arith}
-use Rattle.tsdl_meaning.proofs.TextWords.{AddsBlock, AddsClock, AddsStream, AllByRecursion, BTreeMap, BTreeSet, Block, ClockType, ContainsKey, EnvironmentEntry, Event, Global, HaveStreams, IsEmpty, IsFlawlessBehind, Item, Known, LacksSizes, Ledger, MeanEntries, NamedFact, SaysMetadata, Stream, String, Surveys, at_most_one, by_number, bytes_eq, clock_meaning, contains, contains_text, each, environment_in, environment_meaning, event_in, event_meaning, events_of, flat_map, has_sizes, have_streams, header_meaning, list_all, list_any, nat_cmp, no_two, only, pair_cmp, provided, stream_in, stream_meaning, streams_meaning, text_meta, trace_in, with_events, ◌>>=◌}
-use Rattle.std.proofs.lemmas.Bool.{cases_Bool, eqb-true, not-true, not_from_false, or_right, or_left, and_from, or_parts}
+use Rattle.tsdl_meaning.proofs.TextWords.{AddsBlock, AddsClock, AddsStream, AllByRecursion, BTreeMap, BTreeSet, Block, ClockType, ContainsKey, EnvironmentEntry, Event, Global, HaveStreams, IsEmpty, IsFlawlessBehind, Item, Known, LacksSizes, Ledger, MeanEntries, NamedFact, SaysMetadata, Stream, String, Surveys, and_from, append-nil, at_most_one, bind_is, by_number, bytes_eq, bytes_eq-Decides, cases_Bool, clock_meaning, contains, contains_text, each, environment_in, environment_meaning, eqb-true, event_in, event_meaning, events_of, flat_map, has_sizes, have_streams, header_meaning, list_all, list_any, map-append, nat_cmp, no_two, not-true, not_from_false, only, or_left, or_parts, or_right, pair_cmp, provided, stream_in, stream_meaning, streams_meaning, take_more, text_meta, trace_in, with_events, ◌>>=◌}
 use Rattle.std.proofs.lemmas.Bool.Decides.{nat_tests}
-use Rattle.std.proofs.lemmas.List.{append-nil, map-append, take_more}
 use Rattle.std.proofs.lemmas.List.Folds.{list_all-append, list_any-append}
-use Rattle.std.proofs.lemmas.Slice.Eq.{bytes_eq-Decides}
 use Rattle.ctf_types.specs.declared.Metadata.{Metadata}
 use Rattle.tsdl_grammar.specs.declared.tree.Block.TheVariants as blocks
 use Rattle.tsdl_grammar.specs.Denotes.{clock_in}
-use Rattle.tsdl_grammar.proofs.Inversion.{bind_is}
 use Rattle.tsdl_grammar.proofs.MeaningParts.{text_says}
 use Rattle.tsdl_meaning.specs.FlawlessTexts.{AddsEvent}
 use Rattle.tsdl_meaning.proofs.MemberNames.{contains_first, contains_later}

@@ -1,13 +1,10 @@
 -- What a ledger has of the blocks before a place, and flaws where a text ends.
 use Rattle.std.proofs.Common.{◌≡◌, ℕ, Bool, true, cond, List, [], ◌∷◌, ◌++◌, refl, Option, Some, sym, ap, ◌∙◌, subst, inl, inr, bytes_eq, ◌≤◌, ◌⊎◌, length, arith}
-use Rattle.std.proofs.lemmas.Bool.{cases_Bool}
-use Rattle.std.proofs.lemmas.Slice.Eq.{bytes_eq-Decides}
 use Rattle.std.proofs.lemmas.Map.Lookups.{exact_unsigned, exact_pairs}
-use Rattle.tsdl_meaning.proofs.TextWords.{AllByRecursion, AreNoted, Atom, BTreeMap, BTreeSet, ContainsKey, Equal-is, Global, HasClock, HasEvent, HasNumbers, Holds, IsSome, Item, Ledger, String, block_toks, clock_name, contains, contains_text, get, is_at, is_eq, is_some, nat_cmp, pair_cmp, IfSizesMissed, IsWrong, Stop, StopsIn, kind_of, most}
+use Rattle.tsdl_meaning.proofs.TextWords.{AllByRecursion, AreNoted, Atom, BTreeMap, BTreeSet, ContainsKey, Equal-is, Global, HasClock, HasEvent, HasNumbers, Holds, IfSizesMissed, IsSome, IsWrong, Item, Ledger, Stop, StopsIn, String, append-nil, block_toks, bytes_eq-Decides, cases_Bool, clock_name, contains, contains_text, get, is_at, is_eq, is_some, kind_of, most, nat_cmp, pair_cmp}
 use Rattle.std.specs.Map.{lookup}
 use Rattle.tsdl_grammar.specs.declared.tree.Block.TheVariants as blocks
 use Rattle.tsdl_meaning.proofs.JudgedParts.{holds_more}
-use Rattle.std.proofs.lemmas.List.{append-nil}
 use Rattle.tsdl_grammar.specs.declared.fault.MetaFaultKind.{MetaFaultKind}
 use Rattle.tsdl_grammar.specs.declared.fault.MetaFaultKind.TheVariants as faults
 use Rattle.tsdl_flaw.specs.declared.flaw.Flaw.{Flaw}

@@ -1,7 +1,6 @@
 -- A stop in a part of a tree is a stop in the tree, and what a judge hands on from a part.
 use Rattle.std.proofs.Common.{◌≡◌, ℕ, suc, ◌<◌, List, [], ◌++◌, length, take, drop, get_or, sym, ap, ◌∙◌, subst, append_assoc, Result, Ok, Err}
-use Rattle.tsdl_meaning.proofs.TextWords.{Atom, Ends, Holds, IfErr, IfOk, IsErrAnd, StandsBehind, Stop, StopsIn, flat_map, StopsAmong, StopsWhere}
-use Rattle.std.proofs.lemmas.List.{append-nil}
+use Rattle.tsdl_meaning.proofs.TextWords.{Atom, Ends, Holds, IfErr, IfOk, IsErrAnd, StandsBehind, Stop, StopsAmong, StopsIn, StopsWhere, append-nil, flat_map}
 use Rattle.tsdl_flaw.proofs.Parts as parts
 
 -- ---- answers

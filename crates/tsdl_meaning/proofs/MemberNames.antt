@@ -1,9 +1,7 @@
 -- Members by their names, structure types from their parts, and alignments.
 use Rattle.std.proofs.Common.{◌≡◌, ℕ, zero, suc, ◌<◌, List, [], ◌∷◌, length, slice_index_or, Contains, Bool, true, false, ◌||◌, Decides, refl, sym, subst, ◌⊎◌, inl, inr, arith, bytes_eq, ltb, Some, None, get_or, ◌↔◌, ◌%◌, ◌≤◌, leb, Option, IsSome, IfSome, ◌==◌, ◌&&◌}
-use Rattle.std.proofs.lemmas.Bool.{false≢true, cases_Bool}
 use Rattle.std.proofs.lemmas.Bool.Decides.{same_from_decides, nat_tests}
-use Rattle.std.proofs.lemmas.Slice.Eq.{bytes_eq-Decides}
-use Rattle.tsdl_meaning.proofs.TextWords.{MemberType, has_member, names_in, position, position_or_len, StructType, struct_type, Atom, IsBehindAlign, IsLargeAlignment, IsPassed, Number, align_of, is_negative, is_some, natural, number_toks, provided, ◌>>=◌}
+use Rattle.tsdl_meaning.proofs.TextWords.{Atom, IsBehindAlign, IsLargeAlignment, IsPassed, MemberType, Number, StructType, align_of, bytes_eq-Decides, cases_Bool, false≢true, has_member, is_negative, is_some, names_in, natural, number_toks, position, position_or_len, provided, struct_type, ◌>>=◌}
 use Rattle.std.proofs.lemmas.List.Sums.{position_or_len_is}
 use Rattle.std.proofs.Math.Nat.{mod-eq_of_lt}
 use Rattle.ctf_types.specs.Alignment.{IsAlignment}

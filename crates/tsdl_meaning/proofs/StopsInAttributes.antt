@@ -1,11 +1,8 @@
 -- Names that have stood before, and a stop in a part of an attribute.
 use Rattle.std.proofs.Common.{◌≡◌, ℕ, ◌+◌, List, [], ◌∷◌, ◌++◌, length, take, drop, get_or, suc, ◌<◌, min, sym, ap, ◌∙◌, subst, arith, append_assoc, length-append, ◌≤◌, Bool, true, false, cond, Decides, refl, inl, bytes_eq}
-use Rattle.tsdl_meaning.proofs.TextWords.{AreNamed, Atom, Attribute, BTreeSet, Global, HasLength, Name, StandsBehind, Stop, StopsAmong, StopsIn, StopsWhere, String, attr_toks, attrs_toks, flat_map, mark, most, name_toks, value_toks, word, IsNameTwice, IsNamed, contains_text, dotted, written}
+use Rattle.tsdl_meaning.proofs.TextWords.{AreNamed, Atom, Attribute, BTreeSet, Global, HasLength, IsNameTwice, IsNamed, Name, StandsBehind, Stop, StopsAmong, StopsIn, StopsWhere, String, append-nil, attr_toks, attrs_toks, bytes_eq-Decides, contains_text, dotted, flat_map, flat_next, mark, most, name_toks, stops_after, stops_item, value_toks, word, written}
 use Rattle.tsdl_grammar.specs.declared.token.Mark.TheVariants as marks
-use Rattle.tsdl_flaw.proofs.Parts.{stops_after, stops_item, flat_next}
 use Rattle.tsdl_meaning.proofs.Fronts.{whole}
-use Rattle.std.proofs.lemmas.List.{append-nil}
-use Rattle.std.proofs.lemmas.Slice.Eq.{bytes_eq-Decides}
 use Rattle.tsdl_grammar.specs.declared.token.Mark.{Mark}
 use Rattle.tsdl_flaw.specs.declared.flaw.Flaw.TheVariants as flaws
 use Rattle.tsdl_flaw.specs.declared.flaw.Stop.TheVariants as stops

@@ -1,15 +1,13 @@
 -- A stop in a part of a member, of its kind or its brackets, is a stop in the structure.
 use Rattle.std.proofs.Common.{◌≡◌, ℕ, suc, ◌+◌, ◌≤◌, ◌<◌, List, [], ◌∷◌, ◌++◌, Option, Some, length, take, drop, get_or, min, refl, sym, ap, ◌∙◌, subst, inl, inr, arith, append_assoc, length-append, length-take, codes, ◌*◌, ◌⊎◌, max, string_bytes, map, Contains}
-use Rattle.tsdl_meaning.proofs.TextWords.{Atom, Attribute, Entries, Entry, HasLength, IsBehindBrace, IsPassed, IsRangeTooMany, Number, StandsBehind, Stop, StopsAmong, StopsIn, StopsWhere, attr_toks, braced, closing_toks, entries_toks, entry_toks, flat_map, high_toks, int_toks, kind_toks, label_toks, mark, most, next_entry_toks, number_toks, word, Adds, BeginsWithName, Bracket, Global, HasLengths, IsBehindBrackets, IsInBracket, IsInBrackets, IsLongLength, IsUnsupported, PassesLimit, String, bracket_toks, depth, elements, natural, Holds, IsBehindAlign, IsBehindKind, IsBehindMembers, IsMemberTooMany, IsMemberTwice, IsTwice, Kind, MemberTree, MemberType, Structure, align_toks, member_toks, names_in, struct_toks}
+use Rattle.tsdl_meaning.proofs.TextWords.{Adds, Atom, Attribute, BeginsWithName, Bracket, Entries, Entry, Global, HasLength, HasLengths, Holds, IsBehindAlign, IsBehindBrace, IsBehindBrackets, IsBehindKind, IsBehindMembers, IsInBracket, IsInBrackets, IsLongLength, IsMemberTooMany, IsMemberTwice, IsPassed, IsRangeTooMany, IsTwice, IsUnsupported, Kind, MemberTree, MemberType, Number, PassesLimit, StandsBehind, Stop, StopsAmong, StopsIn, StopsWhere, String, Structure, align_toks, append-nil, attr_toks, braced, bracket_toks, closing_toks, depth, elements, entries_toks, entry_toks, flat_map, high_toks, int_toks, kind_toks, label_toks, length-map, mark, member_toks, most, names_in, natural, next_entry_toks, number_toks, stops_after, stops_item, struct_toks, take_more, word}
 use Rattle.tsdl_grammar.specs.declared.token.Mark.TheVariants as marks
 use Rattle.tsdl_grammar.specs.declared.tree.Label.{Label}
 use Rattle.tsdl_grammar.specs.declared.tree.Label.TheVariants.{Quoted, Bare}
 use Rattle.tsdl_grammar.specs.declared.tree.Closing.{Closing}
 use Rattle.tsdl_grammar.specs.declared.tree.Entries.TheVariants as entries
 use Rattle.tsdl_grammar.specs.declared.tree.Kind.TheVariants as kinds
-use Rattle.tsdl_flaw.proofs.Parts.{stops_after, stops_item}
 use Rattle.std.proofs.Math.Nat.{mul_assoc, mul-one, one-mul}
-use Rattle.std.proofs.lemmas.List.{append-nil, take_more, length-map}
 use Rattle.tsdl_grammar.specs.declared.tree.Bracket.TheVariants as brackets
 use Rattle.tsdl_flaw.specs.Limits.{elements_of}
 use Rattle.tsdl_meaning.specs.declared.judge.brackets.Lengths.{Lengths}

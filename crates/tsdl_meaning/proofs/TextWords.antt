@@ -1,4 +1,4 @@
--- The words of trees, atoms, stops and types that the proofs speak of.
+-- The words of trees, atoms, stops and types that the proofs speak of, and the lemmas that many of them take.
 pub use Rattle.ctf_types.specs.Allowed.{HasBits, IsByteType, IsCount, IsEvent, IsField, IsIdentity, IsLeaf, IsMagic, IsMappedTo, IsMember, IsMetadata, IsNest, IsRange, IsStream, IsStruct, IsUnsigned, Where, clock_names}
 unfoldable pub use Rattle.ctf_types.specs.Allowed.{AreMembers}
 pub use Rattle.ctf_types.specs.Chain.{ByteString, Chain, Labelled, Leaf}
@@ -88,3 +88,8 @@ pub use Rattle.tsdl_meaning.specs.ScopeRules.{suits_rule}
 pub use Rattle.tsdl_meaning.specs.declared.judge.block.BlockKind.{BlockKind}
 pub use Rattle.tsdl_meaning.specs.declared.judge.ledger.Ledger.{Ledger}
 pub use Rattle.tsdl_meaning.specs.declared.scope_rule.ScopeRule.{ScopeRule}
+pub use Rattle.std.proofs.lemmas.List.{append-nil, length-map, map-append, map-id, reverse-append, take_all, take_more}
+pub use Rattle.std.proofs.lemmas.Bool.{and_from, cases_Bool, eqb-true, false≢true, le-leb, leb-true, ltb-true, not-true, not_from_false, or_left, or_parts, or_right}
+pub use Rattle.std.proofs.lemmas.Slice.Eq.{bytes_eq-Decides}
+pub use Rattle.tsdl_flaw.proofs.Parts.{behind_item, behind_more, flat_next, stops_after, stops_item}
+pub use Rattle.tsdl_grammar.proofs.Inversion.{bind_is, bind_some, by_number-rises, map_some, provided_some, some_same}

@@ -1,8 +1,6 @@
 -- A word that is none of a table's stands for nothing, and an identifier that a text parses from is an option.
 use Rattle.std.proofs.Common.{◌≡◌, ℕ, false, List, [], ◌∷◌, None, refl, sym, inl, inr, bytes_eq, ◌↔◌, Option, Some, Result, Ok, Err, IsOk, IfOk}
-use Rattle.std.proofs.lemmas.Bool.{cases_Bool, false≢true}
-use Rattle.std.proofs.lemmas.Slice.Eq.{bytes_eq-Decides}
-use Rattle.tsdl_meaning.proofs.TextWords.{meant_by, result_ok}
+use Rattle.tsdl_meaning.proofs.TextWords.{bytes_eq-Decides, cases_Bool, false≢true, meant_by, result_ok}
 use Rattle.uuid.specs.declared.error.Error.{Error}
 
 pub other_word : (a b : List ℕ) → (b ≡ a → ⊥) → bytes_eq a b ≡ false

@@ -1,6 +1,5 @@
 use Rattle.std.proofs.Common.{ℕ, List, sym, ◌∙◌, subst, codes}
-use Rattle.std.proofs.lemmas.Slice.Eq.{bytes_eq-Decides}
-use Rattle.tsdl_meaning.proofs.TextWords.{IsAttribute}
+use Rattle.tsdl_meaning.proofs.TextWords.{IsAttribute, bytes_eq-Decides}
 use Rattle.tsdl_meaning.proofs.BlockAttributes.{stream_twice}
 use Rattle.tsdl_meaning.proofs.judge.attribute.judge_stream.Goals as goal
 

@@ -1,11 +1,10 @@
 use Rattle.std.proofs.Common.{◌≡◌, true, arith, [], ◌∷◌, ◌++◌, refl, sym, ◌∙◌, inl, inr, append_assoc}
 use Rattle.tsdl_grammar.specs.declared.token.Mark.TheVariants as marks
-use Rattle.tsdl_meaning.proofs.TextWords.{AddsFact, EndsFacts, StopsAmong, StopsWhere, fact_meaning, fact_toks, is_some, mark, named_fact_toks, word}
+use Rattle.tsdl_meaning.proofs.TextWords.{AddsFact, EndsFacts, StopsAmong, StopsWhere, fact_meaning, fact_toks, is_some, mark, named_fact_toks, stops_after, word}
 use Rattle.tsdl_flaw.specs.declared.flaw.Flaw.TheVariants as flaws
 use Rattle.tsdl_flaw.proofs.Stops.{whole}
 use Rattle.tsdl_meaning.proofs.JudgedParts.{err_from, ok_map}
 use Rattle.tsdl_meaning.proofs.FlawlessFacts.{fact_twice}
-use Rattle.tsdl_flaw.proofs.Parts.{stops_after}
 use Rattle.tsdl_meaning.proofs.judge.block.judge_entry.Goals as goal
 
 pub returns-then-has_fact-clause-fault : goal.returns-then-has_fact-clause-fault

@@ -1,10 +1,8 @@
 use Rattle.std.proofs.Common.{arith, List, [], ◌∷◌, ◌++◌, take, ap, sym, subst, append_assoc, codes}
-use Rattle.std.proofs.lemmas.List.{take_all}
-use Rattle.tsdl_meaning.proofs.TextWords.{Atom, StopsAmong, braced, flat_map, mark, named_fact_toks, word}
+use Rattle.tsdl_meaning.proofs.TextWords.{Atom, StopsAmong, behind_item, braced, flat_map, mark, named_fact_toks, take_all, word}
 use Rattle.tsdl_grammar.specs.declared.token.Mark.TheVariants as marks
 use Rattle.tsdl_meaning.proofs.FlawlessFacts.{Facts, next_fact, no_facts, facts_mean}
 use Rattle.tsdl_meaning.proofs.JudgedParts.{handed, stops_item}
-use Rattle.tsdl_flaw.proofs.Parts.{behind_item}
 use Rattle.tsdl_meaning.proofs.judge.block.judge_environment.Goals as goal
 
 pub returns-in_err-judge_entry-clause-fault : goal.returns-in_err-judge_entry-clause-fault

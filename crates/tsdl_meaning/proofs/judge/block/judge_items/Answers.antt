@@ -1,12 +1,10 @@
 use Rattle.std.proofs.Common.{◌≡◌, ◌+◌, arith, List, [], ◌∷◌, ◌++◌, take, refl, sym, ap, ◌∙◌, subst, append_assoc}
-use Rattle.std.proofs.lemmas.List.{take_all}
-use Rattle.tsdl_meaning.proofs.TextWords.{AreKept, AreNoted, Atom, IsBegun, IsEnded, IsFlawlessBlock, Item, StandsBehind, StopsIn, StopsWhere, begun, item_toks, items_toks, mark, word, word_of}
+use Rattle.tsdl_meaning.proofs.TextWords.{AreKept, AreNoted, Atom, IsBegun, IsEnded, IsFlawlessBlock, Item, StandsBehind, StopsIn, StopsWhere, begun, behind_item, flat_next, item_toks, items_toks, mark, stops_after, take_all, word, word_of}
 use Rattle.tsdl_grammar.specs.declared.token.Mark.TheVariants as marks
 use Rattle.tsdl_meaning.proofs.FlawlessItems.{Items, next_attribute, next_scope, no_items, items_flawless}
 use Rattle.tsdl_meaning.proofs.JudgedParts.{err_from, ok_map}
 use Rattle.tsdl_meaning.proofs.JudgedLedgers.{noted_more}
 use Rattle.tsdl_meaning.proofs.BlockAttributes.{in_item}
-use Rattle.tsdl_flaw.proofs.Parts.{stops_after, behind_item, flat_next}
 use Rattle.tsdl_meaning.proofs.StopsInAttributes.{still_named}
 use Rattle.tsdl_meaning.proofs.judge.block.judge_items.Goals as goal
 use Rattle.tsdl_meaning.proofs.judge.block.judge_items.Goals.{in-Attribute+in_ok-judge_attribute-in-Attribute, in-Scope+in_ok-judge_scope-in-Scope}

@@ -1,7 +1,5 @@
 use Rattle.std.proofs.Common.{List, [], take, subst, arith}
-use Rattle.std.proofs.lemmas.List.{take_all}
-use Rattle.tsdl_meaning.proofs.TextWords.{AreBrackets, Bracket, StopsAmong, bracket_toks, flat_map}
-use Rattle.tsdl_flaw.proofs.Parts.{behind_item}
+use Rattle.tsdl_meaning.proofs.TextWords.{AreBrackets, Bracket, StopsAmong, behind_item, bracket_toks, flat_map, take_all}
 use Rattle.tsdl_meaning.proofs.JudgedParts.{handed}
 use Rattle.tsdl_meaning.proofs.FlawlessTypes.{next_brackets, brackets_mean}
 use Rattle.tsdl_meaning.proofs.StopsInMembers.{in_bracket, next_lengths}

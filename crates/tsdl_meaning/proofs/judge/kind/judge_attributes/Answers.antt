@@ -1,7 +1,5 @@
 use Rattle.std.proofs.Common.{List, arith, ◌∷◌, ◌++◌, subst, codes}
-use Rattle.std.proofs.lemmas.List.{take_all}
-use Rattle.tsdl_meaning.proofs.TextWords.{Attribute, StopsAmong, attr, attr_toks, attrs_toks, own_asked, own_attrs, type_word, word}
-use Rattle.tsdl_flaw.proofs.Parts.{behind_item}
+use Rattle.tsdl_meaning.proofs.TextWords.{Attribute, StopsAmong, attr, attr_toks, attrs_toks, behind_item, own_asked, own_attrs, take_all, type_word, word}
 use Rattle.tsdl_meaning.proofs.JudgedParts.{handed}
 use Rattle.tsdl_meaning.proofs.StopsInAttributes.{list_opening, list_before, in_attribute, next_named, at_close}
 use Rattle.tsdl_meaning.proofs.FlawlessTypes.{Own, next_own, type_means, seen}

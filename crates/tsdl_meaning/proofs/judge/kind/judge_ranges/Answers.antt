@@ -1,8 +1,6 @@
 use Rattle.std.proofs.Common.{List, ◌∷◌, ◌++◌, ◌+◌, subst, arith}
 use Rattle.std.proofs.lemmas.Grind.{common_steps}
-use Rattle.std.proofs.lemmas.List.{take_all}
-use Rattle.tsdl_meaning.proofs.TextWords.{AreRanges, Entry, IsBehindBrace, StopsWhere, entry_toks, flat_map, next_entry_toks}
-use Rattle.tsdl_flaw.proofs.Parts.{behind_item}
+use Rattle.tsdl_meaning.proofs.TextWords.{AreRanges, Entry, IsBehindBrace, StopsWhere, behind_item, entry_toks, flat_map, next_entry_toks, take_all}
 use Rattle.tsdl_meaning.proofs.JudgedParts.{handed}
 use Rattle.tsdl_meaning.proofs.FlawlessTypes.{first_range, next_range}
 use Rattle.tsdl_meaning.proofs.StopsInMembers.{in_first, in_range, range_many, range_front, at_label}

@@ -1,7 +1,5 @@
 use Rattle.std.proofs.Common.{List, Option, Some, take, sym, ap, ◌∙◌, subst, arith}
-use Rattle.tsdl_meaning.proofs.TextWords.{IsBehindAlign, IsSome, MemberTree, Number, StopsAmong, StopsWhere, align_of, is_some, member_toks, names_in, number_toks, struct_toks}
-use Rattle.std.proofs.lemmas.List.{take_all}
-use Rattle.tsdl_flaw.proofs.Parts.{behind_item}
+use Rattle.tsdl_meaning.proofs.TextWords.{IsBehindAlign, IsSome, MemberTree, Number, StopsAmong, StopsWhere, align_of, behind_item, is_some, member_toks, names_in, number_toks, struct_toks, take_all}
 use Rattle.tsdl_meaning.specs.FlawlessStructures.{IsFlawless}
 use Rattle.tsdl_meaning.proofs.JudgedParts.{handed, err_from, ok_map}
 use Rattle.tsdl_meaning.proofs.StopsInMembers.{struct_opening, in_member, next_members, in_align}

@@ -1,11 +1,9 @@
 use Rattle.std.proofs.Common.{arith, List, [], ◌∷◌, ◌++◌, take, refl, sym, ◌∙◌, subst, append_assoc}
-use Rattle.std.proofs.lemmas.List.{append-nil, take_all}
-use Rattle.tsdl_meaning.proofs.TextWords.{AreNoted, Atom, Block, StandsBehind, StopsIn, block_and_semicolon, block_toks, mark, text_toks}
+use Rattle.tsdl_meaning.proofs.TextWords.{AreNoted, Atom, Block, StandsBehind, StopsIn, append-nil, behind_more, block_and_semicolon, block_toks, flat_next, mark, take_all, text_toks}
 use Rattle.tsdl_grammar.specs.declared.token.Mark.TheVariants as marks
 use Rattle.tsdl_meaning.proofs.JudgedParts.{handed, holds_last, stops_same, stops_item}
 use Rattle.tsdl_meaning.proofs.JudgedLedgers.{at_end, noted_more}
 use Rattle.tsdl_meaning.proofs.FlawlessTexts.{Text, next_block, no_blocks, sizes_missed}
-use Rattle.tsdl_flaw.proofs.Parts.{behind_more, flat_next}
 use Rattle.tsdl_meaning.proofs.judge.text.judge_blocks.Goals as goal
 
 pub returns-in_err-judge_block-clause-fault : goal.returns-in_err-judge_block-clause-fault

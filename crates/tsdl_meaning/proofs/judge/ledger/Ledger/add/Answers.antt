@@ -1,7 +1,6 @@
 use Rattle.std.proofs.Common.{◌≡◌, true, ℕ, List, Bor, None, option_map, refl, sym, ap, ap₂, ◌∙◌, cond, subst, bytes_eq, codes}
 use Rattle.std.proofs.lemmas.Map.Text.{btree_set_updates_text}
-use Rattle.tsdl_grammar.proofs.Inversion.{some_same}
-use Rattle.tsdl_meaning.proofs.TextWords.{Block, ContainsKey, HasNumbers, Holds, Item, attrs_in, block_toks, clock_name, contains_text, is_some, number_or_zero, pair_cmp, string_bytes}
+use Rattle.tsdl_meaning.proofs.TextWords.{Block, ContainsKey, HasNumbers, Holds, Item, attrs_in, block_toks, clock_name, contains_text, is_some, number_or_zero, pair_cmp, some_same, string_bytes}
 use Rattle.tsdl_meaning.proofs.JudgedLedgers.{clock_more, event_more, key_stays}
 use Rattle.tsdl_meaning.proofs.judge.ledger.Ledger.add.Goals as goal
 
