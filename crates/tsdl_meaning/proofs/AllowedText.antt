@@ -1,6 +1,6 @@
 -- What a text means is metadata that the rules allow: its streams, and all of it.
 use Rattle.std.proofs.Common.{◌≡◌, ℕ, ◌<◌, Bool, true, false, cond, not, ◌||◌, IsTrue, eqb, ltb, List, [], ◌∷◌, map, All, Contains, Some, None, refl, sym, subst, arith, codes, nat_cmp, Less, ◌≤◌, ◌&&◌, length, ap, ◌∙◌}
-use Rattle.tsdl_meaning.proofs.TextWords.{AllByRecursion, Block, ByteString, Denotes, Dyn, Enum, EnvironmentEntry, Event, Int, IsByteType, IsDistinct, IsEvent, IsIdentity, IsMagic, IsMetadata, IsMetadataName, IsStream, IsStruct, IsUnsigned, Item, Known, Labelled, Leaf, MemberType, NamedFact, NumbersRise, Plain, Static, Str, Stream, StructType, Where, at_most_one, bind_some, block_and_semicolon, block_toks, by_number, by_number-rises, bytes_eq, clock_names, context_names, each, environment_in, environment_meaning, eqb-true, event_context, event_header, event_in, event_meaning, events_of, fact_meaning, fields_scope, flat_map, has_member, have_streams, header_meaning, insert_numbered, is_byte, is_flat, is_unsigned, is_unsigned_of, is_uuid, items_toks, known_of, leb-true, list_all, list_any, map_some, mark, named_fact_meaning, named_fact_toks, names_in, nat_cmp_is, no_two, not-true, only, option_map, packet_context, packet_header, provided, provided_some, some_same, specific_context, stream_in, stream_meaning, streams_meaning, suits, suits_header, text_meta, text_toks, trace_in, with_events, ◌>>=◌}
+use Rattle.tsdl_meaning.proofs.TextWords.{AllByRecursion, Block, ByteString, Denotes, Dyn, Enum, EnvironmentEntry, Event, Int, IsByteType, IsDistinct, IsEvent, IsIdentity, IsMagic, IsMetadata, IsMetadataName, IsStream, IsStruct, IsUnsigned, Item, Known, Labelled, Leaf, MemberType, NamedFact, NumbersRise, Plain, Static, Str, Stream, StructType, Where, at_most_one, bind_some, block_and_semicolon, block_toks, by_number, by_number-rises, bytes_eq, clock_names, context_names, each, environment_in, environment_meaning, eqb-true, event_context, event_header, event_in, event_meaning, events_of, fact_meaning, fields_scope, flat_map, has_member, have_streams, header_meaning, insert_numbered, is_byte, is_flat, is_unsigned, is_unsigned_of, is_uuid, items_toks, known_of, leb-true, list_all, list_any, map_some, mark, named_fact_meaning, named_fact_toks, names_in, nat_cmp_is, nat_le, no_two, not-true, only, option_map, packet_context, packet_header, provided, provided_some, some_same, specific_context, stream_in, stream_meaning, streams_meaning, suits, suits_header, text_meta, text_toks, trace_in, with_events, ◌>>=◌}
 use Rattle.std.specs.List.Sorted.{IsStrictlySortedBy}
 use Rattle.std.proofs.lemmas.List.Elements.{All-from_recursion}
 use Rattle.ctf_types.specs.Packets.{own_names}
@@ -9,7 +9,6 @@ use Rattle.tsdl_grammar.proofs.BlockParts.{says_stream, says_event}
 use Rattle.tsdl_meaning.proofs.GoodAtoms.{AreGood, IsGood, all_front, good_atoms}
 use Rattle.tsdl_meaning.proofs.AllowedTypes.{each_keeps, all_spelled, inside, scope_allowed, unsigned, each_has, at_name}
 use Rattle.tsdl_meaning.proofs.MemberNames.{member_says}
-use Rattle.std.specs.Prelude.{nat_le}
 use Rattle.ctf_types.specs.declared.EnvironmentValue.{EnvironmentValue}
 use Rattle.ctf_types.specs.declared.Metadata.{Metadata}
 use Rattle.ctf_types.specs.Chain.{Number}

@@ -1,7 +1,6 @@
 -- The entries of an environment: what those without a flaw mean, and names that stand twice.
 use Rattle.std.proofs.Common.{◌≡◌, ℕ, ◌+◌, ◌<◌, ◌≤◌, Bool, true, false, ◌&&◌, List, [], ◌∷◌, ◌++◌, map, length, take, get_or, Option, Some, refl, sym, ap, subst, ◌∙◌, arith, length-append, ◌||◌, inl, inr, append_assoc, bytes_eq}
-use Rattle.std.specs.Prelude.{nat_le}
-use Rattle.tsdl_meaning.proofs.TextWords.{AddsFact, AllByRecursion, Atom, EndsFacts, EnvironmentEntry, Holds, IsTwice, MeanEntries, NamedFact, and_from, bind_is, bind_some, bytes_eq, bytes_eq-Decides, cases_Bool, each, environment_meaning, fact_meaning, fact_toks, flat_map, list_any, map-append, mark, named_fact_meaning, named_fact_toks, nat_list_eq_equiv, no_two, option_map, or_parts, provided, some_same, take_more, word, ◌>>=◌}
+use Rattle.tsdl_meaning.proofs.TextWords.{AddsFact, AllByRecursion, Atom, EndsFacts, EnvironmentEntry, Holds, IsTwice, MeanEntries, NamedFact, and_from, bind_is, bind_some, bytes_eq, bytes_eq-Decides, cases_Bool, each, environment_meaning, fact_meaning, fact_toks, flat_map, list_any, map-append, mark, named_fact_meaning, named_fact_toks, nat_le, nat_list_eq_equiv, no_two, option_map, or_parts, provided, some_same, take_more, word, ◌>>=◌}
 use Rattle.std.proofs.lemmas.Bool.Decides.{nat_tests}
 use Rattle.tsdl_meaning.proofs.FlawlessItems.{no_two_more, some_is}
 use Rattle.tsdl_grammar.specs.declared.token.Mark.TheVariants as marks

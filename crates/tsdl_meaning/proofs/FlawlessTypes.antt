@@ -1,7 +1,6 @@
 -- What the kinds, the brackets and the members of a structure mean in which no flaw is found.
 use Rattle.std.proofs.Common.{◌≡◌, ℕ, ◌+◌, ◌<◌, ◌%◌, ◌==◌, Bool, true, false, cond, ◌&&◌, ◌||◌, List, [], ◌∷◌, ◌++◌, length, take, get_or, Option, Some, None, IsSome, Bor, ℤ, pos, negsuc, refl, sym, ap, subst, ◌∙◌, arith, length-append, length-take, ◌*◌, ◌≤◌, ◌⊎◌, ◌^◌, max, inl, inr, not}
-use Rattle.std.specs.Prelude.{codes, nat_lt, nat_le, int_le}
-use Rattle.tsdl_meaning.proofs.TextWords.{Adds, AddsOwn, AreBrackets, AreRanges, Asked, Attribute, BTreeSet, Bracket, ByteOrder, Entries, Entry, Global, HaveNumbers, KeepsLimits, Known, Leaf, MemberTree, MemberType, NameLength, Number, ScopeRule, String, StructType, Structure, Value, align_of, align_with, and_from, are_distinct, are_lengths, attr, attr_names, base_value, bind_is, bind_some, bracketed, bytes_eq, clock_value, count_of, default_align, each, elements_of, encoding_value, entries_of, entry_meaning, enum_meaning, eqb-true, flag_value, has_member, has_only, high_of, int_attrs, int_meaning, is_alignment, is_among, is_fit, is_size, is_some, kind_meaning, le-leb, leb-true, length_place, list_all, list_any, ltb-true, map-append, member_meaning, members_meaning, natural, natural_value, of_integer, of_string, option_map, option_map_or, order_value, order_words, own_asked, own_attrs, provided, provided_some, signed_of, some_same, string_attrs, struct_meaning, struct_type, suits_rule, take_more, text_meaning, tree_of, with_default, word_value, words_of, ◌>>=◌}
+use Rattle.tsdl_meaning.proofs.TextWords.{Adds, AddsOwn, AreBrackets, AreRanges, Asked, Attribute, BTreeSet, Bracket, ByteOrder, Entries, Entry, Global, HaveNumbers, KeepsLimits, Known, Leaf, MemberTree, MemberType, NameLength, Number, ScopeRule, String, StructType, Structure, Value, align_of, align_with, and_from, are_distinct, are_lengths, attr, attr_names, base_value, bind_is, bind_some, bracketed, bytes_eq, clock_value, codes, count_of, default_align, each, elements_of, encoding_value, entries_of, entry_meaning, enum_meaning, eqb-true, flag_value, has_member, has_only, high_of, int_attrs, int_le, int_meaning, is_alignment, is_among, is_fit, is_size, is_some, kind_meaning, le-leb, leb-true, length_place, list_all, list_any, ltb-true, map-append, member_meaning, members_meaning, nat_le, nat_lt, natural, natural_value, of_integer, of_string, option_map, option_map_or, order_value, order_words, own_asked, own_attrs, provided, provided_some, signed_of, some_same, string_attrs, struct_meaning, struct_type, suits_rule, take_more, text_meaning, tree_of, with_default, word_value, words_of, ◌>>=◌}
 use Rattle.std.proofs.lemmas.Bool.Decides.{nat_tests}
 use Rattle.std.proofs.lemmas.List.Folds.{list_all-append}
 use Rattle.ctf_types.specs.declared.ByteOrder.TheVariants.{Little, Big}

@@ -1,12 +1,11 @@
 -- Members by their names, structure types from their parts, and alignments.
 use Rattle.std.proofs.Common.{◌≡◌, ℕ, zero, suc, ◌<◌, List, [], ◌∷◌, length, slice_index_or, Contains, Bool, true, false, ◌||◌, Decides, refl, sym, subst, ◌⊎◌, inl, inr, arith, bytes_eq, ltb, Some, None, get_or, ◌↔◌, ◌%◌, ◌≤◌, leb, Option, IsSome, IfSome, ◌==◌, ◌&&◌}
 use Rattle.std.proofs.lemmas.Bool.Decides.{same_from_decides, nat_tests}
-use Rattle.tsdl_meaning.proofs.TextWords.{Atom, IsBehindAlign, IsLargeAlignment, IsPassed, MemberType, Number, StructType, align_of, bytes_eq-Decides, cases_Bool, false≢true, has_member, is_negative, is_some, names_in, natural, number_toks, position, position_or_len, provided, struct_type, ◌>>=◌}
+use Rattle.tsdl_meaning.proofs.TextWords.{Atom, IsBehindAlign, IsLargeAlignment, IsPassed, MemberType, Number, StructType, align_of, bytes_eq-Decides, cases_Bool, false≢true, has_member, if◌then◌else◌, is_negative, is_some, names_in, nat_lt, natural, number_toks, position, position_or_len, provided, struct_type, ◌>>=◌}
 use Rattle.std.proofs.lemmas.List.Sums.{position_or_len_is}
 use Rattle.std.proofs.Math.Nat.{mod-eq_of_lt}
 use Rattle.ctf_types.specs.Alignment.{IsAlignment}
 use Rattle.tsdl_grammar.proofs.TypeParts.{struct_type-gives, struct_type-refuses}
-use Rattle.std.specs.Prelude.{if◌then◌else◌, nat_lt}
 
 pub contains_first : {X : Type 0} (x : X) (xs : List X) → Contains (x ∷ xs) x
 contains_first x xs = (0, omega arith, refl)

@@ -1,7 +1,6 @@
 -- What is noted of the blocks of a text is what its integers have to know.
 use Rattle.std.proofs.Common.{◌≡◌, ℕ, Bool, true, false, not, ◌&&◌, List, [], ◌∷◌, ◌++◌, map, Option, Some, None, refl, sym, ap, ap₂, subst, ◌∙◌, inl, inr}
-use Rattle.std.specs.Prelude.{codes}
-use Rattle.tsdl_meaning.proofs.TextWords.{Attribute, Block, ByteOrder, ClockType, Item, Known, Surveys, Value, are_distinct, attr, attr_names, attrs_in, bind_some, cases_Bool, clock_meaning, each, first_of, flat_map, is_word, list_any, listed, meant_by, name_of, name_value, not-true, only, option_or, or_parts, order_of, order_table, orders_in, same_words, some_same, trace_in, trace_order, unwrap_or, word_value, words_of, ◌>>=◌}
+use Rattle.tsdl_meaning.proofs.TextWords.{Attribute, Block, ByteOrder, ClockType, Item, Known, Surveys, Value, are_distinct, attr, attr_names, attrs_in, bind_some, cases_Bool, clock_meaning, codes, each, first_of, flat_map, is_word, list_any, listed, meant_by, name_of, name_value, not-true, only, option_or, or_parts, order_of, order_table, orders_in, same_words, some_same, trace_in, trace_order, unwrap_or, word_value, words_of, ◌>>=◌}
 use Rattle.ctf_types.specs.declared.ByteOrder.TheVariants.{Little}
 use Rattle.tsdl_grammar.specs.Denotes.{clock_in}
 use Rattle.tsdl_grammar.proofs.BlockParts.{says_clock}

@@ -93,3 +93,6 @@ pub use Rattle.std.proofs.lemmas.Bool.{and_from, cases_Bool, eqb-true, false≢t
 pub use Rattle.std.proofs.lemmas.Slice.Eq.{bytes_eq-Decides}
 pub use Rattle.tsdl_flaw.proofs.Parts.{behind_item, behind_more, flat_next, stops_after, stops_item}
 pub use Rattle.tsdl_grammar.proofs.Inversion.{bind_is, bind_some, by_number-rises, map_some, provided_some, some_same}
+pub use Rattle.std.proofs.lemmas.Iterator.{YieldsList-from_slice, YieldsList-from_zip}
+pub use Rattle.std.proofs.lemmas.Iterator.Search.{all_from_yields_List, any_from_yields_List, find_from_yields_List}
+pub use Rattle.std.specs.Prelude.{codes, if◌then◌else◌, int_le, nat_le, nat_lt, neg_ℤ, ◌==◌}

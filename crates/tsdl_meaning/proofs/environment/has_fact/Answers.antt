@@ -1,7 +1,5 @@
 use Rattle.std.proofs.Common.{◌∙◌, sym, rules, tests}
-use Rattle.std.proofs.lemmas.Iterator.{YieldsList-from_slice}
-use Rattle.std.proofs.lemmas.Iterator.Search.{any_from_yields_List}
-use Rattle.tsdl_meaning.proofs.TextWords.{bytes_eq}
+use Rattle.tsdl_meaning.proofs.TextWords.{YieldsList-from_slice, any_from_yields_List, bytes_eq}
 use Rattle.tsdl_meaning.proofs.Fronts.{any_mapped}
 use Rattle.tsdl_meaning.proofs.environment.has_fact.Goals as goal
 

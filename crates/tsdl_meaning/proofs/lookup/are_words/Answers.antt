@@ -1,7 +1,5 @@
 use Rattle.std.proofs.Common.{◌∙◌, arith, rules, tests}
-use Rattle.std.proofs.lemmas.Iterator.{YieldsList-from_slice, YieldsList-from_zip}
-use Rattle.std.proofs.lemmas.Iterator.Search.{all_from_yields_List}
-use Rattle.tsdl_meaning.proofs.TextWords.{bytes_eq}
+use Rattle.tsdl_meaning.proofs.TextWords.{YieldsList-from_slice, YieldsList-from_zip, all_from_yields_List, bytes_eq}
 use Rattle.tsdl_meaning.proofs.Fronts.{same_zipped}
 use Rattle.tsdl_meaning.proofs.lookup.are_words.Goals as goal
 

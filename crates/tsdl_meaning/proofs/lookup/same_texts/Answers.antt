@@ -1,7 +1,5 @@
 use Rattle.std.proofs.Common.{◌∙◌, ap, arith, rules, tests}
-use Rattle.std.proofs.lemmas.Iterator.{YieldsList-from_slice, YieldsList-from_zip}
-use Rattle.std.proofs.lemmas.Iterator.Search.{all_from_yields_List}
-use Rattle.tsdl_meaning.proofs.TextWords.{bytes_eq, map-id, same_words}
+use Rattle.tsdl_meaning.proofs.TextWords.{YieldsList-from_slice, YieldsList-from_zip, all_from_yields_List, bytes_eq, map-id, same_words}
 use Rattle.tsdl_meaning.proofs.Fronts.{same_zipped}
 use Rattle.tsdl_meaning.proofs.lookup.same_texts.Goals as goal
 

@@ -1,8 +1,6 @@
 use Rattle.std.proofs.Common.{◌≡◌, ℕ, true, not, List, Bor, option_map, sym, ap, ◌∙◌, subst, rules, tests}
-use Rattle.std.proofs.lemmas.Iterator.{YieldsList-from_slice}
-use Rattle.std.proofs.lemmas.Iterator.Search.{find_from_yields_List}
 use Rattle.tsdl_meaning.proofs.BlockAttributes.{none_missed}
-use Rattle.tsdl_meaning.proofs.TextWords.{attr, attrs_in, is_some, list_all, mark}
+use Rattle.tsdl_meaning.proofs.TextWords.{YieldsList-from_slice, attr, attrs_in, find_from_yields_List, is_some, list_all, mark}
 use Rattle.tsdl_grammar.specs.declared.token.Mark.TheVariants as marks
 use Rattle.tsdl_meaning.proofs.judge.block.judge_end.Goals as goal
 

@@ -1,7 +1,5 @@
 use Rattle.std.proofs.Common.{◌≡◌, ℕ, arith, List, [], ◌∷◌, ◌++◌, Some, Bor, option_map, sym, ap, ◌∙◌, subst, length-append, rules, tests}
-use Rattle.std.proofs.lemmas.Iterator.{YieldsList-from_slice}
-use Rattle.std.proofs.lemmas.Iterator.Search.{find_from_yields_List}
-use Rattle.tsdl_meaning.proofs.TextWords.{AreNamed, Atom, ScopeRule, StopsWhere, mark, name_toks, rule_in, same_words, scope_toks, stops_after, struct_toks, texts_of, words_of}
+use Rattle.tsdl_meaning.proofs.TextWords.{AreNamed, Atom, ScopeRule, StopsWhere, YieldsList-from_slice, find_from_yields_List, mark, name_toks, rule_in, same_words, scope_toks, stops_after, struct_toks, texts_of, words_of}
 use Rattle.tsdl_grammar.specs.declared.token.Mark.TheVariants as marks
 use Rattle.tsdl_meaning.proofs.JudgedParts.{handed, stops_same}
 use Rattle.tsdl_meaning.proofs.StopsInAttributes.{named_behind}
