@@ -1,6 +1,6 @@
 -- Types and structures that a metadata text means are those that the rules allow.
-use Rattle.std.proofs.Common.{◌≡◌, ℕ, suc, ◌-◌, ◌*◌, ◌<◌, ◌≤◌, ◌^◌, ℤ, pos, negsuc, ◌≤ℤ◌, Bool, true, false, cond, ◌&&◌, List, [], ◌∷◌, ◌++◌, length, max, get_or, slice_get, All, Contains, Option, Some, None, refl, sym, ap, subst, ◌∙◌, arith, codes, not, ◌||◌, append-nil, append_assoc}
-use Rattle.tsdl_meaning.proofs.TextWords.{AllByRecursion, AreMembers, Atom, Attribute, Bracket, ByteString, Chain, Dyn, Entries, Entry, Enum, HasBits, Int, IsCount, IsDistinct, IsField, IsLeaf, IsMappedTo, IsMember, IsMetadataName, IsNest, IsRange, IsStruct, IsUnsigned, Item, Kind, Known, Labelled, Leaf, MemberTree, MemberType, Plain, Scope, Static, Str, StructType, Structure, Value, align_of, align_toks, align_with, are_lengths, arrays_of, attr, bind_some, braced, bracket_toks, bracketed, bytes_eq, bytes_eq-Decides, clock_in, clock_value, closing_toks, count_of, each, elements_of, encoding_value, entries_of, entries_toks, entry_meaning, entry_toks, enum_meaning, false≢true, field_of, flat_map, has_member, has_only, high_of, high_toks, int_le, int_meaning, int_toks, is_negative, is_unsigned, item_toks, items_toks, kind_meaning, kind_toks, label_toks, leb-true, length_place, list_all, list_any, ltb-true, map_some, mark, member_meaning, member_toks, members_meaning, name_toks, names_in, nat_le, nat_lt, neg_ℤ, next_entry_toks, not-true, number_toks, option_map, optional, provided, provided_some, same_words, scope, scope_meaning, scope_toks, scopes_in, sign_toks, signed_of, some_same, struct_meaning, struct_toks, struct_type, structure_of, text_meaning, with_default, word, words_of, ◌>>=◌}
+use Rattle.std.proofs.Common.{◌≡◌, ℕ, suc, ◌-◌, ◌*◌, ◌<◌, ◌≤◌, ◌^◌, ℤ, pos, negsuc, ◌≤ℤ◌, Bool, true, false, cond, ◌&&◌, List, [], ◌∷◌, ◌++◌, length, max, get_or, slice_get, All, Contains, Option, Some, None, refl, sym, ap, subst, ◌∙◌, arith, codes, not, append-nil, append_assoc}
+use Rattle.tsdl_meaning.proofs.TextWords.{AllByRecursion, AreMembers, Atom, Attribute, Bracket, ByteString, Chain, Dyn, Entries, Entry, Enum, HasBits, Int, IsCount, IsDistinct, IsField, IsLeaf, IsMappedTo, IsMember, IsMetadataName, IsNest, IsRange, IsStruct, IsUnsigned, Item, Kind, Known, Labelled, Leaf, MemberTree, MemberType, Plain, Scope, Static, Str, StructType, Structure, Value, align_of, align_toks, align_with, are_lengths, arrays_of, attr, bind_some, braced, bracket_toks, bracketed, bytes_eq, bytes_eq-Decides, clock_in, clock_value, closing_toks, count_of, each, elements_of, encoding_value, entries_of, entries_toks, entry_meaning, entry_toks, enum_meaning, false≢true, field_of, flat_map, has_member, has_only, high_of, high_toks, int_le, int_meaning, int_toks, is_negative, is_unsigned, item_toks, items_toks, kind_meaning, kind_toks, label_toks, leb-true, length_place, list_all, list_any, ltb-true, map_some, mark, member_meaning, member_toks, members_meaning, name_toks, names_in, nat_le, nat_lt, neg_ℤ, next_entry_toks, not-true, number_toks, option_map, optional, or_parts, provided, provided_some, same_words, scope, scope_meaning, scope_toks, scopes_in, sign_toks, signed_of, some_same, struct_meaning, struct_toks, struct_type, structure_of, text_meaning, with_default, word, words_of, ◌>>=◌}
 use Rattle.std.proofs.lemmas.Int.{ints}
 use Rattle.std.proofs.lemmas.Float.{T_from_true}
 use Rattle.std.specs.Int.Signed.{le_z_yes}
@@ -232,17 +232,13 @@ member_allowed known before m t g e =
 apart : (w x : List ℕ) → bytes_eq w x ≡ false → bytes_eq x w ≡ false
 apart w x h = other_word x w (λ e. false≢true (sym h ∙ (bytes_eq-Decides w x).1 e))
 
-neither : (a b : Bool) → (a || b) ≡ false → (a ≡ false) × (b ≡ false)
-neither true b e = absurd cc
-neither false b e = (refl, e)
-
 -- one more name behind the others, which none of them is
 distinct_push : (w : List ℕ) (t : MemberType) (before : List (List ℕ × MemberType)) → has_member w before ≡ false → IsDistinct bytes_eq (names_in before)
     → IsDistinct bytes_eq (names_in (before ++ (w, t) ∷ []))
 unfolding IsDistinct
 distinct_push w t [] h d = (tt, tt)
 distinct_push w t (m ∷ ms) h d =
-    let both = neither (bytes_eq w m.0) (has_member w ms) h in (by ms d.0 (apart w m.0 both.0), distinct_push w t ms both.1 d.1)
+    let both = or_parts (bytes_eq w m.0) (has_member w ms) h in (by ms d.0 (apart w m.0 both.0), distinct_push w t ms both.1 d.1)
   where
     by : (ks : List (List ℕ × MemberType)) → AllByRecursion (λ y. bytes_eq m.0 y ≡ false) (names_in ks) → bytes_eq m.0 w ≡ false
         → AllByRecursion (λ y. bytes_eq m.0 y ≡ false) (names_in (ks ++ (w, t) ∷ []))

@@ -76,6 +76,8 @@ pub clock_twice : (v : Value) (name : List ℕ) (front : List Atom) → name_val
 clock_twice v name front h (other, before, named) (items, ends) =
     inr (inr (inl (record { name = name; other = other; items = items; value = v; before = before; named = named; ends = ends; here = refl; same = h })))
 
+-- ---- scopes
+
 pub scope_parts : (s : Scope) (behind : List Atom) → scope_toks s ++ behind ≡ name_toks s.name ++ (mark marks.Assign ∷ (struct_toks s.structure ++ (mark marks.Semicolon ∷ behind)))
 scope_parts s behind =
     let own = mark marks.Assign ∷ struct_toks s.structure in
@@ -87,6 +89,8 @@ scope_opening s behind = scope_parts s behind ∙ sym (append_assoc (name_toks s
 
 pub scope_rest : (s : Scope) → scope_toks s ≡ name_toks s.name ++ (mark marks.Assign ∷ (struct_toks s.structure ++ (mark marks.Semicolon ∷ [])))
 scope_rest s = append_assoc (name_toks s.name) (mark marks.Assign ∷ struct_toks s.structure) (mark marks.Semicolon ∷ [])
+
+-- ---- the tables of a block
 
 -- where no row of a table is missed, each of its names is there
 pub none_missed : (there : List ℕ → Bool) (rows : List (Bor (List ℕ) × Bor (List ℕ))) → find (λ row. not (there row.0.now)) rows ≡ None → list_all there (first_texts rows) ≡ true

@@ -22,11 +22,11 @@ pub record Clocks (names : BTreeSet (String Global)) (all : List (List Item)) : 
   pub once : no_two bytes_eq (map (λ c. c.name) made) ≡ true
   pub noted : AllByRecursion (λ w. contains_text names w ≡ true) (map (λ c. c.name) made)
 
-other_name : (names : BTreeSet (String Global)) (w v : List ℕ) → contains_text names w ≡ true → contains_text names v ≡ false → bytes_eq w v ≡ false
-other_name names w v there fresh =
-    elim (cases_Bool (bytes_eq w v)) [
+other_than : {A : Type 0} (there : A → Bool) (same : A → A → Bool) → ((x y : A) → same x y ≡ true → x ≡ y) → (x y : A) → there x ≡ true → there y ≡ false → same x y ≡ false
+other_than there same is x y old fresh =
+    elim (cases_Bool (same x y)) [
       | inr e ↦ e
-      | inl e ↦ absurd (let same : contains_text names w ≡ contains_text names v = ap (contains_text names) ((bytes_eq-Decides w v).0 e) in cc)
+      | inl e ↦ absurd (let alike : there x ≡ there y = ap there (is x y e) in cc)
     ]
 
 still : (b c : Bool) → c ≡ true → cond b true c ≡ true
@@ -44,7 +44,7 @@ clock_more ledger after all is c s adds =
       once =
           ap (no_two bytes_eq) more
           ∙ no_two_more bytes_eq names c.clock.name
-          (all_weaker (λ w. contains_text ledger.clocks w ≡ true) (λ w. bytes_eq w c.clock.name ≡ false) names (λ w there. other_name ledger.clocks w c.clock.name there c.anew) s.noted) s.once;
+          (all_weaker (λ w. contains_text ledger.clocks w ≡ true) (λ w. bytes_eq w c.clock.name ≡ false) names (λ w there. other_than (contains_text ledger.clocks) bytes_eq (λ x y. (bytes_eq-Decides x y).0) w c.clock.name there c.anew) s.noted) s.once;
       noted =
           subst (AllByRecursion (λ w. contains_text adds.clocks w ≡ true)) (sym more)
           (all_more (λ w. contains_text adds.clocks w ≡ true) names c.clock.name
@@ -64,13 +64,6 @@ pub record Streams (known : Known) (numbers : BTreeSet ℕ) (all : List (List It
 same_number : (n : ℕ) → (n == n) ≡ true
 same_number n = grind (arith, nat_tests)
 
-other_number : (numbers : BTreeSet ℕ) (m n : ℕ) → contains nat_cmp numbers m ≡ true → contains nat_cmp numbers n ≡ false → (m == n) ≡ false
-other_number numbers m n there fresh =
-    elim (cases_Bool (m == n)) [
-      | inr e ↦ e
-      | inl e ↦ absurd (let same : contains nat_cmp numbers m ≡ contains nat_cmp numbers n = ap (contains nat_cmp numbers) (eqb-true m n e) in cc)
-    ]
-
 stream_more : (known : Known) (ledger after : Ledger) (all : List (List Item)) (is : List Item) → StreamOf known ledger is → (adds : AddsStream ledger is after)
     → (list_all has_sizes all ≡ true → Streams known ledger.streams all) → list_all has_sizes (all ++ is ∷ []) ≡ true → Streams known adds.streams (all ++ is ∷ [])
 stream_more known ledger after all is o adds before sized =
@@ -85,7 +78,7 @@ stream_more known ledger after all is o adds before sized =
       once =
           no_two_more (λ x y. x.id == y.id) s.made stream
           (all_weaker (λ x. contains nat_cmp ledger.streams x.id ≡ true) (λ x. (x.id == stream.id) ≡ false) s.made
-          (λ x there. other_number ledger.streams x.id stream.id there (ap (contains nat_cmp ledger.streams) one.2 ∙ o.anew)) s.noted) s.once;
+          (λ x there. other_than (contains nat_cmp ledger.streams) (λ m n. m == n) eqb-true x.id stream.id there (ap (contains nat_cmp ledger.streams) one.2 ∙ o.anew)) s.noted) s.once;
       noted =
           all_more (λ x. contains nat_cmp adds.streams x.id ≡ true) s.made stream
           (all_weaker (λ x. contains nat_cmp ledger.streams x.id ≡ true) (λ x. contains nat_cmp adds.streams x.id ≡ true) s.made (λ x there. (added x.id).1 (inr there)) s.noted)

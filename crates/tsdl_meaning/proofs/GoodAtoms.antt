@@ -120,14 +120,10 @@ piece_named (b ∷ bytes) =
 
 -- ---- atoms
 
-head_passes : (a : Bool) → (a && true) ≡ true → a ≡ true
-head_passes true e = refl
-head_passes false e = absurd cc
-
 good_word : (b : Bool) (bytes : List ℕ) → is_identifier bytes ≡ true → list_all is_read (cond b (atoms.Word bytes) atoms.TooLarge ∷ []) ≡ true
     → AreGood (cond b (atoms.Word bytes) atoms.TooLarge ∷ [])
 good_word true bytes h r =
-    (record { identifier = h; no_keyword = not-true (list_any (bytes_eq bytes) unused_keywords) (head_passes (not (list_any (bytes_eq bytes) unused_keywords)) r) }, tt)
+    (record { identifier = h; no_keyword = not-true (list_any (bytes_eq bytes) unused_keywords) (and_true (not (list_any (bytes_eq bytes) unused_keywords)) true r).0 }, tt)
 good_word false bytes h r = (tt, tt)
 
 good_number : (n : ℕ) → AreGood (number_atom n ∷ [])

@@ -1,4 +1,5 @@
 //! What attributes have, judged by what each one may have. A flaw of a value stands at its first atom.
+#![tactic(auto, using(crate::proofs::JudgedParts::any_front))]
 
 ghost use Rattle.std.specs.Prelude.{◌≡◌, Some, IsSome, IsTrue, IfOk, IfErr};
 ghost use Rattle.std.specs.Option.{is_some};
