@@ -1,3 +1,2 @@
 mod Flaws
 mod Rows
-mod Ordered

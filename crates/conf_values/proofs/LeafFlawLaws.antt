@@ -3,7 +3,7 @@ use Rattle.std.proofs.Common.{◌≡◌, ◌⊎◌, ℕ, ℤ, ◌<ℤ◌, Bool, 
 use Rattle.std.specs.Prelude.{nat_le, nat_eq, int_le}
 use Rattle.std.specs.List.{list_any}
 use Rattle.std.specs.Str.{bytes_eq}
-use Rattle.std.proofs.lemmas.Bool.{true≢false, false≢true, and_cases, or_parts, leb-false, eq-eqb}
+use Rattle.std.proofs.lemmas.Bool.{true≢false, false≢true, and_cases, or_cases, or_parts, leb-false, eq-eqb}
 use Rattle.std.proofs.lemmas.List.Folds.{Any-from_list_any}
 use Rattle.std.proofs.lemmas.Slice.Eq.{bytes_eq-Decides}
 use borrow.Author.Differences.{le-false, below_in}
@@ -152,11 +152,6 @@ listed names name e =
     let same : name ≡ found.1 = (bytes_eq-Decides name found.1).0 found.4 in
     subst (λ n. Contains names n) (sym same) (found.0, found.2, found.3)
 
-reserved_told : (name : List ℕ) (a b : Bool) → list_any (bytes_eq name) unused_keywords ≡ a → list_any (bytes_eq name) used_keywords ≡ b → (a || b) ≡ true → IsReserved name
-reserved_told name true b p q e = inl (listed unused_keywords name p)
-reserved_told name false true p q e = inr (listed used_keywords name q)
-reserved_told name false false p q e = absurd (false≢true e)
-
 pub plain_name_refused : (name : List ℕ) (flaw : Flaw) → plain_name_of name ≡ Err flaw → IsNoPlainName name flaw
 unfolding plain_name_of is_reserved
 plain_name_refused name flaw e =
@@ -164,5 +159,6 @@ plain_name_refused name flaw e =
       | inl none ↦ IsNoPlainName.no_name flaw (name_refused name flaw none)
       | inr (x, went, refused) ↦
           let told = refused_where (list_any (bytes_eq name) unused_keywords || list_any (bytes_eq name) used_keywords) tt (here ReservedName) flaw refused in
-          holds_of (IsNoPlainName name) (here ReservedName) flaw told.1 (IsNoPlainName.a_reserved_word (reserved_told name _ _ refl refl told.0))
+          let among : IsReserved name = elim (or_cases (list_any (bytes_eq name) unused_keywords) (list_any (bytes_eq name) used_keywords) told.0) [ inl unused ↦ inl (listed unused_keywords name unused) | inr used ↦ inr (listed used_keywords name used) ] in
+          holds_of (IsNoPlainName name) (here ReservedName) flaw told.1 (IsNoPlainName.a_reserved_word among)
     ]

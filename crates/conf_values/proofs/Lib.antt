@@ -1,4 +1,3 @@
 pub mod Steps
 pub mod LeafFlawLaws
-pub mod Meanings
 mod WorkedWords

@@ -1,7 +1,7 @@
 use Rattle.serde_json.specs.View.{view}
 use Rattle.std.proofs.lemmas.Result.{err_from_is_err_and}
 use Rattle.conf_tree.specs.Walk.{max_levels}
-use Rattle.conf_tree.proofs.Flaws.{depth-flaws, has_float-flaws, read_holds, accepted}
+use Rattle.conf_tree.proofs.Flaws.{flawless, read_holds, accepted}
 use Rattle.conf_tree.proofs.read.read_tree.Goals as goal
 
 pub returns-in_err-check_value-clause-holds : goal.returns-in_err-check_value-clause-holds
@@ -11,9 +11,5 @@ returns-in_err-check_value-clause-holds c =
 
 pub invariant_of-result : goal.invariant_of-result
 invariant_of-result c =
-    let none = accepted _ c.in_ok-check_value.ensures.first in
-    record {
-      nested = depth-flaws (view c.in-Ok.value) max_levels none;
-      whole = has_float-flaws (view c.in-Ok.value) max_levels none;
-      ordered = c.in_ok-check_value.ensures.ordered;
-    }
+    let sound = flawless (view c.in-Ok.value) max_levels (accepted _ c.in_ok-check_value.ensures.first) in
+    record { nested = sound.0; whole = sound.1; ordered = c.in_ok-check_value.ensures.ordered }
