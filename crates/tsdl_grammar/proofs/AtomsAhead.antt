@@ -1,18 +1,12 @@
 -- The atoms of a text, one after the other, are what its tokens mean.
-use Rattle.std.proofs.Common.{◌≡◌, ℕ, zero, suc, ◌-◌, ◌<◌, ◌≤◌, List, [], ◌∷◌, ◌++◌, length, take, drop, Option, Some, None, arith, refl, sym, ap, subst, ◌∙◌, ◌⊎◌, inl, inr}
-use Rattle.std.proofs.lemmas.List.{length-append}
-use Rattle.tsdl_grammar.specs.declared.token.Token.{Token}
-use Rattle.tsdl_grammar.specs.declared.token.TokenKind.{TokenKind}
-use Rattle.tsdl_grammar.specs.declared.piece.Piece.{Piece}
+use Rattle.std.proofs.Common.{◌≡◌, ℕ, zero, suc, ◌-◌, ◌<◌, ◌≤◌, List, [], ◌∷◌, ◌++◌, length, take, drop, Option, Some, None, arith, refl, sym, ap, subst, ◌∙◌, ◌⊎◌, inl, inr, append-nil, length-append}
+use Rattle.std.proofs.lemmas.List.{drop_all}
+use Rattle.tsdl_grammar.specs.declared.{token.Token.Token, token.TokenKind.TokenKind, piece.Piece.Piece, piece.Cut.Cut, atom.Atom.Atom}
 use Rattle.tsdl_grammar.specs.declared.piece.Piece.TheVariants as pieces
-use Rattle.tsdl_grammar.specs.declared.piece.Cut.{Cut}
-use Rattle.tsdl_grammar.specs.declared.atom.Atom.{Atom}
-use Rattle.tsdl_grammar.specs.Pieces.{piece_at}
-use Rattle.tsdl_grammar.specs.Tokens.{Splits, Tokenizes}
+use Rattle.tsdl_grammar.specs.{Pieces.piece_at, Tokens.Splits, Tokens.Tokenizes}
 use Rattle.tsdl_grammar.specs.Atoms.{meaning_of, atoms_of, piece_atoms, atoms_along}
 use Rattle.tsdl_grammar.specs.Fronts.{front_atoms, passed, atoms_behind, atoms_in}
-use Rattle.tsdl_grammar.proofs.Splits.{nothing_at_the_end}
-use Rattle.tsdl_grammar.proofs.Continuation.{spells}
+use Rattle.tsdl_grammar.proofs.{Splits.nothing_at_the_end, Continuation.spells}
 
 -- passing over some bytes is dropping them
 passes : (n : ℕ) (bytes : List ℕ) → atoms_behind n bytes ≡ atoms_in (drop n bytes)
@@ -21,19 +15,19 @@ passes zero bytes = refl
 passes (suc n) [] = refl
 passes (suc n) (b ∷ bytes) = passes n bytes
 
-none_left : (bytes : List ℕ) → drop (length bytes) bytes ≡ []
-none_left [] = refl
-none_left (b ∷ bytes) = none_left bytes
-
 -- where no piece begins there is no atom
 pub no_atom : (bytes : List ℕ) → piece_at bytes ≡ None → atoms_in bytes ≡ []
 unfolding atoms_behind
 no_atom [] e = refl
-no_atom (b ∷ bytes) e = rw e (passes (length bytes) bytes ∙ ap atoms_in (none_left bytes))
+no_atom (b ∷ bytes) e = rw e (passes (length bytes) bytes ∙ ap atoms_in (drop_all (length bytes) bytes (omega arith)))
 
 behind_one : (bytes : List ℕ) (b len : ℕ) → 0 < len → drop (len - 1) bytes ≡ drop len (b ∷ bytes)
 behind_one bytes b zero some = absurd (omega arith)
 behind_one bytes b (suc len) some = let e : suc len - 1 ≡ len = omega arith in rw e refl
+
+-- nothing stands behind the last atom
+pub nothing_behind : (xs : List Atom) → xs ++ atoms_in [] ≡ xs
+nothing_behind xs = ap (λ (ys : List Atom). xs ++ ys) (no_atom [] nothing_at_the_end) ∙ append-nil xs
 
 -- a piece, and what stands behind it
 pub one_piece : (bytes : List ℕ) (c : Cut) → piece_at bytes ≡ Some c → 0 < c.len → atoms_in bytes ≡ piece_atoms c.piece (take c.len bytes) ++ atoms_in (drop c.len bytes)
@@ -45,10 +39,7 @@ one_piece (b ∷ bytes) c e some =
 -- a piece that is no token
 pub skips : (bytes : List ℕ) (c : Cut) → piece_at bytes ≡ Some c → 0 < c.len → (c.piece ≡ pieces.Blank) ⊎ (c.piece ≡ pieces.Comment) → atoms_in bytes ≡ atoms_in (drop c.len bytes)
 skips bytes c e some h =
-    one_piece bytes c e some ∙ elim h [
-      | inl blank ↦ rw blank refl
-      | inr comment ↦ rw comment refl
-    ]
+    one_piece bytes c e some ∙ elim h [ inl blank ↦ rw blank refl | inr comment ↦ rw comment refl ]
 
 -- a piece that is a token
 pub takes : (bytes : List ℕ) (c : Cut) (kind : TokenKind) → piece_at bytes ≡ Some c → 0 < c.len → c.piece ≡ pieces.Token kind
@@ -80,9 +71,8 @@ pub tokens_mean : (text : List ℕ) (ts : List Token) → Tokenizes text ts → 
 tokens_mean text ts t = let s = spells text (atoms_of text ts) (ts, t, refl) in s.atoms ∙ along_pieces text s.cuts s.splits
 
 at_most_one : (piece : Piece) (bytes : List ℕ) → length (piece_atoms piece bytes) ≤ 1
-at_most_one pieces.Blank bytes = omega arith
-at_most_one pieces.Comment bytes = omega arith
 at_most_one (pieces.Token kind) bytes = omega arith
+at_most_one _ bytes = omega arith
 
 one_in_front : (found : Option Cut) (bytes : List ℕ) → length (front_atoms found bytes) ≤ 1
 one_in_front None bytes = omega arith

@@ -1,27 +1,17 @@
 -- The blocks of a text in another order.
-use Rattle.std.proofs.Common.{◌≡◌, ℕ, Bool, true, false, cond, eqb, List, ◌∷◌, map, Option, Some, refl, sym, ap, ap₂, ◌∙◌}
-use Rattle.std.specs.List.{list_any, flat_map}
-use Rattle.std.specs.Str.{bytes_eq}
-use Rattle.std.specs.Cmp.Lexicographic.{nat_list_eq_equiv}
-use Rattle.ctf_types.specs.declared.ByteOrder.{ByteOrder}
-use Rattle.ctf_types.specs.declared.ClockType.{ClockType}
-use Rattle.ctf_types.specs.declared.Event.{Event}
-use Rattle.ctf_types.specs.declared.Stream.{Stream}
-use Rattle.ctf_types.specs.declared.Metadata.{Metadata}
+use Rattle.std.proofs.Common.{◌≡◌, ℕ, Bool, eqb, List, ◌∷◌, map, Option, Some, refl, sym, ap, ap₂, ◌∙◌, inl, inr, flat_map, bytes_eq}
+use Rattle.std.specs.{List.list_any, Cmp.Lexicographic.nat_list_eq_equiv}
+use Rattle.std.proofs.lemmas.Bool.{cases_Bool}
+use Rattle.ctf_types.specs.declared.{ByteOrder.ByteOrder, ClockType.ClockType, Event.Event, Stream.Stream, Metadata.Metadata}
 use Rattle.tsdl_grammar.specs.declared.tree.Block.{Block}
-use Rattle.tsdl_grammar.specs.Steps.{◌>>=◌, provided, at_most_one, each, by_number}
-use Rattle.tsdl_grammar.specs.Lookups.{no_two}
-use Rattle.tsdl_grammar.specs.IntegerMeaning.{Known}
+use Rattle.tsdl_grammar.specs.{Lookups.no_two, IntegerMeaning.Known, Laws.SaysMetadata}
+use Rattle.tsdl_grammar.specs.Steps.{◌>>=◌, provided, only, at_most_one, each, by_number}
 use Rattle.tsdl_grammar.specs.BlockMeaning.{clock_meaning, stream_meaning, event_meaning, environment_meaning}
 use Rattle.tsdl_grammar.specs.Denotes.{text_meta, trace_in, stream_in, event_in, clock_in, environment_in, events_of, with_events, have_streams, known_of, streams_meaning}
-use Rattle.tsdl_grammar.specs.Laws.{SaysMetadata}
 use Rattle.tsdl_grammar.specs.Orders.{Reordered, same, neighbours, behind, further, SameButClockOrder}
-use Rattle.tsdl_grammar.proofs.Inversion.{bind_some, bind_is}
-use Rattle.tsdl_grammar.proofs.MeaningParts.{says_metadata, text_says}
-use Rattle.tsdl_grammar.proofs.Reordering.{reordered_parts, reordered_map, only_stays, at_most_one_stays, any_stays, all_stays, no_two_stays, each_stays, each_alike, by_number_stays}
+use Rattle.tsdl_grammar.proofs.{Inversion.bind_some, Inversion.bind_is, MeaningParts.says_metadata, MeaningParts.text_says}
+use Rattle.tsdl_grammar.proofs.Reordering.{reordered_parts, reordered_map, one_stays, any_stays, all_stays, no_two_stays, each_stays, each_alike, by_number_stays}
 use Rattle.tsdl_grammar.proofs.KnownClocks.{KnowSame, header_alike, stream_alike, event_alike}
-
--- ---- clocks
 
 known_same : (order : ByteOrder) {us vs : List ClockType} → Reordered us vs → KnowSame (known_of order us) (known_of order vs)
 known_same order r = record { order = refl; clocks = λ w. any_stays (bytes_eq w) (reordered_map (λ c. c.name) r) }
@@ -29,22 +19,15 @@ known_same order r = record { order = refl; clocks = λ w. any_stays (bytes_eq w
 names_apart : {us vs : List ClockType} → Reordered us vs → no_two bytes_eq (map (λ c. c.name) us) ≡ no_two bytes_eq (map (λ c. c.name) vs)
 names_apart r = no_two_stays bytes_eq (λ v w. nat_list_eq_equiv.symm v w) (reordered_map (λ c. c.name) r)
 
--- ---- streams and their events
-
 events_stay : (id : ℕ) {es fs : List (ℕ × Event)} → Reordered es fs → Reordered (events_of id es) (events_of id fs)
 events_stay id (same es) = same (events_of id es)
-events_stay id (neighbours x y es) = by (eqb x.0 id) (eqb y.0 id) (events_of id es)
-  where
-    by : (b c : Bool) (fs : List Event) → Reordered (cond b (x.1 ∷ cond c (y.1 ∷ fs) fs) (cond c (y.1 ∷ fs) fs)) (cond c (y.1 ∷ cond b (x.1 ∷ fs) fs) (cond b (x.1 ∷ fs) fs))
-    by true true fs = neighbours x.1 y.1 fs
-    by true false fs = same (x.1 ∷ fs)
-    by false true fs = same (y.1 ∷ fs)
-    by false false fs = same fs
-events_stay id (behind x es fs r) = by (eqb x.0 id) (events_stay id r)
-  where
-    by : (b : Bool) → Reordered (events_of id es) (events_of id fs) → Reordered (cond b (x.1 ∷ events_of id es) (events_of id es)) (cond b (x.1 ∷ events_of id fs) (events_of id fs))
-    by true i = behind x.1 (events_of id es) (events_of id fs) i
-    by false i = i
+events_stay id (neighbours x y es) =
+    elim (cases_Bool (eqb x.0 id)) [
+      | inl p ↦ elim (cases_Bool (eqb y.0 id)) [ inl q ↦ rw (p, q) (neighbours x.1 y.1 (events_of id es)) | inr q ↦ rw (p, q) (same (x.1 ∷ events_of id es)) ]
+      | inr p ↦ rw p (same _)
+    ]
+events_stay id (behind x es fs r) =
+    let i = events_stay id r in elim (cases_Bool (eqb x.0 id)) [ inl p ↦ rw p (behind x.1 (events_of id es) (events_of id fs) i) | inr p ↦ rw p i ]
 events_stay id (further es fs gs r s) = further _ _ _ (events_stay id r) (events_stay id s)
 
 with_events_alike : {es fs : List (ℕ × Event)} → Reordered es fs → (s : Stream) → with_events es s ≡ with_events fs s
@@ -72,8 +55,6 @@ unfolding streams_meaning
 streams_alike k l bs knows =
     rw (each_alike (stream_meaning k) (stream_meaning l) (flat_map stream_in bs) (stream_alike k l knows), each_alike (event_meaning k) (event_meaning l) (flat_map event_in bs) (event_alike k l knows)) refl
 
--- ---- the whole text
-
 pub blocks_reordered : (bs cs : List Block) (m : Metadata) → Reordered bs cs → text_meta bs ≡ Some m → (n : Metadata) × (text_meta cs ≡ Some n) × SameButClockOrder m n
 blocks_reordered bs cs m r e =
     let s = says_metadata bs m e in
@@ -83,13 +64,13 @@ blocks_reordered bs cs m r e =
     let n : Metadata = record m { clocks = c.0 } in
     let says : SaysMetadata cs n = record {
       trace = s.trace;
-      one_trace = only_stays s.trace (reordered_parts trace_in r) s.one_trace;
+      one_trace = one_stays only (λ x y xs. refl) s.trace (reordered_parts trace_in r) s.one_trace;
       version = s.version;
       order = s.order;
       uuid = s.uuid;
       environment =
           bind_is (at_most_one (flat_map environment_in cs)) environment_meaning d.0 m.environment
-          (at_most_one_stays (flat_map environment_in bs) (flat_map environment_in cs) d.0 (reordered_parts environment_in r) d.1) d.2;
+          (one_stays at_most_one (λ x y xs. refl) d.0 (reordered_parts environment_in r) d.1) d.2;
       clocks = c.1;
       clocks_once = sym (names_apart c.2) ∙ s.clocks_once;
       header = sym (header_alike (known_of m.order m.clocks) (known_of m.order c.0) known s.trace) ∙ s.header;

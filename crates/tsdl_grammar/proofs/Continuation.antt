@@ -1,13 +1,9 @@
 -- Writing a text from its end: one more piece in front of bytes that spell their atoms.
-use Rattle.std.proofs.Common.{◌≡◌, ℕ, ◌+◌, ◌-◌, List, [], ◌∷◌, ◌++◌, length, take, drop, Some, arith, refl, sym, ap, ◌∙◌}
-use Rattle.std.proofs.lemmas.List.{take_at, drop_at, drop-drop}
-use Rattle.tsdl_grammar.specs.declared.token.Token.{Token}
-use Rattle.tsdl_grammar.specs.declared.piece.Piece.{Piece}
+use Rattle.std.proofs.Common.{◌≡◌, ℕ, ◌+◌, ◌-◌, List, [], ◌∷◌, ◌++◌, length, take, drop, Some, arith, refl, sym, ap, ◌∙◌, take_at, drop_at, drop-drop}
+use Rattle.std.proofs.lemmas.List.{map-append}
+use Rattle.tsdl_grammar.specs.declared.{piece.Piece.Piece, piece.Cut.Cut, atom.Atom.Atom}
 use Rattle.tsdl_grammar.specs.declared.piece.Piece.TheVariants as pieces
-use Rattle.tsdl_grammar.specs.declared.piece.Cut.{Cut}
-use Rattle.tsdl_grammar.specs.declared.atom.Atom.{Atom}
-use Rattle.tsdl_grammar.specs.Pieces.{piece_at, cut}
-use Rattle.tsdl_grammar.specs.Tokens.{token_of, tokens_from}
+use Rattle.tsdl_grammar.specs.{Pieces.piece_at, Pieces.cut, Tokens.token_of, Tokens.tokens_from}
 use Rattle.tsdl_grammar.specs.Atoms.{atom_of, atoms_of, piece_atoms, atoms_along, Reads, Spells}
 
 -- nothing spells nothing
@@ -23,18 +19,13 @@ piece p text rest meant e s = record {
 }
 
 one_token : (whole : List ℕ) (p : Piece) (at len : ℕ) → atoms_of whole (token_of p (record { start = at; end = at + len })) ≡ piece_atoms p (take len (drop at whole))
-one_token whole pieces.Blank at len = refl
-one_token whole pieces.Comment at len = refl
 one_token whole (pieces.Token kind) at len = let e : at + len - at ≡ len = omega arith in rw e refl
-
-atoms_of-append : (whole : List ℕ) (ts us : List Token) → atoms_of whole (ts ++ us) ≡ atoms_of whole ts ++ atoms_of whole us
-atoms_of-append whole [] us = refl
-atoms_of-append whole (t ∷ ts) us = ap (λ (xs : List Atom). atom_of whole t ∷ xs) (atoms_of-append whole ts us)
+one_token whole _ at len = refl
 
 along : (whole : List ℕ) (at : ℕ) (cuts : List Cut) → atoms_of whole (tokens_from at cuts) ≡ atoms_along (drop at whole) cuts
 along whole at [] = refl
 along whole at (c ∷ cuts) =
-    atoms_of-append whole (token_of c.piece (record { start = at; end = at + c.len })) (tokens_from (at + c.len) cuts)
+    map-append (atom_of whole) (token_of c.piece (record { start = at; end = at + c.len })) (tokens_from (at + c.len) cuts)
     ∙ ap (λ (xs : List Atom). xs ++ atoms_of whole (tokens_from (at + c.len) cuts)) (one_token whole c.piece at c.len)
     ∙ ap (λ (xs : List Atom). piece_atoms c.piece (take c.len (drop at whole)) ++ xs) (along whole (at + c.len) cuts ∙ ap (λ (bytes : List ℕ). atoms_along bytes cuts) (sym (drop-drop c.len at whole)))
 

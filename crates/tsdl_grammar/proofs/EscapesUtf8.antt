@@ -1,15 +1,9 @@
 -- Escapes keep UTF-8, both ways: they touch bytes below 128 alone.
-use Rattle.std.proofs.Common.{◌≡◌, ℕ, zero, suc, ◌<◌, ◌≤◌, Bool, true, false, cond, eqb, List, [], ◌∷◌, ◌++◌, length, get_or, Option, Some, None, arith, refl, sym, ap, subst, ◌∙◌, inl, inr}
-use Rattle.std.specs.Prelude.{unwrap_or}
-use Rattle.std.specs.Str.{IsUtf8, IsAscii}
-use Rattle.std.proofs.lemmas.Bool.{cases_Bool, cases_lt}
-use Rattle.std.proofs.lemmas.Bool.Decides.{nat_tests}
-use Rattle.std.proofs.lemmas.List.{append-nil}
-use Rattle.std.proofs.lemmas.List.Concat.{flat_map-cons, flat_map-append}
+use Rattle.std.proofs.Common.{◌≡◌, ℕ, zero, suc, ◌<◌, ◌≤◌, Bool, true, false, eqb, List, [], ◌∷◌, ◌++◌, length, get_or, None, arith, refl, sym, ap, subst, ◌∙◌, inl, inr, unwrap_or, IsUtf8, append-nil}
+use Rattle.std.proofs.lemmas.{Bool.cases_Bool, Bool.cases_lt, Bool.Decides.nat_tests, List.Concat.flat_map-cons, List.Concat.flat_map-append}
 use Rattle.std.proofs.lemmas.Str.{IsUtf8-append, IsUtf8-from_ascii, IsUtf8-nil, encode_ascii, inside_one, length-encode, len_utf8_bounds}
 use Rattle.tsdl_grammar.specs.Escapes.{escaped_byte, unescaped_from, unescaped, escape_of, escaped}
-use Rattle.tsdl_grammar.proofs.Runs.{and_true}
-use Rattle.tsdl_grammar.proofs.Escaping.{escape_cases}
+use Rattle.tsdl_grammar.proofs.{Runs.and_true, Escaping.escape_cases}
 use lib.Utf8.{scalar, scalars, encodes, encode}
 
 -- bytes that no escape touches
@@ -27,16 +21,10 @@ one_char : (c : ℕ) → scalar c ≡ true → IsUtf8 (encode c)
 one_char c h = (c ∷ [], (rw h refl, append-nil (encode c)))
 
 one_byte : (b : ℕ) → b < 128 → IsUtf8 (b ∷ [])
-one_byte b h = IsUtf8-from_ascii (b ∷ []) (ascii b h)
-  where
-    ascii : (b : ℕ) → b < 128 → IsAscii (b ∷ [])
-    ascii b h zero = h
-    ascii b h (suc i) = omega arith
+one_byte b h = IsUtf8-from_ascii (b ∷ []) (elim [ zero ↦ h | suc i ↦ omega arith ])
 
 high_escape : (b : ℕ) → 128 ≤ b → escape_of b ≡ b ∷ []
-high_escape b h =
-    let e : eqb b 92 ≡ false = grind (arith, nat_tests) in let f : eqb b 34 ≡ false = grind (arith, nat_tests) in
-    let g : eqb b 10 ≡ false = grind (arith, nat_tests) in let k : eqb b 9 ≡ false = grind (arith, nat_tests) in rw (e, f, g, k) refl
+high_escape b h = grind (arith, nat_tests)
 
 high_escaped : (bytes : List ℕ) → AreHigh bytes → escaped bytes ≡ bytes
 high_escaped [] h = refl
@@ -44,12 +32,9 @@ high_escaped (b ∷ bytes) h =
     flat_map-cons escape_of b bytes ∙ ap (λ (w : List ℕ). w ++ escaped bytes) (high_escape b (h 0 (omega arith)))
     ∙ ap (λ (w : List ℕ). b ∷ w) (high_escaped bytes (λ k lt. h (suc k) (omega arith)))
 
-two_bytes : (b : ℕ) → b < 128 → IsUtf8 (92 ∷ b ∷ [])
-two_bytes b h = IsUtf8-append (92 ∷ []) (b ∷ []) (one_byte 92 (omega arith)) (one_byte b h)
-
 low_escaped : (b : ℕ) → b < 128 → IsUtf8 (escape_of b)
 low_escaped b h =
-    escape_cases b IsUtf8 (λ c e f. two_bytes 92 (omega arith)) (λ c e. two_bytes 34 (omega arith)) (λ c e. two_bytes 110 (omega arith)) (λ c e. two_bytes 116 (omega arith)) (λ e f g. one_byte b h)
+    escape_cases b IsUtf8 (λ c low e. IsUtf8-append (92 ∷ []) (c ∷ []) (one_byte 92 (omega arith)) (one_byte c low)) (λ e f g. one_byte b h)
 
 char_escaped : (c : ℕ) → scalar c ≡ true → IsUtf8 (escaped (encode c))
 char_escaped c h =
@@ -68,16 +53,8 @@ chars_escaped (c ∷ cs) h =
 pub IsUtf8-escaped : (text : List ℕ) → IsUtf8 text → IsUtf8 (escaped text)
 IsUtf8-escaped text u = subst (λ (w : List ℕ). IsUtf8 (escaped w)) u.1.1 (chars_escaped u.0 u.1.0)
 
--- ---- the other way
-
 high_letter : (b : ℕ) → 128 ≤ b → escaped_byte b ≡ None
-high_letter b h =
-    let a0 : eqb b 92 ≡ false = grind (arith, nat_tests) in let a1 : eqb b 34 ≡ false = grind (arith, nat_tests) in
-    let a2 : eqb b 39 ≡ false = grind (arith, nat_tests) in let a3 : eqb b 63 ≡ false = grind (arith, nat_tests) in
-    let a4 : eqb b 97 ≡ false = grind (arith, nat_tests) in let a5 : eqb b 98 ≡ false = grind (arith, nat_tests) in
-    let a6 : eqb b 102 ≡ false = grind (arith, nat_tests) in let a7 : eqb b 110 ≡ false = grind (arith, nat_tests) in
-    let a8 : eqb b 114 ≡ false = grind (arith, nat_tests) in let a9 : eqb b 116 ≡ false = grind (arith, nat_tests) in
-    let a10 : eqb b 118 ≡ false = grind (arith, nat_tests) in rw (a0, a1, a2, a3, a4, a5, a6, a7, a8, a9, a10) refl
+high_letter b h = grind (arith, nat_tests)
 
 high_plain : (bytes tail : List ℕ) → AreHigh bytes → unescaped_from false (bytes ++ tail) ≡ bytes ++ unescaped_from false tail
 high_plain [] tail h = refl
@@ -90,15 +67,8 @@ high_after [] tail l h = absurd (omega arith)
 high_after (b ∷ bytes) tail l h =
     rw (high_letter b (h 0 (omega arith))) (ap (λ (w : List ℕ). b ∷ w) (high_plain bytes tail (λ k lt. h (suc k) (omega arith))))
 
-letter : (t : Bool) (n : ℕ) (o : Option ℕ) (b : ℕ) → n < 128 → unwrap_or o b < 128 → unwrap_or (cond t (Some n) o) b < 128
-letter true n o b h k = h
-letter false n o b h k = k
-
 low_letter : (b : ℕ) → b < 128 → unwrap_or (escaped_byte b) b < 128
-low_letter b h =
-    letter (eqb b 92) 92 _ b (omega arith) (letter (eqb b 34) 34 _ b (omega arith) (letter (eqb b 39) 39 _ b (omega arith) (letter (eqb b 63) 63 _ b (omega arith)
-    (letter (eqb b 97) 7 _ b (omega arith) (letter (eqb b 98) 8 _ b (omega arith) (letter (eqb b 102) 12 _ b (omega arith) (letter (eqb b 110) 10 _ b (omega arith)
-    (letter (eqb b 114) 13 _ b (omega arith) (letter (eqb b 116) 9 _ b (omega arith) (letter (eqb b 118) 11 None b (omega arith) h))))))))))
+low_letter b h = grind (arith, nat_tests)
 
 chars_unescaped : (after_backslash : Bool) (cs : List ℕ) → scalars cs ≡ true → IsUtf8 (unescaped_from after_backslash (encodes cs))
 chars_unescaped true [] h = IsUtf8-nil
@@ -122,3 +92,5 @@ chars_unescaped false (c ∷ cs) h =
 -- what is written in UTF-8 stands for a text in UTF-8
 pub IsUtf8-unescaped : (bytes : List ℕ) → IsUtf8 bytes → IsUtf8 (unescaped bytes)
 IsUtf8-unescaped bytes u = subst (λ (w : List ℕ). IsUtf8 (unescaped w)) u.1.1 (chars_unescaped false u.0 u.1.0)
+
+pub ruleset both_ways = (IsUtf8-escaped, IsUtf8-unescaped)

@@ -1,36 +1,18 @@
 -- Escapes: what is written between quotes ends at the closing quote, stands for the text again, and is UTF-8 where the text is.
-use Rattle.std.proofs.Common.{◌≡◌, ℕ, ◌+◌, true, false, eqb, List, [], ◌∷◌, ◌++◌, length, Some, arith, refl, sym, ap, ◌∙◌, append_assoc, inl, inr}
-use Rattle.std.proofs.lemmas.Bool.{cases_Bool, eqb-true}
-use Rattle.std.proofs.lemmas.List.{length-append}
-use Rattle.std.proofs.lemmas.List.Concat.{flat_map-cons}
-use Rattle.tsdl_grammar.specs.Escapes.{unescaped_from, unescaped, escape_of, escaped}
+use Rattle.std.proofs.Common.{◌≡◌, ℕ, ◌+◌, ◌<◌, false, eqb, List, [], ◌∷◌, ◌++◌, length, Some, arith, refl, sym, ap, ◌∙◌, append_assoc, length-append}
+use Rattle.std.proofs.lemmas.{Bool.cond_both, Bool.eqb-true, List.Concat.flat_map-cons}
+use Rattle.tsdl_grammar.specs.Escapes.{escaped_byte, unescaped_from, unescaped, escape_of, escaped}
 use Rattle.tsdl_grammar.specs.Pieces.{content_len}
 
--- each way in which a byte is written
-pub escape_cases : (b : ℕ) (P : List ℕ → Type 0) → ((c : ℕ) → b ≡ c → eqb c 92 ≡ true → P (92 ∷ 92 ∷ [])) → ((c : ℕ) → b ≡ 34 → P (92 ∷ 34 ∷ [])) → ((c : ℕ) → b ≡ 10 → P (92 ∷ 110 ∷ []))
-    → ((c : ℕ) → b ≡ 9 → P (92 ∷ 116 ∷ [])) → (eqb b 92 ≡ false → eqb b 34 ≡ false → eqb b 10 ≡ false → P (b ∷ [])) → P (escape_of b)
-escape_cases b P p q r s t =
-    elim (cases_Bool (eqb b 92)) [
-      | inl e ↦ rw e (p b refl e)
-      | inr e ↦ elim (cases_Bool (eqb b 34)) [
-        | inl f ↦ rw (e, f) (q b (eqb-true b 34 f))
-        | inr f ↦ elim (cases_Bool (eqb b 10)) [
-          | inl g ↦ rw (e, f, g) (r b (eqb-true b 10 g))
-          | inr g ↦ elim (cases_Bool (eqb b 9)) [
-            | inl h ↦ rw (e, f, g, h) (s b (eqb-true b 9 h))
-            | inr h ↦ rw (e, f, g, h) (t e f g)
-          ]
-        ]
-      ]
-    ]
-
-plain_len : (b : ℕ) (tail : List ℕ) (k : ℕ) → content_len false tail ≡ Some k → eqb b 92 ≡ false → eqb b 34 ≡ false → eqb b 10 ≡ false → content_len false (b ∷ tail) ≡ Some (1 + k)
-plain_len b tail k h e f g = rw (e, f, g, h) refl
+-- a byte is written by a letter that stands for it, or as it is
+pub escape_cases : (b : ℕ) (P : List ℕ → Type 0) → ((c : ℕ) → c < 128 → escaped_byte c ≡ Some b → P (92 ∷ c ∷ [])) → (eqb b 92 ≡ false → eqb b 34 ≡ false → eqb b 10 ≡ false → P (b ∷ [])) → P (escape_of b)
+escape_cases b P p q =
+    cond_both (eqb b 92) _ _ P (λ e. p 92 (omega arith) (ap Some (sym (eqb-true b 92 e)))) (λ e. cond_both (eqb b 34) _ _ P (λ f. p 34 (omega arith) (ap Some (sym (eqb-true b 34 f))))
+    (λ f. cond_both (eqb b 10) _ _ P (λ g. p 110 (omega arith) (ap Some (sym (eqb-true b 10 g)))) (λ g. cond_both (eqb b 9) _ _ P (λ h. p 116 (omega arith) (ap Some (sym (eqb-true b 9 h)))) (λ h. q e f g))))
 
 escape_len : (b : ℕ) (tail : List ℕ) (k : ℕ) → content_len false tail ≡ Some k → content_len false (escape_of b ++ tail) ≡ Some (length (escape_of b) + k)
 escape_len b tail k h =
-    escape_cases b (λ (w : List ℕ). content_len false (w ++ tail) ≡ Some (length w + k))
-    (λ c e f. rw h (ap Some (omega arith))) (λ c e. rw h (ap Some (omega arith))) (λ c e. rw h (ap Some (omega arith))) (λ c e. rw h (ap Some (omega arith))) (λ e f g. plain_len b tail k h e f g)
+    escape_cases b (λ (w : List ℕ). content_len false (w ++ tail) ≡ Some (length w + k)) (λ c low e. rw (e, h) (ap Some (omega arith))) (λ e f g. rw (e, f, g, h) refl)
 
 -- the closing quote of a written text is the first one
 pub content_len-escaped : (text rest : List ℕ) → content_len false (escaped text ++ 34 ∷ rest) ≡ Some (length (escaped text))
@@ -43,12 +25,9 @@ content_len-escaped (b ∷ text) rest =
 
 unescape_one : (b : ℕ) (tail : List ℕ) → unescaped_from false (escape_of b ++ tail) ≡ b ∷ unescaped_from false tail
 unescape_one b tail =
-    escape_cases b (λ (w : List ℕ). unescaped_from false (w ++ tail) ≡ b ∷ unescaped_from false tail)
-    (λ c e f. ap (λ (x : ℕ). x ∷ unescaped_from false tail) (sym (e ∙ eqb-true c 92 f))) (λ c e. ap (λ (x : ℕ). x ∷ unescaped_from false tail) (sym e)) (λ c e. ap (λ (x : ℕ). x ∷ unescaped_from false tail) (sym e))
-    (λ c e. ap (λ (x : ℕ). x ∷ unescaped_from false tail) (sym e)) (λ e f g. rw e refl)
+    escape_cases b (λ (w : List ℕ). unescaped_from false (w ++ tail) ≡ b ∷ unescaped_from false tail) (λ c low e. rw e refl) (λ e f g. rw e refl)
 
 -- what is written stands for the text
-pub unescaped-escaped : (text : List ℕ) → unescaped (escaped text) ≡ text
-unescaped-escaped [] = refl
-unescaped-escaped (b ∷ text) =
-    ap unescaped (flat_map-cons escape_of b text) ∙ unescape_one b (escaped text) ∙ ap (λ (w : List ℕ). b ∷ w) (unescaped-escaped text)
+pub stands_again : (text : List ℕ) → unescaped (escaped text) ≡ text
+stands_again [] = refl
+stands_again (b ∷ text) = ap unescaped (flat_map-cons escape_of b text) ∙ unescape_one b (escaped text) ∙ ap (λ (w : List ℕ). b ∷ w) (stands_again text)

@@ -1,9 +1,6 @@
 -- The words of a place of a text, one after the other.
-use Rattle.std.proofs.Common.{◌≡◌, ℕ, List, ◌++◌, ◌∙◌, ap₂, append_assoc}
-use Rattle.std.specs.Prelude.{codes, take, drop}
-use Rattle.std.specs.Fmt.{decimal}
-use Rattle.tsdl_grammar.specs.Positions.{line_after, column_after}
-use Rattle.tsdl_grammar.specs.FaultWords.{IsSaidOf, IsFoundAt}
+use Rattle.std.proofs.Common.{◌≡◌, ℕ, List, ◌++◌, ◌∙◌, ap₂, append_assoc, codes, take, drop, decimal}
+use Rattle.tsdl_grammar.specs.{Positions.line_after, Positions.column_after, FaultWords.IsSaidOf, FaultWords.IsFoundAt}
 
 -- the words of a place, as they are written one after the other
 abbrev pub said_at : ℕ → ℕ → ℕ → List ℕ → List ℕ

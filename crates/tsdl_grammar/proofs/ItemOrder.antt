@@ -1,29 +1,18 @@
 -- The attributes, scopes and entries of blocks in another order.
-use Rattle.std.proofs.Common.{◌≡◌, ℕ, suc, Bool, true, false, not, cond, ◌&&◌, ◌||◌, List, [], ◌∷◌, ◌++◌, map, length, Option, Some, refl, sym, ap, ap₂, subst, ◌∙◌}
-use Rattle.std.specs.Prelude.{codes, nat_le}
-use Rattle.std.specs.List.{list_any, list_all, flat_map}
-use Rattle.std.specs.Str.{bytes_eq}
-use Rattle.std.specs.Cmp.{IsEquivalence}
-use Rattle.std.specs.Cmp.Lexicographic.{lists_equiv, nat_list_eq_equiv}
-use Rattle.std.proofs.lemmas.List.Concat.{flat_map-cons}
-use Rattle.ctf_types.specs.declared.EnvironmentEntry.{EnvironmentEntry}
-use Rattle.ctf_types.specs.declared.Metadata.{Metadata}
-use Rattle.tsdl_grammar.specs.declared.tree.Item.{Item}
-use Rattle.tsdl_grammar.specs.declared.tree.NamedFact.{NamedFact}
-use Rattle.tsdl_grammar.specs.declared.tree.Block.{Block}
+use Rattle.std.proofs.Common.{◌≡◌, ℕ, suc, Bool, true, false, not, cond, ◌&&◌, List, [], ◌∷◌, ◌++◌, map, length, Option, Some, refl, sym, ap, ap₂, subst, ◌∙◌, inl, inr, codes, nat_le, flat_map, bytes_eq}
+use Rattle.std.specs.{List.list_any, List.list_all, Cmp.IsEquivalence, Cmp.Lexicographic.lists_equiv, Cmp.Lexicographic.nat_list_eq_equiv}
+use Rattle.std.proofs.lemmas.{Bool.cases_Bool, List.Concat.flat_map-cons, Option.same_Some}
+use Rattle.ctf_types.specs.declared.{EnvironmentEntry.EnvironmentEntry, Metadata.Metadata}
+use Rattle.tsdl_grammar.specs.declared.tree.{Item.Item, NamedFact.NamedFact, Block.Block}
+use Rattle.tsdl_grammar.specs.{IntegerMeaning.Known, Laws.SaysMetadata}
 use Rattle.tsdl_grammar.specs.Steps.{◌>>=◌, provided, only, at_most_one, each}
 use Rattle.tsdl_grammar.specs.Lookups.{words_of, same_words, is_among, no_two, are_distinct, attr, attr_names, attr_in, attrs_in, scope, scope_in, scopes_in, has_parts}
-use Rattle.tsdl_grammar.specs.IntegerMeaning.{Known}
 use Rattle.tsdl_grammar.specs.BlockMeaning.{packet_header, has_number, is_trace, trace_order, trace_uuid, header_meaning, clock_meaning, packet_context, event_header, event_context, stream_meaning, specific_context, fields_scope, event_meaning, named_fact_meaning, environment_meaning}
 use Rattle.tsdl_grammar.specs.Denotes.{text_meta, trace_in, stream_in, event_in, clock_in, environment_in, known_of, streams_meaning}
-use Rattle.tsdl_grammar.specs.Laws.{SaysMetadata}
 use Rattle.tsdl_grammar.specs.Orders.{Reordered, same, neighbours, behind, further, SameItems, traces, streams, events, clocks, environments, Paired, none, more, SameButEnvironmentOrder}
-use Rattle.tsdl_grammar.proofs.Inversion.{bind_some, bind_is, provided_some, some_same}
-use Rattle.tsdl_grammar.proofs.MeaningParts.{says_metadata, text_says}
-use Rattle.tsdl_grammar.proofs.Runs.{and_true}
-use Rattle.tsdl_grammar.proofs.Reordering.{reordered_parts, reordered_map, all_stays, no_two_stays, each_stays}
-
--- ---- names
+use Rattle.tsdl_grammar.proofs.{MeaningParts.says_metadata, MeaningParts.text_says, Runs.and_true}
+use Rattle.tsdl_grammar.proofs.Inversion.{bind_some, bind_is, provided_some}
+use Rattle.tsdl_grammar.proofs.Reordering.{reordered_parts, reordered_map, gathered_stay, all_stays, no_two_stays, each_stays}
 
 words_equiv : IsEquivalence same_words
 words_equiv = lists_equiv nat_list_eq_equiv
@@ -31,10 +20,6 @@ words_equiv = lists_equiv nat_list_eq_equiv
 -- two names that are one are the same
 both_are : (v w n : List (List ℕ)) → same_words v n ≡ true → same_words w n ≡ true → same_words v w ≡ true
 both_are v w n p q = words_equiv.congr v n w p ∙ words_equiv.symm n w ∙ q
-
-not_twice : (a b c d : Bool) → (not (a || b) && (not c && d)) ≡ true → a ≡ true → ⊥
-not_twice true b c d e h = absurd cc
-not_twice false b c d e h = absurd cc
 
 looks_swap : {A : Type 0} (b c : Bool) (u v o : Option A) → (b ≡ true → c ≡ true → ⊥) → cond b u (cond c v o) ≡ cond c v (cond b u o)
 looks_swap true true u v o h = absurd (h refl refl)
@@ -51,20 +36,13 @@ look_stays : {A B : Type 0} (name : A → List (List ℕ)) (value : A → B) (n 
 look_stays name value n look step (same xs) d = refl
 look_stays name value n look step (neighbours x y xs) d =
     rw (step x (y ∷ xs), step y xs, step y (x ∷ xs), step x xs) (looks_swap (same_words (name x) n) (same_words (name y) n) (Some (value x)) (Some (value y)) (look xs)
-    (λ p q. not_twice (same_words (name x) (name y)) (list_any (same_words (name x)) (map name xs)) (list_any (same_words (name y)) (map name xs)) (are_distinct (map name xs)) d (both_are (name x) (name y) n p q)))
+    (λ p q. absurd (let twice = rw (both_are (name x) (name y) n p q) at d in cc)))
 look_stays {A} {B} name value n look step (behind x xs ys r) d =
     rw (step x xs, step x ys) (ap (λ (o : Option B). cond (same_words (name x) n) (Some (value x)) o)
     (look_stays name value n look step r (and_true (not (list_any (same_words (name x)) (map name xs))) (are_distinct (map name xs)) d).1))
 look_stays name value n look step (further xs ys zs r s) d = look_stays name value n look step r d ∙ look_stays name value n look step s (sym (distinct_stay name r) ∙ d)
 
--- ---- blocks of the same items
-
-guarded : {A : Type 0} (b c : Bool) (o p : Option A) → b ≡ c → (b ≡ true → o ≡ p) → provided b o ≡ provided c p
-guarded true true o p e h = h refl
-guarded true false o p e h = absurd cc
-guarded false true o p e h = absurd cc
-guarded false false o p e h = refl
-
+-- items in another order have the same parts
 module _ (is js : List Item) (r : Reordered is js) (allowed : List (List (List ℕ))) where
   abbrev attr_part : Reordered (attrs_in is) (attrs_in js)
   attr_part = reordered_parts attr_in r
@@ -87,11 +65,13 @@ module _ (is js : List Item) (r : Reordered is js) (allowed : List (List (List �
   scope_alike : has_parts allowed is ≡ true → (n : List (List ℕ)) → scope n (scopes_in is) ≡ scope n (scopes_in js)
   scope_alike h n = look_stays (λ s. words_of s.name) (λ s. s.structure) n (scope n) (λ x xs. refl) scope_part (once h).1
 
+  guarded : {A : Type 0} (o p : Option A) → (has_parts allowed is ≡ true → o ≡ p) → provided (has_parts allowed is) o ≡ provided (has_parts allowed js) p
+  guarded o p alike = elim (cases_Bool (has_parts allowed is)) [ inl t ↦ rw (t, sym parts_stay ∙ t) (alike t) | inr f ↦ rw (f, sym parts_stay ∙ f) refl ]
+
 clock_stays : (is js : List Item) → Reordered is js → clock_meaning is ≡ clock_meaning js
 unfolding clock_meaning
 clock_stays is js r =
-    guarded (has_parts [] is) (has_parts [] js) _ _ (parts_stay is js r [])
-    (λ h. let a = attr_alike is js r [] h in
+    guarded is js r [] _ _ (λ h. let a = attr_alike is js r [] h in
     rw (a (codes "name"), a (codes "uuid"), a (codes "description"), a (codes "freq"), a (codes "precision"), a (codes "offset_s"), a (codes "offset"), a (codes "absolute")) refl)
 
 abbrev stream_scopes : List (List (List ℕ))
@@ -100,8 +80,7 @@ stream_scopes = packet_context ∷ event_header ∷ event_context ∷ []
 stream_stays : (known : Known) (is js : List Item) → Reordered is js → stream_meaning known is ≡ stream_meaning known js
 unfolding stream_meaning
 stream_stays known is js r =
-    guarded (has_parts stream_scopes is) (has_parts stream_scopes js) _ _ (parts_stay is js r stream_scopes)
-    (λ h. let a = attr_alike is js r stream_scopes h in let s = scope_alike is js r stream_scopes h in
+    guarded is js r stream_scopes _ _ (λ h. let a = attr_alike is js r stream_scopes h in let s = scope_alike is js r stream_scopes h in
     rw (a (codes "id"), s packet_context, s event_header, s event_context) refl)
 
 abbrev event_scopes : List (List (List ℕ))
@@ -110,41 +89,19 @@ event_scopes = specific_context ∷ fields_scope ∷ []
 event_stays : (known : Known) (is js : List Item) → Reordered is js → event_meaning known is ≡ event_meaning known js
 unfolding event_meaning
 event_stays known is js r =
-    guarded (has_parts event_scopes is) (has_parts event_scopes js) _ _ (parts_stay is js r event_scopes)
-    (λ h. let a = attr_alike is js r event_scopes h in let s = scope_alike is js r event_scopes h in
+    guarded is js r event_scopes _ _ (λ h. let a = attr_alike is js r event_scopes h in let s = scope_alike is js r event_scopes h in
     rw (a (codes "name"), a (codes "id"), a (codes "stream_id"), a (codes "loglevel"), s specific_context, s fields_scope) refl)
-
--- ---- the trace block
 
 abbrev trace_scopes : List (List (List ℕ))
 trace_scopes = packet_header ∷ []
 
-module _ (is js : List Item) (r : Reordered is js) (h : has_parts trace_scopes is ≡ true) where
-  version_stays : is_trace is ≡ is_trace js
-  version_stays = let a = attr_alike is js r trace_scopes h in rw (parts_stay is js r trace_scopes, a (codes "major"), a (codes "minor")) refl
-
-  order_stays : trace_order is ≡ trace_order js
-  order_stays = let a = attr_alike is js r trace_scopes h in rw (a (codes "byte_order")) refl
-
-  uuid_stays : trace_uuid is ≡ trace_uuid js
-  unfolding trace_uuid
-  uuid_stays = let a = attr_alike is js r trace_scopes h in rw (a (codes "uuid")) refl
-
-  header_stays : (known : Known) → header_meaning known is ≡ header_meaning known js
-  unfolding header_meaning
-  header_stays known = let s = scope_alike is js r trace_scopes h in rw (s packet_header) refl
-
-trace_parts : (is : List Item) → is_trace is ≡ true → has_parts trace_scopes is ≡ true
-trace_parts is e =
-    (and_true (has_parts trace_scopes is) (has_number (codes "major") 1 is) (and_true (has_parts trace_scopes is && has_number (codes "major") 1 is) (has_number (codes "minor") 8 is) e).0).0
-
--- ---- the environment block
-
-length_stays : {A : Type 0} {xs ys : List A} → Reordered xs ys → length xs ≡ length ys
-length_stays (same xs) = refl
-length_stays (neighbours x y xs) = refl
-length_stays (behind x xs ys r) = ap suc (length_stays r)
-length_stays (further xs ys zs r s) = length_stays r ∙ length_stays s
+trace_stays : (is js : List Item) (known : Known) → Reordered is js → is_trace is ≡ true → (is_trace is ≡ is_trace js) × (trace_order is ≡ trace_order js) × (trace_uuid is ≡ trace_uuid js) × (header_meaning known is ≡ header_meaning known js)
+unfolding trace_uuid header_meaning
+trace_stays is js known r e =
+    let versions = and_true (has_parts trace_scopes is && has_number (codes "major") 1 is) (has_number (codes "minor") 8 is) e in
+    let h = (and_true (has_parts trace_scopes is) (has_number (codes "major") 1 is) versions.0).0 in
+    let a = attr_alike is js r trace_scopes h in
+    (rw (parts_stay is js r trace_scopes, a (codes "major"), a (codes "minor")) refl, rw (a (codes "byte_order")) refl, rw (a (codes "uuid")) refl, rw (scope_alike is js r trace_scopes h packet_header) refl)
 
 environment_stays : (fs gs : List NamedFact) (entries : List EnvironmentEntry) → Reordered fs gs → environment_meaning fs ≡ Some entries
     → (others : List EnvironmentEntry) × (environment_meaning gs ≡ Some others) × Reordered entries others
@@ -153,11 +110,9 @@ environment_stays fs gs entries r e =
     let p = provided_some (nat_le (length fs) 256 && no_two bytes_eq (map (λ f. f.name) fs)) (each named_fact_meaning fs) entries e in
     let i = each_stays named_fact_meaning entries r p.1 in
     let tests : (nat_le (length fs) 256 && no_two bytes_eq (map (λ f. f.name) fs)) ≡ (nat_le (length gs) 256 && no_two bytes_eq (map (λ f. f.name) gs)) =
-    ap₂ (λ (n : ℕ) (b : Bool). nat_le n 256 && b) (length_stays r) (no_two_stays bytes_eq nat_list_eq_equiv.symm (reordered_map (λ f. f.name) r))
+    ap₂ (λ (n : ℕ) (b : Bool). nat_le n 256 && b) (gathered_stay length (λ f n. suc n) (λ f fs. refl) (λ f g n. refl) r) (no_two_stays bytes_eq nat_list_eq_equiv.symm (reordered_map (λ f. f.name) r))
     in
     (i.0, ap (λ (b : Bool). provided b (each named_fact_meaning gs)) (sym tests ∙ p.0) ∙ i.1, i.2)
-
--- ---- blocks side by side
 
 paired_append : {A : Type 0} {R : A → A → Type 0} {xs ys us vs : List A} → Paired R xs ys → Paired R us vs → Paired R (xs ++ us) (ys ++ vs)
 paired_append none q = q
@@ -188,19 +143,17 @@ parts_pair _ _ (environments fs gs r) = record { trace = none; stream = none; ev
 
 only_pair : {A : Type 0} {R : A → A → Type 0} {xs ys : List A} (x : A) → Paired R xs ys → only xs ≡ Some x → (y : A) × (only ys ≡ Some y) × R x y
 only_pair x none e = absurd cc
-only_pair {A} {R} x (more u v _ _ r none) e = (v, refl, subst (λ (w : A). R w v) (some_same u x (Some u) refl e) r)
+only_pair {A} {R} x (more u v _ _ r none) e = (v, refl, subst (λ (w : A). R w v) (same_Some u x e) r)
 only_pair x (more u v _ _ r (more y z us vs s p)) e = absurd cc
 
 at_most_one_pair : {A : Type 0} {xs ys : List (List A)} (x : List A) → Paired Reordered xs ys → at_most_one xs ≡ Some x → (y : List A) × (at_most_one ys ≡ Some y) × Reordered x y
-at_most_one_pair {A} x none e = ([], refl, subst (λ (w : List A). Reordered w []) (some_same [] x (Some []) refl e) (same []))
-at_most_one_pair {A} x (more u v _ _ r none) e = (v, refl, subst (λ (w : List A). Reordered w v) (some_same u x (Some u) refl e) r)
+at_most_one_pair {A} x none e = ([], refl, subst (λ (w : List A). Reordered w []) (same_Some [] x e) (same []))
+at_most_one_pair {A} x (more u v _ _ r none) e = (v, refl, subst (λ (w : List A). Reordered w v) (same_Some u x e) r)
 at_most_one_pair x (more u v _ _ r (more y z us vs s p)) e = absurd cc
 
 each_pair : {A B : Type 0} {R : A → A → Type 0} (f : A → Option B) {xs ys : List A} → ((x y : A) → R x y → f x ≡ f y) → Paired R xs ys → each f xs ≡ each f ys
 each_pair f h none = refl
 each_pair {A} {B} f h (more x y xs ys r p) = ap₂ (λ (o : Option B) (q : Option (List B)). o >>= λ u. q >>= λ us. Some (u ∷ us)) (h x y r) (each_pair f h p)
-
--- ---- the whole text
 
 streams_inside : (known : Known) (bs cs : List Block) → Paired SameItems bs cs → streams_meaning known bs ≡ streams_meaning known cs
 unfolding streams_meaning
@@ -211,22 +164,21 @@ pub items_reordered : (bs cs : List Block) (m : Metadata) → Paired SameItems b
 items_reordered bs cs m p e =
     let s = says_metadata bs m e in
     let t = only_pair s.trace (paired_parts trace_in (λ b c s. (parts_pair b c s).trace) p) s.one_trace in
-    let h = trace_parts s.trace s.version in
     let f = bind_some (at_most_one (flat_map environment_in bs)) environment_meaning m.environment s.environment in
     let g = at_most_one_pair f.0 (paired_parts environment_in (λ b c s. (parts_pair b c s).environment) p) f.1 in
     let v = environment_stays f.0 g.0 m.environment g.2 f.2 in
-    let known = known_of m.order m.clocks in
+    let stays = trace_stays s.trace t.0 (known_of m.order m.clocks) t.2 s.version in
     let n : Metadata = record m { environment = v.0 } in
     let says : SaysMetadata cs n = record {
       trace = t.0;
       one_trace = t.1;
-      version = sym (version_stays s.trace t.0 t.2 h) ∙ s.version;
-      order = sym (order_stays s.trace t.0 t.2 h) ∙ s.order;
-      uuid = sym (uuid_stays s.trace t.0 t.2 h) ∙ s.uuid;
+      version = sym stays.0 ∙ s.version;
+      order = sym stays.1 ∙ s.order;
+      uuid = sym stays.2 ∙ s.uuid;
       environment = bind_is (at_most_one (flat_map environment_in cs)) environment_meaning g.0 v.0 g.1 v.1;
       clocks = sym (each_pair clock_meaning clock_stays (paired_parts clock_in (λ b c s. (parts_pair b c s).clock) p)) ∙ s.clocks;
       clocks_once = s.clocks_once;
-      header = sym (header_stays s.trace t.0 t.2 h known) ∙ s.header;
-      streams = sym (streams_inside known bs cs p) ∙ s.streams;
+      header = sym stays.3 ∙ s.header;
+      streams = sym (streams_inside (known_of m.order m.clocks) bs cs p) ∙ s.streams;
     } in
     (n, text_says cs n says, record { environment = v.2; others = refl })

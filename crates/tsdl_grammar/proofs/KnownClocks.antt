@@ -1,25 +1,14 @@
 -- What is known of the clocks is their names, and not the order in which they stand.
-use Rattle.std.proofs.Common.{◌≡◌, ℕ, Bool, true, not, ◌&&◌, List, [], ◌∷◌, ◌++◌, Option, Some, None, refl, ap, ◌∙◌}
-use Rattle.std.specs.Prelude.{codes, nat_le, length}
-use Rattle.std.specs.Option.{option_map}
+use Rattle.std.proofs.Common.{◌≡◌, ℕ, Bool, true, not, ◌&&◌, List, [], ◌∷◌, ◌++◌, Option, Some, None, refl, ap, ap₂, codes, nat_le, length, option_map, bytes_eq}
+use mathlib.Core.Path.{fun_ext}
 use Rattle.std.specs.List.{list_any, list_all}
-use Rattle.std.specs.Str.{bytes_eq}
-use Rattle.ctf_types.specs.declared.MemberType.{MemberType}
-use Rattle.ctf_types.specs.declared.StructType.{StructType}
-use Rattle.ctf_types.specs.declared.IntType.{IntType}
+use Rattle.ctf_types.specs.declared.{MemberType.MemberType, StructType.StructType, IntType.IntType}
 use Rattle.ctf_types.specs.Chain.{Leaf, Number, Labelled}
-use Rattle.tsdl_grammar.specs.declared.tree.Value.{Value}
+use Rattle.tsdl_grammar.specs.declared.tree.{Value.Value, Attribute.Attribute, Kind.Kind, MemberTree.MemberTree, Structure.Structure, Scope.Scope, Item.Item}
 use Rattle.tsdl_grammar.specs.declared.tree.Value.TheVariants as values
-use Rattle.tsdl_grammar.specs.declared.tree.Attribute.{Attribute}
-use Rattle.tsdl_grammar.specs.declared.tree.Kind.{Kind}
 use Rattle.tsdl_grammar.specs.declared.tree.Kind.TheVariants as kinds
-use Rattle.tsdl_grammar.specs.declared.tree.MemberTree.{MemberTree}
-use Rattle.tsdl_grammar.specs.declared.tree.Structure.{Structure}
-use Rattle.tsdl_grammar.specs.declared.tree.Scope.{Scope}
-use Rattle.tsdl_grammar.specs.declared.tree.Item.{Item}
-use Rattle.tsdl_grammar.specs.Steps.{◌>>=◌, provided}
-use Rattle.tsdl_grammar.specs.Lookups.{words_of, attr, scope, scopes_in}
-use Rattle.tsdl_grammar.specs.AttributeValues.{optional}
+use Rattle.tsdl_grammar.specs.{Steps.◌>>=◌, Steps.provided}
+use Rattle.tsdl_grammar.specs.Lookups.{words_of, scope, scopes_in}
 use Rattle.tsdl_grammar.specs.IntegerMeaning.{Known, clock_in, clock_value, int_meaning}
 use Rattle.tsdl_grammar.specs.MemberMeaning.{kind_meaning, enum_meaning, bracketed, member_meaning}
 use Rattle.tsdl_grammar.specs.StructureMeaning.{has_member, members_meaning, align_of, align_with, struct_type, struct_meaning, structure_of, scope_meaning}
@@ -30,32 +19,19 @@ pub record KnowSame (k l : Known) : Type 0 where
   pub order : k.order ≡ l.order
   pub clocks : (w : List ℕ) → list_any (bytes_eq w) k.clocks ≡ list_any (bytes_eq w) l.clocks
 
--- steps that go on alike
-pub goes_on_alike : {A B : Type 0} (o : Option A) (f g : A → Option B) → ((x : A) → f x ≡ g x) → (o >>= f) ≡ (o >>= g)
-goes_on_alike None f g h = refl
-goes_on_alike (Some x) f g h = h x
-
-optional_alike : {A : Type 0} (f g : Value → Option A) (o : Option Value) → ((v : Value) → f v ≡ g v) → optional f o ≡ optional g o
-optional_alike f g None h = refl
-optional_alike f g (Some v) h = ap (option_map Some) (h v)
-
 module _ (k l : Known) (same : KnowSame k l) where
   clock_alike : (v : Value) → clock_value k.clocks v ≡ clock_value l.clocks v
   unfolding clock_value
-  clock_alike (values.Number n) = refl
-  clock_alike (values.Text s) = refl
   clock_alike (values.Name n) = among (words_of n)
     where
       among : (ws : List (List ℕ)) → clock_in k.clocks ws ≡ clock_in l.clocks ws
-      among [] = refl
-      among (a ∷ []) = refl
-      among (a ∷ b ∷ []) = refl
       among (a ∷ b ∷ c ∷ []) = ap (λ (there : Bool). provided (bytes_eq a (codes "clock") && bytes_eq c (codes "value") && there) (Some b)) (same.clocks b)
-      among (a ∷ b ∷ c ∷ d ∷ ws) = refl
+      among _ = refl
+  clock_alike _ = refl
 
   int_alike : (attrs : List Attribute) → int_meaning k attrs ≡ int_meaning l attrs
   unfolding int_meaning
-  int_alike attrs = rw (same.order, optional_alike (clock_value k.clocks) (clock_value l.clocks) (attr (codes "map") attrs) clock_alike) refl
+  int_alike attrs = rw (same.order, fun_ext clock_alike) refl
 
   kind_alike : (kind : Kind) → kind_meaning k kind ≡ kind_meaning l kind
   unfolding kind_meaning
@@ -71,9 +47,8 @@ module _ (k l : Known) (same : KnowSame k l) where
   unfolding members_meaning
   members_alike before [] = refl
   members_alike before (m ∷ ms) =
-      ap (λ (o : Option MemberType). provided (not (has_member m.name before)) o >>= λ t. members_meaning k (before ++ (m.name, t) ∷ []) ms) (member_alike before m)
-      ∙ goes_on_alike (provided (not (has_member m.name before)) (member_meaning l before m)) (λ t. members_meaning k (before ++ (m.name, t) ∷ []) ms) (λ t. members_meaning l (before ++ (m.name, t) ∷ []) ms)
-      (λ t. members_alike (before ++ (m.name, t) ∷ []) ms)
+      ap₂ (λ (o : Option MemberType) (more : MemberType → Option (List (List ℕ × MemberType))). provided (not (has_member m.name before)) o >>= more)
+      (member_alike before m) (fun_ext (λ t. members_alike (before ++ (m.name, t) ∷ []) ms))
 
   struct_alike : (s : Structure) → struct_meaning k s ≡ struct_meaning l s
   unfolding struct_meaning

@@ -1,42 +1,28 @@
 -- Where the length of a sequence is: in an unsigned integer member that stands before.
-use Rattle.std.proofs.Common.{◌≡◌, ℕ, ◌&&◌, List, [], ◌∷◌, get_or, Some, ap, ◌∙◌}
-use Rattle.std.specs.Prelude.{nat_lt}
+use Rattle.std.proofs.Common.{◌≡◌, ℕ, ◌&&◌, List, [], ◌∷◌, get_or, Some, ap, ◌∙◌, nat_lt, bytes_eq}
 use Rattle.std.specs.List.{list_all}
-use Rattle.std.specs.Str.{bytes_eq}
 use Rattle.std.proofs.lemmas.List.Quantifiers.{position-Some}
-use Rattle.ctf_types.specs.declared.FieldType.{FieldType}
-use Rattle.ctf_types.specs.declared.MemberType.{MemberType}
-use Rattle.ctf_types.specs.declared.MemberType.TheVariants.{Plain, Dyn}
-use Rattle.ctf_types.specs.declared.Length.TheVariants.{Auto, At}
+use Rattle.ctf_types.specs.declared.{FieldType.FieldType, MemberType.MemberType, MemberType.TheVariants.Plain, MemberType.TheVariants.Dyn, Length.TheVariants.Auto, Length.TheVariants.At}
 use Rattle.ctf_types.specs.Chain.{Leaf}
-use Rattle.tsdl_grammar.specs.declared.tree.Bracket.{Bracket}
+use Rattle.tsdl_grammar.specs.declared.tree.{Bracket.Bracket, MemberTree.MemberTree}
 use Rattle.tsdl_grammar.specs.declared.tree.Bracket.TheVariants as brackets
-use Rattle.tsdl_grammar.specs.declared.tree.MemberTree.{MemberTree}
+use Rattle.tsdl_grammar.specs.{IntegerMeaning.Known, Laws.NamesLength}
 use Rattle.tsdl_grammar.specs.Steps.{◌>>=◌, provided, each}
-use Rattle.tsdl_grammar.specs.IntegerMeaning.{Known}
-use Rattle.tsdl_grammar.specs.MemberMeaning.{kind_meaning, bracketed, member_meaning, field_of, arrays_of, are_lengths, count_of, is_unsigned, length_place}
-use Rattle.tsdl_grammar.specs.Laws.{NamesLength}
-use Rattle.tsdl_grammar.proofs.Inversion.{bind_some, provided_some}
-use Rattle.tsdl_grammar.proofs.Runs.{and_true}
-
-no_array : (t u : FieldType) (i : ℕ) → Some (Plain t) ≡ Some (Dyn u (At i)) → ⊥
-no_array t u i e = cc
-
-same_place : (t u : FieldType) (i j : ℕ) → Some (Dyn t (At i)) ≡ Some (Dyn u (At j)) → i ≡ j
-same_place t u i j e = cc
+use Rattle.tsdl_grammar.specs.MemberMeaning.{kind_meaning, bracketed, member_meaning, arrays_of, are_lengths, count_of, is_unsigned, length_place}
+use Rattle.tsdl_grammar.proofs.{Inversion.bind_some, Inversion.provided_some, Runs.and_true}
 
 in_brackets : (before : List (List ℕ × MemberType)) (leaf : Leaf) (bs : List Bracket) (t : FieldType) (i : ℕ) → bracketed before leaf bs ≡ Some (Dyn t (At i)) → NamesLength before i
 unfolding bracketed
-in_brackets before leaf [] t i e = absurd (no_array (field_of leaf) t i e)
+in_brackets before leaf [] t i e = absurd cc
 in_brackets before leaf (brackets.Count n ∷ bs) t i e =
     let a = bind_some (each count_of (brackets.Count n ∷ bs)) (λ lengths. provided (are_lengths lengths) (Some (Plain (arrays_of leaf lengths)))) (Dyn t (At i)) e in
     let b = provided_some (are_lengths a.0) (Some (Plain (arrays_of leaf a.0))) (Dyn t (At i)) a.2 in
-    absurd (no_array (arrays_of leaf a.0) t i b.1)
+    absurd (let plain = b.1 in cc)
 in_brackets before leaf (brackets.Member w ∷ bs) t i e =
     let a = bind_some (each count_of bs) (λ lengths. length_place before w >>= λ place. provided (are_lengths lengths && list_all (nat_lt 0) lengths) (Some (Dyn (arrays_of leaf lengths) (At place)))) (Dyn t (At i)) e in
     let b = bind_some (length_place before w) (λ place. provided (are_lengths a.0 && list_all (nat_lt 0) a.0) (Some (Dyn (arrays_of leaf a.0) (At place)))) (Dyn t (At i)) a.2 in
     let c = provided_some (are_lengths a.0 && list_all (nat_lt 0) a.0) (Some (Dyn (arrays_of leaf a.0) (At b.0))) (Dyn t (At i)) b.2 in
-    let same = same_place (arrays_of leaf a.0) t b.0 i c.1 in
+    let same : b.0 ≡ i = (let made = c.1 in cc) in
     let at : length_place before w ≡ Some i = b.1 ∙ ap Some same in
     record {
       stands_before = (position-Some (λ m. bytes_eq w m.0 && is_unsigned m.1) before i ([], Dyn t Auto) at).0;

@@ -1,9 +1,6 @@
 pub mod Literals
 pub mod Splits
-pub mod TokenLists
 pub mod TokenStarts
-pub mod Utf8
-pub mod TokenSpans
 pub mod Continuation
 pub mod AtomsAhead
 pub mod Runs

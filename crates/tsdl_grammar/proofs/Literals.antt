@@ -5,21 +5,15 @@ use Rattle.std.proofs.Math.Nat.{mul-le-mul_left}
 use Rattle.std.specs.Char.{digit_value}
 use Rattle.tsdl_grammar.specs.Literals.{digits_from}
 
-digits_stop : (base n b : ℕ) (bytes : List ℕ) → base ≤ digit_value b → digits_from base n (b ∷ bytes) ≡ n
-digits_stop base n b bytes h = rw (le-ltb (digit_value b) base h) refl
-
 pub digits_step : (base n b : ℕ) (bytes : List ℕ) → digit_value b < base → digits_from base n (b ∷ bytes) ≡ digits_from base (n * base + digit_value b) bytes
 digits_step base n b bytes h = rw (lt-ltb (digit_value b) base h) refl
-
-grows : (n base d : ℕ) → 0 < base → n ≤ n * base + d
-grows n base d h = omega (arith, mul-le-mul_left n h)
 
 le-digits_from : (base n : ℕ) (bytes : List ℕ) → 0 < base → n ≤ digits_from base n bytes
 le-digits_from base n [] h = omega arith
 le-digits_from base n (b ∷ bytes) h =
     elim (cases_lt (digit_value b) base) [
-      | inl lt ↦ rw (digits_step base n b bytes lt) (let rest = le-digits_from base (n * base + digit_value b) bytes h in omega (arith, rest, grows n base (digit_value b) h))
-      | inr le ↦ rw (digits_stop base n b bytes le) (omega arith)
+      | inl lt ↦ rw (digits_step base n b bytes lt) (let rest = le-digits_from base (n * base + digit_value b) bytes h in omega (arith, rest, mul-le-mul_left n h))
+      | inr le ↦ rw (le-ltb (digit_value b) base le) (omega arith)
     ]
 
 -- the least that the total is behind one more digit

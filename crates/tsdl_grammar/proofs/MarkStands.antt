@@ -1,16 +1,13 @@
 -- A mark at the front of bytes, and what may follow it: no `=` behind `:`, and no `.` behind `.`.
-use Rattle.std.proofs.Common.{◌≡◌, ℕ, false, eqb, List, [], ◌∷◌, get_or, Some, refl, ◌∙◌}
-use Rattle.std.specs.Option.{option_map}
+use Rattle.std.proofs.Common.{◌≡◌, ℕ, false, eqb, List, [], ◌∷◌, get_or, Some, refl, ◌∙◌, option_map}
 use Rattle.std.specs.Char.{is_ascii_digit}
-use Rattle.tsdl_grammar.specs.declared.token.Mark.{Mark}
+use Rattle.tsdl_grammar.specs.declared.{token.Mark.Mark, atom.Atom.Atom}
 use Rattle.tsdl_grammar.specs.declared.token.Mark.TheVariants as marks
 use Rattle.tsdl_grammar.specs.declared.token.TokenKind.TheVariants as kinds
 use Rattle.tsdl_grammar.specs.declared.piece.Piece.TheVariants as pieces
-use Rattle.tsdl_grammar.specs.declared.atom.Atom.{Atom}
 use Rattle.tsdl_grammar.specs.declared.atom.Atom.TheVariants as atoms
-use Rattle.tsdl_grammar.specs.Bytes.{is_blank, is_name_start}
+use Rattle.tsdl_grammar.specs.{Bytes.is_blank, Bytes.is_name_start, Atoms.Spells}
 use Rattle.tsdl_grammar.specs.Pieces.{piece_at, mark_at, mark_cut, one_byte_mark}
-use Rattle.tsdl_grammar.specs.Atoms.{Spells}
 use Rattle.tsdl_grammar.proofs.Continuation.{piece}
 
 -- a byte that begins a mark
@@ -87,21 +84,16 @@ dot_at (x ∷ y ∷ rest) e = rw e refl
 pub dot : (rest : List ℕ) (meant : List Atom) → eqb (get_or rest 0 0) 46 ≡ false → Spells rest meant → Spells (46 ∷ rest) (atoms.Mark marks.Dot ∷ meant)
 dot rest meant e s = single 46 marks.Dot rest meant (record { blank = refl; start = refl; digit = refl; quote = refl; slash = refl }) (dot_at rest e) s
 
-assign_at : (rest : List ℕ) → mark_at 58 (61 ∷ rest) ≡ Some (mark_cut marks.Assign 2)
-unfolding mark_at
+assign_at : (rest : List ℕ) → piece_at (58 ∷ 61 ∷ rest) ≡ Some (mark_cut marks.Assign 2)
+unfolding piece_at mark_at
 assign_at [] = refl
 assign_at (x ∷ rest) = refl
 
 -- `:=`
 pub assign : (rest : List ℕ) (meant : List Atom) → Spells rest meant → Spells (58 ∷ 61 ∷ rest) (atoms.Mark marks.Assign ∷ meant)
-assign rest meant s =
-    piece (pieces.Token (kinds.Mark marks.Assign)) (58 ∷ 61 ∷ []) rest meant (at_front 58 (61 ∷ rest) (record { blank = refl; start = refl; digit = refl; quote = refl; slash = refl }) ∙ assign_at rest) s
-
-ellipsis_at : (rest : List ℕ) → mark_at 46 (46 ∷ 46 ∷ rest) ≡ Some (mark_cut marks.Ellipsis 3)
-unfolding mark_at
-ellipsis_at rest = refl
+assign rest meant s = piece (pieces.Token (kinds.Mark marks.Assign)) (58 ∷ 61 ∷ []) rest meant (assign_at rest) s
 
 -- `...`
 pub ellipsis : (rest : List ℕ) (meant : List Atom) → Spells rest meant → Spells (46 ∷ 46 ∷ 46 ∷ rest) (atoms.Mark marks.Ellipsis ∷ meant)
-ellipsis rest meant s =
-    piece (pieces.Token (kinds.Mark marks.Ellipsis)) (46 ∷ 46 ∷ 46 ∷ []) rest meant (at_front 46 (46 ∷ 46 ∷ rest) (record { blank = refl; start = refl; digit = refl; quote = refl; slash = refl }) ∙ ellipsis_at rest) s
+unfolding piece_at mark_at
+ellipsis rest meant s = piece (pieces.Token (kinds.Mark marks.Ellipsis)) (46 ∷ 46 ∷ 46 ∷ []) rest meant refl s

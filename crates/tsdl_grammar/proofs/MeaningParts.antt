@@ -1,16 +1,8 @@
 -- What integers, structures and texts mean, taken apart.
-use Rattle.std.proofs.Common.{◌≡◌, ℕ, Bool, true, false, List, [], length, Some, None, refl, sym, ap, subst, ◌∙◌}
-use Rattle.std.specs.Prelude.{nat_le, codes}
-use Rattle.std.specs.List.{flat_map}
-use Rattle.std.specs.Str.{bytes_eq}
-use Rattle.ctf_types.specs.declared.Base.TheVariants.{Dec}
-use Rattle.ctf_types.specs.declared.IntType.{IntType}
-use Rattle.ctf_types.specs.declared.StructType.{StructType}
-use Rattle.ctf_types.specs.declared.MemberType.{MemberType}
-use Rattle.ctf_types.specs.declared.Metadata.{Metadata}
-use Rattle.tsdl_grammar.specs.declared.tree.Attribute.{Attribute}
-use Rattle.tsdl_grammar.specs.declared.tree.Structure.{Structure}
-use Rattle.tsdl_grammar.specs.declared.tree.Block.{Block}
+use Rattle.std.proofs.Common.{◌≡◌, ℕ, Bool, true, false, List, [], length, Some, None, refl, sym, ap, subst, ◌∙◌, nat_le, codes, flat_map, bytes_eq}
+use Rattle.std.proofs.lemmas.Option.{same_Some}
+use Rattle.ctf_types.specs.declared.{Base.TheVariants.Dec, IntType.IntType, StructType.StructType, MemberType.MemberType, Metadata.Metadata}
+use Rattle.tsdl_grammar.specs.declared.tree.{Attribute.Attribute, Structure.Structure, Block.Block}
 use Rattle.tsdl_grammar.specs.Steps.{◌>>=◌, provided, only, at_most_one, each}
 use Rattle.tsdl_grammar.specs.Lookups.{attr, no_two}
 use Rattle.tsdl_grammar.specs.AttributeValues.{natural_value, flag_value, with_default, optional}
@@ -19,10 +11,8 @@ use Rattle.tsdl_grammar.specs.StructureMeaning.{struct_meaning, struct_type, mem
 use Rattle.tsdl_grammar.specs.BlockMeaning.{is_trace, trace_order, trace_uuid, header_meaning, clock_meaning, environment_meaning}
 use Rattle.tsdl_grammar.specs.Denotes.{text_meta, trace_in, clock_in, environment_in, known_of, streams_meaning}
 use Rattle.tsdl_grammar.specs.Laws.{SaysInteger, SaysStructure, SaysMetadata, SameBlocks}
-use Rattle.tsdl_grammar.proofs.Inversion.{bind_some, bind_is, provided_some, some_same}
+use Rattle.tsdl_grammar.proofs.Inversion.{bind_some, bind_is, provided_some}
 use Rattle.tsdl_grammar.proofs.TypeParts.{int_type-parts, struct_type-parts}
-
--- ---- integers
 
 pub says_integer : (known : Known) (attrs : List Attribute) (t : IntType) → int_meaning known attrs ≡ Some t → SaysInteger known attrs t
 unfolding int_meaning
@@ -44,33 +34,9 @@ says_integer known attrs t e =
       clock = h.1 ∙ ap Some (sym p.clock_is);
     }
 
-same_some : {A : Type 0} (x y : A) → Some x ≡ Some y → y ≡ x
-same_some x y e = cc
-
-pub align_default : (known : Known) (attrs : List Attribute) (t : IntType) → int_meaning known attrs ≡ Some t → attr (codes "align") attrs ≡ None → t.align ≡ default_align t.size
-align_default known attrs t e h = same_some (default_align t.size) t.align (sym (ap (with_default (default_align t.size) natural_value) h) ∙ (says_integer known attrs t e).align)
-
-pub signed_default : (known : Known) (attrs : List Attribute) (t : IntType) → int_meaning known attrs ≡ Some t → attr (codes "signed") attrs ≡ None → t.signed ≡ false
-signed_default known attrs t e h = same_some false t.signed (sym (ap (with_default false flag_value) h) ∙ (says_integer known attrs t e).signed)
-
-pub base_default : (known : Known) (attrs : List Attribute) (t : IntType) → int_meaning known attrs ≡ Some t → attr (codes "base") attrs ≡ None → t.base ≡ Dec
-base_default known attrs t e h = same_some Dec t.base (sym (ap (with_default Dec base_value) h) ∙ (says_integer known attrs t e).base)
-
-pub clock_default : (known : Known) (attrs : List Attribute) (t : IntType) → int_meaning known attrs ≡ Some t → attr (codes "map") attrs ≡ None → t.clock ≡ None
-clock_default known attrs t e h = same_some None t.clock (sym (ap (optional (clock_value known.clocks)) h) ∙ (says_integer known attrs t e).clock)
-
-none_provided : {A : Type 0} (b : Bool) → provided {A = A} b None ≡ None
-none_provided true = refl
-none_provided false = refl
-
 pub size_needed : (known : Known) (attrs : List Attribute) → attr (codes "size") attrs ≡ None → int_meaning known attrs ≡ None
 unfolding int_meaning
-size_needed known attrs h = rw h (none_provided (has_only int_attrs attrs))
-
--- ---- structures
-
-abbrev Members : Type 0
-Members = List (List ℕ × MemberType)
+size_needed known attrs h = rw h (elim (has_only int_attrs attrs) as (λ b. provided {A = IntType} b None ≡ None) [ true ↦ refl | false ↦ refl ])
 
 pub says_structure : (known : Known) (s : Structure) (t : StructType) → struct_meaning known s ≡ Some t → SaysStructure known s t
 unfolding struct_meaning
@@ -82,10 +48,8 @@ says_structure known s t e =
     record {
       few = g.0;
       members = g.1 ∙ ap Some (sym p.0);
-      align = rw b.1 (ap (λ (ms : Members). Some (align_with ms b.0)) p.0 ∙ ap Some (sym p.1));
+      align = rw b.1 (ap (λ (ms : List (List ℕ × MemberType)). Some (align_with ms b.0)) p.0 ∙ ap Some (sym p.1));
     }
-
--- ---- texts
 
 pub says_metadata : (bs : List Block) (m : Metadata) → text_meta bs ≡ Some m → SaysMetadata bs m
 unfolding text_meta
@@ -113,7 +77,7 @@ says_metadata bs m e =
       header = w.1;
       streams = k.1;
     } in
-    subst (SaysMetadata bs) (some_same made m (Some made) refl k.2) says
+    subst (SaysMetadata bs) (same_Some made m k.2) says
 
 -- blocks that say the parts of a metadata mean it
 pub text_says : (bs : List Block) (m : Metadata) → SaysMetadata bs m → text_meta bs ≡ Some m

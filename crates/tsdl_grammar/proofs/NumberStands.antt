@@ -1,24 +1,17 @@
 -- A decimal number at the front of bytes, and what may follow it: no byte that a name has.
-use Rattle.std.proofs.Common.{◌≡◌, ℕ, ◌+◌, ◌*◌, ◌/◌, ◌%◌, ◌^◌, ◌<◌, ◌≤◌, true, false, eqb, List, [], ◌∷◌, ◌++◌, length, get_or, drop, Some, arith, refl, sym, ap, subst, ◌∙◌, inl, inr}
-use Rattle.std.specs.List.{prefix_len, list_all}
-use Rattle.std.specs.Char.{is_ascii_digit, digit_value}
-use Rattle.std.specs.Fmt.{decimal}
-use Rattle.std.proofs.lemmas.Bool.{lt-ltb, cases_lt}
-use Rattle.std.proofs.lemmas.Bool.Decides.{nat_tests}
-use Rattle.std.proofs.lemmas.List.{drop_at}
+use Rattle.std.proofs.Common.{◌≡◌, ℕ, ◌+◌, ◌*◌, ◌/◌, ◌%◌, ◌^◌, ◌<◌, ◌≤◌, true, false, eqb, List, [], ◌∷◌, ◌++◌, length, get_or, drop, Some, arith, refl, sym, ap, subst, ◌∙◌, inl, inr, decimal, drop_at}
+use Rattle.std.specs.{List.prefix_len, List.list_all, Char.is_ascii_digit, Char.digit_value}
+use Rattle.std.proofs.lemmas.{Bool.lt-ltb, Bool.cases_lt, Bool.Decides.nat_tests, List.Folds.list_all-append, Str.digit_value_digit}
 use Rattle.std.proofs.lemmas.Fmt.{decimal_by_steps, decimal_digit, first_decimal}
-use Rattle.std.proofs.lemmas.Str.{digit_value_digit}
 use Rattle.tsdl_grammar.specs.declared.token.TokenKind.TheVariants as kinds
 use Rattle.tsdl_grammar.specs.declared.piece.Piece.TheVariants as pieces
 use Rattle.tsdl_grammar.specs.declared.atom.Atom.{Atom}
 use Rattle.tsdl_grammar.specs.declared.atom.Atom.TheVariants as atoms
-use Rattle.tsdl_grammar.specs.Bytes.{is_name_byte, is_suffix, is_octal_digit}
-use Rattle.tsdl_grammar.specs.Literals.{literal_of, digits_from}
+use Rattle.tsdl_grammar.specs.{Literals.literal_of, Literals.digits_from, Atoms.number_atom, Atoms.Spells}
+use Rattle.tsdl_grammar.specs.Bytes.{is_blank, is_name_start, is_name_byte, is_suffix, is_octal_digit}
 use Rattle.tsdl_grammar.specs.Pieces.{piece_at, cut, number_len, digits_len, zero_len}
-use Rattle.tsdl_grammar.specs.Atoms.{number_atom, Spells}
-use Rattle.tsdl_grammar.proofs.Literals.{digits_step}
-use Rattle.tsdl_grammar.proofs.Runs.{and_true, prefix_len-whole, head_fails, none_passes, digit_is_no_blank, digit_is_no_start, digit_is_name_byte, suffix_is_name_byte, octal_is_name_byte}
-use Rattle.tsdl_grammar.proofs.Continuation.{piece}
+use Rattle.tsdl_grammar.proofs.{Literals.digits_step, Continuation.piece}
+use Rattle.tsdl_grammar.proofs.Runs.{and_true, prefix_len-whole, head_fails, none_passes, digit_is_name_byte, suffix_is_name_byte, octal_is_name_byte}
 
 -- these digits are the number, read from the front
 record IsDecimal (n : ℕ) (ds : List ℕ) : Type 0 where
@@ -30,10 +23,6 @@ digit_is_below c h = let low : 48 ≤ c = grind (arith, nat_tests) in let high :
 
 digit_byte : (d : ℕ) → d < 10 → (is_ascii_digit (48 + d) ≡ true) × (digit_value (48 + d) ≡ d)
 digit_byte d h = (grind (arith, nat_tests), omega (arith, digit_value_digit (48 + d) (omega arith, omega arith)))
-
-all-push : (ds : List ℕ) (c : ℕ) → list_all is_ascii_digit ds ≡ true → is_ascii_digit c ≡ true → list_all is_ascii_digit (ds ++ c ∷ []) ≡ true
-all-push [] c h e = rw e refl
-all-push (d ∷ ds) c h e = let both = and_true (is_ascii_digit d) (list_all is_ascii_digit ds) h in rw (both.0) (all-push ds c both.1 e)
 
 digits_from-push : (k : ℕ) (ds : List ℕ) (c : ℕ) → list_all is_ascii_digit ds ≡ true → digit_value c < 10 → digits_from 10 k (ds ++ c ∷ []) ≡ digits_from 10 k ds * 10 + digit_value c
 digits_from-push k [] c h e = digits_step 10 k c [] e
@@ -50,22 +39,16 @@ one_digit n h = let d = digit_byte n h in record {
 
 more_digits : (n : ℕ) (ds : List ℕ) → 10 ≤ n → IsDecimal (n / 10) ds → IsDecimal n (ds ++ ((48 + n % 10) ∷ []))
 more_digits n ds h p = let d = digit_byte (n % 10) (omega arith) in record {
-  digits = all-push ds (48 + n % 10) p.digits d.0;
+  digits = rw (list_all-append is_ascii_digit ds ((48 + n % 10) ∷ []), p.digits, d.0) refl;
   value = digits_from-push 0 ds (48 + n % 10) p.digits (omega (arith, d.1)) ∙ omega (arith, p.value, d.1);
 }
 
 decimal_is : (n : ℕ) → n < 2 ^ 64 → IsDecimal n (decimal n)
 decimal_is n h = decimal_by_steps IsDecimal one_digit more_digits n h
 
--- ---- the piece
-
 number_len-is : (bytes rest : List ℕ) (n : ℕ) → digits_len bytes ≡ n → drop n bytes ≡ rest → prefix_len is_suffix rest ≡ 0 → number_len bytes ≡ n
 unfolding number_len
 number_len-is bytes rest n e d s = rw (e, d, s) (omega arith)
-
--- a first digit that isn't 0
-digits_len-is : (b : ℕ) (ds rest : List ℕ) → eqb b 48 ≡ false → list_all is_ascii_digit ds ≡ true → prefix_len is_ascii_digit rest ≡ 0 → digits_len (b ∷ (ds ++ rest)) ≡ 1 + length ds
-digits_len-is b ds rest nonzero h e = rw (nonzero, prefix_len-whole is_ascii_digit ds rest h e) refl
 
 no_hexadecimal : (x : ℕ) → is_name_byte x ≡ false → eqb x 120 ≡ false
 no_hexadecimal x h = grind (arith, nat_tests)
@@ -80,39 +63,31 @@ zero_len-is (x ∷ h ∷ rest) e =
 
 number_at : (b : ℕ) (bytes : List ℕ) (n : ℕ) → is_ascii_digit b ≡ true → number_len (b ∷ bytes) ≡ n → piece_at (b ∷ bytes) ≡ Some (cut (pieces.Token kinds.Number) n)
 unfolding piece_at
-number_at b bytes n h e = rw (digit_is_no_blank b h, digit_is_no_start b h, h, e) refl
+number_at b bytes n h e =
+    let blank : is_blank b ≡ false = grind (arith, nat_tests) in let start : is_name_start b ≡ false = grind (arith, nat_tests) in rw (blank, start, h, e) refl
 
 -- the literal's piece and its value, by its first digit
 record IsLiteral (n : ℕ) (ds rest : List ℕ) : Type 0 where
   stands : piece_at (ds ++ rest) ≡ Some (cut (pieces.Token kinds.Number) (length ds))
   value : literal_of ds ≡ n
 
-literal_of-nonzero : (b : ℕ) (ds : List ℕ) → eqb b 48 ≡ false → literal_of (b ∷ ds) ≡ digits_from 10 0 (b ∷ ds)
-unfolding literal_of
-literal_of-nonzero b ds e = rw e refl
-
-literal_of-zero : literal_of (48 ∷ []) ≡ 0
-unfolding literal_of
-literal_of-zero = refl
-
 nonzero_stands : (n : ℕ) (ds rest : List ℕ) → IsDecimal n ds → 48 < get_or ds 0 0 → prefix_len is_name_byte rest ≡ 0 → IsLiteral n ds rest
+unfolding literal_of
 nonzero_stands n [] rest p h e = absurd (omega arith)
 nonzero_stands n (b ∷ ds) rest p h e =
     let both = and_true (is_ascii_digit b) (list_all is_ascii_digit ds) p.digits in
     let nonzero : eqb b 48 ≡ false = grind (arith, nat_tests) in
-    let len = digits_len-is b ds rest nonzero both.1 (none_passes is_name_byte is_ascii_digit digit_is_name_byte rest e) in
+    let len : digits_len (b ∷ (ds ++ rest)) ≡ 1 + length ds = rw (nonzero, prefix_len-whole is_ascii_digit ds rest both.1 (none_passes is_name_byte is_ascii_digit digit_is_name_byte rest e)) refl in
     let tail = drop_at (b ∷ ds) rest (1 + length ds) (omega arith) in
     let all = number_len-is (b ∷ (ds ++ rest)) rest (1 + length ds) len tail (none_passes is_name_byte is_suffix suffix_is_name_byte rest e) in
     let k : 1 + length ds ≡ length (b ∷ ds) = omega arith in
-    record {
-      stands = number_at b (ds ++ rest) (length (b ∷ ds)) both.0 (all ∙ k);
-      value = literal_of-nonzero b ds nonzero ∙ p.value;
-    }
+    record { stands = number_at b (ds ++ rest) (length (b ∷ ds)) both.0 (all ∙ k); value = rw nonzero p.value }
 
 zero_stands : (rest : List ℕ) → prefix_len is_name_byte rest ≡ 0 → IsLiteral 0 (48 ∷ []) rest
+unfolding literal_of
 zero_stands rest e =
     let all = number_len-is (48 ∷ rest) rest 1 (zero_len-is rest e) refl (none_passes is_name_byte is_suffix suffix_is_name_byte rest e) in
-    record { stands = number_at 48 rest 1 refl all; value = literal_of-zero }
+    record { stands = number_at 48 rest 1 refl all; value = refl }
 
 decimal_stands : (n : ℕ) (rest : List ℕ) → n < 2 ^ 64 → prefix_len is_name_byte rest ≡ 0 → IsLiteral n (decimal n) rest
 decimal_stands n rest h e =
@@ -121,15 +96,13 @@ decimal_stands n rest h e =
       | inr le ↦ (let z : n ≡ 0 = omega arith in subst (λ (m : ℕ). IsLiteral m (decimal m) rest) (sym z) (rw (decimal_digit 0 (omega arith)) (zero_stands rest e)))
     ]
 
-number_atom-is : (n : ℕ) → n < 2 ^ 64 → number_atom n ≡ atoms.Number n
-number_atom-is n h = rw (lt-ltb n (2 ^ 64) h) refl
-
 -- a decimal number in front, where no byte of a name follows it
 pub number : (n : ℕ) (rest : List ℕ) (meant : List Atom) → n < 2 ^ 64 → prefix_len is_name_byte rest ≡ 0 → Spells rest meant → Spells (decimal n ++ rest) (atoms.Number n ∷ meant)
 number n rest meant h e s =
     let p = decimal_stands n rest h e in
-    subst (λ (a : Atom). Spells (decimal n ++ rest) (a ∷ meant)) (ap number_atom p.value ∙ number_atom-is n h) (piece (pieces.Token kinds.Number) (decimal n) rest meant p.stands s)
+    let is : number_atom n ≡ atoms.Number n = rw (lt-ltb n (2 ^ 64) h) refl in
+    subst (λ (a : Atom). Spells (decimal n ++ rest) (a ∷ meant)) (ap number_atom p.value ∙ is) (piece (pieces.Token kinds.Number) (decimal n) rest meant p.stands s)
 
 -- a number's decimal digits are a literal of that value
-pub literal_of-decimal : (n : ℕ) → n < 2 ^ 64 → literal_of (decimal n) ≡ n
-literal_of-decimal n h = (decimal_stands n [] h refl).value
+pub reads_back : (n : ℕ) → n < 2 ^ 64 → literal_of (decimal n) ≡ n
+reads_back n h = (decimal_stands n [] h refl).value

@@ -1,11 +1,7 @@
 -- Cutting a text into pieces, one after the other: what a loop over it keeps, and that there is one way only.
-use Rattle.std.proofs.Common.{◌≡◌, ℕ, ◌+◌, ◌<◌, ◌≤◌, List, [], ◌∷◌, ◌++◌, length, drop, Option, Some, None, arith, refl, sym, ap, subst, ◌∙◌, append_assoc}
-use Rattle.std.proofs.lemmas.List.{append-nil, length-drop}
-use Rattle.tsdl_grammar.specs.declared.token.Token.{Token}
-use Rattle.tsdl_grammar.specs.declared.token.Span.{Span}
-use Rattle.tsdl_grammar.specs.declared.piece.Piece.{Piece}
+use Rattle.std.proofs.Common.{◌≡◌, ℕ, ◌+◌, ◌<◌, ◌≤◌, List, [], ◌∷◌, ◌++◌, length, drop, Some, None, arith, refl, sym, ap, subst, ◌∙◌, append_assoc, append-nil, length-drop}
+use Rattle.tsdl_grammar.specs.declared.{token.Token.Token, token.Span.Span, piece.Piece.Piece, piece.Cut.Cut}
 use Rattle.tsdl_grammar.specs.declared.piece.Piece.TheVariants as pieces
-use Rattle.tsdl_grammar.specs.declared.piece.Cut.{Cut}
 use Rattle.tsdl_grammar.specs.Pieces.{piece_at}
 use Rattle.tsdl_grammar.specs.Tokens.{Splits, token_of, tokens_from, Rises, Stuck, Tokenizes, HasTokens}
 
@@ -34,22 +30,20 @@ lens-push : (cuts : List Cut) (c : Cut) → lens (cuts ++ c ∷ []) ≡ lens cut
 lens-push [] c = omega arith
 lens-push (d ∷ cuts) c = omega (arith, lens-push cuts c)
 
-tokens_from-push : (at : ℕ) (cuts : List Cut) (c : Cut) → tokens_from at (cuts ++ c ∷ []) ≡ tokens_from at cuts ++ token_of c.piece (span (at + lens cuts) (at + lens cuts + c.len))
-tokens_from-push at [] c =
-    let e : at + 0 ≡ at = omega arith in rw e (append-nil (token_of c.piece (span at (at + c.len))))
-tokens_from-push at (d ∷ cuts) c =
-    let e : at + d.len + lens cuts ≡ at + (d.len + lens cuts) = omega arith in
-    let t = token_of d.piece (span at (at + d.len)) in
-    ap (λ (ts : List Token). t ++ ts) (tokens_from-push (at + d.len) cuts c ∙ rw e refl) ∙ sym (append_assoc t (tokens_from (at + d.len) cuts) _)
+tokens_from-append : (at : ℕ) (cuts more : List Cut) → tokens_from at (cuts ++ more) ≡ tokens_from at cuts ++ tokens_from (at + lens cuts) more
+tokens_from-append at [] more = let e : at + 0 ≡ at = omega arith in rw e refl
+tokens_from-append at (c ∷ cuts) more =
+    let e : at + c.len + lens cuts ≡ at + (c.len + lens cuts) = omega arith in
+    let t = token_of c.piece (span at (at + c.len)) in
+    ap (λ (ts : List Token). t ++ ts) (tokens_from-append (at + c.len) cuts more ∙ rw e refl) ∙ sym (append_assoc t (tokens_from (at + c.len) cuts) (tokens_from (at + (c.len + lens cuts)) more))
 
 Rises-widen : (from : ℕ) (ts : List Token) (at end : ℕ) → Rises from ts at → at ≤ end → Rises from ts end
 Rises-widen from [] at end r le = omega arith
 Rises-widen from (t ∷ ts) at end r le = (r.0, r.1, Rises-widen t.span.end ts at end r.2 le)
 
 Rises-push : (from : ℕ) (ts : List Token) (piece : Piece) (at end : ℕ) → Rises from ts at → at < end → Rises from (ts ++ token_of piece (span at end)) end
-Rises-push from [] pieces.Blank at end r lt = omega arith
-Rises-push from [] pieces.Comment at end r lt = omega arith
 Rises-push from [] (pieces.Token kind) at end r lt = (r, lt, omega arith)
+Rises-push from [] _ at end r lt = omega arith
 Rises-push from (t ∷ ts) piece at end r lt = (r.0, r.1, Rises-push t.span.end ts piece at end r.2 lt)
 
 pub goes_on : (text rest : List ℕ) (at : ℕ) (found : List Token) (c : Cut) → Progress text rest at found → piece_at rest ≡ Some c → 0 < c.len → c.len ≤ length rest
@@ -57,7 +51,7 @@ pub goes_on : (text rest : List ℕ) (at : ℕ) (found : List Token) (c : Cut) �
 goes_on text rest at found c p e some within = record {
   cuts = p.cuts ++ c ∷ [];
   splits = Splits-push text p.cuts c rest p.splits e;
-  tokens = let z : 0 + lens p.cuts ≡ lens p.cuts = omega arith in rw (p.tokens, p.place) (sym (tokens_from-push 0 p.cuts c ∙ rw z refl));
+  tokens = let z : 0 + lens p.cuts ≡ lens p.cuts = omega arith in rw (p.tokens, p.place) (sym (tokens_from-append 0 p.cuts (c ∷ []) ∙ rw (z, append-nil) refl));
   place = omega (arith, p.place, lens-push p.cuts c);
   whole = omega (arith, p.whole, length-drop c.len rest);
   rises = Rises-push 0 found c.piece at (at + c.len) p.rises (omega arith);
@@ -70,48 +64,35 @@ nothing_at_the_end = refl
 pub is_done : (text : List ℕ) (at : ℕ) (found : List Token) → Progress text [] at found → Tokenizes text found × Rises 0 found (length text)
 is_done text at found p = ((p.cuts, p.splits, p.tokens), Rises-widen 0 found at (length text) p.rises (omega (arith, p.whole)))
 
-same_piece : (r : Option Cut) (c d : Cut) → r ≡ Some c → r ≡ Some d → c ≡ d
-same_piece r c d e f = cc
-
--- a text is cut in one way
-pub one_way : (text : List ℕ) (xs ys : List Cut) → Splits text xs [] → Splits text ys [] → xs ≡ ys
-one_way text [] [] s t = refl
-one_way text [] (d ∷ ys) s t = absurd (let e : piece_at text ≡ None = ap piece_at s ∙ nothing_at_the_end in let f = t.0 in cc)
-one_way text (c ∷ xs) [] s t = absurd (let e : piece_at text ≡ None = ap piece_at t ∙ nothing_at_the_end in let f = s.0 in cc)
-one_way text (c ∷ xs) (d ∷ ys) s t =
-    let same = same_piece (piece_at text) c d s.0 t.0 in
-    let u : Splits (drop c.len text) ys [] = subst (λ (x : Cut). Splits (drop x.len text) ys []) (sym same) t.1 in
-    ap (λ (zs : List Cut). c ∷ zs) (one_way (drop c.len text) xs ys s.1 u) ∙ ap (λ (x : Cut). x ∷ ys) same
-
--- a text that has tokens stops nowhere
-pub no_stop : (text rest : List ℕ) (xs ys : List Cut) → Splits text xs [] → Splits text ys rest → Stuck rest → ⊥
-no_stop text rest [] [] s t k = k.0 (sym t ∙ s)
-no_stop text rest [] (d ∷ ys) s t k = let e : piece_at text ≡ None = ap piece_at s ∙ nothing_at_the_end in let f = t.0 in cc
-no_stop text rest (c ∷ xs) [] s t k = let e : piece_at text ≡ None = ap piece_at t ∙ k.1 in let f = s.0 in cc
-no_stop text rest (c ∷ xs) (d ∷ ys) s t k =
-    let same = same_piece (piece_at text) c d s.0 t.0 in
-    no_stop (drop c.len text) rest xs ys s.1 (subst (λ (x : Cut). Splits (drop x.len text) ys rest) (sym same) t.1) k
-
--- a text that has tokens is cut up to its end where no more piece begins
-pub has_ended : (text rest : List ℕ) (at : ℕ) (found : List Token) → Progress text rest at found → HasTokens text → piece_at rest ≡ None → Tokenizes text found × Rises 0 found (length text)
-has_ended text [] at found p has none = is_done text at found p
-has_ended text (b ∷ rest) at found p has none = absurd (no_stop text (b ∷ rest) has.1.0 p.cuts has.1.1 p.splits ((λ e. absurd cc), none))
-
 -- the pieces of a whole text go on from where it is cut
 goes_through : (text rest : List ℕ) (xs ys : List Cut) → Splits text xs [] → Splits text ys rest → (zs : List Cut) × Splits rest zs [] × (xs ≡ ys ++ zs)
 goes_through text rest xs [] s t = (xs, subst (λ (l : List ℕ). Splits l xs []) t s, refl)
 goes_through text rest [] (d ∷ ys) s t = absurd (let e : piece_at text ≡ None = ap piece_at s ∙ nothing_at_the_end in let f = t.0 in cc)
 goes_through text rest (c ∷ xs) (d ∷ ys) s t =
-    let same = same_piece (piece_at text) c d s.0 t.0 in
+    let same : c ≡ d = (let f = s.0 in let g = t.0 in cc) in
     let more = goes_through (drop c.len text) rest xs ys s.1 (subst (λ (x : Cut). Splits (drop x.len text) ys rest) (sym same) t.1) in
     (more.0, more.1, ap (λ (zs : List Cut). c ∷ zs) more.2 ∙ ap (λ (x : Cut). x ∷ (ys ++ more.0)) same)
 
-tokens_from-append : (at : ℕ) (cuts more : List Cut) → tokens_from at (cuts ++ more) ≡ tokens_from at cuts ++ tokens_from (at + lens cuts) more
-tokens_from-append at [] more = let e : at + 0 ≡ at = omega arith in rw e refl
-tokens_from-append at (c ∷ cuts) more =
-    let e : at + c.len + lens cuts ≡ at + (c.len + lens cuts) = omega arith in
-    let t = token_of c.piece (span at (at + c.len)) in
-    ap (λ (ts : List Token). t ++ ts) (tokens_from-append (at + c.len) cuts more ∙ rw e refl) ∙ sym (append_assoc t (tokens_from (at + c.len) cuts) (tokens_from (at + (c.len + lens cuts)) more))
+-- where no piece begins, a text that is cut to its end has ended
+no_more : (rest : List ℕ) (zs : List Cut) → Splits rest zs [] → piece_at rest ≡ None → (rest ≡ []) × (zs ≡ [])
+no_more rest [] s none = (s, refl)
+no_more rest (c ∷ zs) s none = absurd (let f = s.0 in cc)
+
+-- a text that has tokens stops nowhere
+pub no_stop : (text rest : List ℕ) (xs ys : List Cut) → Splits text xs [] → Splits text ys rest → Stuck rest → ⊥
+no_stop text rest xs ys s t k = let more = goes_through text rest xs ys s t in k.0 (no_more rest more.0 more.1 k.1).0
+
+-- a text has one list of tokens
+pub same_tokens : (text : List ℕ) (ts us : List Token) → Tokenizes text ts → Tokenizes text us → ts ≡ us
+same_tokens text ts us p q =
+    let more = goes_through text [] p.0 q.0 p.1 q.1 in
+    let one_way : p.0 ≡ q.0 = more.2 ∙ ap (λ (zs : List Cut). q.0 ++ zs) (no_more [] more.0 more.1 nothing_at_the_end).1 ∙ append-nil q.0 in
+    p.2 ∙ ap (tokens_from 0) one_way ∙ sym q.2
+
+-- a text that has tokens is cut up to its end where no more piece begins
+pub has_ended : (text rest : List ℕ) (at : ℕ) (found : List Token) → Progress text rest at found → HasTokens text → piece_at rest ≡ None → Tokenizes text found × Rises 0 found (length text)
+has_ended text [] at found p has none = is_done text at found p
+has_ended text (b ∷ rest) at found p has none = absurd (no_stop text (b ∷ rest) has.1.0 p.cuts has.1.1 p.splits ((λ e. absurd cc), none))
 
 -- the tokens of a text that is cut up to its rest are those that were found, and then the rest's
 pub found_first : (text rest : List ℕ) (at : ℕ) (found ts : List Token) → Progress text rest at found → Tokenizes text ts → (zs : List Cut) × Splits rest zs [] × (ts ≡ found ++ tokens_from at zs)

@@ -1,21 +1,19 @@
 -- The streams of a text stand by number, and so do the events of each.
-use Rattle.std.proofs.Common.{◌≡◌, ℕ, List, Some, refl, subst}
-use Rattle.std.specs.List.{flat_map, AllByRecursion}
-use Rattle.ctf_types.specs.declared.Stream.{Stream}
-use Rattle.ctf_types.specs.declared.Event.{Event}
+use Rattle.std.proofs.Common.{◌≡◌, ℕ, List, Some, refl, subst, flat_map}
+use Rattle.std.specs.List.{AllByRecursion}
+use Rattle.std.proofs.lemmas.Option.{same_Some}
+use Rattle.ctf_types.specs.declared.{Stream.Stream, Event.Event}
 use Rattle.tsdl_grammar.specs.declared.tree.Block.{Block}
+use Rattle.tsdl_grammar.specs.{IntegerMeaning.Known, BlockMeaning.stream_meaning, BlockMeaning.event_meaning, Laws.NumbersRise}
 use Rattle.tsdl_grammar.specs.Steps.{◌>>=◌, provided, each, by_number}
-use Rattle.tsdl_grammar.specs.IntegerMeaning.{Known}
-use Rattle.tsdl_grammar.specs.BlockMeaning.{stream_meaning, event_meaning}
 use Rattle.tsdl_grammar.specs.Denotes.{stream_in, event_in, events_of, with_events, have_streams, streams_meaning}
-use Rattle.tsdl_grammar.specs.Laws.{NumbersRise}
-use Rattle.tsdl_grammar.proofs.Inversion.{bind_some, provided_some, some_same, by_number-rises, each-rises, each-all}
+use Rattle.tsdl_grammar.proofs.Inversion.{bind_some, provided_some, by_number-rises, each-rises, each-all}
 
 with_events-keeps : (events : List (ℕ × Event)) (s t : Stream) → with_events events s ≡ Some t → (t.id ≡ s.id) × NumbersRise (λ e. e.id) t.events
 with_events-keeps events s t e =
     let a = bind_some (by_number (λ x. x.id) (events_of s.id events)) (λ es. Some (record s { events = es })) t e in
     let made : Stream = record s { events = a.0 } in
-    subst (λ (u : Stream). (u.id ≡ s.id) × NumbersRise (λ x. x.id) u.events) (some_same made t (Some made) refl a.2)
+    subst (λ (u : Stream). (u.id ≡ s.id) × NumbersRise (λ x. x.id) u.events) (same_Some made t a.2)
     (refl, by_number-rises (λ x. x.id) (events_of s.id events) a.0 a.1)
 
 pub streams_stand_by_number : (known : Known) (bs : List Block) (streams : List Stream) → streams_meaning known bs ≡ Some streams

@@ -1,7 +1,6 @@
 -- A string at the front of bytes, as it is written, and that a string's token means a text.
-use Rattle.std.proofs.Common.{◌≡◌, ℕ, ◌+◌, ◌-◌, List, [], ◌∷◌, ◌++◌, length, take, Some, arith, refl, sym, ap, subst, ◌∙◌, append_assoc}
-use Rattle.std.specs.Str.{IsUtf8}
-use Rattle.std.proofs.lemmas.List.{take_at, length-append}
+use Rattle.std.proofs.Common.{◌≡◌, ℕ, ◌+◌, ◌-◌, List, [], ◌∷◌, ◌++◌, length, take, Some, arith, refl, sym, ap, subst, ◌∙◌, append_assoc, IsUtf8, take_at, length-append}
+use Rattle.std.proofs.lemmas.Str.{is_utf8-from_IsUtf8}
 use Rattle.tsdl_grammar.specs.declared.token.TokenKind.TheVariants as kinds
 use Rattle.tsdl_grammar.specs.declared.piece.Piece.TheVariants as pieces
 use Rattle.tsdl_grammar.specs.declared.atom.Atom.{Atom}
@@ -9,18 +8,12 @@ use Rattle.tsdl_grammar.specs.declared.atom.Atom.TheVariants as atoms
 use Rattle.tsdl_grammar.specs.Escapes.{escaped}
 use Rattle.tsdl_grammar.specs.Pieces.{piece_at, cut, text_at}
 use Rattle.tsdl_grammar.specs.Atoms.{text_atom, content_of, Spells}
-use Rattle.tsdl_grammar.proofs.Utf8.{valid}
-use Rattle.tsdl_grammar.proofs.Escaping.{content_len-escaped, unescaped-escaped}
-use Rattle.tsdl_grammar.proofs.EscapesUtf8.{IsUtf8-escaped}
-use Rattle.tsdl_grammar.proofs.Continuation.{piece}
+use Rattle.tsdl_grammar.proofs.{Escaping.content_len-escaped, Escaping.stands_again, EscapesUtf8.IsUtf8-escaped, Continuation.piece}
 
-quote_at : (bytes : List ℕ) → piece_at (34 ∷ bytes) ≡ text_at bytes
-unfolding piece_at
-quote_at bytes = refl
-
-text_at-escaped : (text rest : List ℕ) → IsUtf8 text → text_at (escaped text ++ 34 ∷ rest) ≡ Some (cut (pieces.Token kinds.Text) (2 + length (escaped text)))
-unfolding text_at
-text_at-escaped text rest u = rw (content_len-escaped text rest, take_at (escaped text) (34 ∷ rest) (length (escaped text)) refl, valid (escaped text) (IsUtf8-escaped text u)) refl
+text_at-escaped : (text rest : List ℕ) → IsUtf8 text → piece_at (34 ∷ (escaped text ++ 34 ∷ rest)) ≡ Some (cut (pieces.Token kinds.Text) (2 + length (escaped text)))
+unfolding piece_at text_at
+text_at-escaped text rest u =
+    rw (content_len-escaped text rest, take_at (escaped text) (34 ∷ rest) (length (escaped text)) refl, is_utf8-from_IsUtf8 (escaped text) (IsUtf8-escaped text u)) refl
 
 -- a text between its quotes
 abbrev pub quoted : List ℕ → List ℕ
@@ -35,12 +28,12 @@ content_of-quoted text =
     ap (λ (n : ℕ). take n (escaped text ++ 34 ∷ [])) k ∙ take_at (escaped text) (34 ∷ []) (length (escaped text)) refl
 
 text_atom-quoted : (text : List ℕ) → IsUtf8 text → text_atom (content_of (quoted text)) ≡ atoms.Text text
-text_atom-quoted text u = ap text_atom (content_of-quoted text) ∙ rw (unescaped-escaped text, valid text u) refl
+text_atom-quoted text u = ap text_atom (content_of-quoted text) ∙ rw (stands_again text, is_utf8-from_IsUtf8 text u) refl
 
 -- a string in front; anything may follow it
 pub string : (text rest : List ℕ) (meant : List Atom) → IsUtf8 text → Spells rest meant → Spells (quoted text ++ rest) (atoms.Text text ∷ meant)
 string text rest meant u s =
     let regrouped : quoted text ++ rest ≡ 34 ∷ (escaped text ++ 34 ∷ rest) = ap (λ (w : List ℕ). 34 ∷ w) (append_assoc (escaped text) (34 ∷ []) rest) in
     let at : piece_at (quoted text ++ rest) ≡ Some (cut (pieces.Token kinds.Text) (length (quoted text))) =
-    ap piece_at regrouped ∙ quote_at (escaped text ++ 34 ∷ rest) ∙ text_at-escaped text rest u ∙ ap (λ (k : ℕ). Some (cut (pieces.Token kinds.Text) k)) (sym (length-quoted text)) in
+    ap piece_at regrouped ∙ text_at-escaped text rest u ∙ ap (λ (k : ℕ). Some (cut (pieces.Token kinds.Text) k)) (sym (length-quoted text)) in
     subst (λ (a : Atom). Spells (quoted text ++ rest) (a ∷ meant)) (text_atom-quoted text u) (piece (pieces.Token kinds.Text) (quoted text) rest meant at s)

@@ -1,16 +1,12 @@
 -- Where the token of an index begins.
-use Rattle.std.proofs.Common.{◌≡◌, ℕ, ◌+◌, ◌<◌, ◌≤◌, List, [], ◌∷◌, ◌++◌, length, drop, slice_get, Option, Some, None, refl, sym, ap, ◌∙◌, arith}
+use Rattle.std.proofs.Common.{◌≡◌, ℕ, ◌+◌, ◌<◌, ◌≤◌, List, [], ◌∷◌, ◌++◌, length, drop, slice_get, Option, Some, None, refl, sym, ap, ◌∙◌, arith, length-append}
 use Rattle.std.proofs.Math.Seq.{get_or-append_seam}
-use Rattle.std.proofs.lemmas.List.{length-append}
 use Rattle.std.proofs.lemmas.Option.{slice_get_past, slice_get_read}
-use Rattle.tsdl_grammar.specs.declared.token.Token.{Token}
-use Rattle.tsdl_grammar.specs.declared.token.TokenKind.{TokenKind}
+use Rattle.tsdl_grammar.specs.declared.{token.Token.Token, token.TokenKind.TokenKind, piece.Cut.Cut}
 use Rattle.tsdl_grammar.specs.declared.piece.Piece.TheVariants as pieces
-use Rattle.tsdl_grammar.specs.declared.piece.Cut.{Cut}
 use Rattle.tsdl_grammar.specs.Pieces.{piece_at}
 use Rattle.tsdl_grammar.specs.Tokens.{Splits, token_of, tokens_from, start_of, Tokenizes}
-use Rattle.tsdl_grammar.proofs.Splits.{Progress, goes_on, has_ended, found_first, nothing_at_the_end}
-use Rattle.tsdl_grammar.proofs.TokenLists.{same_tokens}
+use Rattle.tsdl_grammar.proofs.Splits.{Progress, goes_on, has_ended, found_first, same_tokens, nothing_at_the_end}
 
 -- so many tokens are passed over, and so many are left before the one that is looked for
 pub record Passed (text rest : List ℕ) (at before index : ℕ) : Type 0 where

@@ -1,34 +1,25 @@
 -- The types of integers and structures from their parts: each type is made from its own parts, and what is made has the parts that are given.
-use Rattle.std.proofs.Common.{◌≡◌, ℕ, ◌%◌, ◌<◌, ◌≤◌, Bool, true, false, eqb, ltb, leb, List, Option, Some, None, refl, sym, ap, subst, ◌∙◌, arith, eq-eqb, inl, inr}
+use Rattle.std.proofs.Common.{◌≡◌, ℕ, ◌%◌, ◌<◌, ◌≤◌, Bool, true, false, eqb, ltb, leb, List, Option, Some, None, refl, sym, ap, subst, ◌∙◌}
 use Rattle.std.specs.Coded.{le_prop}
 use Rattle.std.proofs.Props.{props}
-use Rattle.std.proofs.lemmas.Bool.Decides.{nat_tests}
-use Rattle.std.proofs.lemmas.Bool.{lt-ltb, ltb-true, leb-true, eqb-true, cases_Bool}
-use Rattle.ctf_types.specs.declared.Base.{Base}
-use Rattle.ctf_types.specs.declared.IntType.{IntType}
-use Rattle.ctf_types.specs.declared.MemberType.{MemberType}
-use Rattle.ctf_types.specs.declared.StructType.{StructType}
+use Rattle.std.proofs.lemmas.Option.{same_Some}
+use Rattle.std.proofs.lemmas.Bool.{lt-ltb, le-leb, eq-eqb, ltb-true, leb-true, eqb-true}
+use Rattle.ctf_types.specs.declared.{Base.Base, IntType.IntType, MemberType.MemberType, StructType.StructType}
 use Rattle.ctf_types.specs.Alignment.{IsAlignment}
-use Rattle.tsdl_grammar.specs.Steps.{proved}
-use Rattle.tsdl_grammar.specs.IntegerMeaning.{int_type}
-use Rattle.tsdl_grammar.specs.StructureMeaning.{struct_type}
-use Rattle.tsdl_grammar.proofs.Inversion.{some_same}
+use Rattle.tsdl_grammar.specs.{Steps.proved, IntegerMeaning.int_type, StructureMeaning.struct_type}
 
 proved_true : {A : Type 0} (b : Bool) (f : b ≡ true → Option A) (h : b ≡ true) → proved b f ≡ f h
 proved_true true f h = let same : IsProp (true ≡ true) = hlevel props in ap f (same refl h)
 proved_true false f h = absurd cc
 
-proved_false : {A : Type 0} (b : Bool) (f : b ≡ true → Option A) → b ≡ false → proved b f ≡ None
-proved_false true f h = absurd cc
-proved_false false f h = refl
+proved_none : {A : Type 0} (b : Bool) (f : b ≡ true → Option A) → ((h : b ≡ true) → f h ≡ None) → proved b f ≡ None
+proved_none true f none = none refl
+proved_none false f none = refl
 
 -- the proof that a test held, where it led to a case
 proved_some : {A : Type 0} (b : Bool) (f : b ≡ true → Option A) (y : A) → proved b f ≡ Some y → (h : b ≡ true) × (f h ≡ Some y)
 proved_some true f y e = (refl, e)
 proved_some false f y e = absurd cc
-
-le-leb : (m n : ℕ) → m ≤ n → leb m n ≡ true
-le-leb m n h = grind (arith, nat_tests)
 
 -- an integer type is made of its own parts
 pub int_type-own : (t : IntType) → int_type t.size t.align t.signed t.base t.clock ≡ Some t
@@ -74,40 +65,23 @@ int_type-parts size align signed base clock t e =
     let w = proved_some (ltb 0 size) _ t e in let x = proved_some (leb size 64) _ t w.1 in
     let y = proved_some (ltb 0 align) _ t x.1 in let z = proved_some (eqb (4096 % align) 0) _ t y.1 in
     let made : IntType = record { size = size; align = align; signed = signed; base = base; clock = clock; not_empty = ltb-true 0 size w.0; at_most_64 = leb-true size 64 x.0; positive = ltb-true 0 align y.0; power_of_two = eqb-true (4096 % align) 0 z.0 } in
-    subst (λ (u : IntType). HasParts u size align signed base clock) (some_same made t (Some made) refl z.1) (record { size_is = refl; align_is = refl; signed_is = refl; base_is = refl; clock_is = refl })
+    subst (λ (u : IntType). HasParts u size align signed base clock) (same_Some made t z.1) (record { size_is = refl; align_is = refl; signed_is = refl; base_is = refl; clock_is = refl })
 
 -- parts out of range make nothing
 pub int_type-refuses : (size align : ℕ) (signed : Bool) (base : Base) (clock : Option (List ℕ)) → ((0 < size) × (size ≤ 64) × IsAlignment align → ⊥) → int_type size align signed base clock ≡ None
 unfolding int_type
 int_type-refuses size align signed base clock h =
-    elim (cases_Bool (ltb 0 size)) [
-      | inr e ↦ proved_false (ltb 0 size) _ e
-      | inl a ↦ proved_true (ltb 0 size) _ a ∙ elim (cases_Bool (leb size 64)) [
-        | inr e ↦ proved_false (leb size 64) _ e
-        | inl b ↦ proved_true (leb size 64) _ b ∙ elim (cases_Bool (ltb 0 align)) [
-          | inr e ↦ proved_false (ltb 0 align) _ e
-          | inl c ↦ proved_true (ltb 0 align) _ c ∙ elim (cases_Bool (eqb (4096 % align) 0)) [
-            | inr e ↦ proved_false (eqb (4096 % align) 0) _ e
-            | inl d ↦ absurd (h (ltb-true 0 size a, leb-true size 64 b, (ltb-true 0 align c, eqb-true (4096 % align) 0 d)))
-          ]
-        ]
-      ]
-    ]
+    proved_none (ltb 0 size) _ (λ a. proved_none (leb size 64) _ (λ b. proved_none (ltb 0 align) _ (λ c. proved_none (eqb (4096 % align) 0) _ (λ d.
+    absurd (h (ltb-true 0 size a, leb-true size 64 b, (ltb-true 0 align c, eqb-true (4096 % align) 0 d)))))))
 
 pub struct_type-parts : (members : List (List ℕ × MemberType)) (align : ℕ) (t : StructType) → struct_type members align ≡ Some t → (t.members ≡ members) × (t.min_align ≡ align)
 unfolding struct_type
 struct_type-parts members align t e =
     let y = proved_some (ltb 0 align) _ t e in let z = proved_some (eqb (4096 % align) 0) _ t y.1 in
     let made : StructType = record { members = members; min_align = align; positive = ltb-true 0 align y.0; power_of_two = eqb-true (4096 % align) 0 z.0 } in
-    subst (λ (u : StructType). (u.members ≡ members) × (u.min_align ≡ align)) (some_same made t (Some made) refl z.1) (refl, refl)
+    subst (λ (u : StructType). (u.members ≡ members) × (u.min_align ≡ align)) (same_Some made t z.1) (refl, refl)
 
 pub struct_type-refuses : (members : List (List ℕ × MemberType)) (align : ℕ) → (IsAlignment align → ⊥) → struct_type members align ≡ None
 unfolding struct_type
 struct_type-refuses members align h =
-    elim (cases_Bool (ltb 0 align)) [
-      | inr e ↦ proved_false (ltb 0 align) _ e
-      | inl c ↦ proved_true (ltb 0 align) _ c ∙ elim (cases_Bool (eqb (4096 % align) 0)) [
-        | inr e ↦ proved_false (eqb (4096 % align) 0) _ e
-        | inl d ↦ absurd (h (ltb-true 0 align c, eqb-true (4096 % align) 0 d))
-      ]
-    ]
+    proved_none (ltb 0 align) _ (λ c. proved_none (eqb (4096 % align) 0) _ (λ d. absurd (h (ltb-true 0 align c, eqb-true (4096 % align) 0 d))))

@@ -1,39 +1,20 @@
 -- What each block of a metadata text means (CTF 1.8.3, section 7): the trace's, clocks', streams' and events' attributes with their
 -- defaults, and the structures of their scopes. An attribute that no rule names is passed over. A number that is left out is 0.
-use Rattle.std.specs.Prelude.{ℕ, Bool, true, false, not, ◌&&◌, ◌||◌, ◌==◌, nat_le, if◌then◌else◌, List, [], ◌∷◌, length, map, Option, Some, pos, codes}
-use Rattle.std.specs.Option.{option_map, option_map_or}
-use Rattle.std.specs.List.{list_any}
-use Rattle.std.specs.Str.{bytes_eq}
-use Rattle.ctf_types.specs.declared.ByteOrder.{ByteOrder}
-use Rattle.ctf_types.specs.declared.ByteOrder.TheVariants.{Little, Big}
-use Rattle.ctf_types.specs.declared.FieldType.TheVariants.{Int, Enum, Str, Static}
-use Rattle.ctf_types.specs.declared.MemberType.{MemberType}
-use Rattle.ctf_types.specs.declared.MemberType.TheVariants.{Plain, Dyn}
-use Rattle.ctf_types.specs.declared.StructType.{StructType}
-use Rattle.ctf_types.specs.declared.ClockType.{ClockType}
-use Rattle.ctf_types.specs.declared.EnvironmentEntry.{EnvironmentEntry}
-use Rattle.ctf_types.specs.declared.EnvironmentValue.{EnvironmentValue}
+use Rattle.std.specs.Prelude.{ℕ, Bool, true, false, not, ◌&&◌, ◌||◌, ◌==◌, nat_le, if◌then◌else◌, List, [], ◌∷◌, length, map, Option, Some, pos, codes, option_map, bytes_eq}
+use Rattle.std.specs.{Option.option_map_or, List.list_any}
+use Rattle.ctf_types.specs.declared.{ByteOrder.ByteOrder, ByteOrder.TheVariants.Little, ByteOrder.TheVariants.Big, FieldType.TheVariants.Int, FieldType.TheVariants.Enum, FieldType.TheVariants.Str, FieldType.TheVariants.Static, MemberType.MemberType, MemberType.TheVariants.Plain, MemberType.TheVariants.Dyn, StructType.StructType, ClockType.ClockType, EnvironmentEntry.EnvironmentEntry, EnvironmentValue.EnvironmentValue, Stream.Stream, Event.Event}
 use Rattle.ctf_types.specs.declared.EnvironmentValue.TheVariants as environment
-use Rattle.ctf_types.specs.declared.Stream.{Stream}
-use Rattle.ctf_types.specs.declared.Event.{Event}
 use Rattle.ctf_types.specs.Chain.{Leaf, Number, Labelled, ByteString}
-use Rattle.tsdl_grammar.specs.declared.tree.Attribute.{Attribute}
-use Rattle.tsdl_grammar.specs.declared.tree.Item.{Item}
-use Rattle.tsdl_grammar.specs.declared.tree.Fact.{Fact}
+use Rattle.tsdl_grammar.specs.declared.tree.{Attribute.Attribute, Item.Item, Fact.Fact, NamedFact.NamedFact}
 use Rattle.tsdl_grammar.specs.declared.tree.Fact.TheVariants as facts
-use Rattle.tsdl_grammar.specs.declared.tree.NamedFact.{NamedFact}
+use Rattle.tsdl_grammar.specs.{IntegerMeaning.Known, MemberMeaning.is_unsigned, StructureMeaning.scope_meaning, StructureMeaning.has_member}
 use Rattle.tsdl_grammar.specs.Steps.{◌>>=◌, provided, each}
 use Rattle.tsdl_grammar.specs.Lookups.{attr, attrs_in, scopes_in, has_parts, no_two}
 use Rattle.tsdl_grammar.specs.AttributeValues.{natural_value, whole, whole_value, text_value, word_value, name_value, flag_value, uuid_value, meant_by, with_default, optional}
-use Rattle.tsdl_grammar.specs.IntegerMeaning.{Known}
-use Rattle.tsdl_grammar.specs.MemberMeaning.{is_unsigned}
-use Rattle.tsdl_grammar.specs.StructureMeaning.{scope_meaning, has_member}
 
 -- a number of an attribute that is 0 where it is left out
 abbrev pub number_or_zero : List ℕ → List Attribute → Option ℕ
 number_or_zero w attrs = with_default 0 natural_value (attr w attrs)
-
--- ---- the trace block
 
 abbrev pub order_table : List (List ℕ × ByteOrder)
 order_table = (codes "le", Little) ∷ (codes "be", Big) ∷ []
@@ -92,8 +73,6 @@ suits_header m =
 unfoldable pub header_meaning : Known → List Item → Option StructType
 header_meaning known is = scope_meaning known packet_header suits_header (scopes_in is)
 
--- ---- clock blocks
-
 unfoldable pub clock_meaning : List Item → Option ClockType
 clock_meaning is = let attrs = attrs_in is in provided (has_parts [] is) (do
   name ← attr (codes "name") attrs >>= name_value
@@ -114,8 +93,6 @@ clock_meaning is = let attrs = attrs_in is in provided (has_parts [] is) (do
     offset_cycles = offset_cycles;
     absolute = absolute;
   }))
-
--- ---- stream blocks
 
 abbrev pub packet_context : List (List ℕ)
 packet_context = codes "packet" ∷ codes "context" ∷ []
@@ -147,8 +124,6 @@ stream_meaning known is = let attrs = attrs_in is in let scopes = scopes_in is i
       provided (has_member (codes "packet_size") context.members && has_member (codes "content_size") context.members)
           (Some (record { id = id; context = context; event_header = header; common = common; events = [] })))
 
--- ---- event blocks
-
 abbrev pub specific_context : List (List ℕ)
 specific_context = codes "context" ∷ []
 
@@ -166,8 +141,6 @@ event_meaning known is = let attrs = attrs_in is in let scopes = scopes_in is in
       specific ← scope_meaning known specific_context (λ m. true) scopes
       fields ← scope_meaning known fields_scope (λ m. true) scopes
       Some (stream, record { id = id; name = name; log_level = level; specific = specific; fields = fields }))
-
--- ---- the environment block
 
 abbrev pub fact_meaning : Fact → Option EnvironmentValue
 fact_meaning (facts.Number n) = option_map environment.Whole (whole n)

@@ -1,27 +1,16 @@
 -- The metadata that a text denotes: the text begins with its magic line, its tokens spell blocks, and the blocks mean the metadata.
 -- Blocks stand in any order, and look-ups of clocks, of numbers and of the byte order go over the whole text. Where a rule has no
 -- case, the text denotes nothing.
-use Rattle.std.specs.Prelude.{◌≡◌, ℕ, Bool, true, not, ◌==◌, if◌then◌else◌, List, [], ◌∷◌, map, Option, Some}
-use Rattle.std.specs.List.{list_all, list_any, flat_map}
-use Rattle.std.specs.Str.{bytes_eq}
-use Rattle.ctf_types.specs.declared.ByteOrder.{ByteOrder}
-use Rattle.ctf_types.specs.declared.ClockType.{ClockType}
-use Rattle.ctf_types.specs.declared.Metadata.{Metadata}
-use Rattle.ctf_types.specs.declared.Stream.{Stream}
-use Rattle.ctf_types.specs.declared.Event.{Event}
+use Rattle.std.specs.Prelude.{◌≡◌, ℕ, Bool, true, not, ◌==◌, if◌then◌else◌, List, [], ◌∷◌, map, Option, Some, flat_map, bytes_eq}
+use Rattle.std.specs.List.{list_all, list_any}
+use Rattle.ctf_types.specs.declared.{ByteOrder.ByteOrder, ClockType.ClockType, Metadata.Metadata, Stream.Stream, Event.Event}
 use Rattle.ctf_types.specs.Names.{unused_keywords}
 use Rattle.tsdl_grammar.specs.declared.atom.Atom.{Atom}
+use Rattle.tsdl_grammar.specs.declared.tree.{Item.Item, NamedFact.NamedFact, Block.Block}
 use Rattle.tsdl_grammar.specs.declared.atom.Atom.TheVariants as atoms
-use Rattle.tsdl_grammar.specs.declared.tree.Item.{Item}
-use Rattle.tsdl_grammar.specs.declared.tree.NamedFact.{NamedFact}
-use Rattle.tsdl_grammar.specs.declared.tree.Block.{Block}
 use Rattle.tsdl_grammar.specs.declared.tree.Block.TheVariants as blocks
-use Rattle.tsdl_grammar.specs.Tokens.{HasMagicLine}
-use Rattle.tsdl_grammar.specs.Atoms.{Reads}
-use Rattle.tsdl_grammar.specs.Spelling.{text_toks}
+use Rattle.tsdl_grammar.specs.{Tokens.HasMagicLine, Atoms.Reads, Spelling.text_toks, Lookups.no_two, IntegerMeaning.Known}
 use Rattle.tsdl_grammar.specs.Steps.{◌>>=◌, provided, each, only, at_most_one, by_number}
-use Rattle.tsdl_grammar.specs.Lookups.{no_two}
-use Rattle.tsdl_grammar.specs.IntegerMeaning.{Known}
 use Rattle.tsdl_grammar.specs.BlockMeaning.{trace_order, is_trace, trace_uuid, header_meaning, clock_meaning, stream_meaning, event_meaning, environment_meaning}
 
 -- no keyword for which nothing here has a use, wherever a word stands

@@ -1,7 +1,6 @@
 -- Strings between their quotes: a backslash and a letter stand for one byte, each other byte for itself
 -- (CTF 1.8.3, appendix C.1, after C's string literals, without numeric escapes).
-use Rattle.std.specs.Prelude.{ℕ, Bool, true, false, ◌==◌, if◌then◌else◌, List, [], ◌∷◌, Option, Some, None, unwrap_or}
-use Rattle.std.specs.List.{flat_map}
+use Rattle.std.specs.Prelude.{ℕ, Bool, true, false, ◌==◌, if◌then◌else◌, List, [], ◌∷◌, Option, Some, None, unwrap_or, flat_map}
 
 -- the byte that a letter after a backslash stands for
 abbrev pub escaped_byte : ℕ → Option ℕ

@@ -1,12 +1,9 @@
 -- Faults of a metadata text in words: where they stand, what stands there, and what is wrong.
-use Rattle.std.specs.Prelude.{◌≡◌, ◌≤◌, ◌<◌, ℕ, List, [], ◌++◌, length, take, drop, codes, IfSome, string_bytes}
-use Rattle.std.specs.Fmt.{decimal, debug_str}
-use Rattle.std.specs.Option.{option_map_or}
-use Rattle.std.specs.Str.Lossy.{utf8_lossy}
+use Rattle.std.specs.Prelude.{◌≡◌, ◌≤◌, ◌<◌, ℕ, List, [], ◌++◌, length, take, drop, codes, IfSome, string_bytes, decimal}
+use Rattle.std.specs.{Fmt.debug_str, Option.option_map_or, Str.Lossy.utf8_lossy}
 use Rattle.tsdl_grammar.specs.declared.fault.MetaFaultKind.{MetaFaultKind}
 use Rattle.tsdl_grammar.specs.declared.fault.MetaFaultKind.TheVariants as faults
-use Rattle.tsdl_grammar.specs.Pieces.{piece_at}
-use Rattle.tsdl_grammar.specs.Positions.{line_after, column_after}
+use Rattle.tsdl_grammar.specs.{Pieces.piece_at, Positions.line_after, Positions.column_after}
 
 -- what is wrong, by the kind of the fault
 abbrev pub kind_words : MetaFaultKind → List ℕ

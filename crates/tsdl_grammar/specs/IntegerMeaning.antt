@@ -1,18 +1,12 @@
 -- What `integer { .. }` means (CTF 1.8.3, section 4.1.5): its size is needed, from 1 to 64 bits; its alignment is a power of two
 -- up to 4,096 bits, by default 8 where the size is a multiple of 8, else 1; it is unsigned and decimal by default; a mapped
 -- integer names a clock of the text. An integer has the trace's byte order. Its encoding is passed over, and it has no other attribute.
-use Rattle.std.specs.Prelude.{ℕ, ◌%◌, Bool, false, ◌&&◌, ◌==◌, nat_lt, nat_le, if◌then◌else◌, List, [], ◌∷◌, Option, Some, None, codes}
+use Rattle.std.specs.Prelude.{ℕ, ◌%◌, Bool, false, ◌&&◌, ◌==◌, nat_lt, nat_le, if◌then◌else◌, List, [], ◌∷◌, Option, Some, None, codes, bytes_eq}
 use Rattle.std.specs.List.{list_all, list_any}
-use Rattle.std.specs.Str.{bytes_eq}
 use Rattle.std.proofs.lemmas.Bool.{ltb-true, leb-true, eqb-true}
-use Rattle.ctf_types.specs.declared.ByteOrder.{ByteOrder}
-use Rattle.ctf_types.specs.declared.ByteOrder.TheVariants.{Little, Big}
-use Rattle.ctf_types.specs.declared.Base.{Base}
-use Rattle.ctf_types.specs.declared.Base.TheVariants.{Bin, Oct, Dec, Hex}
-use Rattle.ctf_types.specs.declared.IntType.{IntType}
-use Rattle.tsdl_grammar.specs.declared.tree.Value.{Value}
+use Rattle.ctf_types.specs.declared.{ByteOrder.ByteOrder, ByteOrder.TheVariants.Little, ByteOrder.TheVariants.Big, Base.Base, Base.TheVariants.Bin, Base.TheVariants.Oct, Base.TheVariants.Dec, Base.TheVariants.Hex, IntType.IntType}
+use Rattle.tsdl_grammar.specs.declared.tree.{Value.Value, Attribute.Attribute}
 use Rattle.tsdl_grammar.specs.declared.tree.Value.TheVariants as values
-use Rattle.tsdl_grammar.specs.declared.tree.Attribute.{Attribute}
 use Rattle.tsdl_grammar.specs.Steps.{◌>>=◌, provided, proved}
 use Rattle.tsdl_grammar.specs.Lookups.{words_of, attr, attr_names, are_distinct, is_among}
 use Rattle.tsdl_grammar.specs.AttributeValues.{natural, natural_value, one_word, word_value, flag_value, meant_by, numbered, with_default, optional}
@@ -67,12 +61,9 @@ order_value order v = word_value v >>= λ w. provided (list_any (bytes_eq w) (or
 
 -- the middle word of `clock.NAME.value`, where it names a clock
 abbrev pub clock_in : List (List ℕ) → List (List ℕ) → Option (List ℕ)
-clock_in clocks [] = None
-clock_in clocks (a ∷ []) = None
-clock_in clocks (a ∷ b ∷ []) = None
 clock_in clocks (a ∷ b ∷ c ∷ []) =
     provided (bytes_eq a (codes "clock") && bytes_eq c (codes "value") && list_any (bytes_eq b) clocks) (Some b)
-clock_in clocks (a ∷ b ∷ c ∷ d ∷ ws) = None
+clock_in clocks _ = None
 
 unfoldable pub clock_value : List (List ℕ) → Value → Option (List ℕ)
 clock_value clocks (values.Number n) = None

@@ -1,28 +1,15 @@
 -- What the meaning of a text says in the subject's words: where each part of an integer, of a structure and of the metadata comes from.
--- What the laws speak of is passed on with them.
-use Rattle.std.specs.Prelude.{◌≡◌, ℕ, ◌<◌, true, false, ◌&&◌, nat_le, List, [], ◌∷◌, length, map, slice_index_or, Some, IsTrue, pos, codes}
-use Rattle.std.specs.List.{flat_map}
-use Rattle.std.specs.Str.{bytes_eq}
-pub use Rattle.ctf_types.specs.declared.Base.TheVariants.{Dec}
-pub use Rattle.ctf_types.specs.declared.IntType.{IntType}
-pub use Rattle.ctf_types.specs.declared.MemberType.{MemberType}
-pub use Rattle.ctf_types.specs.declared.StructType.{StructType}
-pub use Rattle.ctf_types.specs.declared.ClockType.{ClockType}
-pub use Rattle.ctf_types.specs.declared.Metadata.{Metadata}
-pub use Rattle.ctf_types.specs.declared.Stream.{Stream}
-pub use Rattle.ctf_types.specs.declared.Event.{Event}
-pub use Rattle.tsdl_grammar.specs.declared.tree.Attribute.{Attribute}
-pub use Rattle.tsdl_grammar.specs.declared.tree.Structure.{Structure}
-pub use Rattle.tsdl_grammar.specs.declared.tree.Item.{Item}
-pub use Rattle.tsdl_grammar.specs.declared.tree.Block.{Block}
+use Rattle.std.specs.Prelude.{◌≡◌, ℕ, ◌<◌, true, false, ◌&&◌, nat_le, List, [], ◌∷◌, length, map, slice_index_or, Some, IsTrue, pos, codes, flat_map, bytes_eq}
+use Rattle.ctf_types.specs.declared.{Base.TheVariants.Dec, IntType.IntType, MemberType.MemberType, StructType.StructType, ClockType.ClockType, Metadata.Metadata, Stream.Stream, Event.Event}
+use Rattle.tsdl_grammar.specs.declared.tree.{Attribute.Attribute, Structure.Structure, Item.Item, Block.Block}
 use Rattle.tsdl_grammar.specs.Steps.{◌>>=◌, only, at_most_one, each}
-pub use Rattle.tsdl_grammar.specs.Lookups.{attr, attrs_in, scopes_in, has_parts, no_two}
+use Rattle.tsdl_grammar.specs.Lookups.{attr, attrs_in, scopes_in, has_parts, no_two}
 use Rattle.tsdl_grammar.specs.AttributeValues.{natural_value, whole_value, text_value, name_value, uuid_value, flag_value, with_default, optional}
-pub use Rattle.tsdl_grammar.specs.IntegerMeaning.{Known, default_align, base_value, clock_value, int_attrs, has_only, int_meaning}
-pub use Rattle.tsdl_grammar.specs.MemberMeaning.{is_unsigned, member_meaning}
-pub use Rattle.tsdl_grammar.specs.StructureMeaning.{members_meaning, align_of, align_with, scope_meaning, has_member, struct_meaning}
-pub use Rattle.tsdl_grammar.specs.BlockMeaning.{is_trace, trace_order, trace_uuid, header_meaning, clock_meaning, environment_meaning, packet_context, event_header, event_context, context_names, suits, specific_context, fields_scope, stream_meaning, event_meaning}
-pub use Rattle.tsdl_grammar.specs.Denotes.{trace_in, stream_in, event_in, clock_in, environment_in, known_of, streams_meaning, text_meta}
+use Rattle.tsdl_grammar.specs.IntegerMeaning.{Known, default_align, base_value, clock_value, int_attrs, has_only}
+use Rattle.tsdl_grammar.specs.MemberMeaning.{is_unsigned}
+use Rattle.tsdl_grammar.specs.StructureMeaning.{members_meaning, align_of, align_with, scope_meaning, has_member}
+use Rattle.tsdl_grammar.specs.BlockMeaning.{is_trace, trace_order, trace_uuid, header_meaning, clock_meaning, environment_meaning, packet_context, event_header, event_context, context_names, suits, specific_context, fields_scope}
+use Rattle.tsdl_grammar.specs.Denotes.{trace_in, stream_in, event_in, clock_in, environment_in, known_of, streams_meaning}
 
 -- the attributes of an integer say its parts: the size is there, each other one has its default, and none stands twice
 pub record SaysInteger (known : Known) (attrs : List Attribute) (t : IntType) : Type 0 where

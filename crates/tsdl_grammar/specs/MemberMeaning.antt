@@ -1,32 +1,15 @@
 -- What a member means (CTF 1.8.3, sections 4.1.8, 4.2.3 to 4.2.5): an integer, an enumeration or a string, in as many arrays as it has
 -- brackets, of which the first is the outermost. A name in the first bracket makes it a sequence: it names an unsigned integer member
 -- that stands before, and the sequence's elements have bits.
-use Rattle.std.specs.Prelude.{ℕ, ◌*◌, ◌^◌, max, Bool, true, false, not, ◌&&◌, nat_lt, nat_le, List, [], ◌∷◌, length, Option, Some, None, ℤ, int_le, codes}
-use Rattle.std.specs.List.{list_all, position}
-use Rattle.std.specs.Str.{bytes_eq}
-use Rattle.std.specs.Option.{option_map}
-use Rattle.ctf_types.specs.declared.IntType.{IntType}
-use Rattle.ctf_types.specs.declared.EnumType.{EnumType}
-use Rattle.ctf_types.specs.declared.Mapping.{Mapping}
-use Rattle.ctf_types.specs.declared.FieldType.{FieldType}
-use Rattle.ctf_types.specs.declared.FieldType.TheVariants.{Int, Enum, Str, Static}
-use Rattle.ctf_types.specs.declared.MemberType.{MemberType}
-use Rattle.ctf_types.specs.declared.MemberType.TheVariants.{Plain, Dyn}
-use Rattle.ctf_types.specs.declared.Length.TheVariants.{At}
+use Rattle.std.specs.Prelude.{ℕ, ◌*◌, ◌^◌, max, Bool, true, false, not, ◌&&◌, nat_lt, nat_le, List, [], ◌∷◌, length, Option, Some, None, ℤ, int_le, codes, position, bytes_eq, option_map}
+use Rattle.std.specs.List.{list_all}
+use Rattle.ctf_types.specs.declared.{IntType.IntType, EnumType.EnumType, Mapping.Mapping, FieldType.FieldType, FieldType.TheVariants.Int, FieldType.TheVariants.Enum, FieldType.TheVariants.Str, FieldType.TheVariants.Static, MemberType.MemberType, MemberType.TheVariants.Plain, MemberType.TheVariants.Dyn, Length.TheVariants.At}
 use Rattle.ctf_types.specs.Chain.{Leaf, Number, Labelled, ByteString}
-use Rattle.tsdl_grammar.specs.declared.tree.Value.{Value}
-use Rattle.tsdl_grammar.specs.declared.tree.Attribute.{Attribute}
-use Rattle.tsdl_grammar.specs.declared.tree.Label.{Label}
-use Rattle.tsdl_grammar.specs.declared.tree.Label.TheVariants.{Quoted, Bare}
-use Rattle.tsdl_grammar.specs.declared.tree.Entry.{Entry}
-use Rattle.tsdl_grammar.specs.declared.tree.Entries.{Entries}
+use Rattle.tsdl_grammar.specs.declared.tree.{Value.Value, Attribute.Attribute, Label.Label, Label.TheVariants.Quoted, Label.TheVariants.Bare, Entry.Entry, Entries.Entries, Kind.Kind, Bracket.Bracket, MemberTree.MemberTree}
 use Rattle.tsdl_grammar.specs.declared.tree.Entries.TheVariants as entries
 use Rattle.tsdl_grammar.specs.declared.tree.Number as numbers
-use Rattle.tsdl_grammar.specs.declared.tree.Kind.{Kind}
 use Rattle.tsdl_grammar.specs.declared.tree.Kind.TheVariants as kinds
-use Rattle.tsdl_grammar.specs.declared.tree.Bracket.{Bracket}
 use Rattle.tsdl_grammar.specs.declared.tree.Bracket.TheVariants as brackets
-use Rattle.tsdl_grammar.specs.declared.tree.MemberTree.{MemberTree}
 use Rattle.tsdl_grammar.specs.Steps.{◌>>=◌, provided, each}
 use Rattle.tsdl_grammar.specs.Lookups.{attr}
 use Rattle.tsdl_grammar.specs.AttributeValues.{signed_of, natural, word_value, with_default, meant_by}

@@ -1,38 +1,17 @@
 -- How trees are spelled in words, numbers, strings and marks: the grammar of the metadata texts that are read
 -- (CTF 1.8.3, section 7 and appendix C, narrowed). Each rule of the grammar is one line.
-use Rattle.std.specs.Prelude.{ℕ, List, [], ◌∷◌, ◌++◌, Option, Some, None, codes}
-use Rattle.std.specs.List.{flat_map}
-use Rattle.tsdl_grammar.specs.declared.token.Mark.{Mark}
+use Rattle.std.specs.Prelude.{ℕ, List, [], ◌∷◌, ◌++◌, Option, Some, None, codes, flat_map}
+use Rattle.tsdl_grammar.specs.declared.{token.Mark.Mark, atom.Atom.Atom}
+use Rattle.tsdl_grammar.specs.declared.tree.{Sign.Sign, Sign.TheVariants.Plus, Sign.TheVariants.Minus, Number.Number, Name.Name, Value.Value, Attribute.Attribute, Label.Label, Label.TheVariants.Quoted, Label.TheVariants.Bare, Entry.Entry, Closing.Closing, Entries.Entries, Kind.Kind, Bracket.Bracket, MemberTree.MemberTree, Structure.Structure, Scope.Scope, Item.Item, Fact.Fact, NamedFact.NamedFact, Block.Block}
 use Rattle.tsdl_grammar.specs.declared.token.Mark.TheVariants as marks
-use Rattle.tsdl_grammar.specs.declared.atom.Atom.{Atom}
 use Rattle.tsdl_grammar.specs.declared.atom.Atom.TheVariants as atoms
-use Rattle.tsdl_grammar.specs.declared.tree.Sign.{Sign}
-use Rattle.tsdl_grammar.specs.declared.tree.Sign.TheVariants.{Plus, Minus}
-use Rattle.tsdl_grammar.specs.declared.tree.Number.{Number}
-use Rattle.tsdl_grammar.specs.declared.tree.Name.{Name}
-use Rattle.tsdl_grammar.specs.declared.tree.Value.{Value}
 use Rattle.tsdl_grammar.specs.declared.tree.Value.TheVariants as values
-use Rattle.tsdl_grammar.specs.declared.tree.Attribute.{Attribute}
-use Rattle.tsdl_grammar.specs.declared.tree.Label.{Label}
-use Rattle.tsdl_grammar.specs.declared.tree.Label.TheVariants.{Quoted, Bare}
-use Rattle.tsdl_grammar.specs.declared.tree.Entry.{Entry}
-use Rattle.tsdl_grammar.specs.declared.tree.Closing.{Closing}
 use Rattle.tsdl_grammar.specs.declared.tree.Closing.TheVariants as closings
-use Rattle.tsdl_grammar.specs.declared.tree.Entries.{Entries}
 use Rattle.tsdl_grammar.specs.declared.tree.Entries.TheVariants as entries
-use Rattle.tsdl_grammar.specs.declared.tree.Kind.{Kind}
 use Rattle.tsdl_grammar.specs.declared.tree.Kind.TheVariants as kinds
-use Rattle.tsdl_grammar.specs.declared.tree.Bracket.{Bracket}
 use Rattle.tsdl_grammar.specs.declared.tree.Bracket.TheVariants as brackets
-use Rattle.tsdl_grammar.specs.declared.tree.MemberTree.{MemberTree}
-use Rattle.tsdl_grammar.specs.declared.tree.Structure.{Structure}
-use Rattle.tsdl_grammar.specs.declared.tree.Scope.{Scope}
-use Rattle.tsdl_grammar.specs.declared.tree.Item.{Item}
 use Rattle.tsdl_grammar.specs.declared.tree.Item.TheVariants as items
-use Rattle.tsdl_grammar.specs.declared.tree.Fact.{Fact}
 use Rattle.tsdl_grammar.specs.declared.tree.Fact.TheVariants as facts
-use Rattle.tsdl_grammar.specs.declared.tree.NamedFact.{NamedFact}
-use Rattle.tsdl_grammar.specs.declared.tree.Block.{Block}
 use Rattle.tsdl_grammar.specs.declared.tree.Block.TheVariants as blocks
 
 abbrev pub mark : Mark → Atom

@@ -1,6 +1,5 @@
 -- Rules that have a case or none: one after the other, under a test, and for each of a list.
-use Rattle.std.specs.Prelude.{◌≡◌, refl, ℕ, Bool, true, false, nat_lt, ◌==◌, if◌then◌else◌, List, [], ◌∷◌, Option, Some, None}
-use Rattle.std.specs.Option.{option_map, option_and_then}
+use Rattle.std.specs.Prelude.{◌≡◌, refl, ℕ, Bool, true, false, nat_lt, ◌==◌, if◌then◌else◌, List, [], ◌∷◌, Option, Some, None, option_map, option_and_then}
 
 infixl 10 ◌>>=◌
 abbrev pub ◌>>=◌ : {A B : Type 0} → Option A → (A → Option B) → Option B
@@ -23,9 +22,8 @@ each f (x ∷ xs) = f x >>= λ y. each f xs >>= λ ys. Some (y ∷ ys)
 
 -- the only item, if there is just one
 abbrev pub only : {A : Type 0} → List A → Option A
-only [] = None
 only (x ∷ []) = Some x
-only (x ∷ y ∷ xs) = None
+only _ = None
 
 -- the items of a list that has one part or none
 abbrev pub at_most_one : {A : Type 0} → List (List A) → Option (List A)

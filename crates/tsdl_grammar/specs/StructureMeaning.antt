@@ -1,20 +1,12 @@
 -- What a structure means (CTF 1.8.3, section 4.2.1): its members in order, at most 1,024 and no two of one name, and its minimum
 -- alignment, 1 by default. A structure without members is not there, and has the minimum alignment 1.
-use Rattle.std.specs.Prelude.{ℕ, ◌%◌, Bool, not, ◌&&◌, ◌==◌, nat_lt, nat_le, List, [], ◌∷◌, ◌++◌, length, Option, Some, None}
+use Rattle.std.specs.Prelude.{ℕ, ◌%◌, Bool, not, ◌&&◌, ◌==◌, nat_lt, nat_le, List, [], ◌∷◌, ◌++◌, length, Option, Some, None, bytes_eq}
 use Rattle.std.specs.List.{list_any, list_all}
-use Rattle.std.specs.Str.{bytes_eq}
 use Rattle.std.proofs.lemmas.Bool.{ltb-true, eqb-true}
-use Rattle.ctf_types.specs.declared.MemberType.{MemberType}
-use Rattle.ctf_types.specs.declared.StructType.{StructType}
-use Rattle.tsdl_grammar.specs.declared.tree.Number.{Number}
-use Rattle.tsdl_grammar.specs.declared.tree.MemberTree.{MemberTree}
-use Rattle.tsdl_grammar.specs.declared.tree.Structure.{Structure}
-use Rattle.tsdl_grammar.specs.declared.tree.Scope.{Scope}
+use Rattle.ctf_types.specs.declared.{MemberType.MemberType, StructType.StructType}
+use Rattle.tsdl_grammar.specs.declared.tree.{Number.Number, MemberTree.MemberTree, Structure.Structure, Scope.Scope}
+use Rattle.tsdl_grammar.specs.{Lookups.scope, AttributeValues.natural, IntegerMeaning.Known, MemberMeaning.member_meaning}
 use Rattle.tsdl_grammar.specs.Steps.{◌>>=◌, provided, proved}
-use Rattle.tsdl_grammar.specs.Lookups.{scope}
-use Rattle.tsdl_grammar.specs.AttributeValues.{natural}
-use Rattle.tsdl_grammar.specs.IntegerMeaning.{Known}
-use Rattle.tsdl_grammar.specs.MemberMeaning.{member_meaning}
 
 -- the structure type of these parts, where its alignment is one
 unfoldable pub struct_type : List (List ℕ × MemberType) → ℕ → Option StructType

@@ -1,7 +1,7 @@
 //! Strings as they stand between quotes, and the bytes that they stand for.
 
-ghost use Rattle.std.specs.Prelude.{◌≡◌, ◌++◌, false, IfOk};
-ghost use Rattle.tsdl_grammar.specs.Escapes.{escaped_byte, unescaped, unescaped_from, escaped};
+ghost use Rattle.std.specs.Prelude.{◌≡◌, false, IfOk};
+ghost use Rattle.tsdl_grammar.specs.Escapes.{escaped_byte, unescaped, escaped};
 
 use std::alloc::{AllocError, Global};
 
@@ -28,8 +28,7 @@ pub fn unescape(alloc: Global, bytes: &[u8]) -> Result<Vec<u8>, AllocError>
 {
     let mut text = Vec::new(alloc);
     let mut after_backslash = false;
-    let mut rest = bytes;
-    while let [b, after @ ..] = rest {
+    for b in bytes {
         if after_backslash {
             text.push(escaped_byte(*b).unwrap_or(*b))?;
             after_backslash = false;
@@ -38,7 +37,6 @@ pub fn unescape(alloc: Global, bytes: &[u8]) -> Result<Vec<u8>, AllocError>
         } else {
             text.push(*b)?;
         }
-        rest = after;
     }
     Ok(text)
 }

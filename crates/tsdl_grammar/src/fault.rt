@@ -1,8 +1,7 @@
 //! Why a text is no metadata that this project reads.
 
 ghost use Rattle.std.specs.Prelude.{◌≡◌, Some};
-ghost use Rattle.tsdl_grammar.specs.declared.fault.MetaFaultKind.TheVariants.{OutOfMemory};
-ghost use Rattle.tsdl_grammar.specs.FaultWords.{kind_words};
+ghost use Rattle.tsdl_grammar.specs.{FaultWords.kind_words, declared.fault.MetaFaultKind.TheVariants.OutOfMemory};
 
 use std::alloc::{AllocError, AllocFailed};
 use std::error::Error;

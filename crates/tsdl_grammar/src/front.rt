@@ -1,4 +1,5 @@
 //! The token at the front of a text, and the atoms of a text one after the other, without a list of them.
+#![tactic(auto, using(crate::proofs::AtomsAhead::few, crate::proofs::AtomsAhead::nothing_behind))]
 
 ghost use Rattle.std.specs.Prelude.{◌≡◌, ◌∷◌, ◌++◌, [], length, take, option_map, IfOk, IfSome, MatchOption};
 ghost use Rattle.tsdl_grammar.specs.Fronts.{atoms_in, meant, word_in, shown};
@@ -50,7 +51,6 @@ pub fn first_token(text: &[u8]) -> Option<(Front<'_>, &[u8])>
 }
 
 /// The number of atoms of a text.
-#[tactic(auto, using(crate::proofs::AtomsAhead::few))]
 pub fn atom_count(text: &[u8]) -> usize
     ensures { result ≡ length (atoms_in text.now) }
 {
@@ -105,15 +105,12 @@ impl<'a> Atoms<'a> {
                 };
             }
         }
-        let (front, more) = match first_token(more) {
-            Some((front, behind)) => (Some(front), behind),
-            None => (None, &more[..0]),
-        };
+        let (front, behind) = first_token(more).unzip();
         Atoms {
             front,
             text: &[],
             count: 0,
-            more,
+            more: behind.unwrap_or(&[]),
         }
     }
 

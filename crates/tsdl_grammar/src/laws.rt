@@ -1,19 +1,14 @@
 //! Laws of the grammar: what its definitions come to. Each function is a statement, and does nothing when it runs.
 
-ghost use Rattle.std.specs.Prelude.{◌≡◌, ℕ, ◌<◌, ◌^◌, false, List, Some, None, codes};
+ghost use Rattle.std.specs.Prelude.{◌≡◌, ℕ, ◌<◌, ◌^◌, false, List, Some, None, codes, IsUtf8, decimal};
 ghost use Rattle.std.specs.List.{AllByRecursion};
-ghost use Rattle.std.specs.Str.{IsUtf8};
-ghost use Rattle.std.specs.Fmt.{decimal};
-ghost use Rattle.ctf_types.specs.declared.FieldType.{FieldType};
-ghost use Rattle.ctf_types.specs.declared.MemberType.TheVariants.{Dyn};
-ghost use Rattle.ctf_types.specs.declared.Length.TheVariants.{At};
-ghost use Rattle.tsdl_grammar.specs.declared.token.Token.{Token};
-ghost use Rattle.tsdl_grammar.specs.declared.tree.MemberTree.{MemberTree};
-ghost use Rattle.tsdl_grammar.specs.Escapes.{escaped, unescaped};
-ghost use Rattle.tsdl_grammar.specs.Literals.{literal_of};
-ghost use Rattle.tsdl_grammar.specs.Tokens.{Tokenizes, StopsAt};
+ghost use Rattle.ctf_types.specs.declared.{Base.TheVariants.Dec, ClockType.ClockType, Event.Event, FieldType.FieldType, IntType.IntType, Length.TheVariants.At, MemberType.MemberType, MemberType.TheVariants.Dyn, Metadata.Metadata, Stream.Stream, StructType.StructType};
+ghost use Rattle.tsdl_grammar.specs.declared.{token.Token.Token, tree.Attribute.Attribute, tree.Block.Block, tree.Item.Item, tree.MemberTree.MemberTree, tree.Structure.Structure};
+ghost use Rattle.tsdl_grammar.specs.{Denotes.text_meta, Escapes.escaped, Escapes.unescaped, Literals.literal_of, Lookups.attr, MemberMeaning.member_meaning, StructureMeaning.struct_meaning, Tokens.StopsAt, Tokens.Tokenizes};
+ghost use Rattle.tsdl_grammar.specs.IntegerMeaning.{Known, default_align, int_meaning};
+ghost use Rattle.tsdl_grammar.specs.BlockMeaning.{clock_meaning, stream_meaning, event_meaning};
 ghost use Rattle.tsdl_grammar.specs.Orders.{Reordered, SameItems, Paired, SameButClockOrder, SameButEnvironmentOrder};
-ghost use Rattle.tsdl_grammar.specs.Laws.{Dec, IntType, ClockType, Stream, Event, MemberType, StructType, Metadata, Item, Attribute, Structure, Block, text_meta, Known, default_align, int_meaning, attr, clock_meaning, stream_meaning, event_meaning, member_meaning, struct_meaning, SaysInteger, SaysStructure, SaysClock, SaysStream, SaysEvent, SaysMetadata, SameBlocks, NamesLength, NumbersRise};
+ghost use Rattle.tsdl_grammar.specs.Laws.{SaysInteger, SaysStructure, SaysClock, SaysStream, SaysEvent, SaysMetadata, SameBlocks, NamesLength, NumbersRise};
 
 /// A text has one list of tokens.
 pub fn tokens_are_unique()
@@ -26,17 +21,20 @@ pub fn tokens_or_a_stop()
 {}
 
 /// A text that is written with escapes stands for itself again.
+#[tactic(auto, using(crate::proofs::Escaping::stands_again))]
 pub fn escapes_come_back()
     ensures { (text : List ℕ) → unescaped (escaped text) ≡ text }
 {}
 
 /// What is written with escapes is UTF-8 where the text is, and a string in UTF-8 stands for a text in UTF-8.
+#[tactic(auto, using(crate::proofs::EscapesUtf8::both_ways))]
 pub fn escapes_keep_utf8()
     ensures written { (text : List ℕ) → IsUtf8 text → IsUtf8 (escaped text) }
     ensures read { (bytes : List ℕ) → IsUtf8 bytes → IsUtf8 (unescaped bytes) }
 {}
 
 /// A number's decimal digits are a literal of that value.
+#[tactic(auto, using(crate::proofs::NumberStands::reads_back))]
 pub fn decimals_come_back()
     ensures { (n : ℕ) → n < 2 ^ 64 → literal_of (decimal n) ≡ n }
 {}
@@ -47,8 +45,7 @@ pub fn integers_say_their_parts()
     ensures { (known : Known) (attrs : List Attribute) (t : IntType) → int_meaning known attrs ≡ Some t → SaysInteger known attrs t }
 {}
 
-/// What an integer has where an attribute is left out: an alignment of 8 where its size is a multiple of 8, else of
-/// 1, no sign, the decimal base and no clock.
+/// What an integer has by default: an alignment of 8 where its size is a multiple of 8, else of 1, no sign, base 10 and no clock.
 pub fn integers_have_defaults()
     ensures align { (known : Known) (attrs : List Attribute) (t : IntType) → int_meaning known attrs ≡ Some t → attr (codes "align") attrs ≡ None → t.align ≡ default_align t.size }
     ensures signed { (known : Known) (attrs : List Attribute) (t : IntType) → int_meaning known attrs ≡ Some t → attr (codes "signed") attrs ≡ None → t.signed ≡ false }
@@ -57,11 +54,13 @@ pub fn integers_have_defaults()
 {}
 
 /// An integer without a size means nothing.
+#[tactic(auto, using(crate::proofs::MeaningParts::size_needed))]
 pub fn integers_need_a_size()
     ensures { (known : Known) (attrs : List Attribute) → attr (codes "size") attrs ≡ None → int_meaning known attrs ≡ None }
 {}
 
 /// The length of a sequence is an unsigned integer member that stands before it.
+#[tactic(auto, using(crate::proofs::LengthParts::names_length))]
 pub fn sequences_name_their_length()
     ensures { (known : Known) (before : List (List ℕ × MemberType)) (m : MemberTree) (t : FieldType) (i : ℕ) → member_meaning known before m ≡ Some (Dyn t (At i)) → NamesLength before i }
 {}
@@ -72,6 +71,7 @@ pub fn structures_say_their_parts()
 {}
 
 /// Where the parts of a clock come from: its name is needed, and the others have their defaults.
+#[tactic(auto, using(crate::proofs::BlockParts::says_clock))]
 pub fn clocks_say_their_parts()
     ensures { (is : List Item) (c : ClockType) → clock_meaning is ≡ Some c → SaysClock is c }
 {}
@@ -87,17 +87,18 @@ pub fn events_say_their_parts()
 {}
 
 /// Where the parts of the metadata come from: one trace block, at most one environment, and clocks of different names.
+#[tactic(auto, using(crate::proofs::MeaningParts::says_metadata))]
 pub fn texts_say_their_parts()
     ensures { (bs : List Block) (m : Metadata) → text_meta bs ≡ Some m → SaysMetadata bs m }
 {}
 
 /// Blocks of different kinds stand in any order.
+#[tactic(auto, using(crate::proofs::MeaningParts::same_meaning))]
 pub fn kinds_of_blocks_mix()
     ensures { (bs cs : List Block) → SameBlocks bs cs → text_meta bs ≡ text_meta cs }
 {}
 
-/// Blocks stand in any order: those of a text in another order mean the same metadata, but for the order of the clocks,
-/// which is the text's.
+/// Blocks stand in any order: in another order they mean the same metadata, but for the order of the clocks, which is theirs.
 pub fn blocks_stand_in_any_order()
     ensures { (bs cs : List Block) (m : Metadata) → Reordered bs cs → text_meta bs ≡ Some m → (n : Metadata) × (text_meta cs ≡ Some n) × SameButClockOrder m n }
 {}

@@ -1,7 +1,6 @@
 //! The values of number literals.
 
-ghost use Rattle.std.specs.Prelude.{◌<◌, ◌≤◌, ◌+◌, ◌*◌, ◌^◌, SomeIff};
-ghost use Rattle.std.specs.Char.{digit_value};
+ghost use Rattle.std.specs.Prelude.{◌<◌, ◌≤◌, ◌*◌, ◌^◌, SomeIff};
 ghost use Rattle.tsdl_grammar.specs.Literals.{literal_of, digits_from};
 
 /// The value of a number literal, None where it is above 2^64 - 1. A suffix counts for nothing.

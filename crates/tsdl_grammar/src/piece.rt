@@ -1,12 +1,9 @@
 //! The longest piece at the front of a text: a blank, a comment or a token.
 
-ghost use Rattle.std.specs.Prelude.{◌≡◌, ◌<◌, ◌≤◌, ◌+◌, true, false, length, IfSome, MatchOption};
-ghost use Rattle.std.specs.List.{prefix_len};
-ghost use Rattle.std.specs.Char.{is_ascii_digit, is_ascii_hexdigit};
-ghost use Rattle.std.specs.Str.{is_utf8};
-ghost use Rattle.tsdl_grammar.specs.declared.piece.Piece.TheVariants.{Token};
+ghost use Rattle.std.specs.Prelude.{◌≡◌, ◌<◌, ◌≤◌, ◌+◌, true, false, length, option_map, IfSome, MatchOption};
+ghost use Rattle.std.specs.{Char.is_ascii_digit, Char.is_ascii_hexdigit, List.prefix_len, Str.is_utf8};
 ghost use Rattle.tsdl_grammar.specs.Bytes.{is_name_byte, is_octal_digit, is_suffix, not_newline};
-ghost use Rattle.tsdl_grammar.specs.Pieces.{piece_at, mark_at, close_len, comment_at, content_len, text_at, number_len, digits_len};
+ghost use Rattle.tsdl_grammar.specs.Pieces.{piece_at, mark_at, mark_cut, close_len, content_len, number_len, digits_len};
 
 use crate::escapes::escaped_byte;
 use crate::token::{Mark, TokenKind};
@@ -27,34 +24,34 @@ pub struct Cut {
 }
 
 /// The longest piece at the front of the bytes, if one begins there.
-#[tactic(auto, unfolding(crate::specs::Pieces::piece_at))]
+#[tactic(auto, unfolding(crate::specs::Pieces::piece_at, crate::specs::Pieces::text_at, crate::specs::Pieces::comment_at))]
 pub(crate) fn piece_at(bytes: &[u8]) -> Option<Cut>
     ensures value { result ≡ piece_at bytes.now }
     ensures within { IfSome result (λ c. (0 < c.len) × (c.len ≤ length bytes.now)) }
 {
-    let [b, after @ ..] = bytes else {
-        return None;
+    let (b, after) = bytes.split_first()?;
+    let (piece, len) = match *b {
+        b' ' | 9..=13 => (Piece::Blank, 1),
+        b'a'..=b'z' | b'A'..=b'Z' | b'_' => {
+            (Piece::Token(TokenKind::Identifier), 1 + name_len(after))
+        }
+        b'0'..=b'9' => (Piece::Token(TokenKind::Number), number_len(bytes)),
+        b'"' => {
+            let len = content_len(after)?;
+            text_in(&after[..len])?;
+            (Piece::Token(TokenKind::Text), 2 + len)
+        }
+        b'/' => match after {
+            [b'/', line @ ..] => (Piece::Comment, 2 + line_len(line)),
+            [b'*', inner @ ..] => (Piece::Comment, 2 + close_len(inner)?),
+            _ => return None,
+        },
+        _ => {
+            let (mark, len) = mark_at(*b, after)?;
+            (Piece::Token(TokenKind::Mark(mark)), len)
+        }
     };
-    match *b {
-        b' ' | 9..=13 => Some(of_len(Piece::Blank, 1)),
-        b'a'..=b'z' | b'A'..=b'Z' | b'_' => Some(token(TokenKind::Identifier, 1 + name_len(after))),
-        b'0'..=b'9' => Some(token(TokenKind::Number, number_len(bytes))),
-        b'"' => text_at(after),
-        b'/' => comment_at(after),
-        _ => mark_at(*b, after),
-    }
-}
-
-fn of_len(piece: Piece, len: usize) -> Cut
-    ensures { result ≡ record { piece = piece; len = len } }
-{
-    Cut { piece, len }
-}
-
-fn token(kind: TokenKind, len: usize) -> Cut
-    ensures { result ≡ record { piece = Token kind; len = len } }
-{
-    of_len(Piece::Token(kind), len)
+    Some(Cut { piece, len })
 }
 
 /// How many name bytes stand at the front.
@@ -109,25 +106,11 @@ fn line_len(bytes: &[u8]) -> usize
     bytes.iter().take_while(|b| **b != b'\n').count()
 }
 
-/// The bytes of a string, of which the first quote is passed.
-#[tactic(auto, unfolding(crate::specs::Pieces::text_at))]
-fn text_at(bytes: &[u8]) -> Option<Cut>
-    ensures value { result ≡ text_at bytes.now }
-    ensures within { IfSome result (λ c. (0 < c.len) × (c.len ≤ 1 + length bytes.now)) }
-{
-    let len = content_len(bytes)?;
-    text_in(&bytes[..len])?;
-    Some(token(TokenKind::Text, 2 + len))
-}
-
 /// Bytes as a text, None where they are no UTF-8.
 pub(crate) fn text_in(bytes: &[u8]) -> Option<&str>
     ensures { MatchOption result (is_utf8 bytes.now ≡ false) (λ t. (t.now ≡ bytes.now) × (is_utf8 bytes.now ≡ true)) }
 {
-    match std::str::from_utf8(bytes) {
-        Ok(text) => Some(text),
-        Err(_) => None,
-    }
+    std::str::from_utf8(bytes).ok()
 }
 
 /// How many bytes of a string stand before its closing quote.
@@ -137,8 +120,7 @@ fn content_len(bytes: &[u8]) -> Option<usize>
 {
     let mut len = 0;
     let mut after_backslash = false;
-    let mut rest = bytes;
-    while let [b, after @ ..] = rest {
+    for b in bytes {
         if after_backslash {
             escaped_byte(*b)?;
             after_backslash = false;
@@ -150,22 +132,8 @@ fn content_len(bytes: &[u8]) -> Option<usize>
             after_backslash = *b == b'\\';
         }
         len += 1;
-        rest = after;
     }
     None
-}
-
-/// A comment, of which the first `/` is passed.
-#[tactic(auto, unfolding(crate::specs::Pieces::comment_at))]
-fn comment_at(bytes: &[u8]) -> Option<Cut>
-    ensures value { result ≡ comment_at bytes.now }
-    ensures within { IfSome result (λ c. (0 < c.len) × (c.len ≤ 1 + length bytes.now)) }
-{
-    match bytes {
-        [b'/', after @ ..] => Some(of_len(Piece::Comment, 2 + line_len(after))),
-        [b'*', after @ ..] => Some(of_len(Piece::Comment, 2 + close_len(after)?)),
-        _ => None,
-    }
 }
 
 /// The bytes up to and with the first `*/`.
@@ -210,13 +178,13 @@ fn digits_len(bytes: &[u8]) -> usize
     }
 }
 
-/// The mark that begins with a byte, of which more may follow.
+/// The mark that begins with a byte, of which more may follow, and its length.
 #[tactic(auto, unfolding(crate::specs::Pieces::mark_at))]
-fn mark_at(b: u8, after: &[u8]) -> Option<Cut>
-    ensures value { result ≡ mark_at b after.now }
-    ensures within { IfSome result (λ c. (0 < c.len) × (c.len ≤ 1 + length after.now)) }
+fn mark_at(b: u8, after: &[u8]) -> Option<(Mark, usize)>
+    ensures value { option_map (λ m. mark_cut m.0 m.1) result ≡ mark_at b after.now }
+    ensures within { IfSome result (λ m. (0 < m.1) × (m.1 ≤ 1 + length after.now)) }
 {
-    let (mark, len) = match (b, after) {
+    Some(match (b, after) {
         (b':', [b'=', ..]) => (Mark::Assign, 2),
         (b'.', [b'.', b'.', ..]) => (Mark::Ellipsis, 3),
         (b'{', _) => (Mark::OpenBrace, 1),
@@ -233,6 +201,5 @@ fn mark_at(b: u8, after: &[u8]) -> Option<Cut>
         (b'+', _) => (Mark::Plus, 1),
         (b'.', _) => (Mark::Dot, 1),
         _ => return None,
-    };
-    Some(token(TokenKind::Mark(mark), len))
+    })
 }

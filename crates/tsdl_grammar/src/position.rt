@@ -1,8 +1,7 @@
 //! Faults of a metadata text as people read them: with line, column and what stands there.
 
 ghost use Rattle.std.specs.Prelude.{◌≡◌, ◌≤◌, length, take, min, IfOk, string_bytes};
-ghost use Rattle.tsdl_grammar.specs.Positions.{line_after, column_after};
-ghost use Rattle.tsdl_grammar.specs.FaultWords.{IsQuoted, IsSaidOf, IsFoundAt};
+ghost use Rattle.tsdl_grammar.specs.{FaultWords.IsFoundAt, FaultWords.IsQuoted, FaultWords.IsSaidOf, Positions.column_after, Positions.line_after};
 
 use crate::piece::piece_at;
 use std::alloc::{AllocError, Global};
@@ -30,10 +29,8 @@ pub fn position_of(text: &[u8], place: usize) -> Position
     for b in before {
         column = if *b == b'\n' { 1 } else { column + 1 };
     }
-    Position {
-        line: 1 + before.iter().filter(|b| **b == b'\n').count(),
-        column,
-    }
+    let line = 1 + before.iter().filter(|b| **b == b'\n').count();
+    Position { line, column }
 }
 
 /// What stands at a byte of a text, in words, with its line and its column. A place behind the text is its end.

@@ -1,8 +1,7 @@
 //! The tokens of a metadata text.
 
-ghost use Rattle.std.specs.Prelude.{◌≡◌, ◌++◌, ◌≤◌, List, length, slice_get, IfOk, IfErr, IsOk, OnOk};
+ghost use Rattle.std.specs.Prelude.{◌≡◌, List, length, slice_get, IfOk, IfErr, IsOk};
 ghost use Rattle.tsdl_grammar.specs.Tokens.{HasMagicLine, Tokenizes, HasTokens, TokenFault, GivesTokens, Rises, start_of};
-ghost use Rattle.tsdl_grammar.specs.declared.fault.MetaFaultKind.TheVariants as faults;
 ghost use Rattle.tsdl_grammar.specs.declared.token.Token.{Token};
 
 use crate::fault::{MetaFault, MetaFaultKind};

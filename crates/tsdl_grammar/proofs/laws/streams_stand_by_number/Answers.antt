@@ -1,10 +1,9 @@
-use Rattle.tsdl_grammar.specs.Denotes.{known_of}
 use Rattle.tsdl_grammar.proofs.MeaningParts.{says_metadata}
 use Rattle.tsdl_grammar.proofs.StreamParts.{streams_stand_by_number}
 use Rattle.tsdl_grammar.proofs.laws.streams_stand_by_number.Goals as goal
 
 pub returns-clause-streams : goal.returns-clause-streams
-returns-clause-streams c = λ bs m e. (streams_stand_by_number (known_of m.order m.clocks) bs m.streams (says_metadata bs m e).streams).0
+returns-clause-streams c = λ bs m e. (streams_stand_by_number _ bs m.streams (says_metadata bs m e).streams).0
 
 pub returns-clause-events : goal.returns-clause-events
-returns-clause-events c = λ bs m e. (streams_stand_by_number (known_of m.order m.clocks) bs m.streams (says_metadata bs m e).streams).1
+returns-clause-events c = λ bs m e. (streams_stand_by_number _ bs m.streams (says_metadata bs m e).streams).1

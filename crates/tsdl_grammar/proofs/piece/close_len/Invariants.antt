@@ -1,5 +1,4 @@
-use Rattle.std.proofs.Common.{◌≡◌, ◌+◌, length}
-use Rattle.std.specs.Option.{option_map}
+use Rattle.std.proofs.Common.{◌≡◌, ◌+◌, length, option_map}
 use Rattle.tsdl_grammar.specs.Pieces.{close_len}
 use Rattle.tsdl_grammar.proofs.piece.close_len.Given as goal
 

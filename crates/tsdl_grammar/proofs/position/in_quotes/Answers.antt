@@ -1,5 +1,4 @@
-use Rattle.std.proofs.Common.{◌≡◌, List, ℕ, string_bytes, subst}
-use Rattle.std.specs.Prelude.{IfSome}
+use Rattle.std.proofs.Common.{◌≡◌, List, ℕ, string_bytes, subst, IfSome}
 use Rattle.std.specs.Fmt.{debug_str}
 use Rattle.std.proofs.lemmas.Result.{IfOk-weaker}
 use Rattle.tsdl_grammar.proofs.position.in_quotes.Goals as goal

@@ -1,7 +1,6 @@
-use Rattle.std.proofs.Common.{sym, inl, inr}
-use Rattle.std.proofs.lemmas.List.{append-nil, take_rest}
-use Rattle.tsdl_grammar.proofs.Splits.{goes_on, has_ended}
-use Rattle.tsdl_grammar.proofs.TokenLists.{same_tokens}
+use Rattle.std.proofs.Common.{sym, inl, inr, append-nil}
+use Rattle.std.proofs.lemmas.List.{take_rest}
+use Rattle.tsdl_grammar.proofs.Splits.{goes_on, has_ended, same_tokens}
 use Rattle.tsdl_grammar.proofs.tokenizer.tokens.Goals as goal
 use Rattle.tsdl_grammar.proofs.tokenizer.tokens.Goals.{in-Blank, in-Token+in_ok-push-in-Token}
 

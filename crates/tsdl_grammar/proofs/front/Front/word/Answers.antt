@@ -1,6 +1,4 @@
-use Rattle.std.proofs.Common.{◌≡◌, ℕ, true, false, List, Option, Some, None, refl, ap}
-use Rattle.std.specs.Prelude.{MatchOption}
-use Rattle.std.specs.Option.{option_map}
+use Rattle.std.proofs.Common.{◌≡◌, ℕ, true, false, List, Option, Some, None, refl, ap, MatchOption, option_map}
 use Rattle.std.specs.Str.{is_utf8}
 use Rattle.tsdl_grammar.specs.Atoms.{word_atom}
 use Rattle.tsdl_grammar.specs.Fronts.{word_in}
