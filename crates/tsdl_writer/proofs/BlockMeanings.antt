@@ -1,36 +1,10 @@
 -- What the trees of blocks mean: the trace, the clock, the stream or the event that they were made of.
-use Rattle.std.proofs.Common.{◌≡◌, ℕ, suc, ◌≤◌, ◌^◌, ℤ, pos, negsuc, Bool, true, false, List, [], ◌∷◌, ◌++◌, map, length, Option, Some, None, refl, sym, ap, arith, SFits, w64}
-use Rattle.std.specs.Prelude.{nat_le, nat_lt, codes}
-use Rattle.std.specs.Option.{IfSome}
-use Rattle.std.specs.List.{list_any, list_all, AllByRecursion, IsDistinct}
-use Rattle.std.specs.Str.{bytes_eq}
-use Rattle.std.proofs.lemmas.Int.{ints}
-use Rattle.std.proofs.lemmas.List.{length-map}
-use Rattle.std.proofs.lemmas.Map.Keys.{IsDistinct-head, IsDistinct-tail}
-use Rattle.uuid.specs.Text.{hyphenated_text, lower}
-use Rattle.ctf_types.specs.declared.ByteOrder.{ByteOrder}
-use Rattle.ctf_types.specs.declared.ByteOrder.TheVariants.{Little, Big}
-use Rattle.ctf_types.specs.declared.MemberType.{MemberType}
-use Rattle.ctf_types.specs.declared.StructType.{StructType}
-use Rattle.ctf_types.specs.declared.ClockType.{ClockType}
-use Rattle.ctf_types.specs.declared.EnvironmentEntry.{EnvironmentEntry}
-use Rattle.ctf_types.specs.declared.EnvironmentValue.{EnvironmentValue}
+use Rattle.tsdl_writer.proofs.TreeWords.{AllByRecursion, Bool, ByteOrder, ClockType, EnvironmentEntry, EnvironmentValue, Event, IfSome, IsDistinct, IsDistinct-head, IsDistinct-tail, IsHeldUuid, IsHeldValue, Item, Known, List, Little, MemberType, None, Option, SFits, Some, Stream, StructType, [], ap, arith, bytes_eq, clock_items, clock_meaning, codes, context_names, each, environment_meaning, event_context, event_header, event_meaning, false, fields_scope, flag_value, flag_word, has_member, header_meaning, hyphenated_text, ints, is_trace, le-leb, length, length-map, list_all, list_any, lower, map, named_fact_meaning, named_fact_tree, nat_le, nat_lt, natural_item, natural_value, negsuc, one_word, optional, optional_items, order_word, packet_context, packet_header, pos, refl, scope_items, scope_meaning, specific_context, stream_meaning, structure_of, suc, suits, suits_header, sym, text_item, trace_order, trace_uuid, true, two_words, uuid_item, uuid_value, w64, whole, whole_number, word_item, ℕ, ℤ, ◌++◌, ◌^◌, ◌∷◌, ◌≡◌, ◌≤◌}
 use Rattle.ctf_types.specs.declared.EnvironmentValue.TheVariants as environment
-use Rattle.ctf_types.specs.declared.Stream.{Stream}
-use Rattle.ctf_types.specs.declared.Event.{Event}
 use Rattle.tsdl_grammar.specs.declared.tree.Value.TheVariants as values
-use Rattle.tsdl_grammar.specs.declared.tree.Item.{Item}
 use Rattle.tsdl_grammar.specs.declared.tree.Scope.{Scope}
-use Rattle.tsdl_grammar.specs.Steps.{each}
 use Rattle.tsdl_grammar.specs.Lookups.{attr, scope, attrs_in, scopes_in, has_parts, no_two}
-use Rattle.tsdl_grammar.specs.AttributeValues.{natural_value, whole, flag_value, uuid_value, optional}
-use Rattle.tsdl_grammar.specs.IntegerMeaning.{Known}
-use Rattle.tsdl_grammar.specs.StructureMeaning.{has_member, structure_of, scope_meaning}
-use Rattle.tsdl_grammar.specs.BlockMeaning.{packet_header, is_trace, trace_order, trace_uuid, suits_header, header_meaning, clock_meaning, packet_context, event_header, event_context, context_names, suits, stream_meaning, specific_context, fields_scope, event_meaning, named_fact_meaning, environment_meaning}
-use Rattle.tsdl_writer.specs.Held.{IsHeldUuid, IsHeldValue}
-use Rattle.tsdl_writer.specs.FieldTrees.{whole_number, one_word, flag_word}
-use Rattle.tsdl_writer.specs.BlockTrees.{natural_item, word_item, text_item, optional_items, uuid_item, scope_items, two_words, order_word, named_fact_tree, clock_items}
-use Rattle.tsdl_writer.proofs.FieldMeanings.{Members, le-leb}
+use Rattle.tsdl_writer.proofs.FieldMeanings.{Members}
 use Rattle.tsdl_writer.proofs.StructureMeanings.{found}
 
 -- ---- values
@@ -61,19 +35,14 @@ trace_parts uuid order ms =
 
 pub trace_is : (uuid : Option (List ℕ)) (order : ByteOrder) (ms : Members) → is_trace (trace_parts uuid order ms) ≡ true
 trace_is None order [] = refl
-trace_is None order (m ∷ ms) = refl
 trace_is (Some u) order [] = refl
-trace_is (Some u) order (m ∷ ms) = refl
+trace_is _ order _ = refl
 
 pub trace_order_is : (uuid : Option (List ℕ)) (order : ByteOrder) (ms : Members) → trace_order (trace_parts uuid order ms) ≡ Some order
 trace_order_is None Little [] = refl
-trace_order_is None Little (m ∷ ms) = refl
 trace_order_is (Some u) Little [] = refl
-trace_order_is (Some u) Little (m ∷ ms) = refl
-trace_order_is None Big [] = refl
-trace_order_is None Big (m ∷ ms) = refl
-trace_order_is (Some u) Big [] = refl
-trace_order_is (Some u) Big (m ∷ ms) = refl
+trace_order_is _ _ [] = refl
+trace_order_is _ _ _ = refl
 
 pub trace_uuid_is : (uuid : Option (List ℕ)) (order : ByteOrder) (ms : Members) → IfSome uuid IsHeldUuid → trace_uuid (trace_parts uuid order ms) ≡ Some uuid
 unfolding trace_uuid
@@ -84,9 +53,8 @@ trace_uuid_is (Some u) order (m ∷ ms) h = rw (uuid_read u h) refl
 
 header_found : (uuid : Option (List ℕ)) (order : ByteOrder) (ms : Members) → scope packet_header (scopes_in (trace_parts uuid order ms)) ≡ found ms 8
 header_found None order [] = refl
-header_found None order (m ∷ ms) = refl
 header_found (Some u) order [] = refl
-header_found (Some u) order (m ∷ ms) = refl
+header_found _ order _ = refl
 
 pub header_is : (known : Known) (uuid : Option (List ℕ)) (order : ByteOrder) (ms : Members) (t : StructType) → structure_of known (found ms 8) ≡ Some t → list_all suits_header t.members ≡ true
     → header_meaning known (trace_parts uuid order ms) ≡ Some t
@@ -121,38 +89,25 @@ stream_parts id context header common align =
 
 stream_has_parts : (id : ℕ) (context header common : Members) (align : ℕ) → has_parts (packet_context ∷ event_header ∷ event_context ∷ []) (stream_parts id context header common align) ≡ true
 stream_has_parts id [] [] [] align = refl
-stream_has_parts id [] [] (k ∷ ks) align = refl
-stream_has_parts id [] (h ∷ hs) [] align = refl
-stream_has_parts id [] (h ∷ hs) (k ∷ ks) align = refl
 stream_has_parts id (c ∷ cs) [] [] align = refl
-stream_has_parts id (c ∷ cs) [] (k ∷ ks) align = refl
-stream_has_parts id (c ∷ cs) (h ∷ hs) [] align = refl
-stream_has_parts id (c ∷ cs) (h ∷ hs) (k ∷ ks) align = refl
+stream_has_parts id _ _ [] align = refl
+stream_has_parts id _ _ _ align = refl
 
 context_found : (id : ℕ) (context header common : Members) (align : ℕ) → scope packet_context (scopes_in (stream_parts id context header common align)) ≡ found context 8
 context_found id [] [] [] align = refl
-context_found id [] [] (k ∷ ks) align = refl
-context_found id [] (h ∷ hs) [] align = refl
-context_found id [] (h ∷ hs) (k ∷ ks) align = refl
-context_found id (c ∷ cs) header common align = refl
+context_found id [] _ [] align = refl
+context_found id _ _ _ align = refl
 
 event_header_found : (id : ℕ) (context header common : Members) (align : ℕ) → scope event_header (scopes_in (stream_parts id context header common align)) ≡ found header 8
 event_header_found id [] [] [] align = refl
-event_header_found id [] [] (k ∷ ks) align = refl
-event_header_found id [] (h ∷ hs) common align = refl
 event_header_found id (c ∷ cs) [] [] align = refl
-event_header_found id (c ∷ cs) [] (k ∷ ks) align = refl
-event_header_found id (c ∷ cs) (h ∷ hs) common align = refl
+event_header_found id _ _ _ align = refl
 
 common_found : (id : ℕ) (context header common : Members) (align : ℕ) → scope event_context (scopes_in (stream_parts id context header common align)) ≡ found common align
 common_found id [] [] [] align = refl
-common_found id [] [] (k ∷ ks) align = refl
-common_found id [] (h ∷ hs) [] align = refl
-common_found id [] (h ∷ hs) (k ∷ ks) align = refl
 common_found id (c ∷ cs) [] [] align = refl
-common_found id (c ∷ cs) [] (k ∷ ks) align = refl
-common_found id (c ∷ cs) (h ∷ hs) [] align = refl
-common_found id (c ∷ cs) (h ∷ hs) (k ∷ ks) align = refl
+common_found id _ _ [] align = refl
+common_found id _ _ _ align = refl
 
 all_pass : (ms : Members) → list_all (λ (m : List ℕ × MemberType). true) ms ≡ true
 all_pass [] = refl
@@ -190,41 +145,28 @@ event_parts stream id name level specific align fields fields_align =
 event_has_parts : (stream id : ℕ) (name : List ℕ) (level : Option ℕ) (specific : Members) (align : ℕ) (fields : Members) (fields_align : ℕ)
     → has_parts (specific_context ∷ fields_scope ∷ []) (event_parts stream id name level specific align fields fields_align) ≡ true
 event_has_parts stream id name None [] align [] fields_align = refl
-event_has_parts stream id name None [] align (f ∷ fs) fields_align = refl
-event_has_parts stream id name None (s ∷ ss) align [] fields_align = refl
-event_has_parts stream id name None (s ∷ ss) align (f ∷ fs) fields_align = refl
 event_has_parts stream id name (Some l) [] align [] fields_align = refl
-event_has_parts stream id name (Some l) [] align (f ∷ fs) fields_align = refl
-event_has_parts stream id name (Some l) (s ∷ ss) align [] fields_align = refl
-event_has_parts stream id name (Some l) (s ∷ ss) align (f ∷ fs) fields_align = refl
+event_has_parts stream id name _ _ align [] fields_align = refl
+event_has_parts stream id name _ _ align _ fields_align = refl
 
 level_read : (stream id : ℕ) (name : List ℕ) (level : Option ℕ) (specific : Members) (align : ℕ) (fields : Members) (fields_align : ℕ)
     → optional natural_value (attr (codes "loglevel") (attrs_in (event_parts stream id name level specific align fields fields_align))) ≡ Some level
 level_read stream id name None [] align [] fields_align = refl
-level_read stream id name None [] align (f ∷ fs) fields_align = refl
-level_read stream id name None (s ∷ ss) align [] fields_align = refl
-level_read stream id name None (s ∷ ss) align (f ∷ fs) fields_align = refl
-level_read stream id name (Some l) specific align fields fields_align = refl
+level_read stream id name None _ align [] fields_align = refl
+level_read stream id name _ _ align _ fields_align = refl
 
 specific_found : (stream id : ℕ) (name : List ℕ) (level : Option ℕ) (specific : Members) (align : ℕ) (fields : Members) (fields_align : ℕ)
     → scope specific_context (scopes_in (event_parts stream id name level specific align fields fields_align)) ≡ found specific align
 specific_found stream id name None [] align [] fields_align = refl
-specific_found stream id name None [] align (f ∷ fs) fields_align = refl
-specific_found stream id name None (s ∷ ss) align fields fields_align = refl
 specific_found stream id name (Some l) [] align [] fields_align = refl
-specific_found stream id name (Some l) [] align (f ∷ fs) fields_align = refl
-specific_found stream id name (Some l) (s ∷ ss) align fields fields_align = refl
+specific_found stream id name _ _ align _ fields_align = refl
 
 fields_found : (stream id : ℕ) (name : List ℕ) (level : Option ℕ) (specific : Members) (align : ℕ) (fields : Members) (fields_align : ℕ)
     → scope fields_scope (scopes_in (event_parts stream id name level specific align fields fields_align)) ≡ found fields fields_align
 fields_found stream id name None [] align [] fields_align = refl
-fields_found stream id name None [] align (f ∷ fs) fields_align = refl
-fields_found stream id name None (s ∷ ss) align [] fields_align = refl
-fields_found stream id name None (s ∷ ss) align (f ∷ fs) fields_align = refl
 fields_found stream id name (Some l) [] align [] fields_align = refl
-fields_found stream id name (Some l) [] align (f ∷ fs) fields_align = refl
-fields_found stream id name (Some l) (s ∷ ss) align [] fields_align = refl
-fields_found stream id name (Some l) (s ∷ ss) align (f ∷ fs) fields_align = refl
+fields_found stream id name _ _ align [] fields_align = refl
+fields_found stream id name _ _ align _ fields_align = refl
 
 pub event_is : (known : Known) (stream : ℕ) (e : Event) (specific : Members) (align : ℕ) (fields : Members) (fields_align : ℕ)
     → structure_of known (found specific align) ≡ Some e.specific → structure_of known (found fields fields_align) ≡ Some e.fields

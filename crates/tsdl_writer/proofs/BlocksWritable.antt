@@ -1,33 +1,7 @@
 -- The tokens of an allowed configuration's blocks can be written.
-use Rattle.std.proofs.Common.{◌≡◌, ℕ, ◌+◌, ◌-◌, ◌<◌, ◌^◌, ℤ, pos, negsuc, ◌≤ℤ◌, SFits, w64, List, [], ◌∷◌, ◌++◌, map, length, Option, Some, None, refl, subst, ◌∙◌, arith, All}
-use Rattle.std.specs.Prelude.{codes}
-use Rattle.std.specs.List.{flat_map, AllByRecursion}
-use Rattle.std.proofs.lemmas.Int.{ints}
-use Rattle.std.proofs.lemmas.List.Elements.{All-head, All-tail, All-weaker, All-map, recursion_from_All}
-use Rattle.ctf_types.specs.declared.ByteOrder.{ByteOrder}
-use Rattle.ctf_types.specs.declared.ByteOrder.TheVariants.{Little, Big}
-use Rattle.ctf_types.specs.declared.ClockType.{ClockType}
-use Rattle.ctf_types.specs.declared.EnvironmentEntry.{EnvironmentEntry}
-use Rattle.ctf_types.specs.declared.EnvironmentValue.{EnvironmentValue}
+use Rattle.tsdl_writer.proofs.TreeWords.{All, All-head, All-map, All-tail, All-weaker, AllByRecursion, AreMembers, Big, ByteOrder, ClockType, Config, EnvironmentEntry, EnvironmentValue, EventType, IsClockType, IsConfig, IsConfigStruct, IsEventType, IsHeld, IsHeldClock, IsHeldValue, IsMetadataName, IsPlainName, IsStream, IsStreamType, IsStruct, List, Little, Name, None, Option, SFits, Some, StreamType, StructType, [], all_event_blocks, arith, block_and_semicolon, blocks_of, clock_block, clock_numbers, codes, context_numbers, context_of, environment_blocks, event_block, event_blocks, event_header_members, event_header_of, fact_toks, fact_tree, flag_word, flat_map, header_members, header_of, ints, is_identifier, item_toks, length, map, metadata_is_allowed, metadata_name_of_plain, metadata_of, name_toks, named_fact_toks, named_fact_tree, names_in, natural_item, negsuc, one_word, optional_items, order_word, pos, recursion_from_All, refl, scope_items, shown_members, shown_struct, stream_block, stream_blocks, stream_of, streams_of, struct_is_allowed, struct_with, struct_with-members, subst, text_item, text_toks, trace_block, two_words, uuid_item, w64, word_item, ℕ, ℤ, ◌++◌, ◌+◌, ◌-◌, ◌<◌, ◌^◌, ◌∙◌, ◌∷◌, ◌≡◌, ◌≤ℤ◌}
 use Rattle.ctf_types.specs.declared.EnvironmentValue.TheVariants as environment
-use Rattle.ctf_types.specs.declared.StructType.{StructType}
-use Rattle.ctf_types.specs.declared.Config.{Config}
-use Rattle.ctf_types.specs.declared.StreamType.{StreamType}
-use Rattle.ctf_types.specs.declared.EventType.{EventType}
-use Rattle.ctf_types.specs.Allowed.{AreMembers, IsStruct, IsStream}
-use Rattle.ctf_types.specs.AllowedConfig.{IsConfigStruct, IsEventType, IsStreamType, IsClockType, IsConfig}
-use Rattle.ctf_types.specs.Members.{names_in}
-use Rattle.ctf_types.specs.MetadataOf.{header_members, context_numbers, event_header_members, struct_with, header_of, context_of, event_header_of, stream_of, streams_of, metadata_of}
-use Rattle.ctf_types.specs.Names.{is_identifier, IsMetadataName, IsPlainName}
-use Rattle.ctf_types.specs.Shown.{shown_members, shown_struct}
-use Rattle.ctf_types.proofs.AllowedMembers.{metadata_name_of_plain, struct_is_allowed}
-use Rattle.ctf_types.proofs.AllowedMetadata.{struct_with-members, metadata_is_allowed}
 use Rattle.tsdl_grammar.specs.declared.token.Mark.TheVariants as marks
-use Rattle.tsdl_grammar.specs.declared.tree.Name.{Name}
-use Rattle.tsdl_grammar.specs.Spelling.{name_toks, item_toks, fact_toks, named_fact_toks, block_and_semicolon, text_toks}
-use Rattle.tsdl_writer.specs.FieldTrees.{one_word, flag_word}
-use Rattle.tsdl_writer.specs.BlockTrees.{natural_item, word_item, text_item, optional_items, uuid_item, scope_items, two_words, order_word, trace_block, clock_numbers, fact_tree, named_fact_tree, environment_blocks, clock_block, stream_block, event_block, stream_blocks, event_blocks, all_event_blocks, blocks_of}
-use Rattle.tsdl_writer.specs.Held.{IsHeldClock, IsHeldValue, IsHeld}
 use Rattle.tsdl_writer.proofs.Writable.{Can, nothing, mark, word, keyword, number, string, both, ended, in_braces, joined, whole, natural_value, word_value, text_value}
 use Rattle.tsdl_writer.proofs.FieldMeanings.{Members}
 use Rattle.tsdl_writer.proofs.StructuresRead.{AreAutomatic, config_are_automatic, automatic-append, context_automatic, header_automatic, event_header_automatic, header_shown, event_header_shown}

@@ -1,34 +1,8 @@
 -- What the trees of field types mean: the integer, the enumeration, the string or the array that they were made of.
-use Rattle.std.proofs.Common.{◌≡◌, ℕ, ◌≤◌, ◌^◌, ℤ, pos, negsuc, ◌≤ℤ◌, Bool, true, false, leb, List, [], ◌∷◌, map, length, Option, Some, None, refl, ap, ◌∙◌, arith, inl, inr}
-use Rattle.std.specs.Prelude.{nat_le, int_le}
-use Rattle.std.specs.List.{list_any, All}
-use Rattle.std.specs.Str.{bytes_eq}
-use Rattle.std.proofs.lemmas.Int.{ints}
-use Rattle.std.proofs.lemmas.Bool.{cases_Bool}
-use Rattle.std.proofs.lemmas.Bool.Decides.{nat_tests}
-use Rattle.std.proofs.lemmas.List.{length-map}
-use Rattle.std.proofs.lemmas.List.Elements.{All-head, All-tail}
-use Rattle.ctf_types.specs.declared.Base.{Base}
-use Rattle.ctf_types.specs.declared.Base.TheVariants.{Bin, Oct, Dec, Hex}
-use Rattle.ctf_types.specs.declared.IntType.{IntType}
-use Rattle.ctf_types.specs.declared.Mapping.{Mapping}
+use Rattle.tsdl_writer.proofs.TreeWords.{All, All-head, All-tail, Base, Bin, Bool, ByteString, FieldType, Int, IntType, IsNest, IsRange, Known, Labelled, Leaf, List, Mapping, MemberType, None, Number, Option, Plain, Some, [], ap, are_lengths, arith, arrays_of, attributes, base_value, bracketed, bytes_eq, cases_Bool, chain_of, clock_value, count_bracket, count_of, each, entries_of, entry_meaning, entry_tree, entry_trees, enum_meaning, false, flag_value, high_number, high_of, inl, inr, int_le, int_meaning, int_type, int_type-own, integer_attributes, ints, kind_meaning, kind_tree, le-leb, length, length-map, list_any, map, nat_le, negsuc, pos, refl, signed_of, text_meaning, true, whole_number, ℕ, ℤ, ◌^◌, ◌∙◌, ◌∷◌, ◌≡◌, ◌≤ℤ◌, ◌≤◌}
 use Rattle.ctf_types.specs.declared.EnumType.{EnumType}
-use Rattle.ctf_types.specs.declared.FieldType.{FieldType}
-use Rattle.ctf_types.specs.declared.FieldType.TheVariants.{Int, Enum, Str, Static}
-use Rattle.ctf_types.specs.declared.MemberType.{MemberType}
-use Rattle.ctf_types.specs.declared.MemberType.TheVariants.{Plain}
-use Rattle.ctf_types.specs.Chain.{Leaf, Number, Labelled, ByteString}
-use Rattle.ctf_types.specs.FieldTypes.{chain_of}
 use Rattle.ctf_types.specs.Allowed as allowed
-use Rattle.ctf_types.specs.Allowed.{IsRange, IsNest}
-use Rattle.tsdl_grammar.specs.Steps.{each}
-use Rattle.tsdl_grammar.specs.AttributeValues.{signed_of, flag_value}
-use Rattle.tsdl_grammar.specs.IntegerMeaning.{Known, int_type, int_meaning, base_value, clock_value}
-use Rattle.tsdl_grammar.specs.MemberMeaning.{high_of, entry_meaning, entries_of, enum_meaning, text_meaning, kind_meaning, arrays_of, elements_of, are_lengths, count_of, bracketed}
-use Rattle.tsdl_grammar.proofs.TypeParts.{int_type-own}
-use Rattle.tsdl_writer.specs.FieldTrees.{whole_number, attributes, integer_attributes, high_number, entry_tree, entry_trees, kind_tree, count_bracket}
-
--- ---- integers
+use Rattle.tsdl_grammar.specs.MemberMeaning.{elements_of}
 
 -- the clock that an integer is mapped to is a clock of the text
 abbrev pub IsKnown : List (List ℕ) → Option (List ℕ) → Type 0
@@ -39,26 +13,14 @@ parts_meant : (known : Known) (size align : ℕ) (signed : Bool) (base : Base) (
     → int_meaning known (attributes size align signed base clock) ≡ int_type size align signed base clock
 unfolding int_meaning flag_value base_value clock_value
 parts_meant known size align true Bin None h = refl
-parts_meant known size align true Oct None h = refl
-parts_meant known size align true Dec None h = refl
-parts_meant known size align true Hex None h = refl
 parts_meant known size align false Bin None h = refl
-parts_meant known size align false Oct None h = refl
-parts_meant known size align false Dec None h = refl
-parts_meant known size align false Hex None h = refl
+parts_meant known size align _ _ None h = refl
 parts_meant known size align true Bin (Some name) h = rw h refl
-parts_meant known size align true Oct (Some name) h = rw h refl
-parts_meant known size align true Dec (Some name) h = rw h refl
-parts_meant known size align true Hex (Some name) h = rw h refl
 parts_meant known size align false Bin (Some name) h = rw h refl
-parts_meant known size align false Oct (Some name) h = rw h refl
-parts_meant known size align false Dec (Some name) h = rw h refl
-parts_meant known size align false Hex (Some name) h = rw h refl
+parts_meant known size align _ _ (Some name) h = rw h refl
 
 pub integer_meant : (known : Known) (t : IntType) → IsKnown known.clocks t.clock → int_meaning known (integer_attributes t) ≡ Some t
 integer_meant known t h = parts_meant known t.size t.align t.signed t.base t.clock h ∙ int_type-own t
-
--- ---- enumerations
 
 signed_of-whole : (z : ℤ) → signed_of (whole_number z) ≡ z
 signed_of-whole (pos n) = refl
@@ -85,16 +47,11 @@ entries_of-trees : (ms : List Mapping) → entries_of (entry_trees ms) ≡ map e
 entries_of-trees [] = refl
 entries_of-trees (m ∷ ms) = refl
 
-pub le-leb : (m n : ℕ) → m ≤ n → leb m n ≡ true
-le-leb m n h = grind (arith, nat_tests)
-
 enum_meant : (t : EnumType) → All IsRange t.mappings → length t.mappings ≤ 65536 → enum_meaning t.int (entry_trees t.mappings) ≡ Some t
 unfolding enum_meaning
 enum_meant t h few =
     let short : nat_le (length (map entry_tree t.mappings)) 65536 ≡ true = le-leb (length (map entry_tree t.mappings)) 65536 (rw (length-map t.mappings entry_tree) few) in
     rw (entries_of-trees t.mappings, short, each_entry_meant t.mappings h) refl
-
--- ---- kinds
 
 abbrev pub IsKnownLeaf : List (List ℕ) → Leaf → Type 0
 IsKnownLeaf clocks (Number t) = IsKnown clocks t.clock
@@ -106,8 +63,6 @@ unfolding kind_meaning text_meaning
 kind_meant known (Number t) h = rw (integer_meant known t h) refl
 kind_meant known (Labelled t) h = rw (integer_meant known t.int h.0, enum_meant t h.1 h.2) refl
 kind_meant known ByteString h = refl
-
--- ---- arrays
 
 pub count_meant : (ns : List ℕ) → each count_of (map count_bracket ns) ≡ Some ns
 count_meant [] = refl
@@ -126,9 +81,7 @@ lengths_allowed ns h =
 
 pub arrays_of-chain : (t : FieldType) → arrays_of (chain_of t).leaf (chain_of t).lengths ≡ t
 arrays_of-chain (Int t) = refl
-arrays_of-chain (Enum t) = refl
-arrays_of-chain Str = refl
-arrays_of-chain (Static e n) = refl
+arrays_of-chain _ = refl
 
 abbrev pub Members : Type 0
 Members = List (List ℕ × MemberType)

@@ -1,19 +1,10 @@
 -- What is laid out spells its tokens again, whatever they are, where each of them can be written.
-use Rattle.std.proofs.Common.{◌≡◌, ℕ, true, false, eqb, List, [], ◌∷◌, ◌++◌, get_or, arith, refl, ap, ◌∙◌}
-use Rattle.std.specs.Prelude.{not, ◌||◌, codes}
-use Rattle.std.specs.List.{list_all, prefix_len, AllByRecursion}
-use Rattle.std.proofs.lemmas.Bool.Decides.{nat_tests}
-use Rattle.ctf_types.specs.Names.{is_letter, is_digit, is_identifier}
-use Rattle.tsdl_grammar.specs.declared.token.Mark.{Mark}
+use Rattle.tsdl_writer.proofs.TreeWords.{AllByRecursion, Atom, Block, IsString, List, Mark, [], ap, arith, codes, eqb, false, get_or, is_digit, is_identifier, is_letter, is_read, list_all, nat_tests, not, prefix_len, refl, text_toks, true, ℕ, ◌++◌, ◌||◌, ◌∙◌, ◌∷◌, ◌≡◌}
 use Rattle.tsdl_grammar.specs.declared.token.Mark.TheVariants as marks
-use Rattle.tsdl_grammar.specs.declared.atom.Atom.{Atom}
 use Rattle.tsdl_grammar.specs.declared.atom.Atom.TheVariants as atoms
-use Rattle.tsdl_grammar.specs.declared.tree.Block.{Block}
 use Rattle.tsdl_grammar.specs.Bytes.{is_blank, is_name_start, is_name_byte}
-use Rattle.tsdl_grammar.specs.Spelling.{text_toks}
 use Rattle.tsdl_grammar.specs.Tokens.{HasMagicLine, mark_text}
 use Rattle.tsdl_grammar.specs.Atoms.{Spells, Reads}
-use Rattle.tsdl_grammar.specs.Denotes.{is_read}
 use Rattle.tsdl_grammar.proofs.Runs.{and_true}
 use Rattle.tsdl_grammar.proofs.Continuation as continuation
 use Rattle.tsdl_grammar.proofs.WordStands as words
@@ -28,8 +19,7 @@ use Rattle.tsdl_writer.specs.declared.layout.Place.{Place}
 use Rattle.tsdl_writer.specs.declared.layout.Place.TheVariants as places
 use Rattle.tsdl_writer.specs.declared.layout.Next.{Next}
 use Rattle.tsdl_writer.specs.declared.layout.Next.TheVariants as nexts
-use Rattle.tsdl_writer.specs.Layout.{atom_text, depth_behind, place_behind, atom_depth, atom_place, next_of, line, closing_line, gap, laid, text_of}
-use Rattle.tsdl_writer.specs.Prints.{IsString}
+use Rattle.tsdl_writer.specs.Layout.{atom_text, behind, atom_behind, next_of, line, closing_line, gap, laid, text_of}
 use Rattle.tsdl_writer.proofs.Writable.{IsWritable}
 
 abbrev AreWritable : List Atom → Type 0
@@ -101,8 +91,8 @@ no_dot d (a ∷ rest) h = refl
 
 -- ---- tokens
 
-mark_stands : (m : Mark) (d : Depth) (rest : List Atom) → AreWritable rest → Spells (laid (depth_behind m d) (place_behind m d) rest) rest
-    → Spells (mark_text m ++ laid (depth_behind m d) (place_behind m d) rest) (atoms.Mark m ∷ rest)
+mark_stands : (m : Mark) (d : Depth) (rest : List Atom) → AreWritable rest → Spells (laid (behind m d).0 (behind m d).1 rest) rest
+    → Spells (mark_text m ++ laid (behind m d).0 (behind m d).1 rest) (atoms.Mark m ∷ rest)
 mark_stands marks.OpenBrace d rest h s = mark_steps.open_brace _ _ s
 mark_stands marks.CloseBrace d rest h s = mark_steps.close_brace _ _ s
 mark_stands marks.OpenBracket d rest h s = mark_steps.open_bracket _ _ s
@@ -119,8 +109,8 @@ mark_stands marks.Dot d rest h s = mark_steps.dot _ _ (no_dot d rest h) s
 mark_stands marks.Assign d rest h s = mark_steps.assign _ _ s
 mark_stands marks.Ellipsis d rest h s = mark_steps.ellipsis _ _ s
 
-atom_stands : (a : Atom) (d : Depth) (rest : List Atom) → IsWritable a → IsString a → AreWritable rest → Spells (laid (atom_depth d a) (atom_place d a) rest) rest
-    → Spells (atom_text a ++ laid (atom_depth d a) (atom_place d a) rest) (a ∷ rest)
+atom_stands : (a : Atom) (d : Depth) (rest : List Atom) → IsWritable a → IsString a → AreWritable rest → Spells (laid (atom_behind a d).0 (atom_behind a d).1 rest) rest
+    → Spells (atom_text a ++ laid (atom_behind a d).0 (atom_behind a d).1 rest) (a ∷ rest)
 atom_stands (atoms.Word w) d rest h t k s = words.word w (laid d places.Apart rest) rest (is_name w h.identifier) (apart d rest).no_name s
 atom_stands (atoms.Number n) d rest h t k s = numbers.number n (laid d places.Apart rest) rest h (apart d rest).no_name s
 atom_stands (atoms.Text x) d rest h t k s = texts.string x (laid d places.Apart rest) rest t s
@@ -130,8 +120,8 @@ atom_stands atoms.TooLarge d rest h t k s = absurd h
 stands : (d : Depth) (p : Place) (meant : List Atom) → AreWritable meant → AllByRecursion IsString meant → Spells (laid d p meant) meant
 stands d p [] h t = lists.blanks (codes "\n") [] [] refl continuation.nothing
 stands d p (a ∷ rest) h t =
-    let s = stands (atom_depth d a) (atom_place d a) rest h.1 t.1 in
-    lists.blanks (gap p (next_of a) d) (atom_text a ++ laid (atom_depth d a) (atom_place d a) rest) (a ∷ rest) (gap_blank p (next_of a) d) (atom_stands a d rest h.0 t.0 h.1 s)
+    let s = stands (atom_behind a d).0 (atom_behind a d).1 rest h.1 t.1 in
+    lists.blanks (gap p (next_of a) d) (atom_text a ++ laid (atom_behind a d).0 (atom_behind a d).1 rest) (a ∷ rest) (gap_blank p (next_of a) d) (atom_stands a d rest h.0 t.0 h.1 s)
 
 are_read : (meant : List Atom) → AreWritable meant → list_all is_read meant ≡ true
 are_read [] h = refl
@@ -143,5 +133,5 @@ are_read (a ∷ rest) h = are_read rest h.1
 -- the text of blocks has its magic line, reads as the blocks, and has no word that the grammar lacks
 pub text_reads : (bs : List Block) → AreWritable (text_toks bs) → AllByRecursion IsString (text_toks bs) → HasMagicLine (text_of bs) × Reads (text_of bs) (text_toks bs) × (list_all is_read (text_toks bs) ≡ true)
 text_reads bs h t =
-    let behind = laid depths.Top places.Line (text_toks bs) in
-    ((behind, refl), continuation.reads (text_of bs) (text_toks bs) (lists.magic behind (text_toks bs) (stands depths.Top places.Line (text_toks bs) h t)), are_read (text_toks bs) h)
+    let all = laid depths.Top places.Line (text_toks bs) in
+    ((all, refl), continuation.reads (text_of bs) (text_toks bs) (lists.magic all (text_toks bs) (stands depths.Top places.Line (text_toks bs) h t)), are_read (text_toks bs) h)

@@ -1,3 +1,4 @@
+pub mod TreeWords
 pub mod Writable
 pub mod FieldMeanings
 pub mod StructureMeanings
@@ -8,7 +9,5 @@ pub mod StreamMeanings
 pub mod TextMeaning
 pub mod TreesWritable
 pub mod BlocksWritable
-pub mod Walks
 pub mod LaidStands
-pub mod TextDenotes
 pub mod Printing

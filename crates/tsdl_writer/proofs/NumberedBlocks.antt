@@ -1,39 +1,21 @@
 -- Blocks that are numbered in their order: what stands in them, and that by their numbers they keep it.
-use Rattle.std.proofs.Common.{◌≡◌, ℕ, ◌+◌, ◌<◌, ◌≤◌, true, false, eqb, ltb, List, [], ◌∷◌, ◌++◌, map, length, Option, Some, refl, ap, ◌∙◌, arith, inl, inr}
-use Rattle.std.specs.List.{flat_map, list_any}
-use Rattle.std.proofs.lemmas.Bool.{lt-ltb, cases_lt, cases_Bool}
-use Rattle.std.proofs.lemmas.Bool.Decides.{nat_tests}
-use Rattle.std.proofs.lemmas.List.{append-nil}
+use Rattle.tsdl_writer.proofs.TreeWords.{Event, EventType, List, Option, Some, Stream, StreamType, [], ap, append-nil, arith, by_number, cases_Bool, cases_lt, each, eq-eqb, eqb, event_of, false, flat_map, have_streams, inl, inr, length, list_any, lt-ltb, ltb, map, nat_tests, refl, stream_of, streams_of, true, with_events, ℕ, ◌++◌, ◌+◌, ◌<◌, ◌>>=◌, ◌∙◌, ◌∷◌, ◌≡◌, ◌≤◌}
 use Rattle.std.proofs.lemmas.List.Folds.{list_all-append}
-use Rattle.ctf_types.specs.declared.StreamType.{StreamType}
-use Rattle.ctf_types.specs.declared.EventType.{EventType}
-use Rattle.ctf_types.specs.declared.Stream.{Stream}
-use Rattle.ctf_types.specs.declared.Event.{Event}
 use Rattle.ctf_types.specs.MetadataOf as meta
-use Rattle.ctf_types.specs.MetadataOf.{event_of, stream_of, streams_of}
-use Rattle.tsdl_grammar.specs.Steps.{◌>>=◌, each, by_number}
 use Rattle.tsdl_grammar.specs.Laws.{NumbersRise}
 use Rattle.tsdl_grammar.specs.Denotes as denotes
-use Rattle.tsdl_grammar.specs.Denotes.{with_events, have_streams}
-use Rattle.tsdl_grammar.proofs.Inversion.{bind_some}
-
--- ---- lists
-
-same_some : {A : Type 0} (x y : A) → Some x ≡ Some y → x ≡ y
-same_some x y e = cc
+use Rattle.tsdl_grammar.proofs.Inversion.{bind_some, some_same}
 
 pub each-append : {A B : Type 0} (f : A → Option B) (xs ys : List A) (us vs : List B) → each f xs ≡ Some us → each f ys ≡ Some vs → each f (xs ++ ys) ≡ Some (us ++ vs)
-each-append {A} {B} f [] ys us vs p q = q ∙ ap (λ (cs : List B). Some (cs ++ vs)) (same_some [] us p)
+each-append {A} {B} f [] ys us vs p q = q ∙ ap (λ (cs : List B). Some (cs ++ vs)) (some_same [] us (Some []) refl p)
 each-append {A} {B} f (x ∷ xs) ys us vs p q =
     let a = bind_some (f x) (λ y. each f xs >>= λ ys. Some (y ∷ ys)) us p in
     let b = bind_some (each f xs) (λ ys. Some (a.0 ∷ ys)) us a.2 in
-    rw (a.1, each-append f xs ys b.0 vs b.1 q) (ap (λ (cs : List B). Some (cs ++ vs)) (same_some (a.0 ∷ b.0) us b.2))
+    rw (a.1, each-append f xs ys b.0 vs b.1 q) (ap (λ (cs : List B). Some (cs ++ vs)) (some_same (a.0 ∷ b.0) us (Some (a.0 ∷ b.0)) refl b.2))
 
 pub none_taken : {A B C : Type 0} (f : B → List C) (g : A → B) (xs : List A) → ((x : A) → f (g x) ≡ []) → flat_map f (map g xs) ≡ []
 none_taken f g [] h = refl
 none_taken f g (x ∷ xs) h = rw (h x, none_taken f g xs h) refl
-
--- ---- by number
 
 by_number_kept : {A : Type 0} (number : A → ℕ) (xs : List A) → NumbersRise number xs → by_number number xs ≡ Some xs
 by_number_kept number [] h = refl
@@ -78,11 +60,6 @@ events_rise n [] = tt
 events_rise n (e ∷ []) = tt
 events_rise n (e ∷ f ∷ es) = ((let l : (event_of n e).id < (event_of (n + 1) f).id = omega (arith, event-id n e, event-id (n + 1) f) in l), events_rise (n + 1) (f ∷ es))
 
--- ---- each event is of a stream that is there
-
-eqb-same : (n : ℕ) → eqb n n ≡ true
-eqb-same n = grind (arith, nat_tests)
-
 eqb-other : (m n : ℕ) → m < n → eqb n m ≡ false
 eqb-other m n h = grind (arith, nat_tests)
 
@@ -94,7 +71,7 @@ stream_there n k [] low high = absurd (omega arith)
 stream_there n k (s ∷ ss) low high =
     elim (cases_lt n k) [
       | inl lt ↦ (let rest = stream_there (n + 1) k ss (omega arith) (omega arith) in rw (bare-id n s, eqb-later n k lt) rest)
-      | inr le ↦ (let same : n ≡ k = omega arith in rw (bare-id n s, same, eqb-same k) refl)
+      | inr le ↦ (let same : n ≡ k = omega arith in rw (bare-id n s, same, eq-eqb k k refl) refl)
     ]
 
 tagged_have : (streams : List Stream) (n : ℕ) (es : List Event) → list_any (λ (s : Stream). eqb s.id n) streams ≡ true → have_streams streams (tagged n es) ≡ true
@@ -111,8 +88,6 @@ all_have all n (s ∷ ss) h =
 pub have_all_streams : (ss : List StreamType) → have_streams (bares 0 ss) (all_tagged 0 ss) ≡ true
 have_all_streams ss = all_have ss 0 ss (omega arith)
 
--- ---- the events of one stream
-
 picked-append : (k : ℕ) (xs ys : List (ℕ × Event)) → denotes.events_of k (xs ++ ys) ≡ denotes.events_of k xs ++ denotes.events_of k ys
 picked-append k [] ys = refl
 picked-append k (x ∷ xs) ys =
@@ -123,7 +98,7 @@ picked-append k (x ∷ xs) ys =
 
 picked_own : (k : ℕ) (es : List Event) → denotes.events_of k (tagged k es) ≡ es
 picked_own k [] = refl
-picked_own k (e ∷ es) = rw (eqb-same k, picked_own k es) refl
+picked_own k (e ∷ es) = rw (eq-eqb k k refl, picked_own k es) refl
 
 picked_other : (k n : ℕ) (es : List Event) → eqb n k ≡ false → denotes.events_of k (tagged n es) ≡ []
 picked_other k n [] h = refl

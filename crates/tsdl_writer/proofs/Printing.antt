@@ -1,26 +1,9 @@
 -- Calls that print, one behind the other, and loops of such calls.
-use Rattle.std.proofs.Common.{◌≡◌, ℕ, Bool, false, Option, None, ◌+◌, ◌<◌, List, [], ◌∷◌, ◌++◌, map, length, drop, get_or, Result, Some, zero, suc, add-one, refl, sym, subst, ap, ◌∙◌, append_assoc}
-use Rattle.std.specs.Prelude.{OnOk, slice_get, codes, is_none}
-use Rattle.std.specs.Option.{option_map}
+pub use Rattle.tsdl_writer.proofs.TreeWords.{All, All-more, Atom, Auto, Base, Begins, Bool, ClockType, Config, Denotes, Dyn, Ends, EnvironmentEntry, EventType, Int, IntType, IsHeld, IsHeldClock, IsHeldValue, List, Mapping, MemberType, Name, None, OnOk, Option, Printer, Prints, Result, SFits, Some, Static, StreamType, [], add-one, align_toks, all_event_blocks, ap, append-nil, append_assoc, arith, array_member, attributes, block_and_semicolon, blocks_of, braced, bracket_toks, cases_Bool, chain_of, clock_block, clock_numbers, closing, codes, context_numbers, count_bracket, drop, drop_all, drop_more, entries_toks, entry_toks, entry_tree, entry_trees, environment_blocks, event_block, event_blocks, event_header_members, false, false≢true, flag_word, flat_map, flat_map-append, get_or, header_members, high_toks, inl, inr, int_le, int_toks, integer_attributes, ints, is_none, item_toks, kind_toks, kind_tree, length, length_member, length_name, length_type, map, member_toks, member_toks_of, member_tree, member_trees, metadata_of, name_toks, named_fact_toks, named_fact_tree, natural_item, natural_number, next_entry_toks, number_member, number_toks, one_word, option_map, optional_items, order_word, refl, rules, scope_items, slice_get, stream_block, stream_blocks, subst, suc, sym, take, take_all, take_rest, text_item, text_toks, to_z-of_z, token_toks, trace_block, two_words, uuid_item, uuid_member, w128, w64, whole_item, whole_number, word_item, zero, ℕ, ◌++◌, ◌+◌, ◌-◌, ◌<◌, ◌==◌, ◌∙◌, ◌∷◌, ◌≡◌, ◌≤◌}
 use Rattle.std.proofs.lemmas.Result.{on_ok_weaker}
-use Rattle.std.specs.List.{flat_map}
-use Rattle.std.proofs.lemmas.List.{drop_more, append-nil}
-use Rattle.std.proofs.lemmas.List.Concat.{flat_map-append}
-use Rattle.ctf_types.specs.declared.EnvironmentEntry.{EnvironmentEntry}
-use Rattle.ctf_types.specs.declared.Base.{Base}
-use Rattle.ctf_types.specs.declared.IntType.{IntType}
-use Rattle.ctf_types.specs.declared.MemberType.{MemberType}
-use Rattle.ctf_types.specs.MetadataOf.{number_member, uuid_member}
-use Rattle.tsdl_grammar.specs.declared.atom.Atom.{Atom}
-use Rattle.tsdl_writer.specs.declared.printer.Printer.{Printer}
 use Rattle.tsdl_grammar.specs.declared.atom.Atom.TheVariants as atoms
 use Rattle.tsdl_grammar.specs.declared.token.Mark.TheVariants as marks
-use Rattle.tsdl_grammar.specs.declared.tree.Name.{Name}
 use Rattle.tsdl_grammar.specs.declared.tree.Block.TheVariants as blocks
-use Rattle.tsdl_grammar.specs.Spelling.{name_toks, braced, member_toks, align_toks, item_toks, named_fact_toks, block_and_semicolon}
-use Rattle.tsdl_writer.specs.FieldTrees.{attributes, integer_attributes, natural_number, one_word, member_trees, member_toks_of}
-use Rattle.tsdl_writer.specs.BlockTrees.{closing, scope_items, two_words, named_fact_tree, environment_blocks}
-use Rattle.tsdl_writer.specs.Prints.{Ends, Prints}
 
 -- tokens in front of others, grouped as a tree groups them
 pub regroup : {p : Printer} {text : List ℕ} (a b rest : List Atom) → Ends p (a ++ (b ++ rest)) text → Ends p (a ++ b ++ rest) text
@@ -33,8 +16,6 @@ pair {A} {p} {text} toks xs ys rest e = subst (λ (w : List Atom). Ends p (w ++ 
 -- a last call, whose result is returned as it is
 pub last : {X E P Q : Type 0} (r : Result X E) → OnOk r P → (P → Q) → OnOk r Q
 last r one before = on_ok_weaker r before one
-
--- ---- loops
 
 -- the whole is printed, once what is left of it is
 pub record Leaves (o p : Printer) (whole left : List Atom) : Type 0 where
@@ -57,6 +38,13 @@ all_printed {o} {p} before e rest text h = before.on rest text (subst (λ (w : L
 pub item : {A : Type 0} (xs : List A) (i : ℕ) (x : A) → i < length xs → x ≡ get_or xs i x → drop i xs ≡ x ∷ drop (i + 1) xs
 item {A} xs i x h e = drop_more xs i x h ∙ ap (λ (y : A). y ∷ drop (i + 1) xs) (sym e)
 
+-- what holds of each item that was met holds of all in the end
+pub all_more : {A : Type 0} (P : A → Type 0) (xs : List A) (i : ℕ) (x : A) → i < length xs → x ≡ get_or xs i x → All P (take i xs) → P x → All P (take (i + 1) xs)
+all_more P xs i x h e all p = All-more P xs i x h all (subst P e p)
+
+pub all_met : {A : Type 0} (P : A → Type 0) (xs : List A) (i : ℕ) → length xs ≤ i → All P (take i xs) → All P xs
+all_met P xs i h all = subst (All P) (take_all i xs h) all
+
 -- the member at a place
 member_at_suc : (ms : List (List ℕ × MemberType)) (i : ℕ) (name : List ℕ) (t : MemberType) → option_map (λ m. m.0) (slice_get ms i) ≡ Some name → option_map (λ m. m.1) (slice_get ms i) ≡ Some t → drop i ms ≡ (name, t) ∷ drop (suc i) ms
 member_at_suc [] i name t e f = absurd cc
@@ -65,8 +53,6 @@ member_at_suc (m ∷ ms) (suc i) name t e f = member_at_suc ms i name t e f
 
 pub member_at : (ms : List (List ℕ × MemberType)) (i : ℕ) (name : List ℕ) (t : MemberType) → option_map (λ m. m.0) (slice_get ms i) ≡ Some name → option_map (λ m. m.1) (slice_get ms i) ≡ Some t → drop i ms ≡ (name, t) ∷ drop (i + 1) ms
 member_at ms i name t e f = member_at_suc ms i name t e f ∙ ap (λ (k : ℕ). (name, t) ∷ drop k ms) (sym (add-one i))
-
--- ---- trees
 
 pub nothing_behind : {p : Printer} {text : List ℕ} (a rest : List Atom) → Ends p (a ++ rest) text → Ends p (a ++ [] ++ rest) text
 nothing_behind a rest e = regroup a [] rest e
@@ -117,21 +103,15 @@ scope_groups {p} {text} name members rest align e =
     nothing_behind (name ++ scope ++ atoms.Mark marks.Semicolon ∷ []) rest (regroup (name ++ scope) (atoms.Mark marks.Semicolon ∷ []) rest (regroup name scope behind grouped))
 
 -- a structure with members, under its name
-pub scoped : {p : Printer} {text : List ℕ} (name : Name) (ms : List (List ℕ × MemberType)) (align : ℕ) (rest : List Atom) → (ms ≡ [] → ⊥)
-    → Ends p (name_toks name ++ (atoms.Mark marks.Assign ∷ atoms.Word (codes "struct") ∷ atoms.Mark marks.OpenBrace ∷ (flat_map member_toks_of ms ++ (closing align ++ rest)))) text
+pub scoped : {p : Printer} {text : List ℕ} (name : Name) (named : List Atom) (ms : List (List ℕ × MemberType)) (align : ℕ) (rest : List Atom) → name_toks name ≡ named → (ms ≡ [] → ⊥)
+    → Ends p (named ++ (atoms.Mark marks.Assign ∷ atoms.Word (codes "struct") ∷ atoms.Mark marks.OpenBrace ∷ (flat_map member_toks_of ms ++ (closing align ++ rest)))) text
     → Ends p (flat_map item_toks (scope_items name ms align) ++ rest) text
-scoped name [] align rest some e = absurd (some refl)
-scoped {p} {text} name (m ∷ ms) align rest some e =
-    let trees = flat_map member_toks (flat_map member_trees (m ∷ ms)) in
-    let same = sym (flat_map-flat_map member_toks member_trees (m ∷ ms)) in
-    let front = λ (w : List Atom). name_toks name ++ (atoms.Mark marks.Assign ∷ atoms.Word (codes "struct") ∷ atoms.Mark marks.OpenBrace ∷ (w ++ (closing align ++ rest))) in
-    scope_groups (name_toks name) trees rest align (subst (λ (w : List Atom). Ends p (front w) text) same e)
-
--- the same with a word in front of the name
-pub two_scoped : {p : Printer} {text : List ℕ} (v w : List ℕ) (ms : List (List ℕ × MemberType)) (align : ℕ) (rest : List Atom) → (ms ≡ [] → ⊥)
-    → Ends p (atoms.Word v ∷ atoms.Mark marks.Dot ∷ (flat_map item_toks (scope_items (one_word w) ms align) ++ rest)) text → Ends p (flat_map item_toks (scope_items (two_words v w) ms align) ++ rest) text
-two_scoped v w [] align rest some e = absurd (some refl)
-two_scoped v w (m ∷ ms) align rest some e = e
+scoped name named [] align rest same some e = absurd (some refl)
+scoped {p} {text} name named (m ∷ ms) align rest same some e =
+    let parts = sym (flat_map-flat_map member_toks member_trees (m ∷ ms)) in
+    let front = λ (n w : List Atom). n ++ (atoms.Mark marks.Assign ∷ atoms.Word (codes "struct") ∷ atoms.Mark marks.OpenBrace ∷ (w ++ (closing align ++ rest))) in
+    let spelled = subst (λ (n : List Atom). Ends p (front n (flat_map member_toks_of (m ∷ ms))) text) (sym same) e in
+    scope_groups (name_toks name) (flat_map member_toks (flat_map member_trees (m ∷ ms))) rest align (subst (λ (w : List Atom). Ends p (front (name_toks name) w) text) parts spelled)
 
 -- an environment with entries
 pub environment_stands : {p : Printer} {text : List ℕ} (es : List EnvironmentEntry) (rest : List Atom) → (es ≡ [] → ⊥)

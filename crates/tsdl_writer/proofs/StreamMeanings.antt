@@ -1,28 +1,6 @@
 -- What the stream and event blocks of a configuration mean: its streams by number, each with its events.
-use Rattle.std.proofs.Common.{◌≡◌, ℕ, ◌+◌, true, List, [], ◌∷◌, ◌++◌, Some, refl, sym, ap, subst, ◌∙◌, inl, inr, All}
-use Rattle.std.specs.Prelude.{codes}
-use Rattle.std.specs.List.{flat_map, list_any}
-use Rattle.std.specs.Str.{bytes_eq}
-use Rattle.std.proofs.lemmas.Bool.{cases_Bool, false≢true}
-use Rattle.std.proofs.lemmas.List.Elements.{All-head, All-tail, All-weaker}
-use Rattle.std.proofs.lemmas.List.Concat.{flat_map-append}
-use Rattle.ctf_types.specs.declared.MemberType.{MemberType}
-use Rattle.ctf_types.specs.declared.StructType.{StructType}
-use Rattle.ctf_types.specs.declared.StreamType.{StreamType}
-use Rattle.ctf_types.specs.declared.EventType.{EventType}
-use Rattle.ctf_types.specs.Allowed.{IsStruct, IsStream, IsUnsigned, Where}
-use Rattle.ctf_types.specs.AllowedConfig.{IsConfigStruct, IsEventType, IsStreamType}
+use Rattle.tsdl_writer.proofs.TreeWords.{All, All-head, All-tail, All-weaker, EventType, IsConfigStruct, IsEventType, IsStream, IsStreamType, IsStruct, IsUnsigned, Known, List, MemberType, Some, StreamType, StructType, Where, [], all_event_blocks, ap, bytes_eq, cases_Bool, codes, context_names, context_numbers, context_of, each, event_blocks, event_header_members, event_header_of, event_in, event_items, event_meaning, event_of, false≢true, flat_map, flat_map-append, has_member, inl, inr, list_any, no_members_shown, refl, shown_members, shown_struct, stream_blocks, stream_in, stream_items, stream_meaning, stream_of, streams_of, struct_is_allowed, struct_with, struct_with-members, structure_of, subst, sym, true, ℕ, ◌++◌, ◌+◌, ◌∙◌, ◌∷◌, ◌≡◌}
 use Rattle.ctf_types.specs.MetadataOf as meta
-use Rattle.ctf_types.specs.MetadataOf.{context_numbers, event_header_members, struct_with, context_of, event_header_of, event_of, stream_of, streams_of}
-use Rattle.ctf_types.specs.Shown.{shown_members, shown_struct}
-use Rattle.ctf_types.proofs.AllowedMembers.{no_members_shown, struct_is_allowed}
-use Rattle.ctf_types.proofs.AllowedMetadata.{struct_with-members}
-use Rattle.tsdl_grammar.specs.Steps.{each}
-use Rattle.tsdl_grammar.specs.IntegerMeaning.{Known}
-use Rattle.tsdl_grammar.specs.StructureMeaning.{has_member, structure_of}
-use Rattle.tsdl_grammar.specs.BlockMeaning.{context_names, stream_meaning, event_meaning}
-use Rattle.tsdl_grammar.specs.Denotes.{stream_in, event_in}
-use Rattle.tsdl_writer.specs.BlockTrees.{stream_items, stream_blocks, event_items, event_blocks, all_event_blocks}
 use Rattle.tsdl_writer.proofs.FieldMeanings.{Members}
 use Rattle.tsdl_writer.proofs.StructureMeanings.{found}
 use Rattle.tsdl_writer.proofs.StructuresRead.{structure_read, config_are_automatic, automatic-append, context_automatic, event_header_automatic, event_header_shown, all_suit}
@@ -35,8 +13,6 @@ config_struct_read known s h = structure_read known s.members s.min_align (shown
 pub struct_with-align : (ms : Members) → (ms ≡ [] → ⊥) → (struct_with ms).min_align ≡ 8
 struct_with-align [] h = absurd (h refl)
 struct_with-align (m ∷ ms) h = refl
-
--- ---- one stream
 
 context_read : (known : Known) (s : StreamType) → IsStreamType known.clocks s → IsStruct known.clocks (context_of s)
     → structure_of known (found (context_numbers s.context ++ s.extras.members) 8) ≡ Some (context_of s)
@@ -95,8 +71,6 @@ streams_read known n (s ∷ ss) t h =
       stream_block_read known n s (All-head (IsStreamType known.clocks) s ss t) (All-head (IsStream known.clocks) (stream_of n s) (streams_of (n + 1) ss) h),
       streams_read known (n + 1) ss (All-tail (IsStreamType known.clocks) s ss t) (All-tail (IsStream known.clocks) (stream_of n s) (streams_of (n + 1) ss) h),
     ) refl
-
--- ---- the events
 
 event_block_read : (known : Known) (stream n : ℕ) (s : StreamType) (e : EventType) → IsEventType s e → event_meaning known (event_items stream n e) ≡ Some (stream, event_of n e)
 unfolding event_of

@@ -1,33 +1,8 @@
 -- What the trees of a structure mean: its members as metadata has them, a dynamic array behind the member of its length.
-use Rattle.std.proofs.Common.{◌≡◌, ℕ, suc, ◌+◌, ◌%◌, ◌<◌, ◌≤◌, Bool, true, false, not, eqb, List, [], ◌∷◌, ◌++◌, length, length-append, Option, Some, None, refl, sym, ap, subst, ◌∙◌, arith, append_assoc, eq-eqb, inl, inr}
-use Rattle.std.specs.Prelude.{nat_le, nat_lt, ◌&&◌}
-use Rattle.std.specs.List.{flat_map, list_all, prefix_len, AllByRecursion, IsDistinct}
-use Rattle.std.specs.Str.{bytes_eq}
-use Rattle.std.proofs.lemmas.Bool.{lt-ltb, false≢true, cases_Bool}
-use Rattle.std.proofs.lemmas.List.{append-nil}
-use Rattle.std.proofs.lemmas.List.Elements.{recursion_from_All}
-use Rattle.std.proofs.lemmas.Map.Keys.{IsDistinct-head, IsDistinct-tail}
-use Rattle.std.proofs.lemmas.Slice.Eq.{bytes_eq-Decides}
-use Rattle.ctf_types.specs.declared.FieldType.{FieldType}
-use Rattle.ctf_types.specs.declared.FieldType.TheVariants.{Int}
-use Rattle.ctf_types.specs.declared.MemberType.{MemberType}
-use Rattle.ctf_types.specs.declared.MemberType.TheVariants.{Plain, Dyn}
-use Rattle.ctf_types.specs.declared.Length.TheVariants.{Auto, At}
-use Rattle.ctf_types.specs.declared.StructType.{StructType}
-use Rattle.ctf_types.specs.Allowed.{IsNest, HasBits}
-use Rattle.ctf_types.specs.FieldTypes.{chain_of}
-use Rattle.ctf_types.specs.Members.{names_in}
-use Rattle.ctf_types.specs.Shown.{length_name, length_type, shown_members}
+use Rattle.tsdl_writer.proofs.TreeWords.{AllByRecursion, At, Auto, Bool, Dyn, FieldType, HasBits, Int, IsDistinct, IsDistinct-head, IsDistinct-tail, IsNest, Known, List, MemberType, None, Option, Plain, Some, StructType, [], align_of, align_with, ap, append-nil, append_assoc, arith, array_member, bracketed, bytes_eq, bytes_eq-Decides, cases_Bool, chain_of, eq-eqb, eqb, false, false≢true, flat_map, has_member, inl, inr, is_unsigned, le-leb, length, length-append, length_member, length_name, length_place, length_type, list_all, lt-ltb, member_meaning, member_tree, member_trees, members_meaning, names_in, nat_le, nat_lt, natural_number, not, prefix_len, recursion_from_All, refl, shown_members, struct_meaning, struct_type-gives, structure_of, structure_tree, subst, suc, sym, true, ℕ, ◌%◌, ◌&&◌, ◌++◌, ◌+◌, ◌<◌, ◌∙◌, ◌∷◌, ◌≡◌, ◌≤◌}
 use Rattle.tsdl_grammar.specs.declared.tree.MemberTree.{MemberTree}
 use Rattle.tsdl_grammar.specs.declared.tree.Structure.{Structure}
-use Rattle.tsdl_grammar.specs.IntegerMeaning.{Known}
-use Rattle.tsdl_grammar.specs.MemberMeaning.{is_unsigned, length_place, bracketed, member_meaning}
-use Rattle.tsdl_grammar.specs.StructureMeaning.{has_member, members_meaning, align_of, align_with, struct_meaning, structure_of}
-use Rattle.tsdl_grammar.proofs.TypeParts.{struct_type-gives}
-use Rattle.tsdl_writer.specs.FieldTrees.{natural_number, member_tree, length_member, array_member, member_trees, structure_tree}
-use Rattle.tsdl_writer.proofs.FieldMeanings.{IsKnownLeaf, Members, kind_meant, no_nest, count_meant, lengths_allowed, arrays_of-chain, plain_meant, le-leb}
-
--- ---- a name that is new
+use Rattle.tsdl_writer.proofs.FieldMeanings.{IsKnownLeaf, Members, kind_meant, no_nest, count_meant, lengths_allowed, arrays_of-chain, plain_meant}
 
 bytes_eq-flip : (x y : List ℕ) → bytes_eq x y ≡ false → bytes_eq y x ≡ false
 bytes_eq-flip x y h = grind (arith, bytes_eq-Decides)
@@ -50,8 +25,6 @@ still_new (m ∷ before) x w t h e =
 all_still_new : (before : Members) (x : List ℕ) (t : MemberType) (names : List (List ℕ)) → AreNew before names → AllByRecursion (λ y. bytes_eq x y ≡ false) names → AreNew (before ++ (x, t) ∷ []) names
 all_still_new before x t [] h e = tt
 all_still_new before x t (w ∷ names) h e = (still_new before x w t h.0 e.0, all_still_new before x t names h.1 e.1)
-
--- ---- members
 
 -- a member whose leaf is known and whose arrays are allowed
 abbrev pub IsMeant : List (List ℕ) → MemberType → Type 0
@@ -140,8 +113,6 @@ all_new : (names : List (List ℕ)) → AreNew [] names
 all_new [] = tt
 all_new (w ∷ names) = (refl, all_new names)
 
--- ---- structures
-
 same_count : (n : ℕ) (ms : Members) (clocks : List (List ℕ)) → AreMeant clocks ms → length (flat_map member_trees ms) ≡ length (shown_members n ms)
 unfolding shown_members
 same_count n [] clocks h = refl
@@ -163,9 +134,8 @@ align_meant t =
 
 align_with-some : (m : List ℕ × MemberType) (ms : Members) (n align : ℕ) (clocks : List (List ℕ)) → AreMeant clocks (m ∷ ms) → align_with (shown_members n (m ∷ ms)) align ≡ align
 unfolding shown_members
-align_with-some (name, Plain t) ms n align clocks h = refl
-align_with-some (name, Dyn t Auto) ms n align clocks h = refl
 align_with-some (name, Dyn t (At i)) ms n align clocks h = absurd h.0
+align_with-some _ ms n align clocks h = refl
 
 -- the structure that is left out where it has no members
 abbrev pub found : Members → ℕ → Option Structure

@@ -1,36 +1,11 @@
 -- The structures of an allowed configuration's metadata are what their trees mean, and their members have the types that their names ask for.
-use Rattle.std.proofs.Common.{◌≡◌, ℕ, zero, suc, ◌+◌, ◌<◌, ◌≤◌, true, false, List, [], ◌∷◌, ◌++◌, length, Option, Some, None, refl, sym, ap, subst, ◌∙◌, inl, inr, Contains, arith}
-use Rattle.std.specs.Prelude.{codes}
-use Rattle.std.specs.List.{list_any, list_all, All, AllByRecursion, IsDistinct}
-use Rattle.std.specs.Str.{bytes_eq}
-use Rattle.std.proofs.lemmas.Bool.{cases_Bool, false≢true}
-use Rattle.std.proofs.lemmas.List.Elements.{All-head, All-tail}
-use Rattle.std.proofs.lemmas.Slice.Eq.{bytes_eq-Decides}
-use Rattle.ctf_types.specs.declared.IntType.{IntType}
-use Rattle.ctf_types.specs.declared.FieldType.TheVariants.{Int, Enum, Str, Static}
-use Rattle.ctf_types.specs.declared.MemberType.{MemberType}
-use Rattle.ctf_types.specs.declared.MemberType.TheVariants.{Plain, Dyn}
-use Rattle.ctf_types.specs.declared.Length.TheVariants.{Auto, At}
-use Rattle.ctf_types.specs.declared.StructType.{StructType}
+use Rattle.tsdl_writer.proofs.TreeWords.{All, All-head, All-tail, AllByRecursion, AreConfigMembers, AreMembers, At, Auto, ByteString, Contains, Dyn, Int, IntType, IsByteType, IsConfigMember, IsDistinct, IsIdentity, IsLeaf, IsMagic, IsStruct, IsUnsigned, Known, Labelled, Leaf, List, MemberType, None, Number, Option, Plain, Some, Static, StructType, Where, [], ap, arith, bytes_eq, bytes_eq-Decides, cases_Bool, chain_of, codes, context_numbers, event_header_members, false, false≢true, header_members, inl, inr, is_byte, is_unsigned, is_unsigned_of, is_uuid, length, length_name, length_type, list_all, list_any, names_in, number_member, refl, shown_members, structure_of, subst, suc, suits, suits_header, sym, true, uuid_member, zero, ℕ, ◌++◌, ◌+◌, ◌<◌, ◌∙◌, ◌∷◌, ◌≡◌, ◌≤◌}
 use Rattle.ctf_types.specs.declared.HeaderFeatures.{HeaderFeatures}
 use Rattle.ctf_types.specs.declared.ContextFeatures.{ContextFeatures}
 use Rattle.ctf_types.specs.declared.EventFeatures.{EventFeatures}
-use Rattle.ctf_types.specs.Chain.{Leaf, Number, Labelled, ByteString}
-use Rattle.ctf_types.specs.FieldTypes.{chain_of}
-use Rattle.ctf_types.specs.Members.{names_in}
-use Rattle.ctf_types.specs.Allowed.{IsLeaf, AreMembers, IsStruct, IsUnsigned, IsMagic, IsByteType, IsIdentity, Where}
-use Rattle.ctf_types.specs.AllowedConfig.{IsConfigMember, AreConfigMembers}
 use Rattle.ctf_types.specs.Laws.{IsAutomatic}
-use Rattle.ctf_types.specs.MetadataOf.{number_member, uuid_member, header_members, context_numbers, event_header_members}
-use Rattle.ctf_types.specs.Shown.{length_name, length_type, shown_members}
-use Rattle.tsdl_grammar.specs.IntegerMeaning.{Known}
-use Rattle.tsdl_grammar.specs.MemberMeaning.{is_unsigned}
-use Rattle.tsdl_grammar.specs.StructureMeaning.{structure_of}
-use Rattle.tsdl_grammar.specs.BlockMeaning.{is_unsigned_of, is_byte, is_uuid, suits_header, suits}
 use Rattle.tsdl_writer.proofs.FieldMeanings.{Members, IsKnown, IsKnownLeaf}
 use Rattle.tsdl_writer.proofs.StructureMeanings.{AreMeant, AreRead, found, structure_meant}
-
--- ---- structures
 
 -- what a list contains is its first item or stands behind it
 later : (k : List ℕ) (ks : List (List ℕ)) (name : List ℕ) → bytes_eq name k ≡ false → Contains (k ∷ ks) name → Contains ks name
@@ -82,12 +57,9 @@ pub structure_read : (known : Known) (ms : Members) (align : ℕ) (t : StructTyp
     → structure_of known (found ms align) ≡ Some t
 structure_read known ms align t same aligned a h = structure_meant known ms align t (are_read known ms t same a h) same aligned (λ e. h.empty (same ∙ nothing_shown ms e))
 
--- ---- what is automatic
-
 config_automatic : (t : MemberType) → IsConfigMember t → IsAutomatic t
-config_automatic (Plain t) h = tt
-config_automatic (Dyn t Auto) h = tt
 config_automatic (Dyn t (At i)) h = h
+config_automatic _ h = tt
 
 all_automatic : (ms : Members) → All (λ m. IsConfigMember m.1) ms → AreAutomatic ms
 all_automatic [] h = tt
@@ -132,13 +104,9 @@ context_automatic f =
 three_shown : (a b c : Option IntType) → number_member (codes "magic") a ++ uuid_member b ++ number_member (codes "stream_id") c ≡ shown_members 0 (number_member (codes "magic") a ++ uuid_member b ++ number_member (codes "stream_id") c)
 unfolding shown_members
 three_shown None None None = refl
-three_shown None None (Some c) = refl
-three_shown None (Some b) None = refl
-three_shown None (Some b) (Some c) = refl
 three_shown (Some a) None None = refl
-three_shown (Some a) None (Some c) = refl
-three_shown (Some a) (Some b) None = refl
-three_shown (Some a) (Some b) (Some c) = refl
+three_shown _ _ None = refl
+three_shown _ _ _ = refl
 
 pub header_shown : (f : HeaderFeatures) → header_members f ≡ shown_members 0 (header_members f)
 header_shown f = three_shown f.magic f.uuid f.stream_id
@@ -146,40 +114,27 @@ header_shown f = three_shown f.magic f.uuid f.stream_id
 two_shown : (a b : Option IntType) → number_member (codes "id") a ++ number_member (codes "timestamp") b ≡ shown_members 0 (number_member (codes "id") a ++ number_member (codes "timestamp") b)
 unfolding shown_members
 two_shown None None = refl
-two_shown None (Some b) = refl
 two_shown (Some a) None = refl
-two_shown (Some a) (Some b) = refl
+two_shown _ _ = refl
 
 pub event_header_shown : (f : EventFeatures) → event_header_members f ≡ shown_members 0 (event_header_members f)
 event_header_shown f = two_shown f.id f.timestamp
 
--- ---- members whose names ask for a type
-
 unsigned_tested : (t : MemberType) → IsUnsigned t → is_unsigned t ≡ true
 unsigned_tested (Plain (Int t)) h = rw h refl
-unsigned_tested (Plain (Enum t)) h = absurd h
-unsigned_tested (Plain Str) h = absurd h
-unsigned_tested (Plain (Static e n)) h = absurd h
-unsigned_tested (Dyn t l) h = absurd h
+unsigned_tested _ h = absurd h
 
 magic_tested : (t : MemberType) → IsMagic t → is_unsigned_of 32 t ≡ true
 magic_tested (Plain (Int t)) h = rw (h.0, h.1) refl
-magic_tested (Plain (Enum t)) h = absurd h
-magic_tested (Plain Str) h = absurd h
-magic_tested (Plain (Static e n)) h = absurd h
-magic_tested (Dyn t l) h = absurd h
+magic_tested _ h = absurd h
 
 byte_tested : (t : Leaf) → IsByteType t → is_byte t ≡ true
 byte_tested (Number t) h = rw (h.0, h.1, h.2) refl
-byte_tested (Labelled t) h = absurd h
-byte_tested ByteString h = absurd h
+byte_tested _ h = absurd h
 
 uuid_tested : (t : MemberType) → IsIdentity t → is_uuid t ≡ true
 uuid_tested (Plain (Static e n)) h = rw (h.0, h.1, byte_tested e.leaf h.2) refl
-uuid_tested (Plain (Int t)) h = absurd h
-uuid_tested (Plain (Enum t)) h = absurd h
-uuid_tested (Plain Str) h = absurd h
-uuid_tested (Dyn t l) h = absurd h
+uuid_tested _ h = absurd h
 
 header_member_suits : (m : List ℕ × MemberType) → (bytes_eq m.0 (codes "magic") ≡ true → IsMagic m.1) → (bytes_eq m.0 (codes "uuid") ≡ true → IsIdentity m.1)
     → (bytes_eq m.0 (codes "stream_id") ≡ true → IsUnsigned m.1) → suits_header m ≡ true

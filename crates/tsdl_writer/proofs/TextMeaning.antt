@@ -1,34 +1,14 @@
 -- The blocks of an allowed configuration mean its metadata.
-use Rattle.std.proofs.Common.{◌≡◌, ℕ, ◌+◌, List, [], ◌∷◌, ◌++◌, map, Some, refl, ap, ◌∙◌}
-use Rattle.std.specs.List.{flat_map, AllByRecursion}
-use Rattle.std.proofs.lemmas.List.{append-nil}
-use Rattle.std.proofs.lemmas.List.Elements.{recursion_from_All}
-use Rattle.std.proofs.lemmas.List.Concat.{flat_map-append}
-use Rattle.ctf_types.specs.declared.Config.{Config}
-use Rattle.ctf_types.specs.declared.StreamType.{StreamType}
-use Rattle.ctf_types.specs.declared.ClockType.{ClockType}
-use Rattle.ctf_types.specs.declared.EnvironmentEntry.{EnvironmentEntry}
-use Rattle.ctf_types.specs.Allowed.{IsMetadata, IsStruct}
-use Rattle.ctf_types.specs.AllowedConfig.{IsConfig}
-use Rattle.ctf_types.specs.MetadataOf.{header_members, struct_with, header_of, streams_of, metadata_of}
-use Rattle.ctf_types.proofs.AllowedMetadata.{struct_with-members, metadata_is_allowed}
-use Rattle.tsdl_grammar.specs.declared.tree.Item.{Item}
+use Rattle.tsdl_writer.proofs.TreeWords.{AllByRecursion, Block, ClockType, Config, Denotes, EnvironmentEntry, IsConfig, IsHeld, IsHeldClock, IsHeldValue, IsMetadata, IsString, IsStruct, Item, List, Some, StreamType, [], all_event_blocks, ap, append-nil, at_most_one, blocks_of, clock_block, clock_in, clock_meaning, each, environment_blocks, environment_in, event_block, event_blocks, event_in, event_items, flat_map, flat_map-append, header_members, header_of, known_of, map, metadata_is_allowed, metadata_of, named_fact_tree, numbered, recursion_from_All, refl, stream_block, stream_blocks, stream_in, streams_meaning, streams_of, struct_with, struct_with-members, structure_of, text_meta, text_toks, trace_block, trace_in, trace_items, written, ℕ, ◌++◌, ◌+◌, ◌∙◌, ◌∷◌, ◌≡◌}
 use Rattle.tsdl_grammar.specs.declared.tree.NamedFact.{NamedFact}
-use Rattle.tsdl_grammar.specs.declared.tree.Block.{Block}
 use Rattle.tsdl_grammar.specs.declared.tree.Block.TheVariants as blocks
-use Rattle.tsdl_grammar.specs.Steps.{at_most_one, each}
-use Rattle.tsdl_grammar.specs.StructureMeaning.{structure_of}
-use Rattle.tsdl_grammar.specs.BlockMeaning.{clock_meaning}
-use Rattle.tsdl_grammar.specs.Denotes.{trace_in, stream_in, event_in, clock_in, environment_in, known_of, streams_meaning, text_meta}
-use Rattle.tsdl_writer.specs.Held.{IsHeldClock, IsHeldValue, IsHeld}
-use Rattle.tsdl_writer.specs.BlockTrees.{numbered, trace_items, trace_block, environment_blocks, clock_block, stream_block, event_items, event_block, stream_blocks, event_blocks, all_event_blocks, named_fact_tree, blocks_of}
 use Rattle.tsdl_writer.proofs.StructureMeanings.{found}
 use Rattle.tsdl_writer.proofs.StructuresRead.{structure_read, header_automatic, header_shown, header_suits}
 use Rattle.tsdl_writer.proofs.BlockMeanings.{trace_is, trace_order_is, trace_uuid_is, header_is, clock_is, environment_is, no_two-distinct}
 use Rattle.tsdl_writer.proofs.NumberedBlocks.{none_taken, bares_by_number, have_all_streams, each_has_its_events}
 use Rattle.tsdl_writer.proofs.StreamMeanings.{struct_with-align, streams_read, all_events_read}
-
--- ---- the blocks of each kind
+use Rattle.tsdl_writer.proofs.LaidStands.{text_reads}
+use Rattle.tsdl_writer.proofs.BlocksWritable.{blocks_writable}
 
 numbered_none : {A B C : Type 0} (f : B → List C) (g : ℕ → A → List B) (n : ℕ) (xs : List A) → ((k : ℕ) (x : A) → flat_map f (g k x) ≡ []) → flat_map f (numbered g n xs) ≡ []
 numbered_none f g n [] h = refl
@@ -74,8 +54,6 @@ events_alone : (c : Config) → flat_map event_in (blocks_of c) ≡ flat_map eve
 events_alone c =
     taken event_in c ∙ rw (no_environment event_in c.environment (λ fs. refl), none_taken event_in clock_block c.clocks (λ k. refl), no_streams event_in c.streams (λ k s. refl)) refl
 
--- ---- clocks and the environment
-
 clocks_read : (cs : List ClockType) → AllByRecursion IsHeldClock cs → each clock_meaning (flat_map clock_in (map clock_block cs)) ≡ Some cs
 clocks_read [] h = refl
 clocks_read (c ∷ cs) h = rw (clock_is c h.0.uuid h.0.offset_seconds, clocks_read cs h.1) refl
@@ -83,8 +61,6 @@ clocks_read (c ∷ cs) h = rw (clock_is c h.0.uuid h.0.offset_seconds, clocks_re
 facts_read : (es : List EnvironmentEntry) → at_most_one (flat_map environment_in (environment_blocks es)) ≡ Some (map named_fact_tree es)
 facts_read [] = refl
 facts_read (e ∷ es) = refl
-
--- ---- the whole
 
 header_read : (c : Config) → IsStruct (map (λ k. k.name) c.clocks) (header_of c) → structure_of (known_of c.order c.clocks) (found (header_members c.header) 8) ≡ Some (header_of c)
 unfolding header_of
@@ -121,3 +97,10 @@ text_meant c h held =
       header,
       streams_meant c h m,
     ) refl
+
+-- so the written text denotes it
+pub written_denotes : (c : Config) → IsConfig c → IsHeld c → AllByRecursion IsString (text_toks (blocks_of c)) → Denotes (written c) (metadata_of c)
+unfolding written
+written_denotes c h held strings =
+    let reads = text_reads (blocks_of c) (blocks_writable c h held).all strings in
+    (reads.0, text_toks (blocks_of c), reads.1, reads.2, (blocks_of c, refl, text_meant c h held))

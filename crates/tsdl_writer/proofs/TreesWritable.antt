@@ -1,32 +1,10 @@
 -- The tokens of an allowed configuration's members can be written: their names are identifiers, and their numbers have 64 bits.
-use Rattle.std.proofs.Common.{◌≡◌, ℕ, ◌+◌, ◌-◌, ◌*◌, ◌%◌, ◌<◌, ◌≤◌, ◌^◌, ℤ, pos, negsuc, ◌≤ℤ◌, Bool, true, false, max, List, [], ◌∷◌, ◌++◌, map, Option, Some, None, refl, subst, arith, inl, inr, All}
-use Rattle.std.specs.Prelude.{codes, int_le}
-use Rattle.std.specs.List.{flat_map}
-use Rattle.std.proofs.lemmas.Int.{ints}
-use Rattle.std.proofs.lemmas.Bool.{cases_Bool, cases_lt}
-use Rattle.std.proofs.lemmas.List.Elements.{All-head, All-tail, All-contains}
-use Rattle.std.proofs.Math.Nat.{mod-eq_of_lt, mul-le-mul_left, mul_comm}
-use Rattle.ctf_types.specs.declared.Base.{Base}
-use Rattle.ctf_types.specs.declared.Base.TheVariants.{Bin, Oct, Dec, Hex}
-use Rattle.ctf_types.specs.declared.IntType.{IntType}
-use Rattle.ctf_types.specs.declared.Mapping.{Mapping}
-use Rattle.ctf_types.specs.declared.FieldType.TheVariants.{Int}
-use Rattle.ctf_types.specs.declared.MemberType.TheVariants.{Plain, Dyn}
-use Rattle.ctf_types.specs.declared.Length.TheVariants.{Auto, At}
-use Rattle.ctf_types.specs.Chain.{Leaf, Number, Labelled, ByteString}
-use Rattle.ctf_types.specs.FieldTypes.{chain_of}
-use Rattle.ctf_types.specs.Members.{names_in}
-use Rattle.ctf_types.specs.Names.{is_identifier, IsMetadataName}
-use Rattle.ctf_types.specs.Allowed.{IsMappedTo, IsRange, IsLeaf, elements_of, AreMembers}
-use Rattle.ctf_types.specs.Shown.{length_name, length_type, shown_members}
+use Rattle.tsdl_writer.proofs.TreeWords.{All, All-contains, All-head, All-tail, AreMembers, At, Auto, Base, Bin, Bool, ByteString, Dyn, Int, IntType, IsLeaf, IsMappedTo, IsMetadataName, IsRange, Labelled, Leaf, List, Mapping, None, Number, Option, Plain, Some, [], arith, attr_toks, base_number, bracket_toks, cases_Bool, cases_lt, chain_of, codes, count_bracket, entries_toks, entry_toks, entry_tree, entry_trees, false, flag_word, flat_map, high_number, high_toks, inl, inr, int_le, int_toks, integer_attributes, ints, is_identifier, kind_toks, kind_tree, length_name, length_type, map, mapping_attributes, max, member_toks, member_trees, mod-eq_of_lt, mul-le-mul_left, mul_comm, names_in, negsuc, next_entry_toks, pos, refl, shown_members, subst, true, ℕ, ℤ, ◌%◌, ◌*◌, ◌++◌, ◌+◌, ◌-◌, ◌<◌, ◌^◌, ◌∷◌, ◌≡◌, ◌≤ℤ◌, ◌≤◌}
+use Rattle.ctf_types.specs.Allowed.{elements_of}
 use Rattle.tsdl_grammar.specs.declared.token.Mark.TheVariants as marks
-use Rattle.tsdl_grammar.specs.Spelling.{attr_toks, int_toks, high_toks, entry_toks, next_entry_toks, entries_toks, kind_toks, bracket_toks, member_toks}
-use Rattle.tsdl_writer.specs.FieldTrees.{flag_word, base_number, mapping_attributes, integer_attributes, high_number, entry_tree, entry_trees, kind_tree, count_bracket, member_trees}
 use Rattle.tsdl_writer.proofs.Writable.{Can, nothing, mark, word, keyword, number, string, both, ended, in_braces, whole, natural_value, word_value}
 use Rattle.tsdl_writer.proofs.FieldMeanings.{Members}
 use Rattle.tsdl_writer.proofs.StructuresRead.{AreAutomatic}
-
--- ---- words and numbers
 
 -- an alignment is at most 4,096
 pub align_fits : (a : ℕ) → 0 < a → 4096 % a ≡ 0 → a < 2 ^ 64
@@ -39,11 +17,7 @@ flag_named false = record { identifier = refl; no_keyword = refl }
 
 base_fits : (b : Base) → base_number b < 2 ^ 64
 base_fits Bin = omega arith
-base_fits Oct = omega arith
-base_fits Dec = omega arith
-base_fits Hex = omega arith
-
--- ---- integers
+base_fits _ = omega arith
 
 mapping_writable : (clock : Option (List ℕ)) → ((name : List ℕ) → clock ≡ Some name → IsMetadataName name) → Can (flat_map attr_toks (mapping_attributes clock))
 unfolding is_identifier
@@ -57,8 +31,6 @@ integer_writable t h =
     let size : t.size < 2 ^ 64 = omega (arith, t.at_most_64) in
     keyword (codes "integer") refl refl (in_braces (both (natural_value (codes "size") t.size refl refl size) (both (natural_value (codes "align") t.align refl refl (align_fits t.align t.positive t.power_of_two))
     (both (word_value (codes "signed") (flag_word t.signed) refl refl (flag_named t.signed)) (both (natural_value (codes "base") (base_number t.base) refl refl (base_fits t.base)) (mapping_writable t.clock h))))))
-
--- ---- enumerations
 
 high_writable : (low high : ℤ) → negsuc (2 ^ 64 - 2) ≤ℤ high → high ≤ℤ pos (2 ^ 64 - 1) → Can (high_toks (high_number low high))
 high_writable low high a b = elim (cases_Bool (int_le high low)) [ inl e ↦ rw e nothing | inr e ↦ rw e (mark marks.Ellipsis (whole high a b)) ]
@@ -76,8 +48,6 @@ others_writable (m ∷ ms) h = both (mark marks.Comma (entry_writable m (All-hea
 entries_writable : (ms : List Mapping) → All IsRange ms → Can (entries_toks (entry_trees ms))
 entries_writable [] h = nothing
 entries_writable (m ∷ ms) h = both (both (entry_writable m (All-head IsRange m ms h)) (others_writable ms (All-tail IsRange m ms h))) nothing
-
--- ---- kinds and members
 
 clock_named : (clocks : List (List ℕ)) (t : IntType) → All IsMetadataName clocks → IsMappedTo clocks t → (name : List ℕ) → t.clock ≡ Some name → IsMetadataName name
 clock_named clocks t names h name e = All-contains IsMetadataName clocks name names (h name e)

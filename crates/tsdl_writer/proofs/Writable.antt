@@ -1,16 +1,7 @@
 -- Tokens that can be written as they are: words are identifiers that are read, and numbers are below 2^64.
-use Rattle.std.proofs.Common.{◌≡◌, ℕ, ℤ, pos, negsuc, suc, ◌-◌, ◌^◌, ◌<◌, ◌≤ℤ◌, true, false, List, [], ◌∷◌, ◌++◌, arith, subst, sym}
-use Rattle.std.specs.List.{flat_map, list_any, AllByRecursion}
-use Rattle.std.specs.Str.{bytes_eq}
-use Rattle.std.proofs.lemmas.Int.{ints}
-use Rattle.std.proofs.lemmas.List.Concat.{flat_map-append}
-use Rattle.ctf_types.specs.Names.{is_identifier, unused_keywords, IsMetadataName}
-use Rattle.tsdl_grammar.specs.declared.token.Mark.{Mark}
+use Rattle.tsdl_writer.proofs.TreeWords.{AllByRecursion, Atom, IsMetadataName, List, Mark, [], arith, attr_toks, braced, bytes_eq, false, flat_map, flat_map-append, ints, is_identifier, list_any, natural_attribute, negsuc, number_toks, pos, subst, suc, sym, text_attribute, true, unused_keywords, whole_number, word_attribute, ℕ, ℤ, ◌++◌, ◌-◌, ◌<◌, ◌^◌, ◌∷◌, ◌≡◌, ◌≤ℤ◌}
 use Rattle.tsdl_grammar.specs.declared.token.Mark.TheVariants as marks
-use Rattle.tsdl_grammar.specs.declared.atom.Atom.{Atom}
 use Rattle.tsdl_grammar.specs.declared.atom.Atom.TheVariants as atoms
-use Rattle.tsdl_grammar.specs.Spelling.{number_toks, attr_toks, braced}
-use Rattle.tsdl_writer.specs.FieldTrees.{whole_number, natural_attribute, word_attribute, text_attribute}
 
 abbrev pub IsWritable : Atom → Type 0
 IsWritable (atoms.Word w) = IsMetadataName w
@@ -21,8 +12,6 @@ IsWritable atoms.TooLarge = ⊥
 
 pub record Can (meant : List Atom) : Type 0 where
   pub all : AllByRecursion IsWritable meant
-
--- ---- one behind the other
 
 pub nothing : Can []
 nothing = record { all = tt }
@@ -60,8 +49,6 @@ in_braces a = mark marks.OpenBrace (ended marks.CloseBrace a)
 -- trees of two lists
 pub joined : {A : Type 0} (toks : A → List Atom) (xs ys : List A) → Can (flat_map toks xs) → Can (flat_map toks ys) → Can (flat_map toks (xs ++ ys))
 joined toks xs ys a b = subst Can (sym (flat_map-append toks xs ys)) (both a b)
-
--- ---- numbers and attributes
 
 pub whole : (z : ℤ) → negsuc (2 ^ 64 - 2) ≤ℤ z → z ≤ℤ pos (2 ^ 64 - 1) → Can (number_toks (whole_number z))
 whole (pos n) low high = number n (omega (arith, ints)) nothing

@@ -18,54 +18,34 @@ use Rattle.tsdl_writer.specs.declared.layout.Place.TheVariants as places
 use Rattle.tsdl_writer.specs.declared.layout.Next.{Next}
 use Rattle.tsdl_writer.specs.declared.layout.Next.TheVariants as nexts
 
--- ---- a token
-
--- a text between its quotes
-abbrev pub quoted : List ℕ → List ℕ
-quoted text = codes "\"" ++ escaped text ++ codes "\""
-
--- nothing spells a literal that is too large
+-- a text stands between its quotes, and nothing spells a literal that is too large
 abbrev pub atom_text : Atom → List ℕ
 atom_text (atoms.Word w) = w
 atom_text (atoms.Number n) = decimal n
-atom_text (atoms.Text s) = quoted s
+atom_text (atoms.Text s) = codes "\"" ++ escaped s ++ codes "\""
 atom_text (atoms.Mark m) = mark_text m
 atom_text atoms.TooLarge = []
 
--- ---- what stands behind a token
-
 -- a block's braces hold attributes and structures, a structure's hold types
-abbrev pub depth_behind : Mark → Depth → Depth
-depth_behind marks.OpenBrace depths.Top = depths.Block
-depth_behind marks.OpenBrace depths.Block = depths.Structure
-depth_behind marks.OpenBrace d = depths.Type
-depth_behind marks.CloseBrace depths.Type = depths.Structure
-depth_behind marks.CloseBrace depths.Structure = depths.Block
-depth_behind marks.CloseBrace d = depths.Top
-depth_behind m d = d
+abbrev pub behind : Mark → Depth → Depth × Place
+behind marks.OpenBrace depths.Top = (depths.Block, places.Line)
+behind marks.OpenBrace depths.Block = (depths.Structure, places.Line)
+behind marks.OpenBrace d = (depths.Type, places.Inside)
+behind marks.CloseBrace depths.Type = (depths.Structure, places.Apart)
+behind marks.CloseBrace depths.Structure = (depths.Block, places.Apart)
+behind marks.CloseBrace d = (depths.Top, places.Apart)
+behind marks.Semicolon depths.Type = (depths.Type, places.Apart)
+behind marks.Semicolon d = (d, places.Line)
+behind marks.OpenBracket d = (d, places.Joined)
+behind marks.OpenParenthesis d = (d, places.Joined)
+behind marks.Minus d = (d, places.Joined)
+behind marks.Plus d = (d, places.Joined)
+behind marks.Dot d = (d, places.Dotted)
+behind m d = (d, places.Apart)
 
-abbrev pub place_behind : Mark → Depth → Place
-place_behind marks.OpenBrace depths.Top = places.Line
-place_behind marks.OpenBrace depths.Block = places.Line
-place_behind marks.OpenBrace d = places.Inside
-place_behind marks.Semicolon depths.Type = places.Apart
-place_behind marks.Semicolon d = places.Line
-place_behind marks.OpenBracket d = places.Joined
-place_behind marks.OpenParenthesis d = places.Joined
-place_behind marks.Minus d = places.Joined
-place_behind marks.Plus d = places.Joined
-place_behind marks.Dot d = places.Dotted
-place_behind m d = places.Apart
-
-abbrev pub atom_depth : Depth → Atom → Depth
-atom_depth d (atoms.Mark m) = depth_behind m d
-atom_depth d a = d
-
-abbrev pub atom_place : Depth → Atom → Place
-atom_place d (atoms.Mark m) = place_behind m d
-atom_place d a = places.Apart
-
--- ---- the gap in front of a token
+abbrev pub atom_behind : Atom → Depth → Depth × Place
+atom_behind (atoms.Mark m) d = behind m d
+atom_behind a d = (d, places.Apart)
 
 abbrev pub mark_next : Mark → Next
 mark_next marks.CloseBrace = nexts.Close
@@ -105,12 +85,10 @@ gap places.Dotted nexts.Word d = []
 gap places.Apart nexts.Leaning d = []
 gap p n d = codes " "
 
--- ---- the whole
-
 -- the tokens, and the end of the last line
 abbrev pub laid : Depth → Place → List Atom → List ℕ
 laid d p [] = codes "\n"
-laid d p (a ∷ rest) = gap p (next_of a) d ++ (atom_text a ++ laid (atom_depth d a) (atom_place d a) rest)
+laid d p (a ∷ rest) = gap p (next_of a) d ++ (atom_text a ++ laid (atom_behind a d).0 (atom_behind a d).1 rest)
 
 -- the magic line, and the blocks
 abbrev pub text_of : List Block → List ℕ

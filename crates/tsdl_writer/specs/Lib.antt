@@ -1,6 +1,5 @@
 pub mod Layout
-pub mod FieldTrees
-pub mod BlockTrees
+pub mod Trees
 pub mod Written
 pub mod Prints
 pub mod Held

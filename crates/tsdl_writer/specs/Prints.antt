@@ -12,7 +12,7 @@ use Rattle.tsdl_writer.specs.declared.layout.Place.TheVariants.{Line, Apart}
 use Rattle.tsdl_writer.specs.declared.printer.Printer.{Printer}
 use Rattle.tsdl_writer.specs.declared.printer.Token.{Token}
 use Rattle.tsdl_writer.specs.declared.printer.Token.TheVariants as tokens
-use Rattle.tsdl_writer.specs.FieldTrees.{whole_number}
+use Rattle.tsdl_writer.specs.Trees.{whole_number}
 use Rattle.tsdl_writer.specs.Layout.{laid}
 
 -- what is read of a token that is printed

@@ -1,12 +1,10 @@
 //! Attributes: of blocks, of integers, and entries of the environment.
 
-ghost use Rattle.std.specs.Prelude.{◌≡◌, ◌<◌, ◌^◌, [], ◌∷◌, ◌++◌, IfSome, OnOk, codes};
-ghost use Rattle.std.specs.List.{flat_map};
+ghost use Rattle.std.specs.Prelude.{◌≡◌, ◌<◌, ◌^◌, [], ◌∷◌, ◌++◌, IfSome, OnOk, codes, flat_map};
 ghost use Rattle.tsdl_grammar.specs.declared.atom.Atom.TheVariants as atoms;
 ghost use Rattle.tsdl_grammar.specs.declared.token.Mark.TheVariants as marks;
 ghost use Rattle.tsdl_grammar.specs.Spelling.{attr_toks, item_toks};
-ghost use Rattle.tsdl_writer.specs.FieldTrees.{natural_attribute, flag_word};
-ghost use Rattle.tsdl_writer.specs.BlockTrees.{natural_item, text_item, optional_items, uuid_item};
+ghost use Rattle.tsdl_writer.specs.Trees.{flag_word, natural_attribute, natural_item, text_item, optional_items, uuid_item};
 ghost use Rattle.tsdl_writer.specs.Held.{IsHeldUuid};
 ghost use Rattle.tsdl_writer.specs.Prints.{Prints, token_toks};
 

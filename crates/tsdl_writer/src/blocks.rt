@@ -1,20 +1,19 @@
 //! The blocks of a configuration.
 
-ghost use Rattle.std.specs.Prelude.{◌≡◌, All, IfSome, OnOk};
-ghost use Rattle.std.specs.List.{flat_map};
+ghost use Rattle.std.specs.Prelude.{◌≡◌, All, IfSome, OnOk, flat_map};
 ghost use Rattle.tsdl_grammar.specs.Spelling.{named_fact_toks, block_and_semicolon};
-ghost use Rattle.tsdl_writer.specs.BlockTrees.{order_word, trace_block, named_fact_tree, environment_blocks, clock_block, stream_block, event_block};
+ghost use Rattle.tsdl_writer.specs.Trees.{order_word, trace_block, named_fact_tree, environment_blocks, clock_block, stream_block, event_block};
 ghost use Rattle.tsdl_writer.specs.Held.{IsHeldUuid, IsHeldClock, IsHeldValue};
 ghost use Rattle.tsdl_writer.specs.Prints.{Prints};
 
 use crate::attributes::{attribute, description, flag_word, log_level, natural, uuid};
 use crate::printer::Token::{Mark, Number, Quoted, Whole, Word};
 use crate::printer::{Printed, Printer, Token};
-use crate::scopes::{context, event_context, event_header, header, structure};
+use crate::scopes::{context, event_header, header, structure};
 use ctf_types::{
     ByteOrder, ClockType, Config, EnvironmentEntry, EnvironmentValue, EventType, StreamType,
 };
-use tsdl_grammar::Mark::{CloseBrace, OpenBrace, Semicolon};
+use tsdl_grammar::Mark::{CloseBrace, Dot, OpenBrace, Semicolon};
 
 /// What a block ends with.
 const END: [Token<'static>; 2] = [Mark(CloseBrace), Mark(Semicolon)];
@@ -95,7 +94,8 @@ pub(crate) fn stream(out: &mut Printer, id: u64, stream: &StreamType) -> Printed
     attribute(out, "id", Number(id))?;
     context(out, stream)?;
     event_header(out, &stream.event_header)?;
-    event_context(out, &stream.common)?;
+    let name = [Word("event"), Mark(Dot), Word("context")];
+    structure(out, &name, &stream.common)?;
     out.print(&END)
 }
 
@@ -108,7 +108,7 @@ pub(crate) fn event(out: &mut Printer, stream_id: u64, id: u64, event: &EventTyp
     attribute(out, "id", Number(id))?;
     attribute(out, "stream_id", Number(stream_id))?;
     log_level(out, event.log_level)?;
-    structure(out, "context", &event.specific)?;
-    structure(out, "fields", &event.payload)?;
+    structure(out, &[Word("context")], &event.specific)?;
+    structure(out, &[Word("fields")], &event.payload)?;
     out.print(&END)
 }

@@ -1,7 +1,7 @@
 //! The gap in front of each token: it is known from the braces that are open, from the token before and from the token itself.
 
 ghost use Rattle.std.specs.Prelude.{◌≡◌};
-ghost use Rattle.tsdl_writer.specs.Layout.{gap, mark_next, depth_behind, place_behind};
+ghost use Rattle.tsdl_writer.specs.Layout.{gap, mark_next, behind};
 
 use tsdl_grammar::Mark;
 
@@ -46,12 +46,10 @@ pub(crate) fn gap(depth: Depth, place: Place, next: Next) -> &'static str
     match (place, depth, next) {
         (Place::Line, Depth::Top, _) => "\n\n",
         (Place::Line, Depth::Block, Next::Close) => "\n",
-        (Place::Line, Depth::Block, _) => "\n\t",
-        (Place::Line, Depth::Structure, Next::Close) => "\n\t",
+        (Place::Line, Depth::Block, _) | (Place::Line, Depth::Structure, Next::Close) => "\n\t",
         (Place::Line, _, _) => "\n\t\t",
         (Place::Inside, _, Next::Close) => "  ",
-        (Place::Joined, _, _) => "",
-        (Place::Dotted, _, Next::Word) => "",
+        (Place::Joined, _, _) | (Place::Dotted, _, Next::Word) => "",
         (Place::Apart, _, Next::Leaning) => "",
         _ => " ",
     }
@@ -69,30 +67,21 @@ pub(crate) fn mark_next(mark: Mark) -> Next
     }
 }
 
-pub(crate) fn place_behind(depth: Depth, mark: Mark) -> Place
-    ensures { result ≡ place_behind mark depth }
+pub(crate) fn behind(depth: Depth, mark: Mark) -> (Depth, Place)
+    ensures { result ≡ behind mark depth }
 {
     match (mark, depth) {
-        (Mark::OpenBrace, Depth::Top | Depth::Block) => Place::Line,
-        (Mark::OpenBrace, _) => Place::Inside,
-        (Mark::Semicolon, Depth::Type) => Place::Apart,
-        (Mark::Semicolon, _) => Place::Line,
-        (Mark::OpenBracket | Mark::OpenParenthesis | Mark::Minus | Mark::Plus, _) => Place::Joined,
-        (Mark::Dot, _) => Place::Dotted,
-        _ => Place::Apart,
-    }
-}
-
-pub(crate) fn depth_behind(depth: Depth, mark: Mark) -> Depth
-    ensures { result ≡ depth_behind mark depth }
-{
-    match (mark, depth) {
-        (Mark::OpenBrace, Depth::Top) => Depth::Block,
-        (Mark::OpenBrace, Depth::Block) => Depth::Structure,
-        (Mark::OpenBrace, _) => Depth::Type,
-        (Mark::CloseBrace, Depth::Type) => Depth::Structure,
-        (Mark::CloseBrace, Depth::Structure) => Depth::Block,
-        (Mark::CloseBrace, _) => Depth::Top,
-        _ => depth,
+        (Mark::OpenBrace, Depth::Top) => (Depth::Block, Place::Line),
+        (Mark::OpenBrace, Depth::Block) => (Depth::Structure, Place::Line),
+        (Mark::OpenBrace, _) => (Depth::Type, Place::Inside),
+        (Mark::CloseBrace, Depth::Type) => (Depth::Structure, Place::Apart),
+        (Mark::CloseBrace, Depth::Structure) => (Depth::Block, Place::Apart),
+        (Mark::CloseBrace, _) => (Depth::Top, Place::Apart),
+        (Mark::Semicolon, Depth::Type) => (depth, Place::Apart),
+        (Mark::Semicolon, _) => (depth, Place::Line),
+        (Mark::OpenBracket | Mark::OpenParenthesis, _) => (depth, Place::Joined),
+        (Mark::Minus | Mark::Plus, _) => (depth, Place::Joined),
+        (Mark::Dot, _) => (depth, Place::Dotted),
+        _ => (depth, Place::Apart),
     }
 }

@@ -1,11 +1,10 @@
 //! Members of structures, each on a line of its own.
 
-ghost use Rattle.std.specs.Prelude.{map, Some, OnOk};
-ghost use Rattle.std.specs.List.{flat_map};
+ghost use Rattle.std.specs.Prelude.{map, Some, OnOk, flat_map};
 ghost use Rattle.ctf_types.specs.FieldTypes.{chain_of};
 ghost use Rattle.ctf_types.specs.MetadataOf.{number_member, uuid_member};
 ghost use Rattle.tsdl_grammar.specs.Spelling.{bracket_toks};
-ghost use Rattle.tsdl_writer.specs.FieldTrees.{count_bracket, member_toks_of};
+ghost use Rattle.tsdl_writer.specs.Trees.{count_bracket, member_toks_of};
 ghost use Rattle.tsdl_writer.specs.Prints.{Prints};
 
 use crate::printer::Token::{LengthOf, Mark, Number, Word};
@@ -58,9 +57,8 @@ fn lengths(out: &mut Printer, field: &FieldType) -> Printed
     match field {
         FieldType::Int(_) | FieldType::Enum(_) | FieldType::Str => Ok(()),
         FieldType::Static(element, length) => {
-            out.token(Mark(OpenBracket))?;
-            out.token(Number(u64::from(*length)))?;
-            out.token(Mark(CloseBracket))?;
+            let length = Number(u64::from(*length));
+            out.print(&[Mark(OpenBracket), length, Mark(CloseBracket)])?;
             lengths(out, element.field_type())
         }
     }
@@ -89,6 +87,5 @@ pub(crate) fn identifier(out: &mut Printer, feature: &Option<IntType>) -> Printe
     let Some(int) = feature else { return Ok(()) };
     integer(out, int)?;
     out.print(&[Word("uuid"), Mark(OpenBracket), Number(16)])?;
-    out.token(Mark(CloseBracket))?;
-    out.token(Mark(Semicolon))
+    out.print(&[Mark(CloseBracket), Mark(Semicolon)])
 }

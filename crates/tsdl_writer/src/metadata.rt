@@ -5,7 +5,7 @@ ghost use Rattle.ctf_types.specs.AllowedConfig.{IsConfig};
 ghost use Rattle.ctf_types.specs.MetadataOf.{metadata_of};
 ghost use Rattle.tsdl_grammar.specs.Denotes.{Denotes};
 ghost use Rattle.tsdl_grammar.specs.Spelling.{text_toks};
-ghost use Rattle.tsdl_writer.specs.BlockTrees.{clock_block, stream_blocks, event_blocks, all_event_blocks};
+ghost use Rattle.tsdl_writer.specs.Trees.{clock_block, stream_blocks, event_blocks, all_event_blocks};
 ghost use Rattle.tsdl_writer.specs.Held.{IsHeldClock};
 ghost use Rattle.tsdl_writer.specs.Prints.{Prints};
 ghost use Rattle.tsdl_writer.specs.Written.{written};
@@ -44,10 +44,8 @@ fn clocks(out: &mut Printer, clocks: &[ClockType]) -> Printed
 fn streams(out: &mut Printer, streams: &[StreamType]) -> Printed
     ensures { OnOk result (Prints out.old out.new (text_toks (stream_blocks 0 streams.now))) }
 {
-    let mut id = 0;
-    for one in streams {
-        stream(out, id, one)?;
-        id += 1;
+    for (id, one) in streams.iter().enumerate() {
+        stream(out, id as u64, one)?;
     }
     Ok(())
 }
@@ -55,10 +53,8 @@ fn streams(out: &mut Printer, streams: &[StreamType]) -> Printed
 fn all_events(out: &mut Printer, streams: &[StreamType]) -> Printed
     ensures { OnOk result (Prints out.old out.new (text_toks (all_event_blocks 0 streams.now))) }
 {
-    let mut id = 0;
-    for stream in streams {
-        events(out, id, stream.events.as_slice())?;
-        id += 1;
+    for (id, stream) in streams.iter().enumerate() {
+        events(out, id as u64, stream.events.as_slice())?;
     }
     Ok(())
 }
@@ -66,10 +62,8 @@ fn all_events(out: &mut Printer, streams: &[StreamType]) -> Printed
 fn events(out: &mut Printer, stream_id: u64, events: &[EventType]) -> Printed
     ensures { OnOk result (Prints out.old out.new (text_toks (event_blocks stream_id 0 events.now))) }
 {
-    let mut id = 0;
-    for one in events {
-        event(out, stream_id, id, one)?;
-        id += 1;
+    for (id, one) in events.iter().enumerate() {
+        event(out, stream_id, id as u64, one)?;
     }
     Ok(())
 }

@@ -1,12 +1,11 @@
 //! Prints words, numbers, strings and marks, one behind the other, as a text. They alone decide the layout, whatever they spell.
 
-ghost use Rattle.std.specs.Prelude.{◌≡◌, ◌++◌, [], ◌∷◌, IfOk, OnOk, codes, string_bytes};
-ghost use Rattle.std.specs.List.{flat_map};
+ghost use Rattle.std.specs.Prelude.{◌≡◌, ◌++◌, [], ◌∷◌, IfOk, OnOk, codes, string_bytes, flat_map};
 ghost use Rattle.tsdl_grammar.specs.declared.atom.Atom.TheVariants as atoms;
 ghost use Rattle.tsdl_writer.specs.Layout.{gap};
 ghost use Rattle.tsdl_writer.specs.Prints.{Begins, Puts, Prints, token_toks};
 
-use crate::layout::{Depth, Next, Place, depth_behind, gap, mark_next, place_behind};
+use crate::layout::{Depth, Next, Place, behind, gap, mark_next};
 use std::alloc::{AllocError, Global};
 use tsdl_grammar::{Mark, escape};
 
@@ -50,12 +49,11 @@ impl Printer {
     }
 
     /// The text, whose last line ends with a newline.
-    pub(crate) fn finish(self) -> Result<String, AllocError>
+    pub(crate) fn finish(mut self) -> Result<String, AllocError>
         ensures { IfOk result (λ t. string_bytes t ≡ string_bytes self.text ++ codes "\n") }
     {
-        let mut text = self.text;
-        text.push_str("\n")?;
-        Ok(text)
+        self.text.push_str("\n")?;
+        Ok(self.text)
     }
 
     /// Tokens, one behind the other.
@@ -92,8 +90,7 @@ impl Printer {
             Token::Mark(mark) => {
                 self.gap(mark_next(mark))?;
                 self.text.push_str(mark.spelling())?;
-                self.place = place_behind(self.depth, mark);
-                self.depth = depth_behind(self.depth, mark);
+                (self.depth, self.place) = behind(self.depth, mark);
                 Ok(())
             }
         }

@@ -1,17 +1,15 @@
 //! The types of members.
 
-ghost use Rattle.std.specs.Prelude.{◌≡◌, OnOk, option_map};
-ghost use Rattle.std.specs.List.{flat_map};
-ghost use Rattle.ctf_types.specs.Chain.{Labelled};
+ghost use Rattle.std.specs.Prelude.{◌≡◌, OnOk, option_map, flat_map};
 ghost use Rattle.ctf_types.specs.FieldTypes.{chain_of};
 ghost use Rattle.tsdl_grammar.specs.Spelling.{attr_toks, int_toks, entry_toks, entries_toks, kind_toks};
-ghost use Rattle.tsdl_writer.specs.FieldTrees.{base_number, mapping_attributes, integer_attributes, entry_tree, entry_trees, kind_tree};
+ghost use Rattle.tsdl_writer.specs.Trees.{base_number, mapping_attributes, integer_attributes, entry_tree, entry_trees, kind_tree};
 ghost use Rattle.tsdl_writer.specs.Prints.{Prints};
 
 use crate::attributes::{attribute, flag_word};
 use crate::printer::Token::{Mark, Number, Quoted, Whole, Word};
 use crate::printer::{Printed, Printer};
-use ctf_types::{Base, EnumType, FieldType, IntType, Mapping, Text};
+use ctf_types::{Base, FieldType, IntType, Mapping, Text};
 use tsdl_grammar::Mark::{CloseBrace, Colon, Comma, Dot, Ellipsis, Equals, OpenBrace, Semicolon};
 
 /// What stands before a member's name: the type inside all static arrays.
@@ -20,7 +18,13 @@ pub(crate) fn kind(out: &mut Printer, field: &FieldType) -> Printed
 {
     match field {
         FieldType::Int(int) => integer(out, int),
-        FieldType::Enum(labels) => enumeration(out, labels),
+        FieldType::Enum(labels) => {
+            out.print(&[Word("enum"), Mark(Colon)])?;
+            integer(out, &labels.int)?;
+            out.token(Mark(OpenBrace))?;
+            entries(out, labels.mappings.as_slice())?;
+            out.token(Mark(CloseBrace))
+        }
         FieldType::Str => {
             out.print(&[Word("string"), Mark(OpenBrace)])?;
             attribute(out, "encoding", Word("UTF8"))?;
@@ -65,17 +69,7 @@ fn base_number(base: Base) -> u64
     }
 }
 
-/// `enum : integer { .. } { "LABEL" = 0, "LABEL" = 1 ... 3 }`.
-fn enumeration(out: &mut Printer, labels: &EnumType) -> Printed
-    ensures { OnOk result (Prints out.old out.new (kind_toks (kind_tree (Labelled labels.now)))) }
-{
-    out.print(&[Word("enum"), Mark(Colon)])?;
-    integer(out, &labels.int)?;
-    out.token(Mark(OpenBrace))?;
-    entries(out, labels.mappings.as_slice())?;
-    out.token(Mark(CloseBrace))
-}
-
+/// The entries of an enumeration, `"LABEL" = 0, "LABEL" = 1 ... 3`.
 fn entries(out: &mut Printer, mappings: &[Mapping]) -> Printed
     ensures { OnOk result (Prints out.old out.new (entries_toks (entry_trees mappings.now))) }
 {

@@ -1,5 +1,4 @@
-use Rattle.std.proofs.Common.{rules, ◌≡◌}
-use Rattle.uuid.specs.Text.{hyphenated_text, lower}
+use Rattle.tsdl_writer.proofs.TreeWords.{hyphenated_text, lower, rules, ◌≡◌}
 use Rattle.tsdl_writer.proofs.attributes.uuid.Goals as goal
 
 pub returns : goal.returns

@@ -1,12 +1,4 @@
-use Rattle.std.proofs.Common.{rules, SFits, w64, sym, [], ◌∷◌, ◌++◌}
-use Rattle.std.specs.Prelude.{codes}
-use Rattle.std.specs.List.{flat_map}
-use Rattle.std.specs.Int.{w128}
-use Rattle.std.proofs.lemmas.Int.{to_z-of_z}
-use Rattle.tsdl_grammar.specs.Spelling.{item_toks}
-use Rattle.tsdl_writer.specs.FieldTrees.{flag_word}
-use Rattle.tsdl_writer.specs.BlockTrees.{natural_item, whole_item, word_item, text_item, optional_items, uuid_item, clock_numbers}
-use Rattle.tsdl_writer.proofs.Printing.{last, regroup, pair, block}
+use Rattle.tsdl_writer.proofs.Printing.{SFits, [], clock_numbers, codes, flag_word, flat_map, item_toks, natural_item, optional_items, rules, sym, text_item, to_z-of_z, uuid_item, w128, w64, whole_item, word_item, ◌++◌, ◌∷◌, last, regroup, pair, block}
 use Rattle.tsdl_writer.proofs.blocks.clock.Goals as goal
 
 pub returns : goal.returns
@@ -17,7 +9,7 @@ returns c = record {
       let absolute = word_item (codes "absolute") (flag_word k.absolute) in
       let fits : SFits w64 k.offset_seconds = search rules in let wide : SFits w128 c.from.result = search rules in
       let behind = rw c.flag_word.ensures at (c.in_ok-attribute-3.ensures _ text (one rest text e)) in
-      let seconds = rw (to_z-of_z w128 c.from.result wide, c.from.ensures, to_z-of_z w64 k.offset_seconds fits) at (c.in_ok-attribute-2.ensures _ text (c.in_ok-natural-3.ensures.prints _ text behind)) in
+      let seconds = rw (to_z-of_z wide, c.from.ensures, to_z-of_z fits) at (c.in_ok-attribute-2.ensures _ text (c.in_ok-natural-3.ensures.prints _ text behind)) in
       block (codes "clock") (flat_map item_toks (front ++ about ++ clock_numbers k ++ absolute ∷ [])) rest
       (c.in_ok-print.ensures _ text (pair item_toks (front ++ about ++ clock_numbers k) (absolute ∷ []) _ (pair item_toks (front ++ about) (clock_numbers k) _ (pair item_toks front about _
       (rw (sym c.as_str.ensures) (c.in_ok-attribute.ensures _ text (c.in_ok-uuid.ensures.prints _ text (c.in_ok-description.ensures _ text (c.in_ok-natural.ensures.prints _ text (c.in_ok-natural-2.ensures.prints _ text

@@ -1,14 +1,4 @@
-use Rattle.std.proofs.Common.{rules, ◌+◌, List, length, map, drop, ap, sym, ◌∙◌}
-use Rattle.std.specs.Prelude.{◌==◌}
-use Rattle.std.specs.List.{flat_map}
-use Rattle.std.proofs.lemmas.Bool.{false≢true}
-use Rattle.std.proofs.lemmas.List.{drop_all}
-use Rattle.ctf_types.specs.declared.EnvironmentEntry.{EnvironmentEntry}
-use Rattle.tsdl_grammar.specs.Spelling.{named_fact_toks}
-use Rattle.tsdl_writer.specs.BlockTrees.{named_fact_tree}
-use Rattle.tsdl_writer.specs.Held.{IsHeldValue}
-use Rattle.tsdl_writer.proofs.Printing.{last, begun, one_more, all_printed, item, environment_stands}
-use Rattle.tsdl_writer.proofs.Walks.{all_more, all_met}
+use Rattle.tsdl_writer.proofs.Printing.{EnvironmentEntry, IsHeldValue, List, ap, drop, drop_all, false≢true, flat_map, length, map, named_fact_toks, named_fact_tree, rules, sym, ◌+◌, ◌==◌, ◌∙◌, last, begun, one_more, all_printed, item, environment_stands, all_more, all_met}
 use Rattle.tsdl_writer.proofs.blocks.environment.Goals as goal
 
 pub loop-entry-init : goal.loop-entry-init

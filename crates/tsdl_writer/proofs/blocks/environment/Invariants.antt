@@ -1,10 +1,4 @@
-use Rattle.std.proofs.Common.{All, drop, take}
-use Rattle.std.specs.List.{flat_map}
-use Rattle.std.specs.Prelude.{map}
-use Rattle.tsdl_grammar.specs.Spelling.{named_fact_toks}
-use Rattle.tsdl_writer.specs.BlockTrees.{named_fact_tree}
-use Rattle.tsdl_writer.specs.Held.{IsHeldValue}
-use Rattle.tsdl_writer.proofs.Printing.{Leaves}
+use Rattle.tsdl_writer.proofs.Printing.{All, IsHeldValue, drop, flat_map, map, named_fact_toks, named_fact_tree, take, Leaves}
 use Rattle.tsdl_writer.proofs.blocks.environment.Given as goal
 
 abbrev pub invariant-loop-entry : goal.invariant-loop-entry

@@ -1,10 +1,4 @@
-use Rattle.std.proofs.Common.{◌∷◌, ◌++◌}
-use Rattle.std.specs.Prelude.{codes}
-use Rattle.std.specs.List.{flat_map}
-use Rattle.ctf_types.specs.MetadataOf.{context_numbers, event_header_members}
-use Rattle.tsdl_grammar.specs.Spelling.{item_toks}
-use Rattle.tsdl_writer.specs.BlockTrees.{natural_item, scope_items, two_words}
-use Rattle.tsdl_writer.proofs.Printing.{last, pair, block}
+use Rattle.tsdl_writer.proofs.Printing.{codes, context_numbers, event_header_members, flat_map, item_toks, natural_item, refl, scope_items, two_words, ◌++◌, ◌∷◌, last, pair, block}
 use Rattle.tsdl_writer.proofs.blocks.stream.Goals as goal
 
 pub returns : goal.returns
@@ -15,4 +9,4 @@ returns c = last c.print-2.result c.print-2.ensures (λ one rest text e.
     let common = scope_items (two_words (codes "event") (codes "context")) s.common.members s.common.min_align in
     block (codes "stream") (flat_map item_toks (id ∷ context ++ header ++ common)) rest
     (c.in_ok-print.ensures _ text (pair item_toks (id ∷ context ++ header) common _ (pair item_toks (id ∷ context) header _
-    (c.in_ok-attribute.ensures _ text (c.in_ok-context.ensures _ text (c.in_ok-event_header.ensures _ text (c.in_ok-event_context.ensures _ text (one rest text e)))))))))
+    (c.in_ok-attribute.ensures _ text (c.in_ok-context.ensures _ text (c.in_ok-event_header.ensures _ text (c.in_ok-structure.ensures (two_words (codes "event") (codes "context")) refl _ text (one rest text e)))))))))

@@ -1,10 +1,4 @@
-use Rattle.std.proofs.Common.{◌∷◌, ◌++◌}
-use Rattle.std.specs.Prelude.{codes}
-use Rattle.std.specs.List.{flat_map}
-use Rattle.ctf_types.specs.MetadataOf.{header_members}
-use Rattle.tsdl_grammar.specs.Spelling.{item_toks}
-use Rattle.tsdl_writer.specs.BlockTrees.{natural_item, word_item, optional_items, uuid_item, scope_items, two_words, order_word}
-use Rattle.tsdl_writer.proofs.Printing.{last, pair, block}
+use Rattle.tsdl_writer.proofs.Printing.{codes, flat_map, header_members, item_toks, natural_item, optional_items, order_word, scope_items, two_words, uuid_item, word_item, ◌++◌, ◌∷◌, last, pair, block}
 use Rattle.tsdl_writer.proofs.blocks.trace.Goals as goal
 
 pub returns : goal.returns

@@ -1,16 +1,7 @@
-use Rattle.std.proofs.Common.{rules, ◌≡◌, List, [], ◌∷◌, ◌++◌, map, subst}
-use Rattle.std.specs.List.{flat_map}
-use Rattle.ctf_types.specs.declared.Length.TheVariants.{Auto}
-use Rattle.ctf_types.specs.declared.MemberType.TheVariants.{Dyn}
-use Rattle.ctf_types.specs.FieldTypes.{chain_of}
-use Rattle.ctf_types.specs.Shown.{length_name, length_type}
 use Rattle.tsdl_grammar.specs.declared.atom.Atom.TheVariants as atoms
 use Rattle.tsdl_grammar.specs.declared.token.Mark.TheVariants as marks
 use Rattle.tsdl_grammar.specs.declared.tree.Attribute.{Attribute}
-use Rattle.tsdl_grammar.specs.Spelling.{int_toks, kind_toks, bracket_toks, member_toks}
-use Rattle.tsdl_writer.specs.FieldTrees.{integer_attributes, kind_tree, count_bracket, member_tree, length_member, array_member}
-use Rattle.tsdl_writer.specs.Prints.{Prints}
-use Rattle.tsdl_writer.proofs.Printing.{last, regroup, nothing_behind, line, attributes_are}
+use Rattle.tsdl_writer.proofs.Printing.{Auto, Dyn, List, Prints, [], array_member, bracket_toks, chain_of, count_bracket, flat_map, int_toks, integer_attributes, kind_toks, kind_tree, length_member, length_name, length_type, map, member_toks, member_tree, rules, subst, ◌++◌, ◌∷◌, ◌≡◌, last, regroup, nothing_behind, line, attributes_are}
 use Rattle.tsdl_writer.proofs.members.member.Goals as goal
 
 pub returns-in_ok-lengths-in-Plain : goal.returns-in_ok-lengths-in-Plain

@@ -1,8 +1,4 @@
-use Rattle.std.proofs.Common.{◌+◌, ap, drop, length, ◌≤◌, arith}
-use Rattle.std.specs.List.{flat_map}
-use Rattle.std.proofs.lemmas.List.{drop_all}
-use Rattle.tsdl_writer.specs.FieldTrees.{member_toks_of}
-use Rattle.tsdl_writer.proofs.Printing.{begun, one_more, all_printed, member_at}
+use Rattle.tsdl_writer.proofs.Printing.{ap, arith, drop, drop_all, flat_map, length, member_toks_of, ◌+◌, ◌≤◌, begun, one_more, all_printed, member_at}
 use Rattle.tsdl_writer.proofs.members.members.Goals as goal
 
 pub loop-index-init : goal.loop-index-init

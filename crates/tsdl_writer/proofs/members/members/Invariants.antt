@@ -1,7 +1,4 @@
-use Rattle.std.proofs.Common.{drop}
-use Rattle.std.specs.List.{flat_map}
-use Rattle.tsdl_writer.specs.FieldTrees.{member_toks_of}
-use Rattle.tsdl_writer.proofs.Printing.{Leaves}
+use Rattle.tsdl_writer.proofs.Printing.{drop, flat_map, member_toks_of, Leaves}
 use Rattle.tsdl_writer.proofs.members.members.Given as goal
 
 abbrev pub invariant-loop-index : goal.invariant-loop-index

@@ -1,10 +1,5 @@
-use Rattle.std.proofs.Common.{[], ◌∷◌, ◌++◌}
-use Rattle.ctf_types.specs.declared.FieldType.TheVariants.{Int}
-use Rattle.ctf_types.specs.FieldTypes.{chain_of}
 use Rattle.tsdl_grammar.specs.declared.atom.Atom.TheVariants as atoms
-use Rattle.tsdl_grammar.specs.Spelling.{int_toks, member_toks}
-use Rattle.tsdl_writer.specs.FieldTrees.{integer_attributes, member_tree}
-use Rattle.tsdl_writer.proofs.Printing.{last, nothing_behind, line}
+use Rattle.tsdl_writer.proofs.Printing.{Int, [], chain_of, int_toks, integer_attributes, member_toks, member_tree, ◌++◌, ◌∷◌, last, nothing_behind, line}
 use Rattle.tsdl_writer.proofs.members.number.Goals as goal
 
 pub returns : goal.returns

@@ -1,11 +1,4 @@
-use Rattle.std.proofs.Common.{rules, ◌+◌, List, ap, map, drop}
-use Rattle.std.proofs.lemmas.List.{drop_all}
-use Rattle.ctf_types.specs.declared.ClockType.{ClockType}
-use Rattle.tsdl_grammar.specs.Spelling.{block_and_semicolon, text_toks}
-use Rattle.tsdl_writer.specs.BlockTrees.{clock_block}
-use Rattle.tsdl_writer.specs.Held.{IsHeldClock}
-use Rattle.tsdl_writer.proofs.Printing.{begun, one_more, all_printed, item}
-use Rattle.tsdl_writer.proofs.Walks.{all_more, all_met}
+use Rattle.tsdl_writer.proofs.Printing.{ClockType, IsHeldClock, List, ap, block_and_semicolon, clock_block, drop, drop_all, map, rules, text_toks, ◌+◌, begun, one_more, all_printed, item, all_more, all_met}
 use Rattle.tsdl_writer.proofs.metadata.clocks.Goals as goal
 
 pub loop-one-init : goal.loop-one-init

@@ -1,9 +1,4 @@
-use Rattle.std.proofs.Common.{All, drop, take}
-use Rattle.std.specs.Prelude.{map}
-use Rattle.tsdl_grammar.specs.Spelling.{text_toks}
-use Rattle.tsdl_writer.specs.BlockTrees.{clock_block}
-use Rattle.tsdl_writer.specs.Held.{IsHeldClock}
-use Rattle.tsdl_writer.proofs.Printing.{Leaves}
+use Rattle.tsdl_writer.proofs.Printing.{All, IsHeldClock, clock_block, drop, map, take, text_toks, Leaves}
 use Rattle.tsdl_writer.proofs.metadata.clocks.Given as goal
 
 abbrev pub invariant-loop-one : goal.invariant-loop-one

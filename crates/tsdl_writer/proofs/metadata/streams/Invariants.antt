@@ -1,11 +1,5 @@
-use Rattle.std.proofs.Common.{◌≡◌, drop}
-use Rattle.tsdl_grammar.specs.Spelling.{text_toks}
-use Rattle.tsdl_writer.specs.BlockTrees.{stream_blocks}
-use Rattle.tsdl_writer.proofs.Printing.{Leaves}
+use Rattle.tsdl_writer.proofs.Printing.{drop, stream_blocks, text_toks, Leaves}
 use Rattle.tsdl_writer.proofs.metadata.streams.Given as goal
 
-abbrev pub invariant-loop-one : goal.invariant-loop-one
-invariant-loop-one l = record {
-  number : l.id ≡ l.one-index;
-  text : Leaves l.initial.out l.out (text_toks (stream_blocks 0 l.streams)) (text_toks (stream_blocks l.id (drop l.one-index l.streams)));
-}
+abbrev pub invariant-loop-id : goal.invariant-loop-id
+invariant-loop-id l = Leaves l.initial.out l.out (text_toks (stream_blocks 0 l.streams)) (text_toks (stream_blocks l.id (drop l.id l.streams)))

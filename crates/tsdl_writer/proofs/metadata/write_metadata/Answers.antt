@@ -1,20 +1,6 @@
-use Rattle.std.proofs.Common.{◌≡◌, ℕ, List, [], ◌∷◌, ◌++◌, map, sym, subst, All}
-use Rattle.std.proofs.lemmas.List.{append-nil}
-use Rattle.ctf_types.specs.declared.Config.{Config}
-use Rattle.ctf_types.specs.declared.ClockType.{ClockType}
-use Rattle.ctf_types.specs.declared.EnvironmentEntry.{EnvironmentEntry}
-use Rattle.ctf_types.specs.declared.StreamType.{StreamType}
-use Rattle.ctf_types.specs.MetadataOf.{metadata_of}
-use Rattle.tsdl_grammar.specs.declared.atom.Atom.{Atom}
-use Rattle.tsdl_grammar.specs.Denotes.{Denotes}
-use Rattle.tsdl_grammar.specs.Spelling.{block_and_semicolon, text_toks}
-use Rattle.tsdl_writer.specs.declared.printer.Printer.{Printer}
-use Rattle.tsdl_writer.specs.BlockTrees.{trace_block, environment_blocks, clock_block, stream_blocks, all_event_blocks, blocks_of}
-use Rattle.tsdl_writer.specs.Held.{IsHeldValue, IsHeldClock, IsHeld}
-use Rattle.tsdl_writer.specs.Prints.{Ends, Begins}
-use Rattle.tsdl_writer.specs.Written.{written}
-use Rattle.tsdl_writer.proofs.Printing.{regroup, pair}
-use Rattle.tsdl_writer.proofs.TextDenotes.{written_denotes}
+use Rattle.tsdl_writer.proofs.Printing.{All, Atom, Begins, ClockType, Config, Denotes, Ends, EnvironmentEntry, IsHeld, IsHeldClock, IsHeldValue, List, Printer, StreamType, [], all_event_blocks, append-nil, block_and_semicolon, blocks_of, clock_block, environment_blocks, map, metadata_of, stream_blocks, subst, sym, text_toks, trace_block, ℕ, ◌++◌, ◌∷◌, ◌≡◌, regroup, pair}
+use Rattle.tsdl_writer.proofs.TreeWords.{written}
+use Rattle.tsdl_writer.proofs.TextMeaning.{written_denotes}
 use Rattle.tsdl_writer.proofs.metadata.write_metadata.Goals as goal
 
 -- the blocks one after the other

@@ -1,12 +1,18 @@
-use Rattle.tsdl_writer.proofs.Printing.{last}
+use Rattle.tsdl_writer.proofs.Printing.{braced, entries_toks, entry_trees, int_toks, integer_attributes, sym, last, regroup}
 use Rattle.tsdl_writer.proofs.types.+kind.Goals as goal
 
 pub returns-in-Int : goal.returns-in-Int
 returns-in-Int t c = rw c.in-Int.is c.integer.ensures
 
+pub returns-in_ok-entries-in-Enum : goal.returns-in_ok-entries-in-Enum
+returns-in_ok-entries-in-Enum t c =
+    let int = int_toks (integer_attributes c.in-Enum.labels.int) in let labels = entries_toks (entry_trees c.as_slice.result.now) in
+    rw c.in-Enum.is (last c.token-in-Enum.result c.token-in-Enum.ensures (λ one rest text e. rw (sym c.as_slice.ensures)
+    (c.in_ok-print-in-Enum.ensures _ text (regroup int (braced labels) rest (c.in_ok-integer-in-Enum.ensures _ text (c.in_ok-token-in-Enum.ensures _ text (regroup labels _ rest (c.in_ok-entries-in-Enum.ensures _ text (one rest text e)))))))))
+
 pub returns-in_ok-attribute-in-Str : goal.returns-in_ok-attribute-in-Str
 returns-in_ok-attribute-in-Str t c =
-    rw c.in-Str.is (last c.token.result c.token.ensures (λ one rest text e. c.in_ok-print-in-Str.ensures _ text (c.in_ok-attribute-in-Str.ensures _ text (one rest text e))))
+    rw c.in-Str.is (last c.token-in-Str.result c.token-in-Str.ensures (λ one rest text e. c.in_ok-print-in-Str.ensures _ text (c.in_ok-attribute-in-Str.ensures _ text (one rest text e))))
 
 pub returns-in-Static : goal.returns-in-Static
 returns-in-Static t c = rw c.in-Static.is (rw c.field_type.ensures at c.kind.ensures)

@@ -1,11 +1,4 @@
-use Rattle.std.proofs.Common.{◌≡◌, ◌+◌, ◌<◌, ◌-◌, List, ◌∷◌, ◌++◌, map, take, drop, length, arith, sym, ap, subst, ◌∙◌}
-use Rattle.std.specs.List.{flat_map}
-use Rattle.std.proofs.lemmas.List.{take_rest, drop_all}
-use Rattle.ctf_types.specs.declared.Mapping.{Mapping}
-use Rattle.tsdl_grammar.specs.Spelling.{entry_toks, next_entry_toks, entries_toks}
-use Rattle.tsdl_writer.specs.FieldTrees.{entry_tree, entry_trees}
-use Rattle.tsdl_writer.specs.Prints.{Ends}
-use Rattle.tsdl_writer.proofs.Printing.{begun, regroup, one_more, all_printed, item, nothing_behind}
+use Rattle.tsdl_writer.proofs.Printing.{Ends, List, Mapping, ap, arith, drop, drop_all, entries_toks, entry_toks, entry_tree, entry_trees, flat_map, length, map, next_entry_toks, subst, sym, take, take_rest, ◌++◌, ◌+◌, ◌-◌, ◌<◌, ◌∙◌, ◌∷◌, ◌≡◌, begun, regroup, one_more, all_printed, item, nothing_behind}
 use Rattle.tsdl_writer.proofs.types.entries.Goals as goal
 
 pub loop-mapping-init : goal.loop-mapping-init

@@ -1,9 +1,4 @@
-use Rattle.std.proofs.Common.{drop}
-use Rattle.std.specs.List.{flat_map}
-use Rattle.std.specs.Prelude.{map}
-use Rattle.tsdl_grammar.specs.Spelling.{next_entry_toks}
-use Rattle.tsdl_writer.specs.FieldTrees.{entry_tree}
-use Rattle.tsdl_writer.proofs.Printing.{Leaves}
+use Rattle.tsdl_writer.proofs.Printing.{drop, entry_tree, flat_map, map, next_entry_toks, Leaves}
 use Rattle.tsdl_writer.proofs.types.entries.Given as goal
 
 abbrev pub invariant-loop-mapping : goal.invariant-loop-mapping

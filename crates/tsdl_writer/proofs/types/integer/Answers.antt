@@ -1,7 +1,6 @@
-use Rattle.std.proofs.Common.{[], ◌∷◌}
 use Rattle.tsdl_grammar.specs.declared.atom.Atom.TheVariants as atoms
 use Rattle.tsdl_grammar.specs.declared.token.Mark.TheVariants as marks
-use Rattle.tsdl_writer.proofs.Printing.{last, regroup}
+use Rattle.tsdl_writer.proofs.Printing.{[], ◌∷◌, last, regroup}
 use Rattle.tsdl_writer.proofs.types.integer.Goals as goal
 
 pub returns : goal.returns

@@ -1,8 +1,4 @@
-use Rattle.std.proofs.Common.{◌+◌, drop, ap}
-use Rattle.std.specs.List.{flat_map}
-use Rattle.std.proofs.lemmas.List.{drop_more, drop_all}
-use Rattle.tsdl_writer.specs.Prints.{token_toks}
-use Rattle.tsdl_writer.proofs.Printing.{begun, one_more, all_printed}
+use Rattle.tsdl_writer.proofs.Printing.{ap, drop, drop_all, drop_more, flat_map, token_toks, ◌+◌, begun, one_more, all_printed}
 use Rattle.tsdl_writer.proofs.printer.Printer.print.Goals as goal
 
 pub loop-token-init : goal.loop-token-init

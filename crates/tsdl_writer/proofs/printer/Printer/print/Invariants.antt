@@ -1,7 +1,4 @@
-use Rattle.std.proofs.Common.{drop}
-use Rattle.std.specs.List.{flat_map}
-use Rattle.tsdl_writer.specs.Prints.{token_toks}
-use Rattle.tsdl_writer.proofs.Printing.{Leaves}
+use Rattle.tsdl_writer.proofs.Printing.{drop, flat_map, token_toks, Leaves}
 use Rattle.tsdl_writer.proofs.printer.Printer.print.Given as goal
 
 abbrev pub invariant-loop-token : goal.invariant-loop-token

@@ -1,5 +1,4 @@
-use Rattle.std.proofs.Common.{sym, subst, ◌∙◌}
-use Rattle.std.specs.Str.{IsUtf8}
+use Rattle.tsdl_writer.proofs.TreeWords.{IsUtf8, subst, sym, ◌∙◌}
 use Rattle.tsdl_grammar.proofs.EscapesUtf8.{IsUtf8-escaped}
 use Rattle.tsdl_writer.proofs.printer.Printer.quoted.Goals as goal
 
