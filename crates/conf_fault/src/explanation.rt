@@ -1,11 +1,10 @@
 //! The explanation of a fault: the line and the column, the path, what stands there, and what was expected.
 
 ghost use Rattle.std.specs.Prelude.{◌≡◌, ◌++◌, IfOk, OnOk, string_bytes};
-ghost use Rattle.conf_fault.specs.Explanation.{Adds, IsAliasWords, IsExplanation, IsPlaced, IsSaidOf, IsStanding, name_words as words_of_name, path_words, step_words};
-ghost use Rattle.std.specs.Option.{option_copied};
+ghost use Rattle.conf_fault.specs.Explanation.{Adds, IsAliasWords, IsExplanation, IsPlaced, IsSaidOf, IsStanding, path_words, step_words};
 ghost use Rattle.conf_fault.specs.Shown.{IsOneLine};
 
-use crate::by_kind::wanted_words;
+use crate::by_kind::{kind_words, wanted_words};
 use crate::found::Found;
 use crate::line_column::{line_column, push_place};
 use crate::not_json::push_not_json;
@@ -42,7 +41,7 @@ fn push_placed(source: Source<'_>, said: &mut String, fault: &ConfFault) -> Resu
 {
     let found = source.find(fault.path.as_slice())?;
     let layer = found.layer();
-    let at = name_words(fault.kind).map_or(layer.at, |_| layer.key);
+    let at = kind_words(fault.kind).0.map_or(layer.at, |_| layer.key);
     push_place(source.alloc, said, line_column(source.text, at))?;
     push_path(source.alloc, said, fault.path.as_slice())?;
     push_alias(source, said, layer.alias)?;
@@ -91,7 +90,7 @@ fn push_alias(source: Source<'_>, said: &mut String, alias: Option<usize>) -> Re
 fn push_standing(said: &mut String, found: &Found<'_>, kind: FaultKind) -> Result<(), AllocError>
     ensures { OnOk result (Adds (IsStanding kind) (string_bytes said.old) (string_bytes said.new)) }
 {
-    if let Some(words) = name_words(kind) {
+    if let Some(words) = kind_words(kind).0 {
         return said.push_str(words);
     }
     if !found.is_there {
@@ -100,34 +99,5 @@ fn push_standing(said: &mut String, found: &Found<'_>, kind: FaultKind) -> Resul
     match found.source.value_of(found.layer().at)? {
         Some(value) => push_cut(said, format!(in found.source.alloc; "{value}")?.as_str()),
         None => push_cut(said, "a value"),
-    }
-}
-
-/// What is said of a name, where a fault of this kind is the name's, and not its value's.
-#[tactic(auto, unfolding(crate::specs::Explanation::name_words))]
-fn name_words(kind: FaultKind) -> Option<&'static str>
-    ensures { option_copied result ≡ words_of_name kind }
-{
-    match kind {
-        FaultKind::Unknown => Some("unknown property"),
-        FaultKind::BadName => Some("bad name"),
-        FaultKind::ReservedName => Some("reserved word"),
-        FaultKind::NameClash => Some("name is taken"),
-        FaultKind::NotJson
-        | FaultKind::TooDeep
-        | FaultKind::WrongKind
-        | FaultKind::NotWhole
-        | FaultKind::Missing
-        | FaultKind::NoSuchAlias
-        | FaultKind::InheritCycle
-        | FaultKind::OutOfRange
-        | FaultKind::FieldTooSmall
-        | FaultKind::ZeroSizeRecord
-        | FaultKind::NoClock
-        | FaultKind::NoUuid
-        | FaultKind::Limit
-        | FaultKind::TwoOrders
-        | FaultKind::TimestampSize
-        | FaultKind::OutOfMemory => None,
     }
 }

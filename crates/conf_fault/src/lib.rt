@@ -8,7 +8,6 @@ mod found;
 mod layers;
 mod line_column;
 mod named;
-mod nearest;
 mod not_json;
 mod shown;
 mod source;

@@ -32,13 +32,9 @@ pub(crate) fn line_column(text: &[u8], at: usize) -> LineColumn
 }
 
 /// Adds where a fault stands.
-pub(crate) fn push_place(
-    alloc: Global,
-    said: &mut String,
-    place: LineColumn,
-) -> Result<(), AllocError>
-    ensures { OnOk result (string_bytes said.new ≡ string_bytes said.old ++ place_words place) }
+pub(crate) fn push_place(alloc: Global, said: &mut String, at: LineColumn) -> Result<(), AllocError>
+    ensures { OnOk result (string_bytes said.new ≡ string_bytes said.old ++ place_words at) }
 {
-    let numbers = format!(in alloc; "line {}, column {}: ", place.line, place.column)?;
+    let numbers = format!(in alloc; "line {}, column {}: ", at.line, at.column)?;
     said.push_str(numbers.as_str())
 }

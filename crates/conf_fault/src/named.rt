@@ -1,8 +1,7 @@
 //! What a configuration has under the names that a fault is about: aliases, clock types, and the types that have numbers.
 
-use crate::expected::push_words;
+use crate::expected::{push_nearest, push_words};
 use crate::found::Found;
-use crate::nearest::push_nearest;
 use crate::source::Source;
 use conf_tree::Step;
 use serde_json::Value;

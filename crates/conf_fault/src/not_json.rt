@@ -2,7 +2,7 @@
 
 ghost use Rattle.std.specs.Prelude.{◌≤◌, length, IfOk, OnOk, string_bytes};
 ghost use Rattle.conf_fault.specs.LineColumn.{IsPlaceIn};
-ghost use Rattle.conf_fault.specs.Explanation.{Adds, IsNotJson, IsYamlHint};
+ghost use Rattle.conf_fault.specs.Explanation.{Adds, IsNotJson};
 
 use crate::line_column::{LineColumn, line_column, push_place};
 use crate::source::Source;
@@ -16,7 +16,10 @@ pub(crate) fn push_not_json(source: Source<'_>, said: &mut String) -> Result<(),
 {
     push_place(source.alloc, said, json_place(source.alloc, source.text)?)?;
     said.push_str("not JSON: expected one JSON value in UTF-8")?;
-    push_yaml_hint(source.text, said)
+    if !looks_like_yaml(source.text) {
+        return Ok(());
+    }
+    said.push_str("; this looks like YAML, of which tools/yaml_to_json makes JSON")
 }
 
 /// The place of the first byte with which a text is no longer the beginning of a JSON text, or of its end, where more has to follow.
@@ -57,16 +60,6 @@ fn begins_json(alloc: Global, text: &[u8]) -> Result<bool, AllocError> {
         Err(error) if error.is_memory() => Err(AllocError),
         Err(error) => Ok(error.is_eof()),
     }
-}
-
-/// Adds what helps where a text is YAML.
-fn push_yaml_hint(text: &[u8], said: &mut String) -> Result<(), AllocError>
-    ensures { OnOk result (Adds IsYamlHint (string_bytes said.old) (string_bytes said.new)) }
-{
-    if looks_like_yaml(text) {
-        said.push_str("; this looks like YAML, of which tools/yaml_to_json makes JSON")?;
-    }
-    Ok(())
 }
 
 /// Whether a text begins, behind empty lines, with a comment, with `---` or `%YAML`, or with a name and a colon, as `trace:`.

@@ -1,26 +1,14 @@
-use Rattle.std.proofs.Common.{◌≡◌, ◌++◌, [], ◌∷◌, List, ◌+◌, take, length, string_bytes, sym, refl, ◌∙◌, ap, arith, append_assoc, append-nil}
+use Rattle.std.proofs.Common.{◌≡◌, ◌++◌, [], ◌∷◌, ◌+◌, take, string_bytes, sym, ◌∙◌, ap, append_assoc, append-nil}
 use Rattle.std.specs.Prelude.{codes}
 use Rattle.std.specs.List.{flat_map}
-use Rattle.std.proofs.lemmas.List.{flat_map_more, take_all, take_more}
-use Rattle.conf_tree.specs.declared.step.Step.{Step}
+use Rattle.std.proofs.lemmas.List.{flat_map_more, take_all, take_more, nil_from_length}
 use Rattle.conf_fault.specs.Explanation.{further_step, path_words, step_words}
-use Rattle.conf_fault.proofs.Adding.{behind}
-use Rattle.conf_fault.proofs.ShownLemmas.{appended_behind}
+use Rattle.conf_fault.proofs.Adding.{appended_behind, behind}
 use Rattle.conf_fault.proofs.explanation.push_path.Goals as goal
 
-no_step : (path : List Step) → length path ≡ 0 → path_words path ≡ []
-unfolding path_words
-no_step [] e = refl
-no_step (step ∷ steps) e = absurd (omega (arith, e))
-
-steps_of : (path : List Step) (first : Step) (others : List Step) → path ≡ first ∷ others → step_words first ++ flat_map further_step others ++ codes ": " ≡ path_words path
-unfolding path_words
-steps_of path first others e = sym (ap path_words e)
-
 pub returns-in_default : goal.returns-in_default
-returns-in_default c =
-    let none : length c.args.path.now ≡ 0 = c.in_default.ensures.cases in
-    sym (append-nil (string_bytes c.args.said.now)) ∙ ap (λ z. string_bytes c.args.said.now ++ z) (sym (no_step c.args.path.now none))
+unfolding path_words
+returns-in_default c = sym (append-nil (string_bytes c.args.said.now)) ∙ ap (λ path. string_bytes c.args.said.now ++ path_words path) (sym (nil_from_length c.args.path.now c.in_default.ensures.cases))
 
 pub loop-step-preserved : goal.loop-step-preserved
 loop-step-preserved c =
@@ -34,10 +22,10 @@ loop-step-preserved c =
     ∙ flat_map_more further_step was (take i others) item ∙ ap (λ z. was ++ flat_map further_step z) (sym more)
 
 pub returns : goal.returns
+unfolding path_words
 returns c =
     let others = c.in-Some.others.now in
     let all = take_all c.loop-step.step-index others c.loop-step-test.false in
     let steps = c.loop-step.invariant ∙ ap (λ z. string_bytes c.push_step.new.said ++ flat_map further_step z) all in
     let front = behind (string_bytes c.args.said.now) _ _ (step_words c.in-Some.first.now) (flat_map further_step others) c.in_ok-push_step.ensures steps in
-    appended_behind _ _ (step_words c.in-Some.first.now ++ flat_map further_step others) _ _ _ _ front c.push_str-2.ensures.bytes
-    (steps_of c.args.path.now c.in-Some.first.now others c.in-Some.ensures.cases.0)
+    appended_behind _ _ (step_words c.in-Some.first.now ++ flat_map further_step others) _ _ _ _ front c.push_str-2.ensures.bytes (sym (ap path_words c.in-Some.ensures.cases.0))

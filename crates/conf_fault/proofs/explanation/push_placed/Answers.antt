@@ -1,10 +1,30 @@
-use Rattle.std.proofs.Common.{◌++◌, string_bytes, ◌∙◌, ap, sym, subst}
-use Rattle.conf_fault.specs.Explanation.{IsWanted, path_words}
-use Rattle.conf_fault.proofs.Adding.{placed}
+use Rattle.std.proofs.Common.{◌++◌, string_bytes, refl, ◌∙◌, ap, sym, subst}
+use Rattle.std.specs.Prelude.{codes}
+use Rattle.conf_fault.specs.Explanation.{IsPlaced, IsWanted, path_words, place_words}
+use Rattle.conf_fault.proofs.Adding.{added, behind}
 use Rattle.conf_fault.proofs.explanation.push_placed.Goals as goal
 
 pub returns : goal.returns
 returns c =
-    let path = c.in_ok-push_path.ensures ∙ ap (λ z. string_bytes c.push_place.new.said ++ path_words z) c.as_slice-2.ensures in
-    let wanted = subst (IsWanted c.args.fault.now.kind) (sym c.as_str.ensures.value) c.in_ok-wanted_words.ensures in
-    placed _ _ _ _ _ _ _ _ _ _ _ _ c.line_column.ensures.lies c.in_ok-push_place.ensures path c.in_ok-push_alias.ensures c.in_ok-push_standing.ensures c.in_ok-push_str.ensures.bytes wanted c.push_str-2.ensures.bytes
+    let fault = c.args.fault.now in
+    let place = place_words c.line_column.result in
+    let path = path_words fault.path in
+    let alias = c.in_ok-push_alias.ensures in
+    let standing = c.in_ok-push_standing.ensures in
+    let path_said = c.in_ok-push_path.ensures ∙ ap (λ z. string_bytes c.push_place.new.said ++ path_words z) c.as_slice-2.ensures in
+    let behind_path = behind _ _ _ place path c.in_ok-push_place.ensures path_said in
+    let behind_alias = behind _ _ _ (place ++ path) alias.0 behind_path alias.2 in
+    let behind_standing = behind _ _ _ (place ++ path ++ alias.0) standing.0 behind_alias standing.2 in
+    added (IsPlaced c.args.source.text.now fault) _ _ _ _ _ _ _
+    (behind _ _ _ (place ++ path ++ alias.0 ++ standing.0) (codes ": expected ") behind_standing c.in_ok-push_str.ensures.bytes) c.push_str-2.ensures.bytes refl
+    (record {
+      place = place;
+      alias = alias.0;
+      standing = standing.0;
+      wanted = c.as_str.result.now;
+      lies = (c.line_column.result, c.line_column.ensures.lies, refl);
+      in_alias = alias.1;
+      stands = standing.1;
+      expects = subst (IsWanted fault.kind) (sym c.as_str.ensures.value) c.in_ok-wanted_words.ensures;
+      is = refl;
+    })

@@ -1,9 +1,30 @@
-use Rattle.std.proofs.Common.{rules, ◌≡◌, ◌≢◌, ◌<◌, ◌^◌, length, take, get_or, refl, sym, ◌∙◌, arith}
-use Rattle.std.proofs.lemmas.List.{length-take, get_or-take}
-use Rattle.conf_fault.specs.LineColumn.{line_behind, column_behind}
-use Rattle.conf_fault.proofs.LineColumnLemmas.{next_line, same_line, first_column, next_column}
+use Rattle.std.proofs.Common.{rules, ◌≡◌, ◌≢◌, ℕ, ◌+◌, ◌<◌, ◌^◌, List, [], ◌∷◌, length, take, get_or, Bool, true, false, not, cond, refl, sym, ◌∙◌, ap, arith}
+use Rattle.std.specs.List.{prefix_len, suffix_len}
+use Rattle.std.proofs.lemmas.Bool.{eq-eqb, ne_eqb}
+use Rattle.std.proofs.lemmas.List.{length-take, get_or-take, take_more, reverse-append}
+use Rattle.std.proofs.lemmas.List.Sums.{count_by_more_yes, count_by_more_no}
+use Rattle.conf_fault.specs.LineColumn.{is_newline, line_behind, column_behind}
 use Rattle.conf_fault.proofs.line_column.line_column.Goals.{then-byte-eq10, else-byte-eq10}
 use Rattle.conf_fault.proofs.line_column.line_column.Goals as goal
+
+-- how the line and the column go on behind a newline, and behind another byte
+module _ (text : List ℕ) (i : ℕ) (within : i < length text) where
+  last : (x : Bool) → is_newline (get_or text i 0) ≡ x → suffix_len (λ b. not (is_newline b)) (take (i + 1) text) ≡ cond (not x) (1 + suffix_len (λ b. not (is_newline b)) (take i text)) 0
+  last x e =
+      ap (suffix_len (λ b. not (is_newline b))) (take_more text i 0 within) ∙ ap (prefix_len (λ b. not (is_newline b))) (reverse-append (take i text) (get_or text i 0 ∷ []))
+      ∙ ap (λ y. cond (not y) (1 + suffix_len (λ b. not (is_newline b)) (take i text)) 0) e
+
+  behind_newline : get_or text i 0 ≡ 10 → (line_behind (take (i + 1) text) ≡ line_behind (take i text) + 1) × (column_behind (take (i + 1) text) ≡ 1)
+  unfolding line_behind column_behind
+  behind_newline e =
+      let is = eq-eqb (get_or text i 0) 10 e in
+      (omega (arith, count_by_more_yes is_newline text i 0 within is), omega (arith, last true is))
+
+  behind_other : get_or text i 0 ≢ 10 → (line_behind (take (i + 1) text) ≡ line_behind (take i text)) × (column_behind (take (i + 1) text) ≡ column_behind (take i text) + 1)
+  unfolding line_behind column_behind
+  behind_other n =
+      let is = ne_eqb (get_or text i 0) 10 n in
+      (omega (arith, count_by_more_no is_newline text i 0 within is), omega (arith, last false is))
 
 pub loop-byte-init : goal.loop-byte-init
 unfolding line_behind column_behind
@@ -21,18 +42,18 @@ loop-byte-preserved c =
     let I = c.loop-byte.invariant in
     elim c.if-byte-eq10.branch [
       | then-byte-eq10 w ↦
-          let ten : get_or text i 0 ≡ 10 = sym byte ∙ w.if-byte-eq10.true in
+          let next = behind_newline text i within (sym byte ∙ w.if-byte-eq10.true) in
           rw w.place-is record {
-            line = omega (arith, w.saturating_add.ensures, I.line, I.low_line, within, small, next_line text i within ten);
-            column = sym (first_column text i within ten);
+            line = omega (arith, w.saturating_add.ensures, I.line, I.low_line, within, small, next.0);
+            column = sym next.1;
             low_line = omega (arith, w.saturating_add.ensures, I.low_line);
             low_column = omega arith;
           }
       | else-byte-eq10 w ↦
-          let other : get_or text i 0 ≢ 10 = λ e. w.if-byte-eq10.false (byte ∙ e) in
+          let next = behind_other text i within (λ e. w.if-byte-eq10.false (byte ∙ e)) in
           rw w.place-is record {
-            line = I.line ∙ sym (same_line text i within other);
-            column = omega (arith, w.saturating_add-else-byte-eq10.ensures, I.column, I.low_column, within, small, next_column text i within other);
+            line = I.line ∙ sym next.0;
+            column = omega (arith, w.saturating_add-else-byte-eq10.ensures, I.column, I.low_column, within, small, next.1);
             low_line = omega (arith, I.low_line);
             low_column = omega (arith, w.saturating_add-else-byte-eq10.ensures, I.low_column);
           }

@@ -1,11 +1,10 @@
-use Rattle.std.proofs.Common.{◌≡◌, ◌++◌, ◌≤◌, length, take, string_bytes}
+use Rattle.std.proofs.Common.{◌≡◌, ◌++◌, ◌≤◌, length, string_bytes}
 use Rattle.std.proofs.Math.Utf8.{encodes}
-use Rattle.std.specs.Str.{chars}
 use Rattle.conf_fault.proofs.shown.push_cut.Given as goal
 
 abbrev pub invariant-loop-character : goal.invariant-loop-character
 invariant-loop-character l = record {
   counted : l.count ≡ length l.yielded;
   few : l.count ≤ 60;
-  said : string_bytes l.said ≡ string_bytes l.fn.said ++ encodes (take l.count (chars l.text));
+  said : string_bytes l.said ≡ string_bytes l.fn.said ++ encodes l.yielded;
 }
