@@ -22,4 +22,3 @@ pub mod KnownClocks
 pub mod BlockOrder
 pub mod ItemOrder
 pub mod LengthParts
-pub mod FaultLines

@@ -2,7 +2,7 @@
 use Rattle.std.proofs.Common.{◌≡◌, ℕ, Bool, true, false, List, [], ◌∷◌, ◌++◌, length, arith, refl}
 use Rattle.std.specs.{List.prefix_len, List.list_all, Char.is_ascii_digit}
 pub use Rattle.std.proofs.lemmas.Bool.{and_parts as and_true}
-use Rattle.std.proofs.lemmas.Bool.{false_from_ne_true, Decides.nat_tests}
+use Rattle.std.proofs.lemmas.{Bool.false_from_ne_true, Bool.Decides.nat_tests, List.Sums.prefix_len-le-length}
 use Rattle.tsdl_grammar.specs.Bytes.{is_name_byte, is_suffix, is_octal_digit}
 
 -- bytes that all pass, and then none
@@ -27,3 +27,5 @@ suffix_is_name_byte b h = grind (arith, nat_tests)
 
 pub octal_is_name_byte : (b : ℕ) → is_octal_digit b ≡ true → is_name_byte b ≡ true
 octal_is_name_byte b h = grind (arith, nat_tests)
+
+pub ruleset runs_within = (prefix_len-le-length)

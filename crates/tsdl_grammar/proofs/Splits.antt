@@ -1,5 +1,5 @@
 -- Cutting a text into pieces, one after the other: what a loop over it keeps, and that there is one way only.
-use Rattle.std.proofs.Common.{◌≡◌, ℕ, ◌+◌, ◌<◌, ◌≤◌, List, [], ◌∷◌, ◌++◌, length, drop, Some, None, arith, refl, sym, ap, subst, ◌∙◌, append_assoc, append-nil, length-drop}
+use Rattle.std.proofs.Common.{◌≡◌, ℕ, ◌+◌, ◌<◌, ◌≤◌, List, [], ◌∷◌, ◌++◌, length, drop, Some, None, arith, refl, sym, ap, subst, ◌∙◌, append_assoc, append-nil, length-drop, drop-drop}
 use Rattle.tsdl_grammar.specs.declared.{token.Token.Token, token.Span.Span, piece.Piece.Piece, piece.Cut.Cut}
 use Rattle.tsdl_grammar.specs.declared.piece.Piece.TheVariants as pieces
 use Rattle.tsdl_grammar.specs.Pieces.{piece_at}
@@ -13,13 +13,13 @@ lens (c ∷ cuts) = c.len + lens cuts
 abbrev span : ℕ → ℕ → Span
 span start end = record { start = start; end = end }
 
--- the text is cut up to its rest, which begins at a place
-pub record Progress (text rest : List ℕ) (at : ℕ) (found : List Token) : Type 0 where
+-- the text is cut up to a place
+pub record Progress (text : List ℕ) (at : ℕ) (found : List Token) : Type 0 where
   pub cuts : List Cut
-  pub splits : Splits text cuts rest
+  pub splits : Splits text cuts (drop at text)
   pub tokens : found ≡ tokens_from 0 cuts
   pub place : at ≡ lens cuts
-  pub whole : at + length rest ≡ length text
+  pub within : at ≤ length text
   pub rises : Rises 0 found at
 
 Splits-push : (text : List ℕ) (cuts : List Cut) (c : Cut) (rest : List ℕ) → Splits text cuts rest → piece_at rest ≡ Some c → Splits text (cuts ++ c ∷ []) (drop c.len rest)
@@ -46,14 +46,14 @@ Rises-push from [] (pieces.Token kind) at end r lt = (r, lt, omega arith)
 Rises-push from [] _ at end r lt = omega arith
 Rises-push from (t ∷ ts) piece at end r lt = (r.0, r.1, Rises-push t.span.end ts piece at end r.2 lt)
 
-pub goes_on : (text rest : List ℕ) (at : ℕ) (found : List Token) (c : Cut) → Progress text rest at found → piece_at rest ≡ Some c → 0 < c.len → c.len ≤ length rest
-    → Progress text (drop c.len rest) (at + c.len) (found ++ token_of c.piece (span at (at + c.len)))
-goes_on text rest at found c p e some within = record {
+pub goes_on : (text : List ℕ) (at : ℕ) (found : List Token) (c : Cut) → Progress text at found → piece_at (drop at text) ≡ Some c → 0 < c.len → c.len ≤ length (drop at text)
+    → Progress text (at + c.len) (found ++ token_of c.piece (span at (at + c.len)))
+goes_on text at found c p e some within = record {
   cuts = p.cuts ++ c ∷ [];
-  splits = Splits-push text p.cuts c rest p.splits e;
+  splits = subst (λ (rest : List ℕ). Splits text (p.cuts ++ c ∷ []) rest) (drop-drop c.len at text) (Splits-push text p.cuts c (drop at text) p.splits e);
   tokens = let z : 0 + lens p.cuts ≡ lens p.cuts = omega arith in rw (p.tokens, p.place) (sym (tokens_from-append 0 p.cuts (c ∷ []) ∙ rw (z, append-nil) refl));
   place = omega (arith, p.place, lens-push p.cuts c);
-  whole = omega (arith, p.whole, length-drop c.len rest);
+  within = omega (arith, p.within, length-drop at text);
   rises = Rises-push 0 found c.piece at (at + c.len) p.rises (omega arith);
 }
 
@@ -61,8 +61,8 @@ pub nothing_at_the_end : piece_at [] ≡ None
 unfolding piece_at
 nothing_at_the_end = refl
 
-pub is_done : (text : List ℕ) (at : ℕ) (found : List Token) → Progress text [] at found → Tokenizes text found × Rises 0 found (length text)
-is_done text at found p = ((p.cuts, p.splits, p.tokens), Rises-widen 0 found at (length text) p.rises (omega (arith, p.whole)))
+pub is_done : (text : List ℕ) (at : ℕ) (found : List Token) → Progress text at found → drop at text ≡ [] → Tokenizes text found × Rises 0 found (length text)
+is_done text at found p e = ((p.cuts, subst (Splits text p.cuts) e p.splits, p.tokens), Rises-widen 0 found at (length text) p.rises p.within)
 
 -- the pieces of a whole text go on from where it is cut
 goes_through : (text rest : List ℕ) (xs ys : List Cut) → Splits text xs [] → Splits text ys rest → (zs : List Cut) × Splits rest zs [] × (xs ≡ ys ++ zs)
@@ -90,12 +90,12 @@ same_tokens text ts us p q =
     p.2 ∙ ap (tokens_from 0) one_way ∙ sym q.2
 
 -- a text that has tokens is cut up to its end where no more piece begins
-pub has_ended : (text rest : List ℕ) (at : ℕ) (found : List Token) → Progress text rest at found → HasTokens text → piece_at rest ≡ None → Tokenizes text found × Rises 0 found (length text)
-has_ended text [] at found p has none = is_done text at found p
-has_ended text (b ∷ rest) at found p has none = absurd (no_stop text (b ∷ rest) has.1.0 p.cuts has.1.1 p.splits ((λ e. absurd cc), none))
+pub has_ended : (text : List ℕ) (at : ℕ) (found : List Token) → Progress text at found → HasTokens text → piece_at (drop at text) ≡ None → Tokenizes text found × Rises 0 found (length text)
+has_ended text at found p has none =
+    let more = goes_through text (drop at text) has.1.0 p.cuts has.1.1 p.splits in is_done text at found p (no_more (drop at text) more.0 more.1 none).0
 
--- the tokens of a text that is cut up to its rest are those that were found, and then the rest's
-pub found_first : (text rest : List ℕ) (at : ℕ) (found ts : List Token) → Progress text rest at found → Tokenizes text ts → (zs : List Cut) × Splits rest zs [] × (ts ≡ found ++ tokens_from at zs)
-found_first text rest at found ts p t =
-    let more = goes_through text rest t.0 p.cuts t.1 p.splits in
+-- the tokens of a text that is cut up to a place are those that were found, and then those behind it
+pub found_first : (text : List ℕ) (at : ℕ) (found ts : List Token) → Progress text at found → Tokenizes text ts → (zs : List Cut) × Splits (drop at text) zs [] × (ts ≡ found ++ tokens_from at zs)
+found_first text at found ts p t =
+    let more = goes_through text (drop at text) t.0 p.cuts t.1 p.splits in
     (more.0, more.1, t.2 ∙ ap (tokens_from 0) more.2 ∙ tokens_from-append 0 p.cuts more.0 ∙ ap (λ (us : List Token). us ++ tokens_from (0 + lens p.cuts) more.0) (sym p.tokens) ∙ ap (λ (n : ℕ). found ++ tokens_from n more.0) (let e = p.place in omega arith))

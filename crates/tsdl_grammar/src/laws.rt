@@ -16,6 +16,7 @@ pub fn tokens_are_unique()
 {}
 
 /// A text that has tokens has no place at which none starts.
+#[tactic(auto, using(crate::proofs::Splits::no_stop))]
 pub fn tokens_or_a_stop()
     ensures { (text : List ℕ) (ts : List Token) (at : ℕ) → Tokenizes text ts → StopsAt text at → ⊥ }
 {}
@@ -82,6 +83,7 @@ pub fn streams_say_their_parts()
 {}
 
 /// Where the parts of an event come from, and the number of its stream. Its name is needed.
+#[tactic(auto, using(crate::proofs::BlockParts::says_event))]
 pub fn events_say_their_parts()
     ensures { (known : Known) (is : List Item) (stream : ℕ) (e : Event) → event_meaning known is ≡ Some (stream, e) → SaysEvent known is stream e }
 {}

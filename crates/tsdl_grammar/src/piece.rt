@@ -24,7 +24,7 @@ pub struct Cut {
 }
 
 /// The longest piece at the front of the bytes, if one begins there.
-#[tactic(auto, unfolding(crate::specs::Pieces::piece_at, crate::specs::Pieces::text_at, crate::specs::Pieces::comment_at))]
+#[tactic(auto, using(crate::proofs::Runs::runs_within), unfolding(crate::specs::Pieces::piece_at, crate::specs::Pieces::text_at, crate::specs::Pieces::comment_at))]
 pub(crate) fn piece_at(bytes: &[u8]) -> Option<Cut>
     ensures value { result ≡ piece_at bytes.now }
     ensures within { IfSome result (λ c. (0 < c.len) × (c.len ≤ length bytes.now)) }
@@ -56,8 +56,7 @@ pub(crate) fn piece_at(bytes: &[u8]) -> Option<Cut>
 
 /// How many name bytes stand at the front.
 fn name_len(bytes: &[u8]) -> usize
-    ensures value { result ≡ prefix_len is_name_byte bytes.now }
-    ensures within { result ≤ length bytes.now }
+    ensures { result ≡ prefix_len is_name_byte bytes.now }
 {
     bytes
         .iter()
@@ -66,22 +65,19 @@ fn name_len(bytes: &[u8]) -> usize
 }
 
 fn decimal_len(bytes: &[u8]) -> usize
-    ensures value { result ≡ prefix_len is_ascii_digit bytes.now }
-    ensures within { result ≤ length bytes.now }
+    ensures { result ≡ prefix_len is_ascii_digit bytes.now }
 {
     bytes.iter().take_while(|b| b.is_ascii_digit()).count()
 }
 
 fn hexadecimal_len(bytes: &[u8]) -> usize
-    ensures value { result ≡ prefix_len is_ascii_hexdigit bytes.now }
-    ensures within { result ≤ length bytes.now }
+    ensures { result ≡ prefix_len is_ascii_hexdigit bytes.now }
 {
     bytes.iter().take_while(|b| b.is_ascii_hexdigit()).count()
 }
 
 fn octal_len(bytes: &[u8]) -> usize
-    ensures value { result ≡ prefix_len is_octal_digit bytes.now }
-    ensures within { result ≤ length bytes.now }
+    ensures { result ≡ prefix_len is_octal_digit bytes.now }
 {
     bytes
         .iter()
@@ -90,8 +86,7 @@ fn octal_len(bytes: &[u8]) -> usize
 }
 
 fn suffix_len(bytes: &[u8]) -> usize
-    ensures value { result ≡ prefix_len is_suffix bytes.now }
-    ensures within { result ≤ length bytes.now }
+    ensures { result ≡ prefix_len is_suffix bytes.now }
 {
     bytes
         .iter()
@@ -100,8 +95,7 @@ fn suffix_len(bytes: &[u8]) -> usize
 }
 
 fn line_len(bytes: &[u8]) -> usize
-    ensures value { result ≡ prefix_len not_newline bytes.now }
-    ensures within { result ≤ length bytes.now }
+    ensures { result ≡ prefix_len not_newline bytes.now }
 {
     bytes.iter().take_while(|b| **b != b'\n').count()
 }
@@ -154,7 +148,7 @@ fn close_len(bytes: &[u8]) -> Option<usize>
 }
 
 /// The bytes of a number literal with its suffix.
-#[tactic(auto, unfolding(crate::specs::Pieces::number_len))]
+#[tactic(auto, using(crate::proofs::Runs::runs_within), unfolding(crate::specs::Pieces::number_len))]
 fn number_len(bytes: &[u8]) -> usize
     ensures value { result ≡ number_len bytes.now }
     ensures some { 0 < length bytes.now → 0 < result }
@@ -165,6 +159,7 @@ fn number_len(bytes: &[u8]) -> usize
 }
 
 /// The prefix and the digits of a number literal.
+#[tactic(auto, using(crate::proofs::Runs::runs_within))]
 fn digits_len(bytes: &[u8]) -> usize
     ensures value { result ≡ digits_len bytes.now }
     ensures some { 0 < length bytes.now → 0 < result }

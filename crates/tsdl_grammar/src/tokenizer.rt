@@ -25,8 +25,7 @@ pub fn tokens(alloc: Global, text: &[u8]) -> Result<Vec<Token>, MetaFault>
     check_tokens(text)?;
     let mut found = Vec::new(alloc);
     let mut at = 0;
-    let mut rest = text;
-    while let Some(cut) = piece_at(rest) {
+    while let Some(cut) = piece_at(&text[at..]) {
         let end = at + cut.len;
         let span = Span { start: at, end };
         match cut.piece {
@@ -34,7 +33,6 @@ pub fn tokens(alloc: Global, text: &[u8]) -> Result<Vec<Token>, MetaFault>
             Piece::Token(kind) => found.push(Token { kind, span })?,
         }
         at = end;
-        rest = &rest[cut.len..];
     }
     Ok(found)
 }
@@ -50,14 +48,12 @@ pub fn check_tokens(text: &[u8]) -> Result<(), MetaFault>
         return Err(MetaFault { place: 0, kind });
     }
     let mut at = 0;
-    let mut rest = text;
-    while !rest.is_empty() {
-        let Some(cut) = piece_at(rest) else {
+    while at < text.len() {
+        let Some(cut) = piece_at(&text[at..]) else {
             let kind = MetaFaultKind::Token;
             return Err(MetaFault { place: at, kind });
         };
         at += cut.len;
-        rest = &rest[cut.len..];
     }
     Ok(())
 }
@@ -68,15 +64,13 @@ pub fn token_start(text: &[u8], index: usize) -> usize
 {
     let mut before = index;
     let mut at = 0;
-    let mut rest = text;
-    while let Some(cut) = piece_at(rest) {
+    while let Some(cut) = piece_at(&text[at..]) {
         match cut.piece {
             Piece::Blank | Piece::Comment => {}
             Piece::Token(_) if before == 0 => return at,
             Piece::Token(_) => before -= 1,
         }
         at += cut.len;
-        rest = &rest[cut.len..];
     }
     text.len()
 }

@@ -1,10 +1,10 @@
-use Rattle.std.proofs.Common.{List, length}
+use Rattle.std.proofs.Common.{◌-◌, List, length}
 use Rattle.tsdl_grammar.specs.declared.token.Token.{Token}
 use Rattle.tsdl_grammar.proofs.Splits.{Progress}
 use Rattle.tsdl_grammar.proofs.tokenizer.check_tokens.Given as goal
 
-abbrev pub invariant-loop-rest : goal.invariant-loop-rest
-invariant-loop-rest l = (found : List Token) × Progress l.text l.rest l.at found
+abbrev pub invariant-loop-at : goal.invariant-loop-at
+invariant-loop-at l = (found : List Token) × Progress l.text l.at found
 
-abbrev pub decreases-loop-rest : goal.decreases-loop-rest
-decreases-loop-rest l = length l.rest
+abbrev pub decreases-loop-at : goal.decreases-loop-at
+decreases-loop-at l = length l.text - l.at

@@ -6,18 +6,20 @@ use Rattle.tsdl_grammar.proofs.tokenizer.token_start.Goals.{in-Blank, in-Token-2
 
 pub returns-in-Token : goal.returns-in-Token
 returns-in-Token c =
-    starts_here c.args.text.now c.loop-cut.rest.now c.loop-cut.at c.loop-cut.before c.args.index c.in-Some.cut c.in-Token.field-0 c.loop-cut.invariant (let z = c.if-before-eq0.true in omega arith) (sym c.in-Some.ensures.value) c.in-Token.is
+    starts_here c.args.text.now c.loop-cut.at c.loop-cut.before c.args.index c.in-Some.cut c.in-Token.field-0 c.loop-cut.invariant (let z = c.if-before-eq0.true in omega arith) (rw take_rest at (sym c.in-Some.ensures.value)) c.in-Token.is
 
 pub loop-cut-preserved : goal.loop-cut-preserved
 loop-cut-preserved c =
-    rw take_rest (elim c.match-cut.branch [
+    let here = rw take_rest at (sym c.in-Some.ensures.value) in
+    let within = rw take_rest at c.in-Some.ensures.within.1 in
+    elim c.match-cut.branch [
       | in-Blank w ↦
-          rw w.before-is (passes c.args.text.now c.loop-cut.rest.now c.loop-cut.at c.loop-cut.before c.loop-cut.before c.args.index c.in-Some.cut c.loop-cut.invariant (sym c.in-Some.ensures.value)
-          (elim w.in-Blank.is [ inl blank ↦ rw blank (omega arith) | inr comment ↦ rw comment (omega arith) ]) c.in-Some.ensures.within.0 c.in-Some.ensures.within.1)
+          rw w.before-is (passes c.args.text.now c.loop-cut.at c.loop-cut.before c.loop-cut.before c.args.index c.in-Some.cut c.loop-cut.invariant here
+          (elim w.in-Blank.is [ inl blank ↦ rw blank (omega arith) | inr comment ↦ rw comment (omega arith) ]) c.in-Some.ensures.within.0 within)
       | in-Token-2 w ↦
-          rw w.before-is (passes c.args.text.now c.loop-cut.rest.now c.loop-cut.at c.loop-cut.before (c.loop-cut.before - 1) c.args.index c.in-Some.cut c.loop-cut.invariant (sym c.in-Some.ensures.value)
-          (let z = w.if-before-eq0.false in rw w.in-Token-2.is (omega arith)) c.in-Some.ensures.within.0 c.in-Some.ensures.within.1)
-    ])
+          rw w.before-is (passes c.args.text.now c.loop-cut.at c.loop-cut.before (c.loop-cut.before - 1) c.args.index c.in-Some.cut c.loop-cut.invariant here
+          (let z = w.if-before-eq0.false in rw w.in-Token-2.is (omega arith)) c.in-Some.ensures.within.0 within)
+    ]
 
 pub returns : goal.returns
-returns c = starts_nowhere c.args.text.now c.loop-cut.rest.now c.loop-cut.at c.loop-cut.before c.args.index c.loop-cut.invariant (sym c.in_default.ensures.value)
+returns c = starts_nowhere c.args.text.now c.loop-cut.at c.loop-cut.before c.args.index c.loop-cut.invariant (rw take_rest at (sym c.in_default.ensures.value))
