@@ -1,27 +1,17 @@
 -- Names, values and attributes are read as they are spelled. A name goes on for as long as dots follow.
-use Rattle.std.proofs.Common.{◌≡◌, ℕ, false, List, [], ◌∷◌, ◌++◌, length, Some, refl, ap, ◌∙◌, append_assoc, arith}
+use Rattle.tsdl_parser.proofs.Steps.{Atom, Attribute, List, Name, Number, Shortens, Some, [], all_dotted_at, along, ap, append_assoc, arith, attr_at, attr_behind, attr_toks, attrs_at, attrs_toks, begins, dotted, dotted_at, false, is_open, length, mark, mark_at, name_at, name_toks, number_at, number_toks, refl, signed_at, step, value_at, value_toks, word, word_at, ℕ, ◌++◌, ◌∙◌, ◌∷◌, ◌≡◌}
 use Rattle.tsdl_grammar.specs.declared.token.Mark.TheVariants as marks
-use Rattle.tsdl_grammar.specs.declared.atom.Atom.{Atom}
 use Rattle.tsdl_grammar.specs.declared.atom.Atom.TheVariants as atoms
-use Rattle.tsdl_grammar.specs.declared.tree.Number.{Number}
-use Rattle.tsdl_grammar.specs.declared.tree.Name.{Name}
 use Rattle.tsdl_grammar.specs.declared.tree.Value.{Value}
 use Rattle.tsdl_grammar.specs.declared.tree.Value.TheVariants as values
-use Rattle.tsdl_grammar.specs.declared.tree.Attribute.{Attribute}
-use Rattle.tsdl_grammar.specs.Spelling.{mark, word, number_toks, dotted, name_toks, value_toks, attr_toks, attrs_toks}
-use Rattle.tsdl_parser.specs.Parsing.{begins, mark_at, word_at, signed_at, number_at, is_open, Shortens}
-use Rattle.tsdl_parser.specs.ParsingAttributes.{dotted_at, all_dotted_at, name_at, value_at, attr_behind, attr_at, attrs_at}
-use Rattle.tsdl_parser.proofs.Steps.{along, first_of_two}
-use Rattle.tsdl_parser.proofs.Words.{mark_takes, word_takes, number_as, by_sign}
+use Rattle.tsdl_parser.proofs.Words.{mark_step, word_takes, number_as, by_sign}
 use Rattle.tsdl_parser.proofs.Repeated.{Spells, Anything, shortens, many_take, many_again, braced_take, braced_again}
-
--- ---- names
 
 dotted_takes : (ts : List Atom) (x : List ℕ × List Atom) → dotted_at ts ≡ Some x → ts ≡ dotted x.0 ++ x.1
 unfolding dotted_at
 dotted_takes ts x e =
-    let a = first_of_two (mark_at marks.Dot ts) word_at x e in
-    mark_takes marks.Dot ts a.0 a.1 ∙ ap (λ (us : List Atom). mark marks.Dot ∷ us) (word_takes a.0 x a.2)
+    let a = mark_step marks.Dot ts word_at x e in
+    a.1 ∙ ap (λ (us : List Atom). mark marks.Dot ∷ us) (word_takes a.0 x a.2)
 
 pub dotted_spells : Spells (List ℕ) (begins marks.Dot) dotted_at dotted Anything
 unfolding dotted_at mark_at word_at begins
@@ -39,24 +29,20 @@ dotted_short = shortens (begins marks.Dot) dotted_at dotted Anything dotted_spel
 pub name_takes : (ts : List Atom) (x : Name × List Atom) → name_at ts ≡ Some x → ts ≡ name_toks x.0 ++ x.1
 unfolding name_at
 name_takes ts x e =
-    let a = first_of_two (word_at ts) _ x e in
-    let b = first_of_two (all_dotted_at a.0.1) _ x a.2 in
-    let one = word_takes ts a.0 a.1 in
-    let others = many_take (begins marks.Dot) dotted_at dotted Anything dotted_spells (length a.0.1) a.0.1 b.0 b.1 in
-    along (λ (y : Name × List Atom). ts ≡ name_toks y.0 ++ y.1) (record { first = a.0.0; rest = b.0.0 }, b.0.1) x b.2 (one ∙ ap (λ (us : List Atom). word a.0.0 ∷ us) others.0)
+    let a = step (word_at ts) _ x (word_takes ts) e in
+    let b = step (all_dotted_at a.0.1) _ x (many_take (begins marks.Dot) dotted_at dotted Anything dotted_spells (length a.0.1) a.0.1) a.2 in
+    along (λ (y : Name × List Atom). ts ≡ name_toks y.0 ++ y.1) (record { first = a.0.0; rest = b.0.0 }, b.0.1) x b.2 (a.1 ∙ ap (λ (us : List Atom). word a.0.0 ∷ us) b.1.0)
 
 pub name_again : (n : Name) (rest : List Atom) → begins marks.Dot rest ≡ false → name_at (name_toks n ++ rest) ≡ Some (n, rest)
 unfolding name_at word_at
 name_again n rest end = rw (many_again (begins marks.Dot) dotted_at dotted Anything dotted_spells n.rest rest end tt) refl
 
--- ---- values
-
 pub value_takes : (ts : List Atom) (x : Value × List Atom) → value_at ts ≡ Some x → ts ≡ value_toks x.0 ++ x.1
 unfolding value_at
 value_takes (atoms.Text s ∷ ts) x e = along (λ (y : Value × List Atom). (atoms.Text s ∷ ts) ≡ value_toks y.0 ++ y.1) (values.Text s, ts) x e refl
 value_takes (atoms.Word w ∷ ts) x e =
-    let a = first_of_two (name_at (atoms.Word w ∷ ts)) _ x e in
-    along (λ (y : Value × List Atom). (atoms.Word w ∷ ts) ≡ value_toks y.0 ++ y.1) (values.Name a.0.0, a.0.1) x a.2 (name_takes (atoms.Word w ∷ ts) a.0 a.1)
+    let a = step (name_at (atoms.Word w ∷ ts)) _ x (name_takes (atoms.Word w ∷ ts)) e in
+    along (λ (y : Value × List Atom). (atoms.Word w ∷ ts) ≡ value_toks y.0 ++ y.1) (values.Name a.0.0, a.0.1) x a.2 a.1
 value_takes ts x e = number_as values.Number value_toks (λ n. refl) ts x e
 
 pub value_again : (v : Value) (rest : List Atom) → begins marks.Dot rest ≡ false → value_at (value_toks v ++ rest) ≡ Some (v, rest)
@@ -65,25 +51,20 @@ value_again (values.Number n) rest end = by_sign (λ (m : Number). value_at (num
 value_again (values.Text s) rest end = refl
 value_again (values.Name n) rest end = rw (name_again n rest end) refl
 
--- ---- attributes
-
 pub behind_takes : (name : Name) (ts : List Atom) (x : Attribute × List Atom) → attr_behind name ts ≡ Some x → name_toks name ++ ts ≡ attr_toks x.0 ++ x.1
 unfolding attr_behind
 behind_takes name ts x e =
-    let a = first_of_two (mark_at marks.Equals ts) _ x e in
-    let b = first_of_two (value_at a.0) _ x a.2 in
-    let c = first_of_two (mark_at marks.Semicolon b.0.1) _ x b.2 in
-    let e1 = mark_takes marks.Equals ts a.0 a.1 in
-    let e2 = value_takes a.0 b.0 b.1 in
-    let e3 = mark_takes marks.Semicolon b.0.1 c.0 c.1 in
+    let a = mark_step marks.Equals ts _ x e in
+    let b = step (value_at a.0) _ x (value_takes a.0) a.2 in
+    let c = mark_step marks.Semicolon b.0.1 _ x b.2 in
     along (λ (y : Attribute × List Atom). name_toks name ++ ts ≡ attr_toks y.0 ++ y.1) (record { name = name; value = b.0.0 }, c.0) x c.2
-    (ap (λ (us : List Atom). name_toks name ++ us) (e1 ∙ ap (λ (us : List Atom). mark marks.Equals ∷ us) (e2 ∙ ap (λ (us : List Atom). value_toks b.0.0 ++ us) e3)) ∙ simp append_assoc)
+    (ap (λ (us : List Atom). name_toks name ++ us) (a.1 ∙ ap (λ (us : List Atom). mark marks.Equals ∷ us) (b.1 ∙ ap (λ (us : List Atom). value_toks b.0.0 ++ us) c.1)) ∙ simp append_assoc)
 
 attr_takes : (ts : List Atom) (x : Attribute × List Atom) → attr_at ts ≡ Some x → ts ≡ attr_toks x.0 ++ x.1
 unfolding attr_at
 attr_takes ts x e =
-    let a = first_of_two (name_at ts) _ x e in
-    name_takes ts a.0 a.1 ∙ behind_takes a.0.0 a.0.1 x a.2
+    let a = step (name_at ts) _ x (name_takes ts) e in
+    a.1 ∙ behind_takes a.0.0 a.0.1 x a.2
 
 -- what stands behind the name of an attribute
 abbrev pub value_part : Attribute → List Atom
@@ -118,8 +99,6 @@ attr_spells = record {
 
 pub attr_short : Shortens Attribute attr_at
 attr_short = shortens is_open attr_at attr_toks Anything attr_spells
-
--- ---- attributes in braces
 
 pub attrs_take : (ts : List Atom) (x : List Attribute × List Atom) → attrs_at ts ≡ Some x → ts ≡ attrs_toks x.0 ++ x.1
 attrs_take = braced_take attr_at attr_toks attr_spells

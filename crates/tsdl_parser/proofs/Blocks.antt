@@ -1,11 +1,7 @@
 -- Blocks, and what stands in them, are read as they are spelled, so a list of atoms spells at most one list of blocks.
-use Rattle.std.proofs.Common.{◌≡◌, ℕ, ◌<◌, true, false, List, [], ◌∷◌, ◌++◌, length, Some, None, codes, refl, sym, ap, ◌∙◌, append_assoc, arith, inl, inr}
-use Rattle.std.proofs.lemmas.List.{append-nil, length-append}
+use Rattle.tsdl_parser.proofs.Steps.{Atom, Fails, List, Name, None, Number, Shortens, Some, Unread, [], all_blocks_at, along, ap, append-nil, append_assoc, arith, attr_behind, begins, block_and_semicolon, block_at, block_toks, braced_at, chosen, codes, ended_block_at, fact_at, fact_toks, false, has_more, inl, inr, is_open, item_at, item_toks, items_at, items_toks, keyword_at, length, length-append, mark, mark_at, name_at, name_toks, named_fact_at, named_fact_toks, names, number_at, number_toks, refl, scope_behind, scope_toks, signed_at, some_is, splice, step, struct_at, struct_toks, sym, text_toks, true, word, word_at, ℕ, ◌++◌, ◌<◌, ◌∙◌, ◌∷◌, ◌≡◌}
 use Rattle.tsdl_grammar.specs.declared.token.Mark.TheVariants as marks
-use Rattle.tsdl_grammar.specs.declared.atom.Atom.{Atom}
 use Rattle.tsdl_grammar.specs.declared.atom.Atom.TheVariants as atoms
-use Rattle.tsdl_grammar.specs.declared.tree.Number.{Number}
-use Rattle.tsdl_grammar.specs.declared.tree.Name.{Name}
 use Rattle.tsdl_grammar.specs.declared.tree.Scope.{Scope}
 use Rattle.tsdl_grammar.specs.declared.tree.Item.{Item}
 use Rattle.tsdl_grammar.specs.declared.tree.Item.TheVariants as items
@@ -14,16 +10,9 @@ use Rattle.tsdl_grammar.specs.declared.tree.Fact.TheVariants as facts
 use Rattle.tsdl_grammar.specs.declared.tree.NamedFact.{NamedFact}
 use Rattle.tsdl_grammar.specs.declared.tree.Block.{Block}
 use Rattle.tsdl_grammar.specs.declared.tree.Block.TheVariants as blocks
-use Rattle.tsdl_grammar.specs.Spelling.{mark, word, number_toks, name_toks, struct_toks, scope_toks, item_toks, items_toks, fact_toks, named_fact_toks, block_toks, block_and_semicolon, text_toks}
-use Rattle.tsdl_parser.specs.declared.halt.Unread.{Unread}
 use Rattle.tsdl_parser.specs.declared.halt.Unread.TheVariants as unread
 use Rattle.tsdl_parser.specs.Halting.{IfHalted}
-use Rattle.tsdl_parser.specs.Parsing.{Fails, begins, mark_at, word_at, names, keyword_at, signed_at, number_at, is_open, braced_at, Shortens}
-use Rattle.tsdl_parser.specs.ParsingAttributes.{name_at, attr_behind}
-use Rattle.tsdl_parser.specs.ParsingMembers.{struct_at}
-use Rattle.tsdl_parser.specs.ParsingBlocks.{scope_behind, item_at, items_at, fact_at, named_fact_at, environment_at, block_at, ended_block_at, has_more, all_blocks_at}
-use Rattle.tsdl_parser.proofs.Steps.{along, first_of_two, chosen, splice, some_is}
-use Rattle.tsdl_parser.proofs.Words.{mark_takes, word_takes, keyword_takes, number_as, by_sign}
+use Rattle.tsdl_parser.proofs.Words.{mark_step, word_takes, keyword_step, number_as, by_sign}
 use Rattle.tsdl_parser.proofs.Repeated.{Spells, Anything, shortens, many_take, many_again, braced_take, braced_again}
 use Rattle.tsdl_parser.proofs.Attributes.{name_takes, name_again, behind_takes, value_part, attr_parts, behind_again}
 use Rattle.tsdl_parser.proofs.Members.{struct_takes, struct_again}
@@ -36,14 +25,11 @@ scope_parts s rest = splice (name_toks s.name) (mark marks.Assign ∷ struct_tok
 scope_takes : (name : Name) (ts : List Atom) (x : Scope × List Atom) → scope_behind name ts ≡ Some x → name_toks name ++ ts ≡ scope_toks x.0 ++ x.1
 unfolding scope_behind
 scope_takes name ts x e =
-    let a = first_of_two (mark_at marks.Assign ts) _ x e in
-    let b = first_of_two (struct_at a.0) _ x a.2 in
-    let c = first_of_two (mark_at marks.Semicolon b.0.1) _ x b.2 in
-    let e1 = mark_takes marks.Assign ts a.0 a.1 in
-    let e2 = struct_takes a.0 b.0 b.1 in
-    let e3 = mark_takes marks.Semicolon b.0.1 c.0 c.1 in
+    let a = mark_step marks.Assign ts _ x e in
+    let b = step (struct_at a.0) _ x (struct_takes a.0) a.2 in
+    let c = mark_step marks.Semicolon b.0.1 _ x b.2 in
     along (λ (y : Scope × List Atom). name_toks name ++ ts ≡ scope_toks y.0 ++ y.1) (record { name = name; structure = b.0.0 }, c.0) x c.2
-    (ap (λ (us : List Atom). name_toks name ++ us) (e1 ∙ ap (λ (us : List Atom). mark marks.Assign ∷ us) (e2 ∙ ap (λ (us : List Atom). struct_toks b.0.0 ++ us) e3))
+    (ap (λ (us : List Atom). name_toks name ++ us) (a.1 ∙ ap (λ (us : List Atom). mark marks.Assign ∷ us) (b.1 ∙ ap (λ (us : List Atom). struct_toks b.0.0 ++ us) c.1))
     ∙ scope_parts (record { name = name; structure = b.0.0 }) c.0)
 
 scope_again : (s : Scope) (rest : List Atom) → scope_behind s.name (mark marks.Assign ∷ (struct_toks s.structure ++ (mark marks.Semicolon ∷ rest))) ≡ Some (s, rest)
@@ -53,15 +39,14 @@ scope_again s rest = rw (struct_again s.structure (mark marks.Semicolon ∷ rest
 item_takes : (ts : List Atom) (x : Item × List Atom) → item_at ts ≡ Some x → ts ≡ item_toks x.0 ++ x.1
 unfolding item_at
 item_takes ts x e =
-    let a = first_of_two (name_at ts) _ x e in
-    let e1 = name_takes ts a.0 a.1 in
+    let a = step (name_at ts) _ x (name_takes ts) e in
     elim (chosen (begins marks.Equals a.0.1) _ _ (Some x) a.2) [
       | inl h ↦
-          let b = first_of_two (attr_behind a.0.0 a.0.1) _ x h.1 in
-          along (λ (y : Item × List Atom). ts ≡ item_toks y.0 ++ y.1) (items.Attribute b.0.0, b.0.1) x b.2 (e1 ∙ behind_takes a.0.0 a.0.1 b.0 b.1)
+          let b = step (attr_behind a.0.0 a.0.1) _ x (behind_takes a.0.0 a.0.1) h.1 in
+          along (λ (y : Item × List Atom). ts ≡ item_toks y.0 ++ y.1) (items.Attribute b.0.0, b.0.1) x b.2 (a.1 ∙ b.1)
       | inr h ↦
-          let b = first_of_two (scope_behind a.0.0 a.0.1) _ x h.1 in
-          along (λ (y : Item × List Atom). ts ≡ item_toks y.0 ++ y.1) (items.Scope b.0.0, b.0.1) x b.2 (e1 ∙ scope_takes a.0.0 a.0.1 b.0 b.1)
+          let b = step (scope_behind a.0.0 a.0.1) _ x (scope_takes a.0.0 a.0.1) h.1 in
+          along (λ (y : Item × List Atom). ts ≡ item_toks y.0 ++ y.1) (items.Scope b.0.0, b.0.1) x b.2 (a.1 ∙ b.1)
     ]
 
 item_again : (i : Item) (rest : List Atom) → item_at (item_toks i ++ rest) ≡ Some (i, rest)
@@ -74,7 +59,7 @@ item_again (items.Scope s) rest =
 item_opens : (i : Item) (rest : List Atom) → is_open (item_toks i ++ rest) ≡ true
 unfolding begins
 item_opens (items.Attribute a) rest = refl
-item_opens (items.Scope s) rest = refl
+item_opens _ rest = refl
 
 item_some : (i : Item) → 0 < length (item_toks i)
 item_some (items.Attribute a) = omega arith
@@ -110,16 +95,12 @@ named_parts f rest = sym (append_assoc (word f.name ∷ (mark marks.Equals ∷ f
 named_takes : (ts : List Atom) (x : NamedFact × List Atom) → named_fact_at ts ≡ Some x → ts ≡ named_fact_toks x.0 ++ x.1
 unfolding named_fact_at
 named_takes ts x e =
-    let a = first_of_two (word_at ts) _ x e in
-    let b = first_of_two (mark_at marks.Equals a.0.1) _ x a.2 in
-    let c = first_of_two (fact_at b.0) _ x b.2 in
-    let d = first_of_two (mark_at marks.Semicolon c.0.1) _ x c.2 in
-    let e1 = word_takes ts a.0 a.1 in
-    let e2 = mark_takes marks.Equals a.0.1 b.0 b.1 in
-    let e3 = fact_takes b.0 c.0 c.1 in
-    let e4 = mark_takes marks.Semicolon c.0.1 d.0 d.1 in
+    let a = step (word_at ts) _ x (word_takes ts) e in
+    let b = mark_step marks.Equals a.0.1 _ x a.2 in
+    let c = step (fact_at b.0) _ x (fact_takes b.0) b.2 in
+    let d = mark_step marks.Semicolon c.0.1 _ x c.2 in
     along (λ (y : NamedFact × List Atom). ts ≡ named_fact_toks y.0 ++ y.1) (record { name = a.0.0; fact = c.0.0 }, d.0) x d.2
-    (e1 ∙ ap (λ (us : List Atom). word a.0.0 ∷ us) (e2 ∙ ap (λ (us : List Atom). mark marks.Equals ∷ us) (e3 ∙ ap (λ (us : List Atom). fact_toks c.0.0 ++ us) e4))
+    (a.1 ∙ ap (λ (us : List Atom). word a.0.0 ∷ us) (b.1 ∙ ap (λ (us : List Atom). mark marks.Equals ∷ us) (c.1 ∙ ap (λ (us : List Atom). fact_toks c.0.0 ++ us) d.1))
     ∙ named_parts (record { name = a.0.0; fact = c.0.0 }) d.0)
 
 named_again : (f : NamedFact) (rest : List Atom) → named_fact_at (named_fact_toks f ++ rest) ≡ Some (f, rest)
@@ -144,50 +125,40 @@ fact_short = shortens is_open named_fact_at named_fact_toks Anything fact_spells
 items_take : (keyword : List ℕ) (ts : List Atom) (x : List Item × List Atom) → items_at keyword ts ≡ Some x → ts ≡ word keyword ∷ (items_toks x.0 ++ x.1)
 unfolding items_at
 items_take keyword ts x e =
-    let a = first_of_two (keyword_at keyword ts) _ x e in
-    keyword_takes keyword ts a.0 a.1 ∙ ap (λ (us : List Atom). word keyword ∷ us) (braced_take item_at item_toks item_spells a.0 x a.2)
+    let a = keyword_step keyword ts _ x e in
+    a.1 ∙ ap (λ (us : List Atom). word keyword ∷ us) (braced_take item_at item_toks item_spells a.0 x a.2)
 
 items_again : (keyword : List ℕ) (is : List Item) (ts rest : List Atom) → keyword_at keyword ts ≡ Some (items_toks is ++ rest) → items_at keyword ts ≡ Some (is, rest)
 unfolding items_at
 items_again keyword is ts rest e = rw e (braced_again item_at item_toks item_spells is rest)
-
-environment_takes : (ts : List Atom) (x : Block × List Atom) → environment_at ts ≡ Some x → ts ≡ block_toks x.0 ++ x.1
-unfolding environment_at
-environment_takes ts x e =
-    let a = first_of_two (keyword_at (codes "env") ts) _ x e in
-    let b = first_of_two (braced_at named_fact_at a.0) _ x a.2 in
-    let e1 = keyword_takes (codes "env") ts a.0 a.1 in
-    let e2 = braced_take named_fact_at named_fact_toks fact_spells a.0 b.0 b.1 in
-    along (λ (y : Block × List Atom). ts ≡ block_toks y.0 ++ y.1) (blocks.Environment b.0.0, b.0.1) x b.2 (e1 ∙ ap (λ (us : List Atom). word (codes "env") ∷ us) e2)
 
 block_takes : (ts : List Atom) (x : Block × List Atom) → block_at ts ≡ Some x → ts ≡ block_toks x.0 ++ x.1
 unfolding block_at
 block_takes ts x e =
     elim (chosen (names (codes "trace") ts) _ _ (Some x) e) [
       | inl h ↦
-          let a = first_of_two (items_at (codes "trace") ts) _ x h.1 in
-          along (λ (y : Block × List Atom). ts ≡ block_toks y.0 ++ y.1) (blocks.Trace a.0.0, a.0.1) x a.2 (items_take (codes "trace") ts a.0 a.1)
+          let a = step (items_at (codes "trace") ts) _ x (items_take (codes "trace") ts) h.1 in
+          along (λ (y : Block × List Atom). ts ≡ block_toks y.0 ++ y.1) (blocks.Trace a.0.0, a.0.1) x a.2 a.1
       | inr h ↦ elim (chosen (names (codes "stream") ts) _ _ (Some x) h.1) [
         | inl h ↦
-            let a = first_of_two (items_at (codes "stream") ts) _ x h.1 in
-            along (λ (y : Block × List Atom). ts ≡ block_toks y.0 ++ y.1) (blocks.Stream a.0.0, a.0.1) x a.2 (items_take (codes "stream") ts a.0 a.1)
+            let a = step (items_at (codes "stream") ts) _ x (items_take (codes "stream") ts) h.1 in
+            along (λ (y : Block × List Atom). ts ≡ block_toks y.0 ++ y.1) (blocks.Stream a.0.0, a.0.1) x a.2 a.1
         | inr h ↦ elim (chosen (names (codes "event") ts) _ _ (Some x) h.1) [
           | inl h ↦
-              let a = first_of_two (items_at (codes "event") ts) _ x h.1 in
-              along (λ (y : Block × List Atom). ts ≡ block_toks y.0 ++ y.1) (blocks.Event a.0.0, a.0.1) x a.2 (items_take (codes "event") ts a.0 a.1)
+              let a = step (items_at (codes "event") ts) _ x (items_take (codes "event") ts) h.1 in
+              along (λ (y : Block × List Atom). ts ≡ block_toks y.0 ++ y.1) (blocks.Event a.0.0, a.0.1) x a.2 a.1
           | inr h ↦ elim (chosen (names (codes "clock") ts) _ _ (Some x) h.1) [
             | inl h ↦
-                let a = first_of_two (items_at (codes "clock") ts) _ x h.1 in
-                along (λ (y : Block × List Atom). ts ≡ block_toks y.0 ++ y.1) (blocks.Clock a.0.0, a.0.1) x a.2 (items_take (codes "clock") ts a.0 a.1)
-            | inr h ↦ environment_takes ts x h.1
+                let a = step (items_at (codes "clock") ts) _ x (items_take (codes "clock") ts) h.1 in
+                along (λ (y : Block × List Atom). ts ≡ block_toks y.0 ++ y.1) (blocks.Clock a.0.0, a.0.1) x a.2 a.1
+            | inr h ↦
+                let a = keyword_step (codes "env") ts _ x h.1 in
+                let b = step (braced_at named_fact_at a.0) _ x (braced_take named_fact_at named_fact_toks fact_spells a.0) a.2 in
+                along (λ (y : Block × List Atom). ts ≡ block_toks y.0 ++ y.1) (blocks.Environment b.0.0, b.0.1) x b.2 (a.1 ∙ ap (λ (us : List Atom). word (codes "env") ∷ us) b.1)
           ]
         ]
       ]
     ]
-
-environment_again : (fs : List NamedFact) (rest : List Atom) → environment_at (block_toks (blocks.Environment fs) ++ rest) ≡ Some (blocks.Environment fs, rest)
-unfolding environment_at keyword_at
-environment_again fs rest = rw (braced_again named_fact_at named_fact_toks fact_spells fs rest) refl
 
 block_again : (b : Block) (rest : List Atom) → block_at (block_toks b ++ rest) ≡ Some (b, rest)
 unfolding block_at names keyword_at
@@ -195,15 +166,15 @@ block_again (blocks.Trace is) rest = rw (items_again (codes "trace") is (block_t
 block_again (blocks.Stream is) rest = rw (items_again (codes "stream") is (block_toks (blocks.Stream is) ++ rest) rest refl) refl
 block_again (blocks.Event is) rest = rw (items_again (codes "event") is (block_toks (blocks.Event is) ++ rest) rest refl) refl
 block_again (blocks.Clock is) rest = rw (items_again (codes "clock") is (block_toks (blocks.Clock is) ++ rest) rest refl) refl
-block_again (blocks.Environment fs) rest = environment_again fs rest
+block_again (blocks.Environment fs) rest = rw (braced_again named_fact_at named_fact_toks fact_spells fs rest) refl
 
 ended_takes : (ts : List Atom) (x : Block × List Atom) → ended_block_at ts ≡ Some x → ts ≡ block_and_semicolon x.0 ++ x.1
 unfolding ended_block_at
 ended_takes ts x e =
-    let a = first_of_two (block_at ts) _ x e in
-    let b = first_of_two (mark_at marks.Semicolon a.0.1) _ x a.2 in
+    let a = step (block_at ts) _ x (block_takes ts) e in
+    let b = mark_step marks.Semicolon a.0.1 _ x a.2 in
     along (λ (y : Block × List Atom). ts ≡ block_and_semicolon y.0 ++ y.1) (a.0.0, b.0) x b.2
-    (block_takes ts a.0 a.1 ∙ ap (λ (us : List Atom). block_toks a.0.0 ++ us) (mark_takes marks.Semicolon a.0.1 b.0 b.1) ∙ sym (append_assoc (block_toks a.0.0) (mark marks.Semicolon ∷ []) b.0))
+    (a.1 ∙ ap (λ (us : List Atom). block_toks a.0.0 ++ us) b.1 ∙ sym (append_assoc (block_toks a.0.0) (mark marks.Semicolon ∷ []) b.0))
 
 ended_again : (b : Block) (rest : List Atom) → ended_block_at (block_and_semicolon b ++ rest) ≡ Some (b, rest)
 unfolding ended_block_at mark_at

@@ -1,26 +1,16 @@
 -- The entries of enumerations are read as they are spelled. A range goes on where `...` follows, and the entries where a
 -- comma and a label follow.
-use Rattle.std.proofs.Common.{◌≡◌, true, false, List, ◌∷◌, ◌++◌, length, Option, Some, None, refl, sym, ap, ◌∙◌, append_assoc, arith, inl, inr}
-use Rattle.std.specs.List.{flat_map}
+use Rattle.tsdl_parser.proofs.Steps.{Atom, Entries, List, None, Number, Option, Shortens, Some, all_next_at, along, ap, append_assoc, arith, begins, chosen, closing_at, closing_toks, entries_at, entries_toks, entry_at, entry_toks, false, flat_map, high_at, high_toks, inl, inr, is_labelled, is_next, label_at, label_toks, length, listed_at, mark, mark_at, next_entry_at, next_entry_toks, number_at, number_toks, refl, splice, step, sym, true, word, ◌++◌, ◌∙◌, ◌∷◌, ◌≡◌}
 use Rattle.tsdl_grammar.specs.declared.token.Mark.TheVariants as marks
-use Rattle.tsdl_grammar.specs.declared.atom.Atom.{Atom}
 use Rattle.tsdl_grammar.specs.declared.atom.Atom.TheVariants as atoms
-use Rattle.tsdl_grammar.specs.declared.tree.Number.{Number}
 use Rattle.tsdl_grammar.specs.declared.tree.Label.{Label}
 use Rattle.tsdl_grammar.specs.declared.tree.Label.TheVariants.{Quoted, Bare}
 use Rattle.tsdl_grammar.specs.declared.tree.Entry.{Entry}
 use Rattle.tsdl_grammar.specs.declared.tree.Closing.{Closing}
 use Rattle.tsdl_grammar.specs.declared.tree.Closing.TheVariants as closings
-use Rattle.tsdl_grammar.specs.declared.tree.Entries.{Entries}
 use Rattle.tsdl_grammar.specs.declared.tree.Entries.TheVariants as entries
-use Rattle.tsdl_grammar.specs.Spelling.{mark, word, number_toks, label_toks, high_toks, entry_toks, next_entry_toks, closing_toks, entries_toks}
-use Rattle.tsdl_parser.specs.Parsing.{begins, mark_at, number_at, Shortens}
-use Rattle.tsdl_parser.specs.ParsingEntries.{label_at, high_at, entry_at, is_labelled, is_next, next_entry_at, all_next_at, closing_at, listed_at, entries_at}
-use Rattle.tsdl_parser.proofs.Steps.{along, first_of_two, chosen, splice}
-use Rattle.tsdl_parser.proofs.Words.{mark_takes, number_takes, number_again}
+use Rattle.tsdl_parser.proofs.Words.{mark_step, number_takes, number_again}
 use Rattle.tsdl_parser.proofs.Repeated.{Spells, shortens, all_end, many_take, many_again}
-
--- ---- labels
 
 label_takes : (ts : List Atom) (x : Label × List Atom) → label_at ts ≡ Some x → ts ≡ label_toks x.0 ++ x.1
 unfolding label_at
@@ -38,8 +28,6 @@ unfolding is_labelled
 label_first (Quoted s) rest = refl
 label_first (Bare w) rest = refl
 
--- ---- ranges
-
 -- no `...` follows
 abbrev pub NoEllipsis : List Atom → Type 0
 NoEllipsis ts = begins marks.Ellipsis ts ≡ false
@@ -49,10 +37,10 @@ unfolding high_at
 high_takes ts x e =
     elim (chosen (begins marks.Ellipsis ts) _ _ (Some x) e) [
       | inl h ↦
-          let a = first_of_two (mark_at marks.Ellipsis ts) _ x h.1 in
-          let b = first_of_two (number_at a.0) _ x a.2 in
+          let a = mark_step marks.Ellipsis ts _ x h.1 in
+          let b = step (number_at a.0) _ x (number_takes a.0) a.2 in
           along (λ (y : Option Number × List Atom). ts ≡ high_toks y.0 ++ y.1) (Some b.0.0, b.0.1) x b.2
-          (mark_takes marks.Ellipsis ts a.0 a.1 ∙ ap (λ (us : List Atom). mark marks.Ellipsis ∷ us) (number_takes a.0 b.0 b.1))
+          (a.1 ∙ ap (λ (us : List Atom). mark marks.Ellipsis ∷ us) b.1)
       | inr h ↦ along (λ (y : Option Number × List Atom). ts ≡ high_toks y.0 ++ y.1) (None, ts) x h.1 refl
     ]
 
@@ -61,24 +49,19 @@ unfolding high_at mark_at begins
 high_again None rest end = rw end refl
 high_again (Some n) rest end = rw (number_again n rest) refl
 
--- ---- entries
+entry_parts : (e : Entry) (rest : List Atom) → entry_toks e ++ rest ≡ label_toks e.label ++ (mark marks.Equals ∷ (number_toks e.low ++ (high_toks e.high ++ rest)))
+entry_parts e rest = simp append_assoc
 
 entry_takes : (ts : List Atom) (x : Entry × List Atom) → entry_at ts ≡ Some x → ts ≡ entry_toks x.0 ++ x.1
 unfolding entry_at
 entry_takes ts x e =
-    let a = first_of_two (label_at ts) _ x e in
-    let b = first_of_two (mark_at marks.Equals a.0.1) _ x a.2 in
-    let c = first_of_two (number_at b.0) _ x b.2 in
-    let d = first_of_two (high_at c.0.1) _ x c.2 in
-    let e1 = label_takes ts a.0 a.1 in
-    let e2 = mark_takes marks.Equals a.0.1 b.0 b.1 in
-    let e3 = number_takes b.0 c.0 c.1 in
-    let e4 = high_takes c.0.1 d.0 d.1 in
+    let a = step (label_at ts) _ x (label_takes ts) e in
+    let b = mark_step marks.Equals a.0.1 _ x a.2 in
+    let c = step (number_at b.0) _ x (number_takes b.0) b.2 in
+    let d = step (high_at c.0.1) _ x (high_takes c.0.1) c.2 in
     along (λ (y : Entry × List Atom). ts ≡ entry_toks y.0 ++ y.1) (record { label = a.0.0; low = c.0.0; high = d.0.0 }, d.0.1) x d.2
-    (e1 ∙ ap (λ (us : List Atom). label_toks a.0.0 ++ us) (e2 ∙ ap (λ (us : List Atom). mark marks.Equals ∷ us) (e3 ∙ ap (λ (us : List Atom). number_toks c.0.0 ++ us) e4)) ∙ simp append_assoc)
-
-entry_parts : (e : Entry) (rest : List Atom) → entry_toks e ++ rest ≡ label_toks e.label ++ (mark marks.Equals ∷ (number_toks e.low ++ (high_toks e.high ++ rest)))
-entry_parts e rest = simp append_assoc
+    (a.1 ∙ ap (λ (us : List Atom). label_toks a.0.0 ++ us) (b.1 ∙ ap (λ (us : List Atom). mark marks.Equals ∷ us) (c.1 ∙ ap (λ (us : List Atom). number_toks c.0.0 ++ us) d.1))
+    ∙ sym (entry_parts (record { label = a.0.0; low = c.0.0; high = d.0.0 }) d.0.1))
 
 entry_again : (e : Entry) (rest : List Atom) → NoEllipsis rest → entry_at (entry_toks e ++ rest) ≡ Some (e, rest)
 unfolding entry_at mark_at
@@ -92,8 +75,8 @@ entry_first e rest = ap is_labelled (entry_parts e rest) ∙ label_first e.label
 next_takes : (ts : List Atom) (x : Entry × List Atom) → next_entry_at ts ≡ Some x → ts ≡ next_entry_toks x.0 ++ x.1
 unfolding next_entry_at
 next_takes ts x e =
-    let a = first_of_two (mark_at marks.Comma ts) entry_at x e in
-    mark_takes marks.Comma ts a.0 a.1 ∙ ap (λ (us : List Atom). mark marks.Comma ∷ us) (entry_takes a.0 x a.2)
+    let a = mark_step marks.Comma ts entry_at x e in
+    a.1 ∙ ap (λ (us : List Atom). mark marks.Comma ∷ us) (entry_takes a.0 x a.2)
 
 next_again : (e : Entry) (rest : List Atom) → NoEllipsis rest → next_entry_at (next_entry_toks e ++ rest) ≡ Some (e, rest)
 unfolding next_entry_at mark_at
@@ -119,15 +102,13 @@ next_spells = record {
 pub next_short : Shortens Entry next_entry_at
 next_short = shortens is_next next_entry_at next_entry_toks NoEllipsis next_spells
 
--- ---- the comma behind the last one
-
 closing_takes : (ts : List Atom) (x : Closing × List Atom) → closing_at ts ≡ Some x → ts ≡ closing_toks x.0 ++ x.1
 unfolding closing_at
 closing_takes ts x e =
     elim (chosen (begins marks.Comma ts) _ _ (Some x) e) [
       | inl h ↦
-          let a = first_of_two (mark_at marks.Comma ts) _ x h.1 in
-          along (λ (y : Closing × List Atom). ts ≡ closing_toks y.0 ++ y.1) (closings.Comma, a.0) x a.2 (mark_takes marks.Comma ts a.0 a.1)
+          let a = mark_step marks.Comma ts _ x h.1 in
+          along (λ (y : Closing × List Atom). ts ≡ closing_toks y.0 ++ y.1) (closings.Comma, a.0) x a.2 a.1
       | inr h ↦ along (λ (y : Closing × List Atom). ts ≡ closing_toks y.0 ++ y.1) (closings.Plain, ts) x h.1 refl
     ]
 
@@ -146,19 +127,14 @@ unfolding begins
 no_range closings.Plain rest = refl
 no_range closings.Comma rest = refl
 
--- ---- all entries
-
 listed_takes : (ts : List Atom) (x : Entries × List Atom) → listed_at ts ≡ Some x → ts ≡ entries_toks x.0 ++ x.1
 unfolding listed_at
 listed_takes ts x e =
-    let a = first_of_two (entry_at ts) _ x e in
-    let b = first_of_two (all_next_at a.0.1) _ x a.2 in
-    let c = first_of_two (closing_at b.0.1) _ x b.2 in
-    let e1 = entry_takes ts a.0 a.1 in
-    let e2 = (many_take is_next next_entry_at next_entry_toks NoEllipsis next_spells (length a.0.1) a.0.1 b.0 b.1).0 in
-    let e3 = closing_takes b.0.1 c.0 c.1 in
+    let a = step (entry_at ts) _ x (entry_takes ts) e in
+    let b = step (all_next_at a.0.1) _ x (many_take is_next next_entry_at next_entry_toks NoEllipsis next_spells (length a.0.1) a.0.1) a.2 in
+    let c = step (closing_at b.0.1) _ x (closing_takes b.0.1) b.2 in
     along (λ (y : Entries × List Atom). ts ≡ entries_toks y.0 ++ y.1) (entries.Listed a.0.0 b.0.0 c.0.0, c.0.1) x c.2
-    (e1 ∙ ap (λ (us : List Atom). entry_toks a.0.0 ++ us) (e2 ∙ ap (λ (us : List Atom). flat_map next_entry_toks b.0.0 ++ us) e3)
+    (a.1 ∙ ap (λ (us : List Atom). entry_toks a.0.0 ++ us) (b.1.0 ∙ ap (λ (us : List Atom). flat_map next_entry_toks b.0.0 ++ us) c.1)
     ∙ splice (entry_toks a.0.0) (flat_map next_entry_toks b.0.0) (closing_toks c.0.0) c.0.1)
 
 listed_again : (e : Entry) (es : List Entry) (c : Closing) (rest : List Atom)

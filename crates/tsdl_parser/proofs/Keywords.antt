@@ -1,25 +1,17 @@
 -- The first keyword that is not read: where it stands, and that none stands where there is none.
-use Rattle.std.proofs.Common.{◌≡◌, ℕ, ◌+◌, ◌<◌, Bool, true, false, not, List, [], ◌∷◌, ◌++◌, length, Some, refl, sym, ap, ◌∙◌, append_assoc, arith}
-use Rattle.std.specs.Prelude.{slice_get, bytes_eq}
+use Rattle.tsdl_parser.proofs.Steps.{Atom, List, Some, [], ap, append_assoc, arith, atoms_in, bytes_eq, false, length, length-append, refl, slice_get, slice_get_read, sym, true, ℕ, ◌++◌, ◌+◌, ◌<◌, ◌∙◌, ◌∷◌, ◌≡◌}
 use Rattle.std.specs.List.{list_all, list_any}
 use Rattle.std.proofs.Math.Seq.{get_or-append_seam}
-use Rattle.std.proofs.lemmas.List.{length-append}
 use Rattle.std.proofs.lemmas.List.Folds.{list_all-append}
-use Rattle.std.proofs.lemmas.Option.{slice_get_read}
 use Rattle.ctf_types.specs.Names.{unused_keywords}
-use Rattle.tsdl_grammar.specs.declared.atom.Atom.{Atom}
 use Rattle.tsdl_grammar.specs.declared.atom.Atom.TheVariants as atoms
 use Rattle.tsdl_grammar.specs.Denotes.{is_read}
-use Rattle.tsdl_grammar.specs.Fronts.{atoms_in}
 use Rattle.tsdl_grammar.proofs.AtomsAhead.{few}
 use Rattle.tsdl_parser.specs.Keywords.{IsUnreadAt}
-
-false_not : (b : Bool) → not b ≡ false → b ≡ true
-false_not true e = refl
-false_not false e = absurd cc
+use Rattle.std.proofs.lemmas.Bool.{not-false}
 
 unread_word : (a : Atom) → is_read a ≡ false → (w : List ℕ) × (a ≡ atoms.Word w) × (list_any (bytes_eq w) unused_keywords ≡ true)
-unread_word (atoms.Word w) e = (w, refl, false_not (list_any (bytes_eq w) unused_keywords) e)
+unread_word (atoms.Word w) e = (w, refl, not-false (list_any (bytes_eq w) unused_keywords) e)
 unread_word _ e = absurd cc
 
 -- so many of the atoms are looked at, up to the rest, and none of them is such a keyword

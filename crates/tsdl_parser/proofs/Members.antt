@@ -1,27 +1,15 @@
 -- Types, members and structures are read as they are spelled. A `string` goes on where a brace follows, and a structure
 -- where `align` follows.
-use Rattle.std.proofs.Common.{◌≡◌, ◌<◌, true, false, List, [], ◌∷◌, ◌++◌, length, Option, Some, None, codes, refl, sym, ap, ◌∙◌, append_assoc, arith, inl, inr}
-use Rattle.std.specs.List.{flat_map}
-use Rattle.std.proofs.lemmas.List.{length-append}
+use Rattle.tsdl_parser.proofs.Steps.{Atom, Attribute, Entries, List, None, Number, Option, Shortens, Some, [], align_at, align_toks, all_brackets_at, along, ap, append_assoc, arith, attrs_at, begins, braced, braced_at, bracket_at, bracket_toks, chosen, codes, count_at, entries_at, entries_toks, enum_at, false, flat_map, inl, inr, int_at, int_toks, is_open, keyword_at, kind_at, kind_toks, length, length-append, mark, mark_at, member_at, member_toks, names, number_at, number_toks, refl, signed_at, splice, splice_last, step, string_at, struct_at, struct_toks, sym, true, word, word_at, ◌++◌, ◌<◌, ◌∙◌, ◌∷◌, ◌≡◌}
 use Rattle.tsdl_grammar.specs.declared.token.Mark.TheVariants as marks
-use Rattle.tsdl_grammar.specs.declared.atom.Atom.{Atom}
 use Rattle.tsdl_grammar.specs.declared.atom.Atom.TheVariants as atoms
-use Rattle.tsdl_grammar.specs.declared.tree.Number.{Number}
-use Rattle.tsdl_grammar.specs.declared.tree.Attribute.{Attribute}
-use Rattle.tsdl_grammar.specs.declared.tree.Entries.{Entries}
 use Rattle.tsdl_grammar.specs.declared.tree.Kind.{Kind}
 use Rattle.tsdl_grammar.specs.declared.tree.Kind.TheVariants as kinds
 use Rattle.tsdl_grammar.specs.declared.tree.Bracket.{Bracket}
 use Rattle.tsdl_grammar.specs.declared.tree.Bracket.TheVariants as brackets
 use Rattle.tsdl_grammar.specs.declared.tree.MemberTree.{MemberTree}
 use Rattle.tsdl_grammar.specs.declared.tree.Structure.{Structure}
-use Rattle.tsdl_grammar.specs.Spelling.{mark, word, number_toks, braced, int_toks, entries_toks, kind_toks, bracket_toks, member_toks, align_toks, struct_toks}
-use Rattle.tsdl_parser.specs.Parsing.{begins, mark_at, word_at, names, keyword_at, signed_at, number_at, is_open, braced_at, Shortens}
-use Rattle.tsdl_parser.specs.ParsingAttributes.{attrs_at}
-use Rattle.tsdl_parser.specs.ParsingEntries.{entries_at}
-use Rattle.tsdl_parser.specs.ParsingMembers.{int_at, enum_at, string_at, kind_at, count_at, bracket_at, all_brackets_at, member_at, align_at, struct_at}
-use Rattle.tsdl_parser.proofs.Steps.{along, first_of_two, chosen, splice, splice_last}
-use Rattle.tsdl_parser.proofs.Words.{mark_takes, word_takes, keyword_takes, number_takes, number_again, number_as, by_sign}
+use Rattle.tsdl_parser.proofs.Words.{mark_step, word_takes, keyword_step, number_takes, number_again, number_as, by_sign}
 use Rattle.tsdl_parser.proofs.Repeated.{Spells, Anything, shortens, many_take, many_again, braced_take, braced_again}
 use Rattle.tsdl_parser.proofs.Attributes.{attrs_take, attrs_again}
 use Rattle.tsdl_parser.proofs.Entries.{entries_take, entries_again}
@@ -31,8 +19,8 @@ use Rattle.tsdl_parser.proofs.Entries.{entries_take, entries_again}
 int_takes : (ts : List Atom) (x : List Attribute × List Atom) → int_at ts ≡ Some x → ts ≡ int_toks x.0 ++ x.1
 unfolding int_at
 int_takes ts x e =
-    let a = first_of_two (keyword_at (codes "integer") ts) attrs_at x e in
-    keyword_takes (codes "integer") ts a.0 a.1 ∙ ap (λ (us : List Atom). word (codes "integer") ∷ us) (attrs_take a.0 x a.2)
+    let a = keyword_step (codes "integer") ts attrs_at x e in
+    a.1 ∙ ap (λ (us : List Atom). word (codes "integer") ∷ us) (attrs_take a.0 x a.2)
 
 int_again : (attrs : List Attribute) (rest : List Atom) → int_at (int_toks attrs ++ rest) ≡ Some (attrs, rest)
 unfolding int_at keyword_at
@@ -46,33 +34,26 @@ enum_parts attrs es rest =
 enum_takes : (ts : List Atom) (x : Kind × List Atom) → enum_at ts ≡ Some x → ts ≡ kind_toks x.0 ++ x.1
 unfolding enum_at
 enum_takes ts x e =
-    let a = first_of_two (keyword_at (codes "enum") ts) _ x e in
-    let b = first_of_two (mark_at marks.Colon a.0) _ x a.2 in
-    let c = first_of_two (int_at b.0) _ x b.2 in
-    let d = first_of_two (mark_at marks.OpenBrace c.0.1) _ x c.2 in
-    let f = first_of_two (entries_at d.0) _ x d.2 in
-    let g = first_of_two (mark_at marks.CloseBrace f.0.1) _ x f.2 in
-    let e1 = keyword_takes (codes "enum") ts a.0 a.1 in
-    let e2 = mark_takes marks.Colon a.0 b.0 b.1 in
-    let e3 = int_takes b.0 c.0 c.1 in
-    let e4 = mark_takes marks.OpenBrace c.0.1 d.0 d.1 in
-    let e5 = entries_take d.0 f.0 f.1 in
-    let e6 = mark_takes marks.CloseBrace f.0.1 g.0 g.1 in
-    let inside = e4 ∙ ap (λ (us : List Atom). mark marks.OpenBrace ∷ us) (e5 ∙ ap (λ (us : List Atom). entries_toks f.0.0 ++ us) e6) in
+    let a = keyword_step (codes "enum") ts _ x e in
+    let b = mark_step marks.Colon a.0 _ x a.2 in
+    let c = step (int_at b.0) _ x (int_takes b.0) b.2 in
+    let d = mark_step marks.OpenBrace c.0.1 _ x c.2 in
+    let f = step (entries_at d.0) _ x (entries_take d.0) d.2 in
+    let g = mark_step marks.CloseBrace f.0.1 _ x f.2 in
+    let inside = d.1 ∙ ap (λ (us : List Atom). mark marks.OpenBrace ∷ us) (f.1 ∙ ap (λ (us : List Atom). entries_toks f.0.0 ++ us) g.1) in
     along (λ (y : Kind × List Atom). ts ≡ kind_toks y.0 ++ y.1) (kinds.Enumeration c.0.0 f.0.0, g.0) x g.2
-    (e1 ∙ ap (λ (us : List Atom). word (codes "enum") ∷ us) (e2 ∙ ap (λ (us : List Atom). mark marks.Colon ∷ us) (e3 ∙ ap (λ (us : List Atom). int_toks c.0.0 ++ us) inside))
+    (a.1 ∙ ap (λ (us : List Atom). word (codes "enum") ∷ us) (b.1 ∙ ap (λ (us : List Atom). mark marks.Colon ∷ us) (c.1 ∙ ap (λ (us : List Atom). int_toks c.0.0 ++ us) inside))
     ∙ enum_parts c.0.0 f.0.0 g.0)
 
 string_takes : (ts : List Atom) (x : Kind × List Atom) → string_at ts ≡ Some x → ts ≡ kind_toks x.0 ++ x.1
 unfolding string_at
 string_takes ts x e =
-    let a = first_of_two (keyword_at (codes "string") ts) _ x e in
-    let e1 = keyword_takes (codes "string") ts a.0 a.1 in
+    let a = keyword_step (codes "string") ts _ x e in
     elim (chosen (begins marks.OpenBrace a.0) _ _ (Some x) a.2) [
       | inl h ↦
-          let b = first_of_two (attrs_at a.0) _ x h.1 in
-          along (λ (y : Kind × List Atom). ts ≡ kind_toks y.0 ++ y.1) (kinds.Text (Some b.0.0), b.0.1) x b.2 (e1 ∙ ap (λ (us : List Atom). word (codes "string") ∷ us) (attrs_take a.0 b.0 b.1))
-      | inr h ↦ along (λ (y : Kind × List Atom). ts ≡ kind_toks y.0 ++ y.1) (kinds.Text None, a.0) x h.1 e1
+          let b = step (attrs_at a.0) _ x (attrs_take a.0) h.1 in
+          along (λ (y : Kind × List Atom). ts ≡ kind_toks y.0 ++ y.1) (kinds.Text (Some b.0.0), b.0.1) x b.2 (a.1 ∙ ap (λ (us : List Atom). word (codes "string") ∷ us) b.1)
+      | inr h ↦ along (λ (y : Kind × List Atom). ts ≡ kind_toks y.0 ++ y.1) (kinds.Text None, a.0) x h.1 a.1
     ]
 
 kind_takes : (ts : List Atom) (x : Kind × List Atom) → kind_at ts ≡ Some x → ts ≡ kind_toks x.0 ++ x.1
@@ -80,8 +61,8 @@ unfolding kind_at
 kind_takes ts x e =
     elim (chosen (names (codes "integer") ts) _ _ (Some x) e) [
       | inl h ↦
-          let a = first_of_two (int_at ts) _ x h.1 in
-          along (λ (y : Kind × List Atom). ts ≡ kind_toks y.0 ++ y.1) (kinds.Integer a.0.0, a.0.1) x a.2 (int_takes ts a.0 a.1)
+          let a = step (int_at ts) _ x (int_takes ts) h.1 in
+          along (λ (y : Kind × List Atom). ts ≡ kind_toks y.0 ++ y.1) (kinds.Integer a.0.0, a.0.1) x a.2 a.1
       | inr h ↦
           elim (chosen (names (codes "enum") ts) _ _ (Some x) h.1) [
             | inl k ↦ enum_takes ts x k.1
@@ -99,10 +80,8 @@ kind_again (kinds.Text (Some attrs)) rest end = rw (attrs_again attrs rest) refl
 
 kind_opens : (k : Kind) (rest : List Atom) → is_open (kind_toks k ++ rest) ≡ true
 unfolding begins
-kind_opens (kinds.Integer attrs) rest = refl
-kind_opens (kinds.Enumeration attrs es) rest = refl
 kind_opens (kinds.Text None) rest = refl
-kind_opens (kinds.Text (Some attrs)) rest = refl
+kind_opens _ rest = refl
 
 -- ---- brackets
 
@@ -128,14 +107,11 @@ count_again (brackets.Member w) rest = refl
 bracket_takes : (ts : List Atom) (x : Bracket × List Atom) → bracket_at ts ≡ Some x → ts ≡ bracket_toks x.0 ++ x.1
 unfolding bracket_at
 bracket_takes ts x e =
-    let a = first_of_two (mark_at marks.OpenBracket ts) _ x e in
-    let b = first_of_two (count_at a.0) _ x a.2 in
-    let c = first_of_two (mark_at marks.CloseBracket b.0.1) _ x b.2 in
-    let e1 = mark_takes marks.OpenBracket ts a.0 a.1 in
-    let e2 = count_takes a.0 b.0 b.1 in
-    let e3 = mark_takes marks.CloseBracket b.0.1 c.0 c.1 in
+    let a = mark_step marks.OpenBracket ts _ x e in
+    let b = step (count_at a.0) _ x (count_takes a.0) a.2 in
+    let c = mark_step marks.CloseBracket b.0.1 _ x b.2 in
     along (λ (y : Bracket × List Atom). ts ≡ bracket_toks y.0 ++ y.1) (b.0.0, c.0) x c.2
-    (e1 ∙ ap (λ (us : List Atom). mark marks.OpenBracket ∷ us) (e2 ∙ ap (λ (us : List Atom). count_toks b.0.0 ++ us) e3) ∙ bracket_parts b.0.0 c.0)
+    (a.1 ∙ ap (λ (us : List Atom). mark marks.OpenBracket ∷ us) (b.1 ∙ ap (λ (us : List Atom). count_toks b.0.0 ++ us) c.1) ∙ bracket_parts b.0.0 c.0)
 
 bracket_again : (b : Bracket) (rest : List Atom) → bracket_at (bracket_toks b ++ rest) ≡ Some (b, rest)
 unfolding bracket_at mark_at
@@ -166,16 +142,12 @@ bracket_short = shortens (begins marks.OpenBracket) bracket_at bracket_toks Anyt
 member_takes : (ts : List Atom) (x : MemberTree × List Atom) → member_at ts ≡ Some x → ts ≡ member_toks x.0 ++ x.1
 unfolding member_at
 member_takes ts x e =
-    let a = first_of_two (kind_at ts) _ x e in
-    let b = first_of_two (word_at a.0.1) _ x a.2 in
-    let c = first_of_two (all_brackets_at b.0.1) _ x b.2 in
-    let d = first_of_two (mark_at marks.Semicolon c.0.1) _ x c.2 in
-    let e1 = kind_takes ts a.0 a.1 in
-    let e2 = word_takes a.0.1 b.0 b.1 in
-    let e3 = (many_take (begins marks.OpenBracket) bracket_at bracket_toks Anything bracket_spells (length b.0.1) b.0.1 c.0 c.1).0 in
-    let e4 = mark_takes marks.Semicolon c.0.1 d.0 d.1 in
+    let a = step (kind_at ts) _ x (kind_takes ts) e in
+    let b = step (word_at a.0.1) _ x (word_takes a.0.1) a.2 in
+    let c = step (all_brackets_at b.0.1) _ x (many_take (begins marks.OpenBracket) bracket_at bracket_toks Anything bracket_spells (length b.0.1) b.0.1) b.2 in
+    let d = mark_step marks.Semicolon c.0.1 _ x c.2 in
     along (λ (y : MemberTree × List Atom). ts ≡ member_toks y.0 ++ y.1) (record { kind = a.0.0; name = b.0.0; brackets = c.0.0 }, d.0) x d.2
-    (e1 ∙ ap (λ (us : List Atom). kind_toks a.0.0 ++ us) (e2 ∙ ap (λ (us : List Atom). word b.0.0 ∷ us) (e3 ∙ ap (λ (us : List Atom). flat_map bracket_toks c.0.0 ++ us) e4))
+    (a.1 ∙ ap (λ (us : List Atom). kind_toks a.0.0 ++ us) (b.1 ∙ ap (λ (us : List Atom). word b.0.0 ∷ us) (c.1.0 ∙ ap (λ (us : List Atom). flat_map bracket_toks c.0.0 ++ us) d.1))
     ∙ splice (kind_toks a.0.0) (word b.0.0 ∷ flat_map bracket_toks c.0.0) (mark marks.Semicolon ∷ []) d.0)
 
 member_again : (m : MemberTree) (rest : List Atom) → member_at (member_toks m ++ rest) ≡ Some (m, rest)
@@ -210,24 +182,18 @@ align_parts : (n : Number) (rest : List Atom)
     → word (codes "align") ∷ (mark marks.OpenParenthesis ∷ (number_toks n ++ (mark marks.CloseParenthesis ∷ rest))) ≡ align_toks (Some n) ++ rest
 align_parts n rest = simp append_assoc
 
-aligned : (ts named inside behind rest : List Atom) (n : Number) → ts ≡ word (codes "align") ∷ named → named ≡ mark marks.OpenParenthesis ∷ inside → inside ≡ number_toks n ++ behind
-    → behind ≡ mark marks.CloseParenthesis ∷ rest → ts ≡ align_toks (Some n) ++ rest
-aligned ts named inside behind rest n e1 e2 e3 e4 = rw (e1, e2, e3, e4) (align_parts n rest)
-
 align_takes : (ts : List Atom) (x : Option Number × List Atom) → align_at ts ≡ Some x → ts ≡ align_toks x.0 ++ x.1
 unfolding align_at
 align_takes ts x e =
     elim (chosen (names (codes "align") ts) _ _ (Some x) e) [
       | inl h ↦
-          let a = first_of_two (keyword_at (codes "align") ts) _ x h.1 in
-          let b = first_of_two (mark_at marks.OpenParenthesis a.0) _ x a.2 in
-          let c = first_of_two (number_at b.0) _ x b.2 in
-          let d = first_of_two (mark_at marks.CloseParenthesis c.0.1) _ x c.2 in
-          let e1 = keyword_takes (codes "align") ts a.0 a.1 in
-          let e2 = mark_takes marks.OpenParenthesis a.0 b.0 b.1 in
-          let e3 = number_takes b.0 c.0 c.1 in
-          let e4 = mark_takes marks.CloseParenthesis c.0.1 d.0 d.1 in
-          along (λ (y : Option Number × List Atom). ts ≡ align_toks y.0 ++ y.1) (Some c.0.0, d.0) x d.2 (aligned ts a.0 b.0 c.0.1 d.0 c.0.0 e1 e2 e3 e4)
+          let a = keyword_step (codes "align") ts _ x h.1 in
+          let b = mark_step marks.OpenParenthesis a.0 _ x a.2 in
+          let c = step (number_at b.0) _ x (number_takes b.0) b.2 in
+          let d = mark_step marks.CloseParenthesis c.0.1 _ x c.2 in
+          along (λ (y : Option Number × List Atom). ts ≡ align_toks y.0 ++ y.1) (Some c.0.0, d.0) x d.2
+          (a.1 ∙ ap (λ (us : List Atom). word (codes "align") ∷ us) (b.1 ∙ ap (λ (us : List Atom). mark marks.OpenParenthesis ∷ us) (c.1 ∙ ap (λ (us : List Atom). number_toks c.0.0 ++ us) d.1))
+          ∙ align_parts c.0.0 d.0)
       | inr h ↦ along (λ (y : Option Number × List Atom). ts ≡ align_toks y.0 ++ y.1) (None, ts) x h.1 refl
     ]
 
@@ -242,14 +208,11 @@ struct_parts s rest = ap (λ (us : List Atom). word (codes "struct") ∷ us) (sy
 pub struct_takes : (ts : List Atom) (x : Structure × List Atom) → struct_at ts ≡ Some x → ts ≡ struct_toks x.0 ++ x.1
 unfolding struct_at
 struct_takes ts x e =
-    let a = first_of_two (keyword_at (codes "struct") ts) _ x e in
-    let b = first_of_two (braced_at member_at a.0) _ x a.2 in
-    let c = first_of_two (align_at b.0.1) _ x b.2 in
-    let e1 = keyword_takes (codes "struct") ts a.0 a.1 in
-    let e2 = braced_take member_at member_toks member_spells a.0 b.0 b.1 in
-    let e3 = align_takes b.0.1 c.0 c.1 in
+    let a = keyword_step (codes "struct") ts _ x e in
+    let b = step (braced_at member_at a.0) _ x (braced_take member_at member_toks member_spells a.0) a.2 in
+    let c = step (align_at b.0.1) _ x (align_takes b.0.1) b.2 in
     along (λ (y : Structure × List Atom). ts ≡ struct_toks y.0 ++ y.1) (record { members = b.0.0; align = c.0.0 }, c.0.1) x c.2
-    (e1 ∙ ap (λ (us : List Atom). word (codes "struct") ∷ us) (e2 ∙ ap (λ (us : List Atom). braced (flat_map member_toks b.0.0) ++ us) e3)
+    (a.1 ∙ ap (λ (us : List Atom). word (codes "struct") ∷ us) (b.1 ∙ ap (λ (us : List Atom). braced (flat_map member_toks b.0.0) ++ us) c.1)
     ∙ struct_parts (record { members = b.0.0; align = c.0.0 }) c.0.1)
 
 pub struct_again : (s : Structure) (rest : List Atom) → names (codes "align") rest ≡ false → struct_at (struct_toks s ++ rest) ≡ Some (s, rest)

@@ -1,6 +1,21 @@
--- Rules that are read one after the other.
-use Rattle.std.proofs.Common.{◌≡◌, Bool, true, false, cond, List, ◌++◌, sym, ◌∙◌, append_assoc, Option, Some, None, refl, subst, ◌⊎◌, inl, inr}
-use Rattle.tsdl_grammar.specs.Steps.{◌>>=◌}
+-- Rules that are read one after the other, and the words of trees, atoms and rules that the proofs speak of.
+pub use Rattle.std.proofs.Common.{Bool, List, None, Option, Some, [], ap, append-nil, append_assoc, arith, bytes_eq, codes, cond, eqb-true, false, flat_map, get_or, inl, inr, length, length-append, not, refl, rules, slice_get, subst, suc, sym, true, zero, ℕ, ◌++◌, ◌+◌, ◌<◌, ◌∙◌, ◌∷◌, ◌≡◌, ◌≤◌, ◌⊎◌}
+pub use Rattle.std.proofs.lemmas.Option.{cond_some, slice_get_read}
+pub use Rattle.std.proofs.lemmas.Result.{err_from_is_err_and}
+pub use Rattle.tsdl_grammar.specs.Fronts.{atoms_in, meant, shown}
+pub use Rattle.tsdl_grammar.specs.Spelling.{align_toks, attr_toks, attrs_toks, block_and_semicolon, block_toks, braced, bracket_toks, closing_toks, dotted, entries_toks, entry_toks, fact_toks, high_toks, int_toks, item_toks, items_toks, kind_toks, label_toks, mark, member_toks, name_toks, named_fact_toks, next_entry_toks, number_toks, scope_toks, struct_toks, text_toks, value_toks, word}
+pub use Rattle.tsdl_grammar.specs.Steps.{◌>>=◌}
+pub use Rattle.tsdl_grammar.specs.declared.atom.Atom.{Atom}
+pub use Rattle.tsdl_grammar.specs.declared.tree.Attribute.{Attribute}
+pub use Rattle.tsdl_grammar.specs.declared.tree.Entries.{Entries}
+pub use Rattle.tsdl_grammar.specs.declared.tree.Name.{Name}
+pub use Rattle.tsdl_grammar.specs.declared.tree.Number.{Number}
+pub use Rattle.tsdl_parser.specs.Parsing.{Fails, Shortens, is_mark, is_open, is_word, many, number_of}
+unfoldable pub use Rattle.tsdl_parser.specs.Parsing.{begins, braced_at, keyword_at, many_at, mark_at, names, number_at, signed_at, word_at}
+pub use Rattle.tsdl_parser.specs.declared.halt.Unread.{Unread}
+pub use Rattle.tsdl_parser.specs.Rules.{all_blocks_at, all_brackets_at, all_dotted_at, all_next_at, attrs_at, has_more, starts}
+unfoldable pub use Rattle.tsdl_parser.specs.Rules.{align_at, attr_at, attr_behind, block_at, bracket_at, closing_at, count_at, dotted_at, ended_block_at, entries_at, entry_at, enum_at, fact_at, high_at, int_at, is_labelled, is_next, item_at, items_at, kind_at, label_at, listed_at, member_at, name_at, named_fact_at, next_entry_at, scope_behind, string_at, struct_at, value_at}
+pub use Rattle.tsdl_grammar.proofs.Inversion.{bind_some}
 
 pub some_is : {A : Type 0} (p x : A) → Some p ≡ Some x → p ≡ x
 some_is p x e = cc
@@ -9,10 +24,9 @@ some_is p x e = cc
 pub along : {A : Type 0} (P : A → Type 0) (p x : A) → Some p ≡ Some x → P p → P x
 along P p x e h = subst P (some_is p x e) h
 
--- the first of two steps that have a case
-pub first_of_two : {A B : Type 0} (o : Option A) (f : A → Option B) (y : B) → (o >>= f) ≡ Some y → (x : A) × (o ≡ Some x) × (f x ≡ Some y)
-first_of_two None f y e = absurd cc
-first_of_two (Some x) f y e = (x, refl, e)
+-- two steps that have a case: what the first one read, what its reading says, and the second one
+pub step : {A B : Type 0} {P : A → Type 0} (o : Option A) (f : A → Option B) (y : B) → ((x : A) → o ≡ Some x → P x) → (o >>= f) ≡ Some y → (x : A) × P x × (f x ≡ Some y)
+step o f y says e = let a = bind_some o f y e in (a.0, says a.0 a.1, a.2)
 
 -- which way a test went
 pub chosen : {A : Type 0} (b : Bool) (x y z : A) → cond b x y ≡ z → ((b ≡ true) × (x ≡ z)) ⊎ ((b ≡ false) × (y ≡ z))

@@ -1,21 +1,10 @@
 -- Marks, words and numbers are read as they are spelled.
-use Rattle.std.proofs.Common.{◌≡◌, ℕ, true, List, [], ◌∷◌, ◌++◌, get_or, Option, Some, None, refl, sym, ap, ◌∙◌}
-use Rattle.std.proofs.lemmas.Bool.{eqb-true}
-use Rattle.std.proofs.lemmas.Option.{cond_some}
+use Rattle.tsdl_parser.proofs.Steps.{Atom, List, None, Number, Option, Some, [], along, ap, cond_some, eqb-true, get_or, is_mark, is_word, keyword_at, mark, mark_at, number_at, number_of, number_toks, refl, signed_at, step, sym, true, word, word_at, ℕ, ◌++◌, ◌>>=◌, ◌∙◌, ◌∷◌, ◌≡◌}
 use Rattle.std.proofs.lemmas.Slice.Eq.{bytes_eq-Decides}
 use Rattle.tsdl_grammar.specs.declared.token.Mark.{Mark}
 use Rattle.tsdl_grammar.specs.declared.token.Mark.TheVariants as marks
-use Rattle.tsdl_grammar.specs.declared.atom.Atom.{Atom}
 use Rattle.tsdl_grammar.specs.declared.atom.Atom.TheVariants as atoms
-use Rattle.tsdl_grammar.specs.declared.tree.Sign.{Sign}
 use Rattle.tsdl_grammar.specs.declared.tree.Sign.TheVariants.{Plus, Minus}
-use Rattle.tsdl_grammar.specs.declared.tree.Number.{Number}
-use Rattle.tsdl_grammar.specs.Spelling.{mark, word, number_toks}
-use Rattle.tsdl_grammar.specs.Steps.{◌>>=◌}
-use Rattle.tsdl_parser.specs.Parsing.{number_of, is_mark, mark_at, word_at, is_word, keyword_at, signed_at, number_at}
-use Rattle.tsdl_parser.proofs.Steps.{along, first_of_two}
-
--- ---- marks
 
 all_marks : List Mark
 all_marks =
@@ -34,12 +23,14 @@ mark_is : (m : Mark) (a : Atom) → is_mark m a ≡ true → a ≡ mark m
 mark_is m (atoms.Mark n) e = ap (λ (x : Mark). mark x) (same_mark n m (eqb-true _ _ e))
 mark_is m _ e = absurd cc
 
-pub mark_takes : (m : Mark) (ts rest : List Atom) → mark_at m ts ≡ Some rest → ts ≡ mark m ∷ rest
+mark_takes : (m : Mark) (ts rest : List Atom) → mark_at m ts ≡ Some rest → ts ≡ mark m ∷ rest
 unfolding mark_at
 mark_takes m [] rest e = absurd cc
 mark_takes m (a ∷ ts) rest e = let g = cond_some (is_mark m a) ts rest e in let h = mark_is m a g.0 in cc
 
--- ---- words
+-- a mark, and a step behind it
+pub mark_step : {B : Type 0} (m : Mark) (ts : List Atom) (f : List Atom → Option B) (y : B) → (mark_at m ts >>= f) ≡ Some y → (rest : List Atom) × (ts ≡ mark m ∷ rest) × (f rest ≡ Some y)
+mark_step m ts f y e = step (mark_at m ts) f y (mark_takes m ts) e
 
 pub word_takes : (ts : List Atom) (x : List ℕ × List Atom) → word_at ts ≡ Some x → ts ≡ word x.0 ∷ x.1
 unfolding word_at
@@ -50,12 +41,14 @@ word_is : (keyword : List ℕ) (a : Atom) → is_word keyword a ≡ true → a �
 word_is keyword (atoms.Word w) e = ap (λ (x : List ℕ). word x) ((bytes_eq-Decides w keyword).0 e)
 word_is keyword _ e = absurd cc
 
-pub keyword_takes : (keyword : List ℕ) (ts rest : List Atom) → keyword_at keyword ts ≡ Some rest → ts ≡ word keyword ∷ rest
+keyword_takes : (keyword : List ℕ) (ts rest : List Atom) → keyword_at keyword ts ≡ Some rest → ts ≡ word keyword ∷ rest
 unfolding keyword_at
 keyword_takes keyword [] rest e = absurd cc
 keyword_takes keyword (a ∷ ts) rest e = let g = cond_some (is_word keyword a) ts rest e in let h = word_is keyword a g.0 in cc
 
--- ---- numbers
+-- a word of the grammar, and a step behind it
+pub keyword_step : {B : Type 0} (keyword : List ℕ) (ts : List Atom) (f : List Atom → Option B) (y : B) → (keyword_at keyword ts >>= f) ≡ Some y → (rest : List Atom) × (ts ≡ word keyword ∷ rest) × (f rest ≡ Some y)
+keyword_step keyword ts f y e = step (keyword_at keyword ts) f y (keyword_takes keyword ts) e
 
 pub number_takes : (ts : List Atom) (x : Number × List Atom) → number_at ts ≡ Some x → ts ≡ number_toks x.0 ++ x.1
 unfolding number_at signed_at
@@ -70,17 +63,12 @@ number_takes _ x e = absurd cc
 pub number_as : {T : Type 0} (made : Number → T) (toks : T → List Atom) → ((n : Number) → number_toks n ≡ toks (made n)) → (ts : List Atom) (x : T × List Atom)
     → (number_at ts >>= λ n. Some (made n.0, n.1)) ≡ Some x → ts ≡ toks x.0 ++ x.1
 number_as {T} made toks same ts x e =
-    let a = first_of_two (number_at ts) (λ n. Some (made n.0, n.1)) x e in
-    along (λ (y : T × List Atom). ts ≡ toks y.0 ++ y.1) (made a.0.0, a.0.1) x a.2 (number_takes ts a.0 a.1 ∙ ap (λ (us : List Atom). us ++ a.0.1) (same a.0.0))
+    let a = step (number_at ts) (λ n. Some (made n.0, n.1)) x (number_takes ts) e in
+    along (λ (y : T × List Atom). ts ≡ toks y.0 ++ y.1) (made a.0.0, a.0.1) x a.2 (a.1 ∙ ap (λ (us : List Atom). us ++ a.0.1) (same a.0.0))
 
 -- what holds without a sign and with each of both holds of a number
 pub by_sign : (P : Number → Type 0) (n : Number) → P (record { sign = None; literal = n.literal }) → P (record { sign = Some Plus; literal = n.literal }) → P (record { sign = Some Minus; literal = n.literal }) → P n
-by_sign P n none plus minus = go n.sign
-  where
-    go : (s : Option Sign) → P (record { sign = s; literal = n.literal })
-    go None = none
-    go (Some Plus) = plus
-    go (Some Minus) = minus
+by_sign P n none plus minus = elim n.sign as (λ s. P (record { sign = s; literal = n.literal })) [ None ↦ none | Some Plus ↦ plus | Some Minus ↦ minus ]
 
 pub number_again : (n : Number) (rest : List Atom) → number_at (number_toks n ++ rest) ≡ Some (n, rest)
 unfolding number_at signed_at

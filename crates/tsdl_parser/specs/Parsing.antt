@@ -10,7 +10,7 @@ use Rattle.tsdl_grammar.specs.declared.tree.Sign.TheVariants.{Plus, Minus}
 use Rattle.tsdl_grammar.specs.declared.tree.Number.{Number}
 use Rattle.tsdl_grammar.specs.Steps.{◌>>=◌}
 use Rattle.tsdl_parser.specs.declared.halt.Unread.{Unread}
-use Rattle.tsdl_parser.specs.Halting.{IfHalted}
+pub use Rattle.tsdl_parser.specs.Halting.{IfHalted}
 
 -- what a function returned, seen by view, is what a rule reads, unless memory ran out
 abbrev pub Fails : {Y : Type 0} → Unread → Option Y → Type 0

@@ -1,11 +1,9 @@
 //! Reads names, values and attributes.
 
-ghost use Rattle.tsdl_grammar.specs.Fronts.{shown};
-ghost use Rattle.tsdl_parser.specs.Parsing.{Gives};
-ghost use Rattle.tsdl_parser.specs.ParsingAttributes.{dotted_at, name_at, value_at, attr_behind, attr_at};
+ghost use Rattle.tsdl_parser.specs.Rules.{shown, Gives, dotted_at, name_at, value_at, attr_behind, attr_at};
 
 use crate::expected::Expected;
-use crate::halt::{SEMICOLON, ZERO, back_to, going_on};
+use crate::halt::{Missing, SEMICOLON, back_to, going_on};
 use crate::parsing::{Read, mark_at, next_atom, number_at, word_at};
 use crate::repetition::{Repeated, Start, all_at};
 use ctf_types::Text;
@@ -15,13 +13,13 @@ use tsdl_grammar::{Atom, Atoms, Attribute, Mark, Name, Value};
 impl Repeated for Text {
     ghost item = { dotted_at };
 
-    #[tactic(auto, unfolding(crate::specs::ParsingAttributes::dotted_at))]
+    #[tactic(auto, unfolding(crate::specs::Rules::dotted_at))]
     fn item_at(alloc: Global, atoms: Atoms<'_>) -> Read<'_, Text> {
         word_at(alloc, mark_at(Mark::Dot, atoms)?, Expected::Identifier)
     }
 }
 
-#[tactic(auto, unfolding(crate::specs::ParsingAttributes::name_at), using(crate::proofs::Attributes::dotted_short))]
+#[tactic(auto, unfolding(crate::specs::Rules::name_at), using(crate::proofs::Attributes::dotted_short))]
 pub(crate) fn name_at(alloc: Global, atoms: Atoms<'_>, expected: Expected) -> Read<'_, Name>
     ensures { Gives (λ x. (x.0, shown x.1)) result (name_at (shown atoms.entry)) }
 {
@@ -30,7 +28,7 @@ pub(crate) fn name_at(alloc: Global, atoms: Atoms<'_>, expected: Expected) -> Re
     Ok((Name { first, rest }, behind))
 }
 
-#[tactic(auto, unfolding(crate::specs::ParsingAttributes::value_at))]
+#[tactic(auto, unfolding(crate::specs::Rules::value_at))]
 fn value_at(alloc: Global, atoms: Atoms<'_>) -> Read<'_, Value>
     ensures { Gives (λ x. (x.0, shown x.1)) result (value_at (shown atoms.entry)) }
 {
@@ -38,7 +36,7 @@ fn value_at(alloc: Global, atoms: Atoms<'_>) -> Read<'_, Value>
     match first {
         Some(Atom::Text(text)) => Ok((Value::Text(text), rest)),
         Some(Atom::Word(_)) => {
-            let (name, rest) = going_on(name_at(alloc, atoms, Expected::Value), &[ZERO])?;
+            let (name, rest) = going_on(name_at(alloc, atoms, Expected::Value), &[Missing::Zero])?;
             Ok((Value::Name(name), rest))
         }
         _ => {
@@ -49,11 +47,11 @@ fn value_at(alloc: Global, atoms: Atoms<'_>) -> Read<'_, Value>
 }
 
 /// The rest of an attribute behind its name.
-#[tactic(auto, unfolding(crate::specs::ParsingAttributes::attr_behind))]
+#[tactic(auto, unfolding(crate::specs::Rules::attr_behind))]
 pub(crate) fn attr_behind(alloc: Global, name: Name, atoms: Atoms<'_>) -> Read<'_, Attribute>
     ensures { Gives (λ x. (x.0, shown x.1)) result (attr_behind name (shown atoms.entry)) }
 {
-    let rest = going_on(mark_at(Mark::Equals, atoms), &[ZERO, SEMICOLON])?;
+    let rest = going_on(mark_at(Mark::Equals, atoms), &[Missing::Zero, SEMICOLON])?;
     let (value, rest) = going_on(value_at(alloc, rest), &[SEMICOLON])?;
     Ok((Attribute { name, value }, mark_at(Mark::Semicolon, rest)?))
 }
@@ -61,7 +59,7 @@ pub(crate) fn attr_behind(alloc: Global, name: Name, atoms: Atoms<'_>) -> Read<'
 impl Repeated for Attribute {
     ghost item = { attr_at };
 
-    #[tactic(auto, unfolding(crate::specs::ParsingAttributes::attr_at))]
+    #[tactic(auto, unfolding(crate::specs::Rules::attr_at))]
     fn item_at(alloc: Global, atoms: Atoms<'_>) -> Read<'_, Attribute> {
         let (name, rest) = name_at(alloc, atoms, Expected::Attribute)?;
         attr_behind(alloc, name, rest)

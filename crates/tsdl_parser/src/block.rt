@@ -1,16 +1,12 @@
 //! Reads blocks, and what stands in them.
 
 ghost use Rattle.std.specs.Prelude.{◌≡◌, List, IfOk, IfErr};
-ghost use Rattle.tsdl_grammar.specs.declared.tree.Block.{Block};
 ghost use Rattle.tsdl_grammar.specs.Spelling.{text_toks};
-ghost use Rattle.tsdl_grammar.specs.Fronts.{shown};
-ghost use Rattle.tsdl_parser.specs.Halting.{IfHalted};
-ghost use Rattle.tsdl_parser.specs.Parsing.{Gives};
-ghost use Rattle.tsdl_parser.specs.ParsingBlocks.{item_at, items_at, fact_at, named_fact_at, block_at, ended_block_at};
+ghost use Rattle.tsdl_parser.specs.Rules.{Block, IfHalted, shown, Gives, item_at, items_at, fact_at, named_fact_at, block_at, ended_block_at};
 
 use crate::attribute::{attr_behind, name_at};
 use crate::expected::Expected;
-use crate::halt::{CLOSE_BRACE, SEMICOLON, Unread, ZERO, back_to, expecting, going_on};
+use crate::halt::{CLOSE_BRACE, Missing, SEMICOLON, Unread, back_to, expecting, going_on};
 use crate::member::struct_at;
 use crate::parsing::{Read, begins, keyword_at, mark_at, names, next_atom, number_at, word_at};
 use crate::repetition::{Repeated, Start, all_at, braced_at};
@@ -21,7 +17,7 @@ use tsdl_grammar::{Atom, Atoms, Block, Fact, Item, Mark, NamedFact, Scope};
 impl Repeated for Item {
     ghost item = { item_at };
 
-    #[tactic(auto, unfolding(crate::specs::ParsingBlocks::item_at, crate::specs::ParsingBlocks::scope_behind))]
+    #[tactic(auto, unfolding(crate::specs::Rules::item_at, crate::specs::Rules::scope_behind))]
     fn item_at(alloc: Global, atoms: Atoms<'_>) -> Read<'_, Item> {
         let (name, rest) = name_at(alloc, atoms, Expected::Item)?;
         if begins(Mark::Equals, rest) {
@@ -37,16 +33,15 @@ impl Repeated for Item {
 }
 
 /// The items of a block of this word.
-#[tactic(auto, unfolding(crate::specs::ParsingBlocks::items_at), using(crate::proofs::Blocks::item_short))]
+#[tactic(auto, unfolding(crate::specs::Rules::items_at), using(crate::proofs::Blocks::item_short))]
 fn items_at<'a>(alloc: Global, keyword: &str, atoms: Atoms<'a>) -> Read<'a, ListOf<Item>>
     ensures { Gives (λ x. (x.0, shown x.1)) result (items_at keyword.now (shown atoms.entry)) }
 {
     let rest = keyword_at(keyword, atoms, Expected::Block)?;
-    let items = braced_at(alloc, rest, Expected::Mark(Mark::OpenBrace));
-    going_on(items, &[CLOSE_BRACE, SEMICOLON])
+    going_on(braced_at(alloc, rest), &[CLOSE_BRACE, SEMICOLON])
 }
 
-#[tactic(auto, unfolding(crate::specs::ParsingBlocks::fact_at))]
+#[tactic(auto, unfolding(crate::specs::Rules::fact_at))]
 fn fact_at(alloc: Global, atoms: Atoms<'_>) -> Read<'_, Fact>
     ensures { Gives (λ x. (x.0, shown x.1)) result (fact_at (shown atoms.entry)) }
 {
@@ -61,16 +56,16 @@ fn fact_at(alloc: Global, atoms: Atoms<'_>) -> Read<'_, Fact>
 impl Repeated for NamedFact {
     ghost item = { named_fact_at };
 
-    #[tactic(auto, unfolding(crate::specs::ParsingBlocks::named_fact_at))]
+    #[tactic(auto, unfolding(crate::specs::Rules::named_fact_at))]
     fn item_at(alloc: Global, atoms: Atoms<'_>) -> Read<'_, NamedFact> {
         let (name, rest) = word_at(alloc, atoms, Expected::FactName)?;
-        let rest = going_on(mark_at(Mark::Equals, rest), &[ZERO, SEMICOLON])?;
+        let rest = going_on(mark_at(Mark::Equals, rest), &[Missing::Zero, SEMICOLON])?;
         let (fact, rest) = going_on(fact_at(alloc, rest), &[SEMICOLON])?;
         Ok((NamedFact { name, fact }, mark_at(Mark::Semicolon, rest)?))
     }
 }
 
-#[tactic(auto, unfolding(crate::specs::ParsingBlocks::block_at, crate::specs::ParsingBlocks::environment_at), using(crate::proofs::Blocks::fact_short))]
+#[tactic(auto, unfolding(crate::specs::Rules::block_at), using(crate::proofs::Blocks::fact_short))]
 fn block_at(alloc: Global, atoms: Atoms<'_>) -> Read<'_, Block>
     ensures { Gives (λ x. (x.0, shown x.1)) result (block_at (shown atoms.entry)) }
 {
@@ -88,8 +83,7 @@ fn block_at(alloc: Global, atoms: Atoms<'_>) -> Read<'_, Block>
         Ok((Block::Clock(items), rest))
     } else {
         let rest = keyword_at("env", atoms, Expected::Block)?;
-        let facts = braced_at(alloc, rest, Expected::Mark(Mark::OpenBrace));
-        let (facts, rest) = going_on(facts, &[CLOSE_BRACE, SEMICOLON])?;
+        let (facts, rest) = going_on(braced_at(alloc, rest), &[CLOSE_BRACE, SEMICOLON])?;
         Ok((Block::Environment(facts), rest))
     }
 }
@@ -97,7 +91,7 @@ fn block_at(alloc: Global, atoms: Atoms<'_>) -> Read<'_, Block>
 impl Repeated for Block {
     ghost item = { ended_block_at };
 
-    #[tactic(auto, unfolding(crate::specs::ParsingBlocks::ended_block_at))]
+    #[tactic(auto, unfolding(crate::specs::Rules::ended_block_at))]
     fn item_at(alloc: Global, atoms: Atoms<'_>) -> Read<'_, Block> {
         let (block, rest) = block_at(alloc, atoms)?;
         Ok((block, mark_at(Mark::Semicolon, rest)?))

@@ -1,18 +1,16 @@
 //! Reads the entries of enumerations.
 
 ghost use Rattle.std.specs.Prelude.{◌≡◌, IfOk};
-ghost use Rattle.tsdl_grammar.specs.Fronts.{shown};
-ghost use Rattle.tsdl_parser.specs.Parsing.{Gives};
-ghost use Rattle.tsdl_parser.specs.ParsingEntries.{label_at, high_at, entry_at, is_labelled, is_next, next_entry_at, entries_at};
+ghost use Rattle.tsdl_parser.specs.Rules.{shown, Gives, label_at, high_at, entry_at, is_labelled, next_entry_at, entries_at};
 
 use crate::expected::Expected;
-use crate::halt::{Halt, Unread, ZERO, expecting, going_on};
+use crate::halt::{Halt, Missing, Unread, expecting, going_on};
 use crate::parsing::{Read, begins, mark_at, next_atom, number_at};
 use crate::repetition::{Repeated, Start, all_at};
 use std::alloc::{AllocError, Global};
 use tsdl_grammar::{Atom, Atoms, Closing, Entries, Entry, Label, Mark, Number};
 
-#[tactic(auto, unfolding(crate::specs::ParsingEntries::label_at))]
+#[tactic(auto, unfolding(crate::specs::Rules::label_at))]
 fn label_at(alloc: Global, atoms: Atoms<'_>) -> Read<'_, Label>
     ensures { Gives (λ x. (x.0, shown x.1)) result (label_at (shown atoms.entry)) }
 {
@@ -25,56 +23,47 @@ fn label_at(alloc: Global, atoms: Atoms<'_>) -> Read<'_, Label>
 }
 
 /// The upper end of a range, if one follows.
-#[tactic(auto, unfolding(crate::specs::ParsingEntries::high_at))]
+#[tactic(auto, unfolding(crate::specs::Parsing::begins, crate::specs::Parsing::mark_at, crate::specs::Rules::high_at))]
 fn high_at(alloc: Global, atoms: Atoms<'_>) -> Read<'_, Option<Number>>
     ensures { Gives (λ x. (x.0, shown x.1)) result (high_at (shown atoms.entry)) }
 {
     if !begins(Mark::Ellipsis, atoms) {
         return Ok((None, atoms));
     }
-    let behind = mark_at(Mark::Ellipsis, atoms)?;
-    let (high, rest) = number_at(alloc, behind, Expected::Number)?;
+    let (high, rest) = number_at(alloc, atoms.behind(), Expected::Number)?;
     Ok((Some(high), rest))
 }
 
-#[tactic(auto, unfolding(crate::specs::ParsingEntries::entry_at))]
+#[tactic(auto, unfolding(crate::specs::Rules::entry_at))]
 fn entry_at(alloc: Global, atoms: Atoms<'_>) -> Read<'_, Entry>
     ensures { Gives (λ x. (x.0, shown x.1)) result (entry_at (shown atoms.entry)) }
 {
     let (label, rest) = label_at(alloc, atoms)?;
     let rest = expecting(mark_at(Mark::Equals, rest), Expected::LabelMark);
-    let (low, rest) = number_at(alloc, going_on(rest, &[ZERO])?, Expected::Number)?;
+    let (low, rest) = number_at(alloc, going_on(rest, &[Missing::Zero])?, Expected::Number)?;
     let (high, rest) = high_at(alloc, rest)?;
     Ok((Entry { label, low, high }, rest))
 }
 
-#[tactic(auto, unfolding(crate::specs::ParsingEntries::is_labelled))]
-fn is_labelled(alloc: Global, atoms: Atoms<'_>) -> Result<bool, AllocError>
+#[tactic(auto, unfolding(crate::specs::Rules::is_labelled))]
+pub(crate) fn is_labelled(alloc: Global, atoms: Atoms<'_>) -> Result<bool, AllocError>
     ensures { IfOk result (λ b. b ≡ is_labelled (shown atoms.entry)) }
 {
     let (first, _) = next_atom(alloc, atoms)?;
     Ok(matches!(first, Some(Atom::Text(_) | Atom::Word(_))))
 }
 
-/// Whether a comma and another entry follow.
-#[tactic(auto, unfolding(crate::specs::Parsing::begins, crate::specs::ParsingEntries::is_next))]
-pub(crate) fn is_next(alloc: Global, atoms: Atoms<'_>) -> Result<bool, AllocError>
-    ensures { IfOk result (λ b. b ≡ is_next (shown atoms.entry)) }
-{
-    Ok(begins(Mark::Comma, atoms) && is_labelled(alloc, atoms.behind())?)
-}
-
 impl Repeated for Entry {
     ghost item = { next_entry_at };
 
-    #[tactic(auto, unfolding(crate::specs::ParsingEntries::next_entry_at))]
+    #[tactic(auto, unfolding(crate::specs::Rules::next_entry_at))]
     fn item_at(alloc: Global, atoms: Atoms<'_>) -> Read<'_, Entry> {
         entry_at(alloc, mark_at(Mark::Comma, atoms)?)
     }
 }
 
 /// What stands between an enumeration's braces.
-#[tactic(auto, unfolding(crate::specs::ParsingEntries::entries_at, crate::specs::ParsingEntries::listed_at, crate::specs::ParsingEntries::closing_at), using(crate::proofs::Entries::next_short))]
+#[tactic(auto, unfolding(crate::specs::Rules::entries_at, crate::specs::Rules::listed_at, crate::specs::Rules::closing_at), using(crate::proofs::Entries::next_short))]
 pub(crate) fn entries_at(alloc: Global, atoms: Atoms<'_>) -> Read<'_, Entries>
     ensures { Gives (λ x. (x.0, shown x.1)) result (entries_at (shown atoms.entry)) }
 {

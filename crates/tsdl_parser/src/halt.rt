@@ -41,12 +41,6 @@ pub(crate) const CLOSE_PARENTHESIS: Missing = Missing::Mark(Mark::CloseParenthes
 
 pub(crate) const SEMICOLON: Missing = Missing::Mark(Mark::Semicolon);
 
-pub(crate) const INTEGER: Missing = Missing::Word("integer");
-
-pub(crate) const STRUCT: Missing = Missing::Word("struct");
-
-pub(crate) const ZERO: Missing = Missing::Zero;
-
 /// Any name.
 pub(crate) const NAME: Missing = Missing::Word("_");
 

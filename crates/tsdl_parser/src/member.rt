@@ -1,14 +1,12 @@
 //! Reads types, members and structures.
 
-ghost use Rattle.tsdl_grammar.specs.Fronts.{shown};
-ghost use Rattle.tsdl_parser.specs.Parsing.{Gives};
-ghost use Rattle.tsdl_parser.specs.ParsingMembers.{int_at, enum_at, kind_at, count_at, bracket_at, member_at, align_at, struct_at};
+ghost use Rattle.tsdl_parser.specs.Rules.{shown, Gives, int_at, enum_at, kind_at, count_at, bracket_at, member_at, align_at, struct_at};
 
 use crate::enumeration::entries_at;
 use crate::expected::Expected;
 use crate::halt::{
-    CLOSE_BRACE, CLOSE_BRACKET, CLOSE_PARENTHESIS, INTEGER, NAME, OPEN_BRACE, SEMICOLON, STRUCT,
-    ZERO, expecting, going_on,
+    CLOSE_BRACE, CLOSE_BRACKET, CLOSE_PARENTHESIS, Missing, NAME, OPEN_BRACE, SEMICOLON, expecting,
+    going_on,
 };
 use crate::parsing::{Read, begins, keyword_at, mark_at, names, next_atom, number_at, word_at};
 use crate::repetition::{Repeated, Start, all_at, braced_at};
@@ -18,26 +16,23 @@ use tsdl_grammar::{
     Atom, Atoms, Attribute, Bracket, Closing, Entries, Kind, Mark, MemberTree, Number, Structure,
 };
 
-#[tactic(auto, unfolding(crate::specs::ParsingMembers::int_at), using(crate::proofs::Attributes::attr_short))]
+#[tactic(auto, unfolding(crate::specs::Rules::int_at), using(crate::proofs::Attributes::attr_short))]
 fn int_at(alloc: Global, atoms: Atoms<'_>) -> Read<'_, ListOf<Attribute>>
     ensures { Gives (λ x. (x.0, shown x.1)) result (int_at (shown atoms.entry)) }
 {
     let rest = keyword_at("integer", atoms, Expected::EnumInteger);
-    let rest = going_on(rest, &[INTEGER, OPEN_BRACE, CLOSE_BRACE])?;
-    let attrs = braced_at(alloc, rest, Expected::Mark(Mark::OpenBrace));
-    going_on(attrs, &[CLOSE_BRACE])
+    let rest = going_on(rest, &[Missing::Word("integer"), OPEN_BRACE, CLOSE_BRACE])?;
+    going_on(braced_at(alloc, rest), &[CLOSE_BRACE])
 }
 
-#[tactic(auto, unfolding(crate::specs::ParsingMembers::enum_at))]
+#[tactic(auto, unfolding(crate::specs::Rules::enum_at))]
 fn enum_at(alloc: Global, atoms: Atoms<'_>) -> Read<'_, Kind>
     ensures { Gives (λ x. (x.0, shown x.1)) result (enum_at (shown atoms.entry)) }
 {
     let rest = keyword_at("enum", atoms, Expected::Member)?;
     let rest = expecting(mark_at(Mark::Colon, rest), Expected::EnumColon);
-    let rest = going_on(
-        rest,
-        &[INTEGER, OPEN_BRACE, CLOSE_BRACE, OPEN_BRACE, CLOSE_BRACE],
-    )?;
+    let rest = going_on(rest, &[Missing::Word("integer"), OPEN_BRACE, CLOSE_BRACE]);
+    let rest = going_on(rest, &[OPEN_BRACE, CLOSE_BRACE])?;
     let (attrs, rest) = going_on(int_at(alloc, rest), &[OPEN_BRACE, CLOSE_BRACE])?;
     let inside = going_on(mark_at(Mark::OpenBrace, rest), &[CLOSE_BRACE])?;
     let (entries, rest) = going_on(entries_at(alloc, inside), &[CLOSE_BRACE])?;
@@ -49,7 +44,7 @@ fn enum_at(alloc: Global, atoms: Atoms<'_>) -> Read<'_, Kind>
     Ok((Kind::Enumeration(attrs, entries), rest))
 }
 
-#[tactic(auto, unfolding(crate::specs::ParsingMembers::kind_at, crate::specs::ParsingMembers::string_at), using(crate::proofs::Attributes::attr_short))]
+#[tactic(auto, unfolding(crate::specs::Rules::kind_at, crate::specs::Rules::string_at), using(crate::proofs::Attributes::attr_short))]
 fn kind_at(alloc: Global, atoms: Atoms<'_>) -> Read<'_, Kind>
     ensures { Gives (λ x. (x.0, shown x.1)) result (kind_at (shown atoms.entry)) }
 {
@@ -64,13 +59,12 @@ fn kind_at(alloc: Global, atoms: Atoms<'_>) -> Read<'_, Kind>
     if !begins(Mark::OpenBrace, rest) {
         return Ok((Kind::Text(None), rest));
     }
-    let attrs = braced_at(alloc, rest, Expected::Mark(Mark::OpenBrace));
-    let (attrs, rest) = going_on(attrs, &[CLOSE_BRACE, NAME, SEMICOLON])?;
+    let (attrs, rest) = going_on(braced_at(alloc, rest), &[CLOSE_BRACE, NAME, SEMICOLON])?;
     Ok((Kind::Text(Some(attrs)), rest))
 }
 
 /// What stands between an array's brackets.
-#[tactic(auto, unfolding(crate::specs::ParsingMembers::count_at))]
+#[tactic(auto, unfolding(crate::specs::Rules::count_at))]
 fn count_at(alloc: Global, atoms: Atoms<'_>) -> Read<'_, Bracket>
     ensures { Gives (λ x. (x.0, shown x.1)) result (count_at (shown atoms.entry)) }
 {
@@ -85,7 +79,7 @@ fn count_at(alloc: Global, atoms: Atoms<'_>) -> Read<'_, Bracket>
 impl Repeated for Bracket {
     ghost item = { bracket_at };
 
-    #[tactic(auto, unfolding(crate::specs::ParsingMembers::bracket_at))]
+    #[tactic(auto, unfolding(crate::specs::Rules::bracket_at))]
     fn item_at(alloc: Global, atoms: Atoms<'_>) -> Read<'_, Bracket> {
         let inside = mark_at(Mark::OpenBracket, atoms)?;
         let (count, rest) = going_on(count_at(alloc, inside), &[CLOSE_BRACKET])?;
@@ -96,7 +90,7 @@ impl Repeated for Bracket {
 impl Repeated for MemberTree {
     ghost item = { member_at };
 
-    #[tactic(auto, unfolding(crate::specs::ParsingMembers::member_at), using(crate::proofs::Members::bracket_short))]
+    #[tactic(auto, unfolding(crate::specs::Rules::member_at), using(crate::proofs::Members::bracket_short))]
     fn item_at(alloc: Global, atoms: Atoms<'_>) -> Read<'_, MemberTree> {
         let (kind, rest) = kind_at(alloc, atoms)?;
         let name = word_at(alloc, rest, Expected::MemberName);
@@ -113,29 +107,29 @@ impl Repeated for MemberTree {
 }
 
 /// A structure's alignment, if it is given.
-#[tactic(auto, unfolding(crate::specs::ParsingMembers::align_at))]
+#[tactic(auto, unfolding(crate::specs::Parsing::names, crate::specs::Parsing::keyword_at, crate::specs::Rules::align_at))]
 fn align_at(alloc: Global, atoms: Atoms<'_>) -> Read<'_, Option<Number>>
     ensures { Gives (λ x. (x.0, shown x.1)) result (align_at (shown atoms.entry)) }
 {
     if !names("align", atoms) {
         return Ok((None, atoms));
     }
-    let rest = keyword_at("align", atoms, Expected::Mark(Mark::Semicolon))?;
-    let inside = mark_at(Mark::OpenParenthesis, rest);
-    let inside = going_on(inside, &[ZERO, CLOSE_PARENTHESIS])?;
+    let inside = mark_at(Mark::OpenParenthesis, atoms.behind());
+    let inside = going_on(inside, &[Missing::Zero, CLOSE_PARENTHESIS])?;
     let align = number_at(alloc, inside, Expected::Number);
     let (align, rest) = going_on(align, &[CLOSE_PARENTHESIS])?;
     Ok((Some(align), mark_at(Mark::CloseParenthesis, rest)?))
 }
 
-#[tactic(auto, unfolding(crate::specs::ParsingMembers::struct_at), using(crate::proofs::Members::member_short))]
+#[tactic(auto, unfolding(crate::specs::Parsing::braced_at, crate::specs::Rules::struct_at), using(crate::proofs::Members::member_short))]
 pub(crate) fn struct_at(alloc: Global, atoms: Atoms<'_>) -> Read<'_, Structure>
     ensures { Gives (λ x. (x.0, shown x.1)) result (struct_at (shown atoms.entry)) }
 {
     let rest = keyword_at("struct", atoms, Expected::Structure);
-    let rest = going_on(rest, &[STRUCT, OPEN_BRACE, CLOSE_BRACE])?;
-    let members = braced_at(alloc, rest, Expected::StructureBrace);
-    let (members, rest) = going_on(members, &[CLOSE_BRACE])?;
+    let rest = going_on(rest, &[Missing::Word("struct"), OPEN_BRACE, CLOSE_BRACE])?;
+    let inside = expecting(mark_at(Mark::OpenBrace, rest), Expected::StructureBrace);
+    going_on(inside, &[CLOSE_BRACE])?;
+    let (members, rest) = going_on(braced_at(alloc, rest), &[CLOSE_BRACE])?;
     let (align, rest) = align_at(alloc, rest)?;
     Ok((Structure { members, align }, rest))
 }

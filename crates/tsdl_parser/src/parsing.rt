@@ -1,14 +1,14 @@
 //! What the rules of the grammar are made of: marks, words and numbers at the front of a list of atoms.
 
 ghost use Rattle.std.specs.Prelude.{◌≡◌, ◌∷◌, [], IfOk, MatchOption};
-ghost use Rattle.tsdl_grammar.specs.Fronts.{meant, shown};
-ghost use Rattle.tsdl_parser.specs.Parsing.{Gives, number_of, begins, mark_at, word_at, is_word, names, keyword_at, number_at};
+ghost use Rattle.tsdl_grammar.specs.Fronts.{shown};
+ghost use Rattle.tsdl_parser.specs.Parsing.{Gives, number_of, begins, mark_at, word_at, names, keyword_at, number_at};
 
 use crate::expected::Expected;
-use crate::halt::{Halt, Missing, Unread, ZERO};
+use crate::halt::{Halt, Missing, Unread};
 use ctf_types::Text;
 use std::alloc::{AllocError, Global};
-use tsdl_grammar::{Atom, Atoms, Front, Mark, Number, Sign, TokenKind};
+use tsdl_grammar::{Atom, Atoms, Mark, Number, Sign, TokenKind};
 
 /// What stands at the front of some atoms, and the atoms behind it.
 pub(crate) type Read<'a, T, E = Unread> = Result<(T, Atoms<'a>), E>;
@@ -62,22 +62,19 @@ pub(crate) fn word_at(alloc: Global, atoms: Atoms<'_>, expected: Expected) -> Re
     }
 }
 
-fn is_word(keyword: &str, front: Front<'_>) -> bool
-    ensures { result ≡ is_word keyword.now (meant front.entry) }
-{
-    front.word().is_some_and(|word| word == keyword)
-}
-
 /// Whether the first atom is this word.
 #[tactic(auto, unfolding(crate::specs::Parsing::names))]
 pub(crate) fn names(keyword: &str, atoms: Atoms<'_>) -> bool
     ensures { result ≡ names keyword.now (shown atoms.entry) }
 {
-    atoms.front.is_some_and(|front| is_word(keyword, front))
+    match atoms.front {
+        Some(front) => front.word().is_some_and(|word| word == keyword),
+        None => false,
+    }
 }
 
 /// What stands behind this word.
-#[tactic(auto, unfolding(crate::specs::Parsing::keyword_at))]
+#[tactic(auto, unfolding(crate::specs::Parsing::names, crate::specs::Parsing::keyword_at))]
 pub(crate) fn keyword_at<'a>(
     keyword: &str,
     atoms: Atoms<'a>,
@@ -85,10 +82,10 @@ pub(crate) fn keyword_at<'a>(
 ) -> Result<Atoms<'a>, Unread>
     ensures { Gives (λ x. shown x) result (keyword_at keyword.now (shown atoms.entry)) }
 {
-    match atoms.front {
-        Some(front) if is_word(keyword, front) => Ok(atoms.behind()),
-        None | Some(_) => Err(Unread::Halted(Halt::before(atoms, expected, &[]))),
+    if names(keyword, atoms) {
+        return Ok(atoms.behind());
     }
+    Err(Unread::Halted(Halt::before(atoms, expected, &[])))
 }
 
 /// A number with its sign. Where none stands, a sign without a literal is not kept.
@@ -109,7 +106,7 @@ pub(crate) fn number_at(alloc: Global, atoms: Atoms<'_>, expected: Expected) -> 
         };
         return Err(Unread::Halted(Halt {
             dropped: if sign.is_some() { 1 } else { 0 },
-            ..Halt::before(place, expected, &[ZERO])
+            ..Halt::before(place, expected, &[Missing::Zero])
         }));
     };
     Ok((Number { sign, literal }, rest))

@@ -1,14 +1,10 @@
 //! Reads what stands any number of times, one after the other.
 
 ghost use Rattle.std.specs.Prelude.{◌≡◌, List, Option, IfOk};
-ghost use Rattle.tsdl_grammar.specs.declared.atom.Atom.{Atom};
-ghost use Rattle.tsdl_grammar.specs.Fronts.{shown};
-ghost use Rattle.tsdl_parser.specs.Parsing.{Gives, Shortens, many, braced_at};
-ghost use Rattle.tsdl_parser.specs.Repetition.{starts};
+ghost use Rattle.tsdl_parser.specs.Rules.{Atom, shown, Gives, Shortens, many, braced_at, starts};
 
-use crate::enumeration::is_next;
-use crate::expected::Expected;
-use crate::halt::{Unread, expecting};
+use crate::enumeration::is_labelled;
+use crate::halt::Unread;
 use crate::parsing::{Read, begins, mark_at};
 use ctf_types::ListOf;
 use std::alloc::{AllocError, Global};
@@ -37,12 +33,13 @@ pub(crate) enum Start {
 }
 
 /// Whether another one starts.
+#[tactic(auto, unfolding(crate::specs::Parsing::begins, crate::specs::Rules::is_next))]
 fn starts(alloc: Global, start: Start, atoms: Atoms<'_>) -> Result<bool, AllocError>
     ensures { IfOk result (λ b. b ≡ starts start (shown atoms.entry)) }
 {
     match start {
         Start::Mark(mark) => Ok(begins(mark, atoms)),
-        Start::NextEntry => is_next(alloc, atoms),
+        Start::NextEntry => Ok(begins(Mark::Comma, atoms) && is_labelled(alloc, atoms.behind())?),
         Start::InBraces => Ok(!begins(Mark::CloseBrace, atoms)),
         Start::InText => Ok(atoms.front.is_some()),
     }
@@ -72,15 +69,11 @@ pub(crate) fn all_at<T: Repeated>(
 
 /// All that stand between two braces. Where they stop, the caller says that the closing one is missing.
 #[tactic(auto, unfolding(crate::specs::Parsing::braced_at))]
-pub(crate) fn braced_at<T: Repeated>(
-    alloc: Global,
-    atoms: Atoms<'_>,
-    expected: Expected,
-) -> Read<'_, ListOf<T>>
+pub(crate) fn braced_at<T: Repeated>(alloc: Global, atoms: Atoms<'_>) -> Read<'_, ListOf<T>>
     requires { Shortens T T.item }
     ensures { Gives (λ x. (x.0, shown x.1)) result (braced_at T.item (shown atoms.entry)) }
 {
-    let inside = expecting(mark_at(Mark::OpenBrace, atoms), expected)?;
+    let inside = mark_at(Mark::OpenBrace, atoms)?;
     let (items, rest) = all_at(alloc, inside, Start::InBraces)?;
     Ok((items, mark_at(Mark::CloseBrace, rest)?))
 }

@@ -1,5 +1,4 @@
-use Rattle.std.proofs.lemmas.Result.{err_from_is_err_and}
-use Rattle.tsdl_grammar.specs.Fronts.{shown}
+use Rattle.tsdl_parser.proofs.Steps.{err_from_is_err_and, shown}
 use Rattle.tsdl_parser.proofs.Blocks.{blocks_take, unread_blocks}
 use Rattle.tsdl_parser.proofs.block.parse.Goals as goal
 

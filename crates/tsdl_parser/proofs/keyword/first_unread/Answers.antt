@@ -1,5 +1,4 @@
-use Rattle.std.proofs.Common.{rules, sym, ◌∙◌}
-use Rattle.tsdl_grammar.specs.Fronts.{atoms_in, meant}
+use Rattle.tsdl_parser.proofs.Steps.{atoms_in, meant, rules, sym, ◌∙◌}
 use Rattle.tsdl_parser.proofs.Keywords.{reads_on, room, unread_here}
 use Rattle.tsdl_parser.proofs.keyword.first_unread.Goals as goal
 

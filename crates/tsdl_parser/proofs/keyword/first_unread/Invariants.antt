@@ -1,5 +1,4 @@
-use Rattle.std.proofs.Common.{length}
-use Rattle.tsdl_grammar.specs.Fronts.{atoms_in}
+use Rattle.tsdl_parser.proofs.Steps.{atoms_in, length}
 use Rattle.tsdl_parser.proofs.Keywords.{Read}
 use Rattle.tsdl_parser.proofs.keyword.first_unread.Given as goal
 

@@ -1,5 +1,4 @@
-use Rattle.std.proofs.Common.{rules}
-use Rattle.tsdl_parser.specs.Parsing.{number_at, signed_at}
+use Rattle.tsdl_parser.proofs.Steps.{number_at, rules, signed_at}
 use Rattle.tsdl_parser.proofs.parsing.number_at.Goals.{in-Some-Mark-Plus+in_ok-next_atom-in-Some-Mark-Plus, in-Some-Mark-Minus+in_ok-next_atom-in-Some-Mark-Minus, in_default, in_default-via-in-Some+in-Mark+in-OpenBrace-1, in_default-via-in-Some+in-Word-1, in_default-via-in-None-1, in_default-second-via-in-Some+in_default, in_default-second-via-in_default}
 use Rattle.tsdl_parser.proofs.parsing.number_at.Goals as goal
 

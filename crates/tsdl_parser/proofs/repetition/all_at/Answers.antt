@@ -1,8 +1,4 @@
-use Rattle.std.proofs.Common.{sym, ◌∙◌}
-use Rattle.std.proofs.lemmas.Result.{err_from_is_err_and}
-use Rattle.tsdl_grammar.specs.Fronts.{shown}
-use Rattle.tsdl_parser.specs.Parsing.{many}
-use Rattle.tsdl_parser.specs.Repetition.{starts}
+use Rattle.tsdl_parser.proofs.Steps.{err_from_is_err_and, many, shown, starts, sym, ◌∙◌}
 use Rattle.tsdl_parser.proofs.Repeated.{goes_on, gives_up, is_done}
 use Rattle.tsdl_parser.proofs.repetition.all_at.Goals as goal
 

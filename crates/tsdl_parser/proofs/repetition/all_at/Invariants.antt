@@ -1,7 +1,4 @@
-use Rattle.std.proofs.Common.{◌≡◌, length}
-use Rattle.tsdl_grammar.specs.Fronts.{shown}
-use Rattle.tsdl_parser.specs.Parsing.{many}
-use Rattle.tsdl_parser.specs.Repetition.{starts}
+use Rattle.tsdl_parser.proofs.Steps.{length, many, shown, starts, ◌≡◌}
 use Rattle.tsdl_parser.proofs.Repeated.{with_front}
 use Rattle.tsdl_parser.proofs.repetition.all_at.Given as goal
 
