@@ -1,9 +1,5 @@
 pub mod BitsLemmas
-pub mod KeptStreams
-pub mod KeptRules
-pub mod ExcludedRules
-pub mod WholeFlawLaws
+pub mod RuleLaws
 pub mod ExcludedTexts
 pub mod ConfigurationLaws
-pub mod ConfigurationSteps
 mod WorkedFlaws

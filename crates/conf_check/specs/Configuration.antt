@@ -1,6 +1,6 @@
 -- From the text of a configuration to the configuration: its tree, the tree with every inheritance resolved, and what that
--- says, row by row.
-use Rattle.std.specs.Prelude.{◌≡◌, ◌⊎◌, ℕ, List, [], Option, Some, Result, Ok, Err}
+-- says, row by row (barectf 3.1, "Configuration object" and the pages below it).
+use Rattle.std.specs.Prelude.{◌≡◌, ◌⊎◌, ℕ, List, [], Option, Some, Result, Ok, Err, MatchResult}
 use Rattle.serde_json.specs.Data.{Data}
 use Rattle.ctf_types.specs.declared.Config.{Config}
 use Rattle.conf_tree.specs.declared.fault.ConfFault.{ConfFault}
@@ -15,9 +15,22 @@ use Rattle.conf_draft.specs.declared.draft.Draft.{Draft}
 use Rattle.conf_draft.specs.Traces.{draft_of}
 use Rattle.conf_laws.specs.TableFlaws.{IsFlawOf}
 use Rattle.conf_laws.specs.TableLimits.{PassesLimitOf}
-use Rattle.conf_check.specs.ConfigurationRows.{IsConfigurationOf, KeepsAllRows}
 use Rattle.conf_check.specs.Judgement.{IsFirstFlawOf}
 use Rattle.conf_check.specs.WholeFlaws.{BreaksRule}
+
+-- every row of the objects' tables holds
+abbrev pub KeepsAllRows : Data → Type 0
+KeepsAllRows d = (flaw : Flaw) → ¬ IsFlawOf [] (At Root) d flaw
+
+-- c is what the resolved tree d says, where `number` is the identifier that is handed in: every row of its objects' tables
+-- holds, no rule over the whole is broken, and no limit is passed
+pub record IsConfigurationOf (d : Data) (number : Option (List ℕ)) (c : Config) : Type 0 where
+  pub draft : Draft
+  pub rows : KeepsAllRows d
+  pub says : draft_of number d ≡ Some draft
+  pub rules : (flaw : Flaw) → ¬ BreaksRule draft flaw
+  pub within_limits : (flaw : Flaw) → ¬ PassesLimitOf (At Root) d flaw
+  pub config_is : draft.config ≡ c
 
 -- c is the configuration of the text, where `number` is the identifier that is handed in
 abbrev pub Configures : List ℕ → Option (List ℕ) → Config → Type 0
@@ -29,19 +42,14 @@ abbrev pub ConfiguresResolved : List ℕ → Option (List ℕ) → Config → Ty
 ConfiguresResolved text number c =
     (t : Data) × (r : Data) × IsTreeOf text t × Resolves t r × IsConfigurationOf r number c
 
--- no fault of inheritance holds of the tree
-abbrev pub IsFaultless : Data → Type 0
-IsFaultless t = (flaw : Flaw) → RefusalHolds t flaw → ⊥
-
--- c is the configuration of a text without such a fault, by look-up alone
+-- c is the configuration of a text by look-up alone, where no fault of inheritance holds of its tree
 abbrev pub ConfiguresByLookUp : List ℕ → Option (List ℕ) → Config → Type 0
 ConfiguresByLookUp text number c =
-    (t : Data) × (r : Data) × IsTreeOf text t × IsFaultless t × Resolves t r × IsConfigurationOf r number c
+    (t : Data) × (r : Data) × IsTreeOf text t × ((flaw : Flaw) → ¬ RefusalHolds t flaw) × Resolves t r × IsConfigurationOf r number c
 
 -- that configuration is the answer, want of memory aside
 abbrev pub GivesThat : Result Config ConfFault → Config → Type 0
-GivesThat (Ok found) c = found ≡ c
-GivesThat (Err fault) c = IsMemory fault
+GivesThat result c = MatchResult result (λ found. found ≡ c) IsMemory
 
 -- the flaw is the first of the text: of the tree, of its inheritance, or of the resolved tree
 abbrev pub IsRefusal : List ℕ → Option (List ℕ) → Flaw → Type 0

@@ -37,8 +37,7 @@ identifier_given c = if is_some c.header.uuid && is_none c.uuid then Err (header
 unfoldable pub one_order : Draft → Result ⊤ Flaw
 one_order draft = if draft.two_orders then Err (in_type (here TwoOrders)) else Ok tt
 
--- ---- one rule after the other
-
+-- one rule after the other
 unfoldable pub whole : Data → Draft → Result ⊤ Flaw
 whole d draft = do
   _ ← stream_number_fits draft.config
@@ -50,8 +49,6 @@ whole d draft = do
   _ ← refusal (configuration_limits d)
   _ ← one_order draft
   streams_judged TimestampsAreSized draft.config
-
--- ---- a resolved tree
 
 -- c is what the tree says, where `number` is the identifier that is handed in: no walk over its objects tells of a flaw, and none
 -- of the rules is broken

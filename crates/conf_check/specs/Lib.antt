@@ -1,5 +1,4 @@
 pub mod StreamRules
 pub mod Judgement
 pub mod Configuration
-pub mod ConfigurationRows
 pub mod WholeFlaws

@@ -1,7 +1,8 @@
 -- What the parts of a configuration have to be together, stream type by stream type: numbers fit their fields, records have
 -- bits, clocks are there, and timestamps tell the clock values (barectf 3.1, "Data stream type object"; CTF 1.8.3, section 8).
-use Rattle.std.specs.Prelude.{ℕ, ◌-◌, ◌^◌, ◌||◌, ◌&&◌, ◌==◌, nat_le, nat_lt, List, [], ◌∷◌, Bool, true, Option, None, Some, is_some, is_none, length, Result, Ok, Err, codes, if◌then◌else◌, ⊤}
+use Rattle.std.specs.Prelude.{ℕ, ◌-◌, ◌^◌, ◌||◌, ◌==◌, nat_le, nat_lt, List, [], ◌∷◌, Bool, true, Option, None, Some, is_some, is_none, length, Result, Ok, Err, codes, if◌then◌else◌, ⊤}
 use Rattle.std.specs.List.{list_all, list_any}
+use Rattle.std.specs.Option.{option_map_or}
 use Rattle.std.specs.Str.{bytes_eq}
 use Rattle.ctf_types.specs.declared.ClockType.{ClockType}
 use Rattle.ctf_types.specs.declared.Config.{Config}
@@ -28,7 +29,10 @@ feature_flaw group name kind = within (key (codes "$features")) (within (key gro
 abbrev pub unless : Bool → Flaw → Result ⊤ Flaw
 unless good flaw = if good then Ok tt else Err flaw
 
--- ---- numbers fit their fields
+-- each of a list keeps a rule, or the first that breaks it says how
+abbrev pub each : {A : Type 0} → (A → Result ⊤ Flaw) → List A → Result ⊤ Flaw
+each rule [] = Ok tt
+each rule (x ∷ xs) = rule x >>= (λ _. each rule xs)
 
 -- a field that is off holds nothing but 0
 unfoldable pub holds : ℕ → Option IntType → Bool
@@ -37,8 +41,6 @@ holds n (Some t) = nat_lt n (2 ^ t.size)
 
 unfoldable pub numbers_fit : StreamType → Result ⊤ Flaw
 numbers_fit s = unless (holds (length s.events - 1) s.event_header.id) (feature_flaw (codes "event-record") (codes "type-id-field-type") FieldTooSmall)
-
--- ---- records have bits
 
 -- an integer, an enumeration or a string that is in no empty array. A dynamic array has its length
 unfoldable pub member_has_bits : MemberType → Bool
@@ -51,24 +53,15 @@ struct_has_bits s = list_any (λ m. member_has_bits m.1) s.members
 unfoldable pub header_has_bits : StreamType → Bool
 header_has_bits s = is_some s.event_header.id || is_some s.event_header.timestamp || struct_has_bits s.common
 
-unfoldable pub event_has_bits : EventType → Bool
-event_has_bits e = struct_has_bits e.specific || struct_has_bits e.payload
-
-abbrev pub events_bits : Bool → List EventType → Result ⊤ Flaw
-events_bits header [] = Ok tt
-events_bits header (e ∷ es) = at (key e.name) (unless (header || event_has_bits e) (here ZeroSizeRecord)) >>= (λ _. events_bits header es)
+abbrev pub record_has_bits : Bool → EventType → Result ⊤ Flaw
+record_has_bits header e = at (key e.name) (unless (header || struct_has_bits e.specific || struct_has_bits e.payload) (here ZeroSizeRecord))
 
 unfoldable pub records_have_bits : StreamType → Result ⊤ Flaw
-records_have_bits s = at (key (codes "event-record-types")) (events_bits (header_has_bits s) s.events)
-
--- ---- clocks are there
-
-abbrev pub has_clock : List ClockType → List ℕ → Bool
-has_clock clocks name = list_any (λ c. bytes_eq c.name name) clocks
+records_have_bits s = at (key (codes "event-record-types")) (each (record_has_bits (header_has_bits s)) s.events)
 
 unfoldable pub clock_is_there : List ClockType → Option (List ℕ) → Bool
 clock_is_there clocks None = true
-clock_is_there clocks (Some name) = has_clock clocks name
+clock_is_there clocks (Some name) = list_any (λ c. bytes_eq c.name name) clocks
 
 -- the field of a timestamp, if it is on
 unfoldable pub field_of : StreamType → Timestamp → Option IntType
@@ -86,10 +79,8 @@ timestamp_flaw End kind = feature_flaw (codes "packet") (codes "end-timestamp-fi
 abbrev pub timestamps : List Timestamp
 timestamps = Record ∷ Beginning ∷ End ∷ []
 
--- each timestamp is good
-abbrev pub timestamps_judged : (Timestamp → Bool) → FaultKind → List Timestamp → Result ⊤ Flaw
-timestamps_judged good kind [] = Ok tt
-timestamps_judged good kind (t ∷ ts) = unless (good t) (timestamp_flaw t kind) >>= (λ _. timestamps_judged good kind ts)
+abbrev pub timestamp_is : (Timestamp → Bool) → FaultKind → Timestamp → Result ⊤ Flaw
+timestamp_is good kind timestamp = unless (good timestamp) (timestamp_flaw timestamp kind)
 
 -- one that is on has a clock
 unfoldable pub is_clocked : StreamType → Timestamp → Bool
@@ -98,29 +89,19 @@ is_clocked s timestamp = is_some s.default_clock || is_none (field_of s timestam
 unfoldable pub clocks_are_there : List ClockType → StreamType → Result ⊤ Flaw
 clocks_are_there clocks s = do
   _ ← unless (clock_is_there clocks s.default_clock) (within (key (codes "$default-clock-type-name")) (here NoClock))
-  timestamps_judged (is_clocked s) NoClock timestamps
+  each (timestamp_is (is_clocked s) NoClock) timestamps
 
--- ---- timestamps have their sizes
+-- a clock value has 64 bits. An event record's timestamp has 8 bits or more where the packet says the clock value at which it begins
+abbrev pub tells_clock : StreamType → Timestamp → IntType → Bool
+tells_clock s Record t = if is_some s.context.timestamp_begin then nat_le 8 t.size else t.size == 64
+tells_clock s _ t = t.size == 64
 
--- a clock value has 64 bits
-unfoldable pub is_whole : Option IntType → Bool
-is_whole None = true
-is_whole (Some t) = t.size == 64
-
--- an event record's timestamp has 8 bits or more, and all of them where the packet does not say the clock value at which it begins
-unfoldable pub has_record_size : Option IntType → Option IntType → Bool
-has_record_size begin None = true
-has_record_size begin (Some t) = nat_le 8 t.size && (t.size == 64 || is_some begin)
-
+-- one that is on tells the clock value
 unfoldable pub is_sized : StreamType → Timestamp → Bool
-is_sized s Record = has_record_size s.context.timestamp_begin s.event_header.timestamp
-is_sized s Beginning = is_whole s.context.timestamp_begin
-is_sized s End = is_whole s.context.timestamp_end
+is_sized s timestamp = option_map_or (tells_clock s timestamp) (field_of s timestamp) true
 
 unfoldable pub timestamps_sized : StreamType → Result ⊤ Flaw
-timestamps_sized s = timestamps_judged (is_sized s) TimestampSize timestamps
-
--- ---- all stream types under one rule
+timestamps_sized s = each (timestamp_is (is_sized s) TimestampSize) timestamps
 
 unfoldable pub judged : StreamRule → List ClockType → StreamType → Result ⊤ Flaw
 judged NumbersFit clocks s = numbers_fit s
@@ -128,10 +109,7 @@ judged RecordsHaveBits clocks s = records_have_bits s
 judged ClocksAreThere clocks s = clocks_are_there clocks s
 judged TimestampsAreSized clocks s = timestamps_sized s
 
-abbrev pub all_judged : StreamRule → List ClockType → List StreamType → Result ⊤ Flaw
-all_judged rule clocks [] = Ok tt
-all_judged rule clocks (s ∷ ss) = at (key s.name) (judged rule clocks s) >>= (λ _. all_judged rule clocks ss)
-
+-- all data stream types under one rule
 unfoldable pub streams_judged : StreamRule → Config → Result ⊤ Flaw
 streams_judged rule c =
-    at (key (codes "trace")) (at (key (codes "type")) (at (key (codes "data-stream-types")) (all_judged rule c.clocks c.streams)))
+    at (key (codes "trace")) (at (key (codes "type")) (at (key (codes "data-stream-types")) (each (λ s. at (key s.name) (judged rule c.clocks s)) c.streams)))

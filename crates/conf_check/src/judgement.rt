@@ -4,11 +4,10 @@ ghost use Rattle.serde_json.specs.View.{view};
 ghost use Rattle.ctf_types.specs.AllowedConfig.{IsConfig};
 ghost use Rattle.conf_tree.specs.Flaw.{flaw_of, IsMemory};
 ghost use Rattle.conf_tree.specs.Reading.{Gives};
-ghost use Rattle.conf_check.specs.Configuration.{IsNoConfiguration, IsInnocent};
-ghost use Rattle.conf_check.specs.ConfigurationRows.{IsConfigurationOf};
-ghost use Rattle.conf_check.specs.Judgement.{header_flaw, whole as whole_is, IsJudgedTo, IsFirstFlawOf};
+ghost use Rattle.conf_check.specs.Configuration.{IsConfigurationOf, IsNoConfiguration, IsInnocent};
+ghost use Rattle.conf_check.specs.Judgement.{header_flaw, whole as whole_is, IsFirstFlawOf};
 
-use crate::stream_rule::{StreamRule, check_streams, holds, in_type};
+use crate::stream_rule::{StreamRule, check_each, holds, in_type};
 use conf_draft::{Draft, draft_of};
 use conf_judge::{check_limits, check_objects};
 use conf_tree::{At, ConfFault, FaultKind, Tree};
@@ -37,9 +36,9 @@ fn whole(alloc: Global, value: &Value, draft: &Draft) -> Result<(), ConfFault>
         let kind = FaultKind::FieldTooSmall;
         return Err(header_fault(alloc, "data-stream-type-id-field-type", kind));
     }
-    check_streams(alloc, StreamRule::NumbersFit, config)?;
-    check_streams(alloc, StreamRule::RecordsHaveBits, config)?;
-    check_streams(alloc, StreamRule::ClocksAreThere, config)?;
+    check_each(alloc, StreamRule::NumbersFit, config)?;
+    check_each(alloc, StreamRule::RecordsHaveBits, config)?;
+    check_each(alloc, StreamRule::ClocksAreThere, config)?;
     if draft.lacks_number {
         return Err(in_type(alloc, At::Property("uuid").fault(alloc, FaultKind::NoUuid)));
     }
@@ -50,22 +49,7 @@ fn whole(alloc: Global, value: &Value, draft: &Draft) -> Result<(), ConfFault>
     if draft.two_orders {
         return Err(in_type(alloc, ConfFault::here(alloc, FaultKind::TwoOrders)));
     }
-    check_streams(alloc, StreamRule::TimestampsAreSized, config)
-}
-
-/// The configuration that the tree is.
-fn judge(alloc: Global, tree: Tree, number: Option<Uuid>) -> Result<Config, ConfFault>
-    ensures judged { IfOk result (λ c. IsJudgedTo (view tree.value) number c) }
-    ensures first { IfErr result (λ fault. IsMemory fault ⊎ IsFirstFlawOf (view tree.value) number (flaw_of fault)) }
-    ensures allowed { IfOk result (λ c. IsConfig c) }
-{
-    let Tree { value } = tree;
-    check_objects(alloc, &value)?;
-    let Ok(draft) = draft_of(alloc, number, &value) else {
-        return Err(ConfFault::memory(alloc));
-    };
-    whole(alloc, &value, &draft)?;
-    Ok(draft.config)
+    check_each(alloc, StreamRule::TimestampsAreSized, config)
 }
 
 /// The configuration that the tree is. `number` is the trace's identifier where the configuration asks for one to be
@@ -85,5 +69,11 @@ pub fn check(alloc: Global, tree: Tree, number: Option<Uuid>) -> Result<Config, 
     // A tree of which all rows hold is refused for want of memory alone.
     ensures only { IfErr result (λ fault. IsInnocent (view tree.value) number fault) }
 {
-    judge(alloc, tree, number)
+    let Tree { value } = tree;
+    check_objects(alloc, &value)?;
+    let Ok(draft) = draft_of(alloc, number, &value) else {
+        return Err(ConfFault::memory(alloc));
+    };
+    whole(alloc, &value, &draft)?;
+    Ok(draft.config)
 }

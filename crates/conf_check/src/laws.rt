@@ -1,5 +1,7 @@
 //! Laws of the whole: a resolved tree is judged to be a configuration exactly where all rows and all rules say so, and what is
 //! refused breaks a row, a rule or a limit.
+#![tactic(auto, using(crate::proofs::ConfigurationLaws::configuration_says, crate::proofs::ConfigurationLaws::configuration_judged, crate::proofs::ConfigurationLaws::configuration_excluded, crate::proofs::RuleLaws::rule_refused))]
+
 ghost use Rattle.std.specs.Prelude.{◌≡◌, ◌↔◌, ◌⊎◌, ℕ, List, Option, Ok, Err};
 ghost use Rattle.serde_json.specs.Data.{Data};
 ghost use Rattle.ctf_types.specs.declared.Config.{Config as Configuration};
@@ -10,8 +12,7 @@ ghost use Rattle.conf_table.specs.declared.row.Content.TheVariants.{At};
 ghost use Rattle.conf_inherit.specs.Resolution.{resolution, Resolves};
 ghost use Rattle.conf_draft.specs.declared.draft.Draft.{Draft};
 ghost use Rattle.conf_laws.specs.TableLimits.{PassesLimitOf};
-ghost use Rattle.conf_check.specs.Configuration.{HasNoFault, IsNoConfiguration};
-ghost use Rattle.conf_check.specs.ConfigurationRows.{IsConfigurationOf};
+ghost use Rattle.conf_check.specs.Configuration.{HasNoFault, IsConfigurationOf, IsNoConfiguration};
 ghost use Rattle.conf_check.specs.Judgement.{whole, IsJudgedTo, IsFirstFlawOf};
 ghost use Rattle.conf_check.specs.WholeFlaws.{BreaksRule};
 

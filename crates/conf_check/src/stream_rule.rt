@@ -1,16 +1,15 @@
 //! What the parts of a configuration have to be together, stream type by stream type.
 ghost use Rattle.std.specs.Prelude.{◌≡◌, ◌⊎◌, nat_lt};
-ghost use Rattle.std.specs.List.{list_all};
+ghost use Rattle.std.specs.List.{list_all, list_any};
+ghost use Rattle.std.specs.Str.{bytes_eq};
 ghost use Rattle.ctf_types.specs.FieldTypes.{chain_of};
 ghost use Rattle.conf_tree.specs.Flaw.{flaw_of, IsMemory};
 ghost use Rattle.conf_tree.specs.Reading.{Gives};
 ghost use Rattle.conf_check.specs.Judgement.{in_type as in_type_is};
-ghost use Rattle.conf_check.specs.StreamRules.{feature_flaw, timestamp_flaw, is_clocked as is_clocked_is, holds as holds_is, numbers_fit as numbers_fit_is, member_has_bits as member_has_bits_is, struct_has_bits as struct_has_bits_is, records_have_bits as records_have_bits_is, has_clock as has_clock_is, clock_is_there as clock_is_there_is, field_of as field_of_is, clocks_are_there as clocks_are_there_is, is_sized as is_sized_is, timestamps_sized as timestamps_sized_is, judged as judged_is, streams_judged as streams_judged_is};
+ghost use Rattle.conf_check.specs.StreamRules.{feature_flaw, timestamp_flaw, is_clocked as is_clocked_is, holds as holds_is, numbers_fit as numbers_fit_is, member_has_bits as member_has_bits_is, struct_has_bits as struct_has_bits_is, records_have_bits as records_have_bits_is, clock_is_there as clock_is_there_is, field_of as field_of_is, clocks_are_there as clocks_are_there_is, is_sized as is_sized_is, timestamps_sized as timestamps_sized_is, judged as judged_is, streams_judged as streams_judged_is};
 
 use conf_tree::{At, ConfFault, FaultKind};
-use ctf_types::{
-    ClockType, Config, FieldType, IntType, ListOf, MemberType, StreamType, StructType, Text,
-};
+use ctf_types::{Config, FieldType, IntType, MemberType, StreamType, StructType, Text};
 use std::alloc::Global;
 
 /// A rule that each data stream type has to keep.
@@ -100,7 +99,7 @@ fn struct_has_bits(structure: &StructType) -> bool
     false
 }
 
-#[tactic(auto, unfolding(crate::specs::StreamRules::records_have_bits, crate::specs::StreamRules::header_has_bits, crate::specs::StreamRules::event_has_bits))]
+#[tactic(auto, unfolding(crate::specs::StreamRules::records_have_bits, crate::specs::StreamRules::header_has_bits))]
 fn records_have_bits(alloc: Global, stream: &StreamType) -> Result<(), ConfFault>
     ensures { Gives (λ _. tt) result (records_have_bits_is stream.now) }
 {
@@ -119,22 +118,22 @@ fn records_have_bits(alloc: Global, stream: &StreamType) -> Result<(), ConfFault
     Ok(())
 }
 
-fn has_clock(clocks: &ListOf<ClockType>, name: &Text) -> bool
-    ensures { result ≡ has_clock_is clocks.now name.now }
+fn has_clock(config: &Config, name: &Text) -> bool
+    ensures { result ≡ list_any (λ c. bytes_eq c.name name.now) config.now.clocks }
 {
-    let clocks = clocks.as_slice();
+    let clocks = config.clocks.as_slice();
     clocks
         .iter()
         .any(|clock| clock.name.as_bytes() == name.as_bytes())
 }
 
 #[tactic(auto, unfolding(crate::specs::StreamRules::clock_is_there))]
-fn clock_is_there(clocks: &ListOf<ClockType>, clock: &Option<Text>) -> bool
-    ensures { result ≡ clock_is_there_is clocks.now clock.now }
+fn clock_is_there(config: &Config, stream: &StreamType) -> bool
+    ensures { result ≡ clock_is_there_is config.now.clocks stream.now.default_clock }
 {
-    match clock {
+    match &stream.default_clock {
         None => true,
-        Some(name) => has_clock(clocks, name),
+        Some(name) => has_clock(config, name),
     }
 }
 
@@ -183,14 +182,10 @@ fn is_clocked(stream: &StreamType, timestamp: Timestamp) -> bool
 }
 
 #[tactic(auto, unfolding(crate::specs::StreamRules::clocks_are_there))]
-fn clocks_are_there(
-    alloc: Global,
-    clocks: &ListOf<ClockType>,
-    stream: &StreamType,
-) -> Result<(), ConfFault>
-    ensures { Gives (λ _. tt) result (clocks_are_there_is clocks.now stream.now) }
+fn clocks_are_there(alloc: Global, config: &Config, stream: &StreamType) -> Result<(), ConfFault>
+    ensures { Gives (λ _. tt) result (clocks_are_there_is config.now.clocks stream.now) }
 {
-    if !clock_is_there(clocks, &stream.default_clock) {
+    if !clock_is_there(config, stream) {
         return Err(At::Property("$default-clock-type-name").fault(alloc, FaultKind::NoClock));
     }
     for timestamp in TIMESTAMPS {
@@ -203,19 +198,16 @@ fn clocks_are_there(
 
 /// Whether a timestamp, if it is on, has a size that tells clock values: 64 bits, or, where a packet has a beginning
 /// timestamp, 8 at least for an event record's.
-#[tactic(auto, unfolding(crate::specs::StreamRules::is_sized, crate::specs::StreamRules::is_whole, crate::specs::StreamRules::has_record_size, crate::specs::StreamRules::field_of))]
+#[tactic(auto, unfolding(crate::specs::StreamRules::is_sized))]
 fn is_sized(stream: &StreamType, timestamp: Timestamp) -> bool
     ensures { result ≡ is_sized_is stream.now timestamp }
 {
     let Some(int) = field_of(stream, timestamp) else {
         return true;
     };
-    let is_whole = int.size() == 64;
     match timestamp {
-        Timestamp::Record => {
-            int.size() >= 8 && (is_whole || stream.context.timestamp_begin.is_some())
-        }
-        Timestamp::Beginning | Timestamp::End => is_whole,
+        Timestamp::Record if stream.context.timestamp_begin.is_some() => int.size() >= 8,
+        Timestamp::Record | Timestamp::Beginning | Timestamp::End => int.size() == 64,
     }
 }
 
@@ -235,30 +227,26 @@ fn timestamps_sized(alloc: Global, stream: &StreamType) -> Result<(), ConfFault>
 fn judged(
     alloc: Global,
     rule: StreamRule,
-    clocks: &ListOf<ClockType>,
+    config: &Config,
     stream: &StreamType,
 ) -> Result<(), ConfFault>
-    ensures { Gives (λ _. tt) result (judged_is rule clocks.now stream.now) }
+    ensures { Gives (λ _. tt) result (judged_is rule config.now.clocks stream.now) }
 {
     match rule {
         StreamRule::NumbersFit => numbers_fit(alloc, stream),
         StreamRule::RecordsHaveBits => records_have_bits(alloc, stream),
-        StreamRule::ClocksAreThere => clocks_are_there(alloc, clocks, stream),
+        StreamRule::ClocksAreThere => clocks_are_there(alloc, config, stream),
         StreamRule::TimestampsAreSized => timestamps_sized(alloc, stream),
     }
 }
 
 /// Refuses the first data stream type that breaks the rule.
 #[tactic(auto, unfolding(crate::specs::StreamRules::streams_judged))]
-pub(crate) fn check_streams(
-    alloc: Global,
-    rule: StreamRule,
-    config: &Config,
-) -> Result<(), ConfFault>
+pub(crate) fn check_each(alloc: Global, rule: StreamRule, config: &Config) -> Result<(), ConfFault>
     ensures { Gives (λ _. tt) result (streams_judged_is rule config.now) }
 {
     for stream in config.streams.as_slice() {
-        if let Err(fault) = judged(alloc, rule, &config.clocks, stream) {
+        if let Err(fault) = judged(alloc, rule, config, stream) {
             let fault = fault.in_property(alloc, stream.name.as_str());
             return Err(in_type(alloc, fault.in_property(alloc, "data-stream-types")));
         }

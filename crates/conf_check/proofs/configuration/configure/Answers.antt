@@ -1,8 +1,7 @@
 use Rattle.std.proofs.Common.{inl, inr}
 use Rattle.std.proofs.lemmas.Result.{IfOk-weaker, IfErr-weaker, err_from_is_err_and}
 use Rattle.serde_json.specs.View.{view}
-use Rattle.conf_check.proofs.ConfigurationSteps.{no_tree, memory_alone, refused_for_memory, answered_by_look_up}
-use Rattle.conf_check.proofs.ConfigurationLaws.{memory_or, text_excluded}
+use Rattle.conf_check.proofs.ConfigurationLaws.{memory_or, text_excluded, no_tree, memory_alone, refused_for_memory, answered_by_look_up}
 use Rattle.conf_check.proofs.configuration.configure.Goals as goal
 
 pub returns-clause-only : goal.returns-clause-only

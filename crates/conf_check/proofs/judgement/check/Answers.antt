@@ -1,15 +1,39 @@
-use Rattle.std.proofs.lemmas.Result.{IfOk-weaker, IfErr-weaker}
+use Rattle.std.proofs.Common.{◌⊎◌, refl}
+use Rattle.std.proofs.lemmas.Result.{err_from_is_err_and}
 use Rattle.serde_json.specs.View.{view}
-use Rattle.conf_tree.specs.Flaw.{flaw_of}
-use Rattle.conf_check.proofs.ConfigurationLaws.{configuration_says, configuration_refused, memory_or, only_memory}
+use Rattle.conf_judge.specs.Flaws.{configuration_flaws}
+use Rattle.conf_laws.proofs.ExcludedFlaws.{none_refused}
+use Rattle.conf_laws.proofs.Traces.{tree_said}
+use Rattle.conf_tree.specs.Flaw.{flaw_of, IsMemory}
+use Rattle.conf_check.specs.Judgement.{IsJudgedTo, IsFirstFlawOf}
+use Rattle.conf_check.proofs.ConfigurationLaws.{configuration_says, configuration_allowed, configuration_refused, memory_or, only_memory}
 use Rattle.conf_check.proofs.judgement.check.Goals as goal
 
-pub returns-clause-rows : goal.returns-clause-rows
-returns-clause-rows c = IfOk-weaker c.judge.result _ _ (configuration_says (view c.args.tree.value) c.args.number) c.judge.ensures.judged
+pub draft_of-requires : goal.draft_of-requires
+draft_of-requires c =
+    let d = view c.args.tree.value in
+    tree_said c.args.number d (none_refused (configuration_flaws d) c.in_ok-check_objects.ensures)
 
-pub returns-clause-only : goal.returns-clause-only
-returns-clause-only c = IfErr-weaker c.judge.result _ _ (only_memory (view c.args.tree.value) c.args.number) c.judge.ensures.first
+pub returns-in_err-check_objects : goal.returns-in_err-check_objects
+returns-in_err-check_objects c =
+    let d = view c.args.tree.value in
+    let fault = c.in_err-check_objects.field-0.0 in
+    let p = err_from_is_err_and c.from_residual.result c.from_residual.ensures.1 in
+    let first : IsMemory fault ⊎ IsFirstFlawOf d c.args.number (flaw_of fault) = memory_or c.in_err-check_objects.ensures IsFirstFlawOf.of_an_object in
+    rw (p.1, p.2) (record { rows = tt; allowed = tt; first = first; refused = memory_or first (configuration_refused d c.args.number (flaw_of fault)); only = only_memory d c.args.number fault first })
 
-pub returns-clause-refused : goal.returns-clause-refused
-returns-clause-refused c =
-    IfErr-weaker c.judge.result _ _ (λ fault first. memory_or first (configuration_refused (view c.args.tree.value) c.args.number (flaw_of fault))) c.judge.ensures.first
+pub returns-in_err-whole : goal.returns-in_err-whole
+returns-in_err-whole c =
+    let d = view c.args.tree.value in
+    let fault = c.in_err-whole.field-0.0 in
+    let p = err_from_is_err_and c.from_residual-in_err-whole.result c.from_residual-in_err-whole.ensures.1 in
+    let none = none_refused (configuration_flaws d) c.in_ok-check_objects.ensures in
+    let first : IsMemory fault ⊎ IsFirstFlawOf d c.args.number (flaw_of fault) = memory_or c.in_err-whole.ensures (IsFirstFlawOf.of_the_whole c.in-Ok.draft none c.in-Ok.ensures) in
+    rw (p.1, p.2) (record { rows = tt; allowed = tt; first = first; refused = memory_or first (configuration_refused d c.args.number (flaw_of fault)); only = only_memory d c.args.number fault first })
+
+pub returns : goal.returns
+returns c =
+    let d = view c.args.tree.value in
+    let none = none_refused (configuration_flaws d) c.in_ok-check_objects.ensures in
+    let judged : IsJudgedTo d c.args.number c.in-Ok.draft.config = record { draft = c.in-Ok.draft; no_flaw = none; says = c.in-Ok.ensures; passes = c.in_ok-whole.ensures; config_is = refl } in
+    record { rows = configuration_says d c.args.number c.in-Ok.draft.config judged; allowed = configuration_allowed d c.args.number c.in-Ok.draft.config c.args.tree.ordered judged; first = tt; refused = tt; only = tt }
