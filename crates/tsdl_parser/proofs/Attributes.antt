@@ -1,11 +1,11 @@
 -- Names, values and attributes are read as they are spelled. A name goes on for as long as dots follow.
-use Rattle.tsdl_parser.proofs.Steps.{Atom, Attribute, List, Name, Number, Shortens, Some, [], all_dotted_at, along, ap, append_assoc, arith, attr_at, attr_behind, attr_toks, attrs_at, attrs_toks, begins, dotted, dotted_at, false, is_open, length, mark, mark_at, name_at, name_toks, number_at, number_toks, refl, signed_at, step, value_at, value_toks, word, word_at, ℕ, ◌++◌, ◌∙◌, ◌∷◌, ◌≡◌}
+use Rattle.tsdl_parser.proofs.Steps.{Atom, many, Attribute, List, Name, Number, Some, [], along, ap, append_assoc, arith, attr_at, attr_behind, attr_toks, begins, dotted, dotted_at, false, is_open, length, mark, mark_at, name_at, name_toks, number_at, number_toks, refl, signed_at, step, value_at, value_toks, word, word_at, ℕ, ◌++◌, ◌∙◌, ◌∷◌, ◌≡◌}
 use Rattle.tsdl_grammar.specs.declared.token.Mark.TheVariants as marks
 use Rattle.tsdl_grammar.specs.declared.atom.Atom.TheVariants as atoms
 use Rattle.tsdl_grammar.specs.declared.tree.Value.{Value}
 use Rattle.tsdl_grammar.specs.declared.tree.Value.TheVariants as values
 use Rattle.tsdl_parser.proofs.Words.{mark_step, word_takes, number_as, by_sign}
-use Rattle.tsdl_parser.proofs.Repeated.{Spells, Anything, shortens, many_take, many_again, braced_take, braced_again}
+use Rattle.tsdl_parser.proofs.Repeated.{Spells, Anything, anywhere, many_take, many_again}
 
 dotted_takes : (ts : List Atom) (x : List ℕ × List Atom) → dotted_at ts ≡ Some x → ts ≡ dotted x.0 ++ x.1
 unfolding dotted_at
@@ -15,22 +15,13 @@ dotted_takes ts x e =
 
 pub dotted_spells : Spells (List ℕ) (begins marks.Dot) dotted_at dotted Anything
 unfolding dotted_at mark_at word_at begins
-dotted_spells = record {
-  takes = dotted_takes;
-  some = λ w. omega arith;
-  again = λ w rest h. refl;
-  opens = λ w rest. refl;
-  ends = λ w rest. tt;
-}
-
-pub dotted_short : Shortens (List ℕ) dotted_at
-dotted_short = shortens (begins marks.Dot) dotted_at dotted Anything dotted_spells
+dotted_spells = anywhere dotted_takes (λ w. omega arith) (λ w rest. refl) (λ w rest. refl)
 
 pub name_takes : (ts : List Atom) (x : Name × List Atom) → name_at ts ≡ Some x → ts ≡ name_toks x.0 ++ x.1
 unfolding name_at
 name_takes ts x e =
     let a = step (word_at ts) _ x (word_takes ts) e in
-    let b = step (all_dotted_at a.0.1) _ x (many_take (begins marks.Dot) dotted_at dotted Anything dotted_spells (length a.0.1) a.0.1) a.2 in
+    let b = step (many (begins marks.Dot) dotted_at a.0.1) _ x (many_take (begins marks.Dot) dotted_at dotted Anything dotted_spells (length a.0.1) a.0.1) a.2 in
     along (λ (y : Name × List Atom). ts ≡ name_toks y.0 ++ y.1) (record { first = a.0.0; rest = b.0.0 }, b.0.1) x b.2 (a.1 ∙ ap (λ (us : List Atom). word a.0.0 ∷ us) b.1.0)
 
 pub name_again : (n : Name) (rest : List Atom) → begins marks.Dot rest ≡ false → name_at (name_toks n ++ rest) ≡ Some (n, rest)
@@ -89,19 +80,4 @@ attr_again a rest = ap attr_at (attr_parts a rest) ∙ rw (name_again a.name (va
 
 pub attr_spells : Spells Attribute is_open attr_at attr_toks Anything
 unfolding begins
-attr_spells = record {
-  takes = attr_takes;
-  some = λ a. omega arith;
-  again = λ a rest h. attr_again a rest;
-  opens = λ a rest. refl;
-  ends = λ a rest. tt;
-}
-
-pub attr_short : Shortens Attribute attr_at
-attr_short = shortens is_open attr_at attr_toks Anything attr_spells
-
-pub attrs_take : (ts : List Atom) (x : List Attribute × List Atom) → attrs_at ts ≡ Some x → ts ≡ attrs_toks x.0 ++ x.1
-attrs_take = braced_take attr_at attr_toks attr_spells
-
-pub attrs_again : (attrs : List Attribute) (rest : List Atom) → attrs_at (attrs_toks attrs ++ rest) ≡ Some (attrs, rest)
-attrs_again = braced_again attr_at attr_toks attr_spells
+attr_spells = anywhere attr_takes (λ a. omega arith) attr_again (λ a rest. refl)

@@ -1,5 +1,5 @@
 -- Blocks, and what stands in them, are read as they are spelled, so a list of atoms spells at most one list of blocks.
-use Rattle.tsdl_parser.proofs.Steps.{Atom, Fails, List, Name, None, Number, Shortens, Some, Unread, [], all_blocks_at, along, ap, append-nil, append_assoc, arith, attr_behind, begins, block_and_semicolon, block_at, block_toks, braced_at, chosen, codes, ended_block_at, fact_at, fact_toks, false, has_more, inl, inr, is_open, item_at, item_toks, items_at, items_toks, keyword_at, length, length-append, mark, mark_at, name_at, name_toks, named_fact_at, named_fact_toks, names, number_at, number_toks, refl, scope_behind, scope_toks, signed_at, some_is, splice, step, struct_at, struct_toks, sym, text_toks, true, word, word_at, ℕ, ◌++◌, ◌<◌, ◌∙◌, ◌∷◌, ◌≡◌}
+use Rattle.tsdl_parser.proofs.Steps.{◌>>=◌, bind_some, Atom, Fails, List, Name, None, Number, Some, Unread, [], all_blocks_at, along, ap, append-nil, append_assoc, arith, attr_behind, begins, block_and_semicolon, block_at, block_toks, braced_at, chosen, codes, ended_block_at, fact_at, fact_toks, false, has_more, inl, inr, is_open, item_at, item_toks, items_at, items_toks, keyword_at, length, length-append, mark, mark_at, name_at, name_toks, named_fact_at, named_fact_toks, names, number_at, number_toks, refl, scope_behind, scope_toks, signed_at, some_is, splice, step, struct_at, struct_toks, sym, text_toks, true, word, word_at, ℕ, ◌++◌, ◌<◌, ◌∙◌, ◌∷◌, ◌≡◌}
 use Rattle.tsdl_grammar.specs.declared.token.Mark.TheVariants as marks
 use Rattle.tsdl_grammar.specs.declared.atom.Atom.TheVariants as atoms
 use Rattle.tsdl_grammar.specs.declared.tree.Scope.{Scope}
@@ -13,7 +13,7 @@ use Rattle.tsdl_grammar.specs.declared.tree.Block.TheVariants as blocks
 use Rattle.tsdl_parser.specs.declared.halt.Unread.TheVariants as unread
 use Rattle.tsdl_parser.specs.Halting.{IfHalted}
 use Rattle.tsdl_parser.proofs.Words.{mark_step, word_takes, keyword_step, number_as, by_sign}
-use Rattle.tsdl_parser.proofs.Repeated.{Spells, Anything, shortens, many_take, many_again, braced_take, braced_again}
+use Rattle.tsdl_parser.proofs.Repeated.{Spells, Anything, anywhere, many_take, many_again, braced_take, braced_again}
 use Rattle.tsdl_parser.proofs.Attributes.{name_takes, name_again, behind_takes, value_part, attr_parts, behind_again}
 use Rattle.tsdl_parser.proofs.Members.{struct_takes, struct_again}
 
@@ -66,16 +66,7 @@ item_some (items.Attribute a) = omega arith
 item_some (items.Scope s) = omega arith
 
 pub item_spells : Spells Item is_open item_at item_toks Anything
-item_spells = record {
-  takes = item_takes;
-  some = item_some;
-  again = λ i rest h. item_again i rest;
-  opens = item_opens;
-  ends = λ i rest. tt;
-}
-
-pub item_short : Shortens Item item_at
-item_short = shortens is_open item_at item_toks Anything item_spells
+item_spells = anywhere item_takes item_some item_again item_opens
 
 -- ---- environment entries
 
@@ -109,24 +100,19 @@ named_again f rest = ap named_fact_at (sym (named_parts f rest)) ∙ rw (fact_ag
 
 pub fact_spells : Spells NamedFact is_open named_fact_at named_fact_toks Anything
 unfolding begins
-fact_spells = record {
-  takes = named_takes;
-  some = λ f. omega arith;
-  again = λ f rest h. named_again f rest;
-  opens = λ f rest. refl;
-  ends = λ f rest. tt;
-}
-
-pub fact_short : Shortens NamedFact named_fact_at
-fact_short = shortens is_open named_fact_at named_fact_toks Anything fact_spells
+fact_spells = anywhere named_takes (λ f. omega arith) named_again (λ f rest. refl)
 
 -- ---- blocks
 
-items_take : (keyword : List ℕ) (ts : List Atom) (x : List Item × List Atom) → items_at keyword ts ≡ Some x → ts ≡ word keyword ∷ (items_toks x.0 ++ x.1)
+-- the items of a block behind its word
+items_take : (keyword : List ℕ) (made : List Item → Block) → ((is : List Item) → word keyword ∷ items_toks is ≡ block_toks (made is)) → (ts : List Atom) (x : Block × List Atom)
+    → (items_at keyword ts >>= λ is. Some (made is.0, is.1)) ≡ Some x → ts ≡ block_toks x.0 ++ x.1
 unfolding items_at
-items_take keyword ts x e =
-    let a = keyword_step keyword ts _ x e in
-    a.1 ∙ ap (λ (us : List Atom). word keyword ∷ us) (braced_take item_at item_toks item_spells a.0 x a.2)
+items_take keyword made same ts x e =
+    let a = bind_some (items_at keyword ts) (λ is. Some (made is.0, is.1)) x e in
+    let b = keyword_step keyword ts _ a.0 a.1 in
+    along (λ (y : Block × List Atom). ts ≡ block_toks y.0 ++ y.1) (made a.0.0, a.0.1) x a.2
+    (b.1 ∙ ap (λ (us : List Atom). word keyword ∷ us) (braced_take item_at item_toks item_spells b.0 a.0 b.2) ∙ ap (λ (us : List Atom). us ++ a.0.1) (same a.0.0))
 
 items_again : (keyword : List ℕ) (is : List Item) (ts rest : List Atom) → keyword_at keyword ts ≡ Some (items_toks is ++ rest) → items_at keyword ts ≡ Some (is, rest)
 unfolding items_at
@@ -136,21 +122,13 @@ block_takes : (ts : List Atom) (x : Block × List Atom) → block_at ts ≡ Some
 unfolding block_at
 block_takes ts x e =
     elim (chosen (names (codes "trace") ts) _ _ (Some x) e) [
-      | inl h ↦
-          let a = step (items_at (codes "trace") ts) _ x (items_take (codes "trace") ts) h.1 in
-          along (λ (y : Block × List Atom). ts ≡ block_toks y.0 ++ y.1) (blocks.Trace a.0.0, a.0.1) x a.2 a.1
+      | inl h ↦ items_take (codes "trace") blocks.Trace (λ is. refl) ts x h.1
       | inr h ↦ elim (chosen (names (codes "stream") ts) _ _ (Some x) h.1) [
-        | inl h ↦
-            let a = step (items_at (codes "stream") ts) _ x (items_take (codes "stream") ts) h.1 in
-            along (λ (y : Block × List Atom). ts ≡ block_toks y.0 ++ y.1) (blocks.Stream a.0.0, a.0.1) x a.2 a.1
+        | inl h ↦ items_take (codes "stream") blocks.Stream (λ is. refl) ts x h.1
         | inr h ↦ elim (chosen (names (codes "event") ts) _ _ (Some x) h.1) [
-          | inl h ↦
-              let a = step (items_at (codes "event") ts) _ x (items_take (codes "event") ts) h.1 in
-              along (λ (y : Block × List Atom). ts ≡ block_toks y.0 ++ y.1) (blocks.Event a.0.0, a.0.1) x a.2 a.1
+          | inl h ↦ items_take (codes "event") blocks.Event (λ is. refl) ts x h.1
           | inr h ↦ elim (chosen (names (codes "clock") ts) _ _ (Some x) h.1) [
-            | inl h ↦
-                let a = step (items_at (codes "clock") ts) _ x (items_take (codes "clock") ts) h.1 in
-                along (λ (y : Block × List Atom). ts ≡ block_toks y.0 ++ y.1) (blocks.Clock a.0.0, a.0.1) x a.2 a.1
+            | inl h ↦ items_take (codes "clock") blocks.Clock (λ is. refl) ts x h.1
             | inr h ↦
                 let a = keyword_step (codes "env") ts _ x h.1 in
                 let b = step (braced_at named_fact_at a.0) _ x (braced_take named_fact_at named_fact_toks fact_spells a.0) a.2 in
@@ -185,16 +163,7 @@ block_opens (blocks.Trace is) rest = refl
 block_opens _ rest = refl
 
 pub block_spells : Spells Block has_more ended_block_at block_and_semicolon Anything
-block_spells = record {
-  takes = ended_takes;
-  some = λ b. simp length-append (omega arith);
-  again = λ b rest h. ended_again b rest;
-  opens = block_opens;
-  ends = λ b rest. tt;
-}
-
-pub block_short : Shortens Block ended_block_at
-block_short = shortens has_more ended_block_at block_and_semicolon Anything block_spells
+block_spells = anywhere ended_takes (λ b. simp length-append (omega arith)) ended_again block_opens
 
 -- ---- whole texts
 

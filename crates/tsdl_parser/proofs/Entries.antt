@@ -1,6 +1,6 @@
 -- The entries of enumerations are read as they are spelled. A range goes on where `...` follows, and the entries where a
 -- comma and a label follow.
-use Rattle.tsdl_parser.proofs.Steps.{Atom, Entries, List, None, Number, Option, Shortens, Some, all_next_at, along, ap, append_assoc, arith, begins, chosen, closing_at, closing_toks, entries_at, entries_toks, entry_at, entry_toks, false, flat_map, high_at, high_toks, inl, inr, is_labelled, is_next, label_at, label_toks, length, listed_at, mark, mark_at, next_entry_at, next_entry_toks, number_at, number_toks, refl, splice, step, sym, true, word, ◌++◌, ◌∙◌, ◌∷◌, ◌≡◌}
+use Rattle.tsdl_parser.proofs.Steps.{Atom, many, Entries, List, None, Number, Option, Some, along, ap, append_assoc, arith, begins, chosen, closing_at, closing_toks, entries_at, entries_toks, entry_at, entry_toks, false, flat_map, high_at, high_toks, inl, inr, is_labelled, is_next, label_at, label_toks, length, listed_at, mark, mark_at, next_entry_at, next_entry_toks, number_at, number_toks, refl, splice, step, sym, true, word, ◌++◌, ◌∙◌, ◌∷◌, ◌≡◌}
 use Rattle.tsdl_grammar.specs.declared.token.Mark.TheVariants as marks
 use Rattle.tsdl_grammar.specs.declared.atom.Atom.TheVariants as atoms
 use Rattle.tsdl_grammar.specs.declared.tree.Label.{Label}
@@ -10,7 +10,7 @@ use Rattle.tsdl_grammar.specs.declared.tree.Closing.{Closing}
 use Rattle.tsdl_grammar.specs.declared.tree.Closing.TheVariants as closings
 use Rattle.tsdl_grammar.specs.declared.tree.Entries.TheVariants as entries
 use Rattle.tsdl_parser.proofs.Words.{mark_step, number_takes, number_again}
-use Rattle.tsdl_parser.proofs.Repeated.{Spells, shortens, all_end, many_take, many_again}
+use Rattle.tsdl_parser.proofs.Repeated.{Spells, all_end, many_take, many_again}
 
 label_takes : (ts : List Atom) (x : Label × List Atom) → label_at ts ≡ Some x → ts ≡ label_toks x.0 ++ x.1
 unfolding label_at
@@ -18,15 +18,10 @@ label_takes (atoms.Text s ∷ ts) x e = along (λ (y : Label × List Atom). (ato
 label_takes (atoms.Word w ∷ ts) x e = along (λ (y : Label × List Atom). (word w ∷ ts) ≡ label_toks y.0 ++ y.1) (Bare w, ts) x e refl
 label_takes _ x e = absurd cc
 
-label_again : (l : Label) (rest : List Atom) → label_at (label_toks l ++ rest) ≡ Some (l, rest)
-unfolding label_at
-label_again (Quoted s) rest = refl
-label_again (Bare w) rest = refl
-
-label_first : (l : Label) (rest : List Atom) → is_labelled (label_toks l ++ rest) ≡ true
-unfolding is_labelled
-label_first (Quoted s) rest = refl
-label_first (Bare w) rest = refl
+label_again : (l : Label) (rest : List Atom) → (label_at (label_toks l ++ rest) ≡ Some (l, rest)) × (is_labelled (label_toks l ++ rest) ≡ true)
+unfolding label_at is_labelled
+label_again (Quoted s) rest = (refl, refl)
+label_again (Bare w) rest = (refl, refl)
 
 -- no `...` follows
 abbrev pub NoEllipsis : List Atom → Type 0
@@ -67,10 +62,10 @@ entry_again : (e : Entry) (rest : List Atom) → NoEllipsis rest → entry_at (e
 unfolding entry_at mark_at
 entry_again e rest end =
     ap entry_at (entry_parts e rest)
-    ∙ rw (label_again e.label (mark marks.Equals ∷ (number_toks e.low ++ (high_toks e.high ++ rest))), number_again e.low (high_toks e.high ++ rest), high_again e.high rest end) refl
+    ∙ rw ((label_again e.label (mark marks.Equals ∷ (number_toks e.low ++ (high_toks e.high ++ rest)))).0, number_again e.low (high_toks e.high ++ rest), high_again e.high rest end) refl
 
 entry_first : (e : Entry) (rest : List Atom) → is_labelled (entry_toks e ++ rest) ≡ true
-entry_first e rest = ap is_labelled (entry_parts e rest) ∙ label_first e.label (mark marks.Equals ∷ (number_toks e.low ++ (high_toks e.high ++ rest)))
+entry_first e rest = ap is_labelled (entry_parts e rest) ∙ (label_again e.label (mark marks.Equals ∷ (number_toks e.low ++ (high_toks e.high ++ rest)))).1
 
 next_takes : (ts : List Atom) (x : Entry × List Atom) → next_entry_at ts ≡ Some x → ts ≡ next_entry_toks x.0 ++ x.1
 unfolding next_entry_at
@@ -78,29 +73,15 @@ next_takes ts x e =
     let a = mark_step marks.Comma ts entry_at x e in
     a.1 ∙ ap (λ (us : List Atom). mark marks.Comma ∷ us) (entry_takes a.0 x a.2)
 
-next_again : (e : Entry) (rest : List Atom) → NoEllipsis rest → next_entry_at (next_entry_toks e ++ rest) ≡ Some (e, rest)
-unfolding next_entry_at mark_at
-next_again e rest end = entry_again e rest end
-
-next_opens : (e : Entry) (rest : List Atom) → is_next (next_entry_toks e ++ rest) ≡ true
-unfolding is_next
-next_opens e rest = entry_first e rest
-
-next_ends : (e : Entry) (rest : List Atom) → NoEllipsis (next_entry_toks e ++ rest)
-unfolding begins
-next_ends e rest = refl
-
 pub next_spells : Spells Entry is_next next_entry_at next_entry_toks NoEllipsis
+unfolding next_entry_at mark_at is_next begins
 next_spells = record {
   takes = next_takes;
   some = λ e. omega arith;
-  again = next_again;
-  opens = next_opens;
-  ends = next_ends;
+  again = entry_again;
+  opens = entry_first;
+  ends = λ e rest. refl;
 }
-
-pub next_short : Shortens Entry next_entry_at
-next_short = shortens is_next next_entry_at next_entry_toks NoEllipsis next_spells
 
 closing_takes : (ts : List Atom) (x : Closing × List Atom) → closing_at ts ≡ Some x → ts ≡ closing_toks x.0 ++ x.1
 unfolding closing_at
@@ -112,26 +93,17 @@ closing_takes ts x e =
       | inr h ↦ along (λ (y : Closing × List Atom). ts ≡ closing_toks y.0 ++ y.1) (closings.Plain, ts) x h.1 refl
     ]
 
-closing_again : (c : Closing) (rest : List Atom) → closing_at (closing_toks c ++ mark marks.CloseBrace ∷ rest) ≡ Some (c, mark marks.CloseBrace ∷ rest)
-unfolding closing_at mark_at begins
-closing_again closings.Plain rest = refl
-closing_again closings.Comma rest = refl
-
-no_more : (c : Closing) (rest : List Atom) → is_next (closing_toks c ++ mark marks.CloseBrace ∷ rest) ≡ false
-unfolding is_next is_labelled
-no_more closings.Plain rest = refl
-no_more closings.Comma rest = refl
-
-no_range : (c : Closing) (rest : List Atom) → NoEllipsis (closing_toks c ++ mark marks.CloseBrace ∷ rest)
-unfolding begins
-no_range closings.Plain rest = refl
-no_range closings.Comma rest = refl
+-- behind the entries and what closes them the brace is left
+closing_again : (c : Closing) (rest : List Atom) → let ts = closing_toks c ++ mark marks.CloseBrace ∷ rest in (closing_at ts ≡ Some (c, mark marks.CloseBrace ∷ rest)) × (is_next ts ≡ false) × NoEllipsis ts
+unfolding closing_at mark_at begins is_next is_labelled
+closing_again closings.Plain rest = (refl, refl, refl)
+closing_again closings.Comma rest = (refl, refl, refl)
 
 listed_takes : (ts : List Atom) (x : Entries × List Atom) → listed_at ts ≡ Some x → ts ≡ entries_toks x.0 ++ x.1
 unfolding listed_at
 listed_takes ts x e =
     let a = step (entry_at ts) _ x (entry_takes ts) e in
-    let b = step (all_next_at a.0.1) _ x (many_take is_next next_entry_at next_entry_toks NoEllipsis next_spells (length a.0.1) a.0.1) a.2 in
+    let b = step (many is_next next_entry_at a.0.1) _ x (many_take is_next next_entry_at next_entry_toks NoEllipsis next_spells (length a.0.1) a.0.1) a.2 in
     let c = step (closing_at b.0.1) _ x (closing_takes b.0.1) b.2 in
     along (λ (y : Entries × List Atom). ts ≡ entries_toks y.0 ++ y.1) (entries.Listed a.0.0 b.0.0 c.0.0, c.0.1) x c.2
     (a.1 ∙ ap (λ (us : List Atom). entry_toks a.0.0 ++ us) (b.1.0 ∙ ap (λ (us : List Atom). flat_map next_entry_toks b.0.0 ++ us) c.1)
@@ -141,12 +113,12 @@ listed_again : (e : Entry) (es : List Entry) (c : Closing) (rest : List Atom)
     → listed_at (entries_toks (entries.Listed e es c) ++ mark marks.CloseBrace ∷ rest) ≡ Some (entries.Listed e es c, mark marks.CloseBrace ∷ rest)
 unfolding listed_at
 listed_again e es c rest =
-    let end = closing_toks c ++ mark marks.CloseBrace ∷ rest in
+    let end = closing_toks c ++ mark marks.CloseBrace ∷ rest in let closed = closing_again c rest in
     ap listed_at (sym (splice (entry_toks e) (flat_map next_entry_toks es) (closing_toks c) (mark marks.CloseBrace ∷ rest)))
     ∙ rw (
-      entry_again e (flat_map next_entry_toks es ++ end) (all_end is_next next_entry_at next_entry_toks NoEllipsis next_spells es end (no_range c rest)),
-      many_again is_next next_entry_at next_entry_toks NoEllipsis next_spells es end (no_more c rest) (no_range c rest),
-      closing_again c rest,
+      entry_again e (flat_map next_entry_toks es ++ end) (all_end is_next next_entry_at next_entry_toks NoEllipsis next_spells es end closed.2),
+      many_again is_next next_entry_at next_entry_toks NoEllipsis next_spells es end closed.1 closed.2,
+      closed.0,
     ) refl
 
 pub entries_take : (ts : List Atom) (x : Entries × List Atom) → entries_at ts ≡ Some x → ts ≡ entries_toks x.0 ++ x.1

@@ -1,6 +1,6 @@
 -- Types, members and structures are read as they are spelled. A `string` goes on where a brace follows, and a structure
 -- where `align` follows.
-use Rattle.tsdl_parser.proofs.Steps.{Atom, Attribute, Entries, List, None, Number, Option, Shortens, Some, [], align_at, align_toks, all_brackets_at, along, ap, append_assoc, arith, attrs_at, begins, braced, braced_at, bracket_at, bracket_toks, chosen, codes, count_at, entries_at, entries_toks, enum_at, false, flat_map, inl, inr, int_at, int_toks, is_open, keyword_at, kind_at, kind_toks, length, length-append, mark, mark_at, member_at, member_toks, names, number_at, number_toks, refl, signed_at, splice, splice_last, step, string_at, struct_at, struct_toks, sym, true, word, word_at, ◌++◌, ◌<◌, ◌∙◌, ◌∷◌, ◌≡◌}
+use Rattle.tsdl_parser.proofs.Steps.{Atom, attr_at, attr_toks, many, Attribute, Entries, List, None, Number, Option, Some, [], align_at, align_toks, along, ap, append_assoc, arith, begins, braced, braced_at, bracket_at, bracket_toks, chosen, codes, count_at, entries_at, entries_toks, enum_at, false, flat_map, inl, inr, int_at, int_toks, is_open, keyword_at, kind_at, kind_toks, length, length-append, mark, mark_at, member_at, member_toks, names, number_at, number_toks, refl, signed_at, splice, splice_last, step, string_at, struct_at, struct_toks, sym, true, word, word_at, ◌++◌, ◌<◌, ◌∙◌, ◌∷◌, ◌≡◌}
 use Rattle.tsdl_grammar.specs.declared.token.Mark.TheVariants as marks
 use Rattle.tsdl_grammar.specs.declared.atom.Atom.TheVariants as atoms
 use Rattle.tsdl_grammar.specs.declared.tree.Kind.{Kind}
@@ -10,8 +10,8 @@ use Rattle.tsdl_grammar.specs.declared.tree.Bracket.TheVariants as brackets
 use Rattle.tsdl_grammar.specs.declared.tree.MemberTree.{MemberTree}
 use Rattle.tsdl_grammar.specs.declared.tree.Structure.{Structure}
 use Rattle.tsdl_parser.proofs.Words.{mark_step, word_takes, keyword_step, number_takes, number_again, number_as, by_sign}
-use Rattle.tsdl_parser.proofs.Repeated.{Spells, Anything, shortens, many_take, many_again, braced_take, braced_again}
-use Rattle.tsdl_parser.proofs.Attributes.{attrs_take, attrs_again}
+use Rattle.tsdl_parser.proofs.Repeated.{Spells, Anything, anywhere, many_take, many_again, braced_take, braced_again}
+use Rattle.tsdl_parser.proofs.Attributes.{attr_spells}
 use Rattle.tsdl_parser.proofs.Entries.{entries_take, entries_again}
 
 -- ---- types
@@ -19,12 +19,8 @@ use Rattle.tsdl_parser.proofs.Entries.{entries_take, entries_again}
 int_takes : (ts : List Atom) (x : List Attribute × List Atom) → int_at ts ≡ Some x → ts ≡ int_toks x.0 ++ x.1
 unfolding int_at
 int_takes ts x e =
-    let a = keyword_step (codes "integer") ts attrs_at x e in
-    a.1 ∙ ap (λ (us : List Atom). word (codes "integer") ∷ us) (attrs_take a.0 x a.2)
-
-int_again : (attrs : List Attribute) (rest : List Atom) → int_at (int_toks attrs ++ rest) ≡ Some (attrs, rest)
-unfolding int_at keyword_at
-int_again attrs rest = attrs_again attrs rest
+    let a = keyword_step (codes "integer") ts (braced_at attr_at) x e in
+    a.1 ∙ ap (λ (us : List Atom). word (codes "integer") ∷ us) (braced_take attr_at attr_toks attr_spells a.0 x a.2)
 
 enum_parts : (attrs : List Attribute) (es : Entries) (rest : List Atom)
     → word (codes "enum") ∷ (mark marks.Colon ∷ (int_toks attrs ++ (mark marks.OpenBrace ∷ (entries_toks es ++ (mark marks.CloseBrace ∷ rest))))) ≡ kind_toks (kinds.Enumeration attrs es) ++ rest
@@ -51,7 +47,7 @@ string_takes ts x e =
     let a = keyword_step (codes "string") ts _ x e in
     elim (chosen (begins marks.OpenBrace a.0) _ _ (Some x) a.2) [
       | inl h ↦
-          let b = step (attrs_at a.0) _ x (attrs_take a.0) h.1 in
+          let b = step (braced_at attr_at a.0) _ x (braced_take attr_at attr_toks attr_spells a.0) h.1 in
           along (λ (y : Kind × List Atom). ts ≡ kind_toks y.0 ++ y.1) (kinds.Text (Some b.0.0), b.0.1) x b.2 (a.1 ∙ ap (λ (us : List Atom). word (codes "string") ∷ us) b.1)
       | inr h ↦ along (λ (y : Kind × List Atom). ts ≡ kind_toks y.0 ++ y.1) (kinds.Text None, a.0) x h.1 a.1
     ]
@@ -71,12 +67,12 @@ kind_takes ts x e =
     ]
 
 kind_again : (k : Kind) (rest : List Atom) → begins marks.OpenBrace rest ≡ false → kind_at (kind_toks k ++ rest) ≡ Some (k, rest)
-unfolding kind_at names enum_at string_at keyword_at mark_at begins
-kind_again (kinds.Integer attrs) rest end = rw (int_again attrs rest) refl
+unfolding kind_at int_at names enum_at string_at keyword_at mark_at begins
+kind_again (kinds.Integer attrs) rest end = rw (braced_again attr_at attr_toks attr_spells attrs rest) refl
 kind_again (kinds.Enumeration attrs es) rest end =
-    ap kind_at (sym (enum_parts attrs es rest)) ∙ rw (int_again attrs (mark marks.OpenBrace ∷ (entries_toks es ++ (mark marks.CloseBrace ∷ rest))), entries_again es rest) refl
+    ap kind_at (sym (enum_parts attrs es rest)) ∙ rw (braced_again attr_at attr_toks attr_spells attrs (mark marks.OpenBrace ∷ (entries_toks es ++ (mark marks.CloseBrace ∷ rest))), entries_again es rest) refl
 kind_again (kinds.Text None) rest end = rw end refl
-kind_again (kinds.Text (Some attrs)) rest end = rw (attrs_again attrs rest) refl
+kind_again (kinds.Text (Some attrs)) rest end = rw (braced_again attr_at attr_toks attr_spells attrs rest) refl
 
 kind_opens : (k : Kind) (rest : List Atom) → is_open (kind_toks k ++ rest) ≡ true
 unfolding begins
@@ -126,16 +122,7 @@ bracket_some (brackets.Count n) = omega arith
 bracket_some (brackets.Member w) = omega arith
 
 pub bracket_spells : Spells Bracket (begins marks.OpenBracket) bracket_at bracket_toks Anything
-bracket_spells = record {
-  takes = bracket_takes;
-  some = bracket_some;
-  again = λ b rest h. bracket_again b rest;
-  opens = bracket_opens;
-  ends = λ b rest. tt;
-}
-
-pub bracket_short : Shortens Bracket bracket_at
-bracket_short = shortens (begins marks.OpenBracket) bracket_at bracket_toks Anything bracket_spells
+bracket_spells = anywhere bracket_takes bracket_some bracket_again bracket_opens
 
 -- ---- members
 
@@ -144,7 +131,7 @@ unfolding member_at
 member_takes ts x e =
     let a = step (kind_at ts) _ x (kind_takes ts) e in
     let b = step (word_at a.0.1) _ x (word_takes a.0.1) a.2 in
-    let c = step (all_brackets_at b.0.1) _ x (many_take (begins marks.OpenBracket) bracket_at bracket_toks Anything bracket_spells (length b.0.1) b.0.1) b.2 in
+    let c = step (many (begins marks.OpenBracket) bracket_at b.0.1) _ x (many_take (begins marks.OpenBracket) bracket_at bracket_toks Anything bracket_spells (length b.0.1) b.0.1) b.2 in
     let d = mark_step marks.Semicolon c.0.1 _ x c.2 in
     along (λ (y : MemberTree × List Atom). ts ≡ member_toks y.0 ++ y.1) (record { kind = a.0.0; name = b.0.0; brackets = c.0.0 }, d.0) x d.2
     (a.1 ∙ ap (λ (us : List Atom). kind_toks a.0.0 ++ us) (b.1 ∙ ap (λ (us : List Atom). word b.0.0 ∷ us) (c.1.0 ∙ ap (λ (us : List Atom). flat_map bracket_toks c.0.0 ++ us) d.1))
@@ -165,16 +152,7 @@ member_opens m rest =
     ∙ kind_opens m.kind (word m.name ∷ (flat_map bracket_toks m.brackets ++ (mark marks.Semicolon ∷ rest)))
 
 pub member_spells : Spells MemberTree is_open member_at member_toks Anything
-member_spells = record {
-  takes = member_takes;
-  some = λ m. simp length-append (omega arith);
-  again = λ m rest h. member_again m rest;
-  opens = member_opens;
-  ends = λ m rest. tt;
-}
-
-pub member_short : Shortens MemberTree member_at
-member_short = shortens is_open member_at member_toks Anything member_spells
+member_spells = anywhere member_takes (λ m. simp length-append (omega arith)) member_again member_opens
 
 -- ---- structures
 

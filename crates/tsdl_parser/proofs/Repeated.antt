@@ -19,6 +19,11 @@ pub record Spells (A : Type 0) (starts : List Atom → Bool) (item : List Atom �
 abbrev pub Anything : List Atom → Type 0
 Anything ts = Unit {0}
 
+-- an item that is read so whatever follows
+pub anywhere : {A : Type 0} {starts : List Atom → Bool} {item : List Atom → Option (A × List Atom)} {spelled : A → List Atom} → ((ts : List Atom) (x : A × List Atom) → item ts ≡ Some x → ts ≡ spelled x.0 ++ x.1) → ((x : A) → 0 < length (spelled x))
+    → ((x : A) (rest : List Atom) → item (spelled x ++ rest) ≡ Some (x, rest)) → ((x : A) (rest : List Atom) → starts (spelled x ++ rest) ≡ true) → Spells A starts item spelled Anything
+anywhere takes some again opens = record { takes = takes; some = some; again = λ x rest h. again x rest; opens = opens; ends = λ x rest. tt }
+
 module _ {A : Type 0} (starts : List Atom → Bool) (item : List Atom → Option (A × List Atom)) (short : Shortens A item) where
   -- nothing begins with no item
   nothing_in : (o : Option (A × List Atom)) → item [] ≡ o → o ≡ None

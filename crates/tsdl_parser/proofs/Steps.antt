@@ -13,7 +13,7 @@ pub use Rattle.tsdl_grammar.specs.declared.tree.Number.{Number}
 pub use Rattle.tsdl_parser.specs.Parsing.{Fails, Shortens, is_mark, is_open, is_word, many, number_of}
 unfoldable pub use Rattle.tsdl_parser.specs.Parsing.{begins, braced_at, keyword_at, many_at, mark_at, names, number_at, signed_at, word_at}
 pub use Rattle.tsdl_parser.specs.declared.halt.Unread.{Unread}
-pub use Rattle.tsdl_parser.specs.Rules.{all_blocks_at, all_brackets_at, all_dotted_at, all_next_at, attrs_at, has_more, starts}
+pub use Rattle.tsdl_parser.specs.Rules.{all_blocks_at, has_more, starts}
 unfoldable pub use Rattle.tsdl_parser.specs.Rules.{align_at, attr_at, attr_behind, block_at, bracket_at, closing_at, count_at, dotted_at, ended_block_at, entries_at, entry_at, enum_at, fact_at, high_at, int_at, is_labelled, is_next, item_at, items_at, kind_at, label_at, listed_at, member_at, name_at, named_fact_at, next_entry_at, scope_behind, string_at, struct_at, value_at}
 pub use Rattle.tsdl_grammar.proofs.Inversion.{bind_some}
 

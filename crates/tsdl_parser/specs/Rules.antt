@@ -40,15 +40,11 @@ use Rattle.tsdl_parser.specs.declared.repetition.Start.TheVariants as start
 unfoldable pub dotted_at : List Atom → Option (List ℕ × List Atom)
 dotted_at ts = mark_at marks.Dot ts >>= word_at
 
--- { "." identifier }
-abbrev pub all_dotted_at : List Atom → Option (List (List ℕ) × List Atom)
-all_dotted_at ts = many (begins marks.Dot) dotted_at ts
-
 -- identifier { "." identifier }
 unfoldable pub name_at : List Atom → Option (Name × List Atom)
 name_at ts = do
   first ← word_at ts
-  others ← all_dotted_at first.1
+  others ← many (begins marks.Dot) dotted_at first.1
   Some (record { first = first.0; rest = others.0 }, others.1)
 
 -- number | string | name
@@ -68,10 +64,6 @@ attr_behind name ts = do
 -- name "=" value ";"
 unfoldable pub attr_at : List Atom → Option (Attribute × List Atom)
 attr_at ts = name_at ts >>= λ name. attr_behind name.0 name.1
-
--- "{" { attribute } "}"
-abbrev pub attrs_at : List Atom → Option (List Attribute × List Atom)
-attrs_at = braced_at attr_at
 
 -- string | identifier
 unfoldable pub label_at : List Atom → Option (Label × List Atom)
@@ -109,10 +101,6 @@ is_next (a ∷ ts) = is_mark marks.Comma a && is_labelled ts
 unfoldable pub next_entry_at : List Atom → Option (Entry × List Atom)
 next_entry_at ts = mark_at marks.Comma ts >>= entry_at
 
--- { "," entry }
-abbrev pub all_next_at : List Atom → Option (List Entry × List Atom)
-all_next_at ts = many is_next next_entry_at ts
-
 -- [ "," ]
 unfoldable pub closing_at : List Atom → Option (Closing × List Atom)
 closing_at ts =
@@ -122,7 +110,7 @@ closing_at ts =
 unfoldable pub listed_at : List Atom → Option (Entries × List Atom)
 listed_at ts = do
   first ← entry_at ts
-  others ← all_next_at first.1
+  others ← many is_next next_entry_at first.1
   closing ← closing_at others.1
   Some (entries.Listed first.0 others.0 closing.0, closing.1)
 
@@ -132,7 +120,7 @@ entries_at ts = if is_labelled ts then listed_at ts else Some (entries.Empty, ts
 
 -- "integer" "{" { attribute } "}"
 unfoldable pub int_at : List Atom → Option (List Attribute × List Atom)
-int_at ts = keyword_at (codes "integer") ts >>= attrs_at
+int_at ts = keyword_at (codes "integer") ts >>= braced_at attr_at
 
 -- "enum" ":" "integer" "{" { attribute } "}" "{" entries "}"
 unfoldable pub enum_at : List Atom → Option (Kind × List Atom)
@@ -149,7 +137,7 @@ enum_at ts = do
 unfoldable pub string_at : List Atom → Option (Kind × List Atom)
 string_at ts = do
   behind ← keyword_at (codes "string") ts
-  if begins marks.OpenBrace behind then (attrs_at behind >>= λ attrs. Some (kinds.Text (Some attrs.0), attrs.1))
+  if begins marks.OpenBrace behind then (braced_at attr_at behind >>= λ attrs. Some (kinds.Text (Some attrs.0), attrs.1))
       else Some (kinds.Text None, behind)
 
 unfoldable pub kind_at : List Atom → Option (Kind × List Atom)
@@ -170,16 +158,12 @@ bracket_at ts = do
   rest ← mark_at marks.CloseBracket count.1
   Some (count.0, rest)
 
--- { "[" (number | identifier) "]" }
-abbrev pub all_brackets_at : List Atom → Option (List Bracket × List Atom)
-all_brackets_at ts = many (begins marks.OpenBracket) bracket_at ts
-
 -- kind identifier { bracket } ";"
 unfoldable pub member_at : List Atom → Option (MemberTree × List Atom)
 member_at ts = do
   kind ← kind_at ts
   name ← word_at kind.1
-  lengths ← all_brackets_at name.1
+  lengths ← many (begins marks.OpenBracket) bracket_at name.1
   rest ← mark_at marks.Semicolon lengths.1
   Some (record { kind = kind.0; name = name.0; brackets = lengths.0 }, rest)
 

@@ -19,7 +19,7 @@ impl Repeated for Text {
     }
 }
 
-#[tactic(auto, unfolding(crate::specs::Rules::name_at), using(crate::proofs::Attributes::dotted_short))]
+#[tactic(auto, unfolding(crate::specs::Rules::name_at), using(crate::proofs::Repeated::shortens, crate::proofs::Attributes::dotted_spells))]
 pub(crate) fn name_at(alloc: Global, atoms: Atoms<'_>, expected: Expected) -> Read<'_, Name>
     ensures { Gives (λ x. (x.0, shown x.1)) result (name_at (shown atoms.entry)) }
 {

@@ -33,7 +33,7 @@ impl Repeated for Item {
 }
 
 /// The items of a block of this word.
-#[tactic(auto, unfolding(crate::specs::Rules::items_at), using(crate::proofs::Blocks::item_short))]
+#[tactic(auto, unfolding(crate::specs::Rules::items_at), using(crate::proofs::Repeated::shortens, crate::proofs::Blocks::item_spells))]
 fn items_at<'a>(alloc: Global, keyword: &str, atoms: Atoms<'a>) -> Read<'a, ListOf<Item>>
     ensures { Gives (λ x. (x.0, shown x.1)) result (items_at keyword.now (shown atoms.entry)) }
 {
@@ -65,7 +65,7 @@ impl Repeated for NamedFact {
     }
 }
 
-#[tactic(auto, unfolding(crate::specs::Rules::block_at), using(crate::proofs::Blocks::fact_short))]
+#[tactic(auto, unfolding(crate::specs::Rules::block_at), using(crate::proofs::Repeated::shortens, crate::proofs::Blocks::fact_spells))]
 fn block_at(alloc: Global, atoms: Atoms<'_>) -> Read<'_, Block>
     ensures { Gives (λ x. (x.0, shown x.1)) result (block_at (shown atoms.entry)) }
 {
@@ -99,7 +99,7 @@ impl Repeated for Block {
 }
 
 /// The blocks that the atoms of a text spell, or how far the atoms spell any.
-#[tactic(auto, using(crate::proofs::Blocks::block_short))]
+#[tactic(auto, using(crate::proofs::Repeated::shortens, crate::proofs::Blocks::block_spells))]
 pub fn parse(alloc: Global, atoms: Atoms<'_>) -> Result<Vec<Block>, Unread>
     ensures found { IfOk result (λ bs. (shown atoms.entry) ≡ text_toks bs.items) }
     ensures none { IfErr result (λ e. IfHalted e ((bs : List Block) → (shown atoms.entry) ≡ text_toks bs → ⊥)) }

@@ -63,7 +63,7 @@ impl Repeated for Entry {
 }
 
 /// What stands between an enumeration's braces.
-#[tactic(auto, unfolding(crate::specs::Rules::entries_at, crate::specs::Rules::listed_at, crate::specs::Rules::closing_at), using(crate::proofs::Entries::next_short))]
+#[tactic(auto, unfolding(crate::specs::Rules::entries_at, crate::specs::Rules::listed_at, crate::specs::Rules::closing_at), using(crate::proofs::Repeated::shortens, crate::proofs::Entries::next_spells))]
 pub(crate) fn entries_at(alloc: Global, atoms: Atoms<'_>) -> Read<'_, Entries>
     ensures { Gives (λ x. (x.0, shown x.1)) result (entries_at (shown atoms.entry)) }
 {

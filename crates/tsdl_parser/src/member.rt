@@ -16,7 +16,7 @@ use tsdl_grammar::{
     Atom, Atoms, Attribute, Bracket, Closing, Entries, Kind, Mark, MemberTree, Number, Structure,
 };
 
-#[tactic(auto, unfolding(crate::specs::Rules::int_at), using(crate::proofs::Attributes::attr_short))]
+#[tactic(auto, unfolding(crate::specs::Rules::int_at), using(crate::proofs::Repeated::shortens, crate::proofs::Attributes::attr_spells))]
 fn int_at(alloc: Global, atoms: Atoms<'_>) -> Read<'_, ListOf<Attribute>>
     ensures { Gives (λ x. (x.0, shown x.1)) result (int_at (shown atoms.entry)) }
 {
@@ -44,7 +44,7 @@ fn enum_at(alloc: Global, atoms: Atoms<'_>) -> Read<'_, Kind>
     Ok((Kind::Enumeration(attrs, entries), rest))
 }
 
-#[tactic(auto, unfolding(crate::specs::Rules::kind_at, crate::specs::Rules::string_at), using(crate::proofs::Attributes::attr_short))]
+#[tactic(auto, unfolding(crate::specs::Rules::kind_at, crate::specs::Rules::string_at), using(crate::proofs::Repeated::shortens, crate::proofs::Attributes::attr_spells))]
 fn kind_at(alloc: Global, atoms: Atoms<'_>) -> Read<'_, Kind>
     ensures { Gives (λ x. (x.0, shown x.1)) result (kind_at (shown atoms.entry)) }
 {
@@ -90,7 +90,7 @@ impl Repeated for Bracket {
 impl Repeated for MemberTree {
     ghost item = { member_at };
 
-    #[tactic(auto, unfolding(crate::specs::Rules::member_at), using(crate::proofs::Members::bracket_short))]
+    #[tactic(auto, unfolding(crate::specs::Rules::member_at), using(crate::proofs::Repeated::shortens, crate::proofs::Members::bracket_spells))]
     fn item_at(alloc: Global, atoms: Atoms<'_>) -> Read<'_, MemberTree> {
         let (kind, rest) = kind_at(alloc, atoms)?;
         let name = word_at(alloc, rest, Expected::MemberName);
@@ -121,7 +121,7 @@ fn align_at(alloc: Global, atoms: Atoms<'_>) -> Read<'_, Option<Number>>
     Ok((Some(align), mark_at(Mark::CloseParenthesis, rest)?))
 }
 
-#[tactic(auto, unfolding(crate::specs::Parsing::braced_at, crate::specs::Rules::struct_at), using(crate::proofs::Members::member_short))]
+#[tactic(auto, unfolding(crate::specs::Parsing::braced_at, crate::specs::Rules::struct_at), using(crate::proofs::Repeated::shortens, crate::proofs::Members::member_spells))]
 pub(crate) fn struct_at(alloc: Global, atoms: Atoms<'_>) -> Read<'_, Structure>
     ensures { Gives (λ x. (x.0, shown x.1)) result (struct_at (shown atoms.entry)) }
 {
