@@ -71,8 +71,9 @@ pub tokens_mean : (text : List ℕ) (ts : List Token) → Tokenizes text ts → 
 tokens_mean text ts t = let s = spells text (atoms_of text ts) (ts, t, refl) in s.atoms ∙ along_pieces text s.cuts s.splits
 
 at_most_one : (piece : Piece) (bytes : List ℕ) → length (piece_atoms piece bytes) ≤ 1
+at_most_one pieces.Blank bytes = omega arith
+at_most_one pieces.Comment bytes = omega arith
 at_most_one (pieces.Token kind) bytes = omega arith
-at_most_one _ bytes = omega arith
 
 one_in_front : (found : Option Cut) (bytes : List ℕ) → length (front_atoms found bytes) ≤ 1
 one_in_front None bytes = omega arith

@@ -19,8 +19,9 @@ piece p text rest meant e s = record {
 }
 
 one_token : (whole : List ℕ) (p : Piece) (at len : ℕ) → atoms_of whole (token_of p (record { start = at; end = at + len })) ≡ piece_atoms p (take len (drop at whole))
+one_token whole pieces.Blank at len = refl
+one_token whole pieces.Comment at len = refl
 one_token whole (pieces.Token kind) at len = let e : at + len - at ≡ len = omega arith in rw e refl
-one_token whole _ at len = refl
 
 along : (whole : List ℕ) (at : ℕ) (cuts : List Cut) → atoms_of whole (tokens_from at cuts) ≡ atoms_along (drop at whole) cuts
 along whole at [] = refl

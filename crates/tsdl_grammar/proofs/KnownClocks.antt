@@ -22,12 +22,13 @@ pub record KnowSame (k l : Known) : Type 0 where
 module _ (k l : Known) (same : KnowSame k l) where
   clock_alike : (v : Value) → clock_value k.clocks v ≡ clock_value l.clocks v
   unfolding clock_value
+  clock_alike (values.Number n) = refl
+  clock_alike (values.Text s) = refl
   clock_alike (values.Name n) = among (words_of n)
     where
       among : (ws : List (List ℕ)) → clock_in k.clocks ws ≡ clock_in l.clocks ws
       among (a ∷ b ∷ c ∷ []) = ap (λ (there : Bool). provided (bytes_eq a (codes "clock") && bytes_eq c (codes "value") && there) (Some b)) (same.clocks b)
       among _ = refl
-  clock_alike _ = refl
 
   int_alike : (attrs : List Attribute) → int_meaning k attrs ≡ int_meaning l attrs
   unfolding int_meaning

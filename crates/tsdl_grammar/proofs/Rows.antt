@@ -1,6 +1,6 @@
 -- Worked rows of what blocks mean: a small trace of one stream and one event, and texts that mean nothing.
 use Rattle.std.proofs.Common.{◌≡◌, ℕ, List, [], ◌∷◌, map, Option, Some, None, refl, codes, option_map, replicate}
-use Rattle.ctf_types.specs.declared.{ByteOrder.TheVariants.Big, MemberType.MemberType, MemberType.TheVariants.Dyn, Length.TheVariants.At}
+use Rattle.ctf_types.specs.declared.{ByteOrder.TheVariants.Big, MemberType.MemberType, MemberType.TheVariants.Plain, MemberType.TheVariants.Dyn, Length.TheVariants.Auto, Length.TheVariants.At}
 use Rattle.tsdl_grammar.specs.declared.tree.{Number.Number, Name.Name, Attribute.Attribute, Bracket.Bracket, MemberTree.MemberTree, Item.Item, Block.Block}
 use Rattle.tsdl_grammar.specs.declared.tree.Value.TheVariants as values
 use Rattle.tsdl_grammar.specs.declared.tree.Bracket.TheVariants as brackets
@@ -78,8 +78,9 @@ header attrs w = blocks.Trace (items.Attribute (word (codes "byte_order") (codes
     ∷ scope (path (codes "packet") (codes "header")) (integer attrs w [] ∷ []) ∷ [])
 
 abbrev is_dyn : List ℕ × MemberType → Option ℕ
+is_dyn (w, Plain t) = None
+is_dyn (w, Dyn t Auto) = None
 is_dyn (w, Dyn t (At i)) = Some i
-is_dyn _ = None
 
 -- blocks stand in any order, a sequence names an unsigned integer member that stands before, and a stream's number in the header has any size
 texts : (option_map (λ m. map (λ s. map (λ x. x.0) s.context.members) m.streams) (text_meta (small [])) ≡ Some ((codes "packet_size" ∷ codes "content_size" ∷ []) ∷ []))

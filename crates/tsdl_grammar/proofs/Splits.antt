@@ -42,8 +42,9 @@ Rises-widen from [] at end r le = omega arith
 Rises-widen from (t ∷ ts) at end r le = (r.0, r.1, Rises-widen t.span.end ts at end r.2 le)
 
 Rises-push : (from : ℕ) (ts : List Token) (piece : Piece) (at end : ℕ) → Rises from ts at → at < end → Rises from (ts ++ token_of piece (span at end)) end
+Rises-push from [] pieces.Blank at end r lt = omega arith
+Rises-push from [] pieces.Comment at end r lt = omega arith
 Rises-push from [] (pieces.Token kind) at end r lt = (r, lt, omega arith)
-Rises-push from [] _ at end r lt = omega arith
 Rises-push from (t ∷ ts) piece at end r lt = (r.0, r.1, Rises-push t.span.end ts piece at end r.2 lt)
 
 pub goes_on : (text : List ℕ) (at : ℕ) (found : List Token) (c : Cut) → Progress text at found → piece_at (drop at text) ≡ Some c → 0 < c.len → c.len ≤ length (drop at text)

@@ -22,15 +22,13 @@ fn digits_value(radix: u32, bytes: &[u8]) -> Option<u64>
     ensures { SomeIff result (digits_from radix 0 bytes.now < 2 ^ 64) (digits_from radix 0 bytes.now) }
 {
     let mut value = 0;
-    let mut rest = bytes;
-    while let [b, after @ ..] = rest {
+    for b in bytes {
         let Some(digit) = char::from(*b).to_digit(radix) else {
             return Some(value);
         };
         value = value
             .checked_mul(u64::from(radix))?
             .checked_add(u64::from(digit))?;
-        rest = after;
     }
     Some(value)
 }
