@@ -40,9 +40,8 @@ Reads text meant = (ts : List Token) × Tokenizes text ts × (meant ≡ atoms_of
 
 -- what a piece means, if it is a token
 abbrev pub piece_atoms : Piece → List ℕ → List Atom
-piece_atoms pieces.Blank bytes = []
-piece_atoms pieces.Comment bytes = []
 piece_atoms (pieces.Token kind) bytes = meaning_of kind bytes ∷ []
+piece_atoms _ bytes = []
 
 -- what the tokens among the pieces of the bytes mean
 abbrev pub atoms_along : List ℕ → List Cut → List Atom

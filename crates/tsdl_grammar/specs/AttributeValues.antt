@@ -1,14 +1,13 @@
 -- What the values of attributes stand for: numbers in their ranges, flags, texts, words and identifiers of traces.
 use Rattle.std.specs.Prelude.{ℕ, ◌^◌, Bool, true, false, ◌==◌, nat_lt, nat_le, if◌then◌else◌, List, [], ◌∷◌, Option, Some, None, ℤ, pos, neg_ℤ, codes, option_map, bytes_eq}
 use Rattle.uuid.specs.Text.{parsed}
-use Rattle.tsdl_grammar.specs.declared.tree.{Sign.Sign, Sign.TheVariants.Plus, Sign.TheVariants.Minus, Number.Number, Name.Name, Value.Value}
+use Rattle.tsdl_grammar.specs.declared.tree.{Sign.Sign, Sign.TheVariants.Minus, Number.Number, Name.Name, Value.Value}
 use Rattle.tsdl_grammar.specs.declared.tree.Value.TheVariants as values
 use Rattle.tsdl_grammar.specs.Steps.{◌>>=◌, provided}
 
 abbrev pub is_negative : Option Sign → Bool
-is_negative None = false
-is_negative (Some Plus) = false
 is_negative (Some Minus) = true
+is_negative _ = false
 
 -- any number, with its sign
 abbrev pub signed_of : Number → ℤ
@@ -24,18 +23,15 @@ whole n = provided (if is_negative n.sign then nat_le n.literal (2 ^ 63) else na
 
 abbrev pub natural_value : Value → Option ℕ
 natural_value (values.Number n) = natural n
-natural_value (values.Text s) = None
-natural_value (values.Name n) = None
+natural_value _ = None
 
 abbrev pub whole_value : Value → Option ℤ
 whole_value (values.Number n) = whole n
-whole_value (values.Text s) = None
-whole_value (values.Name n) = None
+whole_value _ = None
 
 abbrev pub text_value : Value → Option (List ℕ)
-text_value (values.Number n) = None
 text_value (values.Text s) = Some s
-text_value (values.Name n) = None
+text_value _ = None
 
 abbrev pub alone : List ℕ → List (List ℕ) → Option (List ℕ)
 alone w [] = Some w
@@ -46,9 +42,8 @@ abbrev pub one_word : Name → Option (List ℕ)
 one_word n = alone n.first n.rest
 
 abbrev pub word_value : Value → Option (List ℕ)
-word_value (values.Number n) = None
-word_value (values.Text s) = None
 word_value (values.Name n) = one_word n
+word_value _ = None
 
 -- a name of a clock or an event: an identifier or a string
 abbrev pub name_value : Value → Option (List ℕ)
@@ -87,6 +82,5 @@ flag_value (values.Name n) = one_word n >>= λ w. meant_by flag_words w
 
 -- a string that an identifier of a trace or a clock parses from
 unfoldable pub uuid_value : Value → Option (List ℕ)
-uuid_value (values.Number n) = None
 uuid_value (values.Text s) = parsed s
-uuid_value (values.Name n) = None
+uuid_value _ = None

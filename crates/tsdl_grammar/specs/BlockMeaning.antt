@@ -2,9 +2,9 @@
 -- defaults, and the structures of their scopes. An attribute that no rule names is passed over. A number that is left out is 0.
 use Rattle.std.specs.Prelude.{ℕ, Bool, true, false, not, ◌&&◌, ◌||◌, ◌==◌, nat_le, if◌then◌else◌, List, [], ◌∷◌, length, map, Option, Some, pos, codes, option_map, bytes_eq}
 use Rattle.std.specs.{Option.option_map_or, List.list_any}
-use Rattle.ctf_types.specs.declared.{ByteOrder.ByteOrder, ByteOrder.TheVariants.Little, ByteOrder.TheVariants.Big, FieldType.TheVariants.Int, FieldType.TheVariants.Enum, FieldType.TheVariants.Str, FieldType.TheVariants.Static, MemberType.MemberType, MemberType.TheVariants.Plain, MemberType.TheVariants.Dyn, StructType.StructType, ClockType.ClockType, EnvironmentEntry.EnvironmentEntry, EnvironmentValue.EnvironmentValue, Stream.Stream, Event.Event}
+use Rattle.ctf_types.specs.declared.{ByteOrder.ByteOrder, ByteOrder.TheVariants.Little, ByteOrder.TheVariants.Big, FieldType.TheVariants.Int, FieldType.TheVariants.Static, MemberType.MemberType, MemberType.TheVariants.Plain, StructType.StructType, ClockType.ClockType, EnvironmentEntry.EnvironmentEntry, EnvironmentValue.EnvironmentValue, Stream.Stream, Event.Event}
 use Rattle.ctf_types.specs.declared.EnvironmentValue.TheVariants as environment
-use Rattle.ctf_types.specs.Chain.{Leaf, Number, Labelled, ByteString}
+use Rattle.ctf_types.specs.Chain.{Leaf, Number}
 use Rattle.tsdl_grammar.specs.declared.tree.{Attribute.Attribute, Item.Item, Fact.Fact, NamedFact.NamedFact}
 use Rattle.tsdl_grammar.specs.declared.tree.Fact.TheVariants as facts
 use Rattle.tsdl_grammar.specs.{IntegerMeaning.Known, MemberMeaning.is_unsigned, StructureMeaning.scope_meaning, StructureMeaning.has_member}
@@ -40,16 +40,12 @@ trace_uuid is = optional uuid_value (attr (codes "uuid") (attrs_in is))
 -- an unsigned integer of this size
 abbrev pub is_unsigned_of : ℕ → MemberType → Bool
 is_unsigned_of size (Plain (Int t)) = not t.signed && t.size == size
-is_unsigned_of size (Plain (Enum t)) = false
-is_unsigned_of size (Plain Str) = false
-is_unsigned_of size (Plain (Static e n)) = false
-is_unsigned_of size (Dyn t length) = false
+is_unsigned_of size _ = false
 
 -- an unsigned integer of 8 bits on any byte
 abbrev pub is_byte : Leaf → Bool
 is_byte (Number t) = not t.signed && t.size == 8 && t.align == 8
-is_byte (Labelled t) = false
-is_byte ByteString = false
+is_byte _ = false
 
 abbrev pub is_flat : List ℕ → Bool
 is_flat [] = true
@@ -57,11 +53,8 @@ is_flat (n ∷ ns) = false
 
 -- an array of 16 bytes
 abbrev pub is_uuid : MemberType → Bool
-is_uuid (Plain (Int t)) = false
-is_uuid (Plain (Enum t)) = false
-is_uuid (Plain Str) = false
 is_uuid (Plain (Static e n)) = n == 16 && is_flat e.lengths && is_byte e.leaf
-is_uuid (Dyn t length) = false
+is_uuid _ = false
 
 -- `magic`, `uuid` and `stream_id` have their types (CTF 1.8.3, section 5.1)
 abbrev pub suits_header : List ℕ × MemberType → Bool

@@ -16,45 +16,27 @@ use Rattle.tsdl_grammar.specs.BlockMeaning.{trace_order, is_trace, trace_uuid, h
 -- no keyword for which nothing here has a use, wherever a word stands
 abbrev pub is_read : Atom → Bool
 is_read (atoms.Word w) = not (list_any (bytes_eq w) unused_keywords)
-is_read (atoms.Number n) = true
-is_read (atoms.Text s) = true
-is_read (atoms.Mark m) = true
-is_read atoms.TooLarge = true
+is_read _ = true
 
 abbrev pub trace_in : Block → List (List Item)
 trace_in (blocks.Trace is) = is ∷ []
-trace_in (blocks.Stream is) = []
-trace_in (blocks.Event is) = []
-trace_in (blocks.Clock is) = []
-trace_in (blocks.Environment fs) = []
+trace_in _ = []
 
 abbrev pub stream_in : Block → List (List Item)
-stream_in (blocks.Trace is) = []
 stream_in (blocks.Stream is) = is ∷ []
-stream_in (blocks.Event is) = []
-stream_in (blocks.Clock is) = []
-stream_in (blocks.Environment fs) = []
+stream_in _ = []
 
 abbrev pub event_in : Block → List (List Item)
-event_in (blocks.Trace is) = []
-event_in (blocks.Stream is) = []
 event_in (blocks.Event is) = is ∷ []
-event_in (blocks.Clock is) = []
-event_in (blocks.Environment fs) = []
+event_in _ = []
 
 abbrev pub clock_in : Block → List (List Item)
-clock_in (blocks.Trace is) = []
-clock_in (blocks.Stream is) = []
-clock_in (blocks.Event is) = []
 clock_in (blocks.Clock is) = is ∷ []
-clock_in (blocks.Environment fs) = []
+clock_in _ = []
 
 abbrev pub environment_in : Block → List (List NamedFact)
-environment_in (blocks.Trace is) = []
-environment_in (blocks.Stream is) = []
-environment_in (blocks.Event is) = []
-environment_in (blocks.Clock is) = []
 environment_in (blocks.Environment fs) = fs ∷ []
+environment_in _ = []
 
 -- the events of the stream of this number
 abbrev pub events_of : ℕ → List (ℕ × Event) → List Event

@@ -31,10 +31,7 @@ meant front = meaning_of front.kind front.bytes.now
 -- the word that an atom is, if it is one
 abbrev pub word_in : Atom → Option (List ℕ)
 word_in (atoms.Word w) = Some w
-word_in (atoms.Number n) = None
-word_in (atoms.Text s) = None
-word_in (atoms.Mark m) = None
-word_in atoms.TooLarge = None
+word_in _ = None
 
 -- the atoms that are gone over, one after the other
 abbrev pub shown_behind : Option Front → List Atom → List Atom

@@ -61,17 +61,13 @@ order_value order v = word_value v >>= λ w. provided (list_any (bytes_eq w) (or
 
 -- the middle word of `clock.NAME.value`, where it names a clock
 abbrev pub clock_in : List (List ℕ) → List (List ℕ) → Option (List ℕ)
-clock_in clocks [] = None
-clock_in clocks (a ∷ []) = None
-clock_in clocks (a ∷ b ∷ []) = None
 clock_in clocks (a ∷ b ∷ c ∷ []) =
     provided (bytes_eq a (codes "clock") && bytes_eq c (codes "value") && list_any (bytes_eq b) clocks) (Some b)
-clock_in clocks (a ∷ b ∷ c ∷ d ∷ ws) = None
+clock_in clocks _ = None
 
 unfoldable pub clock_value : List (List ℕ) → Value → Option (List ℕ)
-clock_value clocks (values.Number n) = None
-clock_value clocks (values.Text s) = None
 clock_value clocks (values.Name n) = clock_in clocks (words_of n)
+clock_value clocks _ = None
 
 abbrev pub int_attrs : List (List (List ℕ))
 int_attrs =

@@ -86,10 +86,7 @@ count_of (brackets.Member w) = None
 
 abbrev pub is_unsigned : MemberType → Bool
 is_unsigned (Plain (Int t)) = not t.signed
-is_unsigned (Plain (Enum t)) = false
-is_unsigned (Plain Str) = false
-is_unsigned (Plain (Static e n)) = false
-is_unsigned (Dyn t length) = false
+is_unsigned _ = false
 
 -- the place of the unsigned integer member of this name among those before
 abbrev pub length_place : List (List ℕ × MemberType) → List ℕ → Option ℕ

@@ -22,9 +22,8 @@ each f (x ∷ xs) = f x >>= λ y. each f xs >>= λ ys. Some (y ∷ ys)
 
 -- the only item, if there is just one
 abbrev pub only : {A : Type 0} → List A → Option A
-only [] = None
 only (x ∷ []) = Some x
-only (x ∷ y ∷ xs) = None
+only _ = None
 
 -- the items of a list that has one part or none
 abbrev pub at_most_one : {A : Type 0} → List (List A) → Option (List A)

@@ -40,9 +40,8 @@ Splits bytes (c ∷ cuts) rest = (piece_at bytes ≡ Some c) × Splits (drop c.l
 
 -- the token that a piece is, if it is one
 abbrev pub token_of : Piece → Span → List Token
-token_of pieces.Blank span = []
-token_of pieces.Comment span = []
 token_of (pieces.Token kind) span = record { kind = kind; span = span } ∷ []
+token_of _ span = []
 
 -- the tokens among the pieces, of which the first begins at a place
 abbrev pub tokens_from : ℕ → List Cut → List Token
@@ -80,12 +79,7 @@ abbrev pub TokenFault : List ℕ → MetaFaultKind → ℕ → Type 0
 TokenFault text faults.NoMagicLine at = (at ≡ 0) × (HasMagicLine text → ⊥)
 TokenFault text faults.Token at = HasMagicLine text × StopsAt text at
 TokenFault text faults.OutOfMemory at = Unit {0}
-TokenFault text faults.Syntax at = ⊥
-TokenFault text (faults.Unsupported name) at = ⊥
-TokenFault text faults.Duplicate at = ⊥
-TokenFault text faults.NoPacketSize at = ⊥
-TokenFault text faults.BadLength at = ⊥
-TokenFault text faults.Limit at = ⊥
+TokenFault text _ at = ⊥
 
 -- the tokens, unless memory ran out
 abbrev pub GivesTokens : Result (Vec Token) MetaFault → List Token → Type 0
