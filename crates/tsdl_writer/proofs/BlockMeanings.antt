@@ -33,16 +33,11 @@ trace_parts uuid order ms =
     natural_item (codes "major") 1 ∷ natural_item (codes "minor") 8 ∷ optional_items uuid_item uuid
     ++ word_item (codes "byte_order") (order_word order) ∷ scope_items (two_words (codes "packet") (codes "header")) ms 8
 
-pub trace_is : (uuid : Option (List ℕ)) (order : ByteOrder) (ms : Members) → is_trace (trace_parts uuid order ms) ≡ true
-trace_is None order [] = refl
-trace_is (Some u) order [] = refl
-trace_is _ order _ = refl
-
-pub trace_order_is : (uuid : Option (List ℕ)) (order : ByteOrder) (ms : Members) → trace_order (trace_parts uuid order ms) ≡ Some order
-trace_order_is None Little [] = refl
-trace_order_is (Some u) Little [] = refl
-trace_order_is _ _ [] = refl
-trace_order_is _ _ _ = refl
+pub trace_found : (uuid : Option (List ℕ)) (order : ByteOrder) (ms : Members) → let is = trace_parts uuid order ms in (is_trace is ≡ true) × (trace_order is ≡ Some order) × (scope packet_header (scopes_in is) ≡ found ms 8)
+trace_found None Little [] = (refl, refl, refl)
+trace_found (Some u) Little [] = (refl, refl, refl)
+trace_found _ _ [] = (refl, refl, refl)
+trace_found _ _ _ = (refl, refl, refl)
 
 pub trace_uuid_is : (uuid : Option (List ℕ)) (order : ByteOrder) (ms : Members) → IfSome uuid IsHeldUuid → trace_uuid (trace_parts uuid order ms) ≡ Some uuid
 unfolding trace_uuid
@@ -51,15 +46,10 @@ trace_uuid_is None order (m ∷ ms) h = refl
 trace_uuid_is (Some u) order [] h = rw (uuid_read u h) refl
 trace_uuid_is (Some u) order (m ∷ ms) h = rw (uuid_read u h) refl
 
-header_found : (uuid : Option (List ℕ)) (order : ByteOrder) (ms : Members) → scope packet_header (scopes_in (trace_parts uuid order ms)) ≡ found ms 8
-header_found None order [] = refl
-header_found (Some u) order [] = refl
-header_found _ order _ = refl
-
 pub header_is : (known : Known) (uuid : Option (List ℕ)) (order : ByteOrder) (ms : Members) (t : StructType) → structure_of known (found ms 8) ≡ Some t → list_all suits_header t.members ≡ true
     → header_meaning known (trace_parts uuid order ms) ≡ Some t
 unfolding header_meaning
-header_is known uuid order ms t e h = scope_read known packet_header suits_header (scopes_in (trace_parts uuid order ms)) (found ms 8) t (header_found uuid order ms) e h
+header_is known uuid order ms t e h = scope_read known packet_header suits_header (scopes_in (trace_parts uuid order ms)) (found ms 8) t (trace_found uuid order ms).2 e h
 
 -- ---- clock blocks
 
@@ -87,27 +77,13 @@ stream_parts id context header common align =
     ++ scope_items (two_words (codes "event") (codes "header")) header 8
     ++ scope_items (two_words (codes "event") (codes "context")) common align
 
-stream_has_parts : (id : ℕ) (context header common : Members) (align : ℕ) → has_parts (packet_context ∷ event_header ∷ event_context ∷ []) (stream_parts id context header common align) ≡ true
-stream_has_parts id [] [] [] align = refl
-stream_has_parts id (c ∷ cs) [] [] align = refl
-stream_has_parts id _ _ [] align = refl
-stream_has_parts id _ _ _ align = refl
-
-context_found : (id : ℕ) (context header common : Members) (align : ℕ) → scope packet_context (scopes_in (stream_parts id context header common align)) ≡ found context 8
-context_found id [] [] [] align = refl
-context_found id [] _ [] align = refl
-context_found id _ _ _ align = refl
-
-event_header_found : (id : ℕ) (context header common : Members) (align : ℕ) → scope event_header (scopes_in (stream_parts id context header common align)) ≡ found header 8
-event_header_found id [] [] [] align = refl
-event_header_found id (c ∷ cs) [] [] align = refl
-event_header_found id _ _ _ align = refl
-
-common_found : (id : ℕ) (context header common : Members) (align : ℕ) → scope event_context (scopes_in (stream_parts id context header common align)) ≡ found common align
-common_found id [] [] [] align = refl
-common_found id (c ∷ cs) [] [] align = refl
-common_found id _ _ [] align = refl
-common_found id _ _ _ align = refl
+-- each structure of a stream block is found under its name
+stream_found : (id : ℕ) (context header common : Members) (align : ℕ) → let is = stream_parts id context header common align in (has_parts (packet_context ∷ event_header ∷ event_context ∷ []) is ≡ true)
+    × (scope packet_context (scopes_in is) ≡ found context 8) × (scope event_header (scopes_in is) ≡ found header 8) × (scope event_context (scopes_in is) ≡ found common align)
+stream_found id [] [] [] align = (refl, refl, refl, refl)
+stream_found id (c ∷ cs) [] [] align = (refl, refl, refl, refl)
+stream_found id _ _ [] align = (refl, refl, refl, refl)
+stream_found id _ _ _ align = (refl, refl, refl, refl)
 
 all_pass : (ms : Members) → list_all (λ (m : List ℕ × MemberType). true) ms ≡ true
 all_pass [] = refl
@@ -127,11 +103,12 @@ pub record StreamIsRead (known : Known) (context header common : Members) (align
 pub stream_is : (known : Known) (context header common : Members) (align : ℕ) (s : Stream) → StreamIsRead known context header common align s → stream_meaning known (stream_parts s.id context header common align) ≡ Some s
 unfolding stream_meaning
 stream_is known context header common align s h =
-    let is = stream_parts s.id context header common align in
-    let a = scope_read known packet_context (suits context_names) (scopes_in is) (found context 8) s.context (context_found s.id context header common align) h.context_read h.context_suits in
-    let b = scope_read known event_header (suits (codes "id" ∷ [])) (scopes_in is) (found header 8) s.event_header (event_header_found s.id context header common align) h.header_read h.header_suits in
-    let c = scope_read known event_context (λ m. true) (scopes_in is) (found common align) s.common (common_found s.id context header common align) h.common_read (all_pass s.common.members) in
-    rw (stream_has_parts s.id context header common align, a, b, c, h.packet_size, h.content_size) (ap (λ (es : List Event). Some (record s { events = es })) (sym h.no_events))
+    let scopes = scopes_in (stream_parts s.id context header common align) in
+    let at = stream_found s.id context header common align in
+    let a = scope_read known packet_context (suits context_names) scopes (found context 8) s.context at.1 h.context_read h.context_suits in
+    let b = scope_read known event_header (suits (codes "id" ∷ [])) scopes (found header 8) s.event_header at.2 h.header_read h.header_suits in
+    let c = scope_read known event_context (λ m. true) scopes (found common align) s.common at.3 h.common_read (all_pass s.common.members) in
+    rw (at.0, a, b, c, h.packet_size, h.content_size) (ap (λ (es : List Event). Some (record s { events = es })) (sym h.no_events))
 
 -- ---- event blocks
 
@@ -142,41 +119,24 @@ event_parts stream id name level specific align fields fields_align =
     ++ scope_items (one_word (codes "context")) specific align
     ++ scope_items (one_word (codes "fields")) fields fields_align
 
-event_has_parts : (stream id : ℕ) (name : List ℕ) (level : Option ℕ) (specific : Members) (align : ℕ) (fields : Members) (fields_align : ℕ)
-    → has_parts (specific_context ∷ fields_scope ∷ []) (event_parts stream id name level specific align fields fields_align) ≡ true
-event_has_parts stream id name None [] align [] fields_align = refl
-event_has_parts stream id name (Some l) [] align [] fields_align = refl
-event_has_parts stream id name _ _ align [] fields_align = refl
-event_has_parts stream id name _ _ align _ fields_align = refl
-
-level_read : (stream id : ℕ) (name : List ℕ) (level : Option ℕ) (specific : Members) (align : ℕ) (fields : Members) (fields_align : ℕ)
-    → optional natural_value (attr (codes "loglevel") (attrs_in (event_parts stream id name level specific align fields fields_align))) ≡ Some level
-level_read stream id name None [] align [] fields_align = refl
-level_read stream id name None _ align [] fields_align = refl
-level_read stream id name _ _ align _ fields_align = refl
-
-specific_found : (stream id : ℕ) (name : List ℕ) (level : Option ℕ) (specific : Members) (align : ℕ) (fields : Members) (fields_align : ℕ)
-    → scope specific_context (scopes_in (event_parts stream id name level specific align fields fields_align)) ≡ found specific align
-specific_found stream id name None [] align [] fields_align = refl
-specific_found stream id name (Some l) [] align [] fields_align = refl
-specific_found stream id name _ _ align _ fields_align = refl
-
-fields_found : (stream id : ℕ) (name : List ℕ) (level : Option ℕ) (specific : Members) (align : ℕ) (fields : Members) (fields_align : ℕ)
-    → scope fields_scope (scopes_in (event_parts stream id name level specific align fields fields_align)) ≡ found fields fields_align
-fields_found stream id name None [] align [] fields_align = refl
-fields_found stream id name (Some l) [] align [] fields_align = refl
-fields_found stream id name _ _ align [] fields_align = refl
-fields_found stream id name _ _ align _ fields_align = refl
+event_found : (stream id : ℕ) (name : List ℕ) (level : Option ℕ) (specific : Members) (align : ℕ) (fields : Members) (fields_align : ℕ) → let is = event_parts stream id name level specific align fields fields_align in
+    (has_parts (specific_context ∷ fields_scope ∷ []) is ≡ true) × (optional natural_value (attr (codes "loglevel") (attrs_in is)) ≡ Some level)
+    × (scope specific_context (scopes_in is) ≡ found specific align) × (scope fields_scope (scopes_in is) ≡ found fields fields_align)
+event_found stream id name None [] align [] fields_align = (refl, refl, refl, refl)
+event_found stream id name (Some l) [] align [] fields_align = (refl, refl, refl, refl)
+event_found stream id name _ _ align [] fields_align = (refl, refl, refl, refl)
+event_found stream id name _ _ align _ fields_align = (refl, refl, refl, refl)
 
 pub event_is : (known : Known) (stream : ℕ) (e : Event) (specific : Members) (align : ℕ) (fields : Members) (fields_align : ℕ)
     → structure_of known (found specific align) ≡ Some e.specific → structure_of known (found fields fields_align) ≡ Some e.fields
     → event_meaning known (event_parts stream e.id e.name e.log_level specific align fields fields_align) ≡ Some (stream, e)
 unfolding event_meaning
 event_is known stream e specific align fields fields_align p q =
-    let is = event_parts stream e.id e.name e.log_level specific align fields fields_align in
-    let a = scope_read known specific_context (λ m. true) (scopes_in is) (found specific align) e.specific (specific_found stream e.id e.name e.log_level specific align fields fields_align) p (all_pass e.specific.members) in
-    let b = scope_read known fields_scope (λ m. true) (scopes_in is) (found fields fields_align) e.fields (fields_found stream e.id e.name e.log_level specific align fields fields_align) q (all_pass e.fields.members) in
-    rw (event_has_parts stream e.id e.name e.log_level specific align fields fields_align, level_read stream e.id e.name e.log_level specific align fields fields_align, a, b) refl
+    let scopes = scopes_in (event_parts stream e.id e.name e.log_level specific align fields fields_align) in
+    let at = event_found stream e.id e.name e.log_level specific align fields fields_align in
+    let a = scope_read known specific_context (λ m. true) scopes (found specific align) e.specific at.2 p (all_pass e.specific.members) in
+    let b = scope_read known fields_scope (λ m. true) scopes (found fields fields_align) e.fields at.3 q (all_pass e.fields.members) in
+    rw (at.0, at.1, a, b) refl
 
 -- ---- the environment
 

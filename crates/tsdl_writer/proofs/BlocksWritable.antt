@@ -3,8 +3,8 @@ use Rattle.tsdl_writer.proofs.TreeWords.{All, All-head, All-map, All-tail, All-w
 use Rattle.ctf_types.specs.declared.EnvironmentValue.TheVariants as environment
 use Rattle.tsdl_grammar.specs.declared.token.Mark.TheVariants as marks
 use Rattle.tsdl_writer.proofs.Writable.{Can, nothing, mark, word, keyword, number, string, both, ended, in_braces, joined, whole, natural_value, word_value, text_value}
-use Rattle.tsdl_writer.proofs.FieldMeanings.{Members}
-use Rattle.tsdl_writer.proofs.StructuresRead.{AreAutomatic, config_are_automatic, automatic-append, context_automatic, header_automatic, event_header_automatic, header_shown, event_header_shown}
+use Rattle.tsdl_writer.proofs.FieldMeanings.{Members, AreAutomatic}
+use Rattle.tsdl_writer.proofs.StructuresRead.{config_are_automatic, automatic-append, context_automatic, header_automatic, event_header_automatic, header_shown, event_header_shown}
 use Rattle.tsdl_writer.proofs.TreesWritable.{align_fits, flag_named, members_writable}
 
 -- ---- structures

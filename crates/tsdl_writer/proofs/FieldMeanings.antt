@@ -1,11 +1,12 @@
 -- What the trees of field types mean: the integer, the enumeration, the string or the array that they were made of.
-use Rattle.tsdl_writer.proofs.TreeWords.{All, All-head, All-tail, Base, Bin, Bool, ByteString, FieldType, Int, IntType, IsNest, IsRange, Known, Labelled, Leaf, List, Mapping, MemberType, None, Number, Option, Plain, Some, [], ap, are_lengths, arith, arrays_of, attributes, base_value, bracketed, bytes_eq, cases_Bool, chain_of, clock_value, count_bracket, count_of, each, entries_of, entry_meaning, entry_tree, entry_trees, enum_meaning, false, flag_value, high_number, high_of, inl, inr, int_le, int_meaning, int_type, int_type-own, integer_attributes, ints, kind_meaning, kind_tree, le-leb, length, length-map, list_any, map, nat_le, negsuc, pos, refl, signed_of, text_meaning, true, whole_number, ℕ, ℤ, ◌^◌, ◌∙◌, ◌∷◌, ◌≡◌, ◌≤ℤ◌, ◌≤◌}
+use Rattle.tsdl_writer.proofs.TreeWords.{All, All-head, All-tail, AllByRecursion, Contains, IsLeaf, IsMappedTo, bytes_eq-Decides, false≢true, suc, zero, sym, ◌<◌, Base, Bin, Bool, ByteString, FieldType, Int, IntType, IsNest, IsRange, Known, Labelled, Leaf, List, Mapping, MemberType, None, Number, Option, Plain, Some, [], ap, are_lengths, arith, arrays_of, attributes, base_value, bracketed, bytes_eq, cases_Bool, chain_of, clock_value, count_bracket, count_of, each, entries_of, entry_meaning, entry_tree, entry_trees, enum_meaning, false, flag_value, high_number, high_of, inl, inr, int_le, int_meaning, int_type, int_type-own, integer_attributes, ints, kind_meaning, kind_tree, le-leb, length, length-map, list_any, map, nat_le, negsuc, pos, refl, signed_of, text_meaning, true, whole_number, ℕ, ℤ, ◌^◌, ◌∙◌, ◌∷◌, ◌≡◌, ◌≤ℤ◌, ◌≤◌}
 use Rattle.ctf_types.specs.declared.EnumType.{EnumType}
 use Rattle.ctf_types.specs.Allowed as allowed
+use Rattle.ctf_types.specs.Laws.{IsAutomatic}
 use Rattle.tsdl_grammar.specs.MemberMeaning.{elements_of}
 
 -- the clock that an integer is mapped to is a clock of the text
-abbrev pub IsKnown : List (List ℕ) → Option (List ℕ) → Type 0
+abbrev IsKnown : List (List ℕ) → Option (List ℕ) → Type 0
 IsKnown clocks None = Unit {0}
 IsKnown clocks (Some name) = list_any (bytes_eq name) clocks ≡ true
 
@@ -19,8 +20,25 @@ parts_meant known size align true Bin (Some name) h = rw h refl
 parts_meant known size align false Bin (Some name) h = rw h refl
 parts_meant known size align _ _ (Some name) h = rw h refl
 
-pub integer_meant : (known : Known) (t : IntType) → IsKnown known.clocks t.clock → int_meaning known (integer_attributes t) ≡ Some t
-integer_meant known t h = parts_meant known t.size t.align t.signed t.base t.clock h ∙ int_type-own t
+-- what a list contains is its first item or stands behind it
+later : (k : List ℕ) (ks : List (List ℕ)) (name : List ℕ) → bytes_eq name k ≡ false → Contains (k ∷ ks) name → Contains ks name
+later k ks name e (zero, below, same) = absurd (false≢true (sym e ∙ (bytes_eq-Decides name k).1 (sym same)))
+later k ks name e (suc i, below, same) = (i, (let l : i < length ks = omega arith in l), same)
+
+clock_there : (clocks : List (List ℕ)) (name : List ℕ) → Contains clocks name → list_any (bytes_eq name) clocks ≡ true
+clock_there [] name h = absurd (omega (arith, h.1))
+clock_there (k ∷ clocks) name h =
+    elim (cases_Bool (bytes_eq name k)) [
+      | inl e ↦ rw e refl
+      | inr e ↦ rw e (clock_there clocks name (later k clocks name e h))
+    ]
+
+known_clock : (clocks : List (List ℕ)) (o : Option (List ℕ)) → ((name : List ℕ) → o ≡ Some name → Contains clocks name) → IsKnown clocks o
+known_clock clocks None h = tt
+known_clock clocks (Some name) h = clock_there clocks name (h name refl)
+
+integer_meant : (known : Known) (t : IntType) → IsMappedTo known.clocks t → int_meaning known (integer_attributes t) ≡ Some t
+integer_meant known t h = parts_meant known t.size t.align t.signed t.base t.clock (known_clock known.clocks t.clock h) ∙ int_type-own t
 
 signed_of-whole : (z : ℤ) → signed_of (whole_number z) ≡ z
 signed_of-whole (pos n) = refl
@@ -53,12 +71,7 @@ enum_meant t h few =
     let short : nat_le (length (map entry_tree t.mappings)) 65536 ≡ true = le-leb (length (map entry_tree t.mappings)) 65536 (rw (length-map t.mappings entry_tree) few) in
     rw (entries_of-trees t.mappings, short, each_entry_meant t.mappings h) refl
 
-abbrev pub IsKnownLeaf : List (List ℕ) → Leaf → Type 0
-IsKnownLeaf clocks (Number t) = IsKnown clocks t.clock
-IsKnownLeaf clocks (Labelled t) = IsKnown clocks t.int.clock × All IsRange t.mappings × (length t.mappings ≤ 65536)
-IsKnownLeaf clocks ByteString = Unit {0}
-
-pub kind_meant : (known : Known) (leaf : Leaf) → IsKnownLeaf known.clocks leaf → kind_meaning known (kind_tree leaf) ≡ Some leaf
+pub kind_meant : (known : Known) (leaf : Leaf) → IsLeaf known.clocks leaf → kind_meaning known (kind_tree leaf) ≡ Some leaf
 unfolding kind_meaning text_meaning
 kind_meant known (Number t) h = rw (integer_meant known t h) refl
 kind_meant known (Labelled t) h = rw (integer_meant known t.int h.0, enum_meant t h.1 h.2) refl
@@ -85,6 +98,10 @@ arrays_of-chain _ = refl
 
 abbrev pub Members : Type 0
 Members = List (List ℕ × MemberType)
+
+-- members without a listed length
+abbrev pub AreAutomatic : Members → Type 0
+AreAutomatic ms = AllByRecursion (λ m. IsAutomatic m.1) ms
 
 -- no array at all
 pub no_nest : IsNest []

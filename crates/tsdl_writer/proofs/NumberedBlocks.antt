@@ -60,17 +60,14 @@ events_rise n [] = tt
 events_rise n (e ∷ []) = tt
 events_rise n (e ∷ f ∷ es) = ((let l : (event_of n e).id < (event_of (n + 1) f).id = omega (arith, event-id n e, event-id (n + 1) f) in l), events_rise (n + 1) (f ∷ es))
 
-eqb-other : (m n : ℕ) → m < n → eqb n m ≡ false
-eqb-other m n h = grind (arith, nat_tests)
-
-eqb-later : (m n : ℕ) → m < n → eqb m n ≡ false
-eqb-later m n h = grind (arith, nat_tests)
+eqb-apart : (m n : ℕ) → m < n → (eqb m n ≡ false) × (eqb n m ≡ false)
+eqb-apart m n h = (grind (arith, nat_tests), grind (arith, nat_tests))
 
 stream_there : (n k : ℕ) (ss : List StreamType) → n ≤ k → k < n + length ss → list_any (λ (s : Stream). eqb s.id k) (bares n ss) ≡ true
 stream_there n k [] low high = absurd (omega arith)
 stream_there n k (s ∷ ss) low high =
     elim (cases_lt n k) [
-      | inl lt ↦ (let rest = stream_there (n + 1) k ss (omega arith) (omega arith) in rw (bare-id n s, eqb-later n k lt) rest)
+      | inl lt ↦ (let rest = stream_there (n + 1) k ss (omega arith) (omega arith) in rw (bare-id n s, (eqb-apart n k lt).0) rest)
       | inr le ↦ (let same : n ≡ k = omega arith in rw (bare-id n s, same, eq-eqb k k refl) refl)
     ]
 
@@ -107,7 +104,7 @@ picked_other k n (e ∷ es) h = rw (h, picked_other k n es h) refl
 picked_none : (k n : ℕ) (ss : List StreamType) → k < n → denotes.events_of k (all_tagged n ss) ≡ []
 picked_none k n [] h = refl
 picked_none k n (s ∷ ss) h =
-    picked-append k (tagged n (meta.events_of 0 s.events)) (all_tagged (n + 1) ss) ∙ rw (picked_other k n (meta.events_of 0 s.events) (eqb-other k n h), picked_none k (n + 1) ss (omega arith)) refl
+    picked-append k (tagged n (meta.events_of 0 s.events)) (all_tagged (n + 1) ss) ∙ rw (picked_other k n (meta.events_of 0 s.events) (eqb-apart k n h).1, picked_none k (n + 1) ss (omega arith)) refl
 
 with-own : (events : List (ℕ × Event)) (n : ℕ) (s : StreamType) → denotes.events_of n events ≡ meta.events_of 0 s.events → with_events events (bare n s) ≡ Some (stream_of n s)
 unfolding bare stream_of
@@ -123,7 +120,7 @@ each_with events n (s ∷ ss) h =
     ∙ rw (picked_own n (meta.events_of 0 s.events), picked_none n (n + 1) ss (omega arith)) (append-nil (meta.events_of 0 s.events)) in
     let rest = each_with events (n + 1) ss (λ k le.
     h k (omega arith) ∙ picked-append k (tagged n (meta.events_of 0 s.events)) (all_tagged (n + 1) ss)
-    ∙ rw (picked_other k n (meta.events_of 0 s.events) (eqb-later n k (omega arith))) refl) in
+    ∙ rw (picked_other k n (meta.events_of 0 s.events) (eqb-apart n k (omega arith)).0) refl) in
     rw (with-own events n s own, rest) refl
 
 pub each_has_its_events : (ss : List StreamType) → each (with_events (all_tagged 0 ss)) (bares 0 ss) ≡ Some (streams_of 0 ss)

@@ -66,13 +66,10 @@ pub entry_groups : {p : Printer} {text : List ℕ} (label : List ℕ) (low high 
     → Ends p (atoms.Text label ∷ atoms.Mark marks.Equals ∷ low ++ high ++ rest) text
 entry_groups label low high rest e = simp append_assoc (rw (append-nil low) at e)
 
-pub some_item : {A : Type 0} (x : A) (xs : List A) → x ∷ xs ≡ [] → ⊥
-some_item x xs e = cc
-
 -- two lists that have no item together have none
 pub none_in : {A : Type 0} (xs ys : List A) → xs ++ ys ≡ [] → (xs ≡ []) × (ys ≡ [])
 none_in [] ys e = (refl, e)
-none_in (x ∷ xs) ys e = absurd (some_item x (xs ++ ys) e)
+none_in (x ∷ xs) ys e = absurd cc
 
 -- a feature that is on has its member
 pub number_stands : (name : List ℕ) (field : Option IntType) → is_none field ≡ false → number_member name field ≡ [] → ⊥

@@ -1,9 +1,9 @@
 -- What the stream and event blocks of a configuration mean: its streams by number, each with its events.
-use Rattle.tsdl_writer.proofs.TreeWords.{All, All-head, All-tail, All-weaker, EventType, IsConfigStruct, IsEventType, IsStream, IsStreamType, IsStruct, IsUnsigned, Known, List, MemberType, Some, StreamType, StructType, Where, [], all_event_blocks, ap, bytes_eq, cases_Bool, codes, context_names, context_numbers, context_of, each, event_blocks, event_header_members, event_header_of, event_in, event_items, event_meaning, event_of, false≢true, flat_map, flat_map-append, has_member, inl, inr, list_any, no_members_shown, refl, shown_members, shown_struct, stream_blocks, stream_in, stream_items, stream_meaning, stream_of, streams_of, struct_is_allowed, struct_with, struct_with-members, structure_of, subst, sym, true, ℕ, ◌++◌, ◌+◌, ◌∙◌, ◌∷◌, ◌≡◌}
+use Rattle.tsdl_writer.proofs.TreeWords.{AllByRecursion, recursion_from_All, All, All-head, All-tail, All-weaker, EventType, IsConfigStruct, IsEventType, IsStream, IsStreamType, IsStruct, IsUnsigned, Known, List, MemberType, Some, StreamType, StructType, [], all_event_blocks, ap, bytes_eq, cases_Bool, codes, context_names, context_numbers, context_of, each, event_blocks, event_header_members, event_header_of, event_in, event_items, event_meaning, event_of, false≢true, flat_map, flat_map-append, has_member, inl, inr, list_any, no_members_shown, refl, shown_members, shown_struct, stream_blocks, stream_in, stream_items, stream_meaning, stream_of, streams_of, struct_is_allowed, struct_with, struct_with-members, structure_of, subst, sym, true, ℕ, ◌++◌, ◌+◌, ◌∙◌, ◌∷◌, ◌≡◌}
 use Rattle.ctf_types.specs.MetadataOf as meta
 use Rattle.tsdl_writer.proofs.FieldMeanings.{Members}
-use Rattle.tsdl_writer.proofs.StructureMeanings.{found}
-use Rattle.tsdl_writer.proofs.StructuresRead.{structure_read, config_are_automatic, automatic-append, context_automatic, event_header_automatic, event_header_shown, all_suit}
+use Rattle.tsdl_writer.proofs.StructureMeanings.{found, structure_read}
+use Rattle.tsdl_writer.proofs.StructuresRead.{config_are_automatic, automatic-append, context_automatic, event_header_automatic, event_header_shown, all_suit}
 use Rattle.tsdl_writer.proofs.BlockMeanings.{StreamIsRead, stream_is, event_is}
 use Rattle.tsdl_writer.proofs.NumberedBlocks.{each-append, bare-id, bare, bares, tagged, all_tagged}
 
@@ -31,17 +31,9 @@ event_header_read known s h =
 one_id : (m : List ℕ × MemberType) → (bytes_eq m.0 (codes "id") ≡ true → IsUnsigned m.1) → list_any (bytes_eq m.0) (codes "id" ∷ []) ≡ true → IsUnsigned m.1
 one_id m h k = elim (cases_Bool (bytes_eq m.0 (codes "id"))) [ inl e ↦ h e | inr e ↦ absurd (false≢true (sym (rw e refl) ∙ k)) ]
 
-id_alone : (ms : Members) → Where (codes "id") IsUnsigned ms → All (λ m. list_any (bytes_eq m.0) (codes "id" ∷ []) ≡ true → IsUnsigned m.1) ms
-id_alone ms h =
-    All-weaker (λ (m : List ℕ × MemberType). bytes_eq m.0 (codes "id") ≡ true → IsUnsigned m.1) (λ (m : List ℕ × MemberType). list_any (bytes_eq m.0) (codes "id" ∷ []) ≡ true → IsUnsigned m.1) one_id ms h
-
-has_packet_size : (s : StreamType) → has_member (codes "packet_size") (context_of s).members ≡ true
+has_sizes : (s : StreamType) → (has_member (codes "packet_size") (context_of s).members ≡ true) × (has_member (codes "content_size") (context_of s).members ≡ true)
 unfolding context_of shown_members
-has_packet_size s = refl
-
-has_content_size : (s : StreamType) → has_member (codes "content_size") (context_of s).members ≡ true
-unfolding context_of shown_members
-has_content_size s = refl
+has_sizes s = (refl, refl)
 
 stream_read : (known : Known) (n : ℕ) (s : StreamType) → IsStreamType known.clocks s → IsStream known.clocks (stream_of n s)
     → StreamIsRead known (context_numbers s.context ++ s.extras.members) (event_header_members s.event_header) s.common.members s.common.min_align (bare n s)
@@ -50,10 +42,10 @@ stream_read known n s t h = record {
   context_read = context_read known s t h.context;
   header_read = event_header_read known s h.event_header;
   common_read = config_struct_read known s.common t.common;
-  context_suits = all_suit context_names (context_of s).members h.own_are_unsigned;
-  header_suits = all_suit (codes "id" ∷ []) (event_header_of s).members (id_alone (event_header_of s).members h.id);
-  packet_size = has_packet_size s;
-  content_size = has_content_size s;
+  context_suits = all_suit context_names (context_of s).members (recursion_from_All _ _ h.own_are_unsigned);
+  header_suits = all_suit (codes "id" ∷ []) (event_header_of s).members (recursion_from_All _ _ (All-weaker _ _ one_id (event_header_of s).members h.id));
+  packet_size = (has_sizes s).0;
+  content_size = (has_sizes s).1;
   no_events = refl;
 }
 
@@ -62,15 +54,11 @@ stream_block_read known n s t h =
     subst (λ (k : ℕ). stream_meaning known (stream_items k s) ≡ Some (bare n s)) (bare-id n s)
     (stream_is known (context_numbers s.context ++ s.extras.members) (event_header_members s.event_header) s.common.members s.common.min_align (bare n s) (stream_read known n s t h))
 
-pub streams_read : (known : Known) (n : ℕ) (ss : List StreamType) → All (IsStreamType known.clocks) ss → All (IsStream known.clocks) (streams_of n ss)
+pub streams_read : (known : Known) (n : ℕ) (ss : List StreamType) → AllByRecursion (IsStreamType known.clocks) ss → AllByRecursion (IsStream known.clocks) (streams_of n ss)
     → each (stream_meaning known) (flat_map stream_in (stream_blocks n ss)) ≡ Some (bares n ss)
 unfolding streams_of
 streams_read known n [] t h = refl
-streams_read known n (s ∷ ss) t h =
-    rw (
-      stream_block_read known n s (All-head (IsStreamType known.clocks) s ss t) (All-head (IsStream known.clocks) (stream_of n s) (streams_of (n + 1) ss) h),
-      streams_read known (n + 1) ss (All-tail (IsStreamType known.clocks) s ss t) (All-tail (IsStream known.clocks) (stream_of n s) (streams_of (n + 1) ss) h),
-    ) refl
+streams_read known n (s ∷ ss) t h = rw (stream_block_read known n s t.0 h.0, streams_read known (n + 1) ss t.1 h.1) refl
 
 event_block_read : (known : Known) (stream n : ℕ) (s : StreamType) (e : EventType) → IsEventType s e → event_meaning known (event_items stream n e) ≡ Some (stream, event_of n e)
 unfolding event_of

@@ -1,8 +1,9 @@
 -- What the trees of a structure mean: its members as metadata has them, a dynamic array behind the member of its length.
-use Rattle.tsdl_writer.proofs.TreeWords.{AllByRecursion, At, Auto, Bool, Dyn, FieldType, HasBits, Int, IsDistinct, IsDistinct-head, IsDistinct-tail, IsNest, Known, List, MemberType, None, Option, Plain, Some, StructType, [], align_of, align_with, ap, append-nil, append_assoc, arith, array_member, bracketed, bytes_eq, bytes_eq-Decides, cases_Bool, chain_of, eq-eqb, eqb, false, false≢true, flat_map, has_member, inl, inr, is_unsigned, le-leb, length, length-append, length_member, length_name, length_place, length_type, list_all, lt-ltb, member_meaning, member_tree, member_trees, members_meaning, names_in, nat_le, nat_lt, natural_number, not, prefix_len, recursion_from_All, refl, shown_members, struct_meaning, struct_type-gives, structure_of, structure_tree, subst, suc, sym, true, ℕ, ◌%◌, ◌&&◌, ◌++◌, ◌+◌, ◌<◌, ◌∙◌, ◌∷◌, ◌≡◌, ◌≤◌}
+use Rattle.tsdl_writer.proofs.TreeWords.{AreMembers, IsStruct, AllByRecursion, At, Auto, Bool, Dyn, FieldType, HasBits, Int, IsDistinct, IsDistinct-head, IsDistinct-tail, Known, List, MemberType, None, Option, Plain, Some, StructType, [], align_of, align_with, ap, append-nil, append_assoc, arith, array_member, bracketed, bytes_eq, bytes_eq-Decides, cases_Bool, chain_of, eq-eqb, eqb, false, false≢true, flat_map, has_member, inl, inr, is_unsigned, le-leb, length, length-append, length_member, length_name, length_place, length_type, list_all, lt-ltb, member_meaning, member_tree, member_trees, members_meaning, names_in, nat_le, nat_lt, natural_number, not, prefix_len, recursion_from_All, refl, shown_members, struct_meaning, struct_type-gives, structure_of, structure_tree, subst, suc, sym, true, ℕ, ◌%◌, ◌&&◌, ◌++◌, ◌+◌, ◌<◌, ◌∙◌, ◌∷◌, ◌≡◌, ◌≤◌}
+use Rattle.ctf_types.specs.Allowed.{IsField}
 use Rattle.tsdl_grammar.specs.declared.tree.MemberTree.{MemberTree}
 use Rattle.tsdl_grammar.specs.declared.tree.Structure.{Structure}
-use Rattle.tsdl_writer.proofs.FieldMeanings.{IsKnownLeaf, Members, kind_meant, no_nest, count_meant, lengths_allowed, arrays_of-chain, plain_meant}
+use Rattle.tsdl_writer.proofs.FieldMeanings.{AreAutomatic, Members, kind_meant, no_nest, count_meant, lengths_allowed, arrays_of-chain, plain_meant}
 
 bytes_eq-flip : (x y : List ℕ) → bytes_eq x y ≡ false → bytes_eq y x ≡ false
 bytes_eq-flip x y h = grind (arith, bytes_eq-Decides)
@@ -26,21 +27,12 @@ all_still_new : (before : Members) (x : List ℕ) (t : MemberType) (names : List
 all_still_new before x t [] h e = tt
 all_still_new before x t (w ∷ names) h e = (still_new before x w t h.0 e.0, all_still_new before x t names h.1 e.1)
 
--- a member whose leaf is known and whose arrays are allowed
-abbrev pub IsMeant : List (List ℕ) → MemberType → Type 0
-IsMeant clocks (Plain t) = IsKnownLeaf clocks (chain_of t).leaf × IsNest (chain_of t).lengths
-IsMeant clocks (Dyn t Auto) = IsKnownLeaf clocks (chain_of t).leaf × IsNest (chain_of t).lengths × HasBits t
-IsMeant clocks (Dyn t (At i)) = ⊥
-
-abbrev pub AreMeant : List (List ℕ) → Members → Type 0
-AreMeant clocks ms = AllByRecursion (λ m. IsMeant clocks m.1) ms
-
-plain_tree_meant : (known : Known) (before : Members) (name : List ℕ) (t : FieldType) → IsMeant known.clocks (Plain t) → member_meaning known before (member_tree name (chain_of t) []) ≡ Some (Plain t)
+plain_tree_meant : (known : Known) (before : Members) (name : List ℕ) (t : FieldType) → IsField known.clocks t → member_meaning known before (member_tree name (chain_of t) []) ≡ Some (Plain t)
 unfolding member_meaning
 plain_tree_meant known before name t h = rw (kind_meant known (chain_of t).leaf h.0) (plain_meant before t h.1)
 
 length_meant : (known : Known) (before : Members) (name : List ℕ) → member_meaning known before (length_member name) ≡ Some (Plain (Int length_type))
-length_meant known before name = plain_tree_meant known before (length_name name) (Int length_type) (tt, no_nest)
+length_meant known before name = plain_tree_meant known before (length_name name) (Int length_type) ((λ w e. absurd cc), no_nest)
 
 -- the length's member is the last before the array
 abbrev is_length : List ℕ → List ℕ × MemberType → Bool
@@ -64,16 +56,16 @@ all_positive : (ns : List ℕ) → AllByRecursion (λ n. 0 < n) ns → list_all 
 all_positive [] h = refl
 all_positive (n ∷ ns) h = rw (lt-ltb 0 n h.0, all_positive ns h.1) refl
 
-array_meant : (known : Known) (before : Members) (n : ℕ) (name : List ℕ) (t : FieldType) → length before ≡ n → has_member (length_name name) before ≡ false → IsMeant known.clocks (Dyn t Auto)
+array_meant : (known : Known) (before : Members) (n : ℕ) (name : List ℕ) (t : FieldType) → length before ≡ n → has_member (length_name name) before ≡ false → IsField known.clocks t → HasBits t
     → member_meaning known (before ++ (length_name name, Plain (Int length_type)) ∷ []) (array_member name (chain_of t)) ≡ Some (Dyn t (At n))
 unfolding member_meaning bracketed
-array_meant known before n name t e new h =
+array_meant known before n name t e new h bits =
     rw (
       kind_meant known (chain_of t).leaf h.0,
       count_meant (chain_of t).lengths,
       place_meant before n (length_name name) e new,
       lengths_allowed (chain_of t).lengths h.1,
-      all_positive (chain_of t).lengths (recursion_from_All (λ k. 0 < k) (chain_of t).lengths h.2),
+      all_positive (chain_of t).lengths (recursion_from_All (λ k. 0 < k) (chain_of t).lengths bits),
       arrays_of-chain t,
     ) refl
 
@@ -82,18 +74,18 @@ one_more : (known : Known) (before : Members) (m : MemberTree) (ms : List Member
 unfolding members_meaning
 one_more known before m ms t result new e r = rw (new, e) r
 
-members_meant : (known : Known) (n : ℕ) (before ms : Members) → length before ≡ n → AreMeant known.clocks ms → AreNew before (names_in (shown_members n ms)) → IsDistinct bytes_eq (names_in (shown_members n ms))
+members_meant : (known : Known) (n : ℕ) (before ms : Members) → length before ≡ n → AreAutomatic ms → AreMembers known.clocks before (shown_members n ms) → AreNew before (names_in (shown_members n ms)) → IsDistinct bytes_eq (names_in (shown_members n ms))
     → members_meaning known before (flat_map member_trees ms) ≡ Some (before ++ shown_members n ms)
-unfolding members_meaning shown_members
-members_meant known n before [] len h new apart = ap Some (sym (append-nil before))
-members_meant known n before ((name, Plain t) ∷ ms) len h new apart =
+unfolding members_meaning shown_members AreMembers
+members_meant known n before [] len a h new apart = ap Some (sym (append-nil before))
+members_meant known n before ((name, Plain t) ∷ ms) len a h new apart =
     let names = names_in (shown_members (n + 1) ms) in
     let more = before ++ (name, Plain t) ∷ [] in
     let longer : length more ≡ n + 1 = omega (arith, length-append before ((name, Plain t) ∷ [])) in
     one_more known before (member_tree name (chain_of t) []) (flat_map member_trees ms) (Plain t) (Some (before ++ (name, Plain t) ∷ shown_members (n + 1) ms)) new.0 (plain_tree_meant known before name t h.0)
-    (members_meant known (n + 1) more ms longer h.1 (all_still_new before name (Plain t) names new.1 (IsDistinct-head bytes_eq name names apart)) (IsDistinct-tail bytes_eq name names apart)
+    (members_meant known (n + 1) more ms longer a.1 h.1 (all_still_new before name (Plain t) names new.1 (IsDistinct-head bytes_eq name names apart)) (IsDistinct-tail bytes_eq name names apart)
     ∙ ap Some (append_assoc before ((name, Plain t) ∷ []) (shown_members (n + 1) ms)))
-members_meant known n before ((name, Dyn t Auto) ∷ ms) len h new apart =
+members_meant known n before ((name, Dyn t Auto) ∷ ms) len a h new apart =
     let names = names_in (shown_members (n + 2) ms) in
     let first : List ℕ × MemberType = (length_name name, Plain (Int length_type)) in
     let second : List ℕ × MemberType = (name, Dyn t (At n)) in
@@ -104,27 +96,21 @@ members_meant known n before ((name, Dyn t Auto) ∷ ms) len h new apart =
     let apart2 = IsDistinct-tail bytes_eq (length_name name) (name ∷ names) apart in
     let new2 = all_still_new before (length_name name) (Plain (Int length_type)) (name ∷ names) new.1 behind in
     one_more known before (length_member name) (array_member name (chain_of t) ∷ flat_map member_trees ms) (Plain (Int length_type)) (Some (before ++ first ∷ second ∷ shown_members (n + 2) ms)) new.0 (length_meant known before name)
-    (one_more known with_length (array_member name (chain_of t)) (flat_map member_trees ms) (Dyn t (At n)) (Some (before ++ first ∷ second ∷ shown_members (n + 2) ms)) new2.0 (array_meant known before n name t len new.0 h.0)
-    (members_meant known (n + 2) with_array ms longer h.1 (all_still_new with_length name (Dyn t (At n)) names new2.1 (IsDistinct-head bytes_eq name names apart2)) (IsDistinct-tail bytes_eq name names apart2)
+    (one_more known with_length (array_member name (chain_of t)) (flat_map member_trees ms) (Dyn t (At n)) (Some (before ++ first ∷ second ∷ shown_members (n + 2) ms)) new2.0 (array_meant known before n name t len new.0 h.1.0.0 h.1.0.1)
+    (members_meant known (n + 2) with_array ms longer a.1 h.1.1 (all_still_new with_length name (Dyn t (At n)) names new2.1 (IsDistinct-head bytes_eq name names apart2)) (IsDistinct-tail bytes_eq name names apart2)
     ∙ ap Some (append_assoc with_length (second ∷ []) (shown_members (n + 2) ms) ∙ append_assoc before (first ∷ []) (second ∷ shown_members (n + 2) ms))))
-members_meant known n before ((name, Dyn t (At i)) ∷ ms) len h new apart = absurd h.0
+members_meant known n before ((name, Dyn t (At i)) ∷ ms) len a h new apart = absurd a.0
 
 all_new : (names : List (List ℕ)) → AreNew [] names
 all_new [] = tt
 all_new (w ∷ names) = (refl, all_new names)
 
-same_count : (n : ℕ) (ms : Members) (clocks : List (List ℕ)) → AreMeant clocks ms → length (flat_map member_trees ms) ≡ length (shown_members n ms)
+same_count : (n : ℕ) (ms : Members) → AreAutomatic ms → length (flat_map member_trees ms) ≡ length (shown_members n ms)
 unfolding shown_members
-same_count n [] clocks h = refl
-same_count n ((name, Plain t) ∷ ms) clocks h = ap (λ (k : ℕ). suc k) (same_count (n + 1) ms clocks h.1)
-same_count n ((name, Dyn t Auto) ∷ ms) clocks h = ap (λ (k : ℕ). suc (suc k)) (same_count (n + 2) ms clocks h.1)
-same_count n ((name, Dyn t (At i)) ∷ ms) clocks h = absurd h.0
-
--- what a list of a configuration's members must be for its structure to be read back
-pub record AreRead (known : Known) (ms : Members) : Type 0 where
-  pub meant : AreMeant known.clocks ms
-  pub apart : IsDistinct bytes_eq (names_in (shown_members 0 ms))
-  pub few : length (shown_members 0 ms) ≤ 1024
+same_count n [] h = refl
+same_count n ((name, Plain t) ∷ ms) h = ap (λ (k : ℕ). suc k) (same_count (n + 1) ms h.1)
+same_count n ((name, Dyn t Auto) ∷ ms) h = ap (λ (k : ℕ). suc (suc k)) (same_count (n + 2) ms h.1)
+same_count n ((name, Dyn t (At i)) ∷ ms) h = absurd h.0
 
 align_meant : (t : StructType) → align_of (Some (natural_number t.min_align)) ≡ Some t.min_align
 align_meant t =
@@ -132,10 +118,10 @@ align_meant t =
     let power : eqb (4096 % t.min_align) 0 ≡ true = eq-eqb (4096 % t.min_align) 0 t.power_of_two in
     rw (some, power) refl
 
-align_with-some : (m : List ℕ × MemberType) (ms : Members) (n align : ℕ) (clocks : List (List ℕ)) → AreMeant clocks (m ∷ ms) → align_with (shown_members n (m ∷ ms)) align ≡ align
+align_with-some : (m : List ℕ × MemberType) (ms : Members) (n align : ℕ) → AreAutomatic (m ∷ ms) → align_with (shown_members n (m ∷ ms)) align ≡ align
 unfolding shown_members
-align_with-some (name, Dyn t (At i)) ms n align clocks h = absurd h.0
-align_with-some _ ms n align clocks h = refl
+align_with-some (name, Dyn t (At i)) ms n align h = absurd h.0
+align_with-some _ ms n align h = refl
 
 -- the structure that is left out where it has no members
 abbrev pub found : Members → ℕ → Option Structure
@@ -146,18 +132,18 @@ no_shown : (t : StructType) → t.members ≡ shown_members 0 [] → t.members �
 unfolding shown_members
 no_shown t e = e
 
-some_member : (m : List ℕ × MemberType) (ms : Members) → m ∷ ms ≡ [] → ⊥
-some_member m ms e = cc
-
--- a structure means the structure with its members shown; one without members has the minimum alignment 1
-pub structure_meant : (known : Known) (ms : Members) (align : ℕ) (t : StructType) → AreRead known ms → t.members ≡ shown_members 0 ms → ((ms ≡ [] → ⊥) → t.min_align ≡ align) → (ms ≡ [] → t.min_align ≡ 1)
+-- a structure that metadata's rules allow is what its tree means
+pub structure_read : (known : Known) (ms : Members) (align : ℕ) (t : StructType) → t.members ≡ shown_members 0 ms → ((ms ≡ [] → ⊥) → t.min_align ≡ align) → AreAutomatic ms → IsStruct known.clocks t
     → structure_of known (found ms align) ≡ Some t
 unfolding struct_meaning
-structure_meant known [] align t h same aligned empty = struct_type-gives t [] 1 (no_shown t same) (empty refl)
-structure_meant known (m ∷ ms) align t h same align_of_some empty =
-    let aligned : t.min_align ≡ align = align_of_some (some_member m ms) in
-    let count = same_count 0 (m ∷ ms) known.clocks h.meant in
-    let few : nat_le (length (flat_map member_trees (m ∷ ms))) 1024 ≡ true = le-leb (length (flat_map member_trees (m ∷ ms))) 1024 (rw count h.few) in
-    let members = members_meant known 0 [] (m ∷ ms) refl h.meant (all_new (names_in (shown_members 0 (m ∷ ms)))) h.apart in
+structure_read known [] align t same aligned a h = struct_type-gives t [] 1 (no_shown t same) (h.empty (no_shown t same))
+structure_read known (m ∷ ms) align t same align_of_some a h =
+    let aligned : t.min_align ≡ align = align_of_some (λ e. cc) in
+    let shown : List (List ℕ × MemberType) = shown_members 0 (m ∷ ms) in
+    let allowed = subst (AreMembers known.clocks []) same h.members in
+    let apart = subst (λ (l : Members). IsDistinct bytes_eq (names_in l)) same h.distinct in
+    let fits : length (flat_map member_trees (m ∷ ms)) ≤ 1024 = rw (same_count 0 (m ∷ ms) a) (subst (λ (l : Members). length l ≤ 1024) same h.few) in
+    let few : nat_le (length (flat_map member_trees (m ∷ ms))) 1024 ≡ true = le-leb (length (flat_map member_trees (m ∷ ms))) 1024 fits in
+    let members = members_meant known 0 [] (m ∷ ms) refl a allowed (all_new (names_in shown)) apart in
     let align_is : align_of (Some (natural_number align)) ≡ Some align = subst (λ (k : ℕ). align_of (Some (natural_number k)) ≡ Some k) aligned (align_meant t) in
-    rw (few, members, align_is, align_with-some m ms 0 align known.clocks h.meant) (struct_type-gives t (shown_members 0 (m ∷ ms)) align same aligned)
+    rw (few, members, align_is, align_with-some m ms 0 align a) (struct_type-gives t shown align same aligned)

@@ -1,61 +1,10 @@
 -- The structures of an allowed configuration's metadata are what their trees mean, and their members have the types that their names ask for.
-use Rattle.tsdl_writer.proofs.TreeWords.{All, All-head, All-tail, AllByRecursion, AreConfigMembers, AreMembers, At, Auto, ByteString, Contains, Dyn, Int, IntType, IsByteType, IsConfigMember, IsDistinct, IsIdentity, IsLeaf, IsMagic, IsStruct, IsUnsigned, Known, Labelled, Leaf, List, MemberType, None, Number, Option, Plain, Some, Static, StructType, Where, [], ap, arith, bytes_eq, bytes_eq-Decides, cases_Bool, chain_of, codes, context_numbers, event_header_members, false, false≢true, header_members, inl, inr, is_byte, is_unsigned, is_unsigned_of, is_uuid, length, length_name, length_type, list_all, list_any, names_in, number_member, refl, shown_members, structure_of, subst, suc, suits, suits_header, sym, true, uuid_member, zero, ℕ, ◌++◌, ◌+◌, ◌<◌, ◌∙◌, ◌∷◌, ◌≡◌, ◌≤◌}
+use Rattle.tsdl_writer.proofs.TreeWords.{All, All-head, All-tail, AllByRecursion, AreConfigMembers, At, Dyn, Int, IntType, IsByteType, IsConfigMember, IsIdentity, IsMagic, IsUnsigned, Leaf, List, MemberType, None, Number, Option, Plain, Some, Static, [], bytes_eq, cases_Bool, codes, context_numbers, event_header_members, header_members, inl, inr, is_byte, is_unsigned, is_unsigned_of, is_uuid, list_all, list_any, number_member, refl, shown_members, suits, suits_header, true, uuid_member, ℕ, ◌++◌, ◌∷◌, ◌≡◌}
 use Rattle.ctf_types.specs.declared.HeaderFeatures.{HeaderFeatures}
 use Rattle.ctf_types.specs.declared.ContextFeatures.{ContextFeatures}
 use Rattle.ctf_types.specs.declared.EventFeatures.{EventFeatures}
 use Rattle.ctf_types.specs.Laws.{IsAutomatic}
-use Rattle.tsdl_writer.proofs.FieldMeanings.{Members, IsKnown, IsKnownLeaf}
-use Rattle.tsdl_writer.proofs.StructureMeanings.{AreMeant, AreRead, found, structure_meant}
-
--- what a list contains is its first item or stands behind it
-later : (k : List ℕ) (ks : List (List ℕ)) (name : List ℕ) → bytes_eq name k ≡ false → Contains (k ∷ ks) name → Contains ks name
-later k ks name e (zero, below, same) = absurd (false≢true (sym e ∙ (bytes_eq-Decides name k).1 (sym same)))
-later k ks name e (suc i, below, same) = (i, (let l : i < length ks = omega arith in l), same)
-
-clock_there : (clocks : List (List ℕ)) (name : List ℕ) → Contains clocks name → list_any (bytes_eq name) clocks ≡ true
-clock_there [] name h = absurd (omega (arith, h.1))
-clock_there (k ∷ clocks) name h =
-    elim (cases_Bool (bytes_eq name k)) [
-      | inl e ↦ rw e refl
-      | inr e ↦ rw e (clock_there clocks name (later k clocks name e h))
-    ]
-
-known_clock : (clocks : List (List ℕ)) (o : Option (List ℕ)) → ((name : List ℕ) → o ≡ Some name → Contains clocks name) → IsKnown clocks o
-known_clock clocks None h = tt
-known_clock clocks (Some name) h = clock_there clocks name (h name refl)
-
-known_leaf : (clocks : List (List ℕ)) (t : Leaf) → IsLeaf clocks t → IsKnownLeaf clocks t
-known_leaf clocks (Number t) h = known_clock clocks t.clock h
-known_leaf clocks (Labelled t) h = (known_clock clocks t.int.clock h.0, h.1, h.2)
-known_leaf clocks ByteString h = tt
-
--- members without a listed length
-abbrev pub AreAutomatic : Members → Type 0
-AreAutomatic ms = AllByRecursion (λ m. IsAutomatic m.1) ms
-
-members_meant : (clocks : List (List ℕ)) (n : ℕ) (before ms : Members) → AreAutomatic ms → AreMembers clocks before (shown_members n ms) → AreMeant clocks ms
-unfolding AreMembers shown_members
-members_meant clocks n before [] a h = tt
-members_meant clocks n before ((name, Plain t) ∷ ms) a h = ((known_leaf clocks (chain_of t).leaf h.0.0, h.0.1), members_meant clocks (n + 1) (before ++ (name, Plain t) ∷ []) ms a.1 h.1)
-members_meant clocks n before ((name, Dyn t Auto) ∷ ms) a h =
-    ((known_leaf clocks (chain_of t).leaf h.1.0.0.0, h.1.0.0.1, h.1.0.1), members_meant clocks (n + 2) (before ++ (length_name name, Plain (Int length_type)) ∷ [] ++ (name, Dyn t (At n)) ∷ []) ms a.1 h.1.1)
-members_meant clocks n before ((name, Dyn t (At i)) ∷ ms) a h = absurd a.0
-
-are_read : (known : Known) (ms : Members) (t : StructType) → t.members ≡ shown_members 0 ms → AreAutomatic ms → IsStruct known.clocks t → AreRead known ms
-are_read known ms t same a h = record {
-  meant = members_meant known.clocks 0 [] ms a (subst (AreMembers known.clocks []) same h.members);
-  apart = subst (λ (l : Members). IsDistinct bytes_eq (names_in l)) same h.distinct;
-  few = subst (λ (l : Members). length l ≤ 1024) same h.few;
-}
-
-nothing_shown : (ms : Members) → ms ≡ [] → shown_members 0 ms ≡ []
-unfolding shown_members
-nothing_shown ms e = ap (shown_members 0) e
-
--- a structure that metadata's rules allow is what its tree means
-pub structure_read : (known : Known) (ms : Members) (align : ℕ) (t : StructType) → t.members ≡ shown_members 0 ms → ((ms ≡ [] → ⊥) → t.min_align ≡ align) → AreAutomatic ms → IsStruct known.clocks t
-    → structure_of known (found ms align) ≡ Some t
-structure_read known ms align t same aligned a h = structure_meant known ms align t (are_read known ms t same a h) same aligned (λ e. h.empty (same ∙ nothing_shown ms e))
+use Rattle.tsdl_writer.proofs.FieldMeanings.{Members, AreAutomatic}
 
 config_automatic : (t : MemberType) → IsConfigMember t → IsAutomatic t
 config_automatic (Dyn t (At i)) h = h
@@ -150,24 +99,14 @@ header_member_suits m a b c =
       ]
     ]
 
-pub header_suits : (ms : Members) → Where (codes "magic") IsMagic ms → Where (codes "uuid") IsIdentity ms → Where (codes "stream_id") IsUnsigned ms → list_all suits_header ms ≡ true
+pub header_suits : (ms : Members) → AllByRecursion (λ m. bytes_eq m.0 (codes "magic") ≡ true → IsMagic m.1) ms → AllByRecursion (λ m. bytes_eq m.0 (codes "uuid") ≡ true → IsIdentity m.1) ms
+    → AllByRecursion (λ m. bytes_eq m.0 (codes "stream_id") ≡ true → IsUnsigned m.1) ms → list_all suits_header ms ≡ true
 header_suits [] a b c = refl
-header_suits (m ∷ ms) a b c =
-    let one = header_member_suits m (All-head (λ (k : List ℕ × MemberType). bytes_eq k.0 (codes "magic") ≡ true → IsMagic k.1) m ms a)
-    (All-head (λ (k : List ℕ × MemberType). bytes_eq k.0 (codes "uuid") ≡ true → IsIdentity k.1) m ms b) (All-head (λ (k : List ℕ × MemberType). bytes_eq k.0 (codes "stream_id") ≡ true → IsUnsigned k.1) m ms c) in
-    rw (
-      one,
-      header_suits ms (All-tail (λ (k : List ℕ × MemberType). bytes_eq k.0 (codes "magic") ≡ true → IsMagic k.1) m ms a)
-          (All-tail (λ (k : List ℕ × MemberType). bytes_eq k.0 (codes "uuid") ≡ true → IsIdentity k.1) m ms b) (All-tail (λ (k : List ℕ × MemberType). bytes_eq k.0 (codes "stream_id") ≡ true → IsUnsigned k.1) m ms c),
-    ) refl
+header_suits (m ∷ ms) a b c = rw (header_member_suits m a.0 b.0 c.0, header_suits ms a.1 b.1 c.1) refl
 
 member_suits : (names : List (List ℕ)) (m : List ℕ × MemberType) → (list_any (bytes_eq m.0) names ≡ true → IsUnsigned m.1) → suits names m ≡ true
 member_suits names m h = elim (cases_Bool (list_any (bytes_eq m.0) names)) [ inl e ↦ rw (e, unsigned_tested m.1 (h e)) refl | inr e ↦ rw e refl ]
 
-pub all_suit : (names : List (List ℕ)) (ms : Members) → All (λ m. list_any (bytes_eq m.0) names ≡ true → IsUnsigned m.1) ms → list_all (suits names) ms ≡ true
+pub all_suit : (names : List (List ℕ)) (ms : Members) → AllByRecursion (λ m. list_any (bytes_eq m.0) names ≡ true → IsUnsigned m.1) ms → list_all (suits names) ms ≡ true
 all_suit names [] h = refl
-all_suit names (m ∷ ms) h =
-    rw (
-      member_suits names m (All-head (λ (k : List ℕ × MemberType). list_any (bytes_eq k.0) names ≡ true → IsUnsigned k.1) m ms h),
-      all_suit names ms (All-tail (λ (k : List ℕ × MemberType). list_any (bytes_eq k.0) names ≡ true → IsUnsigned k.1) m ms h),
-    ) refl
+all_suit names (m ∷ ms) h = rw (member_suits names m h.0, all_suit names ms h.1) refl

@@ -2,9 +2,9 @@
 use Rattle.tsdl_writer.proofs.TreeWords.{AllByRecursion, Block, ClockType, Config, Denotes, EnvironmentEntry, IsConfig, IsHeld, IsHeldClock, IsHeldValue, IsMetadata, IsString, IsStruct, Item, List, Some, StreamType, [], all_event_blocks, ap, append-nil, at_most_one, blocks_of, clock_block, clock_in, clock_meaning, each, environment_blocks, environment_in, event_block, event_blocks, event_in, event_items, flat_map, flat_map-append, header_members, header_of, known_of, map, metadata_is_allowed, metadata_of, named_fact_tree, numbered, recursion_from_All, refl, stream_block, stream_blocks, stream_in, streams_meaning, streams_of, struct_with, struct_with-members, structure_of, text_meta, text_toks, trace_block, trace_in, trace_items, written, ℕ, ◌++◌, ◌+◌, ◌∙◌, ◌∷◌, ◌≡◌}
 use Rattle.tsdl_grammar.specs.declared.tree.NamedFact.{NamedFact}
 use Rattle.tsdl_grammar.specs.declared.tree.Block.TheVariants as blocks
-use Rattle.tsdl_writer.proofs.StructureMeanings.{found}
-use Rattle.tsdl_writer.proofs.StructuresRead.{structure_read, header_automatic, header_shown, header_suits}
-use Rattle.tsdl_writer.proofs.BlockMeanings.{trace_is, trace_order_is, trace_uuid_is, header_is, clock_is, environment_is, no_two-distinct}
+use Rattle.tsdl_writer.proofs.StructureMeanings.{found, structure_read}
+use Rattle.tsdl_writer.proofs.StructuresRead.{header_automatic, header_shown, header_suits}
+use Rattle.tsdl_writer.proofs.BlockMeanings.{trace_found, trace_uuid_is, header_is, clock_is, environment_is, no_two-distinct}
 use Rattle.tsdl_writer.proofs.NumberedBlocks.{none_taken, bares_by_number, have_all_streams, each_has_its_events}
 use Rattle.tsdl_writer.proofs.StreamMeanings.{struct_with-align, streams_read, all_events_read}
 use Rattle.tsdl_writer.proofs.LaidStands.{text_reads}
@@ -72,21 +72,21 @@ streams_meant : (c : Config) → IsConfig c → IsMetadata (metadata_of c) → s
 unfolding streams_meaning metadata_of
 streams_meant c h m =
     let known = known_of c.order c.clocks in
-    rw (streams_alone c, streams_read known 0 c.streams h.streams m.streams, bares_by_number 0 c.streams, events_alone c, all_events_read known 0 c.streams h.streams, have_all_streams c.streams)
+    rw (streams_alone c, streams_read known 0 c.streams (recursion_from_All _ _ h.streams) (recursion_from_All _ _ m.streams), bares_by_number 0 c.streams, events_alone c, all_events_read known 0 c.streams h.streams, have_all_streams c.streams)
     (each_has_its_events c.streams)
 
 -- the blocks mean the metadata
 pub text_meant : (c : Config) → IsConfig c → IsHeld c → text_meta (blocks_of c) ≡ Some (metadata_of c)
 unfolding text_meta metadata_of
 text_meant c h held =
-    let m = metadata_is_allowed c h in
-    let header = header_is (known_of c.order c.clocks) c.uuid c.order (header_members c.header) (header_of c) (header_read c m.header) (header_suits (header_of c).members m.magic m.uuid m.stream_id) in
+    let m = metadata_is_allowed c h in let at = trace_found c.uuid c.order (header_members c.header) in
+    let header = header_is (known_of c.order c.clocks) c.uuid c.order (header_members c.header) (header_of c) (header_read c m.header) (header_suits (header_of c).members (recursion_from_All _ _ m.magic) (recursion_from_All _ _ m.uuid) (recursion_from_All _ _ m.stream_id)) in
     let entries = recursion_from_All (λ (e : EnvironmentEntry). IsHeldValue e.value) c.environment held.environment in
     let clocks = recursion_from_All IsHeldClock c.clocks held.clocks in
     rw (
       trace_alone c,
-      trace_is c.uuid c.order (header_members c.header),
-      trace_order_is c.uuid c.order (header_members c.header),
+      at.0,
+      at.1,
       trace_uuid_is c.uuid c.order (header_members c.header) held.uuid,
       environment_alone c,
       facts_read c.environment,

@@ -3,8 +3,7 @@ use Rattle.tsdl_writer.proofs.TreeWords.{All, All-contains, All-head, All-tail, 
 use Rattle.ctf_types.specs.Allowed.{elements_of}
 use Rattle.tsdl_grammar.specs.declared.token.Mark.TheVariants as marks
 use Rattle.tsdl_writer.proofs.Writable.{Can, nothing, mark, word, keyword, number, string, both, ended, in_braces, whole, natural_value, word_value}
-use Rattle.tsdl_writer.proofs.FieldMeanings.{Members}
-use Rattle.tsdl_writer.proofs.StructuresRead.{AreAutomatic}
+use Rattle.tsdl_writer.proofs.FieldMeanings.{Members, AreAutomatic}
 
 -- an alignment is at most 4,096
 pub align_fits : (a : ℕ) → 0 < a → 4096 % a ≡ 0 → a < 2 ^ 64
@@ -52,9 +51,6 @@ entries_writable (m ∷ ms) h = both (both (entry_writable m (All-head IsRange m
 clock_named : (clocks : List (List ℕ)) (t : IntType) → All IsMetadataName clocks → IsMappedTo clocks t → (name : List ℕ) → t.clock ≡ Some name → IsMetadataName name
 clock_named clocks t names h name e = All-contains IsMetadataName clocks name names (h name e)
 
-no_clock : (k : List ℕ) → length_type.clock ≡ Some k → ⊥
-no_clock k e = cc
-
 kind_writable : (clocks : List (List ℕ)) (leaf : Leaf) → All IsMetadataName clocks → IsLeaf clocks leaf → Can (kind_toks (kind_tree leaf))
 unfolding is_identifier
 kind_writable clocks (Number t) names h = integer_writable t (clock_named clocks t names h)
@@ -95,7 +91,7 @@ members_writable clocks n before ((name, Dyn t Auto) ∷ ms) names a h w =
     let rest = names_in (shown_members (n + 2) ms) in
     let length_named = All-head IsMetadataName (length_name name) (name ∷ rest) w in
     let w2 = All-tail IsMetadataName (length_name name) (name ∷ rest) w in
-    both (ended marks.Semicolon (both (integer_writable length_type (λ k e. absurd (no_clock k e))) (word (length_name name) length_named nothing)))
+    both (ended marks.Semicolon (both (integer_writable length_type (λ k e. absurd cc)) (word (length_name name) length_named nothing)))
     (both (ended marks.Semicolon (both (kind_writable clocks (chain_of t).leaf names h.1.0.0.0)
     (word name (All-head IsMetadataName name rest w2) (mark marks.OpenBracket (word (length_name name) length_named (mark marks.CloseBracket (counts_writable (chain_of t).lengths h.1.0.0.1.size)))))))
     (members_writable clocks (n + 2) (before ++ (length_name name, Plain (Int length_type)) ∷ [] ++ (name, Dyn t (At n)) ∷ []) ms names a.1 h.1.1 (All-tail IsMetadataName name rest w2)))
