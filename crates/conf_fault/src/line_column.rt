@@ -19,16 +19,16 @@ pub(crate) fn line_column(text: &[u8], at: usize) -> LineColumn
     ensures column { result.column ≡ column_behind (take at text.now) }
     ensures lies { IsPlaceIn text.now result }
 {
-    let mut place = LineColumn { line: 1, column: 1 };
-    for byte in &text[..at.min(text.len())] {
-        if *byte == b'\n' {
-            place.line = place.line.saturating_add(1);
-            place.column = 1;
-        } else {
-            place.column = place.column.saturating_add(1);
-        }
+    let before = &text[..at.min(text.len())];
+    let column = before
+        .iter()
+        .rev()
+        .take_while(|byte| **byte != b'\n')
+        .count();
+    LineColumn {
+        line: 1 + before.iter().filter(|byte| **byte == b'\n').count(),
+        column: 1 + column,
     }
-    place
 }
 
 /// Adds where a fault stands.
