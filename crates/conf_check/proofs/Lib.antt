@@ -1,4 +1,3 @@
-pub mod BitsLemmas
 pub mod RuleLaws
 pub mod ExcludedTexts
 pub mod ConfigurationLaws
