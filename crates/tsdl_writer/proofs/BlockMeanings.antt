@@ -1,5 +1,5 @@
 -- What the trees of blocks mean: the trace, the clock, the stream or the event that they were made of.
-use Rattle.tsdl_writer.proofs.TreeWords.{AllByRecursion, Bool, ByteOrder, ClockType, EnvironmentEntry, EnvironmentValue, Event, IfSome, IsDistinct, IsDistinct-head, IsDistinct-tail, IsHeldUuid, IsHeldValue, Item, Known, List, Little, MemberType, None, Option, SFits, Some, Stream, StructType, [], ap, arith, bytes_eq, clock_items, clock_meaning, codes, context_names, each, environment_meaning, event_context, event_header, event_meaning, false, fields_scope, flag_value, flag_word, has_member, header_meaning, hyphenated_text, ints, is_trace, le-leb, length, length-map, list_all, list_any, lower, map, named_fact_meaning, named_fact_tree, nat_le, nat_lt, natural_item, natural_value, negsuc, one_word, optional, optional_items, order_word, packet_context, packet_header, pos, refl, scope_items, scope_meaning, specific_context, stream_meaning, structure_of, suc, suits, suits_header, sym, text_item, trace_order, trace_uuid, true, two_words, uuid_item, uuid_value, w64, whole, whole_number, word_item, ℕ, ℤ, ◌++◌, ◌^◌, ◌∷◌, ◌≡◌, ◌≤◌}
+use Rattle.tsdl_writer.proofs.TreeWords.{trace_items, stream_items, event_items, AllByRecursion, Bool, ByteOrder, ClockType, EnvironmentEntry, EnvironmentValue, Event, IfSome, IsDistinct, IsDistinct-head, IsDistinct-tail, IsHeldUuid, IsHeldValue, Known, List, Little, MemberType, None, Option, SFits, Some, Stream, StructType, [], ap, arith, bytes_eq, clock_items, clock_meaning, codes, context_names, each, environment_meaning, event_context, event_header, event_meaning, false, fields_scope, flag_value, flag_word, has_member, header_meaning, hyphenated_text, ints, is_trace, le-leb, length, length-map, list_all, list_any, lower, map, named_fact_meaning, named_fact_tree, nat_le, nat_lt, natural_value, negsuc, one_word, optional, packet_context, packet_header, pos, refl, scope_meaning, specific_context, stream_meaning, structure_of, suc, suits, suits_header, sym, trace_order, trace_uuid, true, uuid_value, w64, whole, whole_number, ℕ, ℤ, ◌^◌, ◌∷◌, ◌≡◌, ◌≤◌}
 use Rattle.ctf_types.specs.declared.EnvironmentValue.TheVariants as environment
 use Rattle.tsdl_grammar.specs.declared.tree.Value.TheVariants as values
 use Rattle.tsdl_grammar.specs.declared.tree.Scope.{Scope}
@@ -28,18 +28,13 @@ scope_read known name test scopes there t a b c = rw (a, b, c) refl
 
 -- ---- the trace block
 
-abbrev pub trace_parts : Option (List ℕ) → ByteOrder → Members → List Item
-trace_parts uuid order ms =
-    natural_item (codes "major") 1 ∷ natural_item (codes "minor") 8 ∷ optional_items uuid_item uuid
-    ++ word_item (codes "byte_order") (order_word order) ∷ scope_items (two_words (codes "packet") (codes "header")) ms 8
-
-pub trace_found : (uuid : Option (List ℕ)) (order : ByteOrder) (ms : Members) → let is = trace_parts uuid order ms in (is_trace is ≡ true) × (trace_order is ≡ Some order) × (scope packet_header (scopes_in is) ≡ found ms 8)
+pub trace_found : (uuid : Option (List ℕ)) (order : ByteOrder) (ms : Members) → let is = trace_items uuid order ms in (is_trace is ≡ true) × (trace_order is ≡ Some order) × (scope packet_header (scopes_in is) ≡ found ms 8)
 trace_found None Little [] = (refl, refl, refl)
 trace_found (Some u) Little [] = (refl, refl, refl)
 trace_found _ _ [] = (refl, refl, refl)
 trace_found _ _ _ = (refl, refl, refl)
 
-pub trace_uuid_is : (uuid : Option (List ℕ)) (order : ByteOrder) (ms : Members) → IfSome uuid IsHeldUuid → trace_uuid (trace_parts uuid order ms) ≡ Some uuid
+pub trace_uuid_is : (uuid : Option (List ℕ)) (order : ByteOrder) (ms : Members) → IfSome uuid IsHeldUuid → trace_uuid (trace_items uuid order ms) ≡ Some uuid
 unfolding trace_uuid
 trace_uuid_is None order [] h = refl
 trace_uuid_is None order (m ∷ ms) h = refl
@@ -47,9 +42,9 @@ trace_uuid_is (Some u) order [] h = rw (uuid_read u h) refl
 trace_uuid_is (Some u) order (m ∷ ms) h = rw (uuid_read u h) refl
 
 pub header_is : (known : Known) (uuid : Option (List ℕ)) (order : ByteOrder) (ms : Members) (t : StructType) → structure_of known (found ms 8) ≡ Some t → list_all suits_header t.members ≡ true
-    → header_meaning known (trace_parts uuid order ms) ≡ Some t
+    → header_meaning known (trace_items uuid order ms) ≡ Some t
 unfolding header_meaning
-header_is known uuid order ms t e h = scope_read known packet_header suits_header (scopes_in (trace_parts uuid order ms)) (found ms 8) t (trace_found uuid order ms).2 e h
+header_is known uuid order ms t e h = scope_read known packet_header suits_header (scopes_in (trace_items uuid order ms)) (found ms 8) t (trace_found uuid order ms).2 e h
 
 -- ---- clock blocks
 
@@ -70,15 +65,8 @@ clock_is c u h = clock_parts_read c.name c.uuid c.description c.frequency c.prec
 
 -- ---- stream blocks
 
-abbrev pub stream_parts : ℕ → Members → Members → Members → ℕ → List Item
-stream_parts id context header common align =
-    natural_item (codes "id") id
-    ∷ scope_items (two_words (codes "packet") (codes "context")) context 8
-    ++ scope_items (two_words (codes "event") (codes "header")) header 8
-    ++ scope_items (two_words (codes "event") (codes "context")) common align
-
 -- each structure of a stream block is found under its name
-stream_found : (id : ℕ) (context header common : Members) (align : ℕ) → let is = stream_parts id context header common align in (has_parts (packet_context ∷ event_header ∷ event_context ∷ []) is ≡ true)
+stream_found : (id : ℕ) (context header common : Members) (align : ℕ) → let is = stream_items id context header common align in (has_parts (packet_context ∷ event_header ∷ event_context ∷ []) is ≡ true)
     × (scope packet_context (scopes_in is) ≡ found context 8) × (scope event_header (scopes_in is) ≡ found header 8) × (scope event_context (scopes_in is) ≡ found common align)
 stream_found id [] [] [] align = (refl, refl, refl, refl)
 stream_found id (c ∷ cs) [] [] align = (refl, refl, refl, refl)
@@ -100,10 +88,10 @@ pub record StreamIsRead (known : Known) (context header common : Members) (align
   pub content_size : has_member (codes "content_size") s.context.members ≡ true
   pub no_events : s.events ≡ []
 
-pub stream_is : (known : Known) (context header common : Members) (align : ℕ) (s : Stream) → StreamIsRead known context header common align s → stream_meaning known (stream_parts s.id context header common align) ≡ Some s
+pub stream_is : (known : Known) (context header common : Members) (align : ℕ) (s : Stream) → StreamIsRead known context header common align s → stream_meaning known (stream_items s.id context header common align) ≡ Some s
 unfolding stream_meaning
 stream_is known context header common align s h =
-    let scopes = scopes_in (stream_parts s.id context header common align) in
+    let scopes = scopes_in (stream_items s.id context header common align) in
     let at = stream_found s.id context header common align in
     let a = scope_read known packet_context (suits context_names) scopes (found context 8) s.context at.1 h.context_read h.context_suits in
     let b = scope_read known event_header (suits (codes "id" ∷ [])) scopes (found header 8) s.event_header at.2 h.header_read h.header_suits in
@@ -112,14 +100,7 @@ stream_is known context header common align s h =
 
 -- ---- event blocks
 
-abbrev pub event_parts : ℕ → ℕ → List ℕ → Option ℕ → Members → ℕ → Members → ℕ → List Item
-event_parts stream id name level specific align fields fields_align =
-    text_item (codes "name") name ∷ natural_item (codes "id") id ∷ natural_item (codes "stream_id") stream
-    ∷ optional_items (natural_item (codes "loglevel")) level
-    ++ scope_items (one_word (codes "context")) specific align
-    ++ scope_items (one_word (codes "fields")) fields fields_align
-
-event_found : (stream id : ℕ) (name : List ℕ) (level : Option ℕ) (specific : Members) (align : ℕ) (fields : Members) (fields_align : ℕ) → let is = event_parts stream id name level specific align fields fields_align in
+event_found : (stream id : ℕ) (name : List ℕ) (level : Option ℕ) (specific : Members) (align : ℕ) (fields : Members) (fields_align : ℕ) → let is = event_items stream id name level specific align fields fields_align in
     (has_parts (specific_context ∷ fields_scope ∷ []) is ≡ true) × (optional natural_value (attr (codes "loglevel") (attrs_in is)) ≡ Some level)
     × (scope specific_context (scopes_in is) ≡ found specific align) × (scope fields_scope (scopes_in is) ≡ found fields fields_align)
 event_found stream id name None [] align [] fields_align = (refl, refl, refl, refl)
@@ -129,10 +110,10 @@ event_found stream id name _ _ align _ fields_align = (refl, refl, refl, refl)
 
 pub event_is : (known : Known) (stream : ℕ) (e : Event) (specific : Members) (align : ℕ) (fields : Members) (fields_align : ℕ)
     → structure_of known (found specific align) ≡ Some e.specific → structure_of known (found fields fields_align) ≡ Some e.fields
-    → event_meaning known (event_parts stream e.id e.name e.log_level specific align fields fields_align) ≡ Some (stream, e)
+    → event_meaning known (event_items stream e.id e.name e.log_level specific align fields fields_align) ≡ Some (stream, e)
 unfolding event_meaning
 event_is known stream e specific align fields fields_align p q =
-    let scopes = scopes_in (event_parts stream e.id e.name e.log_level specific align fields fields_align) in
+    let scopes = scopes_in (event_items stream e.id e.name e.log_level specific align fields fields_align) in
     let at = event_found stream e.id e.name e.log_level specific align fields fields_align in
     let a = scope_read known specific_context (λ m. true) scopes (found specific align) e.specific at.2 p (all_pass e.specific.members) in
     let b = scope_read known fields_scope (λ m. true) scopes (found fields fields_align) e.fields at.3 q (all_pass e.fields.members) in

@@ -89,26 +89,23 @@ flat_map-flat_map : {A B : Type 0} (f : B → List Atom) (g : A → List B) (xs 
 flat_map-flat_map f g [] = refl
 flat_map-flat_map f g (x ∷ xs) = flat_map-append f (g x) (flat_map g xs) ∙ ap (λ (w : List Atom). flat_map f (g x) ++ w) (flat_map-flat_map f g xs)
 
-scope_groups : {p : Printer} {text : List ℕ} (name members rest : List Atom) (align : ℕ)
-    → Ends p (name ++ (atoms.Mark marks.Assign ∷ atoms.Word (codes "struct") ∷ atoms.Mark marks.OpenBrace ∷ (members ++ (closing align ++ rest)))) text
+scope_groups : {p : Printer} {text : List ℕ} (name named members printed rest : List Atom) (align : ℕ) → name ≡ named → members ≡ printed
+    → Ends p (named ++ (atoms.Mark marks.Assign ∷ atoms.Word (codes "struct") ∷ atoms.Mark marks.OpenBrace ∷ (printed ++ (closing align ++ rest)))) text
     → Ends p (name ++ (atoms.Mark marks.Assign ∷ (atoms.Word (codes "struct") ∷ braced members ++ align_toks (Some (natural_number align)))) ++ atoms.Mark marks.Semicolon ∷ [] ++ [] ++ rest) text
-scope_groups {p} {text} name members rest align e =
+scope_groups {p} {text} name named members printed rest align same spelled e =
     let behind = atoms.Mark marks.Semicolon ∷ rest in let aligned = align_toks (Some (natural_number align)) in let brace = atoms.Mark marks.CloseBrace ∷ [] in
-    let scope = atoms.Mark marks.Assign ∷ (atoms.Word (codes "struct") ∷ braced members ++ aligned) in
-    let inner : members ++ brace ++ aligned ++ behind ≡ members ++ (closing align ++ rest) = append_assoc (members ++ brace) aligned behind ∙ append_assoc members brace (aligned ++ behind) in
-    let grouped = subst (λ (w : List Atom). Ends p (name ++ (atoms.Mark marks.Assign ∷ atoms.Word (codes "struct") ∷ atoms.Mark marks.OpenBrace ∷ w)) text) (sym inner) e in
-    nothing_behind (name ++ scope ++ atoms.Mark marks.Semicolon ∷ []) rest (regroup (name ++ scope) (atoms.Mark marks.Semicolon ∷ []) rest (regroup name scope behind grouped))
+    let scope = atoms.Mark marks.Assign ∷ (atoms.Word (codes "struct") ∷ braced printed ++ aligned) in
+    let inner : printed ++ brace ++ aligned ++ behind ≡ printed ++ (closing align ++ rest) = append_assoc (printed ++ brace) aligned behind ∙ append_assoc printed brace (aligned ++ behind) in
+    let grouped = subst (λ (w : List Atom). Ends p (named ++ (atoms.Mark marks.Assign ∷ atoms.Word (codes "struct") ∷ atoms.Mark marks.OpenBrace ∷ w)) text) (sym inner) e in
+    rw (same, spelled) (nothing_behind (named ++ scope ++ atoms.Mark marks.Semicolon ∷ []) rest (regroup (named ++ scope) (atoms.Mark marks.Semicolon ∷ []) rest (regroup named scope behind grouped)))
 
 -- a structure with members, under its name
 pub scoped : {p : Printer} {text : List ℕ} (name : Name) (named : List Atom) (ms : List (List ℕ × MemberType)) (align : ℕ) (rest : List Atom) → name_toks name ≡ named → (ms ≡ [] → ⊥)
     → Ends p (named ++ (atoms.Mark marks.Assign ∷ atoms.Word (codes "struct") ∷ atoms.Mark marks.OpenBrace ∷ (flat_map member_toks_of ms ++ (closing align ++ rest)))) text
     → Ends p (flat_map item_toks (scope_items name ms align) ++ rest) text
 scoped name named [] align rest same some e = absurd (some refl)
-scoped {p} {text} name named (m ∷ ms) align rest same some e =
-    let parts = sym (flat_map-flat_map member_toks member_trees (m ∷ ms)) in
-    let front = λ (n w : List Atom). n ++ (atoms.Mark marks.Assign ∷ atoms.Word (codes "struct") ∷ atoms.Mark marks.OpenBrace ∷ (w ++ (closing align ++ rest))) in
-    let spelled = subst (λ (n : List Atom). Ends p (front n (flat_map member_toks_of (m ∷ ms))) text) (sym same) e in
-    scope_groups (name_toks name) (flat_map member_toks (flat_map member_trees (m ∷ ms))) rest align (subst (λ (w : List Atom). Ends p (front (name_toks name) w) text) parts spelled)
+scoped name named (m ∷ ms) align rest same some e =
+    scope_groups (name_toks name) named (flat_map member_toks (flat_map member_trees (m ∷ ms))) (flat_map member_toks_of (m ∷ ms)) rest align same (flat_map-flat_map member_toks member_trees (m ∷ ms)) e
 
 -- an environment with entries
 pub environment_stands : {p : Printer} {text : List ℕ} (es : List EnvironmentEntry) (rest : List Atom) → (es ≡ [] → ⊥)

@@ -49,10 +49,12 @@ stream_read known n s t h = record {
   no_events = refl;
 }
 
-stream_block_read : (known : Known) (n : ℕ) (s : StreamType) → IsStreamType known.clocks s → IsStream known.clocks (stream_of n s) → stream_meaning known (stream_items n s) ≡ Some (bare n s)
+stream_block_read : (known : Known) (n : ℕ) (s : StreamType) → IsStreamType known.clocks s → IsStream known.clocks (stream_of n s)
+    → stream_meaning known (stream_items n (context_numbers s.context ++ s.extras.members) (event_header_members s.event_header) s.common.members s.common.min_align) ≡ Some (bare n s)
 stream_block_read known n s t h =
-    subst (λ (k : ℕ). stream_meaning known (stream_items k s) ≡ Some (bare n s)) (bare-id n s)
-    (stream_is known (context_numbers s.context ++ s.extras.members) (event_header_members s.event_header) s.common.members s.common.min_align (bare n s) (stream_read known n s t h))
+    let context = context_numbers s.context ++ s.extras.members in let header = event_header_members s.event_header in
+    subst (λ (k : ℕ). stream_meaning known (stream_items k context header s.common.members s.common.min_align) ≡ Some (bare n s)) (bare-id n s)
+    (stream_is known context header s.common.members s.common.min_align (bare n s) (stream_read known n s t h))
 
 pub streams_read : (known : Known) (n : ℕ) (ss : List StreamType) → AllByRecursion (IsStreamType known.clocks) ss → AllByRecursion (IsStream known.clocks) (streams_of n ss)
     → each (stream_meaning known) (flat_map stream_in (stream_blocks n ss)) ≡ Some (bares n ss)
@@ -60,7 +62,7 @@ unfolding streams_of
 streams_read known n [] t h = refl
 streams_read known n (s ∷ ss) t h = rw (stream_block_read known n s t.0 h.0, streams_read known (n + 1) ss t.1 h.1) refl
 
-event_block_read : (known : Known) (stream n : ℕ) (s : StreamType) (e : EventType) → IsEventType s e → event_meaning known (event_items stream n e) ≡ Some (stream, event_of n e)
+event_block_read : (known : Known) (stream n : ℕ) (s : StreamType) (e : EventType) → IsEventType s e → event_meaning known (event_items stream n e.name e.log_level e.specific.members e.specific.min_align e.payload.members e.payload.min_align) ≡ Some (stream, event_of n e)
 unfolding event_of
 event_block_read known stream n s e h =
     event_is known stream (event_of n e) e.specific.members e.specific.min_align e.payload.members e.payload.min_align (config_struct_read known e.specific h.specific) (config_struct_read known e.payload h.payload)

@@ -30,12 +30,10 @@ uuid_automatic None = tt
 uuid_automatic (Some t) = (tt, tt)
 
 pub header_automatic : (f : HeaderFeatures) → AreAutomatic (header_members f)
-header_automatic f =
-    let a = number_member (codes "magic") f.magic in let b = uuid_member f.uuid in let c = number_member (codes "stream_id") f.stream_id in
-    automatic-append (a ++ b) c (automatic-append a b (number_automatic (codes "magic") f.magic) (uuid_automatic f.uuid)) (number_automatic (codes "stream_id") f.stream_id)
+header_automatic f = automatic-append _ _ (automatic-append _ _ (number_automatic (codes "magic") f.magic) (uuid_automatic f.uuid)) (number_automatic (codes "stream_id") f.stream_id)
 
 pub event_header_automatic : (f : EventFeatures) → AreAutomatic (event_header_members f)
-event_header_automatic f = automatic-append (number_member (codes "id") f.id) (number_member (codes "timestamp") f.timestamp) (number_automatic (codes "id") f.id) (number_automatic (codes "timestamp") f.timestamp)
+event_header_automatic f = automatic-append _ _ (number_automatic (codes "id") f.id) (number_automatic (codes "timestamp") f.timestamp)
 
 pub context_automatic : (f : ContextFeatures) → AreAutomatic (context_numbers f)
 context_automatic f =

@@ -1,5 +1,5 @@
 -- The blocks of an allowed configuration mean its metadata.
-use Rattle.tsdl_writer.proofs.TreeWords.{AllByRecursion, Block, ClockType, Config, Denotes, EnvironmentEntry, IsConfig, IsHeld, IsHeldClock, IsHeldValue, IsMetadata, IsString, IsStruct, Item, List, Some, StreamType, [], all_event_blocks, ap, append-nil, at_most_one, blocks_of, clock_block, clock_in, clock_meaning, each, environment_blocks, environment_in, event_block, event_blocks, event_in, event_items, flat_map, flat_map-append, header_members, header_of, known_of, map, metadata_is_allowed, metadata_of, named_fact_tree, numbered, recursion_from_All, refl, stream_block, stream_blocks, stream_in, streams_meaning, streams_of, struct_with, struct_with-members, structure_of, text_meta, text_toks, trace_block, trace_in, trace_items, written, ℕ, ◌++◌, ◌+◌, ◌∙◌, ◌∷◌, ◌≡◌}
+use Rattle.tsdl_writer.proofs.TreeWords.{AllByRecursion, Block, ClockType, Config, Denotes, EnvironmentEntry, IsConfig, IsHeld, IsHeldClock, IsHeldValue, IsMetadata, IsString, IsStruct, Item, List, Some, StreamType, [], all_event_blocks, ap, append-nil, at_most_one, blocks_of, clock_block, clock_in, clock_meaning, each, environment_blocks, environment_in, event_block, event_blocks, event_in, flat_map, flat_map-append, header_members, header_of, known_of, map, metadata_is_allowed, metadata_of, named_fact_tree, numbered, recursion_from_All, refl, stream_block, stream_blocks, stream_in, streams_meaning, streams_of, struct_with, struct_with-members, structure_of, text_meta, text_toks, trace_block, trace_in, trace_items, written, ℕ, ◌++◌, ◌+◌, ◌∙◌, ◌∷◌, ◌≡◌}
 use Rattle.tsdl_grammar.specs.declared.tree.NamedFact.{NamedFact}
 use Rattle.tsdl_grammar.specs.declared.tree.Block.TheVariants as blocks
 use Rattle.tsdl_writer.proofs.StructureMeanings.{found, structure_read}
@@ -29,9 +29,9 @@ no_environment f [] h = refl
 no_environment f (e ∷ es) h = h (map named_fact_tree (e ∷ es))
 
 no_events : {C : Type 0} (f : Block → List C) (ss : List StreamType) → ((is : List Item) → f (blocks.Event is) ++ [] ≡ []) → flat_map f (all_event_blocks 0 ss) ≡ []
-no_events f ss h = numbered_none f (λ stream s. event_blocks stream 0 s.events) 0 ss (λ k s. numbered_none f (λ id e. event_block k id e ∷ []) 0 s.events (λ id e. h (event_items k id e)))
+no_events f ss h = numbered_none f (λ stream s. event_blocks stream 0 s.events) 0 ss (λ k s. numbered_none f (λ id e. event_block k id e ∷ []) 0 s.events (λ id e. h _))
 
-trace_alone : (c : Config) → flat_map trace_in (blocks_of c) ≡ trace_items c ∷ []
+trace_alone : (c : Config) → flat_map trace_in (blocks_of c) ≡ trace_items c.uuid c.order (header_members c.header) ∷ []
 trace_alone c =
     taken trace_in c ∙ rw (no_environment trace_in c.environment (λ fs. refl), none_taken trace_in clock_block c.clocks (λ k. refl), no_streams trace_in c.streams (λ k s. refl), no_events trace_in c.streams (λ is. refl)) refl
 

@@ -66,7 +66,7 @@ pub use Rattle.tsdl_grammar.specs.declared.tree.Item.{Item}
 pub use Rattle.tsdl_grammar.specs.declared.tree.Name.{Name}
 pub use Rattle.tsdl_writer.specs.Held.{IsHeld, IsHeldClock, IsHeldUuid, IsHeldValue}
 pub use Rattle.tsdl_writer.specs.Prints.{Begins, Ends, IsString, Prints, token_toks}
-pub use Rattle.tsdl_writer.specs.Trees.{all_event_blocks, array_member, attributes, base_number, blocks_of, clock_block, clock_items, clock_numbers, closing, count_bracket, entry_tree, entry_trees, environment_blocks, event_block, event_blocks, event_items, fact_tree, flag_word, high_number, integer_attributes, kind_tree, length_member, mapping_attributes, member_toks_of, member_tree, member_trees, named_fact_tree, natural_attribute, natural_item, natural_number, numbered, one_word, optional_items, order_word, scope_items, stream_block, stream_blocks, stream_items, structure_tree, text_attribute, text_item, trace_block, trace_items, two_words, uuid_item, whole_item, whole_number, word_attribute, word_item}
+pub use Rattle.tsdl_writer.specs.Trees.{all_event_blocks, array_member, attributes, base_number, blocks_of, clock_block, clock_items, clock_numbers, closing, count_bracket, entry_tree, entry_trees, environment_blocks, event_block, event_blocks, event_items, fact_tree, flag_word, high_number, integer_attributes, kind_tree, length_member, mapping_attributes, member_toks_of, member_tree, member_trees, named_fact_tree, natural_attribute, natural_item, natural_number, numbered, one_word, optional_items, order_word, scope_items, stream_block, stream_blocks, stream_items, structure_tree, text_item, trace_block, trace_items, two_words, uuid_item, whole_item, whole_number, word_attribute, word_item}
 unfoldable pub use Rattle.tsdl_writer.specs.Written.{written}
 pub use Rattle.tsdl_writer.specs.declared.printer.Printer.{Printer}
 pub use Rattle.uuid.specs.Text.{hyphenated_text, lower}

@@ -1,7 +1,9 @@
 -- Tokens that can be written as they are: words are identifiers that are read, and numbers are below 2^64.
-use Rattle.tsdl_writer.proofs.TreeWords.{AllByRecursion, Atom, IsMetadataName, List, Mark, [], arith, attr_toks, braced, bytes_eq, false, flat_map, flat_map-append, ints, is_identifier, list_any, natural_attribute, negsuc, number_toks, pos, subst, suc, sym, text_attribute, true, unused_keywords, whole_number, word_attribute, ℕ, ℤ, ◌++◌, ◌-◌, ◌<◌, ◌^◌, ◌∷◌, ◌≡◌, ◌≤ℤ◌}
+use Rattle.tsdl_writer.proofs.TreeWords.{AllByRecursion, Atom, IsMetadataName, List, Mark, [], arith, attr_toks, braced, bytes_eq, false, flat_map, flat_map-append, ints, is_identifier, list_any, natural_attribute, negsuc, number_toks, pos, subst, suc, sym, true, unused_keywords, whole_number, word_attribute, ℕ, ℤ, ◌++◌, ◌-◌, ◌<◌, ◌^◌, ◌∷◌, ◌≡◌, ◌≤ℤ◌}
 use Rattle.tsdl_grammar.specs.declared.token.Mark.TheVariants as marks
 use Rattle.tsdl_grammar.specs.declared.atom.Atom.TheVariants as atoms
+use Rattle.tsdl_grammar.specs.declared.tree.Value.TheVariants as values
+use Rattle.tsdl_writer.specs.Trees.{attribute}
 
 abbrev pub IsWritable : Atom → Type 0
 IsWritable (atoms.Word w) = IsMetadataName w
@@ -60,5 +62,5 @@ natural_value w n h k l = keyword w h k (mark marks.Equals (number n l (mark mar
 pub word_value : (w v : List ℕ) → is_identifier w ≡ true → list_any (bytes_eq w) unused_keywords ≡ false → IsMetadataName v → Can (attr_toks (word_attribute w v))
 word_value w v h k n = keyword w h k (mark marks.Equals (word v n (mark marks.Semicolon nothing)))
 
-pub text_value : (w s : List ℕ) → is_identifier w ≡ true → list_any (bytes_eq w) unused_keywords ≡ false → Can (attr_toks (text_attribute w s))
+pub text_value : (w s : List ℕ) → is_identifier w ≡ true → list_any (bytes_eq w) unused_keywords ≡ false → Can (attr_toks (attribute w (values.Text s)))
 text_value w s h k = keyword w h k (mark marks.Equals (string s (mark marks.Semicolon nothing)))

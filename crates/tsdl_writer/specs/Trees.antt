@@ -72,9 +72,6 @@ natural_attribute w n = attribute w (values.Number (natural_number n))
 abbrev pub word_attribute : List ℕ → List ℕ → Attribute
 word_attribute w v = attribute w (values.Name (one_word v))
 
-abbrev pub text_attribute : List ℕ → List ℕ → Attribute
-text_attribute w s = attribute w (values.Text s)
-
 abbrev pub flag_word : Bool → List ℕ
 flag_word true = codes "true"
 flag_word false = codes "false"
@@ -148,7 +145,7 @@ abbrev pub word_item : List ℕ → List ℕ → Item
 word_item w v = items.Attribute (word_attribute w v)
 
 abbrev pub text_item : List ℕ → List ℕ → Item
-text_item w s = items.Attribute (text_attribute w s)
+text_item w s = items.Attribute (attribute w (values.Text s))
 
 abbrev pub whole_item : List ℕ → ℤ → Item
 whole_item w z = items.Attribute (attribute w (values.Number (whole_number z)))
@@ -180,10 +177,10 @@ abbrev pub order_word : ByteOrder → List ℕ
 order_word Little = codes "le"
 order_word Big = codes "be"
 
-abbrev pub trace_items : Config → List Item
-trace_items c =
-    natural_item (codes "major") 1 ∷ natural_item (codes "minor") 8 ∷ optional_items uuid_item c.uuid
-    ++ word_item (codes "byte_order") (order_word c.order) ∷ scope_items (two_words (codes "packet") (codes "header")) (header_members c.header) 8
+abbrev pub trace_items : Option (List ℕ) → ByteOrder → List (List ℕ × MemberType) → List Item
+trace_items uuid order header =
+    natural_item (codes "major") 1 ∷ natural_item (codes "minor") 8 ∷ optional_items uuid_item uuid
+    ++ word_item (codes "byte_order") (order_word order) ∷ scope_items (two_words (codes "packet") (codes "header")) header 8
 
 abbrev pub fact_tree : EnvironmentValue → Fact
 fact_tree (environment.Whole z) = facts.Number (whole_number z)
@@ -206,31 +203,31 @@ clock_items c =
     word_item (codes "name") c.name ∷ optional_items uuid_item c.uuid ++ optional_items (text_item (codes "description")) c.description
     ++ clock_numbers c ++ word_item (codes "absolute") (flag_word c.absolute) ∷ []
 
-abbrev pub stream_items : ℕ → StreamType → List Item
-stream_items id s =
+abbrev pub stream_items : ℕ → List (List ℕ × MemberType) → List (List ℕ × MemberType) → List (List ℕ × MemberType) → ℕ → List Item
+stream_items id context header common align =
     natural_item (codes "id") id
-    ∷ scope_items (two_words (codes "packet") (codes "context")) (context_numbers s.context ++ s.extras.members) 8
-    ++ scope_items (two_words (codes "event") (codes "header")) (event_header_members s.event_header) 8
-    ++ scope_items (two_words (codes "event") (codes "context")) s.common.members s.common.min_align
+    ∷ scope_items (two_words (codes "packet") (codes "context")) context 8
+    ++ scope_items (two_words (codes "event") (codes "header")) header 8
+    ++ scope_items (two_words (codes "event") (codes "context")) common align
 
-abbrev pub event_items : ℕ → ℕ → EventType → List Item
-event_items stream id e =
-    text_item (codes "name") e.name ∷ natural_item (codes "id") id ∷ natural_item (codes "stream_id") stream
-    ∷ optional_items (natural_item (codes "loglevel")) e.log_level
-    ++ scope_items (one_word (codes "context")) e.specific.members e.specific.min_align
-    ++ scope_items (one_word (codes "fields")) e.payload.members e.payload.min_align
+abbrev pub event_items : ℕ → ℕ → List ℕ → Option ℕ → List (List ℕ × MemberType) → ℕ → List (List ℕ × MemberType) → ℕ → List Item
+event_items stream id name level specific align fields fields_align =
+    text_item (codes "name") name ∷ natural_item (codes "id") id ∷ natural_item (codes "stream_id") stream
+    ∷ optional_items (natural_item (codes "loglevel")) level
+    ++ scope_items (one_word (codes "context")) specific align
+    ++ scope_items (one_word (codes "fields")) fields fields_align
 
 abbrev pub trace_block : Config → Block
-trace_block c = blocks.Trace (trace_items c)
+trace_block c = blocks.Trace (trace_items c.uuid c.order (header_members c.header))
 
 abbrev pub clock_block : ClockType → Block
 clock_block c = blocks.Clock (clock_items c)
 
 abbrev pub stream_block : ℕ → StreamType → Block
-stream_block id s = blocks.Stream (stream_items id s)
+stream_block id s = blocks.Stream (stream_items id (context_numbers s.context ++ s.extras.members) (event_header_members s.event_header) s.common.members s.common.min_align)
 
 abbrev pub event_block : ℕ → ℕ → EventType → Block
-event_block stream id e = blocks.Event (event_items stream id e)
+event_block stream id e = blocks.Event (event_items stream id e.name e.log_level e.specific.members e.specific.min_align e.payload.members e.payload.min_align)
 
 -- what is made of each item and its number, one after the other
 abbrev pub numbered : {A B : Type 0} → (ℕ → A → List B) → ℕ → List A → List B
