@@ -1,9 +1,9 @@
 -- Rules that are read one after the other, and the words of trees, atoms and rules that the proofs speak of.
-pub use Rattle.std.proofs.Common.{Bool, List, None, Option, Some, [], ap, append-nil, append_assoc, arith, bytes_eq, codes, cond, eqb-true, false, flat_map, get_or, inl, inr, length, length-append, not, refl, rules, slice_get, subst, suc, sym, true, zero, ℕ, ◌++◌, ◌+◌, ◌<◌, ◌∙◌, ◌∷◌, ◌≡◌, ◌≤◌, ◌⊎◌}
+pub use Rattle.std.proofs.Common.{Bool, List, None, Option, Some, [], ap, append-nil, append_assoc, arith, bytes_eq, codes, cond, false, flat_map, inl, inr, length, length-append, not, refl, rules, slice_get, subst, suc, sym, true, zero, ℕ, ◌++◌, ◌+◌, ◌<◌, ◌∙◌, ◌∷◌, ◌≡◌, ◌≤◌, ◌⊎◌}
 pub use Rattle.std.proofs.lemmas.Option.{cond_some, slice_get_read}
 pub use Rattle.std.proofs.lemmas.Result.{err_from_is_err_and}
 pub use Rattle.tsdl_grammar.specs.Fronts.{atoms_in, meant, shown}
-pub use Rattle.tsdl_grammar.specs.Spelling.{align_toks, attr_toks, attrs_toks, block_and_semicolon, block_toks, braced, bracket_toks, closing_toks, dotted, entries_toks, entry_toks, fact_toks, high_toks, int_toks, item_toks, items_toks, kind_toks, label_toks, mark, member_toks, name_toks, named_fact_toks, next_entry_toks, number_toks, scope_toks, struct_toks, text_toks, value_toks, word}
+pub use Rattle.tsdl_grammar.specs.Spelling.{align_toks, attr_toks, block_and_semicolon, block_toks, braced, bracket_toks, closing_toks, dotted, entries_toks, entry_toks, fact_toks, high_toks, int_toks, item_toks, items_toks, kind_toks, label_toks, mark, member_toks, name_toks, named_fact_toks, next_entry_toks, number_toks, scope_toks, struct_toks, text_toks, value_toks, word}
 pub use Rattle.tsdl_grammar.specs.Steps.{◌>>=◌}
 pub use Rattle.tsdl_grammar.specs.declared.atom.Atom.{Atom}
 pub use Rattle.tsdl_grammar.specs.declared.tree.Attribute.{Attribute}

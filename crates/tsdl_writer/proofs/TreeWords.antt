@@ -2,7 +2,7 @@
 pub use Rattle.std.proofs.Common.{All, Bool, Contains, IfSome, IsUtf8, List, None, OnOk, Option, Result, SFits, Some, [], add-one, ap, append-nil, append_assoc, arith, bytes_eq, codes, drop, eq-eqb, eqb, false, flat_map, get_or, inl, inr, int_le, is_none, le-leb, length, length-append, lt-ltb, ltb, map, max, mod-eq_of_lt, mul-le-mul_left, mul_comm, nat_le, nat_lt, negsuc, not, option_map, pos, refl, rules, slice_get, subst, suc, sym, take, take_all, to_z-of_z, true, w64, zero, ℕ, ℤ, ◌%◌, ◌&&◌, ◌*◌, ◌++◌, ◌+◌, ◌-◌, ◌<◌, ◌==◌, ◌^◌, ◌||◌, ◌∙◌, ◌∷◌, ◌≡◌, ◌≤ℤ◌, ◌≤◌}
 pub use Rattle.ctf_types.proofs.AllowedMembers.{metadata_name_of_plain, no_members_shown, struct_is_allowed}
 pub use Rattle.ctf_types.proofs.AllowedMetadata.{metadata_is_allowed, struct_with-members}
-pub use Rattle.ctf_types.specs.Allowed.{HasBits, IsByteType, IsIdentity, IsLeaf, IsMagic, IsMappedTo, IsMetadata, IsNest, IsRange, IsStream, IsStruct, IsUnsigned, Where}
+pub use Rattle.ctf_types.specs.Allowed.{HasBits, IsByteType, IsIdentity, IsLeaf, IsMagic, IsMappedTo, IsMetadata, IsNest, IsRange, IsStream, IsStruct, IsUnsigned}
 unfoldable pub use Rattle.ctf_types.specs.Allowed.{AreMembers}
 pub use Rattle.ctf_types.specs.AllowedConfig.{AreConfigMembers, IsClockType, IsConfig, IsConfigMember, IsConfigStruct, IsEventType, IsStreamType}
 pub use Rattle.ctf_types.specs.Chain.{ByteString, Labelled, Leaf, Number}
