@@ -1,7 +1,7 @@
 //! What the rest of a configuration says that a value is judged by.
 ghost use Rattle.std.specs.Prelude.{◌≡◌};
 ghost use Rattle.serde_json.specs.View.{view, members_view};
-ghost use Rattle.conf_judge.specs.Known.{known_of, inside as inside_of, behind as behind_of, says_default as says_default_of};
+ghost use Rattle.conf_judge.specs.Known.{known_of, inside as inside_of, behind as behind_of};
 
 use crate::numbers::{Span, numbers_in};
 use conf_table::Place;
@@ -45,24 +45,13 @@ impl<'a> Around<'a> {
     pub(crate) fn behind(self, place: Place, entry: &Value) -> Around<'a>
         ensures { known_of result ≡ behind_of place (view entry.now) (known_of self.entry) }
     {
-        match place {
-            Place::StreamTypes => Around {
-                has_default: self.has_default || says_default(entry),
+        match (place, entry) {
+            (Place::StreamTypes, Value::Object(members)) => Around {
+                has_default: self.has_default
+                    || matches!(optional(members, "$is-default"), Some(Value::Bool(true))),
                 ..self
             },
             _ => self,
         }
-    }
-}
-
-/// Whether a data stream type says that it is the default.
-fn says_default(entry: &Value) -> bool
-    ensures { result ≡ says_default_of (view entry.now) }
-{
-    match entry {
-        Value::Object(members) => {
-            matches!(optional(members, "$is-default"), Some(Value::Bool(true)))
-        }
-        _ => false,
     }
 }

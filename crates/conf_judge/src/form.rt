@@ -2,36 +2,20 @@
 ghost use Rattle.std.specs.Prelude.{◌≡◌, ◌≤◌, IfErr};
 ghost use Rattle.serde_json.specs.View.{view};
 ghost use Rattle.conf_tree.specs.Reading.{Gives};
-ghost use Rattle.conf_judge.specs.Forms.{any_object, form_of, itself_of};
+ghost use Rattle.conf_judge.specs.Forms.{any_object, form_of};
 ghost use Rattle.conf_judge.specs.Known.{known_of};
 
 use crate::around::Around;
-use crate::leaf::{check_leaf, check_that};
+use crate::leaf::check_that;
 use crate::numbers::check_range;
-use conf_table::{Content, Place};
+use conf_table::Place;
 use conf_tree::{At, ConfFault, FaultKind, list, object};
 use serde_json::Value;
 use std::alloc::Global;
 
-/// Refuses a value that is of another kind than its content, or a value that holds no others and is not what it is to be.
-#[tactic(auto, unfolding(crate::specs::Forms::itself_of))]
-pub(crate) fn check_itself(
-    alloc: Global,
-    around: &Around<'_>,
-    content: &Content,
-    value: &Value,
-) -> Result<(), ConfFault>
-    ensures { Gives (λ _. tt) result (itself_of (known_of around.now) content.now (view value.now)) }
-{
-    match *content {
-        Content::At(place) => check_form(alloc, around, place, value),
-        _ => check_leaf(alloc, around, content, value),
-    }
-}
-
 /// A list or an object has one at least of what it holds, and an entry just one property. A feature is on, off where the packet can do without it, or a type of its own.
 #[tactic(auto, unfolding(crate::specs::Forms::form_of, crate::specs::Forms::feature, crate::specs::Forms::size_feature), using(crate::proofs::Sizes::items_counted, crate::proofs::Sizes::members_counted))]
-fn check_form(
+pub(crate) fn check_form(
     alloc: Global,
     around: &Around<'_>,
     place: Place,

@@ -12,7 +12,7 @@ ghost use Rattle.conf_judge.specs.Names.{names_beside as names_beside_of};
 ghost use Rattle.conf_judge.specs.Places.{item_content as item_content_of};
 
 use crate::around::Around;
-use crate::form::check_itself;
+use crate::leaf::check_itself;
 use crate::names::{check_key, names_beside, take_names};
 use crate::numbers::ALL;
 use crate::places::{classed_place, item_content};

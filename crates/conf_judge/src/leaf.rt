@@ -5,25 +5,27 @@ ghost use Rattle.std.specs.Str.{bytes_eq};
 ghost use Rattle.serde_json.specs.Data.{no_members};
 ghost use Rattle.serde_json.specs.View.{view, members_view};
 ghost use Rattle.conf_tree.specs.Reading.{Gives};
+ghost use Rattle.conf_judge.specs.Forms.{itself_of};
 ghost use Rattle.conf_judge.specs.Known.{known_of};
-ghost use Rattle.conf_judge.specs.Leaves.{only_if, whole_from, power_of, level, leaf_of};
+ghost use Rattle.conf_judge.specs.Leaves.{only_if, whole_from, power_of, level};
 
 use crate::around::Around;
+use crate::form::check_form;
 use conf_table::{Content, class_place, words_in};
 use conf_tree::{At, ConfFault, FaultKind, flag, member, text, whole};
 use conf_values::{is_printable, parsed};
 use serde_json::{Map, Value};
 use std::alloc::Global;
 
-/// Refuses what a value that holds no others is not.
-#[tactic(auto, unfolding(crate::specs::Leaves::leaf_of, crate::specs::Leaves::whole_or_text))]
-pub(crate) fn check_leaf(
+/// Refuses a value that is of another kind than its content, or a value that holds no others and is not what it is to be.
+#[tactic(auto, unfolding(crate::specs::Forms::itself_of, crate::specs::Leaves::leaf_of, crate::specs::Leaves::whole_or_text))]
+pub(crate) fn check_itself(
     alloc: Global,
     around: &Around<'_>,
     content: &Content,
     value: &Value,
 ) -> Result<(), ConfFault>
-    ensures { Gives (λ _. tt) result (leaf_of (known_of around.now) content.now (view value.now)) }
+    ensures { Gives (λ _. tt) result (itself_of (known_of around.now) content.now (view value.now)) }
 {
     match *content {
         Content::Whole { low, high } => check_whole(alloc, value, low, high),
@@ -50,7 +52,8 @@ pub(crate) fn check_leaf(
             _ => check_whole(alloc, value, low, high),
         },
         Content::Level { high } => check_level(alloc, around.levels, value, high),
-        Content::At(_) | Content::Anything => Ok(()),
+        Content::At(place) => check_form(alloc, around, place, value),
+        Content::Anything => Ok(()),
     }
 }
 

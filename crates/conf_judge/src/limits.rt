@@ -46,19 +46,11 @@ fn check_limit(alloc: Global, fits: bool) -> Result<(), ConfFault>
 
 /// Refuses the first limit that a value passes, or what it holds.
 #[cycle(limits)]
-#[tactic(auto, using(crate::proofs::FirstFlaw::told_first, crate::proofs::FirstFlaw::told_later))]
+#[tactic(auto, using(crate::proofs::FirstFlaw::told_first, crate::proofs::FirstFlaw::told_later, crate::proofs::FirstFlaw::nothing_limited))]
 fn check_content(alloc: Global, content: &Content, value: &Value) -> Result<(), ConfFault>
     ensures { Gives (λ _. tt) result (refusal (content_limits content.now (view value.now))) }
 {
     check_limit(alloc, fits(content, value))?;
-    check_inner(alloc, content, value)
-}
-
-#[cycle(limits)]
-#[tactic(auto, using(crate::proofs::FirstFlaw::nothing_limited))]
-fn check_inner(alloc: Global, content: &Content, value: &Value) -> Result<(), ConfFault>
-    ensures { Gives (λ _. tt) result (refusal (inner_limits content.now (view value.now))) }
-{
     let Content::At(place) = *content else {
         return Ok(());
     };

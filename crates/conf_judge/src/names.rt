@@ -73,13 +73,13 @@ fn length_name(alloc: Global, name: &str) -> Result<String, AllocError>
 fn is_dynamic(value: &Value) -> bool
     ensures { result ≡ is_dynamic_of (view value.now) }
 {
-    matches!(class_of_member(value), Some(Place::DynamicArray))
-}
-
-fn class_of_member(value: &Value) -> Option<Place>
-    ensures { result ≡ class_of_member_of (view value.now) }
-{
-    class_of(member(value.as_object()?, "field-type")?.as_object()?)
+    let told = value
+        .as_object()
+        .and_then(|entry| member(entry, "field-type"));
+    let class = told
+        .and_then(Value::as_object)
+        .and_then(|told| class_of(told));
+    class == Some(Place::DynamicArray)
 }
 
 /// The members that a packet context has itself (CTF 1.8.3, section 5.2).

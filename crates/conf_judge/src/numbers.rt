@@ -23,14 +23,6 @@ pub(crate) const ALL: Span = Span {
     high: 18_446_744_073_709_551_615,
 };
 
-/// 2 to the power of this number of bits.
-fn power(bits: u64) -> i128
-    requires { bits ≤ 64 }
-    ensures { result ≡ pos (2 ^ bits) }
-{
-    (1u128 << bits) as i128
-}
-
 /// The numbers that an integer with these properties can hold. Where the size is none, no number is outside.
 #[tactic(auto, unfolding(crate::specs::Numbers::numbers_in, crate::specs::Numbers::numbers_of))]
 pub(crate) fn numbers_in(signed: bool, members: &Map<String, Value>) -> Span
@@ -38,7 +30,7 @@ pub(crate) fn numbers_in(signed: bool, members: &Map<String, Value>) -> Span
 {
     match natural_in(members, "size") {
         Some(size) if size > 0 && size <= 64 => {
-            let past = power(size - u64::from(signed));
+            let past = (1u128 << (size - u64::from(signed))) as i128;
             Span {
                 low: if signed { -past } else { 0 },
                 high: past - 1,
@@ -56,27 +48,19 @@ pub(crate) fn natural_in(members: &Map<String, Value>, name: &str) -> Option<u64
     as_natural(member(members, name)?)
 }
 
-#[tactic(auto, using(crate::proofs::Sizes::pair_few, crate::proofs::Sizes::pair_many), unfolding(crate::specs::Numbers::pair_of))]
-fn pair(alloc: Global, items: &Vec<Value>) -> Result<Span, ConfFault>
-    ensures { Gives (λ s. s) result (pair_of (items_view items.now.items)) }
-{
-    match items.as_slice() {
-        [first, second] => {
-            let low = whole(alloc, At::Item(0), first, ALL.low, ALL.high)?;
-            let high = whole(alloc, At::Item(1), second, ALL.low, ALL.high)?;
-            Ok(Span { low, high })
-        }
-        [] | [_] | [_, _, _, ..] => Err(ConfFault::here(alloc, FaultKind::WrongKind)),
-    }
-}
-
 /// The range that a number or a pair of numbers is.
-#[tactic(auto, unfolding(crate::specs::Numbers::range_of))]
+#[tactic(auto, using(crate::proofs::Sizes::pair_few, crate::proofs::Sizes::pair_many), unfolding(crate::specs::Numbers::range_of, crate::specs::Numbers::pair_of))]
 fn range(alloc: Global, value: &Value) -> Result<Span, ConfFault>
     ensures { Gives (λ s. s) result (range_of (view value.now)) }
 {
     match value {
-        Value::Array(items) => pair(alloc, items),
+        Value::Array(items) => match items.as_slice() {
+            [low, high] => Ok(Span {
+                low: whole(alloc, At::Item(0), low, ALL.low, ALL.high)?,
+                high: whole(alloc, At::Item(1), high, ALL.low, ALL.high)?,
+            }),
+            [] | [_] | [_, _, _, ..] => Err(ConfFault::here(alloc, FaultKind::WrongKind)),
+        },
         _ => {
             let number = whole(alloc, At::Here, value, ALL.low, ALL.high)?;
             Ok(Span {

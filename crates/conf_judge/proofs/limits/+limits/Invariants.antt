@@ -19,9 +19,6 @@ invariant-check_members-loop-name l =
 abbrev pub decreases-check_content : goal.decreases-check_content
 decreases-check_content l = 8 * goal.size-check_content l + 2
 
-abbrev pub decreases-check_inner : goal.decreases-check_inner
-decreases-check_inner l = 8 * goal.size-check_inner l + 1
-
 abbrev pub decreases-check_items : goal.decreases-check_items
 decreases-check_items l = 8 * goal.size-check_items l + 6
 
