@@ -1,4 +1,6 @@
 //! Laws of look-up along inheritance.
+#![tactic(auto, using(crate::proofs::LookedUp::one_look, crate::proofs::RoundLemmas::resolution_sound, crate::proofs::RefusalLemmas::resolved_or_refused))]
+
 ghost use Rattle.std.specs.Prelude.{◌≡◌, ◌↔◌, ◌⊎◌, ℕ, List, [], None, Ok, Err, true, false};
 ghost use Rattle.serde_json.specs.Data.{Data, Members, no_members};
 ghost use Rattle.serde_json.specs.Events.{members_len};
