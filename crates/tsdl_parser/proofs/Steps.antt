@@ -10,7 +10,7 @@ pub use Rattle.tsdl_grammar.specs.declared.tree.Attribute.{Attribute}
 pub use Rattle.tsdl_grammar.specs.declared.tree.Entries.{Entries}
 pub use Rattle.tsdl_grammar.specs.declared.tree.Name.{Name}
 pub use Rattle.tsdl_grammar.specs.declared.tree.Number.{Number}
-pub use Rattle.tsdl_parser.specs.Parsing.{Fails, Shortens, is_mark, is_open, is_word, many, number_of}
+pub use Rattle.tsdl_parser.specs.Parsing.{Fails, Shortens, is_mark, is_open, is_word, many}
 unfoldable pub use Rattle.tsdl_parser.specs.Parsing.{begins, braced_at, keyword_at, many_at, mark_at, names, number_at, signed_at, word_at}
 pub use Rattle.tsdl_parser.specs.declared.halt.Unread.{Unread}
 pub use Rattle.tsdl_parser.specs.Rules.{all_blocks_at, has_more, starts}

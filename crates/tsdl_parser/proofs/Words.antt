@@ -1,26 +1,15 @@
 -- Marks, words and numbers are read as they are spelled.
-use Rattle.tsdl_parser.proofs.Steps.{Atom, List, None, Number, Option, Some, [], along, ap, cond_some, eqb-true, get_or, is_mark, is_word, keyword_at, mark, mark_at, number_at, number_of, number_toks, refl, signed_at, step, sym, true, word, word_at, ℕ, ◌++◌, ◌>>=◌, ◌∙◌, ◌∷◌, ◌≡◌}
+use Rattle.tsdl_parser.proofs.Steps.{Atom, List, None, Number, Option, Some, [], along, ap, cond_some, is_mark, is_word, keyword_at, mark, mark_at, number_at, number_toks, refl, signed_at, step, true, word, word_at, ℕ, ◌++◌, ◌>>=◌, ◌∙◌, ◌∷◌, ◌≡◌}
+use denote.Enum.Bare.{same_true}
 use Rattle.std.proofs.lemmas.Slice.Eq.{bytes_eq-Decides}
+use Rattle.tsdl_grammar.specs.contracts.token.Mark.{the_type}
 use Rattle.tsdl_grammar.specs.declared.token.Mark.{Mark}
 use Rattle.tsdl_grammar.specs.declared.token.Mark.TheVariants as marks
 use Rattle.tsdl_grammar.specs.declared.atom.Atom.TheVariants as atoms
 use Rattle.tsdl_grammar.specs.declared.tree.Sign.TheVariants.{Plus, Minus}
 
-all_marks : List Mark
-all_marks =
-    marks.OpenBrace ∷ marks.CloseBrace ∷ marks.OpenBracket ∷ marks.CloseBracket ∷ marks.OpenParenthesis ∷ marks.CloseParenthesis ∷ marks.Semicolon
-    ∷ marks.Comma ∷ marks.Colon ∷ marks.Equals ∷ marks.Minus ∷ marks.Plus ∷ marks.Dot ∷ marks.Assign ∷ marks.Ellipsis ∷ []
-
-numbered : (m : Mark) → get_or all_marks (number_of m) marks.OpenBrace ≡ m
-unfolding all_marks
-numbered marks.OpenBrace = refl
-numbered _ = refl
-
-same_mark : (m n : Mark) → number_of m ≡ number_of n → m ≡ n
-same_mark m n e = sym (numbered m) ∙ ap (λ (k : ℕ). get_or all_marks k marks.OpenBrace) e ∙ numbered n
-
 mark_is : (m : Mark) (a : Atom) → is_mark m a ≡ true → a ≡ mark m
-mark_is m (atoms.Mark n) e = ap (λ (x : Mark). mark x) (same_mark n m (eqb-true _ _ e))
+mark_is m (atoms.Mark n) e = ap (λ (x : Mark). mark x) (same_true the_type tt n m e)
 mark_is m _ e = absurd cc
 
 mark_takes : (m : Mark) (ts rest : List Atom) → mark_at m ts ≡ Some rest → ts ≡ mark m ∷ rest

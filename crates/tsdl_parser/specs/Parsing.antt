@@ -1,6 +1,8 @@
 -- What stands at the front of a list of atoms, with the atoms behind it: the marks, words, numbers and repetitions that
 -- the rules of the grammar are made of (CTF 1.8.3, appendix C). A rule that doesn't fit has no case.
-use Rattle.std.specs.Prelude.{◌≡◌, ℕ, zero, suc, ◌<◌, Bool, false, not, ◌==◌, if◌then◌else◌, List, [], ◌∷◌, length, Option, Some, None, Result, Ok, Err, bytes_eq}
+use Rattle.std.specs.Prelude.{◌≡◌, ℕ, zero, suc, ◌<◌, Bool, false, not, if◌then◌else◌, List, [], ◌∷◌, length, Option, Some, None, Result, Ok, Err, bytes_eq}
+use denote.Enum.Bare.{sameb}
+use Rattle.tsdl_grammar.specs.contracts.token.Mark.{the_type}
 use Rattle.tsdl_grammar.specs.declared.token.Mark.{Mark}
 use Rattle.tsdl_grammar.specs.declared.token.Mark.TheVariants as marks
 use Rattle.tsdl_grammar.specs.declared.atom.Atom.{Atom}
@@ -20,26 +22,8 @@ abbrev pub Gives : {X Y : Type 0} → (X → Y) → Result X Unread → Option Y
 Gives view (Ok x) read = read ≡ Some (view x)
 Gives view (Err e) read = Fails e read
 
--- the marks, numbered
-abbrev pub number_of : Mark → ℕ
-number_of marks.OpenBrace = 0
-number_of marks.CloseBrace = 1
-number_of marks.OpenBracket = 2
-number_of marks.CloseBracket = 3
-number_of marks.OpenParenthesis = 4
-number_of marks.CloseParenthesis = 5
-number_of marks.Semicolon = 6
-number_of marks.Comma = 7
-number_of marks.Colon = 8
-number_of marks.Equals = 9
-number_of marks.Minus = 10
-number_of marks.Plus = 11
-number_of marks.Dot = 12
-number_of marks.Assign = 13
-number_of marks.Ellipsis = 14
-
 abbrev pub is_mark : Mark → Atom → Bool
-is_mark m (atoms.Mark n) = number_of n == number_of m
+is_mark m (atoms.Mark n) = sameb the_type n m
 is_mark m _ = false
 
 -- the first atom is this mark

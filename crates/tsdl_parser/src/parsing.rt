@@ -2,7 +2,7 @@
 
 ghost use Rattle.std.specs.Prelude.{◌≡◌, ◌∷◌, [], IfOk, MatchOption};
 ghost use Rattle.tsdl_grammar.specs.Fronts.{shown};
-ghost use Rattle.tsdl_parser.specs.Parsing.{Gives, number_of, begins, mark_at, word_at, names, keyword_at, number_at};
+ghost use Rattle.tsdl_parser.specs.Parsing.{Gives, begins, mark_at, word_at, names, keyword_at, number_at};
 
 use crate::expected::Expected;
 use crate::halt::{Halt, Missing, Unread};
@@ -23,19 +23,13 @@ pub(crate) fn next_atom(alloc: Global, atoms: Atoms<'_>) -> Read<'_, Option<Atom
     }
 }
 
-fn number_of(mark: Mark) -> u8
-    ensures { result ≡ number_of mark }
-{
-    mark as u8
-}
-
 /// Whether the first atom is this mark.
 #[tactic(auto, unfolding(crate::specs::Parsing::begins))]
 pub(crate) fn begins(mark: Mark, atoms: Atoms<'_>) -> bool
     ensures { result ≡ begins mark (shown atoms.entry) }
 {
     let kind = atoms.front.map(|front| front.kind);
-    matches!(kind, Some(TokenKind::Mark(found)) if number_of(found) == number_of(mark))
+    matches!(kind, Some(TokenKind::Mark(found)) if found == mark)
 }
 
 /// What stands behind this mark.
