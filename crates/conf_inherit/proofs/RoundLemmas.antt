@@ -257,28 +257,6 @@ laid_resolves t al n st is apart went sound whole =
     subst (λ x. Looks x places.Root (t ∷ []) (lay st.done places.Root t None)) is
     (lays al st.done known t places.Root (ready al None st.done t places.Root no_members inner (named al None (has st.done) all t places.Root false no_members own inner)) [] None refl)
 
-mutual
-  pub depth-nests : (d : Data) (levels : ℕ) → nests d levels ≡ true → depth d ≤ levels
-  depth-nests (array ds) zero h = absurd (true≢false (sym h))
-  depth-nests (array ds) (suc levels) h = let below : items_depth ds ≤ levels = depth-items_nest ds levels h in omega arith
-  depth-nests (object ms) zero h = absurd (true≢false (sym h))
-  depth-nests (object ms) (suc levels) h = let below : members_depth ms ≤ levels = depth-members_nest ms levels h in omega arith
-  depth-nests _ levels h = omega arith
-
-  depth-items_nest : (ds : Items) (levels : ℕ) → items_nest ds levels ≡ true → items_depth ds ≤ levels
-  depth-items_nest no_items levels h = omega arith
-  depth-items_nest (item d ds) levels h =
-      let one : depth d ≤ levels = depth-nests d levels (and_parts (nests d levels) (items_nest ds levels) h).0 in
-      let rest : items_depth ds ≤ levels = depth-items_nest ds levels (and_parts (nests d levels) (items_nest ds levels) h).1 in
-      omega arith
-
-  depth-members_nest : (ms : Members) (levels : ℕ) → members_nest ms levels ≡ true → members_depth ms ≤ levels
-  depth-members_nest no_members levels h = omega arith
-  depth-members_nest (member k d ms) levels h =
-      let one : depth d ≤ levels = depth-nests d levels (and_parts (nests d levels) (members_nest ms levels) h).0 in
-      let rest : members_depth ms ≤ levels = depth-members_nest ms levels (and_parts (nests d levels) (members_nest ms levels) h).1 in
-      omega arith
-
 -- ---- the names of a map are in order
 
 pub above_of : (k : String Global) (es : List Entry) → AllByRecursion (λ y. string_cmp k y ≡ Less) (keys_of es) → AllAbove (string_bytes k) (members_view es)

@@ -1,8 +1,8 @@
 -- Counting: the parts of a whole, and what a limit leaves.
-use Rattle.std.proofs.Common.{inr, inl, ◌≡◌, ◌+◌, ◌<◌, ◌≤◌, ◌++◌, ℕ, List, [], ◌∷◌, length, drop, get_or, Option, Some, None, Bool, true, false, string_bytes, refl, sym, ap, ◌∙◌, subst, arith, ◌&&◌, zero, suc, true≢false, Ordering, Less, Equal, Greater, nat_cmp, map}
+use Rattle.std.proofs.Common.{inr, inl, ◌≡◌, ◌+◌, ◌<◌, ◌≤◌, ◌++◌, ℕ, List, [], ◌∷◌, length, drop, get_or, Option, Some, None, Bool, true, false, string_bytes, refl, sym, ap, ◌∙◌, subst, arith, ◌&&◌, zero, suc, true≢false, Ordering, max, ◌↔◌, Less, Equal, Greater, nat_cmp, map}
 use Rattle.std.proofs.lemmas.Bool.{and_from, and_parts, cases_Bool}
 use Rattle.std.proofs.lemmas.List.{at_drop_more}
-use Rattle.serde_json.specs.Data.{Data, array, object, Items, no_items, item, Members, no_members, member, put}
+use Rattle.serde_json.specs.Data.{Data, array, object, Items, no_items, item, Members, no_members, member, put, depth, items_depth, members_depth}
 use Rattle.serde_json.specs.Find.{get_member, get_item}
 use Rattle.serde_json.specs.View.{view, items_view, members_view}
 use Rattle.serde_json.proofs.Views.{Entry}
@@ -83,17 +83,23 @@ counted_all limit room whole c =
 
 -- ---- the parts of a whole
 
-pub member_size : (k : List ℕ) (e : Data) (ms : Members) → get_member k ms ≡ Some e → size e ≤ members_size ms
-member_size k e no_members h = cc
-member_size k e (member l d ms) h = elim (meets k l) [
-  | same f ↦ (let small : size d ≤ size d + members_size ms = omega arith in subst (λ x. size x ≤ members_size (member l d ms)) (value_same d e (sym (get_same k l d ms f) ∙ h)) small)
-  | other apart ↦ omega (arith, member_size k e ms (sym (get_other k l d ms apart) ∙ h))
+-- no more values, and no deeper
+pub record NoMore (m n a b : ℕ) : Type 0 where
+  pub few : m ≤ n
+  pub flat : a ≤ b
+
+-- a property has no more values than the object, and nests no deeper
+member_within : (k : List ℕ) (e : Data) (ms : Members) → get_member k ms ≡ Some e → NoMore (size e) (members_size ms) (depth e) (members_depth ms)
+member_within k e no_members h = cc
+member_within k e (member l d ms) h = elim (meets k l) [
+  | same f ↦ subst (λ x. NoMore (size x) (members_size (member l d ms)) (depth x) (members_depth (member l d ms))) (value_same d e (sym (get_same k l d ms f) ∙ h)) record { few = omega arith; flat = omega arith }
+  | other apart ↦ (let rest = member_within k e ms (sym (get_other k l d ms apart) ∙ h) in record { few = omega (arith, rest.few); flat = omega (arith, rest.flat) })
 ]
 
 -- a property that is laid is a part of the laid object
 pub property_size : (done : Members) (s : Place) (k : List ℕ) (v : Data) (ms base : Members) → is_base_name s k ≡ false → get_member k ms ≡ Some v
     → size (lay done (place_under s k) v (get_member k base)) ≤ members_size (lay_members done s ms base)
-property_size done s k v ms base b h = member_size k (lay done (place_under s k) v (get_member k base)) (lay_members done s ms base) (lay_members-found done s k v ms base b h)
+property_size done s k v ms base b h = (member_within k (lay done (place_under s k) v (get_member k base)) (lay_members done s ms base) (lay_members-found done s k v ms base b h)).few
 
 pick_entry : (P : List ℕ → Data → Type 0) (front : List Entry) (e : Entry) (back : List Entry) → AllEntries P (members_view (front ++ e ∷ back)) → P (string_bytes e.0) (view e.1)
 pick_entry P [] e back h = h.0
@@ -149,83 +155,48 @@ new_next done seen vs i v below is =
 
 -- ---- values that are no larger than others: they have no more JSON values, and nest no deeper
 
--- no more values, and no deeper
-pub record NoMore (m n : ℕ) (f g : ℕ → Bool) : Type 0 where
-  pub few : m ≤ n
-  pub flat : (levels : ℕ) → g levels ≡ true → f levels ≡ true
-
 abbrev pub NoLarger : Data → Data → Type 0
-NoLarger d e = NoMore (size d) (size e) (nests d) (nests e)
+NoLarger d e = NoMore (size d) (size e) (depth d) (depth e)
 
 abbrev pub NoLargerItems : Items → Items → Type 0
-NoLargerItems ds es = NoMore (items_size ds) (items_size es) (items_nest ds) (items_nest es)
+NoLargerItems ds es = NoMore (items_size ds) (items_size es) (items_depth ds) (items_depth es)
 
 abbrev pub NoLargerMembers : Members → Members → Type 0
-NoLargerMembers ms ns = NoMore (members_size ms) (members_size ns) (members_nest ms) (members_nest ns)
+NoLargerMembers ms ns = NoMore (members_size ms) (members_size ns) (members_depth ms) (members_depth ns)
 
 pub as_large : (d : Data) → NoLarger d d
-as_large d = record { few = omega arith; flat = λ levels h. h }
+as_large d = record { few = omega arith; flat = omega arith }
 
 pub as_large_items : (ds : Items) → NoLargerItems ds ds
-as_large_items ds = record { few = omega arith; flat = λ levels h. h }
+as_large_items ds = record { few = omega arith; flat = omega arith }
 
-pub items_through : {m n o : ℕ} {f g h : ℕ → Bool} → NoMore m n f g → NoMore n o g h → NoMore m o f h
-items_through {m} {n} {o} i j = record { few = (let a : m ≤ n = i.few in let b : n ≤ o = j.few in omega arith); flat = λ levels h. i.flat levels (j.flat levels h) }
-
--- what is no larger than what fits does fit
-pub fits_below : (d e : Data) → NoLarger d e → Fits e → Fits d
-fits_below d e h (few, flat) = ((let a : size d ≤ size e = h.few in omega arith), h.flat 32 flat)
-
-list_flat : (ds es : Items) → ((levels : ℕ) → items_nest es levels ≡ true → items_nest ds levels ≡ true) → (levels : ℕ) → nests (array es) levels ≡ true → nests (array ds) levels ≡ true
-list_flat ds es h zero n = n
-list_flat ds es h (suc levels) n = h levels n
+pub items_through : {m n o a b c : ℕ} → NoMore m n a b → NoMore n o b c → NoMore m o a c
+items_through i j = record { few = omega (arith, i.few, j.few); flat = omega (arith, i.flat, j.flat) }
 
 pub no_larger_list : (ds es : Items) → NoLargerItems ds es → NoLarger (array ds) (array es)
-no_larger_list ds es h = record { few = (let a : items_size ds ≤ items_size es = h.few in omega arith); flat = list_flat ds es h.flat }
-
-object_flat : (ms ns : Members) → ((levels : ℕ) → members_nest ns levels ≡ true → members_nest ms levels ≡ true) → (levels : ℕ) → nests (object ns) levels ≡ true → nests (object ms) levels ≡ true
-object_flat ms ns h zero n = n
-object_flat ms ns h (suc levels) n = h levels n
+no_larger_list ds es h = record { few = omega (arith, h.few); flat = omega (arith, h.flat) }
 
 pub no_larger_object : (ms ns : Members) → NoLargerMembers ms ns → NoLarger (object ms) (object ns)
-no_larger_object ms ns h = record { few = (let a : members_size ms ≤ members_size ns = h.few in omega arith); flat = object_flat ms ns h.flat }
+no_larger_object ms ns h = record { few = omega (arith, h.few); flat = omega (arith, h.flat) }
 
 -- one value more on both sides
-pub next_value : {m n : ℕ} {f g : ℕ → Bool} (d e : Data) → NoLarger d e → NoMore m n f g → NoMore (size d + m) (size e + n) (λ levels. nests d levels && f levels) (λ levels. nests e levels && g levels)
-next_value {m} {n} {f} {g} d e h i = record {
-  few = (let a : size d ≤ size e = h.few in let b : m ≤ n = i.few in omega arith);
-  flat = λ levels both. let parts = and_parts (nests e levels) (g levels) both in and_from (nests d levels) (f levels) (h.flat levels parts.0) (i.flat levels parts.1);
-}
+pub next_value : {m n a b : ℕ} (d e : Data) → NoLarger d e → NoMore m n a b → NoMore (size d + m) (size e + n) (max (depth d) a) (max (depth e) b)
+next_value d e h i = record { few = omega (arith, h.few, i.few); flat = omega (arith, h.flat, i.flat) }
 
 -- and on the other side alone
-pub further_value : {m n : ℕ} {f g : ℕ → Bool} (e : Data) → NoMore m n f g → NoMore m (size e + n) f (λ levels. nests e levels && g levels)
-further_value {m} {n} {f} {g} e i = record { few = (let b : m ≤ n = i.few in omega arith); flat = λ levels both. i.flat levels (and_parts (nests e levels) (g levels) both).1 }
+pub further_value : {m n a b : ℕ} (e : Data) → NoMore m n a b → NoMore m (size e + n) a (max (depth e) b)
+further_value e i = record { few = omega (arith, i.few); flat = omega (arith, i.flat) }
 
-pub none_more : {n : ℕ} {g : ℕ → Bool} → NoMore 0 n (λ levels. true) g
-none_more = record { few = omega arith; flat = λ levels n. refl }
+pub none_more : {n b : ℕ} → NoMore 0 n 0 b
+none_more = record { few = omega arith; flat = omega arith }
 
 -- items may change places
 pub turned_items : (d e : Data) (ds : Items) → NoLargerItems (item d (item e ds)) (item e (item d ds))
-turned_items d e ds = record {
-  few = omega arith;
-  flat = λ levels n.
-      let first = (and_parts (nests e levels) (nests d levels && items_nest ds levels) n).0 in
-      let later = (and_parts (nests e levels) (nests d levels && items_nest ds levels) n).1 in
-      and_from (nests d levels) (nests e levels && items_nest ds levels) (and_parts (nests d levels) (items_nest ds levels) later).0
-      (and_from (nests e levels) (items_nest ds levels) first (and_parts (nests d levels) (items_nest ds levels) later).1);
-}
-
-pub joined_nest : (a b : Items) (levels : ℕ) → items_nest (join_items a b) levels ≡ true → (items_nest a levels ≡ true) × (items_nest b levels ≡ true)
-joined_nest no_items b levels n = (refl, n)
-joined_nest (item d a) b levels n =
-    let rest = joined_nest a b levels (and_parts (nests d levels) (items_nest (join_items a b) levels) n).1 in
-    (and_from (nests d levels) (items_nest a levels) (and_parts (nests d levels) (items_nest (join_items a b) levels) n).0 rest.0, rest.1)
+turned_items d e ds = record { few = omega arith; flat = omega arith }
 
 pub joined_behind : (a ds es : Items) → NoLargerItems ds es → NoLargerItems ds (join_items a es)
-joined_behind a ds es h = record {
-  few = (let sum : items_size (join_items a es) ≡ items_size a + items_size es = joined_size a es in let b : items_size ds ≤ items_size es = h.few in omega arith);
-  flat = λ levels n. h.flat levels (joined_nest a es levels n).1;
-}
+joined_behind no_items ds es h = h
+joined_behind (item d a) ds es h = further_value d (joined_behind a ds es h)
 
 -- what is joined behind may be larger
 pub joined_larger : (a ds es : Items) → NoLargerItems ds es → NoLargerItems (join_items a ds) (join_items a es)
@@ -279,42 +250,41 @@ covered (member l e ns) (member k d ms) h i covers = go _ refl (covered ns)
         let one = equal_names k l is in
         next_value d e (first_covers k l d e ms ns one covers) (rest ms h.1 i.1 (rest_covers k l d e ms ns one (get_none k ms h.0) covers))
 
--- ---- a part of what fits
+-- ---- what nests at most so deep
+
+both_deep : (a b : Bool) (m n levels : ℕ) → (a ≡ true) ↔ (m ≤ levels) → (b ≡ true) ↔ (n ≤ levels) → (a && b ≡ true) ↔ (max m n ≤ levels)
+both_deep a b m n levels one rest = (
+  λ h. let parts = and_parts a b h in omega (arith, one.0 parts.0, rest.0 parts.1),
+  λ h. and_from a b (one.1 (omega (arith, h))) (rest.1 (omega (arith, h))),
+)
 
 mutual
-  -- what nests so deep nests a level deeper
-  nests_more : (d : Data) (levels : ℕ) → nests d levels ≡ true → nests d (suc levels) ≡ true
-  nests_more (array ds) zero h = absurd (true≢false (sym h))
-  nests_more (array ds) (suc levels) h = items_nest_more ds levels h
-  nests_more (object ms) zero h = absurd (true≢false (sym h))
-  nests_more (object ms) (suc levels) h = members_nest_more ms levels h
-  nests_more _ levels h = refl
+  pub nests_deep : (d : Data) (levels : ℕ) → (nests d levels ≡ true) ↔ (depth d ≤ levels)
+  nests_deep (array ds) zero = (λ h. absurd (true≢false (sym h)), λ h. absurd (omega (arith, h)))
+  nests_deep (array ds) (suc levels) = let inner = items_deep ds levels in (λ h. omega (arith, inner.0 h), λ h. inner.1 (omega (arith, h)))
+  nests_deep (object ms) zero = (λ h. absurd (true≢false (sym h)), λ h. absurd (omega (arith, h)))
+  nests_deep (object ms) (suc levels) = let inner = members_deep ms levels in (λ h. omega (arith, inner.0 h), λ h. inner.1 (omega (arith, h)))
+  nests_deep _ levels = (λ h. omega arith, λ h. refl)
 
-  items_nest_more : (ds : Items) (levels : ℕ) → items_nest ds levels ≡ true → items_nest ds (suc levels) ≡ true
-  items_nest_more no_items levels h = refl
-  items_nest_more (item d ds) levels h = and_from (nests d (suc levels)) (items_nest ds (suc levels)) (nests_more d levels (and_parts (nests d levels) (items_nest ds levels) h).0) (items_nest_more ds levels (and_parts (nests d levels) (items_nest ds levels) h).1)
+  items_deep : (ds : Items) (levels : ℕ) → (items_nest ds levels ≡ true) ↔ (items_depth ds ≤ levels)
+  items_deep no_items levels = (λ h. omega arith, λ h. refl)
+  items_deep (item d ds) levels = both_deep (nests d levels) (items_nest ds levels) (depth d) (items_depth ds) levels (nests_deep d levels) (items_deep ds levels)
 
-  members_nest_more : (ms : Members) (levels : ℕ) → members_nest ms levels ≡ true → members_nest ms (suc levels) ≡ true
-  members_nest_more no_members levels h = refl
-  members_nest_more (member k d ms) levels h = and_from (nests d (suc levels)) (members_nest ms (suc levels)) (nests_more d levels (and_parts (nests d levels) (members_nest ms levels) h).0) (members_nest_more ms levels (and_parts (nests d levels) (members_nest ms levels) h).1)
+  members_deep : (ms : Members) (levels : ℕ) → (members_nest ms levels ≡ true) ↔ (members_depth ms ≤ levels)
+  members_deep no_members levels = (λ h. omega arith, λ h. refl)
+  members_deep (member k d ms) levels = both_deep (nests d levels) (members_nest ms levels) (depth d) (members_depth ms) levels (nests_deep d levels) (members_deep ms levels)
 
-member_nests : (k : List ℕ) (e : Data) (ms : Members) (levels : ℕ) → get_member k ms ≡ Some e → members_nest ms levels ≡ true → nests e levels ≡ true
-member_nests k e no_members levels h n = absurd (some_is_none e (sym h))
-member_nests k e (member l d ms) levels h n =
-    let parts = and_parts (nests d levels) (members_nest ms levels) n in
-    elim (meets k l) [
-      | same f ↦ subst (λ x. nests x levels ≡ true) (value_same d e (sym (get_same k l d ms f) ∙ h)) parts.0
-      | other apart ↦ member_nests k e ms levels (sym (get_other k l d ms apart) ∙ h) parts.1
-    ]
+-- what is no larger than what fits does fit
+pub fits_below : (d e : Data) → NoLarger d e → Fits e → Fits d
+fits_below d e h (few, flat) = (omega (arith, h.few, few), (nests_deep d 32).1 (omega (arith, h.flat, (nests_deep e 32).0 flat)))
 
 -- a property of an object that fits does fit
 pub property_fits : (k : List ℕ) (e : Data) (ms : Members) → get_member k ms ≡ Some e → Fits (object ms) → Fits e
-property_fits k e ms h (few, flat) = ((let a : size e ≤ members_size ms = member_size k e ms h in omega arith), nests_more e 31 (member_nests k e ms 31 h flat))
+property_fits k e ms h fits = let part = member_within k e ms h in fits_below e (object ms) (record { few = omega (arith, part.few); flat = omega (arith, part.flat) }) fits
 
 -- a list of one item that is no larger than a list that fits
 pub item_fits : (e : Data) (ds : Items) → NoLargerItems (item e no_items) ds → Fits (array ds) → Fits e
-item_fits e ds h (few, flat) =
-    ((let a : size e + 0 ≤ items_size ds = h.few in omega arith), nests_more e 31 (and_parts (nests e 31) true (h.flat 31 flat)).0)
+item_fits e ds h fits = fits_below e (array ds) (record { few = omega (arith, h.few); flat = omega (arith, h.flat) }) fits
 
 -- What stands too deep in a value: nothing just where it nests at most so deep, and else what its path leads to.
 
@@ -371,34 +341,28 @@ mutual
 
 -- ---- what nests at most so deep has nothing too deep
 
-items_shallow : (ds : Items) (levels i : ℕ) (e : Data) → items_nest ds levels ≡ true → get_item i ds ≡ Some e → nests e levels ≡ true
-items_shallow no_items levels i e h there = absurd cc
-items_shallow (item d ds) levels zero e h there = let same : d ≡ e = cc in subst (λ x. nests x levels ≡ true) same (and_parts (nests d levels) (items_nest ds levels) h).0
-items_shallow (item d ds) levels (suc i) e h there = items_shallow ds levels i e (and_parts (nests d levels) (items_nest ds levels) h).1 there
+item_depth : (ds : Items) (i : ℕ) (e : Data) → get_item i ds ≡ Some e → depth e ≤ items_depth ds
+item_depth no_items i e there = absurd cc
+item_depth (item d ds) zero e there = let same : d ≡ e = cc in subst (λ x. depth x ≤ items_depth (item d ds)) same (omega arith)
+item_depth (item d ds) (suc i) e there = omega (arith, item_depth ds i e there)
 
-members_shallow : (ms : Members) (levels : ℕ) (k : List ℕ) (e : Data) → members_nest ms levels ≡ true → HasMember k e ms → nests e levels ≡ true
-members_shallow no_members levels k e h there = absurd there
-members_shallow (member l d ms) levels k e h (inl one) = subst (λ x. nests x levels ≡ true) (sym one.1) (and_parts (nests d levels) (members_nest ms levels) h).0
-members_shallow (member l d ms) levels k e h (inr later) = members_shallow ms levels k e (and_parts (nests d levels) (members_nest ms levels) h).1 later
+member_depth : (ms : Members) (k : List ℕ) (e : Data) → HasMember k e ms → depth e ≤ members_depth ms
+member_depth no_members k e there = absurd there
+member_depth (member l d ms) k e (inl one) = subst (λ x. depth x ≤ members_depth (member l d ms)) (sym one.1) (omega arith)
+member_depth (member l d ms) k e (inr later) = omega (arith, member_depth ms k e later)
 
-not_nested : (d : Data) (levels : ℕ) → nests d levels ≡ true → levels ≡ 0 → IsNested d → ⊥
-not_nested (array ds) zero h none nested = cc
-not_nested (object ms) zero h none nested = cc
-not_nested (array ds) (suc levels) h none nested = omega (arith, none)
-not_nested (object ms) (suc levels) h none nested = omega (arith, none)
-not_nested _ levels h none nested = nested
+nested_depth : (d : Data) → IsNested d → 0 < depth d
+nested_depth (array ds) nested = omega arith
+nested_depth (object ms) nested = omega arith
+nested_depth _ nested = absurd nested
 
-none_deeper : (path : List Step) (d found : Data) (levels : ℕ) → nests d levels ≡ true → LeadsTo path d found → IsNested found → length path ≡ levels → ⊥
-none_deeper [] d found levels h is nested steps = not_nested d levels h (sym steps) (subst IsNested is nested)
-none_deeper (index i ∷ path) d found zero h leads nested steps = omega (arith, steps)
-none_deeper (key k ∷ path) d found zero h leads nested steps = omega (arith, steps)
-none_deeper (index i ∷ path) d found (suc levels) h (ds, e, is, there, leads) nested steps =
-    none_deeper path e found levels (items_shallow ds levels i e (subst (λ x. nests x (suc levels) ≡ true) is h) there) leads nested (omega (arith, steps))
-none_deeper (key k ∷ path) d found (suc levels) h (ms, e, is, there, leads) nested steps =
-    none_deeper path e found levels (members_shallow ms levels k e (subst (λ x. nests x (suc levels) ≡ true) is h) there) leads nested (omega (arith, steps))
+led_depth : (path : List Step) (d found : Data) → LeadsTo path d found → IsNested found → length path < depth d
+led_depth [] d found is nested = nested_depth d (subst IsNested is nested)
+led_depth (index i ∷ path) d found (ds, e, is, there, leads) nested = rw is (omega (arith, item_depth ds i e there, led_depth path e found leads nested))
+led_depth (key k ∷ path) d found (ms, e, is, there, leads) nested = rw is (omega (arith, member_depth ms k e there, led_depth path e found leads nested))
 
 pub depth_excluded : (d : Data) (levels : ℕ) (flaw : Flaw) → nests d levels ≡ true → PassesDepth levels d flaw → ⊥
-depth_excluded d levels flaw h (kind, (found, leads, nested, steps)) = none_deeper flaw.path d found levels h leads nested steps
+depth_excluded d levels flaw h (kind, (found, leads, nested, steps)) = omega (arith, steps, (nests_deep d levels).0 h, led_depth flaw.path d found leads nested)
 
 pub nests_shallow : (d : Data) (levels : ℕ) → nests d levels ≡ true → deep_flaws d levels ≡ []
 nests_shallow d levels h = go (deep_flaws d levels) refl

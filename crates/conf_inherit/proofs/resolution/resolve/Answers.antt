@@ -12,7 +12,8 @@ use Rattle.conf_inherit.specs.Resolution.{aliases_of, resolution, resolution_aft
 use Rattle.conf_inherit.specs.Rounds.{Outcomes, rounds, no_outcomes}
 use Rattle.conf_inherit.specs.Whole.{with_aliases}
 use Rattle.conf_inherit.proofs.RefusalLemmas.{refusal_holds}
-use Rattle.conf_inherit.proofs.RoundLemmas.{resolution_is, resolution_sound, depth-nests}
+use Rattle.conf_inherit.proofs.RoundLemmas.{resolution_is, resolution_sound}
+use Rattle.conf_inherit.proofs.SizeLemmas.{nests_deep}
 use Rattle.conf_inherit.proofs.LookedUp.{resolved_ascends, resolved_whole}
 use Rattle.conf_inherit.proofs.TakenLemmas.{back_again, bare_again}
 use Rattle.conf_inherit.proofs.resolution.resolve.Goals as goal
@@ -39,7 +40,7 @@ invariant_of-result c =
     let al = members_view c.replace_aliases-aliases.result.entries in
     let sound = resolution_sound t (view c.in_ok-value.value) (subst NoClash c.replace_aliases-aliases.ensures.old c.in_ok-outcomes.ensures.apart) (is ∙ c.in_ok-value.ensures.first al (btree_map_len c.replace_aliases-aliases.result) c.in_ok-outcomes.ensures.apart c.in_ok-outcomes.ensures.settled c.in_ok-outcomes.ensures.spent) in
     record {
-      nested = depth-nests (view c.in_ok-value.value) 32 sound.1;
+      nested = (nests_deep (view c.in_ok-value.value) 32).0 sound.1;
       whole = resolved_whole t (view c.in_ok-value.value) c.args.tree.whole sound.0;
       ordered = resolved_ascends t (view c.in_ok-value.value) c.args.tree.ordered sound.0;
     }
