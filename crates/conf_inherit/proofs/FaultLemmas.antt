@@ -13,7 +13,7 @@ use Rattle.conf_inherit.specs.Flaws.{is_wrong, is_no_entry, is_no_member, is_unk
 use Rattle.conf_inherit.specs.Ready.{Names, IsReady, AreReady, HasReady}
 use Rattle.conf_inherit.specs.Named.{all_named, all_named_in_items, all_named_in_members, has}
 use Rattle.conf_inherit.proofs.FieldPlaceLemmas.{list_place, entry_list}
-use Rattle.conf_inherit.proofs.LayingLemmas.{get_other, same, other, meets}
+use Rattle.conf_inherit.proofs.LayingLemmas.{get_other, same, other, meets, stands}
 use Rattle.conf_tree.specs.Walk.{HasMember, refusal}
 use Rattle.conf_tree.specs.declared.fault_kind.FaultKind.TheVariants.{WrongKind, NoSuchAlias, NameClash}
 use Rattle.conf_inherit.specs.Faults.{Leads, HasEntry, SaysOf, FlawHolds}
@@ -447,18 +447,8 @@ sound_part p (x ∷ xs) ys e = cc
 
 pub noted : (es : List (Bor (List ℕ) × ⊤)) (k : Bor (List ℕ)) (v : ⊤) → members_named (insert_entry (λ x y. slice_cmp nat_cmp x.now y.now) es k v) ≡ put k.now null (members_named es)
 noted [] k v = refl
-noted (e ∷ es) k v = go (slice_cmp nat_cmp k.now e.0.now) refl (noted es k v)
-  where
-    go : (o : Ordering) → slice_cmp nat_cmp k.now e.0.now ≡ o → members_named (insert_entry (λ x y. slice_cmp nat_cmp x.now y.now) es k v) ≡ put k.now null (members_named es) → members_named (insert_entry (λ x y. slice_cmp nat_cmp x.now y.now) (e ∷ es) k v) ≡ put k.now null (members_named (e ∷ es))
-    go Less is rest = rw is refl
-    go Equal is rest = rw is refl
-    go Greater is rest = rw (is, rest) refl
+noted (e ∷ es) k v = elim (stands k.now e.0.now) [ inl is ↦ rw is refl | inr (inl is) ↦ rw is refl | inr (inr is) ↦ rw (is, noted es k v) refl ]
 
 pub looked_for : (n : List ℕ) (es : List (Bor (List ℕ) × ⊤)) → is_some (lookup (is_at (λ k. slice_cmp nat_cmp n k.now)) es) ≡ is_some (get_member n (members_named es))
 looked_for n [] = refl
-looked_for n (e ∷ es) = go (slice_cmp nat_cmp n e.0.now) refl (looked_for n es)
-  where
-    go : (o : Ordering) → slice_cmp nat_cmp n e.0.now ≡ o → is_some (lookup (is_at (λ k. slice_cmp nat_cmp n k.now)) es) ≡ is_some (get_member n (members_named es)) → is_some (lookup (is_at (λ k. slice_cmp nat_cmp n k.now)) (e ∷ es)) ≡ is_some (get_member n (members_named (e ∷ es)))
-    go Less is rest = rw is rest
-    go Equal is rest = rw is refl
-    go Greater is rest = rw is rest
+looked_for n (e ∷ es) = elim (stands n e.0.now) [ inl is ↦ rw is (looked_for n es) | inr (inl is) ↦ rw is refl | inr (inr is) ↦ rw is (looked_for n es) ]

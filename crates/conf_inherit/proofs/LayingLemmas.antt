@@ -69,13 +69,17 @@ apart_greater k l is e = let f = ap is_eq is in true≢false (sym ((bytes_eq-Dec
 pub meets : (k l : List ℕ) → Meets k l
 meets k l = elim (cases_Bool (bytes_eq k l)) [ inl e ↦ same ((bytes_eq-Decides k l).0 e) | inr e ↦ other (λ q. true≢false (sym ((bytes_eq-Decides k l).1 q) ∙ e)) ]
 
-pub get_other : (k l : List ℕ) (d : Data) (ms : Members) → (k ≡ l → ⊥) → get_member k (member l d ms) ≡ get_member k ms
-get_other k l d ms apart = go _ refl
+-- how one name stands to another
+pub stands : (k l : List ℕ) → (slice_cmp nat_cmp k l ≡ Less) ⊎ ((slice_cmp nat_cmp k l ≡ Equal) ⊎ (slice_cmp nat_cmp k l ≡ Greater))
+stands k l = go _ refl
   where
-    go : (o : Ordering) → slice_cmp nat_cmp k l ≡ o → get_member k (member l d ms) ≡ get_member k ms
-    go Less is = get_below k l d ms is
-    go Equal is = absurd (apart (equal_names k l is))
-    go Greater is = rw is
+    go : (o : Ordering) → slice_cmp nat_cmp k l ≡ o → (slice_cmp nat_cmp k l ≡ Less) ⊎ ((slice_cmp nat_cmp k l ≡ Equal) ⊎ (slice_cmp nat_cmp k l ≡ Greater))
+    go Less is = inl is
+    go Equal is = inr (inl is)
+    go Greater is = inr (inr is)
+
+pub get_other : (k l : List ℕ) (d : Data) (ms : Members) → (k ≡ l → ⊥) → get_member k (member l d ms) ≡ get_member k ms
+get_other k l d ms apart = elim (stands k l) [ inl is ↦ get_below k l d ms is | inr (inl is) ↦ absurd (apart (equal_names k l is)) | inr (inr is) ↦ rw is refl ]
 
 pub get_same : (k l : List ℕ) (d : Data) (ms : Members) → k ≡ l → get_member k (member l d ms) ≡ Some d
 get_same k l d ms e = subst (λ x. get_member x (member l d ms) ≡ Some d) (sym e) (get_first l d ms)
@@ -96,39 +100,30 @@ pub same_members : (ms ns : Members) → IsInOrder ms → IsInOrder ns → ((q :
 same_members no_members no_members h i alike = refl
 same_members no_members (member l e ns) h i alike = absurd (some_is_none e (sym (get_first l e ns) ∙ sym (alike l)))
 same_members (member k d ms) no_members h i alike = absurd (some_is_none d (sym (get_first k d ms) ∙ alike k))
-same_members (member k d ms) (member l e ns) h i alike = go _ refl (same_members ms ns h.1 i.1)
-  where
-    go : (o : Ordering) → slice_cmp nat_cmp k l ≡ o → (((q : List ℕ) → get_member q ms ≡ get_member q ns) → ms ≡ ns) → member k d ms ≡ member l e ns
-    go Less is rest = absurd (lower_missing k l d e ms ns is i.0 (alike k))
-    go Greater is rest = absurd (lower_missing l k e d ns ms (above_turned k l is) h.0 (sym (alike l)))
-    go Equal is rest =
-        let one : k ≡ l = equal_names k l is in
-        let value : d ≡ e = value_same d e (sym (get_first k d ms) ∙ alike k ∙ subst (λ x. get_member x (member l e ns) ≡ Some e) (sym one) (get_first l e ns)) in
-        let agree : (q : List ℕ) → get_member q (member k d ms) ≡ get_member q (member k d ns) = λ q. alike q ∙ ap (λ x. get_member q (member x e ns)) (sym one) ∙ ap (λ x. get_member q (member k x ns)) (sym value) in
-        ap (λ x. member x d ms) one ∙ ap (λ x. member l x ms) value ∙ ap (member l e) (rest (rest_agrees k d ms ns h.0 (subst (λ x. AllAbove x ns) (sym one) i.0) agree))
+same_members (member k d ms) (member l e ns) h i alike = elim (stands k l) [
+  | inl is ↦ absurd (lower_missing k l d e ms ns is i.0 (alike k))
+  | inr (inr is) ↦ absurd (lower_missing l k e d ns ms (above_turned k l is) h.0 (sym (alike l)))
+  | inr (inl is) ↦ (let one : k ≡ l = equal_names k l is in
+      let value : d ≡ e = value_same d e (sym (get_first k d ms) ∙ alike k ∙ get_same k l e ns one) in
+      let agree : (q : List ℕ) → get_member q (member k d ms) ≡ get_member q (member k d ns) = λ q. alike q ∙ ap (λ x. get_member q (member x e ns)) (sym one) ∙ ap (λ x. get_member q (member k x ns)) (sym value) in
+      ap (λ x. member x d ms) one ∙ ap (λ x. member l x ms) value ∙ ap (member l e) (same_members ms ns h.1 i.1 (rest_agrees k d ms ns h.0 (subst (λ x. AllAbove x ns) (sym one) i.0) agree)))
+]
 
 -- What laying an object or a members list over another leaves at each name.
 
-above_put_at : (o : Ordering) (q k l : List ℕ) (d e : Data) (ms : Members) → slice_cmp nat_cmp q k ≡ Less → slice_cmp nat_cmp q l ≡ Less → AllAbove q ms → AllAbove q (put k d ms)
-    → AllAbove q (match_ordering o (member k d (member l e ms)) (member l d ms) (member l e (put k d ms)))
-above_put_at Less q k l d e ms a b c later = (a, (b, c))
-above_put_at Equal q k l d e ms a b c later = (b, c)
-above_put_at Greater q k l d e ms a b c later = (b, later)
+-- what holds of a put member before the first one, in its place and behind it holds of a put member
+pub put_keeps : (P : Members → Type 0) (k l : List ℕ) (d e : Data) (ms : Members) → (slice_cmp nat_cmp k l ≡ Less → P (member k d (member l e ms))) → P (member l d ms) → (slice_cmp nat_cmp k l ≡ Greater → P (member l e (put k d ms))) → P (put k d (member l e ms))
+put_keeps P k l d e ms before here behind = elim (stands k l) [ inl is ↦ rw is (before is) | inr (inl is) ↦ rw is here | inr (inr is) ↦ rw is (behind is) ]
 
 above_put : (q k : List ℕ) (d : Data) (ms : Members) → slice_cmp nat_cmp q k ≡ Less → AllAbove q ms → AllAbove q (put k d ms)
 above_put q k d no_members a h = (a, tt)
-above_put q k d (member l e ms) a h = above_put_at (slice_cmp nat_cmp k l) q k l d e ms a h.0 h.1 (above_put q k d ms a h.1)
-
-in_order_put_at : (o : Ordering) (k l : List ℕ) (d e : Data) (ms : Members) → slice_cmp nat_cmp k l ≡ o → AllAbove l ms → IsInOrder ms → IsInOrder (put k d ms)
-    → IsInOrder (match_ordering o (member k d (member l e ms)) (member l d ms) (member l e (put k d ms)))
-in_order_put_at Less k l d e ms is a h later = ((is, above_through k l ms is a), (a, h))
-in_order_put_at Equal k l d e ms is a h later = (a, h)
-in_order_put_at Greater k l d e ms is a h later = (above_put l k d ms (above_turned k l is) a, later)
+above_put q k d (member l e ms) a h = put_keeps (AllAbove q) k l d e ms (λ is. (a, h)) h (λ is. (h.0, above_put q k d ms a h.1))
 
 -- a value put at a name keeps the names in order
 pub in_order_put : (k : List ℕ) (d : Data) (ms : Members) → IsInOrder ms → IsInOrder (put k d ms)
 in_order_put k d no_members h = (tt, tt)
-in_order_put k d (member l e ms) h = in_order_put_at _ k l d e ms refl h.0 h.1 (in_order_put k d ms h.1)
+in_order_put k d (member l e ms) h =
+    put_keeps IsInOrder k l d e ms (λ is. ((is, above_through k l ms is h.0), h)) h (λ is. (above_put l k d ms (above_turned k l is) h.0, in_order_put k d ms h.1))
 
 -- what is at k after d was put at l
 pub put_found : (k l : List ℕ) (d : Data) (ms : Members) → k ≡ l → get_member k (put l d ms) ≡ Some d

@@ -6,7 +6,7 @@ use Rattle.conf_table.specs.declared.place.Place.{Place}
 use Rattle.conf_table.specs.declared.place.Place.TheVariants as places
 use Rattle.conf_inherit.specs.FieldPlaces.{place_under, names_alias, names_member_type, is_base_name}
 use Rattle.conf_inherit.specs.Looks.{Chain, nothing, alias, member_alias, heir, own, a_list, plain, Looks, looks, Shows, a_scalar, an_object, the_members, a_join, Entries, no_entry, an_entry, if_objects, if_lists, values_at, base_of}
-use Rattle.conf_inherit.proofs.LayingLemmas.{value_same, each_has, same_members, get_first, get_none, get_other, AllEntries, all_joined, entry_found, in_order_put}
+use Rattle.conf_inherit.proofs.LayingLemmas.{value_same, each_has, same_members, get_first, get_none, get_other, AllEntries, all_joined, entry_found, in_order_put, put_keeps}
 use Rattle.std.proofs.lemmas.Bool.{cases_Bool, or_parts, or_from}
 use Rattle.serde_json.specs.Written.{has_float, items_have_float, members_have_float}
 use Rattle.conf_tree.specs.Order.{IsInOrder, Ascends, ItemsAscend, MembersAscend}
@@ -272,14 +272,9 @@ pub both_there : {A B : Type 0} (next_step : A → Option B) (o : Option A) (y :
 both_there next_step None y e = absurd cc
 both_there next_step (Some x) y e = (x, refl, e)
 
-each_put_at : (o : Ordering) (k l : List ℕ) (d e : Data) (ms : Members) → Ascends d → Ascends e → MembersAscend ms → MembersAscend (put k d ms) → MembersAscend (match_ordering o (member k d (member l e ms)) (member l d ms) (member l e (put k d ms)))
-each_put_at Less k l d e ms mine first rest later = (mine, (first, rest))
-each_put_at Equal k l d e ms mine first rest later = (mine, rest)
-each_put_at Greater k l d e ms mine first rest later = (first, later)
-
 each_put : (k : List ℕ) (d : Data) (ms : Members) → Ascends d → MembersAscend ms → MembersAscend (put k d ms)
 each_put k d no_members mine h = (mine, tt)
-each_put k d (member l e ms) mine h = each_put_at (slice_cmp nat_cmp k l) k l d e ms mine h.0 h.1 (each_put k d ms mine h.1)
+each_put k d (member l e ms) mine h = put_keeps MembersAscend k l d e ms (λ is. (mine, h)) (mine, h.1) (λ is. (h.0, each_put k d ms mine h.1))
 
 mutual
   json_in_order : (j : json.Json) (d : Data) → of_json j ≡ Some d → Ascends d

@@ -14,7 +14,7 @@ use Rattle.conf_inherit.specs.Laying.{lay, lay_members, lay_text}
 use Rattle.conf_inherit.specs.Nesting.{members_nest, deep_flaws, deep_member_flaws}
 use Rattle.conf_inherit.specs.Resolution.{trace_name, type_name, aliases_name, if_shallow}
 use Rattle.conf_inherit.specs.Whole.{holds_aliases, with_property, in_property, in_object, with_aliases, AreLaid}
-use Rattle.conf_inherit.proofs.LayingLemmas.{equal_names, differs, lay_members-first, apart_greater}
+use Rattle.conf_inherit.proofs.LayingLemmas.{equal_names, differs, lay_members-first, apart_greater, stands}
 use Rattle.conf_inherit.proofs.SizeLemmas.{nests_shallow}
 use Rattle.conf_inherit.proofs.TakenLemmas.{on_way, no_base, laid_object}
 
@@ -22,27 +22,24 @@ use Rattle.conf_inherit.proofs.TakenLemmas.{on_way, no_base, laid_object}
 
 put_here : (n k : List ℕ) (g : Data → Data) (x : Data) (ms : Members) → bytes_eq k n ≡ true → with_property n g (put k x ms) ≡ put k (g x) ms
 put_here n k g x no_members at = rw at refl
-put_here n k g x (member l e ms) at = go _ refl (put_here n k g x ms at)
-  where
-    same : k ≡ n
-    same = (bytes_eq-Decides k n).0 at
-
-    go : (o : Ordering) → slice_cmp nat_cmp k l ≡ o → with_property n g (put k x ms) ≡ put k (g x) ms → with_property n g (put k x (member l e ms)) ≡ put k (g x) (member l e ms)
-    go Less is rest = rw (is, at) refl
-    go Equal is rest = let mine : bytes_eq l n ≡ true = (bytes_eq-Decides l n).1 (sym (equal_names k l is) ∙ same) in rw (is, mine) refl
-    go Greater is rest = let away : bytes_eq l n ≡ false = differs l n (λ e. apart_greater k l is (same ∙ sym e)) (bytes_eq l n) refl in rw (is, away) (ap (member l e) rest)
+put_here n k g x (member l e ms) at =
+    let same : k ≡ n = (bytes_eq-Decides k n).0 at in
+    elim (stands k l) [
+      | inl is ↦ rw (is, at) refl
+      | inr (inl is) ↦ (let mine : bytes_eq l n ≡ true = (bytes_eq-Decides l n).1 (sym (equal_names k l is) ∙ same) in rw (is, mine) refl)
+      | inr (inr is) ↦ (let away : bytes_eq l n ≡ false = differs l n (λ e. apart_greater k l is (same ∙ sym e)) (bytes_eq l n) refl in rw (is, away) (ap (member l e) (put_here n k g x ms at)))
+    ]
 
 put_beside : (n k : List ℕ) (g : Data → Data) (x : Data) (ms : Members) → bytes_eq k n ≡ false → with_property n g (put k x ms) ≡ put k x (with_property n g ms)
 put_beside n k g x no_members away = rw away refl
-put_beside n k g x (member l e ms) away = go _ refl (bytes_eq l n) refl (put_beside n k g x ms away)
-  where
-    go : (o : Ordering) → slice_cmp nat_cmp k l ≡ o → (t : Bool) → bytes_eq l n ≡ t → with_property n g (put k x ms) ≡ put k x (with_property n g ms) → with_property n g (put k x (member l e ms)) ≡ put k x (with_property n g (member l e ms))
-    go Less is true at rest = rw (at, is, away, at) refl
-    go Less is false at rest = rw (at, is, away, at) refl
-    go Equal is true at rest = absurd (true≢false (sym at ∙ ap (λ m. bytes_eq m n) (sym (equal_names k l is)) ∙ away))
-    go Equal is false at rest = rw (at, is, at) refl
-    go Greater is true at rest = rw (at, is, at) refl
-    go Greater is false at rest = rw (at, is, at) (ap (member l e) rest)
+put_beside n k g x (member l e ms) away = elim (cases_Bool (bytes_eq l n)) [
+  | inl at ↦ elim (stands k l) [
+    | inl is ↦ rw (at, is, away, at) refl
+    | inr (inl is) ↦ absurd (true≢false (sym at ∙ ap (λ m. bytes_eq m n) (sym (equal_names k l is)) ∙ away))
+    | inr (inr is) ↦ rw (at, is, at) refl
+  ]
+  | inr at ↦ elim (stands k l) [ inl is ↦ rw (at, is, away, at) refl | inr (inl is) ↦ rw (at, is, at) refl | inr (inr is) ↦ rw (at, is, at) (ap (member l e) (put_beside n k g x ms away)) ]
+]
 
 -- ---- what is laid
 

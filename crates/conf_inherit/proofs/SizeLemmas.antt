@@ -13,7 +13,7 @@ use Rattle.conf_table.specs.declared.place.Place.{Place}
 use Rattle.conf_inherit.specs.FieldPlaces.{place_under, is_base_name, lists_members}
 use Rattle.conf_inherit.specs.Laying.{lay, has_entry, items_below, lay_members, lay_over, lay_new, lay_new_entry, lay_new_member}
 use Rattle.conf_inherit.specs.Names.{NoClash, join_items, map_items, IsInOrder}
-use Rattle.conf_inherit.proofs.LayingLemmas.{AllEntries, found_each, same, other, meets, get_other, get_same, lay_members-found, get_first, get_none, equal_names, above_turned, above_through, some_is_none, value_same}
+use Rattle.conf_inherit.proofs.LayingLemmas.{AllEntries, found_each, same, other, meets, get_other, get_same, lay_members-found, get_first, get_none, equal_names, above_turned, above_through, some_is_none, value_same, stands, put_keeps}
 use Rattle.conf_inherit.specs.Size.{size, items_size, members_size, Within, Leaves, IsDue}
 use Rattle.std.specs.Cmp.Lexicographic.{slice_cmp}
 use Rattle.conf_inherit.specs.Limits.{Fits}
@@ -239,16 +239,13 @@ first_covers k l d e ms ns one covers =
 pub covered : (ns ms : Members) → IsInOrder ms → IsInOrder ns → Covers ms ns → NoLargerMembers ms ns
 covered ns no_members h i covers = none_more
 covered no_members (member k d ms) h i covers = absurd (none_found k d ms no_members covers refl)
-covered (member l e ns) (member k d ms) h i covers = go _ refl (covered ns)
-  where
-    go : (o : Ordering) → slice_cmp nat_cmp k l ≡ o → ((ms : Members) → IsInOrder ms → IsInOrder ns → Covers ms ns → NoLargerMembers ms ns) → NoLargerMembers (member k d ms) (member l e ns)
-    go Less is rest = absurd (none_found k d ms (member l e ns) covers (get_none k (member l e ns) (is, above_through k l ns is i.0)))
-    go Greater is rest =
-        let below = above_turned k l is in
-        further_value e (rest (member k d ms) h i.1 (skipped l e (member k d ms) ns (get_none l (member k d ms) (below, above_through l k ms below h.0)) covers))
-    go Equal is rest =
-        let one = equal_names k l is in
-        next_value d e (first_covers k l d e ms ns one covers) (rest ms h.1 i.1 (rest_covers k l d e ms ns one (get_none k ms h.0) covers))
+covered (member l e ns) (member k d ms) h i covers = elim (stands k l) [
+  | inl is ↦ absurd (none_found k d ms (member l e ns) covers (get_none k (member l e ns) (is, above_through k l ns is i.0)))
+  | inr (inr is) ↦ (let below = above_turned k l is in
+      further_value e (covered ns (member k d ms) h i.1 (skipped l e (member k d ms) ns (get_none l (member k d ms) (below, above_through l k ms below h.0)) covers)))
+  | inr (inl is) ↦ (let one = equal_names k l is in
+      next_value d e (first_covers k l d e ms ns one covers) (covered ns ms h.1 i.1 (rest_covers k l d e ms ns one (get_none k ms h.0) covers)))
+]
 
 -- ---- what nests at most so deep
 
@@ -372,14 +369,10 @@ nests_shallow d levels h = go (deep_flaws d levels) refl
     go (f ∷ fs) is = absurd (depth_excluded d levels f h (deep_holds d levels f (subst (Among f) (sym is) (inl refl))))
 
 -- one more value that nests at most so deep
-nest_put_at : (o : Ordering) (k l : List ℕ) (v d : Data) (ms : Members) (levels : ℕ) → nests v levels ≡ true → (nests d levels ≡ true) × (members_nest ms levels ≡ true) → members_nest (put k v ms) levels ≡ true
-    → members_nest (match_ordering o (member k v (member l d ms)) (member l v ms) (member l d (put k v ms))) levels ≡ true
-nest_put_at Less k l v d ms levels new (here, rest) later = and_from (nests v levels) (nests d levels && members_nest ms levels) new (and_from (nests d levels) (members_nest ms levels) here rest)
-nest_put_at Equal k l v d ms levels new (here, rest) later = and_from (nests v levels) (members_nest ms levels) new rest
-nest_put_at Greater k l v d ms levels new (here, rest) later = and_from (nests d levels) (members_nest (put k v ms) levels) here later
-
 pub nest_put : (k : List ℕ) (v : Data) (ms : Members) (levels : ℕ) → nests v levels ≡ true → members_nest ms levels ≡ true → members_nest (put k v ms) levels ≡ true
 nest_put k v no_members levels new h = and_from (nests v levels) true new refl
 nest_put k v (member l d ms) levels new h =
     let parts = and_parts (nests d levels) (members_nest ms levels) h in
-    nest_put_at (slice_cmp nat_cmp k l) k l v d ms levels new parts (nest_put k v ms levels new parts.1)
+    put_keeps (λ x. members_nest x levels ≡ true) k l v d ms
+    (λ is. and_from (nests v levels) (nests d levels && members_nest ms levels) new h) (and_from (nests v levels) (members_nest ms levels) new parts.1)
+    (λ is. and_from (nests d levels) (members_nest (put k v ms) levels) parts.0 (nest_put k v ms levels new parts.1))

@@ -10,7 +10,7 @@ use Rattle.serde_json.specs.View.{view, members_view}
 use Rattle.serde_json.specs.declared.value.Value.{Value, Null, the_lemmas}
 use Rattle.serde_json.proofs.Views.{Entry}
 use Rattle.conf_inherit.specs.Names.{AllAbove, NoClash}
-use Rattle.conf_inherit.proofs.LayingLemmas.{above_through, get_none, Meets, same, other, meets, get_other, get_same, same_function}
+use Rattle.conf_inherit.proofs.LayingLemmas.{above_through, get_none, Meets, same, other, meets, get_other, get_same, same_function, stands, some_is_none}
 use Rattle.conf_inherit.proofs.RoundLemmas.{above_of, by_turn}
 use Rattle.std.proofs.lemmas.Bool.{cases_Bool, or_left}
 use Rattle.std.proofs.lemmas.Slice.Eq.{bytes_eq-Decides}
@@ -48,29 +48,23 @@ unwritten n w (e ∷ es) h = rw h.0 (ap (λ xs. e ∷ xs) (unwritten n w es h.1)
 pub put_written : (n : List ℕ) (d : Data) (w : Value) (es : List Entry) → IsStrictlySortedBy string_cmp (keys_of es) → put n d (members_view (written n es w)) ≡ put n d (members_view es)
 unfolding IsStrictlySortedBy
 put_written n d w [] h = refl
-put_written n d w (e ∷ es) h = go _ refl (put_written n d w es h.1)
-  where
-    go : (o : Ordering) → slice_cmp nat_cmp n (string_bytes e.0) ≡ o → put n d (members_view (written n es w)) ≡ put n d (members_view es) → put n d (members_view (written n (e ∷ es) w)) ≡ put n d (members_view (e ∷ es))
-    go Less is rest = rw (is, is) (ap (λ xs. member n d (member (string_bytes e.0) (view e.1) (members_view xs))) (unwritten n w es (above_through n (string_bytes e.0) (members_view es) is (above_of e.0 es h.0))))
-    go Equal is rest = rw (is, is) refl
-    go Greater is rest = rw (is, is) (ap (member (string_bytes e.0) (view e.1)) rest)
+put_written n d w (e ∷ es) h = elim (stands n (string_bytes e.0)) [
+  | inl is ↦ rw (is, is) (ap (λ xs. member n d (member (string_bytes e.0) (view e.1) (members_view xs))) (unwritten n w es (above_through n (string_bytes e.0) (members_view es) is (above_of e.0 es h.0))))
+  | inr (inl is) ↦ rw (is, is) refl
+  | inr (inr is) ↦ rw (is, is) (ap (member (string_bytes e.0) (view e.1)) (put_written n d w es h.1))
+]
 
 -- writing a value at a name that is there is putting it there
 pub written_put : (n : List ℕ) (w : Value) (d : Data) (es : List Entry) → IsStrictlySortedBy string_cmp (keys_of es) → get_member n (members_view es) ≡ Some d → members_view (written n es w) ≡ put n (view w) (members_view es)
 unfolding IsStrictlySortedBy
 written_put n w d [] h there = cc
-written_put n w d (e ∷ es) h there = go _ refl (written_put n w d es h.1)
-  where
-    go : (o : Ordering) → slice_cmp nat_cmp n (string_bytes e.0) ≡ o → (get_member n (members_view es) ≡ Some d → members_view (written n es w) ≡ put n (view w) (members_view es)) → members_view (written n (e ∷ es) w) ≡ put n (view w) (members_view (e ∷ es))
-    go Less is rest =
-        let none = get_none n (members_view es) (above_through n (string_bytes e.0) (members_view es) is (above_of e.0 es h.0)) in
-        let found : get_member n (members_view es) ≡ Some d = rw is at there in
-        let bad : None ≡ Some d = sym none ∙ found in
-        cc
-    go Equal is rest = rw is refl
-    go Greater is rest =
-        let found : get_member n (members_view es) ≡ Some d = rw is at there in
-        rw (is, rest found) refl
+written_put n w d (e ∷ es) h there = elim (stands n (string_bytes e.0)) [
+  | inl is ↦ (let none = get_none n (members_view es) (above_through n (string_bytes e.0) (members_view es) is (above_of e.0 es h.0)) in
+      let found : get_member n (members_view es) ≡ Some d = rw is at there in
+      absurd (some_is_none d (sym found ∙ none)))
+  | inr (inl is) ↦ rw is refl
+  | inr (inr is) ↦ (let found : get_member n (members_view es) ≡ Some d = rw is at there in rw (is, written_put n w d es h.1 found) refl)
+]
 
 -- What is judged of the aliases is the same where null stands in the place of resolved bodies.
 
