@@ -27,7 +27,7 @@ use Rattle.conf_inherit.specs.Resolution.{members_or_none, trace_name, type_name
 use Rattle.conf_inherit.specs.Nesting.{deep_flaws, PassesDepth}
 use Rattle.conf_inherit.proofs.SizeLemmas.{deep_holds, depth_excluded}
 use Rattle.conf_inherit.proofs.SoundPlaces.{place_of_type, place_of_member, place_of_list, place_of_other, too_many_excluded, flawless, PartSound, part_sound, member_sound, item_sound, SoundAt, sound_along}
-use Rattle.conf_inherit.proofs.RoundLemmas.{rounds_of, TreeSound, tree_sound, laid_resolves, resolution_sound, IsOpen, open_walks, no_flaws, circle_refused, rounds_resolved, rounds_root, all_done}
+use Rattle.conf_inherit.proofs.RoundLemmas.{rounds_of, TreeSound, tree_sound, laid_resolves, resolution_sound, no_flaws, circle_refused, rounds_resolved, rounds_root, all_done}
 use Rattle.conf_inherit.specs.Named.{all_named, has}
 use Rattle.conf_inherit.specs.Rounds.{Outcomes}
 use Rattle.conf_inherit.specs.Limits.{Exceeds, fitting, limit_flaws}
@@ -36,6 +36,7 @@ use Rattle.conf_inherit.proofs.FieldPlaceLemmas.{trace_place, trace_type_place, 
 use Rattle.conf_inherit.proofs.FaultLemmas.{own_sound, Among, refused_among, BasesHold, among_within, holds_in_object, entry_holds, flaw_of_itself_holds, flaw_holds, first_or_rest, Aligned, aligned_here, aligned_next, Seen, seen_next_at, none_seen, ready, only}
 use Rattle.conf_inherit.proofs.LayingLemmas.{has_found, AllEntries, found_each}
 use Rattle.std.proofs.lemmas.Bool.{cases_Bool, true≢false, and_from}
+use Rattle.conf_inherit.proofs.TurnLemmas.{IsOpen, rounds_open}
 use Rattle.conf_inherit.proofs.LaysOver.{lays}
 use Rattle.conf_inherit.proofs.LookedUp.{one_look, both_there, read_in_order, aliases_apart}
 use Rattle.conf_inherit.proofs.PlacesFit.{sound_named, all_fit}
@@ -199,7 +200,7 @@ module _ (t : Data) (f : Flaw) (apart : NoClash (aliases_of t)) where
       let each = found_each (aliases_of t) apart in
       let among = refused_among (all_alias_flaws (aliases_of t) (rounds_of t) (aliases_of t)) g h in
       let known = rounds_resolved (aliases_of t) (members_len (aliases_of t)) each in
-      lift_aliases (aliases_of t) t g (λ none. subst (λ x. Among g (all_alias_flaws (aliases_of t) (rounds_of t) x)) none among) (aliases_hold (aliases_of t) (rounds_of t) known (open_walks (aliases_of t) (members_len (aliases_of t))) (aliases_of t) g each (λ k d m. m) among)
+      lift_aliases (aliases_of t) t g (λ none. subst (λ x. Among g (all_alias_flaws (aliases_of t) (rounds_of t) x)) none among) (aliases_hold (aliases_of t) (rounds_of t) known (rounds_open (aliases_of t) apart (members_len (aliases_of t))) (aliases_of t) g each (λ k d m. m) among)
 
   after_aliases : refusal (all_alias_flaws (aliases_of t) (rounds_of t) (aliases_of t)) ≡ Ok tt → (refusal (inner_places (aliases_of t) (rounds_of t).done places.Root t) >>= (λ b. if_shallow (lay (rounds_of t).done places.Root t None))) ≡ Err f → RefusalHolds t f
   after_aliases a h = elim (err_then (refusal (inner_places (aliases_of t) (rounds_of t).done places.Root t)) (λ b. if_shallow (lay (rounds_of t).done places.Root t None)) f h) [

@@ -1,19 +1,24 @@
 -- What the aliases come to does not depend on the order of their turns: where each that is due had its own, the
 -- outcomes are those that the rounds leave.
 use Rattle.std.proofs.Common.{◌≡◌, ◌+◌, ◌||◌, ◌<◌, ◌≤◌, ◌⊎◌, inl, inr, ℕ, zero, suc, List, Option, Some, None, is_some, Bool, true, false, not, true≢false, refl, sym, ap, ◌∙◌, subst, arith}
-use Rattle.std.proofs.lemmas.Bool.{or_cases, and_parts, cases_Bool, or_parts, or_left, or_right}
+use Rattle.std.proofs.lemmas.Bool.{not-false, or_from, or_cases, and_parts, cases_Bool, or_parts, or_left, or_right}
 use Rattle.serde_json.specs.Data.{Data, null, Members, no_members, member, put}
 use Rattle.serde_json.specs.Events.{members_len}
 use Rattle.serde_json.specs.Find.{get_member}
 use Rattle.serde_json.proofs.Views.{get_member-put, get_member-put_other}
 use Rattle.conf_table.specs.declared.place.Place.TheVariants as places
+use Rattle.conf_inherit.specs.Circle.{Walks}
 use Rattle.conf_inherit.specs.Named.{all_named, has}
 use Rattle.conf_inherit.specs.Names.{IsInOrder, NoClash}
 use Rattle.conf_inherit.specs.Rounds.{Outcomes, has_outcome, is_over, outcome, concluded, step, round, all_over, next_round, rounds, no_outcomes, Reached, is_settled, all_settled}
 use Rattle.conf_inherit.proofs.LayingLemmas.{same_members, value_same, Meets, same, other, meets, get_other, get_same, in_order_put, AllEntries, found_each, entry_found}
 use Rattle.conf_inherit.proofs.LimitLemmas.{more_named, kept_lay, kept_inner}
-use Rattle.conf_inherit.proofs.FaultLemmas.{named_along, blocked, mentioned, is_put}
+use Rattle.conf_inherit.proofs.FaultLemmas.{named_along, blocked, mentioned, is_put, some_of}
 use Rattle.conf_inherit.proofs.RoundLemmas.{by_turn, reached_keeps, round_reached, rounds_reached, count, count_all, count_new}
+
+-- the alias has no outcome yet
+abbrev pub IsOpen : Outcomes → List ℕ → Type 0
+IsOpen st k = (has st.done k ≡ false) × (has st.refused k ≡ false)
 
 -- ---- what a conclusion changes
 
@@ -305,6 +310,22 @@ module _ (al : Members) where
 
   rounds_settled : NoClash al → IsSettled (rounds al (members_len al) no_outcomes)
   rounds_settled apart = elim (rounds_full (members_len al) apart) [ inl e ↦ is_settled_state (rounds al (members_len al) no_outcomes) e | inr e ↦ full_settled (rounds al (members_len al) no_outcomes) e ]
+
+  -- an alias without an outcome, where all is settled, starts a walk of any length
+  open_walks : (st : Outcomes) → IsSettled st → (n : ℕ) (k : List ℕ) → has al k ≡ true → IsOpen st k → Walks al n k
+  open_walks st settled zero k known h = some_of (get_member k al) known
+  open_walks st settled (suc n) k known h =
+      let (w, is) = some_of (get_member k al) known in
+      elim (cases_Bool (all_named (is_over al st) places.FieldType w)) [
+        | inl due ↦ absurd (true≢false (sym (settled k w is due) ∙ or_from (has st.done k) (has st.refused k) h.0 h.1))
+        | inr waits ↦ (let (m, x, f) = blocked (is_over al st) w places.FieldType waits in
+            let parts = or_parts (has_outcome st m) (not (has al m)) f in
+            (w, m, is, x, open_walks st settled n m (not-false (has al m) parts.1) (or_parts (has st.done m) (has st.refused m) parts.0)))
+      ]
+
+  -- so does one that the rounds leave without an outcome
+  pub rounds_open : NoClash al → (n : ℕ) (k : List ℕ) → has al k ≡ true → IsOpen (rounds al (members_len al) no_outcomes) k → Walks al n k
+  rounds_open apart n k known h = open_walks (rounds al (members_len al) no_outcomes) (rounds_settled apart) n k known h
 
   -- what any turns lead to that leave none due is what the rounds leave
   pub turns_are_rounds : {st : Outcomes} → NoClash al → Reached al st → IsSettled st → st ≡ rounds al (members_len al) no_outcomes
