@@ -1,8 +1,8 @@
 -- What stands at the front of a list of atoms, with the atoms behind it: the marks, words, numbers and repetitions that
 -- the rules of the grammar are made of (CTF 1.8.3, appendix C). A rule that doesn't fit has no case.
 use Rattle.std.specs.Prelude.{◌≡◌, ℕ, zero, suc, ◌<◌, Bool, false, not, if◌then◌else◌, List, [], ◌∷◌, length, Option, Some, None, Result, Ok, Err, bytes_eq}
-use denote.Enum.Bare.{sameb}
-use Rattle.tsdl_grammar.specs.contracts.token.Mark.{the_type}
+use denote.Enum.Bare.{sameb as is_same}
+use Rattle.tsdl_grammar.specs.contracts.token.Mark.{the_type as of_marks}
 use Rattle.tsdl_grammar.specs.declared.token.Mark.{Mark}
 use Rattle.tsdl_grammar.specs.declared.token.Mark.TheVariants as marks
 use Rattle.tsdl_grammar.specs.declared.atom.Atom.{Atom}
@@ -23,7 +23,7 @@ Gives view (Ok x) read = read ≡ Some (view x)
 Gives view (Err e) read = Fails e read
 
 abbrev pub is_mark : Mark → Atom → Bool
-is_mark m (atoms.Mark n) = sameb the_type n m
+is_mark m (atoms.Mark n) = is_same of_marks n m
 is_mark m _ = false
 
 -- the first atom is this mark
