@@ -1,4 +1,4 @@
--- What the types of the program say of a configuration's values: numbers have their bits, and an identifier has 16 bytes.
+-- What the types of the program say of a configuration's values: numbers have their bits, and the text of an identifier is the identifier again.
 use Rattle.std.specs.Prelude.{◌≡◌, ℕ, ◌<◌, ◌^◌, List, Some, IfSome, FitsSigned, All}
 use Rattle.std.specs.Int.{w64}
 use Rattle.uuid.specs.Text.{parsed, hyphenated_text, lower}
