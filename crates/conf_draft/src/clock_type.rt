@@ -3,7 +3,8 @@ ghost use Rattle.std.specs.Prelude.{◌≡◌, ◌++◌, IfOk};
 ghost use Rattle.serde_json.specs.View.{members_view};
 ghost use Rattle.conf_draft.specs.Clocks.{clock_types as clock_types_in, clock_type as clock_type_of};
 
-use crate::lookup::{flag, identifier, natural, object_or, signed, text};
+use crate::lookup::{identifier, natural, object_or, text};
+use conf_tree::optional;
 use ctf_types::{ClockType, ListOf, Text};
 use serde_json::{Map, Value};
 use std::alloc::{AllocError, Global};
@@ -26,7 +27,7 @@ pub(crate) fn clock_types(
     Ok(clocks)
 }
 
-#[tactic(auto, unfolding(crate::specs::Clocks::clock_type))]
+#[tactic(auto, unfolding(crate::specs::Clocks::clock_type, crate::specs::Lookups::signed, crate::specs::Lookups::flag))]
 fn clock_type(
     alloc: Global,
     name: &str,
@@ -44,8 +45,12 @@ fn clock_type(
         description,
         frequency: natural(members, "frequency").unwrap_or(1_000_000_000),
         precision: natural(members, "precision").unwrap_or(0),
-        offset_seconds: signed(offset, "seconds").unwrap_or(0),
+        offset_seconds: optional(offset, "seconds")
+            .and_then(Value::as_i64)
+            .unwrap_or(0),
         offset_cycles: natural(offset, "cycles").unwrap_or(0),
-        absolute: flag(members, "origin-is-unix-epoch").unwrap_or(true),
+        absolute: optional(members, "origin-is-unix-epoch")
+            .and_then(Value::as_bool)
+            .unwrap_or(true),
     })
 }

@@ -11,7 +11,7 @@ use serde_json::{Map, Value};
 use std::alloc::{AllocError, Global};
 
 /// The enumeration type that an object of an enumeration class is.
-#[tactic(auto, unfolding(crate::specs::Enumerations::enumeration))]
+#[tactic(auto, using(crate::proofs::Lists::behind_many), unfolding(crate::specs::Enumerations::enumeration))]
 pub(crate) fn enumeration(
     alloc: Global,
     signed: bool,
@@ -20,22 +20,13 @@ pub(crate) fn enumeration(
     requires { IsSome (enumeration_of signed (members_view members.now.entries)) }
     ensures { IfOk result (λ t. enumeration_of signed (members_view members.now.entries) ≡ Some t) }
 {
-    let mappings = mappings(alloc, members)?;
-    let int = integer(signed, members);
-    Ok(EnumType { int, mappings })
-}
-
-/// The mappings of all labels, in byte order of the labels. Left out, there are none.
-#[tactic(auto, using(crate::proofs::Lists::behind_many))]
-fn mappings(alloc: Global, members: &Map<String, Value>) -> Result<ListOf<Mapping>, AllocError>
-    ensures { IfOk result (λ m. m ≡ labels_in (properties (codes "mappings") (members_view members.now.entries))) }
-{
     let mut mappings = ListOf::new(alloc);
     let empty = Map::new(alloc);
     for (label, ranges) in object_or(members, "mappings", &empty).iter() {
         push_ranges(alloc, &mut mappings, label.as_str(), ranges)?;
     }
-    Ok(mappings)
+    let int = integer(signed, members);
+    Ok(EnumType { int, mappings })
 }
 
 #[tactic(auto, using(crate::proofs::Lists::behind_one))]

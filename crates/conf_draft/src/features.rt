@@ -1,11 +1,10 @@
 //! The features of a trace type and of a data stream type: fields that the tracer fills itself.
-ghost use Rattle.std.specs.Prelude.{◌≡◌, Some, IsSome, IfOk, codes};
+ghost use Rattle.std.specs.Prelude.{◌≡◌, Some, IsSome, IfOk};
 ghost use Rattle.serde_json.specs.View.{members_view};
-ghost use Rattle.conf_draft.specs.Lookups.{properties};
-ghost use Rattle.conf_draft.specs.Features.{number_type, magic_type, byte_type, header as header_in, context as context_in, event_header as event_header_in, feature as feature_in, byte_of as byte_of_array, identifier as identifier_in, size as size_in, mapped as mapped_of, timestamp as timestamp_in};
+ghost use Rattle.conf_draft.specs.Features.{number_type, magic_type, byte_type, header as header_in, context as context_in, event_header as event_header_in, feature as feature_in, identifier as identifier_in, byte_of as byte_of_array, size as size_in, mapped as mapped_of, timestamp as timestamp_in};
 
 use crate::integer::integer;
-use crate::lookup::{object, object_or};
+use crate::lookup::object;
 use conf_tree::optional;
 use ctf_types::{Base, ContextFeatures, EventFeatures, HeaderFeatures, IntType, Text};
 use serde_json::{Map, Value};
@@ -13,16 +12,10 @@ use std::alloc::{AllocError, Global};
 
 /// The fields of the packet header. An identifier is on by default where the trace type has one.
 #[tactic(auto, unfolding(crate::specs::Features::header))]
-pub(crate) fn header(
-    alloc: Global,
-    trace_type: &Map<String, Value>,
-    has_uuid: bool,
-) -> HeaderFeatures
-    requires { IsSome (header_in has_uuid (properties (codes "$features") (members_view trace_type.now.entries))) }
-    ensures { header_in has_uuid (properties (codes "$features") (members_view trace_type.now.entries)) ≡ Some result }
+pub(crate) fn header(features: &Map<String, Value>, has_uuid: bool) -> HeaderFeatures
+    requires { IsSome (header_in has_uuid (members_view features.now.entries)) }
+    ensures { header_in has_uuid (members_view features.now.entries) ≡ Some result }
 {
-    let empty = Map::new(alloc);
-    let features = object_or(trace_type, "$features", &empty);
     HeaderFeatures {
         magic: feature(features, "magic-field-type", true, magic()),
         uuid: identifier(features, "uuid-field-type", has_uuid),
@@ -34,14 +27,12 @@ pub(crate) fn header(
 #[tactic(auto, unfolding(crate::specs::Features::context))]
 pub(crate) fn context(
     alloc: Global,
-    features: &Map<String, Value>,
+    packet: &Map<String, Value>,
     clock: &Option<Text>,
 ) -> Result<ContextFeatures, AllocError>
-    requires { IsSome (context_in clock.now (properties (codes "packet") (members_view features.now.entries))) }
-    ensures { IfOk result (λ f. context_in clock.now (properties (codes "packet") (members_view features.now.entries)) ≡ Some f) }
+    requires { IsSome (context_in clock.now (members_view packet.now.entries)) }
+    ensures { IfOk result (λ f. context_in clock.now (members_view packet.now.entries) ≡ Some f) }
 {
-    let empty = Map::new(alloc);
-    let packet = object_or(features, "packet", &empty);
     let begin = timestamp(alloc, packet, "beginning-timestamp-field-type", clock)?;
     let end = timestamp(alloc, packet, "end-timestamp-field-type", clock)?;
     Ok(ContextFeatures {
@@ -63,14 +54,12 @@ pub(crate) fn context(
 #[tactic(auto, unfolding(crate::specs::Features::event_header))]
 pub(crate) fn event_header(
     alloc: Global,
-    features: &Map<String, Value>,
+    event_record: &Map<String, Value>,
     clock: &Option<Text>,
 ) -> Result<EventFeatures, AllocError>
-    requires { IsSome (event_header_in clock.now (properties (codes "event-record") (members_view features.now.entries))) }
-    ensures { IfOk result (λ f. event_header_in clock.now (properties (codes "event-record") (members_view features.now.entries)) ≡ Some f) }
+    requires { IsSome (event_header_in clock.now (members_view event_record.now.entries)) }
+    ensures { IfOk result (λ f. event_header_in clock.now (members_view event_record.now.entries) ≡ Some f) }
 {
-    let empty = Map::new(alloc);
-    let event_record = object_or(features, "event-record", &empty);
     let timestamp = timestamp(alloc, event_record, "timestamp-field-type", clock)?;
     Ok(EventFeatures {
         id: feature(event_record, "type-id-field-type", true, number()),

@@ -3,7 +3,7 @@ ghost use Rattle.std.specs.Prelude.{◌≡◌, IfOk, option_map};
 ghost use Rattle.serde_json.specs.Data.{no_members};
 ghost use Rattle.serde_json.specs.View.{items_view, members_view};
 ghost use Rattle.conf_draft.specs.Alignments.{alignment as alignment_in};
-ghost use Rattle.conf_draft.specs.Lookups.{natural as natural_in, signed as signed_in, flag as flag_in, word as word_in, object as object_in, properties, list as list_in, identifier as identifier_in};
+ghost use Rattle.conf_draft.specs.Lookups.{natural as natural_in, word as word_in, object as object_in, properties, list as list_in, identifier as identifier_in};
 
 use conf_tree::optional;
 use conf_values::{as_natural, parsed};
@@ -27,22 +27,6 @@ pub(crate) fn alignment(members: &Map<String, Value>, name: &str) -> Option<u64>
     ensures { result ≡ alignment_in name.now (members_view members.now.entries) }
 {
     natural(members, name).filter(|bits| *bits > 0 && 4096 % *bits == 0)
-}
-
-/// The whole number from -2^63 to 2^63 - 1 that the property `name` is.
-#[tactic(auto, unfolding(crate::specs::Lookups::signed))]
-pub(crate) fn signed(members: &Map<String, Value>, name: &str) -> Option<i64>
-    ensures { result ≡ signed_in name.now (members_view members.now.entries) }
-{
-    optional(members, name)?.as_i64()
-}
-
-/// The flag that the property `name` is.
-#[tactic(auto, unfolding(crate::specs::Lookups::flag))]
-pub(crate) fn flag(members: &Map<String, Value>, name: &str) -> Option<bool>
-    ensures { result ≡ flag_in name.now (members_view members.now.entries) }
-{
-    optional(members, name)?.as_bool()
 }
 
 /// The text that the property `name` is.

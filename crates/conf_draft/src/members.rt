@@ -43,9 +43,7 @@ fn push_named(
     ensures { OnOk result (behind_named members.old (members_view named.now.entries) ≡ Some members.new) }
 {
     for (name, value) in named.iter() {
-        let Value::Object(told) = value else {
-            unreachable!()
-        };
+        let told = value.as_object().unwrap();
         let member = member_type(alloc, object(told, "field-type").unwrap())?;
         let name = Text::from_str(alloc, name.as_str())?;
         members.push(name, member)?;

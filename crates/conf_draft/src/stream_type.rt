@@ -45,8 +45,9 @@ fn stream_type(
     let default_clock = text(alloc, members, "$default-clock-type-name")?;
     let empty = Map::new(alloc);
     let features = object_or(members, "$features", &empty);
-    let context = context(alloc, features, &default_clock)?;
-    let event_header = event_header(alloc, features, &default_clock)?;
+    let context = context(alloc, object_or(features, "packet", &empty), &default_clock)?;
+    let event_record = object_or(features, "event-record", &empty);
+    let event_header = event_header(alloc, event_record, &default_clock)?;
     let extras = extra_members(alloc, members, "packet-context-field-type-extra-members")?;
     let common = structure(alloc, members, "event-record-common-context-field-type")?;
     let events = event_types(alloc, members, levels)?;

@@ -12,16 +12,8 @@ context_made a b p q d s u v w x y z e1 e2 e3 e4 e5 e6 = rw (e1, e2, e3, e4, e5,
 pub returns : goal.returns
 unfolding context
 returns c =
-    let ms = members_view c.object_or-packet.result.now.entries in
-    subst (λ n. context c.args.clock.now n ≡ Some (record {
-      packet_size = c.size.result;
-      content_size = c.size-2.result;
-      timestamp_begin = c.in_ok-begin.begin;
-      timestamp_end = c.in_ok-end.end;
-      events_discarded = c.feature.result;
-      packet_seq_num = c.feature-2.result;
-    })) c.object_or-packet.ensures
-    (context_made _ _ _ _ _ _ c.size.result c.size-2.result c.in_ok-begin.begin c.in_ok-end.end c.feature.result c.feature-2.result
+    let ms = members_view c.args.packet.now.entries in
+    context_made _ _ _ _ _ _ c.size.result c.size-2.result c.in_ok-begin.begin c.in_ok-end.end c.feature.result c.feature-2.result
     c.size.ensures c.size-2.ensures c.in_ok-begin.ensures c.in_ok-end.ensures
     (subst (λ t. feature (codes "discarded-event-records-counter-snapshot-field-type") true t ms ≡ Some c.feature.result) c.number.ensures c.feature.ensures)
-    (subst (λ t. feature (codes "sequence-number-field-type") false t ms ≡ Some c.feature-2.result) c.number-2.ensures c.feature-2.ensures))
+    (subst (λ t. feature (codes "sequence-number-field-type") false t ms ≡ Some c.feature-2.result) c.number-2.ensures c.feature-2.ensures)

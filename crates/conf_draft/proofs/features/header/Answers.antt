@@ -11,9 +11,8 @@ header_made m u s x y z a b c = rw (a, b, c) refl
 pub returns : goal.returns
 unfolding header
 returns c =
-    let ms = members_view c.object_or-features.result.now.entries in
-    subst (λ n. header c.args.has_uuid n ≡ Some (record { magic = c.feature.result; uuid = c.identifier.result; stream_id = c.feature-2.result })) c.object_or-features.ensures
-    (header_made _ _ _ c.feature.result c.identifier.result c.feature-2.result
+    let ms = members_view c.args.features.now.entries in
+    header_made _ _ _ c.feature.result c.identifier.result c.feature-2.result
     (subst (λ t. feature (codes "magic-field-type") true t ms ≡ Some c.feature.result) c.magic.ensures c.feature.ensures)
     c.identifier.ensures
-    (subst (λ t. feature (codes "data-stream-type-id-field-type") true t ms ≡ Some c.feature-2.result) c.number.ensures c.feature-2.ensures))
+    (subst (λ t. feature (codes "data-stream-type-id-field-type") true t ms ≡ Some c.feature-2.result) c.number.ensures c.feature-2.ensures)

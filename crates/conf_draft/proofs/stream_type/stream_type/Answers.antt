@@ -1,4 +1,4 @@
-use Rattle.std.proofs.Common.{◌≡◌, ℕ, List, Option, Some, refl, subst}
+use Rattle.std.proofs.Common.{◌≡◌, ℕ, List, Option, Some, refl, subst, ap, ◌∙◌}
 use Rattle.std.specs.Prelude.{codes}
 use Rattle.serde_json.specs.View.{members_view}
 use Rattle.ctf_types.specs.declared.ContextFeatures.{ContextFeatures}
@@ -21,7 +21,7 @@ returns c =
     let ms = members_view c.args.members.now.entries in
     stream_made c.args.name.now c.in_ok-name.name (clock_of ms) c.in_ok-default_clock.default_clock _ _ _ _ _ c.in_ok-context.context c.in_ok-extras.extras c.in_ok-event_header.event_header c.in_ok-common.common c.in_ok-events.events
     c.in_ok-name.ensures c.in_ok-default_clock.ensures
-    (subst (λ k. context k (properties (codes "packet") (properties (codes "$features") ms)) ≡ Some c.in_ok-context.context) c.in_ok-default_clock.ensures (subst (λ f. context c.in_ok-default_clock.default_clock (properties (codes "packet") f) ≡ Some c.in_ok-context.context) c.object_or-features.ensures c.in_ok-context.ensures))
+    (subst (λ k. context k (properties (codes "packet") (properties (codes "$features") ms)) ≡ Some c.in_ok-context.context) c.in_ok-default_clock.ensures (subst (λ f. context c.in_ok-default_clock.default_clock f ≡ Some c.in_ok-context.context) (c.object_or.ensures ∙ ap (properties (codes "packet")) c.object_or-features.ensures) c.in_ok-context.ensures))
     c.in_ok-extras.ensures
-    (subst (λ k. event_header k (properties (codes "event-record") (properties (codes "$features") ms)) ≡ Some c.in_ok-event_header.event_header) c.in_ok-default_clock.ensures (subst (λ f. event_header c.in_ok-default_clock.default_clock (properties (codes "event-record") f) ≡ Some c.in_ok-event_header.event_header) c.object_or-features.ensures c.in_ok-event_header.ensures))
+    (subst (λ k. event_header k (properties (codes "event-record") (properties (codes "$features") ms)) ≡ Some c.in_ok-event_header.event_header) c.in_ok-default_clock.ensures (subst (λ f. event_header c.in_ok-default_clock.default_clock f ≡ Some c.in_ok-event_header.event_header) (c.object_or-event_record.ensures ∙ ap (properties (codes "event-record")) c.object_or-features.ensures) c.in_ok-event_header.ensures))
     c.in_ok-common.ensures c.in_ok-events.ensures

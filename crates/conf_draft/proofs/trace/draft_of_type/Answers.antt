@@ -1,0 +1,24 @@
+use Rattle.std.proofs.Common.{◌≡◌, ℕ, List, Option, Bool, refl, rules}
+use Rattle.std.specs.Prelude.{◌&&◌, Some, not, is_some}
+use Rattle.serde_json.specs.Data.{Members}
+use Rattle.serde_json.specs.View.{members_view}
+use Rattle.ctf_types.specs.declared.ByteOrder.{ByteOrder}
+use Rattle.ctf_types.specs.declared.ClockType.{ClockType}
+use Rattle.ctf_types.specs.declared.EnvironmentEntry.{EnvironmentEntry}
+use Rattle.ctf_types.specs.declared.HeaderFeatures.{HeaderFeatures}
+use Rattle.ctf_types.specs.declared.StreamType.{StreamType}
+use Rattle.conf_draft.specs.Clocks.{clock_types}
+use Rattle.conf_draft.specs.Traces.{trace_order, has_two_orders, asks_number, identifier_of, draft_with, draft_of_type}
+use Rattle.conf_draft.proofs.trace.draft_of_type.Goals as goal
+
+draft_made : (number : Option (List ℕ)) (entries : List EnvironmentEntry) (ms : Members) (h : Option HeaderFeatures) (s : Option (List StreamType))
+    (o : ByteOrder) (u : Option (List ℕ)) (clocks : List ClockType) (header : HeaderFeatures) (streams : List StreamType) (lacks two : Bool)
+    → o ≡ trace_order ms → u ≡ identifier_of number ms → clocks ≡ clock_types ms → h ≡ Some header → s ≡ Some streams
+    → lacks ≡ (not (is_some number) && asks_number ms) → two ≡ has_two_orders ms
+    → draft_with number entries ms h s ≡ Some (record { config = record { order = o; uuid = u; environment = entries; clocks = clocks; header = header; streams = streams }; lacks_number = lacks; two_orders = two })
+draft_made number entries ms h s o u clocks header streams lacks two a b c d e f g = rw (a, b, c, d, e, f, g) refl
+
+pub returns : goal.returns
+unfolding draft_of_type trace_order has_two_orders asks_number
+returns c =
+    draft_made _ _ (members_view c.args.trace_type.now.entries) _ _ _ _ _ _ _ _ _ (search rules) (search rules) c.in_ok-clocks.ensures (search rules) c.in_ok-streams.ensures (search rules) (search rules)
