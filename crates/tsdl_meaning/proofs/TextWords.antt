@@ -1,93 +1,14 @@
 -- The words of trees, atoms, stops and types that the proofs speak of, and the lemmas that many of them take.
-pub use Rattle.ctf_types.specs.Allowed.{HasBits, IsByteType, IsCount, IsEvent, IsField, IsIdentity, IsLeaf, IsMagic, IsMappedTo, IsMember, IsMetadata, IsNest, IsRange, IsStream, IsStruct, IsUnsigned, Where, clock_names}
+pub use Rattle.tsdl_meaning.specs.Words.{Adds, AddsAttribute, AddsBlock, AddsClock, AddsEvent, AddsFact, AddsName, AddsOwn, AddsScope, AddsStream, AllByRecursion, AreBrackets, AreFlawless, AreKept, AreNamed, AreNoted, AreRanges, Asked, Atom, Attribute, BTreeMap, BTreeSet, BeginsWithName, Block, BlockKind, Bracket, ByteOrder, ByteString, Chain, ClockType, ContainsKey, Denotes, Dyn, Ends, EndsFacts, Entries, Entry, Enum, EnvironmentEntry, Equal-is, Event, Global, HasBits, HasClock, HasEvent, HasLength, HasLengths, HasNames, HasNumbers, HasStream, HaveNumbers, HaveStreams, Holds, IfErr, IfOk, IfSizesMissed, Int, IsAttribute, IsBegun, IsBehindAlign, IsBehindBrace, IsBehindBrackets, IsBehindKind, IsBehindMembers, IsBehindName, IsBehindWord, IsByteType, IsCount, IsEmpty, IsEnded, IsErrAnd, IsEvent, IsField, IsFlawlessBehind, IsFlawlessBlock, IsFlawlessScope, IsIdentity, IsInBracket, IsInBrackets, IsLargeAlignment, IsLeaf, IsLongLength, IsMagic, IsMappedTo, IsMember, IsMemberTooMany, IsMemberTwice, IsMetadata, IsMetadataName, IsNameTwice, IsNamed, IsNest, IsPartOfVersion, IsPassed, IsRange, IsRangeTooMany, IsSome, IsStream, IsStruct, IsTotalOrder, IsTwice, IsUnsigned, IsUnsupported, IsWrong, Item, KeepsLimits, Kind, Known, Labelled, LacksSizes, Leaf, Ledger, MeanEntries, MemberTree, MemberType, Name, NameLength, NamedFact, Number, NumbersRise, OthersStay, PassesLimit, Plain, SaysClock, SaysEvent, SaysMetadata, SaysStream, Scope, ScopeRule, StandsBehind, Static, Stop, StopsAmong, StopsIn, StopsWhere, Str, Stream, String, StructType, Structure, Surveys, Value, Where, align_of, align_toks, align_with, alone, are_distinct, are_lengths, arrays_of, asked_of, at_most_one, attr, attr_in, attr_names, attr_toks, attrs_in, attrs_toks, base_words, begun, block_and_semicolon, block_toks, braced, bracket_toks, btree_map_len, by_number, bytes_eq, clock_name, clock_names, closing_toks, contains, contains_text, context_names, count_of, default_align, depth, dotted, each, elements, elements_of, encoding_value, entries_of, entries_toks, entry_toks, environment_in, eq_by_cmp, eq_by_cmp_equiv, event_context, event_header, event_in, events_of, fact_meaning, fact_toks, field_of, fields_scope, first_of, first_texts, fits, fits_word, flat_map, get, group_of, has_in_context, has_member, has_number, has_only, has_parts, has_sizes, have_streams, high_of, high_toks, insert_entry, insert_numbered, int_attrs, int_toks, is_alignment, is_among, is_at, is_byte, is_digit, is_eq, is_fit, is_flat, is_letter, is_negative, is_number, is_read, is_size, is_some, is_trace, is_unsigned, is_unsigned_of, is_utf8, is_uuid, is_word, item_toks, items_toks, kind_of, kind_toks, known_of, label_toks, length_place, list_all, list_any, listed, lists_ties, mark, match_ordering, meant_by, member_names, member_toks, most, name_lists, name_of, name_toks, name_value, named_fact_meaning, named_fact_toks, named_rules, names_in, names_of, nat_cmp, nat_cmp_is, nat_cmp_total, nat_list_eq_equiv, natural, natural_value, next_entry_toks, no_two, number_or_zero, number_toks, of_clock, of_event, of_integer, of_stream, of_string, of_trace, one_word, only, option_and_then, option_map, option_map_or, option_or, optional, order_of, order_table, order_words, orders_in, own_asked, own_attrs, packet_context, packet_header, pair_cmp, passes, pointwise, position, position_or_len, prefix_len, provided, result_ok, rule_in, same_words, scope, scope_in, scope_meaning, scope_names, scope_toks, scopes_in, scopes_of, sign_toks, signed_of, slice_cmp, specific_context, stream_in, string_attrs, string_bytes, struct_toks, structure_of, suits, suits_header, suits_rule, text_toks, text_value, texts_of, texts_ties, trace_in, trace_order, tree_of, type_word, unused_keywords, unwrap_or, value_toks, values, whole_value, with_default, with_dot, with_events, with_front, with_group, with_own, word, word_of, word_value, words_of, written, ◌>>=◌}
 unfoldable pub use Rattle.ctf_types.specs.Allowed.{AreMembers}
-pub use Rattle.ctf_types.specs.Chain.{ByteString, Chain, Labelled, Leaf}
-pub use Rattle.ctf_types.specs.Members.{names_in}
-pub use Rattle.ctf_types.specs.Names.{IsMetadataName, is_digit, is_letter, unused_keywords}
 unfoldable pub use Rattle.ctf_types.specs.Names.{is_identifier}
-pub use Rattle.ctf_types.specs.declared.ByteOrder.{ByteOrder}
-pub use Rattle.ctf_types.specs.declared.ClockType.{ClockType}
-pub use Rattle.ctf_types.specs.declared.EnvironmentEntry.{EnvironmentEntry}
-pub use Rattle.ctf_types.specs.declared.Event.{Event}
-pub use Rattle.ctf_types.specs.declared.FieldType.TheVariants.{Enum, Int, Static, Str}
-pub use Rattle.ctf_types.specs.declared.MemberType.{MemberType}
-pub use Rattle.ctf_types.specs.declared.MemberType.TheVariants.{Dyn, Plain}
-pub use Rattle.ctf_types.specs.declared.Stream.{Stream}
-pub use Rattle.ctf_types.specs.declared.StructType.{StructType}
-pub use Rattle.std.specs.BTreeMap.{BTreeMap, ContainsKey, btree_map_len, get, insert_entry, is_at, values}
-pub use Rattle.std.specs.BTreeSet.{BTreeSet, contains, contains_text}
-pub use Rattle.std.specs.Cmp.{Equal-is, IsTotalOrder, eq_by_cmp_equiv, nat_cmp_is, nat_cmp_total}
-pub use Rattle.std.specs.Cmp.Lexicographic.{lists_ties, nat_list_eq_equiv, pointwise, slice_cmp, texts_ties}
 unfoldable pub use Rattle.std.specs.List.{IsDistinct}
-pub use Rattle.std.specs.List.{AllByRecursion, flat_map, list_all, list_any, position, position_or_len, prefix_len}
-pub use Rattle.std.specs.Option.{IsSome, is_some, option_and_then, option_map, option_map_or, option_or, unwrap_or}
-pub use Rattle.std.specs.Ordering.{eq_by_cmp, is_eq, match_ordering, nat_cmp}
-pub use Rattle.std.specs.Result.{IfErr, IfOk, IsErrAnd, result_ok}
-pub use Rattle.std.specs.Str.{bytes_eq, is_utf8}
-pub use Rattle.std.specs.String.{string_bytes}
-pub use Rattle.std.specs.declared.alloc.Global.{Global}
-pub use Rattle.std.specs.declared.string.String.{String}
-pub use Rattle.tsdl_flaw.specs.Flaws.{IsPartOfVersion, IsUnsupported, IsWrong}
-pub use Rattle.tsdl_flaw.specs.Fronts.{Ends, Holds}
-pub use Rattle.tsdl_flaw.specs.Lengths.{HasLength, most}
-pub use Rattle.tsdl_flaw.specs.Limits.{IsLargeAlignment, IsLongLength, IsMemberTooMany, IsPassed, IsRangeTooMany, depth, elements}
-pub use Rattle.tsdl_flaw.specs.Places.{StandsBehind}
-pub use Rattle.tsdl_flaw.specs.Stopping.{StopsIn, kind_of}
-pub use Rattle.tsdl_flaw.specs.Twice.{HasNumbers, IsMemberTwice, IsNameTwice, IsTwice, begun, clock_name}
-pub use Rattle.tsdl_flaw.specs.Written.{with_dot, written}
-pub use Rattle.tsdl_flaw.specs.declared.flaw.Stop.{Stop}
-pub use Rattle.tsdl_grammar.specs.AttributeValues.{alone, is_negative, meant_by, name_value, natural, natural_value, one_word, optional, signed_of, text_value, whole_value, with_default, word_value}
 unfoldable pub use Rattle.tsdl_grammar.specs.AttributeValues.{flag_value, uuid_value}
-pub use Rattle.tsdl_grammar.specs.BlockMeaning.{context_names, event_context, event_header, fact_meaning, fields_scope, has_number, is_byte, is_flat, is_trace, is_unsigned_of, is_uuid, named_fact_meaning, number_or_zero, order_table, packet_context, packet_header, specific_context, suits, suits_header, trace_order}
 unfoldable pub use Rattle.tsdl_grammar.specs.BlockMeaning.{clock_meaning, environment_meaning, event_meaning, header_meaning, stream_meaning, trace_uuid}
-pub use Rattle.tsdl_grammar.specs.Denotes.{Denotes, environment_in, event_in, events_of, have_streams, is_read, known_of, stream_in, trace_in, with_events}
 unfoldable pub use Rattle.tsdl_grammar.specs.Denotes.{streams_meaning, text_meta}
-pub use Rattle.tsdl_grammar.specs.IntegerMeaning.{Known, base_words, clock_in, default_align, has_only, int_attrs, order_words}
 unfoldable pub use Rattle.tsdl_grammar.specs.IntegerMeaning.{base_value, clock_value, int_meaning, order_value}
-pub use Rattle.tsdl_grammar.specs.Laws.{NumbersRise, SaysClock, SaysEvent, SaysMetadata, SaysStream}
-pub use Rattle.tsdl_grammar.specs.Lookups.{are_distinct, attr, attr_in, attr_names, attrs_in, has_parts, is_among, is_word, no_two, same_words, scope, scope_in, scopes_in, words_of}
-pub use Rattle.tsdl_grammar.specs.MemberMeaning.{are_lengths, arrays_of, count_of, elements_of, encoding_value, entries_of, field_of, high_of, is_unsigned, length_place}
 unfoldable pub use Rattle.tsdl_grammar.specs.MemberMeaning.{bracketed, entry_meaning, enum_meaning, kind_meaning, member_meaning, text_meaning}
-pub use Rattle.tsdl_grammar.specs.Spelling.{align_toks, attr_toks, attrs_toks, block_and_semicolon, block_toks, braced, bracket_toks, closing_toks, dotted, entries_toks, entry_toks, fact_toks, high_toks, int_toks, item_toks, items_toks, kind_toks, label_toks, mark, member_toks, name_toks, named_fact_toks, next_entry_toks, number_toks, scope_toks, sign_toks, struct_toks, text_toks, value_toks, word}
-pub use Rattle.tsdl_grammar.specs.Steps.{at_most_one, by_number, each, insert_numbered, only, provided, ◌>>=◌}
-pub use Rattle.tsdl_grammar.specs.StructureMeaning.{align_of, align_with, has_member, scope_meaning, structure_of}
 unfoldable pub use Rattle.tsdl_grammar.specs.StructureMeaning.{members_meaning, struct_meaning, struct_type}
-pub use Rattle.tsdl_grammar.specs.declared.atom.Atom.{Atom}
-pub use Rattle.tsdl_grammar.specs.declared.tree.Attribute.{Attribute}
-pub use Rattle.tsdl_grammar.specs.declared.tree.Block.{Block}
-pub use Rattle.tsdl_grammar.specs.declared.tree.Bracket.{Bracket}
-pub use Rattle.tsdl_grammar.specs.declared.tree.Entries.{Entries}
-pub use Rattle.tsdl_grammar.specs.declared.tree.Entry.{Entry}
-pub use Rattle.tsdl_grammar.specs.declared.tree.Item.{Item}
-pub use Rattle.tsdl_grammar.specs.declared.tree.Kind.{Kind}
-pub use Rattle.tsdl_grammar.specs.declared.tree.MemberTree.{MemberTree}
-pub use Rattle.tsdl_grammar.specs.declared.tree.Name.{Name}
-pub use Rattle.tsdl_grammar.specs.declared.tree.NamedFact.{NamedFact}
-pub use Rattle.tsdl_grammar.specs.declared.tree.Number.{Number}
-pub use Rattle.tsdl_grammar.specs.declared.tree.Scope.{Scope}
-pub use Rattle.tsdl_grammar.specs.declared.tree.Structure.{Structure}
-pub use Rattle.tsdl_grammar.specs.declared.tree.Value.{Value}
-pub use Rattle.tsdl_meaning.specs.Blocks.{AreKept, IsBegun, word_of}
-pub use Rattle.tsdl_meaning.specs.BracketLengths.{Adds, BeginsWithName, HasLengths, IsBehindBrackets, IsInBracket, IsInBrackets, PassesLimit}
-pub use Rattle.tsdl_meaning.specs.ClockNames.{HasNames}
-pub use Rattle.tsdl_meaning.specs.FlawlessBlocks.{AddsAttribute, AddsName, AddsScope, AreFlawless, Asked, IsEnded, IsFlawlessBlock, IsFlawlessScope, asked_of, first_texts, fits, fits_word, is_fit, is_number, named_rules, of_clock, of_event, of_stream, of_trace, passes, rule_in, scopes_of}
-pub use Rattle.tsdl_meaning.specs.FlawlessBrackets.{AreBrackets, HaveNumbers, KeepsLimits, NameLength}
-pub use Rattle.tsdl_meaning.specs.FlawlessTexts.{AddsBlock, AddsClock, AddsFact, AddsStream, HaveStreams, IsEmpty, IsFlawlessBehind, MeanEntries, Surveys}
-pub use Rattle.tsdl_meaning.specs.FlawlessTypes.{AddsOwn, AreRanges, is_alignment, is_size, of_integer, of_string, own_asked, own_attrs, string_attrs, tree_of, type_word}
-pub use Rattle.tsdl_meaning.specs.Fronts.{with_front}
-pub use Rattle.tsdl_meaning.specs.Groups.{AddsEvent, OthersStay, group_of, with_group, with_own}
-pub use Rattle.tsdl_meaning.specs.Judged.{EndsFacts, IsAttribute, StopsAmong, StopsWhere}
-pub use Rattle.tsdl_meaning.specs.Judging.{IsBehindAlign, IsBehindBrace, IsBehindName, IsBehindWord}
-pub use Rattle.tsdl_meaning.specs.Ledgers.{AreNoted, HasClock, HasEvent, HasStream, pair_cmp}
-pub use Rattle.tsdl_meaning.specs.MembersBefore.{IsBehindKind, IsBehindMembers}
-pub use Rattle.tsdl_meaning.specs.Names.{name_lists, names_of, scope_names, texts_of}
-pub use Rattle.tsdl_meaning.specs.NamesBefore.{AreNamed, IsNamed}
-pub use Rattle.tsdl_meaning.specs.NotedBlocks.{first_of, listed, name_of, order_of, orders_in}
-pub use Rattle.tsdl_meaning.specs.PacketSizes.{IfSizesMissed, LacksSizes, has_in_context, has_sizes, member_names}
-pub use Rattle.tsdl_meaning.specs.ScopeRules.{suits_rule}
-pub use Rattle.tsdl_meaning.specs.declared.judge.block.BlockKind.{BlockKind}
-pub use Rattle.tsdl_meaning.specs.declared.judge.ledger.Ledger.{Ledger}
-pub use Rattle.tsdl_meaning.specs.declared.scope_rule.ScopeRule.{ScopeRule}
 pub use Rattle.std.proofs.lemmas.List.{append-nil, length-map, map-append, map-id, reverse-append, take_all, take_more}
 pub use Rattle.std.proofs.lemmas.Bool.{and_from, cases_Bool, eqb-true, false≢true, le-leb, leb-true, ltb-true, not-true, not_from_false, or_left, or_parts, or_right}
 pub use Rattle.std.proofs.lemmas.Slice.Eq.{bytes_eq-Decides}

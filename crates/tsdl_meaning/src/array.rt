@@ -1,10 +1,7 @@
 //! Arrays, by the lengths in their brackets (CTF 1.8.3, section 4.2.3). The first length is the outermost array's.
 
 ghost use Rattle.std.specs.Prelude.{◌≡◌, ◌≤◌, ◌^◌, IfOk, nat_lt, nat_le};
-ghost use Rattle.std.specs.List.{list_all};
-ghost use Rattle.ctf_types.specs.Chain.{Leaf};
-ghost use Rattle.tsdl_grammar.specs.Steps.{each};
-ghost use Rattle.tsdl_grammar.specs.MemberMeaning.{field_of, arrays_of, elements_of, are_lengths, count_of};
+ghost use Rattle.tsdl_meaning.specs.Words.{list_all, Leaf, each, field_of, arrays_of, elements_of, are_lengths, count_of};
 
 use crate::value::{Meant, natural};
 use ctf_types::{Element, FieldType, ListOf, MAX_ARRAYS, MAX_ELEMENTS};

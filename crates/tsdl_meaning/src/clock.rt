@@ -1,7 +1,7 @@
 //! What a clock block means (CTF 1.8.3, section 8).
 
 ghost use Rattle.std.specs.Prelude.{◌≡◌, IfOk};
-ghost use Rattle.tsdl_grammar.specs.BlockMeaning.{clock_meaning};
+ghost use Rattle.tsdl_meaning.specs.Words.{clock_meaning};
 
 use crate::lookup::{attr_in, has_parts, name_in, number_or_zero};
 use crate::value::{Meant, flag_or_false, natural_or, text_value, uuid_if_there, whole_value};

@@ -1,11 +1,7 @@
 //! What an environment block means (CTF 1.8.3, section 7, the block `env`).
 
 ghost use Rattle.std.specs.Prelude.{◌≡◌, map, IfOk};
-ghost use Rattle.std.specs.List.{list_any};
-ghost use Rattle.std.specs.Str.{bytes_eq};
-ghost use Rattle.tsdl_grammar.specs.Lookups.{no_two};
-ghost use Rattle.tsdl_grammar.specs.Steps.{each};
-ghost use Rattle.tsdl_grammar.specs.BlockMeaning.{fact_meaning, named_fact_meaning, environment_meaning};
+ghost use Rattle.tsdl_meaning.specs.Words.{list_any, bytes_eq, no_two, each, fact_meaning, named_fact_meaning, environment_meaning};
 
 use crate::value::{Meant, whole};
 use ctf_types::{EnvironmentEntry, EnvironmentValue, ListOf, MAX_ENVIRONMENT, Text};

@@ -1,9 +1,7 @@
 //! What `integer { .. }` means (CTF 1.8.3, section 4.1.5).
 
 ghost use Rattle.std.specs.Prelude.{◌≡◌, option_map, IfOk};
-ghost use Rattle.tsdl_grammar.specs.AttributeValues.{meant_by};
-ghost use Rattle.tsdl_grammar.specs.IntegerMeaning.{int_type, default_align, base_words, base_value, order_words, order_value, clock_value, int_meaning};
-ghost use Rattle.tsdl_meaning.specs.Names.{texts_of};
+ghost use Rattle.tsdl_meaning.specs.Words.{meant_by, int_type, default_align, base_words, base_value, order_words, order_value, clock_value, int_meaning, texts_of};
 
 use crate::known::Known;
 use crate::lookup::{attr, has_only};

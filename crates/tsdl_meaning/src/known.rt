@@ -1,9 +1,7 @@
 //! What the integers of a text have to know of all of it.
 
 ghost use Rattle.std.specs.Prelude.{◌≡◌, map, IfOk};
-ghost use Rattle.std.specs.List.{list_any};
-ghost use Rattle.std.specs.Str.{bytes_eq};
-ghost use Rattle.tsdl_grammar.specs.Denotes.{known_of};
+ghost use Rattle.tsdl_meaning.specs.Words.{list_any, bytes_eq, known_of};
 
 use ctf_types::{ByteOrder, ClockType, ListOf, Text};
 use std::alloc::{AllocError, Global};

@@ -1,9 +1,7 @@
 //! Laws of meaning. Each function is a statement, and does nothing when it runs.
 
 ghost use Rattle.std.specs.Prelude.{ℕ, List};
-ghost use Rattle.ctf_types.specs.declared.Metadata.{Metadata};
-ghost use Rattle.ctf_types.specs.Allowed.{IsMetadata};
-ghost use Rattle.tsdl_grammar.specs.Denotes.{Denotes};
+ghost use Rattle.tsdl_meaning.specs.Words.{Metadata, IsMetadata, Denotes};
 
 /// The metadata that a text denotes is metadata that the rules allow.
 pub fn denoted_is_allowed()

@@ -1,13 +1,7 @@
 //! Names, and what stands under a name: attributes and scopes are looked up by their words, and no name stands twice.
 
 ghost use Rattle.std.specs.Prelude.{◌≡◌, map, option_map, IfOk};
-ghost use Rattle.std.specs.List.{list_any, list_all};
-ghost use Rattle.tsdl_grammar.specs.Lookups.{words_of, same_words, is_word, is_among, attr, attr_names, attrs_in, scopes_in, scope, are_distinct, has_parts, no_two};
-ghost use Rattle.tsdl_grammar.specs.IntegerMeaning.{has_only};
-ghost use Rattle.tsdl_grammar.specs.BlockMeaning.{number_or_zero};
-ghost use Rattle.tsdl_flaw.specs.Twice.{clock_name};
-ghost use Rattle.tsdl_meaning.specs.Names.{names_of, texts_of, name_lists, scope_names};
-ghost use Rattle.std.specs.Ordering.{eq_by_cmp};
+ghost use Rattle.tsdl_meaning.specs.Words.{list_any, list_all, words_of, same_words, is_word, is_among, attr, attr_names, attrs_in, scopes_in, scope, are_distinct, has_parts, no_two, has_only, number_or_zero, clock_name, names_of, texts_of, name_lists, scope_names, eq_by_cmp};
 
 use crate::value::{name_value, natural_or};
 use ctf_types::Text;

@@ -1,12 +1,7 @@
 //! Which types the members of a scope have where their names have a meaning (CTF 1.8.3, sections 5.1 and 5.2).
 
 ghost use Rattle.std.specs.Prelude.{◌≡◌, ◌<◌, length};
-ghost use Rattle.std.specs.List.{list_all, list_any};
-ghost use Rattle.std.specs.Str.{bytes_eq};
-ghost use Rattle.tsdl_grammar.specs.BlockMeaning.{is_unsigned_of, is_uuid, suits_header, suits};
-ghost use Rattle.ctf_types.specs.FieldTypes.{chain_of};
-ghost use Rattle.tsdl_meaning.specs.Names.{texts_of};
-ghost use Rattle.tsdl_meaning.specs.ScopeRules.{suits_rule, is_byte_chain, SuitsAt};
+ghost use Rattle.tsdl_meaning.specs.Words.{list_all, list_any, bytes_eq, is_unsigned_of, is_uuid, suits_header, suits, chain_of, texts_of, suits_rule, is_byte_chain, SuitsAt};
 
 use crate::member::is_unsigned;
 use ctf_types::{FieldType, MemberType, Members};

@@ -1,8 +1,7 @@
 //! What stream blocks and event blocks mean (CTF 1.8.3, section 7).
 
 ghost use Rattle.std.specs.Prelude.{◌≡◌, ◌&&◌, IfOk, codes};
-ghost use Rattle.tsdl_grammar.specs.StructureMeaning.{has_member};
-ghost use Rattle.tsdl_grammar.specs.BlockMeaning.{stream_meaning, event_meaning};
+ghost use Rattle.tsdl_meaning.specs.Words.{has_member, stream_meaning, event_meaning};
 
 use crate::known::Known;
 use crate::lookup::{attr_in, has_parts, name_in, number_or_zero};

@@ -1,13 +1,7 @@
 //! What a structure means (CTF 1.8.3, section 4.2.1).
 
 ghost use Rattle.std.specs.Prelude.{◌≡◌, ◌↔◌, [], option_map, IfOk, IsTrue, nat_lt, ◌&&◌, ◌==◌, ◌%◌, Some};
-ghost use Rattle.std.specs.List.{Contains};
-ghost use Rattle.ctf_types.specs.Members.{names_in};
-ghost use Rattle.tsdl_grammar.specs.Steps.{provided};
-ghost use Rattle.tsdl_grammar.specs.StructureMeaning.{struct_type, has_member, members_meaning, align_of, align_with, struct_meaning, structure_of, scope_meaning};
-ghost use Rattle.tsdl_grammar.specs.Lookups.{scopes_in};
-ghost use Rattle.tsdl_meaning.specs.Names.{texts_of};
-ghost use Rattle.tsdl_meaning.specs.ScopeRules.{suits_rule};
+ghost use Rattle.tsdl_meaning.specs.Words.{Contains, names_in, provided, struct_type, has_member, members_meaning, align_of, align_with, struct_meaning, structure_of, scope_meaning, scopes_in, texts_of, suits_rule};
 
 use crate::known::Known;
 use crate::lookup::scope_in;

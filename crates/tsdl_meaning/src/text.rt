@@ -1,15 +1,7 @@
 //! What the blocks of a metadata text mean (CTF 1.8.3, section 7), or where they mean nothing their first fault.
 
 ghost use Rattle.std.specs.Prelude.{◌≡◌, option_map, IfOk, Some, None, IfErr};
-ghost use Rattle.std.specs.List.{flat_map};
-ghost use Rattle.std.specs.Str.{bytes_eq};
-ghost use Rattle.tsdl_grammar.specs.Lookups.{no_two};
-ghost use Rattle.tsdl_grammar.specs.Steps.{each, only, at_most_one};
-ghost use Rattle.tsdl_grammar.specs.BlockMeaning.{is_trace, clock_meaning};
-ghost use Rattle.tsdl_grammar.specs.Denotes.{trace_in, clock_in, environment_in, text_meta};
-ghost use Rattle.tsdl_grammar.specs.Spelling.{text_toks};
-ghost use Rattle.tsdl_flaw.specs.TextStops.{StopsText, IfFault};
-ghost use Rattle.tsdl_meaning.specs.PacketSizes.{MissesSizes};
+ghost use Rattle.tsdl_meaning.specs.Words.{flat_map, bytes_eq, no_two, each, only, at_most_one, is_trace, clock_meaning, trace_in, clock_in, environment_in, text_meta, text_toks, StopsText, IfFault, MissesSizes};
 
 use crate::clock::clock_meaning;
 use crate::environment::environment_meaning;

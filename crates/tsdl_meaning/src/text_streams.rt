@@ -1,12 +1,8 @@
 //! The streams of a metadata text, each with its events (CTF 1.8.3, section 7).
 
 ghost use Rattle.std.specs.Prelude.{◌≡◌, ℕ, IfOk, OnOk};
-ghost use Rattle.std.specs.List.{flat_map};
-ghost use Rattle.tsdl_grammar.specs.Steps.{each};
-ghost use Rattle.tsdl_grammar.specs.BlockMeaning.{stream_meaning, event_meaning};
-ghost use Rattle.tsdl_grammar.specs.Denotes.{stream_in, event_in, events_of, have_streams, streams_meaning};
-ghost use Rattle.tsdl_grammar.specs.Laws.{NumbersRise};
-ghost use Rattle.tsdl_meaning.specs.Groups.{HasNumbers, AddsEvent, OthersStay, group_of, with_group};
+ghost use Rattle.tsdl_meaning.specs.Words.{flat_map, each, stream_meaning, event_meaning, stream_in, event_in, events_of, have_streams, streams_meaning, NumbersRise, AddsEvent, OthersStay, group_of, with_group};
+ghost use Rattle.tsdl_meaning.specs.Groups.{HasNumbers};
 
 use crate::known::Known;
 use crate::numbered::by_number;

@@ -1,8 +1,7 @@
 //! What a trace block means (CTF 1.8.3, section 7): version 1.8, its byte order, its identifier and the packet header.
 
 ghost use Rattle.std.specs.Prelude.{◌≡◌, IfOk};
-ghost use Rattle.tsdl_grammar.specs.AttributeValues.{meant_by};
-ghost use Rattle.tsdl_grammar.specs.BlockMeaning.{order_table, trace_order, has_number, is_trace};
+ghost use Rattle.tsdl_meaning.specs.Words.{meant_by, order_table, trace_order, has_number, is_trace};
 
 use crate::lookup::{attr_in, has_parts};
 use crate::scope_rule::ScopeRule;

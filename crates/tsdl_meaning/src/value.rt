@@ -1,7 +1,7 @@
 //! What the values of attributes stand for.
 
 ghost use Rattle.std.specs.Prelude.{◌≡◌, false, pos, option_map};
-ghost use Rattle.tsdl_grammar.specs.AttributeValues.{natural, whole, signed_of, natural_value, whole_value, text_value, one_word, word_value, name_value, flag_value, flag_words, meant_by, with_default, optional, uuid_value};
+ghost use Rattle.tsdl_meaning.specs.Words.{natural, whole, signed_of, natural_value, whole_value, text_value, one_word, word_value, name_value, flag_value, flag_words, meant_by, with_default, optional, uuid_value};
 
 use ctf_types::Text;
 use std::alloc::AllocError;

@@ -2,16 +2,8 @@
 #![tactic(auto, using(crate::proofs::JudgedParts::any_front))]
 
 ghost use Rattle.std.specs.Prelude.{List, ◌++◌, IfOk, IfErr, IsTrue, codes};
-ghost use Rattle.tsdl_grammar.specs.declared.atom.Atom.{Atom};
+ghost use Rattle.tsdl_meaning.specs.Words.{Atom, Item, attr_toks, value_toks, IsPartOfVersion, StopsAmong, StopsWhere, IsAttribute, AreNoted, AreNamed, IsBegun, AddsAttribute, is_fit, asked_of, fits, of_trace, of_stream, of_event, of_clock, is_order, is_number};
 ghost use Rattle.tsdl_grammar.specs.declared.token.Mark.TheVariants as marks;
-ghost use Rattle.tsdl_grammar.specs.declared.tree.Item.{Item};
-ghost use Rattle.tsdl_grammar.specs.Spelling.{attr_toks, value_toks};
-ghost use Rattle.tsdl_flaw.specs.Flaws.{IsPartOfVersion};
-ghost use Rattle.tsdl_meaning.specs.Judged.{StopsAmong, StopsWhere, IsAttribute};
-ghost use Rattle.tsdl_meaning.specs.Ledgers.{AreNoted};
-ghost use Rattle.tsdl_meaning.specs.NamesBefore.{AreNamed};
-ghost use Rattle.tsdl_meaning.specs.Blocks.{IsBegun};
-ghost use Rattle.tsdl_meaning.specs.FlawlessBlocks.{AddsAttribute, is_fit, asked_of, fits, of_trace, of_stream, of_event, of_clock, is_order, is_number};
 
 use crate::judge::block::{BlockKind, Judging};
 use crate::judge::ledger::Ledger;

@@ -1,20 +1,8 @@
 //! The first flaw of a block: of an environment, or of a trace, a stream, an event or a clock with its attributes and scopes.
 
 ghost use Rattle.std.specs.Prelude.{◌≡◌, false, List, [], ◌∷◌, ◌++◌, IfOk, IfErr, IsTrue, codes};
-ghost use Rattle.tsdl_grammar.specs.declared.atom.Atom.{Atom};
+ghost use Rattle.tsdl_meaning.specs.Words.{Atom, Item, mark, word, scope_toks, items_toks, braced, fact_toks, named_fact_toks, IsTwice, StopsWhere, StopsAmong, EndsFacts, AreNoted, AreNamed, word_of, IsBegun, IsFlawlessBlock, AddsScope, IsEnded, IsNumberedAnew, scopes_of, needed, named_rules, first_texts, flat_map, is_some, fact_meaning, MeanEntries, AddsFact};
 ghost use Rattle.tsdl_grammar.specs.declared.token.Mark.TheVariants as marks;
-ghost use Rattle.tsdl_grammar.specs.declared.tree.Item.{Item};
-ghost use Rattle.tsdl_grammar.specs.Spelling.{mark, word, scope_toks, items_toks, braced, fact_toks, named_fact_toks};
-ghost use Rattle.tsdl_flaw.specs.Twice.{IsTwice};
-ghost use Rattle.tsdl_meaning.specs.Judged.{StopsWhere, StopsAmong, EndsFacts};
-ghost use Rattle.tsdl_meaning.specs.Ledgers.{AreNoted};
-ghost use Rattle.tsdl_meaning.specs.NamesBefore.{AreNamed};
-ghost use Rattle.tsdl_meaning.specs.Blocks.{word_of, IsBegun};
-ghost use Rattle.tsdl_meaning.specs.FlawlessBlocks.{IsFlawlessBlock, AddsScope, IsEnded, IsNumberedAnew, scopes_of, needed, named_rules, first_texts};
-ghost use Rattle.std.specs.List.{flat_map};
-ghost use Rattle.std.specs.Option.{is_some};
-ghost use Rattle.tsdl_grammar.specs.BlockMeaning.{fact_meaning};
-ghost use Rattle.tsdl_meaning.specs.FlawlessTexts.{MeanEntries, AddsFact};
 
 use crate::environment::has_fact;
 use crate::judge::attribute::judge_attribute;

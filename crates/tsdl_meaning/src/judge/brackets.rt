@@ -1,16 +1,8 @@
 //! The first flaw of a member's brackets: how many there are, how long they are, and which members they name.
 
 ghost use Rattle.std.specs.Prelude.{◌≡◌, ℕ, List, [], ◌∷◌, ◌++◌, None, IsSome, IfOk, IfErr, MatchOption};
-ghost use Rattle.std.specs.List.{flat_map};
-ghost use Rattle.tsdl_grammar.specs.declared.tree.Bracket.{Bracket};
+ghost use Rattle.tsdl_meaning.specs.Words.{flat_map, Bracket, MemberType, Leaf, bracketed, word, number_toks, bracket_toks, StopsAmong, StopsWhere, HasLengths, IsBehindBrackets, IsInBrackets, IsInBracket, Adds, PassesLimit, KeepsLimits, AreBrackets};
 ghost use Rattle.tsdl_grammar.specs.declared.tree.Bracket.TheVariants as brackets;
-ghost use Rattle.ctf_types.specs.declared.MemberType.{MemberType};
-ghost use Rattle.ctf_types.specs.Chain.{Leaf};
-ghost use Rattle.tsdl_grammar.specs.MemberMeaning.{bracketed};
-ghost use Rattle.tsdl_grammar.specs.Spelling.{word, number_toks, bracket_toks};
-ghost use Rattle.tsdl_meaning.specs.Judged.{StopsAmong, StopsWhere};
-ghost use Rattle.tsdl_meaning.specs.BracketLengths.{HasLengths, IsBehindBrackets, IsInBrackets, IsInBracket, Adds, PassesLimit};
-ghost use Rattle.tsdl_meaning.specs.FlawlessBrackets.{KeepsLimits, AreBrackets};
 
 use crate::judge::value::judge_number;
 use crate::member::length_place;

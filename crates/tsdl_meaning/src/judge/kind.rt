@@ -1,46 +1,33 @@
 //! The first flaw of a member's kind: an integer, an enumeration or a string, and of its attributes.
 
 ghost use Rattle.std.specs.Prelude.{◌∷◌, ◌++◌, IsSome, IfOk, IfErr, ◌≡◌, List, [], IsTrue};
-ghost use Rattle.std.specs.List.{flat_map};
-ghost use Rattle.tsdl_grammar.specs.Spelling.{kind_toks, entry_toks, next_entry_toks, word, attr_toks, attrs_toks, value_toks};
-ghost use Rattle.tsdl_grammar.specs.MemberMeaning.{entry_meaning, kind_meaning, encoding_value};
-ghost use Rattle.tsdl_meaning.specs.Judged.{StopsAmong, StopsWhere};
-ghost use Rattle.tsdl_meaning.specs.Judging.{IsBehindBrace, IsBehindName, IsBehindWord};
-ghost use Rattle.tsdl_meaning.specs.FlawlessTypes.{AreRanges, AddsOwn, of_integer, tree_of, type_word, own_attrs, own_asked, is_size};
+ghost use Rattle.tsdl_meaning.specs.Words.{flat_map, kind_toks, entry_toks, next_entry_toks, word, attr_toks, attrs_toks, value_toks, entry_meaning, kind_meaning, encoding_value, StopsAmong, StopsWhere, IsBehindBrace, IsBehindName, IsBehindWord, AreRanges, AddsOwn, of_integer, tree_of, type_word, own_attrs, own_asked, is_size, Atom, is_some, order_value, base_value, clock_value, names_of, AreNamed, fits, is_fit};
 ghost use Rattle.tsdl_grammar.specs.declared.token.Mark.TheVariants as marks;
-ghost use Rattle.tsdl_grammar.specs.declared.atom.Atom.{Atom};
-ghost use Rattle.std.specs.Option.{is_some};
-ghost use Rattle.tsdl_grammar.specs.IntegerMeaning.{order_value, base_value, clock_value};
-ghost use Rattle.tsdl_meaning.specs.Names.{names_of};
-ghost use Rattle.tsdl_meaning.specs.NamesBefore.{AreNamed};
-ghost use Rattle.tsdl_meaning.specs.FlawlessBlocks.{fits, is_fit};
 
 use crate::enumeration::{MAX_RANGES, rises};
 use crate::integer::{INTEGER_ATTRIBUTES, base_value, clock_value, order_value};
+use crate::judge::block::Judging;
 use crate::judge::names::Names;
-use crate::judge::survey::Survey;
 use crate::judge::value::{judge_align, judge_flag, judge_natural, number, order_remedy, unread};
 use crate::lookup::{attr, is_among};
 use crate::member::{STRING_ATTRIBUTES, is_encoding};
 use crate::scope_rule::has_word;
 use crate::value::{one_word, word_value};
-use std::alloc::Global;
 use tsdl_flaw::{Flaw, Remedy, Spelled, Stop};
 use tsdl_grammar::{Attribute, Entries, Entry, Kind, Value};
 
 /// `integer { .. }`, `enum : integer { .. } { .. }` or `string { .. }`.
-pub(crate) fn judge_kind(alloc: Global, survey: &Survey, kind: &Kind, at: usize) -> Result<(), Stop>
-    ensures meant { IfOk result (λ _. IsSome (kind_meaning survey.now.known kind.now)) }
+pub(crate) fn judge_kind(judging: &Judging, kind: &Kind, at: usize) -> Result<(), Stop>
+    ensures meant { IfOk result (λ _. IsSome (kind_meaning judging.now.survey.now.known kind.now)) }
     ensures fault { IfErr result (StopsAmong at (kind_toks kind.now)) }
 {
     match kind {
         Kind::Integer(attributes) => {
-            judge_attributes(alloc, survey, TypeKind::Integer, attributes.as_slice(), at)
+            judge_attributes(judging, TypeKind::Integer, attributes.as_slice(), at)
         }
         Kind::Enumeration(attributes, entries) => {
-            let integer = TypeKind::Integer;
             let place = at.saturating_add(2);
-            judge_attributes(alloc, survey, integer, attributes.as_slice(), place)?;
+            judge_attributes(judging, TypeKind::Integer, attributes.as_slice(), place)?;
             let passed = place.saturating_add(attributes.length());
             match entries {
                 Entries::Empty => Ok(()),
@@ -51,7 +38,7 @@ pub(crate) fn judge_kind(alloc: Global, survey: &Survey, kind: &Kind, at: usize)
         }
         Kind::Text(attributes) => match attributes {
             Some(attributes) => {
-                judge_attributes(alloc, survey, TypeKind::Text, attributes.as_slice(), at)
+                judge_attributes(judging, TypeKind::Text, attributes.as_slice(), at)
             }
             None => Ok(()),
         },
@@ -100,19 +87,18 @@ pub(crate) enum TypeKind {
 
 /// The attributes of a type behind its word, an atom.
 pub(crate) fn judge_attributes(
-    alloc: Global,
-    survey: &Survey,
+    judging: &Judging,
     kind: TypeKind,
     attributes: &[Attribute],
     at: usize,
 ) -> Result<(), Stop>
-    ensures meant { IfOk result (λ _. IsSome (kind_meaning survey.now.known (tree_of kind attributes.now))) }
+    ensures meant { IfOk result (λ _. IsSome (kind_meaning judging.now.survey.now.known (tree_of kind attributes.now))) }
     ensures fault { IfErr result (StopsAmong at (word (type_word kind) ∷ attrs_toks attributes.now)) }
 {
-    let mut names = Names::new(alloc);
+    let mut names = Names::new(judging.alloc);
     let mut next = at.saturating_add(2);
     for attribute in attributes {
-        judge_attribute(alloc, survey, kind, &mut names, attribute, next)?;
+        judge_attribute(judging, kind, &mut names, attribute, next)?;
         next = next.saturating_add(attribute.length());
     }
     match kind {
@@ -125,23 +111,22 @@ pub(crate) fn judge_attributes(
 
 /// `name "=" value ";"`, an attribute behind others of these names.
 fn judge_attribute(
-    alloc: Global,
-    survey: &Survey,
+    judging: &Judging,
     kind: TypeKind,
     names: &mut Names,
     attribute: &Attribute,
     at: usize,
 ) -> Result<(), Stop>
-    ensures own { IfOk result (λ _. AddsOwn (own_attrs kind) (own_asked survey.now.known kind) names.old.names attribute.now names.new.names) }
+    ensures own { IfOk result (λ _. AddsOwn (own_attrs kind) (own_asked judging.now.survey.now.known kind) names.old.names attribute.now names.new.names) }
     ensures fault { IfErr result (StopsWhere (λ front. AreNamed front marks.Equals names.old.names) at (attr_toks attribute.now)) }
     ensures named { IfOk result (λ _. (front : List Atom) → AreNamed front marks.Equals names.old.names → AreNamed (front ++ attr_toks attribute.now) marks.Equals names.new.names) }
 {
     if !is_among(attributes_of(kind), &attribute.name) {
-        return Err(Stop::unsupported(alloc, at, &attribute.name, Remedy::Nothing));
+        return Err(Stop::unsupported(judging.alloc, at, &attribute.name, Remedy::Nothing));
     }
-    names.add(alloc, &attribute.name, at)?;
+    names.add(judging.alloc, &attribute.name, at)?;
     let behind = at.saturating_add(attribute.name.length()).saturating_add(1);
-    judge_value(alloc, survey, kind, attribute, behind)
+    judge_value(judging, kind, attribute, behind)
 }
 
 /// The attributes that a type may have.
@@ -156,35 +141,28 @@ fn attributes_of(kind: TypeKind) -> &'static [&'static [&'static str]]
 
 /// The value of an attribute, behind its name and `=`.
 fn judge_value(
-    alloc: Global,
-    survey: &Survey,
+    judging: &Judging,
     kind: TypeKind,
     attribute: &Attribute,
     at: usize,
 ) -> Result<(), Stop>
-    ensures fit { IfOk result (λ _. IsTrue (is_fit (own_asked survey.now.known kind) attribute.now)) }
+    ensures fit { IfOk result (λ _. IsTrue (is_fit (own_asked judging.now.survey.now.known kind) attribute.now)) }
     ensures fault { IfErr result (StopsWhere (IsBehindName attribute.now.name) at (value_toks attribute.now.value)) }
 {
     let Some(word) = one_word(&attribute.name) else {
         return Ok(());
     };
     match kind {
-        TypeKind::Integer => judge_integer(alloc, survey, word.as_str(), &attribute.value, at),
+        TypeKind::Integer => judge_integer(judging, word.as_str(), &attribute.value, at),
         TypeKind::Text if is_encoding(&attribute.value) => Ok(()),
-        TypeKind::Text => Err(unread(alloc, &attribute.value, at, Remedy::Nothing)),
+        TypeKind::Text => Err(unread(judging.alloc, &attribute.value, at, Remedy::Nothing)),
     }
 }
 
 /// What the attribute of this name of an integer has.
 #[tactic(auto, using(crate::proofs::JudgedParts::any_front))]
-fn judge_integer(
-    alloc: Global,
-    survey: &Survey,
-    word: &str,
-    value: &Value,
-    at: usize,
-) -> Result<(), Stop>
-    ensures fit { IfOk result (λ _. IsTrue (fits (of_integer survey.now.known) word.now value.now)) }
+fn judge_integer(judging: &Judging, word: &str, value: &Value, at: usize) -> Result<(), Stop>
+    ensures fit { IfOk result (λ _. IsTrue (fits (of_integer judging.now.survey.now.known) word.now value.now)) }
     ensures fault { IfErr result (StopsWhere (IsBehindWord word.now) at (value_toks value.now)) }
 {
     match word {
@@ -194,27 +172,29 @@ fn judge_integer(
         },
         "align" => judge_align(number(value, at)?, at),
         "signed" => judge_flag(value, at),
-        "byte_order" => judge_order(alloc, survey, value, at),
-        "base" => judge_base(alloc, value, at),
-        "map" => judge_map(survey, value, at),
+        "byte_order" => judge_order(judging, value, at),
+        "base" => judge_base(judging, value, at),
+        "map" => judge_map(judging, value, at),
         _ => Ok(()),
     }
 }
 
 /// `native`, or the trace's own byte order.
-fn judge_order(alloc: Global, survey: &Survey, value: &Value, at: usize) -> Result<(), Stop>
-    ensures fit { IfOk result (λ _. IsTrue (is_some (order_value survey.now.known.order value.now))) }
+fn judge_order(judging: &Judging, value: &Value, at: usize) -> Result<(), Stop>
+    ensures fit { IfOk result (λ _. IsTrue (is_some (order_value judging.now.survey.now.known.order value.now))) }
     ensures fault { IfErr result (StopsAmong at (value_toks value.now)) }
 {
     match word_value(value) {
-        Some(word) if !survey.has_order && has_word(word.as_str(), &["native"]) => Ok(()),
-        Some(_) if survey.has_order && order_value(survey.known.order(), value).is_some() => Ok(()),
-        _ => Err(unread(alloc, value, at, order_remedy(value))),
+        Some(word) if !judging.survey.has_order && has_word(word.as_str(), &["native"]) => Ok(()),
+        Some(_)
+            if judging.survey.has_order
+                && order_value(judging.survey.known.order(), value).is_some() => Ok(()),
+        _ => Err(unread(judging.alloc, value, at, order_remedy(value))),
     }
 }
 
 /// `2 binary b`, `8 octal oct o`, `10 decimal dec d i u` or `16 hexadecimal hex x X p`.
-fn judge_base(alloc: Global, value: &Value, at: usize) -> Result<(), Stop>
+fn judge_base(judging: &Judging, value: &Value, at: usize) -> Result<(), Stop>
     ensures fit { IfOk result (λ _. IsTrue (is_some (base_value value.now))) }
     ensures fault { IfErr result (StopsAmong at (value_toks value.now)) }
 {
@@ -225,15 +205,15 @@ fn judge_base(alloc: Global, value: &Value, at: usize) -> Result<(), Stop>
         judge_natural(value, at)?;
         return Err(Stop::expected(at, value, "2, 8, 10 or 16"));
     }
-    Err(unread(alloc, value, at, Remedy::Nothing))
+    Err(unread(judging.alloc, value, at, Remedy::Nothing))
 }
 
 /// `clock.NAME.value`. A clock that is not there is a flaw of its name.
-fn judge_map(survey: &Survey, value: &Value, at: usize) -> Result<(), Stop>
-    ensures fit { IfOk result (λ _. IsTrue (is_some (clock_value survey.now.known.clocks value.now))) }
+fn judge_map(judging: &Judging, value: &Value, at: usize) -> Result<(), Stop>
+    ensures fit { IfOk result (λ _. IsTrue (is_some (clock_value judging.now.survey.now.known.clocks value.now))) }
     ensures fault { IfErr result (StopsAmong at (value_toks value.now)) }
 {
-    if clock_value(&survey.known, value).is_some() {
+    if clock_value(&judging.survey.known, value).is_some() {
         return Ok(());
     }
     let Value::Name(name) = value else {

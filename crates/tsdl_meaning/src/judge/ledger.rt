@@ -1,18 +1,9 @@
 //! What the blocks of a text so far say: what may stand once only, and what the end of the text is judged by.
 
 ghost use Rattle.std.specs.Prelude.{◌≡◌, ◌↔◌, ◌⊎◌, ℕ, true, false, None, List, [], ◌∷◌, OnOk, IfOk, IfErr, IsTrue, IfSome, codes};
-ghost use Rattle.std.specs.Ordering.{nat_cmp};
-ghost use Rattle.std.specs.BTreeMap.{ContainsKey};
-ghost use Rattle.std.specs.BTreeSet.{contains, contains_text};
-ghost use Rattle.tsdl_grammar.specs.declared.atom.Atom.{Atom};
-ghost use Rattle.tsdl_grammar.specs.Spelling.{word, block_toks};
-ghost use Rattle.tsdl_flaw.specs.Fronts.{Holds};
+ghost use Rattle.tsdl_meaning.specs.Words.{nat_cmp, ContainsKey, contains, contains_text, Atom, word, block_toks, Holds, kind_of, StopsWhere, HasNumbers, AddsBlock, AddsClock, AddsStream, HaveStreams, IsEmpty, AreNoted, HasClock, HasStream, HasEvent, pair_cmp};
 ghost use Rattle.tsdl_grammar.specs.declared.fault.MetaFaultKind.TheVariants as faults;
-ghost use Rattle.tsdl_flaw.specs.Stopping.{kind_of};
-ghost use Rattle.tsdl_meaning.specs.Judged.{StopsWhere};
-ghost use Rattle.tsdl_flaw.specs.Twice.{HasNumbers};
-ghost use Rattle.tsdl_meaning.specs.FlawlessTexts.{AddsBlock, AddsClock, AddsStream, AddsEvent, HaveStreams, IsEmpty};
-ghost use Rattle.tsdl_meaning.specs.Ledgers.{AreNoted, HasClock, HasStream, HasEvent, pair_cmp};
+ghost use Rattle.tsdl_meaning.specs.FlawlessTexts.{AddsEvent};
 
 use crate::lookup::{name_in, number_or_zero};
 use ctf_types::Text;

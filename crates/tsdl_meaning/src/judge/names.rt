@@ -1,12 +1,7 @@
 //! The names that have stood so far.
 
 ghost use Rattle.std.specs.Prelude.{List, [], ◌∷◌, ◌++◌, IfOk, IfErr};
-ghost use Rattle.tsdl_grammar.specs.declared.token.Mark.{Mark};
-ghost use Rattle.tsdl_grammar.specs.declared.atom.Atom.{Atom};
-ghost use Rattle.tsdl_grammar.specs.Spelling.{mark, name_toks};
-ghost use Rattle.tsdl_meaning.specs.Judged.{StopsWhere};
-ghost use Rattle.tsdl_meaning.specs.NamesBefore.{AreNamed};
-ghost use Rattle.tsdl_meaning.specs.FlawlessBlocks.{AddsName};
+ghost use Rattle.tsdl_meaning.specs.Words.{Mark, Atom, mark, name_toks, StopsWhere, AreNamed, AddsName};
 
 use std::alloc::Global;
 use std::collections::BTreeSet;

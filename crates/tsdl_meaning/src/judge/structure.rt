@@ -1,26 +1,16 @@
 //! The first flaw of a scope's structure: its members in order, then its alignment.
 
 ghost use Rattle.std.specs.Prelude.{◌≡◌, ◌<◌, false, List, [], ◌∷◌, ◌++◌, length, IfOk, IfErr};
-ghost use Rattle.std.specs.List.{Contains};
-ghost use Rattle.ctf_types.specs.Members.{names_in};
-ghost use Rattle.tsdl_grammar.specs.declared.tree.Kind.{Kind};
-ghost use Rattle.tsdl_grammar.specs.declared.tree.MemberTree.{MemberTree};
-ghost use Rattle.tsdl_grammar.specs.Spelling.{word, member_toks, struct_toks};
-ghost use Rattle.tsdl_grammar.specs.StructureMeaning.{has_member};
-ghost use Rattle.tsdl_meaning.specs.Judged.{StopsAmong, StopsWhere};
-ghost use Rattle.tsdl_meaning.specs.FlawlessStructures.{AddsMember, IsFlawless};
-ghost use Rattle.tsdl_meaning.specs.MembersBefore.{AreMembers, IsBehindMembers, IsBehindKind};
+ghost use Rattle.tsdl_meaning.specs.Words.{Contains, names_in, Kind, MemberTree, word, member_toks, struct_toks, has_member, StopsAmong, StopsWhere, AddsMember, IsFlawless, AreMembers, IsBehindMembers, IsBehindKind};
 
 use crate::judge::block::Judging;
 use crate::judge::brackets::judge_brackets;
 use crate::judge::kind::judge_kind;
-use crate::judge::survey::Survey;
 use crate::judge::value::judge_align;
 use crate::member::member_meaning;
 use crate::scope_rule::{ScopeRule, suits_rule};
 use crate::structure::{MAX_MEMBERS, has_member};
 use ctf_types::{Members, Text};
-use std::alloc::Global;
 use tsdl_flaw::{Fault, Flaw, Remedy, Spelled, Stop};
 use tsdl_grammar::{MemberTree, Structure};
 
@@ -38,14 +28,7 @@ pub(crate) fn judge_structure(
     let mut next = at.saturating_add(2);
     let trees = structure.members.as_slice();
     for tree in trees {
-        judge_member(
-            judging.alloc,
-            judging.survey,
-            rule,
-            &mut members,
-            tree,
-            next,
-        )?;
+        judge_member(judging, rule, &mut members, tree, next)?;
         next = next.saturating_add(tree.length());
     }
     match structure.align {
@@ -56,8 +39,7 @@ pub(crate) fn judge_structure(
 
 /// `kind identifier { bracket } ";"`, a member behind these.
 fn judge_member(
-    alloc: Global,
-    survey: &Survey,
+    judging: &Judging,
     rule: ScopeRule,
     members: &mut Members,
     tree: &MemberTree,
@@ -65,23 +47,23 @@ fn judge_member(
 ) -> Result<(), Stop>
     ensures fault { IfErr result (λ s. (done : List MemberTree) → AreMembers done members.old → StopsWhere (IsBehindMembers done) at (member_toks tree.now) s) }
     ensures added { IfOk result (λ _. (done : List MemberTree) → AreMembers done members.old → AreMembers (done ++ tree.now ∷ []) members.new) }
-    ensures flawless { IfOk result (λ _. AddsMember survey.now.known rule members.old tree.now members.new) }
+    ensures flawless { IfOk result (λ _. AddsMember judging.now.survey.now.known rule members.old tree.now members.new) }
 {
-    judge_kind(alloc, survey, &tree.kind, at)?;
+    judge_kind(judging, &tree.kind, at)?;
     let at = at.saturating_add(tree.kind.length());
     judge_member_name(members, &tree.name, at)?;
     let behind = at.saturating_add(1);
-    judge_brackets(alloc, members, tree.brackets.as_slice(), behind)?;
-    let Some(member) = member_meaning(alloc, &survey.known, members, tree)? else {
+    judge_brackets(judging.alloc, members, tree.brackets.as_slice(), behind)?;
+    let Some(member) = member_meaning(judging.alloc, &judging.survey.known, members, tree)? else {
         unreachable!()
     };
     if !suits_rule(rule, tree.name.as_str(), &member) {
         let end = at.saturating_add(tree.brackets.length()).saturating_add(1);
-        let name = String::from_str(alloc, tree.name.as_str())?;
+        let name = String::from_str(judging.alloc, tree.name.as_str())?;
         let flaw = Flaw::Unsupported(name, Remedy::Nothing);
         return Err(Stop::Fault(Fault { at, end, flaw }));
     }
-    members.push(tree.name.copy(alloc)?, member)?;
+    members.push(tree.name.copy(judging.alloc)?, member)?;
     Ok(())
 }
 

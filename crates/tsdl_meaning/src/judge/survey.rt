@@ -1,10 +1,8 @@
 //! What integers have to know of a whole text: by its atoms, before any of it is read, or by its blocks.
 
 ghost use Rattle.std.specs.Prelude.{◌≡◌, ◌++◌, IfOk, OnOk};
-ghost use Rattle.std.specs.List.{flat_map};
-ghost use Rattle.tsdl_grammar.specs.Denotes.{trace_in, clock_in};
-ghost use Rattle.tsdl_meaning.specs.FlawlessTexts.{Surveys};
-ghost use Rattle.tsdl_meaning.specs.NotedBlocks.{first_of, order_of, orders_in, names_in};
+ghost use Rattle.tsdl_meaning.specs.Words.{flat_map, trace_in, clock_in, Surveys, first_of, order_of, orders_in};
+ghost use Rattle.tsdl_meaning.specs.NotedBlocks.{names_in};
 
 use crate::known::Known;
 use crate::lookup::is_word;

@@ -1,14 +1,7 @@
 //! The first flaw of a text that means nothing, by one pass over its blocks.
 
 ghost use Rattle.std.specs.Prelude.{◌≡◌, [], None, IfOk, IfErr};
-ghost use Rattle.tsdl_grammar.specs.Spelling.{block_toks, text_toks};
-ghost use Rattle.tsdl_grammar.specs.Denotes.{text_meta};
-ghost use Rattle.tsdl_flaw.specs.Stopping.{StopsIn};
-ghost use Rattle.tsdl_flaw.specs.TextStops.{StopsText};
-ghost use Rattle.tsdl_meaning.specs.Judged.{StopsWhere};
-ghost use Rattle.tsdl_meaning.specs.Ledgers.{AreNoted};
-ghost use Rattle.tsdl_meaning.specs.FlawlessTexts.{IsFlawlessBehind, Surveys};
-ghost use Rattle.tsdl_meaning.specs.PacketSizes.{MissesSizes};
+ghost use Rattle.tsdl_meaning.specs.Words.{block_toks, text_toks, text_meta, StopsIn, StopsText, StopsWhere, AreNoted, IsFlawlessBehind, Surveys, MissesSizes};
 
 use crate::judge::block::{BlockKind, Judging, judge_environment, judge_items};
 use crate::judge::ledger::Ledger;

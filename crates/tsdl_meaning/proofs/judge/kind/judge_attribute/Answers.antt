@@ -35,7 +35,7 @@ returns-clause-named c =
 pub returns-clause-own : goal.returns-clause-own
 returns-clause-own c =
     let a = c.args.attribute.now in
-    let asked = own_asked c.args.survey.now.known c.args.kind in
+    let asked = own_asked c.args.judging.now.survey.now.known c.args.kind in
     let among = subst (λ (names : List (List (List ℕ))). is_among names (words_of a.name) ≡ true) c.attributes_of.ensures (sym c.is_among.ensures ∙ c.if-not-is_among.false) in
     ok_map c.judge_value.result (λ x. is_fit asked a ≡ true) (λ x. AddsOwn (own_attrs c.args.kind) asked c.args.names.now.names a c.add.new.self.names)
     (λ x fit. record { among = among; name = c.in_ok-add.ensures.flawless; fit = fit }) c.judge_value.ensures.fit

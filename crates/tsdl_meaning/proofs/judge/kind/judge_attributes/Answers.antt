@@ -30,7 +30,7 @@ loop-attribute-preserved c =
           next_named w attrs i a c.judge_attribute.new.names.names front (omega arith) c.attribute-item.is
           (c.in_ok-judge_attribute.ensures.named (front ++ list_before w attrs i) (c.loop-attribute.invariant.named front));
       own =
-          next_own (own_attrs c.args.kind) (own_asked c.args.survey.now.known c.args.kind) attrs i a c.loop-attribute.names.names c.judge_attribute.new.names.names (omega arith) c.attribute-item.is
+          next_own (own_attrs c.args.kind) (own_asked c.args.judging.now.survey.now.known c.args.kind) attrs i a c.loop-attribute.names.names c.judge_attribute.new.names.names (omega arith) c.attribute-item.is
           c.loop-attribute.invariant.own c.in_ok-judge_attribute.ensures.own;
     }
 
@@ -41,7 +41,7 @@ returns-in-Integer-clause-fault c = λ front behind.
 
 pub returns-clause-meant : goal.returns-clause-meant
 returns-clause-meant c =
-    let known = c.args.survey.now.known in
+    let known = c.args.judging.now.survey.now.known in
     let attrs = c.args.attributes.now in
     let names = c.loop-attribute.names.names in
     type_means known c.args.kind attrs names

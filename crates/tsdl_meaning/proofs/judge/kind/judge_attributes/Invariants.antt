@@ -12,5 +12,5 @@ invariant-loop-attribute l =
     record {
       stands : StandsBehind l.at before l.next;
       named : (front : List Atom) → AreNamed (front ++ before) marks.Equals l.names.names;
-      own : Own (own_attrs l.kind) (own_asked l.survey.known l.kind) (take l.attribute-index l.attributes) l.names.names;
+      own : Own (own_attrs l.kind) (own_asked l.judging.survey.now.known l.kind) (take l.attribute-index l.attributes) l.names.names;
     }

@@ -15,7 +15,7 @@ pub returns-in_default-clause-fit : goal.returns-in_default-clause-fit
 returns-in_default-clause-fit c =
     let n = c.in_default in
     ap (λ o. passes o c.args.value.now)
-    (absent (of_integer c.args.survey.now.known) c.args.word.now (n.not-size, (n.not-align, (n.not-signed, (n.not-byte_order, (n.not-base, (n.not-map, tt)))))))
+    (absent (of_integer c.args.judging.now.survey.now.known) c.args.word.now (n.not-size, (n.not-align, (n.not-signed, (n.not-byte_order, (n.not-base, (n.not-map, tt)))))))
 
 pub returns-in_default-2-clause-fault : goal.returns-in_default-2-clause-fault
 returns-in_default-2-clause-fault c = λ front behind p. c.expected.ensures front behind

@@ -9,12 +9,12 @@ use Rattle.tsdl_meaning.proofs.judge.kind.judge_kind.Goals as goal
 
 pub returns-in-Integer-clause-meant : goal.returns-in-Integer-clause-meant
 returns-in-Integer-clause-meant c =
-    let known = c.args.survey.now.known in
+    let known = c.args.judging.now.survey.now.known in
     ok_map c.judge_attributes.result (λ x. IsSome (kind_meaning known (kinds.Integer c.as_slice.result.now))) (λ x. IsSome (kind_meaning known c.args.kind.now))
     (λ x h. rw c.in-Integer.is (subst (λ (l : List Attribute). IsSome (kind_meaning known (kinds.Integer l))) c.as_slice.ensures h)) c.judge_attributes.ensures.meant
 
 pub returns-in-None-clause-meant : goal.returns-in-None-clause-meant
-returns-in-None-clause-meant c = rw (c.in-Text.is, c.in-None.is) (bare_string c.args.survey.now.known)
+returns-in-None-clause-meant c = rw (c.in-Text.is, c.in-None.is) (bare_string c.args.judging.now.survey.now.known)
 
 pub returns-in_err-judge_attributes-in-Enumeration-clause-fault : goal.returns-in_err-judge_attributes-in-Enumeration-clause-fault
 returns-in_err-judge_attributes-in-Enumeration-clause-fault c =
@@ -42,7 +42,7 @@ returns-in-Listed-clause-fault c =
 
 pub returns-in-Listed-clause-meant : goal.returns-in-Listed-clause-meant
 returns-in-Listed-clause-meant c =
-    let known = c.args.survey.now.known in
+    let known = c.args.judging.now.survey.now.known in
     let attrs = c.in-Enumeration.attributes in
     let first = c.in-Listed.first in
     let int = subst (λ (l : List Attribute). IsSome (int_meaning known l)) c.as_slice-in-Enumeration.ensures (int_means known _ c.in_ok-judge_attributes-in-Enumeration.ensures.meant) in
@@ -55,6 +55,6 @@ returns-in-Listed-clause-meant c =
 
 pub returns-in-Empty-clause-meant : goal.returns-in-Empty-clause-meant
 returns-in-Empty-clause-meant c =
-    let known = c.args.survey.now.known in
+    let known = c.args.judging.now.survey.now.known in
     let int = subst (λ (l : List Attribute). IsSome (int_meaning known l)) c.as_slice-in-Enumeration.ensures (int_means known _ c.in_ok-judge_attributes-in-Enumeration.ensures.meant) in
     rw (c.in-Enumeration.is, c.in-Empty.is) (ranges_mean known c.in-Enumeration.attributes entries.Empty int no_ranges)

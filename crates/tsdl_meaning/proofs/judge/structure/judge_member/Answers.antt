@@ -41,7 +41,7 @@ returns-in_err-judge_brackets-clause-fault c =
 
 pub unreachable-requires : goal.unreachable-requires
 unreachable-requires c =
-    let known = c.args.survey.now.known in
+    let known = c.args.judging.now.survey.now.known in
     let members = c.args.members.now in
     let tree = c.args.tree.now in
     let there = member_means known members tree c.in_ok-judge_kind.ensures.meant
