@@ -27,7 +27,7 @@ use Rattle.conf_inherit.specs.Resolution.{members_or_none, trace_name, type_name
 use Rattle.conf_inherit.specs.Nesting.{deep_flaws, PassesDepth}
 use Rattle.conf_inherit.proofs.SizeLemmas.{deep_holds, depth_excluded}
 use Rattle.conf_inherit.proofs.SoundPlaces.{place_of_type, place_of_member, place_of_list, place_of_other, too_many_excluded, flawless, PartSound, part_sound, member_sound, item_sound, SoundAt, sound_along}
-use Rattle.conf_inherit.proofs.RoundLemmas.{rounds_of, TreeSound, tree_sound, laid_resolves, resolution_sound, no_flaws, circle_refused, rounds_resolved, rounds_root, all_done}
+use Rattle.conf_inherit.proofs.RoundLemmas.{rounds_of, TreeSound, tree_sound, laid_resolves, resolution_sound, no_flaws, circle_refused, rounds_resolved, rounds_reached, all_done}
 use Rattle.conf_inherit.specs.Named.{all_named, has}
 use Rattle.conf_inherit.specs.Rounds.{Outcomes}
 use Rattle.conf_inherit.specs.Limits.{Exceeds, fitting, limit_flaws}
@@ -265,7 +265,7 @@ module _ (text : List ℕ) (t r : Data) (tree : IsTreeOf text t) (h : resolution
   known = rounds_resolved (aliases_of t) (members_len (aliases_of t)) (found_each (aliases_of t) apart)
 
   all_known : (n : List ℕ) → has (aliases_of t) n ≡ true → has done n ≡ true
-  all_known = all_done (aliases_of t) (rounds_of t) sound.outcomes (rounds_root (aliases_of t) (members_len (aliases_of t)) (found_each (aliases_of t) apart))
+  all_known = all_done (aliases_of t) (rounds_of t) sound.outcomes (rounds_reached (aliases_of t) (members_len (aliases_of t)) (found_each (aliases_of t) apart))
 
   -- what a value is laid to is what it is looked up as, under whatever resolved aliases
   laid : (others : Members) (s : Place) (w : Data) → AreResolved (aliases_of t) others → SoundAt (aliases_of t) s w → all_named (has others) s w ≡ true → Looks (aliases_of t) s (w ∷ []) (lay others s w None)

@@ -1,7 +1,7 @@
 -- What the rounds over the aliases leave: resolved aliases are what they are looked up as, and an alias with no
 -- outcome starts a walk as long as there were rounds.
 use Rattle.std.proofs.Common.{◌≡◌, ◌&&◌, ◌||◌, ◌++◌, ◌⊎◌, inl, inr, ℕ, zero, suc, List, [], ◌∷◌, Option, Some, None, Result, Ok, Err, is_some, Bool, true, false, not, true≢false, refl, sym, ap, ◌∙◌, subst, ◌+◌, ◌≤◌, String, Global, Less, string_cmp, string_bytes, arith, ◌<◌, if◌then◌else◌}
-use Rattle.std.proofs.lemmas.Bool.{not-false, and_parts, cases_Bool, or_parts, or_from}
+use Rattle.std.proofs.lemmas.Bool.{not-false, and_parts, cases_Bool, or_parts, or_from, or_left, or_right}
 use Rattle.serde_json.specs.Data.{Data, null, Members, no_members, member, put, array, object, Items, no_items, item, depth, items_depth, members_depth}
 use Rattle.serde_json.specs.Find.{get_member}
 use Rattle.serde_json.proofs.Views.{get_member-put_other, Entry}
@@ -116,49 +116,39 @@ module _ (al : Members) where
   rounds_resolved n each =
       reached_keeps al (λ st. AreResolved al st.done) (λ n r h. cc) (λ k w st is free due known. next_resolved k w st is known (outcome al st.done w) refl) (rounds_reached al n each)
 
--- a type names what is no alias, or all that it names is resolved and it has a flaw or passes a limit
-abbrev IsFlawed : Members → Members → Data → Type 0
-IsFlawed al done w = (all_named (has al) places.FieldType w ≡ false) ⊎ ((all_named (has done) places.FieldType w ≡ true) × (type_flaws al done places.FieldType w ≡ [] → ⊥))
-
--- an alias that is refused for what is wrong in it
-abbrev pub IsRoot : Members → Outcomes → Type 0
-IsRoot al st = (k : List ℕ) × (w : Data) × (get_member k al ≡ Some w) × (has st.done k ≡ false) × (has st.refused k ≡ true) × IsFlawed al st.done w
-
--- where an alias is refused, there is such an alias
-abbrev pub HasRoot : Members → Outcomes → Type 0
-HasRoot al st = (q : List ℕ) → has st.refused q ≡ true → IsRoot al st
-
 or_true : (a b c : Bool) → (a || b || not c) ≡ true → a ≡ false → c ≡ true → b ≡ true
 or_true false true c h e f = refl
 or_true true b c h e f = absurd (true≢false e)
 or_true false false c h e f = absurd (true≢false (sym (rw f at h)))
 
--- what is resolved stays so
-still : (k : List ℕ) (r : Data) (done : Members) → has done k ≡ false → (n : List ℕ) → has done n ≡ true → get_member n (put k r done) ≡ get_member n done
-still k r done free n h = get_member-put_other n k r done (λ e. true≢false (sym h ∙ ap (has done) e ∙ free))
+-- ---- what a conclusion changes
+
+-- two states have the same at a name
+abbrev pub SameAt : Outcomes → Outcomes → List ℕ → Type 0
+SameAt st next n = (get_member n next.done ≡ get_member n st.done) × (get_member n next.refused ≡ get_member n st.refused)
+
+pub same_outcome : (st next : Outcomes) (n : List ℕ) → SameAt st next n → has_outcome next n ≡ has_outcome st n
+same_outcome st next n (d, f) = ap (λ x. is_some x || has next.refused n) d ∙ ap (λ x. has st.done n || is_some x) f
+
+pub concluded_other : (k : List ℕ) (st : Outcomes) (o : Option Data) (n : List ℕ) → (n ≡ k → ⊥) → SameAt st (concluded k st o) n
+concluded_other k st None n apart = (refl, get_member-put_other n k null st.refused apart)
+concluded_other k st (Some r) n apart = (get_member-put_other n k r st.done apart, refl)
+
+-- what has an outcome has the same in the next state
+abbrev pub Agrees : Outcomes → Outcomes → Type 0
+Agrees st next = (n : List ℕ) → has_outcome st n ≡ true → SameAt st next n
+
+pub concluded_agrees : (k : List ℕ) (st : Outcomes) (o : Option Data) → has_outcome st k ≡ false → Agrees st (concluded k st o)
+concluded_agrees k st o free n h = concluded_other k st o n (λ e. true≢false (sym h ∙ ap (has_outcome st) e ∙ free))
+
+agrees_through : (a b c : Outcomes) → Agrees a b → Agrees b c → Agrees a c
+agrees_through a b c f g n h = let one = f n h in let two = g n (same_outcome a b n one ∙ h) in (two.0 ∙ one.0, two.1 ∙ one.1)
 
 limit_listed : (o : Result Data FaultKind) → if_fitting o ≡ None → passed o ≡ [] → ⊥
 limit_listed (Ok r) h none = cc
 limit_listed (Err kind) h none = cc
 
 module _ (al : Members) where
-  -- what is flawed stays so when another alias is resolved
-  flawed_still : (k : List ℕ) (r : Data) (done : Members) (w : Data) → has done k ≡ false → IsFlawed al done w → IsFlawed al (put k r done) w
-  flawed_still k r done w free (inl e) = inl e
-  flawed_still k r done w free (inr (named, e)) =
-      inr (more_named done (put k r done) (still k r done free) places.FieldType w named, λ none. e (sym (kept_flaws done (put k r done) (still k r done free) al places.FieldType w named) ∙ none))
-
-  -- a root stays one when another alias gets its outcome
-  root_stays : (k : List ℕ) (st : Outcomes) (o : Option Data) → has_outcome st k ≡ false → IsRoot al st → IsRoot al (concluded k st o)
-  root_stays k st o free (q, w, is, open_q, refused, flawed) = go o
-    where
-      apart : q ≡ k → ⊥
-      apart e = true≢false (sym refused ∙ ap (has st.refused) e ∙ (or_parts (has st.done k) (has st.refused k) free).1)
-
-      go : (o : Option Data) → IsRoot al (concluded k st o)
-      go (Some r) = (q, w, is, ap is_some (get_member-put_other q k r st.done apart) ∙ open_q, refused, flawed_still k r st.done w ((or_parts (has st.done k) (has st.refused k) free).0) flawed)
-      go None = (q, w, is, open_q, is_still k null st.refused q refused, flawed)
-
   -- a type that is not resolved, though all that it names is, has a flaw or passes a limit
   unresolved : (done : Members) (w : Data) → all_named (has done) places.FieldType w ≡ true → outcome al done w ≡ None → type_flaws al done places.FieldType w ≡ [] → ⊥
   unresolved done w named h none =
@@ -166,30 +156,6 @@ module _ (al : Members) where
       let empty : is_empty fs ≡ true = ap is_empty (front_empty fs (limit_flaws done places.FieldType w) none) in
       let at : limit_flaws done places.FieldType w ≡ passed (fitting (lay done places.FieldType w None)) = rw named refl in
       limit_listed (fitting (lay done places.FieldType w None)) (rw (named, empty) at h) (sym at ∙ back_empty fs (limit_flaws done places.FieldType w) none)
-
-  -- an alias that is refused has a flaw, or names one that is refused
-  new_root : (k : List ℕ) (w : Data) (st : Outcomes) → get_member k al ≡ Some w → has_outcome st k ≡ false → all_named (is_over al st) places.FieldType w ≡ true
-      → outcome al st.done w ≡ None → HasRoot al st → IsRoot al (concluded k st None)
-  new_root k w st is free due h root = go (all_named (has st.done) places.FieldType w) refl (all_named (has al) places.FieldType w) refl
-    where
-      here_root : IsFlawed al st.done w → IsRoot al (concluded k st None)
-      here_root flawed = (k, w, is, (or_parts (has st.done k) (has st.refused k) free).0, is_put k null st.refused, flawed)
-
-      go : (t : Bool) → all_named (has st.done) places.FieldType w ≡ t → (u : Bool) → all_named (has al) places.FieldType w ≡ u → IsRoot al (concluded k st None)
-      go true a u b = here_root (inr (a, unresolved st.done w a h))
-      go false a false b = here_root (inl b)
-      go false a true b =
-          let (m, x, open_m) = blocked (has st.done) w places.FieldType a in
-          root_stays k st None free (root m (or_true (has st.done m) (has st.refused m) (has al m) (mentioned (is_over al st) m w places.FieldType due x) open_m (mentioned (has al) m w places.FieldType b x)))
-
-  -- a conclusion keeps that each refusal has a root
-  next_root : (k : List ℕ) (w : Data) (st : Outcomes) → get_member k al ≡ Some w → has_outcome st k ≡ false → all_named (is_over al st) places.FieldType w ≡ true → HasRoot al st → (o : Option Data) → outcome al st.done w ≡ o → HasRoot al (concluded k st o)
-  next_root k w st is free due root (Some r) e q h = root_stays k st (Some r) free (root q h)
-  next_root k w st is free due root None e q h = new_root k w st is free due e root
-
-  pub rounds_root : (n : ℕ) → AllEntries (λ k w. get_member k al ≡ Some w) al → HasRoot al (rounds al n no_outcomes)
-  rounds_root n each =
-      reached_keeps al (HasRoot al) (λ q h. absurd (true≢false (sym h))) (λ k w st is free due root. next_root k w st is free due root (outcome al st.done w) refl) (rounds_reached al n each)
 
 -- ---- without a flaw, every alias is resolved
 
@@ -203,32 +169,46 @@ each_sound : (al : Members) (st : Outcomes) (ms : Members) → all_alias_flaws a
 each_sound al st no_members h = tt
 each_sound al st (member k w ms) h = (part_empty (within (key k)) (alias_flaws al st k w) (all_alias_flaws al st ms) h, each_sound al st ms (rest_empty (within (key k)) (alias_flaws al st k w) (all_alias_flaws al st ms) h))
 
-module _ (al : Members) (st : Outcomes) (sound : all_alias_flaws al st al ≡ []) (root : HasRoot al st) where
-  sound_alias : (k : List ℕ) (w : Data) → get_member k al ≡ Some w → alias_flaws al st k w ≡ []
-  sound_alias k w h = entry_found (λ k w. alias_flaws al st k w ≡ []) al (each_sound al st al sound) k w h
+module _ (al : Members) (last : Outcomes) (sound : all_alias_flaws al last al ≡ []) where
+  sound_alias : (k : List ℕ) (w : Data) → get_member k al ≡ Some w → alias_flaws al last k w ≡ []
+  sound_alias k w h = entry_found (λ k w. alias_flaws al last k w ≡ []) al (each_sound al last al sound) k w h
 
   -- a type without a flaw names aliases alone
-  sound_names : (w : Data) → type_flaws al st.done places.FieldType w ≡ [] → all_named (has al) places.FieldType w ≡ true
+  sound_names : (w : Data) → type_flaws al last.done places.FieldType w ≡ [] → all_named (has al) places.FieldType w ≡ true
   sound_names w none =
       let own = own_flaws al places.FieldType false w in
-      let inner = inner_flaws al (Some st.done) places.FieldType no_members w in
-      let all = front_empty (own ++ inner) (limit_flaws st.done places.FieldType w) none in
-      named al (Some st.done) (has al) (λ n x. x) w places.FieldType false no_members (front_empty own inner all) (back_empty own inner all)
+      let inner = inner_flaws al (Some last.done) places.FieldType no_members w in
+      let all = front_empty (own ++ inner) (limit_flaws last.done places.FieldType w) none in
+      named al (Some last.done) (has al) (λ n x. x) w places.FieldType false no_members (front_empty own inner all) (back_empty own inner all)
 
-  -- a root has a flaw
-  no_root : IsRoot al st → ⊥
-  no_root (k, w, is, open_k, refused, flawed) =
-      let none : type_flaws al st.done places.FieldType w ≡ [] = rw (open_k, refused) at (sound_alias k w is) in
-      elim flawed [ inl e ↦ true≢false (sym (sound_names w none) ∙ e) | inr (all, e) ↦ e none ]
+  -- no alias is refused in a state that leads to the last one
+  abbrev NoneRefused : Outcomes → Type 0
+  NoneRefused st = Agrees st last → (q : List ℕ) → has st.refused q ≡ true → ⊥
 
-  pub all_done : (n : List ℕ) → has al n ≡ true → has st.done n ≡ true
-  all_done n h =
+  next_none : (k : List ℕ) (w : Data) (st : Outcomes) → get_member k al ≡ Some w → has_outcome st k ≡ false → all_named (is_over al st) places.FieldType w ≡ true → NoneRefused st
+      → (o : Option Data) → outcome al st.done w ≡ o → NoneRefused (concluded k st o)
+  next_none k w st is free due before (Some r) e agrees q h = before (agrees_through st (concluded k st (Some r)) last (concluded_agrees k st (Some r) free) agrees) q h
+  next_none k w st is free due before None e agrees q h =
+      let earlier = agrees_through st (concluded k st None) last (concluded_agrees k st None free) agrees in
+      let here = agrees k (or_right (has st.done k) (has (put k null st.refused) k) (is_put k null st.refused)) in
+      let open_k : has last.done k ≡ false = ap is_some here.0 ∙ (or_parts (has st.done k) (has st.refused k) free).0 in
+      let refused : has last.refused k ≡ true = ap is_some here.1 ∙ is_put k null st.refused in
+      let none : type_flaws al last.done places.FieldType w ≡ [] = rw (open_k, refused) at (sound_alias k w is) in
+      elim (cases_Bool (all_named (has st.done) places.FieldType w)) [
+        | inl all ↦ unresolved al st.done w all e (sym (kept_flaws st.done last.done (λ n x. (earlier n (or_left (has st.done n) (has st.refused n) x)).0) al places.FieldType w all) ∙ none)
+        | inr some ↦ (let (m, x, open_m) = blocked (has st.done) w places.FieldType some in
+            before earlier m (or_true (has st.done m) (has st.refused m) (has al m) (mentioned (is_over al st) m w places.FieldType due x) open_m (mentioned (has al) m w places.FieldType (sound_names w none) x)))
+      ]
+
+  pub all_done : Reached al last → (n : List ℕ) → has al n ≡ true → has last.done n ≡ true
+  all_done reached n h =
       let (w, is) = some_of (get_member n al) h in
-      elim (cases_Bool (has st.done n)) [
+      let none = reached_keeps al NoneRefused (λ a q h. true≢false (sym h)) (λ k w st is free due before. next_none k w st is free due before (outcome al st.done w) refl) reached in
+      elim (cases_Bool (has last.done n)) [
         | inl e ↦ e
-        | inr e ↦ elim (cases_Bool (has st.refused n)) [
-          | inl f ↦ absurd (no_root (root n f))
-          | inr f ↦ absurd (open_flawed (refusal (type_flaws al st.done places.FieldType w)) (refusal (type_flaws (over_names al st no_members) st.done places.FieldType w)) (rw (e, f) at (sound_alias n w is)))
+        | inr e ↦ elim (cases_Bool (has last.refused n)) [
+          | inl f ↦ absurd (none (λ k x. (refl, refl)) n f)
+          | inr f ↦ absurd (open_flawed (refusal (type_flaws al last.done places.FieldType w)) (refusal (type_flaws (over_names al last no_members) last.done places.FieldType w)) (rw (e, f) at (sound_alias n w is)))
         ]
       ]
 
@@ -249,11 +229,10 @@ pub laid_resolves : (t : Data) (al : Members) (n : ℕ) (st : Outcomes) → al �
 laid_resolves t al n st is apart went sound whole =
     let each = found_each al apart in
     let known : AreResolved al st.done = subst (λ x. AreResolved al x.done) (sym went) (rounds_resolved al n each) in
-    let root : HasRoot al st = subst (HasRoot al) (sym went) (rounds_root al n each) in
     let none = flawless al st.done t whole in
     let own = front_empty (own_flaws al places.Root false t) (inner_flaws al None places.Root no_members t) none in
     let inner = back_empty (own_flaws al places.Root false t) (inner_flaws al None places.Root no_members t) none in
-    let all = all_done al st sound root in
+    let all = all_done al st sound (subst (Reached al) (sym went) (rounds_reached al n each)) in
     subst (λ x. Looks x places.Root (t ∷ []) (lay st.done places.Root t None)) is
     (lays al st.done known t places.Root (ready al None st.done t places.Root no_members inner (named al None (has st.done) all t places.Root false no_members own inner)) [] None refl)
 
@@ -393,7 +372,7 @@ circle_refused t r k apart walk h =
     let n = members_len al in
     let st = rounds al n no_outcomes in
     let each = found_each al apart in
-    let done = all_done al st (tree_sound t r h).outcomes (rounds_root al n each) k (walk_starts al n k walk) in
+    let done = all_done al st (tree_sound t r h).outcomes (rounds_reached al n each) k (walk_starts al n k walk) in
     let long : n < count (has st.done) al = rounds_short al n each n k done walk in
     let few : count (has st.done) al ≤ n = count_all (has st.done) al in
     omega arith

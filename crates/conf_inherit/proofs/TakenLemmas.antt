@@ -25,7 +25,7 @@ use Rattle.conf_inherit.proofs.LayingLemmas.{differs, cases_Option, value_same, 
 use Rattle.conf_inherit.proofs.LimitLemmas.{fitting_value}
 use Rattle.conf_inherit.proofs.SoundPlaces.{place_of_type}
 use Rattle.conf_inherit.proofs.FaultLemmas.{some_of}
-use Rattle.conf_inherit.proofs.RoundLemmas.{no_flaws, outcome_is, HasRoot, rounds_root, all_done, rounds_reached}
+use Rattle.conf_inherit.proofs.RoundLemmas.{no_flaws, outcome_is, all_done, rounds_reached}
 use Rattle.conf_inherit.proofs.TurnLemmas.{reached_sound}
 use Rattle.std.specs.Str.{bytes_eq}
 use Rattle.std.specs.Cmp.Lexicographic.{slice_cmp}
@@ -101,8 +101,7 @@ module _ (al : Members) (n : ℕ) (st : Outcomes) (apart : NoClash al) (turned :
   -- where no alias has a flaw, each is resolved
   found_alias : (k : List ℕ) (w : Data) → get_member k al ≡ Some w → (r : Data) × (outcome al st.done w ≡ Some r) × (get_member k st.done ≡ Some r)
   found_alias k w is =
-      let root : HasRoot al st = subst (HasRoot al) (sym turned) (rounds_root al n (found_each al apart)) in
-      let done : has st.done k ≡ true = all_done al st (no_flaws (all_alias_flaws al st al) (sound_of (refusal (all_alias_flaws al st al)) sound)) root k (ap is_some is) in
+      let done : has st.done k ≡ true = all_done al st (no_flaws (all_alias_flaws al st al) (sound_of (refusal (all_alias_flaws al st al)) sound)) reached k (ap is_some is) in
       let found = some_of (get_member k st.done) done in
       let comes = (reached_sound al reached).comes k w is (or_left (has st.done k) (has st.refused k) done) in
       (found.0, sym comes.value ∙ found.1, found.1)

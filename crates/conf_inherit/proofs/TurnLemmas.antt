@@ -14,7 +14,7 @@ use Rattle.conf_inherit.specs.Rounds.{Outcomes, has_outcome, is_over, outcome, c
 use Rattle.conf_inherit.proofs.LayingLemmas.{same_members, value_same, Meets, same, other, meets, get_other, get_same, in_order_put, AllEntries, found_each, entry_found}
 use Rattle.conf_inherit.proofs.LimitLemmas.{more_named, kept_lay, kept_inner}
 use Rattle.conf_inherit.proofs.FaultLemmas.{named_along, blocked, mentioned, is_put, some_of}
-use Rattle.conf_inherit.proofs.RoundLemmas.{by_turn, reached_keeps, round_reached, rounds_reached, count, count_all, count_new}
+use Rattle.conf_inherit.proofs.RoundLemmas.{by_turn, reached_keeps, round_reached, rounds_reached, count, count_all, count_new, SameAt, same_outcome, concluded_other, Agrees, concluded_agrees}
 
 -- the alias has no outcome yet
 abbrev pub IsOpen : Outcomes → List ℕ → Type 0
@@ -31,27 +31,9 @@ none_of : (o : Option Data) → is_some o ≡ false → o ≡ None
 none_of None h = refl
 none_of (Some x) h = absurd (true≢false h)
 
--- two states have the same at a name
-abbrev SameAt : Outcomes → Outcomes → List ℕ → Type 0
-SameAt st next n = (get_member n next.done ≡ get_member n st.done) × (get_member n next.refused ≡ get_member n st.refused)
-
-same_outcome : (st next : Outcomes) (n : List ℕ) → SameAt st next n → has_outcome next n ≡ has_outcome st n
-same_outcome st next n (d, f) = ap (λ x. is_some x || has next.refused n) d ∙ ap (λ x. has st.done n || is_some x) f
-
 concluded_at : (k : List ℕ) (st : Outcomes) (o : Option Data) → has_outcome st k ≡ false → (get_member k (concluded k st o).done ≡ o) × (get_member k (concluded k st o).refused ≡ mark_of o)
 concluded_at k st None free = (none_of (get_member k st.done) ((or_parts (has st.done k) (has st.refused k) free).0), get_member-put k null st.refused)
 concluded_at k st (Some r) free = (get_member-put k r st.done, none_of (get_member k st.refused) ((or_parts (has st.done k) (has st.refused k) free).1))
-
-concluded_other : (k : List ℕ) (st : Outcomes) (o : Option Data) (n : List ℕ) → (n ≡ k → ⊥) → SameAt st (concluded k st o) n
-concluded_other k st None n apart = (refl, get_member-put_other n k null st.refused apart)
-concluded_other k st (Some r) n apart = (get_member-put_other n k r st.done apart, refl)
-
--- what has an outcome has the same in the next state
-abbrev Agrees : Outcomes → Outcomes → Type 0
-Agrees st next = (n : List ℕ) → has_outcome st n ≡ true → SameAt st next n
-
-concluded_agrees : (k : List ℕ) (st : Outcomes) (o : Option Data) → has_outcome st k ≡ false → Agrees st (concluded k st o)
-concluded_agrees k st o free n h = concluded_other k st o n (λ e. true≢false (sym h ∙ ap (has_outcome st) e ∙ free))
 
 not_both : (a : Bool) → not a ≡ true → a ≡ true → ⊥
 not_both true h e = true≢false (sym h)
