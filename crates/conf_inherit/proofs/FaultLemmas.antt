@@ -424,6 +424,10 @@ module _ (al : Members) (rs : Option Members) (p : List ℕ → Bool) (passes : 
 pub named_along : (p q : List ℕ → Bool) → ((n : List ℕ) → p n ≡ true → q n ≡ true) → (s : Place) (v : Data) → all_named p s v ≡ true → all_named q s v ≡ true
 named_along p q along s v h = elim (cases_Bool (all_named q s v)) [ inl e ↦ e | inr e ↦ (let (m, x, open_m) = blocked q v s e in absurd (true≢false (sym (along m (mentioned p m v s h x)) ∙ open_m))) ]
 
+-- what all names pass, those of a value do
+pub all_pass : (s : Place) (v : Data) → all_named (λ n. true) s v ≡ true
+all_pass s v = elim (cases_Bool (all_named (λ n. true) s v)) [ inl e ↦ e | inr e ↦ absurd (true≢false (blocked (λ n. true) v s e).2) ]
+
 -- The first of several flaws.
 
 pub refused_first : (xs ys : List Flaw) (f : Flaw) → refusal xs ≡ Err f → refusal (xs ++ ys) ≡ Err f

@@ -1,6 +1,7 @@
 -- Objects whose names ascend: what they have at a name, and that their values at all names tell them apart.
-use Rattle.std.proofs.Common.{◌⊎◌, inr, inl, ◌≡◌, ℕ, List, Some, None, Ordering, Less, Equal, Greater, nat_cmp, is_eq, refl, sym, ap, ◌∙◌, subst, Option, Bool, true, false, true≢false, [], ◌∷◌, ◌++◌, is_some, bytes_eq}
-use Rattle.std.proofs.lemmas.Bool.{cases_Bool}
+use Rattle.std.proofs.Common.{◌⊎◌, inr, inl, ◌≡◌, ℕ, List, Some, None, Ordering, Less, Equal, Greater, nat_cmp, is_eq, refl, sym, ap, ◌∙◌, subst, Option, Bool, true, false, true≢false, [], ◌∷◌, ◌++◌, ◌||◌, is_some, bytes_eq}
+use Rattle.std.proofs.lemmas.Bool.{cases_Bool, or_parts}
+use Rattle.std.proofs.lemmas.List.Folds.{list_any-append}
 use Rattle.std.proofs.lemmas.Cmp.{nat_list_cmp_total, tied_itself}
 use Rattle.std.proofs.lemmas.Map.Text.{is_eq-slice_cmp}
 use Rattle.std.proofs.lemmas.Slice.Eq.{bytes_eq-Decides}
@@ -212,16 +213,9 @@ has_name n (member l d ms) = elim (meets n l) [
   | other apart ↦ (let g : bytes_eq n l ≡ false = differs n l apart (bytes_eq n l) refl in rw (get_other n l d ms apart, g) (has_name n ms))
 ]
 
-pub any_joined_here : (n : List ℕ) (a more : Members) → list_any (bytes_eq n) (names_of a) ≡ true → list_any (bytes_eq n) (names_of (join_members a more)) ≡ true
-any_joined_here n no_members more h = cc
-any_joined_here n (member l d a) more h = elim (cases_Bool (bytes_eq n l)) [ inl is ↦ rw is refl | inr is ↦ rw is (any_joined_here n a more (rw is at h)) ]
-
-pub any_joined_later : (n : List ℕ) (a more : Members) → list_any (bytes_eq n) (names_of a) ≡ false → list_any (bytes_eq n) (names_of (join_members a more)) ≡ list_any (bytes_eq n) (names_of more)
-any_joined_later n no_members more h = refl
-any_joined_later n (member l d a) more h = elim (cases_Bool (bytes_eq n l)) [
-  | inl is ↦ absurd (let bad = rw is at h in let no : true ≡ false = bad in cc)
-  | inr is ↦ rw is (any_joined_later n a more (rw is at h))
-]
+names_joined : (a more : Members) → names_of (join_members a more) ≡ names_of a ++ names_of more
+names_joined no_members more = refl
+names_joined (member l d a) more = ap (λ ns. l ∷ ns) (names_joined a more)
 
 -- an entry that the base has not comes before the later new ones
 pub new_member_fresh : (done : Members) (n : List ℕ) (d : Data) (ms : Members) (seen rest : Items) → has_entry n seen ≡ false
@@ -270,10 +264,8 @@ pub has_entry_names : (n : List ℕ) (es : Items) → has_entry n es ≡ list_an
 has_entry_names n no_items = refl
 has_entry_names n (item e es) =
     let found : is_some (get n e) ≡ list_any (bytes_eq n) (names_of (properties_of e)) = ap is_some (get_property n e) ∙ has_name n (properties_of e) in
-    elim (cases_Bool (list_any (bytes_eq n) (names_of (properties_of e)))) [
-      | inl is ↦ rw (found, is) (sym (any_joined_here n (properties_of e) (entries_of es) is))
-      | inr is ↦ rw (found, is) (has_entry_names n es ∙ sym (any_joined_later n (properties_of e) (entries_of es) is))
-    ]
+    ap (λ b. b || has_entry n es) found ∙ ap (λ b. list_any (bytes_eq n) (names_of (properties_of e)) || b) (has_entry_names n es)
+    ∙ sym (ap (list_any (bytes_eq n)) (names_joined (properties_of e) (entries_of es)) ∙ list_any-append (bytes_eq n) (names_of (properties_of e)) (names_of (entries_of es)))
 
 -- ---- the base's entry, with the entry of its name over it
 
@@ -347,8 +339,7 @@ found_each (member l e ms) h = (get_first l e ms, all_along (λ k d. get_member 
 
 -- a name that is not among those of several lists has no value there
 any_append : (n : List ℕ) (xs ys : List (List ℕ)) → list_any (bytes_eq n) (xs ++ ys) ≡ false → (list_any (bytes_eq n) xs ≡ false) × (list_any (bytes_eq n) ys ≡ false)
-any_append n [] ys h = (refl, h)
-any_append n (x ∷ xs) ys h = elim (cases_Bool (bytes_eq n x)) [ inl is ↦ absurd (true≢false (rw is at h)) | inr is ↦ (let r = any_append n xs ys (rw is at h) in (rw is r.0, r.1)) ]
+any_append n xs ys h = or_parts (list_any (bytes_eq n) xs) (list_any (bytes_eq n) ys) (sym (list_any-append (bytes_eq n) xs ys) ∙ h)
 
 -- a name that was not seen, and is not new, is no name of the list
 new_absent : (n : List ℕ) (seen : List (List ℕ)) (ms : Members) → list_any (bytes_eq n) seen ≡ false → list_any (bytes_eq n) (new_names seen (names_of ms)) ≡ false → get_member n ms ≡ None

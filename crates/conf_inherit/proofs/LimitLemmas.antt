@@ -1,12 +1,12 @@
 -- What is said of a value whose names are all resolved is said of it too where more aliases are resolved.
-use Rattle.std.proofs.Common.{if◌then◌else◌, ◌||◌, ◌≡◌, ◌&&◌, ◌++◌, ℕ, suc, List, map, Option, Some, None, is_some, unwrap_or, Bool, true, false, refl, ap, ◌∙◌, subst, ◌+◌, ◌⊎◌, inl, inr, ◌↔◌, [], ◌∷◌, Result, Ok, Err, nat_lt, true≢false, sym, arith}
+use Rattle.std.proofs.Common.{if◌then◌else◌, ◌||◌, ◌≡◌, ◌&&◌, ◌++◌, ℕ, suc, List, map, Option, Some, None, is_some, unwrap_or, Bool, true, false, not, refl, ap, ◌∙◌, subst, ◌+◌, ◌⊎◌, inl, inr, ◌↔◌, [], ◌∷◌, Result, Ok, Err, nat_lt, true≢false, sym, arith}
 use Rattle.serde_json.specs.Data.{Data, null, string, array, object, Items, no_items, item, Members, no_members, member, put}
 use Rattle.serde_json.specs.Find.{get, get_member, get_item}
 use Rattle.conf_tree.specs.Flaw.{key, index, within, Flaw, here}
 use Rattle.conf_table.specs.declared.place.Place.{Place}
 use Rattle.conf_table.specs.declared.place.Place.TheVariants as places
 use Rattle.conf_inherit.specs.FieldPlaces.{place_under, place_of_items, names_alias, names_member_type, is_base_name, lists_members, is_entry, field_type_name}
-use Rattle.conf_inherit.specs.Flaws.{own_flaws, base_flaws, inner_flaws, item_flaws, member_flaws, type_flaws, mark, flaws}
+use Rattle.conf_inherit.specs.Flaws.{is_wrong, is_unknown, own_flaws, base_flaws, inner_flaws, item_flaws, member_flaws, type_flaws, mark, flaws}
 use Rattle.conf_inherit.specs.Laying.{members_below, items_below, lay_text, has_entry, lay, lay_base, lay_members, lay_over, lay_over_entry, lay_over_member, lay_new, lay_new_entry, lay_new_member}
 use Rattle.conf_inherit.specs.Limits.{fitting, passed, limit_flaws, max_values, max_levels, Fits, Exceeds, Inherits, InheritsInItems, InheritsInMembers}
 use Rattle.conf_inherit.specs.Named.{all_named, all_named_in_items, all_named_in_members, has}
@@ -18,10 +18,44 @@ use Rattle.std.proofs.lemmas.Bool.{or_parts, and_parts, cases_Bool, ltb-false}
 use borrow.Author.Tests.{ltb-true}
 use Rattle.conf_tree.specs.Walk.{HasMember, refusal}
 use Rattle.conf_tree.specs.declared.fault_kind.FaultKind.{FaultKind}
-use Rattle.conf_tree.specs.declared.fault_kind.FaultKind.TheVariants.{TooDeep, Limit}
+use Rattle.conf_tree.specs.declared.fault_kind.FaultKind.TheVariants.{TooDeep, Limit, WrongKind, NoSuchAlias, NameClash}
 use Rattle.conf_inherit.specs.Faults.{Leads}
 use Rattle.conf_inherit.specs.Nesting.{nests}
 use Rattle.conf_inherit.specs.Size.{size}
+
+-- the flaws of a value are the same for aliases of the same names, where those of each value of a `$inherit` are
+module _ (al now : Members) (names : (n : List ℕ) → has now n ≡ has al n) where
+  alike_unknown : (s : Place) (v : Data) → is_unknown now s v ≡ is_unknown al s v
+  alike_unknown s (string n) = ap (λ t. (names_alias s || names_member_type s) && not t) (names n)
+  alike_unknown s _ = refl
+
+  pub alike_own : (s : Place) (taken : Bool) (v : Data) → own_flaws now s taken v ≡ own_flaws al s taken v
+  alike_own s taken v = ap (λ t. if is_wrong s v then here WrongKind ∷ [] else if t then here NoSuchAlias ∷ [] else if taken then here NameClash ∷ [] else []) (alike_unknown s v)
+
+  module _ (rs ks : Option Members) (p : List ℕ → Bool) (bases : (s : Place) (k : List ℕ) (d : Data) → all_named p (place_under s k) d ≡ true → base_flaws ks s k d ≡ base_flaws rs s k d) where
+    alike_with : (s : Place) (taken : Bool) (seen : Members) (v : Data) → inner_flaws now ks s seen v ≡ inner_flaws al rs s seen v → flaws now ks s taken seen v ≡ flaws al rs s taken seen v
+    alike_with s taken seen v inner = ap (λ x. x ++ inner_flaws now ks s seen v) (alike_own s taken v) ∙ ap (λ x. own_flaws al s taken v ++ x) inner
+
+    mutual
+      pub alike_in : (v : Data) (s : Place) (seen : Members) → all_named p s v ≡ true → inner_flaws now ks s seen v ≡ inner_flaws al rs s seen v
+      alike_in (array es) s seen h = alike_in_items es s 0 no_members h
+      alike_in (object ms) s seen h = alike_in_members ms s seen h
+      alike_in _ s seen h = refl
+
+      alike_in_items : (es : Items) (s : Place) (i : ℕ) (seen : Members) → all_named_in_items p (place_of_items s) es ≡ true → item_flaws now ks s i seen es ≡ item_flaws al rs s i seen es
+      alike_in_items no_items s i seen h = refl
+      alike_in_items (item e es) s i seen h =
+          let parts = and_parts (all_named p (place_of_items s) e) (all_named_in_items p (place_of_items s) es) h in
+          same_part (within (index i)) _ _ _ _ _ _ (alike_own (place_of_items s) false e) (alike_in e (place_of_items s) seen parts.0) (alike_in_items es s (suc i) (mark e seen) parts.1)
+
+      alike_in_members : (ms : Members) (s : Place) (seen : Members) → all_named_in_members p s ms ≡ true → member_flaws now ks s seen ms ≡ member_flaws al rs s seen ms
+      alike_in_members no_members s seen h = refl
+      alike_in_members (member k d ms) s seen h =
+          let parts = and_parts (all_named p (place_under s k) d) (all_named_in_members p s ms) h in
+          same_part (within (key k)) _ _ _ _ _ _ (alike_with (place_under s k) (is_entry s && is_some (get_member k seen)) no_members d (alike_in d (place_under s k) no_members parts.0)) (bases s k d parts.0) (alike_in_members ms s seen parts.1)
+
+    pub alike_flaws : (s : Place) (taken : Bool) (seen : Members) (v : Data) → all_named p s v ≡ true → flaws now ks s taken seen v ≡ flaws al rs s taken seen v
+    alike_flaws s taken seen v h = alike_with s taken seen v (alike_in v s seen h)
 
 module _ (done more : Members) (kept : (n : List ℕ) → has done n ≡ true → get_member n more ≡ get_member n done) where
   -- all that a value names is resolved
@@ -118,24 +152,8 @@ module _ (done more : Members) (kept : (n : List ℕ) → has done n ≡ true �
   ]
 
   module _ (al : Members) where
-    mutual
-      pub kept_inner : (v : Data) (s : Place) (seen : Members) → IsNamed s v → inner_flaws al (Some more) s seen v ≡ inner_flaws al (Some done) s seen v
-      kept_inner (array es) s seen h = kept_item_flaws es s 0 no_members h
-      kept_inner (object ms) s seen h = kept_member_flaws ms s seen h
-      kept_inner _ s seen h = refl
-
-      kept_item_flaws : (es : Items) (s : Place) (i : ℕ) (seen : Members) → all_named_in_items (has done) (place_of_items s) es ≡ true → item_flaws al (Some more) s i seen es ≡ item_flaws al (Some done) s i seen es
-      kept_item_flaws no_items s i seen h = refl
-      kept_item_flaws (item e es) s i seen h =
-          let parts = and_parts (all_named (has done) (place_of_items s) e) (all_named_in_items (has done) (place_of_items s) es) h in
-          same_part (within (index i)) _ _ _ _ _ _ refl (kept_inner e (place_of_items s) seen parts.0) (kept_item_flaws es s (suc i) (mark e seen) parts.1)
-
-      kept_member_flaws : (ms : Members) (s : Place) (seen : Members) → all_named_in_members (has done) s ms ≡ true → member_flaws al (Some more) s seen ms ≡ member_flaws al (Some done) s seen ms
-      kept_member_flaws no_members s seen h = refl
-      kept_member_flaws (member k d ms) s seen h =
-          let parts = and_parts (all_named (has done) (place_under s k) d) (all_named_in_members (has done) s ms) h in
-          let inner = ap (λ x. own_flaws al (place_under s k) (is_entry s && is_some (get_member k seen)) d ++ x) (kept_inner d (place_under s k) no_members parts.0) in
-          same_part (within (key k)) _ _ _ _ _ _ inner (kept_base_flaws s k d parts.0) (kept_member_flaws ms s seen parts.1)
+    pub kept_inner : (v : Data) (s : Place) (seen : Members) → IsNamed s v → inner_flaws al (Some more) s seen v ≡ inner_flaws al (Some done) s seen v
+    kept_inner v s seen h = alike_in al al (λ n. refl) (Some done) (Some more) (has done) kept_base_flaws v s seen h
 
     -- the flaws of a type stay the same
     pub kept_flaws : (s : Place) (v : Data) → IsNamed s v → type_flaws al more s v ≡ type_flaws al done s v

@@ -30,7 +30,8 @@ use Rattle.conf_inherit.specs.Places.{place_flaws, inner_places, item_places, me
 use Rattle.conf_inherit.specs.Rounds.{Outcomes, has_outcome, is_over, is_empty, if_fitting, outcome, concluded, step, round, rounds, no_outcomes, Reached, at_first, turned, is_settled, all_settled}
 use Rattle.conf_inherit.specs.Spent.{Spends, spent, TurnsLeave}
 use Rattle.conf_inherit.proofs.TurnLemmas.{Follows, follows_round, turns_are_rounds, is_settled_state}
-use Rattle.conf_inherit.proofs.FaultLemmas.{same_part, is_still}
+use Rattle.conf_inherit.proofs.FaultLemmas.{same_part, is_still, all_pass}
+use Rattle.conf_inherit.proofs.LimitLemmas.{alike_own, alike_flaws}
 
 pub view-null : view Null ≡ null
 view-null = search (rules, the_lemmas)
@@ -113,42 +114,18 @@ same_body done _ _ h n free = absurd h
 -- ---- what is judged by the names of the aliases alone
 
 module _ (al now : Members) (names : (n : List ℕ) → is_some (get_member n now) ≡ is_some (get_member n al)) where
-  same_unknown : (s : Place) (v : Data) → is_unknown now s v ≡ is_unknown al s v
-  same_unknown s (string n) = ap (λ t. (names_alias s || names_member_type s) && not t) (names n)
-  same_unknown s _ = refl
-
-  same_own : (s : Place) (taken : Bool) (v : Data) → own_flaws now s taken v ≡ own_flaws al s taken v
-  same_own s taken v = ap (λ t. if is_wrong s v then here WrongKind ∷ [] else if t then here NoSuchAlias ∷ [] else if taken then here NameClash ∷ [] else []) (same_unknown s v)
-
-  mutual
-    same_inner : (known : Option Members) (s : Place) (seen : Members) (v : Data) → inner_flaws now known s seen v ≡ inner_flaws al known s seen v
-    same_inner known s seen (array es) = same_items known s 0 no_members es
-    same_inner known s seen (object ms) = same_members known s seen ms
-    same_inner known s seen _ = refl
-
-    same_items : (known : Option Members) (s : Place) (i : ℕ) (seen : Members) (es : Items) → item_flaws now known s i seen es ≡ item_flaws al known s i seen es
-    same_items known s i seen no_items = refl
-    same_items known s i seen (item e es) =
-        same_part (within (index i)) _ _ _ _ _ _ (same_own (place_of_items s) false e) (same_inner known (place_of_items s) seen e) (same_items known s (suc i) (mark e seen) es)
-
-    same_members : (known : Option Members) (s : Place) (seen ms : Members) → member_flaws now known s seen ms ≡ member_flaws al known s seen ms
-    same_members known s seen no_members = refl
-    same_members known s seen (member k d ms) =
-        let taken = is_entry s && is_some (get_member k seen) in
-        let own = same_own (place_under s k) taken d in
-        let inner = same_inner known (place_under s k) no_members d in
-        let part = ap (λ x. x ++ inner_flaws now known (place_under s k) no_members d) own ∙ ap (λ x. own_flaws al (place_under s k) taken d ++ x) inner in
-        same_part (within (key k)) _ _ _ _ _ _ part refl (same_members known s seen ms)
-
   same_flaws : (known : Option Members) (s : Place) (taken : Bool) (seen : Members) (v : Data) → flaws now known s taken seen v ≡ flaws al known s taken seen v
-  same_flaws known s taken seen v = ap (λ x. x ++ inner_flaws now known s seen v) (same_own s taken v) ∙ ap (λ x. own_flaws al s taken v ++ x) (same_inner known s seen v)
+  same_flaws known s taken seen v = alike_flaws al now names known known (λ n. true) (λ s k d h. refl) s taken seen v (all_pass s v)
+
+  same_own : (s : Place) (v : Data) → own_flaws now s false v ≡ own_flaws al s false v
+  same_own s v = alike_own al now names s false v
 
   same_type : (done : Members) (s : Place) (v : Data) → type_flaws now done s v ≡ type_flaws al done s v
   same_type done s v = ap (λ x. x ++ limit_flaws done s v) (same_flaws (Some done) s false no_members v)
 
   same_place : (done : Members) (s : Place) (v : Data) → place_flaws now done s v ≡ place_flaws al done s v
   unfolding place_flaws
-  same_place done s v = let type = same_type done s v in let own = same_own s false v in cc
+  same_place done s v = let type = same_type done s v in let own = same_own s v in cc
 
   mutual
     same_places_in : (done : Members) (s : Place) (v : Data) → inner_places now done s v ≡ inner_places al done s v
