@@ -3,8 +3,9 @@ ghost use Rattle.std.specs.Prelude.{◌≡◌, ◌++◌, IfOk};
 ghost use Rattle.serde_json.specs.View.{members_view};
 ghost use Rattle.conf_draft.specs.Clocks.{clock_types as clock_types_in, clock_type as clock_type_of};
 
-use crate::lookup::{identifier, natural, object_or, text};
+use crate::lookup::{natural, object_or, text, word};
 use conf_tree::optional;
+use conf_values::parsed;
 use ctf_types::{ClockType, ListOf, Text};
 use serde_json::{Map, Value};
 use std::alloc::{AllocError, Global};
@@ -41,7 +42,7 @@ fn clock_type(
     let description = text(alloc, members, "description")?;
     Ok(ClockType {
         name,
-        uuid: identifier(members, "uuid"),
+        uuid: word(members, "uuid").and_then(|word| parsed(word)),
         description,
         frequency: natural(members, "frequency").unwrap_or(1_000_000_000),
         precision: natural(members, "precision").unwrap_or(0),

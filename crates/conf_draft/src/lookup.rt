@@ -3,14 +3,13 @@ ghost use Rattle.std.specs.Prelude.{◌≡◌, IfOk, option_map};
 ghost use Rattle.serde_json.specs.Data.{no_members};
 ghost use Rattle.serde_json.specs.View.{items_view, members_view};
 ghost use Rattle.conf_draft.specs.Alignments.{alignment as alignment_in};
-ghost use Rattle.conf_draft.specs.Lookups.{natural as natural_in, word as word_in, object as object_in, properties, list as list_in, identifier as identifier_in};
+ghost use Rattle.conf_draft.specs.Lookups.{natural as natural_in, word as word_in, object as object_in, properties, list as list_in};
 
 use conf_tree::optional;
-use conf_values::{as_natural, parsed};
+use conf_values::as_natural;
 use ctf_types::Text;
 use serde_json::{Map, Value};
 use std::alloc::{AllocError, Global};
-use uuid::Uuid;
 
 /// The whole number from 0 to 2^64 - 1 that the property `name` is.
 #[tactic(auto, unfolding(crate::specs::Lookups::natural))]
@@ -81,12 +80,4 @@ pub(crate) fn text(
         Some(word) => Ok(Some(Text::from_str(alloc, word)?)),
         None => Ok(None),
     }
-}
-
-/// The identifier that the property `name` is the text of.
-#[tactic(auto, unfolding(crate::specs::Lookups::identifier))]
-pub(crate) fn identifier(members: &Map<String, Value>, name: &str) -> Option<Uuid>
-    ensures { result ≡ identifier_in name.now (members_view members.now.entries) }
-{
-    parsed(word(members, name)?)
 }

@@ -6,7 +6,8 @@ ghost use Rattle.conf_draft.specs.Streams.{stream_types as stream_types_in, stre
 use crate::event_type::event_types;
 use crate::features::{context, event_header};
 use crate::lookup::{object_or, text};
-use crate::structure::{extra_members, structure};
+use crate::members::listed;
+use crate::structure::{made, structure};
 use ctf_types::{ListOf, StreamType, Text};
 use serde_json::{Map, Value};
 use std::alloc::{AllocError, Global};
@@ -31,7 +32,7 @@ pub(crate) fn stream_types(
     Ok(streams)
 }
 
-#[tactic(auto, unfolding(crate::specs::Streams::stream_type))]
+#[tactic(auto, unfolding(crate::specs::Streams::stream_type, crate::specs::Structures::extra_members))]
 fn stream_type(
     alloc: Global,
     name: &str,
@@ -48,7 +49,8 @@ fn stream_type(
     let context = context(alloc, object_or(features, "packet", &empty), &default_clock)?;
     let event_record = object_or(features, "event-record", &empty);
     let event_header = event_header(alloc, event_record, &default_clock)?;
-    let extras = extra_members(alloc, members, "packet-context-field-type-extra-members")?;
+    let extras = listed(alloc, members, "packet-context-field-type-extra-members")?;
+    let extras = made(extras, 1);
     let common = structure(alloc, members, "event-record-common-context-field-type")?;
     let events = event_types(alloc, members, levels)?;
     Ok(StreamType {

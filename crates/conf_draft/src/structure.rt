@@ -1,7 +1,7 @@
 //! Structures: payloads, contexts, and the extra members of a packet context (barectf 3.1, "Structure field type object").
 ghost use Rattle.std.specs.Prelude.{◌≡◌, Some, IsSome, IfOk};
 ghost use Rattle.serde_json.specs.View.{members_view};
-ghost use Rattle.conf_draft.specs.Structures.{made as made_of, structure as structure_in, extra_members as extra_members_in};
+ghost use Rattle.conf_draft.specs.Structures.{made as made_of, structure as structure_in};
 
 use crate::lookup::{alignment, object};
 use crate::members::listed;
@@ -28,22 +28,9 @@ pub(crate) fn structure(
     Ok(made(members, align))
 }
 
-/// The structure of the extra members that the property `name` is, which aligns nothing itself. Left out, there are none.
-#[tactic(auto, unfolding(crate::specs::Structures::extra_members))]
-pub(crate) fn extra_members(
-    alloc: Global,
-    members: &Map<String, Value>,
-    name: &str,
-) -> Result<StructType, AllocError>
-    requires { IsSome (extra_members_in name.now (members_view members.now.entries)) }
-    ensures { IfOk result (λ t. extra_members_in name.now (members_view members.now.entries) ≡ Some t) }
-{
-    Ok(made(listed(alloc, members, name)?, 1))
-}
-
 /// The structure of these members and this minimum alignment in bits.
 #[tactic(auto, unfolding(crate::specs::Structures::made))]
-fn made(members: Members, align: u64) -> StructType
+pub(crate) fn made(members: Members, align: u64) -> StructType
     requires { IsSome (made_of members align) }
     ensures { made_of members align ≡ Some result }
 {

@@ -2,15 +2,15 @@
 //! object").
 ghost use Rattle.std.specs.Prelude.{◌≡◌, Some, IsSome, IfOk};
 ghost use Rattle.serde_json.specs.View.{view, members_view};
-ghost use Rattle.conf_draft.specs.Traces.{draft_of as draft_of_value, draft_of_type as draft_of_type_in, order as order_in};
+ghost use Rattle.conf_draft.specs.Traces.{draft_of as draft_of_value, order as order_in};
 
 use crate::clock_type::clock_types;
 use crate::draft::Draft;
 use crate::environment::environment;
 use crate::features::header;
-use crate::lookup::{identifier, object, object_or, word};
+use crate::lookup::{object, object_or, word};
 use crate::stream_type::stream_types;
-use conf_values::order_word;
+use conf_values::{order_word, parsed};
 use ctf_types::{
     ByteOrder, ClockType, Config, EnvironmentEntry, HeaderFeatures, ListOf, StreamType,
 };
@@ -20,26 +20,14 @@ use uuid::Uuid;
 
 /// What a resolved configuration says, whose objects have no flaw. `number` is the trace's identifier where the configuration
 /// asks for one to be handed in.
-#[tactic(auto, unfolding(crate::specs::Traces::draft_of_root, crate::specs::Traces::draft_of_trace))]
+#[tactic(auto, unfolding(crate::specs::Traces::draft_of_root, crate::specs::Traces::draft_of_trace, crate::specs::Traces::draft_of_type))]
 pub fn draft_of(alloc: Global, number: Option<Uuid>, value: &Value) -> Result<Draft, AllocError>
     requires { IsSome (draft_of_value number (view value.now)) }
     ensures { IfOk result (λ d. draft_of_value number (view value.now) ≡ Some d) }
 {
     let trace = object(value.as_object().unwrap(), "trace").unwrap();
+    let trace_type = object(trace, "type").unwrap();
     let environment = environment(alloc, trace)?;
-    draft_of_type(alloc, number, environment, object(trace, "type").unwrap())
-}
-
-#[tactic(auto, unfolding(crate::specs::Traces::draft_of_type, crate::specs::Traces::trace_order, crate::specs::Traces::has_two_orders, crate::specs::Traces::asks_number))]
-fn draft_of_type(
-    alloc: Global,
-    number: Option<Uuid>,
-    environment: ListOf<EnvironmentEntry>,
-    trace_type: &Map<String, Value>,
-) -> Result<Draft, AllocError>
-    requires { IsSome (draft_of_type_in number environment (members_view trace_type.now.entries)) }
-    ensures { IfOk result (λ d. draft_of_type_in number environment (members_view trace_type.now.entries) ≡ Some d) }
-{
     let uuid = word(trace_type, "uuid");
     let empty = Map::new(alloc);
     let header = header(object_or(trace_type, "$features", &empty), uuid.is_some());
@@ -52,7 +40,7 @@ fn draft_of_type(
     let uuid = if asks_number {
         number
     } else {
-        identifier(trace_type, "uuid")
+        uuid.and_then(|word| parsed(word))
     };
     Ok(Draft {
         config: Config {

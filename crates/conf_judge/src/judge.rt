@@ -33,6 +33,7 @@ use std::alloc::Global;
 ///
 /// The tree stays as it is, and the fault has the way from the whole configuration to the value, or to the property that is
 /// missing or unknown. Where memory is wanting for this, that is the fault. A resolved tree nests no deeper than 32.
+#[tactic(auto, using(crate::proofs::FirstFlaw::told_first, crate::proofs::FirstFlaw::told_later))]
 pub fn check_objects(alloc: Global, value: &Value) -> Result<(), ConfFault>
     ensures { Gives (λ _. tt) result (refusal (configuration_flaws (view value.now))) }
 {
@@ -43,22 +44,9 @@ pub fn check_objects(alloc: Global, value: &Value) -> Result<(), ConfFault>
         numbers: ALL,
         taken: &nothing,
     };
-    check_content(alloc, &around, &Content::At(Place::Root), value)
-}
-
-/// Refuses the first flaw of a value.
-#[cycle(judge)]
-#[tactic(auto, using(crate::proofs::FirstFlaw::told_first, crate::proofs::FirstFlaw::told_later))]
-fn check_content(
-    alloc: Global,
-    around: &Around<'_>,
-    content: &Content,
-    value: &Value,
-) -> Result<(), ConfFault>
-    ensures { Gives (λ _. tt) result (refusal (content_flaws (known_of around.now) content.now (view value.now))) }
-{
-    check_itself(alloc, around, content, value)?;
-    check_inner(alloc, around, content, value)
+    let content = Content::At(Place::Root);
+    check_itself(alloc, &around, &content, value)?;
+    check_inner(alloc, &around, &content, value)
 }
 
 /// Refuses the first flaw of what a value holds.
@@ -106,6 +94,7 @@ fn check_items(
 
 /// Refuses the first flaw of an item of a list, where these names are taken.
 #[cycle(judge)]
+#[tactic(auto, using(crate::proofs::FirstFlaw::told_first, crate::proofs::FirstFlaw::told_later))]
 fn check_item(
     alloc: Global,
     around: &Around<'_>,
@@ -116,7 +105,9 @@ fn check_item(
     ensures { Gives (λ _. tt) result (refusal (content_flaws (with_taken (members_view taken.now.entries) (known_of around.now)) (item_content_of place) (view item.now))) }
 {
     let here = Around { taken, ..*around };
-    check_content(alloc, &here, &item_content(place), item)
+    let content = item_content(place);
+    check_itself(alloc, &here, &content, item)?;
+    check_inner(alloc, &here, &content, item)
 }
 
 #[cycle(judge)]

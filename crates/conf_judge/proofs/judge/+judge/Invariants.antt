@@ -18,9 +18,6 @@ invariant-check_members-loop-name l =
     (members_depth (members_view l.name-iterator) ≤ members_depth (members_view l.members.entries))
     × (member_flaws (inside l.place (members_view l.members.entries) (known_of l.around)) l.place (members_view l.members.entries) ≡ member_flaws (known_of l.here) l.place (members_view l.name-iterator))
 
-abbrev pub decreases-check_content : goal.decreases-check_content
-decreases-check_content l = 8 * goal.size-check_content l + 2
-
 abbrev pub decreases-check_inner : goal.decreases-check_inner
 decreases-check_inner l = 8 * goal.size-check_inner l + 1
 
