@@ -17,9 +17,7 @@ const DEFAULT_FREQUENCY: u64 = 1_000_000_000;
 pub(crate) fn clock_meaning(alloc: Global, items: &[Item]) -> Meant<ClockType>
     ensures { IfOk result (λ c. c ≡ clock_meaning items.now) }
 {
-    if !has_parts(alloc, &[], items)? {
-        return Ok(None);
-    }
+    holds!(has_parts(alloc, &[], items)?);
     let name = meant!(name_in(items));
     let uuid = meant!(uuid_if_there(attr_in("uuid", items)));
     let description = match attr_in("description", items) {

@@ -19,9 +19,7 @@ pub(crate) fn enum_meaning(alloc: Global, int: IntType, entries: &Entries) -> Me
     let made = match entries {
         Entries::Empty => Some(ListOf::new(alloc)),
         Entries::Listed(first, rest, _) => {
-            if rest.len() >= MAX_RANGES {
-                return Ok(None);
-            }
+            holds!(rest.len() < MAX_RANGES);
             mappings_of(alloc, first, rest.as_slice())?
         }
     };
@@ -44,9 +42,7 @@ fn mappings_of(alloc: Global, first: &Entry, others: &[Entry]) -> Meant<ListOf<M
 fn entry_meaning(alloc: Global, entry: &Entry) -> Meant<Mapping>
     ensures { IfOk result (λ m. m ≡ entry_meaning entry.now) }
 {
-    if !rises(entry) {
-        return Ok(None);
-    }
+    holds!(rises(entry));
     let low = signed_of(entry.low);
     let high = high_of(low, entry.high);
     let (Label::Quoted(label) | Label::Bare(label)) = &entry.label;

@@ -16,9 +16,7 @@ pub(crate) fn environment_meaning(
 ) -> Meant<ListOf<EnvironmentEntry>>
     ensures { IfOk result (λ es. es ≡ environment_meaning facts.now) }
 {
-    if facts.len() > MAX_ENVIRONMENT || !are_distinct(facts) {
-        return Ok(None);
-    }
+    holds!(facts.len() <= MAX_ENVIRONMENT && are_distinct(facts));
     entries_of(alloc, facts)
 }
 

@@ -29,9 +29,7 @@ pub(crate) const INTEGER_ATTRIBUTES: [&[&str]; 7] = [
 pub(crate) fn int_meaning(alloc: Global, known: &Known, attributes: &[Attribute]) -> Meant<IntType>
     ensures { IfOk result (λ t. t ≡ int_meaning known.now attributes.now) }
 {
-    if !has_only(&INTEGER_ATTRIBUTES, attributes) {
-        return Ok(None);
-    }
+    holds!(has_only(&INTEGER_ATTRIBUTES, attributes));
     let size = meant!(natural_value(meant!(attr("size", attributes))));
     let align = meant!(natural_or(default_align(size), attr("align", attributes)));
     let signed = meant!(flag_or_false(attr("signed", attributes)));

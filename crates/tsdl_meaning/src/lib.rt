@@ -11,6 +11,15 @@ macro_rules! meant {
     };
 }
 
+/// What has to hold. A function that uses it means nothing where this does not.
+macro_rules! holds {
+    ($condition:expr) => {
+        if !$condition {
+            return Ok(None);
+        }
+    };
+}
+
 mod array;
 mod clock;
 mod enumeration;

@@ -105,11 +105,10 @@ pub(crate) fn attr_in<'a>(word: &str, items: &'a [Item]) -> Option<&'a Value>
     ensures { option_map (λ v. v.now) result ≡ attr word.now (attrs_in items.now) }
 {
     for item in items {
-        match item {
-            Item::Attribute(attribute) if is_word(word, &attribute.name) => {
+        if let Item::Attribute(attribute) = item {
+            if is_word(word, &attribute.name) {
                 return Some(&attribute.value);
             }
-            Item::Attribute(_) | Item::Scope(_) => {}
         }
     }
     None
@@ -134,9 +133,10 @@ pub(crate) fn scope_in<'a>(words: &[&str], items: &'a [Item]) -> Option<&'a Stru
     ensures { option_map (λ s. s.now) result ≡ scope (texts_of words.now) (scopes_in items.now) }
 {
     for item in items {
-        match item {
-            Item::Scope(scope) if has_words(&scope.name, words) => return Some(&scope.structure),
-            Item::Attribute(_) | Item::Scope(_) => {}
+        if let Item::Scope(scope) = item {
+            if has_words(&scope.name, words) {
+                return Some(&scope.structure);
+            }
         }
     }
     None
@@ -147,9 +147,10 @@ fn has_scope_in(name: &Name, items: &[Item]) -> bool
     ensures { result ≡ list_any (same_words (words_of name.now)) (scope_names (scopes_in items.now)) }
 {
     for item in items {
-        match item {
-            Item::Scope(scope) if is_same(name, &scope.name) => return true,
-            Item::Attribute(_) | Item::Scope(_) => {}
+        if let Item::Scope(scope) = item {
+            if is_same(name, &scope.name) {
+                return true;
+            }
         }
     }
     false

@@ -91,18 +91,14 @@ fn bracketed(
         [] => Ok(Some(MemberType::Plain(field))),
         [Bracket::Count(_), ..] => {
             let lengths = meant!(counts_of(alloc, brackets)?);
-            if !are_lengths(lengths.as_slice()) {
-                return Ok(None);
-            }
+            holds!(are_lengths(lengths.as_slice()));
             let array = arrays_of(alloc, field, lengths.as_slice())?;
             Ok(Some(MemberType::Plain(array)))
         }
         [Bracket::Member(name), inner @ ..] => {
             let lengths = meant!(counts_of(alloc, inner)?);
             let place = meant!(length_place(before, name.as_str()));
-            if !are_lengths(lengths.as_slice()) || !have_bits(lengths.as_slice()) {
-                return Ok(None);
-            }
+            holds!(are_lengths(lengths.as_slice()) && have_bits(lengths.as_slice()));
             let element = arrays_of(alloc, field, lengths.as_slice())?;
             Ok(Some(MemberType::Dyn(element, Length::At(place))))
         }

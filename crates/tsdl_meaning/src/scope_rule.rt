@@ -29,6 +29,9 @@ pub(crate) enum ScopeRule {
     EventHeader,
 }
 
+/// The name of a scope, and what the scope asks of its members.
+pub(crate) type NamedRule = (&'static [&'static str], ScopeRule);
+
 /// Whether each member is as the rule asks.
 pub(crate) fn all_suit(rule: ScopeRule, members: &Members) -> bool
     ensures { result ≡ list_all (suits_rule rule) members.now }

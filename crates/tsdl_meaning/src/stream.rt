@@ -5,15 +5,12 @@ ghost use Rattle.tsdl_meaning.specs.Words.{has_member, stream_meaning, event_mea
 
 use crate::known::Known;
 use crate::lookup::{attr_in, has_parts, name_in, number_or_zero};
-use crate::scope_rule::ScopeRule;
+use crate::scope_rule::{NamedRule, ScopeRule};
 use crate::structure::{has_member, scope_meaning};
 use crate::value::{Meant, natural_value};
 use ctf_types::{Event, ListOf, Stream, StructType};
 use std::alloc::Global;
 use tsdl_grammar::Item;
-
-/// The name of a scope, and what the scope asks of its members.
-pub(crate) type NamedRule = (&'static [&'static str], ScopeRule);
 
 pub(crate) const PACKET_CONTEXT: NamedRule = (&["packet", "context"], ScopeRule::PacketContext);
 
@@ -31,16 +28,12 @@ pub(crate) fn stream_meaning(alloc: Global, known: &Known, items: &[Item]) -> Me
     ensures { IfOk result (λ s. s ≡ stream_meaning known.now items.now) }
 {
     let scopes = [PACKET_CONTEXT.0, EVENT_HEADER.0, EVENT_CONTEXT.0];
-    if !has_parts(alloc, &scopes, items)? {
-        return Ok(None);
-    }
+    holds!(has_parts(alloc, &scopes, items)?);
     let id = meant!(number_or_zero("id", items));
     let context = meant!(scope_meaning(alloc, known, PACKET_CONTEXT, items)?);
     let event_header = meant!(scope_meaning(alloc, known, EVENT_HEADER, items)?);
     let common = meant!(scope_meaning(alloc, known, EVENT_CONTEXT, items)?);
-    if !has_sizes(&context) {
-        return Ok(None);
-    }
+    holds!(has_sizes(&context));
     Ok(Some(Stream {
         id,
         context,
@@ -62,9 +55,7 @@ fn has_sizes(context: &StructType) -> bool
 pub(crate) fn event_meaning(alloc: Global, known: &Known, items: &[Item]) -> Meant<(u64, Event)>
     ensures { IfOk result (λ e. e ≡ event_meaning known.now items.now) }
 {
-    if !has_parts(alloc, &[SPECIFIC_CONTEXT.0, FIELDS.0], items)? {
-        return Ok(None);
-    }
+    holds!(has_parts(alloc, &[SPECIFIC_CONTEXT.0, FIELDS.0], items)?);
     let name = meant!(name_in(items));
     let id = meant!(number_or_zero("id", items));
     let stream = meant!(number_or_zero("stream_id", items));

@@ -37,9 +37,7 @@ pub(crate) fn scope_meaning(
 fn struct_meaning(alloc: Global, known: &Known, structure: &Structure) -> Meant<StructType>
     ensures { IfOk result (λ t. t ≡ struct_meaning known.now structure.now) }
 {
-    if structure.members.len() > MAX_MEMBERS {
-        return Ok(None);
-    }
+    holds!(structure.members.len() <= MAX_MEMBERS);
     let members = meant!(members_meaning(alloc, known, structure.members.as_slice())?);
     let align = match structure.align {
         None => 1,
@@ -56,9 +54,7 @@ fn members_meaning(alloc: Global, known: &Known, members: &[MemberTree]) -> Mean
 {
     let mut before = Members::with_capacity(alloc, members.len())?;
     for member in members {
-        if has_member(&before, member.name.as_str()) {
-            return Ok(None);
-        }
+        holds!(!has_member(&before, member.name.as_str()));
         let member_type = meant!(member_meaning(alloc, known, &before, member)?);
         let name = member.name.copy(alloc)?;
         before.push(name, member_type)?;

@@ -36,18 +36,14 @@ pub(crate) fn text_meaning(alloc: Global, blocks: &[Block]) -> Meant<Metadata>
     ensures { IfOk result (λ m. m ≡ text_meta blocks.now) }
 {
     let trace = meant!(only_trace(blocks));
-    if !is_trace(alloc, trace)? {
-        return Ok(None);
-    }
+    holds!(is_trace(alloc, trace)?);
     let order = meant!(trace_order(trace));
     let uuid = meant!(uuid_if_there(attr_in("uuid", trace)));
     let facts = meant!(facts_of(blocks));
     let environment = meant!(environment_meaning(alloc, facts)?);
     let clocks = meant!(clocks_of(alloc, blocks)?);
     let known = Known::of(alloc, order, clocks.as_slice())?;
-    if !are_apart(alloc, known.clocks())? {
-        return Ok(None);
-    }
+    holds!(are_apart(alloc, known.clocks())?);
     let header = meant!(scope_meaning(alloc, &known, PACKET_HEADER, trace)?);
     let streams = meant!(streams_meaning(alloc, &known, blocks)?);
     Ok(Some(Metadata {

@@ -28,9 +28,7 @@ pub(crate) fn streams_meaning(
     let found = meant!(streams_found(alloc, known, blocks)?);
     let streams = meant!(by_number(alloc, found)?);
     let events = meant!(events_found(alloc, known, blocks)?);
-    if !have_streams(alloc, streams.as_slice(), events.as_slice())? {
-        return Ok(None);
-    }
+    holds!(have_streams(alloc, streams.as_slice(), events.as_slice())?);
     let groups = groups_of(alloc, events)?;
     streams_with(alloc, groups, streams.as_slice())
 }

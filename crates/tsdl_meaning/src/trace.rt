@@ -4,17 +4,14 @@ ghost use Rattle.std.specs.Prelude.{◌≡◌, IfOk};
 ghost use Rattle.tsdl_meaning.specs.Words.{meant_by, order_table, trace_order, has_number, is_trace};
 
 use crate::lookup::{attr_in, has_parts};
-use crate::scope_rule::ScopeRule;
+use crate::scope_rule::{NamedRule, ScopeRule};
 use crate::value::{natural_value, word_value};
 use ctf_types::ByteOrder;
 use std::alloc::{AllocError, Global};
 use tsdl_grammar::Item;
 
 /// The scope of a trace block, and what it asks of its members.
-pub(crate) const PACKET_HEADER: (&[&str], ScopeRule) = (
-    &["packet", "header"],
-    ScopeRule::PacketHeader,
-);
+pub(crate) const PACKET_HEADER: NamedRule = (&["packet", "header"], ScopeRule::PacketHeader);
 
 /// `byte_order = le` or `be`.
 pub(crate) fn trace_order(items: &[Item]) -> Option<ByteOrder>

@@ -25,10 +25,7 @@ pub fn signed_of(number: Number) -> i128
 pub fn natural(number: Number) -> Option<u64>
     ensures { result ≡ natural number }
 {
-    match number.sign {
-        Some(Sign::Minus) => { if number.literal == 0 { Some(0) } else { None } }
-        Some(Sign::Plus) | None => Some(number.literal),
-    }
+    u64::try_from(signed_of(number)).ok()
 }
 
 /// A number from -2^63 to 2^63 - 1.
@@ -85,11 +82,7 @@ pub(crate) fn word_value(value: &Value) -> Option<&Text>
 pub(crate) fn name_value(value: &Value) -> Option<&Text>
     ensures { option_map (λ t. t.now) result ≡ name_value value.now }
 {
-    match value {
-        Value::Text(text) => Some(text),
-        Value::Name(name) => one_word(name),
-        Value::Number(_) => None,
-    }
+    text_value(value).or(word_value(value))
 }
 
 /// `true TRUE 1 false FALSE 0`.
