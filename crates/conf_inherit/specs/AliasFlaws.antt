@@ -1,14 +1,9 @@
 -- What is wrong with the aliases, in byte order of their names, once each has had its rounds.
 use Rattle.std.specs.Prelude.{ℕ, List, [], ◌∷◌, ◌++◌, map, Result, Ok, Err, ⊤, if◌then◌else◌}
 use Rattle.serde_json.specs.Data.{Data, null, Members, no_members, member, put}
-use Rattle.conf_tree.specs.Flaw.{Flaw, key, here, within}
-use Rattle.conf_tree.specs.Walk.{refusal}
-use Rattle.conf_tree.specs.declared.fault_kind.FaultKind.TheVariants.{InheritCycle}
+use Rattle.conf_tree.{specs.Flaw.{Flaw, key, here, within}, specs.Walk.refusal, specs.declared.fault_kind.FaultKind.TheVariants.InheritCycle}
 use Rattle.conf_table.specs.declared.place.Place.TheVariants as places
-use Rattle.conf_inherit.specs.Flaws.{type_flaws}
-use Rattle.conf_inherit.specs.Named.{has}
-use Rattle.conf_inherit.specs.Rounds.{Outcomes, has_outcome}
-use Rattle.conf_inherit.specs.SameFlaw.{is_same_flaw}
+use Rattle.conf_inherit.specs.{Flaws.type_flaws, Named.has, Rounds.{Outcomes, has_outcome}, SameFlaw.is_same_flaw}
 
 -- the names of the aliases that have an outcome, added to those that are there
 abbrev pub over_names : Members → Outcomes → Members → Members

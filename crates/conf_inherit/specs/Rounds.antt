@@ -1,15 +1,10 @@
 -- The aliases are resolved in rounds: each whose names all have an outcome gets its own. What has none after as
 -- many rounds as there are aliases inherits in a circle.
 use Rattle.std.specs.Prelude.{◌≡◌, ◌&&◌, ◌||◌, ℕ, zero, suc, List, [], ◌∷◌, Option, Some, None, Result, Ok, Err, Bool, true, false, not, if◌then◌else◌}
-use Rattle.serde_json.specs.Data.{Data, null, Members, no_members, member, put}
-use Rattle.serde_json.specs.Find.{get_member}
-use Rattle.conf_tree.specs.Flaw.{Flaw}
-use Rattle.conf_tree.specs.declared.fault_kind.FaultKind.{FaultKind}
+use Rattle.serde_json.{specs.Data.{Data, null, Members, no_members, member, put}, specs.Find.get_member}
+use Rattle.conf_tree.{specs.Flaw.Flaw, specs.declared.fault_kind.FaultKind.FaultKind}
 use Rattle.conf_table.specs.declared.place.Place.TheVariants as places
-use Rattle.conf_inherit.specs.Flaws.{flaws}
-use Rattle.conf_inherit.specs.Laying.{lay}
-use Rattle.conf_inherit.specs.Limits.{fitting}
-use Rattle.conf_inherit.specs.Named.{all_named, has}
+use Rattle.conf_inherit.specs.{Flaws.flaws, Laying.lay, Limits.fitting, Named.{all_named, has}}
 
 -- the aliases that are resolved, and the names of those that can't be
 pub record Outcomes : Type 0 where

@@ -1,8 +1,7 @@
 -- How many JSON values a value holds, itself counted, and where there are more than a limit allows.
 use Rattle.std.specs.Prelude.{◌≡◌, ◌+◌, ◌<◌, ◌≤◌, ℕ, suc, Option, Some, None}
 use Rattle.serde_json.specs.Data.{Data, array, object, Items, no_items, item, Members, no_members, member}
-use Rattle.conf_inherit.specs.declared.size.Stop.{Stop}
-use Rattle.conf_inherit.specs.declared.size.Stop.TheVariants.{Memory, Limit}
+use Rattle.conf_inherit.specs.{declared.size.Stop.Stop, declared.size.Stop.TheVariants.{Memory, Limit}}
 
 abbrev mutual
   -- the values of a value

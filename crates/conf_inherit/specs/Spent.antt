@@ -1,10 +1,8 @@
 -- The aliases while they are resolved. The body of a resolved alias is never read again, so null may stand in its
 -- place: of such an alias only the name is asked.
-use Rattle.std.specs.Prelude.{◌≡◌, ◌⊎◌, ℕ, List, true, if◌then◌else◌}
-use Rattle.std.specs.Str.{bytes_eq}
+use Rattle.std.{specs.Prelude.{◌≡◌, ◌⊎◌, ℕ, List, true, if◌then◌else◌}, specs.Str.bytes_eq}
 use Rattle.serde_json.specs.Data.{null, Members, no_members, member}
-use Rattle.conf_inherit.specs.Named.{has}
-use Rattle.conf_inherit.specs.Rounds.{Outcomes, Reached}
+use Rattle.conf_inherit.specs.{Named.has, Rounds.{Outcomes, Reached}}
 
 -- what is left of the aliases `al`: each name, and its body or, where it is resolved, null
 abbrev pub Spends : Members → Members → Members → Type 0

@@ -1,14 +1,8 @@
 //! The first fault of the aliases, in byte order of their names.
 ghost use Rattle.std.specs.Prelude.{◌≡◌, IfOk, map};
-ghost use Rattle.serde_json.specs.Data.{no_members};
-ghost use Rattle.serde_json.specs.View.{view, members_view};
-ghost use Rattle.conf_tree.specs.Flaw.{flaw_of, place_of};
-ghost use Rattle.conf_tree.specs.Reading.{Gives};
-ghost use Rattle.conf_tree.specs.Walk.{refusal};
-ghost use Rattle.conf_inherit.specs.AliasOutcomes.{outcomes_of};
-ghost use Rattle.conf_inherit.specs.AliasFlaws.{over_names, first_or_circle, alias_flaws, all_alias_flaws};
-ghost use Rattle.conf_inherit.specs.Flaws.{type_flaws};
-ghost use Rattle.conf_inherit.specs.SameFlaw.{is_same_step, is_same_path, is_same_flaw};
+ghost use Rattle.serde_json.specs.{Data.no_members, View.{view, members_view}};
+ghost use Rattle.conf_tree.specs.{Flaw.{flaw_of, place_of}, Reading.Gives, Walk.refusal};
+ghost use Rattle.conf_inherit.specs.{AliasOutcomes.outcomes_of, AliasFlaws.{over_names, first_or_circle, alias_flaws, all_alias_flaws}, Flaws.type_flaws, SameFlaw.{is_same_step, is_same_path, is_same_flaw}};
 
 use crate::flaws::check_type;
 use crate::outcomes::{AliasOutcomes, Known};

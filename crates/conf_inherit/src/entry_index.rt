@@ -1,11 +1,7 @@
 //! The entries of a members list by their names.
-ghost use Rattle.std.specs.Prelude.{◌≡◌, ℕ, List, IfOk, IfSome, OnOk, option_map};
-ghost use Rattle.std.specs.List.{IsAmong};
-ghost use Rattle.std.specs.Option.{option_or};
-ghost use Rattle.serde_json.specs.Data.{Members};
-ghost use Rattle.serde_json.specs.View.{view, items_view};
-ghost use Rattle.conf_inherit.specs.EntryIndex.{HasPlaces, place_at, place_if, lower, lowest_of, lay_over_found};
-ghost use Rattle.conf_inherit.specs.Laying.{has_entry, lay_over};
+ghost use Rattle.std.specs.{Prelude.{◌≡◌, ℕ, List, IfOk, IfSome, OnOk, option_map}, List.IsAmong, Option.option_or};
+ghost use Rattle.serde_json.specs.{Data.Members, View.{view, items_view}};
+ghost use Rattle.conf_inherit.specs.{EntryIndex.{HasPlaces, place_at, place_if, lower, lowest_of, lay_over_found}, Laying.{has_entry, lay_over}};
 
 use serde_json::Value;
 use std::alloc::{AllocError, Global};

@@ -2,20 +2,10 @@
 #![tactic(auto, using(crate::proofs::LookedUp::one_look, crate::proofs::RoundLemmas::resolution_sound, crate::proofs::RefusalLemmas::resolved_or_refused))]
 
 ghost use Rattle.std.specs.Prelude.{◌≡◌, ◌↔◌, ◌⊎◌, ℕ, List, [], None, Ok, Err, true, false};
-ghost use Rattle.serde_json.specs.Data.{Data, Members, no_members};
-ghost use Rattle.serde_json.specs.Events.{members_len};
-ghost use Rattle.conf_tree.specs.Flaw.{Flaw};
-ghost use Rattle.conf_tree.specs.Walk.{IsTreeOf, refusal};
-ghost use Rattle.conf_tree.specs.declared.fault_kind.FaultKind.{FaultKind};
+ghost use Rattle.serde_json.specs.{Data.{Data, Members, no_members}, Events.members_len};
+ghost use Rattle.conf_tree.specs.{Flaw.Flaw, Walk.{IsTreeOf, refusal}, declared.fault_kind.FaultKind.FaultKind};
 ghost use Rattle.conf_table.specs.declared.place.Place.{Place};
-ghost use Rattle.conf_inherit.specs.Circle.{Walks};
-ghost use Rattle.conf_inherit.specs.Faults.{Leads, RefusalHolds};
-ghost use Rattle.conf_inherit.specs.Flaws.{flaws, type_flaws};
-ghost use Rattle.conf_inherit.specs.Laying.{lay};
-ghost use Rattle.conf_inherit.specs.Limits.{Fits, Exceeds, Inherits};
-ghost use Rattle.conf_inherit.specs.Named.{all_named, has};
-ghost use Rattle.conf_inherit.specs.Names.{NoClash};
-ghost use Rattle.conf_inherit.specs.Resolution.{Resolves, aliases_of, resolution};
+ghost use Rattle.conf_inherit.specs.{Circle.Walks, Faults.{Leads, RefusalHolds}, Flaws.{flaws, type_flaws}, Laying.lay, Limits.{Fits, Exceeds, Inherits}, Named.{all_named, has}, Names.NoClash, Resolution.{Resolves, aliases_of, resolution}};
 
 /// A configuration has at most one resolution.
 pub fn one_resolution()

@@ -1,12 +1,8 @@
 //! The limits of a field type, once it is resolved.
 ghost use Rattle.std.specs.Prelude.{◌≡◌, Ok, Err, None, IfOk, IfErr, MatchResult};
-ghost use Rattle.serde_json.specs.Data.{string};
-ghost use Rattle.serde_json.specs.View.{view, members_view};
-ghost use Rattle.conf_tree.specs.Flaw.{IsMemory};
-ghost use Rattle.conf_tree.specs.Reading.{Gives};
-ghost use Rattle.conf_tree.specs.Walk.{refusal};
-ghost use Rattle.conf_inherit.specs.Laying.{lay, resolved};
-ghost use Rattle.conf_inherit.specs.Limits.{fitting, passed, limit_flaws};
+ghost use Rattle.serde_json.specs.{Data.string, View.{view, members_view}};
+ghost use Rattle.conf_tree.specs.{Flaw.IsMemory, Reading.Gives, Walk.refusal};
+ghost use Rattle.conf_inherit.specs.{Laying.{lay, resolved}, Limits.{fitting, passed, limit_flaws}};
 
 use crate::field_places::names_alias;
 use crate::laying::lay;

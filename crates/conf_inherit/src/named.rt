@@ -1,8 +1,7 @@
 //! The aliases that a value names, and what is asked of them.
 ghost use Rattle.std.specs.Prelude.{◌≡◌};
 ghost use Rattle.serde_json.specs.View.{view, items_view, members_view};
-ghost use Rattle.conf_inherit.specs.Asked.{passes};
-ghost use Rattle.conf_inherit.specs.Named.{all_named, all_named_in_items, all_named_in_members};
+ghost use Rattle.conf_inherit.specs.{Asked.passes, Named.{all_named, all_named_in_items, all_named_in_members}};
 
 use crate::field_places::{names_alias, names_member_type, place_of_items, place_under};
 use crate::outcomes::AliasOutcomes;

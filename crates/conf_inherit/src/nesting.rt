@@ -1,8 +1,7 @@
 //! How deep objects and lists nest.
 ghost use Rattle.std.specs.Prelude.{◌≡◌};
 ghost use Rattle.serde_json.specs.View.{view, items_view, members_view};
-ghost use Rattle.conf_tree.specs.Reading.{Gives};
-ghost use Rattle.conf_tree.specs.Walk.{refusal};
+ghost use Rattle.conf_tree.specs.{Reading.Gives, Walk.refusal};
 ghost use Rattle.conf_inherit.specs.Nesting.{nests, items_nest, members_nest, deep_flaws, deep_item_flaws, deep_member_flaws};
 
 use conf_tree::{ConfFault, FaultKind};

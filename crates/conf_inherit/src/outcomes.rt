@@ -1,8 +1,7 @@
 //! What became of the aliases so far.
 ghost use Rattle.std.specs.Prelude.{◌≡◌, true};
 ghost use Rattle.serde_json.specs.View.{members_view};
-ghost use Rattle.conf_inherit.specs.Nesting.{members_nest};
-ghost use Rattle.conf_inherit.specs.declared.nesting.TheConstants.{ALIAS_LEVELS};
+ghost use Rattle.conf_inherit.specs.{Nesting.members_nest, declared.nesting.TheConstants.ALIAS_LEVELS};
 
 use crate::nesting::{ALIAS_LEVELS, nests};
 use crate::property::{has, put_property};

@@ -1,10 +1,7 @@
 //! The properties of JSON objects, by name.
 ghost use Rattle.std.specs.Prelude.{◌≡◌, string_bytes, IfOk, OnOk, option_map};
-ghost use Rattle.serde_json.specs.Data.{Data, object, member, no_members, put};
-ghost use Rattle.serde_json.specs.Find.{get, get_member};
-ghost use Rattle.serde_json.specs.View.{view, members_view};
-ghost use Rattle.conf_inherit.specs.Named.{has};
-ghost use Rattle.conf_inherit.specs.Spent.{spent};
+ghost use Rattle.serde_json.specs.{Data.{Data, object, member, no_members, put}, Find.{get, get_member}, View.{view, members_view}};
+ghost use Rattle.conf_inherit.specs.{Named.has, Spent.spent};
 
 use serde_json::{Map, Value};
 use std::alloc::{AllocError, Global};

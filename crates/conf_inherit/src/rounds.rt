@@ -1,15 +1,8 @@
 //! Resolves the aliases in the order in which they depend on one another.
-ghost use Rattle.std.specs.Prelude.{◌≡◌, false, Some, OnOk, IfOk, IfErr, option_map, string_bytes};
-ghost use Rattle.serde_json.specs.Data.{Members};
-ghost use Rattle.serde_json.specs.View.{view, members_view};
-ghost use Rattle.std.specs.BTreeMap.{btree_map_len};
+ghost use Rattle.std.specs.{Prelude.{◌≡◌, false, Some, OnOk, IfOk, IfErr, option_map, string_bytes}, BTreeMap.btree_map_len};
+ghost use Rattle.serde_json.specs.{Data.Members, View.{view, members_view}};
 ghost use Rattle.conf_tree.specs.Flaw.{IsMemory};
-ghost use Rattle.conf_inherit.specs.AliasOutcomes.{outcomes_of};
-ghost use Rattle.conf_inherit.specs.Flaws.{flaws};
-ghost use Rattle.conf_inherit.specs.Names.{NoClash};
-ghost use Rattle.conf_inherit.specs.Named.{all_named, has};
-ghost use Rattle.conf_inherit.specs.Rounds.{is_over, outcome, step, round, all_settled, rounds, no_outcomes};
-ghost use Rattle.conf_inherit.specs.Spent.{Spends, TurnsLeave};
+ghost use Rattle.conf_inherit.specs.{AliasOutcomes.outcomes_of, Flaws.flaws, Names.NoClash, Named.{all_named, has}, Rounds.{is_over, outcome, step, round, all_settled, rounds, no_outcomes}, Spent.{Spends, TurnsLeave}};
 
 use crate::flaws::check_value;
 use crate::limits::fit;

@@ -1,7 +1,6 @@
 use Rattle.std.proofs.Common.{◌≡◌}
 use Rattle.serde_json.specs.View.{members_view}
-use Rattle.conf_inherit.specs.AliasOutcomes.{outcomes_of}
-use Rattle.conf_inherit.specs.AliasFlaws.{all_alias_flaws}
+use Rattle.conf_inherit.specs.{AliasOutcomes.outcomes_of, AliasFlaws.all_alias_flaws}
 use Rattle.conf_inherit.proofs.alias_check.check_aliases.Given as goal
 
 -- the aliases that are left have all the flaws

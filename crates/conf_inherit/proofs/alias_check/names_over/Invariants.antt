@@ -1,8 +1,6 @@
 use Rattle.std.proofs.Common.{◌≡◌}
-use Rattle.serde_json.specs.Data.{no_members}
-use Rattle.serde_json.specs.View.{members_view}
-use Rattle.conf_inherit.specs.AliasOutcomes.{outcomes_of}
-use Rattle.conf_inherit.specs.AliasFlaws.{over_names}
+use Rattle.serde_json.{specs.Data.no_members, specs.View.members_view}
+use Rattle.conf_inherit.specs.{AliasOutcomes.outcomes_of, AliasFlaws.over_names}
 use Rattle.conf_inherit.proofs.alias_check.names_over.Given as goal
 
 -- the aliases that are left add what is missing

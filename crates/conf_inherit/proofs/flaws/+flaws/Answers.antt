@@ -1,14 +1,8 @@
-use Rattle.std.proofs.Common.{◌&&◌, ◌++◌, ℕ, List, Err, is_some, Some, string_bytes, inl, inr, sym, ap, ◌∙◌}
-use Rattle.std.proofs.lemmas.Result.{err_from_is_err_and}
-use Rattle.conf_tree.specs.Flaw.{Flaw, flaw_of, key, within}
-use Rattle.conf_tree.specs.Walk.{refusal}
-use Rattle.serde_json.specs.Data.{no_members}
-use Rattle.serde_json.specs.Find.{get_member}
-use Rattle.serde_json.specs.View.{view, members_view}
-use Rattle.conf_inherit.specs.Flaws.{own_flaws, base_flaws, flaws, inner_flaws, member_flaws}
-use Rattle.conf_inherit.specs.FieldPlaces.{place_under, is_entry}
+use Rattle.std.{proofs.Common.{◌&&◌, ◌++◌, ℕ, List, Err, is_some, Some, string_bytes, inl, inr, sym, ap, ◌∙◌}, proofs.lemmas.Result.err_from_is_err_and}
+use Rattle.conf_tree.{specs.Flaw.{Flaw, flaw_of, key, within}, specs.Walk.refusal}
+use Rattle.serde_json.{specs.Data.no_members, specs.Find.get_member, specs.View.{view, members_view}}
+use Rattle.conf_inherit.specs.{Flaws.{own_flaws, base_flaws, flaws, inner_flaws, member_flaws}, FieldPlaces.{place_under, is_entry}, SeenNames.seen_names}
 use Rattle.conf_inherit.proofs.FaultLemmas.{refused_first, refused_part, sound_part}
-use Rattle.conf_inherit.specs.SeenNames.{seen_names}
 use Rattle.conf_inherit.proofs.flaws.+flaws.Goals as goal
 
 pub check_flaws-returns-in_err-check_itself : goal.check_flaws-returns-in_err-check_itself

@@ -1,7 +1,6 @@
 use Rattle.std.proofs.Common.{◌≡◌, ◌&&◌, is_some, true, sym, ap, ◌∙◌}
 use Rattle.serde_json.specs.Find.{get_member}
-use Rattle.conf_inherit.specs.FieldPlaces.{is_entry}
-use Rattle.conf_inherit.specs.SeenNames.{seen_names}
+use Rattle.conf_inherit.specs.{FieldPlaces.is_entry, SeenNames.seen_names}
 use Rattle.conf_inherit.proofs.FaultLemmas.{looked_for}
 use Rattle.conf_inherit.proofs.flaws.is_taken.Goals as goal
 

@@ -1,8 +1,6 @@
 use Rattle.std.proofs.Common.{sym, ap, ◌∙◌}
-use Rattle.serde_json.specs.Data.{null, put}
-use Rattle.serde_json.specs.View.{members_view}
-use Rattle.conf_inherit.specs.Flaws.{mark_names}
-use Rattle.conf_inherit.specs.SeenNames.{members_named, seen_names}
+use Rattle.serde_json.{specs.Data.{null, put}, specs.View.members_view}
+use Rattle.conf_inherit.specs.{Flaws.mark_names, SeenNames.{members_named, seen_names}}
 use Rattle.conf_inherit.proofs.FaultLemmas.{noted}
 use Rattle.conf_inherit.proofs.flaws.mark.Goals as goal
 

@@ -1,7 +1,6 @@
 use Rattle.std.proofs.Common.{◌≡◌}
 use Rattle.serde_json.specs.View.{view, members_view}
-use Rattle.conf_inherit.specs.Flaws.{mark, mark_names}
-use Rattle.conf_inherit.specs.SeenNames.{seen_names}
+use Rattle.conf_inherit.specs.{Flaws.{mark, mark_names}, SeenNames.seen_names}
 use Rattle.conf_inherit.proofs.flaws.mark.Given as goal
 
 abbrev pub invariant-loop-name : goal.invariant-loop-name

@@ -1,7 +1,6 @@
 use Rattle.std.proofs.Common.{◌≡◌, drop}
 use Rattle.serde_json.specs.View.{items_view, members_view}
-use Rattle.conf_inherit.specs.Asked.{passes}
-use Rattle.conf_inherit.specs.Named.{all_named_in_items, all_named_in_members}
+use Rattle.conf_inherit.specs.{Asked.passes, Named.{all_named_in_items, all_named_in_members}}
 use Rattle.conf_inherit.proofs.named.+named.Given as goal
 
 -- the items that are left pass where all of them do

@@ -1,8 +1,6 @@
 use Rattle.std.proofs.Common.{◌≡◌, ◌+◌, ◌*◌, drop}
-use Rattle.serde_json.specs.Data.{no_members}
-use Rattle.serde_json.specs.View.{items_view, members_view}
-use Rattle.conf_inherit.specs.Places.{item_places, member_places}
-use Rattle.conf_inherit.specs.SeenNames.{seen_names}
+use Rattle.serde_json.{specs.Data.no_members, specs.View.{items_view, members_view}}
+use Rattle.conf_inherit.specs.{Places.{item_places, member_places}, SeenNames.seen_names}
 use Rattle.conf_inherit.proofs.places.+places.Given as goal
 
 abbrev pub decreases-check_places : goal.decreases-check_places

@@ -1,12 +1,8 @@
-use Rattle.std.proofs.Common.{◌≡◌, Ok, None, ap, sym, inl, inr, ◌∙◌}
-use Rattle.std.proofs.lemmas.Result.{err_from_is_err_and}
-use Rattle.serde_json.specs.Data.{Data, Members, no_members}
-use Rattle.serde_json.specs.View.{view, members_view}
+use Rattle.std.{proofs.Common.{◌≡◌, Ok, None, ap, sym, inl, inr, ◌∙◌}, proofs.lemmas.Result.err_from_is_err_and}
+use Rattle.serde_json.{specs.Data.{Data, Members, no_members}, specs.View.{view, members_view}}
 use Rattle.conf_tree.specs.Reading.{◌>>=◌}
 use Rattle.conf_table.specs.declared.place.Place.TheVariants as places
-use Rattle.conf_inherit.specs.Laying.{lay}
-use Rattle.conf_inherit.specs.Resolution.{if_shallow}
-use Rattle.conf_inherit.specs.Whole.{with_aliases, AreLaid}
+use Rattle.conf_inherit.specs.{Laying.lay, Resolution.if_shallow, Whole.{with_aliases, AreLaid}}
 use Rattle.conf_inherit.proofs.PutLemmas.{laid_with, laid_bare, shallow_answer}
 use Rattle.conf_inherit.proofs.resolution.lay_all.Goals as goal
 

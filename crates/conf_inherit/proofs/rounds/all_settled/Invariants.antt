@@ -1,7 +1,6 @@
 use Rattle.std.proofs.Common.{◌≡◌}
 use Rattle.serde_json.specs.View.{members_view}
-use Rattle.conf_inherit.specs.AliasOutcomes.{outcomes_of}
-use Rattle.conf_inherit.specs.Rounds.{all_settled}
+use Rattle.conf_inherit.specs.{AliasOutcomes.outcomes_of, Rounds.all_settled}
 use Rattle.conf_inherit.proofs.rounds.all_settled.Given as goal
 
 -- the aliases that are left are settled where all of them are

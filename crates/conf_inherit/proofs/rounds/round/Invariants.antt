@@ -1,7 +1,6 @@
 use Rattle.std.proofs.Common.{◌≡◌}
 use Rattle.serde_json.specs.View.{members_view}
-use Rattle.conf_inherit.specs.AliasOutcomes.{outcomes_of}
-use Rattle.conf_inherit.specs.Rounds.{round}
+use Rattle.conf_inherit.specs.{AliasOutcomes.outcomes_of, Rounds.round}
 use Rattle.conf_inherit.proofs.rounds.round.Given as goal
 
 -- what is left of the round leads to what the whole round does

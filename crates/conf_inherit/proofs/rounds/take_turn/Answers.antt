@@ -1,12 +1,7 @@
 use Rattle.std.proofs.Common.{◌≡◌, Some, true, sym, ap, ◌∙◌, subst, string_bytes}
-use Rattle.serde_json.specs.Find.{get_member}
-use Rattle.serde_json.specs.View.{view, members_view}
-use Rattle.conf_inherit.specs.AliasOutcomes.{outcomes_of}
-use Rattle.conf_inherit.specs.Named.{has}
-use Rattle.conf_inherit.specs.Rounds.{Outcomes}
-use Rattle.conf_inherit.specs.Spent.{TurnsLeave}
-use Rattle.conf_inherit.proofs.SpentLemmas.{turn_leaves, spent_leaves}
-use Rattle.conf_inherit.proofs.rounds.take_turn.Goals.{then-has, else-has}
+use Rattle.serde_json.{specs.Find.get_member, specs.View.{view, members_view}}
+use Rattle.conf_inherit.specs.{AliasOutcomes.outcomes_of, Named.has, Rounds.Outcomes, Spent.TurnsLeave}
+use Rattle.conf_inherit.proofs.{SpentLemmas.{turn_leaves, spent_leaves}, rounds.take_turn.Goals.{then-has, else-has}}
 use Rattle.conf_inherit.proofs.rounds.take_turn.Goals as goal
 
 pub returns-clause-left : goal.returns-clause-left

@@ -1,7 +1,5 @@
-use Rattle.serde_json.specs.Data.{Members}
-use Rattle.serde_json.specs.View.{members_view}
-use Rattle.conf_inherit.specs.AliasOutcomes.{outcomes_of}
-use Rattle.conf_inherit.specs.Spent.{TurnsLeave}
+use Rattle.serde_json.{specs.Data.Members, specs.View.members_view}
+use Rattle.conf_inherit.specs.{AliasOutcomes.outcomes_of, Spent.TurnsLeave}
 use Rattle.conf_inherit.proofs.rounds.take_turns.Given as goal
 
 -- the turns so far lead on from where the first one began

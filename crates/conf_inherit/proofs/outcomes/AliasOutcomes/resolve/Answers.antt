@@ -1,11 +1,7 @@
 use Rattle.std.proofs.Common.{◌≡◌, true, true≢false, string_bytes, ap, sym, ◌∙◌, subst}
-use Rattle.serde_json.specs.Data.{Members}
-use Rattle.serde_json.specs.View.{view, members_view}
-use Rattle.conf_inherit.specs.declared.nesting.TheConstants.{ALIAS_LEVELS}
-use Rattle.conf_inherit.specs.Nesting.{members_nest}
-use Rattle.conf_inherit.specs.Rounds.{Outcomes}
-use Rattle.conf_inherit.proofs.SizeLemmas.{nest_put}
-use Rattle.conf_inherit.proofs.outcomes.AliasOutcomes.resolve.Goals.{then-self, else-self}
+use Rattle.serde_json.{specs.Data.Members, specs.View.{view, members_view}}
+use Rattle.conf_inherit.specs.{declared.nesting.TheConstants.ALIAS_LEVELS, Nesting.members_nest, Rounds.Outcomes}
+use Rattle.conf_inherit.proofs.{SizeLemmas.nest_put, outcomes.AliasOutcomes.resolve.Goals.{then-self, else-self}}
 use Rattle.conf_inherit.proofs.outcomes.AliasOutcomes.resolve.Goals as goal
 
 pub returns : goal.returns
