@@ -11,9 +11,7 @@ use crate::features::header;
 use crate::lookup::{object, object_or, word};
 use crate::stream_type::stream_types;
 use conf_values::{order_word, parsed};
-use ctf_types::{
-    ByteOrder, ClockType, Config, EnvironmentEntry, HeaderFeatures, ListOf, StreamType,
-};
+use ctf_types::{ByteOrder, Config};
 use serde_json::{Map, Value};
 use std::alloc::{AllocError, Global};
 use uuid::Uuid;
