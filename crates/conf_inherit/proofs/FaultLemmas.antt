@@ -250,59 +250,79 @@ none_seen n h = true≢false (sym h)
 abbrev pub BasesHold : Members → Option Members → Type 0
 BasesHold al rs = (s : Place) (k : List ℕ) (d : Data) (f : Flaw) → Among f (base_flaws rs s k d) → FlawHolds al (place_under s k) d f
 
-module _ (al : Members) (rs : Option Members) (bases : BasesHold al rs) where
+-- what is told of a flaw in a part is told of it in the whole, and it is told of each flaw that a value has by itself
+pub record IsTold (al : Members) (rs : Option Members) (P : Place → Data → Flaw → Type 0) : Type 0 where
+  pub in_object : (s : Place) (k : List ℕ) (d : Data) (ms : Members) (f : Flaw) → HasMember k d ms → P (place_under s k) d f → P s (object ms) (within (key k) f)
+  pub in_list : (s : Place) (i : ℕ) (d : Data) (es : Items) (f : Flaw) → get_item i es ≡ Some d → P (place_of_items s) d f → P s (array es) (within (index i) f)
+  pub own : (s : Place) (taken : Bool) (v : Data) (f : Flaw) → Among f (own_flaws al s taken v) → P s v f ⊎ ((f ≡ here NameClash) × (taken ≡ true))
+  pub clash : (s : Place) (es : Items) (i j : ℕ) (n : List ℕ) → lists_members s ≡ true → j < i → HasEntry j n es → HasEntry i n es → P s (array es) (within (index i) (within (key n) (here NameClash)))
+  pub bases : (s : Place) (k : List ℕ) (d : Data) (f : Flaw) → Among f (base_flaws rs s k d) → P (place_under s k) d f
+
+pub holds_told : (al : Members) (rs : Option Members) → BasesHold al rs → IsTold al rs (FlawHolds al)
+holds_told al rs bases = record {
+  in_object = holds_in_object al;
+  in_list = holds_in_list al;
+  own = own_holds al;
+  clash = λ s es i j n lists before first second. inr (inl (refl, ([], s, es, j, i, n, refl, (refl, refl), lists, before, first, second)));
+  bases = bases;
+}
+
+module _ (al : Members) (rs : Option Members) (P : Place → Data → Flaw → Type 0) (told : IsTold al rs P) where
+  of_itself : (s : Place) (v : Data) (f : Flaw) → Among f (own_flaws al s false v) → P s v f
+  of_itself s v f h = elim (told.own s false v f h) [ inl x ↦ x | inr bad ↦ absurd (true≢false (sym bad.1)) ]
+
   -- a flaw of an item, or in it
   item_at : (s : Place) (es : Items) (i : ℕ) (seen : Members) (e : Data) (f : Flaw) → get_item i es ≡ Some e → Seen es i seen
       → (g : Flaw) × (f ≡ within (index i) g) × Among g (own_flaws al (place_of_items s) false e ++ inner_flaws al rs (place_of_items s) seen e)
-      → ((g : Flaw) → Among g (inner_flaws al rs (place_of_items s) seen e) → FlawHolds al (place_of_items s) e g ⊎ Taken (place_of_items s) seen e g)
-      → FlawHolds al s (array es) f
+      → ((g : Flaw) → Among g (inner_flaws al rs (place_of_items s) seen e) → P (place_of_items s) e g ⊎ Taken (place_of_items s) seen e g)
+      → P s (array es) f
   item_at s es i seen e f is before (g, same_f, a) deeper = first_or_rest g (own_flaws al (place_of_items s) false e) (inner_flaws al rs (place_of_items s) seen e) a
-      (λ b. holds (flaw_of_itself_holds al (place_of_items s) e g b))
+      (λ b. holds (of_itself (place_of_items s) e g b))
       (λ b. elim (deeper g b) [ inl x ↦ holds x | inr taken ↦ clash taken ])
     where
-      holds : FlawHolds al (place_of_items s) e g → FlawHolds al s (array es) f
-      holds x = subst (FlawHolds al s (array es)) (sym same_f) (holds_in_list al s i e es g is x)
+      holds : P (place_of_items s) e g → P s (array es) f
+      holds x = subst (P s (array es)) (sym same_f) (told.in_list s i e es g is x)
 
-      clash : Taken (place_of_items s) seen e g → FlawHolds al s (array es) f
+      clash : Taken (place_of_items s) seen e g → P s (array es) f
       clash (n, d, ms, v, m, entry, b, flaw) =
           let (j, lt, first) = before n b in
           let all : f ≡ within (index i) (within (key n) (here NameClash)) = same_f ∙ ap (within (index i)) flaw in
-          inr (inl (ap (λ x. x.kind) all, ([], s, es, j, i, n, ap (λ x. x.path) all, (refl, refl), entry_list s entry, lt, first, (ms, d, is ∙ ap Some v, m))))
+          subst (P s (array es)) (sym all) (told.clash s es i j n (entry_list s entry) lt first (ms, d, is ∙ ap Some v, m))
 
   -- a flaw of a property, or in it
   member_at : (s : Place) (ms : Members) (seen : Members) (k : List ℕ) (d : Data) (f : Flaw) → HasMember k d ms
       → (g : Flaw) × (f ≡ within (key k) g) × Among g ((own_flaws al (place_under s k) (is_entry s && has seen k) d ++ inner_flaws al rs (place_under s k) no_members d) ++ base_flaws rs s k d)
-      → ((g : Flaw) → Among g (inner_flaws al rs (place_under s k) no_members d) → FlawHolds al (place_under s k) d g ⊎ Taken (place_under s k) no_members d g)
-      → FlawHolds al s (object ms) f ⊎ Taken s seen (object ms) f
+      → ((g : Flaw) → Among g (inner_flaws al rs (place_under s k) no_members d) → P (place_under s k) d g ⊎ Taken (place_under s k) no_members d g)
+      → P s (object ms) f ⊎ Taken s seen (object ms) f
   member_at s ms seen k d f m (g, same_f, a) deeper =
       let own = own_flaws al (place_under s k) (is_entry s && has seen k) d in
       let inner = inner_flaws al rs (place_under s k) no_members d in
       first_or_rest g (own ++ inner) (base_flaws rs s k d) a
       (λ b. first_or_rest g own inner b
-      (λ c. elim (own_holds al (place_under s k) (is_entry s && has seen k) d g c) [ inl x ↦ inl (holds x) | inr (clash, both) ↦ inr (taken clash (and_parts (is_entry s) (has seen k) both)) ])
+      (λ c. elim (told.own (place_under s k) (is_entry s && has seen k) d g c) [ inl x ↦ inl (holds x) | inr (clash, both) ↦ inr (taken clash (and_parts (is_entry s) (has seen k) both)) ])
       (λ c. elim (deeper g c) [ inl x ↦ inl (holds x) | inr bad ↦ absurd (none_seen bad.0 bad.6) ]))
-      (λ b. inl (holds (bases s k d g b)))
+      (λ b. inl (holds (told.bases s k d g b)))
     where
-      holds : FlawHolds al (place_under s k) d g → FlawHolds al s (object ms) f
-      holds x = subst (FlawHolds al s (object ms)) (sym same_f) (holds_in_object al s k d ms g m x)
+      holds : P (place_under s k) d g → P s (object ms) f
+      holds x = subst (P s (object ms)) (sym same_f) (told.in_object s k d ms g m x)
 
       taken : g ≡ here NameClash → (is_entry s ≡ true) × (has seen k ≡ true) → Taken s seen (object ms) f
       taken clash both = (k, d, ms, refl, m, both.0, both.1, same_f ∙ ap (within (key k)) clash)
 
   mutual
-    inner_holds : (v : Data) (s : Place) (seen : Members) (f : Flaw) → Among f (inner_flaws al rs s seen v) → FlawHolds al s v f ⊎ Taken s seen v f
+    inner_holds : (v : Data) (s : Place) (seen : Members) (f : Flaw) → Among f (inner_flaws al rs s seen v) → P s v f ⊎ Taken s seen v f
     inner_holds (array es) s seen f h = inl (items_hold es s es 0 no_members f (λ j d g. let same : j ≡ 0 + j = omega arith in subst (λ x. get_item x es ≡ Some d) same g) (λ n b. absurd (none_seen n b)) h)
     inner_holds (object ms) s seen f h = members_hold ms s ms seen f (λ k d m. m) h
     inner_holds _ s seen f h = absurd h
 
-    items_hold : (rest : Items) (s : Place) (es : Items) (i : ℕ) (seen : Members) (f : Flaw) → Aligned es i rest → Seen es i seen → Among f (item_flaws al rs s i seen rest) → FlawHolds al s (array es) f
+    items_hold : (rest : Items) (s : Place) (es : Items) (i : ℕ) (seen : Members) (f : Flaw) → Aligned es i rest → Seen es i seen → Among f (item_flaws al rs s i seen rest) → P s (array es) f
     items_hold no_items s es i seen f al' before h = absurd h
     items_hold (item e rest) s es i seen f al' before h =
         first_or_rest f (map (within (index i)) (own_flaws al (place_of_items s) false e ++ inner_flaws al rs (place_of_items s) seen e)) (item_flaws al rs s (suc i) (mark e seen) rest) h
         (λ a. item_at s es i seen e f (aligned_here es i e rest al') before (among_within (index i) f (own_flaws al (place_of_items s) false e ++ inner_flaws al rs (place_of_items s) seen e) a) (λ g b. inner_holds e (place_of_items s) seen g b))
         (λ a. items_hold rest s es (suc i) (mark e seen) f (aligned_next es i e rest al') (seen_next_at es i e seen (aligned_here es i e rest al') before) a)
 
-    members_hold : (rest : Members) (s : Place) (ms : Members) (seen : Members) (f : Flaw) → ((k : List ℕ) (d : Data) → HasMember k d rest → HasMember k d ms) → Among f (member_flaws al rs s seen rest) → FlawHolds al s (object ms) f ⊎ Taken s seen (object ms) f
+    members_hold : (rest : Members) (s : Place) (ms : Members) (seen : Members) (f : Flaw) → ((k : List ℕ) (d : Data) → HasMember k d rest → HasMember k d ms) → Among f (member_flaws al rs s seen rest) → P s (object ms) f ⊎ Taken s seen (object ms) f
     members_hold no_members s ms seen f within_all h = absurd h
     members_hold (member k d rest) s ms seen f within_all h =
         first_or_rest f (map (within (key k)) ((own_flaws al (place_under s k) (is_entry s && has seen k) d ++ inner_flaws al rs (place_under s k) no_members d) ++ base_flaws rs s k d)) (member_flaws al rs s seen rest) h
@@ -310,17 +330,17 @@ module _ (al : Members) (rs : Option Members) (bases : BasesHold al rs) where
         (λ a. members_hold rest s ms seen f (λ q e m. within_all q e (inr m)) a)
 
   -- each flaw of a value, with no entry before it, holds
-  pub flaw_holds : (s : Place) (v : Data) (f : Flaw) → Among f (own_flaws al s false v ++ inner_flaws al rs s no_members v) → FlawHolds al s v f
-  flaw_holds s v f h = first_or_rest f (own_flaws al s false v) (inner_flaws al rs s no_members v) h (flaw_of_itself_holds al s v f)
+  pub flaw_holds : (s : Place) (v : Data) (f : Flaw) → Among f (own_flaws al s false v ++ inner_flaws al rs s no_members v) → P s v f
+  flaw_holds s v f h = first_or_rest f (own_flaws al s false v) (inner_flaws al rs s no_members v) h (of_itself s v f)
       (λ a. elim (inner_holds v s no_members f a) [ inl holds ↦ holds | inr taken ↦ absurd (none_seen taken.0 taken.6) ])
 
   -- a flaw of an entry, with the names of the entries before it, holds, and so does what else is wrong in it
   pub entry_holds : (s : Place) (es : Items) (i : ℕ) (seen : Members) (e : Data) (f : Flaw) (more : List Flaw) → get_item i es ≡ Some e → Seen es i seen
       → (g : Flaw) × (f ≡ within (index i) g) × Among g ((own_flaws al (place_of_items s) false e ++ inner_flaws al rs (place_of_items s) seen e) ++ more)
-      → ((g : Flaw) → Among g more → FlawHolds al (place_of_items s) e g) → FlawHolds al s (array es) f
+      → ((g : Flaw) → Among g more → P (place_of_items s) e g) → P s (array es) f
   entry_holds s es i seen e f more is before (g, same_f, a) deeper = first_or_rest g (own_flaws al (place_of_items s) false e ++ inner_flaws al rs (place_of_items s) seen e) more a
       (λ b. item_at s es i seen e f is before (g, same_f, b) (λ x c. inner_holds e (place_of_items s) seen x c))
-      (λ b. subst (FlawHolds al s (array es)) (sym same_f) (holds_in_list al s i e es g is (deeper g b)))
+      (λ b. subst (P s (array es)) (sym same_f) (told.in_list s i e es g is (deeper g b)))
 
 -- The names of aliases in a value: where one test passes and another doesn't, and that a value without a flaw
 -- names aliases alone.

@@ -5,7 +5,7 @@ use Rattle.conf_tree.{specs.Flaw.{key, index, within, Flaw, here}, specs.Walk.{H
 use Rattle.conf_table.specs.declared.place.Place.{Place}
 use Rattle.conf_table.specs.declared.place.Place.TheVariants as places
 use Rattle.conf_inherit.specs.{FieldPlaces.{place_under, place_of_items, names_alias, names_member_type, is_base_name, lists_members, is_entry, field_type_name}, Flaws.{is_wrong, is_unknown, own_flaws, base_flaws, inner_flaws, item_flaws, member_flaws, type_flaws, mark, flaws}, Laying.{members_below, items_below, lay_text, has_entry, lay, lay_base, lay_members, lay_over, lay_over_entry, lay_over_member, lay_new, lay_new_entry, lay_new_member}, Limits.{fitting, passed, limit_flaws, max_values, max_levels, Fits, Exceeds, Inherits, InheritsInItems, InheritsInMembers}, Named.{all_named, all_named_in_items, all_named_in_members, has}, Names.{join_items, map_items}, Faults.Leads, Nesting.nests, Size.size}
-use Rattle.conf_inherit.proofs.{FaultLemmas.{named_along, own_is, same_part, part_empty, rest_empty, front_empty, back_empty, Among, refused_among, among_within, first_or_rest, Aligned, aligned_here, aligned_next}, LayingLemmas.same_function, FieldPlaceLemmas.{list_place, entry_place, base_place, alias_place}}
+use Rattle.conf_inherit.proofs.{FaultLemmas.{named_along, own_is, same_part, part_empty, rest_empty, front_empty, back_empty, Among, refused_among, IsTold, flaw_holds, among_within, first_or_rest, Aligned, aligned_here, aligned_next}, LayingLemmas.same_function, FieldPlaceLemmas.{list_place, entry_place, base_place, alias_place}}
 use borrow.Author.Tests.{ltb-true}
 
 -- the flaws of a value are the same for aliases of the same names, where those of each value of a `$inherit` are
@@ -333,52 +333,22 @@ module _ (done : Members) where
     base_limit : (s : Place) (k : List ℕ) (d : Data) (f : Flaw) → Among f (base_flaws (Some done) s k d) → LimitAt (place_under s k) d f
     base_limit s k d f h = elim (cases_Bool (is_base_name s k)) [ inl is ↦ subst (λ t. LimitAt t d f) (sym (base_place s k is)) (limit_at d f (rw is at h)) | inr is ↦ absurd (rw is at h) ]
 
-    in_member : (s : Place) (k : List ℕ) (e : Data) (ms : Members) (f g : Flaw) → HasMember k e ms → f ≡ within (key k) g → LimitAt (place_under s k) e g → LimitAt s (object ms) f
-    in_member s k e ms f g m is (d, leads, named, past) = subst (LimitAt s (object ms)) (sym is) (d, (ms, e, refl, m, leads), named, past)
+    abbrev LimitOf : Place → Data → Flaw → Type 0
+    LimitOf s v f = is_limit f.kind ≡ true → LimitAt s v f
 
-    in_item : (s : Place) (i : ℕ) (e : Data) (es : Items) (f g : Flaw) → get_item i es ≡ Some e → f ≡ within (index i) g → LimitAt (place_of_items s) e g → LimitAt s (array es) f
-    in_item s i e es f g m is (d, leads, named, past) = subst (LimitAt s (array es)) (sym is) (d, (es, e, refl, m, leads), named, past)
-
-    mutual
-      inner_limit : (v : Data) (s : Place) (seen : Members) (f : Flaw) → Among f (inner_flaws al (Some done) s seen v) → is_limit f.kind ≡ true → LimitAt s v f
-      inner_limit (array es) s seen f h is = item_limit es s es 0 no_members f (λ j d g. let same : j ≡ 0 + j = omega arith in subst (λ x. get_item x es ≡ Some d) same g) h is
-      inner_limit (object ms) s seen f h is = member_limit ms s ms seen f (λ k d m. m) h is
-      inner_limit _ s seen f h is = absurd h
-
-      item_limit : (rest : Items) (s : Place) (es : Items) (i : ℕ) (seen : Members) (f : Flaw) → Aligned es i rest → Among f (item_flaws al (Some done) s i seen rest) → is_limit f.kind ≡ true → LimitAt s (array es) f
-      item_limit no_items s es i seen f al' h is = absurd h
-      item_limit (item e rest) s es i seen f al' h is =
-          let t = place_of_items s in
-          let own = own_flaws al t false e in
-          let inner = inner_flaws al (Some done) t seen e in
-          first_or_rest f (map (within (index i)) (own ++ inner)) (item_flaws al (Some done) s (suc i) (mark e seen) rest) h
-          (λ a. let (g, e', b) = among_within (index i) f (own ++ inner) a in
-          let kind : is_limit g.kind ≡ true = ap (λ x. is_limit x.kind) (sym e') ∙ is in
-          in_item s i e es f g (aligned_here es i e rest al') e' (first_or_rest g own inner b (λ c. absurd (own_limit t false e g c kind)) (λ c. inner_limit e t seen g c kind)))
-          (λ a. item_limit rest s es (suc i) (mark e seen) f (aligned_next es i e rest al') a is)
-
-      member_limit : (rest : Members) (s : Place) (ms : Members) (seen : Members) (f : Flaw) → ((k : List ℕ) (d : Data) → HasMember k d rest → HasMember k d ms) → Among f (member_flaws al (Some done) s seen rest) → is_limit f.kind ≡ true → LimitAt s (object ms) f
-      member_limit no_members s ms seen f sub h is = absurd h
-      member_limit (member k e rest) s ms seen f sub h is =
-          let t = place_under s k in
-          let taken = is_entry s && is_some (get_member k seen) in
-          let own = own_flaws al t taken e in
-          let inner = inner_flaws al (Some done) t no_members e in
-          first_or_rest f (map (within (key k)) ((own ++ inner) ++ base_flaws (Some done) s k e)) (member_flaws al (Some done) s seen rest) h
-          (λ a. let (g, e', b) = among_within (key k) f ((own ++ inner) ++ base_flaws (Some done) s k e) a in
-          let kind : is_limit g.kind ≡ true = ap (λ x. is_limit x.kind) (sym e') ∙ is in
-          in_member s k e ms f g (sub k e (inl (refl, refl))) e'
-          (first_or_rest g (own ++ inner) (base_flaws (Some done) s k e) b
-          (λ c. first_or_rest g own inner c (λ d. absurd (own_limit t taken e g d kind)) (λ d. inner_limit e t no_members g d kind))
-          (λ c. base_limit s k e g c)))
-          (λ a. member_limit rest s ms seen f (λ q d m. sub q d (inr m)) a is)
+    limit_told : IsTold al (Some done) LimitOf
+    limit_told = record {
+      in_object = λ s k e ms g m at is. let (d, leads, named, past) = at is in (d, (ms, e, refl, m, leads), named, past);
+      in_list = λ s i e es g m at is. let (d, leads, named, past) = at is in (d, (es, e, refl, m, leads), named, past);
+      own = λ s taken v f h. inl (λ is. absurd (own_limit s taken v f h is));
+      clash = λ s es i j n lists before first second is. absurd (true≢false (sym is));
+      bases = λ s k d f h is. base_limit s k d f h;
+    }
 
     -- a type that is refused for a limit leads to one that passes it
     pub refused_limit : (v : Data) (f : Flaw) → refusal (type_flaws al done places.FieldType v) ≡ Err f → (f.kind ≡ Limit) ⊎ (f.kind ≡ TooDeep) → LimitAt places.FieldType v f
     refused_limit v f h named =
         let is : is_limit f.kind ≡ true = elim named [ inl e ↦ ap is_limit e | inr e ↦ ap is_limit e ] in
-        let own = own_flaws al places.FieldType false v in
-        let inner = inner_flaws al (Some done) places.FieldType no_members v in
-        first_or_rest f (own ++ inner) (limit_flaws done places.FieldType v) (refused_among (type_flaws al done places.FieldType v) f h)
-        (λ a. first_or_rest f own inner a (λ b. absurd (own_limit places.FieldType false v f b is)) (λ b. inner_limit v places.FieldType no_members f b is))
+        first_or_rest f (flaws al (Some done) places.FieldType false no_members v) (limit_flaws done places.FieldType v) (refused_among (type_flaws al done places.FieldType v) f h)
+        (λ a. flaw_holds al (Some done) LimitOf limit_told places.FieldType v f a is)
         (λ a. limit_at v f a)

@@ -6,7 +6,7 @@ use Rattle.conf_tree.{specs.Flaw.{Flaw, key, index, here, within, Place as Step}
 use Rattle.conf_table.{specs.declared.place.Place.Place, specs.Table.{content_under, entries_of, rows_of, place_in}}
 use Rattle.conf_table.specs.declared.place.Place.TheVariants as places
 use Rattle.conf_inherit.specs.{FieldPlaces.{field_place, place_under, place_of_items, names_alias, names_member_type, is_base_name, lists_extra_members, leads_on, lists_members, is_entry}, AliasFlaws.{over_names, first_or_circle, alias_flaws, all_alias_flaws}, Circle.Walks, SameFlaw.is_same_flaw, Faults.{Passes, FlawHolds, RefusalHolds, Leads, HasEntry, Clashes, ListsTooMany, Tells}, Flaws.{own_flaws, flaws, type_flaws, mark}, Looks.{AreResolved, Looks}, Ready.Names, Places.{too_many, place_flaws, inner_places, item_places, member_places, max_extra_members}, Laying.lay, Names.NoClash, Resolution.{members_or_none, trace_name, type_name, aliases_name, aliases_of, in_aliases, from_aliases, if_shallow, resolution, Resolves}, Nesting.{deep_flaws, PassesDepth}, Named.{all_named, has}, Rounds.Outcomes, Limits.{Exceeds, fitting, limit_flaws}}
-use Rattle.conf_inherit.proofs.{SizeLemmas.{deep_holds, depth_excluded}, SoundPlaces.{place_of_type, place_of_member, place_of_list, place_of_other, too_many_excluded, flawless, PartSound, part_sound, member_sound, item_sound, SoundAt, sound_along}, RoundLemmas.{rounds_of, TreeSound, tree_sound, laid_resolves, resolution_sound, no_flaws, circle_refused, rounds_resolved, rounds_reached, all_done}, LimitLemmas.{past_at, judged, apart_fits}, FieldPlaceLemmas.{trace_place, trace_type_place, aliases_place, alias_field, base_place, list_place}, FaultLemmas.{own_sound, Among, refused_among, BasesHold, among_within, holds_in_object, entry_holds, flaw_of_itself_holds, flaw_holds, first_or_rest, Aligned, aligned_here, aligned_next, Seen, seen_next_at, none_seen, ready, only}, LayingLemmas.{has_found, AllEntries, found_each}, TurnLemmas.{IsOpen, rounds_open}, LaysOver.lays, LookedUp.{one_look, both_there, read_in_order, aliases_apart}, PlacesFit.{sound_named, all_fit}}
+use Rattle.conf_inherit.proofs.{SizeLemmas.{deep_holds, depth_excluded}, SoundPlaces.{place_of_type, place_of_member, place_of_list, place_of_other, too_many_excluded, flawless, PartSound, part_sound, member_sound, item_sound, SoundAt, sound_along}, RoundLemmas.{rounds_of, TreeSound, tree_sound, laid_resolves, resolution_sound, no_flaws, circle_refused, rounds_resolved, rounds_reached, all_done}, LimitLemmas.{past_at, judged, apart_fits}, FieldPlaceLemmas.{trace_place, trace_type_place, aliases_place, alias_field, base_place, list_place}, FaultLemmas.{own_sound, Among, refused_among, BasesHold, holds_told, among_within, holds_in_object, entry_holds, flaw_of_itself_holds, flaw_holds, first_or_rest, Aligned, aligned_here, aligned_next, Seen, seen_next_at, none_seen, ready, only}, LayingLemmas.{has_found, AllEntries, found_each}, TurnLemmas.{IsOpen, rounds_open}, LaysOver.lays, LookedUp.{one_look, both_there, read_in_order, aliases_apart}, PlacesFit.{sound_named, all_fit}}
 
 module _ (al : Members) where
   -- a limit that a value passes holds at it
@@ -33,7 +33,7 @@ module _ (al : Members) where
     ]
 
     type_holds : (s : Place) (v : Data) (f : Flaw) → Names s → Among f (type_flaws al done s v) → FlawHolds al s v f
-    type_holds s v f names h = first_or_rest f (flaws al (Some done) s false no_members v) (limit_flaws done s v) h (flaw_holds al (Some done) bases_hold s v f) (limit_here s v f names)
+    type_holds s v f names h = first_or_rest f (flaws al (Some done) s false no_members v) (limit_flaws done s v) h (flaw_holds al (Some done) (FlawHolds al) (holds_told al (Some done) bases_hold) s v f) (limit_here s v f names)
 
     -- a flaw of its own holds, and else the circle is told of
     own_or_circle : (s : Place) (w : Data) (f : Flaw) → Names s → (own over : Result ⊤ Flaw) → refusal (type_flaws al done s w) ≡ own → Among f (first_or_circle own over) → FlawHolds al s w f ⊎ (f ≡ here InheritCycle)
@@ -113,7 +113,7 @@ module _ (al : Members) where
       items_hold (item e rest) s es i seen f al' before h =
           let t = place_of_items s in
           first_or_rest f (map (within (index i)) (flaws al (Some done) t false seen e ++ inner_places al done t e)) (item_places al done s (suc i) (mark e seen) rest) h
-          (λ a. entry_holds al (Some done) (bases_hold done known) s es i seen e f (inner_places al done t e) (aligned_here es i e rest al') before (among_within (index i) f (flaws al (Some done) t false seen e ++ inner_places al done t e) a) (λ g b. places_hold e t g b))
+          (λ a. entry_holds al (Some done) (FlawHolds al) (holds_told al (Some done) (bases_hold done known)) s es i seen e f (inner_places al done t e) (aligned_here es i e rest al') before (among_within (index i) f (flaws al (Some done) t false seen e ++ inner_places al done t e) a) (λ g b. places_hold e t g b))
           (λ a. items_hold rest s es (suc i) (mark e seen) f (aligned_next es i e rest al') (seen_next_at es i e seen (aligned_here es i e rest al') before) a)
 
       members_hold : (rest : Members) (s : Place) (ms : Members) (f : Flaw) → ((k : List ℕ) (d : Data) → HasMember k d rest → HasMember k d ms) → Among f (member_places al done s rest) → FlawHolds al s (object ms) f
