@@ -207,10 +207,6 @@ module _ (al : Members) where
     | inr (inr clash) ↦ inr clash
   ]
 
-  -- a flaw that a value has by itself holds
-  pub flaw_of_itself_holds : (s : Place) (v : Data) (f : Flaw) → Among f (own_flaws al s false v) → FlawHolds al s v f
-  flaw_of_itself_holds s v f h = elim (own_holds s false v f h) [ inl holds ↦ holds | inr bad ↦ absurd (true≢false (sym bad.1)) ]
-
 -- the name of an entry that one before it has
 abbrev Taken : Place → Members → Data → Flaw → Type 0
 Taken s seen v f = (n : List ℕ) × (d : Data) × (ms : Members) × (v ≡ object ms) × HasMember n d ms × (is_entry s ≡ true) × (has seen n ≡ true) × (f ≡ within (key n) (here NameClash))
@@ -268,7 +264,8 @@ holds_told al rs bases = record {
 }
 
 module _ (al : Members) (rs : Option Members) (P : Place → Data → Flaw → Type 0) (told : IsTold al rs P) where
-  of_itself : (s : Place) (v : Data) (f : Flaw) → Among f (own_flaws al s false v) → P s v f
+  -- it is told of a flaw that a value has by itself
+  pub of_itself : (s : Place) (v : Data) (f : Flaw) → Among f (own_flaws al s false v) → P s v f
   of_itself s v f h = elim (told.own s false v f h) [ inl x ↦ x | inr bad ↦ absurd (true≢false (sym bad.1)) ]
 
   -- a flaw of an item, or in it

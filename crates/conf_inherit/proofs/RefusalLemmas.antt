@@ -6,7 +6,7 @@ use Rattle.conf_tree.{specs.Flaw.{Flaw, key, index, here, within, Place as Step}
 use Rattle.conf_table.{specs.declared.place.Place.Place, specs.Table.{content_under, entries_of, rows_of, place_in}}
 use Rattle.conf_table.specs.declared.place.Place.TheVariants as places
 use Rattle.conf_inherit.specs.{FieldPlaces.{field_place, place_under, place_of_items, names_alias, names_member_type, is_base_name, lists_extra_members, leads_on, lists_members, is_entry}, AliasFlaws.{over_names, first_or_circle, alias_flaws, all_alias_flaws}, Circle.Walks, SameFlaw.is_same_flaw, Faults.{Passes, FlawHolds, RefusalHolds, Leads, HasEntry, Clashes, ListsTooMany, Tells}, Flaws.{own_flaws, flaws, type_flaws, mark}, Looks.{AreResolved, Looks}, Ready.Names, Places.{too_many, place_flaws, inner_places, item_places, member_places, max_extra_members}, Laying.lay, Names.NoClash, Resolution.{members_or_none, trace_name, type_name, aliases_name, aliases_of, in_aliases, from_aliases, if_shallow, resolution, Resolves}, Nesting.{deep_flaws, PassesDepth}, Named.{all_named, has}, Rounds.Outcomes, Limits.{Exceeds, fitting, limit_flaws}}
-use Rattle.conf_inherit.proofs.{SizeLemmas.{deep_holds, depth_excluded}, SoundPlaces.{place_of_type, place_of_member, place_of_list, place_of_other, too_many_excluded, flawless, PartSound, part_sound, member_sound, item_sound, SoundAt, sound_along}, RoundLemmas.{rounds_of, TreeSound, tree_sound, laid_resolves, resolution_sound, no_flaws, circle_refused, rounds_resolved, rounds_reached, all_done}, LimitLemmas.{past_at, judged, apart_fits}, FieldPlaceLemmas.{trace_place, trace_type_place, aliases_place, alias_field, base_place, list_place}, FaultLemmas.{own_sound, Among, refused_among, BasesHold, holds_told, among_within, holds_in_object, entry_holds, flaw_of_itself_holds, flaw_holds, first_or_rest, Aligned, aligned_here, aligned_next, Seen, seen_next_at, none_seen, ready, only}, LayingLemmas.{has_found, AllEntries, found_each}, TurnLemmas.{IsOpen, rounds_open}, LaysOver.lays, LookedUp.{one_look, both_there, read_in_order, aliases_apart}, PlacesFit.{sound_named, all_fit}}
+use Rattle.conf_inherit.proofs.{SizeLemmas.{deep_holds, depth_excluded}, SoundPlaces.{place_of_type, place_of_member, place_of_list, place_of_other, too_many_excluded, flawless, PartSound, part_sound, member_sound, item_sound, SoundAt, sound_along}, RoundLemmas.{rounds_of, TreeSound, tree_sound, laid_resolves, resolution_sound, no_flaws, circle_refused, rounds_resolved, rounds_reached, all_done}, LimitLemmas.{past_at, judged, apart_fits}, FieldPlaceLemmas.{trace_place, trace_type_place, aliases_place, alias_field, base_place, list_place}, FaultLemmas.{own_sound, Among, refused_among, BasesHold, holds_told, among_within, holds_in_object, entry_holds, of_itself, flaw_holds, first_or_rest, Aligned, aligned_here, aligned_next, Seen, seen_next_at, none_seen, ready, only}, LayingLemmas.{has_found, AllEntries, found_each}, TurnLemmas.{IsOpen, rounds_open}, LaysOver.lays, LookedUp.{one_look, both_there, read_in_order, aliases_apart}, PlacesFit.{sound_named, all_fit}}
 
 module _ (al : Members) where
   -- a limit that a value passes holds at it
@@ -91,7 +91,7 @@ module _ (al : Members) where
         go : (a : Bool) → names_alias s ≡ a → (b : Bool) → names_member_type s ≡ b → (c : Bool) → lists_extra_members s ≡ c → FlawHolds al s v f
         go true a b b' c c' = type_holds done known s v f (inl a) (subst (Among f) (place_of_type al done s v a) h)
         go false a true b c c' = limit_here done known s v f (inr b) (subst (Among f) (place_of_member al done s v a b) h)
-        go false a false b true c = first_or_rest f (too_many v) (own_flaws al s false v) (subst (Among f) (place_of_list al done s v a b c) h) (many_here s v f c) (flaw_of_itself_holds al s v f)
+        go false a false b true c = first_or_rest f (too_many v) (own_flaws al s false v) (subst (Among f) (place_of_list al done s v a b c) h) (many_here s v f c) (of_itself al (Some done) (FlawHolds al) (holds_told al (Some done) (bases_hold done known)) s v f)
         go false a false b false c = absurd (subst (Among f) (place_of_other al done s v a b c) h)
 
     member_here : (s : Place) (ms : Members) (k : List ℕ) (d : Data) (f : Flaw) → HasMember k d ms → (g : Flaw) × (f ≡ within (key k) g) × Among g (place_flaws al done (place_under s k) d ++ inner_places al done (place_under s k) d)

@@ -127,15 +127,6 @@ module _ (al now : Members) (names : (n : List ℕ) → is_some (get_member n no
   same_step : (k : List ℕ) (w : Data) (st : Outcomes) → step now k w st ≡ step al k w st
   same_step k w st = let due = same_due st w in let value = same_outcome st.done w in cc
 
-  same_turns : (ms : Members) (st : Outcomes) → round now ms st ≡ round al ms st
-  same_turns no_members st = refl
-  same_turns (member k w ms) st = ap (round now ms) (same_step k w st) ∙ same_turns ms (step al k w st)
-
-  same_settled : (ms : Members) (st : Outcomes) → all_settled now ms st ≡ all_settled al ms st
-  same_settled no_members st = refl
-  same_settled (member k w ms) st =
-      ap (λ t. (has_outcome st k || not t) && all_settled now ms st) (same_due st w) ∙ ap (λ t. is_settled al st k w && t) (same_settled ms st)
-
 -- what is wrong at the places of a configuration
 pub same_places : (al now done : Members) → ((n : List ℕ) → is_some (get_member n now) ≡ is_some (get_member n al)) → (s : Place) (v : Data) → inner_places now done s v ≡ inner_places al done s v
 same_places al now done names s v = same_places_in al now names done s v
@@ -160,27 +151,28 @@ spent_same f st k v w (inr is) resolved = resolved is.1
 spent_step : (al : Members) (k j : List ℕ) (v w : Data) (st : Outcomes) → k ≡ j → (v ≡ w) ⊎ ((v ≡ null) × (has st.done k ≡ true)) → step al j v st ≡ step al k w st
 spent_step al k j v w st e at = ap (λ l. step al l v st) (sym e) ∙ spent_same (λ d. step al k d st) st k v w at (λ h. rw h refl)
 
-spent_round : (al ms vs : Members) (st : Outcomes) → Spends st.done ms vs → round al vs st ≡ round al ms st
-spent_round al no_members no_members st h = refl
-spent_round al (member k w ms) (member j v vs) st h =
-    ap (round al vs) (spent_step al k j v w st h.0 h.1.0)
-    ∙ spent_round al ms vs (step al k w st) (spends_more st.done (step al k w st).done (kept_step al k w st) ms vs h.1.1)
-spent_round al _ _ st h = absurd h
-
-spent_settled : (al ms vs : Members) (st : Outcomes) → Spends st.done ms vs → all_settled al vs st ≡ all_settled al ms st
-spent_settled al no_members no_members st h = refl
-spent_settled al (member k w ms) (member j v vs) st h =
-    ap (λ l. is_settled al st l v && all_settled al vs st) (sym h.0)
-    ∙ spent_same (λ d. is_settled al st k d && all_settled al vs st) st k v w h.1.0 (λ is. rw is refl)
-    ∙ ap (λ t. is_settled al st k w && t) (spent_settled al ms vs st h.1.1)
-spent_settled al _ _ st h = absurd h
-
 -- a round over what is left of the aliases is one over the aliases
+spent_round : (al now : Members) → ((n : List ℕ) → is_some (get_member n now) ≡ is_some (get_member n al)) → (ms vs : Members) (st : Outcomes) → Spends st.done ms vs → round now vs st ≡ round al ms st
+spent_round al now names no_members no_members st h = refl
+spent_round al now names (member k w ms) (member j v vs) st h =
+    ap (round now vs) (same_step al now names j v st ∙ spent_step al k j v w st h.0 h.1.0)
+    ∙ spent_round al now names ms vs (step al k w st) (spends_more st.done (step al k w st).done (kept_step al k w st) ms vs h.1.1)
+spent_round al now names _ _ st h = absurd h
+
+spent_settled : (al now : Members) → ((n : List ℕ) → is_some (get_member n now) ≡ is_some (get_member n al)) → (ms vs : Members) (st : Outcomes) → Spends st.done ms vs → all_settled now vs st ≡ all_settled al ms st
+spent_settled al now names no_members no_members st h = refl
+spent_settled al now names (member k w ms) (member j v vs) st h =
+    ap (λ t. (has_outcome st j || not t) && all_settled now vs st) (same_due al now names st v)
+    ∙ ap (λ l. is_settled al st l v && all_settled now vs st) (sym h.0)
+    ∙ spent_same (λ d. is_settled al st k d && all_settled now vs st) st k v w h.1.0 (λ is. rw is refl)
+    ∙ ap (λ t. is_settled al st k w && t) (spent_settled al now names ms vs st h.1.1)
+spent_settled al now names _ _ st h = absurd h
+
 same_round : (al now : Members) (st : Outcomes) → Spends st.done al now → round now now st ≡ round al al st
-same_round al now st h = same_turns al now (same_names st.done al now h) now st ∙ spent_round al al now st h
+same_round al now st h = spent_round al now (same_names st.done al now h) al now st h
 
 same_all_settled : (al now : Members) (st : Outcomes) → Spends st.done al now → all_settled now now st ≡ all_settled al al st
-same_all_settled al now st h = same_settled al now (same_names st.done al now h) now st ∙ spent_settled al al now st h
+same_all_settled al now st h = spent_settled al now (same_names st.done al now h) al now st h
 
 -- what a round leaves of the aliases
 round_spends : (al now : Members) (st : Outcomes) → Spends st.done al now → Spends (round al al st).done al now
