@@ -1,7 +1,7 @@
 //! What the entries of an enumeration mean (CTF 1.8.3, section 4.1.8).
 
 ghost use Rattle.std.specs.Prelude.{int_le, ◌≡◌, ◌∷◌, IfOk};
-ghost use Rattle.tsdl_meaning.specs.Words.{each, signed_of, label_of, high_of, entry_meaning, enum_meaning, with_front};
+ghost use Rattle.tsdl_meaning.specs.Words.{each, signed_of, high_of, entry_meaning, enum_meaning};
 
 use crate::value::{Meant, signed_of};
 use ctf_types::{EnumType, IntType, ListOf, Mapping, Text};

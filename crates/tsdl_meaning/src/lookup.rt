@@ -1,7 +1,7 @@
 //! Names, and what stands under a name: attributes and scopes are looked up by their words, and no name stands twice.
 
 ghost use Rattle.std.specs.Prelude.{◌≡◌, map, option_map, IfOk};
-ghost use Rattle.tsdl_meaning.specs.Words.{list_any, list_all, words_of, same_words, is_word, is_among, attr, attr_names, attrs_in, scopes_in, scope, are_distinct, has_parts, no_two, has_only, number_or_zero, clock_name, names_of, texts_of, name_lists, scope_names, eq_by_cmp};
+ghost use Rattle.tsdl_meaning.specs.Words.{list_any, words_of, same_words, is_word, is_among, attr, attr_names, attrs_in, scopes_in, scope, are_distinct, has_parts, no_two, has_only, number_or_zero, clock_name, names_of, texts_of, scope_names, eq_by_cmp};
 
 use crate::value::{name_value, natural_or};
 use ctf_types::Text;

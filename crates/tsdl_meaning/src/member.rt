@@ -2,7 +2,7 @@
 //! (CTF 1.8.3, sections 4.1.8, 4.2.3 to 4.2.5).
 
 ghost use Rattle.std.specs.Prelude.{◌≡◌, ◌<◌, length, true, false, Some, None, option_map, IfOk};
-ghost use Rattle.tsdl_meaning.specs.Words.{Leaf, ByteString, is_some, meant_by, field_of, encoding_words, encoding_value, text_meaning, kind_meaning, is_unsigned, length_place, bracketed, member_meaning, text_leaf, IsLengthAt};
+ghost use Rattle.tsdl_meaning.specs.Words.{Leaf, is_some, meant_by, field_of, encoding_words, encoding_value, text_meaning, kind_meaning, is_unsigned, length_place, bracketed, member_meaning, text_leaf, IsLengthAt};
 
 use crate::array::{are_lengths, arrays_of, counts_of, have_bits};
 use crate::enumeration::enum_meaning;

@@ -1,7 +1,7 @@
 //! What a structure means (CTF 1.8.3, section 4.2.1).
 
 ghost use Rattle.std.specs.Prelude.{◌≡◌, ◌↔◌, [], option_map, IfOk, IsTrue, nat_lt, ◌&&◌, ◌==◌, ◌%◌, Some};
-ghost use Rattle.tsdl_meaning.specs.Words.{Contains, names_in, provided, struct_type, has_member, members_meaning, align_of, align_with, struct_meaning, structure_of, scope_meaning, scopes_in, texts_of, suits_rule};
+ghost use Rattle.tsdl_meaning.specs.Words.{Contains, names_in, provided, struct_type, has_member, members_meaning, struct_meaning, scope_meaning, scopes_in, texts_of, suits_rule};
 
 use crate::known::Known;
 use crate::lookup::scope_in;
@@ -71,6 +71,7 @@ pub(crate) fn has_member(members: &Members, name: &str) -> bool
 }
 
 /// The number as an alignment, if it is a power of two up to 4,096.
+#[tactic(auto, using(crate::proofs::MemberNames::divisor_at_most))]
 pub(crate) fn alignment(align: u64) -> Option<u32>
     ensures { result ≡ provided (nat_lt 0 align && (4096 % align == 0)) (Some align) }
 {

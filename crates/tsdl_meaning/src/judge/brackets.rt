@@ -1,7 +1,7 @@
 //! The first flaw of a member's brackets: how many there are, how long they are, and which members they name.
 
 ghost use Rattle.std.specs.Prelude.{◌≡◌, ℕ, List, [], ◌∷◌, ◌++◌, None, IsSome, IfOk, IfErr, MatchOption};
-ghost use Rattle.tsdl_meaning.specs.Words.{flat_map, Bracket, MemberType, Leaf, bracketed, word, number_toks, bracket_toks, StopsAmong, StopsWhere, HasLengths, IsBehindBrackets, IsInBrackets, IsInBracket, Adds, PassesLimit, KeepsLimits, AreBrackets};
+ghost use Rattle.tsdl_meaning.specs.Words.{flat_map, Bracket, Leaf, bracketed, word, bracket_toks, StopsAmong, StopsWhere, HasLengths, IsBehindBrackets, IsInBracket, Adds, PassesLimit, KeepsLimits, AreBrackets};
 ghost use Rattle.tsdl_grammar.specs.declared.tree.Bracket.TheVariants as brackets;
 
 use crate::judge::value::judge_number;

@@ -1,7 +1,7 @@
 //! The first flaw of a member's kind: an integer, an enumeration or a string, and of its attributes.
 
 ghost use Rattle.std.specs.Prelude.{◌∷◌, ◌++◌, IsSome, IfOk, IfErr, ◌≡◌, List, [], IsTrue};
-ghost use Rattle.tsdl_meaning.specs.Words.{flat_map, kind_toks, entry_toks, next_entry_toks, word, attr_toks, attrs_toks, value_toks, entry_meaning, kind_meaning, encoding_value, StopsAmong, StopsWhere, IsBehindBrace, IsBehindName, IsBehindWord, AreRanges, AddsOwn, of_integer, tree_of, type_word, own_attrs, own_asked, is_size, Atom, is_some, order_value, base_value, clock_value, names_of, AreNamed, fits, is_fit};
+ghost use Rattle.tsdl_meaning.specs.Words.{flat_map, kind_toks, entry_toks, next_entry_toks, word, attr_toks, attrs_toks, value_toks, entry_meaning, kind_meaning, StopsAmong, StopsWhere, IsBehindBrace, IsBehindName, IsBehindWord, AreRanges, AddsOwn, of_integer, tree_of, type_word, own_attrs, own_asked, Atom, is_some, order_value, base_value, clock_value, names_of, AreNamed, fits, is_fit};
 ghost use Rattle.tsdl_grammar.specs.declared.token.Mark.TheVariants as marks;
 
 use crate::enumeration::{MAX_RANGES, rises};

@@ -1,9 +1,8 @@
 //! What the blocks of a text so far say: what may stand once only, and what the end of the text is judged by.
 
 ghost use Rattle.std.specs.Prelude.{◌≡◌, ◌↔◌, ◌⊎◌, ℕ, true, false, None, List, [], ◌∷◌, OnOk, IfOk, IfErr, IsTrue, IfSome, codes};
-ghost use Rattle.tsdl_meaning.specs.Words.{nat_cmp, ContainsKey, contains, contains_text, Atom, word, block_toks, Holds, kind_of, StopsWhere, HasNumbers, AddsBlock, AddsClock, AddsStream, HaveStreams, IsEmpty, AreNoted, HasClock, HasStream, HasEvent, pair_cmp};
+ghost use Rattle.tsdl_meaning.specs.Words.{nat_cmp, ContainsKey, contains, contains_text, Atom, block_toks, Holds, kind_of, HasNumbers, AddsBlock, HaveStreams, IsEmpty, AreNoted, HasClock, HasStream, HasEvent, pair_cmp};
 ghost use Rattle.tsdl_grammar.specs.declared.fault.MetaFaultKind.TheVariants as faults;
-ghost use Rattle.tsdl_meaning.specs.FlawlessTexts.{AddsEvent};
 
 use crate::lookup::{name_in, number_or_zero};
 use ctf_types::Text;

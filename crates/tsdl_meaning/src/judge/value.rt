@@ -2,7 +2,7 @@
 #![tactic(auto, using(crate::proofs::JudgedParts::any_front))]
 
 ghost use Rattle.std.specs.Prelude.{◌≡◌, Some, IsSome, IsTrue, IfOk, IfErr};
-ghost use Rattle.tsdl_meaning.specs.Words.{is_some, value_toks, number_toks, natural, natural_value, whole_value, text_value, name_value, flag_value, uuid_value, align_of, StopsAmong, StopsWhere, IsBehindAlign, is_alignment};
+ghost use Rattle.tsdl_meaning.specs.Words.{is_some, value_toks, number_toks, natural, natural_value, whole_value, text_value, name_value, flag_value, uuid_value, align_of, StopsAmong, StopsWhere, IsBehindAlign};
 
 use crate::scope_rule::has_word;
 use crate::structure::alignment;
