@@ -1,5 +1,6 @@
 //! Laws of refusals of single values: whatever is refused is not what its place asks for, in the way that the flaw tells of.
 #![tactic(auto, using(crate::proofs::LeafFlawLaws::name_refused, crate::proofs::LeafFlawLaws::plain_name_refused, crate::proofs::LeafFlawLaws::object_refused, crate::proofs::LeafFlawLaws::list_refused, crate::proofs::LeafFlawLaws::text_refused, crate::proofs::LeafFlawLaws::flag_refused, crate::proofs::LeafFlawLaws::whole_refused))]
+
 ghost use Rattle.std.specs.Prelude.{◌≡◌, ℕ, ℤ, List, Err};
 ghost use Rattle.serde_json.specs.Data.{Data};
 ghost use Rattle.conf_tree.specs.Flaw.{Flaw};
