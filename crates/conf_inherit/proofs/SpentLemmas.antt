@@ -102,20 +102,21 @@ module _ (al now : Members) (names : (n : List ℕ) → is_some (get_member n no
   same_place done s v = let type = same_type done s v in let own = same_own s v in cc
 
   mutual
-    same_places_in : (done : Members) (s : Place) (v : Data) → inner_places now done s v ≡ inner_places al done s v
-    same_places_in done s (array es) = ap (λ x. if lists_extra_members s then x else []) (same_item_places done s 0 no_members es)
-    same_places_in done s (object ms) = ap (λ x. if leads_on s then x else []) (same_member_places done s ms)
-    same_places_in done s _ = refl
+    -- what is wrong at the places of a configuration
+    pub same_places : (done : Members) (s : Place) (v : Data) → inner_places now done s v ≡ inner_places al done s v
+    same_places done s (array es) = ap (λ x. if lists_extra_members s then x else []) (same_item_places done s 0 no_members es)
+    same_places done s (object ms) = ap (λ x. if leads_on s then x else []) (same_member_places done s ms)
+    same_places done s _ = refl
 
     same_item_places : (done : Members) (s : Place) (i : ℕ) (seen : Members) (es : Items) → item_places now done s i seen es ≡ item_places al done s i seen es
     same_item_places done s i seen no_items = refl
     same_item_places done s i seen (item e es) =
-        same_part (within (index i)) _ _ _ _ _ _ (same_flaws (Some done) (place_of_items s) false seen e) (same_places_in done (place_of_items s) e) (same_item_places done s (suc i) (mark e seen) es)
+        same_part (within (index i)) _ _ _ _ _ _ (same_flaws (Some done) (place_of_items s) false seen e) (same_places done (place_of_items s) e) (same_item_places done s (suc i) (mark e seen) es)
 
     same_member_places : (done : Members) (s : Place) (ms : Members) → member_places now done s ms ≡ member_places al done s ms
     same_member_places done s no_members = refl
     same_member_places done s (member k d ms) =
-        same_part (within (key k)) _ _ _ _ _ _ (same_place done (place_under s k) d) (same_places_in done (place_under s k) d) (same_member_places done s ms)
+        same_part (within (key k)) _ _ _ _ _ _ (same_place done (place_under s k) d) (same_places done (place_under s k) d) (same_member_places done s ms)
 
   same_due : (st : Outcomes) (w : Data) → all_named (is_over now st) places.FieldType w ≡ all_named (is_over al st) places.FieldType w
   same_due st w = ap (λ p. all_named p places.FieldType w) (same_function (is_over now st) (is_over al st) (λ n. ap (λ t. has_outcome st n || not t) (names n)))
@@ -126,10 +127,6 @@ module _ (al now : Members) (names : (n : List ℕ) → is_some (get_member n no
 
   same_step : (k : List ℕ) (w : Data) (st : Outcomes) → step now k w st ≡ step al k w st
   same_step k w st = let due = same_due st w in let value = same_outcome st.done w in cc
-
--- what is wrong at the places of a configuration
-pub same_places : (al now done : Members) → ((n : List ℕ) → is_some (get_member n now) ≡ is_some (get_member n al)) → (s : Place) (v : Data) → inner_places now done s v ≡ inner_places al done s v
-same_places al now done names s v = same_places_in al now names done s v
 
 -- what is resolved stays so
 kept_step : (al : Members) (k : List ℕ) (w : Data) (st : Outcomes) (n : List ℕ) → has st.done n ≡ true → has (step al k w st).done n ≡ true

@@ -333,7 +333,7 @@ module _ (al now : Members) (n : ℕ) (st : Outcomes) (v : Data) (bare : with_al
     unfolding place_flaws names_alias names_member_type lists_extra_members
     place_fault =
         let none = whole_sound al n st apart settled (alias_fault ∙ sound) in
-        ap refusal (sym (same_places al now st.done (same_names st.done al now spent) places.Root v ∙ places_without al st.done al v bare none))
+        ap refusal (sym (same_places al now (same_names st.done al now spent) st.done places.Root v ∙ places_without al st.done al v bare none))
 
     -- the fault of a place
     pub refused_place : (flaw : Flaw) → refusal (parts now st.done places.Root v) ≡ Err flaw → resolution_after al st whole ≡ Err flaw
