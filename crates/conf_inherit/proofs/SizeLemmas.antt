@@ -23,10 +23,7 @@ due_after Limit (Some room) left m n whole le (rest, is, sum) h = let past : res
 -- what is left of what is left
 pub leaves_more : (limit left after : Option ℕ) (m n : ℕ) → Leaves limit m left → Leaves left n after → Leaves limit (m + n) after
 leaves_more None left after m n a b = rw a at b
-leaves_more (Some room) left after m n (rest, is, sum) b = go (rw is at b)
-  where
-    go : Leaves (Some rest) n after → Leaves (Some room) (m + n) after
-    go (more, e, f) = (more, e, omega arith)
+leaves_more (Some room) left after m n (rest, is, sum) b = let more : Leaves (Some rest) n after = rw is at b in (more.0, more.1, omega (arith, sum, more.2))
 
 pub leaves_all : (limit : Option ℕ) → Leaves limit 0 limit
 leaves_all None = refl
@@ -47,21 +44,14 @@ counted_none limit n = record { taken = 0; left = leaves_all limit; sum = omega 
 
 -- some of what is to come is counted
 pub counted_more : (limit room left : Option ℕ) (whole rest n later : ℕ) → IsCounted limit room whole rest → rest ≡ n + later → Leaves room n left → IsCounted limit left whole later
-counted_more limit room left whole rest n later c split leaves =
-    let sum : whole ≡ c.taken + rest = c.sum in
-    record { taken = c.taken + n; left = leaves_more limit room left c.taken n c.left leaves; sum = omega arith }
+counted_more limit room left whole rest n later c split leaves = record { taken = c.taken + n; left = leaves_more limit room left c.taken n c.left leaves; sum = omega (arith, c.sum, split) }
 
 -- what is past the room is past the limit
 pub counted_past : (stop : Stop) (limit room : Option ℕ) (whole rest n later : ℕ) → IsCounted limit room whole rest → rest ≡ n + later → IsDue stop room n → IsDue stop limit whole
-counted_past stop limit room whole rest n later c split due =
-    let sum : whole ≡ c.taken + rest = c.sum in
-    due_after stop limit room c.taken n whole (omega arith) c.left due
+counted_past stop limit room whole rest n later c split due = due_after stop limit room c.taken n whole (omega (arith, c.sum, split)) c.left due
 
 pub counted_all : (limit room : Option ℕ) (whole : ℕ) → IsCounted limit room whole 0 → Leaves limit whole room
-counted_all limit room whole c =
-    let sum : whole ≡ c.taken + 0 = c.sum in
-    let same : whole ≡ c.taken = omega arith in
-    subst (λ n. Leaves limit n room) (sym same) c.left
+counted_all limit room whole c = let same : c.taken ≡ whole = omega (arith, c.sum) in subst (λ n. Leaves limit n room) same c.left
 
 -- ---- the parts of a whole
 
